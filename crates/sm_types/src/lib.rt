@@ -1,0 +1,23 @@
+//! The vocabulary of the emulator: vector lengths, options, registers, instructions, exceptions, stops and
+//! shared operations, with the words on them that contracts of several crates use.
+//!
+//! No definition of a machine, a memory or a format stands here.
+#![tactic(auto)]
+
+mod config;
+mod insn;
+mod length;
+mod scalars;
+mod shared_op;
+mod stop;
+
+pub use config::Config;
+pub use insn::{AddSub, AddSubImmediate, Branch, Condition, Insn, MoveWide, System};
+pub use length::VecLen;
+pub use scalars::Scalars;
+pub use shared_op::{Event, OpKind, SharedOp};
+pub use stop::{Access, Exception, Stop};
+
+/// Want of memory.
+#[derive(Clone, Copy, Debug, PartialEq, Eq)]
+pub struct Memory;
