@@ -12,6 +12,17 @@ pub record Program : Type 0 where
   -- the code words, each with its address
   pub code : List (ℕ × ℕ)
 
+-- bytes at an address, with zeros after them up to a size; flags are a sum of execute 1, write 2 and read 4
+pub record Extent : Type 0 where
+  pub address : ℕ
+  pub size : ℕ
+  pub flags : ℕ
+  pub bytes : List ℕ
+
+-- what a part of a program is
+abbrev pub extent_of : Part → Extent
+extent_of part = record { address = part.address; size = part.size; flags = part.flags; bytes = part.bytes.now }
+
 -- flags of both
 abbrev pub union : Option ℕ → Option ℕ → Option ℕ
 union None b = b
@@ -19,11 +30,11 @@ union (Some a) None = Some a
 union (Some a) (Some b) = Some (bit_or a b)
 
 -- the flags of a part, at a page that it touches
-abbrev pub part_flags : Part → ℕ → Option ℕ
+abbrev pub part_flags : Extent → ℕ → Option ℕ
 part_flags part n = cond (nat_lt 0 part.size && nat_le (part.address / 4096) n && nat_le n ((part.address + part.size - 1) / 4096)) (Some part.flags) None
 
 -- the union of the flags of the parts that touch the page, if any does
-unfoldable pub image_flags : List Part → ℕ → Option ℕ
+unfoldable pub image_flags : List Extent → ℕ → Option ℕ
 image_flags [] n = None
 image_flags (part ∷ parts) n = union (part_flags part n) (image_flags parts n)
 
@@ -33,11 +44,11 @@ or_zero None = 0
 or_zero (Some b) = b
 
 -- the byte of a part at an address that it has: one of its bytes, or a zero past them
-abbrev pub part_byte : Part → ℕ → Option ℕ
-part_byte part a = cond (nat_le part.address a && nat_lt a (part.address + part.size)) (Some (or_zero (slice_get part.bytes.now (a - part.address)))) None
+abbrev pub part_byte : Extent → ℕ → Option ℕ
+part_byte part a = cond (nat_le part.address a && nat_lt a (part.address + part.size)) (Some (or_zero (slice_get part.bytes (a - part.address)))) None
 
 -- the byte of the part that has the address, if one has
-unfoldable pub parts_byte : List Part → ℕ → Option ℕ
+unfoldable pub parts_byte : List Extent → ℕ → Option ℕ
 parts_byte [] a = None
 parts_byte (part ∷ parts) a = or_else (part_byte part a) (parts_byte parts a)
 
@@ -47,11 +58,11 @@ zero_in None = None
 zero_in (Some flags) = Some 0
 
 -- the byte of the parts at an address, and a zero elsewhere in their pages
-unfoldable pub image_byte : List Part → ℕ → Option ℕ
+unfoldable pub image_byte : List Extent → ℕ → Option ℕ
 image_byte parts a = or_else (parts_byte parts a) (zero_in (image_flags parts (a / 4096)))
 
 -- the memory has the pages that the parts touch, with their flags and bytes, and no others
-pub record IsMemoryOf (parts : List Part) (m : Memory) : Type 0 where
+pub record IsMemoryOf (parts : List Extent) (m : Memory) : Type 0 where
   pub flags : (n : ℕ) → get m.perm n ≡ image_flags parts n
   pub bytes : (a : ℕ) → get m.mem a ≡ image_byte parts a
 
