@@ -1,0 +1,115 @@
+-- A test that the way through the tree ends at each row that matches.
+use Rattle.std.proofs.Common.{◌≡◌, ℕ, zero, suc, ◌+◌, List, [], ◌∷◌, Option, Some, None, slice_get, bit_and, Bool, true, false, not, ◌==◌, ◌&&◌, cond, ◌⊎◌, inl, inr, refl, sym, ap, ap₂, ◌∙◌, arith, eqb-true, subst, add-suc, add-zero}
+use Rattle.std.specs.List.{list_all}
+use Rattle.std.proofs.lemmas.Nat.{and_assoc, and_comm}
+use Rattle.std.proofs.lemmas.Bool.{and_parts, cond_both, both_ways}
+use Rattle.a64_table.specs.declared.rows.Row.{Row}
+use Rattle.a64_decode.specs.declared.tree.Node.{Node}
+use Rattle.a64_decode.specs.declared.tree.Node.TheVariants.{Test, Place, Nothing}
+use Rattle.a64_table.specs.Rows.{Matches}
+use Rattle.a64_decode.specs.Tree.{step, walk}
+
+-- a row with its place
+abbrev pub Placed : Type 0
+Placed = ℕ × Row
+
+unfoldable pub numbered : ℕ → List Row → List Placed
+numbered n [] = []
+numbered n (r ∷ rs) = (n, r) ∷ numbered (suc n) rs
+
+unfoldable pub kept : (Placed → Bool) → List Placed → List Placed
+kept p [] = []
+kept p (x ∷ xs) = cond (p x) (x ∷ kept p xs) (kept p xs)
+
+-- the row may match a word in which the bits of the mask are clear
+unfoldable pub may_be_clear : ℕ → Placed → Bool
+may_be_clear mask p = bit_and p.1.value mask == 0
+
+-- the row may match a word in which one of them is set
+unfoldable pub may_be_set : ℕ → Placed → Bool
+may_be_set mask p = not (bit_and p.1.mask mask == mask && bit_and p.1.value mask == 0)
+
+unfoldable pub covers_at : (ℕ → List Placed → Bool) → Option Node → List Placed → Bool
+covers_at on None left = false
+covers_at on (Some Nothing) [] = true
+covers_at on (Some Nothing) (x ∷ xs) = false
+covers_at on (Some (Place place)) left = list_all (λ p. p.0 == place) left
+covers_at on (Some (Test mask clear set)) left = on clear (kept (may_be_clear mask) left) && on set (kept (may_be_set mask) left)
+
+-- the way from the node ends at each of the rows that matches
+unfoldable pub covers : ℕ → List Node → ℕ → List Placed → Bool
+covers zero nodes at left = false
+covers (suc steps) nodes at left = covers_at (λ next rest. covers steps nodes next rest) (slice_get nodes at) left
+
+pub data Holds (x : Placed) : List Placed → Type 0 where
+  here : {xs : List Placed} → Holds x (x ∷ xs)
+  later : {y : Placed} {xs : List Placed} → Holds x xs → Holds x (y ∷ xs)
+
+Holds-kept : (p : Placed → Bool) (x : Placed) (xs : List Placed) → p x ≡ true → Holds x xs → Holds x (kept p xs)
+unfolding kept
+Holds-kept p x [] e h = elim h [ ]
+Holds-kept p x (y ∷ xs) e (here) = subst (λ (zs : List Placed). Holds x zs) (sym (ap (λ b. cond b (x ∷ kept p xs) (kept p xs)) e)) here
+Holds-kept p x (y ∷ xs) e (later h) =
+    cond_both (p y) (y ∷ kept p xs) (kept p xs) (λ zs. Holds x zs) (λ _. later (Holds-kept p x xs e h)) (λ _. Holds-kept p x xs e h)
+
+-- what the row fixes among the bits of the mask is what the word has there
+and_zero : (n : ℕ) → bit_and 0 n ≡ 0
+and_zero n = refl
+
+fixed_there : (mask word : ℕ) (r : Row) → Matches r word → bit_and r.value mask ≡ bit_and (bit_and word mask) r.mask
+fixed_there mask word r m =
+    ap (λ n. bit_and n mask) (sym m) ∙ and_assoc mask word r.mask ∙ ap (bit_and word) (and_comm r.mask mask) ∙ sym (and_assoc r.mask word mask)
+
+-- a row that matches a word with the bits clear has them clear
+clear_kept : (mask word : ℕ) (p : Placed) → Matches p.1 word → bit_and word mask ≡ 0 → may_be_clear mask p ≡ true
+unfolding may_be_clear
+clear_kept mask word p m z =
+    ap (λ n. n == 0) (fixed_there mask word p.1 m ∙ ap (λ n. bit_and n p.1.mask) z ∙ and_zero p.1.mask)
+
+-- a row that fixes all the bits, as clear, matches no word in which one is set
+all_clear : (mask word : ℕ) (r : Row) → Matches r word → bit_and r.mask mask ≡ mask → bit_and r.value mask ≡ 0 → bit_and word mask ≡ 0
+all_clear mask word r m f z =
+    ap (bit_and word) (sym f ∙ and_comm r.mask mask) ∙ sym (and_assoc r.mask word mask) ∙ sym (fixed_there mask word r m) ∙ z
+
+not_both : (a b : Bool) → (a ≡ true → b ≡ true → ⊥) → not (a && b) ≡ true
+not_both true true h = absurd (h refl refl)
+not_both true false h = refl
+not_both false b h = refl
+
+set_kept : (mask word : ℕ) (p : Placed) → Matches p.1 word → (bit_and word mask == 0) ≡ false → may_be_set mask p ≡ true
+unfolding may_be_set
+set_kept mask word p m z =
+    not_both _ _ (λ f v. both_ways (bit_and word mask == 0) z (ap (λ n. n == 0) (all_clear mask word p.1 m (eqb-true _ _ f) (eqb-true _ _ v))))
+
+all_at : (place : ℕ) (p : Placed) (left : List Placed) → list_all (λ p. p.0 == place) left ≡ true → Holds p left → p.0 ≡ place
+all_at place p [] e h = elim h [ ]
+all_at place p (x ∷ xs) e (here) = eqb-true _ _ (and_parts _ _ e).0
+all_at place p (x ∷ xs) e (later h) = all_at place p xs (and_parts _ _ e).1 h
+
+covers_at-step : (on : ℕ → List Placed → Bool) (way : ℕ → Option ℕ) (word : ℕ) (p : Placed) → Matches p.1 word → ((next : ℕ) (rest : List Placed) → on next rest ≡ true → Holds p rest → way next ≡ Some p.0) → (node : Option Node) (left : List Placed) → covers_at on node left ≡ true → Holds p left → step way node word ≡ Some p.0
+unfolding covers_at step
+covers_at-step on way word p m rec None left e h = cc
+covers_at-step on way word p m rec (Some Nothing) [] e h = elim h [ ]
+covers_at-step on way word p m rec (Some Nothing) (x ∷ xs) e h = cc
+covers_at-step on way word p m rec (Some (Place place)) left e h = ap Some (sym (all_at place p left e h))
+covers_at-step on way word p m rec (Some (Test mask clear set)) left e h =
+    let parts = and_parts (on clear (kept (may_be_clear mask) left)) (on set (kept (may_be_set mask) left)) e in
+    cond_both (bit_and word mask == 0) (way clear) (way set) (λ r. r ≡ Some p.0)
+    (λ z. rec clear _ parts.0 (Holds-kept (may_be_clear mask) p left (clear_kept mask word p m (eqb-true _ _ z)) h))
+    (λ z. rec set _ parts.1 (Holds-kept (may_be_set mask) p left (set_kept mask word p m z) h))
+
+pub covers-walk : (steps : ℕ) (nodes : List Node) (at : ℕ) (left : List Placed) (word : ℕ) (p : Placed) → Matches p.1 word → covers steps nodes at left ≡ true → Holds p left → walk steps nodes at word ≡ Some p.0
+unfolding covers walk
+covers-walk zero nodes at left word p m e h = cc
+covers-walk (suc steps) nodes at left word p m e h =
+    covers_at-step _ _ word p m (λ next rest e' h'. covers-walk steps nodes next rest word p m e' h') (slice_get nodes at) left e h
+
+pub Holds-numbered : (n i : ℕ) (rows : List Row) (r : Row) → slice_get rows i ≡ Some r → Holds (n + i, r) (numbered n rows)
+unfolding numbered
+Holds-numbered n i [] r e = cc
+Holds-numbered n zero (x ∷ xs) r e =
+    let same : x ≡ r = cc in
+    subst (λ (q : Placed). Holds q ((n, x) ∷ numbered (suc n) xs)) (ap₂ (λ (m : ℕ) (y : Row). let q : Placed = (m, y) in q) (sym (add-zero n)) same) here
+Holds-numbered n (suc i) (x ∷ xs) r e =
+    let same : suc n + i ≡ n + suc i = omega arith in
+    subst (λ (q : Placed). Holds q ((n, x) ∷ numbered (suc n) xs)) (ap (λ (m : ℕ). let q : Placed = (m, r) in q) same) (later (Holds-numbered (suc n) i xs r e))
