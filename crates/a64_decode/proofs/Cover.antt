@@ -1,5 +1,5 @@
 -- A test that the way through the tree ends at each row that matches.
-use Rattle.std.proofs.Common.{◌≡◌, ℕ, zero, suc, ◌+◌, List, [], ◌∷◌, Option, Some, None, slice_get, bit_and, Bool, true, false, not, ◌==◌, ◌&&◌, cond, ◌⊎◌, inl, inr, refl, sym, ap, ap₂, ◌∙◌, arith, eqb-true, subst, add-suc, add-zero}
+use Rattle.std.proofs.Common.{◌≡◌, ℕ, zero, suc, ◌+◌, List, [], ◌∷◌, Option, Some, None, slice_get, bit_and, Bool, true, false, not, ◌==◌, ◌&&◌, cond, refl, sym, ap, ap₂, ◌∙◌, arith, eqb-true, subst, add-zero}
 use Rattle.std.specs.List.{list_all}
 use Rattle.std.proofs.lemmas.Nat.{and_assoc, and_comm}
 use Rattle.std.proofs.lemmas.Bool.{and_parts, cond_both, both_ways}

@@ -1,5 +1,5 @@
 -- The steps of the way through the tree.
-use Rattle.std.proofs.Common.{◌≡◌, ◌≢◌, ℕ, zero, suc, ◌+◌, ◌-◌, ◌<◌, ◌≤◌, List, Option, Some, None, slice_get, bit_and, refl, sym, ap, ◌∙◌, arith, ◌==◌, true, false, eqb-true}
+use Rattle.std.proofs.Common.{◌≡◌, ◌≢◌, ℕ, zero, suc, ◌+◌, ◌-◌, ◌<◌, List, Option, Some, None, slice_get, bit_and, refl, sym, ap, ◌∙◌, arith, ◌==◌, eqb-true}
 use Rattle.std.proofs.lemmas.Bool.{cond_both, both_ways}
 use Rattle.a64_decode.specs.declared.tree.Node.{Node}
 use Rattle.a64_decode.specs.declared.tree.Node.TheVariants.{Test, Place, Nothing}

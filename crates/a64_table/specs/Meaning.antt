@@ -27,22 +27,22 @@ add_sub_of word = if field_of word 29 2 == 0 then Add else Subs
 -- G1, add and subtract immediate: sf 31, sh 22, imm12 21:10, Rn 9:5, Rd 4:0
 unfoldable pub add_sub_immediate_of : ℕ → AddSubImmediate
 add_sub_immediate_of word = record {
-    op = add_sub_of word;
-    wide = bit_of word 31;
-    shifted = bit_of word 22;
-    imm = field_of word 10 12;
-    rn = field_of word 5 5;
-    rd = field_of word 0 5;
-  }
+  op = add_sub_of word;
+  wide = bit_of word 31;
+  shifted = bit_of word 22;
+  imm = field_of word 10 12;
+  rn = field_of word 5 5;
+  rd = field_of word 0 5;
+}
 
 -- G6, move wide: sf 31, hw 22:21, imm16 20:5, Rd 4:0
 unfoldable pub move_wide_of : ℕ → MoveWide
 move_wide_of word = record {
-    wide = bit_of word 31;
-    hw = field_of word 21 2;
-    imm = field_of word 5 16;
-    rd = field_of word 0 5;
-  }
+  wide = bit_of word 31;
+  hw = field_of word 21 2;
+  imm = field_of word 5 16;
+  rd = field_of word 0 5;
+}
 
 -- the condition of a number of 4 bits, as C1.2.4 encodes them
 unfoldable pub condition_of : ℕ → Condition

@@ -9,17 +9,14 @@ use crate::rows::SCALAR_ROWS;
 /// At most one row of the table matches and fits a word.
 pub fn one_row()
     ensures { (word : ℕ) → HasOneRow SCALAR_ROWS word }
-{
-}
+{}
 
 /// What a word means by the first row that stands for it is what it means by any.
 pub fn one_meaning()
     ensures { (word : ℕ) (it : Insn) → word < 2 ^ 32 → (meaning_of word ≡ Some it) ↔ Means SCALAR_ROWS word it }
-{
-}
+{}
 
 /// The fields of each instruction that a word means are in their ranges.
 pub fn in_range()
     ensures { (word : ℕ) (it : Insn) → Means SCALAR_ROWS word it → IsInRow it }
-{
-}
+{}

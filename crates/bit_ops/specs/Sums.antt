@@ -30,11 +30,11 @@ sum_of wide a b carry = (a + b + carry) % word_size wide
 -- its flags: N the sign bit, Z a zero result, C where the unsigned sum is no word, V where the signed sum is not the signed result
 unfoldable pub sum_flags : Bool → ℕ → ℕ → ℕ → Nzcv
 sum_flags wide a b carry = record {
-    n = nat_le (half_size wide) (sum_of wide a b carry);
-    z = sum_of wide a b carry == 0;
-    c = nat_le (word_size wide) (a + b + carry);
-    v = not (int_eq ((signed_word wide a +ℤ signed_word wide b) +ℤ pos carry) (signed_word wide (sum_of wide a b carry)));
-  }
+  n = nat_le (half_size wide) (sum_of wide a b carry);
+  z = sum_of wide a b carry == 0;
+  c = nat_le (word_size wide) (a + b + carry);
+  v = not (int_eq ((signed_word wide a +ℤ signed_word wide b) +ℤ pos carry) (signed_word wide (sum_of wide a b carry)));
+}
 
 -- the same as facts: the result is the low bits of the sum, and each flag is set exactly where it is said to be
 pub record IsSum (wide : Bool) (a b carry result : ℕ) (flags : Nzcv) : Type 0 where

@@ -74,15 +74,23 @@ mod tests {
         assert!(rt; add_carry(0, !1, true, true) == (u64::MAX, flags(true, false, false, false)));
         let most = (1 << 63) - 1;
         assert!(rt; add_carry(most, 1, false, true) == (1 << 63, flags(true, false, false, true)));
-        assert!(rt; add_carry(1 << 63, 1 << 63, false, true) == (0, flags(false, true, true, true)));
+        assert!(rt;
+            add_carry(1 << 63, 1 << 63, false, true) == (0, flags(false, true, true, true))
+        );
     }
 
     #[test]
     fn narrow(rt: HostRuntime) {
         let high = 0xffff_ffff_0000_0000;
-        assert!(rt; add_carry(high | 5, high | 6, false, false) == (11, flags(false, false, false, false)));
-        assert!(rt; add_carry(0xffff_ffff, 1, false, false) == (0, flags(false, true, true, false)));
+        assert!(rt;
+            add_carry(high | 5, high | 6, false, false) == (11, flags(false, false, false, false))
+        );
+        assert!(rt;
+            add_carry(0xffff_ffff, 1, false, false) == (0, flags(false, true, true, false))
+        );
         let bottom = 0x8000_0000;
-        assert!(rt; add_carry(0x7fff_ffff, 1, false, false) == (bottom, flags(true, false, false, true)));
+        assert!(rt;
+            add_carry(0x7fff_ffff, 1, false, false) == (bottom, flags(true, false, false, true))
+        );
     }
 }

@@ -1,4 +1,4 @@
-use Rattle.std.proofs.Common.{◌≡◌, ℕ, suc, ◌-◌, ◌+◌, ◌<◌, ◌≤◌, Option, Some, sym, ap, ◌∙◌, arith}
+use Rattle.std.proofs.Common.{◌≡◌, ◌-◌, sym, ap, ◌∙◌, arith}
 use Rattle.a64_decode.specs.declared.tree.TheConstants.{DEPTH}
 use Rattle.a64_decode.specs.Tree.{walk}
 use Rattle.a64_decode.proofs.Walk.{walk-next, walk-zero, step-place, step-nothing, step-none, step-test}

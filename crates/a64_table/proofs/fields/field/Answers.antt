@@ -1,4 +1,4 @@
-use Rattle.std.proofs.Common.{ap, ◌∙◌, ◌-◌, ◌/◌, ◌^◌, ◌*◌, ◌%◌, ◌<◌, arith, bit_and}
+use Rattle.std.proofs.Common.{ap, ◌∙◌, ◌-◌, ◌/◌, ◌^◌, bit_and}
 use Rattle.std.proofs.lemmas.Nat.{one_shl, and_mask}
 use Rattle.a64_table.specs.Fields.{field_of}
 use Rattle.a64_table.proofs.fields.field.Goals as goal

@@ -1,8 +1,8 @@
-use Rattle.std.proofs.Common.{◌≡◌, ℕ, ◌+◌, ◌-◌, ◌/◌, ◌^◌, ◌*◌, ◌%◌, ◌<◌, ◌≤◌, arith, refl, ap, ◌∙◌, sym, lt-ltb, le-ltb, ℤ, pos, ◌-ℤ◌, to_z, of_z, w32}
+use Rattle.std.proofs.Common.{◌≡◌, ℕ, ◌-◌, ◌^◌, ◌<◌, ◌≤◌, arith, ap, ◌∙◌, sym, lt-ltb, le-ltb, pos, ◌-ℤ◌, to_z, of_z, w32}
 use Rattle.std.proofs.lemmas.Nat.{one_shl, pow_below}
 use Rattle.std.proofs.lemmas.Int.{ints}
 use Rattle.std.proofs.lemmas.Bool.{cond-true, cond-false}
-use Rattle.a64_table.specs.Fields.{field_of, signed_value}
+use Rattle.a64_table.specs.Fields.{signed_value}
 use Rattle.a64_table.proofs.fields.signed_field.Goals as goal
 
 low_half : (n f : ℕ) → 2 ^ (n - 1) < 2 ^ 31 → f < 2 ^ (n - 1) → to_z w32 f ≡ signed_value n f
