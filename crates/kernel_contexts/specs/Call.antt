@@ -1,0 +1,65 @@
+-- The calls of the kernel, by the number in X8. Source: the numbers are Linux's for AArch64; the kernel is this emulator's own.
+use Rattle.std.specs.Prelude.{ℕ, ◌+◌, ◌-◌, ◌%◌, ◌^◌, ◌==◌, ◌++◌, ◌||◌, nat_lt, cond, List, Option, Some, None, length, slice_index, slice_set}
+use Rattle.sm_types.specs.declared.scalars.Scalars.{Scalars}
+use Rattle.sm_types.specs.declared.shared_op.SharedOp.{SharedOp}
+use Rattle.sm_types.specs.declared.stop.Stop.{Stop}
+use Rattle.sm_types.specs.declared.stop.Stop.TheVariants.{Exited, OutputFull}
+use Rattle.paged_memory.specs.Memory.{bytes_with}
+use Rattle.machine_step.specs.Core.{Core}
+use Rattle.kernel_contexts.specs.State.{State}
+
+-- what a turn comes to
+pub data TurnEnd : Type 0 where
+  -- the state after it
+  Goes : State → TurnEnd
+  -- an operation on the shared words, and the state for each answer
+  Asks : SharedOp → (ℕ → State) → TurnEnd
+  -- the thread stops
+  Ends : State → Stop → TurnEnd
+
+-- one more counted turn, after which the core is so
+abbrev pub counted : State → Core → State
+counted s core = record s { core = core; count = s.count + 1; turns = s.turns + 1 }
+
+-- the registers past the call
+abbrev pub past_call : Scalars → Scalars
+past_call s = record s { pc = (s.pc + 4) % 2 ^ 64 }
+
+-- the registers past the call, with its answer in X0
+abbrev pub answered : Scalars → ℕ → Scalars
+answered s answer = record s { x = slice_set s.x 0 answer; pc = (s.pc + 4) % 2 ^ 64 }
+
+-- the state past a counted call, with its answer in X0
+abbrev pub returned : State → ℕ → State
+returned s answer = counted s (record s.core { scalars = answered s.core.scalars answer })
+
+-- the answer of a failed call: minus the number, in two's complement
+abbrev pub failure : ℕ → ℕ
+failure number = 2 ^ 64 - number
+
+-- the bytes that a thread may write in all
+abbrev pub output_limit : ℕ
+output_limit = 1048576
+
+-- write, where the bytes were read, or one of them cannot be
+abbrev pub written : State → Option (List ℕ) → ℕ → State
+written s None length = returned s (failure 14)
+written s (Some bytes) length = record (returned s length) { output = s.output ++ bytes }
+
+-- write: X0 is 1 or 2, the output has room for X2 bytes, and those from X1 on can be read, in this order
+unfoldable pub write_of : State → TurnEnd
+write_of s = let x : List ℕ = s.core.scalars.x in
+    cond ((slice_index x 0 == 1) || (slice_index x 0 == 2))
+    (cond (nat_lt output_limit (length s.output + slice_index x 2))
+      (Ends s OutputFull)
+      (Goes (written s (bytes_with 4 s.core.memory (slice_index x 1) (slice_index x 2)) (slice_index x 2))))
+    (Goes (returned s (failure 9)))
+
+-- exit: the low byte of X0 is the status; the call is counted
+unfoldable pub exit_of : State → TurnEnd
+exit_of s = Ends (counted s (record s.core { scalars = past_call s.core.scalars })) (Exited (slice_index s.core.scalars.x 0 % 256))
+
+-- the call of the number in X8: 64 is write, 93 is exit, and every other number fails
+unfoldable pub call_of : State → TurnEnd
+call_of s = let number : ℕ = slice_index s.core.scalars.x 8 in
+    cond (number == 64) (write_of s) (cond (number == 93) (exit_of s) (Goes (returned s (failure 38))))

@@ -1,0 +1,5 @@
+pub mod Core
+pub mod Registers
+pub mod Scalar
+pub mod Effect
+pub mod Machine

@@ -1,0 +1,9 @@
+//! One instruction of the machine: `Machine::step` answers with the effect of the instruction at PC, and all its
+//! answers but `Next` leave the machine as it was.
+#![tactic(auto)]
+
+mod execute;
+mod machine;
+mod registers;
+
+pub use machine::{Machine, StepEnd};
