@@ -1,0 +1,16 @@
+//! A gate that each turn of a worker passes.
+
+/// A place to hold or to watch workers at, as a test of schedules does.
+pub trait Gate {
+    /// Is called by the worker `core` in its turn `turn`, counted from 0, between its fetch and its run.
+    /// `work` is the number of the guest thread that it is about to run.
+    fn pass(&self, core: u32, turn: u64, work: u32);
+}
+
+/// A gate that holds nobody.
+#[derive(Clone, Copy, Debug, Default, PartialEq, Eq)]
+pub struct OpenGate;
+
+impl Gate for OpenGate {
+    fn pass(&self, _core: u32, _turn: u64, _work: u32) {}
+}
