@@ -56,6 +56,7 @@ pub fn run(pages: &[Page], address: u64, count: usize, need: u8) -> Option<&[u8]
     requires fine { IsFine pages.now }
     requires fits { address % 4096 + count ≤ 4096 }
     ensures there { IfSome result (λ bytes. bytes_with need (memory_of pages.now) address count ≡ Some bytes.now) }
+    ensures count { IfSome result (λ bytes. length bytes.now ≡ count) }
     ensures gone { IfNone result (byte_with need (memory_of pages.now) address ≡ None) }
 {
     match find(pages, address / 4096) {

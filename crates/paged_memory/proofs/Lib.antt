@@ -1,0 +1,4 @@
+pub mod Bytes
+pub mod Accesses
+pub mod Order
+pub mod Runs
