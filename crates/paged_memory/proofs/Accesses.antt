@@ -100,3 +100,8 @@ pub first_without-stop : (need : ℕ) (m : Memory) (a d n : ℕ) (bs : List ℕ)
 first_without-stop need m a d n bs there gone l =
     let before : first_without need m a d ≡ None = first_without-none need m a d (rw there refl) in
     first_without-stays need m a (d + 1) n _ (first_without-next need m a d ∙ rw (before, gone) refl) (omega arith)
+
+pub bytes_with-first : (need : ℕ) (m : Memory) (a n : ℕ) → a < 2 ^ 64 → byte_with need m a ≡ None → 0 < n → bytes_with need m a n ≡ None
+bytes_with-first need m a n low gone l =
+    let same : (a + 0) % 2 ^ 64 ≡ a = omega arith in
+    bytes_with-stop need m a 0 n (ap (byte_with need m) same ∙ gone) l

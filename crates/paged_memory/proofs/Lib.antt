@@ -2,3 +2,4 @@ pub mod Bytes
 pub mod Accesses
 pub mod Order
 pub mod Runs
+pub mod Words
