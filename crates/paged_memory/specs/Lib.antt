@@ -1,2 +1,4 @@
 pub mod Memory
 pub mod Image
+pub mod Pages
+pub mod Parts

@@ -5,5 +5,8 @@
 #![tactic(auto)]
 
 mod image;
+mod page;
+mod pages;
 
-pub use image::Part;
+pub use image::{Image, Part};
+pub use pages::{Abort, PageView, Pages};

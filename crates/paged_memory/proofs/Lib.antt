@@ -1,0 +1,5 @@
+pub mod Bytes
+pub mod Accesses
+pub mod Order
+pub mod Runs
+pub mod Words

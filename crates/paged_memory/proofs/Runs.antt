@@ -1,0 +1,45 @@
+-- A run of bytes within one page.
+use Rattle.std.proofs.Common.{◌≡◌, ℕ, zero, suc, ◌+◌, ◌/◌, ◌%◌, ◌^◌, ◌<◌, ◌≤◌, Bool, true, false, List, [], ◌∷◌, ◌++◌, length, get_or, take, drop, refl, ap, sym, ◌∙◌, arith, Option, Some, None, slice_get, add-one, length-drop}
+use Rattle.std.specs.Prelude.{bit_and}
+use Rattle.std.proofs.lemmas.Bool.Decides.{nat_tests}
+use Rattle.std.proofs.lemmas.List.{take_more, get_or-drop}
+use Rattle.std.proofs.lemmas.Option.{slice_get-get_or}
+use Rattle.paged_memory.specs.declared.page.Page.{Page}
+use Rattle.paged_memory.specs.Memory.{Memory, byte_with, bytes_with, permits, and_byte}
+use Rattle.paged_memory.specs.Pages.{page_at, memory_of, IsFine}
+use Rattle.paged_memory.proofs.Bytes.{byte-memory_of}
+
+-- the page that was read at the place that was found
+pub page_read : (ps : List Page) (n i : ℕ) (p : Page) → page_at ps n ≡ slice_get ps i → i < length ps → p ≡ get_or ps i p → page_at ps n ≡ Some p
+page_read ps n i p at l is = at ∙ slice_get-get_or ps i p l ∙ ap Some (sym is)
+
+byte_in_page : (ps : List Page) (need a : ℕ) (p : Page) → IsFine ps → page_at ps (a / 4096) ≡ Some p → bit_and p.flags need ≡ need → length p.bytes.items ≡ 4096 → byte_with need (memory_of ps) a ≡ Some (get_or p.bytes.items (a % 4096) 0)
+byte_in_page ps need a p fine page may full =
+    let test : permits need p.flags ≡ true = grind (arith, nat_tests) in
+    rw (byte-memory_of ps need a fine, page, test) (slice_get-get_or p.bytes.items (a % 4096) 0 (rw full (omega arith)))
+
+-- an address and those after it in its page
+same_page : (a n : ℕ) → a < 2 ^ 64 → a % 4096 + suc n ≤ 4096 → ((a + n) % 2 ^ 64 / 4096 ≡ a / 4096) × ((a + n) % 2 ^ 64 % 4096 ≡ a % 4096 + n)
+same_page a n low h = let e : (a + n) % 2 ^ 64 ≡ a + n = omega arith in rw e (omega arith, omega arith)
+
+pub run_read : (ps : List Page) (need a n : ℕ) (p : Page) → IsFine ps → page_at ps (a / 4096) ≡ Some p → bit_and p.flags need ≡ need → length p.bytes.items ≡ 4096 → a < 2 ^ 64 → a % 4096 + n ≤ 4096
+    → bytes_with need (memory_of ps) a n ≡ Some (take n (drop (a % 4096) p.bytes.items))
+unfolding bytes_with
+run_read ps need a zero p fine page may full low h = refl
+run_read ps need a (suc n) p fine page may full low h =
+    let at : ℕ = (a + n) % 2 ^ 64 in
+    let place : (at / 4096 ≡ a / 4096) × (at % 4096 ≡ a % 4096 + n) = same_page a n low h in
+    let before : bytes_with need (memory_of ps) a n ≡ Some (take n (drop (a % 4096) p.bytes.items)) = run_read ps need a n p fine page may full low (omega arith) in
+    let byte : byte_with need (memory_of ps) at ≡ Some (get_or p.bytes.items (at % 4096) 0) = byte_in_page ps need at p fine (ap (page_at ps) place.0 ∙ page) may full in
+    let inside : n < length (drop (a % 4096) p.bytes.items) = rw (length-drop, full) (omega arith) in
+    let more : take (suc n) (drop (a % 4096) p.bytes.items) ≡ take n (drop (a % 4096) p.bytes.items) ++ get_or (drop (a % 4096) p.bytes.items) n 0 ∷ [] = rw add-one at (take_more (drop (a % 4096) p.bytes.items) n 0 inside) in
+    let value : get_or p.bytes.items (at % 4096) 0 ≡ get_or (drop (a % 4096) p.bytes.items) n 0 = ap (λ k. get_or p.bytes.items k 0) place.1 ∙ sym (get_or-drop (a % 4096) p.bytes.items n 0) in
+    rw (before, byte, value, more) refl
+
+pub page_denied : (ps : List Page) (need a : ℕ) (p : Page) → IsFine ps → page_at ps (a / 4096) ≡ Some p → (bit_and p.flags need ≡ need → ⊥) → byte_with need (memory_of ps) a ≡ None
+page_denied ps need a p fine page lacks =
+    let test : permits need p.flags ≡ false = grind (arith, nat_tests) in
+    rw (byte-memory_of ps need a fine, page, test) refl
+
+pub page_gone : (ps : List Page) (need a : ℕ) → IsFine ps → page_at ps (a / 4096) ≡ None → byte_with need (memory_of ps) a ≡ None
+page_gone ps need a fine none = rw (byte-memory_of ps need a fine, none) refl

@@ -1,0 +1,89 @@
+//! Pages, and lists of them in the order of their numbers.
+ghost use Rattle.std.specs.Prelude.{◌≡◌, ℕ, ◌+◌, ◌*◌, ◌/◌, ◌%◌, ◌^◌, ◌<◌, ◌≤◌, ◌==◌, cond, length, get_or, slice_get, MatchOption, IfSome, IfNone, IsSome, OnOk, OnErr, Some, None, bit_or};
+ghost use Rattle.std.specs.FinMap.{get};
+ghost use Rattle.paged_memory.specs.declared.page.Page.{Page};
+ghost use Rattle.paged_memory.specs.Memory.{with_page, byte_with, bytes_with};
+ghost use Rattle.paged_memory.specs.Pages.{page_at, mem_of, perm_of, memory_of, IsFine};
+
+use std::alloc::{AllocError, Global};
+
+/// A page of 4096 bytes: its number is its address over 4096, its flags are a sum of execute 1, write 2 and read 4.
+#[derive(Drop)]
+pub struct Page {
+    pub number: u64,
+    pub flags: u8,
+    pub bytes: Vec<u8>,
+}
+
+/// How many of the pages have a number below that one.
+#[inline]
+pub fn count_below(pages: &[Page], number: u64) -> usize
+    requires { IsFine pages.now }
+    ensures bound { result ≤ length pages.now }
+    ensures below { (k : ℕ) (d : Page) → k < result → (get_or pages.now k d).number < number }
+    ensures rest { (k : ℕ) (d : Page) → result ≤ k → k < length pages.now → number ≤ (get_or pages.now k d).number }
+{
+    let mut low = 0;
+    let mut high = pages.len();
+    while low < high {
+        let middle = low + (high - low) / 2;
+        if pages[middle].number < number {
+            low = middle + 1;
+        } else {
+            high = middle;
+        }
+    }
+    low
+}
+
+/// The place of the page of that number.
+#[inline]
+pub fn find(pages: &[Page], number: u64) -> Option<usize>
+    requires { IsFine pages.now }
+    ensures { MatchOption result (page_at pages.now number ≡ None) (λ i. (i < length pages.now) × (page_at pages.now number ≡ slice_get pages.now i)) }
+{
+    let i = count_below(pages, number);
+    if i < pages.len() && pages[i].number == number {
+        Some(i)
+    } else {
+        None
+    }
+}
+
+/// The bytes from an address on that lie in one page, if there is such a page and it has the permission.
+#[inline]
+pub fn run(pages: &[Page], address: u64, count: usize, need: u8) -> Option<&[u8]>
+    requires fine { IsFine pages.now }
+    requires fits { address % 4096 + count ≤ 4096 }
+    ensures there { IfSome result (λ bytes. bytes_with need (memory_of pages.now) address count ≡ Some bytes.now) }
+    ensures count { IfSome result (λ bytes. length bytes.now ≡ count) }
+    ensures gone { IfNone result (byte_with need (memory_of pages.now) address ≡ None) }
+{
+    match find(pages, address / 4096) {
+        Some(i) => {
+            let page = &pages[i];
+            let start = (address % 4096) as usize;
+            if page.flags & need == need {
+                Some(&page.bytes[start..start + count])
+            } else {
+                None
+            }
+        }
+        None => None,
+    }
+}
+
+/// Adds a page at its place.
+pub fn add_page(pages: &mut Vec<Page>, page: Page) -> Result<(), AllocError>
+    requires fine { IsFine pages.old.items }
+    requires whole { length page.bytes.items ≡ 4096 }
+    requires low { page.number < 2 ^ 51 }
+    requires missing { get (perm_of pages.old.items) page.number ≡ None }
+    ensures fine { IsFine pages.new.items }
+    ensures memory { OnOk result (memory_of pages.new.items ≡ with_page (memory_of pages.old.items) page.number page.flags page.bytes.items) }
+    ensures count { OnOk result (length pages.new.items ≡ length pages.old.items + 1) }
+{
+    let i = count_below(pages.as_slice(), page.number);
+    pages.insert(i, page)?;
+    Ok(())
+}
