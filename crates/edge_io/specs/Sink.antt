@@ -8,12 +8,10 @@ abbrev pub added : Option (List ℕ) → List ℕ → Option (List ℕ)
 added None text = None
 added (Some held) text = Some (held ++ text)
 
--- After a call with this result the sink has the text, or after a fault a part of it from the front.
-pub record Writes {K : Type 0} (told : K → Option (List ℕ)) (faults : K → ℕ) (old new : K) (result : Result Unit PutFault) (text : List ℕ) : Type 0 where
+-- After a call with this result the sink has the text, or after a fault a part of it from the front. A sink that takes as many bytes
+-- as the text has, and so many more, has no fault, and then takes those that are more.
+pub record Writes {K : Type 0} (told : K → Option (List ℕ)) (faults : K → ℕ) (takes : K → ℕ → Type 0) (old new : K) (result : Result Unit PutFault) (text : List ℕ) : Type 0 where
   pub ok : OnOk result ((told new ≡ added (told old) text) × (faults new ≡ faults old))
   pub failed : OnErr result ((n : ℕ) × (told new ≡ added (told old) (take n text)))
   pub cause : OnErr result (Rose (faults old) (faults new) × (faults old ≤ faults new))
-
--- Where the sink takes as many bytes as the text has and so many more, the call succeeds, and the sink then takes those that are more.
-pub record Accepts {K : Type 0} (takes : K → ℕ → Type 0) (old new : K) (result : Result Unit PutFault) (text : List ℕ) : Type 0 where
   pub accepts : (more : ℕ) → takes old (length text + more) → IsOk result × takes new more

@@ -1,7 +1,7 @@
 //! A sink in memory.
 ghost use Rattle.std.specs.Prelude.{◌≡◌, ℕ, ◌+◌, ◌-◌, ◌<◌, ◌≤◌, ◌==◌, ◌++◌, ◌⊎◌, ◌↔◌, Some, IsOk, OnOk, OnErr, IfOk, List, [], ◌∷◌, length, take, min, vec_capacity, false, IsTrue};
 ghost use Rattle.edge_io.specs.Failing.{allowance, is_listed};
-ghost use Rattle.edge_io.specs.Sink.{Accepts, Writes};
+ghost use Rattle.edge_io.specs.Sink.{Writes};
 ghost use Rattle.edge_io.specs.Cause.{Rose};
 
 use crate::sink::{PutFault, Sink};
@@ -122,9 +122,8 @@ impl Sink for MemSink {
 
     /// Fails exactly where the piece is not empty, and the call is listed or the piece does not fit.
     fn put(&mut self, bytes: &[u8]) -> Result<(), PutFault>
-        ensures writes { Writes told_of faults_of self.old self.new result bytes.now }
+        ensures writes { Writes told_of faults_of Takes self.old self.new result bytes.now }
         ensures empty { bytes.now ≡ [] → IsOk result }
-        ensures accepts { Accepts Takes self.old self.new result bytes.now }
         ensures ok { IsOk result ↔ ((bytes.now ≡ []) ⊎ ((is_listed (log_of self.old).failing (next_call (log_of self.old).made) ≡ false) × (length (text_of self.old) + length bytes.now ≤ room_of self.old))) }
         ensures text { text_of self.new ≡ text_of self.old ++ take (taken_of self.old) bytes.now }
         ensures room { room_of self.new ≡ room_of self.old }

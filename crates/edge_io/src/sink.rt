@@ -1,6 +1,6 @@
 //! A place that text is written to.
 ghost use Rattle.std.specs.Prelude.{◌≡◌, ℕ, Option, List, [], IsOk};
-ghost use Rattle.edge_io.specs.Sink.{Accepts, Writes};
+ghost use Rattle.edge_io.specs.Sink.{Writes};
 
 /// Why a piece was not written.
 #[derive(Clone, Copy, Debug, PartialEq, Eq)]
@@ -23,7 +23,6 @@ pub trait Sink {
 
     /// Adds the bytes, or fails and adds a part of them from the front. An empty piece never fails.
     fn put(&mut self, bytes: &[u8]) -> Result<(), PutFault>
-        ensures writes { Writes told faults self.old self.new result bytes.now }
-        ensures empty { bytes.now ≡ [] → IsOk result }
-        ensures accepts { Accepts takes self.old self.new result bytes.now };
+        ensures writes { Writes told faults takes self.old self.new result bytes.now }
+        ensures empty { bytes.now ≡ [] → IsOk result };
 }

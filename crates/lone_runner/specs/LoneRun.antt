@@ -1,0 +1,13 @@
+-- The run of one guest thread alone, from its start to its stop.
+use Rattle.std.specs.Prelude.{◌≡◌, ℕ, List, []}
+use Rattle.sm_types.specs.declared.config.Config.{Config}
+use Rattle.sm_types.specs.declared.shared_op.Event.{Event}
+use Rattle.sm_types.specs.declared.stop.Stop.{Stop}
+use Rattle.paged_memory.specs.Image.{Program}
+use Rattle.kernel_contexts.specs.State.{State}
+use Rattle.kernel_contexts.specs.Run.{reach, Ended}
+
+-- the thread's run over this journal ends in this state with this stop, and exactly the journal's events are used
+pub record IsLoneRun (program : Program) (config : Config) (thread : ℕ) (journal : List Event) (state : State) (stop : Stop) : Type 0 where
+  pub turns : ℕ
+  pub ends : reach program config thread journal turns ≡ Ended state stop []

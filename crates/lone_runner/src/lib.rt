@@ -1,0 +1,2 @@
+//! Runs of one guest thread alone.
+#![tactic(auto)]

@@ -1,0 +1,2 @@
+//! The text of a report, written piece by piece into a sink, with no memory taken.
+#![tactic(auto)]
