@@ -5,7 +5,7 @@ use Rattle.std.proofs.lemmas.Nat.{and_assoc, and_comm}
 use Rattle.std.proofs.lemmas.Bool.{and_parts, cond_both, both_ways}
 use Rattle.a64_table.specs.declared.rows.Row.{Row}
 use Rattle.a64_decode.specs.declared.tree.Node.{Node}
-use Rattle.a64_decode.specs.declared.tree.Node.TheVariants.{Test, Place, Nothing}
+use Rattle.a64_decode.specs.declared.tree.Node.TheVariants.{Test, Place}
 use Rattle.a64_table.specs.Rows.{Matches}
 use Rattle.a64_decode.specs.Tree.{step, walk}
 
@@ -31,8 +31,6 @@ may_be_set mask p = not (bit_and p.1.mask mask == mask && bit_and p.1.value mask
 
 unfoldable pub covers_at : (ℕ → List Placed → Bool) → Option Node → List Placed → Bool
 covers_at on None left = false
-covers_at on (Some Nothing) [] = true
-covers_at on (Some Nothing) (x ∷ xs) = false
 covers_at on (Some (Place place)) left = list_all (λ p. p.0 == place) left
 covers_at on (Some (Test mask clear set)) left = on clear (kept (may_be_clear mask) left) && on set (kept (may_be_set mask) left)
 
@@ -89,8 +87,6 @@ all_at place p (x ∷ xs) e (later h) = all_at place p xs (and_parts _ _ e).1 h
 covers_at-step : (on : ℕ → List Placed → Bool) (way : ℕ → Option ℕ) (word : ℕ) (p : Placed) → Matches p.1 word → ((next : ℕ) (rest : List Placed) → on next rest ≡ true → Holds p rest → way next ≡ Some p.0) → (node : Option Node) (left : List Placed) → covers_at on node left ≡ true → Holds p left → step way node word ≡ Some p.0
 unfolding covers_at step
 covers_at-step on way word p m rec None left e h = cc
-covers_at-step on way word p m rec (Some Nothing) [] e h = elim h [ ]
-covers_at-step on way word p m rec (Some Nothing) (x ∷ xs) e h = cc
 covers_at-step on way word p m rec (Some (Place place)) left e h = ap Some (sym (all_at place p left e h))
 covers_at-step on way word p m rec (Some (Test mask clear set)) left e h =
     let parts = and_parts (on clear (kept (may_be_clear mask) left)) (on set (kept (may_be_set mask) left)) e in
