@@ -13,10 +13,12 @@ use Rattle.a64_decode.specs.Tree.{step, walk}
 abbrev pub Placed : Type 0
 Placed = ℕ × Row
 
+-- the rows with their places, from n on
 unfoldable pub numbered : ℕ → List Row → List Placed
 numbered n [] = []
 numbered n (r ∷ rs) = (n, r) ∷ numbered (suc n) rs
 
+-- those that pass a test
 unfoldable pub kept : (Placed → Bool) → List Placed → List Placed
 kept p [] = []
 kept p (x ∷ xs) = cond (p x) (x ∷ kept p xs) (kept p xs)
@@ -29,6 +31,7 @@ may_be_clear mask p = bit_and p.1.value mask == 0
 unfoldable pub may_be_set : ℕ → Placed → Bool
 may_be_set mask p = not (bit_and p.1.mask mask == mask && bit_and p.1.value mask == 0)
 
+-- the same at what stands at a place, where `on` tells it of the nodes that a test leads to
 unfoldable pub covers_at : (ℕ → List Placed → Bool) → Option Node → List Placed → Bool
 covers_at on None left = false
 covers_at on (Some (Place place)) left = list_all (λ p. p.0 == place) left
@@ -39,6 +42,7 @@ unfoldable pub covers : ℕ → List Node → ℕ → List Placed → Bool
 covers zero nodes at left = false
 covers (suc steps) nodes at left = covers_at (λ next rest. covers steps nodes next rest) (slice_get nodes at) left
 
+-- the list holds the row
 pub data Holds (x : Placed) : List Placed → Type 0 where
   here : {xs : List Placed} → Holds x (x ∷ xs)
   later : {y : Placed} {xs : List Placed} → Holds x xs → Holds x (y ∷ xs)

@@ -4,7 +4,7 @@ use Rattle.std.specs.Prelude.{ℕ, ◌==◌, List, Option, Some, None, slice_get
 use Rattle.a64_decode.specs.declared.tree.Node.{Node}
 use Rattle.a64_decode.specs.declared.tree.Node.TheVariants.{Test, Place}
 
--- one step of the way: a test leads on, and the other nodes end it
+-- one step of the way: a test leads on, and a place ends it
 unfoldable pub step : (ℕ → Option ℕ) → Option Node → ℕ → Option ℕ
 step on None word = None
 step on (Some (Place place)) word = Some place

@@ -8,10 +8,10 @@ use Rattle.a64_table.specs.Rows.{Matches}
 use Rattle.a64_table.specs.Meaning.{Means, HasAtMostOneRow, meaning_in, meaning_of, stands_for, fits_of, insn_of}
 use Rattle.a64_table.proofs.Apart.{differ, all_differ, one_place}
 
-some_is : {A : Type 0} {a b : A} → ◌≡◌ {A = Option A} (Some a) (Some b) → a ≡ b
+pub some_is : {A : Type 0} {a b : A} → ◌≡◌ {A = Option A} (Some a) (Some b) → a ≡ b
 some_is e = cc
 
-none_some : {A : Type 0} {a : A} → ◌≡◌ {A = Option A} None (Some a) → ⊥
+pub none_some : {A : Type 0} {a : A} → ◌≡◌ {A = Option A} None (Some a) → ⊥
 none_some e = cc
 
 chosen : {A : Type 0} (b : Bool) (x y z : A) → cond b x y ≡ z → ((b ≡ true) × (x ≡ z)) ⊎ ((b ≡ false) × (y ≡ z))
