@@ -1,7 +1,7 @@
 //! A sink that writes to the system.
 ghost use Rattle.std.specs.Prelude.{◌≡◌, ℕ, ◌+◌, ◌^◌, ◌<◌, ◌≤◌, ◌++◌, List, [], None, IfOk, IsOk, OnOk, OnErr, take, length};
 ghost use Rattle.std.specs.Io.KnownBytes.{Appends, Keeps};
-ghost use Rattle.edge_io.specs.Sink.{Accepts, Writes};
+ghost use Rattle.edge_io.specs.Sink.{Writes};
 
 use crate::sink::{PutFault, Sink};
 use std::io::{ErrorKind, Stdout, Write};
@@ -39,9 +39,8 @@ impl<W: Write + Drop> Sink for WriterSink<W> {
     /// Fails where the system takes nothing more or reports a fault. What the writer is known to hold grows by
     /// the piece, or after a fault by a part of it from the front.
     fn put(&mut self, bytes: &[u8]) -> Result<(), PutFault>
-        ensures writes { Writes (λ _. None) faults_of self.old self.new result bytes.now }
+        ensures writes { Writes (λ _. None) faults_of (λ _ _. ⊥) self.old self.new result bytes.now }
         ensures empty { bytes.now ≡ [] → IsOk result }
-        ensures accepts { Accepts (λ _ _. ⊥) self.old self.new result bytes.now }
         ensures ok { OnOk result (Appends (W.contents (writer_of self.old)) (W.contents (writer_of self.new)) bytes.now) }
         ensures err { OnErr result ((n : ℕ) × Appends (W.contents (writer_of self.old)) (W.contents (writer_of self.new)) (take n bytes.now)) }
     {
