@@ -3,3 +3,4 @@ pub mod Accesses
 pub mod Order
 pub mod Runs
 pub mod Words
+pub mod Shown
