@@ -20,7 +20,7 @@ bind (Some x) f = f x
 pub eq_by_cmp-nat : (q k : ℕ) → eq_by_cmp nat_cmp q k ≡ (k == q)
 eq_by_cmp-nat q k = grind (arith, nat_tests)
 
-get_perm_step : (b : Bool) (p : Page) (rest : Option Page) → cond b (Some p.flags) (option_map (λ p. p.flags) rest) ≡ option_map (λ p. p.flags) (cond b (Some p) rest)
+pub get_perm_step : (b : Bool) (p : Page) (rest : Option Page) → cond b (Some p.flags) (option_map (λ p. p.flags) rest) ≡ option_map (λ p. p.flags) (cond b (Some p) rest)
 get_perm_step true p rest = refl
 get_perm_step false p rest = refl
 
@@ -34,7 +34,7 @@ abbrev pub over : ℕ → List ℕ → ℕ → Option ℕ → Option ℕ
 over a [] q old = old
 over a (b ∷ bs) q old = over (a + 1) bs q (cond (a == q) (Some b) old)
 
-get-set_bytes_over : (m : FinMap nat_cmp ℕ) (a : ℕ) (bs : List ℕ) (q : ℕ) → a + length bs ≤ 2 ^ 64 → get (set_bytes m a bs) q ≡ over a bs q (get m q)
+pub get-set_bytes_over : (m : FinMap nat_cmp ℕ) (a : ℕ) (bs : List ℕ) (q : ℕ) → a + length bs ≤ 2 ^ 64 → get (set_bytes m a bs) q ≡ over a bs q (get m q)
 unfolding set_bytes
 get-set_bytes_over m a [] q h = refl
 get-set_bytes_over m a (b ∷ bs) q h =
@@ -87,7 +87,7 @@ off_page n a bs old full e =
       | inr g ↦ over-above (4096 * n) bs a old (omega arith)
     ]
 
-get_mem_step : (p : Page) (rest : Option Page) (a : ℕ) (old : Option ℕ) → length p.bytes.items ≡ 4096 → old ≡ bind rest (λ p. slice_get p.bytes.items (a % 4096))
+pub get_mem_step : (p : Page) (rest : Option Page) (a : ℕ) (old : Option ℕ) → length p.bytes.items ≡ 4096 → old ≡ bind rest (λ p. slice_get p.bytes.items (a % 4096))
     → over (4096 * p.number) p.bytes.items a old ≡ bind (cond (p.number == a / 4096) (Some p) rest) (λ p. slice_get p.bytes.items (a % 4096))
 get_mem_step p rest a old full e =
     elim (p.number == a / 4096) as (λ t. (p.number == a / 4096) ≡ t → over (4096 * p.number) p.bytes.items a old ≡ bind (cond t (Some p) rest) (λ p. slice_get p.bytes.items (a % 4096))) [

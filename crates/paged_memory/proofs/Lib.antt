@@ -4,3 +4,4 @@ pub mod Order
 pub mod Runs
 pub mod Words
 pub mod Shown
+pub mod Insert
