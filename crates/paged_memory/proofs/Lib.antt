@@ -5,3 +5,5 @@ pub mod Runs
 pub mod Words
 pub mod Shown
 pub mod Insert
+pub mod Copy
+pub mod Stack
