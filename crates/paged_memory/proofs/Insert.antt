@@ -12,7 +12,8 @@ use Rattle.std.proofs.lemmas.List.Elements.{recursion_from_All, All-append, All-
 use Rattle.paged_memory.specs.declared.page.Page.{Page}
 use Rattle.paged_memory.specs.Memory.{Memory, with_page, set_bytes}
 use Rattle.paged_memory.specs.Pages.{page_entry, page_at, mem_of, perm_of, memory_of, IsFine}
-use Rattle.paged_memory.proofs.Bytes.{bind, over, get-perm_of, get-mem_of, get-set_bytes_over, get_mem_step, get_perm_step, eq_by_cmp-nat}
+use Rattle.paged_memory.proofs.Over.{over, eq_by_cmp-nat, get-set_bytes}
+use Rattle.paged_memory.proofs.Bytes.{bind, get-perm_of, get-mem_of, get_mem_step, get_perm_step}
 use Rattle.paged_memory.proofs.Order.{and_first, and_second, and_both}
 
 absent : (o : Option Page) → option_map (λ p. p.flags) o ≡ None → o ≡ None
@@ -88,7 +89,7 @@ fine_insert ps i p fine l below rest whole low missing = record {
 -- what a memory with one more page has at an address and at a number
 pub mem-with_page : (m : Memory) (n flags : ℕ) (bs : List ℕ) (a : ℕ) → length bs ≡ 4096 → n < 2 ^ 51 → get (with_page m n flags bs).mem a ≡ over (4096 * n) bs a (get m.mem a)
 unfolding with_page
-mem-with_page m n flags bs a full low = get-set_bytes_over m.mem (4096 * n) bs a (rw full (omega arith))
+mem-with_page m n flags bs a full low = get-set_bytes m.mem (4096 * n) bs a (rw full (omega arith))
 
 pub perm-with_page : (m : Memory) (n flags : ℕ) (bs : List ℕ) (q : ℕ) → get (with_page m n flags bs).perm q ≡ cond (n == q) (Some flags) (get m.perm q)
 unfolding with_page

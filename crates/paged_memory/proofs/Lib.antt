@@ -1,3 +1,4 @@
+pub mod Over
 pub mod Bytes
 pub mod Accesses
 pub mod Order
