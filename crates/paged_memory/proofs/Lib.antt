@@ -8,3 +8,4 @@ pub mod Shown
 pub mod Insert
 pub mod Copy
 pub mod Stack
+pub mod Set

@@ -2,6 +2,7 @@
 use Rattle.std.proofs.Common.{◌⊎◌, inl, inr, ◌≡◌, ◌≢◌, ℕ, zero, suc, ◌+◌, ◌-◌, ◌*◌, ◌/◌, ◌%◌, ◌^◌, ◌<◌, ◌≤◌, Bool, true, false, cond, List, [], ◌∷◌, ◌++◌, length, drop, take, refl, ap, sym, ◌∙◌, arith, Option, Some, None, slice_get}
 use Rattle.std.specs.Prelude.{◌==◌, ◌&&◌, nat_lt, nat_le}
 use Rattle.std.proofs.lemmas.Grind.{common_steps}
+use Rattle.std.proofs.lemmas.List.{take-append-drop, take-take, drop-take, length-take-le}
 use Rattle.std.proofs.lemmas.Bool.Decides.{nat_tests}
 use Rattle.std.specs.FinMap.{FinMap, get, insert, get-insert}
 use Rattle.std.specs.Cmp.{nat_cmp_total}
@@ -137,3 +138,20 @@ off_page n a bs old full e =
       | inl l ↦ over-below (4096 * n) bs a old (omega arith)
       | inr g ↦ over-above (4096 * n) bs a old (omega arith)
     ]
+
+take_add : (d n : ℕ) (bs : List ℕ) → take (d + n) bs ≡ take d bs ++ take n (drop d bs)
+take_add d n bs = sym (take-append-drop d (take (d + n) bs)) ∙ rw (take-take d (d + n) bs (omega arith), drop-take d n bs) refl
+
+pub set_bytes-none : (m : FinMap nat_cmp ℕ) (a : ℕ) → m ≡ set_bytes m a []
+unfolding set_bytes
+set_bytes-none m a = refl
+
+-- one more run of the bytes of a list
+pub set_bytes-more : (m now new : FinMap nat_cmp ℕ) (a d n : ℕ) (bs : List ℕ) → d ≤ length bs → now ≡ set_bytes m a (take d bs) → new ≡ set_bytes now (a + d) (take (d + n - d) (drop d bs)) → new ≡ set_bytes m a (take (d + n) bs)
+set_bytes-more m now new a d n bs inside before is =
+    let count : d + n - d ≡ n = omega arith in
+    let long : length (take d bs) ≡ d = length-take-le d bs inside in
+    let run : new ≡ set_bytes (set_bytes m a (take d bs)) (a + d) (take n (drop d bs)) = rw (count, before) at is in
+    let whole : set_bytes m a (take (d + n) bs) ≡ set_bytes (set_bytes m a (take d bs)) (a + d) (take n (drop d bs)) =
+        ap (set_bytes m a) (take_add d n bs) ∙ set_bytes-append m a (take d bs) (take n (drop d bs)) ∙ ap (λ k. set_bytes (set_bytes m a (take d bs)) (a + k) (take n (drop d bs))) long in
+    run ∙ sym whole
