@@ -9,3 +9,5 @@ pub mod Insert
 pub mod Copy
 pub mod Stack
 pub mod Set
+pub mod Touch
+pub mod Parts

@@ -130,3 +130,6 @@ missing (Some x) e h = cc
 
 pub page_missing : (ps : List Page) (n : ℕ) → page_at ps n ≡ None → IsSome (get (perm_of ps) n) → ⊥
 page_missing ps n none some = missing (get (perm_of ps) n) (get-perm_of ps n ∙ ap (option_map (λ x. x.flags)) none) some
+
+pub none_found : (ps : List Page) (n : ℕ) → page_at ps n ≡ None → get (perm_of ps) n ≡ None
+none_found ps n none = get-perm_of ps n ∙ ap (option_map (λ x. x.flags)) none
