@@ -11,3 +11,4 @@ pub mod Stack
 pub mod Set
 pub mod Touch
 pub mod Parts
+pub mod Count

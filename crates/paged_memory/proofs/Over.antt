@@ -86,6 +86,14 @@ get-set_bytes m a (b ∷ bs) q h =
     let more : (a + 1) + length bs ≤ 2 ^ 64 = omega arith in
     rw (get-set_bytes (insert m (a % 2 ^ 64) b) (a + 1) bs q more, get-insert nat_cmp_total, eq_by_cmp-nat, low) (over-cons a b bs q (get m q))
 
+-- the same, where no bytes may lie anywhere
+pub get-set_bytes-low : (m : FinMap nat_cmp ℕ) (a : ℕ) (bs : List ℕ) (q : ℕ) → (0 < length bs → a + length bs < 2 ^ 64) → get (set_bytes m a bs) q ≡ over a bs q (get m q)
+unfolding set_bytes
+get-set_bytes-low m a [] q h = sym (elim (low_or q a) [ inl l ↦ over-below a [] q _ l | inr g ↦ over-above a [] q _ (omega arith) ])
+get-set_bytes-low m a (b ∷ bs) q h =
+    let low : a + length (b ∷ bs) < 2 ^ 64 = h (omega arith) in
+    get-set_bytes m a (b ∷ bs) q (omega arith)
+
 pub set_bytes-append : (m : FinMap nat_cmp ℕ) (a : ℕ) (bs cs : List ℕ) → set_bytes m a (bs ++ cs) ≡ set_bytes (set_bytes m a bs) (a + length bs) cs
 unfolding set_bytes
 set_bytes-append m a [] cs = let z : a + 0 ≡ a = omega arith in rw z refl

@@ -140,3 +140,15 @@ pub placed_low : (p : Extent) → IsPlaced p → 0 < p.size → p.address + p.si
 placed_low p placed h =
     let last : (p.address + p.size - 1) / 4096 < 2 ^ 35 = (placed.places (p.address + p.size - 1) (omega arith) (omega arith)).0 in
     omega arith
+
+pub placed_bytes_low : (p : Extent) → IsPlaced p → 0 < length p.bytes → p.address + length p.bytes < 2 ^ 64
+placed_bytes_low p placed h =
+    let within : length p.bytes ≤ p.size = placed.inside in
+    let low : p.address + p.size ≤ 2 ^ 62 = placed_low p placed (omega arith) in
+    omega arith
+
+-- the bytes of a part are in pages that are touched
+pub bytes_touched : (parts : List Part) (i : ℕ) (d : Part) (a : ℕ) → All IsPlaced (map extent_of parts) → i < length parts → (extent_of (get_or parts i d)).address ≤ a → a < (extent_of (get_or parts i d)).address + length (extent_of (get_or parts i d)).bytes → IsSome (image_flags (map extent_of parts) (a / 4096))
+bytes_touched parts i d a all l g m =
+    let within : length (extent_of (get_or parts i d)).bytes ≤ (extent_of (get_or parts i d)).size = (placed_at IsPlaced parts i d all l).inside in
+    touched_at parts i d a l g (omega arith)

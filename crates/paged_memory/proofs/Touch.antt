@@ -4,7 +4,8 @@ use Rattle.std.specs.Prelude.{◌==◌, ◌&&◌, bit_or, nat_le, nat_lt, IsSome
 use Rattle.std.proofs.lemmas.Bool.Decides.{nat_tests}
 use Rattle.std.proofs.lemmas.List.{length-replicate, get_or-replicate}
 use Rattle.std.proofs.lemmas.Option.{slice_get-get_or}
-use Rattle.std.specs.FinMap.{get}
+use Rattle.std.specs.FinMap.{get, get-empty}
+use Rattle.std.specs.Ordering.{nat_cmp}
 use Rattle.paged_memory.specs.declared.page.Page.{Page}
 use Rattle.paged_memory.specs.Memory.{Memory, with_page}
 use Rattle.paged_memory.specs.Image.{Extent, union, part_flags, zero_in}
@@ -100,3 +101,22 @@ touched_more first n q f old now new l before is =
 pub touched_all : (address size q f : ℕ) (old : Option ℕ) → 0 < size → union (cond (nat_le (address / 4096) q && nat_lt q ((address + size - 1) / 4096 + 1)) (Some f) None) old ≡ union (cond (nat_lt 0 size && nat_le (address / 4096) q && nat_le q ((address + size - 1) / 4096)) (Some f) None) old
 touched_all address size q f old h =
     let same : (nat_le (address / 4096) q && nat_lt q ((address + size - 1) / 4096 + 1)) ≡ (nat_lt 0 size && nat_le (address / 4096) q && nat_le q ((address + size - 1) / 4096)) = grind (arith, nat_tests) in rw same refl
+
+-- ---- no page
+
+pub no_pages_fine : (ps : List Page) → ps ≡ [] → IsFine ps
+no_pages_fine ps e = rw e (record { full = λ k d l. absurd (omega arith); low = λ k d l. absurd (omega arith); sorted = refl })
+
+no_flags : (n : ℕ) → get (perm_of []) n ≡ None
+unfolding perm_of
+no_flags n = get-empty nat_cmp n
+
+no_bytes : (a : ℕ) → get (mem_of []) a ≡ None
+unfolding mem_of
+no_bytes a = get-empty nat_cmp a
+
+pub no_pages_flags : (ps : List Page) (n : ℕ) → ps ≡ [] → get (perm_of ps) n ≡ None
+no_pages_flags ps n e = rw e (no_flags n)
+
+pub no_pages_zero : (ps : List Page) → ps ≡ [] → IsZero (memory_of ps)
+no_pages_zero ps e a = rw e (no_bytes a ∙ ap zero_in (sym (no_flags (a / 4096))))

@@ -139,7 +139,7 @@ pub fn put_run(pages: &mut Vec<Page>, address: u64, bytes: &[u8])
 /// Sets bytes, run by run, in pages that are there.
 pub fn put_bytes(pages: &mut Vec<Page>, address: u64, bytes: &[u8])
     requires fine { IsFine pages.old.items }
-    requires low { address + length bytes.now < 2 ^ 64 }
+    requires low { 0 < length bytes.now → address + length bytes.now < 2 ^ 64 }
     requires there { IsMapped (memory_of pages.old.items) address (length bytes.now) }
     ensures fine { IsFine pages.new.items }
     ensures bytes { mem_of pages.new.items ≡ set_bytes (mem_of pages.old.items) address bytes.now }
