@@ -182,3 +182,10 @@ one_placed p placed size few = record {
   apart = (λ a h. refl, tt);
   few = let count : touched_below (p ∷ []) (2 ^ 35) ≤ (p.address + p.size - 1) / 4096 + 1 - p.address / 4096 = (touched_by_one p (2 ^ 35)).1 in omega arith;
 }
+
+-- a part lies where it may if its ends do
+pub placed_by_ends : (p : Extent) → length p.bytes ≤ p.size → p.address + p.size ≤ 2 ^ 47 → (p.address + p.size ≤ 0x7DFFFFFC0000) ⊎ (0x7F0000001000 ≤ p.address) → IsPlaced p
+placed_by_ends p inside low apart = record {
+  inside = inside;
+  places = λ a from to. (omega arith, elim apart [ inl l ↦ inl (omega arith) | inr g ↦ inr (omega arith) ]);
+}
