@@ -1,14 +1,12 @@
 -- How many pages parts touch.
-use Rattle.std.proofs.Common.{◌⊎◌, inl, inr, ◌≡◌, ◌≢◌, ℕ, zero, suc, ◌+◌, ◌-◌, ◌*◌, ◌/◌, ◌%◌, ◌^◌, ◌<◌, ◌≤◌, Bool, true, false, cond, List, [], ◌∷◌, length, get_or, refl, ap, sym, ◌∙◌, arith, Option, Some, None, All}
+use Rattle.std.proofs.Common.{◌⊎◌, inl, inr, ◌≡◌, ◌≢◌, ℕ, zero, suc, ◌+◌, ◌-◌, ◌*◌, ◌/◌, ◌^◌, ◌<◌, ◌≤◌, true, false, cond, List, [], ◌∷◌, length, get_or, refl, ap, sym, ◌∙◌, arith, Option, Some, None, All}
 use Rattle.std.specs.Prelude.{◌==◌, ◌&&◌, nat_le, nat_lt, IsSome, is_some}
 use Rattle.std.proofs.lemmas.Bool.Decides.{nat_tests}
 use Rattle.std.specs.FinMap.{FinMap, get, len, insert, remove, empty, get-insert, get-remove, get-empty, len-empty, len-insert, same_map, nat_cmp-IsAntisymmetric}
 use Rattle.std.specs.Cmp.{nat_cmp_total}
 use Rattle.std.specs.Ordering.{nat_cmp}
-use Rattle.paged_memory.specs.declared.page.Page.{Page}
-use Rattle.paged_memory.specs.Memory.{Memory}
-use Rattle.paged_memory.specs.Image.{Extent, Program, union, part_flags, image_flags, part_byte, parts_byte, IsMemoryOf, IsImage, IsImagePage}
-use Rattle.paged_memory.specs.Parts.{IsPlaced, AreApart, ArePlaced, touched_below}
+use Rattle.paged_memory.specs.Image.{Extent, Program, union, part_flags, image_flags, parts_byte, IsMemoryOf, IsImage, IsImagePage}
+use Rattle.paged_memory.specs.Parts.{IsPlaced, ArePlaced, touched_below}
 use Rattle.paged_memory.proofs.Over.{eq_by_cmp-nat}
 
 -- how many keys below a number a map has
@@ -155,7 +153,7 @@ one_more : (p : Extent) (n count : ℕ) → count ≤ n - p.address / 4096 → c
     → (count + cond (is_some (union (part_flags p n) None)) 1 0 ≤ suc n - p.address / 4096) × (count + cond (is_some (union (part_flags p n) None)) 1 0 ≤ (p.address + p.size - 1) / 4096 + 1 - p.address / 4096)
 one_more p n count h l =
     rw (union_none (part_flags p n)) (elim (nat_lt 0 p.size && nat_le (p.address / 4096) n && nat_le n ((p.address + p.size - 1) / 4096)) as
-      (λ t. (nat_lt 0 p.size && nat_le (p.address / 4096) n && nat_le n ((p.address + p.size - 1) / 4096)) ≡ t → (count + cond (is_some (cond t (Some p.flags) None)) 1 0 ≤ suc n - p.address / 4096) × (count + cond (is_some (cond t (Some p.flags) None)) 1 0 ≤ (p.address + p.size - 1) / 4096 + 1 - p.address / 4096)) [
+    (λ t. (nat_lt 0 p.size && nat_le (p.address / 4096) n && nat_le n ((p.address + p.size - 1) / 4096)) ≡ t → (count + cond (is_some (cond t (Some p.flags) None)) 1 0 ≤ suc n - p.address / 4096) × (count + cond (is_some (cond t (Some p.flags) None)) 1 0 ≤ (p.address + p.size - 1) / 4096 + 1 - p.address / 4096)) [
       | true ↦ λ t.
           let from : p.address / 4096 ≤ n = grind (arith, nat_tests) in
           let to : n ≤ (p.address + p.size - 1) / 4096 = grind (arith, nat_tests) in

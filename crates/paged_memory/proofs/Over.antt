@@ -1,5 +1,5 @@
 -- Bytes laid over others, from an address on.
-use Rattle.std.proofs.Common.{◌⊎◌, inl, inr, ◌≡◌, ◌≢◌, ℕ, zero, suc, ◌+◌, ◌-◌, ◌*◌, ◌/◌, ◌%◌, ◌^◌, ◌<◌, ◌≤◌, Bool, true, false, cond, List, [], ◌∷◌, ◌++◌, length, drop, take, refl, ap, sym, ◌∙◌, arith, Option, Some, None, slice_get}
+use Rattle.std.proofs.Common.{◌⊎◌, inl, inr, ◌≡◌, ◌≢◌, ℕ, zero, suc, ◌+◌, ◌-◌, ◌*◌, ◌/◌, ◌%◌, ◌^◌, ◌<◌, ◌≤◌, true, false, cond, List, [], ◌∷◌, ◌++◌, length, drop, take, refl, ap, sym, ◌∙◌, arith, Option, Some, slice_get}
 use Rattle.std.specs.Prelude.{◌==◌, ◌&&◌, nat_lt, nat_le}
 use Rattle.std.proofs.lemmas.Grind.{common_steps}
 use Rattle.std.proofs.lemmas.List.{take-append-drop, take-take, drop-take, length-take-le}
@@ -44,7 +44,6 @@ over-above start bs a old l = let e : (nat_le start a && nat_lt a (start + lengt
 
 pub low_or : (a b : ℕ) → (a < b) ⊎ (b ≤ a)
 low_or a b = grind arith
-
 
 pub eq_by_cmp-nat : (q k : ℕ) → eq_by_cmp nat_cmp q k ≡ (k == q)
 eq_by_cmp-nat q k = grind (arith, nat_tests)
@@ -161,5 +160,5 @@ set_bytes-more m now new a d n bs inside before is =
     let long : length (take d bs) ≡ d = length-take-le d bs inside in
     let run : new ≡ set_bytes (set_bytes m a (take d bs)) (a + d) (take n (drop d bs)) = rw (count, before) at is in
     let whole : set_bytes m a (take (d + n) bs) ≡ set_bytes (set_bytes m a (take d bs)) (a + d) (take n (drop d bs)) =
-        ap (set_bytes m a) (take_add d n bs) ∙ set_bytes-append m a (take d bs) (take n (drop d bs)) ∙ ap (λ k. set_bytes (set_bytes m a (take d bs)) (a + k) (take n (drop d bs))) long in
+    ap (set_bytes m a) (take_add d n bs) ∙ set_bytes-append m a (take d bs) (take n (drop d bs)) ∙ ap (λ k. set_bytes (set_bytes m a (take d bs)) (a + k) (take n (drop d bs))) long in
     run ∙ sym whole

@@ -1,12 +1,11 @@
 -- The parts of an image, taken from the last to the first.
-use Rattle.std.proofs.Common.{◌⊎◌, inl, inr, ◌≡◌, ◌≢◌, ℕ, zero, suc, ◌+◌, ◌-◌, ◌*◌, ◌/◌, ◌%◌, ◌^◌, ◌<◌, ◌≤◌, Bool, true, false, cond, List, [], ◌∷◌, length, get_or, drop, map, refl, ap, sym, ◌∙◌, arith, Option, Some, None, slice_get, All, add-one}
-use Rattle.std.specs.Prelude.{◌==◌, ◌&&◌, bit_or, nat_le, nat_lt, IsSome}
+use Rattle.std.proofs.Common.{inl, inr, ◌≡◌, ℕ, zero, suc, ◌+◌, ◌-◌, ◌/◌, ◌^◌, ◌<◌, ◌≤◌, true, false, List, [], ◌∷◌, length, get_or, drop, map, refl, ap, sym, ◌∙◌, arith, Option, Some, None, slice_get, All}
+use Rattle.std.specs.Prelude.{◌&&◌, nat_le, nat_lt, IsSome}
 use Rattle.std.proofs.lemmas.Bool.Decides.{nat_tests}
 use Rattle.std.proofs.lemmas.Option.{slice_get-get_or}
-use Rattle.std.specs.FinMap.{get}
 use Rattle.paged_memory.specs.declared.image.Part.{Part}
-use Rattle.paged_memory.specs.Memory.{Memory, or_else, set_bytes}
-use Rattle.paged_memory.specs.Image.{Extent, extent_of, union, part_flags, image_flags, part_byte, parts_byte, image_byte, or_zero, zero_in, IsMemoryOf, IsImagePage}
+use Rattle.paged_memory.specs.Memory.{or_else}
+use Rattle.paged_memory.specs.Image.{Extent, extent_of, union, part_flags, image_flags, part_byte, parts_byte, image_byte, or_zero, zero_in}
 use Rattle.paged_memory.specs.Parts.{IsPlaced, AreApart}
 use Rattle.paged_memory.proofs.Over.{over, low_or, over-below, over-above, over-inside}
 
@@ -128,7 +127,7 @@ pub bytes_of_more : (parts : List Part) (i : ℕ) (d : Part) (a : ℕ) (old new 
 unfolding parts_byte
 bytes_of_more parts i d a old new h l fits before is =
     rw (extents_from parts i d l) (part_put (extent_of (get_or parts i d)) (drop (i + 1) (map extent_of parts)) a (zero_in (image_flags (map extent_of parts) (a / 4096))) old new fits
-      (apart_from parts i d a h l) (λ g m. zero_of_some (image_flags (map extent_of parts) (a / 4096)) (touched_at parts i d a l g m)) before is)
+    (apart_from parts i d a h l) (λ g m. zero_of_some (image_flags (map extent_of parts) (a / 4096)) (touched_at parts i d a l g m)) before is)
 
 pub bytes_of_all : (parts : List Extent) (a : ℕ) (o : Option ℕ) → o ≡ or_else (parts_byte parts a) (zero_in (image_flags parts (a / 4096))) → o ≡ image_byte parts a
 unfolding image_byte

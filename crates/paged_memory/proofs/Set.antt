@@ -1,6 +1,6 @@
 -- One page set at its place.
-use Rattle.std.proofs.Common.{◌⊎◌, inl, inr, ◌≡◌, ◌≢◌, ℕ, zero, suc, ◌+◌, ◌*◌, ◌/◌, ◌%◌, ◌^◌, ◌<◌, ◌≤◌, Bool, true, false, cond, List, [], ◌∷◌, ◌++◌, length, get_or, set, take, drop, refl, ap, sym, ◌∙◌, arith, Option, Some, None, slice_get, option_map, All}
-use Rattle.std.specs.Prelude.{◌==◌, ◌&&◌, map, bit_or, IsSome}
+use Rattle.std.proofs.Common.{inl, inr, ◌≡◌, ℕ, zero, suc, ◌+◌, ◌/◌, ◌%◌, ◌^◌, ◌<◌, ◌≤◌, Bool, true, false, cond, List, [], ◌∷◌, ◌++◌, length, get_or, set, take, drop, refl, ap, sym, ◌∙◌, arith, Option, Some, None, slice_get, option_map}
+use Rattle.std.specs.Prelude.{◌==◌, map, IsSome}
 use Rattle.std.proofs.lemmas.Bool.Decides.{nat_tests}
 use Rattle.std.proofs.lemmas.List.Elements.{recursion_from_All, All-set}
 use Rattle.std.proofs.lemmas.Option.{slice_get-get_or}
@@ -9,10 +9,8 @@ use Rattle.std.specs.FinMap.Entries.{below_all, is_sorted}
 use Rattle.std.specs.Cmp.{nat_cmp_total}
 use Rattle.std.specs.Ordering.{nat_cmp, is_lt}
 use Rattle.paged_memory.specs.declared.page.Page.{Page}
-use Rattle.paged_memory.specs.Memory.{Memory, set_bytes}
-use Rattle.paged_memory.specs.Image.{union, zero_in}
-use Rattle.paged_memory.specs.Parts.{IsZero}
-use Rattle.paged_memory.specs.Pages.{page_entry, page_at, mem_of, perm_of, memory_of, IsFine}
+use Rattle.paged_memory.specs.Memory.{set_bytes}
+use Rattle.paged_memory.specs.Pages.{page_entry, page_at, mem_of, perm_of, IsFine}
 use Rattle.paged_memory.proofs.Over.{over, low_or, apart, over-below, over-above, over_shift, slice_get-run, get-set_bytes}
 use Rattle.paged_memory.proofs.Bytes.{bind, get-perm_of, get-mem_of}
 use Rattle.paged_memory.proofs.Order.{and_first, and_second, and_both, later_apart}
@@ -99,10 +97,10 @@ pub run_flags : (ps : List Page) (i n : ℕ) (new d : Page) → IsFine ps → i 
 run_flags ps i n new d fine l found e f =
     let number : new.number ≡ n = e ∙ found_number ps n i d l found in
     same_map nat_cmp_total nat_cmp-IsAntisymmetric _ _ (λ q.
-      perm_of-set ps i new d q fine l e ∙ elim (new.number == q) as (λ t. (new.number == q) ≡ t → cond t (Some new.flags) (get (perm_of ps) q) ≡ get (perm_of ps) q) [
-        | true ↦ λ t. let same : n ≡ q = grind (arith, nat_tests) in ap Some f ∙ sym (found_flags ps q i d l (rw same at found))
-        | false ↦ λ t. refl
-      ] refl)
+    perm_of-set ps i new d q fine l e ∙ elim (new.number == q) as (λ t. (new.number == q) ≡ t → cond t (Some new.flags) (get (perm_of ps) q) ≡ get (perm_of ps) q) [
+      | true ↦ λ t. let same : n ≡ q = grind (arith, nat_tests) in ap Some f ∙ sym (found_flags ps q i d l (rw same at found))
+      | false ↦ λ t. refl
+    ] refl)
 
 pub run_bytes : (ps : List Page) (i s : ℕ) (bs : List ℕ) (new d : Page) → IsFine ps → IsFine (set ps i new) → i < length ps → page_at ps (s / 4096) ≡ slice_get ps i
     → new.number ≡ (get_or ps i d).number → s % 4096 + length bs ≤ 4096 → new.bytes.items ≡ take (s % 4096) (get_or ps i d).bytes.items ++ (bs ++ drop (s % 4096 + length bs) (get_or ps i d).bytes.items)
@@ -113,16 +111,16 @@ run_bytes ps i s bs new d fine fine' l found e fits is =
     let number : new.number ≡ s / 4096 = e ∙ found_number ps (s / 4096) i d l found in
     let low : s / 4096 < 2 ^ 51 = rw (found_number ps (s / 4096) i d l found) at (fine.low i d l) in
     same_map nat_cmp_total nat_cmp-IsAntisymmetric _ _ (λ a.
-      mem_of-set ps i new d a fine fine' l e ∙ elim (new.number == a / 4096) as (λ t. (new.number == a / 4096) ≡ t → cond t (slice_get new.bytes.items (a % 4096)) (get (mem_of ps) a) ≡ over s bs a (get (mem_of ps) a)) [
-        | true ↦ λ t.
-            let same : s / 4096 ≡ a / 4096 = grind (arith, nat_tests) in
-            let was : get (mem_of ps) a ≡ slice_get old.bytes.items (a % 4096) = found_byte ps a i d fine l (rw same at found) in
-            let run : slice_get new.bytes.items (a % 4096) ≡ over (s % 4096) bs (a % 4096) (slice_get old.bytes.items (a % 4096)) = ap (λ x. slice_get x (a % 4096)) is ∙ slice_get-run old.bytes.items bs (s % 4096) (a % 4096) (rw full fits) in
-            run ∙ over_shift s bs a _ same ∙ ap (over s bs a) (sym was)
-        | false ↦ λ t.
-            let u : (s / 4096 == a / 4096) ≡ false = rw (← number) t in
-            sym (elim (low_or a s) [ inl b ↦ over-below s bs a _ b | inr g ↦ over-above s bs a _ (apart s a (length bs) u g fits) ])
-      ] refl ∙ sym (get-set_bytes (mem_of ps) s bs a (omega arith)))
+    mem_of-set ps i new d a fine fine' l e ∙ elim (new.number == a / 4096) as (λ t. (new.number == a / 4096) ≡ t → cond t (slice_get new.bytes.items (a % 4096)) (get (mem_of ps) a) ≡ over s bs a (get (mem_of ps) a)) [
+      | true ↦ λ t.
+          let same : s / 4096 ≡ a / 4096 = grind (arith, nat_tests) in
+          let was : get (mem_of ps) a ≡ slice_get old.bytes.items (a % 4096) = found_byte ps a i d fine l (rw same at found) in
+          let run : slice_get new.bytes.items (a % 4096) ≡ over (s % 4096) bs (a % 4096) (slice_get old.bytes.items (a % 4096)) = ap (λ x. slice_get x (a % 4096)) is ∙ slice_get-run old.bytes.items bs (s % 4096) (a % 4096) (rw full fits) in
+          run ∙ over_shift s bs a _ same ∙ ap (over s bs a) (sym was)
+      | false ↦ λ t.
+          let u : (s / 4096 == a / 4096) ≡ false = rw (← number) t in
+          sym (elim (low_or a s) [ inl b ↦ over-below s bs a _ b | inr g ↦ over-above s bs a _ (apart s a (length bs) u g fits) ])
+    ] refl ∙ sym (get-set_bytes (mem_of ps) s bs a (omega arith)))
 
 missing : (o : Option ℕ) → o ≡ None → IsSome o → ⊥
 missing None e h = cc

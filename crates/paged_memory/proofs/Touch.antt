@@ -1,6 +1,6 @@
 -- Pages of zeros, and flags added to them.
-use Rattle.std.proofs.Common.{◌⊎◌, inl, inr, ◌≡◌, ◌≢◌, ℕ, zero, suc, ◌+◌, ◌-◌, ◌*◌, ◌/◌, ◌%◌, ◌^◌, ◌<◌, ◌≤◌, Bool, true, false, cond, List, [], length, get_or, set, refl, ap, sym, ◌∙◌, arith, Option, Some, None, slice_get, replicate}
-use Rattle.std.specs.Prelude.{◌==◌, ◌&&◌, bit_or, nat_le, nat_lt, IsSome}
+use Rattle.std.proofs.Common.{◌≡◌, ◌≢◌, ℕ, ◌+◌, ◌-◌, ◌*◌, ◌/◌, ◌%◌, ◌^◌, ◌<◌, ◌≤◌, true, false, cond, List, [], length, get_or, set, refl, ap, sym, ◌∙◌, arith, Option, Some, None, slice_get, replicate}
+use Rattle.std.specs.Prelude.{◌==◌, ◌&&◌, bit_or, nat_le, nat_lt}
 use Rattle.std.proofs.lemmas.Bool.Decides.{nat_tests}
 use Rattle.std.proofs.lemmas.List.{length-replicate, get_or-replicate}
 use Rattle.std.proofs.lemmas.Option.{slice_get-get_or}
@@ -8,7 +8,7 @@ use Rattle.std.specs.FinMap.{get, get-empty}
 use Rattle.std.specs.Ordering.{nat_cmp}
 use Rattle.paged_memory.specs.declared.page.Page.{Page}
 use Rattle.paged_memory.specs.Memory.{Memory, with_page}
-use Rattle.paged_memory.specs.Image.{Extent, union, part_flags, zero_in}
+use Rattle.paged_memory.specs.Image.{union, zero_in}
 use Rattle.paged_memory.specs.Parts.{IsZero}
 use Rattle.paged_memory.specs.Pages.{page_at, mem_of, perm_of, memory_of, IsFine}
 use Rattle.paged_memory.proofs.Over.{over, in_page, off_page}

@@ -148,7 +148,14 @@ fn touch(alloc: Global, pages: &mut Vec<Page>, number: u64, flags: u8) -> Result
         }
         None => {
             let bytes = vec![in alloc; 0u8; 4096]?;
-            add_page(pages, Page { number, flags, bytes })?;
+            add_page(
+                pages,
+                Page {
+                    number,
+                    flags,
+                    bytes,
+                },
+            )?;
         }
     }
     Ok(())

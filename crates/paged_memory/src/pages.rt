@@ -221,7 +221,10 @@ mod tests {
         let mut four = [9; 4];
         assert_eq!(rt; pages.read(0x400004, &mut four), Ok(()));
         assert_eq!(rt; four, [0x08, 0x00, 0x80, 0xd2]);
-        let abort = Abort { address: 0x401000, access: Access::Read };
+        let abort = Abort {
+            address: 0x401000,
+            access: Access::Read,
+        };
         assert_eq!(rt; pages.read(0x400ffe, &mut four), Err(abort));
         let mut many = [9; 5000];
         assert_eq!(rt; pages.read(0x7dfffffc0000, &mut many), Ok(()));
@@ -234,9 +237,15 @@ mod tests {
         assert_eq!(rt; pages.page_count(), 65);
         assert!(rt; pages.page(65).is_none());
         let code = pages.page(0).expect(&rt, "the page of code");
-        assert_eq!(rt; (code.address, code.flags, code.bytes.len()), (0x400000, 5, 4096));
+        assert_eq!(rt;
+            (code.address, code.flags, code.bytes.len()),
+            (0x400000, 5, 4096)
+        );
         let stack = pages.page(64).expect(&rt, "the last page of the stack");
-        assert_eq!(rt; (stack.address, stack.flags, stack.bytes.len()), (0x7dfffffff000, 6, 4096));
+        assert_eq!(rt;
+            (stack.address, stack.flags, stack.bytes.len()),
+            (0x7dfffffff000, 6, 4096)
+        );
         assert!(rt; stack.bytes.iter().all(|b| *b == 0));
     }
 }

@@ -1,4 +1,4 @@
-use Rattle.std.proofs.Common.{◌≡◌, arith}
+use Rattle.std.proofs.Common.{arith}
 use Rattle.paged_memory.proofs.Touch.{touched_none, touched_more}
 use Rattle.paged_memory.proofs.image.touch_part.Goals as goal
 

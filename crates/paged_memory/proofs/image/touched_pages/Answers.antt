@@ -1,8 +1,5 @@
-use Rattle.std.proofs.Common.{◌≡◌, ◌+◌, ◌-◌, ◌<◌, ◌≤◌, ◌^◌, ℕ, length, drop, map, refl, ap, sym, ◌∙◌, arith, None}
-use Rattle.std.specs.FinMap.{get, get-empty}
-use Rattle.std.specs.Ordering.{nat_cmp}
+use Rattle.std.proofs.Common.{◌≡◌, ◌+◌, ◌-◌, ◌<◌, ◌≤◌, ◌^◌, drop, map, ap, sym, ◌∙◌, arith}
 use Rattle.paged_memory.specs.Image.{extent_of, image_flags}
-use Rattle.paged_memory.specs.Pages.{mem_of, perm_of}
 use Rattle.paged_memory.proofs.Touch.{no_pages_fine, no_pages_zero, no_pages_flags}
 use Rattle.paged_memory.proofs.Parts.{placed_at, flags_of_none, flags_of_more}
 use Rattle.paged_memory.proofs.image.touched_pages.Goals as goal
