@@ -1,6 +1,4 @@
 pub mod Lines
 pub mod Words
-pub mod Bank
-pub mod Digest
-pub mod Block
-pub mod Report
+pub mod Header
+pub mod Output
