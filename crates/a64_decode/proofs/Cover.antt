@@ -5,7 +5,7 @@ use Rattle.std.proofs.lemmas.Nat.{and_assoc, and_comm}
 use Rattle.std.proofs.lemmas.Bool.{and_parts, cond_both, both_ways}
 use Rattle.a64_table.specs.declared.rows.Row.{Row}
 use Rattle.a64_decode.specs.declared.tree.Node.{Node}
-use Rattle.a64_decode.specs.declared.tree.Node.TheVariants.{Test, Place, Nothing}
+use Rattle.a64_decode.specs.declared.tree.Node.TheVariants.{Test, Place}
 use Rattle.a64_table.specs.Rows.{Matches}
 use Rattle.a64_decode.specs.Tree.{step, walk}
 
@@ -13,10 +13,12 @@ use Rattle.a64_decode.specs.Tree.{step, walk}
 abbrev pub Placed : Type 0
 Placed = ℕ × Row
 
+-- the rows with their places, from n on
 unfoldable pub numbered : ℕ → List Row → List Placed
 numbered n [] = []
 numbered n (r ∷ rs) = (n, r) ∷ numbered (suc n) rs
 
+-- those that pass a test
 unfoldable pub kept : (Placed → Bool) → List Placed → List Placed
 kept p [] = []
 kept p (x ∷ xs) = cond (p x) (x ∷ kept p xs) (kept p xs)
@@ -29,10 +31,9 @@ may_be_clear mask p = bit_and p.1.value mask == 0
 unfoldable pub may_be_set : ℕ → Placed → Bool
 may_be_set mask p = not (bit_and p.1.mask mask == mask && bit_and p.1.value mask == 0)
 
+-- the same at what stands at a place, where `on` tells it of the nodes that a test leads to
 unfoldable pub covers_at : (ℕ → List Placed → Bool) → Option Node → List Placed → Bool
 covers_at on None left = false
-covers_at on (Some Nothing) [] = true
-covers_at on (Some Nothing) (x ∷ xs) = false
 covers_at on (Some (Place place)) left = list_all (λ p. p.0 == place) left
 covers_at on (Some (Test mask clear set)) left = on clear (kept (may_be_clear mask) left) && on set (kept (may_be_set mask) left)
 
@@ -41,6 +42,7 @@ unfoldable pub covers : ℕ → List Node → ℕ → List Placed → Bool
 covers zero nodes at left = false
 covers (suc steps) nodes at left = covers_at (λ next rest. covers steps nodes next rest) (slice_get nodes at) left
 
+-- the list holds the row
 pub data Holds (x : Placed) : List Placed → Type 0 where
   here : {xs : List Placed} → Holds x (x ∷ xs)
   later : {y : Placed} {xs : List Placed} → Holds x xs → Holds x (y ∷ xs)
@@ -89,8 +91,6 @@ all_at place p (x ∷ xs) e (later h) = all_at place p xs (and_parts _ _ e).1 h
 covers_at-step : (on : ℕ → List Placed → Bool) (way : ℕ → Option ℕ) (word : ℕ) (p : Placed) → Matches p.1 word → ((next : ℕ) (rest : List Placed) → on next rest ≡ true → Holds p rest → way next ≡ Some p.0) → (node : Option Node) (left : List Placed) → covers_at on node left ≡ true → Holds p left → step way node word ≡ Some p.0
 unfolding covers_at step
 covers_at-step on way word p m rec None left e h = cc
-covers_at-step on way word p m rec (Some Nothing) [] e h = elim h [ ]
-covers_at-step on way word p m rec (Some Nothing) (x ∷ xs) e h = cc
 covers_at-step on way word p m rec (Some (Place place)) left e h = ap Some (sym (all_at place p left e h))
 covers_at-step on way word p m rec (Some (Test mask clear set)) left e h =
     let parts = and_parts (on clear (kept (may_be_clear mask) left)) (on set (kept (may_be_set mask) left)) e in

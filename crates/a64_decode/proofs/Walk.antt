@@ -2,7 +2,7 @@
 use Rattle.std.proofs.Common.{◌≡◌, ◌≢◌, ℕ, zero, suc, ◌+◌, ◌-◌, ◌<◌, List, Option, Some, None, slice_get, bit_and, refl, sym, ap, ◌∙◌, arith, ◌==◌, eqb-true}
 use Rattle.std.proofs.lemmas.Bool.{cond_both, both_ways}
 use Rattle.a64_decode.specs.declared.tree.Node.{Node}
-use Rattle.a64_decode.specs.declared.tree.Node.TheVariants.{Test, Place, Nothing}
+use Rattle.a64_decode.specs.declared.tree.Node.TheVariants.{Test, Place}
 use Rattle.a64_decode.specs.Tree.{step, walk}
 
 walk-suc : (m : ℕ) (nodes : List Node) (at word : ℕ) → walk (suc m) nodes at word ≡ step (λ next. walk m nodes next word) (slice_get nodes at) word
@@ -29,10 +29,6 @@ step-test on found here mask clear set word way e f p q =
 pub step-place : (on : ℕ → Option ℕ) (found : Option Node) (here : Node) (place word : ℕ) → Some here ≡ found → here ≡ Place place → step on found word ≡ Some place
 unfolding step
 step-place on found here place word e f = ap (λ o. step on o word) (sym e ∙ ap Some f)
-
-pub step-nothing : (on : ℕ → Option ℕ) (found : Option Node) (here : Node) (word : ℕ) → Some here ≡ found → here ≡ Nothing → step on found word ≡ None
-unfolding step
-step-nothing on found here word e f = ap (λ o. step on o word) (sym e ∙ ap Some f)
 
 pub step-none : (on : ℕ → Option ℕ) (found : Option Node) (word : ℕ) → None ≡ found → step on found word ≡ None
 unfolding step

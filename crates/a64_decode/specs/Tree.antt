@@ -2,12 +2,11 @@
 use Rattle.std.proofs.Common.{zero, suc}
 use Rattle.std.specs.Prelude.{ℕ, ◌==◌, List, Option, Some, None, slice_get, bit_and, if◌then◌else◌}
 use Rattle.a64_decode.specs.declared.tree.Node.{Node}
-use Rattle.a64_decode.specs.declared.tree.Node.TheVariants.{Test, Place, Nothing}
+use Rattle.a64_decode.specs.declared.tree.Node.TheVariants.{Test, Place}
 
--- one step of the way: a test leads on, and the other nodes end it
+-- one step of the way: a test leads on, and a place ends it
 unfoldable pub step : (ℕ → Option ℕ) → Option Node → ℕ → Option ℕ
 step on None word = None
-step on (Some Nothing) word = None
 step on (Some (Place place)) word = Some place
 step on (Some (Test mask clear set)) word = if bit_and word mask == 0 then on clear else on set
 

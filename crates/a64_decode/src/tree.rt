@@ -13,14 +13,9 @@ pub enum Node {
     Test { mask: u32, clear: u16, set: u16 },
     /// Only the row at this place may match.
     Place(u16),
-    /// No row may match.
-    Nothing,
 }
 
 macro_rules! node {
-    (nothing) => {
-        Node::Nothing
-    };
     (place $place:literal) => {
         Node::Place($place)
     };
@@ -67,7 +62,6 @@ fn follow(nodes: &[Node], word: u32) -> Option<usize>
         match node_at(nodes, at) {
             Some(Node::Test { mask, clear, set }) => at = way_on(word, mask, clear, set),
             Some(Node::Place(place)) => return Some(place as usize),
-            Some(Node::Nothing) => return None,
             None => return None,
         }
     }

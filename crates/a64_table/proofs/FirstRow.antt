@@ -5,13 +5,13 @@ use Rattle.sm_types.specs.declared.insn.Insn.{Insn}
 use Rattle.a64_table.specs.declared.rows.Row.{Row}
 use Rattle.a64_table.specs.declared.rows.TheConstants.{SCALAR_ROWS}
 use Rattle.a64_table.specs.Rows.{Matches}
-use Rattle.a64_table.specs.Meaning.{Means, HasOneRow, meaning_in, meaning_of, stands_for, fits_of, insn_of}
+use Rattle.a64_table.specs.Meaning.{Means, HasAtMostOneRow, meaning_in, meaning_of, stands_for, fits_of, insn_of}
 use Rattle.a64_table.proofs.Apart.{differ, all_differ, one_place}
 
-some_is : {A : Type 0} {a b : A} → ◌≡◌ {A = Option A} (Some a) (Some b) → a ≡ b
+pub some_is : {A : Type 0} {a b : A} → ◌≡◌ {A = Option A} (Some a) (Some b) → a ≡ b
 some_is e = cc
 
-none_some : {A : Type 0} {a : A} → ◌≡◌ {A = Option A} None (Some a) → ⊥
+pub none_some : {A : Type 0} {a : A} → ◌≡◌ {A = Option A} None (Some a) → ⊥
 none_some e = cc
 
 chosen : {A : Type 0} (b : Bool) (x y z : A) → cond b x y ≡ z → ((b ≡ true) × (x ≡ z)) ⊎ ((b ≡ false) × (y ≡ z))
@@ -37,13 +37,13 @@ first_means (r ∷ rows) word it lt e =
           record { is_word = lt; place = suc m.place; row = m.row; listed = m.listed; matches = m.matches; fits = m.fits; gives = m.gives }
     ]
 
-rest_one : (r : Row) (rows : List Row) (word : ℕ) → HasOneRow (r ∷ rows) word → HasOneRow rows word
+rest_one : (r : Row) (rows : List Row) (word : ℕ) → HasAtMostOneRow (r ∷ rows) word → HasAtMostOneRow rows word
 rest_one r rows word one i j p q e f m n g h =
     let same : suc i ≡ suc j = one (suc i) (suc j) p q e f m n g h in
     omega arith
 
 -- where at most one row stands for the word, the first one that does is it
-pub row_first : (rows : List Row) (word : ℕ) → HasOneRow rows word → (place : ℕ) (row : Row) → slice_get rows place ≡ Some row → Matches row word → fits_of row.group word ≡ true → meaning_in rows word ≡ Some (insn_of row.group word)
+pub row_first : (rows : List Row) (word : ℕ) → HasAtMostOneRow rows word → (place : ℕ) (row : Row) → slice_get rows place ≡ Some row → Matches row word → fits_of row.group word ≡ true → meaning_in rows word ≡ Some (insn_of row.group word)
 unfolding meaning_in
 row_first [] word one place row e m f = cc
 row_first (r ∷ rows) word one zero row e m f =
@@ -60,7 +60,7 @@ scalar_differ : all_differ SCALAR_ROWS ≡ true
 unfolding differ all_differ
 scalar_differ = refl
 
-pub scalar_one_row : (word : ℕ) → HasOneRow SCALAR_ROWS word
+pub scalar_one_row : (word : ℕ) → HasAtMostOneRow SCALAR_ROWS word
 scalar_one_row word i j r s e f m n g h = one_place word SCALAR_ROWS scalar_differ i j r s e f m n
 
 pub scalar_meaning : (word : ℕ) (it : Insn) → word < 2 ^ 32 → (meaning_of word ≡ Some it) ↔ Means SCALAR_ROWS word it

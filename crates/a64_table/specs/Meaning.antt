@@ -110,7 +110,7 @@ unfoldable pub meaning_of : ℕ → Option Insn
 meaning_of word = meaning_in SCALAR_ROWS word
 
 -- two places of the list whose rows match and fit the word are one
-abbrev pub HasOneRow : List Row → ℕ → Type 0
-HasOneRow rows word =
+abbrev pub HasAtMostOneRow : List Row → ℕ → Type 0
+HasAtMostOneRow rows word =
     (i j : ℕ) (r s : Row) → slice_get rows i ≡ Some r → slice_get rows j ≡ Some s → Matches r word → Matches s word
     → IsTrue (fits_of r.group word) → IsTrue (fits_of s.group word) → i ≡ j

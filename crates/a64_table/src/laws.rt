@@ -1,14 +1,14 @@
 //! The laws of the table.
 ghost use Rattle.std.specs.Prelude.{◌≡◌, ◌<◌, ◌^◌, ◌↔◌, Some, ℕ};
 ghost use Rattle.sm_types.specs.declared.insn.Insn.{Insn};
-ghost use Rattle.a64_table.specs.Meaning.{HasOneRow, Means, meaning_of};
+ghost use Rattle.a64_table.specs.Meaning.{HasAtMostOneRow, Means, meaning_of};
 ghost use Rattle.a64_table.specs.Ranges.{IsInRow};
 
 use crate::rows::SCALAR_ROWS;
 
 /// At most one row of the table matches and fits a word.
 pub fn one_row()
-    ensures { (word : ℕ) → HasOneRow SCALAR_ROWS word }
+    ensures { (word : ℕ) → HasAtMostOneRow SCALAR_ROWS word }
 {}
 
 /// What a word means by the first row that stands for it is what it means by any.

@@ -6,7 +6,7 @@ ghost use Rattle.a64_table.specs.Rows.{Matches};
 use crate::fields::{bit, field};
 
 /// The groups of the table: the rows of a group have their fields in the same places.
-#[derive(Clone, Copy, Debug, PartialEq, Eq)]
+#[derive(Clone, Copy)]
 pub enum Group {
     /// Add and subtract, immediate.
     G1,
@@ -19,7 +19,7 @@ pub enum Group {
 }
 
 /// A row: which bits of a word are fixed, their values, and the group.
-#[derive(Clone, Copy, Debug)]
+#[derive(Clone, Copy)]
 pub struct Row {
     pub mask: u32,
     pub value: u32,

@@ -1,7 +1,9 @@
 pub mod Cause
+pub mod DiskFiles
 pub mod Failing
 pub mod Files
 pub mod MemFiles
 pub mod MemSink
 pub mod Sink
 pub mod Sofar
+pub mod WriterSink

@@ -2,18 +2,23 @@
 //! turn of a worker passes.
 //!
 //! The traits say what every such place keeps to. `MemFiles`, `MemSink` and `OpenGate` are places in
-//! memory, of which everything is proved. `DiskFiles` and `WriterSink` are the real ones: they loop over
-//! reads and writes, count what fails, and tell no content.
+//! memory, of which everything is proved. `DiskFiles` and `WriterSink`, with
+//! `StdSink` at standard output, are the real ones: they loop over reads and writes, count what fails, and
+//! tell no content.
 #![tactic(auto)]
 
+mod disk_files;
 mod files;
 mod gate;
 mod mem_files;
 mod mem_sink;
 mod sink;
+mod writer_sink;
 
+pub use disk_files::DiskFiles;
 pub use files::{FileFault, Files};
 pub use gate::{Gate, OpenGate};
 pub use mem_files::MemFiles;
 pub use mem_sink::MemSink;
 pub use sink::{PutFault, Sink};
+pub use writer_sink::{StdSink, WriterSink};

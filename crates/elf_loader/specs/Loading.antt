@@ -51,12 +51,16 @@ load_fault file = first_fault (
     ∷ words_fault file (text_of file)
     ∷ [])
 
--- the file is loaded, as this program
+-- the program has the memory of the load, with that entry and those code words
+pub record IsTextImage (file : List ℕ) (text : ProgramHeader) (entry : ℕ) (code : List (ℕ × ℕ)) (program : Program) : Type 0 where
+  pub memory : IsMemoryOf (extent_of_text file text ∷ []) program.memory
+  pub entry_is : program.entry ≡ entry
+  pub code_is : program.code ≡ code
+
+-- the file is loaded, as this program: the memory of its load, its entry, and every word of the load as code
 pub record Loads (file : List ℕ) (program : Program) : Type 0 where
   pub accepted : load_fault file ≡ None
-  pub memory : IsMemoryOf (extent_of_text file (text_of file) ∷ []) program.memory
-  pub entry : program.entry ≡ header_entry file
-  pub code : program.code ≡ code_words file (text_of file) (word_count (text_of file))
+  pub image : IsTextImage file (text_of file) (header_entry file) (code_words file (text_of file) (word_count (text_of file))) program
 
 -- the file is refused, for this fault
 abbrev pub Refuses : List ℕ → LoadFault → Type 0

@@ -6,5 +6,7 @@
 mod fault;
 mod form;
 mod header;
+mod load;
 
 pub use fault::LoadFault;
+pub use load::load;

@@ -92,6 +92,8 @@ impl Context {
     pub fn advance(&mut self) -> Turn
         ensures turn { TurnsOrStays (stop_of self.old) self.old self.new result }
         ensures same { IsSameThread self.old self.new }
+        ensures counted { result ≡ Turn.Ran → (state_of self.new).count ≡ (state_of self.old).count + 1 }
+        ensures budget { (state_of self.new).count ≤ (config_of self.new).budget }
     {
         match self.stop {
             Some(stop) => Turn::Stopped(stop),

@@ -1,2 +1,8 @@
-//! Runs of one guest thread alone.
+//! Runs of one guest thread alone: `run_to_stop` starts a thread and makes its turns until it stops.
 #![tactic(auto)]
+
+mod laws;
+mod run;
+
+pub use laws::one_end;
+pub use run::run_to_stop;

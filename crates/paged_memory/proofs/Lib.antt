@@ -1,5 +1,10 @@
+pub mod Over
 pub mod Bytes
 pub mod Accesses
 pub mod Order
 pub mod Runs
 pub mod Words
+pub mod Shown
+pub mod Insert
+pub mod Copy
+pub mod Stack

@@ -22,7 +22,7 @@ pub and_second : (a b : Bool) → (a && b) ≡ true → b ≡ true
 and_second true b h = h
 and_second false b h = cc
 
-and_both : (a b : Bool) → a ≡ true → b ≡ true → (a && b) ≡ true
+pub and_both : (a b : Bool) → a ≡ true → b ≡ true → (a && b) ≡ true
 and_both true b h k = k
 and_both false b h k = cc
 
@@ -59,7 +59,7 @@ page_at-index [] i d h l = absurd (omega arith)
 page_at-index (p ∷ ps) zero d h l = let e : (p.number == p.number) ≡ true = grind (arith, nat_tests) in rw e refl
 page_at-index (p ∷ ps) (suc i) d h l = rw (later_apart p.number ps i d (and_first _ _ h) (omega arith)) (page_at-index ps i d (and_second _ _ h) (omega arith))
 
-slice_get-entry : (ps : List Page) (i : ℕ) (d : Page) → i < length ps → slice_get (map page_entry ps) i ≡ Some (page_entry (get_or ps i d))
+pub slice_get-entry : (ps : List Page) (i : ℕ) (d : Page) → i < length ps → slice_get (map page_entry ps) i ≡ Some (page_entry (get_or ps i d))
 slice_get-entry [] i d h = absurd (omega arith)
 slice_get-entry (p ∷ ps) zero d h = refl
 slice_get-entry (p ∷ ps) (suc i) d h = slice_get-entry ps i d (omega arith)

@@ -1,11 +1,11 @@
 //! The image of a program.
 ghost use Rattle.std.specs.Prelude.{◌≡◌, ℕ, ◌+◌, ◌-◌, ◌*◌, ◌/◌, ◌%◌, ◌^◌, ◌<◌, ◌≤◌, length, map, IfOk, OnOk, IsSome, Some, None};
 ghost use Rattle.std.specs.FinMap.{get};
-ghost use Rattle.paged_memory.specs.Image.{IsMemoryOf, extent_of};
+ghost use Rattle.paged_memory.specs.Image.{IsMemoryOf, IsImage, extent_of};
 ghost use Rattle.paged_memory.specs.Parts.{ArePlaced};
 ghost use Rattle.paged_memory.specs.Pages.{memory_of, IsFine};
 
-use crate::page::{Page, add_page};
+use crate::page::{Page, copy_pages};
 use sm_types::Memory;
 use std::alloc::{AllocError, Global};
 use std::marker::Model;
@@ -81,20 +81,9 @@ impl Image {
     pub(crate) fn copy_pages(&self, alloc: Global) -> Result<Vec<Page>, AllocError>
         ensures fine { IfOk result (λ pages. IsFine pages.items) }
         ensures memory { IfOk result (λ pages. memory_of pages.items ≡ self.now.memory) }
+        ensures kept { IsImage self.now }
     {
-        let mut copies = Vec::new(alloc);
-        for page in &self.pages {
-            let bytes = Vec::from_slice(alloc, page.bytes.as_slice())?;
-            add_page(
-                &mut copies,
-                Page {
-                    number: page.number,
-                    flags: page.flags,
-                    bytes,
-                },
-            )?;
-        }
-        Ok(copies)
+        copy_pages(alloc, self.pages.as_slice())
     }
 }
 

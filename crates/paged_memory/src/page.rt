@@ -1,5 +1,5 @@
 //! Pages, and lists of them in the order of their numbers.
-ghost use Rattle.std.specs.Prelude.{◌≡◌, ℕ, ◌+◌, ◌*◌, ◌/◌, ◌%◌, ◌^◌, ◌<◌, ◌≤◌, ◌==◌, cond, length, get_or, slice_get, MatchOption, IfSome, IfNone, IsSome, OnOk, OnErr, Some, None, bit_or};
+ghost use Rattle.std.specs.Prelude.{◌≡◌, ℕ, ◌+◌, ◌*◌, ◌/◌, ◌%◌, ◌^◌, ◌<◌, ◌≤◌, ◌==◌, cond, length, get_or, slice_get, MatchOption, IfSome, IfNone, IsSome, IfOk, OnOk, OnErr, Some, None, bit_or};
 ghost use Rattle.std.specs.FinMap.{get};
 ghost use Rattle.paged_memory.specs.declared.page.Page.{Page};
 ghost use Rattle.paged_memory.specs.Memory.{with_page, byte_with, bytes_with};
@@ -86,4 +86,24 @@ pub fn add_page(pages: &mut Vec<Page>, page: Page) -> Result<(), AllocError>
     let i = count_below(pages.as_slice(), page.number);
     pages.insert(i, page)?;
     Ok(())
+}
+
+/// A copy of pages.
+pub fn copy_pages(alloc: Global, pages: &[Page]) -> Result<Vec<Page>, AllocError>
+    requires { IsFine pages.now }
+    ensures fine { IfOk result (λ copies. IsFine copies.items) }
+    ensures memory { IfOk result (λ copies. memory_of copies.items ≡ memory_of pages.now) }
+    ensures count { IfOk result (λ copies. length copies.items ≡ length pages.now) }
+{
+    let mut copies = Vec::new(alloc);
+    for page in pages {
+        let bytes = Vec::from_slice(alloc, page.bytes.as_slice())?;
+        let copy = Page {
+            number: page.number,
+            flags: page.flags,
+            bytes,
+        };
+        add_page(&mut copies, copy)?;
+    }
+    Ok(copies)
 }

@@ -1,8 +1,8 @@
 //! The pages of a guest thread.
 ghost use Rattle.std.specs.Prelude.{◌≡◌, ℕ, ◌+◌, ◌*◌, ◌/◌, ◌%◌, ◌^◌, ◌<◌, ◌≤◌, ◌↔◌, length, slice_get, IsSome, IfSome, IfNone, IfOk, IfErr, OnOk, Some, None};
-ghost use Rattle.std.specs.FinMap.{entries, len};
+ghost use Rattle.std.specs.FinMap.{get, entries, len};
 ghost use Rattle.paged_memory.specs.Memory.{with_stack, with_zero_pages, no_memory, bytes_from, byte_with, bytes_with, first_without, word_at};
-ghost use Rattle.paged_memory.specs.Pages.{memory_of, IsFine};
+ghost use Rattle.paged_memory.specs.Pages.{perm_of, memory_of, IsFine};
 
 use crate::image::Image;
 use crate::page::{Page, add_page, run};
@@ -51,8 +51,8 @@ impl Pages {
         ensures ok { IfOk result (λ p. p ≡ with_stack image.now.memory) }
         ensures few { IfOk result (λ p. len p.perm ≤ 4096) }
     {
-        match image.copy_pages(alloc) {
-            Ok(pages) => with_stack_pages(alloc, pages),
+        match image_and_stack(alloc, image) {
+            Ok(pages) => Ok(Pages { pages }),
             Err(_) => Err(Memory),
         }
     }
@@ -146,27 +146,33 @@ fn copy_out(pages: &[Page], address: u64, need: u8, into: &mut [u8]) -> Option<u
     None
 }
 
-/// Adds the stack to the pages of an image.
-fn with_stack_pages(alloc: Global, pages: Vec<Page>) -> Result<Pages, Memory> {
-    let mut pages = pages;
-    match add_stack(alloc, &mut pages) {
-        Ok(()) => Ok(Pages { pages }),
-        Err(_) => Err(Memory),
-    }
+/// The pages of an image, and those of the stack.
+fn image_and_stack(alloc: Global, image: &Image) -> Result<Vec<Page>, AllocError>
+    ensures fine { IfOk result (λ pages. IsFine pages.items) }
+    ensures memory { IfOk result (λ pages. memory_of pages.items ≡ with_stack image.now.memory) }
+    ensures few { IfOk result (λ pages. length pages.items ≤ 4096) }
+{
+    let mut pages = image.copy_pages(alloc)?;
+    add_stack(alloc, &mut pages)?;
+    Ok(pages)
 }
 
 /// Adds the pages of the stack.
-fn add_stack(alloc: Global, pages: &mut Vec<Page>) -> Result<(), AllocError> {
+fn add_stack(alloc: Global, pages: &mut Vec<Page>) -> Result<(), AllocError>
+    requires fine { IsFine pages.old.items }
+    requires free { (n : ℕ) → 0x7DFFFFFC0 ≤ n → n < 0x7E0000000 → get (perm_of pages.old.items) n ≡ None }
+    ensures fine { IsFine pages.new.items }
+    ensures memory { OnOk result (memory_of pages.new.items ≡ with_stack (memory_of pages.old.items)) }
+    ensures count { OnOk result (length pages.new.items ≡ length pages.old.items + 64) }
+{
     for n in 0..64 {
         let bytes = vec![in alloc; 0u8; 4096]?;
-        add_page(
-            pages,
-            Page {
-                number: 0x7DFFFFFC0 + n,
-                flags: 6,
-                bytes,
-            },
-        )?;
+        let page = Page {
+            number: 0x7DFFFFFC0 + n,
+            flags: 6,
+            bytes,
+        };
+        add_page(pages, page)?;
     }
     Ok(())
 }

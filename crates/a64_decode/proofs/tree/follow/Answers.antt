@@ -1,18 +1,13 @@
 use Rattle.std.proofs.Common.{◌≡◌, ◌-◌, sym, ap, ◌∙◌, arith}
 use Rattle.a64_decode.specs.declared.tree.TheConstants.{DEPTH}
 use Rattle.a64_decode.specs.Tree.{walk}
-use Rattle.a64_decode.proofs.Walk.{walk-next, walk-zero, step-place, step-nothing, step-none, step-test}
+use Rattle.a64_decode.proofs.Walk.{walk-next, walk-zero, step-place, step-none, step-test}
 use Rattle.a64_decode.proofs.tree.follow.Goals as goal
 
 pub returns-in-Some-Place : goal.returns-in-Some-Place
 returns-in-Some-Place c =
     let h = c.in-Some-Place in
     sym (step-place _ _ h.field-0 h.place c.args.word h.ensures h.field-0-is) ∙ sym (walk-next DEPTH c.steps._step c.args.nodes.now c.steps.at c.args.word c.steps-test.true) ∙ c.steps.invariant
-
-pub returns-in-Some-Nothing : goal.returns-in-Some-Nothing
-returns-in-Some-Nothing c =
-    let h = c.in-Some-Nothing in
-    sym (step-nothing _ _ h.field-0 c.args.word h.ensures h.field-0-is) ∙ sym (walk-next DEPTH c.steps._step c.args.nodes.now c.steps.at c.args.word c.steps-test.true) ∙ c.steps.invariant
 
 pub returns-in-None : goal.returns-in-None
 returns-in-None c =

@@ -1,0 +1,96 @@
+//! The files of the system.
+ghost use Rattle.std.specs.Prelude.{◌≡◌, ◌≢◌, ◌^◌, ◌<◌, None, Err, IfOk, IfErr, IfSome, OnErr, take};
+ghost use Rattle.edge_io.specs.Files.{FetchAnswer};
+
+use crate::files::{FileFault, Files};
+use std::alloc::Global;
+use std::io::{ErrorKind, Read};
+use std::{fs, rt};
+
+/// The files of a system, which it reads by their paths. It tells no content, since others may change it.
+#[derive(Drop)]
+pub struct DiskFiles<R> {
+    system: R,
+    absences: u64,
+    faults: u64,
+}
+
+impl<R: rt::Files + Drop> DiskFiles<R> {
+    ghost use Rattle.edge_io.specs.DiskFiles.{absences_of, faults_of};
+
+    /// Nothing was absent yet, and nothing failed.
+    pub fn new(system: R) -> DiskFiles<R>
+        ensures absences { absences_of result ≡ 0 }
+        ensures faults { faults_of result ≡ 0 }
+    {
+        DiskFiles {
+            system,
+            absences: 0,
+            faults: 0,
+        }
+    }
+}
+
+impl<R: rt::Files + Drop> Files for DiskFiles<R> {
+    ghost use Rattle.edge_io.specs.DiskFiles.{absences_of, faults_of};
+
+    ghost told = { λ _. None };
+
+    ghost absences = { absences_of };
+
+    ghost faults = { faults_of };
+
+    /// `Absent` where the path leads nowhere. `Failed` for a directory, a path through a file, a name with a
+    /// zero byte, and any other fault of the system. It reads no more than `limit` bytes.
+    fn fetch(&mut self, alloc: Global, name: &str, limit: u64) -> Result<Vec<u8>, FileFault> {
+        match read_file(&self.system, alloc, name, limit) {
+            Ok(bytes) => Ok(bytes),
+            Err(FileFault::Absent) => {
+                self.absences = self.absences.saturating_add(1);
+                Err(FileFault::Absent)
+            }
+            Err(FileFault::Failed) => {
+                self.faults = self.faults.saturating_add(1);
+                Err(FileFault::Failed)
+            }
+            Err(FileFault::Memory) => Err(FileFault::Memory),
+        }
+    }
+}
+
+fn read_file<R: rt::Files>(
+    system: &R,
+    alloc: Global,
+    name: &str,
+    limit: u64,
+) -> Result<Vec<u8>, FileFault> {
+    match fs::open(system, name) {
+        Ok(file) => first_bytes(file, alloc, limit),
+        Err(error) if error.kind() == ErrorKind::NotFound => Err(FileFault::Absent),
+        Err(error) => Err(fault_of(error.kind())),
+    }
+}
+
+/// The reader's first `limit` bytes, or all where it has fewer. An interrupted read is tried again.
+fn first_bytes<R: Read + Drop>(reader: R, alloc: Global, limit: u64) -> Result<Vec<u8>, FileFault>
+    ensures ok { IfOk result (λ bytes. IfSome (R.remaining reader) (λ content. bytes.items ≡ take limit content)) }
+    ensures err { IfErr result (λ fault. fault ≢ FileFault.Absent) }
+{
+    let mut bytes = Vec::new(alloc);
+    let mut first = reader.take(limit);
+    match first.read_to_end(&mut bytes) {
+        Ok(_) => Ok(bytes),
+        Err(error) => Err(fault_of(error.kind())),
+    }
+}
+
+/// The fault that an error of a file that is there is.
+fn fault_of(kind: ErrorKind) -> FileFault
+    ensures { result ≢ FileFault.Absent }
+{
+    if kind == ErrorKind::OutOfMemory {
+        FileFault::Memory
+    } else {
+        FileFault::Failed
+    }
+}

@@ -1,0 +1,21 @@
+//! The laws of lone runs.
+ghost use Rattle.std.specs.Prelude.{◌≡◌, ℕ, List};
+ghost use Rattle.sm_types.specs.declared.config.Config.{Config};
+ghost use Rattle.sm_types.specs.declared.shared_op.Event.{Event};
+ghost use Rattle.sm_types.specs.declared.stop.Stop.{Stop};
+ghost use Rattle.paged_memory.specs.Image.{Program};
+ghost use Rattle.kernel_contexts.specs.State.{State};
+ghost use Rattle.lone_runner.specs.LoneRun.{IsLoneRun};
+
+/// A thread's run over a journal has at most one end.
+pub fn one_end()
+    ensures state {
+        (program : Program) (config : Config) (thread : ℕ) (journal : List Event) (s t : State) (p q : Stop)
+            → IsLoneRun program config thread journal s p → IsLoneRun program config thread journal t q → s ≡ t
+    }
+    ensures stop {
+        (program : Program) (config : Config) (thread : ℕ) (journal : List Event) (s t : State) (p q : Stop)
+            → IsLoneRun program config thread journal s p → IsLoneRun program config thread journal t q → p ≡ q
+    }
+{
+}

@@ -1,0 +1,7 @@
+use Rattle.std.proofs.Common.{refl}
+use Rattle.paged_memory.specs.Pages.{memory_of}
+use Rattle.paged_memory.proofs.Order.{len-perm_of}
+use Rattle.paged_memory.proofs.pages.Pages.from_image.Goals as goal
+
+pub returns-in-Ok-clause-few : goal.returns-in-Ok-clause-few
+returns-in-Ok-clause-few c = rw (len-perm_of c.in-Ok.pages.items (memory_of c.in-Ok.pages.items) c.in-Ok.ensures.fine refl) c.in-Ok.ensures.few

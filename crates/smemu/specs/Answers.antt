@@ -1,0 +1,129 @@
+-- Which text is written with which status, and why.
+use Rattle.std.specs.Prelude.{◌≡◌, ℕ, ◌∷◌, [], List, Option, Some, None, IfSome, Result, Ok, Err, codes}
+use Rattle.std.specs.List.{concat}
+use Rattle.sha2.specs.Sha256.{sha256}
+use Rattle.sm_types.specs.Options.{AreDefaults}
+use Rattle.sm_types.specs.declared.config.Config.{Config}
+use Rattle.sm_types.specs.declared.stop.Stop.{Stop}
+use Rattle.edge_io.specs.Cause.{Rose}
+use Rattle.edge_io.specs.Sink.{Writes}
+use Rattle.edge_io.specs.declared.sink.PutFault.{PutFault}
+use Rattle.edge_io.specs.declared.sink.PutFault.TheVariants.{Failed}
+use Rattle.paged_memory.specs.Image.{Program}
+use Rattle.elf_loader.specs.Loading.{Loads, Refuses}
+use Rattle.elf_loader.specs.declared.fault.LoadFault.{LoadFault}
+use Rattle.elf_loader.specs.declared.fault.LoadFault.TheVariants.{NotYet, Unlisted, Memory}
+use Rattle.kernel_contexts.specs.State.{State}
+use Rattle.lone_runner.specs.LoneRun.{IsLoneRun}
+use Rattle.report_text.specs.Lines.{hex64, hex32}
+use Rattle.report_text.specs.Report.{report_text, zero_words}
+use Rattle.smemu.specs.Words.{run_name}
+use Rattle.smemu.specs.declared.status.Status.{Status}
+use Rattle.smemu.specs.declared.status.Status.TheVariants.{Done, Usage, Absent, ReadFault, WriteFault, BadFile, OutOfMemory}
+
+-- a map from names to bytes, where the files tell it
+abbrev pub Told : Type 0
+Told = Option (List ℕ → Option (List ℕ))
+
+-- the file of that name, as far as the files are told
+abbrev pub IsFile : Told → List ℕ → List ℕ → Type 0
+IsFile told name file = IfSome told (λ files. files name ≡ Some file)
+
+-- the one thread of the program that the file is loaded as, alone, ends in this state with this stop
+pub record EndsAs (file : List ℕ) (config : Config) (state : State) (stop : Stop) : Type 0 where
+  pub program : Program
+  pub loads : Loads file program
+  pub run : IsLoneRun program config 0 [] state stop
+
+-- the text is the report of the run of the file of that name
+pub record IsReport (told : Told) (name text : List ℕ) : Type 0 where
+  pub file : List ℕ
+  pub config : Config
+  pub state : State
+  pub stop : Stop
+  pub is_file : IsFile told name file
+  pub defaults : AreDefaults config
+  pub ends : EndsAs file config state stop
+  pub is_text : text ≡ report_text config (sha256 file) (record { thread = 0; state = state; stop = stop; journal = [] } ∷ []) zero_words
+
+-- why a file is refused, with the values of the fault
+abbrev pub fault_words : LoadFault → List ℕ
+fault_words NotYet = codes "notyet"
+fault_words (Unlisted address word) = concat (codes "unlisted 0x" ∷ hex64 address ∷ codes " 0x" ∷ hex32 word ∷ [])
+fault_words Memory = codes "memory"
+
+-- the text is the line of the fault for which the file of that name is refused
+pub record IsRefusal (told : Told) (name text : List ℕ) : Type 0 where
+  pub file : List ℕ
+  pub fault : LoadFault
+  pub is_file : IsFile told name file
+  pub refuses : Refuses file fault
+  pub is_text : text ≡ concat (codes "bad file: " ∷ fault_words fault ∷ codes "\n" ∷ [])
+
+-- what the words and the files before a call are, and the files after it
+module _ {F : Type 0} (told : F → Told) (absences faults : F → ℕ) (is_reliable : F → Type 0) (words : List (List ℕ)) (old new : F) where
+  -- there is no file of that name, and the count of absences rose
+  pub record IsAbsence (name text : List ℕ) : Type 0 where
+    pub missing : IfSome (told old) (λ files. files name ≡ None)
+    pub rose : Rose (absences old) (absences new)
+    pub is_text : text ≡ concat (codes "absent: " ∷ name ∷ codes "\n" ∷ [])
+
+  -- the file of that name could not be read, and the count of faults rose
+  pub record IsReadFault (name text : List ℕ) : Type 0 where
+    pub rose : Rose (faults old) (faults new)
+    pub unreliable : is_reliable old → ⊥
+    pub is_text : text ≡ concat (codes "read fault: " ∷ name ∷ codes "\n" ∷ [])
+
+  -- the text goes with the name of a command
+  pub record OfName (Text : List ℕ → List ℕ → Type 0) (text : List ℕ) : Type 0 where
+    pub name : List ℕ
+    pub is_run : run_name words ≡ Some name
+    pub is_text : Text name text
+
+  -- the words are none of a command
+  pub record IsUsage (text : List ℕ) : Type 0 where
+    pub no_command : run_name words ≡ None
+    pub is_text : text ≡ codes "usage: not built\n"
+
+  -- the text that goes with a status, and its cause
+  abbrev pub Defined : Status → List ℕ → Type 0
+  Defined Done text = OfName (IsReport (told old)) text
+  Defined Usage text = IsUsage text
+  Defined Absent text = OfName IsAbsence text
+  Defined ReadFault text = OfName IsReadFault text
+  Defined BadFile text = OfName (IsRefusal (told old)) text
+  Defined OutOfMemory text = text ≡ []
+  Defined WriteFault text = ⊥
+
+-- such a text was written, with that result
+pub record Wrote {K : Type 0} (held : K → Option (List ℕ)) (put_faults : K → ℕ) (takes : K → ℕ → Type 0) (before after : K) (Text : List ℕ → Type 0) (result : Result Unit PutFault) : Type 0 where
+  pub text : List ℕ
+  pub defined : Text text
+  pub writes : Writes held put_faults takes before after result text
+
+-- a call whose words and files are those, and the sink before and after it
+module _ {F K : Type 0} (told : F → Told) (absences faults : F → ℕ) (is_reliable : F → Type 0) (held : K → Option (List ℕ)) (put_faults : K → ℕ) (takes : K → ℕ → Type 0)
+    (words : List (List ℕ)) (old new : F) (before after : K) where
+  -- the text of a status was to be written, and the sink failed
+  pub record IsCutShort : Type 0 where
+    pub status : Status
+    pub wrote : Wrote held put_faults takes before after (Defined told absences faults is_reliable words old new status) (Err Failed)
+
+  -- Done: the report was written
+  abbrev pub IsDone : Status → Type 0
+  IsDone Done = Wrote held put_faults takes before after (OfName told absences faults is_reliable words old new (IsReport (told old))) (Ok tt)
+  IsDone other = Unit {0}
+
+  -- every other status: its line was written, for its cause
+  abbrev pub IsRefused : Status → Type 0
+  IsRefused Done = Unit {0}
+  IsRefused WriteFault = IsCutShort
+  IsRefused other = Wrote held put_faults takes before after (Defined told absences faults is_reliable words old new other) (Ok tt)
+
+-- the status that is due where the files are those, and neither they nor the sink fail
+abbrev pub IsDue : (List ℕ → Option (List ℕ)) → List (List ℕ) → Status → Type 0
+IsDue files words Usage = run_name words ≡ None
+IsDue files words Absent = (name : List ℕ) × (run_name words ≡ Some name) × (files name ≡ None)
+IsDue files words BadFile = (name : List ℕ) × (run_name words ≡ Some name) × ((file : List ℕ) × (files name ≡ Some file) × ((fault : LoadFault) × Refuses file fault))
+IsDue files words Done = (name : List ℕ) × (run_name words ≡ Some name) × ((file : List ℕ) × (files name ≡ Some file) × ((program : Program) × Loads file program))
+IsDue files words other = ⊥

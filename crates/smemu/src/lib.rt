@@ -1,0 +1,13 @@
+//! The emulator's command: `smemu_main` runs a program file and writes the report of its run.
+//!
+//! Its contract says, for every words, files and sink: with `Done` the report of the lone run of the program
+//! that the file stands for was written; every other status comes with its line, for its cause alone; and what
+//! is due is answered, where the outside does not fail and there is memory.
+#![tactic(auto)]
+
+mod command;
+mod reply;
+mod status;
+
+pub use command::smemu_main;
+pub use status::Status;
