@@ -1,5 +1,5 @@
 //! The pages of a guest thread.
-ghost use Rattle.std.specs.Prelude.{◌≡◌, ℕ, ◌+◌, ◌*◌, ◌/◌, ◌%◌, ◌^◌, ◌<◌, ◌≤◌, ◌↔◌, length, slice_get, IsSome, IfSome, IfNone, IfOk, IfErr, OnOk, Some, None};
+ghost use Rattle.std.specs.Prelude.{◌≡◌, ℕ, ◌+◌, ◌*◌, ◌/◌, ◌%◌, ◌^◌, ◌<◌, ◌≤◌, ◌↔◌, length, slice_get, IsSome, IfSome, IfNone, IfOk, IfErr, OnOk, OnErr, Some, None};
 ghost use Rattle.std.specs.FinMap.{get, entries, len};
 ghost use Rattle.paged_memory.specs.Memory.{with_stack, with_zero_pages, no_memory, bytes_from, byte_with, bytes_with, first_without, word_at};
 ghost use Rattle.paged_memory.specs.Pages.{perm_of, memory_of, IsFine};
@@ -62,6 +62,7 @@ impl Pages {
         ensures ok { OnOk result (bytes_with 4 self.now address (length into.old) ≡ Some into.new) }
         ensures abort { IfErr result (λ e. first_without 4 self.now address (length into.old) ≡ Some e.address) }
         ensures access { IfErr result (λ e. e.access ≡ Access.Read) }
+        ensures refused { OnErr result (bytes_with 4 self.now address (length into.old) ≡ None) }
     {
         match copy_out(self.pages.as_slice(), address, 4, into) {
             None => Ok(()),
