@@ -23,11 +23,12 @@ impl Model for Pages {
 
     ghost coded = { memory_code };
 
+    ghost use Rattle.std.specs.Prelude.{◌≤◌, length};
     ghost use Rattle.paged_memory.specs.Pages.{memory_of, IsFine};
 
     ghost view = { λ p. memory_of p.pages.items };
 
-    ghost invariant = { λ p. IsFine p.pages.items };
+    ghost invariant = { λ p. IsFine p.pages.items × (length p.pages.items ≤ 4096) };
 }
 
 /// The first byte of an access that may not be accessed so.
@@ -101,7 +102,8 @@ impl Pages {
 
     /// How many pages there are.
     pub fn page_count(&self) -> usize
-        ensures { result ≡ len self.now.perm }
+        ensures value { result ≡ len self.now.perm }
+        ensures few { result ≤ 4096 }
     {
         self.pages.len()
     }
@@ -111,6 +113,7 @@ impl Pages {
         ensures there { IsSome result ↔ (index < len self.now.perm) }
         ensures entry { IfSome result (λ v. slice_get (entries self.now.perm) index ≡ Some (v.address / 4096, v.flags)) }
         ensures aligned { IfSome result (λ v. v.address % 4096 ≡ 0) }
+        ensures whole { IfSome result (λ v. length v.bytes.now ≡ 4096) }
         ensures bytes { IfSome result (λ v. v.bytes.now ≡ bytes_from self.now.mem v.address 4096) }
     {
         if index < self.pages.len() {
