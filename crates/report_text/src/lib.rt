@@ -12,4 +12,5 @@ mod report;
 mod words;
 
 pub use block::write_block;
+pub use lines::{hex32_digits, hex64_digits, put_all};
 pub use report::{Head, write_report};
