@@ -1,5 +1,5 @@
 -- Lines of 32 bytes.
-use Rattle.std.proofs.Common.{◌≡◌, ℕ, suc, ◌+◌, ◌-◌, ◌/◌, ◌<◌, ◌++◌, List, [], length, take, drop, min, ◌∙◌, refl, arith}
+use Rattle.std.proofs.Common.{◌≡◌, ℕ, suc, ◌-◌, ◌<◌, ◌++◌, List, [], length, take, drop, min, ◌∙◌, refl, arith}
 use Rattle.std.proofs.lemmas.List.{length-drop, take_all, take_min, drop_min}
 use Rattle.std.proofs.Math.Nat.{min_comm}
 use Rattle.report_text.specs.Output.{out_line, out_lines, line_count}

@@ -1,5 +1,5 @@
 -- The text of a memory, page by page.
-use Rattle.std.proofs.Common.{◌≡◌, ℕ, zero, suc, ◌+◌, ◌*◌, ◌/◌, ◌%◌, ◌++◌, List, [], ◌∷◌, take, refl, ap, sym, ◌∙◌, arith, Some, None, Option, slice_get, add-one, length, append_assoc}
+use Rattle.std.proofs.Common.{◌≡◌, ℕ, zero, suc, ◌+◌, ◌*◌, ◌/◌, ◌%◌, ◌++◌, List, [], ◌∷◌, take, refl, ap, sym, ◌∙◌, arith, Some, slice_get, add-one, append_assoc}
 use Rattle.std.proofs.lemmas.Grind.{common_steps}
 use Rattle.paged_memory.specs.Memory.{Memory, bytes_from}
 use Rattle.report_text.specs.Digest.{page_text, pages_text}

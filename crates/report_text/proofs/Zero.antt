@@ -1,5 +1,5 @@
 -- Lines of values that are all zero, which are none.
-use Rattle.std.proofs.Common.{◌≡◌, ℕ, zero, suc, ◌+◌, ◌-◌, ◌*◌, ◌++◌, ◌∷◌, [], List, Bool, true, false, codes, take, drop, min, refl, ap, sym, ◌∙◌, arith, ◌==◌}
+use Rattle.std.proofs.Common.{◌≡◌, ℕ, zero, suc, ◌+◌, ◌-◌, ◌*◌, ◌∷◌, [], List, Bool, true, false, codes, take, refl, ap, sym, ◌∙◌, arith, ◌==◌}
 use Rattle.std.proofs.Common.{length, replicate}
 use Rattle.std.specs.List.{list_all}
 use Rattle.std.proofs.lemmas.List.{drop-replicate}
@@ -7,7 +7,7 @@ use Rattle.sm_types.specs.declared.length.VecLen.{VecLen}
 use Rattle.machine_step.specs.Core.{zero_bank}
 use Rattle.report_text.specs.Lines.{value_line, value_lines}
 use Rattle.report_text.specs.Bank.{byte_of_bits, bytes_of_bits, predicate_bytes, all_predicate_bytes, bytes_line, bytes_lines, bank_text}
-use Rattle.std.specs.FinMap.{entries, empty, len, len-entries, len-empty}
+use Rattle.std.specs.FinMap.{entries, empty, len-entries, len-empty}
 use Rattle.std.specs.Ordering.{nat_cmp}
 use Rattle.report_text.specs.Block.{handler_lines}
 use Rattle.report_text.specs.Report.{words_text, zero_words}

@@ -6,16 +6,17 @@ ghost use Rattle.machine_step.specs.Machine.{core_of};
 ghost use Rattle.kernel_contexts.specs.Context.{state_of, thread_of};
 ghost use Rattle.report_text.specs.Block.{head_text, nzcv_line, svcr_of, system_text, register_text, signal_text, kernel_text, block_text};
 
+use crate::digest::put_memory_line;
+use crate::journal::put_journal;
+use crate::lines::{
+    flag_digit, put_all, put_flag_line, put_hex_line, put_number_line, put_value_lines,
+};
+use crate::output::put_output;
+use crate::words::put_stop_line;
 use edge_io::{PutFault, Sink};
 use kernel_contexts::Context;
 use machine_step::Machine;
 use sm_types::{Scalars, Stop};
-
-use crate::digest::put_memory_line;
-use crate::journal::put_journal;
-use crate::lines::{flag_digit, put_all, put_flag_line, put_hex_line, put_number_line, put_value_lines};
-use crate::output::put_output;
-use crate::words::put_stop_line;
 
 /// The thread, its stop, and how far it came.
 fn put_head<K: Sink>(out: &mut K, context: &Context, stop: Stop) -> Result<(), PutFault>

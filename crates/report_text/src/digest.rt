@@ -5,11 +5,10 @@ ghost use Rattle.sha2.specs.Sha256.{sha256};
 ghost use Rattle.edge_io.specs.Sink.{Writes};
 ghost use Rattle.report_text.specs.Digest.{memory_text, memory_line, page_text};
 
+use crate::lines::put_all;
 use edge_io::{PutFault, Sink};
 use paged_memory::Pages;
 use sha2::{Digest, Sha256};
-
-use crate::lines::put_all;
 
 /// Feeds a page: its address, its permission and its bytes.
 #[tactic(auto, unfolding(crate::specs::Digest::page_text))]

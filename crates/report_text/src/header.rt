@@ -3,10 +3,9 @@ ghost use Rattle.std.specs.Prelude.{◌≡◌};
 ghost use Rattle.edge_io.specs.Sink.{Writes};
 ghost use Rattle.report_text.specs.Header.{options_line, image_line, header_text};
 
+use crate::lines::put_all;
 use edge_io::{PutFault, Sink};
 use sm_types::Config;
-
-use crate::lines::put_all;
 
 /// The line of the options.
 #[tactic(auto, unfolding(crate::specs::Header::options_line))]
@@ -26,8 +25,17 @@ fn put_options_line<K: Sink>(out: &mut K, config: &Config) -> Result<(), PutFaul
     put_all(
         out,
         &[
-            b"options vl=", vl, b" svl=", svl, b" slice=", slice, b" budget=", budget,
-            b" threads=", threads, b"\n",
+            b"options vl=",
+            vl,
+            b" svl=",
+            svl,
+            b" slice=",
+            slice,
+            b" budget=",
+            budget,
+            b" threads=",
+            threads,
+            b"\n",
         ],
     )
 }

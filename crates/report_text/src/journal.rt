@@ -4,10 +4,9 @@ ghost use Rattle.edge_io.specs.Sink.{Writes};
 ghost use Rattle.report_text.specs.Block.{event_line, event_lines, journal_text};
 ghost use Rattle.report_text.specs.Words as spec;
 
+use crate::lines::{hex64_digits, put_all, put_number_line};
 use edge_io::{PutFault, Sink};
 use sm_types::{Event, OpKind};
-
-use crate::lines::{hex64_digits, put_all, put_number_line};
 
 /// The name of an operation on a shared word.
 fn kind_word(kind: OpKind) -> &'static [u8]
@@ -42,7 +41,9 @@ fn put_event_line<K: Sink>(out: &mut K, event: Event) -> Result<(), PutFault>
     let answer = hex64_digits(event.answer);
     put_all(
         out,
-        &[b"e ", kind, b" ", place, b" ", &a, b" ", &b, b" ", &answer, b"\n"],
+        &[
+            b"e ", kind, b" ", place, b" ", &a, b" ", &b, b" ", &answer, b"\n",
+        ],
     )
 }
 
@@ -63,4 +64,52 @@ pub fn put_journal<K: Sink>(out: &mut K, journal: &[Event]) -> Result<(), PutFau
     put_number_line(out, b"journal", journal.len() as u64)?;
     put_event_lines(out, journal)?;
     out.put(b"end-thread\n")
+}
+
+#[cfg(test)]
+mod tests {
+    use super::*;
+    use edge_io::MemSink;
+    use sm_types::SharedOp;
+    use std::test::Fail;
+
+    fn event(kind: OpKind) -> Event {
+        let op = SharedOp {
+            kind,
+            place: 511,
+            a: 1,
+            b: 0xab,
+        };
+        Event {
+            op,
+            answer: u64::MAX,
+        }
+    }
+
+    #[test]
+    fn events_are_written_with_their_values(rt: HostRuntime) -> Result<(), Fail> {
+        let cases = [
+            (OpKind::Load, "ld"),
+            (OpKind::Store, "st"),
+            (OpKind::Swap, "swp"),
+            (OpKind::Add, "add"),
+            (OpKind::Clear, "clr"),
+            (OpKind::Eor, "eor"),
+            (OpKind::Set, "set"),
+            (OpKind::Umax, "umax"),
+            (OpKind::Umin, "umin"),
+            (OpKind::Cas, "cas"),
+            (OpKind::Post, "post"),
+            (OpKind::Poll, "poll"),
+        ];
+        for (kind, word) in cases {
+            let mut sink = MemSink::new(rt.alloc(), 100)?;
+            assert_eq!(rt; put_journal(&mut sink, &[event(kind)]), Ok(()), "{word}");
+            let want = format!(in rt.alloc();
+                "journal 1\ne {word} 511 0000000000000001 00000000000000ab ffffffffffffffff\nend-thread\n"
+            )?;
+            assert_eq!(rt; sink.bytes(), want.as_bytes(), "{word}");
+        }
+        Ok(())
+    }
 }

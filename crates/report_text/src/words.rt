@@ -6,10 +6,9 @@ ghost use Rattle.edge_io.specs.Sink.{Writes};
 ghost use Rattle.report_text.specs.Lines.{hex64};
 ghost use Rattle.report_text.specs.Words as spec;
 
+use crate::lines::{hex32_digits, hex64_digits, put_all};
 use edge_io::{PutFault, Sink};
 use sm_types::{Access, Exception, Stop};
-
-use crate::lines::{hex32_digits, hex64_digits, put_all};
 
 /// How memory was accessed.
 fn access_word(access: Access) -> &'static [u8]
@@ -49,7 +48,10 @@ fn put_exception_values<K: Sink>(out: &mut K, exception: Exception) -> Result<()
     match exception {
         Exception::Undefined(word) => put_all(out, &[b" ", &hex32_digits(word)]),
         Exception::Data { address, access } => {
-            put_all(out, &[b" ", &hex64_digits(address), b" ", access_word(access)])
+            put_all(
+                out,
+                &[b" ", &hex64_digits(address), b" ", access_word(access)],
+            )
         }
         Exception::Align(address) => put_all(out, &[b" ", &hex64_digits(address)]),
         Exception::Breakpoint(number) => {
@@ -78,7 +80,15 @@ fn put_counted<K: Sink>(out: &mut K, word: &[u8], n: u32) -> Result<(), PutFault
 fn put_raised_at<K: Sink>(out: &mut K, exception: Exception, pc: u64) -> Result<(), PutFault>
     ensures { Writes K.told K.faults K.takes out.old out.new result (concat (codes "raised " ∷ spec.exception_name exception ∷ codes " " ∷ hex64 pc ∷ [])) }
 {
-    put_all(out, &[b"raised ", exception_name(exception), b" ", &hex64_digits(pc)])
+    put_all(
+        out,
+        &[
+            b"raised ",
+            exception_name(exception),
+            b" ",
+            &hex64_digits(pc),
+        ],
+    )
 }
 
 /// An exception at an instruction, with its values.
@@ -112,4 +122,96 @@ pub fn put_stop_line<K: Sink>(out: &mut K, stop: Stop) -> Result<(), PutFault>
     out.put(b"stop ")?;
     put_stop_words(out, stop)?;
     out.put(b"\n")
+}
+
+#[cfg(test)]
+mod tests {
+    use super::*;
+    use edge_io::MemSink;
+    use std::test::Fail;
+
+    fn raised(exception: Exception) -> Stop {
+        Stop::Raised {
+            exception,
+            pc: 0x40000c,
+        }
+    }
+
+    #[test]
+    fn stops_are_written_with_their_values(rt: HostRuntime) -> Result<(), Fail> {
+        let address = 0x411000;
+        let written = Exception::Data {
+            address,
+            access: Access::Write,
+        };
+        let read = Exception::Data {
+            address: u64::MAX,
+            access: Access::Read,
+        };
+        let cases = [
+            (Stop::Exited(42), "stop exited 42\n"),
+            (Stop::Killed(3), "stop killed 3\n"),
+            (
+                Stop::BadFrame(0x7dfffffb0c80),
+                "stop badframe 00007dfffffb0c80\n",
+            ),
+            (Stop::Budget, "stop budget\n"),
+            (Stop::TraceFull, "stop tracefull\n"),
+            (Stop::OutputFull, "stop outputfull\n"),
+            (
+                raised(Exception::Undefined(0x1e604000)),
+                "stop raised undefined 000000000040000c 1e604000\n",
+            ),
+            (
+                raised(Exception::PcAlign),
+                "stop raised pcalign 000000000040000c\n",
+            ),
+            (
+                raised(Exception::Fetch),
+                "stop raised fetch 000000000040000c\n",
+            ),
+            (
+                raised(written),
+                "stop raised data 000000000040000c 0000000000411000 write\n",
+            ),
+            (
+                raised(read),
+                "stop raised data 000000000040000c ffffffffffffffff read\n",
+            ),
+            (
+                raised(Exception::SpAlign),
+                "stop raised spalign 000000000040000c\n",
+            ),
+            (
+                raised(Exception::Align(address)),
+                "stop raised align 000000000040000c 0000000000411000\n",
+            ),
+            (
+                raised(Exception::IllegalStreaming),
+                "stop raised illegalstreaming 000000000040000c\n",
+            ),
+            (
+                raised(Exception::NotStreaming),
+                "stop raised notstreaming 000000000040000c\n",
+            ),
+            (
+                raised(Exception::ZaInactive),
+                "stop raised zainactive 000000000040000c\n",
+            ),
+            (
+                raised(Exception::Breakpoint(1)),
+                "stop raised breakpoint 000000000040000c 1\n",
+            ),
+            (
+                raised(Exception::Shared(address)),
+                "stop raised shared 000000000040000c 0000000000411000\n",
+            ),
+        ];
+        for (stop, want) in cases {
+            let mut sink = MemSink::new(rt.alloc(), 80)?;
+            assert_eq!(rt; put_stop_line(&mut sink, stop), Ok(()), "{want}");
+            assert_eq!(rt; sink.bytes(), want.as_bytes(), "{want}");
+        }
+        Ok(())
+    }
 }

@@ -1,6 +1,6 @@
-use Rattle.std.proofs.Common.{◌≡◌, ◌≤◌, ◌*◌, ◌/◌, ℕ, List, take, length, arith, sym, ◌∙◌, ap}
+use Rattle.std.proofs.Common.{◌≡◌, ◌≤◌, ◌*◌, ◌/◌, take, length, arith, ◌∙◌, ap}
 use Rattle.std.proofs.lemmas.Grind.{common_steps}
-use Rattle.std.specs.FinMap.{entries, len, len-entries}
+use Rattle.std.specs.FinMap.{entries, len-entries}
 use Rattle.sha2.specs.Sha256.{sha256}
 use Rattle.report_text.specs.Digest.{pages_text}
 use Rattle.report_text.proofs.Pages.{pages_text-none, pages_text-more}
@@ -18,5 +18,5 @@ loop-index-preserved c =
 pub returns : goal.returns
 returns c =
     let all : take c.loop-index.index (entries c.args.pages.now.perm) ≡ entries c.args.pages.now.perm =
-        let long : length (entries c.args.pages.now.perm) ≤ c.loop-index.index = omega (arith, len-entries c.args.pages.now.perm, c.page_count-index-end.ensures) in grind (arith, common_steps) in
+    let long : length (entries c.args.pages.now.perm) ≤ c.loop-index.index = omega (arith, len-entries c.args.pages.now.perm, c.page_count-index-end.ensures) in grind (arith, common_steps) in
     c.finalize.ensures _ c.loop-index.invariant ∙ ap (λ es. sha256 (pages_text c.args.pages.now es)) all

@@ -1,4 +1,4 @@
-use Rattle.std.proofs.Common.{◌≡◌, ◌<◌, ℕ, length, drop, arith, List, []}
+use Rattle.std.proofs.Common.{◌<◌, length, arith}
 use Rattle.edge_io.proofs.Writing.{sofar_more, sofar_stop, sofar_end}
 use Rattle.report_text.proofs.Events.{event_lines-at, event_lines-end}
 use Rattle.report_text.proofs.journal.put_event_lines.Goals as goal

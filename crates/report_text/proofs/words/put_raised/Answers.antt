@@ -11,10 +11,10 @@ pub returns-in_err-put_raised_at : goal.returns-in_err-put_raised_at
 unfolding stop_words
 returns-in_err-put_raised_at g c =
     as_text (four-then (codes "raised ") (exception_name c.args.exception) (codes " ") (hex64 c.args.pc) (exception_values c.args.exception ++ []))
-        (and_stop _ c.in_err-put_raised_at.ensures c.from_residual.ensures.0)
+    (and_stop _ c.in_err-put_raised_at.ensures c.from_residual.ensures.0)
 
 pub returns : goal.returns
 unfolding stop_words
 returns g c =
     as_text (four-then (codes "raised ") (exception_name c.args.exception) (codes " ") (hex64 c.args.pc) (exception_values c.args.exception ++ []))
-        (and_then c.in_ok-put_raised_at.ensures (and_end c.put_exception_values.ensures))
+    (and_then c.in_ok-put_raised_at.ensures (and_end c.put_exception_values.ensures))
