@@ -84,4 +84,3 @@ sofar_stop {s = s} rest e h k is = as_text (ap (λ l. h.text ++ l) (sym e) ∙ h
 
 pub sofar_end : {K : Type 0} {told : K → Option (List ℕ)} {faults : K → ℕ} {takes : K → ℕ → Type 0} {a b : K} {rest all : List ℕ} → rest ≡ [] → SoFar told faults takes a b rest all → Writes told faults takes a b (Ok tt) all
 sofar_end {rest = rest} {all = all} e h = as_text (sym (nothing_left h.text) ∙ ap (λ l. h.text ++ l) (sym e) ∙ h.whole) h.writes
-

@@ -1,5 +1,5 @@
 -- The fault of a file, check by check.
-use Rattle.std.proofs.Common.{◌≡◌, ℕ, Bool, true, false, List, [], ◌∷◌, Option, Some, None, Result, Ok, Err, IfOk, refl, ◌∙◌, subst}
+use Rattle.std.proofs.Common.{◌≡◌, ℕ, true, false, List, [], ◌∷◌, Option, Some, None, Result, Ok, Err, IfOk, refl, ◌∙◌, subst}
 use Rattle.paged_memory.specs.Memory.{or_else}
 use Rattle.elf_loader.specs.declared.fault.LoadFault.{LoadFault}
 use Rattle.elf_loader.specs.declared.fault.LoadFault.TheVariants.{NotYet}

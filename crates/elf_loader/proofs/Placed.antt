@@ -1,10 +1,10 @@
 -- One extent alone makes an image.
-use Rattle.std.proofs.Common.{◌≡◌, ℕ, zero, suc, ◌+◌, ◌-◌, ◌/◌, ◌^◌, ◌<◌, ◌≤◌, ◌⊎◌, inl, inr, Bool, true, false, cond, List, [], ◌∷◌, length, take, drop, Option, Some, None, refl, ap, sym, ◌∙◌, arith, min, All}
+use Rattle.std.proofs.Common.{◌≡◌, ℕ, zero, suc, ◌+◌, ◌-◌, ◌/◌, ◌^◌, ◌<◌, ◌≤◌, ◌⊎◌, inl, inr, Bool, true, false, cond, List, [], ◌∷◌, length, take, drop, Some, None, refl, sym, arith, min}
 use Rattle.std.proofs.lemmas.Bool.Decides.{nat_tests}
 use Rattle.std.proofs.lemmas.Grind.{common_steps}
-use Rattle.std.specs.Prelude.{nat_lt, nat_le, ◌&&◌, is_some, bit_or}
+use Rattle.std.specs.Prelude.{nat_lt, nat_le, ◌&&◌, is_some}
 use Rattle.std.proofs.lemmas.List.Elements.{All-from_recursion}
-use Rattle.paged_memory.specs.Image.{Extent, image_flags, part_flags, union, parts_byte, IsImagePage}
+use Rattle.paged_memory.specs.Image.{Extent, image_flags, union, parts_byte, IsImagePage}
 use Rattle.paged_memory.specs.Parts.{ArePlaced, IsPlaced, touched_below}
 use Rattle.elf_loader.specs.declared.header.ProgramHeader.{ProgramHeader}
 use Rattle.elf_loader.specs.Loading.{extent_of_text}

@@ -1,6 +1,6 @@
 -- The file's header, its one program header, and the conditions on them.
 -- Source: ELF-64 Object File Format, the tables of Elf64_Ehdr and Elf64_Phdr, of which places and widths are in bytes.
-use Rattle.std.specs.Prelude.{◌≡◌, ◌⊎◌, ◌<◌, ◌≤◌, ℕ, ◌+◌, ◌-◌, ◌*◌, ◌/◌, ◌%◌, ◌^◌, Bool, List, length, take, drop, ◌==◌, ◌&&◌, ◌||◌, not, nat_lt, nat_le}
+use Rattle.std.specs.Prelude.{◌≡◌, ◌⊎◌, ◌<◌, ◌≤◌, ℕ, ◌+◌, ◌-◌, ◌/◌, ◌%◌, ◌^◌, Bool, List, length, drop, ◌==◌, ◌&&◌, ◌||◌, nat_lt, nat_le}
 use Rattle.elf_loader.specs.declared.header.ProgramHeader.{ProgramHeader}
 use Rattle.byteorder.specs.Endian.{little_number}
 

@@ -3,13 +3,12 @@ ghost use Rattle.std.specs.Prelude.{◌≡◌, ◌≢◌, ◌+◌, ◌*◌, ◌/
 ghost use Rattle.elf_loader.specs.Header.{text_of, IsLoadable};
 ghost use Rattle.elf_loader.specs.Loading.{unlisted_at, words_fault, word_count, code_words, text_word, text_address, IsTextImage, Loads, Refuses};
 
-use a64_decode::decode_scalar;
-use paged_memory::{Image, Part};
-use std::alloc::Global;
-
 use crate::fault::LoadFault;
 use crate::form::{check_header, check_length, read_text};
 use crate::header::{ProgramHeader, u32_at, u64_at};
+use a64_decode::decode_scalar;
+use paged_memory::{Image, Part};
+use std::alloc::Global;
 
 /// A word of the load with its address, or its fault where it means no instruction.
 #[tactic(auto, unfolding(crate::specs::Loading::unlisted_at))]
@@ -52,7 +51,13 @@ fn read_code(alloc: Global, file: &[u8], text: &ProgramHeader) -> Result<Vec<(u6
 }
 
 /// The image of the load.
-fn make_image(alloc: Global, file: &[u8], text: &ProgramHeader, entry: u64, code: &[(u64, u32)]) -> Result<Image, LoadFault>
+fn make_image(
+    alloc: Global,
+    file: &[u8],
+    text: &ProgramHeader,
+    entry: u64,
+    code: &[(u64, u32)],
+) -> Result<Image, LoadFault>
     requires { IsLoadable file.now text.now }
     ensures ok { IfOk result (λ image. IsTextImage file.now text.now entry code.now image) }
     ensures err { IfErr result (λ fault. fault ≡ LoadFault.Memory) }

@@ -51,8 +51,8 @@ unfoldable pub write_of : State → TurnEnd
 write_of s = let x : List ℕ = s.core.scalars.x in
     cond ((slice_index x 0 == 1) || (slice_index x 0 == 2))
     (cond (nat_lt output_limit (length s.output + slice_index x 2))
-      (Ends s OutputFull)
-      (Goes (written s (bytes_with 4 s.core.memory (slice_index x 1) (slice_index x 2)) (slice_index x 2))))
+    (Ends s OutputFull)
+    (Goes (written s (bytes_with 4 s.core.memory (slice_index x 1) (slice_index x 2)) (slice_index x 2))))
     (Goes (returned s (failure 9)))
 
 -- exit: the low byte of X0 is the status; the call is counted

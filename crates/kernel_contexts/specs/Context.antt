@@ -1,5 +1,5 @@
 -- What a context is, and what its turns are.
-use Rattle.std.specs.Prelude.{◌≡◌, ℕ, false, Option, Some, None, List}
+use Rattle.std.specs.Prelude.{◌≡◌, ℕ, false, Option, Some, None}
 use Rattle.std.specs.FinMap.{empty}
 use Rattle.sm_types.specs.declared.config.Config.{Config}
 use Rattle.sm_types.specs.declared.stop.Stop.{Stop}
@@ -17,7 +17,13 @@ use Rattle.kernel_contexts.specs.declared.context.Turn.TheVariants.{Ran, Stopped
 abbrev pub state_of : Context → State
 state_of c = record {
   core = core_of c.machine (zero_bank c.config.vl c.config.svl);
-  handlers = empty; held = 0; inside = false; polled = false; output = c.output.items; count = c.count; turns = c.turns;
+  handlers = empty;
+  held = 0;
+  inside = false;
+  polled = false;
+  output = c.output.items;
+  count = c.count;
+  turns = c.turns;
 }
 
 -- its registers and pages

@@ -35,9 +35,18 @@ unfoldable pub start_state : Program → Config → ℕ → State
 start_state program config thread = record {
   core = record {
     scalars = start_scalars program.entry thread config.threads;
-    tpidr = 0; tpidr2 = 0; streaming = false; za_on = false;
+    tpidr = 0;
+    tpidr2 = 0;
+    streaming = false;
+    za_on = false;
     memory = with_stack program.memory;
     bank = zero_bank config.vl config.svl;
   };
-  handlers = empty; held = 0; inside = false; polled = false; output = []; count = 0; turns = 0;
+  handlers = empty;
+  held = 0;
+  inside = false;
+  polled = false;
+  output = [];
+  count = 0;
+  turns = 0;
 }

@@ -62,7 +62,12 @@ impl Context {
 
     /// A thread before its first turn, with its pages taken at once.
     #[tactic(auto, unfolding(crate::specs::State::start_state))]
-    pub fn start(alloc: Global, image: &Image, config: &Config, thread: u32) -> Result<Context, Memory>
+    pub fn start(
+        alloc: Global,
+        image: &Image,
+        config: &Config,
+        thread: u32,
+    ) -> Result<Context, Memory>
         requires { thread < config.now.threads }
         ensures state { IfOk result (λ c. state_of c ≡ start_state image.now config.now thread) }
         ensures config { IfOk result (λ c. config_of c ≡ config.now) }

@@ -16,4 +16,3 @@ pub record EndsFrom (config : Config) (from : State) (journal : List Event) (sta
 pub record IsLoneRun (program : Program) (config : Config) (thread : ℕ) (journal : List Event) (state : State) (stop : Stop) : Type 0 where
   pub turns : ℕ
   pub ends : reach program config thread journal turns ≡ Ended state stop []
-

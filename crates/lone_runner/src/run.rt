@@ -25,7 +25,12 @@ fn run(context: &mut Context) -> Result<Stop, Memory>
 }
 
 /// Starts a thread of the image and makes its turns until it stops; `Memory` is want of memory.
-pub fn run_to_stop(alloc: Global, image: &Image, config: &Config, thread: u32) -> Result<(Context, Stop), Memory>
+pub fn run_to_stop(
+    alloc: Global,
+    image: &Image,
+    config: &Config,
+    thread: u32,
+) -> Result<(Context, Stop), Memory>
     requires { thread < config.now.threads }
     ensures run { IfOk result (λ end. IsLoneRun image.now config.now thread [] (state_of end.0) end.1) }
     ensures stop { IfOk result (λ end. stop_of end.0 ≡ Some end.1) }

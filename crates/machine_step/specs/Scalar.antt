@@ -1,5 +1,5 @@
 -- What the scalar instructions do to the registers. Source: DDI 0487, C6.2: ADD (immediate), SUBS (immediate), MOVZ, B.cond.
-use Rattle.std.specs.Prelude.{ℕ, ◌+◌, ◌-◌, ◌*◌, ◌%◌, ◌^◌, ◌==◌, ◌&&◌, ◌||◌, Bool, true, not, cond, pos, ◌*ℤ◌, ℤ}
+use Rattle.std.specs.Prelude.{ℕ, ◌+◌, ◌-◌, ◌*◌, ◌%◌, ◌^◌, ◌&&◌, Bool, true, not, cond, pos, ◌*ℤ◌, ℤ}
 use Rattle.std.specs.Int.{w64, cast_unsigned}
 use Rattle.sm_types.specs.declared.scalars.Scalars.{Scalars}
 use Rattle.sm_types.specs.declared.insn.AddSub.{AddSub}

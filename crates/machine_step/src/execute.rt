@@ -4,10 +4,9 @@ ghost use Rattle.bit_ops.specs.Sums.{word_size};
 ghost use Rattle.a64_table.specs.Ranges.{IsInRow};
 ghost use Rattle.machine_step.specs.Scalar.{condition_holds, immediate_of, inverted, operand_of, add_sub_immediate, move_wide, branch_target, branch};
 
+use crate::registers::{read_x_or_sp, step_past, write_flags, write_x, write_x_or_sp};
 use bit_ops::add_carry;
 use sm_types::{AddSub, AddSubImmediate, Branch, Condition, Insn, MoveWide, Scalars};
-
-use crate::registers::{read_x_or_sp, step_past, write_flags, write_x, write_x_or_sp};
 
 /// The immediate, in its place.
 fn immediate(x: &AddSubImmediate) -> u64
@@ -33,7 +32,11 @@ fn invert(value: u64, wide: bool) -> u64
     requires { value < 2 ^ 24 }
     ensures { result ≡ inverted wide value }
 {
-    if wide { u64::MAX - value } else { 0xffff_ffff - value }
+    if wide {
+        u64::MAX - value
+    } else {
+        0xffff_ffff - value
+    }
 }
 
 /// Adds or subtracts an immediate.

@@ -3,11 +3,10 @@ ghost use Rattle.machine_step.specs.Core.{Bank};
 ghost use Rattle.machine_step.specs.Effect.{effect_of};
 ghost use Rattle.machine_step.specs.Machine.{core_of, Steps};
 
+use crate::execute::{execute_add_sub_immediate, execute_branch, execute_move_wide};
 use a64_decode::decode_scalar;
 use paged_memory::Pages;
 use sm_types::{Exception, Insn, Scalars, System};
-
-use crate::execute::{execute_add_sub_immediate, execute_branch, execute_move_wide};
 
 /// What a step came to.
 #[derive(Clone, Copy, Debug, PartialEq, Eq)]

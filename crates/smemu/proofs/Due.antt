@@ -1,5 +1,5 @@
 -- What is due is answered.
-use Rattle.std.proofs.Common.{◌≡◌, ℕ, List, refl, ap, sym, ◌∙◌, Option, Some, None, Ok, Err, ◌⊎◌, inl, inr, subst}
+use Rattle.std.proofs.Common.{◌≡◌, ℕ, List, refl, ap, sym, ◌∙◌, Option, Some, None, ◌⊎◌, inl, inr, subst}
 use Rattle.std.specs.Prelude.{IfSome}
 use Rattle.edge_io.specs.Cause.{Rose}
 use Rattle.elf_loader.specs.declared.fault.LoadFault.{LoadFault}

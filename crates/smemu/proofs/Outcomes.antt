@@ -1,14 +1,13 @@
 -- From a reply to what the command promises.
-use Rattle.std.proofs.Common.{◌≡◌, ℕ, ◌<◌, List, [], ◌∷◌, take, refl, ap, sym, ◌∙◌, Option, Some, None, Result, Ok, Err, subst}
+use Rattle.std.proofs.Common.{◌≡◌, ℕ, ◌<◌, List, [], ◌∷◌, take, refl, sym, Option, Some, None, Ok, Err, subst}
 use Rattle.std.specs.Prelude.{IfSome, option_map}
-use Rattle.sha2.specs.Sha256.{sha256}
 use Rattle.edge_io.specs.Sink.{Writes}
 use Rattle.edge_io.specs.declared.sink.PutFault.{PutFault}
 use Rattle.edge_io.specs.declared.sink.PutFault.TheVariants.{Failed}
-use Rattle.kernel_contexts.specs.Context.{state_of, thread_of}
+use Rattle.kernel_contexts.specs.Context.{state_of}
 use Rattle.report_text.specs.Report.{report_text, zero_words}
 use Rattle.smemu.specs.Words.{run_name}
-use Rattle.smemu.specs.Answers.{Told, IsFile, OfName, IsReport, IsAbsence, IsReadFault, IsRefusal, Defined, Wrote, IsCutShort, IsDone, IsRefused}
+use Rattle.smemu.specs.Answers.{Told, Defined, IsCutShort, IsDone, IsRefused}
 use Rattle.smemu.specs.Replies.{reply_text, fault_line, status_of, Runs, Prepares, PreparesFor}
 use Rattle.smemu.specs.declared.reply.Reply.{Reply}
 use Rattle.smemu.specs.declared.reply.Reply.TheVariants as reply
@@ -30,9 +29,16 @@ module _ {F : Type 0} (told : F → Told) (absences faults : F → ℕ) (is_reli
       → Defined told absences faults is_reliable words old new (status_of r) (reply_text name r)
   unfolding reply_text fault_line
   defined_named name (reply.Report context stop head) e h = record {
-    name = name; is_run = e;
+    name = name;
+    is_run = e;
     is_text = record {
-      file = h.0; config = head.config; state = state_of context; stop = stop; is_file = h.1; defaults = h.2.2; ends = h.2.0;
+      file = h.0;
+      config = head.config;
+      state = state_of context;
+      stop = stop;
+      is_file = h.1;
+      defaults = h.2.2;
+      ends = h.2.0;
       is_text = λ i. report_text head.config (h.2.3 i) (record { thread = h.2.1 i; state = state_of context; stop = stop; journal = [] } ∷ []) zero_words;
     };
   }

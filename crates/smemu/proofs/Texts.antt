@@ -1,5 +1,5 @@
 -- The parts of a line, put together otherwise.
-use Rattle.std.proofs.Common.{◌≡◌, ◌++◌, ◌∷◌, [], List, ℕ, append_assoc, refl}
+use Rattle.std.proofs.Common.{◌≡◌, ◌∷◌, [], List, ℕ, append_assoc}
 use Rattle.std.specs.Prelude.{codes}
 use Rattle.std.specs.List.{concat}
 

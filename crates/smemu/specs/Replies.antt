@@ -6,10 +6,8 @@ use Rattle.sm_types.specs.Options.{AreDefaults}
 use Rattle.edge_io.specs.Cause.{Rose}
 use Rattle.elf_loader.specs.Loading.{Refuses}
 use Rattle.elf_loader.specs.declared.fault.LoadFault.{LoadFault}
-use Rattle.elf_loader.specs.declared.fault.LoadFault.TheVariants.{NotYet, Unlisted, Memory}
 use Rattle.kernel_contexts.specs.Context.{state_of, thread_of}
 use Rattle.report_text.specs.Report.{report_text, zero_words}
-use Rattle.smemu.specs.Words.{run_name}
 use Rattle.smemu.specs.Answers.{Told, IsFile, EndsAs, fault_words}
 use Rattle.smemu.specs.declared.reply.Reply.{Reply}
 use Rattle.smemu.specs.declared.reply.Reply.TheVariants as reply

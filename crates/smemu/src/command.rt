@@ -8,6 +8,8 @@ ghost use Rattle.smemu.specs.Answers.{IsDone, IsRefused, IsDue};
 ghost use Rattle.smemu.specs.Replies.{Runs, Prepares, PreparesFor};
 ghost use Rattle.smemu.specs.declared.status.Status.{Status};
 
+use crate::reply::{Reply, reply_status, write_reply};
+use crate::status::Status;
 use edge_io::{FileFault, Files, Sink};
 use elf_loader::{LoadFault, load};
 use lone_runner::run_to_stop;
@@ -16,9 +18,6 @@ use report_text::Head;
 use sha2::{Digest, Sha256};
 use sm_types::Config;
 use std::alloc::Global;
-
-use crate::reply::{Reply, reply_status, write_reply};
-use crate::status::Status;
 
 /// A file of more bytes than a program file may have is fetched up to its first byte too many.
 const FETCH_LIMIT: u64 = 67_108_865;
@@ -103,13 +102,16 @@ fn name_bytes(words: &[String]) -> &[u8]
 
 /// Carries out the command of the words, which are the command line without the program's name: `run NAME` runs the
 /// program file of that name and writes the report of its run.
-pub fn smemu_main<F: Files, K: Sink>(alloc: Global, words: &[String], files: &mut F, out: &mut K) -> Status
+pub fn smemu_main<F: Files, K: Sink>(
+    alloc: Global,
+    words: &[String],
+    files: &mut F,
+    out: &mut K,
+) -> Status
     ensures done { IsDone F.told F.absences F.faults F.is_reliable K.told K.faults K.takes (map string_bytes words.now) files.old files.new out.old out.new result }
     ensures refused { IsRefused F.told F.absences F.faults F.is_reliable K.told K.faults K.takes (map string_bytes words.now) files.old files.new out.old out.new result }
-    ensures complete {
-        (told : List ℕ → Option (List ℕ)) (status : Status) → F.told files.old ≡ Some told → IsDue told (map string_bytes words.now) status
-            → (Rose (F.faults files.old) (F.faults files.new) → ⊥) → (Rose (K.faults out.old) (K.faults out.new) → ⊥) → (result ≡ status) ⊎ (result ≡ Status.OutOfMemory)
-    }
+    ensures complete { (told : List ℕ → Option (List ℕ)) (status : Status) → F.told files.old ≡ Some told → IsDue told (map string_bytes words.now) status
+        → (Rose (F.faults files.old) (F.faults files.new) → ⊥) → (Rose (K.faults out.old) (K.faults out.new) → ⊥) → (result ≡ status) ⊎ (result ≡ Status.OutOfMemory) }
 {
     let reply = prepare(alloc, words, files);
     match write_reply(out, name_bytes(words), &reply) {

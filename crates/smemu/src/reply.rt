@@ -3,18 +3,21 @@ ghost use Rattle.std.specs.Prelude.{◌≡◌};
 ghost use Rattle.edge_io.specs.Sink.{Writes};
 ghost use Rattle.smemu.specs.Replies.{fault_line, reply_text, status_of};
 
+use crate::status::Status;
 use edge_io::{PutFault, Sink};
 use elf_loader::LoadFault;
 use kernel_contexts::Context;
 use report_text::{Head, hex32_digits, hex64_digits, put_all, write_report};
 use sm_types::Stop;
 
-use crate::status::Status;
-
 /// What is to be written, once the words are read, the file fetched and the program run.
 #[derive(Drop)]
 pub enum Reply {
-    Report { context: Context, stop: Stop, head: Head },
+    Report {
+        context: Context,
+        stop: Stop,
+        head: Head,
+    },
     Usage,
     Absent,
     ReadFault,
@@ -49,7 +52,11 @@ pub fn write_reply<K: Sink>(out: &mut K, name: &[u8], reply: &Reply) -> Result<(
     ensures { Writes K.told K.faults K.takes out.old out.new result (reply_text name.now reply.now) }
 {
     match reply {
-        Reply::Report { context, stop, head } => write_report(context, *stop, head, out),
+        Reply::Report {
+            context,
+            stop,
+            head,
+        } => write_report(context, *stop, head, out),
         Reply::Usage => put_all(out, &[b"usage: not built\n"]),
         Reply::Absent => put_all(out, &[b"absent: ", name, b"\n"]),
         Reply::ReadFault => put_all(out, &[b"read fault: ", name, b"\n"]),
@@ -63,7 +70,11 @@ pub fn reply_status(reply: &Reply) -> Status
     ensures { result ≡ status_of reply.now }
 {
     match reply {
-        Reply::Report { context: _, stop: _, head: _ } => Status::Done,
+        Reply::Report {
+            context: _,
+            stop: _,
+            head: _,
+        } => Status::Done,
         Reply::Usage => Status::Usage,
         Reply::Absent => Status::Absent,
         Reply::ReadFault => Status::ReadFault,

@@ -4,9 +4,8 @@
 
 use edge_io::{DiskFiles, StdSink};
 use smemu::smemu_main;
-use std::env;
-use std::io;
 use std::process::ExitCode;
+use std::{env, io};
 
 fn main(rt: HostRuntime) -> io::Result<ExitCode> {
     // The first word is the program's own name.

@@ -13,9 +13,14 @@ use std::rt::Files;
 /// The status of `run` of the bytes, and what it wrote into a sink with room for so many.
 fn run_bytes(alloc: Global, bytes: &[u8], room: usize) -> Result<(u8, MemSink)> {
     let mut files = MemFiles::new(alloc);
-    files.add("program", bytes).map_err(|_| anyhow::anyhow!("memory"))?;
+    files
+        .add("program", bytes)
+        .map_err(|_| anyhow::anyhow!("memory"))?;
     let mut out = MemSink::new(alloc, room).map_err(|_| anyhow::anyhow!("memory"))?;
-    let words = vec![in alloc; String::from_str(alloc, "run")?, String::from_str(alloc, "program")?]?;
+    let words = vec![in alloc;
+        String::from_str(alloc, "run")?,
+        String::from_str(alloc, "program")?,
+    ]?;
     let status = smemu_main(alloc, words.as_slice(), &mut files, &mut out);
     Ok((status.code(), out))
 }

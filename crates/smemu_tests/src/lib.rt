@@ -35,18 +35,32 @@ mod tests {
         Ok(files)
     }
 
-    fn status_of(alloc: Global, texts: &[&str], files: &mut MemFiles, out: &mut MemSink) -> Result<Status, Fail> {
+    fn status_of(
+        alloc: Global,
+        texts: &[&str],
+        files: &mut MemFiles,
+        out: &mut MemSink,
+    ) -> Result<Status, Fail> {
         let words = words(alloc, texts)?;
         Ok(smemu_main(alloc, words.as_slice(), files, out))
     }
 
     #[test]
     fn other_words_are_no_command(rt: HostRuntime) -> Result<(), Fail> {
-        let cases: [&[&str]; 5] = [&[], &["run"], &["walk", "answer"], &["run", "answer", "answer"], &["RUN", "answer"]];
+        let cases: [&[&str]; 5] = [
+            &[],
+            &["run"],
+            &["walk", "answer"],
+            &["run", "answer", "answer"],
+            &["RUN", "answer"],
+        ];
         for texts in cases {
             let mut files = answer_file(rt.alloc())?;
             let mut out = MemSink::new(rt.alloc(), 1000)?;
-            assert_eq!(rt; status_of(rt.alloc(), texts, &mut files, &mut out)?.code(), 2);
+            assert_eq!(rt;
+                status_of(rt.alloc(), texts, &mut files, &mut out)?.code(),
+                2
+            );
             assert!(rt; out.bytes() == b"usage: not built\n".as_slice());
         }
         Ok(())
@@ -64,7 +78,10 @@ mod tests {
         ];
         for (name, status, line) in wanted {
             let mut out = MemSink::new(rt.alloc(), 1000)?;
-            assert_eq!(rt; status_of(rt.alloc(), &["run", name], &mut files, &mut out)?.code(), status);
+            assert_eq!(rt;
+                status_of(rt.alloc(), &["run", name], &mut files, &mut out)?.code(),
+                status
+            );
             assert!(rt; out.bytes() == line.as_bytes());
         }
         Ok(())
@@ -72,12 +89,21 @@ mod tests {
 
     #[test]
     fn a_write_that_fails_leaves_a_part_of_the_text(rt: HostRuntime) -> Result<(), Fail> {
-        for (call, after, room) in [(1u64, 1usize, 1000usize), (1, 0, 1000), (3, 2, 1000), (100, 0, 20)] {
+        for (call, after, room) in [
+            (1u64, 1usize, 1000usize),
+            (1, 0, 1000),
+            (3, 2, 1000),
+            (100, 0, 20),
+        ] {
             let mut files = answer_file(rt.alloc())?;
             let mut out = MemSink::new(rt.alloc(), room)?;
             out.fail(call, after)?;
-            assert_eq!(rt; status_of(rt.alloc(), &["run", "answer"], &mut files, &mut out)?.code(), 5);
-            let report = "smemu-report 1\noptions vl=128 svl=256 slice=1000 budget=10000000 threads=1\nimage ";
+            assert_eq!(rt;
+                status_of(rt.alloc(), &["run", "answer"], &mut files, &mut out)?.code(),
+                5
+            );
+            let report =
+                "smemu-report 1\noptions vl=128 svl=256 slice=1000 budget=10000000 threads=1\nimage ";
             assert!(rt; report.as_bytes().starts_with(out.bytes()));
         }
         Ok(())

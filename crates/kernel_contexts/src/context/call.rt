@@ -3,10 +3,9 @@ ghost use Rattle.std.specs.Prelude.{◌≡◌, ◌+◌, ◌-◌, ◌<◌, ◌≤
 ghost use Rattle.paged_memory.specs.Memory.{bytes_with};
 ghost use Rattle.kernel_contexts.specs.Output.{Appends};
 
+use crate::context::{Context, Turn};
 use paged_memory::Pages;
 use sm_types::Stop;
-
-use crate::context::{Context, Turn};
 
 /// The call that writes bytes to the thread's output.
 const WRITE: u64 = 64;
@@ -127,7 +126,12 @@ impl Context {
         if count > OUTPUT_LIMIT - self.output.len() as u64 {
             return self.stop_with(Stop::OutputFull);
         }
-        match append(&self.machine.pages, address, count as usize, &mut self.output) {
+        match append(
+            &self.machine.pages,
+            address,
+            count as usize,
+            &mut self.output,
+        ) {
             Appended::All => self.return_with(count),
             Appended::Unreadable => self.return_with(BAD_ADDRESS),
             Appended::Memory => Turn::Memory,

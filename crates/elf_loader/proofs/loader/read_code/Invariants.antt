@@ -6,5 +6,5 @@ use Rattle.elf_loader.proofs.loader.read_code.Given as goal
 abbrev pub invariant-loop-i : goal.invariant-loop-i
 invariant-loop-i l = record {
   listed : first_below (unlisted_at l.file l.text) l.i ≡ None;
-  words : l.code.items ≡ code_words l.file l.text l.i
+  words : l.code.items ≡ code_words l.file l.text l.i;
 }

@@ -1,5 +1,4 @@
-use Rattle.std.proofs.Common.{refl, ◌∙◌, arith}
-use Rattle.kernel_contexts.specs.Context.{state_of, config_of}
+use Rattle.std.proofs.Common.{refl, ◌∙◌}
 use Rattle.lone_runner.proofs.Runs.{under_way_start, under_way_on, under_way_ends, ran, stopped, runs_on}
 use Rattle.lone_runner.proofs.run.run.Goals as goal
 

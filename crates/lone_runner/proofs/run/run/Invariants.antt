@@ -7,7 +7,7 @@ abbrev pub invariant-turns : goal.invariant-turns
 invariant-turns l = record {
   under_way : IsUnderWay (config_of l.initial.context) (state_of l.initial.context) (state_of l.context);
   runs : stop_of l.context ≡ None;
-  same : IsSameThread l.initial.context l.context
+  same : IsSameThread l.initial.context l.context;
 }
 
 abbrev pub decreases-turns : goal.decreases-turns

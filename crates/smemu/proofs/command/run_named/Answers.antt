@@ -1,4 +1,4 @@
-use Rattle.std.proofs.Common.{◌≡◌, ap, ◌<◌, lit<}
+use Rattle.std.proofs.Common.{lit<}
 use Rattle.smemu.proofs.Outcomes.{prepares_of}
 use Rattle.smemu.proofs.command.run_named.Goals as goal
 

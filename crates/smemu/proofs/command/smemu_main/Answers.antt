@@ -2,7 +2,6 @@ use Rattle.std.proofs.Common.{map, refl}
 use Rattle.std.specs.String.{string_bytes}
 use Rattle.smemu.specs.Words.{run_name}
 use Rattle.smemu.proofs.Outcomes.{defined_of, done_of, refused_of, cut_of}
-use Rattle.smemu.proofs.Due.{complete_of}
 use Rattle.smemu.proofs.command.smemu_main.Goals as goal
 
 pub returns-in-Ok-clause-done : goal.returns-in-Ok-clause-done

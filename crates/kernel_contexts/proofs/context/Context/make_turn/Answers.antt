@@ -1,4 +1,4 @@
-use Rattle.std.proofs.Common.{◌≡◌, ap, sym, ◌∙◌, refl}
+use Rattle.std.proofs.Common.{ap, sym, ◌∙◌}
 use Rattle.sm_types.specs.declared.stop.Stop.TheVariants.{Budget, Raised}
 use Rattle.machine_step.specs.Core.{zero_bank}
 use Rattle.kernel_contexts.specs.Call.{Goes, Ends}
@@ -14,9 +14,9 @@ returns-then-self-clause-turn c =
 
 pub returns-in-Next-clause-turn : goal.returns-in-Next-clause-turn
 returns-in-Next-clause-turn c =
-    let bank = zero_bank c.args.self.now.config.vl c.args.self.now.config.svl in
-    ( turn_becomes (config_of c.args.self.now) (state_of c.args.self.now) _ c.if-self.false (c.in-Next.ensures bank) ∙ ap Goes (sym c.count_turn.ensures.state)
-    , c.count_turn.ensures.stop ∙ c.requires
+    let bank = zero_bank c.args.self.now.config.vl c.args.self.now.config.svl in (
+      turn_becomes (config_of c.args.self.now) (state_of c.args.self.now) _ c.if-self.false (c.in-Next.ensures bank) ∙ ap Goes (sym c.count_turn.ensures.state),
+      c.count_turn.ensures.stop ∙ c.requires,
     )
 
 pub returns-in-Call-clause-turn : goal.returns-in-Call-clause-turn
