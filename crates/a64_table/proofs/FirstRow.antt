@@ -5,7 +5,8 @@ use Rattle.sm_types.specs.declared.insn.Insn.{Insn}
 use Rattle.a64_table.specs.declared.rows.Row.{Row}
 use Rattle.a64_table.specs.declared.rows.TheConstants.{SCALAR_ROWS}
 use Rattle.a64_table.specs.Rows.{Matches}
-use Rattle.a64_table.specs.Meaning.{Means, HasAtMostOneRow, meaning_in, meaning_of, stands_for, fits_of, insn_of}
+use Rattle.a64_table.specs.Conditions.{fits_of}
+use Rattle.a64_table.specs.Meaning.{Means, HasAtMostOneRow, meaning_in, meaning_of, stands_for, insn_of}
 use Rattle.a64_table.proofs.Apart.{differ, all_differ, one_place}
 
 pub some_is : {A : Type 0} {a b : A} → ◌≡◌ {A = Option A} (Some a) (Some b) → a ≡ b
