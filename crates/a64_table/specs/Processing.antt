@@ -222,20 +222,20 @@ conditional_compare_of word = record {
   rn = field_of word 5 5;
 }
 
--- bits 15:10, opcode, of one source
+-- the operation of one source from opcode, 6 bits; the others have no row
 unfoldable pub one_source_op_of : ℕ → OneSourceOp
-one_source_op_of word =
-    if field_of word 10 6 == 0 then Rbit
-    else if field_of word 10 6 == 1 then Rev16
-    else if field_of word 10 6 == 2 then Rev32
-    else if field_of word 10 6 == 3 then Rev64
-    else if field_of word 10 6 == 4 then Clz
+one_source_op_of opcode =
+    if opcode == 0 then Rbit
+    else if opcode == 1 then Rev16
+    else if opcode == 2 then Rev32
+    else if opcode == 3 then Rev64
+    else if opcode == 4 then Clz
     else Cls
 
--- G15, one source: sf 31, Rn 9:5, Rd 4:0
+-- G15, one source: sf 31, opcode 15:10, Rn 9:5, Rd 4:0
 unfoldable pub one_source_of : ℕ → OneSource
 one_source_of word = record {
-  op = one_source_op_of word;
+  op = one_source_op_of (field_of word 10 6);
   wide = bit_of word 31;
   rn = field_of word 5 5;
   rd = field_of word 0 5;
