@@ -1,5 +1,5 @@
 -- The fields of an instruction that a row gives are in their ranges.
-use Rattle.std.proofs.Common.{◌≡◌, ◌≢◌, ℕ, zero, suc, ◌-◌, ◌+◌, ◌*◌, ◌<◌, ◌≤◌, ◌^◌, ◌==◌, List, Bool, true, false, cond, not, ◌&&◌, ◌||◌, nat_lt, refl, sym, ap, ◌∙◌, subst, arith, eq-eqb, eqb-true, ℤ, pos, ◌-ℤ◌, ◌≤ℤ◌, ◌<ℤ◌}
+use Rattle.std.proofs.Common.{◌≡◌, ◌≢◌, ℕ, zero, suc, ◌-◌, ◌+◌, ◌*◌, ◌<◌, ◌≤◌, ◌^◌, ◌==◌, List, Bool, true, false, cond, not, ◌&&◌, ◌||◌, nat_lt, refl, sym, ap, subst, arith, eq-eqb, eqb-true, ℤ, pos, ◌-ℤ◌, ◌≤ℤ◌, ◌<ℤ◌}
 use Rattle.std.proofs.Math.Nat.{two-pow-succ}
 use Rattle.std.proofs.lemmas.Nat.{mod_below, pow_pos}
 use Rattle.std.proofs.lemmas.Int.{ints}
@@ -21,7 +21,7 @@ use Rattle.a64_table.specs.Control.{branch_of, branch_register_of, system_of, sy
 use Rattle.a64_table.specs.Accesses.{load_store_op_of, address_of, load_store_of, load_literal_of, pair_index_of, load_store_pair_of, atomic_of}
 use Rattle.a64_table.specs.Conditions.{fits_of, is_below_width, has_load_of, is_address_option, has_access, writes_apart, writes_pair_apart}
 use Rattle.a64_table.specs.Meaning.{Means, insn_of}
-use Rattle.a64_table.specs.Ranges.{IsInRow, IsSigned, width_of, IsShiftedRegister, is_address_extend, has_size, IsAddress, writes_base, IsLoadStore, IsLoadStorePair, IsBranch, IsMultiply, IsAtomic, IsSystem, IsCompareOperand}
+use Rattle.a64_table.specs.Ranges.{IsInRow, IsSigned, width_of, is_address_extend, has_size, IsAddress, writes_base, IsLoadStore, IsLoadStorePair, IsBranch, IsMultiply, IsAtomic, IsSystem, IsCompareOperand}
 
 field_small : (word low width : ℕ) → field_of word low width < 2 ^ width
 unfolding field_of

@@ -9,7 +9,6 @@ use Rattle.sm_types.specs.declared.insn.LoadStore.{LoadStore}
 use Rattle.sm_types.specs.declared.insn.LoadLiteralOp.{LoadLiteralOp}
 use Rattle.sm_types.specs.declared.insn.LoadLiteralOp.TheVariants.{Word, Doubleword, SignedWord}
 use Rattle.sm_types.specs.declared.insn.LoadLiteral.{LoadLiteral}
-use Rattle.sm_types.specs.declared.insn.PairOp.{PairOp}
 use Rattle.sm_types.specs.declared.insn.PairOp.TheVariants.{Stp, Ldp}
 use Rattle.sm_types.specs.declared.insn.PairIndex.{PairIndex}
 use Rattle.sm_types.specs.declared.insn.PairIndex.TheVariants.{Offset, PostIndex, PreIndex}

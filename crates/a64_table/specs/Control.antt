@@ -7,7 +7,6 @@ use Rattle.sm_types.specs.declared.insn.BranchRegisterOp.{BranchRegisterOp}
 use Rattle.sm_types.specs.declared.insn.BranchRegisterOp.TheVariants.{Br, Blr, Ret}
 use Rattle.sm_types.specs.declared.insn.SystemRegister.{SystemRegister}
 use Rattle.sm_types.specs.declared.insn.SystemRegister.TheVariants.{Nzcv, TpidrEl0, Tpidr2El0, Svcr}
-use Rattle.sm_types.specs.declared.insn.SystemMoveOp.{SystemMoveOp}
 use Rattle.sm_types.specs.declared.insn.SystemMoveOp.TheVariants.{Mrs, Msr}
 use Rattle.sm_types.specs.declared.insn.BranchRegister.{BranchRegister}
 use Rattle.sm_types.specs.declared.insn.System.{System}

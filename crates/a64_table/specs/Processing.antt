@@ -1,6 +1,6 @@
 -- The data processing instructions that a word means.
 -- Source: DDI 0487, C4.1 and the encoding diagrams of C6.2, data processing with an immediate and with registers.
-use Rattle.std.specs.Prelude.{ℕ, ◌+◌, ◌*◌, ◌==◌, Bool, not, if◌then◌else◌}
+use Rattle.std.specs.Prelude.{ℕ, ◌+◌, ◌*◌, ◌==◌, not, if◌then◌else◌}
 use Rattle.sm_types.specs.declared.insn.AddSub.{AddSub}
 use Rattle.sm_types.specs.declared.insn.AddSub.TheVariants.{Add, Adds, Sub, Subs}
 use Rattle.sm_types.specs.declared.insn.Logical.{Logical}
@@ -9,11 +9,9 @@ use Rattle.sm_types.specs.declared.insn.MoveOp.{MoveOp}
 use Rattle.sm_types.specs.declared.insn.MoveOp.TheVariants.{Movn, Movz, Movk}
 use Rattle.sm_types.specs.declared.insn.BitfieldOp.{BitfieldOp}
 use Rattle.sm_types.specs.declared.insn.BitfieldOp.TheVariants.{Sbfm, Bfm, Ubfm}
-use Rattle.sm_types.specs.declared.insn.PcRelativeOp.{PcRelativeOp}
 use Rattle.sm_types.specs.declared.insn.PcRelativeOp.TheVariants.{Adr, Adrp}
 use Rattle.sm_types.specs.declared.insn.SelectOp.{SelectOp}
 use Rattle.sm_types.specs.declared.insn.SelectOp.TheVariants.{Csel, Csinc, Csinv, Csneg}
-use Rattle.sm_types.specs.declared.insn.CompareOp.{CompareOp}
 use Rattle.sm_types.specs.declared.insn.CompareOp.TheVariants.{Ccmn, Ccmp}
 use Rattle.sm_types.specs.declared.insn.OneSourceOp.{OneSourceOp}
 use Rattle.sm_types.specs.declared.insn.OneSourceOp.TheVariants.{Rbit, Rev16, Rev32, Rev64, Clz, Cls}

@@ -15,7 +15,6 @@ use Rattle.sm_types.specs.declared.insn.Extract.{Extract}
 use Rattle.sm_types.specs.declared.insn.PcRelative.{PcRelative}
 use Rattle.sm_types.specs.declared.insn.Branch.{Branch}
 use Rattle.sm_types.specs.declared.insn.Branch.TheVariants.{Unconditional, Conditional, Compare, TestBit}
-use Rattle.sm_types.specs.declared.insn.BranchRegister.{BranchRegister}
 use Rattle.sm_types.specs.declared.insn.AddSubCarry.{AddSubCarry}
 use Rattle.sm_types.specs.declared.insn.ConditionalSelect.{ConditionalSelect}
 use Rattle.sm_types.specs.declared.insn.CompareOperand.{CompareOperand}
@@ -37,14 +36,12 @@ use Rattle.sm_types.specs.declared.insn.Address.TheVariants as address
 use Rattle.sm_types.specs.declared.insn.LoadStore.{LoadStore}
 use Rattle.sm_types.specs.declared.insn.LoadLiteral.{LoadLiteral}
 use Rattle.sm_types.specs.declared.insn.PairOp.TheVariants.{Ldp}
-use Rattle.sm_types.specs.declared.insn.PairIndex.{PairIndex}
-use Rattle.sm_types.specs.declared.insn.PairIndex.TheVariants.{Offset, PostIndex, PreIndex}
+use Rattle.sm_types.specs.declared.insn.PairIndex.TheVariants.{Offset}
 use Rattle.sm_types.specs.declared.insn.LoadStorePair.{LoadStorePair}
 use Rattle.sm_types.specs.declared.insn.Atomic.{Atomic}
 use Rattle.sm_types.specs.declared.insn.Atomic.TheVariants.{Ldar, Stlr, Cas, Swap, Update}
 use Rattle.sm_types.specs.declared.insn.System.{System}
 use Rattle.sm_types.specs.declared.insn.System.TheVariants.{Svc, Brk, Udf, Hint, Dmb, Dsb, Isb}
-use Rattle.sm_types.specs.declared.insn.SystemMove.{SystemMove}
 use Rattle.sm_types.specs.declared.insn.Insn.{Insn}
 use Rattle.sm_types.specs.declared.insn.Insn.TheVariants as insn
 use Rattle.a64_table.specs.Conditions.{is_mask}
