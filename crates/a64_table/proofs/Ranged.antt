@@ -17,8 +17,8 @@ use Rattle.a64_table.specs.declared.rows.Group.TheVariants.{G1, G2, G3, G4, G5, 
 use Rattle.a64_table.specs.Fields.{field_of, bit_of, signed_value}
 use Rattle.a64_table.specs.Operands.{shift_of, extend_of, access_size_of}
 use Rattle.a64_table.specs.Processing.{add_sub_immediate_of, add_sub_register_of, logical_register_of, add_sub_extended_of, logical_immediate_of, move_wide_of, bitfield_move_of, extract_of, pc_relative_of, add_sub_carry_of, conditional_select_of, compare_operand_of, conditional_compare_of, one_source_op_of, one_source_of, two_source_of, multiply_of, shifted_register_of, extended_register_of}
-use Rattle.a64_table.specs.Control.{branch_of, branch_register_of, system_of, system_move_of}
-use Rattle.a64_table.specs.Accesses.{load_store_op_of, address_of, load_store_of, load_literal_of, pair_index_of, load_store_pair_of, atomic_of}
+use Rattle.a64_table.specs.Control.{branch_of, branch_register_of, exception_of, hint_or_barrier_of, system_of, system_move_of}
+use Rattle.a64_table.specs.Accesses.{load_store_op_of, address_of, load_store_of, load_literal_of, pair_op_of, pair_index_of, load_store_pair_of, swap_of, update_of, compare_and_swap_of, ordered_of, atomic_of}
 use Rattle.a64_table.specs.Conditions.{fits_of, is_below_width, has_load_of, is_address_option, has_access, writes_apart, writes_pair_apart}
 use Rattle.a64_table.specs.Meaning.{Means, insn_of}
 use Rattle.a64_table.specs.Ranges.{IsInRow, IsSigned, width_of, is_address_extend, has_size, IsAddress, writes_base, IsLoadStore, IsLoadStorePair, IsBranch, IsMultiply, IsAtomic, IsSystem, IsCompareOperand}
@@ -116,15 +116,24 @@ branch_ranged word =
     (either IsBranch (field_of word 24 8 == 0x54) _ _ near
     (either IsBranch (bit_of word 25) _ _ (omega arith, short, rt) (near, rt)))
 
+exception_ranged : (word : ℕ) → IsSystem (exception_of word)
+unfolding exception_of
+exception_ranged word =
+    let imm = field_small word 5 16 in
+    either IsSystem (bit_of word 21) _ _ imm imm
+
+hint_or_barrier_ranged : (word : ℕ) → IsSystem (hint_or_barrier_of word)
+unfolding hint_or_barrier_of
+hint_or_barrier_ranged word =
+    let option = field_small word 8 4 in
+    either IsSystem (field_of word 12 4 == 2) _ _ (field_small word 5 7)
+    (either IsSystem (field_of word 5 3 == 5) _ _ option (either IsSystem (field_of word 5 3 == 4) _ _ option option))
+
 system_ranged : (word : ℕ) → IsSystem (system_of word)
 unfolding system_of
 system_ranged word =
-    let imm = field_small word 5 16 in
-    let option = field_small word 8 4 in
     either IsSystem (field_of word 24 8 == 0) _ _ (field_small word 0 16)
-    (either IsSystem (field_of word 24 8 == 0xD4) _ _ (either IsSystem (bit_of word 21) _ _ imm imm)
-    (either IsSystem (field_of word 12 4 == 2) _ _ (field_small word 5 7)
-    (either IsSystem (field_of word 5 3 == 5) _ _ option (either IsSystem (field_of word 5 3 == 4) _ _ option option))))
+    (either IsSystem (field_of word 24 8 == 0xD4) _ _ (exception_ranged word) (hint_or_barrier_ranged word))
 
 multiply_ranged : (word : ℕ) → IsMultiply (multiply_of word)
 unfolding multiply_of
@@ -136,7 +145,7 @@ multiply_ranged word =
     either IsMultiply (bit_of word 22) _ _ (rm, rn, rd) (either IsMultiply (bit_of word 21) _ _ (rm, ra, rn, rd) (rm, ra, rn, rd))
 
 atomic_ranged : (word : ℕ) → IsAtomic (atomic_of word)
-unfolding atomic_of
+unfolding atomic_of swap_of update_of compare_and_swap_of ordered_of
 atomic_ranged word =
     let rs = field_small word 16 5 in
     let rn = field_small word 5 5 in
@@ -206,11 +215,11 @@ load_store_ranged word f =
     record {
       size = load_sized (field_of word 30 2) (field_of word 22 2) (field_small word 30 2) (field_small word 22 2) access.0;
       address =
-        form_ranged (bit_of word 24) (bit_of word 21) (bit_of word 10) (bit_of word 11) (field_of word 10 12) (field_of word 16 5) (field_of word 13 3) (bit_of word 12) _
-        (field_small word 10 12) (field_small word 16 5) (field_small word 13 3) offset access.1;
+          form_ranged (bit_of word 24) (bit_of word 21) (bit_of word 10) (bit_of word 11) (field_of word 10 12) (field_of word 16 5) (field_of word 13 3) (bit_of word 12) _
+          (field_small word 10 12) (field_small word 16 5) (field_small word 13 3) offset access.1;
       apart =
-        form_apart (bit_of word 24) (bit_of word 21) (bit_of word 10) (bit_of word 11) (field_of word 10 12) (field_of word 16 5) (field_of word 13 3) (bit_of word 12) (signed_value 9 (field_of word 12 9))
-        (field_of word 5 5) (field_of word 0 5) parts.1;
+          form_apart (bit_of word 24) (bit_of word 21) (bit_of word 10) (bit_of word 11) (field_of word 10 12) (field_of word 16 5) (field_of word 13 3) (bit_of word 12) (signed_value 9 (field_of word 12 9))
+          (field_of word 5 5) (field_of word 0 5) parts.1;
       rn = field_small word 5 5;
       rt = field_small word 0 5;
     }
@@ -233,7 +242,7 @@ pair_apart true c rn rt rt2 f w n =
 pair_apart false c rn rt rt2 f w n = absurd (w refl)
 
 load_store_pair_ranged : (word : ℕ) → writes_pair_apart word ≡ true → IsLoadStorePair (load_store_pair_of word)
-unfolding writes_pair_apart load_store_pair_of pair_index_of
+unfolding writes_pair_apart load_store_pair_of pair_index_of pair_op_of
 load_store_pair_ranged word f =
     let parts = and_parts (not (bit_of word 22) || not (field_of word 0 5 == field_of word 10 5)) _ f in
     record {

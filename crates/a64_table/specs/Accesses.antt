@@ -9,6 +9,7 @@ use Rattle.sm_types.specs.declared.insn.LoadStore.{LoadStore}
 use Rattle.sm_types.specs.declared.insn.LoadLiteralOp.{LoadLiteralOp}
 use Rattle.sm_types.specs.declared.insn.LoadLiteralOp.TheVariants.{Word, Doubleword, SignedWord}
 use Rattle.sm_types.specs.declared.insn.LoadLiteral.{LoadLiteral}
+use Rattle.sm_types.specs.declared.insn.PairOp.{PairOp}
 use Rattle.sm_types.specs.declared.insn.PairOp.TheVariants.{Stp, Ldp}
 use Rattle.sm_types.specs.declared.insn.PairIndex.{PairIndex}
 use Rattle.sm_types.specs.declared.insn.PairIndex.TheVariants.{Offset, PostIndex, PreIndex}
@@ -66,10 +67,14 @@ load_literal_of word = record {
 unfoldable pub pair_index_of : ℕ → PairIndex
 pair_index_of word = if bit_of word 23 then (if bit_of word 24 then PreIndex else PostIndex) else Offset
 
--- G20, load and store of two registers: opc 31, L 22, imm7 21:15, signed, Rn 9:5, Rt 4:0, Rt2 14:10
+-- bit 22, L, of loads and stores of two registers
+unfoldable pub pair_op_of : ℕ → PairOp
+pair_op_of word = if bit_of word 22 then Ldp else Stp
+
+-- G20, load and store of two registers: opc 31, imm7 21:15, signed, Rn 9:5, Rt 4:0, Rt2 14:10
 unfoldable pub load_store_pair_of : ℕ → LoadStorePair
 load_store_pair_of word = record {
-  op = if bit_of word 22 then Ldp else Stp;
+  op = pair_op_of word;
   wide = bit_of word 31;
   index = pair_index_of word;
   offset = signed_of word 15 7;
@@ -90,16 +95,26 @@ atomic_op_of word =
     else if field_of word 12 3 == 6 then Umax
     else Umin
 
--- G21, ordered and atomic accesses: bit 29 gives operations and by bit 15 `swp` (A 23, R 22), else bit 21 gives `cas` (acquire 22, release 15)
--- and L 22 tells `ldar` from `stlr`; size 31:30, Rs 20:16, Rn 9:5, Rt 4:0
-unfoldable pub atomic_of : ℕ → Atomic
-atomic_of word =
-    if bit_of word 29 then
-    (if bit_of word 15
-    then atomic.Swap (access_size_of (field_of word 30 2)) (bit_of word 23) (bit_of word 22) (field_of word 16 5) (field_of word 5 5) (field_of word 0 5)
-    else atomic.Update (atomic_op_of word) (access_size_of (field_of word 30 2)) (bit_of word 23) (bit_of word 22) (field_of word 16 5) (field_of word 5 5) (field_of word 0 5))
-    else if bit_of word 21
-    then atomic.Cas (access_size_of (field_of word 30 2)) (bit_of word 22) (bit_of word 15) (field_of word 16 5) (field_of word 5 5) (field_of word 0 5)
-    else if bit_of word 22
+-- size 31:30, A 23, R 22, Rs 20:16, Rn 9:5, Rt 4:0
+unfoldable pub swap_of : ℕ → Atomic
+swap_of word = atomic.Swap (access_size_of (field_of word 30 2)) (bit_of word 23) (bit_of word 22) (field_of word 16 5) (field_of word 5 5) (field_of word 0 5)
+
+-- the same with an operation
+unfoldable pub update_of : ℕ → Atomic
+update_of word = atomic.Update (atomic_op_of word) (access_size_of (field_of word 30 2)) (bit_of word 23) (bit_of word 22) (field_of word 16 5) (field_of word 5 5) (field_of word 0 5)
+
+-- size 31:30, acquire 22, Rs 20:16, release 15, Rn 9:5, Rt 4:0
+unfoldable pub compare_and_swap_of : ℕ → Atomic
+compare_and_swap_of word = atomic.Cas (access_size_of (field_of word 30 2)) (bit_of word 22) (bit_of word 15) (field_of word 16 5) (field_of word 5 5) (field_of word 0 5)
+
+-- size 31:30, L 22, Rn 9:5, Rt 4:0
+unfoldable pub ordered_of : ℕ → Atomic
+ordered_of word =
+    if bit_of word 22
     then atomic.Ldar (access_size_of (field_of word 30 2)) (field_of word 5 5) (field_of word 0 5)
     else atomic.Stlr (access_size_of (field_of word 30 2)) (field_of word 5 5) (field_of word 0 5)
+
+-- G21, ordered and atomic accesses: bit 29 gives the operations, with bit 15 `swp`, else bit 21 gives `cas`
+unfoldable pub atomic_of : ℕ → Atomic
+atomic_of word =
+    if bit_of word 29 then (if bit_of word 15 then swap_of word else update_of word) else if bit_of word 21 then compare_and_swap_of word else ordered_of word

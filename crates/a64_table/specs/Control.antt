@@ -7,6 +7,7 @@ use Rattle.sm_types.specs.declared.insn.BranchRegisterOp.{BranchRegisterOp}
 use Rattle.sm_types.specs.declared.insn.BranchRegisterOp.TheVariants.{Br, Blr, Ret}
 use Rattle.sm_types.specs.declared.insn.SystemRegister.{SystemRegister}
 use Rattle.sm_types.specs.declared.insn.SystemRegister.TheVariants.{Nzcv, TpidrEl0, Tpidr2El0, Svcr}
+use Rattle.sm_types.specs.declared.insn.SystemMoveOp.{SystemMoveOp}
 use Rattle.sm_types.specs.declared.insn.SystemMoveOp.TheVariants.{Mrs, Msr}
 use Rattle.sm_types.specs.declared.insn.BranchRegister.{BranchRegister}
 use Rattle.sm_types.specs.declared.insn.System.{System}
@@ -38,16 +39,22 @@ branch_register_of word = record {
   rn = field_of word 5 5;
 }
 
--- G22: the top byte 0 gives `udf` (imm16 15:0), 0xD4 `svc` and by bit 21 `brk` (imm16 20:5), else bits 15:12 give hints (CRm and op2 11:5)
--- and bits 7:5 the barriers (CRm 11:8)
-unfoldable pub system_of : ℕ → System
-system_of word =
-    if field_of word 24 8 == 0 then system.Udf (field_of word 0 16)
-    else if field_of word 24 8 == 0xD4 then (if bit_of word 21 then system.Brk (field_of word 5 16) else system.Svc (field_of word 5 16))
-    else if field_of word 12 4 == 2 then system.Hint (field_of word 5 7)
+-- bit 21 tells `brk` from `svc`; imm16 20:5
+unfoldable pub exception_of : ℕ → System
+exception_of word = if bit_of word 21 then system.Brk (field_of word 5 16) else system.Svc (field_of word 5 16)
+
+-- bits 15:12 are 2 in hints (CRm and op2 11:5) and 3 in barriers (op2 7:5, CRm 11:8)
+unfoldable pub hint_or_barrier_of : ℕ → System
+hint_or_barrier_of word =
+    if field_of word 12 4 == 2 then system.Hint (field_of word 5 7)
     else if field_of word 5 3 == 5 then system.Dmb (field_of word 8 4)
     else if field_of word 5 3 == 4 then system.Dsb (field_of word 8 4)
     else system.Isb (field_of word 8 4)
+
+-- G22: the top byte is 0 in `udf` (imm16 15:0), and 0xD4 in exceptions
+unfoldable pub system_of : ℕ → System
+system_of word =
+    if field_of word 24 8 == 0 then system.Udf (field_of word 0 16) else if field_of word 24 8 == 0xD4 then exception_of word else hint_or_barrier_of word
 
 -- bits 15:5, CRn, CRm and op2, of system registers; the others have no row
 unfoldable pub system_register_of : ℕ → SystemRegister
@@ -57,10 +64,14 @@ system_register_of word =
     else if field_of word 5 11 == 0x685 then Tpidr2El0
     else Svcr
 
--- G23, moves of system registers: L 21, Rt 4:0
+-- bit 21, L, of moves of system registers
+unfoldable pub system_move_op_of : ℕ → SystemMoveOp
+system_move_op_of word = if bit_of word 21 then Mrs else Msr
+
+-- G23, moves of system registers: Rt 4:0
 unfoldable pub system_move_of : ℕ → SystemMove
 system_move_of word = record {
-  op = if bit_of word 21 then Mrs else Msr;
+  op = system_move_op_of word;
   register = system_register_of word;
   rt = field_of word 0 5;
 }

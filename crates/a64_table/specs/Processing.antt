@@ -1,6 +1,6 @@
 -- The data processing instructions that a word means.
 -- Source: DDI 0487, C4.1 and the encoding diagrams of C6.2, data processing with an immediate and with registers.
-use Rattle.std.specs.Prelude.{ℕ, ◌+◌, ◌*◌, ◌==◌, not, if◌then◌else◌}
+use Rattle.std.specs.Prelude.{ℕ, ◌+◌, ◌*◌, ◌==◌, Bool, not, if◌then◌else◌}
 use Rattle.sm_types.specs.declared.insn.AddSub.{AddSub}
 use Rattle.sm_types.specs.declared.insn.AddSub.TheVariants.{Add, Adds, Sub, Subs}
 use Rattle.sm_types.specs.declared.insn.Logical.{Logical}
@@ -9,9 +9,11 @@ use Rattle.sm_types.specs.declared.insn.MoveOp.{MoveOp}
 use Rattle.sm_types.specs.declared.insn.MoveOp.TheVariants.{Movn, Movz, Movk}
 use Rattle.sm_types.specs.declared.insn.BitfieldOp.{BitfieldOp}
 use Rattle.sm_types.specs.declared.insn.BitfieldOp.TheVariants.{Sbfm, Bfm, Ubfm}
+use Rattle.sm_types.specs.declared.insn.PcRelativeOp.{PcRelativeOp}
 use Rattle.sm_types.specs.declared.insn.PcRelativeOp.TheVariants.{Adr, Adrp}
 use Rattle.sm_types.specs.declared.insn.SelectOp.{SelectOp}
 use Rattle.sm_types.specs.declared.insn.SelectOp.TheVariants.{Csel, Csinc, Csinv, Csneg}
+use Rattle.sm_types.specs.declared.insn.CompareOp.{CompareOp}
 use Rattle.sm_types.specs.declared.insn.CompareOp.TheVariants.{Ccmn, Ccmp}
 use Rattle.sm_types.specs.declared.insn.OneSourceOp.{OneSourceOp}
 use Rattle.sm_types.specs.declared.insn.OneSourceOp.TheVariants.{Rbit, Rev16, Rev32, Rev64, Clz, Cls}
@@ -171,10 +173,14 @@ extract_of word = record {
   rd = field_of word 0 5;
 }
 
--- G9, addresses relative to the program counter: op 31, immhi 23:5 above immlo 30:29, signed, Rd 4:0
+-- bit 31, op, of addresses relative to the program counter
+unfoldable pub pc_relative_op_of : ℕ → PcRelativeOp
+pc_relative_op_of word = if bit_of word 31 then Adrp else Adr
+
+-- G9, addresses relative to the program counter: immhi 23:5 above immlo 30:29, signed, Rd 4:0
 unfoldable pub pc_relative_of : ℕ → PcRelative
 pc_relative_of word = record {
-  op = if bit_of word 31 then Adrp else Adr;
+  op = pc_relative_op_of word;
   imm = signed_value 21 (field_of word 5 19 * 4 + field_of word 29 2);
   rd = field_of word 0 5;
 }
@@ -209,10 +215,14 @@ conditional_select_of word = record {
 unfoldable pub compare_operand_of : ℕ → CompareOperand
 compare_operand_of word = if bit_of word 11 then operand.Immediate (field_of word 16 5) else operand.Register (field_of word 16 5)
 
--- G14, conditional compare: sf 31, op 30, cond 15:12, nzcv 3:0, Rn 9:5
+-- bit 30, op, of conditional compares
+unfoldable pub compare_op_of : ℕ → CompareOp
+compare_op_of word = if bit_of word 30 then Ccmp else Ccmn
+
+-- G14, conditional compare: sf 31, cond 15:12, nzcv 3:0, Rn 9:5
 unfoldable pub conditional_compare_of : ℕ → ConditionalCompare
 conditional_compare_of word = record {
-  op = if bit_of word 30 then Ccmp else Ccmn;
+  op = compare_op_of word;
   wide = bit_of word 31;
   operand = compare_operand_of word;
   condition = condition_of (field_of word 12 4);

@@ -9,7 +9,7 @@ mod fitting;
 mod laws;
 mod rows;
 
-pub use fields::{bit, field, signed_field};
+pub use fields::{bit, field, signed, signed_field};
 pub use fitting::fits;
 pub use laws::{in_range, one_meaning, one_row};
 pub use rows::{Group, Row, SCALAR_ROWS, matches};
