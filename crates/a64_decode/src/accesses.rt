@@ -4,7 +4,10 @@ ghost use Rattle.a64_table.specs.Accesses.{address_of, atomic_of, atomic_op_of, 
 
 use crate::operands::{access_size, extend};
 use a64_table::{bit, field, signed_field};
-use sm_types::{Address, Atomic, AtomicOp, LoadLiteral, LoadLiteralOp, LoadStore, LoadStoreOp, LoadStorePair, PairIndex, PairOp};
+use sm_types::{
+    Address, Atomic, AtomicOp, LoadLiteral, LoadLiteralOp, LoadStore, LoadStoreOp, LoadStorePair,
+    PairIndex, PairOp,
+};
 
 #[tactic(auto, unfolding(a64_table::specs::Accesses::load_store_op_of))]
 fn load_store_op(opc: u32) -> LoadStoreOp
@@ -24,7 +27,9 @@ fn address(word: u32) -> Address
 {
     let offset = signed_field(word, 12, 9);
     if bit(word, 24) {
-        Address::Offset { imm: field(word, 10, 12) as u16 }
+        Address::Offset {
+            imm: field(word, 10, 12) as u16,
+        }
     } else if bit(word, 21) {
         Address::Register {
             rm: field(word, 16, 5) as u8,
@@ -79,7 +84,11 @@ pub fn load_literal(word: u32) -> LoadLiteral
 fn pair_op(word: u32) -> PairOp
     ensures { result ≡ pair_op_of word }
 {
-    if bit(word, 22) { PairOp::Ldp } else { PairOp::Stp }
+    if bit(word, 22) {
+        PairOp::Ldp
+    } else {
+        PairOp::Stp
+    }
 }
 
 #[tactic(auto, unfolding(a64_table::specs::Accesses::pair_index_of))]
@@ -131,7 +140,11 @@ pub fn atomic(word: u32) -> Atomic
     ensures { result ≡ atomic_of word }
 {
     if bit(word, 29) {
-        if bit(word, 15) { swap(word) } else { update(word) }
+        if bit(word, 15) {
+            swap(word)
+        } else {
+            update(word)
+        }
     } else if bit(word, 21) {
         compare_and_swap(word)
     } else {

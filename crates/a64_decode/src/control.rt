@@ -2,9 +2,11 @@
 ghost use Rattle.std.specs.Prelude.{◌≡◌};
 ghost use Rattle.a64_table.specs.Control.{branch_of, branch_register_of, branch_register_op_of, exception_of, hint_or_barrier_of, system_move_of, system_move_op_of, system_of, system_register_of};
 
-use crate::operands::{condition};
+use crate::operands::condition;
 use a64_table::{bit, field, signed_field};
-use sm_types::{Branch, BranchRegister, BranchRegisterOp, System, SystemMove, SystemMoveOp, SystemRegister};
+use sm_types::{
+    Branch, BranchRegister, BranchRegisterOp, System, SystemMove, SystemMoveOp, SystemRegister,
+};
 
 #[tactic(auto, unfolding(a64_table::specs::Control::branch_of))]
 pub fn branch(word: u32) -> Branch
@@ -74,7 +76,11 @@ fn exception(word: u32) -> System
     ensures { result ≡ exception_of word }
 {
     let imm = field(word, 5, 16) as u16;
-    if bit(word, 21) { System::Brk(imm) } else { System::Svc(imm) }
+    if bit(word, 21) {
+        System::Brk(imm)
+    } else {
+        System::Svc(imm)
+    }
 }
 
 #[tactic(auto, unfolding(a64_table::specs::Control::hint_or_barrier_of))]

@@ -4,7 +4,11 @@ ghost use Rattle.a64_table.specs.Meaning.{insn_of};
 
 use crate::accesses::{atomic, load_literal, load_store, load_store_pair};
 use crate::control::{branch, branch_register, system, system_move};
-use crate::processing::{add_sub_carry, add_sub_extended, add_sub_immediate, add_sub_register, bitfield_move, conditional_compare, conditional_select, extract, logical_immediate, logical_register, move_wide, multiply, one_source, pc_relative, two_source};
+use crate::processing::{
+    add_sub_carry, add_sub_extended, add_sub_immediate, add_sub_register, bitfield_move,
+    conditional_compare, conditional_select, extract, logical_immediate, logical_register,
+    move_wide, multiply, one_source, pc_relative, two_source,
+};
 use a64_table::Group;
 use sm_types::Insn;
 

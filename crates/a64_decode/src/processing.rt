@@ -4,7 +4,12 @@ ghost use Rattle.a64_table.specs.Processing.{add_sub_carry_of, add_sub_extended_
 
 use crate::operands::{condition, extend, shift};
 use a64_table::{bit, field, signed};
-use sm_types::{AddSub, AddSubCarry, AddSubExtended, AddSubImmediate, AddSubRegister, BitfieldMove, BitfieldOp, CompareOp, CompareOperand, ConditionalCompare, ConditionalSelect, ExtendedRegister, Extract, Logical, LogicalImmediate, LogicalRegister, MoveOp, MoveWide, Multiply, OneSource, OneSourceOp, PcRelative, PcRelativeOp, SelectOp, ShiftedRegister, TwoSource, TwoSourceOp};
+use sm_types::{
+    AddSub, AddSubCarry, AddSubExtended, AddSubImmediate, AddSubRegister, BitfieldMove, BitfieldOp,
+    CompareOp, CompareOperand, ConditionalCompare, ConditionalSelect, ExtendedRegister, Extract,
+    Logical, LogicalImmediate, LogicalRegister, MoveOp, MoveWide, Multiply, OneSource, OneSourceOp,
+    PcRelative, PcRelativeOp, SelectOp, ShiftedRegister, TwoSource, TwoSourceOp,
+};
 
 #[tactic(auto, unfolding(a64_table::specs::Processing::add_sub_of))]
 fn add_sub(word: u32) -> AddSub
@@ -347,9 +352,23 @@ pub fn multiply(word: u32) -> Multiply
     if bit(word, 22) {
         Multiply::High { signed, rm, rn, rd }
     } else if bit(word, 21) {
-        Multiply::Long { subtract, signed, rm, ra, rn, rd }
+        Multiply::Long {
+            subtract,
+            signed,
+            rm,
+            ra,
+            rn,
+            rd,
+        }
     } else {
         let wide = bit(word, 31);
-        Multiply::Same { subtract, wide, rm, ra, rn, rd }
+        Multiply::Same {
+            subtract,
+            wide,
+            rm,
+            ra,
+            rn,
+            rd,
+        }
     }
 }
