@@ -8,6 +8,8 @@ mod decode;
 mod groups;
 mod operands;
 mod processing;
+#[cfg(test)]
+mod tests;
 mod tree;
 
 pub use decode::decode_scalar;
