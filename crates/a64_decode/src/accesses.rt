@@ -59,10 +59,10 @@ pub fn load_store(word: u32) -> LoadStore
 }
 
 #[tactic(auto, unfolding(a64_table::specs::Accesses::load_literal_op_of))]
-fn load_literal_op(word: u32) -> LoadLiteralOp
-    ensures { result ≡ load_literal_op_of word }
+fn load_literal_op(number: u32) -> LoadLiteralOp
+    ensures { result ≡ load_literal_op_of number }
 {
-    match field(word, 30, 2) {
+    match number {
         0 => LoadLiteralOp::Word,
         1 => LoadLiteralOp::Doubleword,
         _ => LoadLiteralOp::SignedWord,
@@ -74,7 +74,7 @@ pub fn load_literal(word: u32) -> LoadLiteral
     ensures { result ≡ load_literal_of word }
 {
     LoadLiteral {
-        op: load_literal_op(word),
+        op: load_literal_op(field(word, 30, 2)),
         words: signed_field(word, 5, 19),
         rt: field(word, 0, 5) as u8,
     }
@@ -120,10 +120,10 @@ pub fn load_store_pair(word: u32) -> LoadStorePair
 }
 
 #[tactic(auto, unfolding(a64_table::specs::Accesses::atomic_op_of))]
-fn atomic_op(word: u32) -> AtomicOp
-    ensures { result ≡ atomic_op_of word }
+fn atomic_op(number: u32) -> AtomicOp
+    ensures { result ≡ atomic_op_of number }
 {
-    match field(word, 12, 3) {
+    match number {
         0 => AtomicOp::Add,
         1 => AtomicOp::Clear,
         2 => AtomicOp::Eor,
@@ -171,7 +171,7 @@ fn update(word: u32) -> Atomic
     ensures { result ≡ update_of word }
 {
     Atomic::Update {
-        op: atomic_op(word),
+        op: atomic_op(field(word, 12, 3)),
         size: access_size(field(word, 30, 2)),
         acquire: bit(word, 23),
         release: bit(word, 22),

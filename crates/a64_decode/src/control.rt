@@ -40,10 +40,10 @@ pub fn branch(word: u32) -> Branch
 }
 
 #[tactic(auto, unfolding(a64_table::specs::Control::branch_register_op_of))]
-fn branch_register_op(word: u32) -> BranchRegisterOp
-    ensures { result ≡ branch_register_op_of word }
+fn branch_register_op(number: u32) -> BranchRegisterOp
+    ensures { result ≡ branch_register_op_of number }
 {
-    match field(word, 21, 2) {
+    match number {
         0 => BranchRegisterOp::Br,
         1 => BranchRegisterOp::Blr,
         _ => BranchRegisterOp::Ret,
@@ -55,7 +55,7 @@ pub fn branch_register(word: u32) -> BranchRegister
     ensures { result ≡ branch_register_of word }
 {
     BranchRegister {
-        op: branch_register_op(word),
+        op: branch_register_op(field(word, 21, 2)),
         rn: field(word, 5, 5) as u8,
     }
 }
@@ -99,10 +99,10 @@ fn hint_or_barrier(word: u32) -> System
 }
 
 #[tactic(auto, unfolding(a64_table::specs::Control::system_register_of))]
-fn system_register(word: u32) -> SystemRegister
-    ensures { result ≡ system_register_of word }
+fn system_register(number: u32) -> SystemRegister
+    ensures { result ≡ system_register_of number }
 {
-    match field(word, 5, 11) {
+    match number {
         0x210 => SystemRegister::Nzcv,
         0x682 => SystemRegister::TpidrEl0,
         0x685 => SystemRegister::Tpidr2El0,
@@ -127,7 +127,7 @@ pub fn system_move(word: u32) -> SystemMove
 {
     SystemMove {
         op: system_move_op(word),
-        register: system_register(word),
+        register: system_register(field(word, 5, 11)),
         rt: field(word, 0, 5) as u8,
     }
 }

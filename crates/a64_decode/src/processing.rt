@@ -12,10 +12,10 @@ use sm_types::{
 };
 
 #[tactic(auto, unfolding(a64_table::specs::Processing::add_sub_of))]
-fn add_sub(word: u32) -> AddSub
-    ensures { result ≡ add_sub_of word }
+fn add_sub(number: u32) -> AddSub
+    ensures { result ≡ add_sub_of number }
 {
-    match field(word, 29, 2) {
+    match number {
         0 => AddSub::Add,
         1 => AddSub::Adds,
         2 => AddSub::Sub,
@@ -24,10 +24,10 @@ fn add_sub(word: u32) -> AddSub
 }
 
 #[tactic(auto, unfolding(a64_table::specs::Processing::logical_of))]
-fn logical(word: u32) -> Logical
-    ensures { result ≡ logical_of word }
+fn logical(number: u32) -> Logical
+    ensures { result ≡ logical_of number }
 {
-    match field(word, 29, 2) {
+    match number {
         0 => Logical::And,
         1 => Logical::Orr,
         2 => Logical::Eor,
@@ -36,10 +36,10 @@ fn logical(word: u32) -> Logical
 }
 
 #[tactic(auto, unfolding(a64_table::specs::Processing::move_op_of))]
-fn move_op(word: u32) -> MoveOp
-    ensures { result ≡ move_op_of word }
+fn move_op(number: u32) -> MoveOp
+    ensures { result ≡ move_op_of number }
 {
-    match field(word, 29, 2) {
+    match number {
         0 => MoveOp::Movn,
         2 => MoveOp::Movz,
         _ => MoveOp::Movk,
@@ -47,10 +47,10 @@ fn move_op(word: u32) -> MoveOp
 }
 
 #[tactic(auto, unfolding(a64_table::specs::Processing::bitfield_op_of))]
-fn bitfield_op(word: u32) -> BitfieldOp
-    ensures { result ≡ bitfield_op_of word }
+fn bitfield_op(number: u32) -> BitfieldOp
+    ensures { result ≡ bitfield_op_of number }
 {
-    match field(word, 29, 2) {
+    match number {
         0 => BitfieldOp::Sbfm,
         1 => BitfieldOp::Bfm,
         _ => BitfieldOp::Ubfm,
@@ -84,7 +84,7 @@ pub fn add_sub_immediate(word: u32) -> AddSubImmediate
     ensures { result ≡ add_sub_immediate_of word }
 {
     AddSubImmediate {
-        op: add_sub(word),
+        op: add_sub(field(word, 29, 2)),
         wide: bit(word, 31),
         shifted: bit(word, 22),
         imm: field(word, 10, 12) as u16,
@@ -98,7 +98,7 @@ pub fn add_sub_register(word: u32) -> AddSubRegister
     ensures { result ≡ add_sub_register_of word }
 {
     AddSubRegister {
-        op: add_sub(word),
+        op: add_sub(field(word, 29, 2)),
         wide: bit(word, 31),
         operand: shifted_register(word),
         rn: field(word, 5, 5) as u8,
@@ -111,7 +111,7 @@ pub fn logical_register(word: u32) -> LogicalRegister
     ensures { result ≡ logical_register_of word }
 {
     LogicalRegister {
-        op: logical(word),
+        op: logical(field(word, 29, 2)),
         wide: bit(word, 31),
         inverted: bit(word, 21),
         operand: shifted_register(word),
@@ -125,7 +125,7 @@ pub fn add_sub_extended(word: u32) -> AddSubExtended
     ensures { result ≡ add_sub_extended_of word }
 {
     AddSubExtended {
-        op: add_sub(word),
+        op: add_sub(field(word, 29, 2)),
         wide: bit(word, 31),
         operand: extended_register(word),
         rn: field(word, 5, 5) as u8,
@@ -138,7 +138,7 @@ pub fn logical_immediate(word: u32) -> LogicalImmediate
     ensures { result ≡ logical_immediate_of word }
 {
     LogicalImmediate {
-        op: logical(word),
+        op: logical(field(word, 29, 2)),
         wide: bit(word, 31),
         n: bit(word, 22),
         immr: field(word, 16, 6) as u8,
@@ -153,7 +153,7 @@ pub fn move_wide(word: u32) -> MoveWide
     ensures { result ≡ move_wide_of word }
 {
     MoveWide {
-        op: move_op(word),
+        op: move_op(field(word, 29, 2)),
         wide: bit(word, 31),
         hw: field(word, 21, 2) as u8,
         imm: field(word, 5, 16) as u16,
@@ -166,7 +166,7 @@ pub fn bitfield_move(word: u32) -> BitfieldMove
     ensures { result ≡ bitfield_move_of word }
 {
     BitfieldMove {
-        op: bitfield_op(word),
+        op: bitfield_op(field(word, 29, 2)),
         wide: bit(word, 31),
         immr: field(word, 16, 6) as u8,
         imms: field(word, 10, 6) as u8,
@@ -215,7 +215,7 @@ pub fn add_sub_carry(word: u32) -> AddSubCarry
     ensures { result ≡ add_sub_carry_of word }
 {
     AddSubCarry {
-        op: add_sub(word),
+        op: add_sub(field(word, 29, 2)),
         wide: bit(word, 31),
         rm: field(word, 16, 5) as u8,
         rn: field(word, 5, 5) as u8,
@@ -313,10 +313,10 @@ pub fn one_source(word: u32) -> OneSource
 }
 
 #[tactic(auto, unfolding(a64_table::specs::Processing::two_source_op_of))]
-fn two_source_op(word: u32) -> TwoSourceOp
-    ensures { result ≡ two_source_op_of word }
+fn two_source_op(number: u32) -> TwoSourceOp
+    ensures { result ≡ two_source_op_of number }
 {
-    match field(word, 10, 6) {
+    match number {
         2 => TwoSourceOp::Udiv,
         3 => TwoSourceOp::Sdiv,
         8 => TwoSourceOp::Lslv,
@@ -331,7 +331,7 @@ pub fn two_source(word: u32) -> TwoSource
     ensures { result ≡ two_source_of word }
 {
     TwoSource {
-        op: two_source_op(word),
+        op: two_source_op(field(word, 10, 6)),
         wide: bit(word, 31),
         rm: field(word, 16, 5) as u8,
         rn: field(word, 5, 5) as u8,

@@ -21,7 +21,7 @@ use Rattle.sm_types.specs.declared.insn.Atomic.TheVariants as atomic
 use Rattle.a64_table.specs.Fields.{field_of, bit_of, signed_of}
 use Rattle.a64_table.specs.Operands.{extend_of, access_size_of}
 
--- the operation of loads and stores of one register from opc, 2 bits
+-- the operation of opc, bits 23:22, in loads and stores of one register
 unfoldable pub load_store_op_of : ℕ → LoadStoreOp
 load_store_op_of opc =
     if opc == 0 then Store
@@ -48,17 +48,17 @@ load_store_of word = record {
   rt = field_of word 0 5;
 }
 
--- bits 31:30, opc, of loads from beside the program counter; 3 has no row
+-- the operation of opc, bits 31:30, in loads from beside the program counter; 3 has no row
 unfoldable pub load_literal_op_of : ℕ → LoadLiteralOp
-load_literal_op_of word =
-    if field_of word 30 2 == 0 then Word
-    else if field_of word 30 2 == 1 then Doubleword
+load_literal_op_of number =
+    if number == 0 then Word
+    else if number == 1 then Doubleword
     else SignedWord
 
 -- G19, loads from beside the program counter: imm19 23:5, signed and in words, Rt 4:0
 unfoldable pub load_literal_of : ℕ → LoadLiteral
 load_literal_of word = record {
-  op = load_literal_op_of word;
+  op = load_literal_op_of (field_of word 30 2);
   words = signed_of word 5 19;
   rt = field_of word 0 5;
 }
@@ -83,16 +83,16 @@ load_store_pair_of word = record {
   rt2 = field_of word 10 5;
 }
 
--- bits 14:12, opc, of atomic operations
+-- the operation of opc, bits 14:12, in atomic accesses
 unfoldable pub atomic_op_of : ℕ → AtomicOp
-atomic_op_of word =
-    if field_of word 12 3 == 0 then Add
-    else if field_of word 12 3 == 1 then Clear
-    else if field_of word 12 3 == 2 then Eor
-    else if field_of word 12 3 == 3 then Set
-    else if field_of word 12 3 == 4 then Smax
-    else if field_of word 12 3 == 5 then Smin
-    else if field_of word 12 3 == 6 then Umax
+atomic_op_of number =
+    if number == 0 then Add
+    else if number == 1 then Clear
+    else if number == 2 then Eor
+    else if number == 3 then Set
+    else if number == 4 then Smax
+    else if number == 5 then Smin
+    else if number == 6 then Umax
     else Umin
 
 -- size 31:30, A 23, R 22, Rs 20:16, Rn 9:5, Rt 4:0
@@ -101,7 +101,7 @@ swap_of word = atomic.Swap (access_size_of (field_of word 30 2)) (bit_of word 23
 
 -- the same with an operation
 unfoldable pub update_of : ℕ → Atomic
-update_of word = atomic.Update (atomic_op_of word) (access_size_of (field_of word 30 2)) (bit_of word 23) (bit_of word 22) (field_of word 16 5) (field_of word 5 5) (field_of word 0 5)
+update_of word = atomic.Update (atomic_op_of (field_of word 12 3)) (access_size_of (field_of word 30 2)) (bit_of word 23) (bit_of word 22) (field_of word 16 5) (field_of word 5 5) (field_of word 0 5)
 
 -- size 31:30, acquire 22, Rs 20:16, release 15, Rn 9:5, Rt 4:0
 unfoldable pub compare_and_swap_of : ℕ → Atomic

@@ -25,17 +25,17 @@ branch_of word =
     else if bit_of word 25 then branch.TestBit (bit_of word 24) (field_of word 31 1 * 32 + field_of word 19 5) (signed_of word 5 14) (field_of word 0 5)
     else branch.Compare (bit_of word 24) (bit_of word 31) (signed_of word 5 19) (field_of word 0 5)
 
--- bits 22:21, op, of branches to a register; 3 has no row
+-- the operation of op, bits 22:21, in branches to a register; 3 has no row
 unfoldable pub branch_register_op_of : ℕ → BranchRegisterOp
-branch_register_op_of word =
-    if field_of word 21 2 == 0 then Br
-    else if field_of word 21 2 == 1 then Blr
+branch_register_op_of number =
+    if number == 0 then Br
+    else if number == 1 then Blr
     else Ret
 
 -- G11, branches to a register: Rn 9:5
 unfoldable pub branch_register_of : ℕ → BranchRegister
 branch_register_of word = record {
-  op = branch_register_op_of word;
+  op = branch_register_op_of (field_of word 21 2);
   rn = field_of word 5 5;
 }
 
@@ -56,12 +56,12 @@ unfoldable pub system_of : ℕ → System
 system_of word =
     if field_of word 24 8 == 0 then system.Udf (field_of word 0 16) else if field_of word 24 8 == 0xD4 then exception_of word else hint_or_barrier_of word
 
--- bits 15:5, CRn, CRm and op2, of system registers; the others have no row
+-- the system register of CRn, CRm and op2, bits 15:5; the others have no row
 unfoldable pub system_register_of : ℕ → SystemRegister
-system_register_of word =
-    if field_of word 5 11 == 0x210 then Nzcv
-    else if field_of word 5 11 == 0x682 then TpidrEl0
-    else if field_of word 5 11 == 0x685 then Tpidr2El0
+system_register_of number =
+    if number == 0x210 then Nzcv
+    else if number == 0x682 then TpidrEl0
+    else if number == 0x685 then Tpidr2El0
     else Svcr
 
 -- bit 21, L, of moves of system registers
@@ -72,6 +72,6 @@ system_move_op_of word = if bit_of word 21 then Mrs else Msr
 unfoldable pub system_move_of : ℕ → SystemMove
 system_move_of word = record {
   op = system_move_op_of word;
-  register = system_register_of word;
+  register = system_register_of (field_of word 5 11);
   rt = field_of word 0 5;
 }

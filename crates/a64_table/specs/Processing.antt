@@ -42,34 +42,34 @@ use Rattle.sm_types.specs.declared.insn.Multiply.TheVariants as multiply
 use Rattle.a64_table.specs.Fields.{field_of, bit_of, signed_value}
 use Rattle.a64_table.specs.Operands.{condition_of, shift_of, extend_of}
 
--- bits 30:29, op and S
+-- the operation of op and S, bits 30:29
 unfoldable pub add_sub_of : ℕ → AddSub
-add_sub_of word =
-    if field_of word 29 2 == 0 then Add
-    else if field_of word 29 2 == 1 then Adds
-    else if field_of word 29 2 == 2 then Sub
+add_sub_of number =
+    if number == 0 then Add
+    else if number == 1 then Adds
+    else if number == 2 then Sub
     else Subs
 
--- bits 30:29, opc, of the logical groups
+-- the operation of opc, bits 30:29, in the logical groups
 unfoldable pub logical_of : ℕ → Logical
-logical_of word =
-    if field_of word 29 2 == 0 then And
-    else if field_of word 29 2 == 1 then Orr
-    else if field_of word 29 2 == 2 then Eor
+logical_of number =
+    if number == 0 then And
+    else if number == 1 then Orr
+    else if number == 2 then Eor
     else Ands
 
--- bits 30:29, opc, of move wide; 1 has no row
+-- the operation of opc, bits 30:29, in move wide; 1 has no row
 unfoldable pub move_op_of : ℕ → MoveOp
-move_op_of word =
-    if field_of word 29 2 == 0 then Movn
-    else if field_of word 29 2 == 2 then Movz
+move_op_of number =
+    if number == 0 then Movn
+    else if number == 2 then Movz
     else Movk
 
--- bits 30:29, opc, of bit field moves; 3 has no row
+-- the operation of opc, bits 30:29, in bit field moves; 3 has no row
 unfoldable pub bitfield_op_of : ℕ → BitfieldOp
-bitfield_op_of word =
-    if field_of word 29 2 == 0 then Sbfm
-    else if field_of word 29 2 == 1 then Bfm
+bitfield_op_of number =
+    if number == 0 then Sbfm
+    else if number == 1 then Bfm
     else Ubfm
 
 -- Rm 20:16, shift 23:22, amount 15:10
@@ -91,7 +91,7 @@ extended_register_of word = record {
 -- G1, add and subtract immediate: sf 31, sh 22, imm12 21:10, Rn 9:5, Rd 4:0
 unfoldable pub add_sub_immediate_of : ℕ → AddSubImmediate
 add_sub_immediate_of word = record {
-  op = add_sub_of word;
+  op = add_sub_of (field_of word 29 2);
   wide = bit_of word 31;
   shifted = bit_of word 22;
   imm = field_of word 10 12;
@@ -102,7 +102,7 @@ add_sub_immediate_of word = record {
 -- G2, add and subtract shifted register: sf 31, Rn 9:5, Rd 4:0
 unfoldable pub add_sub_register_of : ℕ → AddSubRegister
 add_sub_register_of word = record {
-  op = add_sub_of word;
+  op = add_sub_of (field_of word 29 2);
   wide = bit_of word 31;
   operand = shifted_register_of word;
   rn = field_of word 5 5;
@@ -112,7 +112,7 @@ add_sub_register_of word = record {
 -- G3, logical shifted register: sf 31, N 21, Rn 9:5, Rd 4:0
 unfoldable pub logical_register_of : ℕ → LogicalRegister
 logical_register_of word = record {
-  op = logical_of word;
+  op = logical_of (field_of word 29 2);
   wide = bit_of word 31;
   inverted = bit_of word 21;
   operand = shifted_register_of word;
@@ -123,7 +123,7 @@ logical_register_of word = record {
 -- G4, add and subtract extended register: sf 31, Rn 9:5, Rd 4:0
 unfoldable pub add_sub_extended_of : ℕ → AddSubExtended
 add_sub_extended_of word = record {
-  op = add_sub_of word;
+  op = add_sub_of (field_of word 29 2);
   wide = bit_of word 31;
   operand = extended_register_of word;
   rn = field_of word 5 5;
@@ -133,7 +133,7 @@ add_sub_extended_of word = record {
 -- G5, logical immediate: sf 31, N 22, immr 21:16, imms 15:10, Rn 9:5, Rd 4:0
 unfoldable pub logical_immediate_of : ℕ → LogicalImmediate
 logical_immediate_of word = record {
-  op = logical_of word;
+  op = logical_of (field_of word 29 2);
   wide = bit_of word 31;
   n = bit_of word 22;
   immr = field_of word 16 6;
@@ -145,7 +145,7 @@ logical_immediate_of word = record {
 -- G6, move wide: sf 31, hw 22:21, imm16 20:5, Rd 4:0
 unfoldable pub move_wide_of : ℕ → MoveWide
 move_wide_of word = record {
-  op = move_op_of word;
+  op = move_op_of (field_of word 29 2);
   wide = bit_of word 31;
   hw = field_of word 21 2;
   imm = field_of word 5 16;
@@ -155,7 +155,7 @@ move_wide_of word = record {
 -- G7, bit field moves: sf 31, immr 21:16, imms 15:10, Rn 9:5, Rd 4:0
 unfoldable pub bitfield_move_of : ℕ → BitfieldMove
 bitfield_move_of word = record {
-  op = bitfield_op_of word;
+  op = bitfield_op_of (field_of word 29 2);
   wide = bit_of word 31;
   immr = field_of word 16 6;
   imms = field_of word 10 6;
@@ -188,7 +188,7 @@ pc_relative_of word = record {
 -- G12, add and subtract with carry: sf 31, Rm 20:16, Rn 9:5, Rd 4:0
 unfoldable pub add_sub_carry_of : ℕ → AddSubCarry
 add_sub_carry_of word = record {
-  op = add_sub_of word;
+  op = add_sub_of (field_of word 29 2);
   wide = bit_of word 31;
   rm = field_of word 16 5;
   rn = field_of word 5 5;
@@ -230,7 +230,7 @@ conditional_compare_of word = record {
   rn = field_of word 5 5;
 }
 
--- the operation of one source from opcode, 6 bits; the others have no row
+-- the operation of opcode, bits 15:10, in one source; the others have no row
 unfoldable pub one_source_op_of : ℕ → OneSourceOp
 one_source_op_of opcode =
     if opcode == 0 then Rbit
@@ -249,20 +249,20 @@ one_source_of word = record {
   rd = field_of word 0 5;
 }
 
--- bits 15:10, opcode, of two sources; the others have no row
+-- the operation of opcode, bits 15:10, in two sources; the others have no row
 unfoldable pub two_source_op_of : ℕ → TwoSourceOp
-two_source_op_of word =
-    if field_of word 10 6 == 2 then Udiv
-    else if field_of word 10 6 == 3 then Sdiv
-    else if field_of word 10 6 == 8 then Lslv
-    else if field_of word 10 6 == 9 then Lsrv
-    else if field_of word 10 6 == 10 then Asrv
+two_source_op_of number =
+    if number == 2 then Udiv
+    else if number == 3 then Sdiv
+    else if number == 8 then Lslv
+    else if number == 9 then Lsrv
+    else if number == 10 then Asrv
     else Rorv
 
 -- G16, two sources: sf 31, Rm 20:16, Rn 9:5, Rd 4:0
 unfoldable pub two_source_of : ℕ → TwoSource
 two_source_of word = record {
-  op = two_source_op_of word;
+  op = two_source_op_of (field_of word 10 6);
   wide = bit_of word 31;
   rm = field_of word 16 5;
   rn = field_of word 5 5;
