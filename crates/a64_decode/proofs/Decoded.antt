@@ -4,7 +4,8 @@ use Rattle.sm_types.specs.declared.insn.Insn.{Insn}
 use Rattle.a64_table.specs.declared.rows.Row.{Row}
 use Rattle.a64_table.specs.Rows.{Matches}
 use Rattle.a64_table.proofs.FirstRow.{some_is, none_some}
-use Rattle.a64_table.specs.Meaning.{Means, fits_of, insn_of}
+use Rattle.a64_table.specs.Conditions.{fits_of}
+use Rattle.a64_table.specs.Meaning.{Means, insn_of}
 
 -- where no row matches the word, it means nothing
 pub no_place : (rows : List Row) (word : ℕ) → ((i : ℕ) (r : Row) → slice_get rows i ≡ Some r → Matches r word → ◌≡◌ {A = Option ℕ} None (Some i)) → (it : Insn) → (◌≡◌ {A = Option Insn} None (Some it)) ↔ Means rows word it

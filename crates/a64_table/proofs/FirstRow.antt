@@ -5,7 +5,8 @@ use Rattle.sm_types.specs.declared.insn.Insn.{Insn}
 use Rattle.a64_table.specs.declared.rows.Row.{Row}
 use Rattle.a64_table.specs.declared.rows.TheConstants.{SCALAR_ROWS}
 use Rattle.a64_table.specs.Rows.{Matches}
-use Rattle.a64_table.specs.Meaning.{Means, HasAtMostOneRow, meaning_in, meaning_of, stands_for, fits_of, insn_of}
+use Rattle.a64_table.specs.Conditions.{fits_of}
+use Rattle.a64_table.specs.Meaning.{Means, HasAtMostOneRow, meaning_in, meaning_of, stands_for, insn_of}
 use Rattle.a64_table.proofs.Apart.{differ, all_differ, one_place}
 
 pub some_is : {A : Type 0} {a b : A} → ◌≡◌ {A = Option A} (Some a) (Some b) → a ≡ b
@@ -56,19 +57,16 @@ row_first (r ∷ rows) word one (suc place) row e m f =
       | inr h ↦ cond-false (stands_for r word) _ _ h ∙ row_first rows word (rest_one r rows word one) place row e m f
     ]
 
-scalar_differ : all_differ SCALAR_ROWS ≡ true
-unfolding differ all_differ
-scalar_differ = refl
+-- rows that fix common bits at different values
+module _ (rows : List Row) (differing : all_differ rows ≡ true) where
+  pub differ_one_row : (word : ℕ) → HasAtMostOneRow rows word
+  differ_one_row word i j r s e f m n g h = one_place word rows differing i j r s e f m n
 
-pub scalar_one_row : (word : ℕ) → HasAtMostOneRow SCALAR_ROWS word
-scalar_one_row word i j r s e f m n g h = one_place word SCALAR_ROWS scalar_differ i j r s e f m n
-
-pub scalar_meaning : (word : ℕ) (it : Insn) → word < 2 ^ 32 → (meaning_of word ≡ Some it) ↔ Means SCALAR_ROWS word it
-unfolding meaning_of
-scalar_meaning word it lt = (
-  λ e. first_means SCALAR_ROWS word it lt e,
-  λ m. row_first SCALAR_ROWS word (scalar_one_row word) m.place m.row m.listed m.matches m.fits ∙ ap Some (sym m.gives),
-)
+  pub differ_meaning : (word : ℕ) (it : Insn) → word < 2 ^ 32 → (meaning_in rows word ≡ Some it) ↔ Means rows word it
+  differ_meaning word it lt = (
+    λ e. first_means rows word it lt e,
+    λ m. row_first rows word (differ_one_row word) m.place m.row m.listed m.matches m.fits ∙ ap Some (sym m.gives),
+  )
 
 same_option : {A : Type 0} (a b : Option A) → ((x : A) → a ≡ Some x → b ≡ Some x) → ((x : A) → b ≡ Some x → a ≡ Some x) → a ≡ b
 same_option (Some x) b f g = sym (f x refl)
@@ -76,6 +74,22 @@ same_option None (Some y) f g = g y refl
 same_option None None f g = refl
 
 -- what gives exactly the instructions that a word means is its meaning
-pub by_meaning : (word : ℕ) (result : Option Insn) → word < 2 ^ 32 → ((it : Insn) → (result ≡ Some it) ↔ Means SCALAR_ROWS word it) → result ≡ meaning_of word
-by_meaning word result lt h =
-    same_option result (meaning_of word) (λ it e. (scalar_meaning word it lt).1 ((h it).0 e)) (λ it e. (h it).1 ((scalar_meaning word it lt).0 e))
+pub by_meaning : (rows : List Row) → all_differ rows ≡ true → (word : ℕ) (result : Option Insn) → word < 2 ^ 32 → ((it : Insn) → (result ≡ Some it) ↔ Means rows word it) → result ≡ meaning_in rows word
+by_meaning rows d word result lt h =
+    same_option result (meaning_in rows word) (λ it e. (differ_meaning rows d word it lt).1 ((h it).0 e)) (λ it e. (h it).1 ((differ_meaning rows d word it lt).0 e))
+
+pub scalar_differ : all_differ SCALAR_ROWS ≡ true
+unfolding differ all_differ
+scalar_differ = refl
+
+pub scalar_one_row : (word : ℕ) → HasAtMostOneRow SCALAR_ROWS word
+scalar_one_row = differ_one_row SCALAR_ROWS scalar_differ
+
+pub scalar_meaning : (word : ℕ) (it : Insn) → word < 2 ^ 32 → (meaning_of word ≡ Some it) ↔ Means SCALAR_ROWS word it
+unfolding meaning_of
+scalar_meaning = differ_meaning SCALAR_ROWS scalar_differ
+
+-- the same by the scalar rows
+pub by_scalar_meaning : (word : ℕ) (result : Option Insn) → word < 2 ^ 32 → ((it : Insn) → (result ≡ Some it) ↔ Means SCALAR_ROWS word it) → result ≡ meaning_of word
+unfolding meaning_of
+by_scalar_meaning = by_meaning SCALAR_ROWS scalar_differ

@@ -1,4 +1,10 @@
+pub mod Accesses
+pub mod Conditions
+pub mod Control
 pub mod Fields
 pub mod Meaning
+pub mod Operands
+pub mod Processing
 pub mod Ranges
 pub mod Rows
+pub mod Words

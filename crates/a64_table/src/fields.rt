@@ -1,6 +1,6 @@
 //! The fields of a word.
 ghost use Rattle.std.specs.Prelude.{◌≡◌, ◌<◌, ◌^◌};
-ghost use Rattle.a64_table.specs.Fields.{bit_of, field_of, signed_of};
+ghost use Rattle.a64_table.specs.Fields.{bit_of, field_of, signed_of, signed_value};
 
 /// The bits of the word from `low` on, as many as `width`.
 pub fn field(word: u32, low: u32, width: u32) -> u32
@@ -27,7 +27,16 @@ pub fn signed_field(word: u32, low: u32, width: u32) -> i32
     requires width { width < 31 }
     ensures { result ≡ signed_of word low width }
 {
-    let bits = field(word, low, width);
+    signed(field(word, low, width), width)
+}
+
+/// The number that so many bits are in two's complement.
+pub fn signed(bits: u32, width: u32) -> i32
+    requires some { 0 < width }
+    requires width { width < 31 }
+    requires bits { bits < 2 ^ width }
+    ensures { result ≡ signed_value width bits }
+{
     if bits < 1 << (width - 1) {
         bits as i32
     } else {

@@ -5,9 +5,11 @@
 #![tactic(auto)]
 
 mod fields;
+mod fitting;
 mod laws;
 mod rows;
 
-pub use fields::{bit, field, signed_field};
-pub use laws::{in_range, one_meaning, one_row};
-pub use rows::{Group, Row, SCALAR_ROWS, fits, matches};
+pub use fields::{bit, field, signed, signed_field};
+pub use fitting::fits;
+pub use laws::{in_range, one_meaning, one_row, one_word};
+pub use rows::{Group, Row, SCALAR_ROWS, matches};

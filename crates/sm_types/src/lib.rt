@@ -12,7 +12,15 @@ mod shared_op;
 mod stop;
 
 pub use config::Config;
-pub use insn::{AddSub, AddSubImmediate, Branch, Condition, Insn, MoveWide, System};
+pub use insn::{
+    AccessSize, AddSub, AddSubCarry, AddSubExtended, AddSubImmediate, AddSubRegister, Address,
+    Atomic, AtomicOp, BitfieldMove, BitfieldOp, Branch, BranchRegister, BranchRegisterOp,
+    CompareOp, CompareOperand, Condition, ConditionalCompare, ConditionalSelect, Extend,
+    ExtendedRegister, Extract, Insn, LoadLiteral, LoadLiteralOp, LoadStore, LoadStoreOp,
+    LoadStorePair, Logical, LogicalImmediate, LogicalRegister, MoveOp, MoveWide, Multiply,
+    OneSource, OneSourceOp, PairIndex, PairOp, PcRelative, PcRelativeOp, SelectOp, ShiftKind,
+    ShiftedRegister, System, SystemMove, SystemMoveOp, SystemRegister, TwoSource, TwoSourceOp,
+};
 pub use length::VecLen;
 pub use scalars::Scalars;
 pub use shared_op::{Event, OpKind, SharedOp};
