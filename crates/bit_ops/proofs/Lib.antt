@@ -1,6 +1,7 @@
 pub mod Bytes
 pub mod Digits
 pub mod LowParts
+pub mod MaskBits
 pub mod Reversing
 pub mod Rotating
 pub mod Runs
