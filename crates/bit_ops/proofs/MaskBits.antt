@@ -15,7 +15,7 @@ use Rattle.bit_ops.proofs.Rotating.{rotated}
 
 -- ---- the highest one
 
-below_power : (a b n : ℕ) → 2 ^ a ≤ n → n < 2 ^ b → a < b
+pub below_power : (a b n : ℕ) → 2 ^ a ≤ n → n < 2 ^ b → a < b
 below_power a b n p q = elim (cases_lt a b) [
     | inl lt ↦ lt
     | inr ge ↦
@@ -23,10 +23,10 @@ below_power a b n p q = elim (cases_lt a b) [
       absurd (omega arith)
   ]
 
-le_true : (a b : ℕ) → a ≤ b → nat_le a b ≡ true
+pub le_true : (a b : ℕ) → a ≤ b → nat_le a b ≡ true
 le_true a b h = grind (arith, nat_tests)
 
-le_false : (a b : ℕ) → b < a → nat_le a b ≡ false
+pub le_false : (a b : ℕ) → b < a → nat_le a b ≡ false
 le_false a b h = grind (arith, nat_tests)
 
 pub highest_one-is : (limit j n : ℕ) → 2 ^ j ≤ n → n < 2 ^ suc j → j < limit → highest_one limit n ≡ j

@@ -47,3 +47,7 @@ pub record IsFieldsOf (n : Bool) (imms immr : ℕ) (wide : Bool) (mask : ℕ) : 
   pub imms_in_range : imms < 64
   pub immr_in_range : immr < size_of n imms
   pub given : bit_mask_of n imms immr wide ≡ Some mask
+
+-- a run of ones starts at a place of a word of so many bits: a one stands there, and a zero below it, round the end of the word
+unfoldable pub starts_at : ℕ → ℕ → ℕ → Bool
+starts_at word width i = (digit_at 2 word i == 1) && (digit_at 2 word ((i + (width - 1)) % width) == 0)
