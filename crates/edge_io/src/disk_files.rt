@@ -41,7 +41,8 @@ impl<R: rt::Files + Drop> Files for DiskFiles<R> {
     ghost faults = { faults_of };
 
     /// `Absent` where the path leads nowhere. `Failed` for a directory, a path through a file, a name with a
-    /// zero byte, and any other fault of the system. It reads no more than `limit` bytes.
+    /// zero byte, and any other fault of the system. It reads no more than `limit` bytes, and nothing at
+    /// a limit of 0.
     fn fetch(&mut self, alloc: Global, name: &str, limit: u64) -> Result<Vec<u8>, FileFault> {
         match read_file(&self.system, alloc, name, limit) {
             Ok(bytes) => Ok(bytes),
@@ -92,5 +93,39 @@ fn fault_of(kind: ErrorKind) -> FileFault
         FileFault::Memory
     } else {
         FileFault::Failed
+    }
+}
+
+#[cfg(test)]
+mod tests {
+    use super::*;
+    use std::test::Fail;
+
+    #[test]
+    fn reads_files_of_the_system(rt: HostRuntime) -> Result<(), Fail> {
+        fs::write(&rt, "twelve.txt", "twelve bytes")?;
+        let mut files = DiskFiles::new(rt);
+        let cases = [
+            ("twelve.txt", 100, Ok("twelve bytes")),
+            ("twelve.txt", 12, Ok("twelve bytes")),
+            ("twelve.txt", 6, Ok("twelve")),
+            ("no such file", 100, Err(FileFault::Absent)),
+            (".", 100, Err(FileFault::Failed)),
+            ("twelve.txt/below", 100, Err(FileFault::Failed)),
+            ("zero\0byte", 100, Err(FileFault::Failed)),
+        ];
+        for (name, limit, want) in cases {
+            match files.fetch(rt.alloc(), name, limit) {
+                Ok(bytes) => assert_eq!(rt;
+                    Ok(bytes.as_slice()),
+                    want.map(|text| text.as_bytes()),
+                    "{name}"
+                ),
+                Err(fault) => assert_eq!(rt; Some(fault), want.err(), "{name}"),
+            }
+        }
+        assert_eq!(rt; files.absences, 1);
+        assert_eq!(rt; files.faults, 3);
+        Ok(())
     }
 }

@@ -2,9 +2,8 @@
 //! turn of a worker passes.
 //!
 //! The traits say what every such place keeps to. `MemFiles`, `MemSink` and `OpenGate` are places in
-//! memory, of which everything is proved. `DiskFiles` and `WriterSink`, with
-//! `StdSink` at standard output, are the real ones: they loop over reads and writes, count what fails, and
-//! tell no content.
+//! memory, of which everything is proved. `DiskFiles` and `WriterSink`, with `StdSink` at standard output,
+//! are the real ones: they loop over reads and writes, count what fails, and tell no content.
 #![tactic(auto)]
 
 mod disk_files;

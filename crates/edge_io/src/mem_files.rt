@@ -123,3 +123,36 @@ impl Files for MemFiles {
         }
     }
 }
+
+#[cfg(test)]
+mod tests {
+    use super::*;
+    use std::test::Fail;
+
+    #[test]
+    fn holds_files_and_fails_as_told(rt: HostRuntime) -> Result<(), Fail> {
+        let mut files = MemFiles::new(rt.alloc());
+        files.add("a", b"first")?;
+        files.add("b", b"other")?;
+        files.add("a", b"second")?;
+        files.fail(2)?;
+        let cases = [
+            ("a", 100, Ok("second")),
+            ("a", 100, Err(FileFault::Failed)),
+            ("a", 3, Ok("sec")),
+            ("c", 100, Err(FileFault::Absent)),
+            ("b", 0, Ok("")),
+        ];
+        for (name, limit, want) in cases {
+            match files.fetch(rt.alloc(), name, limit) {
+                Ok(bytes) => assert_eq!(rt;
+                    Ok(bytes.as_slice()),
+                    want.map(|text| text.as_bytes()),
+                    "{name}"
+                ),
+                Err(fault) => assert_eq!(rt; Some(fault), want.err(), "{name}"),
+            }
+        }
+        Ok(())
+    }
+}

@@ -142,3 +142,28 @@ impl Sink for MemSink {
         Err(PutFault::Failed)
     }
 }
+
+#[cfg(test)]
+mod tests {
+    use super::*;
+    use std::test::Fail;
+
+    #[test]
+    fn fails_as_told_and_past_its_room(rt: HostRuntime) -> Result<(), Fail> {
+        let mut sink = MemSink::new(rt.alloc(), 9)?;
+        sink.fail(2, 2)?;
+        sink.fail(3, 100)?;
+        let cases = [
+            ("ab", Ok(()), "ab"),
+            ("cdef", Err(PutFault::Failed), "abcd"),
+            ("", Ok(()), "abcd"),
+            ("ef", Ok(()), "abcdef"),
+            ("ghijk", Err(PutFault::Failed), "abcdefghi"),
+        ];
+        for (piece, answer, held) in cases {
+            assert_eq!(rt; sink.put(piece.as_bytes()), answer, "{piece}");
+            assert_eq!(rt; sink.bytes(), held.as_bytes(), "{piece}");
+        }
+        Ok(())
+    }
+}

@@ -98,3 +98,96 @@ fn flush<W: Write>(writer: &mut W) -> Result<(), PutFault>
         Err(_) => Err(PutFault::Failed),
     }
 }
+
+#[cfg(test)]
+mod tests {
+    use super::*;
+    use crate::{DiskFiles, Files};
+    use std::alloc::Global;
+    use std::io::Read;
+    use std::test::Fail;
+    use std::{fs, io};
+
+    /// Takes three bytes at a time, and is interrupted before each of them.
+    #[derive(Drop)]
+    struct Slow {
+        held: Vec<u8>,
+        calls: u64,
+    }
+
+    impl Write for Slow {
+        fn write(&mut self, bytes: &[u8]) -> io::Result<usize> {
+            self.calls = self.calls.saturating_add(1);
+            if self.calls % 2 == 1 {
+                return Err(io::Error::from(ErrorKind::Interrupted));
+            }
+            let end = bytes.len().min(3);
+            self.held.extend_from_slice(&bytes[..end])?;
+            Ok(end)
+        }
+
+        fn flush(&mut self) -> io::Result<()> {
+            Ok(())
+        }
+    }
+
+    #[test]
+    fn goes_on_after_interruptions(rt: HostRuntime) -> Result<(), Fail> {
+        let mut sink = WriterSink::new(Slow {
+            held: Vec::new(rt.alloc()),
+            calls: 0,
+        });
+        assert_eq!(rt; sink.put(b"eight by"), Ok(()));
+        assert_eq!(rt; sink.writer.held.as_slice(), b"eight by".as_slice());
+        assert_eq!(rt; sink.faults, 0);
+        Ok(())
+    }
+
+    #[test]
+    fn writes_to_a_file(rt: HostRuntime) -> Result<(), Fail> {
+        let mut sink = WriterSink::new(fs::create(&rt, "lines.txt")?);
+        for _ in 0..30000 {
+            assert_eq!(rt; sink.put(b"ten bytes\n"), Ok(()));
+        }
+        let mut files = DiskFiles::new(rt);
+        let bytes = files
+            .fetch(rt.alloc(), "lines.txt", 299_995)
+            .ok()
+            .ok_or("no file")?;
+        assert_eq!(rt; bytes.len(), 299_995);
+        assert!(rt; bytes.as_slice().ends_with(b"\nten b"));
+        Ok(())
+    }
+
+    #[test]
+    fn writes_to_a_pipe(rt: HostRuntime) -> Result<(), Fail> {
+        let (mut reader, writer) = io::pipe(&rt)?;
+        let mut sink = WriterSink::new(writer);
+        for piece in ["first\n", "", "second\n"] {
+            assert_eq!(rt; sink.put(piece.as_bytes()), Ok(()), "{piece}");
+        }
+        drop(sink);
+        let mut text = Vec::new(rt.alloc());
+        reader.read_to_end(&mut text)?;
+        assert_eq!(rt; text.as_slice(), b"first\nsecond\n".as_slice());
+        Ok(())
+    }
+
+    #[test]
+    fn reports_what_nobody_takes(rt: HostRuntime) -> Result<(), Fail> {
+        let (reader, writer) = io::pipe(&rt)?;
+        drop(reader);
+        let mut closed = WriterSink::new(writer);
+        assert_eq!(rt; closed.put(b"lost"), Err(PutFault::Failed));
+        assert_eq!(rt; closed.put(b""), Ok(()));
+        assert_eq!(rt; closed.faults, 1);
+
+        let mut full = WriterSink::new(fs::create(&rt, "/dev/full")?);
+        assert_eq!(rt; full.put(b"lost"), Err(PutFault::Failed));
+        assert_eq!(rt; full.faults, 1);
+
+        let mut standard = StdSink::new(rt.stdout());
+        assert_eq!(rt; standard.put(b""), Ok(()));
+        Ok(())
+    }
+}

@@ -1,6 +1,6 @@
 -- The file's header, its one program header, and the conditions on them.
 -- Source: ELF-64 Object File Format, the tables of Elf64_Ehdr and Elf64_Phdr, of which places and widths are in bytes.
-use Rattle.std.specs.Prelude.{ℕ, ◌+◌, ◌-◌, ◌*◌, ◌/◌, ◌%◌, ◌^◌, Bool, List, length, take, drop, ◌==◌, ◌&&◌, ◌||◌, not, nat_lt, nat_le}
+use Rattle.std.specs.Prelude.{◌≡◌, ◌⊎◌, ◌<◌, ◌≤◌, ℕ, ◌+◌, ◌-◌, ◌*◌, ◌/◌, ◌%◌, ◌^◌, Bool, List, length, take, drop, ◌==◌, ◌&&◌, ◌||◌, not, nat_lt, nat_le}
 use Rattle.elf_loader.specs.declared.header.ProgramHeader.{ProgramHeader}
 use Rattle.byteorder.specs.Endian.{little_number}
 
@@ -86,3 +86,13 @@ text_of file = segment_at file (segments_at file)
 -- the conditions on the one program header
 abbrev pub has_text : List ℕ → Bool
 has_text file = is_text file (text_of file) && is_placed (text_of file) && has_entry (header_entry file) (text_of file)
+
+-- what the conditions give of the load
+pub record IsLoadable (file : List ℕ) (s : ProgramHeader) : Type 0 where
+  pub flags : s.flags ≡ 5
+  pub whole : s.memory_size ≡ s.file_size
+  pub some : 0 < s.file_size
+  pub inside : s.offset + s.file_size ≤ length file
+  pub low : s.address + s.memory_size ≤ 2 ^ 47
+  pub private : (s.address + s.memory_size ≤ 0x7DFFFFFC0000) ⊎ (0x7F0000001000 ≤ s.address)
+  pub few : pages_touched s ≤ 4032

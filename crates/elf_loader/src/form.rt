@@ -1,6 +1,6 @@
 //! The conditions on a file, each of which tells its fault.
-ghost use Rattle.std.specs.Prelude.{◌≡◌, ◌≤◌, ◌+◌, ◌*◌, ◌^◌, length, true, OnOk, IfOk, MatchOption, false, nat_le};
-ghost use Rattle.elf_loader.specs.Header.{segments_at, has_length, has_header, is_text, is_private, pages_touched, is_placed, has_entry, has_text, header_entry, text_of};
+ghost use Rattle.std.specs.Prelude.{◌≡◌, ◌≤◌, ◌+◌, ◌*◌, ◌^◌, length, true, IfSome, MatchOption, false, nat_le, ◌<◌, ◌⊎◌};
+ghost use Rattle.elf_loader.specs.Header.{segments_at, has_length, has_header, is_text, is_private, pages_touched, is_placed, has_entry, has_text, header_entry, text_of, IsLoadable};
 
 use crate::header::{ProgramHeader, is_elf_file, read_program_header, u16_at, u64_at};
 
@@ -47,7 +47,10 @@ fn is_inside(at: u64, count: u64, size: usize) -> bool
 #[tactic(auto, unfolding(crate::specs::Header::is_text))]
 fn check_text(file: &[u8], s: &ProgramHeader) -> bool
     ensures value { result ≡ is_text file.now s.now }
-    ensures some { result ≡ true → 1 ≤ s.now.memory_size }
+    ensures flags { result ≡ true → s.now.flags ≡ 5 }
+    ensures whole { result ≡ true → s.now.memory_size ≡ s.now.file_size }
+    ensures some { result ≡ true → 0 < s.now.file_size }
+    ensures inside { result ≡ true → s.now.offset + s.now.file_size ≤ length file.now }
 {
     s.kind == 1
         && s.flags == 5
@@ -60,9 +63,11 @@ fn check_text(file: &[u8], s: &ProgramHeader) -> bool
 /// Tells whether the load is aligned, low and private, on few pages.
 #[tactic(auto, unfolding(crate::specs::Header::is_placed))]
 fn check_place(s: &ProgramHeader) -> bool
-    requires { 1 ≤ s.now.memory_size }
+    requires { 0 < s.now.memory_size }
     ensures value { result ≡ is_placed s.now }
     ensures low { result ≡ true → s.now.address + s.now.memory_size ≤ 2 ^ 47 }
+    ensures private { result ≡ true → (s.now.address + s.now.memory_size ≤ 0x7DFFFFFC0000) ⊎ (0x7F0000001000 ≤ s.now.address) }
+    ensures few { result ≡ true → pages_touched s.now ≤ 4032 }
 {
     match s.address.checked_add(s.memory_size) {
         Some(end) => {
@@ -88,7 +93,8 @@ fn check_entry(entry: u64, s: &ProgramHeader) -> bool
 pub fn read_text(file: &[u8]) -> Option<ProgramHeader>
     requires length { 64 ≤ length file.now }
     requires inside { segments_at file.now + 56 ≤ length file.now }
-    ensures { MatchOption result (has_text file.now ≡ false) (λ s. (has_text file.now ≡ true) × (s ≡ text_of file.now)) }
+    ensures found { MatchOption result (has_text file.now ≡ false) (λ s. (has_text file.now ≡ true) × (s ≡ text_of file.now)) }
+    ensures loadable { IfSome result (IsLoadable file.now) }
 {
     let s = read_program_header(file, u64_at(file, 32) as usize);
     if check_text(file, &s) && check_place(&s) && check_entry(u64_at(file, 24), &s) {

@@ -6,7 +6,7 @@
 mod fault;
 mod form;
 mod header;
-mod load;
+mod loader;
 
 pub use fault::LoadFault;
-pub use load::load;
+pub use loader::load;

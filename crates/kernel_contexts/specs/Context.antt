@@ -36,18 +36,18 @@ thread_of c = c.thread
 abbrev pub stop_of : Context → Option Stop
 stop_of c = c.stop
 
--- the answer and the context after a turn are those of the thread's turn; want of memory changes nothing
-abbrev pub Turns : TurnEnd → Context → Context → Turn → Type 0
+-- the answer and the context after a turn of a thread that had not stopped are those of the turn; want of memory changes nothing
+abbrev pub Turns : TurnEnd → State → Context → Turn → Type 0
 Turns end old new Ran = (end ≡ Goes (state_of new)) × (stop_of new ≡ None)
 Turns end old new (Stopped stop) = (end ≡ Ends (state_of new) stop) × (stop_of new ≡ Some stop)
-Turns end old new Memory = (state_of new ≡ state_of old) × (stop_of new ≡ stop_of old)
+Turns end old new Memory = (state_of new ≡ old) × (stop_of new ≡ None)
 
 -- a context that is stopped answers its stop and stays as it is
 abbrev pub Stays : Stop → Context → Context → Turn → Type 0
 Stays stop old new turn = (turn ≡ Stopped stop) × (state_of new ≡ state_of old) × (stop_of new ≡ Some stop)
 
 abbrev pub TurnsOrStays : Option Stop → Context → Context → Turn → Type 0
-TurnsOrStays None old new turn = Turns (turn_of (config_of old) (state_of old)) old new turn
+TurnsOrStays None old new turn = Turns (turn_of (config_of old) (state_of old)) (state_of old) new turn
 TurnsOrStays (Some stop) old new turn = Stays stop old new turn
 
 -- the options, the thread and the image of a context are those of its start

@@ -36,6 +36,7 @@ pub struct Context {
 }
 
 /// The registers of a thread before its first turn.
+#[tactic(auto, unfolding(crate::specs::State::start_scalars))]
 fn start_registers(entry: u64, thread: u32, threads: u32) -> Scalars
     ensures { result ≡ start_scalars entry thread threads }
 {
@@ -60,6 +61,7 @@ impl Context {
     ghost use Rattle.kernel_contexts.specs.Context.{state_of, config_of, thread_of, stop_of, machine_of, Turns, TurnsOrStays, IsSameThread};
 
     /// A thread before its first turn, with its pages taken at once.
+    #[tactic(auto, unfolding(crate::specs::State::start_state))]
     pub fn start(alloc: Global, image: &Image, config: &Config, thread: u32) -> Result<Context, Memory>
         requires { thread < config.now.threads }
         ensures state { IfOk result (λ c. state_of c ≡ start_state image.now config.now thread) }
@@ -104,7 +106,7 @@ impl Context {
     /// Makes one turn of a thread that has not stopped.
     fn make_turn(&mut self) -> Turn
         requires { stop_of self.old ≡ None }
-        ensures turn { Turns (turn_of (config_of self.old) (state_of self.old)) self.old self.new result }
+        ensures turn { Turns (turn_of (config_of self.old) (state_of self.old)) (state_of self.old) self.new result }
         ensures same { IsSameThread self.old self.new }
     {
         if self.count == self.config.budget {

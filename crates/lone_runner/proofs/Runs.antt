@@ -1,5 +1,5 @@
 -- How a run goes on by one turn, and that it ends at most once.
-use Rattle.std.proofs.Common.{◌≡◌, ℕ, zero, suc, ◌+◌, List, [], refl, ap, sym, ◌∙◌, arith, add-one}
+use Rattle.std.proofs.Common.{◌≡◌, Option, Some, None, ℕ, zero, suc, ◌+◌, List, [], refl, ap, sym, ◌∙◌, arith, add-one}
 use Rattle.sm_types.specs.declared.config.Config.{Config}
 use Rattle.sm_types.specs.declared.shared_op.Event.{Event}
 use Rattle.sm_types.specs.declared.stop.Stop.{Stop}
@@ -8,6 +8,9 @@ use Rattle.kernel_contexts.specs.State.{State, start_state}
 use Rattle.kernel_contexts.specs.Call.{TurnEnd, Goes, Ends}
 use Rattle.kernel_contexts.specs.Turn.{turn_of}
 use Rattle.kernel_contexts.specs.Run.{Reached, At, Ended, turned, after_turn, reach_from, reach}
+use Rattle.kernel_contexts.specs.Context.{state_of, config_of, stop_of, TurnsOrStays}
+use Rattle.kernel_contexts.specs.declared.context.Context.{Context}
+use Rattle.kernel_contexts.specs.declared.context.Turn.TheVariants.{Ran, Stopped}
 use Rattle.lone_runner.specs.LoneRun.{EndsFrom, IsLoneRun}
 
 -- a thread has made some turns from a state, and goes on
@@ -30,9 +33,12 @@ under_way_on config from now new h is = record { turns = suc h.turns; at = next 
 pub under_way_ends : (config : Config) (from now new : State) (stop : Stop) → IsUnderWay config from now → turn_of config now ≡ Ends new stop → EndsFrom config from [] new stop
 under_way_ends config from now new stop h is = record { turns = suc h.turns; ends = next config from now h.turns (Ends new stop) h.at is }
 
-pub lone_run : (program : Program) (config : Config) (thread : ℕ) (from to : State) (stop : Stop) → from ≡ start_state program config thread → EndsFrom config from [] to stop → IsLoneRun program config thread [] to stop
+pub lone_run : (program : Program) (config : Config) (thread : ℕ) (given : Config) (from to : State) (stop : Stop) → given ≡ config → from ≡ start_state program config thread → EndsFrom given from [] to stop → IsLoneRun program config thread [] to stop
 unfolding reach
-lone_run program config thread from to stop e h = record { turns = h.turns; ends = ap (λ s. reach_from config s [] h.turns) (sym e) ∙ h.ends }
+lone_run program config thread given from to stop same e h = record {
+  turns = h.turns;
+  ends = ap (λ k. reach_from k (start_state program config thread) [] h.turns) (sym same) ∙ ap (λ s. reach_from given s [] h.turns) (sym e) ∙ h.ends;
+}
 
 stays : (config : Config) (from s : State) (stop : Stop) (journal left : List Event) (m k : ℕ) → reach_from config from journal m ≡ Ended s stop left → reach_from config from journal (m + k) ≡ Ended s stop left
 unfolding reach_from
@@ -59,3 +65,16 @@ one_state program config thread journal s t p q h k = same_state s t p q (both_e
 pub one_stop : (program : Program) (config : Config) (thread : ℕ) (journal : List Event) (s t : State) (p q : Stop) → IsLoneRun program config thread journal s p → IsLoneRun program config thread journal t q → p ≡ q
 unfolding reach
 one_stop program config thread journal s t p q h k = same_stop s t p q (both_end config (start_state program config thread) s t p q journal h.turns k.turns h.ends k.ends)
+
+-- what a turn of a context that had not stopped says of the plain state
+pub ran : (config : Config) (old new : Context) (stop : Option Stop) → stop ≡ None → config_of old ≡ config → TurnsOrStays stop old new Ran → turn_of config (state_of old) ≡ Goes (state_of new)
+ran config old new None e same h = ap (λ k. turn_of k (state_of old)) (sym same) ∙ h.0
+ran config old new (Some stop) e same h = cc
+
+pub stopped : (config : Config) (old new : Context) (stop : Option Stop) (why : Stop) → stop ≡ None → config_of old ≡ config → TurnsOrStays stop old new (Stopped why) → turn_of config (state_of old) ≡ Ends (state_of new) why
+stopped config old new None why e same h = ap (λ k. turn_of k (state_of old)) (sym same) ∙ h.0
+stopped config old new (Some stop) why e same h = cc
+
+pub runs_on : (old new : Context) (stop : Option Stop) → stop ≡ None → TurnsOrStays stop old new Ran → stop_of new ≡ None
+runs_on old new None e h = h.1
+runs_on old new (Some stop) e h = cc

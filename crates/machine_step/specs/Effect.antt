@@ -1,8 +1,7 @@
 -- One instruction: its first fault, and what it does where it has none. Source: DDI 0487, D1.3 (exceptions, in their order), C6.2.
 use Rattle.std.specs.Prelude.{ℕ, ◌%◌, ◌==◌, cond, List, [], ◌∷◌, Option, Some, None, option_and_then}
 use Rattle.sm_types.specs.declared.insn.Insn.{Insn}
-use Rattle.sm_types.specs.declared.insn.Insn.TheVariants.{AddSubImmediate, MoveWide, Branch, System}
-use Rattle.sm_types.specs.declared.insn.System.{System}
+use Rattle.sm_types.specs.declared.insn.Insn.TheVariants as insn
 use Rattle.sm_types.specs.declared.insn.System.TheVariants.{Svc}
 use Rattle.sm_types.specs.declared.stop.Exception.{Exception}
 use Rattle.sm_types.specs.declared.stop.Exception.TheVariants.{Undefined, PcAlign, Fetch}
@@ -31,7 +30,7 @@ fetch_fault (Some word) = None
 -- a row of the table matches and fits the word
 abbrev pub row_fault : ℕ → Option Insn → Option Exception
 row_fault word None = Some (Undefined word)
-row_fault word (Some insn) = None
+row_fault word (Some it) = None
 
 abbrev pub undefined_fault : Option ℕ → Option Exception
 undefined_fault None = None
@@ -56,14 +55,14 @@ pub data Effect : Type 0 where
 
 -- what the instruction does where it has no fault
 abbrev pub next_of : Insn → Core → Effect
-next_of (AddSubImmediate x) s = Becomes (record s { scalars = add_sub_immediate x.op x s.scalars })
-next_of (MoveWide x) s = Becomes (record s { scalars = move_wide x s.scalars })
-next_of (Branch x) s = Becomes (record s { scalars = branch x s.scalars })
-next_of (System (Svc imm)) s = Calls imm
+next_of (insn.AddSubImmediate x) s = Becomes (record s { scalars = add_sub_immediate x.op x s.scalars })
+next_of (insn.MoveWide x) s = Becomes (record s { scalars = move_wide x s.scalars })
+next_of (insn.Branch x) s = Becomes (record s { scalars = branch x s.scalars })
+next_of (insn.System (Svc imm)) s = Calls imm
 
 -- where there is no fault there is an instruction
 abbrev pub perform : Option Insn → Core → Effect
-perform (Some insn) s = next_of insn s
+perform (Some it) s = next_of it s
 perform None s = Raises Fetch
 
 abbrev pub unless_fault : Option Exception → Core → Effect

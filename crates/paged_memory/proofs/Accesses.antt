@@ -1,5 +1,5 @@
 -- Accesses to some bytes, one after another.
-use Rattle.std.proofs.Common.{◌⊎◌, inl, inr, ◌≡◌, ℕ, zero, suc, ◌+◌, ◌%◌, ◌^◌, ◌<◌, ◌≤◌, List, [], ◌∷◌, ◌++◌, length, refl, ap, sym, ◌∙◌, arith, Option, Some, None, add-one, append_assoc}
+use Rattle.std.proofs.Common.{◌⊎◌, inl, inr, ◌≡◌, ℕ, zero, suc, ◌+◌, ◌%◌, ◌^◌, ◌<◌, ◌≤◌, List, [], ◌∷◌, ◌++◌, refl, ap, sym, ◌∙◌, arith, Option, Some, None, add-one, append_assoc}
 use Rattle.std.specs.Prelude.{IsSome}
 use Rattle.std.proofs.lemmas.List.{append-nil}
 use Rattle.paged_memory.specs.Memory.{Memory, byte_with, bytes_with, and_byte, or_else, unless_there, first_without}
@@ -40,6 +40,7 @@ bytes_with-zero need m a = refl
 pub first_without-zero : (need : ℕ) (m : Memory) (a : ℕ) → first_without need m a 0 ≡ None
 unfolding first_without
 first_without-zero need m a = refl
+
 -- two runs of bytes, one after the other, where there are both
 abbrev pub joined : Option (List ℕ) → Option (List ℕ) → Option (List ℕ)
 joined None later = None

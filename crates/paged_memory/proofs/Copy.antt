@@ -1,16 +1,15 @@
 -- Pages one after another, in order.
-use Rattle.std.proofs.Common.{◌≡◌, ◌≢◌, ℕ, zero, suc, ◌+◌, ◌^◌, ◌<◌, ◌≤◌, Bool, true, false, List, [], ◌∷◌, ◌++◌, length, get_or, take, refl, ap, sym, ◌∙◌, arith, None, option_map}
-use Rattle.std.specs.Prelude.{◌&&◌, map}
+use Rattle.std.proofs.Common.{◌≡◌, ◌≢◌, ℕ, zero, suc, ◌+◌, ◌^◌, ◌<◌, true, List, [], ◌∷◌, ◌++◌, length, get_or, take, refl, ap, sym, ◌∙◌, arith, None, option_map}
+use Rattle.std.specs.Prelude.{map}
 use Rattle.std.specs.List.{insert}
 use Rattle.std.specs.FinMap.{get}
 use Rattle.std.specs.FinMap.Entries.{below_all, is_sorted}
 use Rattle.std.specs.Ordering.{nat_cmp}
-use Rattle.std.proofs.lemmas.Grind.{common_steps}
 use Rattle.std.proofs.lemmas.List.{take_more, get_or-take, length-take-le}
 use Rattle.std.proofs.lemmas.List.Edits.{insert_end}
 use Rattle.std.proofs.lemmas.List.Elements.{All-take}
 use Rattle.paged_memory.specs.declared.page.Page.{Page}
-use Rattle.paged_memory.specs.Memory.{Memory, with_page}
+use Rattle.paged_memory.specs.Memory.{with_page}
 use Rattle.paged_memory.specs.Pages.{page_entry, page_at, perm_of, memory_of, IsFine}
 use Rattle.paged_memory.proofs.Bytes.{get-perm_of}
 use Rattle.paged_memory.proofs.Order.{and_first, and_second, and_both, page_at-none, numbers_rise}
@@ -41,11 +40,11 @@ pub missing_before : (ps : List Page) (i : ℕ) (p : Page) → IsFine ps → i <
 missing_before ps i p fine l is =
     let long : length (take i ps) ≡ i = length-take-le i ps (omega arith) in
     let none : page_at (take i ps) p.number ≡ None = page_at-none (take i ps) p.number (λ k d m.
-        let inside : k < i = rw long at m in
-        let rise : (get_or ps k d).number < (get_or ps i p).number = numbers_rise ps k i d p fine.sorted inside l in
-        let same : (get_or ps i p).number ≡ p.number = ap (λ x. x.number) (sym is) in
-        let before : (get_or ps k d).number < p.number = omega arith in
-        rw (get_or-take i ps k d inside) (rises_apart _ p.number before)) in
+    let inside : k < i = rw long at m in
+    let rise : (get_or ps k d).number < (get_or ps i p).number = numbers_rise ps k i d p fine.sorted inside l in
+    let same : (get_or ps i p).number ≡ p.number = ap (λ x. x.number) (sym is) in
+    let before : (get_or ps k d).number < p.number = omega arith in
+    rw (get_or-take i ps k d inside) (rises_apart _ p.number before)) in
     get-perm_of (take i ps) p.number ∙ ap (option_map (λ x. x.flags)) none
 
 -- one more of them

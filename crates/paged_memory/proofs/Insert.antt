@@ -1,8 +1,7 @@
 -- One more page, at its place.
-use Rattle.std.proofs.Common.{◌≡◌, ℕ, zero, suc, ◌+◌, ◌*◌, ◌/◌, ◌%◌, ◌^◌, ◌<◌, ◌≤◌, Bool, true, false, cond, List, [], ◌∷◌, ◌++◌, length, get_or, take, drop, refl, ap, sym, ◌∙◌, arith, Option, Some, None, slice_get, option_map, All}
-use Rattle.std.specs.Prelude.{◌==◌, ◌&&◌, map}
+use Rattle.std.proofs.Common.{◌≡◌, ℕ, zero, suc, ◌*◌, ◌/◌, ◌%◌, ◌^◌, ◌<◌, ◌≤◌, true, false, cond, List, [], ◌∷◌, length, get_or, take, drop, refl, ap, sym, ◌∙◌, arith, Option, Some, None, slice_get, option_map, All}
+use Rattle.std.specs.Prelude.{◌==◌, map}
 use Rattle.std.specs.List.{insert}
-use Rattle.std.specs.FinMap as map
 use Rattle.std.specs.FinMap.{get, get-insert, same_map, nat_cmp-IsAntisymmetric}
 use Rattle.std.specs.FinMap.Entries.{below_all, is_sorted}
 use Rattle.std.specs.Cmp.{nat_cmp_total}
@@ -10,8 +9,8 @@ use Rattle.std.specs.Ordering.{nat_cmp, is_lt}
 use Rattle.std.proofs.lemmas.Bool.Decides.{nat_tests}
 use Rattle.std.proofs.lemmas.List.Elements.{recursion_from_All, All-append, All-cons, All-take, All-drop}
 use Rattle.paged_memory.specs.declared.page.Page.{Page}
-use Rattle.paged_memory.specs.Memory.{Memory, with_page, set_bytes}
-use Rattle.paged_memory.specs.Pages.{page_entry, page_at, mem_of, perm_of, memory_of, IsFine}
+use Rattle.paged_memory.specs.Memory.{Memory, with_page}
+use Rattle.paged_memory.specs.Pages.{page_entry, page_at, perm_of, memory_of, IsFine}
 use Rattle.paged_memory.proofs.Over.{over, eq_by_cmp-nat, get-set_bytes}
 use Rattle.paged_memory.proofs.Bytes.{bind, get-perm_of, get-mem_of, get_mem_step, get_perm_step}
 use Rattle.paged_memory.proofs.Order.{and_first, and_second, and_both}
@@ -64,7 +63,7 @@ sorted-insert ps zero p h l below above = and_both _ _ (below_all-pages p.number
 sorted-insert [] (suc i) p h l below above = absurd (omega arith)
 sorted-insert (e ∷ ps) (suc i) p h l below above =
     and_both _ _ (below_all-insert e.number ps i p (and_first _ _ h) (number_less e.number p.number (below 0 e (omega arith))))
-      (sorted-insert ps i p (and_second _ _ h) (omega arith) (λ k d m. below (suc k) d (omega arith)) (λ k d m n. above (suc k) d (omega arith) (omega arith)))
+    (sorted-insert ps i p (and_second _ _ h) (omega arith) (λ k d m. below (suc k) d (omega arith)) (λ k d m n. above (suc k) d (omega arith) (omega arith)))
 
 -- a page with the number is found, so where none is, each has another
 page_at-there : (ps : List Page) (k : ℕ) (d : Page) (n : ℕ) → k < length ps → page_at ps n ≡ None → (get_or ps k d).number ≡ n → ⊥
@@ -106,10 +105,10 @@ pub memory_of-insert : (ps : List Page) (i : ℕ) (p : Page) → IsFine ps → I
 memory_of-insert ps i p fine fine' whole low missing =
     let none : page_at ps p.number ≡ None = page_absent ps p.number missing in
     same_memory _ _
-      (λ a.
-        get-mem_of (insert ps i p) a (recursion_from_All (λ x. length x.bytes.items ≡ 4096) _ fine'.full) (recursion_from_All (λ x. x.number < 2 ^ 51) _ fine'.low)
-        ∙ ap (λ o. bind o (λ x. slice_get x.bytes.items (a % 4096))) (page_at-insert ps i p (a / 4096) none)
-        ∙ sym (mem-with_page (memory_of ps) p.number p.flags p.bytes.items a whole low ∙ get_mem_step p (page_at ps (a / 4096)) a _ whole (get-mem_of ps a (recursion_from_All (λ x. length x.bytes.items ≡ 4096) ps fine.full) (recursion_from_All (λ x. x.number < 2 ^ 51) ps fine.low))))
-      (λ q.
-        get-perm_of (insert ps i p) q ∙ ap (option_map (λ x. x.flags)) (page_at-insert ps i p q none) ∙ sym (get_perm_step (p.number == q) p (page_at ps q))
-        ∙ sym (perm-with_page (memory_of ps) p.number p.flags p.bytes.items q ∙ ap (cond (p.number == q) (Some p.flags)) (get-perm_of ps q)))
+    (λ a.
+    get-mem_of (insert ps i p) a (recursion_from_All (λ x. length x.bytes.items ≡ 4096) _ fine'.full) (recursion_from_All (λ x. x.number < 2 ^ 51) _ fine'.low)
+    ∙ ap (λ o. bind o (λ x. slice_get x.bytes.items (a % 4096))) (page_at-insert ps i p (a / 4096) none)
+    ∙ sym (mem-with_page (memory_of ps) p.number p.flags p.bytes.items a whole low ∙ get_mem_step p (page_at ps (a / 4096)) a _ whole (get-mem_of ps a (recursion_from_All (λ x. length x.bytes.items ≡ 4096) ps fine.full) (recursion_from_All (λ x. x.number < 2 ^ 51) ps fine.low))))
+    (λ q.
+    get-perm_of (insert ps i p) q ∙ ap (option_map (λ x. x.flags)) (page_at-insert ps i p q none) ∙ sym (get_perm_step (p.number == q) p (page_at ps q))
+    ∙ sym (perm-with_page (memory_of ps) p.number p.flags p.bytes.items q ∙ ap (cond (p.number == q) (Some p.flags)) (get-perm_of ps q)))

@@ -8,3 +8,7 @@ pub mod Shown
 pub mod Insert
 pub mod Copy
 pub mod Stack
+pub mod Set
+pub mod Touch
+pub mod Parts
+pub mod Count

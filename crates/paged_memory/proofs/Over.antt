@@ -1,7 +1,8 @@
 -- Bytes laid over others, from an address on.
-use Rattle.std.proofs.Common.{◌⊎◌, inl, inr, ◌≡◌, ◌≢◌, ℕ, zero, suc, ◌+◌, ◌-◌, ◌*◌, ◌/◌, ◌%◌, ◌^◌, ◌<◌, ◌≤◌, Bool, true, false, cond, List, [], ◌∷◌, ◌++◌, length, drop, take, refl, ap, sym, ◌∙◌, arith, Option, Some, None, slice_get}
+use Rattle.std.proofs.Common.{◌⊎◌, inl, inr, ◌≡◌, ◌≢◌, ℕ, zero, suc, ◌+◌, ◌-◌, ◌*◌, ◌/◌, ◌%◌, ◌^◌, ◌<◌, ◌≤◌, true, false, cond, List, [], ◌∷◌, ◌++◌, length, drop, take, refl, ap, sym, ◌∙◌, arith, Option, Some, slice_get}
 use Rattle.std.specs.Prelude.{◌==◌, ◌&&◌, nat_lt, nat_le}
 use Rattle.std.proofs.lemmas.Grind.{common_steps}
+use Rattle.std.proofs.lemmas.List.{take-append-drop, take-take, drop-take, length-take-le}
 use Rattle.std.proofs.lemmas.Bool.Decides.{nat_tests}
 use Rattle.std.specs.FinMap.{FinMap, get, insert, get-insert}
 use Rattle.std.specs.Cmp.{nat_cmp_total}
@@ -44,7 +45,6 @@ over-above start bs a old l = let e : (nat_le start a && nat_lt a (start + lengt
 pub low_or : (a b : ℕ) → (a < b) ⊎ (b ≤ a)
 low_or a b = grind arith
 
-
 pub eq_by_cmp-nat : (q k : ℕ) → eq_by_cmp nat_cmp q k ≡ (k == q)
 eq_by_cmp-nat q k = grind (arith, nat_tests)
 
@@ -84,6 +84,14 @@ get-set_bytes m a (b ∷ bs) q h =
     let low : a % 2 ^ 64 ≡ a = omega arith in
     let more : (a + 1) + length bs ≤ 2 ^ 64 = omega arith in
     rw (get-set_bytes (insert m (a % 2 ^ 64) b) (a + 1) bs q more, get-insert nat_cmp_total, eq_by_cmp-nat, low) (over-cons a b bs q (get m q))
+
+-- the same, where no bytes may lie anywhere
+pub get-set_bytes-low : (m : FinMap nat_cmp ℕ) (a : ℕ) (bs : List ℕ) (q : ℕ) → (0 < length bs → a + length bs < 2 ^ 64) → get (set_bytes m a bs) q ≡ over a bs q (get m q)
+unfolding set_bytes
+get-set_bytes-low m a [] q h = sym (elim (low_or q a) [ inl l ↦ over-below a [] q _ l | inr g ↦ over-above a [] q _ (omega arith) ])
+get-set_bytes-low m a (b ∷ bs) q h =
+    let low : a + length (b ∷ bs) < 2 ^ 64 = h (omega arith) in
+    get-set_bytes m a (b ∷ bs) q (omega arith)
 
 pub set_bytes-append : (m : FinMap nat_cmp ℕ) (a : ℕ) (bs cs : List ℕ) → set_bytes m a (bs ++ cs) ≡ set_bytes (set_bytes m a bs) (a + length bs) cs
 unfolding set_bytes
@@ -137,3 +145,20 @@ off_page n a bs old full e =
       | inl l ↦ over-below (4096 * n) bs a old (omega arith)
       | inr g ↦ over-above (4096 * n) bs a old (omega arith)
     ]
+
+take_add : (d n : ℕ) (bs : List ℕ) → take (d + n) bs ≡ take d bs ++ take n (drop d bs)
+take_add d n bs = sym (take-append-drop d (take (d + n) bs)) ∙ rw (take-take d (d + n) bs (omega arith), drop-take d n bs) refl
+
+pub set_bytes-none : (m : FinMap nat_cmp ℕ) (a : ℕ) → m ≡ set_bytes m a []
+unfolding set_bytes
+set_bytes-none m a = refl
+
+-- one more run of the bytes of a list
+pub set_bytes-more : (m now new : FinMap nat_cmp ℕ) (a d n : ℕ) (bs : List ℕ) → d ≤ length bs → now ≡ set_bytes m a (take d bs) → new ≡ set_bytes now (a + d) (take (d + n - d) (drop d bs)) → new ≡ set_bytes m a (take (d + n) bs)
+set_bytes-more m now new a d n bs inside before is =
+    let count : d + n - d ≡ n = omega arith in
+    let long : length (take d bs) ≡ d = length-take-le d bs inside in
+    let run : new ≡ set_bytes (set_bytes m a (take d bs)) (a + d) (take n (drop d bs)) = rw (count, before) at is in
+    let whole : set_bytes m a (take (d + n) bs) ≡ set_bytes (set_bytes m a (take d bs)) (a + d) (take n (drop d bs)) =
+    ap (set_bytes m a) (take_add d n bs) ∙ set_bytes-append m a (take d bs) (take n (drop d bs)) ∙ ap (λ k. set_bytes (set_bytes m a (take d bs)) (a + k) (take n (drop d bs))) long in
+    run ∙ sym whole

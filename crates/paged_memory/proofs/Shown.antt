@@ -1,11 +1,11 @@
 -- The pages as they are shown, in the order of their numbers.
-use Rattle.std.proofs.Common.{◌≡◌, ℕ, zero, suc, ◌+◌, ◌*◌, ◌/◌, ◌%◌, ◌^◌, ◌<◌, ◌≤◌, List, [], ◌∷◌, length, get_or, refl, ap, sym, ◌∙◌, arith, Some, slice_get}
+use Rattle.std.proofs.Common.{◌≡◌, ℕ, suc, ◌+◌, ◌*◌, ◌/◌, ◌%◌, ◌^◌, ◌<◌, List, [], ◌∷◌, length, get_or, refl, ap, sym, ◌∙◌, arith, Some, slice_get}
 use Rattle.std.proofs.lemmas.List.Elements.{recursion_from_All}
-use Rattle.std.specs.FinMap.{FinMap, get, entries, len}
+use Rattle.std.specs.FinMap.{FinMap, get, entries}
 use Rattle.std.specs.Ordering.{nat_cmp}
 use Rattle.paged_memory.specs.declared.page.Page.{Page}
 use Rattle.paged_memory.specs.Memory.{Memory, bytes_from}
-use Rattle.paged_memory.specs.Pages.{page_entry, mem_of, perm_of, memory_of, IsFine}
+use Rattle.paged_memory.specs.Pages.{page_entry, mem_of, memory_of, IsFine}
 use Rattle.paged_memory.proofs.Bytes.{get-mem_of}
 use Rattle.paged_memory.proofs.Order.{page_at-index, entries-perm_of, slice_get-entry}
 
@@ -22,10 +22,10 @@ page_bytes ps i d fine l =
     let p : Page = get_or ps i d in
     let full : length p.bytes.items ≡ 4096 = fine.full i d l in
     let all : bytes_from (mem_of ps) (p.number * 4096) (length p.bytes.items) ≡ p.bytes.items = bytes_from-list (mem_of ps) (p.number * 4096) p.bytes.items (λ k h.
-        let place : (p.number * 4096 + k) / 4096 ≡ p.number = omega arith in
-        let inside : (p.number * 4096 + k) % 4096 ≡ k = omega arith in
-        get-mem_of ps (p.number * 4096 + k) (recursion_from_All (λ x. length x.bytes.items ≡ 4096) ps fine.full) (recursion_from_All (λ x. x.number < 2 ^ 51) ps fine.low)
-        ∙ rw (place, inside, page_at-index ps i d fine.sorted l) refl) in
+    let place : (p.number * 4096 + k) / 4096 ≡ p.number = omega arith in
+    let inside : (p.number * 4096 + k) % 4096 ≡ k = omega arith in
+    get-mem_of ps (p.number * 4096 + k) (recursion_from_All (λ x. length x.bytes.items ≡ 4096) ps fine.full) (recursion_from_All (λ x. x.number < 2 ^ 51) ps fine.low)
+    ∙ rw (place, inside, page_at-index ps i d fine.sorted l) refl) in
     rw full at all
 
 pub entry_shown : (ps : List Page) (m : Memory) (i : ℕ) (p : Page) → IsFine ps → memory_of ps ≡ m → i < length ps → p ≡ get_or ps i p → slice_get (entries m.perm) i ≡ Some (p.number * 4096 / 4096, p.flags)

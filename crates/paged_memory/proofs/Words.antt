@@ -1,5 +1,5 @@
 -- The word of four bytes.
-use Rattle.std.proofs.Common.{◌≡◌, ◌≢◌, ℕ, suc, ◌+◌, ◌*◌, ◌^◌, List, [], ◌∷◌, length, slice_index, refl, ap, sym, ◌∙◌, arith, Option, Some, None, option_map}
+use Rattle.std.proofs.Common.{◌≡◌, ℕ, List, [], ◌∷◌, length, refl, ap, sym, ◌∙◌, arith, Some, None}
 use Rattle.std.specs.Int.{from_le_bytes, w32}
 use Rattle.paged_memory.specs.Memory.{Memory, bytes_with, little_number, word_at}
 

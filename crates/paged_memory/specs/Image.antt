@@ -1,5 +1,5 @@
 -- The image of a program: its memory, its entry and its code words. Source: ELF, program headers of type LOAD.
-use Rattle.std.specs.Prelude.{◌≡◌, ℕ, ◌+◌, ◌-◌, ◌*◌, ◌/◌, ◌<◌, ◌≤◌, ◌^◌, ◌⊎◌, cond, List, [], ◌∷◌, Option, Some, None, ◌&&◌, nat_lt, nat_le, length, slice_get, bit_or, refl, IsSome}
+use Rattle.std.specs.Prelude.{◌≡◌, ℕ, ◌+◌, ◌-◌, ◌/◌, ◌<◌, ◌≤◌, ◌^◌, ◌⊎◌, cond, List, [], ◌∷◌, Option, Some, None, ◌&&◌, nat_lt, nat_le, slice_get, bit_or, refl, IsSome}
 use Rattle.std.specs.FinMap.{get, len}
 use Rattle.std.specs.Coded.{Coded, code_by, coded×, coded_ℕ, coded_list}
 use Rattle.paged_memory.specs.Memory.{Memory, memory_code, or_else}

@@ -1,6 +1,6 @@
 -- The private memory of a guest thread: a byte at each address of its pages, and the permission of each page.
 -- Source: DDI 0487, D8 (translation granule of 4 KiB, permissions to read, write and execute), with addresses modulo 2 ^ 64.
-use Rattle.std.specs.Prelude.{◌≡◌, ℕ, zero, suc, ◌+◌, ◌*◌, ◌/◌, ◌%◌, ◌^◌, Bool, cond, List, [], ◌∷◌, ◌++◌, Option, Some, None, bit_and, ◌==◌, refl, option_map, replicate, unwrap_or}
+use Rattle.std.specs.Prelude.{ℕ, zero, suc, ◌+◌, ◌*◌, ◌/◌, ◌%◌, ◌^◌, Bool, cond, List, [], ◌∷◌, ◌++◌, Option, Some, None, bit_and, ◌==◌, refl, option_map, replicate, unwrap_or}
 use Rattle.std.specs.FinMap.{FinMap, get, insert, empty}
 use Rattle.std.specs.FinMap as map
 use Rattle.std.specs.Ordering.{nat_cmp}

@@ -1,5 +1,5 @@
 -- What a list of pages holds, by address and by number of page. Source: a page is 4096 bytes from its number times 4096 on.
-use Rattle.std.specs.Prelude.{◌≡◌, ℕ, ◌+◌, ◌*◌, ◌<◌, ◌^◌, true, cond, List, [], ◌∷◌, Option, Some, None, ◌==◌, length, All, map}
+use Rattle.std.specs.Prelude.{◌≡◌, ℕ, ◌*◌, ◌<◌, ◌^◌, true, cond, List, [], ◌∷◌, Option, Some, None, ◌==◌, length, All, map}
 use Rattle.std.specs.FinMap.{FinMap, insert, empty, is_sorted}
 use Rattle.std.specs.Ordering.{nat_cmp}
 use Rattle.paged_memory.specs.declared.page.Page.{Page}

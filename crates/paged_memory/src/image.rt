@@ -1,11 +1,11 @@
 //! The image of a program.
-ghost use Rattle.std.specs.Prelude.{◌≡◌, ℕ, ◌+◌, ◌-◌, ◌*◌, ◌/◌, ◌%◌, ◌^◌, ◌<◌, ◌≤◌, length, map, IfOk, OnOk, IsSome, Some, None};
+ghost use Rattle.std.specs.Prelude.{◌==◌, cond, All, ◌≡◌, ℕ, ◌+◌, ◌-◌, ◌*◌, ◌/◌, ◌%◌, ◌^◌, ◌<◌, ◌≤◌, length, map, IfOk, OnOk, IsSome, Some, None};
 ghost use Rattle.std.specs.FinMap.{get};
-ghost use Rattle.paged_memory.specs.Image.{IsMemoryOf, IsImage, extent_of};
-ghost use Rattle.paged_memory.specs.Parts.{ArePlaced};
-ghost use Rattle.paged_memory.specs.Pages.{memory_of, IsFine};
+ghost use Rattle.paged_memory.specs.Image.{IsMemoryOf, IsImage, extent_of, union, part_flags, image_flags};
+ghost use Rattle.paged_memory.specs.Parts.{ArePlaced, IsZero};
+ghost use Rattle.paged_memory.specs.Pages.{perm_of, memory_of, IsFine};
 
-use crate::page::{Page, copy_pages};
+use crate::page::{Page, add_page, copy_pages, find, put_bytes};
 use sm_types::Memory;
 use std::alloc::{AllocError, Global};
 use std::marker::Model;
@@ -88,7 +88,92 @@ impl Image {
 }
 
 /// The pages of parts.
-fn pages_of(alloc: Global, parts: &[Part<'_>]) -> Result<Vec<Page>, AllocError> {
-    let pages = Vec::new(alloc);
+fn pages_of(alloc: Global, parts: &[Part<'_>]) -> Result<Vec<Page>, AllocError>
+    requires { ArePlaced (map extent_of parts.now) }
+    ensures fine { IfOk result (λ pages. IsFine pages.items) }
+    ensures memory { IfOk result (λ pages. IsMemoryOf (map extent_of parts.now) (memory_of pages.items)) }
+{
+    let mut pages = touched_pages(alloc, parts)?;
+    put_parts(&mut pages, parts);
     Ok(pages)
+}
+
+/// The pages that parts touch, of zeros.
+fn touched_pages(alloc: Global, parts: &[Part<'_>]) -> Result<Vec<Page>, AllocError>
+    requires { All (λ e. 0 < e.size → e.address + e.size ≤ 2 ^ 62) (map extent_of parts.now) }
+    ensures fine { IfOk result (λ pages. IsFine pages.items) }
+    ensures zero { IfOk result (λ pages. IsZero (memory_of pages.items)) }
+    ensures flags { IfOk result (λ pages. (n : ℕ) → get (perm_of pages.items) n ≡ image_flags (map extent_of parts.now) n) }
+{
+    let mut pages = Vec::new(alloc);
+    let mut left = parts.len();
+    while left > 0 {
+        left -= 1;
+        touch_part(alloc, &mut pages, &parts[left])?;
+    }
+    Ok(pages)
+}
+
+/// Touches the pages of a part.
+fn touch_part(alloc: Global, pages: &mut Vec<Page>, part: &Part<'_>) -> Result<(), AllocError>
+    requires fine { IsFine pages.old.items }
+    requires zero { IsZero (memory_of pages.old.items) }
+    requires low { 0 < part.now.size → part.now.address + part.now.size ≤ 2 ^ 62 }
+    ensures fine { OnOk result (IsFine pages.new.items) }
+    ensures zero { OnOk result (IsZero (memory_of pages.new.items)) }
+    ensures flags { OnOk result ((n : ℕ) → get (perm_of pages.new.items) n ≡ union (part_flags (extent_of part.now) n) (get (perm_of pages.old.items) n)) }
+{
+    if part.size > 0 {
+        let last = (part.address + part.size - 1) / 4096;
+        for n in part.address / 4096..last + 1 {
+            touch(alloc, pages, n, part.flags)?;
+        }
+    }
+    Ok(())
+}
+
+/// Adds flags to the page of a number, which is made of zeros where there is none.
+fn touch(alloc: Global, pages: &mut Vec<Page>, number: u64, flags: u8) -> Result<(), AllocError>
+    requires fine { IsFine pages.old.items }
+    requires zero { IsZero (memory_of pages.old.items) }
+    requires low { number < 2 ^ 51 }
+    ensures fine { OnOk result (IsFine pages.new.items) }
+    ensures zero { OnOk result (IsZero (memory_of pages.new.items)) }
+    ensures flags { OnOk result ((n : ℕ) → get (perm_of pages.new.items) n ≡ cond (number == n) (union (Some flags) (get (perm_of pages.old.items) n)) (get (perm_of pages.old.items) n)) }
+{
+    match find(pages.as_slice(), number) {
+        Some(i) => {
+            let page = &mut pages[i];
+            page.flags = flags | page.flags;
+        }
+        None => {
+            let bytes = vec![in alloc; 0u8; 4096]?;
+            add_page(
+                pages,
+                Page {
+                    number,
+                    flags,
+                    bytes,
+                },
+            )?;
+        }
+    }
+    Ok(())
+}
+
+/// Sets the bytes of parts, in pages of zeros that are there.
+fn put_parts(pages: &mut Vec<Page>, parts: &[Part<'_>])
+    requires fine { IsFine pages.old.items }
+    requires zero { IsZero (memory_of pages.old.items) }
+    requires flags { (n : ℕ) → get (perm_of pages.old.items) n ≡ image_flags (map extent_of parts.now) n }
+    requires parts { ArePlaced (map extent_of parts.now) }
+    ensures fine { IsFine pages.new.items }
+    ensures memory { IsMemoryOf (map extent_of parts.now) (memory_of pages.new.items) }
+{
+    let mut left = parts.len();
+    while left > 0 {
+        left -= 1;
+        let part = &parts[left];
+        put_bytes(pages, part.address, part.bytes);
+    }
 }

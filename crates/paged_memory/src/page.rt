@@ -1,8 +1,9 @@
 //! Pages, and lists of them in the order of their numbers.
-ghost use Rattle.std.specs.Prelude.{◌≡◌, ℕ, ◌+◌, ◌*◌, ◌/◌, ◌%◌, ◌^◌, ◌<◌, ◌≤◌, ◌==◌, cond, length, get_or, slice_get, MatchOption, IfSome, IfNone, IsSome, IfOk, OnOk, OnErr, Some, None, bit_or};
+ghost use Rattle.std.specs.Prelude.{◌≡◌, ℕ, ◌+◌, ◌*◌, ◌/◌, ◌%◌, ◌^◌, ◌<◌, ◌≤◌, ◌++◌, take, drop, length, get_or, slice_get, MatchOption, IfSome, IfNone, IsSome, IfOk, OnOk, OnErr, Some, None, bit_or};
 ghost use Rattle.std.specs.FinMap.{get};
 ghost use Rattle.paged_memory.specs.declared.page.Page.{Page};
-ghost use Rattle.paged_memory.specs.Memory.{with_page, byte_with, bytes_with};
+ghost use Rattle.paged_memory.specs.Memory.{with_page, byte_with, bytes_with, set_bytes};
+ghost use Rattle.paged_memory.specs.Parts.{IsMapped};
 ghost use Rattle.paged_memory.specs.Pages.{page_at, mem_of, perm_of, memory_of, IsFine};
 
 use std::alloc::{AllocError, Global};
@@ -106,4 +107,50 @@ pub fn copy_pages(alloc: Global, pages: &[Page]) -> Result<Vec<Page>, AllocError
         add_page(&mut copies, copy)?;
     }
     Ok(copies)
+}
+
+/// Sets a run of bytes.
+fn set_run(into: &mut [u8], at: usize, bytes: &[u8])
+    requires { at + length bytes.now ≤ length into.old }
+    ensures count { length into.new ≡ length into.old }
+    ensures value { into.new ≡ take at into.old ++ (bytes.now ++ drop (at + length bytes.now) into.old) }
+{
+    into[at..at + bytes.len()].copy_from_slice(bytes);
+}
+
+/// Sets a run of bytes within one page, which is there.
+pub fn put_run(pages: &mut Vec<Page>, address: u64, bytes: &[u8])
+    requires fine { IsFine pages.old.items }
+    requires fits { address % 4096 + length bytes.now ≤ 4096 }
+    requires there { IsSome (get (perm_of pages.old.items) (address / 4096)) }
+    ensures fine { IsFine pages.new.items }
+    ensures bytes { mem_of pages.new.items ≡ set_bytes (mem_of pages.old.items) address bytes.now }
+    ensures flags { perm_of pages.new.items ≡ perm_of pages.old.items }
+{
+    match find(pages.as_slice(), address / 4096) {
+        Some(i) => {
+            let page = &mut pages[i];
+            set_run(page.bytes.as_mut_slice(), (address % 4096) as usize, bytes);
+        }
+        None => unreachable!(),
+    }
+}
+
+/// Sets bytes, run by run, in pages that are there.
+pub fn put_bytes(pages: &mut Vec<Page>, address: u64, bytes: &[u8])
+    requires fine { IsFine pages.old.items }
+    requires low { 0 < length bytes.now → address + length bytes.now < 2 ^ 64 }
+    requires there { IsMapped (memory_of pages.old.items) address (length bytes.now) }
+    ensures fine { IsFine pages.new.items }
+    ensures bytes { mem_of pages.new.items ≡ set_bytes (mem_of pages.old.items) address bytes.now }
+    ensures flags { perm_of pages.new.items ≡ perm_of pages.old.items }
+{
+    let mut done = 0;
+    while done < bytes.len() {
+        let at = address + done as u64;
+        let room = (4096 - at % 4096) as usize;
+        let count = room.min(bytes.len() - done);
+        put_run(pages, at, &bytes[done..done + count]);
+        done += count;
+    }
 }

@@ -1,5 +1,5 @@
 //! The pages of a guest thread.
-ghost use Rattle.std.specs.Prelude.{◌≡◌, ℕ, ◌+◌, ◌*◌, ◌/◌, ◌%◌, ◌^◌, ◌<◌, ◌≤◌, ◌↔◌, length, slice_get, IsSome, IfSome, IfNone, IfOk, IfErr, OnOk, Some, None};
+ghost use Rattle.std.specs.Prelude.{◌≡◌, ℕ, ◌+◌, ◌*◌, ◌/◌, ◌%◌, ◌^◌, ◌<◌, ◌≤◌, ◌↔◌, length, slice_get, IsSome, IfSome, IfNone, IfOk, IfErr, OnOk, OnErr, Some, None};
 ghost use Rattle.std.specs.FinMap.{get, entries, len};
 ghost use Rattle.paged_memory.specs.Memory.{with_stack, with_zero_pages, no_memory, bytes_from, byte_with, bytes_with, first_without, word_at};
 ghost use Rattle.paged_memory.specs.Pages.{perm_of, memory_of, IsFine};
@@ -62,6 +62,7 @@ impl Pages {
         ensures ok { OnOk result (bytes_with 4 self.now address (length into.old) ≡ Some into.new) }
         ensures abort { IfErr result (λ e. first_without 4 self.now address (length into.old) ≡ Some e.address) }
         ensures access { IfErr result (λ e. e.access ≡ Access.Read) }
+        ensures refused { OnErr result (bytes_with 4 self.now address (length into.old) ≡ None) }
     {
         match copy_out(self.pages.as_slice(), address, 4, into) {
             None => Ok(()),
@@ -175,4 +176,77 @@ fn add_stack(alloc: Global, pages: &mut Vec<Page>) -> Result<(), AllocError>
         add_page(pages, page)?;
     }
     Ok(())
+}
+
+#[cfg(test)]
+mod tests {
+    use super::*;
+    use crate::image::Part;
+
+    /// An image of twelve bytes at 0x400000: `movz x0, #3`, `movz x8, #0`, `svc #0`, and its pages with the stack.
+    fn thread_pages(alloc: Global) -> Result<Pages, Memory> {
+        let bytes = [
+            0x60, 0x00, 0x80, 0xd2, 0x08, 0x00, 0x80, 0xd2, 0x01, 0x00, 0x00, 0xd4,
+        ];
+        let part = Part {
+            address: 0x400000,
+            size: 12,
+            flags: 5,
+            bytes: &bytes,
+        };
+        let image = Image::new(alloc, &[part], 0x400000, &[])?;
+        Pages::from_image(alloc, &image)
+    }
+
+    #[test]
+    fn words_are_fetched_from_executable_pages(rt: HostRuntime) {
+        let pages = thread_pages(rt.alloc()).expect(&rt, "memory");
+        for (pc, word) in [
+            (0x400000, Some(0xd2800060)),
+            (0x400008, Some(0xd4000001)),
+            (0x400001, Some(0x08d28000)),
+            (0x40000c, Some(0)),
+            (0x400ffe, None),
+            (0x3ffffe, None),
+            (0x401000, None),
+            (0x7dfffffff000, None),
+            (0xffffffffffffffff, None),
+        ] {
+            assert_eq!(rt; pages.fetch(pc), word, "at {pc}");
+        }
+    }
+
+    #[test]
+    fn bytes_are_read_up_to_the_first_that_may_not_be(rt: HostRuntime) {
+        let pages = thread_pages(rt.alloc()).expect(&rt, "memory");
+        let mut four = [9; 4];
+        assert_eq!(rt; pages.read(0x400004, &mut four), Ok(()));
+        assert_eq!(rt; four, [0x08, 0x00, 0x80, 0xd2]);
+        let abort = Abort {
+            address: 0x401000,
+            access: Access::Read,
+        };
+        assert_eq!(rt; pages.read(0x400ffe, &mut four), Err(abort));
+        let mut many = [9; 5000];
+        assert_eq!(rt; pages.read(0x7dfffffc0000, &mut many), Ok(()));
+        assert_eq!(rt; many[4999], 0);
+    }
+
+    #[test]
+    fn pages_are_shown_in_order(rt: HostRuntime) {
+        let pages = thread_pages(rt.alloc()).expect(&rt, "memory");
+        assert_eq!(rt; pages.page_count(), 65);
+        assert!(rt; pages.page(65).is_none());
+        let code = pages.page(0).expect(&rt, "the page of code");
+        assert_eq!(rt;
+            (code.address, code.flags, code.bytes.len()),
+            (0x400000, 5, 4096)
+        );
+        let stack = pages.page(64).expect(&rt, "the last page of the stack");
+        assert_eq!(rt;
+            (stack.address, stack.flags, stack.bytes.len()),
+            (0x7dfffffff000, 6, 4096)
+        );
+        assert!(rt; stack.bytes.iter().all(|b| *b == 0));
+    }
 }

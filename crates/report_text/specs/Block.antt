@@ -1,8 +1,7 @@
 -- The block of a guest thread in a report.
-use Rattle.std.specs.Prelude.{ℕ, zero, suc, ◌+◌, ◌*◌, ◌/◌, ◌++◌, ◌∷◌, [], List, cond, decimal, codes, take, drop, length}
+use Rattle.std.specs.Prelude.{ℕ, ◌+◌, ◌*◌, ◌++◌, ◌∷◌, [], List, cond, decimal, codes, length}
 use Rattle.std.specs.List.{concat}
 use Rattle.std.specs.FinMap.{entries}
-use Rattle.hex.specs.Hex.{encode_lower}
 use Rattle.sm_types.specs.declared.scalars.Scalars.{Scalars}
 use Rattle.sm_types.specs.declared.shared_op.Event.{Event}
 use Rattle.sm_types.specs.declared.stop.Stop.{Stop}
@@ -10,6 +9,7 @@ use Rattle.machine_step.specs.Core.{Core}
 use Rattle.kernel_contexts.specs.State.{State}
 use Rattle.report_text.specs.Lines.{hex64, number_line, hex_line, flag_line, digit, value_lines}
 use Rattle.report_text.specs.Words.{stop_line, kind_word}
+use Rattle.report_text.specs.Output.{output_text}
 use Rattle.report_text.specs.Bank.{bank_text}
 use Rattle.report_text.specs.Digest.{memory_line}
 
@@ -57,23 +57,6 @@ signal_text s = concat (
     ∷ flag_line (codes "polled") s.polled
     ∷ handler_lines (entries s.handlers)
     ∷ [])
-
--- a line of output
-unfoldable pub out_line : List ℕ → List ℕ
-out_line bytes = concat (codes "out " ∷ encode_lower bytes ∷ codes "\n" ∷ [])
-
--- so many lines of 32 bytes each, the last with the rest
-unfoldable pub out_lines : ℕ → List ℕ → List ℕ
-out_lines zero bytes = []
-out_lines (suc n) bytes = out_line (take 32 bytes) ++ out_lines n (drop 32 bytes)
-
--- how many lines so many bytes take
-abbrev pub line_count : ℕ → ℕ
-line_count n = (n + 31) / 32
-
--- what the thread has written
-unfoldable pub output_text : List ℕ → List ℕ
-output_text bytes = concat (number_line (codes "output") (length bytes) ∷ out_lines (line_count (length bytes)) bytes ∷ [])
 
 -- an event: the operation's kind, place and values, and its answer
 unfoldable pub event_line : Event → List ℕ

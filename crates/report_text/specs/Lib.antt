@@ -1,5 +1,7 @@
 pub mod Lines
 pub mod Words
+pub mod Header
+pub mod Output
 pub mod Bank
 pub mod Digest
 pub mod Block

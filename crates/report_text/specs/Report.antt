@@ -1,14 +1,13 @@
 -- A report: the options, the program's digest, a block for each guest thread, and the shared words.
-use Rattle.std.specs.Prelude.{ℕ, ◌++◌, ◌∷◌, [], List, decimal, codes, replicate}
+use Rattle.std.specs.Prelude.{ℕ, ◌++◌, ◌∷◌, [], List, codes, replicate}
 use Rattle.std.specs.List.{concat}
-use Rattle.hex.specs.Hex.{encode_lower}
-use Rattle.sm_types.specs.Length.{bits_of}
 use Rattle.sm_types.specs.declared.config.Config.{Config}
 use Rattle.sm_types.specs.declared.shared_op.Event.{Event}
 use Rattle.sm_types.specs.declared.stop.Stop.{Stop}
 use Rattle.kernel_contexts.specs.State.{State}
 use Rattle.report_text.specs.Lines.{value_lines}
 use Rattle.report_text.specs.Block.{block_text}
+use Rattle.report_text.specs.Header.{header_text}
 
 -- the end of a guest thread: its number, its state and stop, and its journal
 pub record ThreadEnd : Type 0 where
@@ -25,20 +24,6 @@ pub record SharedWords : Type 0 where
 -- 512 words and the pending signals of 32 threads, before the first operation
 unfoldable pub zero_words : SharedWords
 zero_words = record { shared = replicate 512 0; pending = replicate 32 0 }
-
--- the options; on the number of cores no report depends
-unfoldable pub options_line : Config → List ℕ
-options_line c = concat (
-    codes "options vl=" ∷ decimal (bits_of c.vl) ∷ codes " svl=" ∷ decimal (bits_of c.svl) ∷ codes " slice=" ∷ decimal c.slice
-    ∷ codes " budget=" ∷ decimal c.budget ∷ codes " threads=" ∷ decimal c.threads ∷ codes "\n" ∷ [])
-
--- the digest of the program's file
-unfoldable pub image_line : List ℕ → List ℕ
-image_line digest = concat (codes "image " ∷ encode_lower digest ∷ codes "\n" ∷ [])
-
--- the lines before the blocks
-unfoldable pub header_text : Config → List ℕ → List ℕ
-header_text config digest = concat (codes "smemu-report 1\n" ∷ options_line config ∷ image_line digest ∷ [])
 
 -- the blocks, in the order of the list
 unfoldable pub blocks_text : List ThreadEnd → List ℕ

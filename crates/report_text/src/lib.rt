@@ -1,2 +1,16 @@
-//! The text of a report, written piece by piece into a sink, with no memory taken.
+//! The text of a report, written piece by piece into a sink, with no memory taken: `write_block` writes the block
+//! of one guest thread, and `write_report` the report of a run with one.
 #![tactic(auto)]
+
+mod block;
+mod digest;
+mod header;
+mod journal;
+mod lines;
+mod output;
+mod report;
+mod words;
+
+pub use block::write_block;
+pub use lines::{hex32_digits, hex64_digits, put_all};
+pub use report::{Head, write_report};

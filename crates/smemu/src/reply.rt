@@ -6,7 +6,7 @@ ghost use Rattle.smemu.specs.Replies.{fault_line, reply_text, status_of};
 use edge_io::{PutFault, Sink};
 use elf_loader::LoadFault;
 use kernel_contexts::Context;
-use report_text::{Head, hex_digits_u32, hex_digits_u64, put_all, write_report};
+use report_text::{Head, hex32_digits, hex64_digits, put_all, write_report};
 use sm_types::Stop;
 
 use crate::status::Status;
@@ -23,6 +23,7 @@ pub enum Reply {
 }
 
 /// Writes the line of a fault.
+#[tactic(auto, unfolding(crate::specs::Replies::fault_line))]
 fn write_fault<K: Sink>(out: &mut K, fault: LoadFault) -> Result<(), PutFault>
     ensures { Writes K.told K.faults K.takes out.old out.new result (fault_line fault) }
 {
@@ -32,9 +33,9 @@ fn write_fault<K: Sink>(out: &mut K, fault: LoadFault) -> Result<(), PutFault>
             out,
             &[
                 b"bad file: unlisted 0x",
-                &hex_digits_u64(address),
+                &hex64_digits(address),
                 b" 0x",
-                &hex_digits_u32(word),
+                &hex32_digits(word),
                 b"\n",
             ],
         ),
@@ -43,6 +44,7 @@ fn write_fault<K: Sink>(out: &mut K, fault: LoadFault) -> Result<(), PutFault>
 }
 
 /// Writes a reply; `name` is the file's.
+#[tactic(auto, unfolding(crate::specs::Replies::reply_text))]
 pub fn write_reply<K: Sink>(out: &mut K, name: &[u8], reply: &Reply) -> Result<(), PutFault>
     ensures { Writes K.told K.faults K.takes out.old out.new result (reply_text name.now reply.now) }
 {

@@ -1,5 +1,5 @@
 //! The calls of the kernel.
-ghost use Rattle.std.specs.Prelude.{◌≡◌, ◌+◌, ◌-◌, ◌<◌, ◌≤◌, ◌^◌, length, vec_len, None, Some, take, drop, ◌++◌};
+ghost use Rattle.std.specs.Prelude.{◌≡◌, ◌+◌, ◌-◌, ◌<◌, ◌≤◌, ◌^◌, length, vec_len, None, Some, take, drop, true, false};
 ghost use Rattle.paged_memory.specs.Memory.{bytes_with};
 ghost use Rattle.kernel_contexts.specs.Output.{Appends};
 
@@ -45,7 +45,8 @@ fn read_end(pages: &Pages, address: u64, into: &mut [u8], from: usize) -> bool
 /// Adds bytes of the pages at the end of the output, or leaves it as it is.
 fn append(pages: &Pages, address: u64, count: usize, output: &mut Vec<u8>) -> Appended
     requires { vec_len output.old + count < 2 ^ 32 }
-    ensures { Appends (bytes_with 4 pages.now address count) output.old.items output.new.items result }
+    ensures appends { Appends (bytes_with 4 pages.now address count) output.old.items output.new.items result }
+    ensures within { vec_len output.new ≤ vec_len output.old + count }
 {
     let old = output.len();
     match output.resize(old + count, 0) {
@@ -70,7 +71,7 @@ impl Context {
     pub fn call(&mut self) -> Turn
         requires room { self.old.count < self.old.config.budget }
         requires runs { stop_of self.old ≡ None }
-        ensures turn { Turns (call_of (state_of self.old)) self.old self.new result }
+        ensures turn { Turns (call_of (state_of self.old)) (state_of self.old) self.new result }
         ensures same { IsSameThread self.old self.new }
     {
         match self.machine.scalars.x[8] {
@@ -100,7 +101,7 @@ impl Context {
     fn exit(&mut self) -> Turn
         requires room { self.old.count < self.old.config.budget }
         requires runs { stop_of self.old ≡ None }
-        ensures turn { Turns (exit_of (state_of self.old)) self.old self.new result }
+        ensures turn { Turns (exit_of (state_of self.old)) (state_of self.old) self.new result }
         ensures same { IsSameThread self.old self.new }
     {
         let status = (self.machine.scalars.x[0] % 256) as u8;
@@ -114,7 +115,7 @@ impl Context {
     fn write(&mut self) -> Turn
         requires room { self.old.count < self.old.config.budget }
         requires runs { stop_of self.old ≡ None }
-        ensures turn { Turns (write_of (state_of self.old)) self.old self.new result }
+        ensures turn { Turns (write_of (state_of self.old)) (state_of self.old) self.new result }
         ensures same { IsSameThread self.old self.new }
     {
         let descriptor = self.machine.scalars.x[0];

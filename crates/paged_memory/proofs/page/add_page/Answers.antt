@@ -1,4 +1,3 @@
-use Rattle.std.proofs.Common.{arith}
 use Rattle.std.specs.List.{insert}
 use Rattle.paged_memory.specs.Pages.{IsFine}
 use Rattle.paged_memory.proofs.Insert.{fine_insert, memory_of-insert}

@@ -1,4 +1,4 @@
-use Rattle.std.proofs.Common.{◌≡◌, ◌+◌, ◌-◌, ◌%◌, ◌/◌, Some, length, take, drop, arith, ap, sym, ◌∙◌}
+use Rattle.std.proofs.Common.{◌≡◌, ◌+◌, ◌-◌, ◌%◌, ◌/◌, Some, length, arith}
 use Rattle.paged_memory.specs.Pages.{page_at}
 use Rattle.paged_memory.proofs.Runs.{page_read, run_read, page_denied, page_gone}
 use Rattle.paged_memory.proofs.page.run.Goals as goal

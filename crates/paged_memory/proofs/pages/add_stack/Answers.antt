@@ -1,6 +1,6 @@
-use Rattle.std.proofs.Common.{◌≡◌, ◌+◌, rules, arith, ap, sym, ◌∙◌}
+use Rattle.std.proofs.Common.{◌+◌, rules, arith, ap, ◌∙◌}
 use Rattle.std.specs.FinMap.{get}
-use Rattle.paged_memory.specs.Memory.{Memory, with_page, with_zero_pages}
+use Rattle.paged_memory.specs.Memory.{with_page}
 use Rattle.paged_memory.specs.Pages.{memory_of}
 use Rattle.paged_memory.proofs.Stack.{perm-with_zero_pages, zero_page_added, no_zero_pages, stack_added}
 use Rattle.paged_memory.proofs.pages.add_stack.Goals as goal
@@ -15,8 +15,8 @@ pub loop-n-preserved : goal.loop-n-preserved
 loop-n-preserved c = record {
   fine = c.add_page.ensures.fine;
   memory = c.in_ok-add_page.ensures.memory
-    ∙ ap (λ m. with_page m (0x7DFFFFFC0 + c.loop-n.n) 6 c.in_ok-bytes.bytes.items) c.loop-n.invariant.memory
-    ∙ zero_page_added (memory_of c.args.pages.now.items) 0x7DFFFFFC0 6 c.loop-n.n c.in_ok-bytes.bytes.items (c.in_ok-bytes.ensures.items_if_clones_equal (λ y h. search rules));
+      ∙ ap (λ m. with_page m (0x7DFFFFFC0 + c.loop-n.n) 6 c.in_ok-bytes.bytes.items) c.loop-n.invariant.memory
+      ∙ zero_page_added (memory_of c.args.pages.now.items) 0x7DFFFFFC0 6 c.loop-n.n c.in_ok-bytes.bytes.items (c.in_ok-bytes.ensures.items_if_clones_equal (λ y h. search rules));
   count = omega (arith, c.in_ok-add_page.ensures.count, c.loop-n.invariant.count);
 }
 

@@ -1,5 +1,4 @@
-use Rattle.std.proofs.Common.{◌≡◌, ap, ◌∙◌, length, arith}
-use Rattle.paged_memory.specs.Memory.{Memory, bytes_with}
+use Rattle.std.proofs.Common.{ap, ◌∙◌, arith}
 use Rattle.paged_memory.specs.Pages.{memory_of}
 use Rattle.paged_memory.proofs.Accesses.{bytes_with-first}
 use Rattle.paged_memory.proofs.Words.{word_read, word_none}

@@ -1,5 +1,4 @@
-use Rattle.std.proofs.Common.{◌≡◌, ap, ◌∙◌, length}
-use Rattle.paged_memory.specs.Memory.{Memory}
+use Rattle.std.proofs.Common.{ap, ◌∙◌}
 use Rattle.paged_memory.specs.Pages.{memory_of}
 use Rattle.paged_memory.proofs.Words.{word_read, word_none}
 use Rattle.paged_memory.proofs.pages.Pages.fetch_across.Goals as goal

@@ -1,6 +1,6 @@
 //! From a file to its image.
 ghost use Rattle.std.specs.Prelude.{◌≡◌, ◌≢◌, ◌+◌, ◌*◌, ◌/◌, ◌%◌, ◌≤◌, ◌^◌, ◌<◌, length, IfOk, IfErr, None, Some, true};
-ghost use Rattle.elf_loader.specs.Header.{is_text, is_placed, text_of};
+ghost use Rattle.elf_loader.specs.Header.{text_of, IsLoadable};
 ghost use Rattle.elf_loader.specs.Loading.{unlisted_at, words_fault, word_count, code_words, text_word, text_address, IsTextImage, Loads, Refuses};
 
 use a64_decode::decode_scalar;
@@ -31,8 +31,7 @@ fn read_word(file: &[u8], text: &ProgramHeader, i: usize) -> Result<(u64, u32), 
 
 /// The code words of the load with their addresses, or the fault of the lowest that means no instruction.
 fn read_code(alloc: Global, file: &[u8], text: &ProgramHeader) -> Result<Vec<(u64, u32)>, LoadFault>
-    requires inside { text.now.offset + text.now.file_size ≤ length file.now }
-    requires low { text.now.address + text.now.file_size ≤ 2 ^ 47 }
+    requires { IsLoadable file.now text.now }
     ensures accepted { IfOk result (λ code. words_fault file.now text.now ≡ None) }
     ensures code { IfOk result (λ code. code.items ≡ code_words file.now text.now (word_count text.now)) }
     ensures refused { IfErr result (λ fault. fault ≢ LoadFault.Memory → words_fault file.now text.now ≡ Some fault) }
@@ -54,8 +53,7 @@ fn read_code(alloc: Global, file: &[u8], text: &ProgramHeader) -> Result<Vec<(u6
 
 /// The image of the load.
 fn make_image(alloc: Global, file: &[u8], text: &ProgramHeader, entry: u64, code: &[(u64, u32)]) -> Result<Image, LoadFault>
-    requires text { is_text file.now text.now ≡ true }
-    requires placed { is_placed text.now ≡ true }
+    requires { IsLoadable file.now text.now }
     ensures ok { IfOk result (λ image. IsTextImage file.now text.now entry code.now image) }
     ensures err { IfErr result (λ fault. fault ≡ LoadFault.Memory) }
 {
@@ -77,7 +75,10 @@ pub fn load(alloc: Global, file: &[u8]) -> Result<Image, LoadFault>
     ensures loads { IfOk result (λ image. Loads file.now image) }
     ensures refuses { IfErr result (λ fault. fault ≢ LoadFault.Memory → Refuses file.now fault) }
 {
-    if !check_length(file) || !check_header(file) {
+    if !check_length(file) {
+        return Err(LoadFault::NotYet);
+    }
+    if !check_header(file) {
         return Err(LoadFault::NotYet);
     }
     let Some(text) = read_text(file) else {

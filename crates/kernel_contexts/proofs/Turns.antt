@@ -1,0 +1,66 @@
+-- What one turn is, case by case, and that a turn after which the thread goes on counts one instruction.
+use Rattle.std.proofs.Common.{◌≡◌, ℕ, ◌+◌, true, false, List, Option, Some, None, refl, ap, sym, ◌∙◌, arith, subst, slice_index, length}
+use Rattle.std.proofs.lemmas.Bool.{cond_both}
+use Rattle.std.proofs.lemmas.Bool.Decides.{nat_tests}
+use Rattle.std.specs.Prelude.{◌==◌, ◌||◌, nat_lt}
+use Rattle.sm_types.specs.declared.config.Config.{Config}
+use Rattle.sm_types.specs.declared.shared_op.SharedOp.{SharedOp}
+use Rattle.sm_types.specs.declared.stop.Exception.{Exception}
+use Rattle.sm_types.specs.declared.stop.Stop.{Stop}
+use Rattle.sm_types.specs.declared.stop.Stop.TheVariants.{Budget, Raised}
+use Rattle.machine_step.specs.Core.{Core}
+use Rattle.machine_step.specs.Effect.{Effect, Raises, Calls, Becomes, effect_of}
+use Rattle.kernel_contexts.specs.State.{State}
+use Rattle.kernel_contexts.specs.Call.{TurnEnd, Goes, Asks, Ends, counted, written, call_of, write_of, exit_of, output_limit}
+use Rattle.kernel_contexts.specs.Turn.{turn_of, after_effect}
+
+pub turn_spent : (config : Config) (s : State) → s.count ≡ config.budget → turn_of config s ≡ Ends s Budget
+unfolding turn_of
+turn_spent config s e = let test : (s.count == config.budget) ≡ true = grind (arith, nat_tests) in rw test refl
+
+turn_on : (config : Config) (s : State) → (s.count ≡ config.budget → ⊥) → turn_of config s ≡ after_effect s (effect_of s.core)
+unfolding turn_of
+turn_on config s e = let test : (s.count == config.budget) ≡ false = grind (arith, nat_tests) in rw test refl
+
+pub turn_becomes : (config : Config) (s : State) (core : Core) → (s.count ≡ config.budget → ⊥) → effect_of s.core ≡ Becomes core → turn_of config s ≡ Goes (counted s core)
+turn_becomes config s core e is = turn_on config s e ∙ ap (after_effect s) is
+
+pub turn_calls : (config : Config) (s : State) (core : Core) (number : ℕ) → (s.count ≡ config.budget → ⊥) → effect_of s.core ≡ Calls number → core ≡ s.core → turn_of config s ≡ call_of (record s { core = core })
+turn_calls config s core number e is same = turn_on config s e ∙ ap (after_effect s) is ∙ ap (λ core. call_of (record s { core = core })) (sym same)
+
+pub turn_raises : (config : Config) (s : State) (core : Core) (exception : Exception) → (s.count ≡ config.budget → ⊥) → effect_of s.core ≡ Raises exception → core ≡ s.core
+    → turn_of config s ≡ Ends (record s { core = core }) (Raised exception core.scalars.pc)
+turn_raises config s core exception e is same = turn_on config s e ∙ ap (after_effect s) is ∙ ap (λ core. Ends (record s { core = core }) (Raised exception core.scalars.pc)) (sym same)
+
+-- where the turn goes on, it has counted one instruction
+abbrev pub CountsOne : State → TurnEnd → Type 0
+CountsOne s (Goes t) = t.count ≡ s.count + 1
+CountsOne s (Asks op next) = Unit {0}
+CountsOne s (Ends t stop) = Unit {0}
+
+written_counts : (s : State) (read : Option (List ℕ)) (length : ℕ) → (written s read length).count ≡ s.count + 1
+written_counts s None length = refl
+written_counts s (Some bytes) length = refl
+
+write_counts : (s : State) → CountsOne s (write_of s)
+unfolding write_of
+write_counts s = cond_both ((slice_index s.core.scalars.x 0 == 1) || (slice_index s.core.scalars.x 0 == 2)) _ _ (CountsOne s)
+    (λ _. cond_both (nat_lt output_limit (length s.output + slice_index s.core.scalars.x 2)) _ _ (CountsOne s) (λ _. tt) (λ _. written_counts s _ _))
+    (λ _. refl)
+
+call_counts : (s : State) → CountsOne s (call_of s)
+unfolding call_of exit_of
+call_counts s = cond_both (slice_index s.core.scalars.x 8 == 64) _ _ (CountsOne s) (λ _. write_counts s)
+    (λ _. cond_both (slice_index s.core.scalars.x 8 == 93) _ _ (CountsOne s) (λ _. tt) (λ _. refl))
+
+effect_counts : (s : State) (effect : Effect) → CountsOne s (after_effect s effect)
+effect_counts s (Raises exception) = tt
+effect_counts s (Calls number) = call_counts s
+effect_counts s (Becomes core) = refl
+
+turn_counts : (config : Config) (s : State) → CountsOne s (turn_of config s)
+unfolding turn_of
+turn_counts config s = cond_both (s.count == config.budget) _ _ (CountsOne s) (λ _. tt) (λ _. effect_counts s (effect_of s.core))
+
+pub goes_counted : (config : Config) (s t : State) → turn_of config s ≡ Goes t → t.count ≡ s.count + 1
+goes_counted config s t e = subst (CountsOne s) e (turn_counts config s)

@@ -1,0 +1,35 @@
+use Rattle.std.proofs.Common.{◌≡◌, ap, sym, ◌∙◌, refl}
+use Rattle.sm_types.specs.declared.stop.Stop.TheVariants.{Budget, Raised}
+use Rattle.machine_step.specs.Core.{zero_bank}
+use Rattle.kernel_contexts.specs.Call.{Goes, Ends}
+use Rattle.kernel_contexts.specs.Context.{state_of, config_of}
+use Rattle.kernel_contexts.proofs.Turns.{turn_spent, turn_becomes, turn_calls, turn_raises}
+use Rattle.kernel_contexts.proofs.Answered.{stops_so, turns_from}
+use Rattle.kernel_contexts.proofs.context.Context.make_turn.Goals as goal
+
+pub returns-then-self-clause-turn : goal.returns-then-self-clause-turn
+returns-then-self-clause-turn c =
+    stops_so _ (state_of c.args.self.now) c.stop_with.new.self c.stop_with.result Budget c.stop_with.ensures.answer
+    (turn_spent (config_of c.args.self.now) (state_of c.args.self.now) c.if-self.true ∙ ap (λ s. Ends s Budget) (sym c.stop_with.ensures.state)) c.stop_with.ensures.stop
+
+pub returns-in-Next-clause-turn : goal.returns-in-Next-clause-turn
+returns-in-Next-clause-turn c =
+    let bank = zero_bank c.args.self.now.config.vl c.args.self.now.config.svl in
+    ( turn_becomes (config_of c.args.self.now) (state_of c.args.self.now) _ c.if-self.false (c.in-Next.ensures bank) ∙ ap Goes (sym c.count_turn.ensures.state)
+    , c.count_turn.ensures.stop ∙ c.requires
+    )
+
+pub returns-in-Call-clause-turn : goal.returns-in-Call-clause-turn
+returns-in-Call-clause-turn c =
+    let bank = zero_bank c.args.self.now.config.vl c.args.self.now.config.svl in
+    let h = c.in-Call.ensures bank in
+    turns_from _ _ _ (state_of c.args.self.now) c.call.new.self c.call.result (turn_calls (config_of c.args.self.now) (state_of c.args.self.now) _ _ c.if-self.false h.0 h.1)
+    (ap (λ core. record (state_of c.args.self.now) { core = core }) h.1) c.call.ensures.turn
+
+pub returns-in-Raise-clause-turn : goal.returns-in-Raise-clause-turn
+returns-in-Raise-clause-turn c =
+    let bank = zero_bank c.args.self.now.config.vl c.args.self.now.config.svl in
+    let h = c.in-Raise.ensures bank in
+    stops_so _ (state_of c.args.self.now) c.stop_with-in-Raise.new.self c.stop_with-in-Raise.result _ c.stop_with-in-Raise.ensures.answer
+    (turn_raises (config_of c.args.self.now) (state_of c.args.self.now) _ _ c.if-self.false h.0 h.1 ∙ ap (λ s. Ends s (Raised c.in-Raise.exception c.step.new.self.scalars.pc)) (sym c.stop_with-in-Raise.ensures.state))
+    c.stop_with-in-Raise.ensures.stop

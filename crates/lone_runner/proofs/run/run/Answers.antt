@@ -1,0 +1,18 @@
+use Rattle.std.proofs.Common.{refl, ◌∙◌, arith}
+use Rattle.kernel_contexts.specs.Context.{state_of, config_of}
+use Rattle.lone_runner.proofs.Runs.{under_way_start, under_way_on, under_way_ends, ran, stopped, runs_on}
+use Rattle.lone_runner.proofs.run.run.Goals as goal
+
+pub turns-init : goal.turns-init
+turns-init c = record { under_way = under_way_start _ _; runs = c.requires; same = record { config = refl; thread = refl } }
+
+pub turns-preserved : goal.turns-preserved
+turns-preserved c = let h = c.turns.invariant in record {
+  under_way = under_way_on _ _ _ _ h.under_way (ran _ c.turns.context c.advance.new.self _ h.runs h.same.config c.in-Ran.ensures.turn);
+  runs = runs_on c.turns.context c.advance.new.self _ h.runs c.in-Ran.ensures.turn;
+  same = record { config = c.in-Ran.ensures.same.config ∙ h.same.config; thread = c.in-Ran.ensures.same.thread ∙ h.same.thread };
+}
+
+pub returns-in-Stopped-clause-ends : goal.returns-in-Stopped-clause-ends
+returns-in-Stopped-clause-ends c = let h = c.turns.invariant in
+    under_way_ends _ _ _ _ _ h.under_way (stopped _ c.turns.context c.advance.new.self _ _ h.runs h.same.config c.in-Stopped.ensures.turn)

@@ -1,0 +1,189 @@
+-- How many pages parts touch.
+use Rattle.std.proofs.Common.{◌⊎◌, inl, inr, ◌≡◌, ◌≢◌, ℕ, zero, suc, ◌+◌, ◌-◌, ◌*◌, ◌/◌, ◌^◌, ◌<◌, ◌≤◌, true, false, cond, List, [], ◌∷◌, length, get_or, refl, ap, sym, ◌∙◌, arith, Option, Some, None, All}
+use Rattle.std.specs.Prelude.{◌==◌, ◌&&◌, nat_le, nat_lt, IsSome, is_some}
+use Rattle.std.proofs.lemmas.Bool.Decides.{nat_tests}
+use Rattle.std.specs.FinMap.{FinMap, get, len, insert, remove, empty, get-insert, get-remove, get-empty, len-empty, len-insert, same_map, nat_cmp-IsAntisymmetric}
+use Rattle.std.specs.Cmp.{nat_cmp_total}
+use Rattle.std.specs.Ordering.{nat_cmp}
+use Rattle.paged_memory.specs.Image.{Extent, Program, union, part_flags, image_flags, parts_byte, IsMemoryOf, IsImage, IsImagePage}
+use Rattle.paged_memory.specs.Parts.{IsPlaced, ArePlaced, touched_below}
+use Rattle.paged_memory.proofs.Over.{eq_by_cmp-nat}
+
+-- how many keys below a number a map has
+count_keys : FinMap nat_cmp ℕ → ℕ → ℕ
+count_keys m zero = 0
+count_keys m (suc n) = count_keys m n + cond (is_some (get m n)) 1 0
+
+without_key : (m : FinMap nat_cmp ℕ) (k q : ℕ) → get (remove m k) q ≡ cond (k == q) None (get m q)
+without_key m k q = rw (get-remove nat_cmp_total, eq_by_cmp-nat) refl
+
+count_without : (m : FinMap nat_cmp ℕ) (k n : ℕ) → n ≤ k → count_keys (remove m k) n ≡ count_keys m n
+unfolding count_keys
+count_without m k zero h = refl
+count_without m k (suc n) h =
+    let apart : (k == n) ≡ false = let e : k ≢ n = grind arith in grind (arith, nat_tests) in
+    let same : get (remove m k) n ≡ get m n = without_key m k n ∙ rw apart refl in
+    rw (count_without m k n (omega arith), same) refl
+
+no_keys : (m : FinMap nat_cmp ℕ) → ((q : ℕ) → 0 ≤ q → get m q ≡ None) → len m ≡ 0
+no_keys m h =
+    let e : m ≡ empty = same_map nat_cmp_total nat_cmp-IsAntisymmetric _ _ (λ q. h q (omega arith) ∙ sym (get-empty nat_cmp q)) in
+    rw e (len-empty nat_cmp ℕ)
+
+none_from_without : (m : FinMap nat_cmp ℕ) (n : ℕ) → ((q : ℕ) → suc n ≤ q → get m q ≡ None) → (q : ℕ) → n ≤ q → get (remove m n) q ≡ None
+none_from_without m n h q l =
+    without_key m n q ∙ elim (n == q) as (λ t. (n == q) ≡ t → cond t None (get m q) ≡ None) [
+      | true ↦ λ t. refl
+      | false ↦ λ t. let e : n ≢ q = grind (arith, nat_tests) in let a : suc n ≤ q = grind arith in h q a
+    ] refl
+
+same_test : (n q : ℕ) → (n == q) ≡ true → n ≡ q
+same_test n q t = grind (arith, nat_tests)
+
+test_same : (n : ℕ) → (n == n) ≡ true
+test_same n = grind (arith, nat_tests)
+
+without_none : (m : FinMap nat_cmp ℕ) (n : ℕ) → get m n ≡ None → remove m n ≡ m
+without_none m n gone = same_map nat_cmp_total nat_cmp-IsAntisymmetric _ _ (λ q.
+    without_key m n q ∙ elim (n == q) as (λ t. (n == q) ≡ t → cond t None (get m q) ≡ get m q) [
+      | true ↦ λ t. let there : get m q ≡ None = rw (same_test n q t) at gone in sym there
+      | false ↦ λ t. refl
+    ] refl)
+
+with_again : (m : FinMap nat_cmp ℕ) (n v : ℕ) → get m n ≡ Some v → m ≡ insert (remove m n) n v
+with_again m n v there = same_map nat_cmp_total nat_cmp-IsAntisymmetric _ _ (λ q.
+    let both : get (insert (remove m n) n v) q ≡ cond (n == q) (Some v) (cond (n == q) None (get m q)) = rw (get-insert nat_cmp_total, eq_by_cmp-nat, without_key m n q) refl in
+    sym (both ∙ elim (n == q) as (λ t. (n == q) ≡ t → cond t (Some v) (cond t None (get m q)) ≡ get m q) [
+      | true ↦ λ t. let here : get m q ≡ Some v = rw (same_test n q t) at there in sym here
+      | false ↦ λ t. refl
+    ] refl))
+
+len_with : (m : FinMap nat_cmp ℕ) (n v : ℕ) → get m n ≡ None → len (insert m n v) ≡ len m + 1
+len_with m n v gone = len-insert nat_cmp_total m n v ∙ rw gone refl
+
+removed : (m : FinMap nat_cmp ℕ) (n : ℕ) → get (remove m n) n ≡ None
+removed m n = without_key m n n ∙ rw (test_same n) refl
+
+len_step : (m : FinMap nat_cmp ℕ) (n : ℕ) (o : Option ℕ) → get m n ≡ o → len m ≡ len (remove m n) + cond (is_some o) 1 0
+len_step m n None e = sym (ap len (without_none m n e)) ∙ (let z : len (remove m n) + 0 ≡ len (remove m n) = omega arith in sym z)
+len_step m n (Some v) e = ap len (with_again m n v e) ∙ len_with (remove m n) n v (removed m n)
+
+len-count_keys : (n : ℕ) (m : FinMap nat_cmp ℕ) → ((q : ℕ) → n ≤ q → get m q ≡ None) → len m ≡ count_keys m n
+unfolding count_keys
+len-count_keys zero m h = no_keys m h
+len-count_keys (suc n) m h =
+    let rest : len (remove m n) ≡ count_keys m n = len-count_keys n (remove m n) (none_from_without m n h) ∙ count_without m n n (omega arith) in
+    len_step m n (get m n) refl ∙ ap (λ k. k + cond (is_some (get m n)) 1 0) rest
+
+count_touched : (parts : List Extent) (m : FinMap nat_cmp ℕ) (n : ℕ) → ((q : ℕ) → get m q ≡ image_flags parts q) → count_keys m n ≡ touched_below parts n
+unfolding count_keys touched_below
+count_touched parts m zero h = refl
+count_touched parts m (suc n) h = rw (count_touched parts m n h, h n) refl
+
+-- ---- what the parts' places say of the pages
+
+no_flags : (p : Extent) (n : ℕ) → part_flags p n ≡ None → IsSome (part_flags p n) → ⊥
+no_flags p n e h = cc
+
+touch_test : (p : Extent) (n : ℕ) → IsSome (part_flags p n) → (nat_lt 0 p.size && nat_le (p.address / 4096) n && nat_le n ((p.address + p.size - 1) / 4096)) ≡ true
+touch_test p n h =
+    elim (nat_lt 0 p.size && nat_le (p.address / 4096) n && nat_le n ((p.address + p.size - 1) / 4096)) as (λ t. IsSome (cond t (Some p.flags) None) → t ≡ true) [
+      | true ↦ λ s. refl
+      | false ↦ λ s. cc
+    ] h
+
+-- an address of the part that lies in the page
+address_in : ℕ → ℕ → ℕ
+address_in address n = cond (nat_lt (address / 4096) n) (4096 * n) address
+
+pub record TouchesAt (p : Extent) (n a : ℕ) : Type 0 where
+  pub from : p.address ≤ a
+  pub to : a < p.address + p.size
+  pub page : a / 4096 ≡ n
+
+touches_at : (p : Extent) (n : ℕ) → 0 < p.size → p.address / 4096 ≤ n → n ≤ (p.address + p.size - 1) / 4096 → TouchesAt p n (address_in p.address n)
+unfolding address_in
+touches_at p n size from to =
+    elim (nat_lt (p.address / 4096) n) as (λ t. nat_lt (p.address / 4096) n ≡ t → TouchesAt p n (cond t (4096 * n) p.address)) [
+      | true ↦ λ t. let l : p.address / 4096 < n = grind (arith, nat_tests) in record { from = omega arith; to = omega arith; page = omega arith }
+      | false ↦ λ t. let l : n ≤ p.address / 4096 = grind (arith, nat_tests) in record { from = omega arith; to = omega arith; page = omega arith }
+    ] refl
+
+page_of_part : (p : Extent) (n : ℕ) → IsPlaced p → IsSome (part_flags p n) → IsImagePage n
+page_of_part p n placed h =
+    let test : (nat_lt 0 p.size && nat_le (p.address / 4096) n && nat_le n ((p.address + p.size - 1) / 4096)) ≡ true = touch_test p n h in
+    let size : 0 < p.size = grind (arith, nat_tests) in
+    let from : p.address / 4096 ≤ n = grind (arith, nat_tests) in
+    let to : n ≤ (p.address + p.size - 1) / 4096 = grind (arith, nat_tests) in
+    let at : TouchesAt p n (address_in p.address n) = touches_at p n size from to in
+    rw at.page at (placed.places (address_in p.address n) at.from at.to)
+
+either : (o p : Option ℕ) → IsSome (union o p) → IsSome o ⊎ IsSome p
+either None p h = inr h
+either (Some f) p h = inl refl
+
+pub page_of_parts : (parts : List Extent) (n : ℕ) → All IsPlaced parts → IsSome (image_flags parts n) → IsImagePage n
+unfolding image_flags
+page_of_parts [] n all h = cc
+page_of_parts (p ∷ parts) n all h =
+    elim (either (part_flags p n) (image_flags parts n) h) [
+      | inl s ↦ page_of_part p n (all 0 p (omega arith)) s
+      | inr s ↦ page_of_parts parts n (λ k d l. all (suc k) d (omega arith)) s
+    ]
+
+not_there : (o : Option ℕ) → (IsSome o → ⊥) → o ≡ None
+not_there None h = refl
+not_there (Some x) h = absurd (h refl)
+
+pub image_made : (parts : List Extent) (p : Program) → ArePlaced parts → IsMemoryOf parts p.memory → IsImage p
+image_made parts p placed is =
+    let flags : (n : ℕ) → get p.memory.perm n ≡ image_flags parts n = is.flags in
+    let places : (n : ℕ) → IsSome (get p.memory.perm n) → IsImagePage n = λ n s. page_of_parts parts n placed.placed (rw (flags n) at s) in
+    let past : (q : ℕ) → 2 ^ 35 ≤ q → get p.memory.perm q ≡ None = λ q l. not_there (get p.memory.perm q) (λ s. let low : q < 2 ^ 35 = (places q s).0 in absurd (omega arith)) in
+    let count : len p.memory.perm ≡ touched_below parts (2 ^ 35) = len-count_keys (2 ^ 35) p.memory.perm past ∙ count_touched parts p.memory.perm (2 ^ 35) flags in
+    record { few = rw count placed.few; places = places }
+
+-- ---- one part
+
+union_none : (o : Option ℕ) → union o None ≡ o
+union_none None = refl
+union_none (Some f) = refl
+
+one_more : (p : Extent) (n count : ℕ) → count ≤ n - p.address / 4096 → count ≤ (p.address + p.size - 1) / 4096 + 1 - p.address / 4096
+    → (count + cond (is_some (union (part_flags p n) None)) 1 0 ≤ suc n - p.address / 4096) × (count + cond (is_some (union (part_flags p n) None)) 1 0 ≤ (p.address + p.size - 1) / 4096 + 1 - p.address / 4096)
+one_more p n count h l =
+    rw (union_none (part_flags p n)) (elim (nat_lt 0 p.size && nat_le (p.address / 4096) n && nat_le n ((p.address + p.size - 1) / 4096)) as
+    (λ t. (nat_lt 0 p.size && nat_le (p.address / 4096) n && nat_le n ((p.address + p.size - 1) / 4096)) ≡ t → (count + cond (is_some (cond t (Some p.flags) None)) 1 0 ≤ suc n - p.address / 4096) × (count + cond (is_some (cond t (Some p.flags) None)) 1 0 ≤ (p.address + p.size - 1) / 4096 + 1 - p.address / 4096)) [
+      | true ↦ λ t.
+          let from : p.address / 4096 ≤ n = grind (arith, nat_tests) in
+          let to : n ≤ (p.address + p.size - 1) / 4096 = grind (arith, nat_tests) in
+          (omega arith, omega arith)
+      | false ↦ λ t. (omega arith, omega arith)
+    ] refl)
+
+touched_by_one : (p : Extent) (n : ℕ) → (touched_below (p ∷ []) n ≤ n - p.address / 4096) × (touched_below (p ∷ []) n ≤ (p.address + p.size - 1) / 4096 + 1 - p.address / 4096)
+unfolding touched_below image_flags
+touched_by_one p zero = (omega arith, omega arith)
+touched_by_one p (suc n) =
+    let before : (touched_below (p ∷ []) n ≤ n - p.address / 4096) × (touched_below (p ∷ []) n ≤ (p.address + p.size - 1) / 4096 + 1 - p.address / 4096) = touched_by_one p n in
+    one_more p n (touched_below (p ∷ []) n) before.0 before.1
+
+only : (p : Extent) (k : ℕ) (d : Extent) → IsPlaced p → k < 1 → IsPlaced (get_or (p ∷ []) k d)
+only p zero d placed l = placed
+only p (suc k) d placed l = absurd (omega arith)
+
+-- one part that lies where it may and touches few pages makes an image
+pub one_placed : (p : Extent) → IsPlaced p → 0 < p.size → (p.address + p.size - 1) / 4096 - p.address / 4096 < 4032 → ArePlaced (p ∷ [])
+unfolding parts_byte
+one_placed p placed size few = record {
+  placed = λ k d l. only p k d placed l;
+  apart = (λ a h. refl, tt);
+  few = let count : touched_below (p ∷ []) (2 ^ 35) ≤ (p.address + p.size - 1) / 4096 + 1 - p.address / 4096 = (touched_by_one p (2 ^ 35)).1 in omega arith;
+}
+
+-- a part lies where it may if its ends do
+pub placed_by_ends : (p : Extent) → length p.bytes ≤ p.size → p.address + p.size ≤ 2 ^ 47 → (p.address + p.size ≤ 0x7DFFFFFC0000) ⊎ (0x7F0000001000 ≤ p.address) → IsPlaced p
+placed_by_ends p inside low apart = record {
+  inside = inside;
+  places = λ a from to. (omega arith, elim apart [ inl l ↦ inl (omega arith) | inr g ↦ inr (omega arith) ]);
+}

@@ -1,0 +1,6 @@
+pub mod Parts
+pub mod Values
+pub mod OutLines
+pub mod Pages
+pub mod Zero
+pub mod Events

@@ -1,0 +1,72 @@
+-- Lines of values that are all zero, which are none.
+use Rattle.std.proofs.Common.{◌≡◌, ℕ, zero, suc, ◌+◌, ◌-◌, ◌*◌, ◌++◌, ◌∷◌, [], List, Bool, true, false, codes, take, drop, min, refl, ap, sym, ◌∙◌, arith, ◌==◌}
+use Rattle.std.proofs.Common.{length, replicate}
+use Rattle.std.specs.List.{list_all}
+use Rattle.std.proofs.lemmas.List.{drop-replicate}
+use Rattle.sm_types.specs.declared.length.VecLen.{VecLen}
+use Rattle.machine_step.specs.Core.{zero_bank}
+use Rattle.report_text.specs.Lines.{value_line, value_lines}
+use Rattle.report_text.specs.Bank.{byte_of_bits, bytes_of_bits, predicate_bytes, all_predicate_bytes, bytes_line, bytes_lines, bank_text}
+use Rattle.std.specs.FinMap.{entries, empty, len, len-entries, len-empty}
+use Rattle.std.specs.Ordering.{nat_cmp}
+use Rattle.report_text.specs.Block.{handler_lines}
+use Rattle.report_text.specs.Report.{words_text, zero_words}
+
+value_lines-zero : (name : List ℕ) (k n : ℕ) → value_lines name k (replicate n 0) ≡ []
+unfolding value_line value_lines
+value_lines-zero name k zero = refl
+value_lines-zero name k (suc n) = value_lines-zero name (k + 1) n
+
+-- no shared word and no pending signal has a line
+pub words_text-zero : words_text zero_words ≡ codes "shared\nend\n"
+unfolding words_text zero_words
+words_text-zero = rw (value_lines-zero (codes "w") 0 512, value_lines-zero (codes "pending") 0 32) refl
+
+all_zero : (n : ℕ) → list_all (λ b. b == 0) (replicate n 0) ≡ true
+all_zero zero = refl
+all_zero (suc n) = all_zero n
+
+bytes_line-zero : (name : List ℕ) (n : ℕ) → bytes_line name (replicate n 0) ≡ []
+unfolding bytes_line
+bytes_line-zero name n = rw (all_zero n) refl
+
+bytes_lines-zero : (name : List ℕ) (k m n : ℕ) → bytes_lines name k (replicate m (replicate n 0)) ≡ []
+unfolding bytes_lines
+bytes_lines-zero name k zero n = refl
+bytes_lines-zero name k (suc m) n = rw (bytes_line-zero _ n, bytes_lines-zero name (k + 1) m n) refl
+
+byte_of_bits-zero : (m n : ℕ) → byte_of_bits (take m (replicate n false)) ≡ 0
+byte_of_bits-zero zero n = refl
+byte_of_bits-zero (suc m) zero = refl
+byte_of_bits-zero (suc m) (suc n) = ap (λ b. 0 + 2 * b) (byte_of_bits-zero m n)
+
+bytes_of_bits-zero : (m n : ℕ) → bytes_of_bits m (replicate n false) ≡ replicate m 0
+unfolding bytes_of_bits
+bytes_of_bits-zero zero n = refl
+bytes_of_bits-zero (suc m) n = rw (drop-replicate 8 n false, byte_of_bits-zero 8 n, bytes_of_bits-zero m (n - 8)) refl
+
+predicate_lines-zero : (name : List ℕ) (k m n : ℕ) → bytes_lines name k (all_predicate_bytes (replicate m (replicate n false))) ≡ []
+unfolding bytes_lines all_predicate_bytes predicate_bytes
+predicate_lines-zero name k zero n = refl
+predicate_lines-zero name k (suc m) n = rw (bytes_of_bits-zero _ n, bytes_line-zero _ _, predicate_lines-zero name (k + 1) m n) refl
+
+ffr_line-zero : (name : List ℕ) (n : ℕ) → bytes_line name (predicate_bytes (replicate n false)) ≡ []
+unfolding predicate_bytes
+ffr_line-zero name n = rw (bytes_of_bits-zero _ n) (bytes_line-zero name _)
+
+-- no vector and no predicate has a line
+pub bank_text-zero : (vl svl : VecLen) (za_on : Bool) → bank_text (zero_bank vl svl) za_on ≡ []
+unfolding bank_text zero_bank
+bank_text-zero vl svl true = rw (bytes_lines-zero (codes "z") 0 32 _, predicate_lines-zero (codes "p") 0 16 _, ffr_line-zero (codes "ffr") _, bytes_lines-zero (codes "za") 0 _ _) refl
+bank_text-zero vl svl false = rw (bytes_lines-zero (codes "z") 0 32 _, predicate_lines-zero (codes "p") 0 16 _, ffr_line-zero (codes "ffr") _) refl
+
+none_of-length : (l : List (ℕ × ℕ)) → length l ≡ 0 → l ≡ []
+none_of-length [] e = refl
+none_of-length (x ∷ l) e = absurd (omega arith)
+
+-- where no handler is set, none has a line
+pub handler_lines-none : handler_lines (entries (empty {X = ℕ} {R = nat_cmp})) ≡ []
+unfolding handler_lines
+handler_lines-none =
+    let none : entries (empty {X = ℕ} {R = nat_cmp}) ≡ [] = none_of-length _ (sym (len-entries (empty {X = ℕ} {R = nat_cmp})) ∙ len-empty nat_cmp ℕ) in
+    rw none refl

@@ -1,0 +1,4 @@
+pub mod Whole
+pub mod Outcomes
+pub mod Due
+pub mod Texts
