@@ -1,0 +1,85 @@
+//! Tests of the command where the outside fails, and where the words are no command.
+#![tactic(auto)]
+
+#[cfg(test)]
+mod tests {
+    use edge_io::{MemFiles, MemSink};
+    use smemu::{Status, smemu_main};
+    use std::alloc::Global;
+    use std::test::Fail;
+
+    /// `movz x0, #42`, `movz x8, #93`, `svc #0` in a load at 0x400000 that begins at byte 120 of the file.
+    const ANSWER: [u8; 132] = [
+        0x7F, 0x45, 0x4C, 0x46, 2, 1, 1, 0, 0, 0, 0, 0, 0, 0, 0, 0, // 64 bits, low byte first
+        2, 0, 183, 0, 1, 0, 0, 0, 0, 0, 0x40, 0, 0, 0, 0, 0, // an executable, its entry
+        64, 0, 0, 0, 0, 0, 0, 0, 0, 0, 0, 0, 0, 0, 0, 0, // its program header at 64
+        0, 0, 0, 0, 64, 0, 56, 0, 1, 0, 64, 0, 0, 0, 0, 0, // one of 56 bytes
+        1, 0, 0, 0, 5, 0, 0, 0, 120, 0, 0, 0, 0, 0, 0, 0, // a load, read and execute
+        0, 0, 0x40, 0, 0, 0, 0, 0, 0, 0, 0x40, 0, 0, 0, 0, 0, // its address
+        12, 0, 0, 0, 0, 0, 0, 0, 12, 0, 0, 0, 0, 0, 0, 0, // its size
+        0, 16, 0, 0, 0, 0, 0, 0, // its alignment
+        0x40, 0x05, 0x80, 0xD2, 0xA8, 0x0B, 0x80, 0xD2, 0x01, 0x00, 0x00, 0xD4,
+    ];
+
+    fn words(alloc: Global, texts: &[&str]) -> Result<Vec<String>, Fail> {
+        let mut words = Vec::new(alloc);
+        for text in texts {
+            words.push(String::from_str(alloc, text)?)?;
+        }
+        Ok(words)
+    }
+
+    fn answer_file(alloc: Global) -> Result<MemFiles, Fail> {
+        let mut files = MemFiles::new(alloc);
+        files.add("answer", &ANSWER)?;
+        Ok(files)
+    }
+
+    fn status_of(alloc: Global, texts: &[&str], files: &mut MemFiles, out: &mut MemSink) -> Result<Status, Fail> {
+        let words = words(alloc, texts)?;
+        Ok(smemu_main(alloc, words.as_slice(), files, out))
+    }
+
+    #[test]
+    fn other_words_are_no_command(rt: HostRuntime) -> Result<(), Fail> {
+        let cases: [&[&str]; 5] = [&[], &["run"], &["walk", "answer"], &["run", "answer", "answer"], &["RUN", "answer"]];
+        for texts in cases {
+            let mut files = answer_file(rt.alloc())?;
+            let mut out = MemSink::new(rt.alloc(), 1000)?;
+            assert_eq!(rt; status_of(rt.alloc(), texts, &mut files, &mut out)?.code(), 2);
+            assert!(rt; out.bytes() == b"usage: not built\n".as_slice());
+        }
+        Ok(())
+    }
+
+    #[test]
+    fn a_file_is_absent_or_cannot_be_read(rt: HostRuntime) -> Result<(), Fail> {
+        let mut files = answer_file(rt.alloc())?;
+        files.fail(2)?;
+        files.fail(3)?;
+        let wanted: [(&str, u8, &str); 3] = [
+            ("question", 3, "absent: question\n"),
+            ("answer", 4, "read fault: answer\n"),
+            ("question", 3, "absent: question\n"),
+        ];
+        for (name, status, line) in wanted {
+            let mut out = MemSink::new(rt.alloc(), 1000)?;
+            assert_eq!(rt; status_of(rt.alloc(), &["run", name], &mut files, &mut out)?.code(), status);
+            assert!(rt; out.bytes() == line.as_bytes());
+        }
+        Ok(())
+    }
+
+    #[test]
+    fn a_write_that_fails_leaves_a_part_of_the_text(rt: HostRuntime) -> Result<(), Fail> {
+        for (call, after, room) in [(1u64, 1usize, 1000usize), (1, 0, 1000), (3, 2, 1000), (100, 0, 20)] {
+            let mut files = answer_file(rt.alloc())?;
+            let mut out = MemSink::new(rt.alloc(), room)?;
+            out.fail(call, after)?;
+            assert_eq!(rt; status_of(rt.alloc(), &["run", "answer"], &mut files, &mut out)?.code(), 5);
+            let report = "smemu-report 1\noptions vl=128 svl=256 slice=1000 budget=10000000 threads=1\nimage ";
+            assert!(rt; report.as_bytes().starts_with(out.bytes()));
+        }
+        Ok(())
+    }
+}
