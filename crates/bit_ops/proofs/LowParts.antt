@@ -7,3 +7,13 @@ pub low_parts : (P : Bool → ℕ → ℕ → Type 0) (wide : Bool) (a b : ℕ) 
 low_parts P true a b e la lb h =
     subst (λ x. P true x (b % 2 ^ 64)) (sym (mod-eq_of_lt la)) (subst (λ y. P true a y) (sym (mod-eq_of_lt lb)) h)
 low_parts P false a b e la lb h = cc
+
+-- what holds of a wide word holds of its low part
+pub low_wide : (P : Bool → ℕ → Type 0) (wide : Bool) (a : ℕ) → wide ≡ true → a < 2 ^ 64 → P true a → P wide (a % word_size wide)
+low_wide P true a e la h = subst (P true) (sym (mod-eq_of_lt la)) h
+low_wide P false a e la h = cc
+
+-- what holds of the low 32 bits holds of the low part of a narrow word
+pub low_narrow : (P : Bool → ℕ → Type 0) (wide : Bool) (a : ℕ) → wide ≡ false → P false (a % 2 ^ 32) → P wide (a % word_size wide)
+low_narrow P true a e h = cc
+low_narrow P false a e h = h

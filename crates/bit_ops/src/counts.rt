@@ -1,6 +1,6 @@
 //! Counts from the top of a word.
-ghost use Rattle.std.specs.Prelude.{◌≡◌, ◌%◌, ◌<◌, ◌≤◌};
-ghost use Rattle.bit_ops.specs.Sums.{word_size};
+ghost use Rattle.std.specs.Prelude.{◌≡◌, ◌%◌, ◌<◌, ◌≤◌, ◌-◌};
+ghost use Rattle.bit_ops.specs.Sums.{half_size, word_size};
 ghost use Rattle.bit_ops.specs.Bits.{width_of};
 ghost use Rattle.bit_ops.specs.Counts.{leading_zeros_of, leading_signs_of};
 
@@ -25,8 +25,16 @@ pub fn count_signs(value: u64, wide: bool) -> u32
     ensures value { result ≡ leading_signs_of wide (value % word_size wide) }
     ensures within { result < width_of wide }
 {
-    let word = low_word(value, wide);
+    count_zeros(without_sign(low_word(value, wide), wide), wide) - 1
+}
+
+/// The word, inverted where its top bit is set: so its leading zeros are the bits that equal the top one.
+fn without_sign(word: u64, wide: bool) -> u64
+    requires { word < word_size wide }
+    ensures clear { word < half_size wide → result ≡ word }
+    ensures set { half_size wide ≤ word → result ≡ word_size wide - 1 - word }
+    ensures small { result < half_size wide }
+{
     let top = if wide { 1 << 63 } else { 1 << 31 };
-    let run = if word >= top { low_word(!word, wide) } else { word };
-    count_zeros(run, wide) - 1
+    if word < top { word } else { low_word(!word, wide) }
 }
