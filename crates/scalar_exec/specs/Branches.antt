@@ -28,15 +28,15 @@ unfoldable pub pc_relative : PcRelative → Scalars → Scalars
 pc_relative x s = with_x s x.rd (relative_address x.op s.pc x.imm)
 
 -- the address so many words away
-unfoldable pub branch_target : ℕ → ℤ → ℕ
+abbrev pub branch_target : ℕ → ℤ → ℕ
 branch_target pc words = address_at pc (words *ℤ pos 4)
 
 -- to the address
-unfoldable pub at_address : Scalars → ℕ → Scalars
+abbrev pub at_address : Scalars → ℕ → Scalars
 at_address s target = record s { pc = target }
 
 -- X30 gets the address of the next instruction
-unfoldable pub linked : Scalars → Scalars
+abbrev pub linked : Scalars → Scalars
 linked s = with_x s 30 (next_address s.pc)
 
 -- to the target so many words away where the branch is taken, else on

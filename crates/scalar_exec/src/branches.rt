@@ -44,7 +44,6 @@ pub fn exec_pc_relative(s: &mut Scalars, x: &PcRelative)
 
 /// The address so many words away.
 #[inline]
-#[tactic(auto, unfolding(crate::specs::Branches::branch_target))]
 fn target(pc: u64, words: i32) -> u64
     ensures { result ≡ branch_target pc words }
 {
@@ -53,7 +52,6 @@ fn target(pc: u64, words: i32) -> u64
 
 /// Sets X30 to the address of the next instruction.
 #[inline]
-#[tactic(auto, unfolding(crate::specs::Branches::linked))]
 fn link_register(s: &mut Scalars)
     ensures value { s.new ≡ linked s.old }
     ensures place { s.new.pc ≡ s.old.pc }
@@ -64,7 +62,7 @@ fn link_register(s: &mut Scalars)
 
 /// To the target where the branch is taken, else on.
 #[inline]
-#[tactic(auto, unfolding(crate::specs::Branches::branch_if))]
+#[tactic(auto, unfolding(crate::specs::Branches::branch_if, crate::specs::Step::flowed))]
 fn flow_if(s: &Scalars, taken: bool, words: i32) -> Flow
     ensures { flowed s.now result ≡ branch_if taken words s.now }
 {
@@ -76,7 +74,7 @@ fn flow_if(s: &Scalars, taken: bool, words: i32) -> Flow
 }
 
 /// Branches to an address at a distance.
-#[tactic(auto, unfolding(crate::specs::Branches::branch))]
+#[tactic(auto, unfolding(crate::specs::Branches::branch, crate::specs::Step::flowed))]
 pub fn exec_branch(s: &mut Scalars, x: &Branch) -> Flow
     requires { IsBranch x.now }
     ensures value { flowed s.new result ≡ branch x.now s.old }
@@ -106,7 +104,7 @@ pub fn exec_branch(s: &mut Scalars, x: &Branch) -> Flow
 }
 
 /// Branches to the address in a register.
-#[tactic(auto, unfolding(crate::specs::Branches::branch_to))]
+#[tactic(auto, unfolding(crate::specs::Branches::branch_to, crate::specs::Step::flowed))]
 pub fn exec_branch_register(s: &mut Scalars, x: &BranchRegister) -> Flow
     requires { x.now.rn < 32 }
     ensures value { flowed s.new result ≡ branch_register x.now s.old }
