@@ -1,0 +1,9 @@
+pub mod Registers
+pub mod Operands
+pub mod Sums
+pub mod Logic
+pub mod Moves
+pub mod Conditional
+pub mod Branches
+pub mod Sources
+pub mod Step

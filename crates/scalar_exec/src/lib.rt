@@ -1,0 +1,18 @@
+//! What the scalar instructions do to the scalar registers: the arithmetic, logical, move, branch and conditional
+//! instructions, and those of one, two and three registers.
+//!
+//! `exec_scalar` changes all registers but PC, and says where PC goes; the caller moves it.
+#![tactic(auto)]
+
+mod branches;
+mod conditional;
+mod exec;
+mod logic;
+mod moves;
+mod multiply;
+mod operands;
+mod registers;
+mod sources;
+mod sums;
+
+pub use exec::{Flow, exec_scalar};

@@ -1,0 +1,124 @@
+//! Logical operations.
+ghost use Rattle.std.specs.Prelude.{◌≡◌, ◌<◌};
+ghost use Rattle.bit_ops.specs.Sums.{word_size};
+ghost use Rattle.bit_ops.specs.Masks.{mask_of};
+ghost use Rattle.a64_table.specs.Ranges.{IsLogicalRegister, IsLogicalImmediate};
+ghost use Rattle.scalar_exec.specs.Logic.{combined, logical_flags, logical_to_x, logical_to_sp, logical_operand, logical_register, logical_immediate};
+
+use bit_ops::{Nzcv, bit_mask};
+use sm_types::{Logical, LogicalImmediate, LogicalRegister, Scalars};
+
+use crate::operands::{invert, shifted_operand};
+use crate::registers::{register, write_flags, write_x, write_x_or_sp};
+
+/// The operation, bit by bit.
+#[inline]
+#[tactic(auto, unfolding(crate::specs::Logic::combined))]
+fn combine(op: Logical, a: u64, b: u64) -> u64
+    ensures { result ≡ combined op a b }
+{
+    match op {
+        Logical::And => a & b,
+        Logical::Orr => a | b,
+        Logical::Eor => a ^ b,
+        Logical::Ands => a & b,
+    }
+}
+
+/// The flags of a logical result.
+#[inline]
+#[tactic(auto, unfolding(crate::specs::Logic::logical_flags))]
+fn logical_flags(value: u64, wide: bool) -> Nzcv
+    ensures { result ≡ logical_flags wide value }
+{
+    let top = if wide { 1 << 63 } else { 1 << 31 };
+    Nzcv {
+        n: value >= top,
+        z: value == 0,
+        c: false,
+        v: false,
+    }
+}
+
+/// The result to a register and the flags.
+#[inline]
+#[tactic(auto, unfolding(crate::specs::Logic::logical_to_x))]
+fn write_result(s: &mut Scalars, op: Logical, wide: bool, d: u8, value: u64)
+    requires { d < 32 }
+    ensures value { s.new ≡ logical_to_x op wide d value s.old }
+    ensures place { s.new.pc ≡ s.old.pc }
+{
+    match op {
+        Logical::And => write_x(s, d, value),
+        Logical::Orr => write_x(s, d, value),
+        Logical::Eor => write_x(s, d, value),
+        Logical::Ands => {
+            write_x(s, d, value);
+            write_flags(s, logical_flags(value, wide));
+        }
+    }
+}
+
+/// The result to a register, which may be SP where no flags are set.
+#[inline]
+#[tactic(auto, unfolding(crate::specs::Logic::logical_to_sp))]
+fn write_result_or_sp(s: &mut Scalars, op: Logical, wide: bool, d: u8, value: u64)
+    requires { d < 32 }
+    ensures value { s.new ≡ logical_to_sp op wide d value s.old }
+    ensures place { s.new.pc ≡ s.old.pc }
+{
+    match op {
+        Logical::And => write_x_or_sp(s, d, value),
+        Logical::Orr => write_x_or_sp(s, d, value),
+        Logical::Eor => write_x_or_sp(s, d, value),
+        Logical::Ands => {
+            write_x(s, d, value);
+            write_flags(s, logical_flags(value, wide));
+        }
+    }
+}
+
+/// The second operand: shifted, and then inverted where the instruction says so.
+#[inline]
+fn operand(s: &Scalars, x: &LogicalRegister) -> u64
+    requires { IsLogicalRegister x.now }
+    ensures { result ≡ logical_operand x.now s.now }
+{
+    let shifted = shifted_operand(s, &x.operand, x.wide);
+    if x.inverted {
+        invert(shifted, x.wide)
+    } else {
+        shifted
+    }
+}
+
+/// Combines a register with a shifted register.
+#[tactic(auto, unfolding(crate::specs::Logic::logical_register))]
+pub fn exec_logical_register(s: &mut Scalars, x: &LogicalRegister)
+    requires { IsLogicalRegister x.now }
+    ensures value { s.new ≡ logical_register x.now s.old }
+    ensures place { s.new.pc ≡ s.old.pc }
+{
+    let value = combine(x.op, register(s, x.rn, x.wide), operand(s, x));
+    write_result(s, x.op, x.wide, x.rd, value);
+}
+
+/// The mask of the fields.
+#[inline]
+fn mask(x: &LogicalImmediate) -> u64
+    requires { IsLogicalImmediate x.now }
+    ensures { result ≡ mask_of x.now.n x.now.imms x.now.immr x.now.wide }
+{
+    bit_mask(x.n, x.imms, x.immr, x.wide).unwrap_or(0)
+}
+
+/// Combines a register with a mask.
+#[tactic(auto, unfolding(crate::specs::Logic::logical_immediate))]
+pub fn exec_logical_immediate(s: &mut Scalars, x: &LogicalImmediate)
+    requires { IsLogicalImmediate x.now }
+    ensures value { s.new ≡ logical_immediate x.now s.old }
+    ensures place { s.new.pc ≡ s.old.pc }
+{
+    let value = combine(x.op, register(s, x.rn, x.wide), mask(x));
+    write_result_or_sp(s, x.op, x.wide, x.rd, value);
+}

@@ -1,0 +1,106 @@
+//! Multiplications.
+ghost use Rattle.std.specs.Prelude.{◌≡◌, ◌*◌, ◌%◌, ◌<◌, ◌≤◌, ◌^◌};
+ghost use Rattle.sm_types.specs.declared.insn.Insn.TheVariants as insn;
+ghost use Rattle.bit_ops.specs.Sums.{word_size};
+ghost use Rattle.a64_table.specs.Ranges.{IsMultiply};
+ghost use Rattle.scalar_exec.specs.Sources.{accumulated, long_product, high_product, multiply};
+
+use sm_types::{Multiply, Scalars};
+
+use crate::registers::{low_word, register, write_x};
+
+/// The accumulator plus or less a product.
+#[inline]
+#[tactic(auto, unfolding(crate::specs::Sources::accumulated))]
+fn accumulate(a: u64, product: u64, subtract: bool, wide: bool) -> u64
+    requires a { a < word_size wide }
+    requires product { product < word_size wide }
+    ensures { result ≡ accumulated subtract wide a product }
+{
+    if subtract {
+        low_word(a.wrapping_sub(product), wide)
+    } else {
+        low_word(a.wrapping_add(product), wide)
+    }
+}
+
+/// The low word of the product of two words.
+#[inline]
+fn low_product(n: u64, m: u64, wide: bool) -> u64
+    requires n { n < word_size wide }
+    requires m { m < word_size wide }
+    ensures value { result ≡ n * m % word_size wide }
+    ensures small { result < word_size wide }
+{
+    low_word(n.wrapping_mul(m), wide)
+}
+
+/// The product of two words of 32 bits.
+#[inline]
+#[tactic(auto, unfolding(crate::specs::Sources::long_product))]
+fn product(n: u64, m: u64, signed: bool) -> u64
+    requires n { n < 2 ^ 32 }
+    requires m { m < 2 ^ 32 }
+    ensures value { result ≡ long_product signed n m }
+{
+    if signed {
+        let n = i64::from((n as u32).cast_signed());
+        let m = i64::from((m as u32).cast_signed());
+        (n * m).cast_unsigned()
+    } else {
+        n * m
+    }
+}
+
+/// The upper 64 bits of the product of two words of 64 bits.
+#[inline]
+#[tactic(auto, unfolding(crate::specs::Sources::high_product))]
+fn upper_product(n: u64, m: u64, signed: bool) -> u64
+    ensures { result ≡ high_product signed n m }
+{
+    if signed {
+        let both = i128::from(n.cast_signed()) * i128::from(m.cast_signed());
+        ((both >> 64) as i64).cast_unsigned()
+    } else {
+        ((u128::from(n) * u128::from(m)) >> 64) as u64
+    }
+}
+
+/// Multiplies registers.
+#[tactic(auto, unfolding(crate::specs::Sources::multiply))]
+pub fn exec_multiply(s: &mut Scalars, x: &Multiply)
+    requires { IsMultiply x.now }
+    ensures value { s.new ≡ multiply x.now s.old }
+    ensures place { s.new.pc ≡ s.old.pc }
+{
+    match x {
+        Multiply::Same {
+            subtract,
+            wide,
+            rm,
+            ra,
+            rn,
+            rd,
+        } => {
+            let product = low_product(register(s, *rn, *wide), register(s, *rm, *wide), *wide);
+            let value = accumulate(register(s, *ra, *wide), product, *subtract, *wide);
+            write_x(s, *rd, value);
+        }
+        Multiply::Long {
+            subtract,
+            signed,
+            rm,
+            ra,
+            rn,
+            rd,
+        } => {
+            let product = product(register(s, *rn, false), register(s, *rm, false), *signed);
+            let value = accumulate(register(s, *ra, true), product, *subtract, true);
+            write_x(s, *rd, value);
+        }
+        Multiply::High { signed, rm, rn, rd } => {
+            let value = upper_product(register(s, *rn, true), register(s, *rm, true), *signed);
+            write_x(s, *rd, value);
+        }
+    }
+}

@@ -1,0 +1,135 @@
+//! Sums and differences.
+ghost use Rattle.std.specs.Prelude.{◌≡◌, ◌<◌, ◌^◌};
+ghost use Rattle.sm_types.specs.declared.insn.Insn.TheVariants as insn;
+ghost use Rattle.bit_ops.specs.Sums.{word_size, bool_number};
+ghost use Rattle.a64_table.specs.Ranges.{IsAddSubImmediate, IsAddSubRegister, IsAddSubExtended, IsAddSubCarry};
+ghost use Rattle.scalar_exec.specs.Sums.{carry_of, sum_to_x, sum_to_sp, immediate_of, add_sub_immediate, add_sub_register, add_sub_extended, add_sub_carry};
+
+use bit_ops::add_carry;
+use sm_types::{AddSub, AddSubCarry, AddSubExtended, AddSubImmediate, AddSubRegister, Scalars};
+
+use crate::operands::{extended_operand, invert, shifted_operand};
+use crate::registers::{register, register_or_sp, write_flags, write_x, write_x_or_sp};
+
+/// The sum with a carry, or that with the second operand inverted, to a register and the flags.
+#[inline]
+#[tactic(auto, unfolding(crate::specs::Sums::sum_to_x))]
+fn write_sum(s: &mut Scalars, op: AddSub, wide: bool, d: u8, a: u64, b: u64, carry: bool)
+    requires d { d < 32 }
+    requires a { a < word_size wide }
+    requires b { b < word_size wide }
+    ensures value { s.new ≡ sum_to_x op wide d a b (bool_number carry) s.old }
+    ensures place { s.new.pc ≡ s.old.pc }
+{
+    match op {
+        AddSub::Add => {
+            let (sum, _) = add_carry(a, b, carry, wide);
+            write_x(s, d, sum);
+        }
+        AddSub::Adds => {
+            let (sum, flags) = add_carry(a, b, carry, wide);
+            write_x(s, d, sum);
+            write_flags(s, flags);
+        }
+        AddSub::Sub => {
+            let (sum, _) = add_carry(a, invert(b, wide), carry, wide);
+            write_x(s, d, sum);
+        }
+        AddSub::Subs => {
+            let (sum, flags) = add_carry(a, invert(b, wide), carry, wide);
+            write_x(s, d, sum);
+            write_flags(s, flags);
+        }
+    }
+}
+
+/// The sum or difference to a register, which may be SP where no flags are set.
+#[inline]
+#[tactic(auto, unfolding(crate::specs::Sums::sum_to_sp))]
+fn write_sum_or_sp(s: &mut Scalars, op: AddSub, wide: bool, d: u8, a: u64, b: u64)
+    requires d { d < 32 }
+    requires a { a < word_size wide }
+    requires b { b < word_size wide }
+    ensures value { s.new ≡ sum_to_sp op wide d a b s.old }
+    ensures place { s.new.pc ≡ s.old.pc }
+{
+    match op {
+        AddSub::Add => {
+            let (sum, _) = add_carry(a, b, false, wide);
+            write_x_or_sp(s, d, sum);
+        }
+        AddSub::Adds => write_sum(s, AddSub::Adds, wide, d, a, b, false),
+        AddSub::Sub => {
+            let (sum, _) = add_carry(a, invert(b, wide), true, wide);
+            write_x_or_sp(s, d, sum);
+        }
+        AddSub::Subs => write_sum(s, AddSub::Subs, wide, d, a, b, true),
+    }
+}
+
+/// The carry into a sum or a difference.
+#[inline]
+fn carry_into(op: AddSub) -> bool
+    ensures { bool_number result ≡ carry_of op }
+{
+    matches!(op, AddSub::Sub | AddSub::Subs)
+}
+
+/// The immediate, shifted where the instruction says so.
+#[inline]
+fn immediate(x: &AddSubImmediate) -> u64
+    requires { x.now.imm < 2 ^ 12 }
+    ensures value { result ≡ immediate_of x.now }
+    ensures small { result < 2 ^ 24 }
+{
+    let imm = u64::from(x.imm);
+    if x.shifted { imm << 12 } else { imm }
+}
+
+/// Adds or subtracts an immediate.
+#[tactic(auto, unfolding(crate::specs::Sums::add_sub_immediate))]
+pub fn exec_add_sub_immediate(s: &mut Scalars, x: &AddSubImmediate)
+    requires { IsAddSubImmediate x.now }
+    ensures value { s.new ≡ add_sub_immediate x.now s.old }
+    ensures place { s.new.pc ≡ s.old.pc }
+{
+    let a = register_or_sp(s, x.rn, x.wide);
+    write_sum_or_sp(s, x.op, x.wide, x.rd, a, immediate(x));
+}
+
+/// Adds or subtracts a shifted register.
+#[tactic(auto, unfolding(crate::specs::Sums::add_sub_register))]
+pub fn exec_add_sub_register(s: &mut Scalars, x: &AddSubRegister)
+    requires { IsAddSubRegister x.now }
+    ensures value { s.new ≡ add_sub_register x.now s.old }
+    ensures place { s.new.pc ≡ s.old.pc }
+{
+    let a = register(s, x.rn, x.wide);
+    let b = shifted_operand(s, &x.operand, x.wide);
+    write_sum(s, x.op, x.wide, x.rd, a, b, carry_into(x.op));
+}
+
+/// Adds or subtracts an extended register.
+#[tactic(auto, unfolding(crate::specs::Sums::add_sub_extended))]
+pub fn exec_add_sub_extended(s: &mut Scalars, x: &AddSubExtended)
+    requires { IsAddSubExtended x.now }
+    ensures value { s.new ≡ add_sub_extended x.now s.old }
+    ensures place { s.new.pc ≡ s.old.pc }
+{
+    let a = register_or_sp(s, x.rn, x.wide);
+    let b = extended_operand(s, &x.operand, x.wide);
+    write_sum_or_sp(s, x.op, x.wide, x.rd, a, b);
+}
+
+/// Adds or subtracts a register with the carry flag.
+#[tactic(auto, unfolding(crate::specs::Sums::add_sub_carry))]
+pub fn exec_add_sub_carry(s: &mut Scalars, x: &AddSubCarry)
+    requires { IsAddSubCarry x.now }
+    ensures value { s.new ≡ add_sub_carry x.now s.old }
+    ensures place { s.new.pc ≡ s.old.pc }
+{
+    let a = register(s, x.rn, x.wide);
+    let b = register(s, x.rm, x.wide);
+    let carry = s.c;
+    write_sum(s, x.op, x.wide, x.rd, a, b, carry);
+}
