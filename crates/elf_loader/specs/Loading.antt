@@ -1,7 +1,7 @@
 -- Which files are loaded, and what as; which are refused, and why.
 use Rattle.std.specs.Prelude.{◌≡◌, ℕ, zero, suc, ◌+◌, ◌*◌, ◌/◌, ◌++◌, List, [], ◌∷◌, Option, Some, None, take, drop}
 use Rattle.sm_types.specs.declared.insn.Insn.{Insn}
-use Rattle.a64_table.specs.Meaning.{meaning_of}
+use Rattle.sve_table.specs.Meaning.{instruction_of}
 use Rattle.paged_memory.specs.Image.{Program, Extent, IsMemoryOf}
 use Rattle.elf_loader.specs.declared.fault.LoadFault.{LoadFault}
 use Rattle.elf_loader.specs.declared.fault.LoadFault.TheVariants.{NotYet, Unlisted}
@@ -27,7 +27,7 @@ unlisted_word address word None = Some (Unlisted address word)
 unlisted_word address word (Some insn) = None
 
 unfoldable pub unlisted_at : List ℕ → ProgramHeader → ℕ → Option LoadFault
-unlisted_at file s i = unlisted_word (text_address s i) (text_word file s i) (meaning_of (text_word file s i))
+unlisted_at file s i = unlisted_word (text_address s i) (text_word file s i) (instruction_of (text_word file s i))
 
 -- how many words the load has
 abbrev pub word_count : ProgramHeader → ℕ

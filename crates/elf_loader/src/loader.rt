@@ -1,5 +1,5 @@
 //! From a file to its image.
-ghost use Rattle.std.specs.Prelude.{◌≡◌, ◌≢◌, ◌+◌, ◌*◌, ◌/◌, ◌%◌, ◌≤◌, ◌^◌, ◌<◌, length, IfOk, IfErr, None, Some, true};
+ghost use Rattle.std.specs.Prelude.{◌≡◌, ◌≢◌, ◌+◌, ◌*◌, ◌/◌, ◌%◌, ◌≤◌, ◌^◌, ◌<◌, length, IfOk, IfErr, None, Some, true, is_some};
 ghost use Rattle.elf_loader.specs.Header.{text_of, IsLoadable};
 ghost use Rattle.elf_loader.specs.Loading.{unlisted_at, words_fault, word_count, code_words, text_word, text_address, IsTextImage, Loads, Refuses};
 
@@ -9,6 +9,15 @@ use crate::header::{ProgramHeader, u32_at, u64_at};
 use a64_decode::decode_scalar;
 use paged_memory::{Image, Part};
 use std::alloc::Global;
+use sve_decode::decode_vector;
+
+/// Tells whether the word means an instruction by either table.
+#[tactic(auto, unfolding(sve_table::specs::Meaning::instruction_of))]
+fn is_listed(word: u32) -> bool
+    ensures { result ≡ is_some (instruction_of word) }
+{
+    decode_scalar(word).is_some() || decode_vector(word).is_some()
+}
 
 /// A word of the load with its address, or its fault where it means no instruction.
 #[tactic(auto, unfolding(crate::specs::Loading::unlisted_at))]
@@ -22,9 +31,10 @@ fn read_word(file: &[u8], text: &ProgramHeader, i: usize) -> Result<(u64, u32), 
 {
     let word = u32_at(file, text.offset as usize + 4 * i);
     let address = text.address + 4 * i as u64;
-    match decode_scalar(word) {
-        Some(_) => Ok((address, word)),
-        None => Err(LoadFault::Unlisted { address, word }),
+    if is_listed(word) {
+        Ok((address, word))
+    } else {
+        Err(LoadFault::Unlisted { address, word })
     }
 }
 

@@ -1,14 +1,18 @@
 -- One instruction: its first fault, and what it does where it has none. Source: DDI 0487, D1.3 (exceptions, in their order), C6.2.
-use Rattle.std.specs.Prelude.{ℕ, ◌%◌, ◌==◌, cond, List, [], ◌∷◌, Option, Some, None, option_and_then}
+use Rattle.std.specs.Prelude.{ℕ, ◌%◌, ◌==◌, Bool, true, false, cond, List, [], ◌∷◌, Option, Some, None, option_and_then}
 use Rattle.sm_types.specs.declared.insn.Insn.{Insn}
 use Rattle.sm_types.specs.declared.insn.Insn.TheVariants as insn
-use Rattle.sm_types.specs.declared.insn.System.TheVariants.{Svc}
+use Rattle.sm_types.specs.declared.insn.System.{System}
+use Rattle.sm_types.specs.declared.insn.System.TheVariants.{Svc, Brk, Udf, Hint, Dmb, Dsb, Isb}
+use Rattle.sm_types.specs.declared.insn.SystemRegister.{SystemRegister}
+use Rattle.sm_types.specs.declared.insn.SystemRegister.TheVariants.{Nzcv, TpidrEl0, Tpidr2El0, Svcr}
 use Rattle.sm_types.specs.declared.stop.Exception.{Exception}
-use Rattle.sm_types.specs.declared.stop.Exception.TheVariants.{Undefined, PcAlign, Fetch}
-use Rattle.a64_table.specs.Meaning.{meaning_of}
+use Rattle.sm_types.specs.declared.stop.Exception.TheVariants.{Undefined, PcAlign, Fetch, Breakpoint}
+use Rattle.sve_table.specs.Meaning.{instruction_of}
 use Rattle.paged_memory.specs.Memory.{word_at, or_else}
+use Rattle.scalar_exec.specs.Step.{is_scalar, scalar_step}
 use Rattle.machine_step.specs.Core.{Core}
-use Rattle.machine_step.specs.Scalar.{add_sub_immediate, move_wide, branch}
+use Rattle.machine_step.specs.System.{system_move, core_past}
 
 -- the word at PC, where its bytes are executable
 abbrev pub word_of : Core → Option ℕ
@@ -16,7 +20,30 @@ word_of s = word_at s.memory s.scalars.pc
 
 -- the instruction at PC
 abbrev pub insn_at : Core → Option Insn
-insn_at s = option_and_then meaning_of (word_of s)
+insn_at s = option_and_then instruction_of (word_of s)
+
+-- UDF is never executed
+abbrev pub is_executed_system : System → Bool
+is_executed_system (Svc imm) = true
+is_executed_system (Brk imm) = true
+is_executed_system (Udf imm) = false
+is_executed_system (Hint imm) = true
+is_executed_system (Dmb imm) = true
+is_executed_system (Dsb imm) = true
+is_executed_system (Isb imm) = true
+
+-- moves of SVCR are not executed yet
+abbrev pub is_executed_register : SystemRegister → Bool
+is_executed_register Nzcv = true
+is_executed_register TpidrEl0 = true
+is_executed_register Tpidr2El0 = true
+is_executed_register Svcr = false
+
+-- the instructions that are executed; loads, stores and atomics are not yet
+abbrev pub is_executed : Insn → Bool
+is_executed (insn.System x) = is_executed_system x
+is_executed (insn.SystemMove x) = is_executed_register x.register
+is_executed it = is_scalar it
 
 -- PC is a multiple of 4
 abbrev pub alignment_fault : Core → Option Exception
@@ -27,14 +54,14 @@ abbrev pub fetch_fault : Option ℕ → Option Exception
 fetch_fault None = Some Fetch
 fetch_fault (Some word) = None
 
--- a row of the table matches and fits the word
+-- a row of a table matches and fits the word, and its instruction is executed
 abbrev pub row_fault : ℕ → Option Insn → Option Exception
 row_fault word None = Some (Undefined word)
-row_fault word (Some it) = None
+row_fault word (Some it) = cond (is_executed it) None (Some (Undefined word))
 
 abbrev pub undefined_fault : Option ℕ → Option Exception
 undefined_fault None = None
-undefined_fault (Some word) = row_fault word (meaning_of word)
+undefined_fault (Some word) = row_fault word (instruction_of word)
 
 -- the first of a list of checks that fails
 abbrev pub first_fault : List (Option Exception) → Option Exception
@@ -53,12 +80,21 @@ pub data Effect : Type 0 where
   -- the state after the instruction
   Becomes : Core → Effect
 
--- what the instruction does where it has no fault
+-- SVC calls the kernel, BRK raises; hints and barriers have no effect here. UDF's word is its number.
+abbrev pub system_effect : System → Core → Effect
+system_effect (Svc imm) s = Calls imm
+system_effect (Brk imm) s = Raises (Breakpoint imm)
+system_effect (Udf imm) s = Raises (Undefined imm)
+system_effect (Hint imm) s = Becomes (core_past s)
+system_effect (Dmb imm) s = Becomes (core_past s)
+system_effect (Dsb imm) s = Becomes (core_past s)
+system_effect (Isb imm) s = Becomes (core_past s)
+
+-- what an executed instruction does where it has no fault
 abbrev pub next_of : Insn → Core → Effect
-next_of (insn.AddSubImmediate x) s = Becomes (record s { scalars = add_sub_immediate x.op x s.scalars })
-next_of (insn.MoveWide x) s = Becomes (record s { scalars = move_wide x s.scalars })
-next_of (insn.Branch x) s = Becomes (record s { scalars = branch x s.scalars })
-next_of (insn.System (Svc imm)) s = Calls imm
+next_of (insn.System x) s = system_effect x s
+next_of (insn.SystemMove x) s = Becomes (system_move x s)
+next_of it s = Becomes (record s { scalars = scalar_step it s.scalars })
 
 -- where there is no fault there is an instruction
 abbrev pub perform : Option Insn → Core → Effect
@@ -72,3 +108,7 @@ unless_fault None s = perform (insn_at s) s
 -- the effect of the instruction at PC
 unfoldable pub effect_of : Core → Effect
 effect_of s = unless_fault (fault_of s) s
+
+-- what an instruction that has a row does: it raises where it is not executed
+abbrev pub effect_of_insn : ℕ → Insn → Core → Effect
+effect_of_insn word it s = cond (is_executed it) (next_of it s) (Raises (Undefined word))

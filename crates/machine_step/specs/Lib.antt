@@ -1,5 +1,4 @@
 pub mod Core
-pub mod Registers
-pub mod Scalar
+pub mod System
 pub mod Effect
 pub mod Machine

@@ -2,8 +2,7 @@
 //! answers but `Next` leave the machine as it was.
 #![tactic(auto)]
 
-mod execute;
 mod machine;
-mod registers;
+mod system;
 
 pub use machine::{Machine, StepEnd};

@@ -1,12 +1,20 @@
 //! The machine and its step.
+ghost use Rattle.std.specs.Prelude.{◌≡◌, ◌<◌, IsTrue, IfSome};
+ghost use Rattle.a64_table.specs.Ranges.{IsInRow};
+ghost use Rattle.sve_table.specs.Meaning.{instruction_of};
+ghost use Rattle.scalar_exec.specs.Step.{is_scalar, scalar_step};
 ghost use Rattle.machine_step.specs.Core.{Bank};
-ghost use Rattle.machine_step.specs.Effect.{effect_of};
+ghost use Rattle.machine_step.specs.System.{system_move, core_past, system_register, with_system_register};
+ghost use Rattle.machine_step.specs.Effect.{effect_of, effect_of_insn, system_effect, is_executed_register};
 ghost use Rattle.machine_step.specs.Machine.{core_of, Steps};
 
-use crate::execute::{execute_add_sub_immediate, execute_branch, execute_move_wide};
 use a64_decode::decode_scalar;
 use paged_memory::Pages;
-use sm_types::{Exception, Insn, Scalars, System};
+use scalar_exec::{Flow, exec_scalar, next_address, read_x, write_x};
+use sm_types::{Exception, Insn, Scalars, System, SystemMove, SystemMoveOp, SystemRegister};
+use sve_decode::decode_vector;
+
+use crate::system::{read_nzcv, write_nzcv};
 
 /// What a step came to.
 #[derive(Clone, Copy, Debug, PartialEq, Eq)]
@@ -34,6 +42,18 @@ pub struct Machine {
     pub pages: Pages,
 }
 
+/// The instruction of a word by either table.
+#[tactic(auto, unfolding(sve_table::specs::Meaning::instruction_of))]
+fn decode(word: u32) -> Option<Insn>
+    ensures value { result ≡ instruction_of word }
+    ensures fields { IfSome result IsInRow }
+{
+    match decode_scalar(word) {
+        Some(insn) => Some(insn),
+        None => decode_vector(word),
+    }
+}
+
 impl Machine {
     /// Executes the instruction at PC.
     #[tactic(auto, unfolding(crate::specs::Effect::fault_of, crate::specs::Effect::effect_of))]
@@ -47,21 +67,111 @@ impl Machine {
         let Some(word) = self.pages.fetch(pc) else {
             return StepEnd::Raise(Exception::Fetch);
         };
-        match decode_scalar(word) {
+        match decode(word) {
             None => StepEnd::Raise(Exception::Undefined(word)),
-            Some(Insn::System(System::Svc(imm))) => StepEnd::Call(imm),
-            Some(Insn::AddSubImmediate(x)) => {
-                execute_add_sub_immediate(&mut self.scalars, &x);
-                StepEnd::Next
+            Some(insn) => self.execute(word, &insn),
+        }
+    }
+
+    /// Executes an instruction that the word means.
+    fn execute(&mut self, word: u32, insn: &Insn) -> StepEnd
+        requires { IsInRow insn.now }
+        ensures { (bank : Bank) → Steps (effect_of_insn word insn.now (core_of self.old bank)) (core_of self.old bank) (core_of self.new bank) result }
+    {
+        match insn {
+            Insn::System(x) => self.execute_system(word, *x),
+            Insn::SystemMove(x) => self.execute_move(word, x),
+            Insn::LoadStore(_) => StepEnd::Raise(Exception::Undefined(word)),
+            Insn::LoadLiteral(_) => StepEnd::Raise(Exception::Undefined(word)),
+            Insn::LoadStorePair(_) => StepEnd::Raise(Exception::Undefined(word)),
+            Insn::Atomic(_) => StepEnd::Raise(Exception::Undefined(word)),
+            _ => self.execute_scalar(insn),
+        }
+    }
+
+    /// Executes an instruction that reads and writes scalar registers alone.
+    fn execute_scalar(&mut self, insn: &Insn) -> StepEnd
+        requires scalar { IsTrue (is_scalar insn.now) }
+        requires fields { IsInRow insn.now }
+        ensures answer { result ≡ StepEnd.Next }
+        ensures core { (bank : Bank) → core_of self.new bank ≡ record (core_of self.old bank) { scalars = scalar_step insn.now (core_of self.old bank).scalars } }
+    {
+        let flow = exec_scalar(&mut self.scalars, insn);
+        self.scalars.pc = match flow {
+            Flow::Next => next_address(self.scalars.pc),
+            Flow::Jump(target) => target,
+        };
+        StepEnd::Next
+    }
+
+    /// Goes on to the next instruction.
+    fn step_past(&mut self) -> StepEnd
+        ensures answer { result ≡ StepEnd.Next }
+        ensures core { (bank : Bank) → core_of self.new bank ≡ core_past (core_of self.old bank) }
+    {
+        self.scalars.pc = next_address(self.scalars.pc);
+        StepEnd::Next
+    }
+
+    /// Executes a call, an exception, a hint or a barrier.
+    fn execute_system(&mut self, word: u32, x: System) -> StepEnd
+        ensures { (bank : Bank) → Steps (effect_of_insn word (Insn.System x) (core_of self.old bank)) (core_of self.old bank) (core_of self.new bank) result }
+    {
+        match x {
+            System::Svc(imm) => StepEnd::Call(imm),
+            System::Brk(imm) => StepEnd::Raise(Exception::Breakpoint(imm)),
+            System::Udf(_) => StepEnd::Raise(Exception::Undefined(word)),
+            System::Hint(_) => self.step_past(),
+            System::Dmb(_) => self.step_past(),
+            System::Dsb(_) => self.step_past(),
+            System::Isb(_) => self.step_past(),
+        }
+    }
+
+    /// The value of a system register.
+    #[tactic(auto, unfolding(crate::specs::System::system_register))]
+    fn read_register(&self, register: SystemRegister) -> u64
+        ensures { (bank : Bank) → result ≡ system_register register (core_of self.now bank) }
+    {
+        match register {
+            SystemRegister::Nzcv => read_nzcv(&self.scalars),
+            SystemRegister::TpidrEl0 => self.tpidr,
+            SystemRegister::Tpidr2El0 => self.tpidr2,
+            SystemRegister::Svcr => u64::from(self.streaming) + 2 * u64::from(self.za_on),
+        }
+    }
+
+    /// Writes a system register, but SVCR.
+    #[tactic(auto, unfolding(crate::specs::System::with_system_register))]
+    fn write_register(&mut self, register: SystemRegister, value: u64)
+        ensures { (bank : Bank) → core_of self.new bank ≡ with_system_register register (core_of self.old bank) value }
+    {
+        match register {
+            SystemRegister::Nzcv => write_nzcv(&mut self.scalars, value),
+            SystemRegister::TpidrEl0 => self.tpidr = value,
+            SystemRegister::Tpidr2El0 => self.tpidr2 = value,
+            SystemRegister::Svcr => {}
+        }
+    }
+
+    /// Executes a move to or from a system register; those of SVCR raise.
+    fn execute_move(&mut self, word: u32, x: &SystemMove) -> StepEnd
+        requires { x.now.rt < 32 }
+        ensures { (bank : Bank) → Steps (effect_of_insn word (Insn.SystemMove x.now) (core_of self.old bank)) (core_of self.old bank) (core_of self.new bank) result }
+    {
+        if x.register == SystemRegister::Svcr {
+            return StepEnd::Raise(Exception::Undefined(word));
+        }
+        match x.op {
+            SystemMoveOp::Mrs => {
+                let value = self.read_register(x.register);
+                write_x(&mut self.scalars, x.rt, value);
             }
-            Some(Insn::MoveWide(x)) => {
-                execute_move_wide(&mut self.scalars, &x);
-                StepEnd::Next
-            }
-            Some(Insn::Branch(x)) => {
-                execute_branch(&mut self.scalars, &x);
-                StepEnd::Next
+            SystemMoveOp::Msr => {
+                let value = read_x(&self.scalars, x.rt);
+                self.write_register(x.register, value);
             }
         }
+        self.step_past()
     }
 }

@@ -16,3 +16,4 @@ mod sources;
 mod sums;
 
 pub use exec::{Flow, exec_scalar};
+pub use registers::{next_address, read_x, write_x};

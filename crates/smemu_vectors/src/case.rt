@@ -1,0 +1,167 @@
+//! A step of one instruction: the state before it, and the line that says what it gives.
+use anyhow::{Context, Result};
+use a64_decode::decode_scalar;
+use elf_loader::load;
+use machine_step::Machine;
+use paged_memory::Pages;
+use sm_types::{Insn, Scalars, SystemRegister};
+use std::alloc::Global;
+
+use crate::file::file_of;
+use crate::outcome::outcome_line;
+
+/// The address of the instruction.
+const PC: u64 = 0x20000;
+
+/// The state before a step: the word at PC, and the registers.
+#[derive(Clone, Copy)]
+struct Case {
+    word: u32,
+    scalars: Scalars,
+    tpidr: u64,
+    tpidr2: u64,
+}
+
+/// A number of hexadecimal digits.
+fn number(text: &str) -> Option<u64> {
+    u64::from_str_radix(text, 16).ok()
+}
+
+/// Sets the flags of four digits.
+fn set_nzcv(scalars: &mut Scalars, digits: &str) -> Option<()> {
+    let [n, z, c, v] = digits.as_bytes() else {
+        return None;
+    };
+    scalars.n = *n == b'1';
+    scalars.z = *z == b'1';
+    scalars.c = *c == b'1';
+    scalars.v = *v == b'1';
+    Some(())
+}
+
+/// Sets the register of a key `x0` to `x30`.
+fn set_x(scalars: &mut Scalars, key: &str, value: u64) -> Option<()> {
+    let place = key.strip_prefix('x')?.parse::<usize>().ok()?;
+    if place < 31 {
+        scalars.x[place] = value;
+        Some(())
+    } else {
+        None
+    }
+}
+
+/// Sets a field of the state; `None` for one that no scalar instruction sees.
+fn set_field(case: &mut Case, key: &str, value: &str) -> Option<()> {
+    match key {
+        "nzcv" => return set_nzcv(&mut case.scalars, value),
+        "sp" => case.scalars.sp = number(value)?,
+        "tpidr" => case.tpidr = number(value)?,
+        "tpidr2" => case.tpidr2 = number(value)?,
+        _ => return set_x(&mut case.scalars, key, number(value)?),
+    }
+    Some(())
+}
+
+/// The state of a line's third field: a word, and fields `KEY=VALUE`; `None` where a field is none that a scalar instruction sees.
+fn read_case(text: &str) -> Option<Case> {
+    let (word, fields) = match text.split_once(' ') {
+        Some(parts) => parts,
+        None => (text, ""),
+    };
+    let mut case = Case {
+        word: u32::from_str_radix(word, 16).ok()?,
+        scalars: Scalars {
+            x: [0; 31],
+            sp: 0,
+            pc: PC,
+            n: false,
+            z: false,
+            c: false,
+            v: false,
+        },
+        tpidr: 0,
+        tpidr2: 0,
+    };
+    for field in fields.split_whitespace() {
+        let (key, value) = field.split_once('=')?;
+        set_field(&mut case, key, value)?;
+    }
+    Some(case)
+}
+
+/// Tells whether the instructions of the word's group are executed.
+fn is_executed(word: u32) -> bool {
+    match decode_scalar(word) {
+        None => false,
+        Some(Insn::LoadStore(_)) => false,
+        Some(Insn::LoadLiteral(_)) => false,
+        Some(Insn::LoadStorePair(_)) => false,
+        Some(Insn::Atomic(_)) => false,
+        Some(Insn::SystemMove(x)) => x.register != SystemRegister::Svcr,
+        Some(_) => true,
+    }
+}
+
+/// What a step of the case gives, as a line.
+fn step_line(alloc: Global, case: Case) -> Result<String> {
+    let image = load(alloc, &file_of(case.word)).context("the word's file")?;
+    let pages = Pages::from_image(alloc, &image).map_err(|_| anyhow::anyhow!("memory"))?;
+    let mut machine = Machine {
+        scalars: case.scalars,
+        streaming: false,
+        za_on: false,
+        tpidr: case.tpidr,
+        tpidr2: case.tpidr2,
+        pages,
+    };
+    let end = machine.step();
+    outcome_line(alloc, end, &machine)
+}
+
+/// What became of a line.
+#[derive(Drop)]
+enum Verdict {
+    Agrees,
+    Differs(String),
+    /// The instruction is not executed yet, or the state has fields that no scalar instruction sees.
+    Left,
+}
+
+/// Compares a step with its line: VL, SVL, the state and the outcome, with a tab between two.
+fn check_step(alloc: Global, line: &str) -> Result<Verdict> {
+    let Some((_, rest)) = line.split_once('\t') else {
+        return Ok(Verdict::Left);
+    };
+    let Some((_, rest)) = rest.split_once('\t') else {
+        return Ok(Verdict::Left);
+    };
+    let Some((state, wanted)) = rest.split_once('\t') else {
+        return Ok(Verdict::Left);
+    };
+    match read_case(state) {
+        Some(case) if is_executed(case.word) => {
+            let line = step_line(alloc, case)?;
+            if line.as_str() == wanted {
+                Ok(Verdict::Agrees)
+            } else {
+                Ok(Verdict::Differs(line))
+            }
+        }
+        _ => Ok(Verdict::Left),
+    }
+}
+
+/// Prints each line that does not agree, with what was given in its place, and how many agree and are left.
+pub fn check_steps<R: Print>(rt: &R, alloc: Global, text: &str) -> Result<()> {
+    let mut agree = 0u64;
+    let mut left = 0u64;
+    for line in text.lines() {
+        match check_step(alloc, line)? {
+            Verdict::Agrees => agree = agree.saturating_add(1),
+            Verdict::Left => left = left.saturating_add(1),
+            Verdict::Differs(given) => println!(rt; "DIFFERS: {line} GIVEN {given}")?,
+        }
+    }
+    println!(rt; "steps: {agree} agree, {left} of instructions that are not executed yet")?;
+    Ok(())
+}

@@ -1,0 +1,71 @@
+//! The line of what a step gives.
+use anyhow::Result;
+use machine_step::{Machine, StepEnd};
+use sm_types::{Access, Exception, Scalars};
+use std::alloc::Global;
+
+/// Adds ` KEY=VALUE` where the value is not zero.
+fn push_number(alloc: Global, line: &mut String, key: &str, value: u64) -> Result<()> {
+    if value != 0 {
+        let text = format!(in alloc; " {key}={value:016x}")?;
+        line.push_str(text.as_str())?;
+    }
+    Ok(())
+}
+
+/// Adds the flags, where one of them is set.
+fn push_flags(alloc: Global, line: &mut String, s: &Scalars) -> Result<()> {
+    if s.n || s.z || s.c || s.v {
+        let n = u8::from(s.n);
+        let z = u8::from(s.z);
+        let c = u8::from(s.c);
+        let v = u8::from(s.v);
+        let text = format!(in alloc; " nzcv={n}{z}{c}{v}")?;
+        line.push_str(text.as_str())?;
+    }
+    Ok(())
+}
+
+/// The line of a step that was executed: PC, and the registers that are not zero.
+fn next_line(alloc: Global, machine: &Machine) -> Result<String> {
+    let s = &machine.scalars;
+    let pc = s.pc;
+    let mut line = format!(in alloc; "next pc={pc:016x}")?;
+    for (i, value) in s.x.iter().enumerate() {
+        let key = format!(in alloc; "x{i}")?;
+        push_number(alloc, &mut line, key.as_str(), *value)?;
+    }
+    push_number(alloc, &mut line, "sp", s.sp)?;
+    push_flags(alloc, &mut line, s)?;
+    push_number(alloc, &mut line, "tpidr", machine.tpidr)?;
+    push_number(alloc, &mut line, "tpidr2", machine.tpidr2)?;
+    Ok(line)
+}
+
+/// The line of an exception.
+fn raise_line(alloc: Global, exception: Exception) -> Result<String> {
+    let line = match exception {
+        Exception::Undefined(word) => format!(in alloc; "raise undefined {word:08x}")?,
+        Exception::PcAlign => String::from_str(alloc, "raise pcalign")?,
+        Exception::Fetch => String::from_str(alloc, "raise fetch")?,
+        Exception::Data { address, access: Access::Read } => format!(in alloc; "raise data {address:016x} read")?,
+        Exception::Data { address, access: Access::Write } => format!(in alloc; "raise data {address:016x} write")?,
+        Exception::SpAlign => String::from_str(alloc, "raise spalign")?,
+        Exception::Align(address) => format!(in alloc; "raise align {address:016x}")?,
+        Exception::IllegalStreaming => String::from_str(alloc, "raise illegalstreaming")?,
+        Exception::NotStreaming => String::from_str(alloc, "raise notstreaming")?,
+        Exception::ZaInactive => String::from_str(alloc, "raise zainactive")?,
+        Exception::Breakpoint(number) => format!(in alloc; "raise breakpoint {number}")?,
+        Exception::Shared(address) => format!(in alloc; "raise shared {address:016x}")?,
+    };
+    Ok(line)
+}
+
+/// The line of what a step came to, and of the machine after it.
+pub fn outcome_line(alloc: Global, end: StepEnd, machine: &Machine) -> Result<String> {
+    match end {
+        StepEnd::Next => next_line(alloc, machine),
+        StepEnd::Call(number) => Ok(format!(in alloc; "call {number}")?),
+        StepEnd::Raise(exception) => raise_line(alloc, exception),
+    }
+}
