@@ -8,6 +8,7 @@ ghost use Rattle.scalar_exec.specs.Operands.{inverted, shift_of, shift_reg, sign
 use bit_ops::shift;
 use sm_types::{Extend, ExtendedRegister, Scalars, ShiftKind, ShiftedRegister};
 
+use crate::fields::{low_part, ones_above, power};
 use crate::registers::{low_word, read_x, register};
 
 /// Every bit of a word inverted.
@@ -52,14 +53,11 @@ fn extend_sign(value: u64, from: u32, wide: bool) -> u64
     ensures value { result ≡ sign_extend from wide value }
     ensures small { result < word_size wide }
 {
-    let size = 1 << from;
-    let low = value & size - 1;
-    if low < size >> 1 {
+    let low = low_part(value, from);
+    if low < power(from - 1) {
         low
-    } else if wide {
-        u64::MAX - (size - 1) + low
     } else {
-        (1 << 32) - size + low
+        ones_above(wide, from) + low
     }
 }
 

@@ -10,6 +10,7 @@ ghost use Rattle.scalar_exec.specs.Sources.{one_source_value, one_source, quotie
 use bit_ops::{ShiftKind, count_signs, count_zeros, reverse_bits, reverse_bytes, shift};
 use sm_types::{OneSource, OneSourceOp, Scalars, TwoSource, TwoSourceOp};
 
+use crate::fields::width;
 use crate::registers::{register, write_x};
 
 /// The bits of the word or the bytes of its groups in reverse, or a count from its top.
@@ -78,8 +79,7 @@ fn shift_by(n: u64, m: u64, kind: ShiftKind, wide: bool) -> u64
     requires n { n < word_size wide }
     ensures { result ≡ shifted kind wide n (m % width_of wide) }
 {
-    let width = if wide { 64 } else { 32 };
-    shift(n, kind, (m % width) as u32, wide)
+    shift(n, kind, (m % u64::from(width(wide))) as u32, wide)
 }
 
 /// A quotient or a shift.
