@@ -5,11 +5,10 @@ ghost use Rattle.bit_ops.specs.Bits.{width_of};
 ghost use Rattle.a64_table.specs.Ranges.{IsMoveWide, IsBitfieldMove, IsExtract};
 ghost use Rattle.scalar_exec.specs.Moves.{halfword_of, moved, move_wide, placed, bitfield_of, bitfield_move, extract};
 
-use sm_types::{BitfieldMove, BitfieldOp, Extract, MoveOp, MoveWide, Scalars};
-
 use crate::fields::{field_at, insert, ones_above, shifted_field, width};
 use crate::operands::invert;
 use crate::registers::{low_word, register, write_x};
+use sm_types::{BitfieldMove, BitfieldOp, Extract, MoveOp, MoveWide, Scalars};
 
 /// The immediate at its halfword.
 #[inline]

@@ -1,4 +1,4 @@
-use Rattle.std.proofs.Common.{◌≡◌, ◌<◌, ◌/◌, ◌^◌, sym, subst}
+use Rattle.std.proofs.Common.{◌<◌, ◌/◌, ◌^◌, sym, subst}
 use Rattle.std.proofs.lemmas.Nat.{mod_below, pow_pos}
 use Rattle.scalar_exec.proofs.Parts.{masked}
 use Rattle.scalar_exec.proofs.fields.field_at.Goals as goal

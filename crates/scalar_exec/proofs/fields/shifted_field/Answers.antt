@@ -1,4 +1,4 @@
-use Rattle.std.proofs.Common.{◌+◌, ◌*◌, ◌^◌, ◌≤◌, subst, sym}
+use Rattle.std.proofs.Common.{◌+◌, ◌^◌, ◌≤◌, subst, sym}
 use Rattle.scalar_exec.proofs.Parts.{whole, room}
 use Rattle.scalar_exec.proofs.fields.shifted_field.Goals as goal
 
