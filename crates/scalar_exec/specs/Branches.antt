@@ -1,5 +1,5 @@
 -- Addresses beside the program counter, and branches. Source: DDI 0487, C6.2: ADR, ADRP, B, BL, B.cond, CBZ, CBNZ, TBZ, TBNZ, BR, BLR, RET.
-use Rattle.std.specs.Prelude.{ℕ, ◌+◌, ◌*◌, ◌/◌, ◌%◌, ◌^◌, ◌==◌, Bool, true, false, not, cond, pos, ◌*ℤ◌, ℤ}
+use Rattle.std.specs.Prelude.{ℕ, ◌+◌, ◌*◌, ◌/◌, ◌%◌, ◌^◌, ◌==◌, Bool, not, cond, pos, ◌*ℤ◌, ℤ}
 use Rattle.std.specs.Int.{w64, cast_unsigned}
 use Rattle.sm_types.specs.declared.scalars.Scalars.{Scalars}
 use Rattle.sm_types.specs.declared.insn.PcRelativeOp.{PcRelativeOp}

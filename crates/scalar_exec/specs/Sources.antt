@@ -1,6 +1,6 @@
 -- Data processing of one, two and three registers. Source: DDI 0487, C6.2: RBIT, REV16, REV32, REV, CLZ, CLS, UDIV, SDIV, LSLV, LSRV,
 -- ASRV, RORV, MADD, MSUB, SMADDL, SMSUBL, UMADDL, UMSUBL, SMULH, UMULH.
-use Rattle.std.specs.Prelude.{ℕ, ◌+◌, ◌-◌, ◌*◌, ◌/◌, ◌%◌, ◌^◌, ◌==◌, Bool, true, false, cond, pos, ◌*ℤ◌, ℤ, int_div}
+use Rattle.std.specs.Prelude.{ℕ, ◌+◌, ◌-◌, ◌*◌, ◌/◌, ◌%◌, ◌^◌, ◌==◌, Bool, true, false, cond, pos, ◌*ℤ◌, int_div}
 use Rattle.std.specs.Int.{w64, cast_unsigned, int_div_euclid}
 use Rattle.sm_types.specs.declared.scalars.Scalars.{Scalars}
 use Rattle.sm_types.specs.declared.insn.OneSourceOp.{OneSourceOp}

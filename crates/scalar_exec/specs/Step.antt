@@ -1,6 +1,6 @@
 -- The registers after an instruction of the scalar groups that neither access memory nor are system instructions.
 -- Source: DDI 0487, C6.2; but for a taken branch, PC goes on by 4.
-use Rattle.std.specs.Prelude.{ℕ, Bool, true, false}
+use Rattle.std.specs.Prelude.{Bool, true, false}
 use Rattle.sm_types.specs.declared.scalars.Scalars.{Scalars}
 use Rattle.sm_types.specs.declared.insn.Insn.{Insn}
 use Rattle.sm_types.specs.declared.insn.Insn.TheVariants as insn

@@ -5,11 +5,10 @@ ghost use Rattle.a64_table.specs.Ranges.{IsPcRelative, IsBranch, IsSigned};
 ghost use Rattle.scalar_exec.specs.Branches.{address_at, relative_address, pc_relative, branch_target, linked, branch, branch_if, branch_register};
 ghost use Rattle.scalar_exec.specs.Step.{flowed};
 
-use sm_types::{Branch, BranchRegister, BranchRegisterOp, PcRelative, PcRelativeOp, Scalars};
-
 use crate::conditional::holds;
 use crate::exec::Flow;
 use crate::registers::{next_address, read_x, register, write_x};
+use sm_types::{Branch, BranchRegister, BranchRegisterOp, PcRelative, PcRelativeOp, Scalars};
 
 /// The address at a signed distance.
 #[inline]

@@ -4,13 +4,12 @@ ghost use Rattle.bit_ops.specs.Sums.{word_size};
 ghost use Rattle.a64_table.specs.Ranges.{IsConditionalSelect, IsConditionalCompare, IsCompareOperand};
 ghost use Rattle.scalar_exec.specs.Conditional.{condition_holds, otherwise, conditional_select, compared, compare_flags, flags_of, conditional_compare};
 
+use crate::operands::invert;
+use crate::registers::{low_word, register, write_flags, write_x};
 use bit_ops::{Nzcv, add_carry};
 use sm_types::{
     CompareOp, CompareOperand, Condition, ConditionalCompare, ConditionalSelect, Scalars, SelectOp,
 };
-
-use crate::operands::invert;
-use crate::registers::{low_word, register, write_flags, write_x};
 
 /// Tells whether the flags meet the condition.
 #[inline]

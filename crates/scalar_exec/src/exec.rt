@@ -3,8 +3,6 @@ ghost use Rattle.std.specs.Prelude.{◌≡◌, IsTrue};
 ghost use Rattle.a64_table.specs.Ranges.{IsInRow};
 ghost use Rattle.scalar_exec.specs.Step.{is_scalar, scalar_step, flowed};
 
-use sm_types::{Insn, Scalars};
-
 use crate::branches::{exec_branch, exec_branch_register, exec_pc_relative};
 use crate::conditional::{exec_conditional_compare, exec_conditional_select};
 use crate::logic::{exec_logical_immediate, exec_logical_register};
@@ -14,6 +12,7 @@ use crate::sources::{exec_one_source, exec_two_source};
 use crate::sums::{
     exec_add_sub_carry, exec_add_sub_extended, exec_add_sub_immediate, exec_add_sub_register,
 };
+use sm_types::{Insn, Scalars};
 
 /// Where PC goes after an instruction.
 #[derive(Clone, Copy, Debug, PartialEq, Eq)]

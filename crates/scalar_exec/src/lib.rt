@@ -7,6 +7,7 @@
 mod branches;
 mod conditional;
 mod exec;
+mod fields;
 mod logic;
 mod moves;
 mod multiply;

@@ -5,11 +5,10 @@ ghost use Rattle.bit_ops.specs.Masks.{mask_of};
 ghost use Rattle.a64_table.specs.Ranges.{IsLogicalRegister, IsLogicalImmediate};
 ghost use Rattle.scalar_exec.specs.Logic.{combined, logical_flags, logical_to_x, logical_to_sp, logical_operand, logical_register, logical_immediate};
 
-use bit_ops::{Nzcv, bit_mask};
-use sm_types::{Logical, LogicalImmediate, LogicalRegister, Scalars};
-
 use crate::operands::{invert, shifted_operand};
 use crate::registers::{register, write_flags, write_x, write_x_or_sp};
+use bit_ops::{Nzcv, bit_mask};
+use sm_types::{Logical, LogicalImmediate, LogicalRegister, Scalars};
 
 /// The operation, bit by bit.
 #[inline]

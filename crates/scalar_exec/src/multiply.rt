@@ -1,13 +1,12 @@
 //! Multiplications.
-ghost use Rattle.std.specs.Prelude.{◌≡◌, ◌*◌, ◌%◌, ◌<◌, ◌≤◌, ◌^◌};
-ghost use Rattle.sm_types.specs.declared.insn.Insn.TheVariants as insn;
-ghost use Rattle.bit_ops.specs.Sums.{word_size};
+ghost use Rattle.std.specs.Prelude.{◌≡◌, ◌*◌, ◌%◌, ◌<◌, ◌^◌, false, true, pos, ◌*ℤ◌};
+ghost use Rattle.std.specs.Int.{int_div_euclid};
+ghost use Rattle.bit_ops.specs.Sums.{signed_word, word_size};
 ghost use Rattle.a64_table.specs.Ranges.{IsMultiply};
 ghost use Rattle.scalar_exec.specs.Sources.{accumulated, long_product, high_product, multiply};
 
-use sm_types::{Multiply, Scalars};
-
 use crate::registers::{low_word, register, write_x};
+use sm_types::{Multiply, Scalars};
 
 /// The accumulator plus or less a product.
 #[inline]
@@ -35,18 +34,41 @@ fn low_product(n: u64, m: u64, wide: bool) -> u64
     low_word(n.wrapping_mul(m), wide)
 }
 
+/// A word of 32 bits as a signed number.
+#[inline]
+fn signed_narrow(n: u64) -> i64
+    requires { n < 2 ^ 32 }
+    ensures { result ≡ signed_word false n }
+{
+    i64::from((n as u32).cast_signed())
+}
+
+/// The product of two words of 64 bits as signed numbers.
+#[inline]
+fn wide_product(n: u64, m: u64) -> i128
+    ensures { result ≡ signed_word true n *ℤ signed_word true m }
+{
+    i128::from(n.cast_signed()) * i128::from(m.cast_signed())
+}
+
+/// The upper 64 bits of a number of 128.
+#[inline]
+fn upper_word(both: i128) -> i64
+    ensures { result ≡ int_div_euclid both (pos (2 ^ 64)) }
+{
+    (both >> 64) as i64
+}
+
 /// The product of two words of 32 bits.
 #[inline]
 #[tactic(auto, unfolding(crate::specs::Sources::long_product))]
 fn product(n: u64, m: u64, signed: bool) -> u64
     requires n { n < 2 ^ 32 }
     requires m { m < 2 ^ 32 }
-    ensures value { result ≡ long_product signed n m }
+    ensures { result ≡ long_product signed n m }
 {
     if signed {
-        let n = i64::from((n as u32).cast_signed());
-        let m = i64::from((m as u32).cast_signed());
-        (n * m).cast_unsigned()
+        (signed_narrow(n) * signed_narrow(m)).cast_unsigned()
     } else {
         n * m
     }
@@ -59,8 +81,7 @@ fn upper_product(n: u64, m: u64, signed: bool) -> u64
     ensures { result ≡ high_product signed n m }
 {
     if signed {
-        let both = i128::from(n.cast_signed()) * i128::from(m.cast_signed());
-        ((both >> 64) as i64).cast_unsigned()
+        upper_word(wide_product(n, m)).cast_unsigned()
     } else {
         ((u128::from(n) * u128::from(m)) >> 64) as u64
     }

@@ -5,10 +5,10 @@ ghost use Rattle.bit_ops.specs.Bits.{width_of};
 ghost use Rattle.a64_table.specs.Ranges.{IsShiftedRegister, IsExtendedRegister};
 ghost use Rattle.scalar_exec.specs.Operands.{inverted, shift_of, shift_reg, sign_extend, extended, extend_reg};
 
+use crate::fields::{low_part, ones_above, power};
+use crate::registers::{low_word, read_x, register};
 use bit_ops::shift;
 use sm_types::{Extend, ExtendedRegister, Scalars, ShiftKind, ShiftedRegister};
-
-use crate::registers::{low_word, read_x, register};
 
 /// Every bit of a word inverted.
 #[inline]
@@ -17,7 +17,11 @@ pub fn invert(value: u64, wide: bool) -> u64
     ensures value { result ≡ inverted wide value }
     ensures small { result < word_size wide }
 {
-    if wide { u64::MAX - value } else { 0xffff_ffff - value }
+    if wide {
+        u64::MAX - value
+    } else {
+        0xffff_ffff - value
+    }
 }
 
 /// The shift of an operand.
@@ -40,7 +44,12 @@ pub fn shifted_operand(s: &Scalars, x: &ShiftedRegister, wide: bool) -> u64
     ensures value { result ≡ shift_reg wide x.now s.now }
     ensures small { result < word_size wide }
 {
-    shift(read_x(s, x.rm), shift_kind(x.shift), u32::from(x.amount), wide)
+    shift(
+        read_x(s, x.rm),
+        shift_kind(x.shift),
+        u32::from(x.amount),
+        wide,
+    )
 }
 
 /// The low bits of a value with the top one of them in all places above, to a word.
@@ -52,14 +61,11 @@ fn extend_sign(value: u64, from: u32, wide: bool) -> u64
     ensures value { result ≡ sign_extend from wide value }
     ensures small { result < word_size wide }
 {
-    let size = 1 << from;
-    let low = value & size - 1;
-    if low < size >> 1 {
+    let low = low_part(value, from);
+    if low < power(from - 1) {
         low
-    } else if wide {
-        u64::MAX - (size - 1) + low
     } else {
-        (1 << 32) - size + low
+        ones_above(wide, from) + low
     }
 }
 
@@ -90,8 +96,5 @@ pub fn extended_operand(s: &Scalars, x: &ExtendedRegister, wide: bool) -> u64
     ensures value { result ≡ extend_reg wide x.now s.now }
     ensures small { result < word_size wide }
 {
-    low_word(
-        extend(read_x(s, x.rm), x.extend, wide) << x.amount,
-        wide,
-    )
+    low_word(extend(read_x(s, x.rm), x.extend, wide) << x.amount, wide)
 }

@@ -7,10 +7,10 @@ ghost use Rattle.bit_ops.specs.Shifts.{shifted};
 ghost use Rattle.a64_table.specs.Ranges.{IsOneSource, IsTwoSource};
 ghost use Rattle.scalar_exec.specs.Sources.{one_source_value, one_source, quotient, signed_quotient, two_source_value, two_source};
 
+use crate::fields::width;
+use crate::registers::{register, write_x};
 use bit_ops::{ShiftKind, count_signs, count_zeros, reverse_bits, reverse_bytes, shift};
 use sm_types::{OneSource, OneSourceOp, Scalars, TwoSource, TwoSourceOp};
-
-use crate::registers::{register, write_x};
 
 /// The bits of the word or the bytes of its groups in reverse, or a count from its top.
 #[inline]
@@ -61,7 +61,9 @@ fn divide_signed(n: u64, m: u64, wide: bool) -> u64
     if m == 0 {
         0
     } else if wide {
-        n.cast_signed().wrapping_div(m.cast_signed()).cast_unsigned()
+        n.cast_signed()
+            .wrapping_div(m.cast_signed())
+            .cast_unsigned()
     } else {
         u64::from(
             (n as u32)
@@ -78,8 +80,7 @@ fn shift_by(n: u64, m: u64, kind: ShiftKind, wide: bool) -> u64
     requires n { n < word_size wide }
     ensures { result ≡ shifted kind wide n (m % width_of wide) }
 {
-    let width = if wide { 64 } else { 32 };
-    shift(n, kind, (m % width) as u32, wide)
+    shift(n, kind, (m % u64::from(width(wide))) as u32, wide)
 }
 
 /// A quotient or a shift.

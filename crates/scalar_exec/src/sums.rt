@@ -5,11 +5,10 @@ ghost use Rattle.bit_ops.specs.Sums.{word_size, bool_number};
 ghost use Rattle.a64_table.specs.Ranges.{IsAddSubImmediate, IsAddSubRegister, IsAddSubExtended, IsAddSubCarry};
 ghost use Rattle.scalar_exec.specs.Sums.{carry_of, sum_to_x, sum_to_sp, immediate_of, add_sub_immediate, add_sub_register, add_sub_extended, add_sub_carry};
 
-use bit_ops::add_carry;
-use sm_types::{AddSub, AddSubCarry, AddSubExtended, AddSubImmediate, AddSubRegister, Scalars};
-
 use crate::operands::{extended_operand, invert, shifted_operand};
 use crate::registers::{register, register_or_sp, write_flags, write_x, write_x_or_sp};
+use bit_ops::add_carry;
+use sm_types::{AddSub, AddSubCarry, AddSubExtended, AddSubImmediate, AddSubRegister, Scalars};
 
 /// The sum with a carry, or that with the second operand inverted, to a register and the flags.
 #[inline]
