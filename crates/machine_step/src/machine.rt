@@ -1,10 +1,10 @@
 //! The machine and its step.
-ghost use Rattle.std.specs.Prelude.{◌≡◌, ◌<◌, IsTrue, IfSome};
+ghost use Rattle.std.specs.Prelude.{ℕ, ◌≡◌, ◌<◌, IsTrue, IfSome};
 ghost use Rattle.a64_table.specs.Ranges.{IsInRow};
 ghost use Rattle.sve_table.specs.Meaning.{instruction_of};
-ghost use Rattle.scalar_exec.specs.Step.{is_scalar, scalar_step};
+ghost use Rattle.scalar_exec.specs.Step.{is_scalar, scalar_step, flowed};
 ghost use Rattle.machine_step.specs.Core.{Bank};
-ghost use Rattle.machine_step.specs.System.{system_move, core_past, system_register, with_system_register};
+ghost use Rattle.machine_step.specs.System.{moved, core_past, system_register, with_system_register};
 ghost use Rattle.machine_step.specs.Effect.{effect_of, effect_of_insn, system_effect, is_executed_register};
 ghost use Rattle.machine_step.specs.Machine.{core_of, Steps};
 
@@ -54,6 +54,29 @@ fn decode(word: u32) -> Option<Insn>
     }
 }
 
+/// Whether moves of a system register are executed.
+fn is_executed(register: SystemRegister) -> bool
+    ensures { result ≡ is_executed_register register }
+{
+    match register {
+        SystemRegister::Nzcv => true,
+        SystemRegister::TpidrEl0 => true,
+        SystemRegister::Tpidr2El0 => true,
+        SystemRegister::Svcr => false,
+    }
+}
+
+/// Moves PC as the flow of an instruction says.
+#[tactic(auto, unfolding(scalar_exec::specs::Step::flowed, scalar_exec::specs::Registers::past))]
+fn move_pc(s: &mut Scalars, flow: Flow)
+    ensures { s.new ≡ flowed s.old flow }
+{
+    s.pc = match flow {
+        Flow::Next => next_address(s.pc),
+        Flow::Jump(target) => target,
+    };
+}
+
 impl Machine {
     /// Executes the instruction at PC.
     #[tactic(auto, unfolding(crate::specs::Effect::fault_of, crate::specs::Effect::effect_of))]
@@ -93,23 +116,20 @@ impl Machine {
     fn execute_scalar(&mut self, insn: &Insn) -> StepEnd
         requires scalar { IsTrue (is_scalar insn.now) }
         requires fields { IsInRow insn.now }
-        ensures answer { result ≡ StepEnd.Next }
-        ensures core { (bank : Bank) → core_of self.new bank ≡ record (core_of self.old bank) { scalars = scalar_step insn.now (core_of self.old bank).scalars } }
+        ensures { (word : ℕ) (bank : Bank) → Steps (effect_of_insn word insn.now (core_of self.old bank)) (core_of self.old bank) (core_of self.new bank) result }
     {
         let flow = exec_scalar(&mut self.scalars, insn);
-        self.scalars.pc = match flow {
-            Flow::Next => next_address(self.scalars.pc),
-            Flow::Jump(target) => target,
-        };
+        move_pc(&mut self.scalars, flow);
         StepEnd::Next
     }
 
     /// Goes on to the next instruction.
+    #[tactic(auto, unfolding(scalar_exec::specs::Step::flowed))]
     fn step_past(&mut self) -> StepEnd
         ensures answer { result ≡ StepEnd.Next }
         ensures core { (bank : Bank) → core_of self.new bank ≡ core_past (core_of self.old bank) }
     {
-        self.scalars.pc = next_address(self.scalars.pc);
+        move_pc(&mut self.scalars, Flow::Next);
         StepEnd::Next
     }
 
@@ -159,9 +179,18 @@ impl Machine {
         requires { x.now.rt < 32 }
         ensures { (bank : Bank) → Steps (effect_of_insn word (Insn.SystemMove x.now) (core_of self.old bank)) (core_of self.old bank) (core_of self.new bank) result }
     {
-        if x.register == SystemRegister::Svcr {
+        if !is_executed(x.register) {
             return StepEnd::Raise(Exception::Undefined(word));
         }
+        self.move_register(x);
+        self.step_past()
+    }
+
+    /// Moves a system register to a register, or back.
+    fn move_register(&mut self, x: &SystemMove)
+        requires { x.now.rt < 32 }
+        ensures { (bank : Bank) → core_of self.new bank ≡ moved x.now.op x.now (core_of self.old bank) }
+    {
         match x.op {
             SystemMoveOp::Mrs => {
                 let value = self.read_register(x.register);
@@ -172,6 +201,5 @@ impl Machine {
                 self.write_register(x.register, value);
             }
         }
-        self.step_past()
     }
 }

@@ -1,9 +1,11 @@
--- The fields of a decoded instruction are in the ranges that its execution asks for.
-use Rattle.std.proofs.Common.{ap, ◌∙◌, Some}
+use Rattle.std.proofs.Common.{◌≡◌, refl, ap, sym, ◌∙◌}
 use Rattle.machine_step.proofs.machine.Machine.step.Goals as goal
+use Rattle.machine_step.specs.Effect.{effect_of, effect_of_insn}
+use Rattle.machine_step.specs.Machine.{core_of}
+use Rattle.machine_step.proofs.Answers.{effect_at}
 
-pub execute_add_sub_immediate-requires : goal.execute_add_sub_immediate-requires
-execute_add_sub_immediate-requires c = c.decode_scalar.ensures.fields _ (c.in-Some-AddSubImmediate.is ∙ ap Some c.in-Some-AddSubImmediate.field-0-is)
-
-pub execute_move_wide-requires : goal.execute_move_wide-requires
-execute_move_wide-requires c = c.decode_scalar.ensures.fields _ (c.in-Some-MoveWide.is ∙ ap Some c.in-Some-MoveWide.field-0-is)
+pub returns-in-Some-decode : goal.returns-in-Some-decode
+returns-in-Some-decode c bank =
+    let is : effect_of (core_of c.args.self.now bank) ≡ effect_of_insn c.in-Some.word c.in-Some-decode.insn (core_of c.args.self.now bank) =
+        effect_at (core_of c.args.self.now bank) c.in-Some.word c.in-Some-decode.insn c.if-pc-ne0.false (sym c.fetch.ensures ∙ c.in-Some.is) (sym c.decode.ensures.value ∙ c.in-Some-decode.is) in
+    rw is (c.execute.ensures bank)

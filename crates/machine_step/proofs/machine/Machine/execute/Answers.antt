@@ -1,0 +1,11 @@
+use Rattle.std.proofs.Common.{◌≡◌, refl, ap, sym, ◌∙◌}
+use Rattle.machine_step.proofs.machine.Machine.execute.Goals as goal
+
+pub returns-in-System : goal.returns-in-System
+returns-in-System c bank = rw c.in-System.is (c.execute_system.ensures bank)
+
+pub returns-in-SystemMove : goal.returns-in-SystemMove
+returns-in-SystemMove c bank = rw c.in-SystemMove.is (c.execute_move.ensures bank)
+
+pub returns-in_default : goal.returns-in_default
+returns-in_default c bank = c.execute_scalar.ensures c.args.word bank
