@@ -1,5 +1,6 @@
 pub mod Bytes
 pub mod Digits
+pub mod Fields
 pub mod LowParts
 pub mod MaskBits
 pub mod Reversing

@@ -1,6 +1,6 @@
 -- Masks of the logical instructions: equal elements, each a run of ones that is rotated.
 -- Source: DDI 0487, J1.1, DecodeBitMasks. Words are of 64 bits where `wide` holds, else of 32.
-use Rattle.std.specs.Prelude.{◌≡◌, ℕ, zero, suc, ◌+◌, ◌-◌, ◌*◌, ◌%◌, ◌^◌, ◌≤◌, ◌<◌, ◌↔◌, Bool, true, false, not, ◌&&◌, ◌||◌, ◌==◌, nat_le, if◌then◌else◌, Option, Some, None}
+use Rattle.std.specs.Prelude.{◌≡◌, ℕ, zero, suc, ◌+◌, ◌-◌, ◌*◌, ◌%◌, ◌^◌, ◌≤◌, ◌<◌, ◌↔◌, Bool, not, ◌&&◌, ◌||◌, ◌==◌, nat_le, if◌then◌else◌, Option, Some, None}
 use Rattle.bit_ops.specs.Sums.{bool_number}
 use Rattle.bit_ops.specs.Bits.{width_of, digit_at, number_of_digits}
 
@@ -47,3 +47,7 @@ pub record IsFieldsOf (n : Bool) (imms immr : ℕ) (wide : Bool) (mask : ℕ) : 
   pub imms_in_range : imms < 64
   pub immr_in_range : immr < size_of n imms
   pub given : bit_mask_of n imms immr wide ≡ Some mask
+
+-- a run of ones starts at a place of a word of so many bits: a one stands there, and a zero below it, round the end of the word
+unfoldable pub starts_at : ℕ → ℕ → ℕ → Bool
+starts_at word width i = (digit_at 2 word i == 1) && (digit_at 2 word ((i + (width - 1)) % width) == 0)

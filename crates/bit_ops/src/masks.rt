@@ -1,10 +1,10 @@
 //! Masks of the logical instructions.
-ghost use Rattle.std.specs.Prelude.{◌≡◌, ◌≢◌, ◌+◌, ◌-◌, ◌*◌, ◌%◌, ◌^◌, ◌<◌, ◌≤◌, ◌↔◌, ℕ, Bool, not, ◌&&◌, ◌||◌, ◌==◌, nat_le, IsTrue, IfSome, IsNone, Some};
+ghost use Rattle.std.specs.Prelude.{◌≡◌, ◌≢◌, ◌+◌, ◌-◌, ◌*◌, ◌%◌, ◌^◌, ◌<◌, ◌≤◌, ◌↔◌, ℕ, Bool, not, ◌&&◌, ◌||◌, ◌==◌, nat_le, true, false, IsTrue, IfSome, IsNone, Some};
 ghost use Rattle.bit_ops.specs.Sums.{bool_number, word_size};
 ghost use Rattle.bit_ops.specs.Bits.{digit_at};
-ghost use Rattle.bit_ops.specs.Masks.{bit_mask_of, is_reserved, length_of, IsMask, IsFieldsOf};
+ghost use Rattle.bit_ops.specs.Masks.{bit_mask_of, is_reserved, length_of, ones_of, size_of, starts_at, IsMask, IsFieldsOf};
 
-use crate::words::low_word;
+use crate::words::{low_word, width};
 
 /// The mask that the fields N, imms and immr of a logical instruction give a word of 64 bits where `wide`,
 /// else of 32. None where the fields are reserved. Bits of `immr` above the size of an element are ignored.
@@ -39,7 +39,11 @@ fn element_length(n: bool, imms: u8) -> u32
     ensures small { result < 7 }
 {
     let bits = length_bits(n, imms);
-    if bits == 0 { 0 } else { 31 - bits.leading_zeros() }
+    if bits == 0 {
+        0
+    } else {
+        31 - bits.leading_zeros()
+    }
 }
 
 /// How many bits an element of a length has.
@@ -106,5 +110,144 @@ pub fn mask_fields(value: u64, wide: bool) -> Option<(bool, u8, u8)>
     ensures only { (n : Bool) (imms immr : ℕ) → IsFieldsOf n imms immr wide (value % word_size wide) → result ≡ Some (n, imms, immr) }
     ensures none { IsNone result ↔ ((n : Bool) (imms immr : ℕ) → imms < 64 → immr < 64 → bit_mask_of n imms immr wide ≢ Some (value % word_size wide)) }
 {
+    fields_of_word(low_word(value, wide), wide)
+}
+
+/// The fields that give a word.
+fn fields_of_word(word: u64, wide: bool) -> Option<(bool, u8, u8)>
+    ensures some { IfSome result (λ f. IsFieldsOf f.0 f.1 f.2 wide word) }
+    ensures only { (n : Bool) (imms immr : ℕ) → IsFieldsOf n imms immr wide word → result ≡ Some (n, imms, immr) }
+{
+    match likely_fields(word, wide) {
+        Some((n, imms, immr)) if gives(n, imms, immr, wide, word) => Some((n, imms, immr)),
+        _ => None,
+    }
+}
+
+/// Whether the mask of the fields is the word, and `immr` below the size of an element.
+fn gives(n: bool, imms: u8, immr: u8, wide: bool, word: u64) -> bool
+    requires imms { imms < 64 }
+    requires immr { immr < 64 }
+    ensures { IsTrue result ↔ IsFieldsOf n imms immr wide word }
+{
+    match bit_mask(n, imms, immr, wide) {
+        Some(mask) => mask == word && u32::from(immr) < element_size(element_length(n, imms)),
+        None => false,
+    }
+}
+
+/// The fields of the word if it has any, read off its first run of ones and the distance to the next.
+fn likely_fields(word: u64, wide: bool) -> Option<(bool, u8, u8)>
+    ensures small { IfSome result (λ f. (f.1 < 64) × (f.2 < 64)) }
+    ensures only { (n : Bool) (imms immr : ℕ) → IsFieldsOf n imms immr wide word → result ≡ Some (n, imms, immr) }
+{
+    let width = width(wide);
+    let first = next_start(word, 0, width)?;
+    let size = match next_start(word, first + 1, width) {
+        Some(next) => next - first,
+        None => width,
+    };
+    written(size, run_of_ones(word, first, width), first)
+}
+
+/// The least place from `from` on, in a word of `width` bits, at which a run of ones starts.
+fn next_start(word: u64, from: u32, width: u32) -> Option<u32>
+    requires { width ≤ 64 }
+    ensures some { IfSome result (λ p. (from ≤ p) × (p < width) × (starts_at word width p ≡ true) × ((i : ℕ) → from ≤ i → i < p → starts_at word width i ≡ false)) }
+    ensures none { IsNone result → (i : ℕ) → from ≤ i → i < width → starts_at word width i ≡ false }
+{
+    for place in from..width {
+        if is_start(word, place, width) {
+            return Some(place);
+        }
+    }
     None
+}
+
+/// Whether a run of ones starts at a place of a word of `width` bits.
+fn is_start(word: u64, place: u32, width: u32) -> bool
+    requires place { place < width }
+    requires width { width ≤ 64 }
+    ensures { result ≡ starts_at word width place }
+{
+    is_one(word, place) && !is_one(word, (place + (width - 1)) % width)
+}
+
+/// How many ones follow from a place on, round the end of a word of `width` bits.
+fn run_of_ones(word: u64, first: u32, width: u32) -> u32
+    requires first { first < width }
+    requires width { width ≤ 64 }
+    ensures ones { (i : ℕ) → i < result → digit_at 2 word ((first + i) % width) ≡ 1 }
+    ensures end { result < width → digit_at 2 word ((first + result) % width) ≡ 0 }
+    ensures small { result ≤ width }
+{
+    for count in 0..width {
+        if !is_one(word, (first + count) % width) {
+            return count;
+        }
+    }
+    width
+}
+
+/// Whether the bit at a place is a one.
+fn is_one(word: u64, place: u32) -> bool
+    requires { place < 64 }
+    ensures { result ≡ (digit_at 2 word place == 1) }
+{
+    word >> place & 1 == 1
+}
+
+/// The fields of elements of `size` bits with so many ones, the first of which starts at a place.
+fn written(size: u32, ones: u32, first: u32) -> Option<(bool, u8, u8)>
+    ensures small { IfSome result (λ f. (f.1 < 64) × (f.2 < 64)) }
+    ensures only { (n : Bool) (imms immr : ℕ) → imms < 64 → immr < size → size ≡ size_of n imms → ones ≡ ones_of n imms + 1 → ones < size → first < size → immr ≡ (size - first) % size → result ≡ Some (n, imms, immr) }
+{
+    if ones == 0 || ones >= size || first >= size || size > 64 {
+        return None;
+    }
+    let turn = ((size - first) % size) as u8;
+    if size == 64 {
+        Some((true, (ones - 1) as u8, turn))
+    } else if size <= 32 {
+        Some((false, (64 - 2 * size + (ones - 1)) as u8, turn))
+    } else {
+        None
+    }
+}
+
+#[cfg(test)]
+mod tests {
+    use crate::{bit_mask, mask_fields};
+
+    #[test]
+    fn masks(rt: HostRuntime) {
+        assert!(rt; bit_mask(false, 60, 0, true) == Some(0x5555_5555_5555_5555));
+        assert!(rt; bit_mask(false, 60, 1, true) == Some(0xaaaa_aaaa_aaaa_aaaa));
+        assert!(rt; bit_mask(true, 7, 4, true) == Some(0xf000_0000_0000_000f));
+        assert!(rt; bit_mask(true, 62, 63, true) == Some(0xffff_ffff_ffff_fffe));
+        assert!(rt; bit_mask(false, 7, 4, false) == Some(0xf000_000f));
+        assert!(rt; bit_mask(false, 53, 3, false) == Some(0xe7e7_e7e7));
+        // bits of immr above the element
+        assert!(rt; bit_mask(false, 39, 28, true) == Some(0x0ff0_0ff0_0ff0_0ff0));
+    }
+
+    #[test]
+    fn reserved(rt: HostRuntime) {
+        assert!(rt; bit_mask(false, 61, 0, true).is_none());
+        assert!(rt; bit_mask(false, 62, 0, true).is_none());
+        assert!(rt; bit_mask(false, 63, 0, false).is_none());
+        assert!(rt; bit_mask(true, 63, 0, true).is_none());
+        assert!(rt; bit_mask(true, 7, 4, false).is_none());
+    }
+
+    #[test]
+    fn fields(rt: HostRuntime) {
+        assert!(rt; mask_fields(0x5555_5555_5555_5555, true) == Some((false, 60, 0)));
+        assert!(rt; mask_fields(0xf000_0000_0000_000f, true) == Some((true, 7, 4)));
+        assert!(rt; mask_fields(0x0ff0_0ff0_0ff0_0ff0, true) == Some((false, 39, 12)));
+        assert!(rt; mask_fields(0x1234_5678_f000_000f, false) == Some((false, 7, 4)));
+        assert!(rt; mask_fields(0, true).is_none());
+        assert!(rt; mask_fields(u64::MAX, true).is_none());
+        assert!(rt; mask_fields(5, true).is_none());
+    }
 }
