@@ -15,5 +15,7 @@ mod operands;
 mod registers;
 mod sources;
 mod sums;
+#[cfg(test)]
+mod tests;
 
 pub use exec::{Flow, exec_scalar};
