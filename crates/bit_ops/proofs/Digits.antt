@@ -1,9 +1,8 @@
 -- Numbers by their digits.
-use Rattle.std.proofs.Common.{◌≡◌, ◌≢◌, ℕ, zero, suc, ◌+◌, ◌-◌, ◌*◌, ◌/◌, ◌%◌, ◌^◌, ◌<◌, ◌≤◌, refl, sym, ap, ap₂, ◌∙◌, subst, arith, inl, inr, add-one, lit<}
+use Rattle.std.proofs.Common.{◌≡◌, ℕ, zero, suc, ◌+◌, ◌-◌, ◌*◌, ◌^◌, ◌<◌, refl, sym, ap, ap₂, ◌∙◌, subst, arith, inl, inr, lit<}
 use Rattle.std.proofs.Math.Nat.{pow-suc}
 use Rattle.std.proofs.lemmas.Bool.{cases_lt}
-use Rattle.std.proofs.lemmas.Nat.{shr_high}
-use Rattle.std.proofs.lemmas.Nat.Bits.{bit_at_cat_low, bit_at_cat_high, bit_at_above, same_from_bits_below, bit_at_lowest}
+use Rattle.std.proofs.lemmas.Nat.Bits.{bit_at_cat_low, bit_at_cat_high, same_from_bits_below}
 use Rattle.bit_ops.specs.Bits.{digit_at, number_of_digits}
 
 -- the same digits make the same number
@@ -23,11 +22,11 @@ number-lt f (suc k) small =
     let power = pow-suc 2 k in
     elim (cases_lt (f k) 1) [
       | inl off ↦
-        let z : f k ≡ 0 = omega arith in
-        subst (λ b. number_of_digits 2 f k + b * 2 ^ k < 2 ^ suc k) (sym z) (omega arith)
+          let z : f k ≡ 0 = omega arith in
+          subst (λ b. number_of_digits 2 f k + b * 2 ^ k < 2 ^ suc k) (sym z) (omega arith)
       | inr on ↦
-        let one : f k ≡ 1 = omega arith in
-        subst (λ b. number_of_digits 2 f k + b * 2 ^ k < 2 ^ suc k) (sym one) (omega arith)
+          let one : f k ≡ 1 = omega arith in
+          subst (λ b. number_of_digits 2 f k + b * 2 ^ k < 2 ^ suc k) (sym one) (omega arith)
     ]
 
 one_bit : (d : ℕ) → d < 2 → digit_at 2 d 0 ≡ d
@@ -43,9 +42,9 @@ bit_of_number f (suc k) small i lt =
     ap (λ n. digit_at 2 n i) swap ∙ elim (cases_lt i k) [
       | inl under ↦ bit_at_cat_low (f k) k (number_of_digits 2 f k) i under ∙ bit_of_number f k (λ j l. small j (omega arith)) i under
       | inr over ↦
-        let at : k ≡ i = omega arith in
-        subst (λ j. digit_at 2 (f k * 2 ^ k + number_of_digits 2 f k) j ≡ f j) at
-        (bit_at_cat_high (f k) k (number_of_digits 2 f k) k below (omega arith) ∙ (let z : k - k ≡ 0 = omega arith in ap (digit_at 2 (f k)) z) ∙ one_bit (f k) (small k (omega arith)))
+          let at : k ≡ i = omega arith in
+          subst (λ j. digit_at 2 (f k * 2 ^ k + number_of_digits 2 f k) j ≡ f j) at
+          (bit_at_cat_high (f k) k (number_of_digits 2 f k) k below (omega arith) ∙ (let z : k - k ≡ 0 = omega arith in ap (digit_at 2 (f k)) z) ∙ one_bit (f k) (small k (omega arith)))
     ]
 
 -- a number that has these bits and no others is the number of them

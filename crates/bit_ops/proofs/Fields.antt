@@ -1,5 +1,5 @@
 -- The fields of a mask, read off where its runs of ones start and how long they are.
-use Rattle.std.proofs.Common.{◌≡◌, ◌≢◌, ◌↔◌, ◌⊎◌, ℕ, zero, suc, ◌+◌, ◌-◌, ◌*◌, ◌/◌, ◌%◌, ◌^◌, ◌<◌, ◌≤◌, ◌==◌, ◌||◌, ◌&&◌, not, refl, sym, ap, ap₂, ◌∙◌, subst, arith, inl, inr, lit<, lit≤, Bool, true, false, nat_le, Option, Some, None, IfSome, IsNone, if◌then◌else◌, mod-eq_of_lt, eqb-true, mul-le-mul_right}
+use Rattle.std.proofs.Common.{◌≡◌, ◌≢◌, ◌↔◌, ◌⊎◌, ℕ, zero, suc, ◌+◌, ◌-◌, ◌*◌, ◌/◌, ◌%◌, ◌^◌, ◌<◌, ◌≤◌, ◌==◌, ◌||◌, ◌&&◌, not, refl, sym, ap, ap₂, ◌∙◌, subst, arith, inl, inr, lit<, Bool, true, false, nat_le, Option, Some, None, IfSome, IsNone, if◌then◌else◌, mod-eq_of_lt, eqb-true, mul-le-mul_right}
 use Rattle.std.proofs.Math.Nat.{add-mul-mod_self_right, add-mod-mod, mod-mod, pow-suc}
 use Rattle.std.proofs.lemmas.Bool.{cases_lt, cases_order, both_ways, cases_Bool}
 use Rattle.std.proofs.lemmas.Bool.Decides.{nat_tests}
@@ -53,18 +53,18 @@ eq_false a b e = grind (arith, nat_tests)
 -- a one at place t of the element, and none before it, only where t is 0
 edge : (size ones t : ℕ) → ones + 1 < size → t < size → (nat_le t ones && not (nat_le ((t + (size - 1)) % size) ones)) ≡ (t == 0)
 edge size ones t room lt = elim (cases_lt 0 t) [
-    | inr none ↦
+  | inr none ↦
       let z : t ≡ 0 = omega arith in
       let last : (t + (size - 1)) % size ≡ size - 1 = ap (λ k. k % size) (let s : t + (size - 1) ≡ size - 1 = omega arith in s) ∙ mod-eq_of_lt (omega arith) in
       rw (le_true t ones (omega arith), le_false ((t + (size - 1)) % size) ones (omega arith), eq_true t 0 z) refl
-    | inl some ↦
+  | inl some ↦
       let one : t + (size - 1) ≡ t - 1 + 1 * size = omega arith in
       let back : (t + (size - 1)) % size ≡ t - 1 = ap (λ k. k % size) one ∙ add-mul-mod_self_right (t - 1) 1 size ∙ mod-eq_of_lt (omega arith) in
       elim (cases_lt ones t) [
         | inl above ↦ rw (le_false t ones above, eq_false t 0 (omega arith)) refl
         | inr within ↦ rw (le_true t ones within, le_true ((t + (size - 1)) % size) ones (omega arith), eq_false t 0 (omega arith)) refl
       ]
-  ]
+]
 
 pub start-is : (word width size turn ones i : ℕ) → IsPeriodic word width size turn ones → i < width → starts_at word width i ≡ ((i + turn) % size == 0)
 unfolding starts_at
@@ -89,28 +89,28 @@ start-off word width size turn ones i p lt e z = both_ways _ (sym (start-is word
 
 origin : (size turn : ℕ) → turn < size → ((size - turn) % size + turn) % size ≡ 0
 origin size turn lt = elim (cases_lt 0 turn) [
-    | inl some ↦
+  | inl some ↦
       let e : (size - turn) % size ≡ size - turn = mod-eq_of_lt (omega arith) in
       let sum : (size - turn) % size + turn ≡ 0 + 1 * size = omega arith in
       ap (λ k. k % size) sum ∙ add-mul-mod_self_right 0 1 size ∙ mod-eq_of_lt (omega arith)
-    | inr none ↦
+  | inr none ↦
       let all : size - turn ≡ 0 + 1 * size = omega arith in
       let e : (size - turn) % size ≡ 0 = ap (λ k. k % size) all ∙ add-mul-mod_self_right 0 1 size ∙ mod-eq_of_lt (omega arith) in
       ap (λ k. k % size) (let s : (size - turn) % size + turn ≡ 0 = omega arith in s) ∙ mod-eq_of_lt (omega arith)
-  ]
+]
 
 size_le : (word width size turn ones : ℕ) → IsPeriodic word width size turn ones → size ≤ width
 size_le word width size turn ones p = elim (cases_lt 0 p.times) [
-    | inl some ↦
+  | inl some ↦
       let le : 1 * size ≤ p.times * size = mul-le-mul_right size some in
       let whole = p.whole in
       omega arith
-    | inr none ↦
+  | inr none ↦
       let z : p.times ≡ 0 = omega arith in
       let e : width ≡ 0 = p.whole ∙ ap (λ t. t * size) z ∙ omega arith in
       let some = p.some in
       absurd (omega arith)
-  ]
+]
 
 pub some-start : (word width size turn ones : ℕ) → IsPeriodic word width size turn ones → ((i : ℕ) → 0 ≤ i → i < width → starts_at word width i ≡ false) → ⊥
 some-start word width size turn ones p none =
@@ -131,20 +131,20 @@ first-below word width size turn ones first p none =
 
 pub turn-is : (size turn first : ℕ) → turn < size → first < size → (first + turn) % size ≡ 0 → turn ≡ (size - first) % size
 turn-is size turn first lt less z = elim (cases_lt (first + turn) size) [
-    | inl under ↦
+  | inl under ↦
       let e : first + turn ≡ 0 = sym (mod-eq_of_lt under) ∙ z in
       let all : size - first ≡ 0 + 1 * size = omega arith in
       let none : (size - first) % size ≡ 0 = ap (λ k. k % size) all ∙ add-mul-mod_self_right 0 1 size ∙ mod-eq_of_lt (omega arith) in
       let t : turn ≡ 0 = omega arith in
       t ∙ sym none
-    | inr over ↦
+  | inr over ↦
       let split : first + turn ≡ first + turn - size + 1 * size = omega arith in
       let e : first + turn - size ≡ 0 = sym (ap (λ k. k % size) split ∙ add-mul-mod_self_right (first + turn - size) 1 size ∙ mod-eq_of_lt (omega arith)) ∙ z in
       let some : 0 < first = omega arith in
       let small : (size - first) % size ≡ size - first = mod-eq_of_lt (omega arith) in
       let t : turn ≡ size - first = omega arith in
       t ∙ sym small
-  ]
+]
 
 -- ---- the distance to the next start
 
@@ -166,7 +166,7 @@ next-is word width size turn ones first next p z le lt on off =
       | inl same ↦ same
       | inr (inl less) ↦ absurd (let e : next - first ≡ 0 = sym (mod-eq_of_lt less) ∙ none in omega arith)
       | inr (inr more) ↦
-        absurd (start-off word width size turn ones (first + size) p (omega arith) (off (first + size) (omega arith) (omega arith)) (after size turn first size z ∙ self size (omega arith)))
+          absurd (start-off word width size turn ones (first + size) p (omega arith) (off (first + size) (omega arith) (omega arith)) (after size turn first size z ∙ self size (omega arith)))
     ]
 
 pub none-is : (word width size turn ones first : ℕ) → IsPeriodic word width size turn ones → first < size → (first + turn) % size ≡ 0 → ((i : ℕ) → first + 1 ≤ i → i < width → starts_at word width i ≡ false) → width ≡ size
@@ -175,16 +175,16 @@ none-is word width size turn ones first p less z off =
     let le = size_le word width size turn ones p in
     elim (cases_lt (first + size) width) [
       | inl within ↦
-        absurd (start-off word width size turn ones (first + size) p within (off (first + size) (omega arith) within) (after size turn first size z ∙ self size (omega arith)))
+          absurd (start-off word width size turn ones (first + size) p within (off (first + size) (omega arith) within) (after size turn first size z ∙ self size (omega arith)))
       | inr beyond ↦ elim (cases_lt p.times 2) [
         | inl one ↦
-          let once : p.times * size ≤ 1 * size = mul-le-mul_right size (omega arith) in
-          let whole = p.whole in
-          omega arith
+            let once : p.times * size ≤ 1 * size = mul-le-mul_right size (omega arith) in
+            let whole = p.whole in
+            omega arith
         | inr two ↦
-          let twice : 2 * size ≤ p.times * size = mul-le-mul_right size two in
-          let whole = p.whole in
-          absurd (omega arith)
+            let twice : 2 * size ≤ p.times * size = mul-le-mul_right size two in
+            let whole = p.whole in
+            absurd (omega arith)
       ]
     ]
 
@@ -202,17 +202,17 @@ ones-are word width size turn ones first count p z le on off =
     elim (cases_order count (ones + 1)) [
       | inl same ↦ same
       | inr (inl less) ↦
-        let bit = run_bit word width size turn ones first count p z in
-        let at : count % size ≡ count = mod-eq_of_lt (omega arith) in
-        let one : bool_number (nat_le (count % size) ones) ≡ 1 = ap bool_number (le_true (count % size) ones (omega arith)) in
-        let zero' = off (omega arith) in
-        absurd (omega arith)
+          let bit = run_bit word width size turn ones first count p z in
+          let at : count % size ≡ count = mod-eq_of_lt (omega arith) in
+          let one : bool_number (nat_le (count % size) ones) ≡ 1 = ap bool_number (le_true (count % size) ones (omega arith)) in
+          let zero' = off (omega arith) in
+          absurd (omega arith)
       | inr (inr more) ↦
-        let bit = run_bit word width size turn ones first (ones + 1) p z in
-        let at : (ones + 1) % size ≡ ones + 1 = mod-eq_of_lt full in
-        let none : bool_number (nat_le ((ones + 1) % size) ones) ≡ 0 = ap bool_number (le_false ((ones + 1) % size) ones (omega arith)) in
-        let one = on (ones + 1) more in
-        absurd (omega arith)
+          let bit = run_bit word width size turn ones first (ones + 1) p z in
+          let at : (ones + 1) % size ≡ ones + 1 = mod-eq_of_lt full in
+          let none : bool_number (nat_le ((ones + 1) % size) ones) ≡ 0 = ap bool_number (le_false ((ones + 1) % size) ones (omega arith)) in
+          let one = on (ones + 1) more in
+          absurd (omega arith)
     ]
 
 -- ---- the fields of a length and a count of ones
@@ -221,29 +221,29 @@ highest-spec : (limit n : ℕ) → n < 2 ^ limit → 0 < highest_one limit n →
 unfolding highest_one
 highest-spec zero n lt some = absurd (omega arith)
 highest-spec (suc k) n lt some = elim (cases_lt n (2 ^ k)) [
-    | inl under ↦
+  | inl under ↦
       let e : highest_one (suc k) n ≡ highest_one k n = rw (le_false (2 ^ k) n under) refl in
       subst (λ h. 0 < h → (2 ^ h ≤ n) × (n < 2 ^ suc h)) (sym e) (highest-spec k n under) some
-    | inr over ↦
+  | inr over ↦
       let e : highest_one (suc k) n ≡ k = rw (le_true (2 ^ k) n over) refl in
       subst (λ h. (2 ^ h ≤ n) × (n < 2 ^ suc h)) (sym e) (over, lt)
-  ]
+]
 
 highest-lt : (limit n : ℕ) → highest_one (suc limit) n < suc limit
 unfolding highest_one
 highest-lt zero n = elim (cases_lt n (2 ^ 0)) [
-    | inl under ↦ rw (le_false (2 ^ 0) n under) (lit< tt)
-    | inr over ↦ rw (le_true (2 ^ 0) n over) (lit< tt)
-  ]
+  | inl under ↦ rw (le_false (2 ^ 0) n under) (lit< tt)
+  | inr over ↦ rw (le_true (2 ^ 0) n over) (lit< tt)
+]
 highest-lt (suc k) n =
     let rest = highest-lt k n in
     elim (cases_lt n (2 ^ suc k)) [
       | inl under ↦
-        let e : highest_one (suc (suc k)) n ≡ highest_one (suc k) n = rw (le_false (2 ^ suc k) n under) refl in
-        omega arith
+          let e : highest_one (suc (suc k)) n ≡ highest_one (suc k) n = rw (le_false (2 ^ suc k) n under) refl in
+          omega arith
       | inr over ↦
-        let e : highest_one (suc (suc k)) n ≡ suc k = rw (le_true (2 ^ suc k) n over) refl in
-        omega arith
+          let e : highest_one (suc (suc k)) n ≡ suc k = rw (le_true (2 ^ suc k) n over) refl in
+          omega arith
     ]
 
 pub length-lt : (n : Bool) (imms : ℕ) → length_of n imms < 7
@@ -258,9 +258,9 @@ length-spec n imms some =
     let place : 0 < highest_one 7 bits = elim (cases_lt 0 (highest_one 7 bits)) [
       | inl more ↦ more
       | inr none ↦
-        let z : highest_one 7 bits ≡ 0 = omega arith in
-        let one : 2 ^ highest_one 7 bits ≡ 1 = ap (λ k. 2 ^ k) z in
-        absurd (omega arith)
+          let z : highest_one 7 bits ≡ 0 = omega arith in
+          let one : 2 ^ highest_one 7 bits ≡ 1 = ap (λ k. 2 ^ k) z in
+          absurd (omega arith)
     ] in
     let both = highest-spec 7 bits (omega arith) place in
     (both.0, subst (λ k. bits < k) (pow-suc 2 (highest_one 7 bits)) both.1)
@@ -281,7 +281,7 @@ six_lengths P a b c d e f (suc (suc (suc (suc (suc (suc k)))))) lt = absurd (ome
 -- above the ones, imms has the inverse of the length's bit, below ones
 imms_of : (l imms : ℕ) → l < 6 → 2 ^ l ≤ 63 - imms → 63 - imms < 2 ^ l * 2 → imms < 64 → imms ≡ 64 - 2 * 2 ^ l + imms % 2 ^ l
 imms_of l imms lt = six_lengths (λ l. 2 ^ l ≤ 63 - imms → 63 - imms < 2 ^ l * 2 → imms < 64 → imms ≡ 64 - 2 * 2 ^ l + imms % 2 ^ l)
-  (λ a b c. omega arith) (λ a b c. omega arith) (λ a b c. omega arith) (λ a b c. omega arith) (λ a b c. omega arith) (λ a b c. omega arith) l lt
+    (λ a b c. omega arith) (λ a b c. omega arith) (λ a b c. omega arith) (λ a b c. omega arith) (λ a b c. omega arith) (λ a b c. omega arith) l lt
 
 pub fields-narrow : (n : Bool) (imms : ℕ) → imms < 64 → 2 ≤ size_of n imms → size_of n imms ≤ 32 → (n ≡ false) × (imms ≡ 64 - 2 * size_of n imms + ones_of n imms)
 fields-narrow true imms lt some le = let spec = length-spec true imms some in absurd (let l = spec.1 in omega arith)
@@ -294,9 +294,9 @@ fields-narrow false imms lt some le =
 
 pub size-known : (n : Bool) (imms : ℕ) → (size_of n imms ≡ 64) ⊎ (size_of n imms ≤ 32)
 size-known n imms = elim (cases_lt (length_of n imms) 6) [
-    | inl less ↦ inr (size_half (length_of n imms) less)
-    | inr more ↦ let lt = length-lt n imms in inl (ap (λ k. 2 ^ k) (let e : length_of n imms ≡ 6 = omega arith in e))
-  ]
+  | inl less ↦ inr (size_half (length_of n imms) less)
+  | inr more ↦ let lt = length-lt n imms in inl (ap (λ k. 2 ^ k) (let e : length_of n imms ≡ 6 = omega arith in e))
+]
 
 abbrev width_log : Bool → ℕ
 width_log true = 6
@@ -306,9 +306,9 @@ width_log false = 5
 
 some-mask : (n wide : Bool) (imms immr word : ℕ) → bit_mask_of n imms immr wide ≡ Some word → (is_reserved n imms wide ≡ false) × (mask_of n imms immr wide ≡ word)
 some-mask n wide imms immr word e = elim (cases_Bool (is_reserved n imms wide)) [
-    | inl taken ↦ let f = none-of n wide imms immr taken in cc
-    | inr left ↦ let f = some-of n wide imms immr left in (left, cc)
-  ]
+  | inl taken ↦ let f = none-of n wide imms immr taken in cc
+  | inr left ↦ let f = some-of n wide imms immr left in (left, cc)
+]
 
 or_parts : (a b c : Bool) → (a || b || c) ≡ false → (a ≡ false) × (b ≡ false) × (c ≡ false)
 or_parts false false false e = (refl, refl, refl)
@@ -347,19 +347,19 @@ short n false imms immr mask f free e =
     elim (cases_lt (length_of n imms) 6) [
       | inl less ↦ less
       | inr more ↦
-        let six : size_of n imms ≡ 64 = ap (λ k. 2 ^ k) (let e : length_of n imms ≡ 6 = omega arith in e) in
-        let one = fields-wide n imms f.imms_in_range six in
-        let wide = parts.0 one.0 in
-        cc
+          let six : size_of n imms ≡ 64 = ap (λ k. 2 ^ k) (let e : length_of n imms ≡ 6 = omega arith in e) in
+          let one = fields-wide n imms f.imms_in_range six in
+          let wide = parts.0 one.0 in
+          cc
     ]
 
 bit_from : (d a b : ℕ) → d < 2 → (d ≡ 1) ↔ (a ≤ b) → d ≡ bool_number (nat_le a b)
 bit_from d a b lt iff = elim (cases_lt b a) [
-    | inl less ↦
+  | inl less ↦
       let off : d ≢ 1 = λ e. let le = iff.0 e in omega arith in
       (let z : d ≡ 0 = omega arith in z) ∙ ap bool_number (sym (le_false a b less))
-    | inr more ↦ iff.1 more ∙ ap bool_number (sym (le_true a b more))
-  ]
+  | inr more ↦ iff.1 more ∙ ap bool_number (sym (le_true a b more))
+]
 
 pub periodic-of : (n wide : Bool) (imms immr word : ℕ) → IsFieldsOf n imms immr wide word → IsPeriodic word (width_of wide) (size_of n imms) immr (ones_of n imms)
 periodic-of n wide imms immr word f =
@@ -377,7 +377,7 @@ periodic-of n wide imms immr word f =
       room = omega arith;
       turn_in_range = f.immr_in_range;
       bits = λ i lt. bit_from (digit_at 2 word i) ((i + immr) % size_of n imms) (ones_of n imms) (bit_at-lt word i)
-        (subst (λ t. (digit_at 2 word i ≡ 1) ↔ ((i + t) % size_of n imms ≤ ones_of n imms)) turn (facts.bits i lt));
+          (subst (λ t. (digit_at 2 word i ≡ 1) ↔ ((i + t) % size_of n imms ≤ ones_of n imms)) turn (facts.bits i lt));
     }
 
 -- an element has a one and a zero
@@ -397,15 +397,16 @@ turn_again n wide imms immr =
 
 fields-again : (n wide : Bool) (imms immr word : ℕ) → imms < 64 → bit_mask_of n imms immr wide ≡ Some word → IsFieldsOf n imms (immr % size_of n imms) wide word
 fields-again n wide imms immr word lt e = record {
-    imms_in_range = lt;
-    immr_in_range = mod_below immr (size_of n imms) (pow_pos (length_of n imms));
-    given = turn_again n wide imms immr ∙ e;
-  }
+  imms_in_range = lt;
+  immr_in_range = mod_below immr (size_of n imms) (pow_pos (length_of n imms));
+  given = turn_again n wide imms immr ∙ e;
+}
 
 -- no fields are found only where there are none
 pub none-exactly : (wide : Bool) (word : ℕ) (r : Option (Bool × ℕ × ℕ)) → IfSome r (λ f. IsFieldsOf f.0 f.1 f.2 wide word) → ((n : Bool) (imms immr : ℕ) → IsFieldsOf n imms immr wide word → r ≡ Some (n, imms, immr)) → IsNone r ↔ ((n : Bool) (imms immr : ℕ) → imms < 64 → immr < 64 → bit_mask_of n imms immr wide ≢ Some word)
 none-exactly wide word None some only =
     ((λ _ n imms immr l m e. let found = only n imms (immr % size_of n imms) (fields-again n wide imms immr word l e) in cc), (λ _. refl))
-none-exactly wide word (Some f) some only =
-    ((λ e. absurd (both_ways true e refl)),
-    (λ all. absurd (let lt = some.immr_in_range in let le = size_small (length_of f.0 f.1) (length-lt f.0 f.1) in all f.0 f.1 f.2 some.imms_in_range (omega arith) some.given)))
+none-exactly wide word (Some f) some only = (
+  (λ e. absurd (both_ways true e refl)),
+  (λ all. absurd (let lt = some.immr_in_range in let le = size_small (length_of f.0 f.1) (length-lt f.0 f.1) in all f.0 f.1 f.2 some.imms_in_range (omega arith) some.given)),
+)

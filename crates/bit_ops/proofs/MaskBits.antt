@@ -1,13 +1,13 @@
 -- The bits of a mask: a run of ones, repeated by doubling and then rotated.
-use Rattle.std.proofs.Common.{◌≡◌, ◌≢◌, ◌↔◌, ℕ, zero, suc, ◌+◌, ◌-◌, ◌*◌, ◌/◌, ◌%◌, ◌^◌, ◌<◌, ◌≤◌, ◌==◌, ◌||◌, ◌&&◌, not, refl, sym, ap, ap₂, ◌∙◌, subst, arith, inl, inr, lit<, lit≤, Bool, true, false, nat_le, Option, Some, None, mod-eq_of_lt}
-use Rattle.std.proofs.Math.Nat.{pow-le-pow_right, add-mul-mod_self_right, mul-add-mod_self_right}
+use Rattle.std.proofs.Common.{◌≡◌, ◌↔◌, ℕ, zero, suc, ◌+◌, ◌-◌, ◌*◌, ◌/◌, ◌%◌, ◌^◌, ◌<◌, ◌≤◌, ◌==◌, ◌||◌, ◌&&◌, not, refl, sym, ap, ap₂, ◌∙◌, subst, arith, inl, inr, lit<, lit≤, Bool, true, false, nat_le, Some, None, mod-eq_of_lt}
+use Rattle.std.proofs.Math.Nat.{pow-le-pow_right, add-mul-mod_self_right}
 use Rattle.std.proofs.Math.Pow.{mod-mod-pow}
-use Rattle.std.proofs.lemmas.Bool.{cases_lt, cases_order}
+use Rattle.std.proofs.lemmas.Bool.{cases_lt}
 use Rattle.std.proofs.lemmas.Bool.Decides.{nat_tests}
 use Rattle.std.proofs.lemmas.Nat.{pow_below, pow_pos, pow-add, shr-shr, shr_split, shr_below, mod_below, mul-add-lt, or_lt, shr_le, leading_top}
 use Rattle.std.proofs.lemmas.Nat.Bits.{bit_at_cat_low, bit_at_cat_high, bit_at_ones, bit_at_ones_above}
 use Rattle.std.specs.Int.{rotate_right, leading_zeros, w32, w64}
-use Rattle.bit_ops.specs.Bits.{digit_at, number_of_digits, width_of}
+use Rattle.bit_ops.specs.Bits.{digit_at, width_of}
 use Rattle.bit_ops.specs.Sums.{bool_number, word_size}
 use Rattle.bit_ops.specs.Masks.{highest_one, length_of, size_of, ones_of, turn_of, mask_of, is_reserved, bit_mask_of, IsMask}
 use Rattle.bit_ops.proofs.Digits.{number-is, number-lt, bit_of_number}
@@ -17,11 +17,11 @@ use Rattle.bit_ops.proofs.Rotating.{rotated}
 
 pub below_power : (a b n : ℕ) → 2 ^ a ≤ n → n < 2 ^ b → a < b
 below_power a b n p q = elim (cases_lt a b) [
-    | inl lt ↦ lt
-    | inr ge ↦
+  | inl lt ↦ lt
+  | inr ge ↦
       let le : 2 ^ b ≤ 2 ^ a = pow-le-pow_right {n = 2} (lit< tt) ge in
       absurd (omega arith)
-  ]
+]
 
 pub le_true : (a b : ℕ) → a ≤ b → nat_le a b ≡ true
 le_true a b h = grind (arith, nat_tests)
@@ -33,11 +33,11 @@ pub highest_one-is : (limit j n : ℕ) → 2 ^ j ≤ n → n < 2 ^ suc j → j <
 unfolding highest_one
 highest_one-is zero j n p q lt = absurd (omega arith)
 highest_one-is (suc k) j n p q lt = elim (cases_lt n (2 ^ k)) [
-    | inl under ↦ rw (le_false (2 ^ k) n under) (highest_one-is k j n p q (below_power j k n p under))
-    | inr over ↦
+  | inl under ↦ rw (le_false (2 ^ k) n under) (highest_one-is k j n p q (below_power j k n p under))
+  | inr over ↦
       let back = below_power k (suc j) n over q in
       rw (le_true (2 ^ k) n over) (omega arith)
-  ]
+]
 
 pub length_none : (n : Bool) (imms bits : ℕ) → bits ≡ bool_number n * 64 + (63 - imms) → bits ≡ 0 → 0 ≡ length_of n imms
 unfolding length_of highest_one
@@ -67,17 +67,17 @@ pub record IsRun (length ones log mask : ℕ) : Type 0 where
 
 pub first_run : (length ones : ℕ) → ones + 1 < 2 ^ length → IsRun length ones length (2 ^ (ones + 1) - 1)
 first_run length ones lt = record {
-    within =
+  within =
       let up = pow_below (ones + 1) (2 ^ length) lt in
       let some = pow_pos (ones + 1) in
       omega arith;
-    bits = λ i l.
+  bits = λ i l.
       let e : i ≡ i % 2 ^ length = sym (mod-eq_of_lt l) in
       elim (cases_lt ones i) [
         | inl above ↦ bit_at_ones_above (ones + 1) i (omega arith) ∙ ap bool_number (sym (le_false (i % 2 ^ length) ones (omega arith)))
         | inr within ↦ bit_at_ones (ones + 1) i (omega arith) ∙ ap bool_number (sym (le_true (i % 2 ^ length) ones (omega arith)))
       ];
-  }
+}
 
 -- a place moves by whole elements
 moved : (length log i : ℕ) → length ≤ log → 2 ^ log ≤ i → (i - 2 ^ log) % 2 ^ length ≡ i % 2 ^ length
@@ -96,12 +96,12 @@ next_run length ones log mask le run =
     let below = run.within in
     record {
       within =
-        let power : 2 ^ (2 ^ (log + 1)) ≡ 2 ^ (2 ^ log) * 2 ^ (2 ^ log) = ap (λ k. 2 ^ k) double ∙ pow-add 2 (2 ^ log) (2 ^ log) in
-        rw power (mul-add-lt mask (2 ^ (2 ^ log)) mask (2 ^ (2 ^ log)) below below);
+          let power : 2 ^ (2 ^ (log + 1)) ≡ 2 ^ (2 ^ log) * 2 ^ (2 ^ log) = ap (λ k. 2 ^ k) double ∙ pow-add 2 (2 ^ log) (2 ^ log) in
+          rw power (mul-add-lt mask (2 ^ (2 ^ log)) mask (2 ^ (2 ^ log)) below below);
       bits = λ i l. elim (cases_lt i (2 ^ log)) [
         | inl under ↦ bit_at_cat_low mask (2 ^ log) mask i under ∙ run.bits i under
         | inr over ↦
-          bit_at_cat_high mask (2 ^ log) mask i below over ∙ run.bits (i - 2 ^ log) (omega arith) ∙ ap (λ k. bool_number (nat_le k ones)) (moved length log i le over)
+            bit_at_cat_high mask (2 ^ log) mask i below over ∙ run.bits (i - 2 ^ log) (omega arith) ∙ ap (λ k. bool_number (nat_le k ones)) (moved length log i le over)
       ];
     }
 
@@ -120,13 +120,13 @@ bit_of_rotated k n r i small turn lt =
     let high : n / 2 ^ r < 2 ^ (k - r) = shr_below n (k - r) r (subst (λ w. n < 2 ^ w) (sym whole) small) in
     ap (λ m. digit_at 2 m i) swap ∙ elim (cases_lt i (k - r)) [
       | inl under ↦
-        let place : r + i ≡ (i + r) % k = (let e : r + i ≡ i + r = omega arith in e) ∙ sym (mod-eq_of_lt (omega arith)) in
-        bit_at_cat_low (n % 2 ^ r) (k - r) (n / 2 ^ r) i under ∙ bit_of_high n r i ∙ ap (digit_at 2 n) place
+          let place : r + i ≡ (i + r) % k = (let e : r + i ≡ i + r = omega arith in e) ∙ sym (mod-eq_of_lt (omega arith)) in
+          bit_at_cat_low (n % 2 ^ r) (k - r) (n / 2 ^ r) i under ∙ bit_of_high n r i ∙ ap (digit_at 2 n) place
       | inr over ↦
-        let inside : i - (k - r) < r = omega arith in
-        let back : i + r ≡ i - (k - r) + 1 * k = omega arith in
-        let place : i - (k - r) ≡ (i + r) % k = sym (ap (λ m. m % k) back ∙ add-mul-mod_self_right (i - (k - r)) 1 k ∙ mod-eq_of_lt (omega arith)) in
-        bit_at_cat_high (n % 2 ^ r) (k - r) (n / 2 ^ r) i high over ∙ bit_of_low n r (i - (k - r)) inside ∙ ap (digit_at 2 n) place
+          let inside : i - (k - r) < r = omega arith in
+          let back : i + r ≡ i - (k - r) + 1 * k = omega arith in
+          let place : i - (k - r) ≡ (i + r) % k = sym (ap (λ m. m % k) back ∙ add-mul-mod_self_right (i - (k - r)) 1 k ∙ mod-eq_of_lt (omega arith)) in
+          bit_at_cat_high (n % 2 ^ r) (k - r) (n / 2 ^ r) i high over ∙ bit_of_low n r (i - (k - r)) inside ∙ ap (digit_at 2 n) place
     ]
 
 element_of : (length m : ℕ) → length < 7 → m % 64 % 2 ^ length ≡ m % 2 ^ length
@@ -175,9 +175,9 @@ mask-is n wide imms immr length ones r word short e f g turn small bits =
 
 one_iff : (a b : ℕ) → (bool_number (nat_le a b) ≡ 1) ↔ (a ≤ b)
 one_iff a b = elim (cases_lt b a) [
-    | inl less ↦ let e = le_false a b less in (λ o. absurd (let z : bool_number (nat_le a b) ≡ 0 = ap bool_number e in omega arith), λ le. absurd (omega arith))
-    | inr more ↦ (λ o. more, λ le. ap bool_number (le_true a b more))
-  ]
+  | inl less ↦ let e = le_false a b less in (λ o. absurd (let z : bool_number (nat_le a b) ≡ 0 = ap bool_number e in omega arith), λ le. absurd (omega arith))
+  | inr more ↦ (λ o. more, λ le. ap bool_number (le_true a b more))
+]
 
 pub mask-facts : (n wide : Bool) (imms immr : ℕ) → IsMask n imms immr wide (mask_of n imms immr wide)
 unfolding mask_of

@@ -1,5 +1,5 @@
 -- Bits in reverse.
-use Rattle.std.proofs.Common.{◌≡◌, ◌≢◌, ℕ, zero, suc, ◌+◌, ◌-◌, ◌*◌, ◌/◌, ◌%◌, ◌^◌, ◌<◌, ◌≤◌, refl, sym, ap, ap₂, ◌∙◌, subst, arith, inl, inr, add-one, lit<, Bool, true, false}
+use Rattle.std.proofs.Common.{◌≡◌, ℕ, zero, suc, ◌+◌, ◌-◌, ◌*◌, ◌/◌, ◌%◌, ◌^◌, sym, ap, ◌∙◌, arith, true, false}
 use Rattle.std.proofs.Math.Nat.{pow-suc}
 use Rattle.std.specs.Int.{reverse_bits_onto}
 use Rattle.std.proofs.lemmas.Nat.Bits.{bit_at-suc, bit_at_lowest}
@@ -18,7 +18,7 @@ reversed_onto zero n a = omega arith
 reversed_onto (suc k) n a =
     let rest = reversed_onto k (n / 2) (a * 2 + n % 2) in
     let same = number-same 2 (λ i. digit_at 2 (n / 2) (k - 1 - i)) (λ i. digit_at 2 n (suc k - 1 - i)) k
-      (λ i lt. let e : suc k - 1 - i ≡ suc (k - 1 - i) = omega arith in sym (ap (digit_at 2 n) e ∙ bit_at-suc n (k - 1 - i))) in
+    (λ i lt. let e : suc k - 1 - i ≡ suc (k - 1 - i) = omega arith in sym (ap (digit_at 2 n) e ∙ bit_at-suc n (k - 1 - i))) in
     let z : suc k - 1 - k ≡ 0 = omega arith in
     let low : digit_at 2 n (suc k - 1 - k) ≡ n % 2 = ap (digit_at 2 n) z ∙ bit_at_lowest n in
     let power = pow-suc 2 k in

@@ -1,5 +1,5 @@
 -- Rotations, as sums.
-use Rattle.std.proofs.Common.{◌≡◌, ◌≢◌, ℕ, zero, suc, ◌+◌, ◌-◌, ◌*◌, ◌/◌, ◌%◌, ◌^◌, ◌<◌, ◌≤◌, bit_or, refl, sym, ap, ap₂, ◌∙◌, subst, arith, inl, inr, mod-eq_of_lt}
+use Rattle.std.proofs.Common.{◌≡◌, ℕ, ◌+◌, ◌-◌, ◌*◌, ◌/◌, ◌%◌, ◌^◌, ◌<◌, bit_or, sym, ap, ap₂, ◌∙◌, subst, arith, inl, inr, mod-eq_of_lt}
 use Rattle.std.specs.Int.Bits.{or_self}
 use Rattle.std.proofs.Math.Nat.{mul-mod_left}
 use Rattle.std.proofs.lemmas.Bool.{cases_lt}
@@ -42,12 +42,12 @@ rotated k n r lt below =
     let e : r % k ≡ r = mod-eq_of_lt below in
     ap (λ i. bit_or (n / 2 ^ i) (n * 2 ^ ((k - i) % k) % 2 ^ k)) e ∙ elim (cases_lt 0 r) [
       | inl some ↦
-        let d : (k - r) % k ≡ k - r = mod-eq_of_lt (omega arith) in
-        let high : k - r + r ≡ k = omega arith in
-        let low : r + (k - r) ≡ k = omega arith in
-        ap₂ (λ i w. bit_or (n / 2 ^ r) (n * 2 ^ i % 2 ^ w)) d (sym low) ∙ turned (k - r) n r (subst (λ w. n < 2 ^ w) (sym high) lt)
+          let d : (k - r) % k ≡ k - r = mod-eq_of_lt (omega arith) in
+          let high : k - r + r ≡ k = omega arith in
+          let low : r + (k - r) ≡ k = omega arith in
+          ap₂ (λ i w. bit_or (n / 2 ^ r) (n * 2 ^ i % 2 ^ w)) d (sym low) ∙ turned (k - r) n r (subst (λ w. n < 2 ^ w) (sym high) lt)
       | inr none ↦
-        let z : 0 ≡ r = omega arith in
-        subst (λ i. bit_or (n / 2 ^ i) (n * 2 ^ ((k - i) % k) % 2 ^ k) ≡ n / 2 ^ i + n % 2 ^ i * 2 ^ (k - i)) z
-        (not_turned n k ((k - 0) % k) lt (self_mod k (omega arith)))
+          let z : 0 ≡ r = omega arith in
+          subst (λ i. bit_or (n / 2 ^ i) (n * 2 ^ ((k - i) % k) % 2 ^ k) ≡ n / 2 ^ i + n % 2 ^ i * 2 ^ (k - i)) z
+          (not_turned n k ((k - 0) % k) lt (self_mod k (omega arith)))
     ]

@@ -1,9 +1,8 @@
 -- Lengths of runs.
-use Rattle.std.proofs.Common.{◌≡◌, ◌≢◌, ℕ, zero, suc, ◌+◌, ◌-◌, ◌*◌, ◌/◌, ◌%◌, ◌^◌, ◌<◌, ◌≤◌, ◌==◌, refl, sym, ap, ap₂, ◌∙◌, subst, arith, inl, inr, add-one, lit<, Bool, true, false, IsTrue}
-use Rattle.std.proofs.lemmas.Bool.{cases_lt, both_ways}
+use Rattle.std.proofs.Common.{◌≡◌, ℕ, zero, suc, ◌+◌, ◌-◌, ◌*◌, ◌^◌, ◌<◌, ◌≤◌, ◌==◌, refl, sym, ap, ◌∙◌, subst, arith, Bool, true, false}
 use Rattle.std.proofs.lemmas.Bool.Decides.{nat_tests}
-use Rattle.std.proofs.lemmas.Nat.{leading_le, leading_top, pow_pos, shr_high}
-use Rattle.std.proofs.lemmas.Nat.Bits.{bit_at_above, bit_at-zero, bit_at-lt, bit_at_cat_high}
+use Rattle.std.proofs.lemmas.Nat.{leading_le, leading_top}
+use Rattle.std.proofs.lemmas.Nat.Bits.{bit_at_above, bit_at-zero, bit_at_cat_high}
 use Rattle.bit_ops.specs.Bits.{digit_at, run_length}
 use lib.Count.{count_leading_zeros}
 use Rattle.std.specs.Int.{leading_zeros, w32, w64}

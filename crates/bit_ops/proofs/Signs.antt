@@ -1,11 +1,11 @@
 -- The run of sign bits is one less than the leading zeros of the word without its sign.
-use Rattle.std.proofs.Common.{◌≡◌, ℕ, zero, suc, ◌+◌, ◌-◌, ◌^◌, ◌<◌, ◌≤◌, ◌==◌, refl, sym, ap, ◌∙◌, subst, arith, inl, inr, Bool, true, false}
+use Rattle.std.proofs.Common.{◌≡◌, ℕ, zero, suc, ◌-◌, ◌^◌, ◌<◌, ◌≤◌, ◌==◌, refl, ap, ◌∙◌, subst, arith, inl, inr, Bool, true, false}
 use Rattle.std.proofs.lemmas.Bool.{cases_lt}
 use Rattle.std.proofs.lemmas.Bool.Decides.{nat_tests}
 use Rattle.std.proofs.lemmas.Nat.Bits.{bit_at_above, bit_at-lt, bit_at_not}
 use Rattle.std.specs.Int.{Width, w32, w64}
 use mir.Val.{bits}
-use Rattle.bit_ops.specs.Bits.{digit_at, run_length, width_of}
+use Rattle.bit_ops.specs.Bits.{digit_at, run_length}
 use Rattle.bit_ops.specs.Sums.{half_size, word_size}
 use Rattle.bit_ops.specs.Counts.{leading_zeros_of, leading_signs_of}
 use Rattle.bit_ops.proofs.Runs.{is_zero, top_bit}
@@ -36,12 +36,12 @@ same_test w h n m i e lt small clear set =
     let top : h ≡ suc h - 1 = omega arith in
     elim (cases_lt n (2 ^ h)) [
       | inl under ↦
-        clear_test _ _ _ (ap (digit_at 2 m) place ∙ ap (λ k. digit_at 2 k (suc h - 2 - i)) (clear under)) (bit_at_above n h (suc h - 1) under (omega arith))
+          clear_test _ _ _ (ap (digit_at 2 m) place ∙ ap (λ k. digit_at 2 k (suc h - 2 - i)) (clear under)) (bit_at_above n h (suc h - 1) under (omega arith))
       | inr over ↦
-        set_test _ _ _
-        (ap (digit_at 2 m) place ∙ ap (λ k. digit_at 2 k (suc h - 2 - i)) (set over) ∙ bit_at_not w n (suc h - 2 - i) small (omega arith))
-        (bit_at-lt n (suc h - 2 - i))
-        (subst (λ p. digit_at 2 n p ≡ 1) top (top_bit h n over (subst (λ k. n < 2 ^ k) e small)))
+          set_test _ _ _
+          (ap (digit_at 2 m) place ∙ ap (λ k. digit_at 2 k (suc h - 2 - i)) (set over) ∙ bit_at_not w n (suc h - 2 - i) small (omega arith))
+          (bit_at-lt n (suc h - 2 - i))
+          (subst (λ p. digit_at 2 n p ≡ 1) top (top_bit h n over (subst (λ k. n < 2 ^ k) e small)))
     ]
 
 -- both counts

@@ -1,6 +1,6 @@
 -- Masks of the logical instructions: equal elements, each a run of ones that is rotated.
 -- Source: DDI 0487, J1.1, DecodeBitMasks. Words are of 64 bits where `wide` holds, else of 32.
-use Rattle.std.specs.Prelude.{◌≡◌, ℕ, zero, suc, ◌+◌, ◌-◌, ◌*◌, ◌%◌, ◌^◌, ◌≤◌, ◌<◌, ◌↔◌, Bool, true, false, not, ◌&&◌, ◌||◌, ◌==◌, nat_le, if◌then◌else◌, Option, Some, None}
+use Rattle.std.specs.Prelude.{◌≡◌, ℕ, zero, suc, ◌+◌, ◌-◌, ◌*◌, ◌%◌, ◌^◌, ◌≤◌, ◌<◌, ◌↔◌, Bool, not, ◌&&◌, ◌||◌, ◌==◌, nat_le, if◌then◌else◌, Option, Some, None}
 use Rattle.bit_ops.specs.Sums.{bool_number}
 use Rattle.bit_ops.specs.Bits.{width_of, digit_at, number_of_digits}
 

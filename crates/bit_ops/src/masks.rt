@@ -39,7 +39,11 @@ fn element_length(n: bool, imms: u8) -> u32
     ensures small { result < 7 }
 {
     let bits = length_bits(n, imms);
-    if bits == 0 { 0 } else { 31 - bits.leading_zeros() }
+    if bits == 0 {
+        0
+    } else {
+        31 - bits.leading_zeros()
+    }
 }
 
 /// How many bits an element of a length has.
@@ -208,5 +212,42 @@ fn written(size: u32, ones: u32, first: u32) -> Option<(bool, u8, u8)>
         Some((false, (64 - 2 * size + (ones - 1)) as u8, turn))
     } else {
         None
+    }
+}
+
+#[cfg(test)]
+mod tests {
+    use crate::{bit_mask, mask_fields};
+
+    #[test]
+    fn masks(rt: HostRuntime) {
+        assert!(rt; bit_mask(false, 60, 0, true) == Some(0x5555_5555_5555_5555));
+        assert!(rt; bit_mask(false, 60, 1, true) == Some(0xaaaa_aaaa_aaaa_aaaa));
+        assert!(rt; bit_mask(true, 7, 4, true) == Some(0xf000_0000_0000_000f));
+        assert!(rt; bit_mask(true, 62, 63, true) == Some(0xffff_ffff_ffff_fffe));
+        assert!(rt; bit_mask(false, 7, 4, false) == Some(0xf000_000f));
+        assert!(rt; bit_mask(false, 53, 3, false) == Some(0xe7e7_e7e7));
+        // bits of immr above the element
+        assert!(rt; bit_mask(false, 39, 28, true) == Some(0x0ff0_0ff0_0ff0_0ff0));
+    }
+
+    #[test]
+    fn reserved(rt: HostRuntime) {
+        assert!(rt; bit_mask(false, 61, 0, true).is_none());
+        assert!(rt; bit_mask(false, 62, 0, true).is_none());
+        assert!(rt; bit_mask(false, 63, 0, false).is_none());
+        assert!(rt; bit_mask(true, 63, 0, true).is_none());
+        assert!(rt; bit_mask(true, 7, 4, false).is_none());
+    }
+
+    #[test]
+    fn fields(rt: HostRuntime) {
+        assert!(rt; mask_fields(0x5555_5555_5555_5555, true) == Some((false, 60, 0)));
+        assert!(rt; mask_fields(0xf000_0000_0000_000f, true) == Some((true, 7, 4)));
+        assert!(rt; mask_fields(0x0ff0_0ff0_0ff0_0ff0, true) == Some((false, 39, 12)));
+        assert!(rt; mask_fields(0x1234_5678_f000_000f, false) == Some((false, 7, 4)));
+        assert!(rt; mask_fields(0, true).is_none());
+        assert!(rt; mask_fields(u64::MAX, true).is_none());
+        assert!(rt; mask_fields(5, true).is_none());
     }
 }

@@ -33,8 +33,8 @@ unfoldable pub one_source : OneSource → Scalars → Scalars
 one_source x s = with_x s x.rd (one_source_value x.op x.wide (register_of x.wide s x.rn))
 
 -- the quotient of two words, rounded towards zero; 0 where the divisor is 0
-unfoldable pub quotient : Bool → ℕ → ℕ → ℕ
-quotient wide n m = cond (m == 0) 0 (n / m)
+unfoldable pub quotient : ℕ → ℕ → ℕ
+quotient n m = cond (m == 0) 0 (n / m)
 
 -- the same of signed words, within the word: the least number over -1 is the least number
 unfoldable pub signed_quotient : Bool → ℕ → ℕ → ℕ
@@ -42,7 +42,7 @@ signed_quotient wide n m = cond (m == 0) 0 (word_of wide (int_div (signed_word w
 
 -- a quotient, or the first word shifted by the second, modulo the width
 unfoldable pub two_source_value : TwoSourceOp → Bool → ℕ → ℕ → ℕ
-two_source_value Udiv wide n m = quotient wide n m
+two_source_value Udiv wide n m = quotient n m
 two_source_value Sdiv wide n m = signed_quotient wide n m
 two_source_value Lslv wide n m = shifted shift.Lsl wide n (m % width_of wide)
 two_source_value Lsrv wide n m = shifted shift.Lsr wide n (m % width_of wide)

@@ -15,6 +15,8 @@ mod operands;
 mod registers;
 mod sources;
 mod sums;
+#[cfg(test)]
+mod tests;
 
 pub use exec::{Flow, exec_scalar};
 pub use registers::{next_address, read_x, write_x};

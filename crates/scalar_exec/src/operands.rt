@@ -44,12 +44,8 @@ pub fn shifted_operand(s: &Scalars, x: &ShiftedRegister, wide: bool) -> u64
     ensures value { result ≡ shift_reg wide x.now s.now }
     ensures small { result < word_size wide }
 {
-    shift(
-        read_x(s, x.rm),
-        shift_kind(x.shift),
-        u32::from(x.amount),
-        wide,
-    )
+    let kind = shift_kind(x.shift);
+    shift(read_x(s, x.rm), kind, u32::from(x.amount), wide)
 }
 
 /// The low bits of a value with the top one of them in all places above, to a word.

@@ -44,8 +44,8 @@ pub fn exec_one_source(s: &mut Scalars, x: &OneSource)
 /// The quotient of two words; 0 where the divisor is 0.
 #[inline]
 #[tactic(auto, unfolding(crate::specs::Sources::quotient))]
-fn divide(n: u64, m: u64, wide: bool) -> u64
-    ensures { result ≡ quotient wide n m }
+fn divide(n: u64, m: u64) -> u64
+    ensures { result ≡ quotient n m }
 {
     if m == 0 { 0 } else { n / m }
 }
@@ -92,7 +92,7 @@ fn two_value(op: TwoSourceOp, n: u64, m: u64, wide: bool) -> u64
     ensures { result ≡ two_source_value op wide n m }
 {
     match op {
-        TwoSourceOp::Udiv => divide(n, m, wide),
+        TwoSourceOp::Udiv => divide(n, m),
         TwoSourceOp::Sdiv => divide_signed(n, m, wide),
         TwoSourceOp::Lslv => shift_by(n, m, ShiftKind::Lsl, wide),
         TwoSourceOp::Lsrv => shift_by(n, m, ShiftKind::Lsr, wide),

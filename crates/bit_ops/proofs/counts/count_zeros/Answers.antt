@@ -1,6 +1,6 @@
-use Rattle.std.proofs.Common.{◌≡◌, ◌∙◌, ◌%◌, ◌^◌, ◌<◌, ap, sym, subst, arith, false, ◌-◌, bit_and}
+use Rattle.std.proofs.Common.{◌≡◌, ◌∙◌, ◌%◌, ◌^◌, ap, arith, ◌-◌, bit_and}
 use Rattle.std.specs.Int.{leading_zeros, w32, w64}
-use Rattle.std.proofs.lemmas.Nat.{and_mask, mod_below}
+use Rattle.std.proofs.lemmas.Nat.{and_mask}
 use Rattle.bit_ops.specs.Counts.{leading_zeros_of}
 use Rattle.bit_ops.proofs.LowParts.{low_wide, low_narrow}
 use Rattle.bit_ops.proofs.Runs.{zeros_wide, zeros_narrow}

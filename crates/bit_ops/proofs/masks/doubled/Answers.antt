@@ -1,4 +1,4 @@
-use Rattle.std.proofs.Common.{arith, ◌≡◌, ◌≤◌, ◌<◌, ◌+◌, ◌*◌, ◌%◌, ◌^◌, ◌∙◌, bit_or, ap, subst, sym}
+use Rattle.std.proofs.Common.{arith, ◌*◌, ◌%◌, ◌^◌, ◌∙◌, bit_or, ap}
 use Rattle.std.proofs.lemmas.Nat.{or_shifted, shl_whole}
 use Rattle.bit_ops.proofs.MaskBits.{size_half}
 use Rattle.bit_ops.proofs.masks.doubled.Goals as goal

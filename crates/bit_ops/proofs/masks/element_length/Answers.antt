@@ -1,6 +1,5 @@
-use Rattle.std.proofs.Common.{arith, ◌≡◌, ◌<◌, ◌^◌}
+use Rattle.std.proofs.Common.{arith}
 use Rattle.bit_ops.proofs.MaskBits.{bool_number-lt, length_none, length_some}
-use Rattle.bit_ops.specs.Sums.{bool_number}
 use Rattle.bit_ops.proofs.masks.element_length.Goals.{Else-bits-eq0}
 use Rattle.bit_ops.proofs.masks.element_length.Goals as goal
 

@@ -1,4 +1,4 @@
-use Rattle.std.proofs.Common.{arith, ◌≤◌}
+use Rattle.std.proofs.Common.{arith}
 use Rattle.std.proofs.lemmas.Nat.{one_shl}
 use Rattle.bit_ops.proofs.MaskBits.{size_small}
 use Rattle.bit_ops.proofs.masks.element_size.Goals as goal

@@ -1,4 +1,4 @@
-use Rattle.std.proofs.Common.{◌≡◌, ◌∙◌, ℕ, ◌<◌, ◌≤◌, ◌+◌, ◌-◌, ◌%◌, ap, sym, subst, refl, arith, Bool}
+use Rattle.std.proofs.Common.{◌≡◌, ◌∙◌, ℕ, ◌-◌, ◌%◌, ap, sym, subst, refl, arith, Bool}
 use Rattle.bit_ops.specs.Masks.{size_of, ones_of, IsFieldsOf}
 use Rattle.bit_ops.specs.Bits.{width_of}
 use Rattle.bit_ops.proofs.Fields.{IsPeriodic, periodic-of, some-start, start-on, first-below, turn-is, next-is, none-is, ones-are}
@@ -28,8 +28,8 @@ returns-clause-only c n imms immr f =
     let room = p.room in
     let same : c.match-next_start.size ≡ size = elim c.match-next_start.branch [
       | in-Some w ↦
-        let next = w.in-Some.ensures.some in
-        w.size-is ∙ next-is word width size immr ones first w.in-Some.next p origin next.0 next.1 next.2 next.3
+          let next = w.in-Some.ensures.some in
+          w.size-is ∙ next-is word width size immr ones first w.in-Some.next p origin next.0 next.1 next.2 next.3
       | in-None w ↦ w.size-is ∙ none-is word width size immr ones first p below origin (w.in-None.ensures.none refl)
     ] in
     let count = ones-are word width size immr ones first c.run_of_ones.result p origin c.run_of_ones.ensures.small c.run_of_ones.ensures.ones c.run_of_ones.ensures.end in

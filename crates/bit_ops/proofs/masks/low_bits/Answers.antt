@@ -1,4 +1,4 @@
-use Rattle.std.proofs.Common.{◌≡◌, ◌-◌, ◌∙◌, bit_and, ap₂, ap}
+use Rattle.std.proofs.Common.{◌-◌, ◌∙◌, bit_and, ap₂}
 use Rattle.std.proofs.lemmas.Nat.{and_mask}
 use Rattle.bit_ops.proofs.masks.low_bits.Goals as goal
 

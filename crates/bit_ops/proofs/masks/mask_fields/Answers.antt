@@ -1,5 +1,4 @@
-use Rattle.std.proofs.Common.{◌≡◌, ℕ, ◌%◌, ◌<◌, ◌↔◌, ◌≢◌, Bool, Some, IsNone, subst, refl}
-use Rattle.bit_ops.specs.Sums.{word_size}
+use Rattle.std.proofs.Common.{ℕ, ◌<◌, ◌↔◌, ◌≢◌, Bool, Some, IsNone, subst}
 use Rattle.bit_ops.specs.Masks.{bit_mask_of}
 use Rattle.bit_ops.proofs.Fields.{none-exactly}
 use Rattle.bit_ops.proofs.masks.mask_fields.Goals as goal

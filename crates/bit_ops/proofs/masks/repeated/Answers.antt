@@ -1,4 +1,4 @@
-use Rattle.std.proofs.Common.{arith, ◌≡◌, ◌≤◌, ◌<◌, ◌+◌, ◌*◌, ◌%◌, ◌^◌, ◌∙◌, ap, subst, sym}
+use Rattle.std.proofs.Common.{arith, ◌≡◌, ◌+◌, subst, sym}
 use Rattle.bit_ops.proofs.MaskBits.{IsRun, first_run, next_run, size_small}
 use Rattle.bit_ops.proofs.masks.repeated.Goals as goal
 

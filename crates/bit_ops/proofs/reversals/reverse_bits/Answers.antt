@@ -1,4 +1,4 @@
-use Rattle.std.proofs.Common.{◌≡◌, ◌∙◌, ◌%◌, ◌^◌, ap, sym, subst, arith, false}
+use Rattle.std.proofs.Common.{◌≡◌, ◌∙◌, subst, arith, false}
 use Rattle.std.proofs.lemmas.Nat.{and_mask}
 use Rattle.bit_ops.specs.Reversals.{reversed_bits}
 use Rattle.bit_ops.proofs.LowParts.{low_wide, low_narrow}

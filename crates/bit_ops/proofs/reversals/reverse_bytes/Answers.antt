@@ -1,4 +1,4 @@
-use Rattle.std.proofs.Common.{◌≡◌, ◌∙◌, ◌%◌, ◌<◌, ap, sym, subst, arith, true, ◌⊎◌, inl, inr, ℕ, Bool}
+use Rattle.std.proofs.Common.{◌≡◌, ◌∙◌, ◌%◌, ◌<◌, ap, sym, subst, true, ◌⊎◌, inl, inr, ℕ}
 use Rattle.bit_ops.specs.Reversals.{reversed_bytes}
 use Rattle.bit_ops.specs.Sums.{word_size}
 use Rattle.bit_ops.proofs.Bytes.{halfwords-low, words-low, swapped, bytes-lt}

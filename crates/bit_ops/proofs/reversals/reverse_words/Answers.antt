@@ -1,4 +1,4 @@
-use Rattle.std.proofs.Common.{◌≡◌, ◌∙◌, arith}
+use Rattle.std.proofs.Common.{◌∙◌, arith}
 use Rattle.bit_ops.specs.Reversals.{reversed_bytes}
 use Rattle.bit_ops.specs.Bits.{number_of_digits}
 use Rattle.bit_ops.proofs.reversals.reverse_words.Goals as goal

@@ -1,4 +1,4 @@
-use Rattle.std.proofs.Common.{◌≡◌, ◌∙◌, arith, sym, ap, subst, ◌<◌, ◌+◌, ◌-◌, ◌*◌, ◌/◌, ◌%◌, ◌^◌, true, false}
+use Rattle.std.proofs.Common.{◌∙◌, arith, sym, ap, subst, ◌<◌, ◌+◌, ◌-◌, ◌*◌, ◌/◌, ◌%◌, ◌^◌}
 use Rattle.bit_ops.specs.Shifts.{shifted}
 use Rattle.bit_ops.specs.Sums.{word_size}
 use Rattle.bit_ops.specs.Bits.{width_of}
