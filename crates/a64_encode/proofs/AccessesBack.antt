@@ -1,10 +1,9 @@
 -- The words of loads, stores and atomic instructions are those that the instructions came from.
-use Rattle.std.proofs.Common.{◌≡◌, ◌⊎◌, inl, inr, ℕ, ◌+◌, ◌*◌, ◌/◌, ◌^◌, ◌<◌, ◌==◌, Bool, true, false, sym, ap, ◌∙◌, arith, lit<}
+use Rattle.std.proofs.Common.{◌≡◌, ◌⊎◌, inl, inr, ℕ, ◌+◌, ◌*◌, ◌^◌, ◌<◌, arith, lit<}
 use Rattle.std.proofs.lemmas.Bool.{cond_both}
 use Rattle.a64_table.specs.declared.rows.Group.TheVariants.{G18, G19, G20, G21}
-use Rattle.a64_table.specs.Fields.{field_of, bit_of, signed_value}
+use Rattle.a64_table.specs.Fields.{field_of, bit_of}
 use Rattle.a64_table.specs.Accesses.{address_of, load_store_of, load_literal_of, load_store_pair_of, swap_of, update_of, compare_and_swap_of, ordered_of, atomic_of}
-use Rattle.a64_encode.specs.Numbers.{bool_number, signed_bits}
 use Rattle.a64_encode.specs.Accesses.{address_bits, load_store_word, load_literal_word, load_store_pair_word, atomic_word}
 use Rattle.a64_encode.proofs.Fields.{split, field_below, bit_number, bit_set, bit_clear, signed_field_back}
 use Rattle.a64_encode.proofs.Frames.{frames, InFrames}
@@ -45,6 +44,7 @@ module _ (w : ℕ) (lt : w < 2 ^ 32) where
       register_low (inl m) b d = absurd (let e = m.0 in omega (arith, split w 24 6, split w 24 1, split w 25 5))
       register_low (inr (inl m)) b d = absurd (let e = m.1.0 in omega arith)
       register_low (inr (inr m)) b d = m.1.1.0
+
       offset_low : InFrames (frames G18) w → field_of w 24 1 ≡ 0 → field_of w 21 1 ≡ 0 → field_of w 10 2 ≡ 2 → ⊥
       offset_low (inl m) b d e = let f = m.0 in omega (arith, split w 24 6, split w 24 1, split w 25 5)
       offset_low (inr (inl m)) b d e = let f : (field_of w 10 2 ≡ 0) ⊎ (field_of w 10 2 ≡ 1) ⊎ (field_of w 10 2 ≡ 3) = m.1.1.0 in omega arith

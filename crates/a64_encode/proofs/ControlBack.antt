@@ -1,10 +1,9 @@
 -- The words of branches, exceptions, hints, barriers and moves of system registers are those that the instructions came from.
-use Rattle.std.proofs.Common.{◌≡◌, ◌⊎◌, inl, inr, ℕ, ◌+◌, ◌*◌, ◌/◌, ◌%◌, ◌^◌, ◌<◌, ◌==◌, Bool, true, false, sym, ap, ◌∙◌, arith, eqb-true, lit<}
+use Rattle.std.proofs.Common.{◌≡◌, ◌⊎◌, inl, inr, ℕ, ◌^◌, ◌<◌, ◌==◌, arith, eqb-true, lit<}
 use Rattle.std.proofs.lemmas.Bool.{cond_both, eqb-false}
 use Rattle.a64_table.specs.declared.rows.Group.TheVariants.{G10, G11, G22, G23}
-use Rattle.a64_table.specs.Fields.{field_of, bit_of, signed_value}
+use Rattle.a64_table.specs.Fields.{field_of, bit_of}
 use Rattle.a64_table.specs.Control.{branch_of, branch_register_of, exception_of, hint_or_barrier_of, system_of, system_move_of}
-use Rattle.a64_encode.specs.Numbers.{bool_number, signed_bits}
 use Rattle.a64_encode.specs.Control.{branch_word, branch_register_word, system_word, system_move_word}
 use Rattle.a64_encode.proofs.Fields.{split, field_below, bit_number, bit_set, bit_clear, signed_field_back}
 use Rattle.a64_encode.proofs.Frames.{frames, InFrames}

@@ -1,5 +1,5 @@
 -- What a candidate says of the words that an instruction has.
-use Rattle.std.proofs.Common.{◌≡◌, ◌↔◌, ◌≤◌, ◌<◌, ◌^◌, ℕ, Option, Some, None, sym, ap, ◌∙◌, subst, arith}
+use Rattle.std.proofs.Common.{◌≡◌, ◌↔◌, ◌≤◌, ◌^◌, ℕ, Option, Some, None, sym, ap, ◌∙◌, subst, arith}
 use Rattle.sm_types.specs.declared.insn.Insn.{Insn}
 use Rattle.a64_table.proofs.FirstRow.{some_is, none_some}
 use Rattle.a64_encode.specs.Candidate.{candidate_of}

@@ -1,5 +1,5 @@
 -- A word and its fields.
-use Rattle.std.proofs.Common.{◌≡◌, ℕ, zero, suc, mod-eq_of_lt, ◌+◌, ◌-◌, ◌*◌, ◌/◌, ◌%◌, ◌^◌, ◌<◌, ◌==◌, bit_and, Bool, true, false, not, refl, sym, ap, ◌∙◌, arith, ℤ, pos, ◌-ℤ◌, nat_lt}
+use Rattle.std.proofs.Common.{◌≡◌, ℕ, zero, suc, mod-eq_of_lt, ◌+◌, ◌-◌, ◌*◌, ◌/◌, ◌%◌, ◌^◌, ◌<◌, ◌==◌, bit_and, Bool, true, false, not, refl, sym, ap, ◌∙◌, arith, pos, ◌-ℤ◌, nat_lt}
 use Rattle.std.specs.Int.{cast_unsigned, w32}
 use Rattle.std.proofs.lemmas.Nat.{shr_split, shr-shr, pow_below, pow-add, mod_low, and_shr, and_mod, and_mask, mod_below, pow_pos}
 use Rattle.std.proofs.lemmas.Bool.{cond_both}

@@ -1,7 +1,6 @@
 -- The bits that are fixed in the words of a group.
-use Rattle.std.proofs.Common.{◌≡◌, ◌⊎◌, inl, inr, ℕ, zero, suc, ◌-◌, ◌^◌, ◌<◌, bit_and, Bool, true, false, ◌==◌, ◌&&◌, ◌||◌, List, [], ◌∷◌, Some, slice_get, refl, sym, ap, ◌∙◌, eqb-true, subst}
+use Rattle.std.proofs.Common.{◌≡◌, ◌⊎◌, inl, inr, ℕ, zero, suc, ◌-◌, ◌^◌, Bool, true, false, ◌==◌, ◌&&◌, ◌||◌, List, [], ◌∷◌, Some, slice_get, refl, sym, eqb-true, subst}
 use Rattle.std.proofs.lemmas.Bool.{and_parts}
-use Rattle.sm_types.specs.declared.insn.Insn.{Insn}
 use Rattle.a64_table.specs.declared.rows.Row.{Row}
 use Rattle.a64_table.specs.declared.rows.Group.{Group}
 use Rattle.a64_table.specs.declared.rows.Group.TheVariants.{G1, G2, G3, G4, G5, G6, G7, G8, G9, G10, G11, G12, G13, G14, G15, G16, G17, G18, G19, G20, G21, G22, G23}

@@ -1,13 +1,11 @@
 -- The words of data processing instructions are those that the instructions came from.
-use Rattle.std.proofs.Common.{◌≡◌, ◌⊎◌, inl, inr, ℕ, ◌+◌, ◌*◌, ◌/◌, ◌%◌, ◌^◌, ◌<◌, ◌==◌, ◌&&◌, Bool, true, false, cond, not, refl, sym, ap, ◌∙◌, arith, eqb-true, lit<}
-use Rattle.std.proofs.lemmas.Bool.{and_parts, cond_both, cases_Bool, cond-true, cond-false}
+use Rattle.std.proofs.Common.{◌≡◌, inl, inr, ℕ, ◌+◌, ◌*◌, ◌^◌, ◌<◌, ◌==◌, ◌&&◌, Bool, true, arith, eqb-true, lit<}
+use Rattle.std.proofs.lemmas.Bool.{and_parts, cond_both}
 use Rattle.sm_types.specs.declared.insn.CompareOperand.TheVariants as operand
-use Rattle.sm_types.specs.declared.insn.Multiply.{Multiply}
 use Rattle.a64_table.specs.declared.rows.Group.TheVariants.{G1, G2, G3, G4, G5, G6, G7, G8, G9, G12, G13, G14, G15, G16, G17}
-use Rattle.a64_table.specs.Fields.{field_of, bit_of, signed_value}
+use Rattle.a64_table.specs.Fields.{field_of, bit_of}
 use Rattle.a64_table.specs.Conditions.{fits_of, is_below_width}
 use Rattle.a64_table.specs.Processing.{add_sub_immediate_of, add_sub_register_of, logical_register_of, add_sub_extended_of, logical_immediate_of, move_wide_of, bitfield_move_of, extract_of, pc_relative_of, add_sub_carry_of, conditional_select_of, compare_operand_of, conditional_compare_of, one_source_of, two_source_of, multiply_of, shifted_register_of, extended_register_of}
-use Rattle.a64_encode.specs.Numbers.{bool_number, signed_bits}
 use Rattle.a64_encode.specs.Processing.{shifted_register_bits, extended_register_bits, add_sub_immediate_word, add_sub_register_word, logical_register_word, add_sub_extended_word, logical_immediate_word, move_wide_word, bitfield_move_word, extract_word, pc_relative_bits, pc_relative_word, add_sub_carry_word, conditional_select_word, compare_operand_bits, conditional_compare_word, one_source_word, two_source_word, multiply_word}
 use Rattle.a64_encode.proofs.Fields.{split, field_below, bit_number, not_bit_number, bit_set, bit_clear, signed_back}
 use Rattle.a64_encode.proofs.Frames.{frames, InFrames}

@@ -2,7 +2,10 @@
 ghost use Rattle.std.specs.Prelude.{◌≡◌, ◌<◌, ◌^◌};
 ghost use Rattle.a64_encode.specs.Accesses.{address_bits, atomic_word, load_literal_word, load_store_pair_word, load_store_word};
 
-use crate::numbers::{access_size_number, atomic_number, extend_number, load_literal_number, load_store_number, pair_index_number, pair_number, signed_bits};
+use crate::numbers::{
+    access_size_number, atomic_number, extend_number, load_literal_number, load_store_number,
+    pair_index_number, pair_number, signed_bits,
+};
 use sm_types::{Address, Atomic, LoadLiteral, LoadStore, LoadStorePair};
 
 /// An address: bit 24 and imm12 21:10; imm9 20:12; the same with bit 10, and with bits 11 and 10; bits 21 and 11, Rm 20:16, option 15:13 and S 12.
@@ -77,21 +80,43 @@ pub fn atomic_word(x: &Atomic) -> u64
             + access_size_number(size) * (1 << 30)
             + u64::from(rn) * (1 << 5)
             + u64::from(rt),
-        Atomic::Cas { size, acquire, release, rs, rn, rt } => 0x08A07C00
+        Atomic::Cas {
+            size,
+            acquire,
+            release,
+            rs,
+            rn,
+            rt,
+        } => 0x08A07C00
             + access_size_number(size) * (1 << 30)
             + u64::from(acquire) * (1 << 22)
             + u64::from(rs) * (1 << 16)
             + u64::from(release) * (1 << 15)
             + u64::from(rn) * (1 << 5)
             + u64::from(rt),
-        Atomic::Swap { size, acquire, release, rs, rn, rt } => 0x38208000
+        Atomic::Swap {
+            size,
+            acquire,
+            release,
+            rs,
+            rn,
+            rt,
+        } => 0x38208000
             + access_size_number(size) * (1 << 30)
             + u64::from(acquire) * (1 << 23)
             + u64::from(release) * (1 << 22)
             + u64::from(rs) * (1 << 16)
             + u64::from(rn) * (1 << 5)
             + u64::from(rt),
-        Atomic::Update { op, size, acquire, release, rs, rn, rt } => 0x38200000
+        Atomic::Update {
+            op,
+            size,
+            acquire,
+            release,
+            rs,
+            rn,
+            rt,
+        } => 0x38200000
             + access_size_number(size) * (1 << 30)
             + u64::from(acquire) * (1 << 23)
             + u64::from(release) * (1 << 22)

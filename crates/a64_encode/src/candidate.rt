@@ -4,7 +4,12 @@ ghost use Rattle.a64_encode.specs.Candidate.{candidate_of};
 
 use crate::accesses::{atomic_word, load_literal_word, load_store_pair_word, load_store_word};
 use crate::control::{branch_register_word, branch_word, system_move_word, system_word};
-use crate::processing::{add_sub_carry_word, add_sub_extended_word, add_sub_immediate_word, add_sub_register_word, bitfield_move_word, conditional_compare_word, conditional_select_word, extract_word, logical_immediate_word, logical_register_word, move_wide_word, multiply_word, one_source_word, pc_relative_word, two_source_word};
+use crate::processing::{
+    add_sub_carry_word, add_sub_extended_word, add_sub_immediate_word, add_sub_register_word,
+    bitfield_move_word, conditional_compare_word, conditional_select_word, extract_word,
+    logical_immediate_word, logical_register_word, move_wide_word, multiply_word, one_source_word,
+    pc_relative_word, two_source_word,
+};
 use sm_types::Insn;
 
 /// The fields at their places, where the group's fixed bits are.

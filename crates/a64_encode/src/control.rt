@@ -2,7 +2,10 @@
 ghost use Rattle.std.specs.Prelude.{◌≡◌, ◌<◌, ◌^◌};
 ghost use Rattle.a64_encode.specs.Control.{branch_register_word, branch_word, system_move_word, system_word};
 
-use crate::numbers::{branch_register_number, condition_number, signed_bits, system_move_number, system_register_number};
+use crate::numbers::{
+    branch_register_number, condition_number, signed_bits, system_move_number,
+    system_register_number,
+};
 use sm_types::{Branch, BranchRegister, System, SystemMove};
 
 /// Branches: link 31 and imm26 25:0; imm19 23:5 and cond 3:0; sf 31, op 24, imm19 23:5 and Rt 4:0; b5 31, op 24, b40 23:19, imm14 18:5 and Rt 4:0.
@@ -11,14 +14,28 @@ pub fn branch_word(x: &Branch) -> u64
     ensures { result ≡ branch_word x.now }
 {
     match *x {
-        Branch::Unconditional { link, words } => 0x14000000 + u64::from(link) * (1 << 31) + signed_bits(words, 26),
-        Branch::Conditional { condition, words } => 0x54000000 + signed_bits(words, 19) * (1 << 5) + condition_number(condition),
-        Branch::Compare { nonzero, wide, words, rt } => 0x34000000
+        Branch::Unconditional { link, words } => 0x14000000
+            + u64::from(link) * (1 << 31)
+            + signed_bits(words, 26),
+        Branch::Conditional { condition, words } => 0x54000000
+            + signed_bits(words, 19) * (1 << 5)
+            + condition_number(condition),
+        Branch::Compare {
+            nonzero,
+            wide,
+            words,
+            rt,
+        } => 0x34000000
             + u64::from(wide) * (1 << 31)
             + u64::from(nonzero) * (1 << 24)
             + signed_bits(words, 19) * (1 << 5)
             + u64::from(rt),
-        Branch::TestBit { nonzero, bit, words, rt } => 0x36000000
+        Branch::TestBit {
+            nonzero,
+            bit,
+            words,
+            rt,
+        } => 0x36000000
             + u64::from(bit / 32) * (1 << 31)
             + u64::from(nonzero) * (1 << 24)
             + u64::from(bit % 32) * (1 << 19)
@@ -32,9 +49,7 @@ pub fn branch_word(x: &Branch) -> u64
 pub fn branch_register_word(x: &BranchRegister) -> u64
     ensures { result ≡ branch_register_word x.now }
 {
-    0xD61F0000
-        + u64::from(x.rn) * (1 << 5)
-        + branch_register_number(x.op) * (1 << 21)
+    0xD61F0000 + u64::from(x.rn) * (1 << 5) + branch_register_number(x.op) * (1 << 21)
 }
 
 /// Exceptions, hints and barriers: imm16 20:5; imm16 15:0; CRm and op2 11:5; CRm 11:8.

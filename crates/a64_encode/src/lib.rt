@@ -7,11 +7,12 @@
 mod accesses;
 mod candidate;
 mod control;
-
 mod laws;
 mod numbers;
 mod processing;
 mod same;
+#[cfg(test)]
+mod tests;
 mod word;
 
 pub use laws::{one_row_of_both, one_word};

@@ -2,7 +2,11 @@
 ghost use Rattle.std.specs.Prelude.{◌≡◌, ◌<◌, ◌^◌};
 ghost use Rattle.a64_encode.specs.Numbers.{access_size_number, add_sub_number, atomic_number, bitfield_number, branch_register_number, compare_number, condition_number, extend_number, load_literal_number, load_store_number, logical_number, move_number, one_source_number, pair_index_number, pair_number, pc_relative_number, select_bits, shift_number, signed_bits, system_move_number, system_register_number, two_source_number};
 
-use sm_types::{AccessSize, AddSub, AtomicOp, BitfieldOp, BranchRegisterOp, CompareOp, Condition, Extend, LoadLiteralOp, LoadStoreOp, Logical, MoveOp, OneSourceOp, PairIndex, PairOp, PcRelativeOp, SelectOp, ShiftKind, SystemMoveOp, SystemRegister, TwoSourceOp};
+use sm_types::{
+    AccessSize, AddSub, AtomicOp, BitfieldOp, BranchRegisterOp, CompareOp, Condition, Extend,
+    LoadLiteralOp, LoadStoreOp, Logical, MoveOp, OneSourceOp, PairIndex, PairOp, PcRelativeOp,
+    SelectOp, ShiftKind, SystemMoveOp, SystemRegister, TwoSourceOp,
+};
 
 /// The bits, as many as `width`, of a signed number in two's complement.
 #[tactic(auto, unfolding(crate::specs::Numbers::signed_bits))]

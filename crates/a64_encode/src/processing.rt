@@ -2,8 +2,16 @@
 ghost use Rattle.std.specs.Prelude.{◌≡◌, ◌<◌, ◌^◌};
 ghost use Rattle.a64_encode.specs.Processing.{add_sub_carry_word, add_sub_extended_word, add_sub_immediate_word, add_sub_register_word, bitfield_move_word, compare_operand_bits, conditional_compare_word, conditional_select_word, extended_register_bits, extract_word, logical_immediate_word, logical_register_word, move_wide_word, multiply_word, one_source_word, pc_relative_bits, pc_relative_word, shifted_register_bits, two_source_word};
 
-use crate::numbers::{add_sub_number, bitfield_number, compare_number, condition_number, extend_number, logical_number, move_number, one_source_number, pc_relative_number, select_bits, shift_number, signed_bits, two_source_number};
-use sm_types::{AddSubCarry, AddSubExtended, AddSubImmediate, AddSubRegister, BitfieldMove, CompareOperand, ConditionalCompare, ConditionalSelect, ExtendedRegister, Extract, LogicalImmediate, LogicalRegister, MoveWide, Multiply, OneSource, PcRelative, ShiftedRegister, TwoSource};
+use crate::numbers::{
+    add_sub_number, bitfield_number, compare_number, condition_number, extend_number,
+    logical_number, move_number, one_source_number, pc_relative_number, select_bits, shift_number,
+    signed_bits, two_source_number,
+};
+use sm_types::{
+    AddSubCarry, AddSubExtended, AddSubImmediate, AddSubRegister, BitfieldMove, CompareOperand,
+    ConditionalCompare, ConditionalSelect, ExtendedRegister, Extract, LogicalImmediate,
+    LogicalRegister, MoveWide, Multiply, OneSource, PcRelative, ShiftedRegister, TwoSource,
+};
 
 /// Shift 23:22, Rm 20:16, amount 15:10.
 #[tactic(auto, unfolding(crate::specs::Processing::shifted_register_bits))]
@@ -239,14 +247,28 @@ pub fn multiply_word(x: &Multiply) -> u64
     ensures { result ≡ multiply_word x.now }
 {
     match *x {
-        Multiply::Same { subtract, wide, rm, ra, rn, rd } => 0x1B000000
+        Multiply::Same {
+            subtract,
+            wide,
+            rm,
+            ra,
+            rn,
+            rd,
+        } => 0x1B000000
             + u64::from(wide) * (1 << 31)
             + u64::from(rm) * (1 << 16)
             + u64::from(subtract) * (1 << 15)
             + u64::from(ra) * (1 << 10)
             + u64::from(rn) * (1 << 5)
             + u64::from(rd),
-        Multiply::Long { subtract, signed, rm, ra, rn, rd } => 0x9B200000
+        Multiply::Long {
+            subtract,
+            signed,
+            rm,
+            ra,
+            rn,
+            rd,
+        } => 0x9B200000
             + u64::from(!signed) * (1 << 23)
             + u64::from(rm) * (1 << 16)
             + u64::from(subtract) * (1 << 15)

@@ -5,92 +5,50 @@ use sm_types::{
     Address, Atomic, ConditionalCompare, ConditionalSelect, Insn, LoadStore, LoadStorePair,
 };
 
+// The comparison where the other instruction is of the same variant, else false.
+macro_rules! both {
+    ($other:expr, $variant:ident, $y:ident => $same:expr) => {
+        if let Insn::$variant($y) = $other { $same } else { false }
+    };
+}
+
 /// Whether two instructions are one.
 pub fn is_same(first: &Insn, second: &Insn) -> bool
     ensures { IsTrue result ↔ (first.now ≡ second.now) }
 {
     match first {
-        Insn::AddSubImmediate(x) => {
-            if let Insn::AddSubImmediate(y) = second { *x == *y } else { false }
-        }
-        Insn::AddSubRegister(x) => {
-            if let Insn::AddSubRegister(y) = second { *x == *y } else { false }
-        }
-        Insn::LogicalRegister(x) => {
-            if let Insn::LogicalRegister(y) = second { *x == *y } else { false }
-        }
-        Insn::AddSubExtended(x) => {
-            if let Insn::AddSubExtended(y) = second { *x == *y } else { false }
-        }
-        Insn::LogicalImmediate(x) => {
-            if let Insn::LogicalImmediate(y) = second { *x == *y } else { false }
-        }
-        Insn::MoveWide(x) => {
-            if let Insn::MoveWide(y) = second { *x == *y } else { false }
-        }
-        Insn::BitfieldMove(x) => {
-            if let Insn::BitfieldMove(y) = second { *x == *y } else { false }
-        }
-        Insn::Extract(x) => {
-            if let Insn::Extract(y) = second { *x == *y } else { false }
-        }
-        Insn::PcRelative(x) => {
-            if let Insn::PcRelative(y) = second { *x == *y } else { false }
-        }
-        Insn::Branch(x) => {
-            if let Insn::Branch(y) = second { *x == *y } else { false }
-        }
-        Insn::BranchRegister(x) => {
-            if let Insn::BranchRegister(y) = second { *x == *y } else { false }
-        }
-        Insn::AddSubCarry(x) => {
-            if let Insn::AddSubCarry(y) = second { *x == *y } else { false }
-        }
-        Insn::ConditionalSelect(x) => {
-            if let Insn::ConditionalSelect(y) = second { is_same_select(x, y) } else { false }
-        }
-        Insn::ConditionalCompare(x) => {
-            if let Insn::ConditionalCompare(y) = second { is_same_compare(x, y) } else { false }
-        }
-        Insn::OneSource(x) => {
-            if let Insn::OneSource(y) = second { *x == *y } else { false }
-        }
-        Insn::TwoSource(x) => {
-            if let Insn::TwoSource(y) = second { *x == *y } else { false }
-        }
-        Insn::Multiply(x) => {
-            if let Insn::Multiply(y) = second { *x == *y } else { false }
-        }
-        Insn::LoadStore(x) => {
-            if let Insn::LoadStore(y) = second { is_same_load_store(x, y) } else { false }
-        }
-        Insn::LoadLiteral(x) => {
-            if let Insn::LoadLiteral(y) = second { *x == *y } else { false }
-        }
-        Insn::LoadStorePair(x) => {
-            if let Insn::LoadStorePair(y) = second { is_same_pair(x, y) } else { false }
-        }
-        Insn::Atomic(x) => {
-            if let Insn::Atomic(y) = second { is_same_atomic(x, y) } else { false }
-        }
-        Insn::System(x) => {
-            if let Insn::System(y) = second { *x == *y } else { false }
-        }
-        Insn::SystemMove(x) => {
-            if let Insn::SystemMove(y) = second { *x == *y } else { false }
-        }
+        Insn::AddSubImmediate(x) => both!(second, AddSubImmediate, y => *x == *y),
+        Insn::AddSubRegister(x) => both!(second, AddSubRegister, y => *x == *y),
+        Insn::LogicalRegister(x) => both!(second, LogicalRegister, y => *x == *y),
+        Insn::AddSubExtended(x) => both!(second, AddSubExtended, y => *x == *y),
+        Insn::LogicalImmediate(x) => both!(second, LogicalImmediate, y => *x == *y),
+        Insn::MoveWide(x) => both!(second, MoveWide, y => *x == *y),
+        Insn::BitfieldMove(x) => both!(second, BitfieldMove, y => *x == *y),
+        Insn::Extract(x) => both!(second, Extract, y => *x == *y),
+        Insn::PcRelative(x) => both!(second, PcRelative, y => *x == *y),
+        Insn::Branch(x) => both!(second, Branch, y => *x == *y),
+        Insn::BranchRegister(x) => both!(second, BranchRegister, y => *x == *y),
+        Insn::AddSubCarry(x) => both!(second, AddSubCarry, y => *x == *y),
+        Insn::ConditionalSelect(x) => both!(second, ConditionalSelect, y => is_same_select(x, y)),
+        Insn::ConditionalCompare(x) =>
+            both!(second, ConditionalCompare, y => is_same_compare(x, y)),
+        Insn::OneSource(x) => both!(second, OneSource, y => *x == *y),
+        Insn::TwoSource(x) => both!(second, TwoSource, y => *x == *y),
+        Insn::Multiply(x) => both!(second, Multiply, y => *x == *y),
+        Insn::LoadStore(x) => both!(second, LoadStore, y => is_same_load_store(x, y)),
+        Insn::LoadLiteral(x) => both!(second, LoadLiteral, y => *x == *y),
+        Insn::LoadStorePair(x) => both!(second, LoadStorePair, y => is_same_pair(x, y)),
+        Insn::Atomic(x) => both!(second, Atomic, y => is_same_atomic(x, y)),
+        Insn::System(x) => both!(second, System, y => *x == *y),
+        Insn::SystemMove(x) => both!(second, SystemMove, y => *x == *y),
     }
 }
 
+// The comparisons below stand in functions of their own, and some go field by field, so that each is proved.
 fn is_same_select(first: &ConditionalSelect, second: &ConditionalSelect) -> bool
     ensures { IsTrue result ↔ (first.now ≡ second.now) }
 {
-    first.op == second.op
-        && first.wide == second.wide
-        && first.condition == second.condition
-        && first.rm == second.rm
-        && first.rn == second.rn
-        && first.rd == second.rd
+    *first == *second
 }
 
 fn is_same_compare(first: &ConditionalCompare, second: &ConditionalCompare) -> bool
@@ -114,58 +72,85 @@ fn is_same_load_store(first: &LoadStore, second: &LoadStore) -> bool
         && first.rt == second.rt
 }
 
-fn is_same_pair(first: &LoadStorePair, second: &LoadStorePair) -> bool
-    ensures { IsTrue result ↔ (first.now ≡ second.now) }
-{
-    first.op == second.op
-        && first.wide == second.wide
-        && first.index == second.index
-        && first.offset == second.offset
-        && first.rn == second.rn
-        && first.rt == second.rt
-        && first.rt2 == second.rt2
-}
-
 fn is_same_address(first: &Address, second: &Address) -> bool
     ensures { IsTrue result ↔ (first.now ≡ second.now) }
 {
-    match *first {
-        Address::Offset { imm } => {
-            if let Address::Offset { imm: other_imm } = *second { imm == other_imm } else { false }
-        }
-        Address::Unscaled { offset } => {
-            if let Address::Unscaled { offset: other_offset } = *second { offset == other_offset } else { false }
-        }
-        Address::PostIndex { offset } => {
-            if let Address::PostIndex { offset: other_offset } = *second { offset == other_offset } else { false }
-        }
-        Address::PreIndex { offset } => {
-            if let Address::PreIndex { offset: other_offset } = *second { offset == other_offset } else { false }
-        }
-        Address::Register { rm, extend, scaled } => {
-            if let Address::Register { rm: other_rm, extend: other_extend, scaled: other_scaled } = *second { rm == other_rm && extend == other_extend && scaled == other_scaled } else { false }
-        }
-    }
+    *first == *second
+}
+
+fn is_same_pair(first: &LoadStorePair, second: &LoadStorePair) -> bool
+    ensures { IsTrue result ↔ (first.now ≡ second.now) }
+{
+    *first == *second
 }
 
 fn is_same_atomic(first: &Atomic, second: &Atomic) -> bool
     ensures { IsTrue result ↔ (first.now ≡ second.now) }
 {
     match *first {
-        Atomic::Ldar { size, rn, rt } => {
-            if let Atomic::Ldar { size: other_size, rn: other_rn, rt: other_rt } = *second { size == other_size && rn == other_rn && rt == other_rt } else { false }
-        }
-        Atomic::Stlr { size, rn, rt } => {
-            if let Atomic::Stlr { size: other_size, rn: other_rn, rt: other_rt } = *second { size == other_size && rn == other_rn && rt == other_rt } else { false }
-        }
-        Atomic::Cas { size, acquire, release, rs, rn, rt } => {
-            if let Atomic::Cas { size: other_size, acquire: other_acquire, release: other_release, rs: other_rs, rn: other_rn, rt: other_rt } = *second { size == other_size && acquire == other_acquire && release == other_release && rs == other_rs && rn == other_rn && rt == other_rt } else { false }
-        }
-        Atomic::Swap { size, acquire, release, rs, rn, rt } => {
-            if let Atomic::Swap { size: other_size, acquire: other_acquire, release: other_release, rs: other_rs, rn: other_rn, rt: other_rt } = *second { size == other_size && acquire == other_acquire && release == other_release && rs == other_rs && rn == other_rn && rt == other_rt } else { false }
-        }
-        Atomic::Update { op, size, acquire, release, rs, rn, rt } => {
-            if let Atomic::Update { op: other_op, size: other_size, acquire: other_acquire, release: other_release, rs: other_rs, rn: other_rn, rt: other_rt } = *second { op == other_op && size == other_size && acquire == other_acquire && release == other_release && rs == other_rs && rn == other_rn && rt == other_rt } else { false }
+        Atomic::Ldar { size, rn, rt } => *second == Atomic::Ldar { size, rn, rt },
+        Atomic::Stlr { size, rn, rt } => *second == Atomic::Stlr { size, rn, rt },
+        Atomic::Cas {
+            size,
+            acquire,
+            release,
+            rs,
+            rn,
+            rt,
+        } => *second
+            == Atomic::Cas {
+                size,
+                acquire,
+                release,
+                rs,
+                rn,
+                rt,
+            },
+        Atomic::Swap {
+            size,
+            acquire,
+            release,
+            rs,
+            rn,
+            rt,
+        } => *second
+            == Atomic::Swap {
+                size,
+                acquire,
+                release,
+                rs,
+                rn,
+                rt,
+            },
+        Atomic::Update {
+            op,
+            size,
+            acquire,
+            release,
+            rs,
+            rn,
+            rt,
+        } => {
+            if let Atomic::Update {
+                op: other_op,
+                size: other_size,
+                acquire: other_acquire,
+                release: other_release,
+                rs: other_rs,
+                rn: other_rn,
+                rt: other_rt,
+            } = *second
+            {
+                op == other_op
+                    && size == other_size
+                    && acquire == other_acquire
+                    && release == other_release
+                    && rs == other_rs
+                    && rn == other_rn
+                    && rt == other_rt
+            } else {
+                false
+            }
         }
     }
 }
