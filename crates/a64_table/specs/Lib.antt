@@ -7,3 +7,4 @@ pub mod Operands
 pub mod Processing
 pub mod Ranges
 pub mod Rows
+pub mod Words

@@ -1,6 +1,6 @@
 -- The data processing instructions that a word means.
 -- Source: DDI 0487, C4.1 and the encoding diagrams of C6.2, data processing with an immediate and with registers.
-use Rattle.std.specs.Prelude.{ℕ, ◌+◌, ◌*◌, ◌==◌, Bool, not, if◌then◌else◌}
+use Rattle.std.specs.Prelude.{ℕ, ◌+◌, ◌*◌, ◌==◌, not, if◌then◌else◌}
 use Rattle.sm_types.specs.declared.insn.AddSub.{AddSub}
 use Rattle.sm_types.specs.declared.insn.AddSub.TheVariants.{Add, Adds, Sub, Subs}
 use Rattle.sm_types.specs.declared.insn.Logical.{Logical}

@@ -3,6 +3,7 @@ ghost use Rattle.std.specs.Prelude.{◌≡◌, ◌<◌, ◌^◌, ◌↔◌, Some
 ghost use Rattle.sm_types.specs.declared.insn.Insn.{Insn};
 ghost use Rattle.a64_table.specs.Meaning.{HasAtMostOneRow, Means, meaning_of};
 ghost use Rattle.a64_table.specs.Ranges.{IsInRow};
+ghost use Rattle.a64_table.specs.Words.{word_of};
 
 use crate::rows::SCALAR_ROWS;
 
@@ -19,4 +20,10 @@ pub fn one_meaning()
 /// The fields of each instruction that a word means are in their ranges.
 pub fn in_range()
     ensures { (word : ℕ) (it : Insn) → Means SCALAR_ROWS word it → IsInRow it }
+{}
+
+/// An instruction has at most one word, which its operation and fields say.
+pub fn one_word()
+    ensures word { (word : ℕ) (it : Insn) → Means SCALAR_ROWS word it → word_of it ≡ word }
+    ensures one { (word other : ℕ) (it : Insn) → Means SCALAR_ROWS word it → Means SCALAR_ROWS other it → word ≡ other }
 {}

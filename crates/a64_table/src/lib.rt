@@ -11,5 +11,5 @@ mod rows;
 
 pub use fields::{bit, field, signed, signed_field};
 pub use fitting::fits;
-pub use laws::{in_range, one_meaning, one_row};
+pub use laws::{in_range, one_meaning, one_row, one_word};
 pub use rows::{Group, Row, SCALAR_ROWS, matches};

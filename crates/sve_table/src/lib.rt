@@ -7,5 +7,5 @@
 mod laws;
 mod rows;
 
-pub use laws::{in_range, one_meaning, one_row};
+pub use laws::{in_range, one_meaning, one_row, one_word};
 pub use rows::VECTOR_ROWS;
