@@ -1,6 +1,7 @@
 //! From a file to its image.
 ghost use Rattle.std.specs.Prelude.{◌≡◌, ◌≢◌, ◌+◌, ◌*◌, ◌/◌, ◌%◌, ◌≤◌, ◌^◌, ◌<◌, length, IfOk, IfErr, None, Some, true, is_some};
 ghost use Rattle.elf_loader.specs.Header.{text_of, IsLoadable};
+ghost use Rattle.sve_table.specs.Meaning.{instruction_of};
 ghost use Rattle.elf_loader.specs.Loading.{unlisted_at, words_fault, word_count, code_words, text_word, text_address, IsTextImage, Loads, Refuses};
 
 use crate::fault::LoadFault;
