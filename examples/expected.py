@@ -3,7 +3,8 @@
 
     examples/expected.py FILE
 
-It knows the five instructions that are executed so far, and the calls write and exit.
+It knows movz, add and subs of an immediate, b.cond, br, hint, brk and svc, and the calls write and exit; each other word is
+undefined to it.
 """
 import hashlib
 import struct
@@ -84,8 +85,16 @@ class Thread:
             if self.holds(word & 15):
                 self.pc, self.count = (self.pc + 4 * distance) & MASK, self.count + 1
                 return None
+        elif word & 0xFFFFFC1F == 0xD61F0000:
+            number = word >> 5 & 31
+            self.pc, self.count = 0 if number == 31 else self.x[number], self.count + 1
+            return None
         elif word & 0xFFE0001F == 0xD4000001:
             return self.call()
+        elif word & 0xFFE0001F == 0xD4200000:
+            return f"raised breakpoint {self.pc:016x} {word >> 5 & 0xFFFF}"
+        elif word & 0xFFFFF01F == 0xD503201F:
+            pass
         else:
             return f"raised undefined {self.pc:016x} {word:08x}"
         self.pc, self.count = (self.pc + 4) & MASK, self.count + 1

@@ -62,6 +62,15 @@ REPORTS = {
     "sp": [add(31, 31, 16), add(5, 31, 0xFFF, True), subs(31, 31, 1), subs(6, 31, 0), movz(31, 7), *EXIT],
     "narrow": [movz(3, 1, 1, False), subs(4, 3, 1, True, False), add(5, 4, 1, False, False), subs(6, 31, 1, False, False), movz(7, 9, 3),
                add(7, 7, 0xFFF, True, False), *EXIT],
+    "breaks": [movz(0, 1), 0xD4200000 | 65535 << 5],
+    "branches-to-no-multiple-of-4": [movz(3, 0x40, 1), add(3, 3, 6), 0xD61F0060],
+    "branches-to-0": [0xD61F03E0],
+    "hints": [0xD503201F, 0xD503245F, 0xD503237F, *EXIT],
+    "loads-are-not-executed": [movz(1, 0x40, 1), 0xF9400020, *EXIT],
+    "stores-are-not-executed": [movz(1, 0x40, 1), 0xA9000020, *EXIT],
+    "swaps-are-not-executed": [0xF8208020, *EXIT],
+    "svcr-is-not-moved": [0xD53B4240, *EXIT],
+    "undefined": [movz(0, 1), 9],
     "overflow": [movz(3, 0x8000, 3), subs(4, 3, 1), movz(5, 0x8000, 1, False), subs(6, 5, 1, False, False), *EXIT],
 }
 # each condition after 3 - 1, 1 - 1, 0 - 1 and the overflow of the least number minus 1

@@ -2,6 +2,9 @@
 #![tactic(auto)]
 
 #[cfg(test)]
+mod instructions;
+
+#[cfg(test)]
 mod tests {
     use edge_io::{MemFiles, MemSink};
     use smemu::{Status, smemu_main};
