@@ -1,5 +1,5 @@
 -- The word of an instruction by the rows of either table.
-use Rattle.std.proofs.Common.{◌≡◌, ◌⊎◌, inl, inr, ◌↔◌, ◌≤◌, ◌<◌, ◌^◌, ℕ, Option, Some, None, sym, ap, ◌∙◌, subst, arith}
+use Rattle.std.proofs.Common.{◌≡◌, inl, inr, ◌↔◌, ◌≤◌, ◌<◌, ◌^◌, ℕ, Option, Some, None, sym, ap, ◌∙◌, subst, arith}
 use Rattle.sm_types.specs.declared.insn.Insn.{Insn}
 use Rattle.a64_table.specs.Words.{word_of}
 use Rattle.a64_table.proofs.FirstRow.{some_is, none_some}
