@@ -1,6 +1,6 @@
 //! The one word that may be an instruction's.
 ghost use Rattle.std.specs.Prelude.{◌≡◌};
-ghost use Rattle.a64_encode.specs.Candidate.{candidate_of};
+ghost use Rattle.a64_table.specs.Words.{word_of};
 
 use crate::accesses::{atomic_word, load_literal_word, load_store_pair_word, load_store_word};
 use crate::control::{branch_register_word, branch_word, system_move_word, system_word};
@@ -13,9 +13,9 @@ use crate::processing::{
 use sm_types::Insn;
 
 /// The fields at their places, where the group's fixed bits are.
-#[tactic(auto, unfolding(crate::specs::Candidate::candidate_of))]
+#[tactic(auto, unfolding(a64_table::specs::Words::word_of))]
 pub fn candidate(insn: &Insn) -> u64
-    ensures { result ≡ candidate_of insn.now }
+    ensures { result ≡ word_of insn.now }
 {
     match insn {
         Insn::AddSubImmediate(x) => add_sub_immediate_word(x),

@@ -1,6 +1,6 @@
 //! The numbers that operations, conditions, shifts, extensions and sizes have in an encoding.
 ghost use Rattle.std.specs.Prelude.{◌≡◌, ◌<◌, ◌^◌};
-ghost use Rattle.a64_encode.specs.Numbers.{access_size_number, add_sub_number, atomic_number, bitfield_number, branch_register_number, compare_number, condition_number, extend_number, load_literal_number, load_store_number, logical_number, move_number, one_source_number, pair_index_number, pair_number, pc_relative_number, select_bits, shift_number, signed_bits, system_move_number, system_register_number, two_source_number};
+ghost use Rattle.a64_table.specs.Words.{access_size_number, add_sub_number, atomic_op_number, bitfield_op_number, branch_register_op_number, compare_op_number, condition_number, extend_number, load_literal_op_number, load_store_op_number, logical_number, move_op_number, one_source_op_number, pair_index_number, pair_op_number, pc_relative_op_number, select_op_bits, shift_number, signed_bits, system_move_op_number, system_register_number, two_source_op_number};
 
 use sm_types::{
     AccessSize, AddSub, AtomicOp, BitfieldOp, BranchRegisterOp, CompareOp, Condition, Extend,
@@ -9,7 +9,7 @@ use sm_types::{
 };
 
 /// The bits, as many as `width`, of a signed number in two's complement.
-#[tactic(auto, unfolding(crate::specs::Numbers::signed_bits))]
+#[tactic(auto, unfolding(a64_table::specs::Words::signed_bits))]
 pub fn signed_bits(number: i32, width: u32) -> u64
     requires { width < 31 }
     ensures value { result ≡ signed_bits number width }
@@ -113,8 +113,8 @@ pub fn logical_number(op: Logical) -> u64
 }
 
 /// Opc of the wide moves.
-pub fn move_number(op: MoveOp) -> u64
-    ensures value { result ≡ move_number op }
+pub fn move_op_number(op: MoveOp) -> u64
+    ensures value { result ≡ move_op_number op }
     ensures small { result < 4 }
 {
     match op {
@@ -125,8 +125,8 @@ pub fn move_number(op: MoveOp) -> u64
 }
 
 /// Opc of the moves of bit fields.
-pub fn bitfield_number(op: BitfieldOp) -> u64
-    ensures value { result ≡ bitfield_number op }
+pub fn bitfield_op_number(op: BitfieldOp) -> u64
+    ensures value { result ≡ bitfield_op_number op }
     ensures small { result < 4 }
 {
     match op {
@@ -137,8 +137,8 @@ pub fn bitfield_number(op: BitfieldOp) -> u64
 }
 
 /// Op of the addresses relative to the program counter.
-pub fn pc_relative_number(op: PcRelativeOp) -> u64
-    ensures value { result ≡ pc_relative_number op }
+pub fn pc_relative_op_number(op: PcRelativeOp) -> u64
+    ensures value { result ≡ pc_relative_op_number op }
     ensures small { result < 2 }
 {
     match op {
@@ -148,8 +148,8 @@ pub fn pc_relative_number(op: PcRelativeOp) -> u64
 }
 
 /// Op of the branches to a register.
-pub fn branch_register_number(op: BranchRegisterOp) -> u64
-    ensures value { result ≡ branch_register_number op }
+pub fn branch_register_op_number(op: BranchRegisterOp) -> u64
+    ensures value { result ≡ branch_register_op_number op }
     ensures small { result < 4 }
 {
     match op {
@@ -160,8 +160,8 @@ pub fn branch_register_number(op: BranchRegisterOp) -> u64
 }
 
 /// Op of the conditional compares.
-pub fn compare_number(op: CompareOp) -> u64
-    ensures value { result ≡ compare_number op }
+pub fn compare_op_number(op: CompareOp) -> u64
+    ensures value { result ≡ compare_op_number op }
     ensures small { result < 2 }
 {
     match op {
@@ -171,8 +171,8 @@ pub fn compare_number(op: CompareOp) -> u64
 }
 
 /// Opcode of the operations on one register.
-pub fn one_source_number(op: OneSourceOp) -> u64
-    ensures value { result ≡ one_source_number op }
+pub fn one_source_op_number(op: OneSourceOp) -> u64
+    ensures value { result ≡ one_source_op_number op }
     ensures small { result < 64 }
 {
     match op {
@@ -186,8 +186,8 @@ pub fn one_source_number(op: OneSourceOp) -> u64
 }
 
 /// Opcode of the operations on two registers.
-pub fn two_source_number(op: TwoSourceOp) -> u64
-    ensures value { result ≡ two_source_number op }
+pub fn two_source_op_number(op: TwoSourceOp) -> u64
+    ensures value { result ≡ two_source_op_number op }
     ensures small { result < 64 }
 {
     match op {
@@ -201,8 +201,8 @@ pub fn two_source_number(op: TwoSourceOp) -> u64
 }
 
 /// Opc of the loads and stores of one register.
-pub fn load_store_number(op: LoadStoreOp) -> u64
-    ensures value { result ≡ load_store_number op }
+pub fn load_store_op_number(op: LoadStoreOp) -> u64
+    ensures value { result ≡ load_store_op_number op }
     ensures small { result < 4 }
 {
     match op {
@@ -214,8 +214,8 @@ pub fn load_store_number(op: LoadStoreOp) -> u64
 }
 
 /// Opc of the loads from beside the program counter.
-pub fn load_literal_number(op: LoadLiteralOp) -> u64
-    ensures value { result ≡ load_literal_number op }
+pub fn load_literal_op_number(op: LoadLiteralOp) -> u64
+    ensures value { result ≡ load_literal_op_number op }
     ensures small { result < 4 }
 {
     match op {
@@ -226,8 +226,8 @@ pub fn load_literal_number(op: LoadLiteralOp) -> u64
 }
 
 /// L of the loads and stores of two registers.
-pub fn pair_number(op: PairOp) -> u64
-    ensures value { result ≡ pair_number op }
+pub fn pair_op_number(op: PairOp) -> u64
+    ensures value { result ≡ pair_op_number op }
     ensures small { result < 2 }
 {
     match op {
@@ -249,8 +249,8 @@ pub fn pair_index_number(it: PairIndex) -> u64
 }
 
 /// Opc of the atomic operations.
-pub fn atomic_number(op: AtomicOp) -> u64
-    ensures value { result ≡ atomic_number op }
+pub fn atomic_op_number(op: AtomicOp) -> u64
+    ensures value { result ≡ atomic_op_number op }
     ensures small { result < 8 }
 {
     match op {
@@ -279,8 +279,8 @@ pub fn system_register_number(it: SystemRegister) -> u64
 }
 
 /// L of the moves of system registers.
-pub fn system_move_number(op: SystemMoveOp) -> u64
-    ensures value { result ≡ system_move_number op }
+pub fn system_move_op_number(op: SystemMoveOp) -> u64
+    ensures value { result ≡ system_move_op_number op }
     ensures small { result < 2 }
 {
     match op {
@@ -290,8 +290,8 @@ pub fn system_move_number(op: SystemMoveOp) -> u64
 }
 
 /// Op at bit 30 and o2 at bit 10 of the conditional selects.
-pub fn select_bits(op: SelectOp) -> u64
-    ensures value { result ≡ select_bits op }
+pub fn select_op_bits(op: SelectOp) -> u64
+    ensures value { result ≡ select_op_bits op }
     ensures small { result < 2 ^ 31 }
 {
     match op {

@@ -1,11 +1,11 @@
 //! The words of the data processing instructions.
-ghost use Rattle.std.specs.Prelude.{◌≡◌, ◌<◌, ◌^◌};
-ghost use Rattle.a64_encode.specs.Processing.{add_sub_carry_word, add_sub_extended_word, add_sub_immediate_word, add_sub_register_word, bitfield_move_word, compare_operand_bits, conditional_compare_word, conditional_select_word, extended_register_bits, extract_word, logical_immediate_word, logical_register_word, move_wide_word, multiply_word, one_source_word, pc_relative_bits, pc_relative_word, shifted_register_bits, two_source_word};
+ghost use Rattle.std.specs.Prelude.{◌≡◌, ◌+◌, ◌*◌, ◌<◌, ◌^◌};
+ghost use Rattle.a64_table.specs.Words.{add_sub_carry_word, add_sub_extended_word, add_sub_immediate_word, add_sub_register_word, bitfield_move_word, compare_operand_bits, conditional_compare_word, conditional_select_word, extend_number, extract_word, logical_immediate_word, logical_register_word, move_wide_word, multiply_word, one_source_word, pc_relative_word, shift_number, two_source_word};
 
 use crate::numbers::{
-    add_sub_number, bitfield_number, compare_number, condition_number, extend_number,
-    logical_number, move_number, one_source_number, pc_relative_number, select_bits, shift_number,
-    signed_bits, two_source_number,
+    add_sub_number, bitfield_op_number, compare_op_number, condition_number, extend_number,
+    logical_number, move_op_number, one_source_op_number, pc_relative_op_number, select_op_bits,
+    shift_number, signed_bits, two_source_op_number,
 };
 use sm_types::{
     AddSubCarry, AddSubExtended, AddSubImmediate, AddSubRegister, BitfieldMove, CompareOperand,
@@ -14,9 +14,8 @@ use sm_types::{
 };
 
 /// Shift 23:22, Rm 20:16, amount 15:10.
-#[tactic(auto, unfolding(crate::specs::Processing::shifted_register_bits))]
 fn shifted_register_bits(x: &ShiftedRegister) -> u64
-    ensures value { result ≡ shifted_register_bits x.now }
+    ensures value { result ≡ shift_number x.now.shift * 2 ^ 22 + x.now.rm * 2 ^ 16 + x.now.amount * 2 ^ 10 }
     ensures small { result < 2 ^ 32 }
 {
     shift_number(x.shift) * (1 << 22)
@@ -25,9 +24,8 @@ fn shifted_register_bits(x: &ShiftedRegister) -> u64
 }
 
 /// Rm 20:16, option 15:13, amount 12:10.
-#[tactic(auto, unfolding(crate::specs::Processing::extended_register_bits))]
 fn extended_register_bits(x: &ExtendedRegister) -> u64
-    ensures value { result ≡ extended_register_bits x.now }
+    ensures value { result ≡ x.now.rm * 2 ^ 16 + extend_number x.now.extend * 2 ^ 13 + x.now.amount * 2 ^ 10 }
     ensures small { result < 2 ^ 32 }
 {
     u64::from(x.rm) * (1 << 16)
@@ -36,7 +34,7 @@ fn extended_register_bits(x: &ExtendedRegister) -> u64
 }
 
 /// Add and subtract immediate: sf 31, op and S 30:29, sh 22, imm12 21:10, Rn 9:5, Rd 4:0.
-#[tactic(auto, unfolding(crate::specs::Processing::add_sub_immediate_word))]
+#[tactic(auto, unfolding(a64_table::specs::Words::add_sub_immediate_word))]
 pub fn add_sub_immediate_word(x: &AddSubImmediate) -> u64
     ensures { result ≡ add_sub_immediate_word x.now }
 {
@@ -50,7 +48,7 @@ pub fn add_sub_immediate_word(x: &AddSubImmediate) -> u64
 }
 
 /// Add and subtract shifted register: sf 31, op and S 30:29, Rn 9:5, Rd 4:0.
-#[tactic(auto, unfolding(crate::specs::Processing::add_sub_register_word))]
+#[tactic(auto, unfolding(a64_table::specs::Words::add_sub_register_word))]
 pub fn add_sub_register_word(x: &AddSubRegister) -> u64
     ensures { result ≡ add_sub_register_word x.now }
 {
@@ -63,7 +61,7 @@ pub fn add_sub_register_word(x: &AddSubRegister) -> u64
 }
 
 /// Logical shifted register: sf 31, opc 30:29, N 21, Rn 9:5, Rd 4:0.
-#[tactic(auto, unfolding(crate::specs::Processing::logical_register_word))]
+#[tactic(auto, unfolding(a64_table::specs::Words::logical_register_word))]
 pub fn logical_register_word(x: &LogicalRegister) -> u64
     ensures { result ≡ logical_register_word x.now }
 {
@@ -77,7 +75,7 @@ pub fn logical_register_word(x: &LogicalRegister) -> u64
 }
 
 /// Add and subtract extended register: sf 31, op and S 30:29, Rn 9:5, Rd 4:0.
-#[tactic(auto, unfolding(crate::specs::Processing::add_sub_extended_word))]
+#[tactic(auto, unfolding(a64_table::specs::Words::add_sub_extended_word))]
 pub fn add_sub_extended_word(x: &AddSubExtended) -> u64
     ensures { result ≡ add_sub_extended_word x.now }
 {
@@ -90,7 +88,7 @@ pub fn add_sub_extended_word(x: &AddSubExtended) -> u64
 }
 
 /// Logical immediate: sf 31, opc 30:29, N 22, immr 21:16, imms 15:10, Rn 9:5, Rd 4:0.
-#[tactic(auto, unfolding(crate::specs::Processing::logical_immediate_word))]
+#[tactic(auto, unfolding(a64_table::specs::Words::logical_immediate_word))]
 pub fn logical_immediate_word(x: &LogicalImmediate) -> u64
     ensures { result ≡ logical_immediate_word x.now }
 {
@@ -105,26 +103,26 @@ pub fn logical_immediate_word(x: &LogicalImmediate) -> u64
 }
 
 /// Move wide: sf 31, opc 30:29, hw 22:21, imm16 20:5, Rd 4:0.
-#[tactic(auto, unfolding(crate::specs::Processing::move_wide_word))]
+#[tactic(auto, unfolding(a64_table::specs::Words::move_wide_word))]
 pub fn move_wide_word(x: &MoveWide) -> u64
     ensures { result ≡ move_wide_word x.now }
 {
     0x12800000
         + u64::from(x.wide) * (1 << 31)
-        + move_number(x.op) * (1 << 29)
+        + move_op_number(x.op) * (1 << 29)
         + u64::from(x.hw) * (1 << 21)
         + u64::from(x.imm) * (1 << 5)
         + u64::from(x.rd)
 }
 
 /// Bit field moves: sf 31, opc 30:29, N 22 as sf, immr 21:16, imms 15:10, Rn 9:5, Rd 4:0.
-#[tactic(auto, unfolding(crate::specs::Processing::bitfield_move_word))]
+#[tactic(auto, unfolding(a64_table::specs::Words::bitfield_move_word))]
 pub fn bitfield_move_word(x: &BitfieldMove) -> u64
     ensures { result ≡ bitfield_move_word x.now }
 {
     0x13000000
         + u64::from(x.wide) * (1 << 31)
-        + bitfield_number(x.op) * (1 << 29)
+        + bitfield_op_number(x.op) * (1 << 29)
         + u64::from(x.wide) * (1 << 22)
         + u64::from(x.immr) * (1 << 16)
         + u64::from(x.imms) * (1 << 10)
@@ -133,7 +131,7 @@ pub fn bitfield_move_word(x: &BitfieldMove) -> u64
 }
 
 /// Extract: sf 31, N 22 as sf, Rm 20:16, imms 15:10, Rn 9:5, Rd 4:0.
-#[tactic(auto, unfolding(crate::specs::Processing::extract_word))]
+#[tactic(auto, unfolding(a64_table::specs::Words::extract_word))]
 pub fn extract_word(x: &Extract) -> u64
     ensures { result ≡ extract_word x.now }
 {
@@ -146,26 +144,21 @@ pub fn extract_word(x: &Extract) -> u64
         + u64::from(x.rd)
 }
 
-/// Op 31, the low two bits of the number 30:29 and the other nineteen 23:5, Rd 4:0.
-#[tactic(auto, unfolding(crate::specs::Processing::pc_relative_bits))]
-fn pc_relative_bits(op: u64, number: u64, rd: u8) -> u64
-    requires op { op < 2 }
-    requires number { number < 2 ^ 32 }
-    ensures { result ≡ pc_relative_bits op number rd }
-{
-    0x10000000 + op * (1 << 31) + number % 4 * (1 << 29) + number / 4 * (1 << 5) + u64::from(rd)
-}
-
-/// Addresses relative to the program counter.
-#[tactic(auto, unfolding(crate::specs::Processing::pc_relative_word))]
+/// Addresses relative to the program counter: op 31, the low two bits of the number 30:29 and the other nineteen 23:5, Rd 4:0.
+#[tactic(auto, unfolding(a64_table::specs::Words::pc_relative_word))]
 pub fn pc_relative_word(x: &PcRelative) -> u64
     ensures { result ≡ pc_relative_word x.now }
 {
-    pc_relative_bits(pc_relative_number(x.op), signed_bits(x.imm, 21), x.rd)
+    let number = signed_bits(x.imm, 21);
+    0x10000000
+        + u64::from(x.rd)
+        + pc_relative_op_number(x.op) * (1 << 31)
+        + number % 4 * (1 << 29)
+        + number / 4 * (1 << 5)
 }
 
 /// Add and subtract with carry: sf 31, op and S 30:29, Rm 20:16, Rn 9:5, Rd 4:0.
-#[tactic(auto, unfolding(crate::specs::Processing::add_sub_carry_word))]
+#[tactic(auto, unfolding(a64_table::specs::Words::add_sub_carry_word))]
 pub fn add_sub_carry_word(x: &AddSubCarry) -> u64
     ensures { result ≡ add_sub_carry_word x.now }
 {
@@ -178,13 +171,13 @@ pub fn add_sub_carry_word(x: &AddSubCarry) -> u64
 }
 
 /// Conditional select: sf 31, Rm 20:16, cond 15:12, Rn 9:5, Rd 4:0.
-#[tactic(auto, unfolding(crate::specs::Processing::conditional_select_word))]
+#[tactic(auto, unfolding(a64_table::specs::Words::conditional_select_word))]
 pub fn conditional_select_word(x: &ConditionalSelect) -> u64
     ensures { result ≡ conditional_select_word x.now }
 {
     0x1A800000
         + u64::from(x.wide) * (1 << 31)
-        + select_bits(x.op)
+        + select_op_bits(x.op)
         + u64::from(x.rm) * (1 << 16)
         + condition_number(x.condition) * (1 << 12)
         + u64::from(x.rn) * (1 << 5)
@@ -192,6 +185,7 @@ pub fn conditional_select_word(x: &ConditionalSelect) -> u64
 }
 
 /// Rm or imm5 20:16, the latter with bit 11.
+#[tactic(auto, unfolding(a64_table::specs::Words::compare_operand_bits))]
 fn compare_operand_bits(x: &CompareOperand) -> u64
     ensures value { result ≡ compare_operand_bits x.now }
     ensures small { result < 2 ^ 32 }
@@ -203,13 +197,13 @@ fn compare_operand_bits(x: &CompareOperand) -> u64
 }
 
 /// Conditional compare: sf 31, op 30, cond 15:12, Rn 9:5, nzcv 3:0.
-#[tactic(auto, unfolding(crate::specs::Processing::conditional_compare_word))]
+#[tactic(auto, unfolding(a64_table::specs::Words::conditional_compare_word))]
 pub fn conditional_compare_word(x: &ConditionalCompare) -> u64
     ensures { result ≡ conditional_compare_word x.now }
 {
     0x3A400000
         + u64::from(x.wide) * (1 << 31)
-        + compare_number(x.op) * (1 << 30)
+        + compare_op_number(x.op) * (1 << 30)
         + compare_operand_bits(&x.operand)
         + condition_number(x.condition) * (1 << 12)
         + u64::from(x.rn) * (1 << 5)
@@ -217,32 +211,32 @@ pub fn conditional_compare_word(x: &ConditionalCompare) -> u64
 }
 
 /// One source: sf 31, opcode 15:10, Rn 9:5, Rd 4:0.
-#[tactic(auto, unfolding(crate::specs::Processing::one_source_word))]
+#[tactic(auto, unfolding(a64_table::specs::Words::one_source_word))]
 pub fn one_source_word(x: &OneSource) -> u64
     ensures { result ≡ one_source_word x.now }
 {
     0x5AC00000
         + u64::from(x.wide) * (1 << 31)
-        + one_source_number(x.op) * (1 << 10)
+        + one_source_op_number(x.op) * (1 << 10)
         + u64::from(x.rn) * (1 << 5)
         + u64::from(x.rd)
 }
 
 /// Two sources: sf 31, Rm 20:16, opcode 15:10, Rn 9:5, Rd 4:0.
-#[tactic(auto, unfolding(crate::specs::Processing::two_source_word))]
+#[tactic(auto, unfolding(a64_table::specs::Words::two_source_word))]
 pub fn two_source_word(x: &TwoSource) -> u64
     ensures { result ≡ two_source_word x.now }
 {
     0x1AC00000
         + u64::from(x.wide) * (1 << 31)
         + u64::from(x.rm) * (1 << 16)
-        + two_source_number(x.op) * (1 << 10)
+        + two_source_op_number(x.op) * (1 << 10)
         + u64::from(x.rn) * (1 << 5)
         + u64::from(x.rd)
 }
 
 /// Multiplications: sf 31, U 23 where the product is not signed, Rm 20:16, o0 15, Ra 14:10, Rn 9:5, Rd 4:0.
-#[tactic(auto, unfolding(crate::specs::Processing::multiply_word))]
+#[tactic(auto, unfolding(a64_table::specs::Words::multiply_word))]
 pub fn multiply_word(x: &Multiply) -> u64
     ensures { result ≡ multiply_word x.now }
 {
