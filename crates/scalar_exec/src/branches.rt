@@ -1,7 +1,6 @@
 //! Addresses beside the program counter, and branches.
 ghost use Rattle.std.specs.Prelude.{◌≡◌, ◌<◌};
-ghost use Rattle.sm_types.specs.declared.insn.Insn.TheVariants as insn;
-ghost use Rattle.a64_table.specs.Ranges.{IsPcRelative, IsBranch, IsSigned};
+ghost use Rattle.a64_table.specs.Ranges.{IsPcRelative, IsBranch};
 ghost use Rattle.scalar_exec.specs.Branches.{address_at, relative_address, pc_relative, branch_target, linked, branch, branch_if, branch_register};
 ghost use Rattle.scalar_exec.specs.Step.{flowed};
 

@@ -1,6 +1,5 @@
 //! Logical operations.
 ghost use Rattle.std.specs.Prelude.{◌≡◌, ◌<◌};
-ghost use Rattle.bit_ops.specs.Sums.{word_size};
 ghost use Rattle.bit_ops.specs.Masks.{mask_of};
 ghost use Rattle.a64_table.specs.Ranges.{IsLogicalRegister, IsLogicalImmediate};
 ghost use Rattle.scalar_exec.specs.Logic.{combined, logical_flags, logical_to_x, logical_to_sp, logical_operand, logical_register, logical_immediate};

@@ -1,7 +1,6 @@
 //! The second operands of the data processing instructions.
-ghost use Rattle.std.specs.Prelude.{◌≡◌, ◌-◌, ◌*◌, ◌%◌, ◌<◌, ◌≤◌, ◌^◌};
+ghost use Rattle.std.specs.Prelude.{◌≡◌, ◌<◌, ◌≤◌};
 ghost use Rattle.bit_ops.specs.Sums.{word_size};
-ghost use Rattle.bit_ops.specs.Bits.{width_of};
 ghost use Rattle.a64_table.specs.Ranges.{IsShiftedRegister, IsExtendedRegister};
 ghost use Rattle.scalar_exec.specs.Operands.{inverted, shift_of, shift_reg, sign_extend, extended, extend_reg};
 

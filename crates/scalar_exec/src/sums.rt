@@ -1,6 +1,5 @@
 //! Sums and differences.
 ghost use Rattle.std.specs.Prelude.{◌≡◌, ◌<◌, ◌^◌};
-ghost use Rattle.sm_types.specs.declared.insn.Insn.TheVariants as insn;
 ghost use Rattle.bit_ops.specs.Sums.{word_size, bool_number};
 ghost use Rattle.a64_table.specs.Ranges.{IsAddSubImmediate, IsAddSubRegister, IsAddSubExtended, IsAddSubCarry};
 ghost use Rattle.scalar_exec.specs.Sums.{carry_of, sum_to_x, sum_to_sp, immediate_of, add_sub_immediate, add_sub_register, add_sub_extended, add_sub_carry};
