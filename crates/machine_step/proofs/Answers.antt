@@ -1,5 +1,5 @@
 -- What makes the answer of an instruction.
-use Rattle.std.proofs.Common.{◌≡◌, ◌%◌, Bool, true, false, cond, IsTrue, Option, Some, None, ℕ, refl, ap, sym, ◌∙◌}
+use Rattle.std.proofs.Common.{◌≡◌, ◌%◌, Bool, true, false, cond, IsTrue, Some, None, ℕ, refl, ap, sym, ◌∙◌}
 use Rattle.sm_types.specs.declared.insn.Insn.{Insn}
 use Rattle.sm_types.specs.declared.insn.Insn.TheVariants as insn
 use Rattle.sm_types.specs.declared.insn.SystemMove.{SystemMove}
@@ -9,7 +9,7 @@ use Rattle.paged_memory.specs.Memory.{or_else}
 use Rattle.scalar_exec.specs.Step.{is_scalar, scalar_step}
 use Rattle.machine_step.specs.Core.{Core}
 use Rattle.machine_step.specs.System.{system_move, core_past, moved}
-use Rattle.machine_step.specs.Effect.{Effect, Raises, Becomes, word_of, insn_at, is_executed, is_executed_register, next_of, unless_fault, fault_of, effect_of, effect_of_insn, perform, first_fault, row_fault, undefined_fault, alignment_fault, fetch_fault}
+use Rattle.machine_step.specs.Effect.{Effect, Raises, Becomes, word_of, insn_at, is_executed, is_executed_register, next_of, unless_fault, fault_of, effect_of, effect_of_insn, perform, row_fault}
 use Rattle.machine_step.specs.Machine.{Steps}
 use Rattle.machine_step.specs.declared.machine.StepEnd.{StepEnd}
 use Rattle.machine_step.specs.declared.machine.StepEnd.TheVariants.{Next, Call, Raise}

@@ -1,7 +1,7 @@
 -- The system registers of a program. Source: DDI 0487, C5.2 (NZCV, TPIDR_EL0, TPIDR2_EL0), C6.2 MRS and MSR (register).
-use Rattle.std.specs.Prelude.{ℕ, ◌+◌, ◌*◌, ◌/◌, ◌%◌, ◌^◌, ◌==◌, Bool, true, false, cond}
+use Rattle.std.specs.Prelude.{ℕ, ◌+◌, ◌*◌, ◌/◌, ◌%◌, ◌^◌, ◌==◌, Bool}
 use Rattle.bit_ops.specs.Sums.{bool_number}
-use Rattle.scalar_exec.specs.Registers.{x_of, with_x, with_flags, past}
+use Rattle.scalar_exec.specs.Registers.{x_of, with_x, past}
 use Rattle.sm_types.specs.declared.scalars.Scalars.{Scalars}
 use Rattle.sm_types.specs.declared.insn.SystemMove.{SystemMove}
 use Rattle.sm_types.specs.declared.insn.SystemMoveOp.{SystemMoveOp}

@@ -5,16 +5,15 @@ ghost use Rattle.sve_table.specs.Meaning.{instruction_of};
 ghost use Rattle.scalar_exec.specs.Step.{is_scalar, scalar_step, flowed};
 ghost use Rattle.machine_step.specs.Core.{Bank};
 ghost use Rattle.machine_step.specs.System.{moved, core_past, system_register, with_system_register};
-ghost use Rattle.machine_step.specs.Effect.{effect_of, effect_of_insn, system_effect, is_executed_register};
+ghost use Rattle.machine_step.specs.Effect.{effect_of, effect_of_insn, is_executed_register};
 ghost use Rattle.machine_step.specs.Machine.{core_of, Steps};
 
+use crate::system::{read_nzcv, write_nzcv};
 use a64_decode::decode_scalar;
 use paged_memory::Pages;
 use scalar_exec::{Flow, exec_scalar, next_address, read_x, write_x};
 use sm_types::{Exception, Insn, Scalars, System, SystemMove, SystemMoveOp, SystemRegister};
 use sve_decode::decode_vector;
-
-use crate::system::{read_nzcv, write_nzcv};
 
 /// What a step came to.
 #[derive(Clone, Copy, Debug, PartialEq, Eq)]

@@ -1,14 +1,13 @@
 //! A step of one instruction: the state before it, and the line that says what it gives.
-use anyhow::{Context, Result};
+use crate::file::file_of;
+use crate::outcome::outcome_line;
 use a64_decode::decode_scalar;
+use anyhow::{Context, Result};
 use elf_loader::load;
 use machine_step::Machine;
 use paged_memory::Pages;
 use sm_types::{Insn, Scalars, SystemRegister};
 use std::alloc::Global;
-
-use crate::file::file_of;
-use crate::outcome::outcome_line;
 
 /// The address of the instruction.
 const PC: u64 = 0x20000;

@@ -8,12 +8,10 @@ mod file;
 mod outcome;
 mod words;
 
-use anyhow::{Context, Result};
-use std::env;
-use std::fs;
-
 use crate::case::check_steps;
 use crate::words::{check_no_row, check_words};
+use anyhow::{Context, Result};
+use std::{env, fs};
 
 fn main(rt: HostRuntime) -> Result<()> {
     let names: Vec<String> = env::args(&rt)?.skip(1).collect(rt.alloc())?;

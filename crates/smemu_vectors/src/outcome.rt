@@ -48,8 +48,14 @@ fn raise_line(alloc: Global, exception: Exception) -> Result<String> {
         Exception::Undefined(word) => format!(in alloc; "raise undefined {word:08x}")?,
         Exception::PcAlign => String::from_str(alloc, "raise pcalign")?,
         Exception::Fetch => String::from_str(alloc, "raise fetch")?,
-        Exception::Data { address, access: Access::Read } => format!(in alloc; "raise data {address:016x} read")?,
-        Exception::Data { address, access: Access::Write } => format!(in alloc; "raise data {address:016x} write")?,
+        Exception::Data {
+            address,
+            access: Access::Read,
+        } => format!(in alloc; "raise data {address:016x} read")?,
+        Exception::Data {
+            address,
+            access: Access::Write,
+        } => format!(in alloc; "raise data {address:016x} write")?,
         Exception::SpAlign => String::from_str(alloc, "raise spalign")?,
         Exception::Align(address) => format!(in alloc; "raise align {address:016x}")?,
         Exception::IllegalStreaming => String::from_str(alloc, "raise illegalstreaming")?,

@@ -1,4 +1,3 @@
-use Rattle.std.proofs.Common.{◌≡◌, refl, ap, sym, ◌∙◌}
 use Rattle.machine_step.proofs.machine.Machine.execute.Goals as goal
 
 pub returns-in-System : goal.returns-in-System

@@ -1,4 +1,4 @@
-use Rattle.std.proofs.Common.{◌≡◌, refl, ap, sym, ◌∙◌}
+use Rattle.std.proofs.Common.{ap, sym, ◌∙◌}
 use Rattle.machine_step.proofs.machine.Machine.execute_move.Goals as goal
 use Rattle.machine_step.specs.Machine.{core_of}
 use Rattle.machine_step.specs.System.{core_past}

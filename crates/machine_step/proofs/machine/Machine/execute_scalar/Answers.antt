@@ -1,4 +1,4 @@
-use Rattle.std.proofs.Common.{◌≡◌, refl, ap, sym, ◌∙◌}
+use Rattle.std.proofs.Common.{◌≡◌, refl, ap, ◌∙◌}
 use Rattle.machine_step.proofs.machine.Machine.execute_scalar.Goals as goal
 use Rattle.scalar_exec.specs.Step.{scalar_step}
 use Rattle.machine_step.specs.Machine.{core_of}

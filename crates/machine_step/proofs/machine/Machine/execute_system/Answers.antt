@@ -1,4 +1,4 @@
-use Rattle.std.proofs.Common.{◌≡◌, refl, ap, sym, ◌∙◌}
+use Rattle.std.proofs.Common.{ap}
 use Rattle.machine_step.proofs.machine.Machine.execute_system.Goals as goal
 use Rattle.sm_types.specs.declared.insn.Insn.TheVariants as insn
 use Rattle.machine_step.specs.Effect.{effect_of_insn}
