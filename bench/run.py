@@ -1,9 +1,11 @@
 #!/usr/bin/env python3
-"""Times the emulator on one core: instructions a second of a loop, and the time from start to report of a short program.
+"""Times the emulator on one core: instructions a second of two loops, words a second of the decoder, and the time from start
+to report of a short program.
 
     bench/run.py
 
-It runs the program that ./smemu builds, five times each, and prints the best.
+It runs the program that ./smemu builds, five times each, and prints the best. The decoder is timed by the loader, which decodes each
+word of a load: a file whose last word is unlisted against the same file with the first word unlisted too.
 """
 import pathlib
 import subprocess
@@ -29,15 +31,41 @@ GROWN = [
     0xD4000001,  # svc #0
 ]
 
+# 1,999,998 times five instructions
+MIXED = [
+    0xD2A003C3,  # movz x3, #30, lsl #16
+    0x9111F863,  # add x3, x3, #1150
+    0x91402063,  # add x3, x3, #8, lsl #12
+    0x8B010000,  # add x0, x0, x1
+    0xCA000042,  # eor x2, x2, x0
+    0x9B021004,  # madd x4, x0, x2, x4
+    0xF1000463,  # subs x3, x3, #1
+    0x54FFFF81,  # b.ne .-16
+    0xD2800BA8,  # movz x8, #93
+    0xD4000001,  # svc #0
+]
+UNLISTED = 0x1E604000
+WORDS = 8_000_000
+
 
 def best(path):
     times = []
     for _ in range(RUNS):
         start = time.perf_counter()
-        report = subprocess.run([PROGRAM, "run", path], check=True, capture_output=True, text=True).stdout
+        text = subprocess.run([PROGRAM, "run", path], capture_output=True, text=True).stdout
         times.append(time.perf_counter() - start)
-    count = next(int(line.split()[1]) for line in report.splitlines() if line.startswith("count "))
-    return min(times), count
+    return min(times), text
+
+
+def count_of(report):
+    return next(int(line.split()[1]) for line in report.splitlines() if line.startswith("count "))
+
+
+def listed_words():
+    """The words of the rows, over and over."""
+    lines = (TOP / "crates" / "smemu_vectors" / "data" / "words.tsv").read_text().splitlines()
+    words = [int(line.split("\t")[0], 16) for line in lines]
+    return [words[i % len(words)] for i in range(WORDS)]
 
 
 def main():
@@ -45,10 +73,20 @@ def main():
     start, _ = best(TOP / "examples" / "answer.elf")
     print(f"start to report: {1000 * start:.1f} ms")
     with tempfile.TemporaryDirectory() as folder:
-        path = pathlib.Path(folder) / "countdown.elf"
-        path.write_bytes(elf(GROWN))
-        total, count = best(path)
-    print(f"countdown: {count} instructions in {total:.3f} s, {count / (total - start) / 1e6:.1f} million a second")
+        path = pathlib.Path(folder) / "program.elf"
+        for name, words in (("subs, b.ne", GROWN), ("add, eor, madd, subs, b.ne", MIXED)):
+            path.write_bytes(elf(words))
+            total, report = best(path)
+            count = count_of(report)
+            print(f"{name}: {count} instructions in {total:.3f} s, {count / (total - start) / 1e6:.1f} million a second")
+        words = listed_words()
+        path.write_bytes(elf(words + [UNLISTED]))
+        whole, text = best(path)
+        assert text.startswith("bad file: unlisted")
+        path.write_bytes(elf([UNLISTED] + words))
+        none, text = best(path)
+        assert text.startswith("bad file: unlisted")
+        print(f"decoder: {WORDS} words in {whole - none:.3f} s, {WORDS / (whole - none) / 1e6:.1f} million a second")
 
 
 if __name__ == "__main__":
