@@ -45,7 +45,7 @@ MIXED = [
     0xD4000001,  # svc #0
 ]
 UNLISTED = 0x1E604000
-WORDS = 8_000_000
+WORDS = 4_000_000
 
 
 def best(path):
