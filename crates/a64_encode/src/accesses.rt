@@ -1,12 +1,12 @@
 //! The words of the loads, stores and atomic instructions.
-ghost use Rattle.std.specs.Prelude.{◌≡◌, ◌<◌, ◌^◌};
-ghost use Rattle.a64_table.specs.Words.{address_bits, atomic_word, load_literal_word, load_store_pair_word, load_store_word};
+ghost use Rattle.std.specs.Prelude.{◌≡◌, ◌<◌, ◌^◌, ◌+◌, ◌*◌};
+ghost use Rattle.a64_table.specs.Words.{access_size_number, address_bits, atomic_word, bool_number, load_literal_word, load_store_pair_word, load_store_word};
 
 use crate::numbers::{
     access_size_number, atomic_op_number, extend_number, load_literal_op_number,
     load_store_op_number, pair_index_number, pair_op_number, signed_bits,
 };
-use sm_types::{Address, Atomic, LoadLiteral, LoadStore, LoadStorePair};
+use sm_types::{AccessSize, Address, Atomic, LoadLiteral, LoadStore, LoadStorePair};
 
 /// An address: bit 24 and imm12 21:10; imm9 20:12; the same with bit 10, and with bits 11 and 10; bits 21 and 11, Rm 20:16, option 15:13 and S 12.
 #[tactic(auto, unfolding(a64_table::specs::Words::address_bits))]
@@ -66,20 +66,30 @@ pub fn load_store_pair_word(x: &LoadStorePair) -> u64
         + u64::from(x.rt)
 }
 
+/// What all ordered and atomic accesses have: size 31:30, Rn 9:5, Rt 4:0.
+fn size_and_registers(size: AccessSize, rn: u8, rt: u8) -> u64
+    ensures value { result ≡ access_size_number size * 2 ^ 30 + rn * 2 ^ 5 + rt }
+    ensures small { result < 2 ^ 33 }
+{
+    access_size_number(size) * (1 << 30) + u64::from(rn) * (1 << 5) + u64::from(rt)
+}
+
+/// What swaps and updates have besides: acquire 23, release 22, Rs 20:16.
+fn order_and_source(acquire: bool, release: bool, rs: u8) -> u64
+    ensures value { result ≡ bool_number acquire * 2 ^ 23 + bool_number release * 2 ^ 22 + rs * 2 ^ 16 }
+    ensures small { result < 2 ^ 25 }
+{
+    u64::from(acquire) * (1 << 23) + u64::from(release) * (1 << 22) + u64::from(rs) * (1 << 16)
+}
+
 /// Ordered and atomic accesses: size 31:30, acquire 23 or for `cas` 22, release 22 or for `cas` 15, Rs 20:16, opc 14:12, Rn 9:5, Rt 4:0.
 #[tactic(auto, unfolding(a64_table::specs::Words::atomic_word))]
 pub fn atomic_word(x: &Atomic) -> u64
     ensures { result ≡ atomic_word x.now }
 {
     match *x {
-        Atomic::Ldar { size, rn, rt } => 0x08DFFC00
-            + access_size_number(size) * (1 << 30)
-            + u64::from(rn) * (1 << 5)
-            + u64::from(rt),
-        Atomic::Stlr { size, rn, rt } => 0x089FFC00
-            + access_size_number(size) * (1 << 30)
-            + u64::from(rn) * (1 << 5)
-            + u64::from(rt),
+        Atomic::Ldar { size, rn, rt } => 0x08DFFC00 + size_and_registers(size, rn, rt),
+        Atomic::Stlr { size, rn, rt } => 0x089FFC00 + size_and_registers(size, rn, rt),
         Atomic::Cas {
             size,
             acquire,
@@ -88,12 +98,10 @@ pub fn atomic_word(x: &Atomic) -> u64
             rn,
             rt,
         } => 0x08A07C00
-            + access_size_number(size) * (1 << 30)
             + u64::from(acquire) * (1 << 22)
-            + u64::from(rs) * (1 << 16)
             + u64::from(release) * (1 << 15)
-            + u64::from(rn) * (1 << 5)
-            + u64::from(rt),
+            + u64::from(rs) * (1 << 16)
+            + size_and_registers(size, rn, rt),
         Atomic::Swap {
             size,
             acquire,
@@ -101,13 +109,7 @@ pub fn atomic_word(x: &Atomic) -> u64
             rs,
             rn,
             rt,
-        } => 0x38208000
-            + access_size_number(size) * (1 << 30)
-            + u64::from(acquire) * (1 << 23)
-            + u64::from(release) * (1 << 22)
-            + u64::from(rs) * (1 << 16)
-            + u64::from(rn) * (1 << 5)
-            + u64::from(rt),
+        } => 0x38208000 + order_and_source(acquire, release, rs) + size_and_registers(size, rn, rt),
         Atomic::Update {
             op,
             size,
@@ -117,12 +119,8 @@ pub fn atomic_word(x: &Atomic) -> u64
             rn,
             rt,
         } => 0x38200000
-            + access_size_number(size) * (1 << 30)
-            + u64::from(acquire) * (1 << 23)
-            + u64::from(release) * (1 << 22)
-            + u64::from(rs) * (1 << 16)
+            + order_and_source(acquire, release, rs)
             + atomic_op_number(op) * (1 << 12)
-            + u64::from(rn) * (1 << 5)
-            + u64::from(rt),
+            + size_and_registers(size, rn, rt),
     }
 }

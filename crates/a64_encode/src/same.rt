@@ -12,6 +12,21 @@ macro_rules! both {
     };
 }
 
+// Whether the second is the same variant of `Atomic` as the first, with each field equal to its fellow.
+macro_rules! same_fields {
+    ($first:expr, $second:expr; $($variant:ident { $($field:ident $fellow:ident),* })*) => {
+        match *$first {
+            $(Atomic::$variant { $($field),* } => {
+                if let Atomic::$variant { $($field: $fellow),* } = *$second {
+                    true $(&& $field == $fellow)*
+                } else {
+                    false
+                }
+            })*
+        }
+    };
+}
+
 /// Whether two instructions are one.
 pub fn is_same(first: &Insn, second: &Insn) -> bool
     ensures { IsTrue result ↔ (first.now ≡ second.now) }
@@ -87,70 +102,11 @@ fn is_same_pair(first: &LoadStorePair, second: &LoadStorePair) -> bool
 fn is_same_atomic(first: &Atomic, second: &Atomic) -> bool
     ensures { IsTrue result ↔ (first.now ≡ second.now) }
 {
-    match *first {
-        Atomic::Ldar { size, rn, rt } => *second == Atomic::Ldar { size, rn, rt },
-        Atomic::Stlr { size, rn, rt } => *second == Atomic::Stlr { size, rn, rt },
-        Atomic::Cas {
-            size,
-            acquire,
-            release,
-            rs,
-            rn,
-            rt,
-        } => *second
-            == Atomic::Cas {
-                size,
-                acquire,
-                release,
-                rs,
-                rn,
-                rt,
-            },
-        Atomic::Swap {
-            size,
-            acquire,
-            release,
-            rs,
-            rn,
-            rt,
-        } => *second
-            == Atomic::Swap {
-                size,
-                acquire,
-                release,
-                rs,
-                rn,
-                rt,
-            },
-        Atomic::Update {
-            op,
-            size,
-            acquire,
-            release,
-            rs,
-            rn,
-            rt,
-        } => {
-            if let Atomic::Update {
-                op: other_op,
-                size: other_size,
-                acquire: other_acquire,
-                release: other_release,
-                rs: other_rs,
-                rn: other_rn,
-                rt: other_rt,
-            } = *second
-            {
-                op == other_op
-                    && size == other_size
-                    && acquire == other_acquire
-                    && release == other_release
-                    && rs == other_rs
-                    && rn == other_rn
-                    && rt == other_rt
-            } else {
-                false
-            }
-        }
-    }
+    same_fields!(first, second;
+        Ldar { size size_2, rn rn_2, rt rt_2 }
+        Stlr { size size_2, rn rn_2, rt rt_2 }
+        Cas { size size_2, acquire acquire_2, release release_2, rs rs_2, rn rn_2, rt rt_2 }
+        Swap { size size_2, acquire acquire_2, release release_2, rs rs_2, rn rn_2, rt rt_2 }
+        Update { op op_2, size size_2, acquire acquire_2, release release_2, rs rs_2, rn rn_2, rt rt_2 }
+    )
 }
