@@ -1,0 +1,28 @@
+-- What holds of the numbers below a limit, in order.
+use Rattle.std.specs.Prelude.{ℕ, zero, suc, Bool, true, false, ◌&&◌, ◌||◌, List, [], ◌∷◌, ◌++◌, Option, Some, None}
+use Rattle.paged_memory.specs.Memory.{or_else}
+
+-- what the least number below n with an answer answers
+unfoldable pub first_below : {A : Type 0} → (ℕ → Option A) → ℕ → Option A
+first_below answer zero = None
+first_below answer (suc n) = or_else (first_below answer n) (answer n)
+
+-- one of the numbers below n passes the test
+unfoldable pub any_below : (ℕ → Bool) → ℕ → Bool
+any_below test zero = false
+any_below test (suc n) = any_below test n || test n
+
+-- each of the numbers below n passes the test
+unfoldable pub all_below : (ℕ → Bool) → ℕ → Bool
+all_below test zero = true
+all_below test (suc n) = all_below test n && test n
+
+-- a list of one answer, or of none
+abbrev pub answers : {A : Type 0} → Option A → List A
+answers None = []
+answers (Some x) = x ∷ []
+
+-- the answers of the numbers below n, in order
+unfoldable pub answers_below : {A : Type 0} → (ℕ → Option A) → ℕ → List A
+answers_below answer zero = []
+answers_below answer (suc n) = answers_below answer n ++ answers (answer n)

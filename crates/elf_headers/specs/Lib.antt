@@ -1,0 +1,5 @@
+pub mod Below
+pub mod Fault
+pub mod Header
+pub mod Segments
+pub mod Loads

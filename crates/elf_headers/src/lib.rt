@@ -1,0 +1,8 @@
+//! The headers of a program file: the file's own and its program headers, with all checks on them, and the numbers of a file.
+#![tactic(auto)]
+
+mod fault;
+mod header;
+
+pub use fault::LoadFault;
+pub use header::{ProgramHeader, u8_at, u16_at, u32_at, u64_at};

@@ -1,0 +1,62 @@
+-- Mapping symbols: which bytes of a section are code, and which are data.
+-- Source: ELF for the Arm 64-bit Architecture (AArch64), mapping symbols `$x` and `$d`, by name alone.
+use Rattle.std.specs.Prelude.{ℕ, zero, suc, ◌+◌, Bool, true, false, cond, List, [], ◌∷◌, ◌++◌, Option, Some, None, ◌==◌, ◌&&◌, ◌||◌, nat_le, if◌then◌else◌}
+use Rattle.elf_headers.specs.Below.{answers_below}
+use Rattle.elf_headers.specs.Header.{number_at}
+use Rattle.elf_sections.specs.declared.section.SectionHeader.{SectionHeader}
+use Rattle.elf_sections.specs.declared.marks.Mark.{Mark}
+use Rattle.elf_sections.specs.Sections.{section_of, section_count, is_symbol_table, symbol_count, symbol_at, symbol_name, strings_of}
+
+-- byte number k of the name of a symbol
+abbrev pub name_byte : List ℕ → SectionHeader → ℕ → ℕ → ℕ
+name_byte file strings name k = number_at file (strings.offset + name + k) 1
+
+-- the name is `$` and the letter, or these followed by `.` and a suffix
+abbrev pub is_mapping_name : List ℕ → SectionHeader → ℕ → ℕ → Bool
+is_mapping_name file strings name letter =
+    (name_byte file strings name 0 == 36) && (name_byte file strings name 1 == letter) && ((name_byte file strings name 2 == 0) || (name_byte file strings name 2 == 46))
+
+-- the mark of a symbol at a place, with st_shndx and st_value: `$x` begins code, `$d` data, and other names are no marks
+unfoldable pub mark_at : List ℕ → SectionHeader → ℕ → Option Mark
+mark_at file strings at =
+    if is_mapping_name file strings (number_at file at 4) 120
+    then Some (record { section = number_at file (at + 6) 2; value = number_at file (at + 8) 8; code = true })
+    else if is_mapping_name file strings (number_at file at 4) 100
+    then Some (record { section = number_at file (at + 6) 2; value = number_at file (at + 8) 8; code = false })
+    else None
+
+-- the marks of a symbol table, in the order of its symbols
+unfoldable pub table_marks : List ℕ → SectionHeader → List Mark
+table_marks file s = answers_below (λ k. mark_at file (strings_of file s) (symbol_at s k)) (symbol_count s)
+
+-- the marks of section number i, where it is a symbol table
+abbrev pub marks_in : List ℕ → ℕ → List Mark
+marks_in file i = cond (is_symbol_table (section_of file i)) (table_marks file (section_of file i)) []
+
+-- the marks of the symbol tables among the first n sections, in the order of the sections
+unfoldable pub marks_below : List ℕ → ℕ → List Mark
+marks_below file zero = []
+marks_below file (suc n) = marks_below file n ++ marks_in file n
+
+-- the marks of all symbol tables
+abbrev pub marks_of : List ℕ → List Mark
+marks_of file = marks_below file (section_count file)
+
+-- of one mark and a later one, that which says what stands at an address of the section: the one of the greater value not above the
+-- address, and of equal values the later
+abbrev pub later : ℕ → ℕ → Option Mark → Mark → Option Mark
+later section a None m = cond ((m.section == section) && nat_le m.value a) (Some m) None
+later section a (Some best) m = cond ((m.section == section) && nat_le m.value a && nat_le best.value m.value) (Some m) (Some best)
+
+abbrev pub governing : ℕ → ℕ → Option Mark → List Mark → Option Mark
+governing section a best [] = best
+governing section a best (m ∷ marks) = governing section a (later section a best m) marks
+
+-- code where no mark says otherwise
+abbrev pub says_code : Option Mark → Bool
+says_code None = true
+says_code (Some m) = m.code
+
+-- by these marks the byte at an address of the section begins code
+unfoldable pub is_code_at : List Mark → ℕ → ℕ → Bool
+is_code_at marks section a = says_code (governing section a None marks)

@@ -1,0 +1,7 @@
+//! The sections of a program file: the checks on the section table, the symbol tables and the code sections, and the code words.
+#![tactic(auto)]
+
+mod marks;
+mod section;
+
+pub use section::SectionHeader;
