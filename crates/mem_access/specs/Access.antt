@@ -20,21 +20,10 @@ use Rattle.sm_types.specs.declared.insn.PairIndex.TheVariants.{Offset, PostIndex
 use Rattle.sm_types.specs.declared.insn.LoadStorePair.{LoadStorePair}
 use Rattle.sm_types.specs.declared.insn.Atomic.{Atomic}
 use Rattle.sm_types.specs.declared.insn.Atomic.TheVariants as atomic
+use Rattle.mem_access.specs.declared.access.MemoryAccess.{MemoryAccess}
 use Rattle.scalar_exec.specs.Registers.{x_of, x_or_sp, with_x_or_sp}
 use Rattle.scalar_exec.specs.Operands.{extended}
 use Rattle.scalar_exec.specs.Branches.{address_at, branch_target}
-
--- consecutive bytes from an address on, in the order of their transfer
-pub record Access : Type 0 where
-  pub address : ℕ
-  -- in bytes
-  pub size : ℕ
-  -- SP is the base
-  pub on_sp : Bool
-  -- the address must be a multiple of the size
-  pub aligned : Bool
-  pub reads : Bool
-  pub writes : Bool
 
 -- the size in bytes
 abbrev pub bytes_in : AccessSize → ℕ
@@ -82,7 +71,7 @@ is_load LoadSignedTo64 = true
 is_load LoadSignedTo32 = true
 
 -- a load or store of one register
-unfoldable pub load_store_access : LoadStore → Scalars → Access
+unfoldable pub load_store_access : LoadStore → Scalars → MemoryAccess
 load_store_access x s = record {
   address = address_of x.address x.size (x_or_sp s x.rn) s;
   size = bytes_in x.size;
@@ -99,7 +88,7 @@ literal_size Doubleword = 8
 literal_size SignedWord = 4
 
 -- a load from beside the program counter
-unfoldable pub load_literal_access : LoadLiteral → Scalars → Access
+unfoldable pub load_literal_access : LoadLiteral → Scalars → MemoryAccess
 load_literal_access x s = record {
   address = branch_target s.pc x.words;
   size = literal_size x.op;
@@ -139,7 +128,7 @@ is_stp Stp = true
 is_stp Ldp = false
 
 -- a load or store of two registers, the first in the lower bytes
-unfoldable pub pair_access : LoadStorePair → Scalars → Access
+unfoldable pub pair_access : LoadStorePair → Scalars → MemoryAccess
 pair_access x s = record {
   address = pair_address x.index x s;
   size = 2 * register_size x.wide;
@@ -150,7 +139,7 @@ pair_access x s = record {
 }
 
 -- an ordered or atomic access at a base
-abbrev pub at_base : AccessSize → ℕ → Bool → Bool → Scalars → Access
+abbrev pub at_base : AccessSize → ℕ → Bool → Bool → Scalars → MemoryAccess
 at_base n rn reads writes s = record {
   address = x_or_sp s rn;
   size = bytes_in n;
@@ -161,7 +150,7 @@ at_base n rn reads writes s = record {
 }
 
 -- LDAR reads, STLR writes, and the others do both, CAS also where the comparison fails
-unfoldable pub atomic_access : Atomic → Scalars → Access
+unfoldable pub atomic_access : Atomic → Scalars → MemoryAccess
 atomic_access (atomic.Ldar n rn rt) s = at_base n rn true false s
 atomic_access (atomic.Stlr n rn rt) s = at_base n rn false true s
 atomic_access (atomic.Cas n acquire release rs rn rt) s = at_base n rn true true s

@@ -15,7 +15,8 @@ use Rattle.sm_types.specs.declared.insn.Atomic.{Atomic}
 use Rattle.sm_types.specs.declared.insn.Atomic.TheVariants as atomic
 use Rattle.scalar_exec.specs.Registers.{x_of, x_or_sp, with_x}
 use Rattle.paged_memory.specs.Memory.{Memory}
-use Rattle.mem_access.specs.Access.{Access, bytes_in, with_base, with_pair_base, register_size, literal_size, load_store_access, load_literal_access, pair_access, atomic_access}
+use Rattle.mem_access.specs.declared.access.MemoryAccess.{MemoryAccess}
+use Rattle.mem_access.specs.Access.{bytes_in, with_base, with_pair_base, register_size, literal_size, load_store_access, load_literal_access, pair_access, atomic_access}
 use Rattle.mem_access.specs.Values.{number_in, with_number, loaded, literal_loaded, low_bytes, updated}
 
 -- what an access leaves
@@ -73,7 +74,7 @@ is_access (insn.Atomic x) = true
 is_access it = false
 
 -- the bytes that it accesses
-abbrev pub access_of : Insn → Scalars → Option Access
+abbrev pub access_of : Insn → Scalars → Option MemoryAccess
 access_of (insn.LoadStore x) s = Some (load_store_access x s)
 access_of (insn.LoadLiteral x) s = Some (load_literal_access x s)
 access_of (insn.LoadStorePair x) s = Some (pair_access x s)

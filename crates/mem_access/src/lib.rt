@@ -2,6 +2,9 @@
 //! memory only where none fails.
 #![tactic(auto)]
 
+mod access;
 mod stop;
+mod values;
 
+pub use access::MemoryAccess;
 pub use stop::AccessStop;
