@@ -61,6 +61,6 @@ table_end at size count = at + size * count
 unfoldable pub table_fault : List ℕ → Option LoadFault
 table_fault file = first_fault (
     fault_when (not (segment_size file == 56) || (segment_count file == 0) || (segment_count file == 65535)
-        || nat_lt (2 ^ 64 - 1) (table_end (segments_at file) 56 (segment_count file))) (BadTable (segments_at file))
+    || nat_lt (2 ^ 64 - 1) (table_end (segments_at file) 56 (segment_count file))) (BadTable (segments_at file))
     ∷ fault_when (nat_lt (length file) (table_end (segments_at file) 56 (segment_count file))) (Truncated (length file))
     ∷ [])
