@@ -2,7 +2,10 @@
 #![tactic(auto)]
 
 mod fault;
+mod form;
 mod header;
+mod segments;
+mod spans;
 
 pub use fault::LoadFault;
 pub use header::{ProgramHeader, u8_at, u16_at, u32_at, u64_at};
