@@ -4,6 +4,7 @@
 mod fault;
 mod form;
 mod header;
+mod overlap;
 mod segments;
 mod spans;
 
