@@ -4,7 +4,7 @@ use Rattle.std.specs.Prelude.{◌&&◌, ◌||◌, Contains}
 use Rattle.std.specs.List.{list_any}
 use Rattle.std.proofs.lemmas.List.Elements.{All-nil, All-append, All-push, Contains-append_left, Contains-push}
 use Rattle.paged_memory.specs.Memory.{or_else}
-use Rattle.elf_headers.specs.Below.{first_below, any_below, all_below, answers, answers_below}
+use Rattle.elf_headers.specs.Below.{first_below, any_below, all_below, count_below, answers, answers_below}
 
 -- a number below one more is below, or is that number
 pub low_or_last : (i n : ℕ) → i < suc n → (i < n) ⊎ (i ≡ n)
@@ -243,3 +243,42 @@ list_any-answers_below test answer zero = refl
 list_any-answers_below test answer (suc n) =
     list_any-append test (answers_below answer n) (answers (answer n))
     ∙ rw (list_any-answers_below test answer n, list_any-answers test (answer n)) refl
+
+-- one more number at the front
+any_below-front : (test : ℕ → Bool) (n : ℕ) → any_below test (suc n) ≡ (test 0 || any_below (λ k. test (suc k)) n)
+unfolding any_below
+any_below-front test zero = elim (test 0) as (λ t. (false || t) ≡ (t || false)) [ true ↦ refl | false ↦ refl ]
+any_below-front test (suc n) = ap (λ t. t || test (suc n)) (any_below-front test n) ∙ elim (test 0) as (λ t. ((t || any_below (λ k. test (suc k)) n) || test (suc n)) ≡ (t || (any_below (λ k. test (suc k)) n || test (suc n)))) [ true ↦ refl | false ↦ refl ]
+
+-- one of a list's items passes, by its place
+pub list_any-any_below : {A : Type 0} (test : A → Bool) (xs : List A) (d : A) → list_any test xs ≡ any_below (λ k. test (get_or xs k d)) (length xs)
+unfolding any_below
+list_any-any_below test [] d = refl
+list_any-any_below test (x ∷ xs) d = ap (λ t. test x || t) (list_any-any_below test xs d) ∙ sym (any_below-front (λ k. test (get_or (x ∷ xs) k d)) (length xs))
+
+-- ---- how many numbers pass
+
+pub count_below-same : (one two : ℕ → Bool) (n : ℕ) → ((i : ℕ) → i < n → one i ≡ two i) → count_below one n ≡ count_below two n
+unfolding count_below
+count_below-same one two zero h = refl
+count_below-same one two (suc n) h = rw (count_below-same one two n (λ i l. h i (omega arith)), h n (omega arith)) refl
+
+-- no number from one on passes
+pub count_below-none : (test : ℕ → Bool) (m k : ℕ) → ((n : ℕ) → m ≤ n → n < m + k → test n ≡ false) → count_below test (m + k) ≡ count_below test m
+unfolding count_below
+count_below-none test m zero h = let e : m + 0 ≡ m = omega arith in rw e refl
+count_below-none test m (suc k) h =
+    let e : m + suc k ≡ suc (m + k) = omega arith in
+    let here : test (m + k) ≡ false = h (m + k) (omega arith) (omega arith) in
+    let before : count_below test (m + k) ≡ count_below test m = count_below-none test m k (λ n a b. h n a (omega arith)) in
+    rw (e, here, before) (omega arith)
+
+-- each number from one on passes
+pub count_below-full : (test : ℕ → Bool) (m k : ℕ) → ((n : ℕ) → m ≤ n → n < m + k → test n ≡ true) → count_below test (m + k) ≡ count_below test m + k
+unfolding count_below
+count_below-full test m zero h = let e : m + 0 ≡ m = omega arith in rw e (omega arith)
+count_below-full test m (suc k) h =
+    let e : m + suc k ≡ suc (m + k) = omega arith in
+    let here : test (m + k) ≡ true = h (m + k) (omega arith) (omega arith) in
+    let before : count_below test (m + k) ≡ count_below test m + k = count_below-full test m k (λ n a b. h n a (omega arith)) in
+    rw (e, here, before) (omega arith)

@@ -1,3 +1,4 @@
 pub mod Below
 pub mod Sound
 pub mod Apart
+pub mod Counting

@@ -1,8 +1,8 @@
 -- The addresses of the loads, in the order in which they are compared.
-use Rattle.std.specs.Prelude.{◌≡◌, ◌≢◌, ℕ, zero, suc, ◌+◌, ◌-◌, ◌/◌, ◌<◌, ◌≤◌, ◌^◌, Bool, List, get_or, length, Option, Some, None, cond, ◌&&◌, nat_le}
+use Rattle.std.specs.Prelude.{◌≡◌, ◌≢◌, ℕ, ◌+◌, ◌-◌, ◌/◌, ◌<◌, ◌≤◌, ◌^◌, Bool, List, get_or, length, Option, Some, None, cond, ◌&&◌, nat_le}
 use Rattle.std.specs.List.{list_any}
 use Rattle.elf_headers.specs.declared.spans.Span.{Span}
-use Rattle.elf_headers.specs.Below.{answers_below}
+use Rattle.elf_headers.specs.Below.{answers_below, count_below}
 use Rattle.elf_headers.specs.Header.{segment_count}
 use Rattle.elf_headers.specs.Segments.{segment_of, is_load}
 
@@ -30,6 +30,5 @@ abbrev pub touches_page : Span → ℕ → Bool
 touches_page s n = nat_le (s.address / 4096) n && nat_le n ((s.end - 1) / 4096)
 
 -- how many of the pages below a number the spans touch
-unfoldable pub pages_below : List Span → ℕ → ℕ
-pages_below spans zero = 0
-pages_below spans (suc n) = pages_below spans n + cond (list_any (λ s. touches_page s n) spans) 1 0
+abbrev pub pages_below : List Span → ℕ → ℕ
+pages_below spans limit = count_below (λ n. list_any (λ s. touches_page s n) spans) limit

@@ -5,6 +5,7 @@ mod fault;
 mod form;
 mod header;
 mod overlap;
+mod pages;
 mod segments;
 mod spans;
 
