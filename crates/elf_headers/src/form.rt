@@ -14,7 +14,9 @@ const HEADER_SIZE: usize = 64;
 const ENTRY_SIZE: u16 = 56;
 /// The number of program headers that says that the file has it elsewhere.
 const PN_XNUM: u16 = 65_535;
+
 const EM_AARCH64: u16 = 183;
+
 const ET_EXEC: u16 = 2;
 
 /// Checks the length of the file.

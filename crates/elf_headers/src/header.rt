@@ -20,9 +20,13 @@ pub struct ProgramHeader {
 }
 
 const PT_LOAD: u32 = 1;
+
 const PT_DYNAMIC: u32 = 2;
+
 const PT_INTERP: u32 = 3;
+
 const PT_TLS: u32 = 7;
+
 const PF_X: u32 = 1;
 
 impl ProgramHeader {

@@ -4,6 +4,7 @@
 mod fault;
 mod form;
 mod header;
+mod loads;
 mod overlap;
 mod pages;
 mod segments;
@@ -11,3 +12,4 @@ mod spans;
 
 pub use fault::LoadFault;
 pub use header::{ProgramHeader, u8_at, u16_at, u32_at, u64_at};
+pub use loads::read_headers;
