@@ -10,7 +10,7 @@ use crate::form::{check_kind, check_length, check_table};
 use crate::header::{ProgramHeader, u64_at};
 use crate::overlap::check_overlap;
 use crate::pages::check_pages;
-use crate::segments::{check_segments, count_of, header_of};
+use crate::segments::{check_segments, count_program_headers, read_program_header};
 use crate::spans::sorted_spans;
 use std::alloc::{AllocError, Global};
 
@@ -20,7 +20,7 @@ fn read_load(file: &[u8], i: u16) -> Option<ProgramHeader>
     requires below { i < segment_count file.now }
     ensures { result ≡ load_of file.now i }
 {
-    let s = header_of(file, i);
+    let s = read_program_header(file, i);
     if s.is_load() { Some(s) } else { None }
 }
 
@@ -30,7 +30,7 @@ fn read_loads(alloc: Global, file: &[u8]) -> Result<Vec<ProgramHeader>, AllocErr
     ensures { IfOk result (λ loads. loads.items ≡ loads_of file.now) }
 {
     let mut loads = Vec::new(alloc);
-    for i in 0..count_of(file) {
+    for i in 0..count_program_headers(file) {
         match read_load(file, i) {
             Some(load) => loads.push(load)?,
             None => {}

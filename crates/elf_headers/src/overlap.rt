@@ -10,7 +10,7 @@ ghost use Rattle.elf_headers.specs.Spans.{spans_of, IsClearBelow};
 ghost use Rattle.elf_headers.specs.declared.spans.Span.{Span};
 
 use crate::fault::LoadFault;
-use crate::segments::{count_of, header_of};
+use crate::segments::{count_program_headers, read_program_header};
 use crate::spans::Span;
 
 /// Tells whether a span has an address in common with one before it, where these end at `top`, or with the next.
@@ -22,14 +22,6 @@ fn is_overlapping(spans: &[Span], i: usize, top: u64) -> bool
     spans[i].address < top || i + 1 < spans.len() && spans[i + 1].address < spans[i].end
 }
 
-/// The lower of two numbers, where the second counts.
-fn lower_if(counts: bool, least: u16, header: u16) -> u16
-    ensures less { result ≤ least }
-    ensures header { counts ≡ true → result ≤ header }
-{
-    if counts { least.min(header) } else { least }
-}
-
 /// A number, `count` at most, below which no load has an address in common with another.
 fn least_overlapping(spans: &[Span], count: u16) -> u16
     requires { IsNonDecreasingBy (λ s. s.address) spans.now }
@@ -38,9 +30,11 @@ fn least_overlapping(spans: &[Span], count: u16) -> u16
 {
     let mut least = count;
     let mut top = 0;
-    for i in 0..spans.len() {
-        least = lower_if(is_overlapping(spans, i, top), least, spans[i].header);
-        top = top.max(spans[i].end);
+    for (i, span) in spans.iter().enumerate() {
+        if is_overlapping(spans, i, top) {
+            least = least.min(span.header);
+        }
+        top = top.max(span.end);
     }
     least
 }
@@ -54,8 +48,8 @@ fn check_pair(file: &[u8], i: u16, j: u16) -> Result<(), LoadFault>
     requires below { j < segment_count file.now }
     ensures { Tells result (overlap_at file.now i j) }
 {
-    let one = header_of(file, i);
-    let other = header_of(file, j);
+    let one = read_program_header(file, i);
+    let other = read_program_header(file, j);
     if one.is_load() && other.is_load() && one.shares(&other) {
         return Err(LoadFault::Overlap(i, j));
     }
@@ -63,13 +57,13 @@ fn check_pair(file: &[u8], i: u16, j: u16) -> Result<(), LoadFault>
 }
 
 /// Checks that a program header is no load with an address in common with a load of a higher number.
-fn check_others(file: &[u8], i: u16) -> Result<(), LoadFault>
+fn check_pairs_of(file: &[u8], i: u16) -> Result<(), LoadFault>
     requires table { HasTable file.now }
     requires accepted { segments_fault file.now ≡ None }
     requires below { i < segment_count file.now }
     ensures { Tells result (first_below (overlap_at file.now i) (segment_count file.now)) }
 {
-    let count = count_of(file);
+    let count = count_program_headers(file);
     for j in i + 1..count {
         check_pair(file, i, j)?;
     }
@@ -85,9 +79,9 @@ pub fn check_overlap(file: &[u8], spans: &[Span]) -> Result<(), LoadFault>
     requires sorted { IsNonDecreasingBy (λ s. s.address) spans.now }
     ensures { Tells result (overlap_fault file.now) }
 {
-    let count = count_of(file);
+    let count = count_program_headers(file);
     for i in least_overlapping(spans, count)..count {
-        check_others(file, i)?;
+        check_pairs_of(file, i)?;
     }
     Ok(())
 }

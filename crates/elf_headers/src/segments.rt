@@ -15,7 +15,7 @@ const STACK_START: u64 = 0x7DFF_FFFC_0000;
 const SHARED_END: u64 = 0x7F00_0000_1000;
 
 /// How many program headers the file has.
-pub fn count_of(file: &[u8]) -> u16
+pub fn count_program_headers(file: &[u8]) -> u16
     requires { HasTable file.now }
     ensures { result ≡ segment_count file.now }
 {
@@ -23,7 +23,7 @@ pub fn count_of(file: &[u8]) -> u16
 }
 
 /// The place of a program header in the file.
-fn place_of(file: &[u8], i: u16) -> usize
+fn program_header_place(file: &[u8], i: u16) -> usize
     requires table { HasTable file.now }
     requires below { i < segment_count file.now }
     ensures place { result ≡ segment_at file.now i }
@@ -34,7 +34,7 @@ fn place_of(file: &[u8], i: u16) -> usize
 
 /// The program header at a place of the file.
 #[tactic(auto, unfolding(crate::specs::Segments::program_header))]
-fn header_at(file: &[u8], at: usize) -> ProgramHeader
+fn program_header_at(file: &[u8], at: usize) -> ProgramHeader
     requires { at + 56 ≤ length file.now }
     ensures { result ≡ program_header file.now at }
 {
@@ -49,12 +49,12 @@ fn header_at(file: &[u8], at: usize) -> ProgramHeader
 }
 
 /// A program header of the file.
-pub fn header_of(file: &[u8], i: u16) -> ProgramHeader
+pub fn read_program_header(file: &[u8], i: u16) -> ProgramHeader
     requires table { HasTable file.now }
     requires below { i < segment_count file.now }
     ensures { result ≡ segment_of file.now i }
 {
-    header_at(file, place_of(file, i))
+    program_header_at(file, program_header_place(file, i))
 }
 
 /// Checks a load of a file of that size, whose program header is number `i` and stands at a place of the file.
@@ -90,12 +90,17 @@ fn check_segment(file: &[u8], i: u16) -> Result<(), LoadFault>
     requires below { i < segment_count file.now }
     ensures { Tells result (segment_fault file.now i) }
 {
-    let s = header_of(file, i);
+    let s = read_program_header(file, i);
     if s.is_dynamic() {
         return Err(LoadFault::NotStatic(s.kind));
     }
     if s.is_load() {
-        return check_load(file.len() as u64, place_of(file, i) as u64, i, &s);
+        return check_load(
+            file.len() as u64,
+            program_header_place(file, i) as u64,
+            i,
+            &s,
+        );
     }
     Ok(())
 }
@@ -106,7 +111,7 @@ pub fn check_segments(file: &[u8]) -> Result<(), LoadFault>
     requires { HasTable file.now }
     ensures { Tells result (segments_fault file.now) }
 {
-    for i in 0..count_of(file) {
+    for i in 0..count_program_headers(file) {
         check_segment(file, i)?;
     }
     Ok(())

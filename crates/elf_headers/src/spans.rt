@@ -5,7 +5,7 @@ ghost use Rattle.elf_headers.specs.Header.{segment_count, HasTable};
 ghost use Rattle.elf_headers.specs.Segments.{segments_fault};
 ghost use Rattle.elf_headers.specs.Spans.{span_at, spans_of, IsLow};
 
-use crate::segments::{count_of, header_of};
+use crate::segments::{count_program_headers, read_program_header};
 use std::alloc::{AllocError, Global};
 
 /// The addresses of a load, up to `end`, and the number of its program header.
@@ -24,7 +24,7 @@ fn span_of(file: &[u8], header: u16) -> Option<Span>
     requires below { header < segment_count file.now }
     ensures { result ≡ span_at file.now header }
 {
-    let s = header_of(file, header);
+    let s = read_program_header(file, header);
     if s.is_load() {
         Some(Span {
             address: s.address,
@@ -43,7 +43,7 @@ fn spans_in_file(alloc: Global, file: &[u8]) -> Result<Vec<Span>, AllocError>
     ensures { IfOk result (λ spans. spans.items ≡ spans_of file.now) }
 {
     let mut spans = Vec::new(alloc);
-    for header in 0..count_of(file) {
+    for header in 0..count_program_headers(file) {
         match span_of(file, header) {
             Some(span) => spans.push(span)?,
             None => {}

@@ -4,7 +4,7 @@ use Rattle.elf_headers.specs.Header.{segment_count}
 use Rattle.elf_headers.specs.Loads.{overlap_at}
 use Rattle.elf_headers.proofs.Below.{first_below-none, first_below-found}
 use Rattle.elf_headers.proofs.Apart.{row_begins}
-use Rattle.elf_headers.proofs.overlap.check_others.Goals as goal
+use Rattle.elf_headers.proofs.overlap.check_pairs_of.Goals as goal
 
 pub loop-j-init : goal.loop-j-init
 loop-j-init c = row_begins _ _
