@@ -5,6 +5,7 @@ ghost use Rattle.elf_headers.specs.Header.{is_elf, length_fault, kind_fault, tab
 
 use crate::fault::LoadFault;
 use crate::header::{u8_at, u16_at, u32_at, u64_at};
+use crate::places::{E_MACHINE, E_PHENTSIZE, E_PHNUM, E_PHOFF, E_TYPE};
 
 /// The most bytes that a program file may have.
 const LARGEST_FILE: usize = 67_108_864;
@@ -14,9 +15,9 @@ const HEADER_SIZE: usize = 64;
 const ENTRY_SIZE: u16 = 56;
 /// The number of program headers that says that the file has it elsewhere.
 const PN_XNUM: u16 = 65_535;
-
+/// The machine of AArch64.
 const EM_AARCH64: u16 = 183;
-
+/// The type of an executable.
 const ET_EXEC: u16 = 2;
 
 /// Checks the length of the file.
@@ -51,11 +52,11 @@ pub fn check_kind(file: &[u8]) -> Result<(), LoadFault>
     if !is_elf_file(file) {
         return Err(LoadFault::NotElf);
     }
-    let machine = u16_at(file, 18);
+    let machine = u16_at(file, E_MACHINE);
     if machine != EM_AARCH64 {
         return Err(LoadFault::NotThisMachine(machine));
     }
-    let kind = u16_at(file, 16);
+    let kind = u16_at(file, E_TYPE);
     if kind != ET_EXEC {
         return Err(LoadFault::NotStatic(u32::from(kind)));
     }
@@ -69,9 +70,9 @@ pub fn check_table(file: &[u8]) -> Result<(), LoadFault>
     ensures tells { Tells result (table_fault file.now) }
     ensures inside { OnOk result (HasTable file.now) }
 {
-    let at = u64_at(file, 32);
-    let size = u16_at(file, 54);
-    let count = u16_at(file, 56);
+    let at = u64_at(file, E_PHOFF);
+    let size = u16_at(file, E_PHENTSIZE);
+    let count = u16_at(file, E_PHNUM);
     if size != ENTRY_SIZE || count == 0 || count == PN_XNUM {
         return Err(LoadFault::BadTable(at));
     }

@@ -19,14 +19,15 @@ pub struct ProgramHeader {
     pub memory_size: u64,
 }
 
+/// The kind of a segment that is loaded.
 const PT_LOAD: u32 = 1;
-
+/// The kind of the segment for dynamic linking.
 const PT_DYNAMIC: u32 = 2;
-
+/// The kind of the segment that names an interpreter.
 const PT_INTERP: u32 = 3;
-
+/// The kind of the segment for thread-local storage.
 const PT_TLS: u32 = 7;
-
+/// The flag of a segment that can be executed.
 const PF_X: u32 = 1;
 
 impl ProgramHeader {

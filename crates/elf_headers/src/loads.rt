@@ -10,6 +10,7 @@ use crate::form::{check_kind, check_length, check_table};
 use crate::header::{ProgramHeader, u64_at};
 use crate::overlap::check_overlap;
 use crate::pages::check_pages;
+use crate::places::E_ENTRY;
 use crate::segments::{check_segments, count_program_headers, read_program_header};
 use crate::spans::sorted_spans;
 use std::alloc::{AllocError, Global};
@@ -73,6 +74,6 @@ pub fn read_headers(alloc: Global, file: &[u8]) -> Result<Vec<ProgramHeader>, Lo
     let spans = sorted_spans(alloc, file)?;
     check_overlap(file, spans.as_slice())?;
     check_pages(spans.as_slice())?;
-    check_entry(u64_at(file, 24), loads.as_slice())?;
+    check_entry(u64_at(file, E_ENTRY), loads.as_slice())?;
     Ok(loads)
 }

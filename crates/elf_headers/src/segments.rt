@@ -6,6 +6,7 @@ ghost use Rattle.elf_headers.specs.Segments.{segment_at, segment_of, program_hea
 
 use crate::fault::LoadFault;
 use crate::header::{ProgramHeader, u16_at, u32_at, u64_at};
+use crate::places::{E_PHNUM, E_PHOFF};
 
 /// The end of the address space.
 const SPACE_END: u64 = 1 << 47;
@@ -19,7 +20,7 @@ pub fn count_program_headers(file: &[u8]) -> u16
     requires { HasTable file.now }
     ensures { result ≡ segment_count file.now }
 {
-    u16_at(file, 56)
+    u16_at(file, E_PHNUM)
 }
 
 /// The place of a program header in the file.
@@ -29,7 +30,7 @@ fn program_header_place(file: &[u8], i: u16) -> usize
     ensures place { result ≡ segment_at file.now i }
     ensures inside { result + 56 ≤ length file.now }
 {
-    u64_at(file, 32) as usize + 56 * usize::from(i)
+    u64_at(file, E_PHOFF) as usize + 56 * usize::from(i)
 }
 
 /// The program header at a place of the file.
