@@ -1,17 +1,16 @@
 -- Loads that have no address in common.
-use Rattle.std.proofs.Common.{◌⊎◌, inl, inr, ◌≡◌, ◌≢◌, ℕ, zero, suc, ◌+◌, ◌-◌, ◌<◌, ◌≤◌, Bool, true, false, cond, List, [], ◌∷◌, ◌++◌, length, get_or, map, Option, Some, None, IfSome, refl, ap, sym, ◌∙◌, arith, All}
-use Rattle.std.specs.Prelude.{◌&&◌, nat_lt, Contains, IsSome}
+use Rattle.std.proofs.Common.{◌≡◌, ◌≢◌, ℕ, zero, suc, ◌+◌, ◌<◌, ◌≤◌, Bool, true, false, List, [], ◌∷◌, length, get_or, Some, None, refl, ap, sym, ◌∙◌, arith}
+use Rattle.std.specs.Prelude.{◌&&◌, nat_lt, Contains}
 use Rattle.std.specs.List.Sorted.{IsPermutation}
 use Rattle.std.proofs.lemmas.List.Sorted.{Contains-permutation}
 use Rattle.std.proofs.lemmas.Bool.Decides.{nat_tests}
 use Rattle.elf_headers.specs.declared.fault.LoadFault.TheVariants.{Overlap}
-use Rattle.elf_headers.specs.declared.header.ProgramHeader.{ProgramHeader}
 use Rattle.elf_headers.specs.declared.spans.Span.{Span}
 use Rattle.elf_headers.specs.Below.{first_below}
 use Rattle.elf_headers.specs.Fault.{fault_when}
 use Rattle.elf_headers.specs.Header.{segment_count}
 use Rattle.elf_headers.specs.Segments.{segment_of, is_load}
-use Rattle.elf_headers.specs.Loads.{share, overlap_at, overlap_fault}
+use Rattle.elf_headers.specs.Loads.{share, overlap_at}
 use Rattle.elf_headers.specs.Spans.{span_at, spans_of, IsClearBelow}
 use Rattle.elf_headers.proofs.Below.{first_below-all_none, Contains-answers_below}
 

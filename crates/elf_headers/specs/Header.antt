@@ -1,6 +1,6 @@
 -- The file's header, and the checks on it.
 -- Source: ELF-64 Object File Format, the table of Elf64_Ehdr, of which places and widths are in bytes.
-use Rattle.std.specs.Prelude.{◌≡◌, ℕ, ◌+◌, ◌*◌, ◌-◌, ◌^◌, ◌≤◌, Bool, List, [], ◌∷◌, length, drop, Option, ◌==◌, ◌&&◌, ◌||◌, not, nat_lt}
+use Rattle.std.specs.Prelude.{ℕ, ◌+◌, ◌*◌, ◌-◌, ◌^◌, ◌≤◌, Bool, List, [], ◌∷◌, length, drop, Option, ◌==◌, ◌&&◌, ◌||◌, not, nat_lt}
 use Rattle.byteorder.specs.Endian.{little_number}
 use Rattle.elf_headers.specs.declared.fault.LoadFault.{LoadFault}
 use Rattle.elf_headers.specs.declared.fault.LoadFault.TheVariants.{TooLong, Truncated, NotElf, NotThisMachine, NotStatic, BadTable}

@@ -1,6 +1,6 @@
 -- The loads of a file together: what they take into memory, and the checks that compare them.
 -- Source: ELF-64 Object File Format, PT_LOAD, p_flags (PF_X 1, PF_W 2, PF_R 4); the limits are this emulator's own.
-use Rattle.std.specs.Prelude.{◌≡◌, ◌⊎◌, ℕ, ◌+◌, ◌*◌, ◌-◌, ◌/◌, ◌%◌, ◌^◌, ◌<◌, ◌≤◌, Bool, List, [], ◌∷◌, length, take, drop, map, filter, All, Option, Some, None, cond, ◌==◌, ◌&&◌, not, nat_lt, nat_le}
+use Rattle.std.specs.Prelude.{◌⊎◌, ℕ, ◌+◌, ◌%◌, ◌^◌, ◌<◌, ◌≤◌, Bool, List, [], ◌∷◌, length, take, drop, map, All, Option, Some, None, cond, ◌==◌, ◌&&◌, not, nat_lt, nat_le}
 use Rattle.paged_memory.specs.Image.{Extent}
 use Rattle.paged_memory.specs.Parts.{touched_below, AreApart}
 use Rattle.elf_headers.specs.declared.fault.LoadFault.{LoadFault}

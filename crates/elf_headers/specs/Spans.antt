@@ -1,5 +1,5 @@
 -- The addresses of the loads, in the order in which they are compared.
-use Rattle.std.specs.Prelude.{◌≡◌, ◌≢◌, ℕ, ◌+◌, ◌-◌, ◌/◌, ◌<◌, ◌≤◌, ◌^◌, Bool, List, get_or, length, Option, Some, None, cond, ◌&&◌, nat_le}
+use Rattle.std.specs.Prelude.{◌≢◌, ℕ, ◌+◌, ◌-◌, ◌/◌, ◌<◌, ◌≤◌, ◌^◌, Bool, List, get_or, length, Option, Some, None, cond, ◌&&◌, nat_le}
 use Rattle.std.specs.List.{list_any}
 use Rattle.elf_headers.specs.declared.spans.Span.{Span}
 use Rattle.elf_headers.specs.Below.{answers_below, count_below}

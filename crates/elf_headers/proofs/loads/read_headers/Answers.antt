@@ -1,4 +1,4 @@
-use Rattle.std.proofs.Common.{◌≡◌, ◌∙◌, sym, rules, Some, None}
+use Rattle.std.proofs.Common.{◌≡◌, ◌∙◌, rules, Some, None}
 use Rattle.std.specs.List.Sorted.{IsPermutation}
 use Rattle.elf_headers.specs.Loads.{pages_fault, entry_fault, headers_fault}
 use Rattle.elf_headers.specs.Spans.{spans_of}

@@ -1,6 +1,5 @@
 use Rattle.std.proofs.Common.{◌≡◌, ◌∙◌, sym, ap, arith, List, [], ◌∷◌, ◌++◌}
 use Rattle.elf_headers.specs.declared.header.ProgramHeader.{ProgramHeader}
-use Rattle.elf_headers.specs.Below.{answers_below}
 use Rattle.elf_headers.specs.Header.{segment_count}
 use Rattle.elf_headers.specs.Loads.{load_of, loads_of}
 use Rattle.elf_headers.proofs.Below.{answers_below-zero, answers_below-none, answers_below-some}

@@ -1,4 +1,4 @@
-use Rattle.std.proofs.Common.{◌≡◌, ◌<◌, Some, None, arith, rules}
+use Rattle.std.proofs.Common.{◌≡◌, ◌<◌, Some, arith, rules}
 use Rattle.elf_headers.specs.Below.{first_below}
 use Rattle.elf_headers.specs.Header.{segment_count}
 use Rattle.elf_headers.specs.Loads.{overlap_at, overlap_fault}

@@ -1,6 +1,6 @@
-use Rattle.std.proofs.Common.{◌≡◌, All, rules, subst}
+use Rattle.std.proofs.Common.{rules}
 use Rattle.std.proofs.lemmas.List.Sorted.{IsNonDecreasingBy-from_sort_by_key, All-permutation}
-use Rattle.elf_headers.specs.Spans.{IsLow, spans_of}
+use Rattle.elf_headers.specs.Spans.{IsLow}
 use Rattle.elf_headers.proofs.Sound.{spans_low}
 use Rattle.elf_headers.proofs.spans.sorted_spans.Goals as goal
 
