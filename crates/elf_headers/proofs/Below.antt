@@ -2,6 +2,9 @@
 use Rattle.std.proofs.Common.{◌⊎◌, inl, inr, ◌≡◌, ℕ, zero, suc, ◌+◌, ◌<◌, ◌≤◌, Bool, true, false, List, [], ◌∷◌, ◌++◌, length, get_or, Option, Some, None, IfSome, refl, ap, sym, ◌∙◌, arith, add-one, All}
 use Rattle.std.specs.Prelude.{◌&&◌, ◌||◌, Contains}
 use Rattle.std.specs.List.{list_any}
+use Rattle.std.proofs.Math.Bool.{or-true, or-false, and-false}
+use Rattle.std.proofs.lemmas.List.{append-nil}
+use Rattle.std.proofs.lemmas.List.Folds.{list_any-append}
 use Rattle.std.proofs.lemmas.List.Elements.{All-nil, All-append, All-push, Contains-append_left, Contains-push}
 use Rattle.paged_memory.specs.Memory.{or_else}
 use Rattle.elf_headers.specs.Below.{first_below, any_below, all_below, count_below, answers, answers_below}
@@ -75,14 +78,6 @@ first_below-same one two (suc n) h = rw (first_below-same one two n (λ i l. h i
 
 -- ---- a test that one number passes
 
-or_true : (a : Bool) → (a || true) ≡ true
-or_true true = refl
-or_true false = refl
-
-or_false : (a : Bool) → (a || false) ≡ a
-or_false true = refl
-or_false false = refl
-
 pub any_below-zero : (test : ℕ → Bool) → any_below test 0 ≡ false
 unfolding any_below
 any_below-zero test = refl
@@ -102,7 +97,7 @@ any_below-found test i zero h l = absurd (omega arith)
 any_below-found test i (suc n) h l =
     elim (low_or_last i n l) [
       | inl below ↦ rw (any_below-found test i n h below) refl
-      | inr last ↦ let here : test n ≡ true = rw last at h in rw here (or_true (any_below test n))
+      | inr last ↦ let here : test n ≡ true = rw last at h in rw here (or-true (any_below test n))
     ]
 
 -- no number passes
@@ -133,10 +128,6 @@ any_below-same one two (suc n) h = rw (any_below-same one two n (λ i l. h i (om
 
 -- ---- a test that each number passes
 
-and_false : (a : Bool) → (a && false) ≡ false
-and_false true = refl
-and_false false = refl
-
 pub all_below-zero : (test : ℕ → Bool) → all_below test 0 ≡ true
 unfolding all_below
 all_below-zero test = refl
@@ -156,7 +147,7 @@ all_below-found test i zero h l = absurd (omega arith)
 all_below-found test i (suc n) h l =
     elim (low_or_last i n l) [
       | inl below ↦ rw (all_below-found test i n h below) refl
-      | inr last ↦ let here : test n ≡ false = rw last at h in rw here (and_false (all_below test n))
+      | inr last ↦ let here : test n ≡ false = rw last at h in rw here (and-false (all_below test n))
     ]
 
 -- each number passes
@@ -187,11 +178,7 @@ answers_below-next answer n = rw add-one refl
 
 -- one more number without an answer
 pub answers_below-none : {A : Type 0} (answer : ℕ → Option A) (n : ℕ) → answer n ≡ None → answers_below answer (n + 1) ≡ answers_below answer n
-answers_below-none answer n h = rw (answers_below-next answer n, h) (append_none (answers_below answer n))
-  where
-    append_none : {A : Type 0} (xs : List A) → xs ++ [] ≡ xs
-    append_none [] = refl
-    append_none (x ∷ xs) = ap (λ ys. x ∷ ys) (append_none xs)
+answers_below-none answer n h = rw (answers_below-next answer n, h) (append-nil (answers_below answer n))
 
 -- one more number with an answer
 pub answers_below-some : {A : Type 0} (answer : ℕ → Option A) (n : ℕ) (x : A) → answer n ≡ Some x → answers_below answer (n + 1) ≡ answers_below answer n ++ x ∷ []
@@ -228,13 +215,9 @@ abbrev pub passes : {A : Type 0} → (A → Bool) → Option A → Bool
 passes test None = false
 passes test (Some x) = test x
 
-list_any-append : {A : Type 0} (test : A → Bool) (xs ys : List A) → list_any test (xs ++ ys) ≡ (list_any test xs || list_any test ys)
-list_any-append test [] ys = refl
-list_any-append test (x ∷ xs) ys = elim (test x) as (λ t. (t || list_any test (xs ++ ys)) ≡ ((t || list_any test xs) || list_any test ys)) [ true ↦ refl | false ↦ list_any-append test xs ys ]
-
 list_any-answers : {A : Type 0} (test : A → Bool) (o : Option A) → list_any test (answers o) ≡ passes test o
 list_any-answers test None = refl
-list_any-answers test (Some x) = or_false (test x)
+list_any-answers test (Some x) = or-false (test x)
 
 -- one of the answers passes
 pub list_any-answers_below : {A : Type 0} (test : A → Bool) (answer : ℕ → Option A) (n : ℕ) → list_any test (answers_below answer n) ≡ any_below (λ i. passes test (answer i)) n

@@ -21,6 +21,10 @@ pub passed : (test : Bool) (fault : LoadFault) (rest : Option LoadFault) → or_
 passed true fault rest h = cc
 passed false fault rest h = (refl, h)
 
+pub passed_last : (test : Bool) (fault : LoadFault) → fault_when test fault ≡ None → test ≡ false
+passed_last true fault h = cc
+passed_last false fault h = refl
+
 pub passed_only : (test : Bool) (check : Option LoadFault) → test ≡ true → or_else (fault_only test check) None ≡ None → check ≡ None
 passed_only true None t h = refl
 passed_only true (Some fault) t h = cc
