@@ -1,0 +1,4 @@
+pub mod Below
+pub mod Names
+pub mod Covering
+pub mod Loaded

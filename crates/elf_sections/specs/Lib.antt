@@ -1,3 +1,4 @@
 pub mod Sections
 pub mod Marks
 pub mod Code
+pub mod Cover

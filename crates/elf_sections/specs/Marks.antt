@@ -5,7 +5,7 @@ use Rattle.elf_headers.specs.Below.{answers_below}
 use Rattle.elf_headers.specs.Header.{number_at}
 use Rattle.elf_sections.specs.declared.section.SectionHeader.{SectionHeader}
 use Rattle.elf_sections.specs.declared.marks.Mark.{Mark}
-use Rattle.elf_sections.specs.Sections.{section_of, section_count, is_symbol_table, symbol_count, symbol_at, symbol_name, strings_of}
+use Rattle.elf_sections.specs.Sections.{section_of, section_count, is_symbol_table, symbol_count, symbol_at, strings_of}
 
 -- byte number k of the name of a symbol
 abbrev pub name_byte : List ℕ → SectionHeader → ℕ → ℕ → ℕ

@@ -1,6 +1,6 @@
 -- The section table, and the checks on it and on each section.
 -- Source: ELF-64 Object File Format, the tables of Elf64_Ehdr, Elf64_Shdr and Elf64_Sym, of which places and widths are in bytes.
-use Rattle.std.specs.Prelude.{◌≡◌, ℕ, ◌+◌, ◌*◌, ◌-◌, ◌/◌, ◌%◌, ◌^◌, Bool, List, [], ◌∷◌, length, Option, ◌==◌, ◌&&◌, ◌||◌, not, nat_lt, nat_le, is_some}
+use Rattle.std.specs.Prelude.{ℕ, ◌+◌, ◌*◌, ◌-◌, ◌/◌, ◌%◌, ◌^◌, ◌≤◌, Bool, List, [], ◌∷◌, length, Option, ◌==◌, ◌&&◌, ◌||◌, not, nat_lt, nat_le, is_some}
 use Rattle.paged_memory.specs.Image.{parts_byte}
 use Rattle.elf_headers.specs.declared.fault.LoadFault.{LoadFault}
 use Rattle.elf_headers.specs.declared.fault.LoadFault.TheVariants.{Truncated, BadTable}
@@ -26,9 +26,13 @@ section_count file = number_at file 60 2
 unfoldable pub section_table_fault : List ℕ → Option LoadFault
 section_table_fault file = first_fault (
     fault_when (not (section_size file == 64) || (section_count file == 0)
-        || nat_lt (2 ^ 64 - 1) (table_end (sections_at file) 64 (section_count file))) (BadTable (sections_at file))
+    || nat_lt (2 ^ 64 - 1) (table_end (sections_at file) 64 (section_count file))) (BadTable (sections_at file))
     ∷ fault_when (nat_lt (length file) (table_end (sections_at file) 64 (section_count file))) (Truncated (length file))
     ∷ [])
+
+-- the table of section headers lies in the file
+abbrev pub HasSectionTable : List ℕ → Type 0
+HasSectionTable file = table_end (sections_at file) 64 (section_count file) ≤ length file
 
 -- the place of section header number i
 abbrev pub section_at : List ℕ → ℕ → ℕ
