@@ -1,8 +1,8 @@
 -- What holds of the numbers below a limit.
-use Rattle.std.proofs.Common.{◌⊎◌, inl, inr, ◌≡◌, ℕ, zero, suc, ◌+◌, ◌-◌, ◌<◌, ◌≤◌, Bool, true, false, [], ◌++◌, Option, Some, None, refl, arith, add-one}
+use Rattle.std.proofs.Common.{◌⊎◌, inl, inr, ◌≡◌, ℕ, zero, suc, ◌+◌, ◌-◌, ◌<◌, ◌≤◌, Bool, true, false, List, [], ◌++◌, Option, Some, None, refl, ap, sym, ◌∙◌, arith, add-one}
 use Rattle.std.specs.Prelude.{◌||◌}
 use Rattle.std.proofs.lemmas.Bool.{and_parts, and_from, and_left, and_right, or_left, or_right, or_from, or_cases}
-use Rattle.std.proofs.lemmas.List.{append-nil}
+use Rattle.std.proofs.lemmas.List.{append-nil, append_assoc}
 use Rattle.paged_memory.specs.Memory.{or_else}
 use Rattle.elf_headers.specs.Below.{first_below, any_below, all_below, answers, answers_below}
 
@@ -138,3 +138,11 @@ pub all_below-agree : (f g : ℕ → Bool) (n : ℕ) → ((k : ℕ) → k < n �
 unfolding all_below
 all_below-agree f g zero h = refl
 all_below-agree f g (suc n) h = rw (all_below-agree f g n (λ k l. h k (omega arith)), h n (omega arith)) refl
+
+-- a list with the answers so far, and one more
+pub answers_below-more : {A : Type 0} (answer : ℕ → Option A) (old now new : List A) (n : ℕ) (o : Option A) → now ≡ old ++ answers_below answer n → new ≡ now ++ answers o → o ≡ answer n → new ≡ old ++ answers_below answer (n + 1)
+answers_below-more answer old now new n o before here is =
+    here ∙ (λ i. before i ++ answers (is i)) ∙ append_assoc old (answers_below answer n) (answers (answer n)) ∙ ap (λ l. old ++ l) (sym (answers_below-next answer n))
+
+pub answers_below-none : {A : Type 0} (answer : ℕ → Option A) (old : List A) → old ≡ old ++ answers_below answer 0
+answers_below-none answer old = sym (ap (λ l. old ++ l) (answers_below-zero answer) ∙ append-nil old)

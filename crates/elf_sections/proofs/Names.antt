@@ -1,12 +1,13 @@
 -- Names that end inside their string table.
 use Rattle.std.proofs.Common.{inl, inr, ◌≡◌, ◌≢◌, ℕ, ◌+◌, ◌-◌, ◌<◌, ◌≤◌, true, false, List, length, sym, ◌∙◌, arith}
 use Rattle.std.specs.Prelude.{◌==◌, ◌&&◌, nat_lt, nat_le}
-use Rattle.std.proofs.lemmas.Bool.{le-ltb, lt-ltb}
+use Rattle.std.proofs.lemmas.Bool.{le-ltb, lt-ltb, leb-true, eqb-true, and_parts}
 use Rattle.std.proofs.lemmas.Bool.Decides.{nat_tests}
 use Rattle.elf_headers.specs.Header.{number_at}
 use Rattle.elf_sections.specs.declared.section.SectionHeader.{SectionHeader}
+use Rattle.elf_sections.specs.Marks.{HasEnd}
 use Rattle.elf_sections.specs.Sections.{is_in_file, ends_inside, has_names, symbol_name, symbol_count, strings_of}
-use Rattle.elf_sections.proofs.Below.{low_or, any_below-holds, any_below-fails, all_below-fails, all_below-holds}
+use Rattle.elf_sections.proofs.Below.{low_or, any_below-holds, any_below-fails, any_below-some, all_below-fails, all_below-holds}
 
 pub in_file : (file : List ℕ) (s : SectionHeader) → is_in_file file s ≡ true → 0 < s.size → s.offset + s.size ≤ length file
 in_file file s h l = grind (arith, nat_tests)
@@ -49,3 +50,13 @@ names-none file s k l h = all_below-fails _ (symbol_count s) k l h
 pub names-all : (file : List ℕ) (s : SectionHeader) → ((k : ℕ) → k < symbol_count s → ends_inside file (strings_of file s) (symbol_name file s k) ≡ true) → has_names file s ≡ true
 unfolding has_names
 names-all file s h = all_below-holds _ (symbol_count s) h
+
+-- a name that ends inside its string table ends in the file
+pub name_ends : (file : List ℕ) (strings : SectionHeader) (name : ℕ) → is_in_file file strings ≡ true → ends_inside file strings name ≡ true → HasEnd file (strings.offset + name)
+unfolding ends_inside
+name_ends file strings name inside h =
+    let w : (p : ℕ) × (p < strings.size) × ((nat_le name p && (number_at file (strings.offset + p) 1 == 0)) ≡ true) = any_below-some _ strings.size h in
+    let parts = and_parts (nat_le name w.0) (number_at file (strings.offset + w.0) 1 == 0) w.2 in
+    let from : name ≤ w.0 = leb-true _ _ parts.0 in
+    let within : strings.offset + strings.size ≤ length file = in_file file strings inside (omega (arith, w.1)) in
+    (strings.offset + w.0, omega arith, omega (arith, w.1), eqb-true _ _ parts.1)

@@ -1,7 +1,7 @@
 //! The section table, its headers, and the checks on it and on each section.
 ghost use Rattle.std.specs.Prelude.{◌≡◌, ◌+◌, ◌*◌, ◌≤◌, ◌<◌, length, OnOk, true};
 ghost use Rattle.elf_headers.specs.Fault.{Tells};
-ghost use Rattle.elf_sections.specs.Sections.{section_header, section_of, section_at, section_count, sections_at, section_table_fault, is_code_section, HasSectionTable};
+ghost use Rattle.elf_sections.specs.Sections.{section_header, section_of, section_at, section_count, sections_at, section_table_fault, is_code_section, HasSectionTable, Repeats};
 
 use elf_headers::{LoadFault, u16_at, u32_at, u64_at};
 
@@ -40,7 +40,7 @@ pub fn read_section_header(file: &[u8], at: usize) -> SectionHeader
 }
 
 /// The place of section header number `i`.
-pub fn place_of_section(file: &[u8], i: u16) -> u64
+pub fn place_of_section(file: &[u8], i: u32) -> u64
     requires table { HasSectionTable file.now }
     requires number { i < section_count file.now }
     ensures value { result ≡ section_at file.now i }
@@ -50,12 +50,31 @@ pub fn place_of_section(file: &[u8], i: u16) -> u64
 }
 
 /// Section header number `i`.
-pub fn read_section(file: &[u8], i: u16) -> SectionHeader
+pub fn read_section(file: &[u8], i: u32) -> SectionHeader
     requires table { HasSectionTable file.now }
     requires number { i < section_count file.now }
     ensures { result ≡ section_of file.now i }
 {
     read_section_header(file, place_of_section(file, i) as usize)
+}
+
+/// Tells whether section number `i` is a symbol table and the section before it is the same one.
+pub fn repeats_table(file: &[u8], i: u32) -> bool
+    requires table { HasSectionTable file.now }
+    requires number { i < section_count file.now }
+    ensures { result ≡ true → Repeats file.now i }
+{
+    if i == 0 {
+        return false;
+    }
+    let s = read_section(file, i);
+    let before = read_section(file, i - 1);
+    s.kind == 2
+        && before.kind == 2
+        && s.offset == before.offset
+        && s.size == before.size
+        && s.link == before.link
+        && s.entry_size == before.entry_size
 }
 
 /// Tells whether the section has code.

@@ -46,15 +46,14 @@ fn names_end_inside(file: &[u8], s: &SectionHeader, strings: &SectionHeader) -> 
     true
 }
 
-/// Tells whether the bytes of the string table, the section of that number, are in the file, and all names end inside it.
-fn has_good_strings(file: &[u8], s: &SectionHeader, link: u16) -> bool
+/// Tells whether the bytes of the string table are in the file, and all names end inside it.
+fn has_good_strings(file: &[u8], s: &SectionHeader) -> bool
     requires table { HasSectionTable file.now }
     requires symbols { is_in_file file.now s.now ≡ true }
-    requires linked { s.now.link ≡ link }
-    requires number { link < section_count file.now }
+    requires linked { s.now.link < section_count file.now }
     ensures { result ≡ (is_in_file file.now (strings_of file.now s.now) && has_names file.now s.now) }
 {
-    let strings = read_section(file, link);
+    let strings = read_section(file, s.link);
     lies_in_file(file, &strings) && names_end_inside(file, s, &strings)
 }
 
@@ -68,5 +67,5 @@ pub fn is_good_symbol_table(file: &[u8], s: &SectionHeader) -> bool
     s.entry_size == 24
         && s.link < u32::from(u16_at(file, 60))
         && lies_in_file(file, s)
-        && has_good_strings(file, s, s.link as u16)
+        && has_good_strings(file, s)
 }
