@@ -5,3 +5,4 @@ pub mod Loaded
 pub mod Tables
 pub mod Saying
 pub mod Sorting
+pub mod Spans

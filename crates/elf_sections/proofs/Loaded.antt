@@ -1,5 +1,5 @@
 -- The loads of a file, and the byte that they have at an address.
-use Rattle.std.proofs.Common.{◌≡◌, ℕ, zero, suc, ◌+◌, ◌-◌, ◌<◌, Bool, true, false, cond, List, [], ◌∷◌, length, get_or, map, take, drop, slice_get, Option, Some, None, refl, ap, sym, ◌∙◌, arith}
+use Rattle.std.proofs.Common.{◌≡◌, ℕ, zero, suc, ◌+◌, ◌-◌, ◌^◌, ◌<◌, ◌≤◌, Bool, true, false, cond, List, [], ◌∷◌, length, get_or, map, take, drop, slice_get, Option, Some, None, refl, ap, sym, ◌∙◌, arith}
 use Rattle.std.specs.Prelude.{◌||◌, is_some}
 use Rattle.std.specs.List.Sorted.{IsPermutation}
 use Rattle.std.proofs.lemmas.List.Sorted.{list_any-IsPermutation}
@@ -10,10 +10,10 @@ use Rattle.elf_headers.specs.declared.header.ProgramHeader.{ProgramHeader}
 use Rattle.elf_headers.specs.Below.{all_below}
 use Rattle.elf_headers.specs.Loads.{loads_of, extent_of_load, has_address, AreSound}
 use Rattle.elf_sections.specs.declared.section.SectionHeader.{SectionHeader}
-use Rattle.elf_sections.specs.Sections.{is_all_loaded}
+use Rattle.elf_sections.specs.Sections.{is_loaded, is_all_loaded}
 use Rattle.elf_sections.specs.Cover.{has_load, AreLoads}
-use Rattle.elf_sections.proofs.Below.{all_below-agree}
-use Rattle.elf_sections.proofs.Covering.{has_load-contains}
+use Rattle.elf_sections.proofs.Below.{all_below-agree, all_below-at}
+use Rattle.elf_sections.proofs.Covering.{has_load-contains, has_load-some, has_address-high, HasOne}
 
 there_or : (t : Bool) (b : ℕ) (o : Option ℕ) → is_some (or_else (cond t (Some b) None) o) ≡ (t || is_some o)
 there_or true b o = refl
@@ -94,3 +94,20 @@ parts_byte-at file (p ∷ loads) s a zero apart l e h = rw e (or_there (part_byt
 parts_byte-at file (p ∷ loads) s a (suc k) apart l e h =
     let rest : parts_byte (map (extent_of_load file) loads) a ≡ part_byte (extent_of_load file s) a = parts_byte-at file loads s a k apart.1 (omega arith) e h in
     or_later (part_byte (extent_of_load file p) a) (parts_byte (map (extent_of_load file) loads) a) (λ t. apart_later file p loads s a k apart (omega arith) e (sym (part_has file p a) ∙ t) h) ∙ rest
+
+-- ---- a section whose addresses are in loads
+
+-- an address of a load lies below 2 ^ 47
+pub loaded_low : (file : List ℕ) (a : ℕ) → AreLoads (loads_of file) → is_loaded file a ≡ true → a < 2 ^ 47
+loaded_low file a are h =
+    let w : HasOne (loads_of file) a = has_load-some (loads_of file) a (sym (has_load-byte file (loads_of file) a) ∙ h) in
+    let high : a < w.0.address + w.0.memory_size = has_address-high w.0 a w.2 in
+    let low : w.0.address + w.0.memory_size ≤ 2 ^ 47 = rw w.1.2 at (are.low w.1.0 w.0 w.1.1) in
+    omega arith
+
+pub section_low : (file : List ℕ) (s : SectionHeader) → AreLoads (loads_of file) → is_all_loaded file s ≡ true → 0 < s.size → s.address + s.size ≤ 2 ^ 47
+unfolding is_all_loaded
+section_low file s are h some =
+    let last : is_loaded file (s.address + (s.size - 1)) ≡ true = all_below-at (λ k. is_loaded file (s.address + k)) s.size (s.size - 1) h (omega arith) in
+    let low : s.address + (s.size - 1) < 2 ^ 47 = loaded_low file (s.address + (s.size - 1)) are last in
+    omega arith

@@ -2,3 +2,4 @@ pub mod Sections
 pub mod Marks
 pub mod Code
 pub mod Cover
+pub mod Intervals

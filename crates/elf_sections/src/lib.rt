@@ -3,6 +3,7 @@
 
 mod checks;
 mod cover;
+mod intervals;
 mod marks;
 mod section;
 mod symbols;
