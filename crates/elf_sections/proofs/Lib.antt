@@ -6,3 +6,6 @@ pub mod Tables
 pub mod Saying
 pub mod Sorting
 pub mod Spans
+pub mod Reading
+pub mod Listing
+pub mod Faults

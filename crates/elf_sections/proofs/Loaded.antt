@@ -61,7 +61,7 @@ none_there : (o : Option ℕ) → is_some o ≡ true → o ≡ None → ⊥
 none_there None h e = cc
 none_there (Some b) h e = cc
 
-abbrev AreApartLoads : List ℕ → List ProgramHeader → Type 0
+abbrev pub AreApartLoads : List ℕ → List ProgramHeader → Type 0
 AreApartLoads file loads = AreApart (map (extent_of_load file) loads)
 
 -- the first load has no address of a later one
@@ -87,7 +87,7 @@ sound_loads file loads sound = record {
 }
 
 -- the byte at an address is that of the load that has it
-parts_byte-at : (file : List ℕ) (loads : List ProgramHeader) (s : ProgramHeader) (a k : ℕ) → AreApartLoads file loads → k < length loads → get_or loads k s ≡ s → has_address s a ≡ true → parts_byte (map (extent_of_load file) loads) a ≡ part_byte (extent_of_load file s) a
+pub parts_byte-at : (file : List ℕ) (loads : List ProgramHeader) (s : ProgramHeader) (a k : ℕ) → AreApartLoads file loads → k < length loads → get_or loads k s ≡ s → has_address s a ≡ true → parts_byte (map (extent_of_load file) loads) a ≡ part_byte (extent_of_load file s) a
 unfolding parts_byte
 parts_byte-at file [] s a k apart l e h = absurd (omega arith)
 parts_byte-at file (p ∷ loads) s a zero apart l e h = rw e (or_there (part_byte (extent_of_load file s) a) (parts_byte (map (extent_of_load file) loads) a) (part_has file s a ∙ h))

@@ -1,9 +1,9 @@
 -- The addresses that loads have.
 use Rattle.std.specs.Prelude.{◌≡◌, ℕ, ◌+◌, ◌^◌, ◌<◌, ◌≤◌, Bool, true, false, List, length, get_or, slice_index, All, Contains}
 use Rattle.std.specs.List.{list_any}
-use Rattle.std.specs.List.Sorted.{IsNonDecreasingBy}
+use Rattle.std.specs.List.Sorted.{IsNonDecreasingBy, IsPermutation}
 use Rattle.elf_headers.specs.declared.header.ProgramHeader.{ProgramHeader}
-use Rattle.elf_headers.specs.Loads.{has_address}
+use Rattle.elf_headers.specs.Loads.{has_address, loads_of, AreSound}
 use Rattle.elf_sections.specs.declared.cover.Cover.{Cover}
 
 -- one of the loads has the address
@@ -20,6 +20,12 @@ pub record AreLoads (loads : List ProgramHeader) : Type 0 where
 pub record AreInOrder (loads : List ProgramHeader) : Type 0 where
   pub are : AreLoads loads
   pub order : IsNonDecreasingBy (λ s. s.address) loads
+
+-- these are the loads of the file, in order of address
+pub record AreLoadsOf (file : List ℕ) (loads : List ProgramHeader) : Type 0 where
+  pub order : AreInOrder loads
+  pub same : IsPermutation (loads_of file) loads
+  pub sound : AreSound file (loads_of file)
 
 -- the loads have each address from the first of this one on up to `end`, and not `end`
 pub record IsEnd (loads : List ProgramHeader) (s : ProgramHeader) (end : ℕ) : Type 0 where

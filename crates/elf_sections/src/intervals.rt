@@ -8,7 +8,7 @@ ghost use Rattle.elf_sections.specs.Cover.{AreLoads};
 ghost use Rattle.elf_sections.specs.Sections.{section_count, section_fault, HasSectionTable};
 ghost use Rattle.elf_sections.specs.Marks.{marks_of, last_mark, is_code_at, AreMarksInOrder, SayTheSame};
 ghost use Rattle.elf_sections.specs.Code.{has_word, is_code_in, is_code_word};
-ghost use Rattle.elf_sections.specs.Intervals.{has_number, is_spanned, AreLow};
+ghost use Rattle.elf_sections.specs.Intervals.{has_number, is_spanned, AreSpans};
 
 use crate::marks::Mark;
 use crate::section::{SectionHeader, has_code, read_section};
@@ -37,9 +37,9 @@ fn words_of(s: &SectionHeader) -> Span
 /// Adds the words from `start` on up to `end`, where they are code.
 fn push_code(code: bool, start: u64, end: u64, spans: &mut Vec<Span>) -> Result<(), AllocError>
     requires end { end ≤ 2 ^ 45 }
-    requires before { AreLow spans.old.items }
+    requires before { AreSpans spans.old.items }
     ensures words { OnOk result ((n : ℕ) → is_spanned spans.new.items n ≡ (is_spanned spans.old.items n || (code && nat_le start n && nat_lt n end))) }
-    ensures low { OnOk result (AreLow spans.new.items) }
+    ensures low { OnOk result (AreSpans spans.new.items) }
 {
     if code && start < end {
         spans.push(Span { start, end })?;
@@ -52,9 +52,9 @@ fn add_code(words: Span, number: u32, own: &[Mark], spans: &mut Vec<Span>) -> Re
     requires section { All (λ m. m.section ≡ number) own.now }
     requires order { IsNonDecreasingBy (λ m. m.value) own.now }
     requires end { words.end ≤ 2 ^ 45 }
-    requires before { AreLow spans.old.items }
+    requires before { AreSpans spans.old.items }
     ensures words { OnOk result ((n : ℕ) → is_spanned spans.new.items n ≡ (is_spanned spans.old.items n || (has_number words n && is_code_at own.now number (4 * n)))) }
-    ensures low { OnOk result (AreLow spans.new.items) }
+    ensures low { OnOk result (AreSpans spans.new.items) }
 {
     let mut start = words.start;
     let mut code = true;
@@ -97,9 +97,9 @@ fn add_section(file: &[u8], i: u32, marks: &[Mark], spans: &mut Vec<Span>) -> Re
     requires loads { AreLoads (loads_of file.now) }
     requires order { AreMarksInOrder marks.now }
     requires same { SayTheSame marks.now (marks_of file.now) }
-    requires before { AreLow spans.old.items }
+    requires before { AreSpans spans.old.items }
     ensures words { OnOk result ((n : ℕ) → is_spanned spans.new.items n ≡ (is_spanned spans.old.items n || is_code_in file.now (4 * n) i)) }
-    ensures low { OnOk result (AreLow spans.new.items) }
+    ensures low { OnOk result (AreSpans spans.new.items) }
 {
     let s = read_section(file, i);
     if !has_code(&s) || s.size == 0 {
@@ -117,7 +117,7 @@ pub fn gather_spans(alloc: Global, file: &[u8], marks: &[Mark]) -> Result<Vec<Sp
     requires order { AreMarksInOrder marks.now }
     requires same { SayTheSame marks.now (marks_of file.now) }
     ensures words { IfOk result (λ spans. (n : ℕ) → is_spanned spans.items n ≡ is_code_word file.now (4 * n)) }
-    ensures low { IfOk result (λ spans. AreLow spans.items) }
+    ensures low { IfOk result (λ spans. AreSpans spans.items) }
 {
     let mut spans = Vec::new(alloc);
     for i in 0..u32::from(u16_at(file, 60)) {

@@ -2,10 +2,13 @@
 #![tactic(auto)]
 
 mod checks;
+mod code;
 mod cover;
 mod intervals;
 mod marks;
 mod section;
 mod symbols;
+mod words;
 
+pub use code::read_code;
 pub use section::SectionHeader;

@@ -1,9 +1,9 @@
-use Rattle.std.proofs.Common.{ℕ, ◌≡◌, ◌+◌, ◌*◌, ◌<◌, ◌≤◌, None, get_or, min, max, sym, ◌∙◌, arith, add-one}
+use Rattle.std.proofs.Common.{ℕ, ◌≡◌, ◌*◌, ◌<◌, ◌≤◌, None, min, sym, ◌∙◌, arith, add-one}
 use Rattle.std.specs.Prelude.{◌&&◌, ◌||◌, nat_lt, nat_le}
 use Rattle.std.proofs.lemmas.Result.{on_ok_weaker}
 use Rattle.elf_sections.specs.Marks.{is_code_at}
 use Rattle.elf_sections.specs.Intervals.{is_spanned}
-use Rattle.elf_sections.proofs.Spans.{no_mark, code_from, code_from-next, code_between, code_behind, words_more, words_all, passed_more}
+use Rattle.elf_sections.proofs.Spans.{no_mark, code_from-next, code_between, code_behind, words_more, words_all, passed_more}
 use Rattle.elf_sections.proofs.intervals.add_code.Goals as goal
 
 pub loop-mark-preserved : goal.loop-mark-preserved
