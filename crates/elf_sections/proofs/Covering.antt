@@ -2,7 +2,7 @@
 use Rattle.std.proofs.Common.{inl, inr, ◌≡◌, ◌≢◌, ℕ, zero, suc, ◌+◌, ◌-◌, ◌^◌, ◌<◌, ◌≤◌, true, false, List, [], ◌∷◌, length, get_or, set, leb, refl, sym, ◌∙◌, subst, arith}
 use Rattle.std.specs.Prelude.{Contains}
 use Rattle.std.specs.List.Sorted.{IsPermutation, IsPartitionPoint}
-use Rattle.std.proofs.lemmas.Bool.{or_left, or_right, or_cases, false_from_ne_true, false≢true, leb-true, leb-false, le-leb, lt-leb}
+use Rattle.std.proofs.lemmas.Bool.{cases_lt, or_left, or_right, or_cases, false_from_ne_true, false≢true, leb-true, leb-false, le-leb, lt-leb}
 use Rattle.std.proofs.lemmas.Bool.Decides.{nat_tests}
 use Rattle.std.proofs.lemmas.List.{get_or_default, get_or-set_same, get_or-set_other}
 use Rattle.std.proofs.lemmas.List.Elements.{Contains-get_or}
@@ -11,7 +11,7 @@ use Rattle.elf_headers.specs.declared.header.ProgramHeader.{ProgramHeader}
 use Rattle.elf_headers.specs.Loads.{has_address}
 use Rattle.elf_headers.specs.Below.{all_below}
 use Rattle.elf_sections.specs.Cover.{has_load, AreLoads, AreInOrder, IsEnd}
-use Rattle.elf_sections.proofs.Below.{low_or, all_below-holds, all_below-fails}
+use Rattle.elf_headers.proofs.Below.{all_below-all, all_below-found}
 
 -- the test of an address, in numbers
 pub has_address-from : (s : ProgramHeader) (a : ℕ) → s.address ≤ a → a < s.address + s.memory_size → has_address s a ≡ true
@@ -58,7 +58,7 @@ has_load-here loads i a d order inside low next h =
     let same : get_or loads j d ≡ s = get_or_default loads j d s within ∙ w.1.2 in
     let from : s.address ≤ a = has_address-low s a w.2 in
     let to : a < s.address + s.memory_size = has_address-high s a w.2 in
-    let before : j ≤ i = elim (low_or i j) [
+    let before : j ≤ i = elim (cases_lt i j) [
       | inr b ↦ b
       | inl c ↦
           let up : (get_or loads (i + 1) d).address ≤ (get_or loads j d).address = order.order (i + 1) j d (omega arith) within in
@@ -101,11 +101,11 @@ end_next loads i end d order inside near is =
     let up : (get_or loads i d).address ≤ (get_or loads (i + 1) d).address = order.order i (i + 1) d (omega arith) inside in
     let beyond : (get_or loads (i + 1) d).address ≤ end = omega (arith, is.past) in
     record {
-      past = elim (low_or end ((get_or loads i d).address + (get_or loads i d).memory_size)) [
+      past = elim (cases_lt end ((get_or loads i d).address + (get_or loads i d).memory_size)) [
         | inr g ↦ g
         | inl l ↦ absurd (false≢true (sym is.none ∙ has_load-at loads i d end (omega arith) (has_address-from (get_or loads i d) end (omega arith) l)))
       ];
-      all = λ a from to. elim (low_or a ((get_or loads i d).address + (get_or loads i d).memory_size)) [
+      all = λ a from to. elim (cases_lt a ((get_or loads i d).address + (get_or loads i d).memory_size)) [
         | inl l ↦ has_load-at loads i d a (omega arith) (has_address-from (get_or loads i d) a from l)
         | inr g ↦ is.all a (omega arith) to
       ];
@@ -119,7 +119,7 @@ unfolding all_below
 all_had-none loads a = refl
 
 pub all_had-fails : (loads : List ProgramHeader) (a size : ℕ) → 0 < size → has_load loads a ≡ false → all_below (λ k. has_load loads (a + k)) size ≡ false
-all_had-fails loads a size l h = let e : a + 0 ≡ a = omega arith in all_below-fails (λ k. has_load loads (a + k)) size 0 l (rw e h)
+all_had-fails loads a size l h = let e : a + 0 ≡ a = omega arith in all_below-found (λ k. has_load loads (a + k)) 0 size (rw e h) l
 
 -- an address of a load lies below the end of that load
 pub below_end : (loads : List ProgramHeader) (s : ProgramHeader) (end a : ℕ) → IsEnd loads s end → has_address s a ≡ true → a ≤ end
@@ -130,11 +130,11 @@ pub all_had-from : (loads : List ProgramHeader) (s : ProgramHeader) (end a size 
 all_had-from loads s end a size is h =
     let low : s.address ≤ a = has_address-low s a h in
     let high : a ≤ end = below_end loads s end a is h in
-    elim (low_or (end - a) size) [
-      | inr g ↦ le-leb size (end - a) g ∙ sym (all_below-holds (λ k. has_load loads (a + k)) size (λ k l. is.all (a + k) (omega arith) (omega arith)))
+    elim (cases_lt (end - a) size) [
+      | inr g ↦ le-leb size (end - a) g ∙ sym (all_below-all (λ k. has_load loads (a + k)) size (λ k l. is.all (a + k) (omega arith) (omega arith)))
       | inl l ↦
           let e : a + (end - a) ≡ end = omega arith in
-          lt-leb size (end - a) l ∙ sym (all_below-fails (λ k. has_load loads (a + k)) size (end - a) l (rw e is.none))
+          lt-leb size (end - a) l ∙ sym (all_below-found (λ k. has_load loads (a + k)) (end - a) size (rw e is.none) l)
     ]
 
 -- the ends with one more in front
@@ -143,7 +143,7 @@ pub ends_more : (loads : List ProgramHeader) (ends : List ℕ) (i end : ℕ) →
     → (k : ℕ) (d : ProgramHeader) → i ≤ k → k < length loads → IsEnd loads (get_or loads k d) (get_or (set ends i end) k 0)
 ends_more loads ends i end inside count later here k d from to =
     let within : i < length ends = omega arith in
-    elim (low_or i k) [
+    elim (cases_lt i k) [
       | inl l ↦ let ne : k ≢ i = omega arith in rw get_or-set_other (later k d (omega arith) to)
       | inr g ↦ let e : k ≡ i = omega arith in rw e (rw get_or-set_same (here d))
     ]

@@ -1,4 +1,4 @@
-pub mod Below
+pub mod Answers
 pub mod Names
 pub mod Covering
 pub mod Loaded

@@ -1,7 +1,7 @@
 -- Code words listed from spans in order.
 use Rattle.std.proofs.Common.{inl, inr, ◌≡◌, ℕ, zero, suc, ◌+◌, ◌*◌, ◌<◌, ◌≤◌, max, true, false, List, [], ◌∷◌, ◌++◌, length, get_or, Some, None, refl, sym, ◌∙◌, arith}
 use Rattle.std.specs.List.Sorted.{IsNonDecreasingBy, IsPermutation}
-use Rattle.std.proofs.lemmas.Bool.{or_left, or_right, or_from}
+use Rattle.std.proofs.lemmas.Bool.{cases_lt, or_left, or_right, or_from}
 use Rattle.std.proofs.lemmas.Bool.Decides.{nat_tests}
 use Rattle.std.proofs.lemmas.List.{get_or_default}
 use Rattle.std.proofs.lemmas.List.Sorted.{list_any-IsPermutation}
@@ -9,7 +9,8 @@ use Rattle.elf_headers.specs.Below.{answers, answers_below}
 use Rattle.elf_sections.specs.declared.intervals.Span.{Span}
 use Rattle.elf_sections.specs.Code.{is_code_word, code_word, loaded_word}
 use Rattle.elf_sections.specs.Intervals.{has_number, is_spanned}
-use Rattle.elf_sections.proofs.Below.{low_or, answers_below-next, answers_below-gap}
+use Rattle.elf_headers.proofs.Below.{answers_below-next}
+use Rattle.elf_sections.proofs.Answers.{answers_below-gap}
 
 -- ---- what spans have
 
@@ -42,7 +43,7 @@ abbrev pub ArePassed : List Span → ℕ → ℕ → Type 0
 ArePassed spans k next = (j : ℕ) (d : Span) → j < k → (get_or spans j d).end ≤ next
 
 not_between : (spans : List Span) (k next n : ℕ) (d : Span) → IsNonDecreasingBy (λ s. s.start) spans → k < length spans → ArePassed spans k next → next ≤ n → n < (get_or spans k d).start → is_spanned spans n ≡ false
-not_between spans k next n d order inside passed from to = spanned-not spans n (λ j e l. elim (low_or j k) [
+not_between spans k next n d order inside passed from to = spanned-not spans n (λ j e l. elim (cases_lt j k) [
   | inl b ↦ let low : (get_or spans j e).end ≤ next = passed j e b in has_number-past (get_or spans j e) n (omega arith)
   | inr g ↦
       let up : (get_or spans k e).start ≤ (get_or spans j e).start = order k j e g l in
@@ -89,7 +90,7 @@ listed_all file spans code k next limit words all passed low is =
     is ∙ sym (answers_below-gap (code_word file) next limit low (λ n from to. code_word-false file n (sym (words n) ∙ not_behind spans k next n all passed from)))
 
 pub passed_one : (spans : List Span) (k next : ℕ) (d : Span) → k < length spans → ArePassed spans k next → ArePassed spans (k + 1) (max next (get_or spans k d).end)
-passed_one spans k next d inside passed j e l = elim (low_or j k) [
+passed_one spans k next d inside passed j e l = elim (cases_lt j k) [
   | inl b ↦ let low : (get_or spans j e).end ≤ next = passed j e b in omega arith
   | inr g ↦
       let z : j ≡ k = omega arith in

@@ -12,7 +12,7 @@ use Rattle.elf_headers.specs.Loads.{loads_of, extent_of_load, has_address, AreSo
 use Rattle.elf_sections.specs.declared.section.SectionHeader.{SectionHeader}
 use Rattle.elf_sections.specs.Sections.{is_loaded, is_all_loaded}
 use Rattle.elf_sections.specs.Cover.{has_load, AreLoads}
-use Rattle.elf_sections.proofs.Below.{all_below-agree, all_below-at}
+use Rattle.elf_headers.proofs.Below.{all_below-same, all_below-each}
 use Rattle.elf_sections.proofs.Covering.{has_load-contains, has_load-some, has_address-high, HasOne}
 
 there_or : (t : Bool) (b : ℕ) (o : Option ℕ) → is_some (or_else (cond t (Some b) None) o) ≡ (t || is_some o)
@@ -37,7 +37,7 @@ has_load-permutation xs ys a p = list_any-IsPermutation (λ s. has_address s a) 
 pub is_all_loaded-by : (file : List ℕ) (loads : List ProgramHeader) (s : SectionHeader) → IsPermutation (loads_of file) loads → all_below (λ k. has_load loads (s.address + k)) s.size ≡ is_all_loaded file s
 unfolding is_all_loaded
 is_all_loaded-by file loads s p =
-    all_below-agree _ _ s.size (λ k l. sym (has_load-byte file (loads_of file) (s.address + k) ∙ has_load-permutation (loads_of file) loads (s.address + k) p))
+    all_below-same _ _ s.size (λ k l. sym (has_load-byte file (loads_of file) (s.address + k) ∙ has_load-permutation (loads_of file) loads (s.address + k) p))
 
 -- ---- loads that share no address
 
@@ -108,6 +108,6 @@ loaded_low file a are h =
 pub section_low : (file : List ℕ) (s : SectionHeader) → AreLoads (loads_of file) → is_all_loaded file s ≡ true → 0 < s.size → s.address + s.size ≤ 2 ^ 47
 unfolding is_all_loaded
 section_low file s are h some =
-    let last : is_loaded file (s.address + (s.size - 1)) ≡ true = all_below-at (λ k. is_loaded file (s.address + k)) s.size (s.size - 1) h (omega arith) in
+    let last : is_loaded file (s.address + (s.size - 1)) ≡ true = all_below-each (λ k. is_loaded file (s.address + k)) s.size h (s.size - 1) (omega arith) in
     let low : s.address + (s.size - 1) < 2 ^ 47 = loaded_low file (s.address + (s.size - 1)) are last in
     omega arith

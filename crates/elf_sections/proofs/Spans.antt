@@ -2,7 +2,7 @@
 use Rattle.std.proofs.Common.{inl, inr, ◌≡◌, ℕ, zero, suc, ◌+◌, ◌*◌, ◌<◌, ◌≤◌, min, max, Bool, true, false, List, [], ◌∷◌, ◌++◌, length, get_or, take, drop, Option, Some, None, refl, ap, sym, ◌∙◌, arith}
 use Rattle.std.specs.Prelude.{◌==◌, ◌&&◌, ◌||◌, nat_lt, nat_le, All}
 use Rattle.std.specs.List.Sorted.{IsNonDecreasingBy}
-use Rattle.std.proofs.lemmas.Bool.{ne_eqb, and_left, lt-ltb, le-ltb, le-leb, lt-leb}
+use Rattle.std.proofs.lemmas.Bool.{cases_lt, ne_eqb, and_left, lt-ltb, le-ltb, le-leb, lt-leb}
 use Rattle.std.proofs.lemmas.Bool.Decides.{nat_tests}
 use Rattle.std.proofs.lemmas.List.{get_or-take, get_or-drop, length-take, length-drop, take-append-drop, get_or_default}
 use Rattle.std.proofs.lemmas.List.Folds.{list_any-append}
@@ -11,7 +11,6 @@ use Rattle.elf_sections.specs.declared.marks.Mark.{Mark}
 use Rattle.elf_sections.specs.declared.intervals.Span.{Span}
 use Rattle.elf_sections.specs.Marks.{is_mark_of, last_mark, later, governing, says_code, is_code_at}
 use Rattle.elf_sections.specs.Intervals.{has_number, is_spanned}
-use Rattle.elf_sections.proofs.Below.{low_or}
 use Rattle.elf_sections.proofs.Saying.{last_mark-append}
 
 -- ---- the marks of one section
@@ -143,7 +142,7 @@ both_above false true = refl
 both_above false false = refl
 
 lt_min : (n next end : ℕ) → n < next → nat_lt n (min next end) ≡ nat_lt n end
-lt_min n next end l = elim (low_or n end) [
+lt_min n next end l = elim (cases_lt n end) [
   | inl m ↦ lt-ltb n (min next end) (omega arith) ∙ sym (lt-ltb n end m)
   | inr g ↦ le-ltb n (min next end) (omega arith) ∙ sym (le-ltb n end g)
 ]
@@ -152,7 +151,7 @@ lt_min n next end l = elim (low_or n end) [
 pub words_more : (old now new code c : Bool) (first end start next n : ℕ) → now ≡ (old || ((nat_le first n && nat_lt n end) && (nat_lt n start && c))) → new ≡ (now || (code && nat_le start n && nat_lt n (min next end)))
     → first ≤ start → (start ≤ n → n < next → c ≡ code) → new ≡ (old || ((nat_le first n && nat_lt n end) && (nat_lt n (max start next) && c)))
 words_more old now new code c first end start next n before is from says =
-    elim (low_or n start) [
+    elim (cases_lt n start) [
       | inl l ↦
           let below : nat_lt n start ≡ true = lt-ltb n start l in
           let test : nat_le start n ≡ false = lt-leb start n l in
@@ -160,7 +159,7 @@ words_more old now new code c first end start next n before is from says =
           rw (is, before, below, test, after) (both_below (old || ((nat_le first n && nat_lt n end) && (true && c))) code (nat_lt n (min next end)))
       | inr g ↦
           let below : nat_lt n start ≡ false = le-ltb n start g in
-          elim (low_or n next) [
+          elim (cases_lt n next) [
             | inl l ↦
                 let inside : nat_le first n ≡ true = le-leb first n (omega arith) in
                 let test : nat_le start n ≡ true = le-leb start n g in
@@ -177,7 +176,7 @@ words_more old now new code c first end start next n before is from says =
 pub words_all : (old now new code c : Bool) (first end start n : ℕ) → now ≡ (old || ((nat_le first n && nat_lt n end) && (nat_lt n start && c))) → new ≡ (now || (code && nat_le start n && nat_lt n end))
     → first ≤ start → (start ≤ n → c ≡ code) → new ≡ (old || ((nat_le first n && nat_lt n end) && c))
 words_all old now new code c first end start n before is from says =
-    elim (low_or n start) [
+    elim (cases_lt n start) [
       | inl l ↦
           let below : nat_lt n start ≡ true = lt-ltb n start l in
           let test : nat_le start n ≡ false = lt-leb start n l in
@@ -206,7 +205,7 @@ code_behind s k start n marks own order all inside passed from =
     is_code_at-own s (4 * n) k marks own order inside (λ j e l. let low : (get_or marks j e).value ≤ 4 * start = passed j e l in omega arith) (λ j e l m. absurd (omega arith))
 
 pub passed_more : (marks : List Mark) (k start next : ℕ) (d : Mark) → k < length marks → ((j : ℕ) (e : Mark) → j < k → (get_or marks j e).value ≤ 4 * start) → (get_or marks k d).value ≤ 4 * next → (j : ℕ) (e : Mark) → j < k + 1 → (get_or marks j e).value ≤ 4 * max start next
-passed_more marks k start next d inside passed here j e l = elim (low_or j k) [
+passed_more marks k start next d inside passed here j e l = elim (cases_lt j k) [
   | inl b ↦ let low : (get_or marks j e).value ≤ 4 * start = passed j e b in omega arith
   | inr g ↦
       let z : j ≡ k = omega arith in

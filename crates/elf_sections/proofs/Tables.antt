@@ -11,7 +11,7 @@ use Rattle.elf_headers.specs.Below.{first_below}
 use Rattle.elf_sections.specs.declared.section.SectionHeader.{SectionHeader}
 use Rattle.elf_sections.specs.Sections.{section_of, section_count, section_fault, is_symbol_table, is_code_section, is_all_loaded, is_in_file, is_good_table, has_names, ends_inside, strings_of, symbol_count, symbol_name, section_at, Repeats}
 use Rattle.elf_sections.specs.Marks.{table_marks}
-use Rattle.elf_sections.proofs.Below.{first_below-none, all_below-at}
+use Rattle.elf_headers.proofs.Below.{first_below-each_none, all_below-each}
 use Rattle.elf_sections.proofs.Names.{in_file}
 
 -- a header that has these fields, and no others
@@ -69,7 +69,7 @@ passes t g true l fault h e = cc
 pub section_fault-repeats : (file : List ℕ) (i : ℕ) → Repeats file i → first_below (section_fault file) i ≡ None → section_fault file i ≡ None
 unfolding section_fault
 section_fault-repeats file i r before =
-    let good : is_good_table file (section_of file (i - 1)) ≡ true = good_table file (i - 1) (first_below-none (section_fault file) i (i - 1) before (omega (arith, r.later))) r.before in
+    let good : is_good_table file (section_of file (i - 1)) ≡ true = good_table file (i - 1) (first_below-each_none (section_fault file) i before (i - 1) (omega (arith, r.later))) r.before in
     passes (is_symbol_table (section_of file i)) (is_good_table file (section_of file i)) (is_code_section (section_of file i)) (is_all_loaded file (section_of file i)) (BadTable (section_at file i))
     (is_good_table-repeats file i r ∙ good) (no_code (section_of file i) r.table)
 
@@ -92,7 +92,7 @@ table_parts file s h =
 
 pub name_inside : (file : List ℕ) (s : SectionHeader) (k : ℕ) → has_names file s ≡ true → k < symbol_count s → ends_inside file (strings_of file s) (symbol_name file s k) ≡ true
 unfolding has_names
-name_inside file s k h l = all_below-at _ (symbol_count s) k h l
+name_inside file s k h l = all_below-each _ (symbol_count s) h k l
 
 pub symbol_inside : (file : List ℕ) (s : SectionHeader) (k : ℕ) → is_in_file file s ≡ true → k < symbol_count s → s.offset + 24 * k + 24 ≤ length file
 symbol_inside file s k h l = let within : s.offset + s.size ≤ length file = in_file file s h (omega arith) in omega arith

@@ -1,7 +1,7 @@
 use Rattle.std.proofs.Common.{◌≡◌, ◌^◌, max, get_or, sym, ap, ◌∙◌, arith}
 use Rattle.elf_headers.specs.Below.{answers_below}
 use Rattle.elf_sections.specs.Code.{code_word}
-use Rattle.elf_sections.proofs.Below.{answers_below-zero}
+use Rattle.elf_headers.proofs.Below.{answers_below-zero}
 use Rattle.elf_sections.proofs.Listing.{span_code, listed_to, listed_all, passed_one, no_span}
 use Rattle.elf_sections.proofs.code.list_code.Goals as goal
 

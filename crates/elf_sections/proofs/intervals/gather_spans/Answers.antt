@@ -4,7 +4,7 @@ use Rattle.elf_headers.specs.Below.{any_below}
 use Rattle.elf_sections.specs.Sections.{section_fault, section_count}
 use Rattle.elf_sections.specs.Code.{is_code_in, is_code_word}
 use Rattle.elf_sections.specs.Intervals.{is_spanned}
-use Rattle.elf_sections.proofs.Below.{first_below-none, any_below-zero, any_below-next}
+use Rattle.elf_headers.proofs.Below.{first_below-each_none, any_below-zero, any_below-next}
 use Rattle.elf_sections.proofs.Spans.{spanned-none}
 use Rattle.elf_sections.proofs.intervals.gather_spans.Goals as goal
 
@@ -15,7 +15,7 @@ loop-i-init c = record {
 }
 
 pub add_section-requires-clause-checked : goal.add_section-requires-clause-checked
-add_section-requires-clause-checked c = first_below-none (section_fault c.args.file.now) (section_count c.args.file.now) c.loop-i.i c.requires.checked (omega (arith, c.u16_at.ensures, c.from-i-end.ensures))
+add_section-requires-clause-checked c = first_below-each_none (section_fault c.args.file.now) (section_count c.args.file.now) c.requires.checked c.loop-i.i (omega (arith, c.u16_at.ensures, c.from-i-end.ensures))
 
 pub loop-i-preserved : goal.loop-i-preserved
 loop-i-preserved c = record {

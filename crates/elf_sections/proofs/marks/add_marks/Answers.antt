@@ -1,7 +1,7 @@
 use Rattle.std.proofs.Common.{ap, ◌∙◌, arith}
 use Rattle.elf_sections.specs.Sections.{strings_of, symbol_at}
 use Rattle.elf_sections.specs.Marks.{mark_at}
-use Rattle.elf_sections.proofs.Below.{answers_below-none, answers_below-more}
+use Rattle.elf_sections.proofs.Answers.{answered_none, answered_more}
 use Rattle.elf_sections.proofs.Tables.{table_parts, name_inside, symbol_inside}
 use Rattle.elf_sections.proofs.marks.add_marks.Goals as goal
 
@@ -9,7 +9,7 @@ pub read_section-strings-requires-clause-number : goal.read_section-strings-requ
 read_section-strings-requires-clause-number c = (table_parts c.args.file.now c.args.s.now c.requires.good).linked
 
 pub loop-k-init : goal.loop-k-init
-loop-k-init c = answers_below-none (λ k. mark_at c.args.file.now (strings_of c.args.file.now c.args.s.now) (symbol_at c.args.s.now k)) c.args.marks.now.items
+loop-k-init c = answered_none (λ k. mark_at c.args.file.now (strings_of c.args.file.now c.args.s.now) (symbol_at c.args.s.now k)) c.args.marks.now.items
 
 pub overflow_add-s : goal.overflow_add-s
 overflow_add-s c = omega (arith, symbol_inside c.args.file.now c.args.s.now c.loop-k.k (table_parts c.args.file.now c.args.s.now c.requires.good).symbols c.loop-k-test.true)
@@ -25,5 +25,5 @@ read_mark-requires-clause-ends c = rw c.read_section-strings.ensures (name_insid
 
 pub loop-k-preserved : goal.loop-k-preserved
 loop-k-preserved c =
-    answers_below-more (λ k. mark_at c.args.file.now (strings_of c.args.file.now c.args.s.now) (symbol_at c.args.s.now k)) c.args.marks.now.items c.loop-k.marks.items c.push_mark.new.marks.items c.loop-k.k c.read_mark.result
+    answered_more (λ k. mark_at c.args.file.now (strings_of c.args.file.now c.args.s.now) (symbol_at c.args.s.now k)) c.args.marks.now.items c.loop-k.marks.items c.push_mark.new.marks.items c.loop-k.k c.read_mark.result
     c.loop-k.invariant c.in_ok-push_mark.ensures (c.read_mark.ensures ∙ ap (λ t. mark_at c.args.file.now t (symbol_at c.args.s.now c.loop-k.k)) c.read_section-strings.ensures)
