@@ -1,5 +1,5 @@
 //! The loads of a file, with all checks on its headers.
-ghost use Rattle.std.specs.Prelude.{◌≡◌, ◌≢◌, ◌%◌, ◌<◌, ◌==◌, ◌&&◌, not, None, Some, IfOk, IfErr};
+ghost use Rattle.std.specs.Prelude.{◌≡◌, ◌≢◌, ◌%◌, ◌<◌, ◌≤◌, length, ◌==◌, ◌&&◌, not, None, Some, IfOk, IfErr};
 ghost use Rattle.std.specs.List.{list_any};
 ghost use Rattle.elf_headers.specs.Fault.{Tells, fault_when};
 ghost use Rattle.elf_headers.specs.Header.{segment_count, HasTable};
@@ -64,6 +64,7 @@ pub fn read_headers(alloc: Global, file: &[u8]) -> Result<Vec<ProgramHeader>, Lo
     ensures accepted { IfOk result (λ loads. headers_fault file.now ≡ None) }
     ensures loads { IfOk result (λ loads. loads.items ≡ loads_of file.now) }
     ensures sound { IfOk result (λ loads. AreSound file.now loads.items) }
+    ensures header { IfOk result (λ loads. 64 ≤ length file.now) }
     ensures refused { IfErr result (λ fault. fault ≢ LoadFault.Memory → headers_fault file.now ≡ Some fault) }
 {
     check_length(file)?;

@@ -1,3 +1,3 @@
 mod FirstUnlisted
 mod Extents
-mod Placed
+mod Checks

@@ -4,7 +4,9 @@
 //! of instructions, and the image is made.
 #![tactic(auto)]
 
+mod loader;
 mod parts;
 mod words;
 
 pub use elf_headers::LoadFault;
+pub use loader::load;

@@ -34,7 +34,11 @@ fn part_of<'a>(file: &'a [u8], load: &ProgramHeader) -> Part<'a>
 }
 
 /// The parts of loads.
-fn parts_of<'a>(alloc: Global, file: &'a [u8], loads: &[ProgramHeader]) -> Result<Vec<Part<'a>>, LoadFault>
+fn parts_of<'a>(
+    alloc: Global,
+    file: &'a [u8],
+    loads: &[ProgramHeader],
+) -> Result<Vec<Part<'a>>, LoadFault>
     requires { All (IsSound (length file.now)) loads.now }
     ensures ok { IfOk result (λ parts. map extent_of parts.items ≡ map (extent_of_load file.now) loads.now) }
     ensures err { IfErr result (λ fault. fault ≡ LoadFault.Memory) }

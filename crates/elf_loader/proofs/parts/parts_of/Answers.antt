@@ -1,4 +1,4 @@
-use Rattle.std.proofs.Common.{◌≡◌, refl, sym, ap, ◌∙◌, map, arith}
+use Rattle.std.proofs.Common.{ap, ◌∙◌, map, arith}
 use Rattle.paged_memory.specs.Image.{extent_of}
 use Rattle.elf_loader.proofs.Extents.{parts_more, parts_all}
 use Rattle.elf_loader.proofs.parts.parts_of.Goals as goal
