@@ -9,7 +9,6 @@ use Rattle.paged_memory.specs.Memory.{or_else}
 use Rattle.paged_memory.specs.Image.{Extent, part_byte, parts_byte}
 use Rattle.paged_memory.specs.Parts.{touched_below, AreApart, IsPlaced, ArePlaced}
 use Rattle.paged_memory.proofs.Count.{placed_by_ends}
-use Rattle.elf_headers.specs.declared.fault.LoadFault.{LoadFault}
 use Rattle.elf_headers.specs.declared.fault.LoadFault.TheVariants.{Overlap, TooManyPages}
 use Rattle.elf_headers.specs.declared.header.ProgramHeader.{ProgramHeader}
 use Rattle.elf_headers.specs.Below.{first_below, answers, answers_below}
@@ -18,7 +17,8 @@ use Rattle.elf_headers.specs.Header.{segment_count}
 use Rattle.elf_headers.specs.Segments.{segment_of, is_load, segments_fault}
 use Rattle.elf_headers.specs.Loads.{load_of, loads_of, extent_of_load, extents_of, share, overlap_at, overlap_fault, pages_fault, IsSound, AreSound}
 use Rattle.elf_headers.proofs.Below.{first_below-each_none, All-answers_below}
-use Rattle.elf_headers.proofs.Sound.{passed_last, loads_sound}
+use Rattle.elf_headers.proofs.Sound.{loads_sound}
+use Rattle.elf_headers.proofs.Checks.{passed_last}
 
 -- ---- a part more at the end
 

@@ -1,4 +1,5 @@
 pub mod Below
+pub mod Checks
 pub mod Sound
 pub mod Apart
 pub mod Counting

@@ -1,34 +1,16 @@
 -- What the checks on each program header give of the loads.
-use Rattle.std.proofs.Common.{◌⊎◌, ◌≡◌, ℕ, ◌+◌, ◌-◌, ◌^◌, ◌<◌, ◌≤◌, Bool, true, false, cond, List, length, Option, Some, None, IfSome, refl, arith, All}
+use Rattle.std.proofs.Common.{◌⊎◌, ◌≡◌, ℕ, ◌+◌, ◌-◌, ◌^◌, ◌<◌, ◌≤◌, Bool, true, false, cond, List, length, Some, None, IfSome, refl, arith, All}
 use Rattle.std.specs.Prelude.{◌&&◌, ◌||◌, nat_lt}
 use Rattle.std.proofs.lemmas.Bool.Decides.{nat_tests}
-use Rattle.paged_memory.specs.Memory.{or_else}
-use Rattle.elf_headers.specs.declared.fault.LoadFault.{LoadFault}
 use Rattle.elf_headers.specs.declared.fault.LoadFault.TheVariants.{Truncated, NotStatic, BadTable, InShared}
 use Rattle.elf_headers.specs.declared.header.ProgramHeader.{ProgramHeader}
-use Rattle.elf_headers.specs.Fault.{fault_when, fault_only}
 use Rattle.elf_headers.specs.Header.{segment_count}
 use Rattle.elf_headers.specs.Segments.{segment_at, segment_of, is_load, is_dynamic, is_in_shared, load_fault_of, segment_fault, segments_fault}
 use Rattle.elf_headers.specs.declared.spans.Span.{Span}
 use Rattle.elf_headers.specs.Loads.{load_of, loads_of, IsSound}
 use Rattle.elf_headers.specs.Spans.{span_at, spans_of, IsLow}
+use Rattle.elf_headers.proofs.Checks.{passed, passed_only}
 use Rattle.elf_headers.proofs.Below.{first_below-each_none, All-answers_below}
-
--- ---- a list of checks, none of which fails
-
--- a check that is passed, and those after it
-pub passed : (test : Bool) (fault : LoadFault) (rest : Option LoadFault) → or_else (fault_when test fault) rest ≡ None → (test ≡ false) × (rest ≡ None)
-passed true fault rest h = cc
-passed false fault rest h = (refl, h)
-
-pub passed_last : (test : Bool) (fault : LoadFault) → fault_when test fault ≡ None → test ≡ false
-passed_last true fault h = cc
-passed_last false fault h = refl
-
-pub passed_only : (test : Bool) (check : Option LoadFault) → test ≡ true → or_else (fault_only test check) None ≡ None → check ≡ None
-passed_only true None t h = refl
-passed_only true (Some fault) t h = cc
-passed_only false check t h = cc
 
 -- ---- one load
 
