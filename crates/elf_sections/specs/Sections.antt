@@ -30,9 +30,10 @@ section_table_fault file = first_fault (
     ∷ fault_when (nat_lt (length file) (table_end (sections_at file) 64 (section_count file))) (Truncated (length file))
     ∷ [])
 
--- the table of section headers lies in the file
-abbrev pub HasSectionTable : List ℕ → Type 0
-HasSectionTable file = table_end (sections_at file) 64 (section_count file) ≤ length file
+-- the header and the table of section headers are in the file
+pub record HasSectionTable (file : List ℕ) : Type 0 where
+  pub header : 64 ≤ length file
+  pub table : table_end (sections_at file) 64 (section_count file) ≤ length file
 
 -- the place of section header number i
 abbrev pub section_at : List ℕ → ℕ → ℕ

@@ -8,9 +8,9 @@ ghost use Rattle.elf_sections.specs.Sections.{section_count, section_fault, is_a
 ghost use Rattle.elf_sections.specs.Cover.{IsCover};
 
 use crate::cover::Cover;
-use crate::section::{SectionHeader, has_code, place_of_section, read_section, repeats_table};
+use crate::section::{SectionHeader, count_sections, read_section, repeats_table, section_place};
 use crate::symbols::is_good_symbol_table;
-use elf_headers::{LoadFault, u16_at};
+use elf_headers::LoadFault;
 
 /// Tells whether each address of the section is in a load.
 fn is_loaded(file: &[u8], cover: &Cover, s: &SectionHeader) -> bool
@@ -35,24 +35,23 @@ fn check_section(file: &[u8], cover: &Cover, i: u32) -> Result<(), LoadFault>
         return Ok(());
     }
     let s = read_section(file, i);
-    if s.kind == 2 && !is_good_symbol_table(file, &s) {
-        return Err(LoadFault::BadTable(place_of_section(file, i)));
+    if s.is_symbol_table() && !is_good_symbol_table(file, &s) {
+        return Err(LoadFault::BadTable(section_place(file, i)));
     }
-    if has_code(&s) && !is_loaded(file, cover, &s) {
-        return Err(LoadFault::BadTable(place_of_section(file, i)));
+    if s.is_code() && !is_loaded(file, cover, &s) {
+        return Err(LoadFault::BadTable(section_place(file, i)));
     }
     Ok(())
 }
 
 /// Checks each section in order.
 pub fn check_sections(file: &[u8], cover: &Cover) -> Result<(), LoadFault>
-    requires header { 64 ≤ length file.now }
     requires table { HasSectionTable file.now }
     requires cover { IsCover cover.now }
     requires same { IsPermutation (loads_of file.now) cover.now.loads.items }
     ensures { Tells result (first_below (section_fault file.now) (section_count file.now)) }
 {
-    for i in 0..u32::from(u16_at(file, 60)) {
+    for i in 0..count_sections(file) {
         check_section(file, cover, i)?;
     }
     Ok(())

@@ -12,14 +12,13 @@ use crate::checks::check_sections;
 use crate::cover::Cover;
 use crate::intervals::{Span, gather_spans};
 use crate::marks::{gather_marks, sort_marks};
-use crate::section::check_section_table;
+use crate::section::{check_section_table, has_section_table};
 use crate::words::{near_load, word_at};
-use elf_headers::{LoadFault, ProgramHeader, u64_at};
+use elf_headers::{LoadFault, ProgramHeader};
 use std::alloc::{AllocError, Global};
 
 /// The spans of the words that sections make code, in order of their first words.
 fn sort_spans(alloc: Global, file: &[u8]) -> Result<Vec<Span>, AllocError>
-    requires header { 64 ≤ length file.now }
     requires table { HasSectionTable file.now }
     requires checked { first_below (section_fault file.now) (section_count file.now) ≡ None }
     requires loads { AreLoads (loads_of file.now) }
@@ -85,7 +84,6 @@ fn code_of(
     file: &[u8],
     loads: &[ProgramHeader],
 ) -> Result<Vec<(u64, u32)>, AllocError>
-    requires header { 64 ≤ length file.now }
     requires table { HasSectionTable file.now }
     requires checked { first_below (section_fault file.now) (section_count file.now) ≡ None }
     requires loads { AreLoadsOf file.now loads.now }
@@ -109,7 +107,7 @@ pub fn read_code(
     ensures code { IfOk result (λ code. code.items ≡ code_words file.now) }
     ensures refused { IfErr result (λ fault. fault ≢ LoadFault.Memory → sections_fault file.now ≡ Some fault) }
 {
-    if u64_at(file, 40) == 0 {
+    if !has_section_table(file) {
         return Ok(Vec::new(alloc));
     }
     check_section_table(file)?;

@@ -11,8 +11,7 @@ ghost use Rattle.elf_sections.specs.Code.{has_word, is_code_in, is_code_word};
 ghost use Rattle.elf_sections.specs.Intervals.{has_number, is_spanned, AreSpans};
 
 use crate::marks::Mark;
-use crate::section::{SectionHeader, has_code, read_section};
-use elf_headers::u16_at;
+use crate::section::{SectionHeader, count_sections, read_section};
 use std::alloc::{AllocError, Global};
 
 /// The words from number `start` on up to number `end`; word number `n` stands at address `4 * n`.
@@ -102,7 +101,7 @@ fn add_section(file: &[u8], i: u32, marks: &[Mark], spans: &mut Vec<Span>) -> Re
     ensures low { OnOk result (AreSpans spans.new.items) }
 {
     let s = read_section(file, i);
-    if !has_code(&s) || s.size == 0 {
+    if !s.is_code() || s.size == 0 {
         return Ok(());
     }
     add_code(words_of(&s), i, marks_of_section(marks, i), spans)
@@ -110,7 +109,6 @@ fn add_section(file: &[u8], i: u32, marks: &[Mark], spans: &mut Vec<Span>) -> Re
 
 /// The words that sections make code.
 pub fn gather_spans(alloc: Global, file: &[u8], marks: &[Mark]) -> Result<Vec<Span>, AllocError>
-    requires header { 64 ≤ length file.now }
     requires table { HasSectionTable file.now }
     requires checked { first_below (section_fault file.now) (section_count file.now) ≡ None }
     requires loads { AreLoads (loads_of file.now) }
@@ -120,7 +118,7 @@ pub fn gather_spans(alloc: Global, file: &[u8], marks: &[Mark]) -> Result<Vec<Sp
     ensures low { IfOk result (λ spans. AreSpans spans.items) }
 {
     let mut spans = Vec::new(alloc);
-    for i in 0..u32::from(u16_at(file, 60)) {
+    for i in 0..count_sections(file) {
         add_section(file, i, marks, &mut spans)?;
     }
     Ok(spans)

@@ -5,7 +5,8 @@ ghost use Rattle.elf_headers.specs.Header.{number_at};
 ghost use Rattle.elf_sections.specs.Sections.{section_count, section_fault, is_in_file, ends_inside, is_good_table, HasSectionTable};
 ghost use Rattle.elf_sections.specs.Marks.{is_mapping_name, mark_at, table_marks, marks_below, marks_of, AreMarksInOrder, SayTheSame, HasEnd};
 
-use crate::section::{SectionHeader, read_section, repeats_table};
+use crate::section::{SectionHeader, count_sections, read_section, repeats_table};
+use crate::symbols::SYMBOL_SIZE;
 use elf_headers::{u8_at, u16_at, u32_at, u64_at};
 use std::alloc::{AllocError, Global};
 
@@ -76,9 +77,9 @@ fn add_marks(file: &[u8], s: &SectionHeader, marks: &mut Vec<Mark>) -> Result<()
     ensures { OnOk result (marks.new.items ≡ marks.old.items ++ table_marks file.now s.now) }
 {
     let strings = read_section(file, s.link);
-    for k in 0..s.size / 24 {
+    for k in 0..s.size / SYMBOL_SIZE {
         push_mark(
-            read_mark(file, &strings, (s.offset + 24 * k) as usize),
+            read_mark(file, &strings, (s.offset + SYMBOL_SIZE * k) as usize),
             marks,
         )?;
     }
@@ -94,7 +95,7 @@ fn add_section(file: &[u8], i: u32, marks: &mut Vec<Mark>) -> Result<(), AllocEr
     ensures { OnOk result (SayTheSame marks.new.items (marks_below file.now (i + 1))) }
 {
     let s = read_section(file, i);
-    if s.kind != 2 || repeats_table(file, i) {
+    if !s.is_symbol_table() || repeats_table(file, i) {
         return Ok(());
     }
     add_marks(file, &s, marks)
@@ -102,13 +103,12 @@ fn add_section(file: &[u8], i: u32, marks: &mut Vec<Mark>) -> Result<(), AllocEr
 
 /// The marks of all symbol tables, in the order of the tables; of equal tables in a row the first alone is read.
 pub fn gather_marks(alloc: Global, file: &[u8]) -> Result<Vec<Mark>, AllocError>
-    requires header { 64 ≤ length file.now }
     requires table { HasSectionTable file.now }
     requires checked { first_below (section_fault file.now) (section_count file.now) ≡ None }
     ensures { IfOk result (λ marks. SayTheSame marks.items (marks_of file.now)) }
 {
     let mut marks = Vec::new(alloc);
-    for i in 0..u32::from(u16_at(file, 60)) {
+    for i in 0..count_sections(file) {
         add_section(file, i, &mut marks)?;
     }
     Ok(marks)

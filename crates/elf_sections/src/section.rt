@@ -1,9 +1,24 @@
 //! The section table, its headers, and the checks on it and on each section.
 ghost use Rattle.std.specs.Prelude.{◌≡◌, ◌+◌, ◌*◌, ◌≤◌, ◌<◌, length, OnOk, true};
 ghost use Rattle.elf_headers.specs.Fault.{Tells};
-ghost use Rattle.elf_sections.specs.Sections.{section_header, section_of, section_at, section_count, sections_at, section_table_fault, is_code_section, HasSectionTable, Repeats};
+ghost use Rattle.elf_sections.specs.Sections.{section_header, section_of, section_at, section_count, sections_at, section_table_fault, is_symbol_table, is_code_section, has_sections, HasSectionTable, Repeats};
 
 use elf_headers::{LoadFault, u16_at, u32_at, u64_at};
+
+/// The place of the section headers, in the file's header.
+const E_SHOFF: usize = 40;
+/// The size of a section header, in the file's header.
+const E_SHENTSIZE: usize = 58;
+/// The number of section headers, in the file's header.
+const E_SHNUM: usize = 60;
+/// The size of a section header.
+const ENTRY_SIZE: u16 = 64;
+/// The type of a section whose bytes are the program's own.
+const SHT_PROGBITS: u32 = 1;
+/// The type of a symbol table.
+const SHT_SYMTAB: u32 = 2;
+/// The flag of a section with code.
+const SHF_EXECINSTR: u64 = 4;
 
 /// A section header of the file.
 #[derive(Clone, Copy, Debug)]
@@ -22,9 +37,51 @@ pub struct SectionHeader {
     pub entry_size: u64,
 }
 
+impl SectionHeader {
+    /// Tells whether the section is a symbol table.
+    pub fn is_symbol_table(&self) -> bool
+        ensures { result ≡ is_symbol_table self.now }
+    {
+        self.kind == SHT_SYMTAB
+    }
+
+    /// Tells whether the section has code.
+    pub fn is_code(&self) -> bool
+        ensures { result ≡ is_code_section self.now }
+    {
+        self.kind == SHT_PROGBITS && self.flags / SHF_EXECINSTR % 2 == 1
+    }
+}
+
+/// Tells whether the file has a section table.
+pub fn has_section_table(file: &[u8]) -> bool
+    requires { 64 ≤ length file.now }
+    ensures { result ≡ has_sections file.now }
+{
+    u64_at(file, E_SHOFF) != 0
+}
+
+/// How many section headers the file has.
+pub fn count_sections(file: &[u8]) -> u32
+    requires { HasSectionTable file.now }
+    ensures { result ≡ section_count file.now }
+{
+    u32::from(u16_at(file, E_SHNUM))
+}
+
+/// The place of a section header in the file.
+pub fn section_place(file: &[u8], i: u32) -> u64
+    requires table { HasSectionTable file.now }
+    requires number { i < section_count file.now }
+    ensures place { result ≡ section_at file.now i }
+    ensures inside { result + 64 ≤ length file.now }
+{
+    u64_at(file, E_SHOFF) + 64 * u64::from(i)
+}
+
 /// The section header at a place of the file.
 #[tactic(auto, unfolding(crate::specs::Sections::section_header))]
-pub fn read_section_header(file: &[u8], at: usize) -> SectionHeader
+fn section_header_at(file: &[u8], at: usize) -> SectionHeader
     requires { at + 64 ≤ length file.now }
     ensures { result ≡ section_header file.now at }
 {
@@ -39,23 +96,13 @@ pub fn read_section_header(file: &[u8], at: usize) -> SectionHeader
     }
 }
 
-/// The place of section header number `i`.
-pub fn place_of_section(file: &[u8], i: u32) -> u64
-    requires table { HasSectionTable file.now }
-    requires number { i < section_count file.now }
-    ensures value { result ≡ section_at file.now i }
-    ensures inside { result + 64 ≤ length file.now }
-{
-    u64_at(file, 40) + 64 * u64::from(i)
-}
-
-/// Section header number `i`.
+/// A section header of the file.
 pub fn read_section(file: &[u8], i: u32) -> SectionHeader
     requires table { HasSectionTable file.now }
     requires number { i < section_count file.now }
     ensures { result ≡ section_of file.now i }
 {
-    read_section_header(file, place_of_section(file, i) as usize)
+    section_header_at(file, section_place(file, i) as usize)
 }
 
 /// Tells whether section number `i` is a symbol table and the section before it is the same one.
@@ -69,19 +116,12 @@ pub fn repeats_table(file: &[u8], i: u32) -> bool
     }
     let s = read_section(file, i);
     let before = read_section(file, i - 1);
-    s.kind == 2
-        && before.kind == 2
+    s.is_symbol_table()
+        && before.is_symbol_table()
         && s.offset == before.offset
         && s.size == before.size
         && s.link == before.link
         && s.entry_size == before.entry_size
-}
-
-/// Tells whether the section has code.
-pub fn has_code(s: &SectionHeader) -> bool
-    ensures { result ≡ is_code_section s.now }
-{
-    s.kind == 1 && s.flags / 4 % 2 == 1
 }
 
 /// Checks the section table.
@@ -91,18 +131,16 @@ pub fn check_section_table(file: &[u8]) -> Result<(), LoadFault>
     ensures tells { Tells result (section_table_fault file.now) }
     ensures inside { OnOk result (HasSectionTable file.now) }
 {
-    let at = u64_at(file, 40);
-    let count = u16_at(file, 60);
-    if u16_at(file, 58) != 64 || count == 0 {
+    let at = u64_at(file, E_SHOFF);
+    let count = u16_at(file, E_SHNUM);
+    if u16_at(file, E_SHENTSIZE) != ENTRY_SIZE || count == 0 {
         return Err(LoadFault::BadTable(at));
     }
-    match at.checked_add(64 * u64::from(count)) {
-        None => Err(LoadFault::BadTable(at)),
-        Some(end) => {
-            if end > file.len() as u64 {
-                return Err(LoadFault::Truncated(file.len() as u64));
-            }
-            Ok(())
-        }
+    let Some(end) = at.checked_add(u64::from(ENTRY_SIZE) * u64::from(count)) else {
+        return Err(LoadFault::BadTable(at));
+    };
+    if end > file.len() as u64 {
+        return Err(LoadFault::Truncated(file.len() as u64));
     }
+    Ok(())
 }

@@ -2,8 +2,11 @@
 ghost use Rattle.std.specs.Prelude.{◌≡◌, ◌+◌, ◌*◌, ◌/◌, ◌≤◌, ◌<◌, ◌-◌, ℕ, length, true, nat_lt, ◌&&◌};
 ghost use Rattle.elf_sections.specs.Sections.{is_in_file, ends_inside, has_names, is_good_table, strings_of, section_count, HasSectionTable};
 
-use crate::section::{SectionHeader, read_section};
-use elf_headers::{u8_at, u16_at, u32_at};
+use crate::section::{SectionHeader, count_sections, read_section};
+use elf_headers::{u8_at, u32_at};
+
+/// The size of a symbol.
+pub const SYMBOL_SIZE: u64 = 24;
 
 /// Tells whether the section's bytes are in the file.
 pub fn lies_in_file(file: &[u8], s: &SectionHeader) -> bool
@@ -37,8 +40,8 @@ fn names_end_inside(file: &[u8], s: &SectionHeader, strings: &SectionHeader) -> 
     ensures { result ≡ has_names file.now s.now }
 {
     let end = names_end(file, strings);
-    for k in 0..s.size / 24 {
-        let name = u32_at(file, (s.offset + 24 * k) as usize);
+    for k in 0..s.size / SYMBOL_SIZE {
+        let name = u32_at(file, (s.offset + SYMBOL_SIZE * k) as usize);
         if u64::from(name) >= end {
             return false;
         }
@@ -60,12 +63,11 @@ fn has_good_strings(file: &[u8], s: &SectionHeader) -> bool
 /// Tells whether the symbol table passes its checks.
 #[tactic(auto, unfolding(crate::specs::Sections::is_good_table))]
 pub fn is_good_symbol_table(file: &[u8], s: &SectionHeader) -> bool
-    requires header { 64 ≤ length file.now }
     requires table { HasSectionTable file.now }
     ensures { result ≡ is_good_table file.now s.now }
 {
-    s.entry_size == 24
-        && s.link < u32::from(u16_at(file, 60))
+    s.entry_size == SYMBOL_SIZE
+        && s.link < count_sections(file)
         && lies_in_file(file, s)
         && has_good_strings(file, s)
 }

@@ -15,7 +15,7 @@ loop-i-init c = record {
 }
 
 pub add_section-requires-clause-checked : goal.add_section-requires-clause-checked
-add_section-requires-clause-checked c = first_below-each_none (section_fault c.args.file.now) (section_count c.args.file.now) c.requires.checked c.loop-i.i (omega (arith, c.u16_at.ensures, c.from-i-end.ensures))
+add_section-requires-clause-checked c = first_below-each_none (section_fault c.args.file.now) (section_count c.args.file.now) c.requires.checked c.loop-i.i (omega (arith, c.count_sections-i-end.ensures))
 
 pub loop-i-preserved : goal.loop-i-preserved
 loop-i-preserved c = record {
@@ -26,5 +26,5 @@ loop-i-preserved c = record {
 pub returns-clause-words : goal.returns-clause-words
 unfolding is_code_word
 returns-clause-words c =
-    let all : c.loop-i.i ≡ section_count c.args.file.now = omega (arith, c.u16_at.ensures, c.from-i-end.ensures) in
+    let all : c.loop-i.i ≡ section_count c.args.file.now = omega (arith, c.count_sections-i-end.ensures) in
     λ n. c.loop-i.invariant.words n ∙ ap (any_below (is_code_in c.args.file.now (4 * n))) all
