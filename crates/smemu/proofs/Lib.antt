@@ -1,3 +1,4 @@
 pub mod Whole
 pub mod Outcomes
+pub mod Due
 pub mod Texts

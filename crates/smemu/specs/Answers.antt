@@ -2,13 +2,14 @@
 use Rattle.std.specs.Prelude.{◌≡◌, ℕ, ◌∷◌, [], List, Option, Some, None, IfSome, Result, Ok, Err, codes}
 use Rattle.std.specs.List.{concat}
 use Rattle.sha2.specs.Sha256.{sha256}
-use Rattle.sm_types.specs.Options.{AreDefaults}
 use Rattle.sm_types.specs.declared.config.Config.{Config}
 use Rattle.sm_types.specs.declared.stop.Stop.{Stop}
 use Rattle.edge_io.specs.Cause.{Rose}
 use Rattle.edge_io.specs.Sink.{Writes}
 use Rattle.edge_io.specs.declared.sink.PutFault.{PutFault}
 use Rattle.edge_io.specs.declared.sink.PutFault.TheVariants.{Failed}
+use Rattle.cmd_words.specs.Options.{Options, options_of}
+use Rattle.cmd_words.specs.Words.{Fault, Request, AsksRun, AsksHelp, AsksVersion, usage_fault, command_of}
 use Rattle.paged_memory.specs.Image.{Program}
 use Rattle.elf_loader.specs.Loading.{Loads, Refuses}
 use Rattle.elf_loader.specs.declared.fault.LoadFault.{LoadFault}
@@ -17,7 +18,7 @@ use Rattle.kernel_contexts.specs.State.{State}
 use Rattle.lone_runner.specs.LoneRun.{IsLoneRun}
 use Rattle.report_text.specs.Lines.{hex64, hex32}
 use Rattle.report_text.specs.Report.{report_text, zero_words}
-use Rattle.smemu.specs.Words.{run_name}
+use Rattle.smemu.specs.Texts.{usage_line, help_text, version_text}
 use Rattle.smemu.specs.declared.status.Status.{Status}
 use Rattle.smemu.specs.declared.status.Status.TheVariants.{Done, Usage, Absent, ReadFault, WriteFault, BadFile, OutOfMemory}
 
@@ -35,16 +36,22 @@ pub record EndsAs (file : List ℕ) (config : Config) (state : State) (stop : St
   pub loads : Loads file program
   pub run : IsLoneRun program config 0 [] state stop
 
--- the text is the report of the run of the file of that name
-pub record IsReport (told : Told) (name text : List ℕ) : Type 0 where
+-- the text is the report of the run of the file of that name with these options
+pub record IsReport (told : Told) (name : List ℕ) (options : Options) (text : List ℕ) : Type 0 where
   pub file : List ℕ
   pub config : Config
   pub state : State
   pub stop : Stop
   pub is_file : IsFile told name file
-  pub defaults : AreDefaults config
+  pub given : options_of config ≡ options
   pub ends : EndsAs file config state stop
   pub is_text : text ≡ report_text config (sha256 file) (record { thread = 0; state = state; stop = stop; journal = [] } ∷ []) zero_words
+
+-- the text is what the words ask for
+abbrev pub IsAnswer : Told → Request → List ℕ → Type 0
+IsAnswer told (AsksRun name options) text = IsReport told name options text
+IsAnswer told AsksHelp text = text ≡ help_text
+IsAnswer told AsksVersion text = text ≡ version_text
 
 -- why a file is refused, with the values of the fault
 abbrev pub fault_words : LoadFault → List ℕ
@@ -74,24 +81,32 @@ module _ {F : Type 0} (told : F → Told) (absences faults : F → ℕ) (is_reli
     pub unreliable : is_reliable old → ⊥
     pub is_text : text ≡ concat (codes "read fault: " ∷ name ∷ codes "\n" ∷ [])
 
-  -- the text goes with the name of a command
-  pub record OfName (Text : List ℕ → List ℕ → Type 0) (text : List ℕ) : Type 0 where
+  -- the text is what the words ask for
+  pub record IsAnswered (text : List ℕ) : Type 0 where
+    pub request : Request
+    pub asked : command_of words ≡ Some request
+    pub is_text : IsAnswer (told old) request text
+
+  -- the text goes with the name of the program that the words ask to run
+  pub record OfRun (Text : List ℕ → List ℕ → Type 0) (text : List ℕ) : Type 0 where
     pub name : List ℕ
-    pub is_run : run_name words ≡ Some name
+    pub options : Options
+    pub asked : command_of words ≡ Some (AsksRun name options)
     pub is_text : Text name text
 
-  -- the words are none of a command
+  -- the text is the line of the first fault of the words
   pub record IsUsage (text : List ℕ) : Type 0 where
-    pub no_command : run_name words ≡ None
-    pub is_text : text ≡ codes "usage: not built\n"
+    pub fault : Fault
+    pub is_fault : usage_fault words ≡ Some fault
+    pub is_text : text ≡ usage_line fault
 
   -- the text that goes with a status, and its cause
   abbrev pub Defined : Status → List ℕ → Type 0
-  Defined Done text = OfName (IsReport (told old)) text
+  Defined Done text = IsAnswered text
   Defined Usage text = IsUsage text
-  Defined Absent text = OfName IsAbsence text
-  Defined ReadFault text = OfName IsReadFault text
-  Defined BadFile text = OfName (IsRefusal (told old)) text
+  Defined Absent text = OfRun IsAbsence text
+  Defined ReadFault text = OfRun IsReadFault text
+  Defined BadFile text = OfRun (IsRefusal (told old)) text
   Defined OutOfMemory text = text ≡ []
   Defined WriteFault text = ⊥
 
@@ -109,9 +124,9 @@ module _ {F K : Type 0} (told : F → Told) (absences faults : F → ℕ) (is_re
     pub status : Status
     pub wrote : Wrote held put_faults takes before after (Defined told absences faults is_reliable words old new status) (Err Failed)
 
-  -- Done: the report was written
+  -- Done: what the words ask for was written
   abbrev pub IsDone : Status → Type 0
-  IsDone Done = Wrote held put_faults takes before after (OfName told absences faults is_reliable words old new (IsReport (told old))) (Ok tt)
+  IsDone Done = Wrote held put_faults takes before after (Defined told absences faults is_reliable words old new Done) (Ok tt)
   IsDone other = Unit {0}
 
   -- every other status: its line was written, for its cause
@@ -120,10 +135,20 @@ module _ {F K : Type 0} (told : F → Told) (absences faults : F → ℕ) (is_re
   IsRefused WriteFault = IsCutShort
   IsRefused other = Wrote held put_faults takes before after (Defined told absences faults is_reliable words old new other) (Ok tt)
 
+-- what the words ask for can be written: a program's file is there, and is loaded
+abbrev pub IsReady : (List ℕ → Option (List ℕ)) → Request → Type 0
+IsReady files (AsksRun name options) = (file : List ℕ) × (files name ≡ Some file) × ((program : Program) × Loads file program)
+IsReady files AsksHelp = Unit {0}
+IsReady files AsksVersion = Unit {0}
+
+-- the words ask to run a program of that name
+abbrev pub AsksToRun : List (List ℕ) → List ℕ → Type 0
+AsksToRun words name = (options : Options) × (command_of words ≡ Some (AsksRun name options))
+
 -- the status that is due where the files are those, and neither they nor the sink fail
 abbrev pub IsDue : (List ℕ → Option (List ℕ)) → List (List ℕ) → Status → Type 0
-IsDue files words Usage = run_name words ≡ None
-IsDue files words Absent = (name : List ℕ) × (run_name words ≡ Some name) × (files name ≡ None)
-IsDue files words BadFile = (name : List ℕ) × (run_name words ≡ Some name) × ((file : List ℕ) × (files name ≡ Some file) × ((fault : LoadFault) × Refuses file fault))
-IsDue files words Done = (name : List ℕ) × (run_name words ≡ Some name) × ((file : List ℕ) × (files name ≡ Some file) × ((program : Program) × Loads file program))
+IsDue files words Usage = (fault : Fault) × (usage_fault words ≡ Some fault)
+IsDue files words Absent = (name : List ℕ) × AsksToRun words name × (files name ≡ None)
+IsDue files words BadFile = (name : List ℕ) × AsksToRun words name × ((file : List ℕ) × (files name ≡ Some file) × ((fault : LoadFault) × Refuses file fault))
+IsDue files words Done = (request : Request) × (command_of words ≡ Some request) × IsReady files request
 IsDue files words other = ⊥

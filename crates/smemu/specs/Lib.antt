@@ -1,4 +1,5 @@
-pub mod Words
 pub mod Status
+pub mod Texts
+pub mod FaultLines
 pub mod Answers
 pub mod Replies

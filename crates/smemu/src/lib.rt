@@ -1,11 +1,15 @@
-//! The emulator's command: `smemu_main` runs a program file and writes the report of its run.
+//! The emulator's command: `smemu_main` runs a program file with the options of the words and writes the report of
+//! its run.
 //!
-//! Its contract says, for every words, files and sink: with `Done` the report of the lone run of the program
-//! that the file stands for was written; every other status comes with its line, for its cause alone; and what
-//! is due is answered, where the outside does not fail and there is memory.
+//! Its contract says, for every words, files and sink: with `Done` what the words ask for was written, which is the
+//! report of the lone run of the program that the file stands for, or the text of help or of the version; every
+//! other status comes with its line, for its cause alone; and what is due is answered, where the outside does not
+//! fail and there is memory.
 #![tactic(auto)]
 
 mod command;
+mod fault_line;
+mod help;
 mod reply;
 mod status;
 

@@ -2,8 +2,11 @@
 ghost use Rattle.std.specs.Prelude.{◌≡◌};
 ghost use Rattle.edge_io.specs.Sink.{Writes};
 ghost use Rattle.smemu.specs.Replies.{fault_line, reply_text, status_of};
+ghost use Rattle.smemu.specs.Texts as text;
 
+use crate::help::{HELP, VERSION};
 use crate::status::Status;
+use cmd_words::UsageKind;
 use edge_io::{PutFault, Sink};
 use elf_loader::LoadFault;
 use kernel_contexts::Context;
@@ -18,14 +21,65 @@ pub enum Reply {
         stop: Stop,
         head: Head,
     },
-    Usage,
-    Absent,
-    ReadFault,
+    Help,
+    Version,
+    /// The first fault of the words.
+    Usage {
+        place: usize,
+        kind: UsageKind,
+    },
+    /// The name of the file that is not there.
+    Absent(String),
+    /// The name of the file that could not be read.
+    ReadFault(String),
     BadFile(LoadFault),
     Memory,
 }
 
-/// Writes the line of a fault.
+/// What is wrong with a word.
+fn kind_word(kind: UsageKind) -> &'static [u8]
+    ensures { result.now ≡ text.kind_word kind }
+{
+    match kind {
+        UsageKind::Unknown => b"unknown",
+        UsageKind::Missing => b"missing",
+        UsageKind::Repeated => b"repeated",
+        UsageKind::BadNumber => b"badnumber",
+        UsageKind::OutOfRange => b"outofrange",
+        UsageKind::Extra => b"extra",
+    }
+}
+
+/// Writes the line of a fault of the words.
+#[tactic(auto, unfolding(crate::specs::Texts::usage_line))]
+fn write_usage<K: Sink>(out: &mut K, place: usize, kind: UsageKind) -> Result<(), PutFault>
+    ensures { Writes K.told K.faults K.takes out.old out.new result (text.usage_line (record { place = place; kind = kind })) }
+{
+    let mut buffer = itoa::Buffer::new();
+    let place_digits = buffer.format(place).as_bytes();
+    put_all(
+        out,
+        &[b"usage: word ", place_digits, b": ", kind_word(kind), b"\n"],
+    )
+}
+
+/// Writes the text of help.
+#[tactic(auto, unfolding(crate::specs::Texts::help_text))]
+fn write_help<K: Sink>(out: &mut K) -> Result<(), PutFault>
+    ensures { Writes K.told K.faults K.takes out.old out.new result text.help_text }
+{
+    out.put(HELP)
+}
+
+/// Writes the line of the version.
+#[tactic(auto, unfolding(crate::specs::Texts::version_text))]
+fn write_version<K: Sink>(out: &mut K) -> Result<(), PutFault>
+    ensures { Writes K.told K.faults K.takes out.old out.new result text.version_text }
+{
+    out.put(VERSION)
+}
+
+/// Writes the line of a fault of the file.
 #[tactic(auto, unfolding(crate::specs::Replies::fault_line))]
 fn write_fault<K: Sink>(out: &mut K, fault: LoadFault) -> Result<(), PutFault>
     ensures { Writes K.told K.faults K.takes out.old out.new result (fault_line fault) }
@@ -46,10 +100,10 @@ fn write_fault<K: Sink>(out: &mut K, fault: LoadFault) -> Result<(), PutFault>
     }
 }
 
-/// Writes a reply; `name` is the file's.
+/// Writes a reply.
 #[tactic(auto, unfolding(crate::specs::Replies::reply_text))]
-pub fn write_reply<K: Sink>(out: &mut K, name: &[u8], reply: &Reply) -> Result<(), PutFault>
-    ensures { Writes K.told K.faults K.takes out.old out.new result (reply_text name.now reply.now) }
+pub fn write_reply<K: Sink>(out: &mut K, reply: &Reply) -> Result<(), PutFault>
+    ensures { Writes K.told K.faults K.takes out.old out.new result (reply_text reply.now) }
 {
     match reply {
         Reply::Report {
@@ -57,9 +111,11 @@ pub fn write_reply<K: Sink>(out: &mut K, name: &[u8], reply: &Reply) -> Result<(
             stop,
             head,
         } => write_report(context, *stop, head, out),
-        Reply::Usage => put_all(out, &[b"usage: not built\n"]),
-        Reply::Absent => put_all(out, &[b"absent: ", name, b"\n"]),
-        Reply::ReadFault => put_all(out, &[b"read fault: ", name, b"\n"]),
+        Reply::Help => write_help(out),
+        Reply::Version => write_version(out),
+        Reply::Usage { place, kind } => write_usage(out, *place, *kind),
+        Reply::Absent(name) => put_all(out, &[b"absent: ", name.as_bytes(), b"\n"]),
+        Reply::ReadFault(name) => put_all(out, &[b"read fault: ", name.as_bytes(), b"\n"]),
         Reply::BadFile(fault) => write_fault(out, *fault),
         Reply::Memory => put_all(out, &[]),
     }
@@ -70,14 +126,12 @@ pub fn reply_status(reply: &Reply) -> Status
     ensures { result ≡ status_of reply.now }
 {
     match reply {
-        Reply::Report {
-            context: _,
-            stop: _,
-            head: _,
-        } => Status::Done,
-        Reply::Usage => Status::Usage,
-        Reply::Absent => Status::Absent,
-        Reply::ReadFault => Status::ReadFault,
+        Reply::Report { .. } => Status::Done,
+        Reply::Help => Status::Done,
+        Reply::Version => Status::Done,
+        Reply::Usage { .. } => Status::Usage,
+        Reply::Absent(_) => Status::Absent,
+        Reply::ReadFault(_) => Status::ReadFault,
         Reply::BadFile(_) => Status::BadFile,
         Reply::Memory => Status::OutOfMemory,
     }

@@ -49,23 +49,107 @@ mod tests {
     }
 
     #[test]
-    fn other_words_are_no_command(rt: HostRuntime) -> Result<(), Fail> {
-        let cases: [&[&str]; 5] = [
-            &[],
-            &["run"],
-            &["walk", "answer"],
-            &["run", "answer", "answer"],
-            &["RUN", "answer"],
+    fn words_that_are_no_command(rt: HostRuntime) -> Result<(), Fail> {
+        let cases: [(&[&str], &str); 12] = [
+            (&[], "usage: word 0: missing\n"),
+            (&["walk", "answer"], "usage: word 0: unknown\n"),
+            (&["RUN", "answer"], "usage: word 0: unknown\n"),
+            (&["run"], "usage: word 1: missing\n"),
+            (&["run", "answer", "answer"], "usage: word 2: unknown\n"),
+            (&["run", "answer", "--vl"], "usage: word 3: missing\n"),
+            (
+                &["run", "answer", "--vl", "129"],
+                "usage: word 3: outofrange\n",
+            ),
+            (
+                &["run", "answer", "--budget", "07"],
+                "usage: word 3: badnumber\n",
+            ),
+            (
+                &["run", "answer", "--budget", "0"],
+                "usage: word 3: outofrange\n",
+            ),
+            (
+                &["run", "answer", "--vl", "128", "--vl", "128"],
+                "usage: word 4: repeated\n",
+            ),
+            (&["--help", "run"], "usage: word 1: extra\n"),
+            (&["--version", "--help"], "usage: word 1: extra\n"),
         ];
-        for texts in cases {
+        for (texts, line) in cases {
             let mut files = answer_file(rt.alloc())?;
             let mut out = MemSink::new(rt.alloc(), 1000)?;
             assert_eq!(rt;
                 status_of(rt.alloc(), texts, &mut files, &mut out)?.code(),
-                2
+                2,
+                "{line}"
             );
-            assert!(rt; out.bytes() == b"usage: not built\n".as_slice());
+            assert!(rt; out.bytes() == line.as_bytes(), "{line}");
         }
+        Ok(())
+    }
+
+    /// The status of the words, and what they write.
+    fn written(alloc: Global, texts: &[&str]) -> Result<(Status, MemSink), Fail> {
+        let mut files = answer_file(alloc)?;
+        let mut out = MemSink::new(alloc, 4000)?;
+        let status = status_of(alloc, texts, &mut files, &mut out)?;
+        Ok((status, out))
+    }
+
+    #[test]
+    fn a_run_has_the_options_of_its_words(rt: HostRuntime) -> Result<(), Fail> {
+        let cases: [(&[&str], &str, &str); 3] = [
+            (
+                &["run", "answer", "--budget", "1"],
+                "options vl=128 svl=256 slice=1000 budget=1 threads=1\n",
+                "\nstop budget\ncount 1\nturns 1\n",
+            ),
+            (
+                &["run", "answer", "--budget", "3"],
+                "options vl=128 svl=256 slice=1000 budget=3 threads=1\n",
+                "\nstop exited 42\ncount 3\nturns 3\n",
+            ),
+            (
+                &["run", "answer", "--svl", "2048", "--vl", "512"],
+                "options vl=512 svl=2048 slice=1000 budget=10000000 threads=1\n",
+                "\nstop exited 42\ncount 3\nturns 3\n",
+            ),
+        ];
+        for (texts, options, stop) in cases {
+            let (status, out) = written(rt.alloc(), texts)?;
+            assert_eq!(rt; status, Status::Done);
+            let report = std::str::from_utf8(out.bytes()).map_err(|_| "not text")?;
+            assert!(rt; report.starts_with("smemu-report 1\n"), "{report}");
+            assert!(rt; report.contains(options), "{report}");
+            assert!(rt; report.contains(stop), "{report}");
+        }
+        Ok(())
+    }
+
+    #[test]
+    fn help_and_version(rt: HostRuntime) -> Result<(), Fail> {
+        let (status, version) = written(rt.alloc(), &["--version"])?;
+        assert_eq!(rt; status.code(), 0);
+        assert!(rt; version.bytes() == b"smemu 0.1.0\n".as_slice());
+        let (status, out) = written(rt.alloc(), &["--help"])?;
+        assert_eq!(rt; status.code(), 0);
+        let help = std::str::from_utf8(out.bytes()).map_err(|_| "not text")?;
+        for part in [
+            "\n  run PROGRAM ",
+            "\n  --vl BITS ",
+            "\n  --svl BITS ",
+            "\n  --budget N ",
+            "\n  --help ",
+            "\n  --version ",
+            "usage: word P: KIND",
+            "absent: NAME",
+            "read fault: NAME",
+            "bad file: KIND VALUES",
+        ] {
+            assert!(rt; help.contains(part), "{part}");
+        }
+        assert!(rt; help.ends_with("\n"));
         Ok(())
     }
 
@@ -86,6 +170,25 @@ mod tests {
                 status
             );
             assert!(rt; out.bytes() == line.as_bytes());
+        }
+        Ok(())
+    }
+
+    #[test]
+    fn a_text_that_cannot_be_written_is_cut_short(rt: HostRuntime) -> Result<(), Fail> {
+        let cases: [(&[&str], &str); 3] = [
+            (&["--help"], "smemu "),
+            (&["--version"], "smemu "),
+            (&["run"], "usage: "),
+        ];
+        for (texts, front) in cases {
+            let mut files = answer_file(rt.alloc())?;
+            let mut out = MemSink::new(rt.alloc(), 6)?;
+            assert_eq!(rt;
+                status_of(rt.alloc(), texts, &mut files, &mut out)?.code(),
+                5
+            );
+            assert!(rt; front.as_bytes().starts_with(out.bytes()));
         }
         Ok(())
     }

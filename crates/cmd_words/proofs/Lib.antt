@@ -1,0 +1,5 @@
+pub mod Numbers
+pub mod Places
+pub mod Faults
+pub mod Reading
+pub mod Law

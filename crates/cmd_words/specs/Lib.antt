@@ -1,0 +1,5 @@
+pub mod Numbers
+pub mod Options
+pub mod Words
+pub mod Command
+pub mod Given

@@ -1,0 +1,40 @@
+//! What the words of a command line give.
+
+use sm_types::Config;
+
+/// A command with its names and numbers.
+#[derive(Drop)]
+pub enum Command {
+    /// Runs the program file of that name.
+    Run { program: String, config: Config },
+    /// Tells how the command is used.
+    Help,
+    /// Tells the version.
+    Version,
+}
+
+/// What is wrong with a word, or that it is not there.
+#[derive(Clone, Copy, Debug, PartialEq, Eq)]
+pub enum UsageKind {
+    /// It is no command, or no option.
+    Unknown,
+    /// The words end where one is to stand.
+    Missing,
+    /// The option has been given before.
+    Repeated,
+    /// It is not a number: decimal digits without a sign, and without a leading zero but in `0`.
+    BadNumber,
+    /// It is a number that the option does not take.
+    OutOfRange,
+    /// Nothing is to stand there.
+    Extra,
+}
+
+/// Why the words are no command, or want of memory.
+#[derive(Clone, Copy, Debug, PartialEq, Eq)]
+pub enum WordsFault {
+    /// The first place with a fault, counted from 0, and what is wrong there.
+    Usage { place: usize, kind: UsageKind },
+    /// There was no memory for a name.
+    Memory,
+}

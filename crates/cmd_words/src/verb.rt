@@ -1,0 +1,27 @@
+//! The commands' words.
+ghost use Rattle.std.specs.Prelude.{◌≡◌};
+ghost use Rattle.cmd_words.specs.Words as spec;
+
+/// A command, before its names and options.
+#[derive(Clone, Copy)]
+pub enum Verb {
+    Run,
+    Help,
+    Version,
+}
+
+/// The command of a word.
+#[tactic(auto, unfolding(crate::specs::Words::verb_of))]
+pub fn verb_of(word: &str) -> Option<Verb>
+    ensures { result ≡ spec.verb_of word.now }
+{
+    if word == "run" {
+        Some(Verb::Run)
+    } else if word == "--help" {
+        Some(Verb::Help)
+    } else if word == "--version" {
+        Some(Verb::Version)
+    } else {
+        None
+    }
+}

@@ -1,0 +1,28 @@
+-- The texts that do not depend on a program: the line of a fault of the words, the text of help, and the version.
+use Rattle.std.specs.Prelude.{ℕ, ◌∷◌, [], List, decimal, codes}
+use Rattle.std.specs.List.{concat}
+use Rattle.cmd_words.specs.Words.{Fault}
+use Rattle.cmd_words.specs.declared.command.UsageKind.{UsageKind}
+use Rattle.cmd_words.specs.declared.command.UsageKind.TheVariants.{Unknown, Missing, Repeated, BadNumber, OutOfRange, Extra}
+use Rattle.smemu.specs.declared.help.TheConstants.{HELP, VERSION}
+
+-- what is wrong with a word
+abbrev pub kind_word : UsageKind → List ℕ
+kind_word Unknown = codes "unknown"
+kind_word Missing = codes "missing"
+kind_word Repeated = codes "repeated"
+kind_word BadNumber = codes "badnumber"
+kind_word OutOfRange = codes "outofrange"
+kind_word Extra = codes "extra"
+
+-- the line of a fault of the words: its place and what is wrong there
+unfoldable pub usage_line : Fault → List ℕ
+usage_line fault = concat (codes "usage: word " ∷ decimal fault.place ∷ codes ": " ∷ kind_word fault.kind ∷ codes "\n" ∷ [])
+
+-- the text of help
+unfoldable pub help_text : List ℕ
+help_text = HELP.now
+
+-- the line of the version
+unfoldable pub version_text : List ℕ
+version_text = VERSION.now

@@ -1,0 +1,28 @@
+//! What the command says of itself.
+
+/// The commands, their options and the statuses.
+pub const HELP: &[u8] = b"\
+smemu runs AArch64 programs and reports what they did.
+
+commands:
+  run PROGRAM   runs the ELF64 file PROGRAM and writes the report of its run
+  --help        writes this text
+  --version     writes the version
+
+options of run, in any order after PROGRAM, each at most once:
+  --vl BITS     vector length outside streaming mode: 128, 256, 512, 1024 or 2048; else 128
+  --svl BITS    vector length in streaming mode: 128, 256, 512, 1024 or 2048; else 256
+  --budget N    instructions after which a thread is stopped: 1 to 4294967295; else 10000000
+
+statuses:
+  0   the text was written
+  2   usage: word P: KIND, where the words are no command; P counts from 0
+  3   absent: NAME, where there is no file of that name
+  4   read fault: NAME, where the file could not be read
+  5   the output could not be written
+  6   bad file: KIND VALUES, where the file is no program that is loaded
+  8   there was no memory
+";
+
+/// The version of the command.
+pub const VERSION: &[u8] = b"smemu 0.1.0\n";
