@@ -9,9 +9,9 @@ use crate::exec::Flow;
 use crate::registers::{next_address, read_x, register, write_x};
 use sm_types::{Branch, BranchRegister, BranchRegisterOp, PcRelative, PcRelativeOp, Scalars};
 
-/// The address at a signed distance.
+/// The address at a signed distance in bytes, modulo 2^64.
 #[inline]
-fn address(base: u64, distance: i64) -> u64
+pub fn address_at(base: u64, distance: i64) -> u64
     ensures { result ≡ address_at base distance }
 {
     base.wrapping_add_signed(distance)
@@ -24,8 +24,8 @@ fn relative(op: PcRelativeOp, pc: u64, imm: i32) -> u64
     ensures { result ≡ relative_address op pc imm }
 {
     match op {
-        PcRelativeOp::Adr => address(pc, i64::from(imm)),
-        PcRelativeOp::Adrp => address(pc / 4096 * 4096, i64::from(imm) * 4096),
+        PcRelativeOp::Adr => address_at(pc, i64::from(imm)),
+        PcRelativeOp::Adrp => address_at(pc / 4096 * 4096, i64::from(imm) * 4096),
     }
 }
 
@@ -42,10 +42,10 @@ pub fn exec_pc_relative(s: &mut Scalars, x: &PcRelative)
 
 /// The address so many words away.
 #[inline]
-fn target(pc: u64, words: i32) -> u64
+pub fn branch_target(pc: u64, words: i32) -> u64
     ensures { result ≡ branch_target pc words }
 {
-    address(pc, i64::from(words) * 4)
+    address_at(pc, i64::from(words) * 4)
 }
 
 /// Sets X30 to the address of the next instruction.
@@ -65,7 +65,7 @@ fn flow_if(s: &Scalars, taken: bool, words: i32) -> Flow
     ensures { flowed s.now result ≡ branch_if taken words s.now }
 {
     if taken {
-        Flow::Jump(target(s.pc, words))
+        Flow::Jump(branch_target(s.pc, words))
     } else {
         Flow::Next
     }
@@ -83,7 +83,7 @@ pub fn exec_branch(s: &mut Scalars, x: &Branch) -> Flow
             if *link {
                 link_register(s);
             }
-            Flow::Jump(target(s.pc, *words))
+            Flow::Jump(branch_target(s.pc, *words))
         }
         Branch::Conditional { condition, words } => flow_if(s, holds(*condition, s), *words),
         Branch::Compare {

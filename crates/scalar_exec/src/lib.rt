@@ -18,5 +18,7 @@ mod sums;
 #[cfg(test)]
 mod tests;
 
+pub use branches::{address_at, branch_target};
 pub use exec::{Flow, exec_scalar};
-pub use registers::{next_address, read_x, write_x};
+pub use operands::{extend, extend_sign};
+pub use registers::{next_address, read_x, read_x_or_sp, write_x, write_x_or_sp};

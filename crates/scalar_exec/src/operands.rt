@@ -50,7 +50,7 @@ pub fn shifted_operand(s: &Scalars, x: &ShiftedRegister, wide: bool) -> u64
 /// The low bits of a value with the top one of them in all places above, to a word.
 #[inline]
 #[tactic(auto, unfolding(crate::specs::Operands::sign_extend))]
-fn extend_sign(value: u64, from: u32, wide: bool) -> u64
+pub fn extend_sign(value: u64, from: u32, wide: bool) -> u64
     requires some { 0 < from }
     requires from { from ≤ 32 }
     ensures value { result ≡ sign_extend from wide value }
@@ -67,7 +67,7 @@ fn extend_sign(value: u64, from: u32, wide: bool) -> u64
 /// The low bits of a value, extended to a word.
 #[inline]
 #[tactic(auto, unfolding(crate::specs::Operands::extended))]
-fn extend(value: u64, kind: Extend, wide: bool) -> u64
+pub fn extend(value: u64, kind: Extend, wide: bool) -> u64
     ensures value { result ≡ extended kind wide value }
     ensures small { result < word_size wide }
 {

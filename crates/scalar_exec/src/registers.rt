@@ -28,7 +28,7 @@ pub fn read_x(s: &Scalars, n: u8) -> u64
 /// The 64 bits of the register; number 31 is SP.
 #[inline]
 #[tactic(auto, unfolding(crate::specs::Registers::x_or_sp))]
-fn read_x_or_sp(s: &Scalars, n: u8) -> u64
+pub fn read_x_or_sp(s: &Scalars, n: u8) -> u64
     requires { n < 32 }
     ensures { result ≡ x_or_sp s.now n }
 {

@@ -1,0 +1,4 @@
+pub mod Access
+pub mod Checks
+pub mod Values
+pub mod Transfer

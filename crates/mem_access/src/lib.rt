@@ -1,0 +1,10 @@
+//! The loads, stores and atomic instructions on private memory: `transfer` makes all checks of an access first, and changes registers and
+//! memory only where none fails.
+#![tactic(auto)]
+
+mod access;
+mod stop;
+mod values;
+
+pub use access::MemoryAccess;
+pub use stop::AccessStop;
