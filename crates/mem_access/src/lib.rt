@@ -3,6 +3,10 @@
 #![tactic(auto)]
 
 mod access;
+mod checks;
+mod exchange;
+mod numbers;
+mod pairs;
 mod stop;
 mod values;
 
