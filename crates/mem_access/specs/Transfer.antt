@@ -5,7 +5,7 @@ use Rattle.sm_types.specs.declared.scalars.Scalars.{Scalars}
 use Rattle.sm_types.specs.declared.insn.Insn.{Insn}
 use Rattle.sm_types.specs.declared.insn.Insn.TheVariants as insn
 use Rattle.sm_types.specs.declared.insn.LoadStoreOp.{LoadStoreOp}
-use Rattle.sm_types.specs.declared.insn.LoadStoreOp.TheVariants.{Store, Load, LoadSignedTo64, LoadSignedTo32}
+use Rattle.sm_types.specs.declared.insn.LoadStoreOp.TheVariants.{Store}
 use Rattle.sm_types.specs.declared.insn.LoadStore.{LoadStore}
 use Rattle.sm_types.specs.declared.insn.LoadLiteral.{LoadLiteral}
 use Rattle.sm_types.specs.declared.insn.PairOp.{PairOp}
@@ -13,7 +13,7 @@ use Rattle.sm_types.specs.declared.insn.PairOp.TheVariants.{Stp, Ldp}
 use Rattle.sm_types.specs.declared.insn.LoadStorePair.{LoadStorePair}
 use Rattle.sm_types.specs.declared.insn.Atomic.{Atomic}
 use Rattle.sm_types.specs.declared.insn.Atomic.TheVariants as atomic
-use Rattle.scalar_exec.specs.Registers.{x_of, x_or_sp, with_x}
+use Rattle.scalar_exec.specs.Registers.{x_of, with_x}
 use Rattle.paged_memory.specs.Memory.{Memory}
 use Rattle.sm_types.specs.declared.stop.Exception.{Exception}
 use Rattle.mem_access.specs.declared.access.MemoryAccess.{MemoryAccess}

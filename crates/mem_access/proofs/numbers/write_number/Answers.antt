@@ -1,4 +1,4 @@
-use Rattle.std.proofs.Common.{refl, ap, take}
+use Rattle.std.proofs.Common.{ap, take}
 use Rattle.mem_access.proofs.InMemory.{number_written, on_ok}
 use Rattle.mem_access.proofs.numbers.write_number.Goals as goal
 
