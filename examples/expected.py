@@ -3,25 +3,39 @@
 
     examples/expected.py FILE
 
-It knows movz, add and subs of an immediate, b.cond, br, hint, brk and svc, and the calls write and exit; each other word is
-undefined to it.
+It knows the instructions that the programs of this repository use, and the calls write and exit; each other word is undefined to it.
 """
 import hashlib
 import struct
 import sys
 
-BUDGET = 10_000_000
 OUTPUT_LIMIT = 1_048_576
 MASK = (1 << 64) - 1
 STACK = 0x7DFFFFFC0000
+SHARED = range(0x7F0000000000, 0x7F0000001000)
+
+
+class Raised(Exception):
+    pass
+
+
+def signed(value, bits):
+    value &= (1 << bits) - 1
+    return value - (1 << bits) if value >> (bits - 1) else value
 
 
 class Thread:
-    def __init__(self, file):
-        offset, address, size = struct.unpack_from("<QQ8xQ", file, struct.unpack_from("<Q", file, 32)[0] + 8)
-        self.pages = {}
-        for at in range(address, address + size):
-            self.page(at // 4096, 5)[1][at % 4096] = file[offset + at - address]
+    def __init__(self, file, budget):
+        self.pages, self.budget = {}, budget
+        at, count = struct.unpack_from("<Q", file, 32)[0], struct.unpack_from("<H", file, 56)[0]
+        for i in range(count):
+            kind, flags, offset, address, _, size, memory, _ = struct.unpack_from("<IIQQQQQQ", file, at + 56 * i)
+            if kind == 1 and memory:
+                for number in range(address // 4096, (address + memory - 1) // 4096 + 1):
+                    page = self.page(number, 0)
+                    page[0] |= flags & 7
+                for k in range(size):
+                    self.pages[(address + k) // 4096][1][(address + k) % 4096] = file[offset + k]
         for number in range(STACK // 4096, STACK // 4096 + 64):
             self.page(number, 6)
         self.x = [0, 1] + [0] * 29
@@ -32,7 +46,7 @@ class Thread:
         self.output = b""
 
     def page(self, number, flags):
-        return self.pages.setdefault(number, (flags, bytearray(4096)))
+        return self.pages.setdefault(number, [flags, bytearray(4096)])
 
     def bytes_with(self, need, address, count):
         out = bytearray()
@@ -42,6 +56,27 @@ class Thread:
                 return None
             out.append(page[1][at % 4096])
         return bytes(out)
+
+    def check(self, address, count, kind, base=None, aligned=False):
+        if base == 31 and self.sp % 16:
+            raise Raised("spalign", "")
+        if aligned and address % count:
+            raise Raised("align", f" {address:016x}")
+        for at in range(address, address + count):
+            if at & MASK in SHARED:
+                raise Raised("shared", f" {at & MASK:016x}")
+        for need, name in ((4, "read"), (2, "write")):
+            for at in range(address, address + count):
+                if name in kind and self.bytes_with(need, at, 1) is None:
+                    raise Raised("data", f" {at & MASK:016x} {name}")
+
+    def load(self, address, count):
+        return int.from_bytes(self.bytes_with(4, address, count), "little")
+
+    def store(self, address, count, value):
+        for k, byte in enumerate((value & (1 << 8 * count) - 1).to_bytes(count, "little")):
+            at = (address + k) & MASK
+            self.pages[at // 4096][1][at % 4096] = byte
 
     def holds(self, condition):
         n, z, c, v = self.flags
@@ -67,7 +102,7 @@ class Thread:
         return None
 
     def turn(self):
-        if self.count == BUDGET:
+        if self.count == self.budget:
             return "budget"
         if self.pc % 4:
             return f"raised pcalign {self.pc:016x}"
@@ -75,30 +110,54 @@ class Thread:
         if got is None:
             return f"raised fetch {self.pc:016x}"
         word = int.from_bytes(got, "little")
-        wide = word >> 31
-        if word & 0x7F800000 == 0x52800000 and (wide or not word >> 22 & 1):
-            self.write(word & 31, (word >> 5 & 0xFFFF) << 16 * (word >> 21 & 3), False)
-        elif word & 0x7F800000 in (0x11000000, 0x71000000):
-            self.add_or_subs(word, 64 if wide else 32, word >> 30 & 1)
-        elif word & 0xFF000010 == 0x54000000:
-            distance = ((word >> 5 & 0x7FFFF) ^ 0x40000) - 0x40000
-            if self.holds(word & 15):
-                self.pc, self.count = (self.pc + 4 * distance) & MASK, self.count + 1
-                return None
-        elif word & 0xFFFFFC1F == 0xD61F0000:
-            number = word >> 5 & 31
-            self.pc, self.count = 0 if number == 31 else self.x[number], self.count + 1
-            return None
-        elif word & 0xFFE0001F == 0xD4000001:
+        if word & 0xFFE0001F == 0xD4000001:
             return self.call()
-        elif word & 0xFFE0001F == 0xD4200000:
+        if word & 0xFFE0001F == 0xD4200000:
             return f"raised breakpoint {self.pc:016x} {word >> 5 & 0xFFFF}"
-        elif word & 0xFFFFF01F == 0xD503201F:
-            pass
-        else:
+        try:
+            target = self.execute(word)
+        except Raised as exception:
+            name, values = exception.args
+            return f"raised {name} {self.pc:016x}{values}"
+        if target is None:
             return f"raised undefined {self.pc:016x} {word:08x}"
-        self.pc, self.count = (self.pc + 4) & MASK, self.count + 1
+        self.pc, self.count = target & MASK, self.count + 1
         return None
+
+    def execute(self, word):
+        """The address of the next instruction; None where the word is undefined."""
+        wide, rd, rn, after = word >> 31, word & 31, word >> 5 & 31, self.pc + 4
+        if word & 0x7F800000 in (0x52800000, 0x72800000, 0x12800000) and (wide or not word >> 22 & 1):
+            return self.move_wide(word, wide, rd) or after
+        if word & 0x1F800000 == 0x11000000:
+            second = (word >> 10 & 0xFFF) << (12 if word >> 22 & 1 else 0)
+            return self.add(word, wide, rd, self.sp if rn == 31 else self.x[rn], second, True) or after
+        if word & 0x1FE0FC00 == 0x0B000000:
+            return self.add(word, wide, rd, self.read(rn), self.read(word >> 16 & 31), False) or after
+        if word & 0xFF000010 == 0x54000000:
+            return self.pc + 4 * signed(word >> 5, 19) if self.holds(word & 15) else after
+        if word & 0x7E000000 == 0x34000000:
+            value = self.read(rd) if wide else self.read(rd) & 0xFFFFFFFF
+            return self.pc + 4 * signed(word >> 5, 19) if (value != 0) == bool(word >> 24 & 1) else after
+        if word & 0x7C000000 == 0x14000000:
+            if wide:
+                self.x[30] = after & MASK
+            return self.pc + 4 * signed(word, 26)
+        if word & 0xFFBFFC1F == 0xD61F0000 or word & 0xFFFFFC1F == 0xD65F0000 or word & 0xFFFFFC1F == 0xD63F0000:
+            target = self.read(rn)
+            if word & 0x00600000 == 0x00200000:
+                self.x[30] = after & MASK
+            return target
+        if word & 0x1F000000 == 0x10000000:
+            distance = signed((word >> 5 & 0x7FFFF) << 2 | word >> 29 & 3, 21)
+            self.write(rd, ((self.pc & ~4095) + 4096 * distance if wide else self.pc + distance) & MASK, False)
+            return after
+        if word & 0xFFFFF01F == 0xD503201F:
+            return after
+        return self.access(word, rd, rn, after)
+
+    def read(self, number):
+        return 0 if number == 31 else self.x[number]
 
     def write(self, number, value, sp):
         if number < 31:
@@ -106,28 +165,98 @@ class Thread:
         elif sp:
             self.sp = value
 
-    def add_or_subs(self, word, width, subtracts):
-        size = 1 << width
-        number = word >> 5 & 31
-        a = (self.sp if number == 31 else self.x[number]) % size
-        b = (word >> 10 & 0xFFF) << (12 if word >> 22 & 1 else 0)
-        if subtracts:
-            result = (a - b) % size
-            signed = [value - size if value >> (width - 1) else value for value in (a, b, result)]
-            self.flags = [result >> (width - 1), int(result == 0), int(a >= b), int(signed[0] - signed[1] != signed[2])]
+    def move_wide(self, word, wide, rd):
+        shift, imm = 16 * (word >> 21 & 3), word >> 5 & 0xFFFF
+        value = imm << shift
+        if word >> 29 & 3 == 0:
+            value = ~value & (MASK if wide else 0xFFFFFFFF)
+        if word >> 29 & 3 == 3:
+            value = self.read(rd) & ~(0xFFFF << shift) & (MASK if wide else 0xFFFFFFFF) | value
+        self.write(rd, value, False)
+
+    def add(self, word, wide, rd, a, b, sp):
+        bits = 64 if wide else 32
+        size = 1 << bits
+        a, b, subtracts, sets = a % size, b % size, word >> 30 & 1, word >> 29 & 1
+        result = (a - b if subtracts else a + b) % size
+        if sets:
+            whole = signed(a, bits) - signed(b, bits) if subtracts else signed(a, bits) + signed(b, bits)
+            carry = a >= b if subtracts else a + b >= size
+            self.flags = [result >> (bits - 1), int(result == 0), int(carry), int(whole != signed(result, bits))]
+        self.write(rd, result, sp and not sets)
+
+    def access(self, word, rt, rn, after):
+        size = 1 << (word >> 30)
+        base = self.sp if rn == 31 else self.x[rn]
+        if word & 0x3F000000 == 0x39000000:
+            return self.transfer(word, size, (base + (word >> 10 & 0xFFF) * size) & MASK, rt, rn, after)
+        if word & 0x3F200000 == 0x38000000 and word >> 10 & 3 != 2:
+            moved = (base + signed(word >> 12, 9)) & MASK
+            mode = word >> 10 & 3
+            result = self.transfer(word, size, base if mode == 1 else moved, rt, rn, after)
+            if mode and result:
+                self.write(rn, moved, True)
+            return result
+        if word & 0x3F200C00 == 0x38200800 and word >> 13 & 7 == 3:
+            index = self.read(word >> 16 & 31) * (size if word >> 12 & 1 else 1)
+            return self.transfer(word, size, (base + index) & MASK, rt, rn, after)
+        if word & 0x3F000000 == 0x18000000 and word >> 30 < 3:
+            size = (4, 8, 4)[word >> 30]
+            address = (self.pc + 4 * signed(word >> 5, 19)) & MASK
+            self.check(address, size, "read")
+            value = self.load(address, size)
+            self.write(rt, signed(value, 32) & MASK if word >> 30 == 2 else value, False)
+            return after
+        if word & 0x7E000000 == 0x28000000 and word >> 23 & 3:
+            return self.pair(word, rt, rn, base, after)
+        if word & 0x3F20FC00 == 0x38200000:
+            self.check(base, size, "read write", rn, True)
+            old = self.load(base, size)
+            self.store(base, size, old + self.read(word >> 16 & 31))
+            self.write(rt, old, False)
+            return after
+        return None
+
+    def transfer(self, word, size, address, rt, rn, after):
+        operation = word >> 22 & 3
+        if size == 8 and operation > 1 or size == 4 and operation == 3:
+            return None
+        self.check(address, size, "read" if operation else "write", rn)
+        if operation == 0:
+            self.store(address, size, self.read(rt))
         else:
-            result = (a + b) % size
-        self.write(word & 31, result, not subtracts)
+            value = self.load(address, size)
+            if operation > 1:
+                value = signed(value, 8 * size) & (MASK if operation == 2 else 0xFFFFFFFF)
+            self.write(rt, value, False)
+        return after
+
+    def pair(self, word, rt, rn, base, after):
+        size, second, mode = 8 if word >> 31 else 4, word >> 10 & 31, word >> 23 & 3
+        moved = (base + signed(word >> 15, 7) * size) & MASK
+        address = base if mode == 1 else moved
+        loads = word >> 22 & 1
+        self.check(address, 2 * size, "read" if loads else "write", rn)
+        if loads:
+            values = self.load(address, size), self.load(address + size, size)
+            self.write(rt, values[0], False)
+            self.write(second, values[1], False)
+        else:
+            self.store(address, size, self.read(rt))
+            self.store(address + size, size, self.read(second))
+        if mode & 1:
+            self.write(rn, moved, True)
+        return after
 
 
-def report(file):
-    thread, stop = Thread(file), None
+def report(file, vl=128, svl=256, budget=10_000_000):
+    thread, stop = Thread(file, budget), None
     while stop is None:
         stop = thread.turn()
     digest = hashlib.sha256()
     for number, (flags, content) in sorted(thread.pages.items()):
         digest.update(struct.pack("<QB", number * 4096, flags) + content)
-    lines = ["smemu-report 1", f"options vl=128 svl=256 slice=1000 budget={BUDGET} threads=1",
+    lines = ["smemu-report 1", f"options vl={vl} svl={svl} slice=1000 budget={budget} threads=1",
              f"image {hashlib.sha256(file).hexdigest()}", "thread 0", f"stop {stop}", f"count {thread.count}",
              f"turns {thread.count}", f"pc {thread.pc:016x}"]
     lines += [f"x {i} {value:016x}" for i, value in enumerate(thread.x) if value]

@@ -3,14 +3,16 @@
 
     crates/smemu_rows/make.py
 
-The reports come from examples/expected.py, which shares nothing with the emulator; the refusals are written out here.
+The reports come from examples/expected.py, which shares nothing with the emulator; the refusals are written out here. The files real-*.elf
+come from real/make.sh, which runs an assembler and two linkers.
 """
 import pathlib
 import sys
 
 HERE = pathlib.Path(__file__).resolve().parent
 sys.path.insert(0, str(HERE.parent.parent / "examples"))
-from elf import elf
+from elf import (ALLOC, DYNAMIC, EXECINSTR, INTERP, LOAD, NOTE, STACK, STRTAB, SYMTAB, TLS, Section, Segment, build, elf, symbols,
+                 text_of)
 from expected import report
 
 MOVZ, ADD, SUBS, B, SVC = 0xD2800000, 0x91000000, 0xF1000000, 0x54000000, 0xD4000001
@@ -66,9 +68,6 @@ REPORTS = {
     "branches-to-no-multiple-of-4": [movz(3, 0x40, 1), add(3, 3, 6), 0xD61F0060],
     "branches-to-0": [0xD61F03E0],
     "hints": [0xD503201F, 0xD503245F, 0xD503237F, *EXIT],
-    "loads-are-not-executed": [movz(1, 0x40, 1), 0xF9400020, *EXIT],
-    "stores-are-not-executed": [movz(1, 0x40, 1), 0xA9000020, *EXIT],
-    "swaps-are-not-executed": [0xF8208020, *EXIT],
     "svcr-is-not-moved": [0xD53B4240, *EXIT],
     "undefined": [movz(0, 1), 9],
     "overflow": [movz(3, 0x8000, 3), subs(4, 3, 1), movz(5, 0x8000, 1, False), subs(6, 5, 1, False, False), *EXIT],
@@ -85,44 +84,231 @@ def patched(file, at, value):
     return file[:at] + value + file[at + len(value):]
 
 
+ANSWER = call(93, (42, 0))
+TEXT = 0x400000
+CODE = ALLOC | EXECINSTR
+UNLISTED = 0x1E604000
+
+
+def number(value, size):
+    return value.to_bytes(size, "little")
+
+
+def with_code(segments, *sections, entry=TEXT):
+    """A file of the segments, with these sections."""
+    return build(segments, list(sections), entry)
+
+
+def code_section(size, address=TEXT):
+    return Section(flags=CODE, address=address, size=size)
+
+
+def marked(words, *marks):
+    """The words at 0x400000 in a section, with mapping symbols: name, section and value."""
+    text = text_of(words)
+    table, strings = symbols(*marks)
+    return with_code([Segment(TEXT, text)], code_section(len(text)), Section(SYMTAB, data=table, link=3, entry_size=24), Section(STRTAB, data=strings))[0]
+
+
+def header_refusals():
+    """Files that fail one of the checks on the file's header."""
+    file = elf(ANSWER)
+    size = len(file)
+    yield "empty", b"", "truncated 0"
+    yield "63-bytes", file[:63], "truncated 63"
+    for place in range(7):
+        yield f"other-byte-{place}", patched(file, place, number(file[place] ^ 1, 1)), "notelf"
+    yield "x86-64", patched(file, 18, number(62, 2)), "notthismachine 62"
+    yield "x86-64-shared-object", patched(patched(file, 18, number(62, 2)), 16, number(3, 2)), "notthismachine 62"
+    for kind in (0, 1, 3, 4, 65535):
+        yield f"type-{kind}", patched(file, 16, number(kind, 2)), f"notstatic {kind}"
+    yield "header-size", patched(file, 54, number(64, 2)), "badtable 64"
+    yield "no-headers", patched(file, 56, number(0, 2)), "badtable 64"
+    yield "65535-headers", patched(file, 56, number(65535, 2)), "badtable 64"
+    yield "headers-that-end-at-2-to-the-64", patched(file, 32, number(2**64 - 56, 8)), f"badtable {2**64 - 56}"
+    yield "headers-that-end-below-2-to-the-64", patched(file, 32, number(2**64 - 57, 8)), f"truncated {size}"
+    yield "headers-outside", patched(file, 32, number(size - 55, 8)), f"truncated {size}"
+    yield "header-alone", file[:64], "truncated 64"
+
+
+def segment_refusals():
+    """Files that fail one of the checks on a program header. The second header stands at 120."""
+    text = Segment(TEXT, text_of(ANSWER))
+    bad = Segment(0x500000, b"1234", memory=3)
+    for kind, name in ((DYNAMIC, "dynamic"), (INTERP, "interpreter"), (TLS, "thread-local")):
+        yield name, build([text, Segment(0x500000, b"", kind=kind)])[0], f"notstatic {kind}"
+        yield f"{name}-after-a-bad-load", build([text, bad, Segment(0, b"", kind=kind)])[0], "badtable 120"
+    yield "dynamic-before-a-bad-load", build([text, Segment(0, b"", kind=DYNAMIC), bad])[0], "notstatic 2"
+    yield "more-bytes-than-memory", build([text, bad])[0], "badtable 120"
+    yield "bytes-and-no-memory", build([text, Segment(0x500000, b"1234", memory=0)])[0], "badtable 120"
+    yield "load-that-ends-past-2-to-the-47", build([text, Segment(2**47 - 4, b"12345")])[0], "badtable 120"
+    yield "load-that-goes-round", build([text, Segment(2**64 - 4, b"12345678")])[0], "badtable 120"
+    yield "bytes-that-end-at-2-to-the-64", build([text, Segment(0x500000, b"1234", offset=2**64 - 4)])[0], "badtable 120"
+    outside = build([text, Segment(0x500000, b"", size=8, offset=2**64 - 9)])[0]
+    yield "bytes-that-end-below-2-to-the-64", outside, f"truncated {len(outside)}"
+    outside = build([text, Segment(0x500000, b"", size=9, memory=64, offset=184)])[0]
+    yield "bytes-outside", outside, f"truncated {len(outside)}"
+    for name, address, size in (("last-byte-in-the-stack", 0x7DFFFFFC0000 - 8, 9), ("first-byte-in-the-stack", 0x7DFFFFFFFFFF, 1),
+                                ("between-stack-and-shared-region", 0x7E8000000000, 4), ("in-the-shared-region", 0x7F0000000FFF, 1),
+                                ("over-all-of-them", 0x7D0000000000, 0x20000000000)):
+        yield name, build([text, Segment(0, b"", kind=NOTE), Segment(address, b"", memory=size)])[0], "inshared 2"
+
+
+def whole_refusals():
+    """Files that fail one of the checks on the loads together."""
+    text = Segment(TEXT, text_of(ANSWER))
+    at = lambda address, memory: Segment(address, b"", flags=6, memory=memory)
+    yield "overlap", build([text, at(TEXT + 11, 1)])[0], "overlap 0 1"
+    yield "overlap-past-others", build([at(0x600000, 8), Segment(0, b"", kind=NOTE), at(0x500000, 16), text, at(0x50000F, 1), at(0x600007, 9)])[0], "overlap 0 5"
+    yield "overlap-of-the-later", build([text, at(0x500000, 16), at(0x500004, 1), at(0x500000, 2)])[0], "overlap 1 2"
+    yield "overlap-within", build([at(0x500000, 4096), text, at(0x500800, 1)])[0], "overlap 0 2"
+    yield "too-many-pages", build([text, at(0x1000000, 4032 * 4096)])[0], "toomanypages 4097"
+    yield "too-many-pages-by-far", build([text, at(0x100000000, 0x7C0000000000)])[0], f"toomanypages {0x7C0000000 + 1 + 64}"
+    yield "entry-of-no-multiple", build([text], entry=TEXT + 2)[0], "entryoutside 0x0000000000400002"
+    yield "entry-before", build([text], entry=TEXT - 4)[0], "entryoutside 0x00000000003ffffc"
+    yield "entry-behind", build([text], entry=TEXT + 12)[0], "entryoutside 0x000000000040000c"
+    yield "entry-in-data", build([text, Segment(0x500000, text_of(ANSWER), flags=6)], entry=0x500000)[0], "entryoutside 0x0000000000500000"
+    yield "entry-in-the-page-of-an-executable-load", build([Segment(TEXT, text_of(ANSWER), flags=4), Segment(TEXT + 12, text_of(ANSWER))])[0], "entryoutside 0x0000000000400000"
+
+
+def section_refusals():
+    """Files that fail one of the checks on the section table. Tables and sections are named by their places."""
+    file = elf(ANSWER)
+    at = int.from_bytes(file[40:48], "little")
+    yield "section-header-size", patched(file, 58, number(40, 2)), f"badtable {at}"
+    yield "no-section-headers", patched(file, 60, number(0, 2)), f"badtable {at}"
+    yield "sections-that-end-at-2-to-the-64", patched(patched(file, 40, number(2**64 - 64, 8)), 60, number(1, 2)), f"badtable {2**64 - 64}"
+    yield "sections-that-end-below-2-to-the-64", patched(patched(file, 40, number(2**64 - 65, 8)), 60, number(1, 2)), f"truncated {len(file)}"
+    yield "sections-outside", file[:-1], f"truncated {len(file) - 1}"
+    text = text_of(ANSWER)
+
+    def table(link=3, entry_size=24, strings=None, **fields):
+        rows, names = symbols(("$x", 1, TEXT))
+        section = Section(SYMTAB, data=rows, link=link, entry_size=entry_size)
+        for key, value in fields.items():
+            setattr(section, key, value)
+        file, _, places = with_code([Segment(TEXT, text)], code_section(len(text)), section, Section(STRTAB, data=names if strings is None else strings))
+        return file, places
+
+    for name, fields in (("symbols-of-another-size", {"entry_size": 16}), ("symbols-linked-to-no-section", {"link": 5}), ("names-that-do-not-end", {"strings": b"\0$x"}),
+                         ("no-name-table", {"strings": b""})):
+        file, places = table(**fields)
+        yield name, file, f"badtable {places[2]}"
+    file, places = table()
+    yield "symbols-outside", patched(file, places[2] + 32, number(len(file), 8)), f"badtable {places[2]}"
+    yield "symbols-far", patched(file, places[2] + 24, number(2**64 - 8, 8)), f"badtable {places[2]}"
+    yield "names-outside", patched(file, places[3] + 32, number(len(file), 8)), f"badtable {places[2]}"
+    name_at = int.from_bytes(file[places[2] + 24:places[2] + 32], "little") + 24
+    yield "name-past-the-last-end", patched(file, name_at, number(4, 4)), f"badtable {places[2]}"
+    for name, address, size in (("section-before-its-load", TEXT - 4, 8), ("section-past-its-load", TEXT + 8, 5), ("section-in-no-load", 0, 4), ("section-far", 2**64 - 4, 8)):
+        file, _, places = with_code([Segment(TEXT, text)], code_section(size, address))
+        yield name, file, f"badtable {places[1]}"
+    file, _, places = with_code([Segment(TEXT, text)], code_section(16), Section(SYMTAB, link=9, entry_size=24))
+    yield "first-of-two-bad-sections", file, f"badtable {places[1]}"
+
+
+def word_refusals():
+    """Files with a code word that means no instruction."""
+    yield "unlisted", elf(ANSWER + [UNLISTED]), f"unlisted 0x000000000040000c 0x{UNLISTED:08x}"
+    yield "unlisted-narrow-halfword", elf([movz(0, 0, 2, False)]), "unlisted 0x0000000000400000 0x52c00000"
+    yield "unlisted-after-data", marked(ANSWER + [UNLISTED, 0, UNLISTED], ("$d", 1, TEXT + 12), ("$x.rest", 1, TEXT + 20)), f"unlisted 0x0000000000400014 0x{UNLISTED:08x}"
+    yield "later-of-two-symbols", marked(ANSWER + [UNLISTED], ("$d", 1, TEXT + 12), ("$x", 1, TEXT + 12)), f"unlisted 0x000000000040000c 0x{UNLISTED:08x}"
+    yield "symbol-of-another-section", marked(ANSWER + [UNLISTED], ("$d", 2, TEXT + 12)), f"unlisted 0x000000000040000c 0x{UNLISTED:08x}"
+    yield "symbols-of-other-names", marked(ANSWER + [UNLISTED], ("$data", 1, TEXT), ("$", 1, TEXT), ("d", 1, TEXT), ("$t", 1, TEXT)), f"unlisted 0x000000000040000c 0x{UNLISTED:08x}"
+    text = text_of(ANSWER + [UNLISTED, UNLISTED])
+    table, strings = symbols(("$d", 1, TEXT + 12))
+    both = with_code([Segment(TEXT, text)], code_section(len(text)), Section(SYMTAB, data=table, link=3, entry_size=24), Section(STRTAB, data=strings),
+                     code_section(8, TEXT + 12))[0]
+    yield "code-by-one-of-two-sections", both, f"unlisted 0x000000000040000c 0x{UNLISTED:08x}"
+    halves = [Segment(TEXT, text[:14]), Segment(TEXT + 14, text[14:16])]
+    yield "word-over-two-loads", with_code(halves, code_section(16))[0], f"unlisted 0x000000000040000c 0x{UNLISTED:08x}"
+    yield "zeros-past-the-bytes", with_code([Segment(TEXT, text[:14], memory=20)], code_section(16))[0], "unlisted 0x000000000040000c 0x00004000"
+
+
+def real_refusals():
+    """What linkers make that is not loaded."""
+    for name, line in (("pie", "notstatic 3"), ("interpreter", "notstatic 3"), ("tls", "notstatic 7"), ("x86-64", "notthismachine 62"), ("object", "notstatic 1")):
+        yield f"real-{name}", (HERE / "data" / f"real-{name}.elf").read_bytes(), line
+
+
 def refusals():
-    file = elf(REPORTS["answer"])
-    yield "unlisted", elf(REPORTS["answer"] + [0x1E604000, 0]), "bad file: unlisted 0x000000000040000c 0x1e604000\n"
-    yield "unlisted-narrow-halfword", elf([movz(0, 0, 2, False)]), "bad file: unlisted 0x0000000000400000 0x52c00000\n"
-    forms = {
-        "empty": b"", "short": file[:63], "no-header": file[:64], "not-elf": patched(file, 0, b"\x7fELG"), "other-class": patched(file, 4, b"\1"),
-        "big-endian": patched(file, 5, b"\2"), "other-version": patched(file, 6, b"\2"), "shared-object": patched(file, 16, b"\3"),
-        "x86-64": patched(file, 18, b"\x3e"), "two-headers": patched(file, 56, b"\2"), "header-size": patched(file, 54, b"\x40"),
-        "header-outside": patched(file, 32, (len(file) - 55).to_bytes(8, "little")), "header-far": patched(file, 32, b"\xff" * 8),
-        "dynamic": patched(file, 64, b"\2"), "writable": patched(file, 68, b"\7"), "more-memory": patched(file, 104, b"\x10"),
-        "no-bytes": patched(patched(file, 96, b"\0"), 104, b"\0"), "part-of-a-word": patched(patched(file, 96, b"\7"), 104, b"\7"),
-        "bytes-outside": patched(file, 72, (len(file) - 11).to_bytes(8, "little")), "bytes-far": patched(file, 72, b"\xff" * 8),
-        "unaligned": elf([SVC], 0x400002, 0x400002), "high": elf([SVC] * 2, 2**47 - 4), "far": elf([SVC], 2**64 - 4, 2**64 - 4),
-        "in-the-stack": elf([SVC] * 2, 0x7DFFFFFBFFFC), "in-the-shared-region": elf([SVC], 0x7F0000000FFC),
-        "entry-before": elf([SVC], entry=0x3FFFFC), "entry-behind": elf([SVC], entry=0x400004), "entry-unaligned": elf([SVC], entry=0x400002),
-    }
-    for name, content in forms.items():
-        yield f"form-{name}", content, "bad file: notyet\n"
+    for kind in (header_refusals, segment_refusals, whole_refusals, section_refusals, word_refusals):
+        for name, file, line in kind():
+            yield f"refused-{name}", file, f"bad file: {line}\n"
+    for name, file, line in real_refusals():
+        yield name, file, f"bad file: {line}\n"
 
 
-def places():
-    yield "below-the-stack", elf(EXIT, 0x7DFFFFFC0000 - 4 * len(EXIT))
-    yield "above-the-shared-region", elf(EXIT, 0x7F0000001000)
-    yield "at-the-top", elf(EXIT, 2**47 - 4 * len(EXIT))
-    yield "over-a-page", elf([movz(3, i) for i in range(1100)] + EXIT, 0x400FFC)
+def loaded():
+    """Files that are loaded, and the options of their runs."""
+    text = text_of(ANSWER)
+    yield "answer-with-budget-1", elf(ANSWER), {"budget": 1}
+    yield "answer-with-lengths", elf(ANSWER), {"vl": 2048, "svl": 512}
+    yield "below-the-stack", elf(EXIT, 0x7DFFFFFC0000 - 4 * len(EXIT)), {}
+    yield "above-the-shared-region", elf(EXIT, 0x7F0000001000), {}
+    yield "at-the-top", elf(EXIT, 2**47 - 4 * len(EXIT)), {}
+    yield "over-a-page", elf([movz(3, i) for i in range(1100)] + EXIT, 0x400FFC), {}
+    yield "data-in-the-text", marked(ANSWER + [UNLISTED], ("$x", 1, TEXT), ("$d", 1, TEXT + 12)), {}
+    yield "data-by-a-symbol-with-a-suffix", marked(ANSWER + [UNLISTED], ("$d.1", 1, TEXT + 12)), {}
+    yield "data-by-the-later-symbol", marked(ANSWER + [UNLISTED], ("$x", 1, TEXT + 12), ("$d", 1, TEXT + 12)), {}
+    yield "symbol-below-its-section", marked([UNLISTED], ("$d", 1, 0)), {}
+    yield "no-section-table", build([Segment(TEXT, text_of(ANSWER[:1] + [UNLISTED]))])[0], {}
+    yield "part-of-a-word-in-a-section", with_code([Segment(TEXT, text + text_of([UNLISTED]))], code_section(15))[0], {}
+    yield "section-of-no-bytes", with_code([Segment(TEXT, text)], code_section(0, 4))[0], {}
+    yield "section-over-touching-loads", with_code([Segment(TEXT + 8, text[8:]), Segment(TEXT, text[:8])], code_section(12))[0], {}
+    yield "section-without-the-flag", with_code([Segment(TEXT, text + text_of([UNLISTED]))], Section(flags=ALLOC, address=TEXT, size=16))[0], {}
+    hint, names = 0xD503245F, b"name\0"
+    yield "hint-note-stack-and-sections", with_code(
+        [Segment(TEXT, text_of([hint, *ANSWER])), Segment(0, names, kind=NOTE, flags=4), Segment(0, b"", kind=STACK, flags=6)],
+        code_section(16), Section(7, data=names), Section(SYMTAB, data=symbols()[0], link=4, entry_size=24), Section(STRTAB, data=symbols()[1]))[0], {}
+    yield "loads-in-any-order", build([Segment(0x500FF0, b"abcdefgh" * 4, flags=6, memory=8000), Segment(0, b"", memory=0), Segment(TEXT, text)])[0], {}
+    yield "loads-that-share-a-page", build([Segment(TEXT, text), Segment(TEXT + 0x800, b"abc", flags=6, memory=0x900)])[0], {}
+    yield "no-bytes-at-a-far-offset", build([Segment(TEXT, text), Segment(0x500000, b"", flags=4, memory=1, offset=2**63)])[0], {}
+    yield "4096-pages", build([Segment(TEXT, text), Segment(0x1000000, b"", flags=0, memory=4031 * 4096)])[0], {}
+    for name in ("lld", "gnu", "stripped"):
+        yield f"real-{name}", (HERE / "data" / f"real-{name}.elf").read_bytes(), {}
+
+
+def program(*words):
+    """The words after X2 was set to the page of data at 0x410000, which ends where nothing is mapped."""
+    text = text_of([movz(2, 0x41, 1), *words, *EXIT])
+    return build([Segment(TEXT, text), Segment(0x410000, bytes(range(1, 129)), flags=6, memory=4096)])[0]
+
+
+def accesses():
+    """Loads and stores, and those that raise."""
+    yield "stp-over-the-end-of-a-page", program(add(2, 2, 0xFF8), 0xA9000440)
+    yield "ldp-over-the-end-of-a-page", program(add(2, 2, 0xFF8), 0xA9400440)
+    yield "post-index-that-raises", program(add(2, 2, 0xFFC), 0xF8008440)
+    yield "load-of-text", program(movz(3, 0x40, 1), 0xF9400064, 0xB9800465)
+    yield "store-to-text", program(movz(3, 0x40, 1), 0xF9000064)
+    yield "load-past-the-stack", program(0xF94003E0)
+    yield "sp-of-no-multiple-of-16", program(add(31, 31, 8), 0xF94003E4)
+    yield "shared-word", program(movz(3, 0x7F00, 2), 0xF9400064)
+    yield "last-bytes-before-the-shared-region", program(movz(3, 0x7F00, 2), subs(3, 3, 4), 0xF9400064)
+    yield "unaligned-ldadd", program(add(2, 2, 4), 0xF8240045)
+    yield "signed-loads", program(movz(4, 0xFF80), 0xF9000044, 0x39C00045, 0x39800046, 0x79C00047, 0x79800048, 0xB9800049)
+    yield "stack", program(0xA9BF0BE2, 0xA9C007E0, 0xA8C11FE6)
+    yield "load-beside-pc", program(0x58FFFFE4, 0x18FFFFC5, 0x98FFFFA6)
 
 
 def main():
     data = HERE / "data"
-    data.mkdir(exist_ok=True)
-    rows = [(name, 0, elf(words)) for name, words in REPORTS.items()] + [(name, 0, file) for name, file in places()]
-    rows = [(name, status, file, report(file)) for name, status, file in rows]
-    rows += [(name, 6, file, text) for name, file, text in refusals()]
-    for name, _, file, text in rows:
+    rows = [(name, elf(words), {}) for name, words in REPORTS.items()] + list(loaded()) + [(name, file, {}) for name, file in accesses()]
+    rows = [(name, 0, file, report(file, **options), options) for name, file, options in rows]
+    rows += [(name, 6, file, text, {}) for name, file, text in refusals()]
+    for old in data.glob("*.txt"):
+        old.unlink()
+    for old in data.glob("*.elf"):
+        if not old.name.startswith("real-"):
+            old.unlink()
+    for name, _, file, text, _ in rows:
         (data / f"{name}.elf").write_bytes(file)
         (data / f"{name}.elf.txt").write_text(text)
-    (data / "rows.txt").write_text("".join(f"{name}.elf {status}\n" for name, status, _, _ in rows))
-    (HERE / "stdout").write_text("".join(f"{name}.elf agrees\n" for name, _, _, _ in rows))
+    words = lambda options: "".join(f" --{name} {value}" for name, value in options.items())
+    (data / "rows.txt").write_text("".join(f"{name}.elf {status}{words(options)}\n" for name, status, _, _, options in rows))
+    (HERE / "stdout").write_text("".join(f"{name}.elf agrees\n" for name, _, _, _, _ in rows))
+    print(f"{len(rows)} rows")
 
 
 if __name__ == "__main__":

@@ -1,8 +1,10 @@
 -- A test that the way through the tree ends at each row that matches.
-use Rattle.std.proofs.Common.{◌≡◌, ℕ, zero, suc, ◌+◌, List, [], ◌∷◌, Option, Some, None, slice_get, bit_and, Bool, true, false, not, ◌==◌, ◌&&◌, cond, refl, sym, ap, ap₂, ◌∙◌, arith, eqb-true, subst, add-zero}
+use Rattle.std.proofs.Common.{◌≡◌, ℕ, zero, suc, ◌+◌, List, [], ◌∷◌, Option, Some, None, slice_get, bit_and, Bool, true, false, not, ◌==◌, ◌&&◌, cond, ◌*◌, ◌/◌, ◌^◌, ◌<◌, lit≤, refl, sym, ap, ap₂, ◌∙◌, arith, eqb-true, subst, add-zero, zero-add}
 use Rattle.std.specs.List.{list_all}
 use Rattle.std.proofs.lemmas.Nat.{and_assoc, and_comm}
+use Rattle.std.proofs.lemmas.Nat.Bits.{and_high_mask}
 use Rattle.std.proofs.lemmas.Bool.{and_parts, cond_both, both_ways}
+use Rattle.std.proofs.lemmas.Bool.Decides.{nat_tests}
 use Rattle.a64_table.specs.declared.rows.Row.{Row}
 use Rattle.a64_decode.specs.declared.tree.Node.{Node}
 use Rattle.a64_decode.specs.declared.tree.Node.TheVariants.{Test, Place}
@@ -103,6 +105,51 @@ unfolding covers walk
 covers-walk zero nodes at left word p m e h = cc
 covers-walk (suc steps) nodes at left word p m e h =
     covers_at-step _ _ word p m (λ next rest e' h'. covers-walk steps nodes next rest word p m e' h') (slice_get nodes at) left e h
+
+-- ---- from the roots
+
+-- the bits that a word's top eight are
+abbrev top_bits : ℕ
+top_bits = 0xFF000000
+
+-- the row may match a word with these top eight bits
+unfoldable pub may_begin : ℕ → Placed → Bool
+may_begin top p = bit_and p.1.value top_bits == bit_and (top * 2 ^ 24) p.1.mask
+
+-- the ways from the roots, of which the first is that of these top bits, end at each of the rows that match
+unfoldable pub covers_from : ℕ → List Node → List Placed → ℕ → List ℕ → Bool
+covers_from steps nodes rows top [] = true
+covers_from steps nodes rows top (root ∷ roots) = covers steps nodes root (kept (may_begin top) rows) && covers_from steps nodes rows (suc top) roots
+
+eqb-refl-at : {a b : ℕ} → a ≡ b → (a == b) ≡ true
+eqb-refl-at e = grind (arith, nat_tests)
+
+top_of : (word : ℕ) → word < 2 ^ 32 → bit_and word top_bits ≡ word / 2 ^ 24 * 2 ^ 24
+top_of word lt = and_high_mask 32 24 (lit≤ tt) word lt
+
+begins : (word : ℕ) (p : Placed) → word < 2 ^ 32 → Matches p.1 word → may_begin (word / 2 ^ 24) p ≡ true
+unfolding may_begin
+begins word p lt m = eqb-refl-at (fixed_there top_bits word p.1 m ∙ ap (λ n. bit_and n p.1.mask) (top_of word lt))
+
+covered_root : (steps : ℕ) (nodes : List Node) (rows : List Placed) (top i root : ℕ) (roots : List ℕ) → covers_from steps nodes rows top roots ≡ true → slice_get roots i ≡ Some root
+    → covers steps nodes root (kept (may_begin (top + i)) rows) ≡ true
+unfolding covers_from
+covered_root steps nodes rows top i root [] e g = cc
+covered_root steps nodes rows top zero root (r ∷ roots) e g =
+    let same : r ≡ root = cc in
+    subst (λ (k : ℕ). covers steps nodes root (kept (may_begin k) rows) ≡ true) (sym (add-zero top))
+    (subst (λ (k : ℕ). covers steps nodes k (kept (may_begin top) rows) ≡ true) same (and_parts _ _ e).0)
+covered_root steps nodes rows top (suc i) root (r ∷ roots) e g =
+    let same : suc top + i ≡ top + suc i = omega arith in
+    subst (λ (k : ℕ). covers steps nodes root (kept (may_begin k) rows) ≡ true) same (covered_root steps nodes rows (suc top) i root roots (and_parts _ _ e).1 g)
+
+-- the way from a word's root ends at the row that matches
+pub roots-walk : (steps : ℕ) (nodes : List Node) (roots : List ℕ) (rows : List Placed) (word root : ℕ) (p : Placed) → word < 2 ^ 32 → Matches p.1 word → covers_from steps nodes rows 0 roots ≡ true
+    → slice_get roots (word / 2 ^ 24) ≡ Some root → Holds p rows → walk steps nodes root word ≡ Some p.0
+roots-walk steps nodes roots rows word root p lt m e g h =
+    covers-walk steps nodes root (kept (may_begin (word / 2 ^ 24)) rows) word p m
+    (subst (λ (k : ℕ). covers steps nodes root (kept (may_begin k) rows) ≡ true) (zero-add (word / 2 ^ 24)) (covered_root steps nodes rows 0 (word / 2 ^ 24) root roots e g))
+    (Holds-kept (may_begin (word / 2 ^ 24)) p rows (begins word p lt m) h)
 
 pub Holds-numbered : (n i : ℕ) (rows : List Row) (r : Row) → slice_get rows i ≡ Some r → Holds (n + i, r) (numbered n rows)
 unfolding numbered

@@ -9,6 +9,7 @@ use sm_types::{
     PairIndex, PairOp,
 };
 
+/// The operation of opc.
 #[tactic(auto, unfolding(a64_table::specs::Accesses::load_store_op_of))]
 fn load_store_op(opc: u32) -> LoadStoreOp
     ensures { result ≡ load_store_op_of opc }
@@ -21,6 +22,7 @@ fn load_store_op(opc: u32) -> LoadStoreOp
     }
 }
 
+/// The address of a load or store.
 #[tactic(auto, unfolding(a64_table::specs::Accesses::address_of))]
 fn address(word: u32) -> Address
     ensures { result ≡ address_of word }
@@ -45,6 +47,7 @@ fn address(word: u32) -> Address
     }
 }
 
+/// The load or store of one register that a word is.
 #[tactic(auto, unfolding(a64_table::specs::Accesses::load_store_of))]
 pub fn load_store(word: u32) -> LoadStore
     ensures { result ≡ load_store_of word }
@@ -58,6 +61,7 @@ pub fn load_store(word: u32) -> LoadStore
     }
 }
 
+/// The operation of a load from beside the program counter.
 #[tactic(auto, unfolding(a64_table::specs::Accesses::load_literal_op_of))]
 fn load_literal_op(number: u32) -> LoadLiteralOp
     ensures { result ≡ load_literal_op_of number }
@@ -69,6 +73,7 @@ fn load_literal_op(number: u32) -> LoadLiteralOp
     }
 }
 
+/// The load from beside the program counter that a word is.
 #[tactic(auto, unfolding(a64_table::specs::Accesses::load_literal_of))]
 pub fn load_literal(word: u32) -> LoadLiteral
     ensures { result ≡ load_literal_of word }
@@ -80,6 +85,7 @@ pub fn load_literal(word: u32) -> LoadLiteral
     }
 }
 
+/// Whether a pair is loaded or stored.
 #[tactic(auto, unfolding(a64_table::specs::Accesses::pair_op_of))]
 fn pair_op(word: u32) -> PairOp
     ensures { result ≡ pair_op_of word }
@@ -91,6 +97,7 @@ fn pair_op(word: u32) -> PairOp
     }
 }
 
+/// Where the offset of a pair goes.
 #[tactic(auto, unfolding(a64_table::specs::Accesses::pair_index_of))]
 fn pair_index(word: u32) -> PairIndex
     ensures { result ≡ pair_index_of word }
@@ -104,6 +111,7 @@ fn pair_index(word: u32) -> PairIndex
     }
 }
 
+/// The load or store of two registers that a word is.
 #[tactic(auto, unfolding(a64_table::specs::Accesses::load_store_pair_of))]
 pub fn load_store_pair(word: u32) -> LoadStorePair
     ensures { result ≡ load_store_pair_of word }
@@ -119,6 +127,7 @@ pub fn load_store_pair(word: u32) -> LoadStorePair
     }
 }
 
+/// The operation of an atomic instruction.
 #[tactic(auto, unfolding(a64_table::specs::Accesses::atomic_op_of))]
 fn atomic_op(number: u32) -> AtomicOp
     ensures { result ≡ atomic_op_of number }
@@ -135,6 +144,7 @@ fn atomic_op(number: u32) -> AtomicOp
     }
 }
 
+/// The ordered or atomic access that a word is.
 #[tactic(auto, unfolding(a64_table::specs::Accesses::atomic_of))]
 pub fn atomic(word: u32) -> Atomic
     ensures { result ≡ atomic_of word }
@@ -152,6 +162,7 @@ pub fn atomic(word: u32) -> Atomic
     }
 }
 
+/// The swap that a word is.
 #[tactic(auto, unfolding(a64_table::specs::Accesses::swap_of))]
 fn swap(word: u32) -> Atomic
     ensures { result ≡ swap_of word }
@@ -166,6 +177,7 @@ fn swap(word: u32) -> Atomic
     }
 }
 
+/// The atomic operation that a word is.
 #[tactic(auto, unfolding(a64_table::specs::Accesses::update_of))]
 fn update(word: u32) -> Atomic
     ensures { result ≡ update_of word }
@@ -181,6 +193,7 @@ fn update(word: u32) -> Atomic
     }
 }
 
+/// The compare and swap that a word is.
 #[tactic(auto, unfolding(a64_table::specs::Accesses::compare_and_swap_of))]
 fn compare_and_swap(word: u32) -> Atomic
     ensures { result ≡ compare_and_swap_of word }
@@ -195,6 +208,7 @@ fn compare_and_swap(word: u32) -> Atomic
     }
 }
 
+/// The ordered access that a word is.
 #[tactic(auto, unfolding(a64_table::specs::Accesses::ordered_of))]
 fn ordered(word: u32) -> Atomic
     ensures { result ≡ ordered_of word }

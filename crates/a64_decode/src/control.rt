@@ -8,6 +8,7 @@ use sm_types::{
     Branch, BranchRegister, BranchRegisterOp, System, SystemMove, SystemMoveOp, SystemRegister,
 };
 
+/// The branch that a word is.
 #[tactic(auto, unfolding(a64_table::specs::Control::branch_of))]
 pub fn branch(word: u32) -> Branch
     ensures { result ≡ branch_of word }
@@ -39,6 +40,7 @@ pub fn branch(word: u32) -> Branch
     }
 }
 
+/// The operation of a branch to a register.
 #[tactic(auto, unfolding(a64_table::specs::Control::branch_register_op_of))]
 fn branch_register_op(number: u32) -> BranchRegisterOp
     ensures { result ≡ branch_register_op_of number }
@@ -50,6 +52,7 @@ fn branch_register_op(number: u32) -> BranchRegisterOp
     }
 }
 
+/// The branch to a register that a word is.
 #[tactic(auto, unfolding(a64_table::specs::Control::branch_register_of))]
 pub fn branch_register(word: u32) -> BranchRegister
     ensures { result ≡ branch_register_of word }
@@ -60,6 +63,7 @@ pub fn branch_register(word: u32) -> BranchRegister
     }
 }
 
+/// The exception, hint or barrier that a word is.
 #[tactic(auto, unfolding(a64_table::specs::Control::system_of))]
 pub fn system(word: u32) -> System
     ensures { result ≡ system_of word }
@@ -71,6 +75,7 @@ pub fn system(word: u32) -> System
     }
 }
 
+/// The exception that a word is.
 #[tactic(auto, unfolding(a64_table::specs::Control::exception_of))]
 fn exception(word: u32) -> System
     ensures { result ≡ exception_of word }
@@ -83,6 +88,7 @@ fn exception(word: u32) -> System
     }
 }
 
+/// The hint or barrier that a word is.
 #[tactic(auto, unfolding(a64_table::specs::Control::hint_or_barrier_of))]
 fn hint_or_barrier(word: u32) -> System
     ensures { result ≡ hint_or_barrier_of word }
@@ -98,6 +104,7 @@ fn hint_or_barrier(word: u32) -> System
     }
 }
 
+/// The system register of a move.
 #[tactic(auto, unfolding(a64_table::specs::Control::system_register_of))]
 fn system_register(number: u32) -> SystemRegister
     ensures { result ≡ system_register_of number }
@@ -110,6 +117,7 @@ fn system_register(number: u32) -> SystemRegister
     }
 }
 
+/// The direction of a move of a system register.
 #[tactic(auto, unfolding(a64_table::specs::Control::system_move_op_of))]
 fn system_move_op(word: u32) -> SystemMoveOp
     ensures { result ≡ system_move_op_of word }
@@ -121,6 +129,7 @@ fn system_move_op(word: u32) -> SystemMoveOp
     }
 }
 
+/// The move of a system register that a word is.
 #[tactic(auto, unfolding(a64_table::specs::Control::system_move_of))]
 pub fn system_move(word: u32) -> SystemMove
     ensures { result ≡ system_move_of word }

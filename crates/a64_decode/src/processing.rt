@@ -11,6 +11,7 @@ use sm_types::{
     PcRelative, PcRelativeOp, SelectOp, ShiftedRegister, TwoSource, TwoSourceOp,
 };
 
+/// The operation of the two bits op and S.
 #[tactic(auto, unfolding(a64_table::specs::Processing::add_sub_of))]
 fn add_sub(number: u32) -> AddSub
     ensures { result ≡ add_sub_of number }
@@ -23,6 +24,7 @@ fn add_sub(number: u32) -> AddSub
     }
 }
 
+/// The operation of opc.
 #[tactic(auto, unfolding(a64_table::specs::Processing::logical_of))]
 fn logical(number: u32) -> Logical
     ensures { result ≡ logical_of number }
@@ -35,6 +37,7 @@ fn logical(number: u32) -> Logical
     }
 }
 
+/// The operation of a wide move.
 #[tactic(auto, unfolding(a64_table::specs::Processing::move_op_of))]
 fn move_op(number: u32) -> MoveOp
     ensures { result ≡ move_op_of number }
@@ -46,6 +49,7 @@ fn move_op(number: u32) -> MoveOp
     }
 }
 
+/// The operation of a bit-field move.
 #[tactic(auto, unfolding(a64_table::specs::Processing::bitfield_op_of))]
 fn bitfield_op(number: u32) -> BitfieldOp
     ensures { result ≡ bitfield_op_of number }
@@ -57,6 +61,7 @@ fn bitfield_op(number: u32) -> BitfieldOp
     }
 }
 
+/// The shifted register operand: shift 23:22, Rm 20:16, amount 15:10.
 #[tactic(auto, unfolding(a64_table::specs::Processing::shifted_register_of))]
 fn shifted_register(word: u32) -> ShiftedRegister
     ensures { result ≡ shifted_register_of word }
@@ -68,6 +73,7 @@ fn shifted_register(word: u32) -> ShiftedRegister
     }
 }
 
+/// The extended register operand: Rm 20:16, option 15:13, amount 12:10.
 #[tactic(auto, unfolding(a64_table::specs::Processing::extended_register_of))]
 fn extended_register(word: u32) -> ExtendedRegister
     ensures { result ≡ extended_register_of word }
@@ -79,6 +85,7 @@ fn extended_register(word: u32) -> ExtendedRegister
     }
 }
 
+/// The sum or difference with an immediate that a word is.
 #[tactic(auto, unfolding(a64_table::specs::Processing::add_sub_immediate_of))]
 pub fn add_sub_immediate(word: u32) -> AddSubImmediate
     ensures { result ≡ add_sub_immediate_of word }
@@ -93,6 +100,7 @@ pub fn add_sub_immediate(word: u32) -> AddSubImmediate
     }
 }
 
+/// The sum or difference with a shifted register that a word is.
 #[tactic(auto, unfolding(a64_table::specs::Processing::add_sub_register_of))]
 pub fn add_sub_register(word: u32) -> AddSubRegister
     ensures { result ≡ add_sub_register_of word }
@@ -106,6 +114,7 @@ pub fn add_sub_register(word: u32) -> AddSubRegister
     }
 }
 
+/// The logical operation with a shifted register that a word is.
 #[tactic(auto, unfolding(a64_table::specs::Processing::logical_register_of))]
 pub fn logical_register(word: u32) -> LogicalRegister
     ensures { result ≡ logical_register_of word }
@@ -120,6 +129,7 @@ pub fn logical_register(word: u32) -> LogicalRegister
     }
 }
 
+/// The sum or difference with an extended register that a word is.
 #[tactic(auto, unfolding(a64_table::specs::Processing::add_sub_extended_of))]
 pub fn add_sub_extended(word: u32) -> AddSubExtended
     ensures { result ≡ add_sub_extended_of word }
@@ -133,6 +143,7 @@ pub fn add_sub_extended(word: u32) -> AddSubExtended
     }
 }
 
+/// The logical operation with a mask that a word is.
 #[tactic(auto, unfolding(a64_table::specs::Processing::logical_immediate_of))]
 pub fn logical_immediate(word: u32) -> LogicalImmediate
     ensures { result ≡ logical_immediate_of word }
@@ -148,6 +159,7 @@ pub fn logical_immediate(word: u32) -> LogicalImmediate
     }
 }
 
+/// The wide move that a word is.
 #[tactic(auto, unfolding(a64_table::specs::Processing::move_wide_of))]
 pub fn move_wide(word: u32) -> MoveWide
     ensures { result ≡ move_wide_of word }
@@ -161,6 +173,7 @@ pub fn move_wide(word: u32) -> MoveWide
     }
 }
 
+/// The bit-field move that a word is.
 #[tactic(auto, unfolding(a64_table::specs::Processing::bitfield_move_of))]
 pub fn bitfield_move(word: u32) -> BitfieldMove
     ensures { result ≡ bitfield_move_of word }
@@ -175,6 +188,7 @@ pub fn bitfield_move(word: u32) -> BitfieldMove
     }
 }
 
+/// The extract that a word is.
 #[tactic(auto, unfolding(a64_table::specs::Processing::extract_of))]
 pub fn extract(word: u32) -> Extract
     ensures { result ≡ extract_of word }
@@ -188,6 +202,7 @@ pub fn extract(word: u32) -> Extract
     }
 }
 
+/// Whether an address is relative to PC or to its page.
 #[tactic(auto, unfolding(a64_table::specs::Processing::pc_relative_op_of))]
 fn pc_relative_op(word: u32) -> PcRelativeOp
     ensures { result ≡ pc_relative_op_of word }
@@ -199,6 +214,7 @@ fn pc_relative_op(word: u32) -> PcRelativeOp
     }
 }
 
+/// The address beside the program counter that a word is.
 #[tactic(auto, unfolding(a64_table::specs::Processing::pc_relative_of))]
 pub fn pc_relative(word: u32) -> PcRelative
     ensures { result ≡ pc_relative_of word }
@@ -210,6 +226,7 @@ pub fn pc_relative(word: u32) -> PcRelative
     }
 }
 
+/// The sum or difference with the carry that a word is.
 #[tactic(auto, unfolding(a64_table::specs::Processing::add_sub_carry_of))]
 pub fn add_sub_carry(word: u32) -> AddSubCarry
     ensures { result ≡ add_sub_carry_of word }
@@ -223,6 +240,7 @@ pub fn add_sub_carry(word: u32) -> AddSubCarry
     }
 }
 
+/// The operation of a conditional select.
 #[tactic(auto, unfolding(a64_table::specs::Processing::select_op_of))]
 fn select_op(word: u32) -> SelectOp
     ensures { result ≡ select_op_of word }
@@ -235,6 +253,7 @@ fn select_op(word: u32) -> SelectOp
     }
 }
 
+/// The conditional select that a word is.
 #[tactic(auto, unfolding(a64_table::specs::Processing::conditional_select_of))]
 pub fn conditional_select(word: u32) -> ConditionalSelect
     ensures { result ≡ conditional_select_of word }
@@ -249,6 +268,7 @@ pub fn conditional_select(word: u32) -> ConditionalSelect
     }
 }
 
+/// The operation of a conditional compare.
 #[tactic(auto, unfolding(a64_table::specs::Processing::compare_op_of))]
 fn compare_op(word: u32) -> CompareOp
     ensures { result ≡ compare_op_of word }
@@ -260,6 +280,7 @@ fn compare_op(word: u32) -> CompareOp
     }
 }
 
+/// The second operand of a conditional compare.
 #[tactic(auto, unfolding(a64_table::specs::Processing::compare_operand_of))]
 fn compare_operand(word: u32) -> CompareOperand
     ensures { result ≡ compare_operand_of word }
@@ -272,6 +293,7 @@ fn compare_operand(word: u32) -> CompareOperand
     }
 }
 
+/// The conditional compare that a word is.
 #[tactic(auto, unfolding(a64_table::specs::Processing::conditional_compare_of))]
 pub fn conditional_compare(word: u32) -> ConditionalCompare
     ensures { result ≡ conditional_compare_of word }
@@ -286,6 +308,7 @@ pub fn conditional_compare(word: u32) -> ConditionalCompare
     }
 }
 
+/// The operation on one source.
 #[tactic(auto, unfolding(a64_table::specs::Processing::one_source_op_of))]
 fn one_source_op(opcode: u32) -> OneSourceOp
     ensures { result ≡ one_source_op_of opcode }
@@ -300,6 +323,7 @@ fn one_source_op(opcode: u32) -> OneSourceOp
     }
 }
 
+/// The operation on one source that a word is.
 #[tactic(auto, unfolding(a64_table::specs::Processing::one_source_of))]
 pub fn one_source(word: u32) -> OneSource
     ensures { result ≡ one_source_of word }
@@ -312,6 +336,7 @@ pub fn one_source(word: u32) -> OneSource
     }
 }
 
+/// The operation on two sources.
 #[tactic(auto, unfolding(a64_table::specs::Processing::two_source_op_of))]
 fn two_source_op(number: u32) -> TwoSourceOp
     ensures { result ≡ two_source_op_of number }
@@ -326,6 +351,7 @@ fn two_source_op(number: u32) -> TwoSourceOp
     }
 }
 
+/// The operation on two sources that a word is.
 #[tactic(auto, unfolding(a64_table::specs::Processing::two_source_of))]
 pub fn two_source(word: u32) -> TwoSource
     ensures { result ≡ two_source_of word }
@@ -339,6 +365,7 @@ pub fn two_source(word: u32) -> TwoSource
     }
 }
 
+/// The product that a word is.
 #[tactic(auto, unfolding(a64_table::specs::Processing::multiply_of))]
 pub fn multiply(word: u32) -> Multiply
     ensures { result ≡ multiply_of word }

@@ -1,5 +1,5 @@
 -- What holds of the numbers below a limit, in order.
-use Rattle.std.specs.Prelude.{ℕ, zero, suc, Bool, true, false, ◌&&◌, ◌||◌, List, [], ◌∷◌, ◌++◌, Option, Some, None}
+use Rattle.std.specs.Prelude.{ℕ, zero, suc, ◌+◌, cond, Bool, true, false, ◌&&◌, ◌||◌, List, [], ◌∷◌, ◌++◌, Option, Some, None}
 use Rattle.paged_memory.specs.Memory.{or_else}
 
 -- what the least number below n with an answer answers
@@ -16,6 +16,11 @@ any_below test (suc n) = any_below test n || test n
 unfoldable pub all_below : (ℕ → Bool) → ℕ → Bool
 all_below test zero = true
 all_below test (suc n) = all_below test n && test n
+
+-- how many of the numbers below n pass the test
+unfoldable pub count_below : (ℕ → Bool) → ℕ → ℕ
+count_below test zero = 0
+count_below test (suc n) = count_below test n + cond (test n) 1 0
 
 -- a list of one answer, or of none
 abbrev pub answers : {A : Type 0} → Option A → List A

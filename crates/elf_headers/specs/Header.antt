@@ -1,6 +1,6 @@
 -- The file's header, and the checks on it.
 -- Source: ELF-64 Object File Format, the table of Elf64_Ehdr, of which places and widths are in bytes.
-use Rattle.std.specs.Prelude.{◌≡◌, ℕ, ◌+◌, ◌*◌, ◌-◌, ◌^◌, Bool, List, [], ◌∷◌, length, drop, Option, ◌==◌, ◌&&◌, ◌||◌, not, nat_lt}
+use Rattle.std.specs.Prelude.{ℕ, ◌+◌, ◌*◌, ◌-◌, ◌^◌, ◌≤◌, Bool, List, [], ◌∷◌, length, drop, Option, ◌==◌, ◌&&◌, ◌||◌, not, nat_lt}
 use Rattle.byteorder.specs.Endian.{little_number}
 use Rattle.elf_headers.specs.declared.fault.LoadFault.{LoadFault}
 use Rattle.elf_headers.specs.declared.fault.LoadFault.TheVariants.{TooLong, Truncated, NotElf, NotThisMachine, NotStatic, BadTable}
@@ -60,7 +60,11 @@ table_end at size count = at + size * count
 -- the table of program headers: their size is 56, there are 1 to 65,534, and the table lies below 2 ^ 64 and in the file
 unfoldable pub table_fault : List ℕ → Option LoadFault
 table_fault file = first_fault (
-    fault_when (not (segment_size file == 56) || (segment_count file == 0) || (segment_count file == 65535)
-        || nat_lt (2 ^ 64 - 1) (table_end (segments_at file) 56 (segment_count file))) (BadTable (segments_at file))
+    fault_when (not (segment_size file == 56) || (segment_count file == 0) || (segment_count file == 65535) || nat_lt (2 ^ 64 - 1) (table_end (segments_at file) 56 (segment_count file))) (BadTable (segments_at file))
     ∷ fault_when (nat_lt (length file) (table_end (segments_at file) 56 (segment_count file))) (Truncated (length file))
     ∷ [])
+
+-- the header and the table of program headers are in the file
+pub record HasTable (file : List ℕ) : Type 0 where
+  pub header : 64 ≤ length file
+  pub table : table_end (segments_at file) 56 (segment_count file) ≤ length file

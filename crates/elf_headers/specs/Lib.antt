@@ -3,3 +3,4 @@ pub mod Fault
 pub mod Header
 pub mod Segments
 pub mod Loads
+pub mod Spans

@@ -1,6 +1,6 @@
 -- The loads of a file together: what they take into memory, and the checks that compare them.
 -- Source: ELF-64 Object File Format, PT_LOAD, p_flags (PF_X 1, PF_W 2, PF_R 4); the limits are this emulator's own.
-use Rattle.std.specs.Prelude.{◌≡◌, ◌⊎◌, ℕ, ◌+◌, ◌*◌, ◌-◌, ◌/◌, ◌%◌, ◌^◌, ◌<◌, ◌≤◌, Bool, List, [], ◌∷◌, length, take, drop, map, filter, All, Option, Some, None, cond, ◌==◌, ◌&&◌, not, nat_lt, nat_le}
+use Rattle.std.specs.Prelude.{◌⊎◌, ℕ, ◌+◌, ◌%◌, ◌^◌, ◌<◌, ◌≤◌, Bool, List, [], ◌∷◌, length, take, drop, map, All, Option, Some, None, cond, ◌==◌, ◌&&◌, not, nat_lt, nat_le}
 use Rattle.paged_memory.specs.Image.{Extent}
 use Rattle.paged_memory.specs.Parts.{touched_below, AreApart}
 use Rattle.elf_headers.specs.declared.fault.LoadFault.{LoadFault}
@@ -51,9 +51,13 @@ page_sum file = touched_below (extents_of file) (2 ^ 35) + 64
 unfoldable pub pages_fault : List ℕ → Option LoadFault
 pages_fault file = fault_when (nat_lt 4096 (page_sum file)) (TooManyPages (page_sum file))
 
--- a load with PF_X that has the address
+-- the header has PF_X, and the address in memory
+abbrev pub has_executable : ProgramHeader → ℕ → Bool
+has_executable s a = (s.flags % 2 == 1) && has_address s a
+
+-- program header number i is a load that has the executable address
 abbrev pub is_executable_at : List ℕ → ℕ → ℕ → Bool
-is_executable_at file a i = is_load (segment_of file i) && ((segment_of file i).flags % 2 == 1) && has_address (segment_of file i) a
+is_executable_at file a i = is_load (segment_of file i) && has_executable (segment_of file i) a
 
 -- the entry is a multiple of 4 in an executable load
 unfoldable pub entry_fault : List ℕ → Option LoadFault

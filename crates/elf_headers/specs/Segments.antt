@@ -1,6 +1,6 @@
 -- The program headers, and the checks on each by itself.
 -- Source: ELF-64 Object File Format, the table of Elf64_Phdr; the address space is this emulator's own.
-use Rattle.std.specs.Prelude.{◌≡◌, ℕ, ◌+◌, ◌*◌, ◌-◌, ◌^◌, Bool, List, [], ◌∷◌, length, Option, ◌==◌, ◌&&◌, ◌||◌, not, nat_lt}
+use Rattle.std.specs.Prelude.{ℕ, ◌+◌, ◌*◌, ◌-◌, ◌^◌, Bool, List, [], ◌∷◌, length, Option, ◌==◌, ◌&&◌, ◌||◌, not, nat_lt}
 use Rattle.elf_headers.specs.declared.fault.LoadFault.{LoadFault}
 use Rattle.elf_headers.specs.declared.fault.LoadFault.TheVariants.{Truncated, NotStatic, BadTable, InShared}
 use Rattle.elf_headers.specs.declared.header.ProgramHeader.{ProgramHeader}

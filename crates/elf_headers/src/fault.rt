@@ -1,4 +1,8 @@
 //! Why a file is refused.
+ghost use Rattle.std.specs.Prelude.{◌≡◌};
+ghost use Rattle.elf_headers.specs.declared.fault.LoadFault.TheVariants.{Memory};
+
+use std::alloc::{AllocError, AllocFailed};
 use thiserror::Error;
 
 /// Why a file is refused, or want of memory. Places are in bytes from the file's begin, indices count program headers from 0.
@@ -40,4 +44,20 @@ pub enum LoadFault {
     /// There was no memory for the image.
     #[error("memory")]
     Memory,
+}
+
+impl From<AllocError> for LoadFault {
+    ghost from_gives = { λ _ fault. fault ≡ Memory };
+
+    fn from(_error: AllocError) -> LoadFault {
+        LoadFault::Memory
+    }
+}
+
+impl<T: Drop> From<AllocFailed<T>> for LoadFault {
+    ghost from_gives = { λ _ fault. fault ≡ Memory };
+
+    fn from(_error: AllocFailed<T>) -> LoadFault {
+        LoadFault::Memory
+    }
 }

@@ -1,5 +1,5 @@
 //! Numbers of the file, and its program headers.
-ghost use Rattle.std.specs.Prelude.{◌≡◌, ◌+◌, ◌≤◌, ◌<◌, length};
+ghost use Rattle.std.specs.Prelude.{◌≡◌, ◌+◌, ◌≤◌, ◌<◌, ◌^◌, length};
 ghost use Rattle.elf_headers.specs.Header.{number_at};
 
 use byteorder::{ByteOrder, LittleEndian};
@@ -17,6 +17,55 @@ pub struct ProgramHeader {
     pub file_size: u64,
     /// Its bytes in memory.
     pub memory_size: u64,
+}
+
+/// The kind of a segment that is loaded.
+const PT_LOAD: u32 = 1;
+/// The kind of the segment for dynamic linking.
+const PT_DYNAMIC: u32 = 2;
+/// The kind of the segment that names an interpreter.
+const PT_INTERP: u32 = 3;
+/// The kind of the segment for thread-local storage.
+const PT_TLS: u32 = 7;
+/// The flag of a segment that can be executed.
+const PF_X: u32 = 1;
+
+impl ProgramHeader {
+    ghost use Rattle.elf_headers.specs.Segments.{is_dynamic, is_load};
+    ghost use Rattle.elf_headers.specs.Loads.{has_executable, share};
+
+    /// Tells whether it asks for dynamic linking or thread-local storage.
+    pub(crate) fn is_dynamic(&self) -> bool
+        ensures { result ≡ is_dynamic self.now }
+    {
+        self.kind == PT_DYNAMIC || self.kind == PT_INTERP || self.kind == PT_TLS
+    }
+
+    /// Tells whether it is a load that has a byte.
+    pub(crate) fn is_load(&self) -> bool
+        ensures { result ≡ is_load self.now }
+    {
+        self.kind == PT_LOAD && !(self.memory_size == 0 && self.file_size == 0)
+    }
+
+    /// Tells whether it has the address in memory, where it can be executed.
+    pub(crate) fn has_executable(&self, address: u64) -> bool
+        ensures { result ≡ has_executable self.now address }
+    {
+        self.flags & PF_X != 0
+            && self.address <= address
+            && address - self.address < self.memory_size
+    }
+
+    /// Tells whether it has an address in common with another, where each has one.
+    pub(crate) fn shares(&self, other: &ProgramHeader) -> bool
+        requires own { self.now.address + self.now.memory_size < 2 ^ 64 }
+        requires others { other.now.address + other.now.memory_size < 2 ^ 64 }
+        ensures { result ≡ share self.now other.now }
+    {
+        self.address < other.address + other.memory_size
+            && other.address < self.address + self.memory_size
+    }
 }
 
 /// The number of one byte at a place of the file.

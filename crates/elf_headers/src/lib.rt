@@ -2,7 +2,17 @@
 #![tactic(auto)]
 
 mod fault;
+mod form;
 mod header;
+mod loads;
+mod overlap;
+mod pages;
+mod places;
+mod segments;
+mod spans;
+#[cfg(test)]
+mod tests;
 
 pub use fault::LoadFault;
 pub use header::{ProgramHeader, u8_at, u16_at, u32_at, u64_at};
+pub use loads::read_headers;

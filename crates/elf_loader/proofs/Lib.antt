@@ -1,3 +1,3 @@
-pub mod Words
-pub mod Placed
-pub mod Faults
+mod FirstUnlisted
+mod Extents
+mod Placed

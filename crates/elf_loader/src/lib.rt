@@ -1,12 +1,10 @@
 //! Program files: `load` gives the image of an ELF64 executable, or the first check that the file fails.
 //!
-//! Files of one form are loaded so far: one program header, whose load is text that can be read and executed.
+//! The checks on the headers stand in `elf_headers`, those on the sections in `elf_sections`; here each code word is looked up in the tables
+//! of instructions, and the image is made.
 #![tactic(auto)]
 
-mod fault;
-mod form;
-mod header;
-mod loader;
+mod parts;
+mod words;
 
-pub use fault::LoadFault;
-pub use loader::load;
+pub use elf_headers::LoadFault;

@@ -1,0 +1,11 @@
+pub mod Answers
+pub mod Names
+pub mod Covering
+pub mod Loaded
+pub mod Tables
+pub mod Saying
+pub mod Sorting
+pub mod Spans
+pub mod Reading
+pub mod Listing
+pub mod Faults

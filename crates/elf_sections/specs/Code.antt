@@ -1,6 +1,6 @@
 -- The code words of a file: the words at multiples of 4 that lie wholly in a code section and begin with code.
 -- Source: ELF for the Arm 64-bit Architecture (AArch64), mapping symbols; this project for which words are looked at.
-use Rattle.std.specs.Prelude.{◌≡◌, ℕ, ◌+◌, ◌*◌, ◌^◌, Bool, cond, List, [], ◌∷◌, Option, Some, None, ◌&&◌, nat_le}
+use Rattle.std.specs.Prelude.{ℕ, ◌+◌, ◌*◌, ◌^◌, Bool, cond, List, [], ◌∷◌, Option, Some, None, ◌&&◌, nat_le}
 use Rattle.paged_memory.specs.Memory.{little_number}
 use Rattle.paged_memory.specs.Image.{or_zero, parts_byte}
 use Rattle.elf_headers.specs.Below.{any_below, answers_below}

@@ -1,3 +1,5 @@
 pub mod Sections
 pub mod Marks
 pub mod Code
+pub mod Cover
+pub mod Intervals

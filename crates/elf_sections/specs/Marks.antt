@@ -1,27 +1,29 @@
 -- Mapping symbols: which bytes of a section are code, and which are data.
 -- Source: ELF for the Arm 64-bit Architecture (AArch64), mapping symbols `$x` and `$d`, by name alone.
-use Rattle.std.specs.Prelude.{ℕ, zero, suc, ◌+◌, Bool, true, false, cond, List, [], ◌∷◌, ◌++◌, Option, Some, None, ◌==◌, ◌&&◌, ◌||◌, nat_le, if◌then◌else◌}
+use Rattle.std.specs.List.Sorted.{IsNonDecreasingBy}
+use Rattle.std.specs.Prelude.{◌≡◌, ◌<◌, ◌≤◌, length, get_or, ℕ, zero, suc, ◌+◌, Bool, true, false, cond, List, [], ◌∷◌, ◌++◌, Option, Some, None, ◌==◌, ◌&&◌, ◌||◌, nat_le, if◌then◌else◌}
+use Rattle.paged_memory.specs.Memory.{or_else}
 use Rattle.elf_headers.specs.Below.{answers_below}
 use Rattle.elf_headers.specs.Header.{number_at}
 use Rattle.elf_sections.specs.declared.section.SectionHeader.{SectionHeader}
 use Rattle.elf_sections.specs.declared.marks.Mark.{Mark}
-use Rattle.elf_sections.specs.Sections.{section_of, section_count, is_symbol_table, symbol_count, symbol_at, symbol_name, strings_of}
+use Rattle.elf_sections.specs.Sections.{section_of, section_count, is_symbol_table, symbol_count, symbol_at, strings_of}
 
--- byte number k of the name of a symbol
-abbrev pub name_byte : List ℕ → SectionHeader → ℕ → ℕ → ℕ
-name_byte file strings name k = number_at file (strings.offset + name + k) 1
+-- the name that begins at a place of the file is `$` and the letter, or these followed by `.` and a suffix
+unfoldable pub is_mapping_name : List ℕ → ℕ → ℕ → Bool
+is_mapping_name file at letter =
+    (number_at file at 1 == 36) && (number_at file (at + 1) 1 == letter) && ((number_at file (at + 2) 1 == 0) || (number_at file (at + 2) 1 == 46))
 
--- the name is `$` and the letter, or these followed by `.` and a suffix
-abbrev pub is_mapping_name : List ℕ → SectionHeader → ℕ → ℕ → Bool
-is_mapping_name file strings name letter =
-    (name_byte file strings name 0 == 36) && (name_byte file strings name 1 == letter) && ((name_byte file strings name 2 == 0) || (name_byte file strings name 2 == 46))
+-- where the name of the symbol at a place begins
+abbrev pub name_at : List ℕ → SectionHeader → ℕ → ℕ
+name_at file strings at = strings.offset + number_at file at 4
 
--- the mark of a symbol at a place, with st_shndx and st_value: `$x` begins code, `$d` data, and other names are no marks
+-- the mark of the symbol at a place, of its st_shndx and st_value: `$x` begins code, `$d` data, and other names are no marks
 unfoldable pub mark_at : List ℕ → SectionHeader → ℕ → Option Mark
 mark_at file strings at =
-    if is_mapping_name file strings (number_at file at 4) 120
+    if is_mapping_name file (name_at file strings at) 120
     then Some (record { section = number_at file (at + 6) 2; value = number_at file (at + 8) 8; code = true })
-    else if is_mapping_name file strings (number_at file at 4) 100
+    else if is_mapping_name file (name_at file strings at) 100
     then Some (record { section = number_at file (at + 6) 2; value = number_at file (at + 8) 8; code = false })
     else None
 
@@ -60,3 +62,25 @@ says_code (Some m) = m.code
 -- by these marks the byte at an address of the section begins code
 unfoldable pub is_code_at : List Mark → ℕ → ℕ → Bool
 is_code_at marks section a = says_code (governing section a None marks)
+
+-- the mark is of that section and has that value
+abbrev pub is_mark_of : ℕ → ℕ → Mark → Bool
+is_mark_of section value m = (m.section == section) && (m.value == value)
+
+-- the last mark of a section that has a value
+unfoldable pub last_mark : ℕ → ℕ → List Mark → Option Mark
+last_mark section value [] = None
+last_mark section value (m ∷ marks) = or_else (last_mark section value marks) (cond (is_mark_of section value m) (Some m) None)
+
+-- of each section and value both have the same last mark
+abbrev pub SayTheSame : List Mark → List Mark → Type 0
+SayTheSame marks others = (section value : ℕ) → last_mark section value marks ≡ last_mark section value others
+
+-- marks in order of section, and within a section in order of value
+pub record AreMarksInOrder (marks : List Mark) : Type 0 where
+  pub sections : IsNonDecreasingBy (λ m. m.section) marks
+  pub values : (i j : ℕ) (d : Mark) → i ≤ j → j < length marks → (get_or marks i d).section ≡ (get_or marks j d).section → (get_or marks i d).value ≤ (get_or marks j d).value
+
+-- a zero byte stands at the place or further on in the file
+abbrev pub HasEnd : List ℕ → ℕ → Type 0
+HasEnd file at = (p : ℕ) × (at ≤ p) × (p < length file) × (number_at file p 1 ≡ 0)

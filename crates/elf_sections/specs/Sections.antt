@@ -1,6 +1,6 @@
 -- The section table, and the checks on it and on each section.
 -- Source: ELF-64 Object File Format, the tables of Elf64_Ehdr, Elf64_Shdr and Elf64_Sym, of which places and widths are in bytes.
-use Rattle.std.specs.Prelude.{◌≡◌, ℕ, ◌+◌, ◌*◌, ◌-◌, ◌/◌, ◌%◌, ◌^◌, Bool, List, [], ◌∷◌, length, Option, ◌==◌, ◌&&◌, ◌||◌, not, nat_lt, nat_le, is_some}
+use Rattle.std.specs.Prelude.{◌≡◌, ℕ, ◌+◌, ◌*◌, ◌-◌, ◌/◌, ◌%◌, ◌^◌, ◌≤◌, ◌<◌, Bool, true, List, [], ◌∷◌, length, Option, ◌==◌, ◌&&◌, ◌||◌, not, nat_lt, nat_le, is_some}
 use Rattle.paged_memory.specs.Image.{parts_byte}
 use Rattle.elf_headers.specs.declared.fault.LoadFault.{LoadFault}
 use Rattle.elf_headers.specs.declared.fault.LoadFault.TheVariants.{Truncated, BadTable}
@@ -26,9 +26,13 @@ section_count file = number_at file 60 2
 unfoldable pub section_table_fault : List ℕ → Option LoadFault
 section_table_fault file = first_fault (
     fault_when (not (section_size file == 64) || (section_count file == 0)
-        || nat_lt (2 ^ 64 - 1) (table_end (sections_at file) 64 (section_count file))) (BadTable (sections_at file))
+    || nat_lt (2 ^ 64 - 1) (table_end (sections_at file) 64 (section_count file))) (BadTable (sections_at file))
     ∷ fault_when (nat_lt (length file) (table_end (sections_at file) 64 (section_count file))) (Truncated (length file))
     ∷ [])
+
+-- the table of section headers lies in the file
+abbrev pub HasSectionTable : List ℕ → Type 0
+HasSectionTable file = table_end (sections_at file) 64 (section_count file) ≤ length file
 
 -- the place of section header number i
 abbrev pub section_at : List ℕ → ℕ → ℕ
@@ -88,6 +92,16 @@ has_names file s = all_below (λ k. ends_inside file (strings_of file s) (symbol
 unfoldable pub is_good_table : List ℕ → SectionHeader → Bool
 is_good_table file s =
     (s.entry_size == 24) && nat_lt s.link (section_count file) && is_in_file file s && is_in_file file (strings_of file s) && has_names file s
+
+-- section number i is a symbol table, and the section before it is the same one
+pub record Repeats (file : List ℕ) (i : ℕ) : Type 0 where
+  pub later : 0 < i
+  pub table : is_symbol_table (section_of file i) ≡ true
+  pub before : is_symbol_table (section_of file (i - 1)) ≡ true
+  pub offset : (section_of file i).offset ≡ (section_of file (i - 1)).offset
+  pub size : (section_of file i).size ≡ (section_of file (i - 1)).size
+  pub link : (section_of file i).link ≡ (section_of file (i - 1)).link
+  pub entry_size : (section_of file i).entry_size ≡ (section_of file (i - 1)).entry_size
 
 -- ---- code sections
 

@@ -4,4 +4,4 @@ use Rattle.a64_decode.specs.Tree.{walk}
 use Rattle.a64_decode.proofs.tree.follow.Given as goal
 
 abbrev pub invariant-steps : goal.invariant-steps
-invariant-steps l = walk (DEPTH - l._step) l.nodes l.at l.word ≡ walk DEPTH l.nodes 0 l.word
+invariant-steps l = walk (DEPTH - l._step) l.nodes l.at l.word ≡ walk DEPTH l.nodes l.root l.word

@@ -1,0 +1,39 @@
+-- The fault of the section table, check by check.
+use Rattle.std.proofs.Common.{◌≡◌, ◌≢◌, ℕ, ◌^◌, true, false, not, List, [], Option, Some, None, refl, ap, ◌∙◌}
+use Rattle.std.proofs.lemmas.Bool.{ne_eqb, eq-eqb}
+use Rattle.paged_memory.specs.Memory.{or_else}
+use Rattle.elf_headers.specs.declared.fault.LoadFault.{LoadFault}
+use Rattle.elf_headers.specs.Below.{first_below, answers_below}
+use Rattle.elf_sections.specs.Sections.{sections_at, section_count, section_table_fault, section_fault, sections_fault, has_sections}
+use Rattle.elf_sections.specs.Code.{code_word, code_words}
+
+none_there : (file : List ℕ) → sections_at file ≡ 0 → has_sections file ≡ false
+none_there file h = ap not (eq-eqb (sections_at file) 0 h)
+
+one_there : (file : List ℕ) → sections_at file ≢ 0 → has_sections file ≡ true
+one_there file h = ap not (ne_eqb (sections_at file) 0 h)
+
+pub no_sections : (file : List ℕ) → sections_at file ≡ 0 → sections_fault file ≡ None
+unfolding sections_fault
+no_sections file h = rw (none_there file h) refl
+
+pub no_code : (file : List ℕ) → sections_at file ≡ 0 → [] ≡ code_words file
+unfolding code_words
+no_code file h = rw (none_there file h) refl
+
+pub table_refused : (file : List ℕ) (fault : LoadFault) → sections_at file ≢ 0 → section_table_fault file ≡ Some fault → sections_fault file ≡ Some fault
+unfolding sections_fault
+table_refused file fault h t = rw (one_there file h, t) refl
+
+or_none : (o : Option LoadFault) → or_else o None ≡ o
+or_none None = refl
+or_none (Some f) = refl
+
+-- where the table passes, the fault is that of the first section that fails
+pub section_refused : (file : List ℕ) (o : Option LoadFault) → sections_at file ≢ 0 → section_table_fault file ≡ None → first_below (section_fault file) (section_count file) ≡ o → sections_fault file ≡ o
+unfolding sections_fault
+section_refused file o h t f = rw (one_there file h, t) (or_none (first_below (section_fault file) (section_count file)) ∙ f)
+
+pub all_code : (file : List ℕ) → sections_at file ≢ 0 → answers_below (code_word file) (2 ^ 45) ≡ code_words file
+unfolding code_words
+all_code file h = rw (one_there file h) refl

@@ -1,0 +1,148 @@
+-- What marks say of a section: the last mark of each value decides.
+use Rattle.std.proofs.Common.{inl, inr, ◌≡◌, ℕ, zero, suc, ◌+◌, ◌-◌, ◌≤◌, true, false, cond, List, [], ◌∷◌, ◌++◌, Option, Some, None, refl, ap, sym, ◌∙◌, arith, add-one}
+use Rattle.std.specs.Prelude.{◌==◌, ◌&&◌, nat_le}
+use Rattle.std.proofs.lemmas.Bool.{cases_Bool}
+use Rattle.std.proofs.lemmas.List.{append-nil}
+use Rattle.std.proofs.lemmas.Bool.Decides.{nat_tests}
+use Rattle.paged_memory.specs.Memory.{or_else}
+use Rattle.elf_sections.specs.declared.marks.Mark.{Mark}
+use Rattle.elf_sections.specs.Sections.{section_of, is_symbol_table, Repeats}
+use Rattle.elf_sections.specs.Marks.{is_mark_of, last_mark, SayTheSame, later, governing, says_code, is_code_at, marks_below, table_marks}
+use Rattle.elf_sections.proofs.Tables.{table_marks-repeats}
+
+-- ---- the first of several
+
+or_else_assoc : (a b c : Option Mark) → or_else a (or_else b c) ≡ or_else (or_else a b) c
+or_else_assoc None b c = refl
+or_else_assoc (Some x) b c = refl
+
+or_else_twice : (a b : Option Mark) → or_else a (or_else a b) ≡ or_else a b
+or_else_twice None b = refl
+or_else_twice (Some x) b = refl
+
+or_else_none : (a : Option Mark) → or_else a None ≡ a
+or_else_none None = refl
+or_else_none (Some x) = refl
+
+or_else_some : (a c : Option Mark) (x : Mark) → or_else (or_else a (Some x)) c ≡ or_else a (Some x)
+or_else_some None c x = refl
+or_else_some (Some y) c x = refl
+
+-- ---- the last mark of a value
+
+pub last_mark-append : (s v : ℕ) (xs ys : List Mark) → last_mark s v (xs ++ ys) ≡ or_else (last_mark s v ys) (last_mark s v xs)
+unfolding last_mark
+last_mark-append s v [] ys = sym (or_else_none (last_mark s v ys))
+last_mark-append s v (x ∷ xs) ys = rw (last_mark-append s v xs ys) (sym (or_else_assoc (last_mark s v ys) (last_mark s v xs) (cond (is_mark_of s v x) (Some x) None)))
+
+pub same-append : (xs ys zs : List Mark) → SayTheSame xs ys → SayTheSame (xs ++ zs) (ys ++ zs)
+same-append xs ys zs h = λ s v. last_mark-append s v xs zs ∙ ap (or_else (last_mark s v zs)) (h s v) ∙ sym (last_mark-append s v ys zs)
+
+pub same-twice : (xs ys : List Mark) → SayTheSame ((xs ++ ys) ++ ys) (xs ++ ys)
+same-twice xs ys = λ s v. last_mark-append s v (xs ++ ys) ys ∙ ap (or_else (last_mark s v ys)) (last_mark-append s v xs ys) ∙ or_else_twice (last_mark s v ys) (last_mark s v xs) ∙ sym (last_mark-append s v xs ys)
+
+-- ---- the marks of the first sections
+
+pub marks_below-zero : (file : List ℕ) → marks_below file 0 ≡ []
+unfolding marks_below
+marks_below-zero file = refl
+
+pub marks_below-next : (file : List ℕ) (i : ℕ) → is_symbol_table (section_of file i) ≡ true → marks_below file (i + 1) ≡ marks_below file i ++ table_marks file (section_of file i)
+unfolding marks_below
+marks_below-next file i h = rw (add-one, h) refl
+
+pub marks_below-other : (file : List ℕ) (i : ℕ) → is_symbol_table (section_of file i) ≡ false → marks_below file (i + 1) ≡ marks_below file i
+unfolding marks_below
+marks_below-other file i h = rw (add-one, h) (append-nil (marks_below file i))
+
+-- a symbol table that comes again says nothing new
+pub marks_below-repeats : (file : List ℕ) (i : ℕ) → Repeats file i → SayTheSame (marks_below file (i + 1)) (marks_below file i)
+marks_below-repeats file i r =
+    let e : i - 1 + 1 ≡ i = omega (arith, r.later) in
+    let before : marks_below file i ≡ marks_below file (i - 1) ++ table_marks file (section_of file (i - 1)) = rw e at (marks_below-next file (i - 1) r.before) in
+    let here : marks_below file (i + 1) ≡ (marks_below file (i - 1) ++ table_marks file (section_of file (i - 1))) ++ table_marks file (section_of file (i - 1)) =
+    marks_below-next file i r.table ∙ (λ j. before j ++ table_marks-repeats file i r j) in
+    λ s v. ap (last_mark s v) here ∙ same-twice (marks_below file (i - 1)) (table_marks file (section_of file (i - 1))) s v ∙ ap (last_mark s v) (sym before)
+
+-- ---- what governs an address
+
+abbrev IsBelow : ℕ → Option Mark → Type 0
+IsBelow a None = Unit
+IsBelow a (Some m) = m.value ≤ a
+
+-- one of the address itself stays until another of that address comes
+governing-top : (s v : ℕ) (b : Mark) (ms : List Mark) → b.value ≡ v → governing s v (Some b) ms ≡ or_else (last_mark s v ms) (Some b)
+unfolding last_mark
+governing-top s v b [] e = refl
+governing-top s v b (m ∷ ms) e =
+    elim (cases_Bool (is_mark_of s v m)) [
+      | inl t ↦
+          let value : m.value ≡ v = grind (arith, nat_tests) in
+          let test : ((m.section == s) && nat_le m.value v && nat_le b.value m.value) ≡ true = grind (arith, nat_tests) in
+          rw (test, t) (governing-top s v m ms value ∙ sym (or_else_some (last_mark s v ms) (Some b) m))
+      | inr f ↦
+          let test : ((m.section == s) && nat_le m.value v && nat_le b.value m.value) ≡ false = grind (arith, nat_tests) in
+          rw (test, f) (governing-top s v b ms e ∙ ap (λ o. or_else o (Some b)) (sym (or_else_none (last_mark s v ms))))
+    ]
+
+governing-zero : (s : ℕ) (ms : List Mark) → governing s 0 None ms ≡ last_mark s 0 ms
+unfolding last_mark
+governing-zero s [] = refl
+governing-zero s (m ∷ ms) =
+    elim (cases_Bool (is_mark_of s 0 m)) [
+      | inl t ↦
+          let value : m.value ≡ 0 = grind (arith, nat_tests) in
+          let test : ((m.section == s) && nat_le m.value 0) ≡ true = grind (arith, nat_tests) in
+          rw (test, t) (governing-top s 0 m ms value)
+      | inr f ↦
+          let test : ((m.section == s) && nat_le m.value 0) ≡ false = grind (arith, nat_tests) in
+          rw (test, f) (governing-zero s ms ∙ sym (or_else_none (last_mark s 0 ms)))
+    ]
+
+-- a mark of the next address up governs it at once
+later-takes : (s a : ℕ) (best : Option Mark) (m : Mark) → IsBelow a best → is_mark_of s (suc a) m ≡ true → later s (suc a) best m ≡ Some m
+later-takes s a None m h t = let test : ((m.section == s) && nat_le m.value (suc a)) ≡ true = grind (arith, nat_tests) in rw test refl
+later-takes s a (Some b) m h t = let test : ((m.section == s) && nat_le m.value (suc a) && nat_le b.value m.value) ≡ true = grind (arith, nat_tests) in rw test refl
+
+later-skips : (s a : ℕ) (best : Option Mark) (m : Mark) → is_mark_of s (suc a) m ≡ true → later s a best m ≡ best
+later-skips s a None m t = let test : ((m.section == s) && nat_le m.value a) ≡ false = grind (arith, nat_tests) in rw test refl
+later-skips s a (Some b) m t = let test : ((m.section == s) && nat_le m.value a && nat_le b.value m.value) ≡ false = grind (arith, nat_tests) in rw test refl
+
+later-same : (s a : ℕ) (best : Option Mark) (m : Mark) → is_mark_of s (suc a) m ≡ false → later s (suc a) best m ≡ later s a best m
+later-same s a None m f = let test : ((m.section == s) && nat_le m.value (suc a)) ≡ ((m.section == s) && nat_le m.value a) = grind (arith, nat_tests) in rw test refl
+later-same s a (Some b) m f = let test : ((m.section == s) && nat_le m.value (suc a) && nat_le b.value m.value) ≡ ((m.section == s) && nat_le m.value a && nat_le b.value m.value) = grind (arith, nat_tests) in rw test refl
+
+later-below : (s a : ℕ) (best : Option Mark) (m : Mark) → IsBelow a best → IsBelow a (later s a best m)
+later-below s a None m h =
+    elim ((m.section == s) && nat_le m.value a) as (λ t. ((m.section == s) && nat_le m.value a) ≡ t → IsBelow a (cond t (Some m) None)) [
+      | true ↦ λ t. grind (arith, nat_tests)
+      | false ↦ λ t. tt
+    ] refl
+later-below s a (Some b) m h =
+    elim ((m.section == s) && nat_le m.value a && nat_le b.value m.value) as (λ t. ((m.section == s) && nat_le m.value a && nat_le b.value m.value) ≡ t → IsBelow a (cond t (Some m) (Some b))) [
+      | true ↦ λ t. grind (arith, nat_tests)
+      | false ↦ λ t. h
+    ] refl
+
+-- at the next address up the last mark of that address governs, else what governs one below
+governing-suc : (s a : ℕ) (best : Option Mark) (ms : List Mark) → IsBelow a best → governing s (suc a) best ms ≡ or_else (last_mark s (suc a) ms) (governing s a best ms)
+unfolding last_mark
+governing-suc s a best [] h = refl
+governing-suc s a best (m ∷ ms) h =
+    elim (cases_Bool (is_mark_of s (suc a) m)) [
+      | inl t ↦
+          let value : m.value ≡ suc a = grind (arith, nat_tests) in
+          rw (later-takes s a best m h t, later-skips s a best m t, t) (governing-top s (suc a) m ms value ∙ sym (or_else_some (last_mark s (suc a) ms) (governing s a best ms) m))
+      | inr f ↦
+          rw (later-same s a best m f, f) (governing-suc s a (later s a best m) ms (later-below s a best m h) ∙ ap (λ o. or_else o (governing s a (later s a best m) ms)) (sym (or_else_none (last_mark s (suc a) ms))))
+    ]
+
+governing-same : (xs ys : List Mark) (s a : ℕ) → ((v : ℕ) → last_mark s v xs ≡ last_mark s v ys) → governing s a None xs ≡ governing s a None ys
+governing-same xs ys s zero h = governing-zero s xs ∙ h 0 ∙ sym (governing-zero s ys)
+governing-same xs ys s (suc a) h =
+    governing-suc s a None xs tt ∙ (λ j. or_else (h (suc a) j) (governing-same xs ys s a h j)) ∙ sym (governing-suc s a None ys tt)
+
+-- marks that say the same make the same code
+pub is_code_at-same : (xs ys : List Mark) (s a : ℕ) → ((v : ℕ) → last_mark s v xs ≡ last_mark s v ys) → is_code_at xs s a ≡ is_code_at ys s a
+unfolding is_code_at
+is_code_at-same xs ys s a h = ap says_code (governing-same xs ys s a h)

@@ -1,0 +1,6 @@
+use Rattle.std.proofs.Common.{◌∙◌}
+use Rattle.elf_sections.proofs.Loaded.{is_all_loaded-by}
+use Rattle.elf_sections.proofs.checks.is_loaded.Goals as goal
+
+pub returns : goal.returns
+returns c = c.has_all.ensures ∙ is_all_loaded-by c.args.file.now c.args.cover.now.loads.items c.args.s.now c.requires.same

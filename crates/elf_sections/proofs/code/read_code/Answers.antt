@@ -1,0 +1,32 @@
+use Rattle.std.proofs.Common.{◌≡◌, ◌≢◌, ◌∙◌, sym, Some, None, rules}
+use Rattle.elf_sections.specs.Sections.{sections_at, sections_fault}
+use Rattle.elf_sections.proofs.Faults.{no_sections, no_code, table_refused, section_refused, all_code}
+use Rattle.elf_sections.proofs.Loaded.{sound_loads}
+use Rattle.elf_sections.proofs.code.read_code.Goals as goal
+
+pub returns-then-u64_at-eq0-clause-accepted : goal.returns-then-u64_at-eq0-clause-accepted
+returns-then-u64_at-eq0-clause-accepted c = no_sections c.args.file.now (sym c.u64_at.ensures ∙ c.if-u64_at-eq0.true)
+
+pub returns-then-u64_at-eq0-clause-code : goal.returns-then-u64_at-eq0-clause-code
+returns-then-u64_at-eq0-clause-code c = c.new.ensures.items ∙ no_code c.args.file.now (sym c.u64_at.ensures ∙ c.if-u64_at-eq0.true)
+
+pub returns-in_err-check_section_table-clause-refused : goal.returns-in_err-check_section_table-clause-refused
+returns-in_err-check_section_table-clause-refused c =
+    let there : sections_at c.args.file.now ≢ 0 = λ e. c.if-u64_at-eq0.false (c.u64_at.ensures ∙ e) in
+    let refused : sections_fault c.args.file.now ≡ Some c.in_err-check_section_table.field-0.0 = table_refused c.args.file.now c.in_err-check_section_table.field-0.0 there c.in_err-check_section_table.ensures.tells in
+    search rules
+
+pub new-requires-2 : goal.new-requires-2
+new-requires-2 c = sound_loads c.args.file.now c.args.loads.now c.requires.sound
+
+pub returns-in_err-check_sections-clause-refused : goal.returns-in_err-check_sections-clause-refused
+returns-in_err-check_sections-clause-refused c =
+    let there : sections_at c.args.file.now ≢ 0 = λ e. c.if-u64_at-eq0.false (c.u64_at.ensures ∙ e) in
+    let refused : sections_fault c.args.file.now ≡ Some c.in_err-check_sections.field-0.0 = section_refused c.args.file.now (Some c.in_err-check_sections.field-0.0) there c.in_ok-check_section_table.ensures.tells c.in_err-check_sections.ensures in
+    search rules
+
+pub returns-in-Ok-code_of-clause-accepted : goal.returns-in-Ok-code_of-clause-accepted
+returns-in-Ok-code_of-clause-accepted c = section_refused c.args.file.now None (λ e. c.if-u64_at-eq0.false (c.u64_at.ensures ∙ e)) c.in_ok-check_section_table.ensures.tells c.in_ok-check_sections.ensures
+
+pub returns-in-Ok-code_of-clause-code : goal.returns-in-Ok-code_of-clause-code
+returns-in-Ok-code_of-clause-code c = c.in-Ok-code_of.ensures ∙ all_code c.args.file.now (λ e. c.if-u64_at-eq0.false (c.u64_at.ensures ∙ e))

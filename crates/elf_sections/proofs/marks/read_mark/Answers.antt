@@ -1,0 +1,17 @@
+use Rattle.std.proofs.Common.{◌+◌, arith}
+use Rattle.elf_sections.specs.Marks.{HasEnd}
+use Rattle.elf_sections.proofs.Names.{name_ends}
+use Rattle.elf_sections.proofs.marks.read_mark.Goals as goal
+use Rattle.elf_sections.proofs.marks.read_mark.Goals.{After-u32_at}
+
+ends : (c : After-u32_at) → HasEnd c.args.file.now (c.args.strings.now.offset + c.u32_at.result)
+ends c = rw c.u32_at.ensures (name_ends c.args.file.now c.args.strings.now _ c.requires.strings c.requires.ends)
+
+pub overflow_add-name : goal.overflow_add-name
+overflow_add-name c = let e = ends (goal.at.overflow_add-name c).After-u32_at in omega (arith, e.1, e.2)
+
+pub names_mapping-requires-clause-ends : goal.names_mapping-requires-clause-ends
+names_mapping-requires-clause-ends c = ends (goal.at.names_mapping-requires-clause-ends c).After-u32_at
+
+pub names_mapping-requires-else-names_mapping-clause-ends : goal.names_mapping-requires-else-names_mapping-clause-ends
+names_mapping-requires-else-names_mapping-clause-ends c = ends (goal.at.names_mapping-requires-else-names_mapping-clause-ends c).After-u32_at

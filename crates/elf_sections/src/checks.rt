@@ -1,0 +1,59 @@
+//! The checks on each section.
+ghost use Rattle.std.specs.Prelude.{◌≡◌, ◌≤◌, ◌<◌, length, None};
+ghost use Rattle.std.specs.List.Sorted.{IsPermutation};
+ghost use Rattle.elf_headers.specs.Below.{first_below};
+ghost use Rattle.elf_headers.specs.Fault.{Tells};
+ghost use Rattle.elf_headers.specs.Loads.{loads_of};
+ghost use Rattle.elf_sections.specs.Sections.{section_count, section_fault, is_all_loaded, HasSectionTable};
+ghost use Rattle.elf_sections.specs.Cover.{IsCover};
+
+use crate::cover::Cover;
+use crate::section::{SectionHeader, has_code, place_of_section, read_section, repeats_table};
+use crate::symbols::is_good_symbol_table;
+use elf_headers::{LoadFault, u16_at};
+
+/// Tells whether each address of the section is in a load.
+fn is_loaded(file: &[u8], cover: &Cover, s: &SectionHeader) -> bool
+    requires cover { IsCover cover.now }
+    requires same { IsPermutation (loads_of file.now) cover.now.loads.items }
+    ensures { result ≡ is_all_loaded file.now s.now }
+{
+    cover.has_all(s.address, s.size)
+}
+
+/// Checks section number `i`.
+#[tactic(auto, unfolding(crate::specs::Sections::section_fault))]
+fn check_section(file: &[u8], cover: &Cover, i: u32) -> Result<(), LoadFault>
+    requires table { HasSectionTable file.now }
+    requires number { i < section_count file.now }
+    requires before { first_below (section_fault file.now) i ≡ None }
+    requires cover { IsCover cover.now }
+    requires same { IsPermutation (loads_of file.now) cover.now.loads.items }
+    ensures { Tells result (section_fault file.now i) }
+{
+    if repeats_table(file, i) {
+        return Ok(());
+    }
+    let s = read_section(file, i);
+    if s.kind == 2 && !is_good_symbol_table(file, &s) {
+        return Err(LoadFault::BadTable(place_of_section(file, i)));
+    }
+    if has_code(&s) && !is_loaded(file, cover, &s) {
+        return Err(LoadFault::BadTable(place_of_section(file, i)));
+    }
+    Ok(())
+}
+
+/// Checks each section in order.
+pub fn check_sections(file: &[u8], cover: &Cover) -> Result<(), LoadFault>
+    requires header { 64 ≤ length file.now }
+    requires table { HasSectionTable file.now }
+    requires cover { IsCover cover.now }
+    requires same { IsPermutation (loads_of file.now) cover.now.loads.items }
+    ensures { Tells result (first_below (section_fault file.now) (section_count file.now)) }
+{
+    for i in 0..u32::from(u16_at(file, 60)) {
+        check_section(file, cover, i)?;
+    }
+    Ok(())
+}

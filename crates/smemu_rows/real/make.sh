@@ -1,0 +1,25 @@
+#!/usr/bin/env bash
+# Makes the program files real-*.elf of ../data by an assembler and two linkers (Debian: binutils-aarch64-linux-gnu, binutils, lld).
+#
+#     crates/smemu_rows/real/make.sh
+set -eu
+cd "$(dirname "${BASH_SOURCE[0]}")"
+work=$(mktemp -d)
+data=$PWD/../data
+trap 'rm -r "$work"' EXIT
+for source in sum tls plain shared; do
+    aarch64-linux-gnu-as -o "$work/$source.o" "$source.s"
+done
+as --64 -o "$work/x86.o" x86.s
+cd "$work"
+# static, with notes, a full section table and mapping symbols for the data in the text
+ld.lld -static --build-id=sha1 -o "$data/real-lld.elf" sum.o
+aarch64-linux-gnu-ld -static --build-id=sha1 -z max-page-size=4096 -o "$data/real-gnu.elf" sum.o
+ld.lld -static --strip-all -o "$data/real-stripped.elf" sum.o
+# one for each reason to refuse
+ld.lld -pie -o "$data/real-pie.elf" plain.o
+aarch64-linux-gnu-ld -shared -o libshared.so shared.o
+aarch64-linux-gnu-ld -no-pie -z max-page-size=4096 --dynamic-linker /lib/ld.so --no-as-needed -o "$data/real-interpreter.elf" plain.o libshared.so
+aarch64-linux-gnu-ld -static -z max-page-size=4096 -o "$data/real-tls.elf" tls.o
+ld -static -o "$data/real-x86-64.elf" x86.o
+cp plain.o "$data/real-object.elf"

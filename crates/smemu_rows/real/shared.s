@@ -1,0 +1,3 @@
+        .text
+        .globl  helper
+helper: ret

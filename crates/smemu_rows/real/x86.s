@@ -1,0 +1,4 @@
+        .text
+        .globl  _start
+_start: mov     $60, %eax
+        syscall
