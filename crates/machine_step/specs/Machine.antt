@@ -8,7 +8,7 @@ use Rattle.machine_step.specs.declared.machine.StepEnd.TheVariants.{Next, Call, 
 
 -- the state of a machine and a bank
 abbrev pub core_of : Machine → Bank → Core
-core_of m bank = record { scalars = m.scalars; tpidr = m.tpidr; tpidr2 = m.tpidr2; streaming = m.streaming; za_on = m.za_on; memory = m.pages; bank = bank }
+core_of m bank = record { scalars = m.scalars; tpidr = m.tpidr; tpidr2 = m.tpidr2; streaming = m.streaming; za_on = m.za_on; memory = m.pages.memory; bank = bank }
 
 -- the answer of a step is the effect of the instruction, and all answers but Next leave the state as it was
 abbrev pub Steps : Effect → Core → Core → StepEnd → Type 0

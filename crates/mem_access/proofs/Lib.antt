@@ -1,0 +1,6 @@
+pub mod Shared
+pub mod InMemory
+pub mod Halves
+pub mod Faults
+pub mod OneRegister
+pub mod Atomics

@@ -1,7 +1,7 @@
 -- Which bytes of memory an instruction accesses, and how.
 -- Source: DDI 0487, C6.2, the pages of the loads, stores and atomic instructions: address generation, and C1.3.3, addressing modes.
 -- Addresses are taken modulo 2 ^ 64.
-use Rattle.std.specs.Prelude.{ℕ, ◌+◌, ◌*◌, ◌%◌, ◌^◌, ◌==◌, Bool, true, false, cond, Option, Some, None, ℤ, pos, ◌*ℤ◌}
+use Rattle.std.specs.Prelude.{ℕ, ◌+◌, ◌*◌, ◌%◌, ◌^◌, ◌==◌, Bool, true, false, pos, ◌*ℤ◌}
 use Rattle.sm_types.specs.declared.scalars.Scalars.{Scalars}
 use Rattle.sm_types.specs.declared.insn.AccessSize.{AccessSize}
 use Rattle.sm_types.specs.declared.insn.AccessSize.TheVariants as size

@@ -44,6 +44,22 @@ align_fault access = raise_when (access.aligned && not (access.address % access.
 abbrev pub shared_fault : MemoryAccess → Option Exception
 shared_fault access = option_map Shared (first_shared access.address access.size)
 
+-- the first of the checks that look at no page
+abbrev pub place_fault : MemoryAccess → Scalars → Option Exception
+place_fault access s = first_fault (sp_fault access s ∷ align_fault access ∷ shared_fault access ∷ [])
+
+-- the first of the n bytes from an address on that cannot be read
+abbrev pub denied_read : Memory → ℕ → ℕ → Option Exception
+denied_read m a n = option_map (λ x. Data x Read) (first_without 4 m a n)
+
+-- the first that cannot be written
+abbrev pub denied_write : Memory → ℕ → ℕ → Option Exception
+denied_write m a n = option_map (λ x. Data x Write) (first_without 2 m a n)
+
+-- the first that cannot be read, else the first that cannot be written
+abbrev pub denied_update : Memory → ℕ → ℕ → Option Exception
+denied_update m a n = or_else (denied_read m a n) (denied_write m a n)
+
 -- the check, where the access is of that kind
 abbrev pub check_when : Bool → Option Exception → Option Exception
 check_when true check = check
@@ -51,11 +67,11 @@ check_when false check = None
 
 -- each byte can be read, where the access reads
 abbrev pub read_fault : MemoryAccess → Memory → Option Exception
-read_fault access m = check_when access.reads (option_map (λ a. Data a Read) (first_without 4 m access.address access.size))
+read_fault access m = check_when access.reads (denied_read m access.address access.size)
 
 -- each byte can be written, where the access writes
 abbrev pub write_fault : MemoryAccess → Memory → Option Exception
-write_fault access m = check_when access.writes (option_map (λ a. Data a Write) (first_without 2 m access.address access.size))
+write_fault access m = check_when access.writes (denied_write m access.address access.size)
 
 -- the exception of the first check that fails, if any does
 unfoldable pub access_fault : MemoryAccess → Scalars → Memory → Option Exception

@@ -1,11 +1,11 @@
 -- The registers and the memory after a load, a store or an atomic instruction that no check refuses. PC is moved by the machine.
 -- Source: DDI 0487, C6.2: LDR, LDRB, LDRH, LDRSB, LDRSH, LDRSW, LDUR.., STR.., STUR.., LDP, STP, LDAR, STLR, CAS, SWP, LDADD.. and their kin.
-use Rattle.std.specs.Prelude.{◌≡◌, ℕ, ◌+◌, ◌%◌, ◌^◌, ◌==◌, Bool, true, false, cond, Option, Some, None}
+use Rattle.std.specs.Prelude.{◌≡◌, ℕ, ◌+◌, ◌%◌, ◌^◌, ◌==◌, Bool, true, false, cond, Option, Some, None, Result, Ok, Err, option_and_then}
 use Rattle.sm_types.specs.declared.scalars.Scalars.{Scalars}
 use Rattle.sm_types.specs.declared.insn.Insn.{Insn}
 use Rattle.sm_types.specs.declared.insn.Insn.TheVariants as insn
 use Rattle.sm_types.specs.declared.insn.LoadStoreOp.{LoadStoreOp}
-use Rattle.sm_types.specs.declared.insn.LoadStoreOp.TheVariants.{Store, Load, LoadSignedTo64, LoadSignedTo32}
+use Rattle.sm_types.specs.declared.insn.LoadStoreOp.TheVariants.{Store}
 use Rattle.sm_types.specs.declared.insn.LoadStore.{LoadStore}
 use Rattle.sm_types.specs.declared.insn.LoadLiteral.{LoadLiteral}
 use Rattle.sm_types.specs.declared.insn.PairOp.{PairOp}
@@ -13,9 +13,13 @@ use Rattle.sm_types.specs.declared.insn.PairOp.TheVariants.{Stp, Ldp}
 use Rattle.sm_types.specs.declared.insn.LoadStorePair.{LoadStorePair}
 use Rattle.sm_types.specs.declared.insn.Atomic.{Atomic}
 use Rattle.sm_types.specs.declared.insn.Atomic.TheVariants as atomic
-use Rattle.scalar_exec.specs.Registers.{x_of, x_or_sp, with_x}
+use Rattle.scalar_exec.specs.Registers.{x_of, with_x}
 use Rattle.paged_memory.specs.Memory.{Memory}
+use Rattle.sm_types.specs.declared.stop.Exception.{Exception}
 use Rattle.mem_access.specs.declared.access.MemoryAccess.{MemoryAccess}
+use Rattle.mem_access.specs.declared.stop.AccessStop.{AccessStop}
+use Rattle.mem_access.specs.declared.stop.AccessStop.TheVariants.{Raise, Memory as WantOfMemory}
+use Rattle.mem_access.specs.Checks.{access_fault}
 use Rattle.mem_access.specs.Access.{bytes_in, with_base, with_pair_base, register_size, literal_size, load_store_access, load_literal_access, pair_access, atomic_access}
 use Rattle.mem_access.specs.Values.{number_in, with_number, loaded, literal_loaded, low_bytes, updated}
 
@@ -88,3 +92,17 @@ after_access (insn.LoadLiteral x) s m = after_load_literal x (load_literal_acces
 after_access (insn.LoadStorePair x) s m = after_pair x.op x (pair_access x s).address s m
 after_access (insn.Atomic x) s m = after_atomic x (atomic_access x s).address s m
 after_access it s m = record { scalars = s; memory = m }
+
+-- the exception of the first check of its access that fails, if any does
+abbrev pub transfer_fault : Insn → Scalars → Memory → Option Exception
+transfer_fault it s m = option_and_then (λ access. access_fault access s m) (access_of it s)
+
+-- the exception for which an access is not made; want of memory is none
+abbrev pub raised_by : AccessStop → Option Exception
+raised_by (Raise exception) = Some exception
+raised_by WantOfMemory = None
+
+-- the answer of an access that has this fault, if any, and makes this: after Ok it is made, and any other answer leaves what was
+abbrev pub Transfers : Option Exception → AfterAccess → AfterAccess → AfterAccess → Result (Unit {0}) AccessStop → Type 0
+Transfers fault made old new (Ok done) = (fault ≡ None) × (new ≡ made)
+Transfers fault made old new (Err stop) = (fault ≡ raised_by stop) × (new ≡ old)

@@ -1,6 +1,6 @@
 -- The values that accesses read and write. Source: DDI 0487, C6.2, the operations of the loads, stores and atomic instructions; bytes in
 -- memory are little-endian.
-use Rattle.std.specs.Prelude.{ℕ, ◌+◌, ◌-◌, ◌*◌, ◌%◌, ◌^◌, ◌==◌, Bool, true, false, cond, List, Option, Some, None, nat_le, bit_and, bit_or, bit_xor, ℤ, int_le, max, min}
+use Rattle.std.specs.Prelude.{ℕ, ◌+◌, ◌-◌, ◌*◌, ◌%◌, ◌^◌, true, false, cond, List, Option, Some, None, bit_and, bit_or, bit_xor, ℤ, int_le, max, min}
 use Rattle.std.specs.Int.{bytes_low_first}
 use Rattle.sm_types.specs.declared.insn.LoadStoreOp.{LoadStoreOp}
 use Rattle.sm_types.specs.declared.insn.LoadStoreOp.TheVariants.{Store, Load, LoadSignedTo64, LoadSignedTo32}

@@ -60,9 +60,13 @@ fn address_of(address: &Address, size: AccessSize, base: u64, s: &Scalars) -> u6
         Address::Unscaled { offset } => address_at(base, i64::from(*offset)),
         Address::PostIndex { offset: _ } => base,
         Address::PreIndex { offset } => address_at(base, i64::from(*offset)),
-        Address::Register { rm, extend: kind, scaled } => base.wrapping_add(
-            extend(read_x(s, *rm), *kind, true).wrapping_mul(scale_of(*scaled, size)),
-        ),
+        Address::Register {
+            rm,
+            extend: kind,
+            scaled,
+        } => base.wrapping_add(extend(read_x(s, *rm), *kind, true).wrapping_mul(scale_of(
+            *scaled, size,
+        ))),
     }
 }
 
@@ -81,7 +85,11 @@ pub fn write_base(s: &mut Scalars, address: &Address, rn: u8)
         }
         Address::Offset { imm: _ }
         | Address::Unscaled { offset: _ }
-        | Address::Register { rm: _, extend: _, scaled: _ } => {}
+        | Address::Register {
+            rm: _,
+            extend: _,
+            scaled: _,
+        } => {}
     }
 }
 
@@ -90,7 +98,9 @@ pub fn write_base(s: &mut Scalars, address: &Address, rn: u8)
 #[tactic(auto, unfolding(crate::specs::Access::load_store_access))]
 pub fn load_store_access(x: &LoadStore, s: &Scalars) -> MemoryAccess
     requires { IsLoadStore x.now }
-    ensures { result ≡ load_store_access x.now s.now }
+    ensures value { result ≡ load_store_access x.now s.now }
+    ensures some { 1 ≤ result.size }
+    ensures small { result.size ≤ 16 }
 {
     let writes = x.op == LoadStoreOp::Store;
     MemoryAccess {
@@ -103,14 +113,14 @@ pub fn load_store_access(x: &LoadStore, s: &Scalars) -> MemoryAccess
     }
 }
 
-/// The bytes of a load from beside the program counter.
+/// The size of a load from beside the program counter.
 #[inline]
-pub fn literal_size(op: LoadLiteralOp) -> u64
-    ensures { result ≡ literal_size op }
+pub fn literal_size(op: LoadLiteralOp) -> AccessSize
+    ensures { bytes_in result ≡ literal_size op }
 {
     match op {
-        LoadLiteralOp::Word | LoadLiteralOp::SignedWord => 4,
-        LoadLiteralOp::Doubleword => 8,
+        LoadLiteralOp::Word | LoadLiteralOp::SignedWord => AccessSize::Word,
+        LoadLiteralOp::Doubleword => AccessSize::Doubleword,
     }
 }
 
@@ -118,11 +128,13 @@ pub fn literal_size(op: LoadLiteralOp) -> u64
 #[inline]
 #[tactic(auto, unfolding(crate::specs::Access::load_literal_access))]
 pub fn load_literal_access(x: &LoadLiteral, s: &Scalars) -> MemoryAccess
-    ensures { result ≡ load_literal_access x.now s.now }
+    ensures value { result ≡ load_literal_access x.now s.now }
+    ensures some { 1 ≤ result.size }
+    ensures small { result.size ≤ 16 }
 {
     MemoryAccess {
         address: branch_target(s.pc, x.words),
-        size: literal_size(x.op),
+        size: bytes_in(literal_size(x.op)),
         on_sp: false,
         aligned: false,
         reads: true,
@@ -185,7 +197,9 @@ pub fn write_pair_base(s: &mut Scalars, x: &LoadStorePair)
 #[tactic(auto, unfolding(crate::specs::Access::pair_access))]
 pub fn pair_access(x: &LoadStorePair, s: &Scalars) -> MemoryAccess
     requires { IsLoadStorePair x.now }
-    ensures { result ≡ pair_access x.now s.now }
+    ensures value { result ≡ pair_access x.now s.now }
+    ensures some { 1 ≤ result.size }
+    ensures small { result.size ≤ 16 }
 {
     let reads = x.op == PairOp::Ldp;
     MemoryAccess {
@@ -202,7 +216,9 @@ pub fn pair_access(x: &LoadStorePair, s: &Scalars) -> MemoryAccess
 #[inline]
 fn at_base(size: AccessSize, rn: u8, reads: bool, writes: bool, s: &Scalars) -> MemoryAccess
     requires { rn < 32 }
-    ensures { result ≡ at_base size rn reads writes s.now }
+    ensures value { result ≡ at_base size rn reads writes s.now }
+    ensures some { 1 ≤ result.size }
+    ensures small { result.size ≤ 16 }
 {
     MemoryAccess {
         address: read_x_or_sp(s, rn),
@@ -219,7 +235,9 @@ fn at_base(size: AccessSize, rn: u8, reads: bool, writes: bool, s: &Scalars) -> 
 #[tactic(auto, unfolding(crate::specs::Access::atomic_access))]
 pub fn atomic_access(x: &Atomic, s: &Scalars) -> MemoryAccess
     requires { IsAtomic x.now }
-    ensures { result ≡ atomic_access x.now s.now }
+    ensures value { result ≡ atomic_access x.now s.now }
+    ensures some { 1 ≤ result.size }
+    ensures small { result.size ≤ 16 }
 {
     match x {
         Atomic::Ldar { size, rn, rt: _ } => at_base(*size, *rn, true, false, s),

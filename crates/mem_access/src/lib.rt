@@ -3,8 +3,15 @@
 #![tactic(auto)]
 
 mod access;
+mod atomic;
+mod checks;
+mod exchange;
+mod numbers;
+mod pairs;
 mod stop;
+mod transfers;
 mod values;
 
 pub use access::MemoryAccess;
 pub use stop::AccessStop;
+pub use transfers::transfer;

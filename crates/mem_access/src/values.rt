@@ -72,7 +72,11 @@ fn signed_narrow(value: u64, half: i64) -> i64
     ensures { result ≡ (if int_lt (pos value) half then pos value else pos value -ℤ (half +ℤ half)) }
 {
     let number = value as i64;
-    if number < half { number } else { number - 2 * half }
+    if number < half {
+        number
+    } else {
+        number - 2 * half
+    }
 }
 
 /// The number of the bytes in two's complement.

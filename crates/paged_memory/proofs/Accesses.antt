@@ -97,10 +97,40 @@ no_more (Some bs) = refl
 pub bytes_with-stop : (need : ℕ) (m : Memory) (a d n : ℕ) → byte_with need m ((a + d) % 2 ^ 64) ≡ None → d < n → bytes_with need m a n ≡ None
 bytes_with-stop need m a d n gone l = bytes_with-stays need m a (d + 1) n (bytes_with-next need m a d ∙ rw gone (no_more (bytes_with need m a d))) (omega arith)
 
+-- none before it, and it is not there
+pub first_without-at : (need : ℕ) (m : Memory) (a d n : ℕ) → first_without need m a d ≡ None → byte_with need m ((a + d) % 2 ^ 64) ≡ None → d < n → first_without need m a n ≡ Some ((a + d) % 2 ^ 64)
+first_without-at need m a d n before gone l = first_without-stays need m a (d + 1) n _ (first_without-next need m a d ∙ rw (before, gone) refl) (omega arith)
+
 pub first_without-stop : (need : ℕ) (m : Memory) (a d n : ℕ) (bs : List ℕ) → bytes_with need m a d ≡ Some bs → byte_with need m ((a + d) % 2 ^ 64) ≡ None → d < n → first_without need m a n ≡ Some ((a + d) % 2 ^ 64)
-first_without-stop need m a d n bs there gone l =
-    let before : first_without need m a d ≡ None = first_without-none need m a d (rw there refl) in
-    first_without-stays need m a (d + 1) n _ (first_without-next need m a d ∙ rw (before, gone) refl) (omega arith)
+first_without-stop need m a d n bs there gone l = first_without-at need m a d n (first_without-none need m a d (rw there refl)) gone l
+
+or_else-none : (o : Option ℕ) → o ≡ or_else o None
+or_else-none None = refl
+or_else-none (Some x) = refl
+
+or_else-assoc : (o p q : Option ℕ) → or_else (or_else o p) q ≡ or_else o (or_else p q)
+or_else-assoc None p q = refl
+or_else-assoc (Some x) p q = refl
+
+-- the first of two runs, one after the other
+pub first_without-join : (need : ℕ) (m : Memory) (a d n : ℕ) → first_without need m a (d + n) ≡ or_else (first_without need m a d) (first_without need m ((a + d) % 2 ^ 64) n)
+unfolding first_without
+first_without-join need m a d zero = let e : d + 0 ≡ d = omega arith in rw e (or_else-none (first_without need m a d))
+first_without-join need m a d (suc n) =
+    let e : d + suc n ≡ suc (d + n) = omega arith in
+    rw (e, first_without-join need m a d n, round_twice a d n) (or_else-assoc (first_without need m a d) (first_without need m ((a + d) % 2 ^ 64) n) (unless_there ((a + (d + n)) % 2 ^ 64) (byte_with need m ((a + (d + n)) % 2 ^ 64))))
+
+-- a run that is there after others that are
+pub first_without-run : (need : ℕ) (m : Memory) (a d n : ℕ) (bs : List ℕ) → first_without need m a d ≡ None → bytes_with need m ((a + d) % 2 ^ 64) n ≡ Some bs → first_without need m a (d + n) ≡ None
+first_without-run need m a d n bs before there =
+    let run : first_without need m ((a + d) % 2 ^ 64) n ≡ None = first_without-none need m ((a + d) % 2 ^ 64) n (rw there refl) in
+    first_without-join need m a d n ∙ rw (before, run) refl
+
+-- the byte at the address itself is not there
+pub first_without-first : (need : ℕ) (m : Memory) (a n : ℕ) → a < 2 ^ 64 → byte_with need m a ≡ None → 0 < n → first_without need m a n ≡ Some a
+first_without-first need m a n low gone l =
+    let same : (a + 0) % 2 ^ 64 ≡ a = omega arith in
+    first_without-at need m a 0 n (first_without-zero need m a) (ap (byte_with need m) same ∙ gone) l ∙ ap Some same
 
 pub bytes_with-first : (need : ℕ) (m : Memory) (a n : ℕ) → a < 2 ^ 64 → byte_with need m a ≡ None → 0 < n → bytes_with need m a n ≡ None
 bytes_with-first need m a n low gone l =

@@ -12,3 +12,5 @@ pub mod Set
 pub mod Touch
 pub mod Parts
 pub mod Count
+pub mod Owned
+pub mod Permitted

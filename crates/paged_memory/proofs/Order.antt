@@ -71,6 +71,10 @@ length-entries (p ∷ ps) = ap suc (length-entries ps)
 pub len-perm_of : (ps : List Page) (m : Memory) → IsFine ps → memory_of ps ≡ m → len m.perm ≡ length ps
 len-perm_of ps m fine e = rw (← e) (len-entries (perm_of ps) ∙ ap length (entries-perm_of ps fine.sorted) ∙ length-entries ps)
 
+-- pages of the same flags are as many
+pub same_count : (ps qs : List Page) → IsFine ps → IsFine qs → perm_of qs ≡ perm_of ps → length qs ≡ length ps
+same_count ps qs fine fine' e = sym (len-perm_of qs (memory_of qs) fine' refl) ∙ ap len e ∙ len-perm_of ps (memory_of ps) fine refl
+
 less_number : (k n : ℕ) → is_lt (nat_cmp k n) ≡ true → k < n
 less_number k n h = grind (arith, nat_tests)
 

@@ -153,6 +153,10 @@ pub set_bytes-none : (m : FinMap nat_cmp ℕ) (a : ℕ) → m ≡ set_bytes m a 
 unfolding set_bytes
 set_bytes-none m a = refl
 
+pub no_bytes : (bs : List ℕ) → length bs ≡ 0 → bs ≡ []
+no_bytes [] h = refl
+no_bytes (b ∷ bs) h = absurd (omega arith)
+
 -- one more run of the bytes of a list
 pub set_bytes-more : (m now new : FinMap nat_cmp ℕ) (a d n : ℕ) (bs : List ℕ) → d ≤ length bs → now ≡ set_bytes m a (take d bs) → new ≡ set_bytes now (a + d) (take (d + n - d) (drop d bs)) → new ≡ set_bytes m a (take (d + n) bs)
 set_bytes-more m now new a d n bs inside before is =

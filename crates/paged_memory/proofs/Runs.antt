@@ -1,13 +1,15 @@
 -- A run of bytes within one page.
 use Rattle.std.proofs.Common.{◌≡◌, ℕ, zero, suc, ◌+◌, ◌/◌, ◌%◌, ◌^◌, ◌<◌, ◌≤◌, true, false, List, [], ◌∷◌, ◌++◌, length, get_or, take, drop, refl, ap, sym, ◌∙◌, arith, Some, None, slice_get, add-one, length-drop}
-use Rattle.std.specs.Prelude.{bit_and}
+use Rattle.std.specs.Prelude.{bit_and, IfNone, Option}
+use Rattle.std.specs.Borrow.{Bor}
 use Rattle.std.proofs.lemmas.Bool.Decides.{nat_tests}
 use Rattle.std.proofs.lemmas.List.{take_more, get_or-drop}
 use Rattle.std.proofs.lemmas.Option.{slice_get-get_or}
 use Rattle.paged_memory.specs.declared.page.Page.{Page}
-use Rattle.paged_memory.specs.Memory.{byte_with, bytes_with, permits}
+use Rattle.paged_memory.specs.Memory.{Memory, byte_with, bytes_with, first_without, permits}
 use Rattle.paged_memory.specs.Pages.{page_at, memory_of, IsFine}
 use Rattle.paged_memory.proofs.Bytes.{byte-memory_of}
+use Rattle.paged_memory.proofs.Accesses.{first_without-none, first_without-first}
 
 -- the page that was read at the place that was found
 pub page_read : (ps : List Page) (n i : ℕ) (p : Page) → page_at ps n ≡ slice_get ps i → i < length ps → p ≡ get_or ps i p → page_at ps n ≡ Some p
@@ -43,3 +45,23 @@ page_denied ps need a p fine page lacks =
 
 pub page_gone : (ps : List Page) (need a : ℕ) → IsFine ps → page_at ps (a / 4096) ≡ None → byte_with need (memory_of ps) a ≡ None
 page_gone ps need a fine none = rw (byte-memory_of ps need a fine, none) refl
+
+-- ---- a run that may be accessed so, and one that may not
+
+pub run_permitted : (ps : List Page) (need a n i : ℕ) (p : Page) → IsFine ps → page_at ps (a / 4096) ≡ slice_get ps i → i < length ps → p ≡ get_or ps i p → bit_and p.flags need ≡ need → a < 2 ^ 64 → a % 4096 + n ≤ 4096
+    → first_without need (memory_of ps) a n ≡ None
+run_permitted ps need a n i p fine at l is may low h =
+    let full : length p.bytes.items ≡ 4096 = rw is (fine.full i p l) in
+    first_without-none need (memory_of ps) a n (rw (run_read ps need a n p fine (page_read ps (a / 4096) i p at l is) may full low h) refl)
+
+pub run_denied : (ps : List Page) (need a n i : ℕ) (p : Page) → IsFine ps → page_at ps (a / 4096) ≡ slice_get ps i → i < length ps → p ≡ get_or ps i p → (bit_and p.flags need ≡ need → ⊥) → a < 2 ^ 64 → 0 < n
+    → first_without need (memory_of ps) a n ≡ Some a
+run_denied ps need a n i p fine at l is lacks low some = first_without-first need (memory_of ps) a n low (page_denied ps need a p fine (page_read ps (a / 4096) i p at l is) lacks) some
+
+pub run_gone : (ps : List Page) (need a n : ℕ) → IsFine ps → page_at ps (a / 4096) ≡ None → a < 2 ^ 64 → 0 < n → first_without need (memory_of ps) a n ≡ Some a
+run_gone ps need a n fine none low some = first_without-first need (memory_of ps) a n low (page_gone ps need a fine none) some
+
+-- a run that was sought, where its page cannot be accessed so
+pub run_sought : (ps : List Page) (m : Memory) (need a n : ℕ) (o : Option (Bor (List ℕ))) → memory_of ps ≡ m → a < 2 ^ 64 → 0 < n → IfNone o (byte_with need (memory_of ps) a ≡ None) → IfNone o (first_without need m a n ≡ Some a)
+run_sought ps m need a n None e low some h = first_without-first need m a n low (rw (← e) h) some
+run_sought ps m need a n (Some bytes) e low some h = tt

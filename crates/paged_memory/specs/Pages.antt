@@ -1,9 +1,12 @@
 -- What a list of pages holds, by address and by number of page. Source: a page is 4096 bytes from its number times 4096 on.
 use Rattle.std.specs.Prelude.{◌≡◌, ℕ, ◌*◌, ◌<◌, ◌^◌, true, cond, List, [], ◌∷◌, Option, Some, None, ◌==◌, length, All, map}
 use Rattle.std.specs.FinMap.{FinMap, insert, empty, is_sorted}
+use Rattle.std.specs.FinSet.{FinSet}
+use Rattle.std.specs.FinSet as set
 use Rattle.std.specs.Ordering.{nat_cmp}
 use Rattle.paged_memory.specs.declared.page.Page.{Page}
 use Rattle.paged_memory.specs.Memory.{Memory, set_bytes}
+use Rattle.paged_memory.specs.PageTable.{PageTable}
 use Rattle.paged_memory.specs.Image.{Program}
 
 -- the page of that number
@@ -24,6 +27,15 @@ perm_of (p ∷ ps) = insert (perm_of ps) p.number p.flags
 -- the memory that the pages make
 abbrev pub memory_of : List Page → Memory
 memory_of ps = record { mem = mem_of ps; perm = perm_of ps }
+
+-- the numbers of the pages
+unfoldable pub numbers_of : List Page → FinSet nat_cmp
+numbers_of [] = set.empty
+numbers_of (p ∷ ps) = set.insert (numbers_of ps) p.number
+
+-- the table of pages that are all owned
+abbrev pub table_of : List Page → PageTable
+table_of ps = record { memory = memory_of ps; owned = numbers_of ps }
 
 -- the program of some pages, an entry and code words
 abbrev pub program_of : List Page → ℕ → List (ℕ × ℕ) → Program

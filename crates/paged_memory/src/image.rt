@@ -63,6 +63,23 @@ impl Image {
         }
     }
 
+    /// The same image again. `Memory` is want of memory.
+    pub fn copy(&self, alloc: Global) -> Result<Image, Memory>
+        ensures { IfOk result (λ i. i ≡ self.now) }
+    {
+        match self.copy_pages(alloc) {
+            Ok(pages) => match Vec::from_slice(alloc, self.code.as_slice()) {
+                Ok(code) => Ok(Image {
+                    pages,
+                    entry: self.entry,
+                    code,
+                }),
+                Err(_) => Err(Memory),
+            },
+            Err(_) => Err(Memory),
+        }
+    }
+
     /// The address of the first instruction.
     pub fn entry(&self) -> u64
         ensures { result ≡ self.now.entry }

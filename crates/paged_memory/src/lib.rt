@@ -9,4 +9,4 @@ mod page;
 mod pages;
 
 pub use image::{Image, Part};
-pub use pages::{Abort, PageView, Pages};
+pub use pages::{Abort, PageView, Pages, WriteStop};

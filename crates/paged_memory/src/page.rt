@@ -1,8 +1,8 @@
 //! Pages, and lists of them in the order of their numbers.
-ghost use Rattle.std.specs.Prelude.{◌≡◌, ℕ, ◌+◌, ◌*◌, ◌/◌, ◌%◌, ◌^◌, ◌<◌, ◌≤◌, ◌++◌, take, drop, length, get_or, slice_get, MatchOption, IfSome, IfNone, IsSome, IfOk, OnOk, OnErr, Some, None, bit_or};
+ghost use Rattle.std.specs.Prelude.{◌≡◌, ℕ, ◌+◌, ◌*◌, ◌/◌, ◌%◌, ◌^◌, ◌<◌, ◌≤◌, ◌++◌, take, drop, length, get_or, slice_get, MatchOption, IfSome, IfNone, IsSome, OnSome, IfOk, OnOk, OnErr, Some, None, bit_or};
 ghost use Rattle.std.specs.FinMap.{get};
 ghost use Rattle.paged_memory.specs.declared.page.Page.{Page};
-ghost use Rattle.paged_memory.specs.Memory.{with_page, byte_with, bytes_with, set_bytes};
+ghost use Rattle.paged_memory.specs.Memory.{with_page, byte_with, bytes_with, first_without, set_bytes};
 ghost use Rattle.paged_memory.specs.Parts.{IsMapped};
 ghost use Rattle.paged_memory.specs.Pages.{page_at, mem_of, perm_of, memory_of, IsFine};
 
@@ -118,6 +118,21 @@ fn set_run(into: &mut [u8], at: usize, bytes: &[u8])
     into[at..at + bytes.len()].copy_from_slice(bytes);
 }
 
+/// Sets a run of bytes within the page at that place, which is that of the address.
+#[inline]
+fn set_at(pages: &mut Vec<Page>, i: usize, address: u64, bytes: &[u8])
+    requires fine { IsFine pages.old.items }
+    requires place { i < length pages.old.items }
+    requires page { page_at pages.old.items (address / 4096) ≡ slice_get pages.old.items i }
+    requires fits { address % 4096 + length bytes.now ≤ 4096 }
+    ensures fine { IsFine pages.new.items }
+    ensures bytes { mem_of pages.new.items ≡ set_bytes (mem_of pages.old.items) address bytes.now }
+    ensures flags { perm_of pages.new.items ≡ perm_of pages.old.items }
+{
+    let page = &mut pages[i];
+    set_run(page.bytes.as_mut_slice(), (address % 4096) as usize, bytes);
+}
+
 /// Sets a run of bytes within one page, which is there.
 pub fn put_run(pages: &mut Vec<Page>, address: u64, bytes: &[u8])
     requires fine { IsFine pages.old.items }
@@ -128,10 +143,7 @@ pub fn put_run(pages: &mut Vec<Page>, address: u64, bytes: &[u8])
     ensures flags { perm_of pages.new.items ≡ perm_of pages.old.items }
 {
     match find(pages.as_slice(), address / 4096) {
-        Some(i) => {
-            let page = &mut pages[i];
-            set_run(page.bytes.as_mut_slice(), (address % 4096) as usize, bytes);
-        }
+        Some(i) => set_at(pages, i, address, bytes),
         None => unreachable!(),
     }
 }
@@ -152,5 +164,84 @@ pub fn put_bytes(pages: &mut Vec<Page>, address: u64, bytes: &[u8])
         let count = room.min(bytes.len() - done);
         put_run(pages, at, &bytes[done..done + count]);
         done += count;
+    }
+}
+
+/// The first of the addresses from one on that lacks the permission, page by page.
+pub fn first_lacking(pages: &[Page], address: u64, length: u64, need: u8) -> Option<u64>
+    requires { IsFine pages.now }
+    ensures { result ≡ first_without need (memory_of pages.now) address length }
+{
+    let mut done = 0;
+    while done < length {
+        let at = address.wrapping_add(done);
+        let count = (4096 - at % 4096).min(length - done);
+        match run(pages, at, count as usize, need) {
+            Some(_) => done += count,
+            None => return Some(at),
+        }
+    }
+    None
+}
+
+/// Sets bytes that lie within one page, or names the first that may not be written.
+#[inline]
+fn put_within(pages: &mut Vec<Page>, address: u64, bytes: &[u8]) -> Option<u64>
+    requires fine { IsFine pages.old.items }
+    requires fits { address % 4096 + length bytes.now ≤ 4096 }
+    ensures fine { IsFine pages.new.items }
+    ensures denied { result ≡ first_without 2 (memory_of pages.old.items) address (length bytes.now) }
+    ensures bytes { IfNone result (mem_of pages.new.items ≡ set_bytes (mem_of pages.old.items) address bytes.now) }
+    ensures stays { OnSome result (mem_of pages.new.items ≡ mem_of pages.old.items) }
+    ensures flags { perm_of pages.new.items ≡ perm_of pages.old.items }
+{
+    if bytes.is_empty() {
+        return None;
+    }
+    match find(pages.as_slice(), address / 4096) {
+        Some(i) => {
+            if pages[i].flags & 2 == 2 {
+                set_at(pages, i, address, bytes);
+                None
+            } else {
+                Some(address)
+            }
+        }
+        None => Some(address),
+    }
+}
+
+/// The same, where the bytes may lie in several pages.
+fn put_across(pages: &mut Vec<Page>, address: u64, bytes: &[u8]) -> Option<u64>
+    requires fine { IsFine pages.old.items }
+    ensures fine { IsFine pages.new.items }
+    ensures denied { result ≡ first_without 2 (memory_of pages.old.items) address (length bytes.now) }
+    ensures bytes { IfNone result (mem_of pages.new.items ≡ set_bytes (mem_of pages.old.items) address bytes.now) }
+    ensures stays { OnSome result (mem_of pages.new.items ≡ mem_of pages.old.items) }
+    ensures flags { perm_of pages.new.items ≡ perm_of pages.old.items }
+{
+    match first_lacking(pages.as_slice(), address, bytes.len() as u64, 2) {
+        None => {
+            put_bytes(pages, address, bytes);
+            None
+        }
+        Some(at) => Some(at),
+    }
+}
+
+/// Sets bytes from an address on, which goes round at 2^64, or names the first that may not be written; then none is set.
+#[inline]
+pub fn put_permitted(pages: &mut Vec<Page>, address: u64, bytes: &[u8]) -> Option<u64>
+    requires fine { IsFine pages.old.items }
+    ensures fine { IsFine pages.new.items }
+    ensures denied { result ≡ first_without 2 (memory_of pages.old.items) address (length bytes.now) }
+    ensures bytes { IfNone result (mem_of pages.new.items ≡ set_bytes (mem_of pages.old.items) address bytes.now) }
+    ensures stays { OnSome result (mem_of pages.new.items ≡ mem_of pages.old.items) }
+    ensures flags { perm_of pages.new.items ≡ perm_of pages.old.items }
+{
+    if bytes.len() <= (4096 - address % 4096) as usize {
+        put_within(pages, address, bytes)
+    } else {
+        put_across(pages, address, bytes)
     }
 }

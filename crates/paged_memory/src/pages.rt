@@ -1,11 +1,13 @@
 //! The pages of a guest thread.
-ghost use Rattle.std.specs.Prelude.{◌≡◌, ℕ, ◌+◌, ◌*◌, ◌/◌, ◌%◌, ◌^◌, ◌<◌, ◌≤◌, ◌↔◌, length, slice_get, IsSome, IfSome, IfNone, IfOk, IfErr, OnOk, OnErr, Some, None};
+ghost use Rattle.std.specs.Prelude.{◌≡◌, ◌≢◌, ℕ, ◌+◌, ◌*◌, ◌/◌, ◌%◌, ◌^◌, ◌<◌, ◌≤◌, ◌↔◌, length, slice_get, IsSome, IfSome, IfNone, IfOk, IfErr, OnOk, OnErr, Some, None};
 ghost use Rattle.std.specs.FinMap.{get, entries, len};
-ghost use Rattle.paged_memory.specs.Memory.{with_stack, with_zero_pages, no_memory, bytes_from, byte_with, bytes_with, first_without, word_at};
+ghost use Rattle.paged_memory.specs.Memory.{with_stack, with_zero_pages, no_memory, bytes_from, byte_with, bytes_with, first_without, word_at, set_bytes};
+ghost use Rattle.paged_memory.specs.PageTable.{AreOwned, KeepsOwned};
+ghost use Rattle.paged_memory.specs.Accesses.{need_of, stopped_at, IsOfWrite};
 ghost use Rattle.paged_memory.specs.Pages.{perm_of, memory_of, IsFine};
 
 use crate::image::Image;
-use crate::page::{Page, add_page, run};
+use crate::page::{Page, add_page, first_lacking, put_permitted, run};
 use sm_types::{Access, Memory};
 use std::alloc::{AllocError, Global};
 use std::marker::Model;
@@ -17,16 +19,16 @@ pub struct Pages {
 }
 
 impl Model for Pages {
-    ghost use Rattle.paged_memory.specs.Memory.{Memory, memory_code};
+    ghost use Rattle.paged_memory.specs.PageTable.{PageTable, page_table_code};
 
-    ghost Value = { Memory };
+    ghost Value = { PageTable };
 
-    ghost coded = { memory_code };
+    ghost coded = { page_table_code };
 
     ghost use Rattle.std.specs.Prelude.{◌≤◌, length};
-    ghost use Rattle.paged_memory.specs.Pages.{memory_of, IsFine};
+    ghost use Rattle.paged_memory.specs.Pages.{table_of, IsFine};
 
-    ghost view = { λ p. memory_of p.pages.items };
+    ghost view = { λ p. table_of p.pages.items };
 
     ghost invariant = { λ p. IsFine p.pages.items × (length p.pages.items ≤ 4096) };
 }
@@ -38,6 +40,15 @@ pub struct Abort {
     pub access: Access,
 }
 
+/// Why a write is not made; nothing has changed but that more pages may be owned.
+#[derive(Clone, Copy, Debug, PartialEq, Eq)]
+pub enum WriteStop {
+    /// A byte may not be written.
+    Abort(Abort),
+    /// There was no memory for a page that was not owned.
+    Memory,
+}
+
 /// A page as it is shown: its address in bytes, a multiple of 4096, its flags and its 4096 bytes.
 #[derive(Clone, Copy)]
 pub struct PageView<'a> {
@@ -46,11 +57,21 @@ pub struct PageView<'a> {
     pub bytes: &'a [u8],
 }
 
+/// The permission that an access needs.
+fn need_of(access: Access) -> u8
+    ensures { result ≡ need_of access }
+{
+    match access {
+        Access::Read => 4,
+        Access::Write => 2,
+    }
+}
+
 impl Pages {
     /// The pages of an image, and the stack. `Memory` is want of memory.
     pub fn from_image(alloc: Global, image: &Image) -> Result<Pages, Memory>
-        ensures ok { IfOk result (λ p. p ≡ with_stack image.now.memory) }
-        ensures few { IfOk result (λ p. len p.perm ≤ 4096) }
+        ensures ok { IfOk result (λ p. p.memory ≡ with_stack image.now.memory) }
+        ensures few { IfOk result (λ p. len p.memory.perm ≤ 4096) }
     {
         match image_and_stack(alloc, image) {
             Ok(pages) => Ok(Pages { pages }),
@@ -60,10 +81,10 @@ impl Pages {
 
     /// Reads the bytes from an address on; addresses go round at 2^64. After `Err`, `into` may hold anything.
     pub fn read(&self, address: u64, into: &mut [u8]) -> Result<(), Abort>
-        ensures ok { OnOk result (bytes_with 4 self.now address (length into.old) ≡ Some into.new) }
-        ensures abort { IfErr result (λ e. first_without 4 self.now address (length into.old) ≡ Some e.address) }
+        ensures ok { OnOk result (bytes_with 4 self.now.memory address (length into.old) ≡ Some into.new) }
+        ensures abort { IfErr result (λ e. first_without 4 self.now.memory address (length into.old) ≡ Some e.address) }
         ensures access { IfErr result (λ e. e.access ≡ Access.Read) }
-        ensures refused { OnErr result (bytes_with 4 self.now address (length into.old) ≡ None) }
+        ensures refused { OnErr result (bytes_with 4 self.now.memory address (length into.old) ≡ None) }
     {
         match copy_out(self.pages.as_slice(), address, 4, into) {
             None => Ok(()),
@@ -74,10 +95,22 @@ impl Pages {
         }
     }
 
+    /// Some bytes from an address on that lie in one page; `None` exactly where that page cannot be read.
+    #[inline]
+    pub fn bytes_within(&self, address: u64, count: usize) -> Option<&[u8]>
+        requires some { 0 < count }
+        requires within { address % 4096 + count ≤ 4096 }
+        ensures there { IfSome result (λ bytes. bytes_with 4 self.now.memory address count ≡ Some bytes.now) }
+        ensures count { IfSome result (λ bytes. length bytes.now ≡ count) }
+        ensures gone { IfNone result (first_without 4 self.now.memory address count ≡ Some address) }
+    {
+        run(self.pages.as_slice(), address, count, 4)
+    }
+
     /// The word of the four bytes from an address on; `None` exactly where one of them is in no executable page.
     #[inline]
     pub fn fetch(&self, pc: u64) -> Option<u32>
-        ensures { result ≡ word_at self.now pc }
+        ensures { result ≡ word_at self.now.memory pc }
     {
         if pc % 4096 <= 4092 {
             match run(self.pages.as_slice(), pc, 4, 1) {
@@ -91,7 +124,7 @@ impl Pages {
 
     /// The same, where the bytes may lie in two pages.
     fn fetch_across(&self, pc: u64) -> Option<u32>
-        ensures { result ≡ word_at self.now pc }
+        ensures { result ≡ word_at self.now.memory pc }
     {
         let mut word = [0; 4];
         match copy_out(self.pages.as_slice(), pc, 1, &mut word) {
@@ -100,9 +133,54 @@ impl Pages {
         }
     }
 
+    /// Tells whether all of so many bytes from an address on may be accessed so, and which is the first that may not.
+    pub fn check(&self, address: u64, length: u64, access: Access) -> Result<(), Abort>
+        ensures ok { OnOk result (first_without (need_of access) self.now.memory address length ≡ None) }
+        ensures abort { IfErr result (λ e. first_without (need_of access) self.now.memory address length ≡ Some e.address) }
+        ensures access { IfErr result (λ e. e.access ≡ access) }
+    {
+        match first_lacking(self.pages.as_slice(), address, length, need_of(access)) {
+            None => Ok(()),
+            Some(address) => Err(Abort { address, access }),
+        }
+    }
+
+    /// Makes the pages of so many bytes from an address on owned; after `Err` some of them may be.
+    pub fn own(&mut self, address: u64, length: u64) -> Result<(), Memory>
+        ensures ok { OnOk result (AreOwned self.new address length) }
+        ensures memory { self.new.memory ≡ self.old.memory }
+        ensures kept { KeepsOwned self.old self.new }
+    {
+        // every page is
+        let _ = &self.pages;
+        Ok(())
+    }
+
+    /// Writes bytes from an address on, and makes their pages owned; addresses go round at 2^64. Nothing is written where one of them
+    /// may not be, or where there is no memory for a page that is not owned.
+    #[inline]
+    pub fn write(&mut self, address: u64, bytes: &[u8]) -> Result<(), WriteStop>
+        ensures ok { OnOk result (self.new.memory ≡ record self.old.memory { mem = set_bytes self.old.memory.mem address bytes.now }) }
+        ensures allowed { OnOk result (first_without 2 self.old.memory address (length bytes.now) ≡ None) }
+        ensures abort { IfErr result (λ e. first_without 2 self.old.memory address (length bytes.now) ≡ stopped_at e) }
+        ensures access { IfErr result IsOfWrite }
+        ensures err { OnErr result (self.new.memory ≡ self.old.memory) }
+        ensures room { AreOwned self.old address (length bytes.now) → result ≢ Err WriteStop.Memory }
+        ensures owned { OnOk result (AreOwned self.new address (length bytes.now)) }
+        ensures kept { KeepsOwned self.old self.new }
+    {
+        match put_permitted(&mut self.pages, address, bytes) {
+            None => Ok(()),
+            Some(address) => Err(WriteStop::Abort(Abort {
+                address,
+                access: Access::Write,
+            })),
+        }
+    }
+
     /// How many pages there are.
     pub fn page_count(&self) -> usize
-        ensures value { result ≡ len self.now.perm }
+        ensures value { result ≡ len self.now.memory.perm }
         ensures few { result ≤ 4096 }
     {
         self.pages.len()
@@ -110,11 +188,11 @@ impl Pages {
 
     /// The page at that place in the order of addresses, counted from 0; `None` exactly past the last page.
     pub fn page(&self, index: usize) -> Option<PageView<'_>>
-        ensures there { IsSome result ↔ (index < len self.now.perm) }
-        ensures entry { IfSome result (λ v. slice_get (entries self.now.perm) index ≡ Some (v.address / 4096, v.flags)) }
+        ensures there { IsSome result ↔ (index < len self.now.memory.perm) }
+        ensures entry { IfSome result (λ v. slice_get (entries self.now.memory.perm) index ≡ Some (v.address / 4096, v.flags)) }
         ensures aligned { IfSome result (λ v. v.address % 4096 ≡ 0) }
         ensures whole { IfSome result (λ v. length v.bytes.now ≡ 4096) }
-        ensures bytes { IfSome result (λ v. v.bytes.now ≡ bytes_from self.now.mem v.address 4096) }
+        ensures bytes { IfSome result (λ v. v.bytes.now ≡ bytes_from self.now.memory.mem v.address 4096) }
     {
         if index < self.pages.len() {
             let page = &self.pages[index];
@@ -251,5 +329,70 @@ mod tests {
             (0x7dfffffff000, 6, 4096)
         );
         assert!(rt; stack.bytes.iter().all(|b| *b == 0));
+    }
+
+    /// A thread with a page at 0x410000 that may be accessed in every way, and none after it.
+    fn data_pages(alloc: Global) -> Result<Pages, Memory> {
+        let part = Part {
+            address: 0x410000,
+            size: 4096,
+            flags: 7,
+            bytes: &[1, 2, 3, 4],
+        };
+        let image = Image::new(alloc, &[part], 0x410000, &[(0x410000, 0x04030201)])?;
+        Pages::from_image(alloc, &image.copy(alloc)?)
+    }
+
+    #[test]
+    fn accesses_are_checked_up_to_the_first_byte_that_fails(rt: HostRuntime) {
+        let pages = data_pages(rt.alloc()).expect(&rt, "memory");
+        assert_eq!(rt; pages.check(0x410000, 4096, Access::Read), Ok(()));
+        assert_eq!(rt; pages.check(0x410fff, 1, Access::Write), Ok(()));
+        assert_eq!(rt; pages.check(0x999999, 0, Access::Write), Ok(()));
+        assert_eq!(rt; pages.check(0x7dfffffc0000, 0x40000, Access::Write), Ok(()));
+        for (address, length, access, first) in [
+            (0x410ff8, 16, Access::Write, 0x411000),
+            (0x410000, u64::MAX, Access::Read, 0x411000),
+            (0x40ffff, 2, Access::Read, 0x40ffff),
+            (0xffffffffffffffff, 1, Access::Write, 0xffffffffffffffff),
+        ] {
+            let abort = Abort {
+                address: first,
+                access,
+            };
+            assert_eq!(rt;
+                pages.check(address, length, access),
+                Err(abort),
+                "at {address}"
+            );
+        }
+    }
+
+    #[test]
+    fn a_write_that_may_not_be_made_changes_nothing(rt: HostRuntime) {
+        let mut pages = data_pages(rt.alloc()).expect(&rt, "memory");
+        let stop = WriteStop::Abort(Abort {
+            address: 0x411000,
+            access: Access::Write,
+        });
+        assert_eq!(rt; pages.write(0x410ff8, &[9; 16]), Err(stop));
+        let mut eight = [7; 8];
+        assert_eq!(rt; pages.read(0x410ff8, &mut eight), Ok(()));
+        assert_eq!(rt; eight, [0; 8]);
+    }
+
+    #[test]
+    fn bytes_that_are_written_are_read(rt: HostRuntime) {
+        let mut pages = data_pages(rt.alloc()).expect(&rt, "memory");
+        assert_eq!(rt; pages.own(0x410000, 4096), Ok(()));
+        assert_eq!(rt; pages.write(0x410002, &[8, 9]), Ok(()));
+        let bytes = pages.bytes_within(0x410000, 4).expect(&rt, "a page");
+        assert!(rt; bytes == [1, 2, 8, 9].as_slice());
+        assert!(rt; pages.bytes_within(0x411000, 4).is_none());
+        assert_eq!(rt; pages.write(0x7dfffffc0ffe, &[1, 2, 3]), Ok(()));
+        let mut three = [0; 3];
+        assert_eq!(rt; pages.read(0x7dfffffc0ffe, &mut three), Ok(()));
+        assert_eq!(rt; three, [1, 2, 3]);
+        assert_eq!(rt; pages.write(0x411000, &[]), Ok(()));
     }
 }

@@ -22,7 +22,7 @@ fn feed(hasher: &mut Sha256, address: u64, flags: u8, bytes: &[u8])
 
 /// SHA-256 over the pages in order of address.
 fn memory_digest(pages: &Pages) -> [u8; 32]
-    ensures { result ≡ sha256 (memory_text pages.now) }
+    ensures { result ≡ sha256 (memory_text pages.now.memory) }
 {
     let mut hasher = Sha256::new();
     for index in 0..pages.page_count() {
@@ -37,7 +37,7 @@ fn memory_digest(pages: &Pages) -> [u8; 32]
 /// The number of pages, and the digest.
 #[tactic(auto, unfolding(crate::specs::Digest::memory_line))]
 pub fn put_memory_line<K: Sink>(out: &mut K, pages: &Pages) -> Result<(), PutFault>
-    ensures { Writes K.told K.faults K.takes out.old out.new result (memory_line pages.now) }
+    ensures { Writes K.told K.faults K.takes out.old out.new result (memory_line pages.now.memory) }
 {
     let digest = memory_digest(pages);
     let mut digits = [0; 64];

@@ -32,8 +32,8 @@ pub enum Appended {
 fn read_end(pages: &Pages, address: u64, into: &mut [u8], from: usize) -> bool
     requires { from ≤ length into.old }
     ensures kept { take from into.new ≡ take from into.old }
-    ensures read { result ≡ true → bytes_with 4 pages.now address (length into.old - from) ≡ Some (drop from into.new) }
-    ensures refused { result ≡ false → bytes_with 4 pages.now address (length into.old - from) ≡ None }
+    ensures read { result ≡ true → bytes_with 4 pages.now.memory address (length into.old - from) ≡ Some (drop from into.new) }
+    ensures refused { result ≡ false → bytes_with 4 pages.now.memory address (length into.old - from) ≡ None }
 {
     match pages.read(address, &mut into[from..]) {
         Ok(()) => true,
@@ -44,7 +44,7 @@ fn read_end(pages: &Pages, address: u64, into: &mut [u8], from: usize) -> bool
 /// Adds bytes of the pages at the end of the output, or leaves it as it is.
 fn append(pages: &Pages, address: u64, count: usize, output: &mut Vec<u8>) -> Appended
     requires { vec_len output.old + count < 2 ^ 32 }
-    ensures appends { Appends (bytes_with 4 pages.now address count) output.old.items output.new.items result }
+    ensures appends { Appends (bytes_with 4 pages.now.memory address count) output.old.items output.new.items result }
     ensures within { vec_len output.new ≤ vec_len output.old + count }
 {
     let old = output.len();

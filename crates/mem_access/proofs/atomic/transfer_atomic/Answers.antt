@@ -1,0 +1,56 @@
+use Rattle.std.proofs.Common.{◌==◌, ℕ, cond, refl}
+use Rattle.scalar_exec.specs.Registers.{x_of, with_x}
+use Rattle.mem_access.specs.Access.{bytes_in, atomic_access}
+use Rattle.mem_access.specs.Transfer.{AfterAccess, after_atomic}
+use Rattle.mem_access.specs.Values.{number_in, with_number, low_bytes, updated}
+use Rattle.mem_access.proofs.Faults.{raised}
+use Rattle.mem_access.proofs.Atomics.{atomic_read, atomic_written, atomic_updated}
+use Rattle.mem_access.proofs.atomic.transfer_atomic.Goals as goal
+
+pub returns-in-Some-clause-made : goal.returns-in-Some-clause-made
+returns-in-Some-clause-made c = (raised (atomic_access c.args.x.now c.args.s.now) _ c.args.s.now c.args.pages.now.memory _ c.atomic_access-access.ensures.value c.in-Some.ensures, refl)
+
+pub returns-in-Ldar-clause-made : goal.returns-in-Ldar-clause-made
+unfolding atomic_access after_atomic
+returns-in-Ldar-clause-made c =
+    let s = c.args.s.now in
+    let m = c.args.pages.now.memory in
+    let n = bytes_in c.in-Ldar.size in
+    let made : ℕ → AfterAccess = λ a. record { scalars = with_x s c.in-Ldar.rt (number_in m a n); memory = m } in
+    atomic_read c.args.x.now _ _ s m n made _ _ c.load_ordered.result (record { kind = c.in-Ldar.is; access = c.atomic_access-access.ensures.value; placed = c.in-None.ensures; reads = refl; writes = refl; size = refl }) (λ a. refl) c.load_ordered.ensures
+
+pub returns-in-Stlr-clause-made : goal.returns-in-Stlr-clause-made
+unfolding atomic_access after_atomic
+returns-in-Stlr-clause-made c =
+    let s = c.args.s.now in
+    let m = c.args.pages.now.memory in
+    let n = bytes_in c.in-Stlr.size in
+    let made : ℕ → AfterAccess = λ a. record { scalars = s; memory = with_number m a n (x_of s c.in-Stlr.rt) } in
+    atomic_written c.args.x.now _ _ s m n made _ _ c.store_ordered.result (record { kind = c.in-Stlr.is; access = c.atomic_access-access.ensures.value; placed = c.in-None.ensures; reads = refl; writes = refl; size = refl }) (λ a. refl) c.store_ordered.ensures.made
+
+pub returns-in-Cas-clause-made : goal.returns-in-Cas-clause-made
+unfolding atomic_access after_atomic
+returns-in-Cas-clause-made c =
+    let s = c.args.s.now in
+    let m = c.args.pages.now.memory in
+    let n = bytes_in c.in-Cas.size in
+    let made : ℕ → AfterAccess = λ a. record { scalars = with_x s c.in-Cas.rs (number_in m a n); memory = cond (number_in m a n == low_bytes n (x_of s c.in-Cas.rs)) (with_number m a n (x_of s c.in-Cas.rt)) m } in
+    atomic_updated c.args.x.now _ _ s m n made _ _ c.swap_where_equal.result (record { kind = c.in-Cas.is; access = c.atomic_access-access.ensures.value; placed = c.in-None.ensures; reads = refl; writes = refl; size = refl }) (λ a. refl) c.swap_where_equal.ensures.made
+
+pub returns-in-Swap-clause-made : goal.returns-in-Swap-clause-made
+unfolding atomic_access after_atomic
+returns-in-Swap-clause-made c =
+    let s = c.args.s.now in
+    let m = c.args.pages.now.memory in
+    let n = bytes_in c.in-Swap.size in
+    let made : ℕ → AfterAccess = λ a. record { scalars = with_x s c.in-Swap.rt (number_in m a n); memory = with_number m a n (x_of s c.in-Swap.rs) } in
+    atomic_updated c.args.x.now _ _ s m n made _ _ c.swap_register.result (record { kind = c.in-Swap.is; access = c.atomic_access-access.ensures.value; placed = c.in-None.ensures; reads = refl; writes = refl; size = refl }) (λ a. refl) c.swap_register.ensures.made
+
+pub returns-in-Update-clause-made : goal.returns-in-Update-clause-made
+unfolding atomic_access after_atomic
+returns-in-Update-clause-made c =
+    let s = c.args.s.now in
+    let m = c.args.pages.now.memory in
+    let n = bytes_in c.in-Update.size in
+    let made : ℕ → AfterAccess = λ a. record { scalars = with_x s c.in-Update.rt (number_in m a n); memory = with_number m a n (updated c.in-Update.op n (number_in m a n) (low_bytes n (x_of s c.in-Update.rs))) } in
+    atomic_updated c.args.x.now _ _ s m n made _ _ c.update_by_register.result (record { kind = c.in-Update.is; access = c.atomic_access-access.ensures.value; placed = c.in-None.ensures; reads = refl; writes = refl; size = refl }) (λ a. refl) c.update_by_register.ensures.made

@@ -1,0 +1,186 @@
+//! The loads, stores and atomic instructions.
+ghost use Rattle.std.specs.Prelude.{◌*◌, IsTrue};
+ghost use Rattle.a64_table.specs.Ranges.{IsInRow, IsLoadStore, IsLoadLiteral, IsLoadStorePair};
+ghost use Rattle.paged_memory.specs.PageTable.{KeepsOwned};
+ghost use Rattle.mem_access.specs.Access.{bytes_in, literal_size, register_size, is_load, load_store_access, load_literal_access, pair_access};
+ghost use Rattle.mem_access.specs.Checks.{denied_read, denied_write, access_fault};
+ghost use Rattle.mem_access.specs.Transfer.{is_access, after_load_store, after_load_literal, after_pair, after_access, transfer_fault, Transfers};
+
+use crate::access::{
+    literal_size, load_literal_access, load_store_access, pair_access, write_base, write_pair_base,
+};
+use crate::atomic::transfer_atomic;
+use crate::checks::place_fault;
+use crate::numbers::{read_number, write_number};
+use crate::pairs::{read_pair, write_pair};
+use crate::stop::AccessStop;
+use crate::values::{literal_loaded, loaded};
+use paged_memory::Pages;
+use scalar_exec::{read_x, write_x};
+use sm_types::{Insn, LoadLiteral, LoadStore, LoadStoreOp, LoadStorePair, PairOp, Scalars};
+
+/// Stores a register.
+#[inline]
+#[tactic(auto, unfolding(crate::specs::Transfer::after_load_store))]
+fn store(x: &LoadStore, address: u64, s: &mut Scalars, pages: &mut Pages) -> Result<(), AccessStop>
+    requires { IsLoadStore x.now }
+    ensures made { Transfers (denied_write pages.old.memory address (bytes_in x.now.size)) (after_load_store LoadStoreOp.Store x.now address s.old pages.old.memory) (record { scalars = s.old; memory = pages.old.memory }) (record { scalars = s.new; memory = pages.new.memory }) result }
+    ensures kept { KeepsOwned pages.old pages.new }
+{
+    match write_number(pages, address, x.size, read_x(s, x.rt)) {
+        Ok(()) => {
+            write_base(s, &x.address, x.rn);
+            Ok(())
+        }
+        Err(stop) => Err(stop),
+    }
+}
+
+/// Loads a register.
+#[inline]
+#[tactic(auto, unfolding(crate::specs::Transfer::after_load_store))]
+fn load(x: &LoadStore, address: u64, s: &mut Scalars, pages: &Pages) -> Result<(), AccessStop>
+    requires fields { IsLoadStore x.now }
+    requires load { IsTrue (is_load x.now.op) }
+    ensures { Transfers (denied_read pages.now.memory address (bytes_in x.now.size)) (after_load_store x.now.op x.now address s.old pages.now.memory) (record { scalars = s.old; memory = pages.now.memory }) (record { scalars = s.new; memory = pages.now.memory }) result }
+{
+    match read_number(pages, address, x.size) {
+        Ok(value) => {
+            write_base(s, &x.address, x.rn);
+            write_x(s, x.rt, loaded(x.op, x.size, value));
+            Ok(())
+        }
+        Err(exception) => Err(AccessStop::Raise(exception)),
+    }
+}
+
+/// A load or store of one register.
+#[inline]
+fn transfer_load_store(x: &LoadStore, s: &mut Scalars, pages: &mut Pages) -> Result<(), AccessStop>
+    requires { IsLoadStore x.now }
+    ensures made { Transfers (access_fault (load_store_access x.now s.old) s.old pages.old.memory) (after_load_store x.now.op x.now (load_store_access x.now s.old).address s.old pages.old.memory) (record { scalars = s.old; memory = pages.old.memory }) (record { scalars = s.new; memory = pages.new.memory }) result }
+    ensures kept { KeepsOwned pages.old pages.new }
+{
+    let access = load_store_access(x, s);
+    match place_fault(&access, s) {
+        Some(exception) => Err(AccessStop::Raise(exception)),
+        None => match x.op {
+            LoadStoreOp::Store => store(x, access.address, s, pages),
+            _ => load(x, access.address, s, pages),
+        },
+    }
+}
+
+/// Loads a register from beside the program counter.
+#[inline]
+#[tactic(auto, unfolding(crate::specs::Transfer::after_load_literal))]
+fn load_literal(
+    x: &LoadLiteral,
+    address: u64,
+    s: &mut Scalars,
+    pages: &Pages,
+) -> Result<(), AccessStop>
+    requires { IsLoadLiteral x.now }
+    ensures { Transfers (denied_read pages.now.memory address (literal_size x.now.op)) (after_load_literal x.now address s.old pages.now.memory) (record { scalars = s.old; memory = pages.now.memory }) (record { scalars = s.new; memory = pages.now.memory }) result }
+{
+    match read_number(pages, address, literal_size(x.op)) {
+        Ok(value) => {
+            write_x(s, x.rt, literal_loaded(x.op, value));
+            Ok(())
+        }
+        Err(exception) => Err(AccessStop::Raise(exception)),
+    }
+}
+
+/// A load from beside the program counter.
+#[inline]
+fn transfer_load_literal(x: &LoadLiteral, s: &mut Scalars, pages: &Pages) -> Result<(), AccessStop>
+    requires { IsLoadLiteral x.now }
+    ensures { Transfers (access_fault (load_literal_access x.now s.old) s.old pages.now.memory) (after_load_literal x.now (load_literal_access x.now s.old).address s.old pages.now.memory) (record { scalars = s.old; memory = pages.now.memory }) (record { scalars = s.new; memory = pages.now.memory }) result }
+{
+    let access = load_literal_access(x, s);
+    match place_fault(&access, s) {
+        Some(exception) => Err(AccessStop::Raise(exception)),
+        None => load_literal(x, access.address, s, pages),
+    }
+}
+
+/// Stores two registers.
+#[inline]
+#[tactic(auto, unfolding(crate::specs::Transfer::after_pair))]
+fn store_pair(
+    x: &LoadStorePair,
+    address: u64,
+    s: &mut Scalars,
+    pages: &mut Pages,
+) -> Result<(), AccessStop>
+    requires { IsLoadStorePair x.now }
+    ensures made { Transfers (denied_write pages.old.memory address (2 * register_size x.now.wide)) (after_pair PairOp.Stp x.now address s.old pages.old.memory) (record { scalars = s.old; memory = pages.old.memory }) (record { scalars = s.new; memory = pages.new.memory }) result }
+    ensures kept { KeepsOwned pages.old pages.new }
+{
+    match write_pair(pages, address, x.wide, read_x(s, x.rt), read_x(s, x.rt2)) {
+        Ok(()) => {
+            write_pair_base(s, x);
+            Ok(())
+        }
+        Err(stop) => Err(stop),
+    }
+}
+
+/// Loads two registers.
+#[inline]
+#[tactic(auto, unfolding(crate::specs::Transfer::after_pair))]
+fn load_pair(
+    x: &LoadStorePair,
+    address: u64,
+    s: &mut Scalars,
+    pages: &Pages,
+) -> Result<(), AccessStop>
+    requires { IsLoadStorePair x.now }
+    ensures { Transfers (denied_read pages.now.memory address (2 * register_size x.now.wide)) (after_pair PairOp.Ldp x.now address s.old pages.now.memory) (record { scalars = s.old; memory = pages.now.memory }) (record { scalars = s.new; memory = pages.now.memory }) result }
+{
+    match read_pair(pages, address, x.wide) {
+        Ok((first, second)) => {
+            write_pair_base(s, x);
+            write_x(s, x.rt, first);
+            write_x(s, x.rt2, second);
+            Ok(())
+        }
+        Err(exception) => Err(AccessStop::Raise(exception)),
+    }
+}
+
+/// A load or store of two registers.
+#[inline]
+fn transfer_pair(x: &LoadStorePair, s: &mut Scalars, pages: &mut Pages) -> Result<(), AccessStop>
+    requires { IsLoadStorePair x.now }
+    ensures made { Transfers (access_fault (pair_access x.now s.old) s.old pages.old.memory) (after_pair x.now.op x.now (pair_access x.now s.old).address s.old pages.old.memory) (record { scalars = s.old; memory = pages.old.memory }) (record { scalars = s.new; memory = pages.new.memory }) result }
+    ensures kept { KeepsOwned pages.old pages.new }
+{
+    let access = pair_access(x, s);
+    match place_fault(&access, s) {
+        Some(exception) => Err(AccessStop::Raise(exception)),
+        None => match x.op {
+            PairOp::Stp => store_pair(x, access.address, s, pages),
+            PairOp::Ldp => load_pair(x, access.address, s, pages),
+        },
+    }
+}
+
+/// The instructions of this crate: makes all checks of the access, and then the access; any answer but Ok leaves registers and memory as
+/// they were, but that more pages may be owned. PC stays as it is.
+#[inline]
+pub fn transfer(insn: &Insn, scalars: &mut Scalars, pages: &mut Pages) -> Result<(), AccessStop>
+    requires access { IsTrue (is_access insn.now) }
+    requires fields { IsInRow insn.now }
+    ensures made { Transfers (transfer_fault insn.now scalars.old pages.old.memory) (after_access insn.now scalars.old pages.old.memory) (record { scalars = scalars.old; memory = pages.old.memory }) (record { scalars = scalars.new; memory = pages.new.memory }) result }
+    ensures kept { KeepsOwned pages.old pages.new }
+{
+    match insn {
+        Insn::LoadStore(x) => transfer_load_store(x, scalars, pages),
+        Insn::LoadLiteral(x) => transfer_load_literal(x, scalars, pages),
+        Insn::LoadStorePair(x) => transfer_pair(x, scalars, pages),
+        Insn::Atomic(x) => transfer_atomic(x, scalars, pages),
+        _ => unreachable!(),
+    }
+}

@@ -1,0 +1,5 @@
+use Rattle.paged_memory.proofs.Owned.{all_owned}
+use Rattle.paged_memory.proofs.pages.Pages.own.Goals as goal
+
+pub returns-clause-ok : goal.returns-clause-ok
+returns-clause-ok c = all_owned c.self.inside.pages.items c.args.self.now c.args.address c.args.length c.self.view_is
