@@ -1,8 +1,11 @@
 -- The fault of a file, check by check.
-use Rattle.std.proofs.Common.{◌≡◌, ℕ, List, Some, None, Result, Ok, Err, IfOk, map, refl, subst, ◌∙◌}
+use Rattle.std.proofs.Common.{◌≡◌, ℕ, List, Some, None, Result, Ok, Err, IfOk, map, refl, subst, ◌∙◌, ◌<◌, length, true, arith}
+use Rattle.std.specs.Prelude.{nat_lt}
+use Rattle.std.proofs.lemmas.Bool.Decides.{nat_tests}
+use Rattle.elf_headers.specs.declared.fault.LoadFault.TheVariants.{TooLong}
 use Rattle.paged_memory.specs.Image.{Program, IsMemoryOf}
 use Rattle.elf_headers.specs.declared.header.ProgramHeader.{ProgramHeader}
-use Rattle.elf_headers.specs.Header.{header_entry}
+use Rattle.elf_headers.specs.Header.{header_entry, length_fault}
 use Rattle.elf_headers.specs.declared.fault.LoadFault.{LoadFault}
 use Rattle.elf_headers.specs.Loads.{extent_of_load, loads_of, headers_fault}
 use Rattle.elf_sections.specs.Sections.{sections_fault}
@@ -35,3 +38,11 @@ loaded file loads entry code (Ok image) a l e c memory entry_is code_is = record
   code_is = code_is ∙ c;
 }
 loaded file loads entry code (Err fault) a l e c memory entry_is code_is = tt
+
+is_long : (file : List ℕ) → 67108864 < length file → nat_lt 67108864 (length file) ≡ true
+is_long file h = grind (arith, nat_tests)
+
+-- a file of more than 64 MiB is refused for its length
+pub long_refused : (file : List ℕ) → 67108864 < length file → load_fault file ≡ Some TooLong
+unfolding load_fault headers_fault length_fault
+long_refused file h = rw (is_long file h) refl

@@ -1,3 +1,3 @@
 mod FirstUnlisted
 mod Extents
-mod Checks
+pub mod Checks

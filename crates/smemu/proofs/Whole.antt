@@ -3,19 +3,14 @@ use Rattle.std.proofs.Common.{◌≡◌, ℕ, ◌<◌, ◌≤◌, ◌⊎◌, inl
 use Rattle.std.proofs.lemmas.Grind.{common_steps}
 use Rattle.std.proofs.lemmas.Bool.Decides.{nat_tests}
 use Rattle.std.specs.Prelude.{IfSome, option_map}
-use Rattle.elf_loader.specs.declared.fault.LoadFault.{LoadFault}
-use Rattle.elf_loader.specs.declared.fault.LoadFault.TheVariants.{NotYet}
-use Rattle.elf_loader.specs.Header.{has_length}
+use Rattle.elf_headers.specs.declared.fault.LoadFault.{LoadFault}
+use Rattle.elf_headers.specs.declared.fault.LoadFault.TheVariants.{TooLong}
 use Rattle.elf_loader.specs.Loading.{load_fault, Refuses}
-use Rattle.elf_loader.proofs.Faults.{length_refused}
+use Rattle.elf_loader.proofs.Checks.{long_refused}
 use Rattle.smemu.specs.Answers.{Told, IsFile}
 
 low_or : (a b : ℕ) → (a < b) ⊎ (b ≤ a)
 low_or a b = grind arith
-
-too_long : (file : List ℕ) → 67108864 < length file → has_length file ≡ false
-unfolding has_length
-too_long file h = grind (arith, nat_tests)
 
 refused_or_not : (o : Option LoadFault) (f : LoadFault) → o ≡ None → o ≡ Some f → ⊥
 refused_or_not o f e h = cc
@@ -24,7 +19,7 @@ refused_or_not o f e h = cc
 accepted_short : (file : List ℕ) → load_fault file ≡ None → length file ≤ 67108864
 accepted_short file h =
     elim (low_or 67108864 (length file)) [
-      | inl long ↦ absurd (refused_or_not (load_fault file) NotYet h (length_refused file (too_long file long)))
+      | inl long ↦ absurd (refused_or_not (load_fault file) TooLong h (long_refused file long))
       | inr short ↦ short
     ]
 
@@ -51,8 +46,8 @@ refused_whole n file fetched fault l e h =
       | inl short ↦ ap load_fault (sym (take_short n file (omega arith)) ∙ e) ∙ h
       | inr long ↦
           let size : length fetched ≡ n = sym (ap length e) ∙ take_long n file long in
-          let not_yet : NotYet ≡ fault = same_fault NotYet fault (sym (length_refused fetched (too_long fetched (omega arith))) ∙ h) in
-          length_refused file (too_long file (omega arith)) ∙ ap Some not_yet
+          let too_long : TooLong ≡ fault = same_fault TooLong fault (sym (long_refused fetched (omega arith)) ∙ h) in
+          long_refused file (omega arith) ∙ ap Some too_long
     ]
 
 some_is : (a b : List ℕ) → ◌≡◌ {A = Option (List ℕ)} (Some a) (Some b) → a ≡ b
