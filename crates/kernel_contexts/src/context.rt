@@ -16,7 +16,7 @@ pub enum Turn {
     Ran,
     /// The thread has stopped, now or before.
     Stopped(Stop),
-    /// There was no memory for the thread's output; nothing has changed.
+    /// There was no memory for the thread's output, or for a page that it writes; nothing has changed.
     Memory,
 }
 
@@ -127,6 +127,7 @@ impl Context {
                 let pc = self.machine.scalars.pc;
                 self.stop_with(Stop::Raised { exception, pc })
             }
+            StepEnd::Memory => Turn::Memory,
         }
     }
 

@@ -1,24 +1,28 @@
 -- What makes the answer of an instruction.
-use Rattle.std.proofs.Common.{◌≡◌, ◌%◌, Bool, true, false, cond, IsTrue, Some, None, ℕ, refl, ap, sym, ◌∙◌}
+use Rattle.std.proofs.Common.{◌≡◌, ◌%◌, Bool, true, false, cond, IsTrue, Option, Some, None, ℕ, refl, ap, sym, ◌∙◌}
 use Rattle.sm_types.specs.declared.insn.Insn.{Insn}
 use Rattle.sm_types.specs.declared.insn.Insn.TheVariants as insn
 use Rattle.sm_types.specs.declared.insn.SystemMove.{SystemMove}
+use Rattle.std.specs.Prelude.{option_and_then}
+use Rattle.sm_types.specs.declared.stop.Exception.{Exception}
 use Rattle.sm_types.specs.declared.stop.Exception.TheVariants.{Undefined}
+use Rattle.mem_access.specs.Transfer.{is_access, transfer_fault}
 use Rattle.sve_table.specs.Meaning.{instruction_of}
 use Rattle.paged_memory.specs.Memory.{or_else}
 use Rattle.scalar_exec.specs.Step.{is_scalar, scalar_step}
 use Rattle.machine_step.specs.Core.{Core}
 use Rattle.machine_step.specs.System.{system_move, core_past, moved}
-use Rattle.machine_step.specs.Effect.{Effect, Raises, Becomes, word_of, insn_at, is_executed, is_executed_register, next_of, unless_fault, fault_of, effect_of, effect_of_insn, perform, row_fault}
+use Rattle.machine_step.specs.Effect.{Effect, Raises, Becomes, word_of, insn_at, is_executed, is_executed_register, next_of, unless_fault, fault_of, effect_of, effect_of_insn, perform, row_fault, data_fault, accessed, unless_raised}
 use Rattle.machine_step.specs.Machine.{Steps}
 use Rattle.machine_step.specs.declared.machine.StepEnd.{StepEnd}
-use Rattle.machine_step.specs.declared.machine.StepEnd.TheVariants.{Next, Call, Raise}
+use Rattle.machine_step.specs.declared.machine.StepEnd.TheVariants.{Next, Call, Raise, Memory}
 
 -- the state after an instruction that is executed
 pub steps_on : (effect : Effect) (old new made : Core) (end : StepEnd) → effect ≡ Becomes made → new ≡ made → end ≡ Next → Steps effect old new end
 steps_on effect old new made Next is same e = is ∙ ap Becomes (sym same)
 steps_on effect old new made (Call number) is same e = cc
 steps_on effect old new made (Raise exception) is same e = cc
+steps_on effect old new made Memory is same e = cc
 
 -- an instruction of the scalar registers alone
 pub scalar_effect : (word : ℕ) (it : Insn) (s : Core) → IsTrue (is_scalar it) → effect_of_insn word it s ≡ Becomes (record s { scalars = scalar_step it s.scalars })
@@ -51,11 +55,13 @@ pub move_effect : (word : ℕ) (x : SystemMove) (s : Core) → is_executed_regis
 unfolding system_move
 move_effect word x s h = ap (λ b. cond b (next_of (insn.SystemMove x) s) (Raises (Undefined word))) h
 
-unless_row : (executed : Bool) (word : ℕ) (it : Insn) (s : Core) → insn_at s ≡ Some it → unless_fault (or_else (cond executed None (Some (Undefined word))) None) s ≡ cond executed (next_of it s) (Raises (Undefined word))
-unless_row true word it s h = ap (λ k. perform k s) h
-unless_row false word it s h = refl
+unless_row : (executed : Bool) (fault : Option Exception) (word : ℕ) (it : Insn) (s : Core) → insn_at s ≡ Some it
+    → unless_fault (or_else (cond executed None (Some (Undefined word))) (or_else fault None)) s ≡ cond executed (unless_raised fault (next_of it s)) (Raises (Undefined word))
+unless_row true None word it s h = ap (λ k. perform k s) h
+unless_row true (Some exception) word it s h = refl
+unless_row false fault word it s h = refl
 
-first_of : (s : Core) (word : ℕ) → s.scalars.pc % 4 ≡ 0 → word_of s ≡ Some word → fault_of s ≡ or_else (row_fault word (instruction_of word)) None
+first_of : (s : Core) (word : ℕ) → s.scalars.pc % 4 ≡ 0 → word_of s ≡ Some word → fault_of s ≡ or_else (row_fault word (instruction_of word)) (or_else (data_fault s) None)
 unfolding fault_of
 first_of s word aligned fetched = rw (aligned, fetched) refl
 
@@ -64,4 +70,31 @@ pub effect_at : (s : Core) (word : ℕ) (it : Insn) → s.scalars.pc % 4 ≡ 0 �
 unfolding effect_of
 effect_at s word it aligned fetched is =
     let here : insn_at s ≡ Some it = rw fetched is in
-    ap (λ k. unless_fault k s) (first_of s word aligned fetched ∙ ap (λ k. or_else (row_fault word k) None) is) ∙ unless_row (is_executed it) word it s here
+    let data_checks : data_fault s ≡ transfer_fault it s.scalars s.memory = ap (option_and_then (λ k. transfer_fault k s.scalars s.memory)) here in
+    ap (λ k. unless_fault k s) (first_of s word aligned fetched ∙ ap (λ k. or_else (row_fault word k) (or_else (data_fault s) None)) is ∙ ap (λ k. or_else (row_fault word (Some it)) (or_else k None)) data_checks) ∙ unless_row (is_executed it) (transfer_fault it s.scalars s.memory) word it s here
+
+-- a load, a store or an atomic instruction that no check refuses
+pub access_effect : (word : ℕ) (it : Insn) (s : Core) → IsTrue (is_access it) → transfer_fault it s.scalars s.memory ≡ None → effect_of_insn word it s ≡ Becomes (accessed it s)
+access_effect word (insn.LoadStore x) s h none = ap (λ f. unless_raised f (next_of (insn.LoadStore x) s)) none
+access_effect word (insn.LoadLiteral x) s h none = ap (λ f. unless_raised f (next_of (insn.LoadLiteral x) s)) none
+access_effect word (insn.LoadStorePair x) s h none = ap (λ f. unless_raised f (next_of (insn.LoadStorePair x) s)) none
+access_effect word (insn.Atomic x) s h none = ap (λ f. unless_raised f (next_of (insn.Atomic x) s)) none
+access_effect word (insn.AddSubImmediate x) s h none = cc
+access_effect word (insn.AddSubRegister x) s h none = cc
+access_effect word (insn.LogicalRegister x) s h none = cc
+access_effect word (insn.AddSubExtended x) s h none = cc
+access_effect word (insn.LogicalImmediate x) s h none = cc
+access_effect word (insn.MoveWide x) s h none = cc
+access_effect word (insn.BitfieldMove x) s h none = cc
+access_effect word (insn.Extract x) s h none = cc
+access_effect word (insn.PcRelative x) s h none = cc
+access_effect word (insn.Branch x) s h none = cc
+access_effect word (insn.BranchRegister x) s h none = cc
+access_effect word (insn.AddSubCarry x) s h none = cc
+access_effect word (insn.ConditionalSelect x) s h none = cc
+access_effect word (insn.ConditionalCompare x) s h none = cc
+access_effect word (insn.OneSource x) s h none = cc
+access_effect word (insn.TwoSource x) s h none = cc
+access_effect word (insn.Multiply x) s h none = cc
+access_effect word (insn.System x) s h none = cc
+access_effect word (insn.SystemMove x) s h none = cc

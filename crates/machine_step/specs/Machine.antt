@@ -4,7 +4,7 @@ use Rattle.machine_step.specs.Core.{Core, Bank}
 use Rattle.machine_step.specs.Effect.{Effect, Raises, Calls, Becomes}
 use Rattle.machine_step.specs.declared.machine.Machine.{Machine}
 use Rattle.machine_step.specs.declared.machine.StepEnd.{StepEnd}
-use Rattle.machine_step.specs.declared.machine.StepEnd.TheVariants.{Next, Call, Raise}
+use Rattle.machine_step.specs.declared.machine.StepEnd.TheVariants.{Next, Call, Raise, Memory}
 
 -- the state of a machine and a bank
 abbrev pub core_of : Machine → Bank → Core
@@ -15,3 +15,4 @@ abbrev pub Steps : Effect → Core → Core → StepEnd → Type 0
 Steps effect old new Next = effect ≡ Becomes new
 Steps effect old new (Call number) = (effect ≡ Calls number) × (new ≡ old)
 Steps effect old new (Raise exception) = (effect ≡ Raises exception) × (new ≡ old)
+Steps effect old new Memory = new ≡ old

@@ -3,6 +3,7 @@ ghost use Rattle.std.specs.Prelude.{ℕ, ◌≡◌, ◌<◌, IsTrue, IfSome};
 ghost use Rattle.a64_table.specs.Ranges.{IsInRow};
 ghost use Rattle.sve_table.specs.Meaning.{instruction_of};
 ghost use Rattle.scalar_exec.specs.Step.{is_scalar, scalar_step, flowed};
+ghost use Rattle.mem_access.specs.Transfer.{is_access};
 ghost use Rattle.machine_step.specs.Core.{Bank};
 ghost use Rattle.machine_step.specs.System.{moved, core_past, system_register, with_system_register};
 ghost use Rattle.machine_step.specs.Effect.{effect_of, effect_of_insn, is_executed_register};
@@ -10,6 +11,7 @@ ghost use Rattle.machine_step.specs.Machine.{core_of, Steps};
 
 use crate::system::{read_nzcv, write_nzcv};
 use a64_decode::decode_scalar;
+use mem_access::{AccessStop, transfer};
 use paged_memory::Pages;
 use scalar_exec::{Flow, exec_scalar, next_address, read_x, write_x};
 use sm_types::{Exception, Insn, Scalars, System, SystemMove, SystemMoveOp, SystemRegister};
@@ -24,6 +26,8 @@ pub enum StepEnd {
     Call(u16),
     /// The instruction raises; nothing has changed.
     Raise(Exception),
+    /// There was no memory for a page that is written; nothing has changed.
+    Memory,
 }
 
 /// What an instruction reads and writes, but for the vectors, the predicates and ZA.
@@ -103,10 +107,10 @@ impl Machine {
         match insn {
             Insn::System(x) => self.execute_system(word, *x),
             Insn::SystemMove(x) => self.execute_move(word, x),
-            Insn::LoadStore(_) => StepEnd::Raise(Exception::Undefined(word)),
-            Insn::LoadLiteral(_) => StepEnd::Raise(Exception::Undefined(word)),
-            Insn::LoadStorePair(_) => StepEnd::Raise(Exception::Undefined(word)),
-            Insn::Atomic(_) => StepEnd::Raise(Exception::Undefined(word)),
+            Insn::LoadStore(_) => self.execute_access(insn),
+            Insn::LoadLiteral(_) => self.execute_access(insn),
+            Insn::LoadStorePair(_) => self.execute_access(insn),
+            Insn::Atomic(_) => self.execute_access(insn),
             _ => self.execute_scalar(insn),
         }
     }
@@ -120,6 +124,19 @@ impl Machine {
         let flow = exec_scalar(&mut self.scalars, insn);
         move_pc(&mut self.scalars, flow);
         StepEnd::Next
+    }
+
+    /// Executes a load, a store or an atomic instruction.
+    fn execute_access(&mut self, insn: &Insn) -> StepEnd
+        requires access { IsTrue (is_access insn.now) }
+        requires fields { IsInRow insn.now }
+        ensures { (word : ℕ) (bank : Bank) → Steps (effect_of_insn word insn.now (core_of self.old bank)) (core_of self.old bank) (core_of self.new bank) result }
+    {
+        match transfer(insn, &mut self.scalars, &mut self.pages) {
+            Ok(()) => self.step_past(),
+            Err(AccessStop::Raise(exception)) => StepEnd::Raise(exception),
+            Err(AccessStop::Memory) => StepEnd::Memory,
+        }
     }
 
     /// Goes on to the next instruction.

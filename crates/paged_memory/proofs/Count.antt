@@ -1,11 +1,12 @@
 -- How many pages parts touch.
-use Rattle.std.proofs.Common.{◌⊎◌, inl, inr, ◌≡◌, ◌≢◌, ℕ, zero, suc, ◌+◌, ◌-◌, ◌*◌, ◌/◌, ◌^◌, ◌<◌, ◌≤◌, true, false, cond, List, [], ◌∷◌, length, get_or, refl, ap, sym, ◌∙◌, arith, Option, Some, None, All}
+use Rattle.std.proofs.Common.{◌⊎◌, inl, inr, ◌≡◌, ◌≢◌, ℕ, zero, suc, ◌+◌, ◌-◌, ◌*◌, ◌/◌, ◌^◌, ◌<◌, ◌≤◌, true, false, cond, List, [], ◌∷◌, length, get_or, refl, ap, sym, ◌∙◌, arith, Option, Some, None, slice_get, All}
 use Rattle.std.specs.Prelude.{◌==◌, ◌&&◌, nat_le, nat_lt, IsSome, is_some}
 use Rattle.std.proofs.lemmas.Bool.Decides.{nat_tests}
 use Rattle.std.specs.FinMap.{FinMap, get, len, insert, remove, empty, get-insert, get-remove, get-empty, len-empty, len-insert, same_map, nat_cmp-IsAntisymmetric}
 use Rattle.std.specs.Cmp.{nat_cmp_total}
 use Rattle.std.specs.Ordering.{nat_cmp}
-use Rattle.paged_memory.specs.Image.{Extent, Program, union, part_flags, image_flags, parts_byte, IsMemoryOf, IsImage, IsImagePage}
+use Rattle.paged_memory.specs.Memory.{or_else}
+use Rattle.paged_memory.specs.Image.{Extent, Program, union, part_flags, image_flags, part_byte, parts_byte, or_zero, IsMemoryOf, IsImage, IsImagePage}
 use Rattle.paged_memory.specs.Parts.{IsPlaced, ArePlaced, touched_below}
 use Rattle.paged_memory.proofs.Over.{eq_by_cmp-nat}
 
@@ -186,4 +187,45 @@ pub placed_by_ends : (p : Extent) → length p.bytes ≤ p.size → p.address + 
 placed_by_ends p inside low apart = record {
   inside = inside;
   places = λ a from to. (omega arith, elim apart [ inl l ↦ inl (omega arith) | inr g ↦ inr (omega arith) ]);
+}
+
+-- ---- two parts
+
+either_counts : (f r : Option ℕ) (a b c : ℕ) → a ≤ b + c → a + cond (is_some (union f r)) 1 0 ≤ (b + cond (is_some (union f None)) 1 0) + (c + cond (is_some r) 1 0)
+either_counts None None a b c h = omega arith
+either_counts None (Some g) a b c h = omega arith
+either_counts (Some e) None a b c h = omega arith
+either_counts (Some e) (Some g) a b c h = omega arith
+
+touched_by_both : (p : Extent) (parts : List Extent) (n : ℕ) → touched_below (p ∷ parts) n ≤ touched_below (p ∷ []) n + touched_below parts n
+unfolding touched_below image_flags
+touched_by_both p parts zero = omega arith
+touched_by_both p parts (suc n) = either_counts (part_flags p n) (image_flags parts n) (touched_below (p ∷ parts) n) (touched_below (p ∷ []) n) (touched_below parts n) (touched_by_both p parts n)
+
+inside_test : (p : Extent) (a : ℕ) → IsSome (part_byte p a) → a < p.address + p.size
+inside_test p a h =
+    elim (nat_le p.address a && nat_lt a (p.address + p.size)) as (λ t. (nat_le p.address a && nat_lt a (p.address + p.size)) ≡ t → IsSome (cond t (Some (or_zero (slice_get p.bytes (a - p.address)))) None) → a < p.address + p.size) [
+      | true ↦ λ t s. grind (arith, nat_tests)
+      | false ↦ λ t s. cc
+    ] refl h
+
+not_below : (q : Extent) (a : ℕ) → a < q.address → or_else (part_byte q a) None ≡ None
+not_below q a l = let e : (nat_le q.address a && nat_lt a (q.address + q.size)) ≡ false = grind (arith, nat_tests) in rw e refl
+
+only_two : (p q : Extent) (k : ℕ) (d : Extent) → IsPlaced p → IsPlaced q → k < 2 → IsPlaced (get_or (p ∷ q ∷ []) k d)
+only_two p q zero d first second l = first
+only_two p q (suc zero) d first second l = second
+only_two p q (suc (suc k)) d first second l = absurd (omega arith)
+
+-- two parts that lie where they may, one after the other, and touch few pages make an image
+pub two_placed : (p q : Extent) → IsPlaced p → IsPlaced q → p.address + p.size ≤ q.address → ((p.address + p.size - 1) / 4096 + 1 - p.address / 4096) + ((q.address + q.size - 1) / 4096 + 1 - q.address / 4096) ≤ 4032 → ArePlaced (p ∷ q ∷ [])
+unfolding parts_byte
+two_placed p q first second order few = record {
+  placed = λ k d l. only_two p q k d first second l;
+  apart = (λ a h. let below : a < p.address + p.size = inside_test p a h in not_below q a (omega arith), (λ a h. refl, tt));
+  few =
+      let both : touched_below (p ∷ q ∷ []) (2 ^ 35) ≤ touched_below (p ∷ []) (2 ^ 35) + touched_below (q ∷ []) (2 ^ 35) = touched_by_both p (q ∷ []) (2 ^ 35) in
+      let one : touched_below (p ∷ []) (2 ^ 35) ≤ (p.address + p.size - 1) / 4096 + 1 - p.address / 4096 = (touched_by_one p (2 ^ 35)).1 in
+      let other : touched_below (q ∷ []) (2 ^ 35) ≤ (q.address + q.size - 1) / 4096 + 1 - q.address / 4096 = (touched_by_one q (2 ^ 35)).1 in
+      omega arith;
 }

@@ -1,24 +1,20 @@
 //! A step of one instruction: the state before it, and the line that says what it gives.
-use crate::file::file_of;
 use crate::outcome::outcome_line;
+use crate::pages::{PC, pages_of};
 use a64_decode::decode_scalar;
 use anyhow::{Context, Result};
-use elf_loader::load;
 use machine_step::Machine;
-use paged_memory::Pages;
 use sm_types::{Insn, Scalars, SystemRegister};
 use std::alloc::Global;
 
-/// The address of the instruction.
-const PC: u64 = 0x20000;
-
-/// The state before a step: the word at PC, and the registers.
+/// The state before a step: the word at PC, the registers, and the data in hexadecimal.
 #[derive(Clone, Copy)]
-struct Case {
+struct Case<'a> {
     word: u32,
     scalars: Scalars,
     tpidr: u64,
     tpidr2: u64,
+    data: &'a str,
 }
 
 /// A number of hexadecimal digits.
@@ -50,8 +46,9 @@ fn set_x(scalars: &mut Scalars, key: &str, value: u64) -> Option<()> {
 }
 
 /// Sets a field of the state; `None` for one that no scalar instruction sees.
-fn set_field(case: &mut Case, key: &str, value: &str) -> Option<()> {
+fn set_field<'a>(case: &mut Case<'a>, key: &str, value: &'a str) -> Option<()> {
     match key {
+        "m" => case.data = value,
         "nzcv" => return set_nzcv(&mut case.scalars, value),
         "sp" => case.scalars.sp = number(value)?,
         "tpidr" => case.tpidr = number(value)?,
@@ -62,7 +59,7 @@ fn set_field(case: &mut Case, key: &str, value: &str) -> Option<()> {
 }
 
 /// The state of a line's third field: a word, and fields `KEY=VALUE`; `None` where a field is none that a scalar instruction sees.
-fn read_case(text: &str) -> Option<Case> {
+fn read_case(text: &str) -> Option<Case<'_>> {
     let (word, fields) = match text.split_once(' ') {
         Some(parts) => parts,
         None => (text, ""),
@@ -80,6 +77,7 @@ fn read_case(text: &str) -> Option<Case> {
         },
         tpidr: 0,
         tpidr2: 0,
+        data: "",
     };
     for field in fields.split_whitespace() {
         let (key, value) = field.split_once('=')?;
@@ -92,19 +90,15 @@ fn read_case(text: &str) -> Option<Case> {
 fn is_executed(word: u32) -> bool {
     match decode_scalar(word) {
         None => false,
-        Some(Insn::LoadStore(_)) => false,
-        Some(Insn::LoadLiteral(_)) => false,
-        Some(Insn::LoadStorePair(_)) => false,
-        Some(Insn::Atomic(_)) => false,
         Some(Insn::SystemMove(x)) => x.register != SystemRegister::Svcr,
         Some(_) => true,
     }
 }
 
 /// What a step of the case gives, as a line.
-fn step_line(alloc: Global, case: Case) -> Result<String> {
-    let image = load(alloc, &file_of(case.word)).context("the word's file")?;
-    let pages = Pages::from_image(alloc, &image).map_err(|_| anyhow::anyhow!("memory"))?;
+fn step_line(alloc: Global, case: Case<'_>) -> Result<String> {
+    let bytes = hex::decode(alloc, case.data).context("the data")?;
+    let pages = pages_of(alloc, case.word, bytes.as_slice())?;
     let mut machine = Machine {
         scalars: case.scalars,
         streaming: false,

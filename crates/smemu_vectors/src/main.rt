@@ -4,8 +4,8 @@
 #![tactic(auto)]
 
 mod case;
-mod file;
 mod outcome;
+mod pages;
 mod words;
 
 use crate::case::check_steps;

@@ -1,5 +1,6 @@
 //! The line of what a step gives.
-use anyhow::Result;
+use crate::pages::data_text;
+use anyhow::{Result, anyhow};
 use machine_step::{Machine, StepEnd};
 use sm_types::{Access, Exception, Scalars};
 use std::alloc::Global;
@@ -26,7 +27,7 @@ fn push_flags(alloc: Global, line: &mut String, s: &Scalars) -> Result<()> {
     Ok(())
 }
 
-/// The line of a step that was executed: PC, and the registers that are not zero.
+/// The line of a step that was executed: PC, and the registers and the data that are not zero.
 fn next_line(alloc: Global, machine: &Machine) -> Result<String> {
     let s = &machine.scalars;
     let pc = s.pc;
@@ -39,6 +40,11 @@ fn next_line(alloc: Global, machine: &Machine) -> Result<String> {
     push_flags(alloc, &mut line, s)?;
     push_number(alloc, &mut line, "tpidr", machine.tpidr)?;
     push_number(alloc, &mut line, "tpidr2", machine.tpidr2)?;
+    let data = data_text(alloc, &machine.pages)?;
+    if !data.is_empty() {
+        line.push_str(" m=")?;
+        line.push_str(data.as_str())?;
+    }
     Ok(line)
 }
 
@@ -73,5 +79,6 @@ pub fn outcome_line(alloc: Global, end: StepEnd, machine: &Machine) -> Result<St
         StepEnd::Next => next_line(alloc, machine),
         StepEnd::Call(number) => Ok(format!(in alloc; "call {number}")?),
         StepEnd::Raise(exception) => raise_line(alloc, exception),
+        StepEnd::Memory => Err(anyhow!("memory")),
     }
 }

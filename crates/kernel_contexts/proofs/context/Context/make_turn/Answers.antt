@@ -33,3 +33,8 @@ returns-in-Raise-clause-turn c =
     stops_so _ (state_of c.args.self.now) c.stop_with-in-Raise.new.self c.stop_with-in-Raise.result _ c.stop_with-in-Raise.ensures.answer
     (turn_raises (config_of c.args.self.now) (state_of c.args.self.now) _ _ c.if-self.false h.0 h.1 ∙ ap (λ s. Ends s (Raised c.in-Raise.exception c.step.new.self.scalars.pc)) (sym c.stop_with-in-Raise.ensures.state))
     c.stop_with-in-Raise.ensures.stop
+
+pub returns-in-Memory-clause-turn : goal.returns-in-Memory-clause-turn
+returns-in-Memory-clause-turn c =
+    let bank = zero_bank c.args.self.now.config.vl c.args.self.now.config.svl in
+    (ap (λ core. record (state_of c.args.self.now) { core = core }) (c.in-Memory.ensures bank), c.requires)
