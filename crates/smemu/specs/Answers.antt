@@ -13,11 +13,10 @@ use Rattle.cmd_words.specs.Words.{Fault, Request, AsksRun, AsksHelp, AsksVersion
 use Rattle.paged_memory.specs.Image.{Program}
 use Rattle.elf_loader.specs.Loading.{Loads, Refuses}
 use Rattle.elf_loader.specs.declared.fault.LoadFault.{LoadFault}
-use Rattle.elf_loader.specs.declared.fault.LoadFault.TheVariants.{NotYet, Unlisted, Memory}
 use Rattle.kernel_contexts.specs.State.{State}
 use Rattle.lone_runner.specs.LoneRun.{IsLoneRun}
-use Rattle.report_text.specs.Lines.{hex64, hex32}
 use Rattle.report_text.specs.Report.{report_text, zero_words}
+use Rattle.smemu.specs.LoadLines.{fault_line}
 use Rattle.smemu.specs.Texts.{usage_line, help_text, version_text}
 use Rattle.smemu.specs.declared.status.Status.{Status}
 use Rattle.smemu.specs.declared.status.Status.TheVariants.{Done, Usage, Absent, ReadFault, WriteFault, BadFile, OutOfMemory}
@@ -53,19 +52,13 @@ IsAnswer told (AsksRun name options) text = IsReport told name options text
 IsAnswer told AsksHelp text = text ≡ help_text
 IsAnswer told AsksVersion text = text ≡ version_text
 
--- why a file is refused, with the values of the fault
-abbrev pub fault_words : LoadFault → List ℕ
-fault_words NotYet = codes "notyet"
-fault_words (Unlisted address word) = concat (codes "unlisted 0x" ∷ hex64 address ∷ codes " 0x" ∷ hex32 word ∷ [])
-fault_words Memory = codes "memory"
-
 -- the text is the line of the fault for which the file of that name is refused
 pub record IsRefusal (told : Told) (name text : List ℕ) : Type 0 where
   pub file : List ℕ
   pub fault : LoadFault
   pub is_file : IsFile told name file
   pub refuses : Refuses file fault
-  pub is_text : text ≡ concat (codes "bad file: " ∷ fault_words fault ∷ codes "\n" ∷ [])
+  pub is_text : text ≡ fault_line fault
 
 -- what the words and the files before a call are, and the files after it
 module _ {F : Type 0} (told : F → Told) (absences faults : F → ℕ) (is_reliable : F → Type 0) (words : List (List ℕ)) (old new : F) where

@@ -8,19 +8,15 @@ use Rattle.cmd_words.specs.Options.{options_of}
 use Rattle.cmd_words.specs.Words.{AsksRun, AsksHelp, AsksVersion, usage_fault, command_of}
 use Rattle.edge_io.specs.Cause.{Rose}
 use Rattle.elf_loader.specs.Loading.{Refuses}
-use Rattle.elf_loader.specs.declared.fault.LoadFault.{LoadFault}
 use Rattle.kernel_contexts.specs.Context.{state_of, thread_of}
 use Rattle.report_text.specs.Report.{report_text, zero_words}
-use Rattle.smemu.specs.Answers.{Told, IsFile, EndsAs, fault_words}
+use Rattle.smemu.specs.Answers.{Told, IsFile, EndsAs}
+use Rattle.smemu.specs.LoadLines.{fault_line}
 use Rattle.smemu.specs.Texts.{usage_line, help_text, version_text}
 use Rattle.smemu.specs.declared.reply.Reply.{Reply}
 use Rattle.smemu.specs.declared.reply.Reply.TheVariants as reply
 use Rattle.smemu.specs.declared.status.Status.{Status}
 use Rattle.smemu.specs.declared.status.Status.TheVariants as status
-
--- the line of a fault
-unfoldable pub fault_line : LoadFault → List ℕ
-fault_line fault = concat (codes "bad file: " ∷ fault_words fault ∷ codes "\n" ∷ [])
 
 -- the text of a reply
 unfoldable pub reply_text : Reply → List ℕ

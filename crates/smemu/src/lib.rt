@@ -10,6 +10,7 @@
 mod command;
 mod fault_line;
 mod help;
+mod load_line;
 mod reply;
 mod status;
 

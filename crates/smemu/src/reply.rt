@@ -1,16 +1,17 @@
 //! What is to be written, and how.
 ghost use Rattle.std.specs.Prelude.{◌≡◌};
 ghost use Rattle.edge_io.specs.Sink.{Writes};
-ghost use Rattle.smemu.specs.Replies.{fault_line, reply_text, status_of};
+ghost use Rattle.smemu.specs.Replies.{reply_text, status_of};
 ghost use Rattle.smemu.specs.Texts as text;
 
 use crate::help::{HELP, VERSION};
+use crate::load_line::write_fault;
 use crate::status::Status;
 use cmd_words::UsageKind;
 use edge_io::{PutFault, Sink};
 use elf_loader::LoadFault;
 use kernel_contexts::Context;
-use report_text::{Head, hex32_digits, hex64_digits, put_all, write_report};
+use report_text::{Head, put_all, write_report};
 use sm_types::Stop;
 
 /// What is to be written, once the words are read, the file fetched and the program run.
@@ -77,27 +78,6 @@ fn write_version<K: Sink>(out: &mut K) -> Result<(), PutFault>
     ensures { Writes K.told K.faults K.takes out.old out.new result text.version_text }
 {
     out.put(VERSION)
-}
-
-/// Writes the line of a fault of the file.
-#[tactic(auto, unfolding(crate::specs::Replies::fault_line))]
-fn write_fault<K: Sink>(out: &mut K, fault: LoadFault) -> Result<(), PutFault>
-    ensures { Writes K.told K.faults K.takes out.old out.new result (fault_line fault) }
-{
-    match fault {
-        LoadFault::NotYet => put_all(out, &[b"bad file: notyet\n"]),
-        LoadFault::Unlisted { address, word } => put_all(
-            out,
-            &[
-                b"bad file: unlisted 0x",
-                &hex64_digits(address),
-                b" 0x",
-                &hex32_digits(word),
-                b"\n",
-            ],
-        ),
-        LoadFault::Memory => put_all(out, &[b"bad file: memory\n"]),
-    }
 }
 
 /// Writes a reply.
