@@ -11,7 +11,7 @@ use Rattle.sm_types.specs.declared.config.Config.{Config}
 use Rattle.cmd_words.specs.Options.{options_of}
 use Rattle.cmd_words.specs.Words.{AsksRun, AsksHelp, AsksVersion, command_of}
 use Rattle.smemu.specs.Answers.{Told, Defined, IsCutShort, IsDone, IsRefused}
-use Rattle.smemu.specs.Replies.{reply_text, fault_line, status_of, Runs, Prepares, PreparesFor}
+use Rattle.smemu.specs.Replies.{reply_text, status_of, Runs, Prepares, PreparesFor}
 use Rattle.smemu.specs.declared.reply.Reply.{Reply}
 use Rattle.smemu.specs.declared.reply.Reply.TheVariants as reply
 use Rattle.smemu.proofs.Whole.{loaded_file, refused_file}
@@ -44,7 +44,7 @@ module _ {F : Type 0} (told : F → Told) (absences faults : F → ℕ) (is_reli
 module _ {F : Type 0} (told : F → Told) (absences faults : F → ℕ) (is_reliable : F → Type 0) (words : List (List ℕ)) (old new : F) where
   -- the text of a reply goes with its status
   pub defined_of : (r : Reply) → PreparesFor told absences faults is_reliable old new words r → Defined told absences faults is_reliable words old new (status_of r) (reply_text r)
-  unfolding reply_text fault_line
+  unfolding reply_text
   defined_of (reply.Report context stop head) h = let p = h.prepares in record {
     request = AsksRun h.name (options_of h.config);
     asked = h.asked;
