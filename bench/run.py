@@ -1,6 +1,6 @@
 #!/usr/bin/env python3
-"""Times the emulator on one core: instructions a second of two loops, words a second of the decoder, and the time from start
-to report of a short program.
+"""Times the emulator on one core: instructions a second of three loops, words a second of the decoder, the time to load a file of 64 MiB
+and to refuse one at its last check, and the time from start to report of a short program.
 
     bench/run.py
 
@@ -15,7 +15,7 @@ import time
 
 TOP = pathlib.Path(__file__).resolve().parent.parent
 sys.path.insert(0, str(TOP / "examples"))
-from elf import elf
+from elf import ALLOC, EXECINSTR, STRTAB, SYMTAB, Section, Segment, build, elf, text_of
 
 PROGRAM = TOP / "crates" / "smemu_cli" / "out" / "smemu_cli"
 RUNS = 5
@@ -44,7 +44,23 @@ MIXED = [
     0xD2800BA8,  # movz x8, #93
     0xD4000001,  # svc #0
 ]
+# 3,900 times over the 512 doublewords of a page: five instructions each
+ACCESSES = [
+    0xD281E783,  # movz x3, #3900
+    0xD2A00821,  # movz x1, #65, lsl #16
+    0xD2804002,  # movz x2, #512
+    0xF9400024,  # ldr x4, [x1]
+    0x8B050084,  # add x4, x4, x5
+    0xF8008424,  # str x4, [x1], #8
+    0xF1000442,  # subs x2, x2, #1
+    0x54FFFF81,  # b.ne .-16
+    0xF1000463,  # subs x3, x3, #1
+    0x54FFFF01,  # b.ne .-32
+    0xD2800BA8,  # movz x8, #93
+    0xD4000001,  # svc #0
+]
 UNLISTED = 0x1E604000
+FILE_SIZE = 67_108_864
 WORDS = 4_000_000
 
 
@@ -68,14 +84,33 @@ def listed_words():
     return [words[i % len(words)] for i in range(WORDS)]
 
 
+def paged(words):
+    """The words, and a page of data at 0x410000."""
+    text = text_of(words)
+    return build([Segment(0x400000, text), Segment(0x410000, bytes(4096), flags=6)])[0]
+
+
+def large(words):
+    """A file of 64 MiB: the words as text, and else a symbol table, of which every fourth symbol says where code begins."""
+    text = text_of(words)
+    symbol = lambda name, value: name.to_bytes(4, "little") + bytes([0, 0, 1, 0]) + value.to_bytes(8, "little") + bytes(8)
+    four = lambda i: symbol(1, 0x400000 + 16 * i) + symbol(4, 0) * 3
+    count = (FILE_SIZE - len(text) - 4096) // 96
+    table = bytes(24) + b"".join(four(i) for i in range(count))
+    sections = [Section(flags=ALLOC | EXECINSTR, address=0x400000, size=len(text)), Section(SYMTAB, data=table, link=3, entry_size=24),
+                Section(STRTAB, data=b"\0$x\0name\0")]
+    file = build([Segment(0x400000, text)], sections)[0]
+    return file + bytes(FILE_SIZE - len(file))
+
+
 def main():
     subprocess.run([TOP / "smemu", "run", TOP / "examples" / "answer.elf"], check=True, stdout=subprocess.DEVNULL)
     start, _ = best(TOP / "examples" / "answer.elf")
     print(f"start to report: {1000 * start:.1f} ms")
     with tempfile.TemporaryDirectory() as folder:
         path = pathlib.Path(folder) / "program.elf"
-        for name, words in (("subs, b.ne", GROWN), ("add, eor, madd, subs, b.ne", MIXED)):
-            path.write_bytes(elf(words))
+        for name, file in (("subs, b.ne", elf(GROWN)), ("add, eor, madd, subs, b.ne", elf(MIXED)), ("ldr, add, str, subs, b.ne", paged(ACCESSES))):
+            path.write_bytes(file)
             total, report = best(path)
             count = count_of(report)
             print(f"{name}: {count} instructions in {total:.3f} s, {count / (total - start) / 1e6:.1f} million a second")
@@ -86,6 +121,14 @@ def main():
         path.write_bytes(elf([UNLISTED] + words))
         none, text = best(path)
         assert text.startswith("bad file: unlisted")
+        first = [0xD2800BA8, 0xD4000001]  # movz x8, #93; svc #0
+        path.write_bytes(large(first + words))
+        time_loaded, text = best(path)
+        assert "stop exited 0" in text, text[:80]
+        path.write_bytes(large(first + words + [UNLISTED]))
+        refused, text = best(path)
+        assert text.startswith("bad file: unlisted")
+        print(f"64 MiB: {time_loaded:.3f} s from start to report, of which {time_loaded - start:.3f} s are the file's; {refused:.3f} s to the last check that fails")
         print(f"decoder: {WORDS} words in {whole - none:.3f} s, {WORDS / (whole - none) / 1e6:.1f} million a second")
 
 

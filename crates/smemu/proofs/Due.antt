@@ -6,7 +6,7 @@ use Rattle.cmd_words.specs.Options.{Options, options_of}
 use Rattle.cmd_words.specs.Words.{Fault, Request, AsksRun, AsksHelp, AsksVersion, usage_fault, command_of}
 use Rattle.cmd_words.proofs.Law.{reading}
 use Rattle.elf_loader.specs.Loading.{load_fault, Refuses}
-use Rattle.elf_loader.specs.declared.fault.LoadFault.{LoadFault}
+use Rattle.elf_headers.specs.declared.fault.LoadFault.{LoadFault}
 use Rattle.smemu.specs.Answers.{Told, IsFile, AsksToRun, IsReady, IsDue}
 use Rattle.smemu.specs.Replies.{status_of, PreparesFor}
 use Rattle.smemu.specs.declared.reply.Reply.{Reply}

@@ -128,6 +128,18 @@ mod tests {
     }
 
     #[test]
+    fn a_file_of_one_byte_more_than_64_mib(rt: HostRuntime) -> Result<(), Fail> {
+        let bytes = vec![in rt.alloc(); 0u8; 67_108_865]?;
+        let mut files = MemFiles::new(rt.alloc());
+        files.add("long", bytes.as_slice())?;
+        let mut out = MemSink::new(rt.alloc(), 100)?;
+        let status = status_of(rt.alloc(), &["run", "long"], &mut files, &mut out)?;
+        assert_eq!(rt; status, Status::BadFile);
+        assert!(rt; out.bytes() == b"bad file: toolong\n".as_slice());
+        Ok(())
+    }
+
+    #[test]
     fn help_and_version(rt: HostRuntime) -> Result<(), Fail> {
         let (status, version) = written(rt.alloc(), &["--version"])?;
         assert_eq!(rt; status.code(), 0);
