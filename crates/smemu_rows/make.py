@@ -222,12 +222,13 @@ def word_refusals():
     yield "code-by-one-of-two-sections", both, f"unlisted 0x000000000040000c 0x{UNLISTED:08x}"
     halves = [Segment(TEXT, text[:14]), Segment(TEXT + 14, text[14:16])]
     yield "word-over-two-loads", with_code(halves, code_section(16))[0], f"unlisted 0x000000000040000c 0x{UNLISTED:08x}"
-    yield "zeros-past-the-bytes", with_code([Segment(TEXT, text[:14], memory=20)], code_section(16))[0], "unlisted 0x000000000040000c 0x00004000"
+    yield "zeros-past-the-bytes", with_code([Segment(TEXT, text[:15], memory=20)], code_section(16))[0], "unlisted 0x000000000040000c 0x00604000"
 
 
 def real_refusals():
     """What linkers make that is not loaded."""
-    for name, line in (("pie", "notstatic 3"), ("interpreter", "notstatic 3"), ("tls", "notstatic 7"), ("x86-64", "notthismachine 62"), ("object", "notstatic 1")):
+    for name, line in (("pie", "notstatic 3"), ("interpreter", "notstatic 3"), ("tls", "notstatic 7"), ("x86-64", "notthismachine 62"), ("object", "notstatic 1"),
+                       ("stripped", "unlisted 0x00000000002101a0 0x55667788")):
         yield f"real-{name}", (HERE / "data" / f"real-{name}.elf").read_bytes(), line
 
 
@@ -265,7 +266,7 @@ def loaded():
     yield "loads-that-share-a-page", build([Segment(TEXT, text), Segment(TEXT + 0x800, b"abc", flags=6, memory=0x900)])[0], {}
     yield "no-bytes-at-a-far-offset", build([Segment(TEXT, text), Segment(0x500000, b"", flags=4, memory=1, offset=2**63)])[0], {}
     yield "4096-pages", build([Segment(TEXT, text), Segment(0x1000000, b"", flags=0, memory=4031 * 4096)])[0], {}
-    for name in ("lld", "gnu", "stripped"):
+    for name in ("lld", "gnu"):
         yield f"real-{name}", (HERE / "data" / f"real-{name}.elf").read_bytes(), {}
 
 

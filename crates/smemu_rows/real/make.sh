@@ -15,8 +15,8 @@ cd "$work"
 # static, with notes, a full section table and mapping symbols for the data in the text
 ld.lld -static --build-id=sha1 -o "$data/real-lld.elf" sum.o
 aarch64-linux-gnu-ld -static --build-id=sha1 -z max-page-size=4096 -o "$data/real-gnu.elf" sum.o
+# one for each reason to refuse; without its mapping symbols the data in the text counts as code
 ld.lld -static --strip-all -o "$data/real-stripped.elf" sum.o
-# one for each reason to refuse
 ld.lld -pie -o "$data/real-pie.elf" plain.o
 aarch64-linux-gnu-ld -shared -o libshared.so shared.o
 aarch64-linux-gnu-ld -no-pie -z max-page-size=4096 --dynamic-linker /lib/ld.so --no-as-needed -o "$data/real-interpreter.elf" plain.o libshared.so
