@@ -9,6 +9,8 @@ mod exchange;
 mod numbers;
 mod pairs;
 mod stop;
+#[cfg(test)]
+mod tests;
 mod transfers;
 mod values;
 
