@@ -6,9 +6,9 @@ use Rattle.std.proofs.lemmas.List.{append-nil}
 use Rattle.std.proofs.lemmas.Bool.Decides.{nat_tests}
 use Rattle.paged_memory.specs.Memory.{or_else}
 use Rattle.elf_sections.specs.declared.marks.Mark.{Mark}
-use Rattle.elf_sections.specs.Sections.{section_of, is_symbol_table, Repeats}
+use Rattle.elf_sections.specs.Sections.{section_of, is_symbol_table, repeats_table}
 use Rattle.elf_sections.specs.Marks.{is_mark_of, last_mark, SayTheSame, later, governing, says_code, is_code_at, marks_below, table_marks}
-use Rattle.elf_sections.proofs.Tables.{table_marks-repeats}
+use Rattle.elf_sections.proofs.Tables.{Repeats, repeats_parts, table_marks-repeats}
 
 -- ---- the first of several
 
@@ -56,8 +56,9 @@ unfolding marks_below
 marks_below-other file i h = rw (add-one, h) (append-nil (marks_below file i))
 
 -- a symbol table that comes again says nothing new
-pub marks_below-repeats : (file : List ℕ) (i : ℕ) → Repeats file i → SayTheSame (marks_below file (i + 1)) (marks_below file i)
-marks_below-repeats file i r =
+pub marks_below-repeats : (file : List ℕ) (i : ℕ) → repeats_table file i ≡ true → SayTheSame (marks_below file (i + 1)) (marks_below file i)
+marks_below-repeats file i h =
+    let r : Repeats file i = repeats_parts file i h in
     let e : i - 1 + 1 ≡ i = omega (arith, r.later) in
     let before : marks_below file i ≡ marks_below file (i - 1) ++ table_marks file (section_of file (i - 1)) = rw e at (marks_below-next file (i - 1) r.before) in
     let here : marks_below file (i + 1) ≡ (marks_below file (i - 1) ++ table_marks file (section_of file (i - 1))) ++ table_marks file (section_of file (i - 1)) =

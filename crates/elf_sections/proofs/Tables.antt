@@ -1,7 +1,7 @@
 -- A symbol table that comes again.
 use Rattle.std.proofs.Common.{◌≡◌, ℕ, ◌+◌, ◌-◌, ◌*◌, ◌<◌, ◌≤◌, Bool, true, false, not, List, length, None, refl, ap, sym, ◌∙◌, arith}
 use Rattle.std.specs.Prelude.{◌==◌, nat_lt}
-use Rattle.std.proofs.lemmas.Bool.{and_parts, ltb-true}
+use Rattle.std.proofs.lemmas.Bool.{and_parts, ltb-true, eqb-true}
 use Rattle.std.proofs.lemmas.Bool.Decides.{nat_tests}
 use Rattle.elf_headers.specs.declared.fault.LoadFault.{LoadFault}
 use Rattle.elf_headers.specs.declared.fault.LoadFault.TheVariants.{BadTable}
@@ -9,10 +9,41 @@ use Rattle.elf_headers.specs.Fault.{fault_when, fault_only}
 use Rattle.paged_memory.specs.Memory.{or_else}
 use Rattle.elf_headers.specs.Below.{first_below}
 use Rattle.elf_sections.specs.declared.section.SectionHeader.{SectionHeader}
-use Rattle.elf_sections.specs.Sections.{section_of, section_count, section_fault, is_symbol_table, is_code_section, is_all_loaded, is_in_file, is_good_table, has_names, ends_inside, strings_of, symbol_count, symbol_name, section_at, Repeats}
+use Rattle.elf_sections.specs.Sections.{section_of, section_count, section_fault, is_symbol_table, is_code_section, is_all_loaded, is_in_file, is_good_table, has_names, ends_inside, strings_of, symbol_count, symbol_name, section_at, is_same_table, repeats_table}
 use Rattle.elf_sections.specs.Marks.{table_marks}
 use Rattle.elf_headers.proofs.Below.{first_below-each_none, all_below-each}
 use Rattle.elf_sections.proofs.Names.{in_file}
+
+-- what it is to come again
+pub record Repeats (file : List ℕ) (i : ℕ) : Type 0 where
+  pub later : 0 < i
+  pub table : is_symbol_table (section_of file i) ≡ true
+  pub before : is_symbol_table (section_of file (i - 1)) ≡ true
+  pub offset : (section_of file i).offset ≡ (section_of file (i - 1)).offset
+  pub size : (section_of file i).size ≡ (section_of file (i - 1)).size
+  pub link : (section_of file i).link ≡ (section_of file (i - 1)).link
+  pub entry_size : (section_of file i).entry_size ≡ (section_of file (i - 1)).entry_size
+
+pub repeats_parts : (file : List ℕ) (i : ℕ) → repeats_table file i ≡ true → Repeats file i
+unfolding repeats_table
+repeats_parts file i h =
+    let s : SectionHeader = section_of file i in
+    let t : SectionHeader = section_of file (i - 1) in
+    let a = and_parts _ (is_same_table s t) h in
+    let b = and_parts _ (is_symbol_table t) a.0 in
+    let c = and_parts (nat_lt 0 i) (is_symbol_table s) b.0 in
+    let d = and_parts _ (s.entry_size == t.entry_size) a.1 in
+    let e = and_parts _ (s.link == t.link) d.0 in
+    let f = and_parts (s.offset == t.offset) (s.size == t.size) e.0 in
+    record {
+      later = ltb-true _ _ c.0;
+      table = c.1;
+      before = b.1;
+      offset = eqb-true _ _ f.0;
+      size = eqb-true _ _ f.1;
+      link = eqb-true _ _ e.1;
+      entry_size = eqb-true _ _ d.1;
+    }
 
 -- a header that has these fields, and no others
 abbrev table_header : ℕ → ℕ → ℕ → ℕ → SectionHeader
@@ -66,9 +97,10 @@ passes t false c l fault g e = cc
 passes t g true l fault h e = cc
 
 -- a symbol table that comes again passes, as it did before
-pub section_fault-repeats : (file : List ℕ) (i : ℕ) → Repeats file i → first_below (section_fault file) i ≡ None → section_fault file i ≡ None
+pub section_fault-repeats : (file : List ℕ) (i : ℕ) → repeats_table file i ≡ true → first_below (section_fault file) i ≡ None → section_fault file i ≡ None
 unfolding section_fault
-section_fault-repeats file i r before =
+section_fault-repeats file i h before =
+    let r : Repeats file i = repeats_parts file i h in
     let good : is_good_table file (section_of file (i - 1)) ≡ true = good_table file (i - 1) (first_below-each_none (section_fault file) i before (i - 1) (omega (arith, r.later))) r.before in
     passes (is_symbol_table (section_of file i)) (is_good_table file (section_of file i)) (is_code_section (section_of file i)) (is_all_loaded file (section_of file i)) (BadTable (section_at file i))
     (is_good_table-repeats file i r ∙ good) (no_code (section_of file i) r.table)

@@ -1,6 +1,6 @@
 -- The section table, and the checks on it and on each section.
 -- Source: ELF-64 Object File Format, the tables of Elf64_Ehdr, Elf64_Shdr and Elf64_Sym, of which places and widths are in bytes.
-use Rattle.std.specs.Prelude.{◌≡◌, ℕ, ◌+◌, ◌*◌, ◌-◌, ◌/◌, ◌%◌, ◌^◌, ◌≤◌, ◌<◌, Bool, true, List, [], ◌∷◌, length, Option, ◌==◌, ◌&&◌, ◌||◌, not, nat_lt, nat_le, is_some}
+use Rattle.std.specs.Prelude.{ℕ, ◌+◌, ◌*◌, ◌-◌, ◌/◌, ◌%◌, ◌^◌, ◌≤◌, Bool, List, [], ◌∷◌, length, Option, ◌==◌, ◌&&◌, ◌||◌, not, nat_lt, nat_le, is_some}
 use Rattle.paged_memory.specs.Image.{parts_byte}
 use Rattle.elf_headers.specs.declared.fault.LoadFault.{LoadFault}
 use Rattle.elf_headers.specs.declared.fault.LoadFault.TheVariants.{Truncated, BadTable}
@@ -94,15 +94,14 @@ unfoldable pub is_good_table : List ℕ → SectionHeader → Bool
 is_good_table file s =
     (s.entry_size == 24) && nat_lt s.link (section_count file) && is_in_file file s && is_in_file file (strings_of file s) && has_names file s
 
+-- the two headers name the same bytes, with the same size of an entry and the same link
+abbrev pub is_same_table : SectionHeader → SectionHeader → Bool
+is_same_table s t = (s.offset == t.offset) && (s.size == t.size) && (s.link == t.link) && (s.entry_size == t.entry_size)
+
 -- section number i is a symbol table, and the section before it is the same one
-pub record Repeats (file : List ℕ) (i : ℕ) : Type 0 where
-  pub later : 0 < i
-  pub table : is_symbol_table (section_of file i) ≡ true
-  pub before : is_symbol_table (section_of file (i - 1)) ≡ true
-  pub offset : (section_of file i).offset ≡ (section_of file (i - 1)).offset
-  pub size : (section_of file i).size ≡ (section_of file (i - 1)).size
-  pub link : (section_of file i).link ≡ (section_of file (i - 1)).link
-  pub entry_size : (section_of file i).entry_size ≡ (section_of file (i - 1)).entry_size
+unfoldable pub repeats_table : List ℕ → ℕ → Bool
+repeats_table file i =
+    nat_lt 0 i && is_symbol_table (section_of file i) && is_symbol_table (section_of file (i - 1)) && is_same_table (section_of file i) (section_of file (i - 1))
 
 -- ---- code sections
 

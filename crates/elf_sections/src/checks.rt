@@ -8,7 +8,7 @@ ghost use Rattle.elf_sections.specs.Sections.{section_count, section_fault, is_a
 ghost use Rattle.elf_sections.specs.Cover.{IsCover};
 
 use crate::cover::Cover;
-use crate::section::{SectionHeader, count_sections, read_section, repeats_table, section_place};
+use crate::section::{SectionHeader, count_sections, read_section, repeats_before, section_place};
 use crate::symbols::is_good_symbol_table;
 use elf_headers::LoadFault;
 
@@ -31,7 +31,7 @@ fn check_section(file: &[u8], cover: &Cover, i: u32) -> Result<(), LoadFault>
     requires same { IsPermutation (loads_of file.now) cover.now.loads.items }
     ensures { Tells result (section_fault file.now i) }
 {
-    if repeats_table(file, i) {
+    if repeats_before(file, i) {
         return Ok(());
     }
     let s = read_section(file, i);

@@ -5,7 +5,7 @@ ghost use Rattle.elf_headers.specs.Header.{number_at};
 ghost use Rattle.elf_sections.specs.Sections.{section_count, section_fault, is_in_file, ends_inside, is_good_table, HasSectionTable};
 ghost use Rattle.elf_sections.specs.Marks.{is_mapping_name, mark_at, table_marks, marks_below, marks_of, AreMarksInOrder, SayTheSame, HasEnd};
 
-use crate::section::{SectionHeader, count_sections, read_section, repeats_table};
+use crate::section::{SectionHeader, count_sections, read_section, repeats_before};
 use crate::symbols::SYMBOL_SIZE;
 use elf_headers::{u8_at, u16_at, u32_at, u64_at};
 use std::alloc::{AllocError, Global};
@@ -95,7 +95,7 @@ fn add_section(file: &[u8], i: u32, marks: &mut Vec<Mark>) -> Result<(), AllocEr
     ensures { OnOk result (SayTheSame marks.new.items (marks_below file.now (i + 1))) }
 {
     let s = read_section(file, i);
-    if !s.is_symbol_table() || repeats_table(file, i) {
+    if !s.is_symbol_table() || repeats_before(file, i) {
         return Ok(());
     }
     add_marks(file, &s, marks)

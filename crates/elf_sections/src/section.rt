@@ -1,7 +1,7 @@
 //! The section table, its headers, and the checks on it and on each section.
 ghost use Rattle.std.specs.Prelude.{◌≡◌, ◌+◌, ◌*◌, ◌≤◌, ◌<◌, length, OnOk, true};
 ghost use Rattle.elf_headers.specs.Fault.{Tells};
-ghost use Rattle.elf_sections.specs.Sections.{section_header, section_of, section_at, section_count, sections_at, section_table_fault, is_symbol_table, is_code_section, has_sections, HasSectionTable, Repeats};
+ghost use Rattle.elf_sections.specs.Sections.{section_header, section_of, section_at, section_count, sections_at, section_table_fault, is_symbol_table, is_code_section, has_sections, is_same_table, repeats_table, HasSectionTable};
 
 use elf_headers::{LoadFault, u16_at, u32_at, u64_at};
 
@@ -43,6 +43,16 @@ impl SectionHeader {
         ensures { result ≡ is_symbol_table self.now }
     {
         self.kind == SHT_SYMTAB
+    }
+
+    /// Tells whether both name the same bytes, with the same size of an entry and the same link.
+    fn is_same_table(&self, other: &SectionHeader) -> bool
+        ensures { result ≡ is_same_table self.now other.now }
+    {
+        self.offset == other.offset
+            && self.size == other.size
+            && self.link == other.link
+            && self.entry_size == other.entry_size
     }
 
     /// Tells whether the section has code.
@@ -106,22 +116,18 @@ pub fn read_section(file: &[u8], i: u32) -> SectionHeader
 }
 
 /// Tells whether section number `i` is a symbol table and the section before it is the same one.
-pub fn repeats_table(file: &[u8], i: u32) -> bool
+#[tactic(auto, unfolding(crate::specs::Sections::repeats_table))]
+pub fn repeats_before(file: &[u8], i: u32) -> bool
     requires table { HasSectionTable file.now }
     requires number { i < section_count file.now }
-    ensures { result ≡ true → Repeats file.now i }
+    ensures { result ≡ repeats_table file.now i }
 {
     if i == 0 {
         return false;
     }
     let s = read_section(file, i);
     let before = read_section(file, i - 1);
-    s.is_symbol_table()
-        && before.is_symbol_table()
-        && s.offset == before.offset
-        && s.size == before.size
-        && s.link == before.link
-        && s.entry_size == before.entry_size
+    s.is_symbol_table() && before.is_symbol_table() && s.is_same_table(&before)
 }
 
 /// Checks the section table.

@@ -5,12 +5,12 @@ use Rattle.elf_sections.specs.Marks.{last_mark, marks_below, table_marks}
 use Rattle.elf_sections.proofs.Tables.{good_table}
 use Rattle.elf_sections.proofs.Saying.{marks_below-next, marks_below-other, marks_below-repeats, same-append}
 use Rattle.elf_sections.proofs.marks.add_section.Goals as goal
-use Rattle.elf_sections.proofs.marks.add_section.Goals.{then-not-is_symbol_table-via-then-not-is_symbol_table, then-not-is_symbol_table-via-else-not-is_symbol_table+then-repeats_table}
+use Rattle.elf_sections.proofs.marks.add_section.Goals.{then-not-is_symbol_table-via-then-not-is_symbol_table, then-not-is_symbol_table-via-else-not-is_symbol_table+then-repeats_before}
 
 pub returns-then-not-is_symbol_table : goal.returns-then-not-is_symbol_table
 returns-then-not-is_symbol_table c = elim c.then-not-is_symbol_table.branch [
   | then-not-is_symbol_table-via-then-not-is_symbol_table w ↦ λ s v. c.requires.before s v ∙ ap (last_mark s v) (sym (marks_below-other c.args.file.now c.args.i (rw c.read_section-s.ensures at (sym c.is_symbol_table.ensures ∙ w.if-not-is_symbol_table.true))))
-  | then-not-is_symbol_table-via-else-not-is_symbol_table+then-repeats_table w ↦ λ s v. c.requires.before s v ∙ sym (marks_below-repeats c.args.file.now c.args.i (w.repeats_table.ensures w.if-repeats_table.true) s v)
+  | then-not-is_symbol_table-via-else-not-is_symbol_table+then-repeats_before w ↦ λ s v. c.requires.before s v ∙ sym (marks_below-repeats c.args.file.now c.args.i (sym w.repeats_before.ensures ∙ w.if-repeats_before.true) s v)
 ]
 
 pub add_marks-requires-clause-good : goal.add_marks-requires-clause-good
