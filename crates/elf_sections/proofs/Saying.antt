@@ -6,8 +6,10 @@ use Rattle.std.proofs.lemmas.List.{append-nil}
 use Rattle.std.proofs.lemmas.Bool.Decides.{nat_tests}
 use Rattle.paged_memory.specs.Memory.{or_else}
 use Rattle.elf_sections.specs.declared.marks.Mark.{Mark}
-use Rattle.elf_sections.specs.Sections.{section_of, is_symbol_table, repeats_table}
-use Rattle.elf_sections.specs.Marks.{is_mark_of, last_mark, SayTheSame, later, governing, says_code, is_code_at, marks_below, table_marks}
+use Rattle.elf_sections.specs.Sections.{section_of, is_symbol_table}
+use Rattle.elf_sections.specs.Repeats.{repeats_table}
+use Rattle.elf_sections.specs.Marks.{later, governing, says_code, is_code_at, marks_below, table_marks}
+use Rattle.elf_sections.specs.MarkOrder.{is_mark_of, last_mark, SayTheSame}
 use Rattle.elf_sections.proofs.Tables.{Repeats, repeats_parts, table_marks-repeats}
 
 -- ---- the first of several

@@ -10,7 +10,7 @@ use Rattle.std.proofs.lemmas.Bool.{cases_Bool}
 use Rattle.std.proofs.lemmas.Bool.Decides.{nat_tests}
 use Rattle.paged_memory.specs.Memory.{or_else}
 use Rattle.elf_sections.specs.declared.marks.Mark.{Mark}
-use Rattle.elf_sections.specs.Marks.{is_mark_of, last_mark, SayTheSame, AreMarksInOrder}
+use Rattle.elf_sections.specs.MarkOrder.{is_mark_of, last_mark, SayTheSame, AreMarksInOrder}
 
 -- by section, then by value
 abbrev pub is_before : Mark → Mark → Bool

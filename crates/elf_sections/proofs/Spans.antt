@@ -9,7 +9,8 @@ use Rattle.std.proofs.lemmas.List.Folds.{list_any-append}
 use Rattle.paged_memory.specs.Memory.{or_else}
 use Rattle.elf_sections.specs.declared.marks.Mark.{Mark}
 use Rattle.elf_sections.specs.declared.intervals.Span.{Span}
-use Rattle.elf_sections.specs.Marks.{is_mark_of, last_mark, later, governing, says_code, is_code_at}
+use Rattle.elf_sections.specs.Marks.{later, governing, says_code, is_code_at}
+use Rattle.elf_sections.specs.MarkOrder.{is_mark_of, last_mark}
 use Rattle.elf_sections.specs.Intervals.{has_number, is_spanned}
 use Rattle.elf_sections.proofs.Saying.{last_mark-append}
 

@@ -9,7 +9,8 @@ use Rattle.elf_headers.specs.Fault.{fault_when, fault_only}
 use Rattle.paged_memory.specs.Memory.{or_else}
 use Rattle.elf_headers.specs.Below.{first_below}
 use Rattle.elf_sections.specs.declared.section.SectionHeader.{SectionHeader}
-use Rattle.elf_sections.specs.Sections.{section_of, section_count, section_fault, is_symbol_table, is_code_section, is_all_loaded, is_in_file, is_good_table, has_names, ends_inside, strings_of, symbol_count, symbol_name, section_at, is_same_table, repeats_table}
+use Rattle.elf_sections.specs.Sections.{section_of, section_count, section_fault, is_symbol_table, is_code_section, is_all_loaded, is_in_file, is_good_table, has_names, ends_inside, strings_of, symbol_count, symbol_name, section_at}
+use Rattle.elf_sections.specs.Repeats.{is_same_table, repeats_table}
 use Rattle.elf_sections.specs.Marks.{table_marks}
 use Rattle.elf_headers.proofs.Below.{first_below-each_none, all_below-each}
 use Rattle.elf_sections.proofs.Names.{in_file}

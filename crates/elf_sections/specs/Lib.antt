@@ -2,4 +2,6 @@ pub mod Sections
 pub mod Marks
 pub mod Code
 pub mod Cover
+pub mod Repeats
+pub mod MarkOrder
 pub mod Intervals

@@ -1,8 +1,6 @@
 -- Mapping symbols: which bytes of a section are code, and which are data.
 -- Source: ELF for the Arm 64-bit Architecture (AArch64), mapping symbols `$x` and `$d`, by name alone.
-use Rattle.std.specs.List.Sorted.{IsNonDecreasingBy}
-use Rattle.std.specs.Prelude.{◌≡◌, ◌<◌, ◌≤◌, length, get_or, ℕ, zero, suc, ◌+◌, Bool, true, false, cond, List, [], ◌∷◌, ◌++◌, Option, Some, None, ◌==◌, ◌&&◌, ◌||◌, nat_le, if◌then◌else◌}
-use Rattle.paged_memory.specs.Memory.{or_else}
+use Rattle.std.specs.Prelude.{◌≡◌, ◌<◌, ◌≤◌, length, ℕ, zero, suc, ◌+◌, Bool, true, false, cond, List, [], ◌∷◌, ◌++◌, Option, Some, None, ◌==◌, ◌&&◌, ◌||◌, nat_le, if◌then◌else◌}
 use Rattle.elf_headers.specs.Below.{answers_below}
 use Rattle.elf_headers.specs.Header.{number_at}
 use Rattle.elf_sections.specs.declared.section.SectionHeader.{SectionHeader}
@@ -13,6 +11,10 @@ use Rattle.elf_sections.specs.Sections.{section_of, section_count, is_symbol_tab
 unfoldable pub is_mapping_name : List ℕ → ℕ → ℕ → Bool
 is_mapping_name file at letter =
     (number_at file at 1 == 36) && (number_at file (at + 1) 1 == letter) && ((number_at file (at + 2) 1 == 0) || (number_at file (at + 2) 1 == 46))
+
+-- a zero byte stands at the place or further on in the file
+abbrev pub HasEnd : List ℕ → ℕ → Type 0
+HasEnd file at = (p : ℕ) × (at ≤ p) × (p < length file) × (number_at file p 1 ≡ 0)
 
 -- where the name of the symbol at a place begins
 abbrev pub name_at : List ℕ → SectionHeader → ℕ → ℕ
@@ -50,6 +52,7 @@ abbrev pub later : ℕ → ℕ → Option Mark → Mark → Option Mark
 later section a None m = cond ((m.section == section) && nat_le m.value a) (Some m) None
 later section a (Some best) m = cond ((m.section == section) && nat_le m.value a && nat_le best.value m.value) (Some m) (Some best)
 
+-- of one mark and a list of later ones, that which says what stands at an address of the section
 abbrev pub governing : ℕ → ℕ → Option Mark → List Mark → Option Mark
 governing section a best [] = best
 governing section a best (m ∷ marks) = governing section a (later section a best m) marks
@@ -62,25 +65,3 @@ says_code (Some m) = m.code
 -- by these marks the byte at an address of the section begins code
 unfoldable pub is_code_at : List Mark → ℕ → ℕ → Bool
 is_code_at marks section a = says_code (governing section a None marks)
-
--- the mark is of that section and has that value
-abbrev pub is_mark_of : ℕ → ℕ → Mark → Bool
-is_mark_of section value m = (m.section == section) && (m.value == value)
-
--- the last mark of a section that has a value
-unfoldable pub last_mark : ℕ → ℕ → List Mark → Option Mark
-last_mark section value [] = None
-last_mark section value (m ∷ marks) = or_else (last_mark section value marks) (cond (is_mark_of section value m) (Some m) None)
-
--- of each section and value both have the same last mark
-abbrev pub SayTheSame : List Mark → List Mark → Type 0
-SayTheSame marks others = (section value : ℕ) → last_mark section value marks ≡ last_mark section value others
-
--- marks in order of section, and within a section in order of value
-pub record AreMarksInOrder (marks : List Mark) : Type 0 where
-  pub sections : IsNonDecreasingBy (λ m. m.section) marks
-  pub values : (i j : ℕ) (d : Mark) → i ≤ j → j < length marks → (get_or marks i d).section ≡ (get_or marks j d).section → (get_or marks i d).value ≤ (get_or marks j d).value
-
--- a zero byte stands at the place or further on in the file
-abbrev pub HasEnd : List ℕ → ℕ → Type 0
-HasEnd file at = (p : ℕ) × (at ≤ p) × (p < length file) × (number_at file p 1 ≡ 0)

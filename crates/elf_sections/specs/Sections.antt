@@ -94,15 +94,6 @@ unfoldable pub is_good_table : List ℕ → SectionHeader → Bool
 is_good_table file s =
     (s.entry_size == 24) && nat_lt s.link (section_count file) && is_in_file file s && is_in_file file (strings_of file s) && has_names file s
 
--- the two headers name the same bytes, with the same size of an entry and the same link
-abbrev pub is_same_table : SectionHeader → SectionHeader → Bool
-is_same_table s t = (s.offset == t.offset) && (s.size == t.size) && (s.link == t.link) && (s.entry_size == t.entry_size)
-
--- section number i is a symbol table, and the section before it is the same one
-unfoldable pub repeats_table : List ℕ → ℕ → Bool
-repeats_table file i =
-    nat_lt 0 i && is_symbol_table (section_of file i) && is_symbol_table (section_of file (i - 1)) && is_same_table (section_of file i) (section_of file (i - 1))
-
 -- ---- code sections
 
 -- SHT_PROGBITS with SHF_EXECINSTR

@@ -6,7 +6,8 @@ ghost use Rattle.elf_headers.specs.Loads.{loads_of};
 ghost use Rattle.elf_sections.specs.declared.marks.Mark.{Mark};
 ghost use Rattle.elf_sections.specs.Cover.{AreLoads};
 ghost use Rattle.elf_sections.specs.Sections.{section_count, section_fault, HasSectionTable};
-ghost use Rattle.elf_sections.specs.Marks.{marks_of, last_mark, is_code_at, AreMarksInOrder, SayTheSame};
+ghost use Rattle.elf_sections.specs.Marks.{marks_of, is_code_at};
+ghost use Rattle.elf_sections.specs.MarkOrder.{last_mark, AreMarksInOrder, SayTheSame};
 ghost use Rattle.elf_sections.specs.Code.{has_word, is_code_in, is_code_word};
 ghost use Rattle.elf_sections.specs.Intervals.{has_number, is_spanned, AreSpans};
 

@@ -3,7 +3,8 @@ ghost use Rattle.std.specs.Prelude.{◌≡◌, ◌==◌, ◌+◌, ◌*◌, ◌�
 ghost use Rattle.elf_headers.specs.Below.{first_below, answers};
 ghost use Rattle.elf_headers.specs.Header.{number_at};
 ghost use Rattle.elf_sections.specs.Sections.{section_count, section_fault, is_in_file, ends_inside, is_good_table, HasSectionTable};
-ghost use Rattle.elf_sections.specs.Marks.{is_mapping_name, mark_at, table_marks, marks_below, marks_of, AreMarksInOrder, SayTheSame, HasEnd};
+ghost use Rattle.elf_sections.specs.Marks.{is_mapping_name, mark_at, table_marks, marks_below, marks_of, HasEnd};
+ghost use Rattle.elf_sections.specs.MarkOrder.{AreMarksInOrder, SayTheSame};
 
 use crate::section::{SectionHeader, count_sections, read_section, repeats_before};
 use crate::symbols::SYMBOL_SIZE;

@@ -1,7 +1,8 @@
 //! The section table, its headers, and the checks on it and on each section.
 ghost use Rattle.std.specs.Prelude.{◌≡◌, ◌+◌, ◌*◌, ◌≤◌, ◌<◌, length, OnOk, true};
 ghost use Rattle.elf_headers.specs.Fault.{Tells};
-ghost use Rattle.elf_sections.specs.Sections.{section_header, section_of, section_at, section_count, sections_at, section_table_fault, is_symbol_table, is_code_section, has_sections, is_same_table, repeats_table, HasSectionTable};
+ghost use Rattle.elf_sections.specs.Sections.{section_header, section_of, section_at, section_count, sections_at, section_table_fault, is_symbol_table, is_code_section, has_sections, HasSectionTable};
+ghost use Rattle.elf_sections.specs.Repeats.{is_same_table, repeats_table};
 
 use elf_headers::{LoadFault, u16_at, u32_at, u64_at};
 
@@ -116,7 +117,7 @@ pub fn read_section(file: &[u8], i: u32) -> SectionHeader
 }
 
 /// Tells whether section number `i` is a symbol table and the section before it is the same one.
-#[tactic(auto, unfolding(crate::specs::Sections::repeats_table))]
+#[tactic(auto, unfolding(crate::specs::Repeats::repeats_table))]
 pub fn repeats_before(file: &[u8], i: u32) -> bool
     requires table { HasSectionTable file.now }
     requires number { i < section_count file.now }

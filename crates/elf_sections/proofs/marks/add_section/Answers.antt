@@ -1,7 +1,8 @@
 use Rattle.std.proofs.Common.{◌≡◌, ◌+◌, ◌++◌, ap, sym, ◌∙◌}
 use Rattle.std.proofs.lemmas.Result.{on_ok_weaker}
 use Rattle.elf_sections.specs.Sections.{section_of}
-use Rattle.elf_sections.specs.Marks.{last_mark, marks_below, table_marks}
+use Rattle.elf_sections.specs.Marks.{marks_below, table_marks}
+use Rattle.elf_sections.specs.MarkOrder.{last_mark}
 use Rattle.elf_sections.proofs.Tables.{good_table}
 use Rattle.elf_sections.proofs.Saying.{marks_below-next, marks_below-other, marks_below-repeats, same-append}
 use Rattle.elf_sections.proofs.marks.add_section.Goals as goal

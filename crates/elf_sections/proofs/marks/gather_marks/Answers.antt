@@ -1,5 +1,5 @@
 use Rattle.std.proofs.Common.{ap, sym, ◌∙◌, arith}
-use Rattle.elf_sections.specs.Marks.{last_mark}
+use Rattle.elf_sections.specs.MarkOrder.{last_mark}
 use Rattle.elf_sections.specs.Sections.{section_fault, section_count}
 use Rattle.elf_headers.proofs.Below.{first_below-each_none}
 use Rattle.elf_sections.proofs.Saying.{marks_below-zero}

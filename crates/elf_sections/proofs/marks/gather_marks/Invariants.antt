@@ -1,4 +1,5 @@
-use Rattle.elf_sections.specs.Marks.{marks_below, SayTheSame}
+use Rattle.elf_sections.specs.Marks.{marks_below}
+use Rattle.elf_sections.specs.MarkOrder.{SayTheSame}
 use Rattle.elf_sections.proofs.marks.gather_marks.Given as goal
 
 abbrev pub invariant-loop-i : goal.invariant-loop-i
