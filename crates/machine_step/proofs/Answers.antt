@@ -12,7 +12,7 @@ use Rattle.paged_memory.specs.Memory.{or_else}
 use Rattle.scalar_exec.specs.Step.{is_scalar, scalar_step}
 use Rattle.machine_step.specs.Core.{Core}
 use Rattle.machine_step.specs.System.{system_move, core_past, moved}
-use Rattle.machine_step.specs.Effect.{Effect, Raises, Becomes, word_of, insn_at, is_executed, is_executed_register, next_of, unless_fault, fault_of, effect_of, effect_of_insn, perform, row_fault, data_fault, accessed, unless_raised}
+use Rattle.machine_step.specs.Effect.{Effect, Raises, Becomes, word_of, insn_at, is_executed, is_executed_register, next_of, unless_fault, fault_of, effect_of, effect_of_insn, effect_of_meaning, perform, row_fault, data_fault, accessed, unless_raised}
 use Rattle.machine_step.specs.Machine.{Steps}
 use Rattle.machine_step.specs.declared.machine.StepEnd.{StepEnd}
 use Rattle.machine_step.specs.declared.machine.StepEnd.TheVariants.{Next, Call, Raise, Memory}
@@ -72,6 +72,12 @@ effect_at s word it aligned fetched is =
     let here : insn_at s ≡ Some it = rw fetched is in
     let data_checks : data_fault s ≡ transfer_fault it s.scalars s.memory = ap (option_and_then (λ k. transfer_fault k s.scalars s.memory)) here in
     ap (λ k. unless_fault k s) (first_of s word aligned fetched ∙ ap (λ k. or_else (row_fault word k) (or_else (data_fault s) None)) is ∙ ap (λ k. or_else (row_fault word (Some it)) (or_else k None)) data_checks) ∙ unless_row (is_executed it) (transfer_fault it s.scalars s.memory) word it s here
+
+-- the effect at PC is that of the word there
+pub effect_of_word : (s : Core) (word : ℕ) (meaning : Option Insn) → s.scalars.pc % 4 ≡ 0 → word_of s ≡ Some word → instruction_of word ≡ meaning → effect_of s ≡ effect_of_meaning word meaning s
+unfolding effect_of
+effect_of_word s word None aligned fetched is = ap (λ k. unless_fault k s) (first_of s word aligned fetched ∙ ap (λ k. or_else (row_fault word k) (or_else (data_fault s) None)) is)
+effect_of_word s word (Some it) aligned fetched is = effect_at s word it aligned fetched is
 
 -- a load, a store or an atomic instruction that no check refuses
 pub access_effect : (word : ℕ) (it : Insn) (s : Core) → IsTrue (is_access it) → transfer_fault it s.scalars s.memory ≡ None → effect_of_insn word it s ≡ Becomes (accessed it s)

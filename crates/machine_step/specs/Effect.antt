@@ -127,3 +127,8 @@ unless_raised None effect = effect
 -- what an instruction that has a row does: it raises where it is not executed, or where a check of its access fails
 abbrev pub effect_of_insn : ℕ → Insn → Core → Effect
 effect_of_insn word it s = cond (is_executed it) (unless_raised (transfer_fault it s.scalars s.memory) (next_of it s)) (Raises (Undefined word))
+
+-- the effect of a word by its meaning: one that means no instruction raises
+abbrev pub effect_of_meaning : ℕ → Option Insn → Core → Effect
+effect_of_meaning word None s = Raises (Undefined word)
+effect_of_meaning word (Some it) s = effect_of_insn word it s

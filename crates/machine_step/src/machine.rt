@@ -6,7 +6,7 @@ ghost use Rattle.scalar_exec.specs.Step.{is_scalar, scalar_step, flowed};
 ghost use Rattle.mem_access.specs.Transfer.{is_access};
 ghost use Rattle.machine_step.specs.Core.{Bank};
 ghost use Rattle.machine_step.specs.System.{moved, core_past, system_register, with_system_register};
-ghost use Rattle.machine_step.specs.Effect.{effect_of, effect_of_insn, is_executed_register};
+ghost use Rattle.machine_step.specs.Effect.{effect_of, effect_of_meaning, effect_of_insn, is_executed_register};
 ghost use Rattle.machine_step.specs.Machine.{core_of, Steps};
 
 use crate::system::{read_nzcv, write_nzcv};
@@ -45,18 +45,6 @@ pub struct Machine {
     pub pages: Pages,
 }
 
-/// The instruction of a word by either table.
-#[tactic(auto, unfolding(sve_table::specs::Meaning::instruction_of))]
-fn decode(word: u32) -> Option<Insn>
-    ensures value { result ≡ instruction_of word }
-    ensures fields { IfSome result IsInRow }
-{
-    match decode_scalar(word) {
-        Some(insn) => Some(insn),
-        None => decode_vector(word),
-    }
-}
-
 /// Whether moves of a system register are executed.
 fn is_executed(register: SystemRegister) -> bool
     ensures { result ≡ is_executed_register register }
@@ -93,9 +81,20 @@ impl Machine {
         let Some(word) = self.pages.fetch(pc) else {
             return StepEnd::Raise(Exception::Fetch);
         };
-        match decode(word) {
-            None => StepEnd::Raise(Exception::Undefined(word)),
+        self.execute_word(word)
+    }
+
+    /// Executes the instruction of a word, by either table.
+    #[tactic(auto, unfolding(sve_table::specs::Meaning::instruction_of))]
+    fn execute_word(&mut self, word: u32) -> StepEnd
+        ensures { (bank : Bank) → Steps (effect_of_meaning word (instruction_of word) (core_of self.old bank)) (core_of self.old bank) (core_of self.new bank) result }
+    {
+        match decode_scalar(word) {
             Some(insn) => self.execute(word, &insn),
+            None => match decode_vector(word) {
+                Some(insn) => self.execute(word, &insn),
+                None => StepEnd::Raise(Exception::Undefined(word)),
+            },
         }
     }
 

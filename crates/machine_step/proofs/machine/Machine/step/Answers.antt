@@ -1,11 +1,12 @@
-use Rattle.std.proofs.Common.{◌≡◌, sym, ◌∙◌}
+use Rattle.std.proofs.Common.{◌≡◌, sym, ◌∙◌, refl}
 use Rattle.machine_step.proofs.machine.Machine.step.Goals as goal
-use Rattle.machine_step.specs.Effect.{effect_of, effect_of_insn}
+use Rattle.sve_table.specs.Meaning.{instruction_of}
+use Rattle.machine_step.specs.Effect.{effect_of, effect_of_meaning}
 use Rattle.machine_step.specs.Machine.{core_of}
-use Rattle.machine_step.proofs.Answers.{effect_at}
+use Rattle.machine_step.proofs.Answers.{effect_of_word}
 
-pub returns-in-Some-decode : goal.returns-in-Some-decode
-returns-in-Some-decode c bank =
-    let is : effect_of (core_of c.args.self.now bank) ≡ effect_of_insn c.in-Some.word c.in-Some-decode.insn (core_of c.args.self.now bank) =
-    effect_at (core_of c.args.self.now bank) c.in-Some.word c.in-Some-decode.insn c.if-pc-ne0.false (sym c.fetch.ensures ∙ c.in-Some.is) (sym c.decode.ensures.value ∙ c.in-Some-decode.is) in
-    rw is (c.execute.ensures bank)
+pub returns : goal.returns
+returns c bank =
+    let is : effect_of (core_of c.args.self.now bank) ≡ effect_of_meaning c.in-Some.word (instruction_of c.in-Some.word) (core_of c.args.self.now bank) =
+    effect_of_word (core_of c.args.self.now bank) c.in-Some.word (instruction_of c.in-Some.word) c.if-pc-ne0.false (sym c.fetch.ensures ∙ c.in-Some.is) refl in
+    rw is (c.execute_word.ensures bank)
