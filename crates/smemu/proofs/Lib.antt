@@ -1,4 +1,3 @@
 pub mod Whole
 pub mod Outcomes
 pub mod Due
-pub mod Texts

@@ -1,6 +1,5 @@
 use Rattle.std.proofs.Common.{◌≡◌, Some, sym, ap, ◌∙◌}
 use Rattle.std.specs.Option.{option_or}
-use Rattle.a64_table.specs.Meaning.{meaning_of}
 use Rattle.sve_table.specs.Meaning.{instruction_of, vector_meaning_of}
 use Rattle.machine_step.proofs.machine.Machine.execute_word.Goals as goal
 
