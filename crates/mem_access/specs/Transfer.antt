@@ -15,6 +15,7 @@ use Rattle.sm_types.specs.declared.insn.Atomic.{Atomic}
 use Rattle.sm_types.specs.declared.insn.Atomic.TheVariants as atomic
 use Rattle.scalar_exec.specs.Registers.{x_of, with_x}
 use Rattle.paged_memory.specs.Memory.{Memory}
+use Rattle.paged_memory.specs.PageTable.{PageTable}
 use Rattle.sm_types.specs.declared.stop.Exception.{Exception}
 use Rattle.mem_access.specs.declared.access.MemoryAccess.{MemoryAccess}
 use Rattle.mem_access.specs.declared.stop.AccessStop.{AccessStop}
@@ -92,6 +93,10 @@ after_access (insn.LoadLiteral x) s m = after_load_literal x (load_literal_acces
 after_access (insn.LoadStorePair x) s m = after_pair x.op x (pair_access x s).address s m
 after_access (insn.Atomic x) s m = after_atomic x (atomic_access x s).address s m
 after_access it s m = record { scalars = s; memory = m }
+
+-- what registers and pages hold
+abbrev pub contents_of : Scalars → PageTable → AfterAccess
+contents_of s pages = record { scalars = s; memory = pages.memory }
 
 -- the exception of the first check of its access that fails, if any does
 abbrev pub transfer_fault : Insn → Scalars → Memory → Option Exception

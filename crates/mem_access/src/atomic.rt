@@ -5,7 +5,7 @@ ghost use Rattle.scalar_exec.specs.Registers.{x_of, with_x};
 ghost use Rattle.paged_memory.specs.PageTable.{KeepsOwned};
 ghost use Rattle.mem_access.specs.Access.{bytes_in, atomic_access};
 ghost use Rattle.mem_access.specs.Checks.{denied_read, denied_write, denied_update, access_fault};
-ghost use Rattle.mem_access.specs.Transfer.{after_atomic, Transfers};
+ghost use Rattle.mem_access.specs.Transfer.{after_atomic, contents_of, Transfers};
 ghost use Rattle.mem_access.specs.Values.{number_in, with_number, low_bytes, updated};
 
 use crate::access::atomic_access;
@@ -27,7 +27,9 @@ fn load_ordered(
     pages: &Pages,
 ) -> Result<(), AccessStop>
     requires { rt < 32 }
-    ensures { Transfers (denied_read pages.now.memory address (bytes_in size)) (record { scalars = with_x s.old rt (number_in pages.now.memory address (bytes_in size)); memory = pages.now.memory }) (record { scalars = s.old; memory = pages.now.memory }) (record { scalars = s.new; memory = pages.now.memory }) result }
+    ensures { Transfers (denied_read pages.now.memory address (bytes_in size))
+        (record { scalars = with_x s.old rt (number_in pages.now.memory address (bytes_in size)); memory = pages.now.memory })
+        (contents_of s.old pages.now) (contents_of s.new pages.now) result }
 {
     match read_number(pages, address, size) {
         Ok(value) => {
@@ -47,7 +49,9 @@ fn store_ordered(
     pages: &mut Pages,
 ) -> Result<(), AccessStop>
     requires { rt < 32 }
-    ensures made { Transfers (denied_write pages.old.memory address (bytes_in size)) (record { scalars = s.now; memory = with_number pages.old.memory address (bytes_in size) (x_of s.now rt) }) (record { scalars = s.now; memory = pages.old.memory }) (record { scalars = s.now; memory = pages.new.memory }) result }
+    ensures made { Transfers (denied_write pages.old.memory address (bytes_in size))
+        (record { scalars = s.now; memory = with_number pages.old.memory address (bytes_in size) (x_of s.now rt) })
+        (contents_of s.now pages.old) (contents_of s.now pages.new) result }
     ensures kept { KeepsOwned pages.old pages.new }
 {
     write_number(pages, address, size, read_x(s, rt))
@@ -64,7 +68,9 @@ fn swap_where_equal(
 ) -> Result<(), AccessStop>
     requires rs { rs < 32 }
     requires rt { rt < 32 }
-    ensures made { Transfers (denied_update pages.old.memory address (bytes_in size)) (record { scalars = with_x s.old rs (number_in pages.old.memory address (bytes_in size)); memory = cond (number_in pages.old.memory address (bytes_in size) == low_bytes (bytes_in size) (x_of s.old rs)) (with_number pages.old.memory address (bytes_in size) (x_of s.old rt)) pages.old.memory }) (record { scalars = s.old; memory = pages.old.memory }) (record { scalars = s.new; memory = pages.new.memory }) result }
+    ensures made { Transfers (denied_update pages.old.memory address (bytes_in size))
+        (record { scalars = with_x s.old rs (number_in pages.old.memory address (bytes_in size)); memory = cond (number_in pages.old.memory address (bytes_in size) == low_bytes (bytes_in size) (x_of s.old rs)) (with_number pages.old.memory address (bytes_in size) (x_of s.old rt)) pages.old.memory })
+        (contents_of s.old pages.old) (contents_of s.new pages.new) result }
     ensures kept { KeepsOwned pages.old pages.new }
 {
     let expected = low_bytes(size, read_x(s, rs));
@@ -88,7 +94,9 @@ fn swap_register(
 ) -> Result<(), AccessStop>
     requires rs { rs < 32 }
     requires rt { rt < 32 }
-    ensures made { Transfers (denied_update pages.old.memory address (bytes_in size)) (record { scalars = with_x s.old rt (number_in pages.old.memory address (bytes_in size)); memory = with_number pages.old.memory address (bytes_in size) (x_of s.old rs) }) (record { scalars = s.old; memory = pages.old.memory }) (record { scalars = s.new; memory = pages.new.memory }) result }
+    ensures made { Transfers (denied_update pages.old.memory address (bytes_in size))
+        (record { scalars = with_x s.old rt (number_in pages.old.memory address (bytes_in size)); memory = with_number pages.old.memory address (bytes_in size) (x_of s.old rs) })
+        (contents_of s.old pages.old) (contents_of s.new pages.new) result }
     ensures kept { KeepsOwned pages.old pages.new }
 {
     match swap(pages, address, size, read_x(s, rs)) {
@@ -112,7 +120,9 @@ fn update_by_register(
 ) -> Result<(), AccessStop>
     requires rs { rs < 32 }
     requires rt { rt < 32 }
-    ensures made { Transfers (denied_update pages.old.memory address (bytes_in size)) (record { scalars = with_x s.old rt (number_in pages.old.memory address (bytes_in size)); memory = with_number pages.old.memory address (bytes_in size) (updated op (bytes_in size) (number_in pages.old.memory address (bytes_in size)) (low_bytes (bytes_in size) (x_of s.old rs))) }) (record { scalars = s.old; memory = pages.old.memory }) (record { scalars = s.new; memory = pages.new.memory }) result }
+    ensures made { Transfers (denied_update pages.old.memory address (bytes_in size))
+        (record { scalars = with_x s.old rt (number_in pages.old.memory address (bytes_in size)); memory = with_number pages.old.memory address (bytes_in size) (updated op (bytes_in size) (number_in pages.old.memory address (bytes_in size)) (low_bytes (bytes_in size) (x_of s.old rs))) })
+        (contents_of s.old pages.old) (contents_of s.new pages.new) result }
     ensures kept { KeepsOwned pages.old pages.new }
 {
     let operand = low_bytes(size, read_x(s, rs));
@@ -128,7 +138,9 @@ fn update_by_register(
 /// An ordered or atomic access.
 pub fn transfer_atomic(x: &Atomic, s: &mut Scalars, pages: &mut Pages) -> Result<(), AccessStop>
     requires { IsAtomic x.now }
-    ensures made { Transfers (access_fault (atomic_access x.now s.old) s.old pages.old.memory) (after_atomic x.now (atomic_access x.now s.old).address s.old pages.old.memory) (record { scalars = s.old; memory = pages.old.memory }) (record { scalars = s.new; memory = pages.new.memory }) result }
+    ensures made { Transfers (access_fault (atomic_access x.now s.old) s.old pages.old.memory)
+        (after_atomic x.now (atomic_access x.now s.old).address s.old pages.old.memory)
+        (contents_of s.old pages.old) (contents_of s.new pages.new) result }
     ensures kept { KeepsOwned pages.old pages.new }
 {
     let access = atomic_access(x, s);

@@ -4,7 +4,7 @@ ghost use Rattle.a64_table.specs.Ranges.{IsInRow, IsLoadStore, IsLoadLiteral, Is
 ghost use Rattle.paged_memory.specs.PageTable.{KeepsOwned};
 ghost use Rattle.mem_access.specs.Access.{bytes_in, literal_size, register_size, is_load, load_store_access, load_literal_access, pair_access};
 ghost use Rattle.mem_access.specs.Checks.{denied_read, denied_write, access_fault};
-ghost use Rattle.mem_access.specs.Transfer.{is_access, after_load_store, after_load_literal, after_pair, after_access, transfer_fault, Transfers};
+ghost use Rattle.mem_access.specs.Transfer.{is_access, after_load_store, after_load_literal, after_pair, after_access, transfer_fault, contents_of, Transfers};
 
 use crate::access::{
     literal_size, load_literal_access, load_store_access, pair_access, write_base, write_pair_base,
@@ -24,7 +24,9 @@ use sm_types::{Insn, LoadLiteral, LoadStore, LoadStoreOp, LoadStorePair, PairOp,
 #[tactic(auto, unfolding(crate::specs::Transfer::after_load_store))]
 fn store(x: &LoadStore, address: u64, s: &mut Scalars, pages: &mut Pages) -> Result<(), AccessStop>
     requires { IsLoadStore x.now }
-    ensures made { Transfers (denied_write pages.old.memory address (bytes_in x.now.size)) (after_load_store LoadStoreOp.Store x.now address s.old pages.old.memory) (record { scalars = s.old; memory = pages.old.memory }) (record { scalars = s.new; memory = pages.new.memory }) result }
+    ensures made { Transfers (denied_write pages.old.memory address (bytes_in x.now.size))
+        (after_load_store LoadStoreOp.Store x.now address s.old pages.old.memory)
+        (contents_of s.old pages.old) (contents_of s.new pages.new) result }
     ensures kept { KeepsOwned pages.old pages.new }
 {
     match write_number(pages, address, x.size, read_x(s, x.rt)) {
@@ -42,7 +44,9 @@ fn store(x: &LoadStore, address: u64, s: &mut Scalars, pages: &mut Pages) -> Res
 fn load(x: &LoadStore, address: u64, s: &mut Scalars, pages: &Pages) -> Result<(), AccessStop>
     requires fields { IsLoadStore x.now }
     requires load { IsTrue (is_load x.now.op) }
-    ensures { Transfers (denied_read pages.now.memory address (bytes_in x.now.size)) (after_load_store x.now.op x.now address s.old pages.now.memory) (record { scalars = s.old; memory = pages.now.memory }) (record { scalars = s.new; memory = pages.now.memory }) result }
+    ensures { Transfers (denied_read pages.now.memory address (bytes_in x.now.size))
+        (after_load_store x.now.op x.now address s.old pages.now.memory)
+        (contents_of s.old pages.now) (contents_of s.new pages.now) result }
 {
     match read_number(pages, address, x.size) {
         Ok(value) => {
@@ -58,7 +62,9 @@ fn load(x: &LoadStore, address: u64, s: &mut Scalars, pages: &Pages) -> Result<(
 #[inline]
 fn transfer_load_store(x: &LoadStore, s: &mut Scalars, pages: &mut Pages) -> Result<(), AccessStop>
     requires { IsLoadStore x.now }
-    ensures made { Transfers (access_fault (load_store_access x.now s.old) s.old pages.old.memory) (after_load_store x.now.op x.now (load_store_access x.now s.old).address s.old pages.old.memory) (record { scalars = s.old; memory = pages.old.memory }) (record { scalars = s.new; memory = pages.new.memory }) result }
+    ensures made { Transfers (access_fault (load_store_access x.now s.old) s.old pages.old.memory)
+        (after_load_store x.now.op x.now (load_store_access x.now s.old).address s.old pages.old.memory)
+        (contents_of s.old pages.old) (contents_of s.new pages.new) result }
     ensures kept { KeepsOwned pages.old pages.new }
 {
     let access = load_store_access(x, s);
@@ -81,7 +87,9 @@ fn load_literal(
     pages: &Pages,
 ) -> Result<(), AccessStop>
     requires { IsLoadLiteral x.now }
-    ensures { Transfers (denied_read pages.now.memory address (literal_size x.now.op)) (after_load_literal x.now address s.old pages.now.memory) (record { scalars = s.old; memory = pages.now.memory }) (record { scalars = s.new; memory = pages.now.memory }) result }
+    ensures { Transfers (denied_read pages.now.memory address (literal_size x.now.op))
+        (after_load_literal x.now address s.old pages.now.memory)
+        (contents_of s.old pages.now) (contents_of s.new pages.now) result }
 {
     match read_number(pages, address, literal_size(x.op)) {
         Ok(value) => {
@@ -96,7 +104,9 @@ fn load_literal(
 #[inline]
 fn transfer_load_literal(x: &LoadLiteral, s: &mut Scalars, pages: &Pages) -> Result<(), AccessStop>
     requires { IsLoadLiteral x.now }
-    ensures { Transfers (access_fault (load_literal_access x.now s.old) s.old pages.now.memory) (after_load_literal x.now (load_literal_access x.now s.old).address s.old pages.now.memory) (record { scalars = s.old; memory = pages.now.memory }) (record { scalars = s.new; memory = pages.now.memory }) result }
+    ensures { Transfers (access_fault (load_literal_access x.now s.old) s.old pages.now.memory)
+        (after_load_literal x.now (load_literal_access x.now s.old).address s.old pages.now.memory)
+        (contents_of s.old pages.now) (contents_of s.new pages.now) result }
 {
     let access = load_literal_access(x, s);
     match place_fault(&access, s) {
@@ -115,7 +125,9 @@ fn store_pair(
     pages: &mut Pages,
 ) -> Result<(), AccessStop>
     requires { IsLoadStorePair x.now }
-    ensures made { Transfers (denied_write pages.old.memory address (2 * register_size x.now.wide)) (after_pair PairOp.Stp x.now address s.old pages.old.memory) (record { scalars = s.old; memory = pages.old.memory }) (record { scalars = s.new; memory = pages.new.memory }) result }
+    ensures made { Transfers (denied_write pages.old.memory address (2 * register_size x.now.wide))
+        (after_pair PairOp.Stp x.now address s.old pages.old.memory)
+        (contents_of s.old pages.old) (contents_of s.new pages.new) result }
     ensures kept { KeepsOwned pages.old pages.new }
 {
     match write_pair(pages, address, x.wide, read_x(s, x.rt), read_x(s, x.rt2)) {
@@ -137,7 +149,9 @@ fn load_pair(
     pages: &Pages,
 ) -> Result<(), AccessStop>
     requires { IsLoadStorePair x.now }
-    ensures { Transfers (denied_read pages.now.memory address (2 * register_size x.now.wide)) (after_pair PairOp.Ldp x.now address s.old pages.now.memory) (record { scalars = s.old; memory = pages.now.memory }) (record { scalars = s.new; memory = pages.now.memory }) result }
+    ensures { Transfers (denied_read pages.now.memory address (2 * register_size x.now.wide))
+        (after_pair PairOp.Ldp x.now address s.old pages.now.memory)
+        (contents_of s.old pages.now) (contents_of s.new pages.now) result }
 {
     match read_pair(pages, address, x.wide) {
         Ok((first, second)) => {
@@ -154,7 +168,9 @@ fn load_pair(
 #[inline]
 fn transfer_pair(x: &LoadStorePair, s: &mut Scalars, pages: &mut Pages) -> Result<(), AccessStop>
     requires { IsLoadStorePair x.now }
-    ensures made { Transfers (access_fault (pair_access x.now s.old) s.old pages.old.memory) (after_pair x.now.op x.now (pair_access x.now s.old).address s.old pages.old.memory) (record { scalars = s.old; memory = pages.old.memory }) (record { scalars = s.new; memory = pages.new.memory }) result }
+    ensures made { Transfers (access_fault (pair_access x.now s.old) s.old pages.old.memory)
+        (after_pair x.now.op x.now (pair_access x.now s.old).address s.old pages.old.memory)
+        (contents_of s.old pages.old) (contents_of s.new pages.new) result }
     ensures kept { KeepsOwned pages.old pages.new }
 {
     let access = pair_access(x, s);
@@ -173,7 +189,9 @@ fn transfer_pair(x: &LoadStorePair, s: &mut Scalars, pages: &mut Pages) -> Resul
 pub fn transfer(insn: &Insn, scalars: &mut Scalars, pages: &mut Pages) -> Result<(), AccessStop>
     requires access { IsTrue (is_access insn.now) }
     requires fields { IsInRow insn.now }
-    ensures made { Transfers (transfer_fault insn.now scalars.old pages.old.memory) (after_access insn.now scalars.old pages.old.memory) (record { scalars = scalars.old; memory = pages.old.memory }) (record { scalars = scalars.new; memory = pages.new.memory }) result }
+    ensures made { Transfers (transfer_fault insn.now scalars.old pages.old.memory)
+        (after_access insn.now scalars.old pages.old.memory)
+        (contents_of scalars.old pages.old) (contents_of scalars.new pages.new) result }
     ensures kept { KeepsOwned pages.old pages.new }
 {
     match insn {

@@ -1,6 +1,6 @@
 -- Which pages are owned, where all are.
-use Rattle.std.proofs.Common.{◌≡◌, ℕ, Bool, true, false, cond, List, [], ◌∷◌, refl, ap, sym, ◌∙◌, subst, Option, Some, None}
-use Rattle.std.specs.Prelude.{◌||◌, IsSome, IsTrue, is_some, OnOk, Result, Ok, Err}
+use Rattle.std.proofs.Common.{◌≡◌, ℕ, Bool, true, false, cond, List, [], ◌∷◌, refl, ap, sym, ◌∙◌, subst, Option, Some}
+use Rattle.std.specs.Prelude.{◌||◌, is_some, OnOk, Result, Ok, Err}
 use Rattle.std.specs.FinMap.{get, get-insert, get-empty}
 use Rattle.std.specs.FinSet.{contains, contains-insert, contains-empty}
 use Rattle.std.specs.Cmp.{nat_cmp_total}

@@ -1,6 +1,6 @@
 -- The pages of a guest thread as its callers see them: the memory that they make, and which of them are owned. An owned page is the
 -- thread's alone, and a write to it takes no memory. Source: copy on write, as System V's fork has it.
-use Rattle.std.specs.Prelude.{ℕ, ◌+◌, ◌/◌, ◌%◌, ◌^◌, ◌<◌, ◌≡◌, refl, IsSome, IsTrue}
+use Rattle.std.specs.Prelude.{ℕ, ◌+◌, ◌/◌, ◌%◌, ◌^◌, ◌<◌, refl, IsSome, IsTrue}
 use Rattle.std.specs.FinMap.{get}
 use Rattle.std.specs.FinSet.{FinSet, contains}
 use Rattle.std.specs.FinSet as set

@@ -1,5 +1,4 @@
-use Rattle.std.proofs.Common.{arith, ap, sym, ◌∙◌}
-use Rattle.paged_memory.specs.Memory.{first_without}
+use Rattle.std.proofs.Common.{arith, sym}
 use Rattle.paged_memory.specs.Pages.{memory_of}
 use Rattle.paged_memory.proofs.Accesses.{first_without-zero, first_without-run, first_without-at}
 use Rattle.paged_memory.proofs.page.first_lacking.Goals as goal

@@ -1,6 +1,5 @@
-use Rattle.std.proofs.Common.{◌≡◌, ◌<◌, [], length, arith, ap, sym, ◌∙◌}
+use Rattle.std.proofs.Common.{◌≡◌, ◌<◌, [], length, arith, sym}
 use Rattle.std.proofs.lemmas.Bool.Decides.{nat_tests}
-use Rattle.paged_memory.specs.Memory.{first_without, set_bytes}
 use Rattle.paged_memory.specs.Pages.{mem_of, memory_of}
 use Rattle.paged_memory.proofs.Accesses.{first_without-zero}
 use Rattle.paged_memory.proofs.Over.{set_bytes-none, no_bytes}
