@@ -1,3 +1,4 @@
 pub mod Length
 pub mod Options
 pub mod SharedOps
+pub mod Objects

@@ -7,6 +7,7 @@
 mod config;
 mod insn;
 mod length;
+mod object;
 mod scalars;
 mod shared_op;
 mod stop;
@@ -22,6 +23,7 @@ pub use insn::{
     ShiftedRegister, System, SystemMove, SystemMoveOp, SystemRegister, TwoSource, TwoSourceOp,
 };
 pub use length::VecLen;
+pub use object::{Bytes, Object, Section, Symbol, Symbols, TEXT_ADDRESS};
 pub use scalars::Scalars;
 pub use shared_op::{Event, OpKind, SharedOp};
 pub use stop::{Access, Exception, Stop};

@@ -1,0 +1,103 @@
+-- Objects: where their parts stand in memory, which of their words are code, and which can start.
+-- Source: ELF for the Arm 64-bit Architecture (AArch64), mapping symbols `$x` and `$d`; the addresses are this project's own.
+use Rattle.std.specs.Prelude.{◌≡◌, ℕ, ◌+◌, ◌*◌, ◌/◌, ◌%◌, ◌<◌, ◌≤◌, Bool, true, false, cond, List, [], ◌∷◌, length, take, drop, Option, Some, None, ◌==◌, ◌&&◌, nat_le}
+use Rattle.std.specs.List.{filter_map, range_with_len}
+use Rattle.sm_types.specs.declared.object.TheConstants.{TEXT_ADDRESS}
+use Rattle.sm_types.specs.declared.object.Section.{Section}
+use Rattle.sm_types.specs.declared.object.Section.TheVariants.{Text, Data}
+use Rattle.sm_types.specs.declared.object.Symbol.{Symbol}
+use Rattle.sm_types.specs.declared.object.Object.{Object}
+
+-- the first multiple of 4096 that is not below the address
+abbrev pub page_after : ℕ → ℕ
+page_after address = (address + 4095) / 4096 * 4096
+
+-- where the data stands: at the first page after the text
+abbrev pub data_address : ℕ → ℕ
+data_address text_length = page_after (TEXT_ADDRESS + text_length)
+
+-- ---- mapping symbols
+
+-- nothing, or `.` and a suffix
+abbrev pub is_suffix : List ℕ → Bool
+is_suffix [] = true
+is_suffix (c ∷ cs) = c == 46
+
+-- what a name says of the bytes from its address on, after `$`: `x` that they are code, `d` that they are data
+abbrev pub letter_says : List ℕ → Option Bool
+letter_says [] = None
+letter_says (c ∷ cs) = cond (is_suffix cs) (cond (c == 120) (Some true) (cond (c == 100) (Some false) None)) None
+
+-- what a name says of the bytes from its address on; one that is no mapping symbol's says nothing
+abbrev pub name_says : List ℕ → Option Bool
+name_says [] = None
+name_says (c ∷ cs) = cond (c == 36) (letter_says cs) None
+
+-- what a symbol says of the bytes of the text; one of the data says nothing
+abbrev pub says_in : Section → Option Bool → Option Bool
+says_in Text says = says
+says_in Data says = None
+
+unfoldable pub symbol_says : Symbol → Option Bool
+symbol_says s = says_in s.section (name_says s.name.items)
+
+-- a mapping symbol: its address, and whether it begins code
+pub record Mapping : Type 0 where
+  pub address : ℕ
+  pub code : Bool
+
+abbrev pub mapping_at : ℕ → Option Bool → Option Mapping
+mapping_at address None = None
+mapping_at address (Some code) = Some (record { address = address; code = code })
+
+abbrev pub mapping_of : Symbol → Option Mapping
+mapping_of s = mapping_at s.address (symbol_says s)
+
+-- the mapping symbols of the text, in the order of the symbols
+unfoldable pub mappings_of : List Symbol → List Mapping
+mappings_of symbols = filter_map mapping_of symbols
+
+-- of one mapping symbol and a later one, that which says what stands at an address: the one of the greater address not above it, and of
+-- equal ones the later
+abbrev pub later_mapping : ℕ → Option Mapping → Mapping → Option Mapping
+later_mapping a None m = cond (nat_le m.address a) (Some m) None
+later_mapping a (Some best) m = cond (nat_le m.address a && nat_le best.address m.address) (Some m) (Some best)
+
+-- of one mapping symbol and a list of later ones, that which says what stands at an address
+abbrev pub governing_mapping : ℕ → Option Mapping → List Mapping → Option Mapping
+governing_mapping a best [] = best
+governing_mapping a best (m ∷ ms) = governing_mapping a (later_mapping a best m) ms
+
+-- code where no mapping symbol says otherwise
+abbrev pub mapping_says_code : Option Mapping → Bool
+mapping_says_code None = true
+mapping_says_code (Some m) = m.code
+
+-- the byte of the text at an address begins code
+unfoldable pub is_text_code : List Mapping → ℕ → Bool
+is_text_code mappings a = mapping_says_code (governing_mapping a None mappings)
+
+-- ---- code words
+
+-- the number of some bytes, the low one first
+abbrev pub little : List ℕ → ℕ
+little [] = 0
+little (b ∷ bs) = b + 256 * little bs
+
+-- the number of four bytes from a place of the text on, the low byte first
+unfoldable pub text_word : List ℕ → ℕ → ℕ
+text_word text at = little (take 4 (drop at text))
+
+-- word number n of the text with its address, where its first byte begins code
+unfoldable pub object_word : Object → ℕ → Option (ℕ × ℕ)
+object_word o n = cond (is_text_code (mappings_of o.symbols.items) (TEXT_ADDRESS + 4 * n)) (Some (TEXT_ADDRESS + 4 * n, text_word o.text_bytes.items (4 * n))) None
+
+-- the code words of an object with their addresses, in order of address
+unfoldable pub object_code : Object → List (ℕ × ℕ)
+object_code o = filter_map (object_word o) (range_with_len 0 (length o.text_bytes.items / 4))
+
+-- the object can start: its entry is a multiple of 4 at a byte of its text
+pub record IsStartable (o : Object) : Type 0 where
+  pub aligned : o.entry % 4 ≡ 0
+  pub from : TEXT_ADDRESS ≤ o.entry
+  pub before : o.entry < TEXT_ADDRESS + length o.text_bytes.items
