@@ -1,0 +1,99 @@
+//! What the text of an instruction is made of.
+
+/// How the number of a field is written.
+#[derive(Clone, Copy)]
+pub enum Kind {
+    /// This character, with no field.
+    Mark(u8),
+    /// One of `count` words of the table from place `first` on, in the order of their numbers.
+    Named {
+        first: u16,
+        count: u16,
+    },
+    /// A register: the word at `first` is that of number 0, and number 31 has the word at `last`.
+    Register {
+        first: u16,
+        last: u16,
+    },
+    /// `#n`, n the field times `scale`, and `base` more; the field is at most `most`.
+    Unsigned {
+        base: u16,
+        scale: u16,
+        most: u16,
+    },
+    /// `#n`, n the signed field times `scale`.
+    Signed {
+        scale: u16,
+    },
+    /// `.+n` or `.-n`, n the signed field times `scale`; or a name.
+    Distance {
+        scale: u16,
+    },
+    /// `#0xn`, n the mask that the fields N, immr and imms give, of 64 or 32 bits.
+    Mask {
+        wide: bool,
+    },
+    /// Of an alias: a mask that may be written as a negative number.
+    SignedMask {
+        wide: bool,
+    },
+    /// Of an alias: `#n`, the amount of a shift to the left, which gives immr and imms of `ubfm`.
+    ShiftLeft {
+        wide: bool,
+    },
+    /// Of an alias: one of `count` conditions from place `first` on; the field has its opposite.
+    Opposite {
+        first: u16,
+        count: u16,
+    },
+    /// Of an alias: `#n`, a number with one halfword that is not zero, or not all ones where it is inverted; the field has
+    /// the halfword's place above its bits.
+    Halfword {
+        wide: bool,
+        inverted: bool,
+    },
+}
+
+/// What the registers of an instruction are to meet once an operand is read.
+#[derive(Clone, Copy)]
+pub enum Rule {
+    /// Nothing.
+    Free,
+    /// Rt2 14:10 is not Rt 4:0.
+    SecondApart,
+    /// Rn 9:5 is not Rt 4:0, or is SP.
+    BaseApart,
+    /// Rn 9:5 is neither Rt 4:0 nor Rt2 14:10, or is SP.
+    BasePairApart,
+}
+
+/// One token of a shape, and the field whose number it writes: `width` bits from `low` on, and above them `upper_width` bits
+/// from `upper_low` on.
+#[derive(Clone, Copy)]
+pub struct Item {
+    pub kind: Kind,
+    pub low: u8,
+    pub width: u8,
+    pub upper_low: u8,
+    pub upper_width: u8,
+    pub rule: Rule,
+}
+
+/// One text of an instruction, without optional parts: the bits that it fixes, the place of its name, and its operands, so many
+/// from a place on. An alias is read and never printed.
+#[derive(Clone, Copy)]
+pub struct Shape {
+    pub mask: u32,
+    pub value: u32,
+    pub name: u16,
+    pub first: u16,
+    pub count: u8,
+    pub alias: bool,
+}
+
+/// A short text: the first `length` of the bytes.
+#[derive(Clone, Copy)]
+pub struct Text {
+    pub bytes: [u8; 12],
+    pub length: u8,
+}

@@ -1,0 +1,17 @@
+//! The text of instructions: `print_insn` writes it, and the tables say it.
+//!
+//! A shape is one text of an instruction, without optional parts. The text of a word is that of the first shape that is
+//! no alias and whose fixed bits the word has.
+#![tactic(auto)]
+
+mod item;
+mod operands;
+mod printed;
+mod shapes;
+mod words;
+
+pub use item::{Item, Kind, Rule, Shape, Text};
+pub use operands::ITEMS;
+pub use printed::{PRINTED, ROOTS};
+pub use shapes::{SHAPES, STARTS};
+pub use words::{NAMES, WORDS};
