@@ -1,0 +1,47 @@
+-- What the fields of a word are to meet for a text of it to be read, and which words have a text.
+-- Source: DDI 0487, C6.2: the ranges of the fields, and the registers that write back to a base or load a pair.
+use Rattle.std.specs.Prelude.{◌≡◌, ℕ, Bool, true, not, ◌&&◌, ◌||◌, ◌==◌, nat_lt, nat_le, Some}
+use Rattle.std.specs.List.{list_all}
+use Rattle.a64_table.specs.Fields.{field_of}
+use Rattle.a64_table.specs.Conditions.{is_mask}
+use Rattle.insn_text.specs.declared.item.Kind.{Kind}
+use Rattle.insn_text.specs.declared.item.Kind.TheVariants.{Mark, Named, Register, Unsigned, Signed, Distance, Mask, SignedMask, ShiftLeft, Opposite, Halfword}
+use Rattle.insn_text.specs.declared.item.Rule.{Rule}
+use Rattle.insn_text.specs.declared.item.Rule.TheVariants.{Free, SecondApart, BaseApart, BasePairApart}
+use Rattle.insn_text.specs.declared.item.Item.{Item}
+use Rattle.insn_text.specs.declared.item.Shape.{Shape}
+use Rattle.insn_text.specs.Texts.{field_in, items_of, printed_shape}
+
+-- the kind has a text for the number of the field: one of its words, a number up to its greatest, or a mask
+unfoldable pub is_within : Kind → ℕ → Bool
+is_within (Mark c) field = true
+is_within (Named first count) field = nat_lt field count
+is_within (Register first last) field = true
+is_within (Unsigned base scale most) field = nat_le field most
+is_within (Signed scale) field = true
+is_within (Distance scale) field = true
+is_within (Mask wide) field = is_mask wide (field_of field 12 1 == 1) (field_of field 6 6) (field_of field 0 6)
+is_within (SignedMask wide) field = true
+is_within (ShiftLeft wide) field = true
+is_within (Opposite first count) field = true
+is_within (Halfword wide inverted) field = true
+
+-- Rn 9:5 is SP, or not the number
+abbrev pub is_base_apart : ℕ → ℕ → Bool
+is_base_apart word number = (field_of word 5 5 == 31) || not (field_of word 5 5 == number)
+
+-- the registers of a word meet the rule
+unfoldable pub meets : Rule → ℕ → Bool
+meets Free word = true
+meets SecondApart word = not (field_of word 0 5 == field_of word 10 5)
+meets BaseApart word = is_base_apart word (field_of word 0 5)
+meets BasePairApart word = is_base_apart word (field_of word 0 5) && is_base_apart word (field_of word 10 5)
+
+unfoldable pub is_sayable : ℕ → Item → Bool
+is_sayable word i = is_within i.kind (field_in i word) && meets i.rule word
+
+-- the word is printed in a shape whose operands have texts for its fields, and whose rules it meets
+pub record IsPrinted (word : ℕ) : Type 0 where
+  pub shape : Shape
+  pub found : printed_shape word ≡ Some shape
+  pub sayable : list_all (is_sayable word) (items_of shape) ≡ true

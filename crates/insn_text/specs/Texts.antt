@@ -1,0 +1,147 @@
+-- The text of an instruction: its name, and the numbers of its fields as registers, words, numbers and distances.
+-- Source: DDI 0487, C1.2 (assembly language symbols) and the pages of C6.2; which text is printed, and that distances are in bytes from
+-- the instruction, is this project's own.
+use Rattle.std.specs.Prelude.{◌≡◌, ℕ, zero, suc, ◌+◌, ◌-◌, ◌*◌, ◌/◌, ◌%◌, ◌^◌, ◌<◌, Bool, true, false, not, ◌&&◌, ◌||◌, ◌==◌, nat_lt, List, [], ◌∷◌, ◌++◌, Option, Some, None, bit_and, slice_get, take, drop, if◌then◌else◌, decimal, cond, codes}
+use Rattle.std.specs.List.{find}
+use Rattle.std.specs.Fmt.{digits}
+use Rattle.bit_ops.specs.Masks.{bit_mask_of}
+use Rattle.a64_table.specs.Fields.{field_of}
+use Rattle.insn_text.specs.declared.item.Kind.{Kind}
+use Rattle.insn_text.specs.declared.item.Kind.TheVariants.{Mark, Named, Register, Unsigned, Signed, Distance, Mask, SignedMask, ShiftLeft, Opposite, Halfword}
+use Rattle.insn_text.specs.declared.item.Item.{Item}
+use Rattle.insn_text.specs.declared.item.Shape.{Shape}
+use Rattle.insn_text.specs.declared.item.Text.{Text}
+use Rattle.insn_text.specs.declared.words.TheConstants.{WORDS, NAMES}
+use Rattle.insn_text.specs.declared.operands.TheConstants.{ITEMS}
+use Rattle.insn_text.specs.declared.shapes.TheConstants.{SHAPES}
+
+-- ---- words
+
+unfoldable pub text_in : Option Text → List ℕ
+text_in None = []
+text_in (Some t) = take t.length t.bytes
+
+-- the text at a place of a table
+abbrev pub text_at : List Text → ℕ → List ℕ
+text_at texts place = text_in (slice_get texts place)
+
+-- ---- numbers
+
+-- a signed number of so many bits is not negative
+unfoldable pub is_positive : ℕ → ℕ → Bool
+is_positive bits field = nat_lt field (2 ^ (bits - 1))
+
+-- the size of a signed number of so many bits, without its sign
+unfoldable pub size_of : ℕ → ℕ → ℕ
+size_of bits field = if is_positive bits field then field else 2 ^ bits - field
+
+-- a number in hexadecimal
+abbrev pub hexadecimal : ℕ → List ℕ
+hexadecimal n = digits 16 false n
+
+-- the mask of the fields N, immr and imms, 13 bits, or of immr and imms alone
+unfoldable pub mask_in : Bool → ℕ → Option ℕ
+mask_in wide field = bit_mask_of (field_of field 12 1 == 1) (field_of field 0 6) (field_of field 6 6) wide
+
+unfoldable pub mask_text : Option ℕ → List ℕ
+mask_text None = []
+mask_text (Some mask) = codes "#0x" ++ hexadecimal mask
+
+unfoldable pub signed_text : Bool → ℕ → List ℕ
+signed_text true n = codes "#" ++ decimal n
+signed_text false n = codes "#-" ++ decimal n
+
+unfoldable pub distance_text : Bool → ℕ → List ℕ
+distance_text true n = codes ".+" ++ decimal n
+distance_text false n = codes ".-" ++ decimal n
+
+-- the word of a register
+unfoldable pub register_place : ℕ → ℕ → ℕ → ℕ
+register_place first last number = if number == 31 then last else first + number
+
+-- the text of a field of so many bits; the kinds of aliases are never printed
+unfoldable pub kind_text : Kind → ℕ → ℕ → List ℕ
+kind_text (Mark c) bits field = c ∷ []
+kind_text (Named first count) bits field = text_at WORDS (first + field)
+kind_text (Register first last) bits field = text_at WORDS (register_place first last field)
+kind_text (Unsigned base scale most) bits field = codes "#" ++ decimal (field * scale + base)
+kind_text (Signed scale) bits field = signed_text (is_positive bits field) (size_of bits field * scale)
+kind_text (Distance scale) bits field = distance_text (is_positive bits field) (size_of bits field * scale)
+kind_text (Mask wide) bits field = mask_text (mask_in wide field)
+kind_text (SignedMask wide) bits field = []
+kind_text (ShiftLeft wide) bits field = []
+kind_text (Opposite first count) bits field = []
+kind_text (Halfword wide inverted) bits field = []
+
+-- ---- operands
+
+abbrev pub bits_of : Item → ℕ
+bits_of i = i.width + i.upper_width
+
+-- the number of an operand's field in a word
+unfoldable pub field_in : Item → ℕ → ℕ
+field_in i word = field_of word i.upper_low i.upper_width * 2 ^ i.width + field_of word i.low i.width
+
+unfoldable pub item_text : ℕ → Item → List ℕ
+item_text word i = kind_text i.kind (bits_of i) (field_in i word)
+
+unfoldable pub is_mark : Kind → Bool
+is_mark (Mark c) = true
+is_mark (Named first count) = false
+is_mark (Register first last) = false
+is_mark (Unsigned base scale most) = false
+is_mark (Signed scale) = false
+is_mark (Distance scale) = false
+is_mark (Mask wide) = false
+is_mark (SignedMask wide) = false
+is_mark (ShiftLeft wide) = false
+is_mark (Opposite first count) = false
+is_mark (Halfword wide inverted) = false
+
+unfoldable pub is_comma : Kind → Bool
+is_comma (Mark c) = c == 44
+is_comma (Named first count) = false
+is_comma (Register first last) = false
+is_comma (Unsigned base scale most) = false
+is_comma (Signed scale) = false
+is_comma (Distance scale) = false
+is_comma (Mask wide) = false
+is_comma (SignedMask wide) = false
+is_comma (ShiftLeft wide) = false
+is_comma (Opposite first count) = false
+is_comma (Halfword wide inverted) = false
+
+-- a space stands after a comma, and between two operands with no mark between them
+unfoldable pub gap : Kind → Kind → List ℕ
+gap before after = if is_comma before || (not (is_mark before) && not (is_mark after)) then codes " " else []
+
+-- the operands that follow one of that kind
+unfoldable pub items_text : ℕ → Kind → List Item → List ℕ
+items_text word before [] = []
+items_text word before (i ∷ is) = gap before i.kind ++ (item_text word i ++ items_text word i.kind is)
+
+-- ---- shapes
+
+-- the operands of a shape
+unfoldable pub items_of : Shape → List Item
+items_of s = take s.count (drop s.first ITEMS)
+
+-- the text of a word of the shape; a space stands after the name, as after a comma
+unfoldable pub shape_text : Shape → ℕ → List ℕ
+shape_text s word = text_at NAMES s.name ++ items_text word (Mark 44) (items_of s)
+
+-- the word has the fixed bits of the shape, which is no alias
+unfoldable pub prints : ℕ → Shape → Bool
+prints word s = not s.alias && (bit_and word s.mask == s.value)
+
+-- the shape in which a word is printed
+unfoldable pub printed_shape : ℕ → Option Shape
+printed_shape word = find (prints word) SHAPES
+
+unfoldable pub text_of_shape : ℕ → Option Shape → List ℕ
+text_of_shape word None = []
+text_of_shape word (Some s) = shape_text s word
+
+-- the text of a word
+unfoldable pub text_of : ℕ → List ℕ
+text_of word = text_of_shape word (printed_shape word)
