@@ -1,5 +1,5 @@
 #!/usr/bin/env python3
-"""Writes the tables of src/ and, for the parser, ../asm_parser/src/places.rt, from the texts of the instructions below.
+"""Writes the tables of src/ and, for the lexer, ../asm_tokens/src/places.rt, from the texts of the instructions below.
 
 With a file of words and their texts (word in hexadecimal, tab, text) as its argument it writes nothing, and compares the texts that
 the table gives to the words with those of the file.
@@ -447,6 +447,6 @@ out = ["//! Where words and names stand in their tables, by hash, as `make_table
 for ident, texts, size in (("WORD", WORDS, 1024), ("NAME", names, 4096)):
     factor, places = slots(texts, size)
     out += [f"/// The factor of the hash.", f"pub const {ident}_FACTOR: u32 = {factor};", "", "/// The place of the text with that hash; 65535 where there is none.", f"pub static {ident}_SLOTS: [u16; {size}] = [", numbers(places), "];", ""]
-os.makedirs("../asm_parser/src", exist_ok=True)
-write("../asm_parser/src/places.rt", out[:-1])
+os.makedirs("../asm_tokens/src", exist_ok=True)
+write("../asm_tokens/src/places.rt", out[:-1])
 print(len(WORDS), "words,", len(names), "names,", len(forms), "lists of", len(flat), "operands,", len(shapes), "shapes,", len(printed), "printed")

@@ -1,0 +1,139 @@
+-- The number of a field that a token of an operand says.
+-- Source: DDI 0487, C1.2 and C6.2, with the aliases' pages for MOV (immediate), LSL (immediate) and CSET.
+use Rattle.std.specs.Prelude.{ℕ, ◌+◌, ◌-◌, ◌*◌, ◌/◌, ◌%◌, ◌^◌, Bool, true, false, not, ◌&&◌, ◌||◌, ◌==◌, nat_lt, nat_le, Option, Some, None, if◌then◌else◌, option_and_then, option_map, bit_xor}
+use Rattle.std.specs.List.{find, range_with_len}
+use Rattle.a64_table.specs.Conditions.{is_mask}
+use Rattle.a64_table.specs.Fields.{field_of}
+use Rattle.insn_text.specs.declared.item.Kind.{Kind}
+use Rattle.insn_text.specs.declared.item.Kind.TheVariants as kind
+use Rattle.insn_text.specs.Texts.{mask_in}
+use Rattle.asm_tokens.specs.declared.token.Token.{Token}
+use Rattle.asm_tokens.specs.declared.token.Token.TheVariants.{Word, Name, Number, Distance, Bare, Malformed, Mark, Other}
+
+-- ---- tokens of each sort
+
+unfoldable pub on_mark : (ℕ → Option ℕ) → Token → Option ℕ
+on_mark says (Mark c) = says c
+on_mark says (Word place) = None
+on_mark says Name = None
+on_mark says (Number negative size) = None
+on_mark says (Distance back size) = None
+on_mark says (Bare size) = None
+on_mark says Malformed = None
+on_mark says Other = None
+
+unfoldable pub on_word : (ℕ → Option ℕ) → Token → Option ℕ
+on_word says (Mark c) = None
+on_word says (Word place) = says place
+on_word says Name = None
+on_word says (Number negative size) = None
+on_word says (Distance back size) = None
+on_word says (Bare size) = None
+on_word says Malformed = None
+on_word says Other = None
+
+unfoldable pub on_number : (Bool → ℕ → Option ℕ) → Token → Option ℕ
+on_number says (Mark c) = None
+on_number says (Word place) = None
+on_number says Name = None
+on_number says (Number negative size) = says negative size
+on_number says (Distance back size) = None
+on_number says (Bare size) = None
+on_number says Malformed = None
+on_number says Other = None
+
+-- a distance, or any name, which stands for a distance that is not known yet
+unfoldable pub on_target : (Bool → ℕ → Option ℕ) → Token → Option ℕ
+on_target says (Mark c) = None
+on_target says (Word place) = Some 0
+on_target says Name = Some 0
+on_target says (Number negative size) = None
+on_target says (Distance back size) = says back size
+on_target says (Bare size) = None
+on_target says Malformed = None
+on_target says Other = None
+
+-- ---- fields
+
+-- one of `count` words from a place on
+unfoldable pub word_field : ℕ → ℕ → ℕ → Option ℕ
+word_field first count place = if nat_le first place && nat_lt place (first + count) then Some (place - first) else None
+
+unfoldable pub register_field : ℕ → ℕ → ℕ → Option ℕ
+register_field first last place = if place == last then Some 31 else word_field first 31 place
+
+-- n = field * scale + base, with a field up to the greatest
+unfoldable pub unsigned_field : ℕ → ℕ → ℕ → Bool → ℕ → Option ℕ
+unsigned_field base scale most negative size =
+    if not negative && nat_le base size && ((size - base) % scale == 0) && nat_le ((size - base) / scale) most then Some ((size - base) / scale) else None
+
+-- n = field * scale, with a field of so many bits in two's complement
+unfoldable pub signed_field : ℕ → ℕ → Bool → ℕ → Option ℕ
+signed_field bits scale negative size =
+    if not (size % scale == 0) then None
+    else if negative then (if nat_le (size / scale) (2 ^ (bits - 1)) then Some ((2 ^ bits - size / scale) % 2 ^ bits) else None)
+    else if nat_lt (size / scale) (2 ^ (bits - 1)) then Some (size / scale)
+    else None
+
+abbrev pub width_of : Bool → ℕ
+width_of wide = if wide then 64 else 32
+
+-- the mask of some fields is that number
+abbrev pub is_that : ℕ → Option ℕ → Bool
+is_that number None = false
+is_that number (Some mask) = mask == number
+
+-- the mask has the fields N, immr and imms
+unfoldable pub is_field_of : Bool → ℕ → ℕ → Bool
+is_field_of wide mask field =
+    is_mask wide (field_of field 12 1 == 1) (field_of field 6 6) (field_of field 0 6) && is_that mask (mask_in wide field)
+
+-- the fields N, immr and imms of a mask
+unfoldable pub mask_field : Bool → ℕ → Option ℕ
+mask_field wide mask = find (is_field_of wide mask) (range_with_len 0 8192)
+
+-- a number of the width, where a negative one is in two's complement
+unfoldable pub immediate_of : Bool → Bool → ℕ → Option ℕ
+immediate_of wide negative size =
+    if negative then (if nat_le size (2 ^ (width_of wide - 1)) then Some ((2 ^ width_of wide - size) % 2 ^ width_of wide) else None)
+    else if nat_lt size (2 ^ width_of wide) then Some size
+    else None
+
+-- the bits of immr and of imms
+abbrev pub shift_bits : Bool → ℕ
+shift_bits wide = if wide then 6 else 5
+
+-- immr above imms of a shift to the left
+unfoldable pub shift_left_field : Bool → Bool → ℕ → Option ℕ
+shift_left_field wide negative size =
+    if not negative && nat_lt size (width_of wide)
+    then Some ((width_of wide - size) % width_of wide * 2 ^ shift_bits wide + (width_of wide - 1 - size))
+    else None
+
+-- the number has no bits but those of one halfword
+unfoldable pub is_halfword_at : ℕ → ℕ → Bool
+is_halfword_at number place = (number % 2 ^ (16 * place) == 0) && nat_lt (number / 2 ^ (16 * place)) 65536
+
+-- the lowest halfword that has all bits of the number, above these bits
+unfoldable pub halfword_field : Bool → ℕ → Option ℕ
+halfword_field wide number =
+    option_map (λ place. place * 65536 + number / 2 ^ (16 * place)) (find (is_halfword_at number) (range_with_len 0 (width_of wide / 16)))
+
+-- the number, or all its bits inverted
+unfoldable pub inverted_if : Bool → Bool → ℕ → ℕ
+inverted_if wide inverted number = if inverted then 2 ^ width_of wide - 1 - number else number
+
+-- the number of a field of so many bits that a token says
+unfoldable pub field_said : Kind → ℕ → Token → Option ℕ
+field_said (kind.Mark c) bits token = on_mark (λ d. if d == c then Some 0 else None) token
+field_said (kind.Named first count) bits token = on_word (word_field first count) token
+field_said (kind.Register first last) bits token = on_word (register_field first last) token
+field_said (kind.Unsigned base scale most) bits token = on_number (unsigned_field base scale most) token
+field_said (kind.Signed scale) bits token = on_number (signed_field bits scale) token
+field_said (kind.Distance scale) bits token = on_target (signed_field bits scale) token
+field_said (kind.Mask wide) bits token = on_number (λ negative size. if negative then None else mask_field wide size) token
+field_said (kind.SignedMask wide) bits token = on_number (λ negative size. option_and_then (mask_field wide) (immediate_of wide negative size)) token
+field_said (kind.ShiftLeft wide) bits token = on_number (shift_left_field wide) token
+field_said (kind.Opposite first count) bits token = on_word (λ place. option_map (λ field. bit_xor field 1) (word_field first count place)) token
+field_said (kind.Halfword wide inverted) bits token =
+    on_number (λ negative size. option_and_then (λ number. halfword_field wide (inverted_if wide inverted number)) (immediate_of wide negative size)) token

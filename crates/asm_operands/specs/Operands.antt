@@ -1,0 +1,221 @@
+-- The operands of an instruction: which tokens a shape takes, the word that they say, and the first token with which no shape goes on.
+-- Source: DDI 0487, C6.2, the assembler symbols of each page; this project's own assembly language for the faults.
+use Rattle.std.specs.Prelude.{ℕ, zero, suc, ◌+◌, ◌-◌, ◌*◌, ◌/◌, ◌%◌, ◌^◌, Bool, true, false, ◌&&◌, ◌||◌, ◌==◌, nat_lt, List, [], ◌∷◌, length, take, drop, slice_get, slice_index, Option, Some, None, bit_and, bit_or, max, if◌then◌else◌, option_and_then, is_some}
+use Rattle.std.specs.List.{list_any}
+use Rattle.sm_types.specs.declared.insn.Insn.{Insn}
+use Rattle.sve_table.specs.Meaning.{instruction_of}
+use Rattle.insn_text.specs.declared.item.Kind.{Kind}
+use Rattle.insn_text.specs.declared.item.Kind.TheVariants as kind
+use Rattle.insn_text.specs.declared.item.Item.{Item}
+use Rattle.insn_text.specs.declared.shapes.TheConstants.{SHAPES, STARTS}
+use Rattle.insn_text.specs.declared.item.Shape.{Shape}
+use Rattle.insn_text.specs.Texts.{items_of, bits_of}
+use Rattle.insn_text.specs.Rules.{meets}
+use Rattle.asm_tokens.specs.declared.token.Token.{Token}
+use Rattle.asm_tokens.specs.declared.token.Token.TheVariants.{Word, Name, Number, Distance, Bare, Malformed, Mark, Other}
+use Rattle.asm_operands.specs.declared.fault.FaultKind.{FaultKind}
+use Rattle.asm_operands.specs.declared.fault.FaultKind.TheVariants.{BadOperand, BadNumber, Extra}
+use Rattle.asm_operands.specs.Fields.{field_said}
+
+-- ---- one operand
+
+-- the bits of an operand's field in a word
+unfoldable pub mask_of : Item → ℕ
+mask_of i = (2 ^ i.upper_width - 1) * 2 ^ i.upper_low + (2 ^ i.width - 1) * 2 ^ i.low
+
+-- the field at its place in a word
+unfoldable pub placed : Item → ℕ → ℕ
+placed i field = field / 2 ^ i.width % 2 ^ i.upper_width * 2 ^ i.upper_low + field % 2 ^ i.width * 2 ^ i.low
+
+-- the known bits of a word, and their values
+pub record Known : Type 0 where
+  pub mask : ℕ
+  pub value : ℕ
+
+unfoldable pub with_field : Item → Known → ℕ → Known
+with_field i known field = record { mask = bit_or known.mask (mask_of i); value = bit_or known.value (placed i field) }
+
+-- a field agrees with the bits that are known of it, and the registers known then meet the operand's rule
+unfoldable pub agrees : Item → Known → ℕ → Bool
+agrees i known field =
+    (bit_and known.value (mask_of i) == bit_and (placed i field) known.mask) && meets i.rule (with_field i known field).value
+
+-- what is known with a field, where it agrees
+unfoldable pub known_with : Item → Known → Option ℕ → Option Known
+known_with i known None = None
+known_with i known (Some field) = if agrees i known field then Some (with_field i known field) else None
+
+-- what is known once a token is read as an operand
+unfoldable pub known_after : Item → Known → Token → Option Known
+known_after i known token = known_with i known (field_said i.kind (bits_of i) token)
+
+-- ---- one shape
+
+abbrev pub taken_on : (Known → Option ℕ) → Option Known → Option ℕ
+taken_on on None = None
+taken_on on (Some known) = on known
+
+-- the word that the tokens say as these operands, all of them
+unfoldable pub taken : List Item → Known → List Token → Option ℕ
+taken [] known [] = Some known.value
+taken [] known (t ∷ ts) = None
+taken (i ∷ is) known [] = None
+taken (i ∷ is) known (t ∷ ts) = taken_on (λ next. taken is next ts) (known_after i known t)
+
+abbrev pub reach_on : (Known → ℕ) → Option Known → ℕ
+reach_on on None = zero
+reach_on on (Some known) = suc (on known)
+
+-- how many tokens the operands take, in order, before the first that they do not
+unfoldable pub reach : List Item → Known → List Token → ℕ
+reach [] known ts = zero
+reach (i ∷ is) known [] = zero
+reach (i ∷ is) known (t ∷ ts) = reach_on (λ next. reach is next ts) (known_after i known t)
+
+-- the bits that a shape fixes
+unfoldable pub fixed : Shape → Known
+fixed s = record { mask = s.mask; value = s.value }
+
+-- the word that the tokens say in the shape
+unfoldable pub word_in : Shape → List Token → Option ℕ
+word_in s ts = taken (items_of s) (fixed s) ts
+
+unfoldable pub reach_in : Shape → List Token → ℕ
+reach_in s ts = reach (items_of s) (fixed s) ts
+
+-- ---- the shapes of a name
+
+-- the shapes of the name at a place of the table of names
+unfoldable pub shapes_of : ℕ → List Shape
+shapes_of name = take (slice_index STARTS (name + 1) - slice_index STARTS name) (drop (slice_index STARTS name) SHAPES)
+
+abbrev pub first_of_words : Option ℕ → Option ℕ → Option ℕ
+first_of_words None second = second
+first_of_words (Some word) second = Some word
+
+-- the first word that a shape gives the tokens
+unfoldable pub first_word : List Shape → List Token → Option ℕ
+first_word [] ts = None
+first_word (s ∷ ss) ts = first_of_words (word_in s ts) (first_word ss ts)
+
+-- the tokens that a shape of the list takes, at most
+unfoldable pub furthest : List Shape → List Token → ℕ
+furthest [] ts = 0
+furthest (s ∷ ss) ts = max (reach_in s ts) (furthest ss ts)
+
+-- ---- faults
+
+-- the kind is written as a number
+unfoldable pub is_number_kind : Kind → Bool
+is_number_kind (kind.Mark c) = false
+is_number_kind (kind.Named first count) = false
+is_number_kind (kind.Register first last) = false
+is_number_kind (kind.Unsigned base scale most) = true
+is_number_kind (kind.Signed scale) = true
+is_number_kind (kind.Distance scale) = true
+is_number_kind (kind.Mask wide) = true
+is_number_kind (kind.SignedMask wide) = true
+is_number_kind (kind.ShiftLeft wide) = true
+is_number_kind (kind.Opposite first count) = false
+is_number_kind (kind.Halfword wide inverted) = true
+
+-- the kind is a distance, for which a name may stand
+unfoldable pub is_distance : Kind → Bool
+is_distance (kind.Mark c) = false
+is_distance (kind.Named first count) = false
+is_distance (kind.Register first last) = false
+is_distance (kind.Unsigned base scale most) = false
+is_distance (kind.Signed scale) = false
+is_distance (kind.Distance scale) = true
+is_distance (kind.Mask wide) = false
+is_distance (kind.SignedMask wide) = false
+is_distance (kind.ShiftLeft wide) = false
+is_distance (kind.Opposite first count) = false
+is_distance (kind.Halfword wide inverted) = false
+
+-- the token is a number of any form
+unfoldable pub is_number_token : Token → Bool
+is_number_token (Word place) = false
+is_number_token Name = false
+is_number_token (Number negative size) = true
+is_number_token (Distance back size) = true
+is_number_token (Bare size) = true
+is_number_token Malformed = true
+is_number_token (Mark c) = false
+is_number_token Other = false
+
+abbrev pub is_number_item : Option Item → Bool
+is_number_item None = false
+is_number_item (Some i) = is_number_kind i.kind
+
+-- the shape takes so many tokens, and a number is its next operand
+unfoldable pub wants_number : ℕ → List Token → Shape → Bool
+wants_number count ts s = (reach_in s ts == count) && is_number_item (slice_get (items_of s) count)
+
+-- the shape takes so many tokens, and has no more operands
+unfoldable pub is_whole : ℕ → List Token → Shape → Bool
+is_whole count ts s = (reach_in s ts == count) && (length (items_of s) == count)
+
+-- why no shape goes on with the token after so many
+unfoldable pub kind_at : List Shape → ℕ → List Token → Option Token → FaultKind
+kind_at ss count ts None = BadOperand
+kind_at ss count ts (Some t) =
+    if is_number_token t && list_any (wants_number count ts) ss then BadNumber
+    else if list_any (is_whole count ts) ss then Extra
+    else BadOperand
+
+-- the place of a token among those of the operands, or just past the last, and what is wrong there
+pub record Fault : Type 0 where
+  pub place : ℕ
+  pub kind : FaultKind
+
+-- the first token with which no shape goes on
+unfoldable pub operand_fault : List Shape → List Token → Fault
+operand_fault ss ts = record { place = furthest ss ts; kind = kind_at ss (furthest ss ts) ts (slice_get ts (furthest ss ts)) }
+
+-- ---- what a name and its operands say
+
+-- the instruction that the tokens say after the name at a place of the table of names
+unfoldable pub insn_said : ℕ → List Token → Option Insn
+insn_said name ts = option_and_then instruction_of (first_word (shapes_of name) ts)
+
+-- a name may stand for a distance
+unfoldable pub is_name : Token → Bool
+is_name (Word place) = true
+is_name Name = true
+is_name (Number negative size) = false
+is_name (Distance back size) = false
+is_name (Bare size) = false
+is_name Malformed = false
+is_name (Mark c) = false
+is_name Other = false
+
+abbrev pub is_distance_item : Option Item → Bool
+is_distance_item None = false
+is_distance_item (Some i) = is_distance i.kind
+
+abbrev pub is_name_token : Option Token → Bool
+is_name_token None = false
+is_name_token (Some t) = is_name t
+
+-- the last token, where it is a name in the place of a distance: a distance is the last operand of each shape that has one
+unfoldable pub target_in : List Item → List Token → Option ℕ
+target_in is ts = if is_distance_item (slice_get is (length is - 1)) && is_name_token (slice_get ts (length is - 1)) then Some (length is - 1) else None
+
+-- the place of the token that names the target, in the first shape that takes the tokens
+unfoldable pub target_of : List Shape → List Token → Option ℕ
+target_of [] ts = None
+target_of (s ∷ ss) ts = if is_some (word_in s ts) then target_in (items_of s) ts else target_of ss ts
+
+-- what the operands after a name say: the instruction, and which of their tokens names its target; or the first fault
+pub data OperandsSaid : Type 0 where
+  Says : Insn → Option ℕ → OperandsSaid
+  Fails : Fault → OperandsSaid
+
+abbrev pub said_or : OperandsSaid → Option ℕ → Option Insn → OperandsSaid
+said_or fault target None = fault
+said_or fault target (Some it) = Says it target
+
+-- what the tokens say after the name at a place of the table of names
+unfoldable pub operands_said : ℕ → List Token → OperandsSaid
+operands_said name ts = said_or (Fails (operand_fault (shapes_of name) ts)) (target_of (shapes_of name) ts) (insn_said name ts)

@@ -1,0 +1,57 @@
+-- What a line of a source says: its label, and a directive or an instruction.
+-- Source: this project's own assembly language, with the directives of the GNU assembler.
+use Rattle.std.specs.Prelude.{◌≡◌, ℕ, List, Option, Some, None, map, option_map}
+use Rattle.sm_types.specs.declared.insn.Insn.{Insn}
+use Rattle.asm_parser.specs.declared.line.Line.{Line}
+use Rattle.asm_parser.specs.declared.line.Statement.{Statement}
+use Rattle.asm_parser.specs.declared.line.Statement.TheVariants as statement
+use Rattle.asm_parser.specs.declared.line.Value.{Value}
+use Rattle.asm_parser.specs.declared.line.Value.TheVariants as value
+
+-- a value of `.quad`: a number, or the address of a label
+pub data QuadValue : Type 0 where
+  IsNumber : ℕ → QuadValue
+  IsAddressOf : List ℕ → QuadValue
+
+pub data Says : Type 0 where
+  -- nothing
+  Nothing : Says
+  -- what follows goes to the text, or to the data
+  IntoText : Says
+  IntoData : Says
+  -- numbers of 8, 4 and 1 bytes
+  Quads : List QuadValue → Says
+  Words : List ℕ → Says
+  Bytes : List ℕ → Says
+  -- so many zeros
+  Zeros : ℕ → Says
+  -- zeros up to a multiple of this power of 2
+  Aligns : ℕ → Says
+  -- a name that is to be seen from outside, which has no effect
+  Globals : List ℕ → Says
+  -- an instruction, the name of its target where that is a name, and the column of the instruction's name
+  Instructs : Insn → Option (List ℕ) → ℕ → Says
+
+pub record SourceLine : Type 0 where
+  pub label : Option (List ℕ)
+  pub says : Says
+
+-- what the code's values stand for
+abbrev pub value_of : Value → QuadValue
+value_of (value.Number n) = IsNumber n
+value_of (value.Name name) = IsAddressOf name.now
+
+abbrev pub says_of : Statement → Says
+says_of statement.Empty = Nothing
+says_of statement.Text = IntoText
+says_of statement.Data = IntoData
+says_of (statement.Quad values) = Quads (map value_of values.items)
+says_of (statement.Word values) = Words values.items
+says_of (statement.Byte values) = Bytes values.items
+says_of (statement.Zero count) = Zeros count
+says_of (statement.Align power) = Aligns power
+says_of (statement.Global name) = Globals name.now
+says_of (statement.Instruction insn target column) = Instructs insn (option_map (λ name. name.now) target) column
+
+abbrev pub line_said : Line → SourceLine
+line_said line = record { label = option_map (λ name. name.now) line.label; says = says_of line.statement }

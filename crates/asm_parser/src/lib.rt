@@ -1,0 +1,6 @@
+//! Lines of assembly: `parse_line` tells what a line says, or its first fault.
+#![tactic(auto)]
+
+mod line;
+
+pub use line::{Line, LineFault, Statement, Value};

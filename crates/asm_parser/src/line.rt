@@ -1,0 +1,62 @@
+//! What a line of a source says.
+
+use sm_types::Insn;
+
+/// A value of `.quad`.
+#[derive(Clone, Copy)]
+pub enum Value<'a> {
+    Number(u64),
+    /// The address of the label of this name.
+    Name(&'a [u8]),
+}
+
+/// What stands on a line after its label.
+#[derive(Drop)]
+pub enum Statement<'a> {
+    /// Nothing.
+    Empty,
+    /// `.text`: what follows goes to the text.
+    Text,
+    /// `.data`: what follows goes to the data.
+    Data,
+    /// `.quad`: 8 bytes each, the low one first.
+    Quad(Vec<Value<'a>>),
+    /// `.word`: 4 bytes each, the low one first.
+    Word(Vec<u32>),
+    /// `.byte`
+    Byte(Vec<u8>),
+    /// `.zero N`: so many zeros.
+    Zero(u64),
+    /// `.align N`: zeros up to a multiple of 2^N; N is 0 to 12.
+    Align(u8),
+    /// `.global NAME`, which has no effect.
+    Global(&'a [u8]),
+    /// An instruction, the name of its target where that is a name, whose distance then is 0, and the column of the instruction's name.
+    Instruction {
+        insn: Insn,
+        target: Option<&'a [u8]>,
+        column: u32,
+    },
+}
+
+/// A line: its label, if it has one, and what stands after it.
+#[derive(Drop)]
+pub struct Line<'a> {
+    pub label: Option<&'a [u8]>,
+    pub statement: Statement<'a>,
+}
+
+/// The first token with which no line goes on: its column, from 1 in characters, or that just past the end of the line. Of the kinds
+/// the first that fits is given: `UnknownName`, `BadNumber`, `Extra`, `BadOperand`. `Memory` is want of memory.
+#[derive(Clone, Copy, Debug, PartialEq, Eq)]
+pub enum LineFault {
+    /// No instruction and no directive has the name.
+    UnknownName(u32),
+    /// All else.
+    BadOperand(u32),
+    /// A number is to stand there, of another form or in another range.
+    BadNumber(u32),
+    /// A whole line stands before it.
+    Extra(u32),
+    Memory,
+}

@@ -1,0 +1,47 @@
+-- The characters of a source, which is UTF-8, and their columns.
+-- Source: this project's own assembly language.
+use Rattle.std.specs.Prelude.{ℕ, ◌+◌, ◌-◌, Bool, false, not, ◌&&◌, ◌||◌, ◌==◌, nat_lt, nat_le, List, [], ◌∷◌, take, drop, if◌then◌else◌, length}
+use Rattle.std.specs.List.{count_by, take_while}
+
+abbrev pub is_between : ℕ → ℕ → ℕ → Bool
+is_between low high c = nat_le low c && nat_le c high
+
+-- 0 to 9
+unfoldable pub is_digit : ℕ → Bool
+is_digit c = is_between 48 57 c
+
+-- a character of a name: a letter, a digit, `$`, `.` or `_`
+unfoldable pub is_name_character : ℕ → Bool
+is_name_character c = is_between 97 122 c || is_between 65 90 c || is_digit c || (c == 36) || (c == 46) || (c == 95)
+
+-- a space or a tab
+unfoldable pub is_blank : ℕ → Bool
+is_blank c = (c == 32) || (c == 9)
+
+-- a byte that continues a character
+unfoldable pub is_continuation : ℕ → Bool
+is_continuation c = is_between 128 191 c
+
+-- the bytes from the front on that pass the test, and the others
+abbrev pub front : (ℕ → Bool) → List ℕ → List ℕ
+front test bytes = take_while test bytes
+
+abbrev pub back : (ℕ → Bool) → List ℕ → List ℕ
+back test bytes = drop (length (front test bytes)) bytes
+
+-- how many characters the bytes are
+unfoldable pub characters : List ℕ → ℕ
+characters bytes = count_by (λ c. not (is_continuation c)) bytes
+
+-- the column, from 1, of the character that begins at a byte of the line
+unfoldable pub column_at : List ℕ → ℕ → ℕ
+column_at line at = characters (take at line) + 1
+
+abbrev pub starts_comment : ℕ → List ℕ → Bool
+starts_comment c [] = false
+starts_comment c (d ∷ ds) = (c == 47) && (d == 47)
+
+-- the line before its comment, which `//` begins
+unfoldable pub before_comment : List ℕ → List ℕ
+before_comment [] = []
+before_comment (c ∷ cs) = if starts_comment c cs then [] else c ∷ before_comment cs

@@ -1,0 +1,43 @@
+-- Numbers in a source: decimal digits with no leading zero, or `0x` and hexadecimal digits, below 2 ^ 64.
+-- Source: this project's own assembly language.
+use Rattle.std.specs.Prelude.{ℕ, ◌+◌, ◌-◌, ◌*◌, ◌^◌, Bool, true, false, not, ◌&&◌, ◌||◌, ◌==◌, nat_lt, nat_le, List, [], ◌∷◌, length, slice_index, drop, Option, Some, None, if◌then◌else◌}
+use Rattle.std.specs.List.{list_all}
+use Rattle.asm_tokens.specs.Characters.{is_between, is_digit}
+
+-- 0 to 9, a to f, A to F
+unfoldable pub is_hex_digit : ℕ → Bool
+is_hex_digit c = is_digit c || is_between 97 102 c || is_between 65 70 c
+
+-- the number of a digit
+unfoldable pub digit_of : ℕ → ℕ
+digit_of c = if is_digit c then c - 48 else if nat_le 97 c then c - 87 else c - 55
+
+-- the number of digits in a base, the highest first, after those of a number
+abbrev pub number_after : ℕ → ℕ → List ℕ → ℕ
+number_after base n [] = n
+number_after base n (d ∷ ds) = number_after base (n * base + digit_of d) ds
+
+-- the number, if it fits 64 bits
+abbrev pub if_fits : ℕ → Option ℕ
+if_fits n = if nat_lt n (2 ^ 64) then Some n else None
+
+-- digits alone, at least one, of which the first is no 0 unless it stands alone
+unfoldable pub is_decimal : List ℕ → Bool
+is_decimal ds = list_all is_digit ds && nat_lt 0 (length ds) && (not (slice_index ds 0 == 48) || (length ds == 1))
+
+unfoldable pub decimal_number : List ℕ → Option ℕ
+decimal_number ds = if is_decimal ds then if_fits (number_after 10 0 ds) else None
+
+unfoldable pub is_hexadecimal : List ℕ → Bool
+is_hexadecimal ds = list_all is_hex_digit ds && nat_lt 0 (length ds)
+
+unfoldable pub hexadecimal_number : List ℕ → Option ℕ
+hexadecimal_number ds = if is_hexadecimal ds then if_fits (number_after 16 0 ds) else None
+
+-- the text begins with `0x`
+unfoldable pub begins_hexadecimal : List ℕ → Bool
+begins_hexadecimal cs = (slice_index cs 0 == 48) && (slice_index cs 1 == 120)
+
+-- the number that a text is
+unfoldable pub number_in : List ℕ → Option ℕ
+number_in cs = if begins_hexadecimal cs then hexadecimal_number (drop 2 cs) else decimal_number cs

@@ -1,0 +1,92 @@
+-- The tokens of a line: names, numbers and marks, with blanks between them.
+-- Source: this project's own assembly language.
+use Rattle.std.specs.Prelude.{ℕ, zero, suc, ◌+◌, ◌-◌, Bool, true, false, ◌&&◌, ◌||◌, ◌==◌, nat_lt, List, [], ◌∷◌, length, take, drop, slice_index, Option, Some, None, if◌then◌else◌, option_map}
+use Rattle.std.specs.List.{position}
+use Rattle.std.specs.Str.{bytes_eq}
+use Rattle.insn_text.specs.declared.item.Text.{Text}
+use Rattle.insn_text.specs.declared.words.TheConstants.{WORDS, NAMES}
+use Rattle.insn_text.specs.Texts.{text_in}
+use Rattle.asm_tokens.specs.declared.token.Token.{Token}
+use Rattle.asm_tokens.specs.declared.token.Token.TheVariants.{Word, Name, Number, Distance, Bare, Malformed, Mark, Other}
+use Rattle.asm_tokens.specs.declared.token.Lexeme.{Lexeme}
+use Rattle.asm_tokens.specs.Characters.{is_digit, is_name_character, is_blank, is_continuation, front, back}
+use Rattle.asm_tokens.specs.Numbers.{number_in, decimal_number}
+
+-- the place of a text in a table
+unfoldable pub place_in : List Text → List ℕ → Option ℕ
+place_in texts text = position (λ t. bytes_eq (text_in (Some t)) text) texts
+
+-- a name is a word of operands, or not
+unfoldable pub name_token : Option ℕ → Token
+name_token None = Name
+name_token (Some place) = Word place
+
+unfoldable pub number_token : Bool → Option ℕ → Token
+number_token negative None = Malformed
+number_token negative (Some size) = Number negative size
+
+unfoldable pub distance_token : Bool → Option ℕ → Token
+distance_token back None = Malformed
+distance_token back (Some size) = Distance back size
+
+unfoldable pub bare_token : Option ℕ → Token
+bare_token None = Malformed
+bare_token (Some size) = Bare size
+
+-- a token, and how many bytes it has
+pub record Read : Type 0 where
+  pub token : Token
+  pub size : ℕ
+
+-- the run of characters of names at the front
+abbrev pub run : List ℕ → List ℕ
+run cs = front is_name_character cs
+
+-- `#`, a sign and a number: the text after the `#`
+unfoldable pub read_number : List ℕ → Read
+read_number cs =
+    if slice_index cs 0 == 45
+    then record { token = number_token true (number_in (run (drop 1 cs))); size = 2 + length (run (drop 1 cs)) }
+    else record { token = number_token false (number_in (run cs)); size = 1 + length (run cs) }
+
+-- `.`, `+` or `-`, and a decimal number: the text after the `.`
+unfoldable pub read_distance : List ℕ → Read
+read_distance cs = record { token = distance_token (slice_index cs 0 == 45) (decimal_number (run (drop 1 cs))); size = 2 + length (run (drop 1 cs)) }
+
+-- a name, or a number without `#`
+unfoldable pub read_run : List ℕ → Read
+read_run cs = record {
+  token = if is_digit (slice_index cs 0) then bare_token (number_in (run cs)) else name_token (place_in WORDS (run cs));
+  size = length (run cs);
+}
+
+-- a character by itself, with the bytes that continue it
+unfoldable pub read_character : ℕ → List ℕ → Read
+read_character c cs = if nat_lt c 128 then record { token = Mark c; size = 1 } else record { token = Other; size = 1 + length (front is_continuation cs) }
+
+-- `+` or `-` stands first
+unfoldable pub has_sign : List ℕ → Bool
+has_sign cs = (slice_index cs 0 == 43) || (slice_index cs 0 == 45)
+
+-- the token that begins with the character, before those bytes
+unfoldable pub read_token : ℕ → List ℕ → Read
+read_token c cs =
+    if c == 35 then read_number cs
+    else if (c == 46) && has_sign cs then read_distance cs
+    else if is_name_character c then read_run (c ∷ cs)
+    else read_character c cs
+
+abbrev pub lexeme_at : ℕ → Read → Lexeme
+lexeme_at at r = record { token = r.token; start = at; end = at + r.size }
+
+-- the tokens of a text that stands at a place of the line; each takes a byte at least, and no more than `most` are taken
+unfoldable pub lexemes_from : ℕ → ℕ → List ℕ → List Lexeme
+lexemes_from zero at text = []
+lexemes_from (suc most) at [] = []
+lexemes_from (suc most) at (c ∷ cs) =
+    if is_blank c then lexemes_from most (at + 1) cs
+    else lexeme_at at (read_token c cs) ∷ lexemes_from most (at + (read_token c cs).size) (drop (read_token c cs).size (c ∷ cs))
+
+-- the tokens of a text that stands at a place of the line
+abbrev pub lexemes_of : ℕ → List ℕ → List Lexeme
+lexemes_of at text = lexemes_from (length text) at text
