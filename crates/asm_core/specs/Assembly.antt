@@ -1,0 +1,154 @@
+-- The object of a source: the bytes that its lines put, its symbols and its start.
+-- Source: the GNU assembler for directives; ELF for the Arm 64-bit Architecture (AArch64), mapping symbols `$x` and `$d`.
+use Rattle.std.specs.Prelude.{◌≡◌, ℕ, ◌+◌, ◌%◌, Bool, true, false, not, ◌&&◌, ◌==◌, nat_lt, List, [], ◌∷◌, ◌++◌, length, take, drop, map, replicate, slice_get, Option, Some, None, is_none, codes, if◌then◌else◌, ℤ}
+use Rattle.std.specs.List.{concat}
+use Rattle.byteorder.specs.Endian.{little_bytes}
+use Rattle.sm_types.specs.declared.insn.Insn.{Insn}
+use Rattle.sm_types.specs.declared.object.Section.{Section}
+use Rattle.sm_types.specs.declared.object.Section.TheVariants.{Text, Data}
+use Rattle.sm_types.specs.declared.object.Symbol.{Symbol}
+use Rattle.sm_types.specs.declared.object.Object.{Object}
+use Rattle.sm_types.specs.Objects.{name_says}
+use Rattle.sve_table.specs.Meaning.{instruction_of}
+use Rattle.asm_parser.specs.Statements.{QuadValue, IsNumber, IsAddressOf, Says, Nothing, IntoText, IntoData, Quads, Words, Bytes, Zeros, Aligns, Globals, Instructs, SourceLine}
+use Rattle.asm_core.specs.Source.{lines_of, said_lines}
+use Rattle.asm_core.specs.Layout.{Place, first_place, here, size_of, place_after, place_past, place_of, Label, labels_of, label_named, label_address, address_here}
+use Rattle.asm_core.specs.Targets.{Range, range_of, with_steps, steps_between}
+use Rattle.asm_core.specs.Faults.{asm_fault, start_of, text_length_of}
+
+-- ---- bytes
+
+-- these bytes stand at a place of others
+abbrev pub HasBytes : List ℕ → ℕ → List ℕ → Type 0
+HasBytes bytes at piece = take (length piece) (drop at bytes) ≡ piece
+
+-- the numbers of so many bytes each, the low byte first
+abbrev pub numbers_bytes : ℕ → List ℕ → List ℕ
+numbers_bytes width numbers = concat (map (little_bytes width) numbers)
+
+abbrev pub address_or_zero : ℕ → Option Label → ℕ
+address_or_zero text_length None = 0
+address_or_zero text_length (Some label) = label_address text_length label
+
+-- the number of a value of `.quad`; no name is undefined
+unfoldable pub quad_number : ℕ → List Label → QuadValue → ℕ
+quad_number text_length labels (IsNumber n) = n
+quad_number text_length labels (IsAddressOf name) = address_or_zero text_length (label_named labels name)
+
+abbrev pub with_range : Insn → ℕ → ℕ → Option Range → Option ℤ
+with_range it from target None = None
+with_range it from target (Some range) = steps_between range from target
+
+abbrev pub stepped : Insn → Option ℤ → Insn
+stepped it None = it
+stepped it (Some steps) = with_steps it steps
+
+abbrev pub aimed_at : ℕ → ℕ → Insn → Option Label → Insn
+aimed_at text_length from it None = it
+aimed_at text_length from it (Some label) = stepped it (with_range it from (label_address text_length label) (range_of it))
+
+-- the instruction at an address with the distance to its target, where a name says the target
+unfoldable pub aimed : ℕ → List Label → ℕ → Insn → Option (List ℕ) → Insn
+aimed text_length labels from it None = it
+aimed text_length labels from it (Some name) = aimed_at text_length from it (label_named labels name)
+
+-- the word means the instruction, and its bytes stand there
+pub record IsAssembled (it : Insn) (bytes : List ℕ) (at : ℕ) : Type 0 where
+  pub word : ℕ
+  pub means : instruction_of word ≡ Some it
+  pub stands : HasBytes bytes at (little_bytes 4 word)
+
+-- what a line at a place puts stands in its part
+unfoldable pub Puts : ℕ → List Label → List ℕ → Place → Says → Type 0
+Puts text_length labels bytes p (Instructs it target column) = IsAssembled (aimed text_length labels (address_here text_length p) it target) bytes (here p)
+Puts text_length labels bytes p (Quads values) = HasBytes bytes (here p) (numbers_bytes 8 (map (quad_number text_length labels) values))
+Puts text_length labels bytes p (Words numbers) = HasBytes bytes (here p) (numbers_bytes 4 numbers)
+Puts text_length labels bytes p (Bytes numbers) = HasBytes bytes (here p) numbers
+Puts text_length labels bytes p (Zeros count) = HasBytes bytes (here p) (replicate count 0)
+Puts text_length labels bytes p (Aligns power) = HasBytes bytes (here p) (replicate (size_of (Aligns power) (here p)) 0)
+Puts text_length labels bytes p Nothing = Unit {0}
+Puts text_length labels bytes p IntoText = Unit {0}
+Puts text_length labels bytes p IntoData = Unit {0}
+Puts text_length labels bytes p (Globals name) = Unit {0}
+
+abbrev pub part_bytes : Object → Section → List ℕ
+part_bytes object Text = object.text_bytes.items
+part_bytes object Data = object.data_bytes.items
+
+-- ---- symbols
+
+pub record SymbolSaid : Type 0 where
+  pub name : List ℕ
+  pub address : ℕ
+  pub section : Section
+
+abbrev pub symbol_said : Symbol → SymbolSaid
+symbol_said symbol = record { name = symbol.name.items; address = symbol.address; section = symbol.section }
+
+-- the symbol of a label; one that is called like a mapping symbol has none
+unfoldable pub label_symbol : ℕ → Place → Option (List ℕ) → List SymbolSaid
+label_symbol text_length p None = []
+label_symbol text_length p (Some name) = if is_none (name_says name) then record { name = name; address = address_here text_length p; section = p.part } ∷ [] else []
+
+-- a line is an instruction
+unfoldable pub is_instruction : Says → Bool
+is_instruction (Instructs it target column) = true
+is_instruction Nothing = false
+is_instruction IntoText = false
+is_instruction IntoData = false
+is_instruction (Quads values) = false
+is_instruction (Words numbers) = false
+is_instruction (Bytes numbers) = false
+is_instruction (Zeros count) = false
+is_instruction (Aligns power) = false
+is_instruction (Globals name) = false
+
+abbrev pub fills_in : Section → ℕ → Bool
+fills_in Text size = nat_lt 0 size
+fills_in Data size = false
+
+-- a line puts bytes into the text
+unfoldable pub fills_text : Place → Says → Bool
+fills_text p says = fills_in p.part (size_of says (here p))
+
+-- what the text is after a line: code, data, or nothing yet
+unfoldable pub text_is : Place → Says → Option Bool → Option Bool
+text_is p says before = if fills_text p says then Some (is_instruction says) else before
+
+abbrev pub is_same : Option Bool → Bool → Bool
+is_same None b = false
+is_same (Some a) b = if a then b else not b
+
+abbrev pub mapping_name : Bool → List ℕ
+mapping_name true = codes "$x"
+mapping_name false = codes "$d"
+
+-- the mapping symbol of a line, where the text changes between code and data with it
+unfoldable pub mapping_symbol : ℕ → Place → Says → Option Bool → List SymbolSaid
+mapping_symbol text_length p says before =
+    if fills_text p says && not (is_same before (is_instruction says))
+    then record { name = mapping_name (is_instruction says); address = address_here text_length p; section = p.part } ∷ []
+    else []
+
+-- the symbols of lines in their order: of each line that of its label and then its mapping symbol
+unfoldable pub symbols_from : ℕ → Place → Option Bool → List SourceLine → List SymbolSaid
+symbols_from text_length p before [] = []
+symbols_from text_length p before (line ∷ lines) =
+    label_symbol text_length p line.label ++ (mapping_symbol text_length p line.says before
+    ++ symbols_from text_length (place_after p line.says) (text_is p line.says before) lines)
+
+-- ---- the object
+
+-- the object is what the lines mean
+pub record IsObjectOf (lines : List SourceLine) (object : Object) : Type 0 where
+  pub text_size : length object.text_bytes.items ≡ text_length_of lines
+  pub data_size : length object.data_bytes.items ≡ (place_past first_place lines).data_size
+  pub puts : (k : ℕ) (line : SourceLine) → slice_get lines k ≡ Some line
+      → Puts (text_length_of lines) (labels_of lines) (part_bytes object (place_of lines k).part) (place_of lines k) line.says
+  pub symbols : map symbol_said object.symbols.items ≡ symbols_from (text_length_of lines) first_place None lines
+  pub starts : start_of (text_length_of lines) (labels_of lines) ≡ Some object.entry
+
+-- the source is assembled to this object
+pub record Assembles (source : List ℕ) (object : Object) : Type 0 where
+  pub accepted : asm_fault source ≡ None
+  pub object_is : IsObjectOf (said_lines (lines_of source)) object

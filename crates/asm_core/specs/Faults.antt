@@ -1,0 +1,151 @@
+-- Why a source is refused: the first fault of its lines in order, then the first name or distance at fault, then that it has no start.
+-- Source: this project's own assembly language.
+use Rattle.std.specs.Prelude.{ℕ, ◌+◌, ◌%◌, Bool, true, false, not, ◌&&◌, ◌||◌, ◌==◌, nat_lt, List, [], ◌∷◌, ◌++◌, length, Option, Some, None, Result, Ok, Err, is_some, if◌then◌else◌, codes, ℤ, option_map}
+use Rattle.std.specs.List.{list_any}
+use Rattle.std.specs.Str.Lossy.{utf8_valid_len}
+use Rattle.sm_types.specs.declared.insn.Insn.{Insn}
+use Rattle.sm_types.specs.declared.object.Section.{Section}
+use Rattle.sm_types.specs.declared.object.Section.TheVariants.{Text, Data}
+use Rattle.asm_parser.specs.declared.line.LineFault.{LineFault}
+use Rattle.asm_parser.specs.declared.line.LineFault.TheVariants.{BadOperand}
+use Rattle.asm_parser.specs.Statements.{QuadValue, IsNumber, IsAddressOf, Says, Nothing, IntoText, IntoData, Quads, Words, Bytes, Zeros, Aligns, Globals, Instructs, SourceLine}
+use Rattle.asm_parser.specs.Lines.{line_of}
+use Rattle.asm_core.specs.declared.fault.AsmFault.{AsmFault}
+use Rattle.asm_core.specs.declared.fault.AsmFault.TheVariants.{TooLong, NotText, Line, Doubled, Undefined, TooFar, TooLarge, NoStart}
+use Rattle.asm_core.specs.Source.{lines_of, said_lines}
+use Rattle.asm_core.specs.Layout.{Place, first_place, here, place_after, place_past, Label, label_at, if_some, labels_of, label_named, label_address, address_in, address_here}
+use Rattle.asm_core.specs.Targets.{Range, range_of, distance, steps_between}
+
+-- the first of two, else the second
+abbrev pub or_else : Option AsmFault → Option AsmFault → Option AsmFault
+or_else None second = second
+or_else (Some first) second = Some first
+
+abbrev pub fault_if : Bool → AsmFault → Option AsmFault
+fault_if true fault = Some fault
+fault_if false fault = None
+
+-- ---- each line by itself, after those before it
+
+-- the column of an instruction that stands at no multiple of 4
+unfoldable pub misplaced : Says → ℕ → Option ℕ
+misplaced (Instructs it target column) at = if at % 4 == 0 then None else Some column
+misplaced Nothing at = None
+misplaced IntoText at = None
+misplaced IntoData at = None
+misplaced (Quads values) at = None
+misplaced (Words numbers) at = None
+misplaced (Bytes numbers) at = None
+misplaced (Zeros count) at = None
+misplaced (Aligns power) at = None
+misplaced (Globals name) at = None
+
+-- a label has the name of the line's
+abbrev pub is_doubled : List Label → Option (List ℕ) → Bool
+is_doubled labels None = false
+is_doubled labels (Some name) = is_some (label_named labels name)
+
+-- the part that a line goes to has more than 4 MiB with it
+unfoldable pub is_too_large : Place → Says → Bool
+is_too_large p says = nat_lt 4194304 (place_after p says).text_size || nat_lt 4194304 (place_after p says).data_size
+
+-- the fault of line number n, from 1, at a place and after some labels
+unfoldable pub line_fault : ℕ → Place → List Label → Result SourceLine LineFault → Option AsmFault
+line_fault n p labels (Err fault) = Some (Line n fault)
+line_fault n p labels (Ok line) =
+    or_else (option_map (λ column. Line n (BadOperand column)) (misplaced line.says (here p)))
+    (or_else (fault_if (is_doubled labels line.label) (Doubled n)) (fault_if (is_too_large p line.says) (TooLarge n)))
+
+-- the labels after a line
+abbrev pub labels_after : Place → List Label → SourceLine → List Label
+labels_after p labels line = labels ++ if_some (option_map (label_at p) line.label)
+
+-- what follows a line that is in the grammar, at the place and with the labels after it
+abbrev pub after_line : (Place → List Label → Option AsmFault) → Place → List Label → Result SourceLine LineFault → Option AsmFault
+after_line rest p labels (Err fault) = None
+after_line rest p labels (Ok line) = rest (place_after p line.says) (labels_after p labels line)
+
+-- the fault of the first of some lines that has one; the first is number n, at a place and after some labels
+unfoldable pub lines_fault : ℕ → Place → List Label → List (List ℕ) → Option AsmFault
+lines_fault n p labels [] = None
+lines_fault n p labels (text ∷ texts) =
+    or_else (line_fault n p labels (line_of text)) (after_line (λ next known. lines_fault (n + 1) next known texts) p labels (line_of text))
+
+-- ---- names and distances, with all labels known
+
+-- a value is the address of a label that is not there
+unfoldable pub is_undefined : List Label → QuadValue → Bool
+is_undefined labels (IsNumber n) = false
+is_undefined labels (IsAddressOf name) = not (is_some (label_named labels name))
+
+abbrev pub too_far : ℕ → ℤ → Option ℤ → Option AsmFault
+too_far n bytes None = Some (TooFar n bytes)
+too_far n bytes (Some steps) = None
+
+abbrev pub range_fault : ℕ → ℕ → ℕ → Option Range → Option AsmFault
+range_fault n from target None = None
+range_fault n from target (Some range) = too_far n (distance range from target) (steps_between range from target)
+
+-- the fault of an instruction at an address with the label of its target
+abbrev pub aim_fault : ℕ → ℕ → Insn → ℕ → Option Label → Option AsmFault
+aim_fault n text_length it from None = Some (Undefined n)
+aim_fault n text_length it from (Some label) = range_fault n from (label_address text_length label) (range_of it)
+
+abbrev pub instruction_fault : ℕ → ℕ → List Label → ℕ → Insn → Option (List ℕ) → Option AsmFault
+instruction_fault n text_length labels from it None = None
+instruction_fault n text_length labels from it (Some name) = aim_fault n text_length it from (label_named labels name)
+
+-- the fault of the names and distances of line number n at a place
+unfoldable pub target_fault : ℕ → ℕ → List Label → Place → Says → Option AsmFault
+target_fault n text_length labels p (Instructs it target column) = instruction_fault n text_length labels (address_here text_length p) it target
+target_fault n text_length labels p (Quads values) = fault_if (list_any (is_undefined labels) values) (Undefined n)
+target_fault n text_length labels p Nothing = None
+target_fault n text_length labels p IntoText = None
+target_fault n text_length labels p IntoData = None
+target_fault n text_length labels p (Words numbers) = None
+target_fault n text_length labels p (Bytes numbers) = None
+target_fault n text_length labels p (Zeros count) = None
+target_fault n text_length labels p (Aligns power) = None
+target_fault n text_length labels p (Globals name) = None
+
+-- the fault of the first of some lines that has one; the first is number n, at a place
+unfoldable pub targets_fault : ℕ → ℕ → List Label → Place → List SourceLine → Option AsmFault
+targets_fault n text_length labels p [] = None
+targets_fault n text_length labels p (line ∷ lines) =
+    or_else (target_fault n text_length labels p line.says) (targets_fault (n + 1) text_length labels (place_after p line.says) lines)
+
+-- ---- the start
+
+abbrev pub start_in : ℕ → Section → ℕ → Option ℕ
+start_in text_length Text offset = if (offset % 4 == 0) && nat_lt offset text_length then Some (address_in text_length Text offset) else None
+start_in text_length Data offset = None
+
+abbrev pub start_at : ℕ → Option Label → Option ℕ
+start_at text_length None = None
+start_at text_length (Some label) = start_in text_length label.part label.offset
+
+-- the address of the label `_start`, where it is at a multiple of 4 at a byte of the text
+unfoldable pub start_of : ℕ → List Label → Option ℕ
+start_of text_length labels = start_at text_length (label_named labels (codes "_start"))
+
+-- ---- a source
+
+-- how many bytes of text the lines put
+abbrev pub text_length_of : List SourceLine → ℕ
+text_length_of lines = (place_past first_place lines).text_size
+
+-- the fault of lines that are all in the grammar
+unfoldable pub said_fault : List SourceLine → Option AsmFault
+said_fault lines =
+    or_else (targets_fault 1 (text_length_of lines) (labels_of lines) first_place lines)
+    (fault_if (not (is_some (start_of (text_length_of lines) (labels_of lines)))) NoStart)
+
+unfoldable pub text_fault : List (List ℕ) → Option AsmFault
+text_fault texts = or_else (lines_fault 1 first_place [] texts) (said_fault (said_lines texts))
+
+-- why a source is refused: it is too long, it is no UTF-8, or the first fault of its lines
+unfoldable pub asm_fault : List ℕ → Option AsmFault
+asm_fault source =
+    if nat_lt 67108864 (length source) then Some TooLong
+    else if nat_lt (utf8_valid_len source) (length source) then Some (NotText (utf8_valid_len source))
+    else text_fault (lines_of source)

@@ -1,0 +1,123 @@
+-- Where the lines of a source put their bytes, and what their labels stand for.
+-- Source: the GNU assembler for sections, labels and alignment; the addresses are this project's own.
+use Rattle.std.specs.Prelude.{ℕ, ◌+◌, ◌-◌, ◌*◌, ◌%◌, ◌^◌, List, [], ◌∷◌, ◌++◌, length, take, Option, Some, None, option_map}
+use Rattle.std.specs.List.{find}
+use Rattle.std.specs.Str.{bytes_eq}
+use Rattle.sm_types.specs.declared.object.TheConstants.{TEXT_ADDRESS}
+use Rattle.sm_types.specs.declared.object.Section.{Section}
+use Rattle.sm_types.specs.declared.object.Section.TheVariants.{Text, Data}
+use Rattle.sm_types.specs.Objects.{data_address}
+use Rattle.asm_parser.specs.Statements.{Says, Nothing, IntoText, IntoData, Quads, Words, Bytes, Zeros, Aligns, Globals, Instructs, SourceLine}
+
+-- the part that is written to, and how many bytes each part has so far
+pub record Place : Type 0 where
+  pub part : Section
+  pub text_size : ℕ
+  pub data_size : ℕ
+
+-- a source begins in the text
+abbrev pub first_place : Place
+first_place = record { part = Text; text_size = 0; data_size = 0 }
+
+-- how many bytes the part has that is written to
+abbrev pub here_in : Section → Place → ℕ
+here_in Text p = p.text_size
+here_in Data p = p.data_size
+
+abbrev pub here : Place → ℕ
+here p = here_in p.part p
+
+-- how many zeros there are up to the next multiple
+unfoldable pub padding : ℕ → ℕ → ℕ
+padding unit at = (unit - at % unit) % unit
+
+-- how many bytes a line puts after so many
+unfoldable pub size_of : Says → ℕ → ℕ
+size_of Nothing at = 0
+size_of IntoText at = 0
+size_of IntoData at = 0
+size_of (Quads values) at = 8 * length values
+size_of (Words numbers) at = 4 * length numbers
+size_of (Bytes numbers) at = length numbers
+size_of (Zeros count) at = count
+size_of (Aligns power) at = padding (2 ^ power) at
+size_of (Globals name) at = 0
+size_of (Instructs it target column) at = 4
+
+-- so many bytes more in the part
+abbrev pub grown_in : Section → Place → ℕ → Place
+grown_in Text p size = record p { text_size = p.text_size + size }
+grown_in Data p size = record p { data_size = p.data_size + size }
+
+-- the part that a line leaves to be written to
+abbrev pub part_after : Says → Section → Section
+part_after IntoText part = Text
+part_after IntoData part = Data
+part_after Nothing part = part
+part_after (Quads values) part = part
+part_after (Words numbers) part = part
+part_after (Bytes numbers) part = part
+part_after (Zeros count) part = part
+part_after (Aligns power) part = part
+part_after (Globals name) part = part
+part_after (Instructs it target column) part = part
+
+-- the place after a line
+unfoldable pub place_after : Place → Says → Place
+place_after p says = record (grown_in p.part p (size_of says (here p))) { part = part_after says p.part }
+
+-- the place after some lines
+unfoldable pub place_past : Place → List SourceLine → Place
+place_past p [] = p
+place_past p (line ∷ lines) = place_past (place_after p line.says) lines
+
+-- the place of line number k, from 0
+abbrev pub place_of : List SourceLine → ℕ → Place
+place_of lines k = place_past first_place (take k lines)
+
+-- ---- labels
+
+-- a name for a place of a part
+pub record Label : Type 0 where
+  pub name : List ℕ
+  pub part : Section
+  pub offset : ℕ
+
+-- the label of a line at a place
+abbrev pub label_at : Place → List ℕ → Label
+label_at p name = record { name = name; part = p.part; offset = here p }
+
+-- a list of one, or of none
+abbrev pub if_some : {A : Type 0} → Option A → List A
+if_some None = []
+if_some (Some a) = a ∷ []
+
+-- the labels of lines, the first of which stands at a place
+unfoldable pub labels_from : Place → List SourceLine → List Label
+labels_from p [] = []
+labels_from p (line ∷ lines) = if_some (option_map (label_at p) line.label) ++ labels_from (place_after p line.says) lines
+
+-- the labels of a source
+abbrev pub labels_of : List SourceLine → List Label
+labels_of lines = labels_from first_place lines
+
+-- the label of a name
+unfoldable pub label_named : List Label → List ℕ → Option Label
+label_named labels name = find (λ label. bytes_eq label.name name) labels
+
+-- ---- addresses
+
+-- where a part begins, for a text of so many bytes
+abbrev pub base_of : ℕ → Section → ℕ
+base_of text_length Text = TEXT_ADDRESS
+base_of text_length Data = data_address text_length
+
+abbrev pub address_in : ℕ → Section → ℕ → ℕ
+address_in text_length part offset = base_of text_length part + offset
+
+abbrev pub label_address : ℕ → Label → ℕ
+label_address text_length label = address_in text_length label.part label.offset
+
+-- the address of the next byte
+abbrev pub address_here : ℕ → Place → ℕ
+address_here text_length p = address_in text_length p.part (here p)

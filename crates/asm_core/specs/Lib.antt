@@ -1,0 +1,5 @@
+pub mod Source
+pub mod Layout
+pub mod Targets
+pub mod Faults
+pub mod Assembly
