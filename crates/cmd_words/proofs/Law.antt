@@ -6,9 +6,9 @@ use Rattle.cmd_words.specs.Words.{Fault, Request, verb_of, command_fault, missin
 use Rattle.cmd_words.specs.declared.command.UsageKind.{UsageKind}
 use Rattle.cmd_words.specs.declared.command.UsageKind.TheVariants.{Unknown}
 use Rattle.cmd_words.specs.declared.verb.Verb.{Verb}
-use Rattle.cmd_words.specs.declared.verb.Verb.TheVariants.{Run, Help, Version}
+use Rattle.cmd_words.specs.declared.verb.Verb.TheVariants.{Run, Dis, Help, Version}
 use Rattle.cmd_words.proofs.Places.{none-find, find-passes}
-use Rattle.cmd_words.proofs.Reading.{fault_at-name}
+use Rattle.cmd_words.proofs.Reading.{fault_at-name, listed-name}
 
 none_if_not : {A : Type 0} (o : Option A) → is_some o ≡ false → o ≡ None
 none_if_not None e = refl
@@ -52,6 +52,7 @@ some_word (w ∷ ws) verb e = omega arith
 -- a command that stands asks for something
 requested : (words : List (List ℕ)) (verb : Verb) → usage_fault words ≡ None → option_and_then verb_of (slice_get words 0) ≡ Some verb → IsSome (request_for words verb)
 requested words Run none is = map_is_some _ (slice_get words 1) (name_stands (slice_get words 1) (sym (fault_at-name words is) ∙ no_place words none 1 (let l : 1 ≤ length words = some_word words Run is in omega arith)))
+requested words Dis none is = map_is_some _ (slice_get words 1) (name_stands (slice_get words 1) (sym (listed-name words is) ∙ no_place words none 1 (let l : 1 ≤ length words = some_word words Dis is in omega arith)))
 requested words Help none is = refl
 requested words Version none is = refl
 

@@ -8,15 +8,15 @@ use Rattle.std.proofs.lemmas.Bool.Decides.{nat_tests}
 use Rattle.std.proofs.lemmas.Slice.Eq.{bytes_eq-Decides}
 use Rattle.cmd_words.specs.Numbers.{is_number, number_of}
 use Rattle.cmd_words.specs.Options.{Options, word_of, setting_of, takes, default_of}
-use Rattle.cmd_words.specs.Words.{Request, AsksRun, verb_of, command_fault, missing_fault, extra_fault, request_for, stands_at, option_place, option_fault, value_fault, run_fault, rest_fault, fault_at, usage_fault, value_below, number_given, options_given, command_of}
-use Rattle.cmd_words.specs.Given.{given_of, IsRun, IsReadTo}
+use Rattle.cmd_words.specs.Words.{Request, AsksRun, verb_of, command_fault, missing_fault, extra_fault, named_fault, request_for, stands_at, option_place, option_fault, value_fault, run_fault, rest_fault, fault_at, usage_fault, value_below, number_given, options_given, command_of}
+use Rattle.cmd_words.specs.Given.{given_of, IsRun, IsDis, IsReadTo}
 use Rattle.cmd_words.specs.declared.command.UsageKind.{UsageKind}
 use Rattle.cmd_words.specs.declared.command.UsageKind.TheVariants.{Unknown, Missing, Repeated, Extra}
 use Rattle.cmd_words.specs.declared.given.Given.{Given}
 use Rattle.cmd_words.specs.declared.setting.Setting.{Setting}
 use Rattle.cmd_words.specs.declared.setting.Setting.TheVariants.{Vl, Svl, Budget}
 use Rattle.cmd_words.specs.declared.verb.Verb.{Verb}
-use Rattle.cmd_words.specs.declared.verb.Verb.TheVariants.{Run}
+use Rattle.cmd_words.specs.declared.verb.Verb.TheVariants.{Run, Dis}
 use Rattle.cmd_words.proofs.Places.{or_next, find-more}
 use Rattle.cmd_words.proofs.Faults.{fault_at-option, fault_at-value, usage_at, usage_none}
 
@@ -310,6 +310,9 @@ name_fault words run none = usage_at words 1 Missing (verb_inside words Run run)
 not_first : (p : ℕ) → 1 ≤ p → (p == 0) ≡ false
 not_first p l = grind (arith, nat_tests)
 
+not_second : (p : ℕ) → 2 ≤ p → (p == 1) ≡ false
+not_second p l = grind (arith, nat_tests)
+
 -- a command that stands alone
 module _ (words : List (List ℕ)) (verb : Verb) (is : option_and_then verb_of (slice_get words 0) ≡ Some verb) (alone : (place : ℕ) → rest_fault (Some verb) words place ≡ extra_fault (slice_get words place)) where
   rest_alone : (place : ℕ) → 1 ≤ place → fault_at words place ≡ extra_fault (slice_get words place)
@@ -326,6 +329,44 @@ module _ (words : List (List ℕ)) (verb : Verb) (is : option_and_then verb_of (
   pub alone_command : (request : Request) → length words ≤ 1 → request_for words verb ≡ Some request → command_of words ≡ Some request
   unfolding command_of
   alone_command request l e = rw (usage_none words (λ q b. alone_sound l q), is) e
+
+-- a command that takes a name alone
+module _ (words : List (List ℕ)) (verb : Verb) (is : option_and_then verb_of (slice_get words 0) ≡ Some verb) (named : (place : ℕ) → rest_fault (Some verb) words place ≡ named_fault words place) where
+  rest_named : (place : ℕ) → 1 ≤ place → fault_at words place ≡ named_fault words place
+  unfolding fault_at
+  rest_named place l = rw (not_first place l, is) (named place)
+
+  pub named_first : fault_at words 1 ≡ missing_fault (slice_get words 1)
+  unfolding named_fault
+  named_first = rest_named 1 (omega arith)
+
+  named_past : (place : ℕ) → 2 ≤ place → fault_at words place ≡ extra_fault (slice_get words place)
+  unfolding named_fault
+  named_past place l = rest_named place (omega arith) ∙ rw (not_second place l) refl
+
+  pub name_missing : slice_get words 1 ≡ None → usage_fault words ≡ Some (record { place = 1; kind = Missing })
+  name_missing none = usage_at words 1 Missing (verb_inside words verb is) (named_first ∙ ap missing_fault none) (sound_below_one words verb is)
+
+  sound_to_name : IsSome (slice_get words 1) → (q : ℕ) → q < 2 → fault_at words q ≡ None
+  sound_to_name some zero l = sound_first words verb is
+  sound_to_name some (suc zero) l = named_first ∙ name_there (slice_get words 1) some
+  sound_to_name some (suc (suc q)) l = absurd (omega arith)
+
+  pub more_than_name : 2 < length words → usage_fault words ≡ Some (record { place = 2; kind = Extra })
+  more_than_name l = usage_at words 2 Extra (omega arith) (named_past 2 (omega arith) ∙ extra_there (slice_get words 2) (some_below words 2 l)) (sound_to_name (some_below words 1 (omega arith)))
+
+  named_sound : IsSome (slice_get words 1) → length words ≤ 2 → (q : ℕ) → fault_at words q ≡ None
+  named_sound some l zero = sound_to_name some 0 (omega arith)
+  named_sound some l (suc zero) = sound_to_name some 1 (omega arith)
+  named_sound some l (suc (suc q)) = named_past (suc (suc q)) (omega arith) ∙ ap extra_fault (get_past_all words (suc (suc q)) (omega arith))
+
+  pub named_command : (request : Request) → IsSome (slice_get words 1) → length words ≤ 2 → request_for words verb ≡ Some request → command_of words ≡ Some request
+  unfolding command_of
+  named_command request some l e = rw (usage_none words (λ q b. named_sound some l q), is) e
+
+-- after `dis`, the program's name is to stand
+pub listed-name : (words : List (List ℕ)) → IsDis words → fault_at words 1 ≡ missing_fault (slice_get words 1)
+listed-name words dis = named_first words Dis dis (λ place. refl)
 
 -- no option is read yet
 pub read_start : (words : List (List ℕ)) (given : Given) → IsRun words → IsSome (slice_get words 1) → ((s : Setting) → given_of given s ≡ None) → IsReadTo words 2 given

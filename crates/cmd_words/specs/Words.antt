@@ -11,15 +11,16 @@ use Rattle.cmd_words.specs.declared.command.UsageKind.TheVariants.{Unknown, Miss
 use Rattle.cmd_words.specs.declared.setting.Setting.{Setting}
 use Rattle.cmd_words.specs.declared.setting.Setting.TheVariants.{Vl, Svl, Budget}
 use Rattle.cmd_words.specs.declared.verb.Verb.{Verb}
-use Rattle.cmd_words.specs.declared.verb.Verb.TheVariants.{Run, Help, Version}
+use Rattle.cmd_words.specs.declared.verb.Verb.TheVariants.{Run, Dis, Help, Version}
 
 -- the command of a word
 unfoldable pub verb_of : List ℕ → Option Verb
 verb_of word =
     if bytes_eq word (codes "run") then Some Run
+    else (if bytes_eq word (codes "dis") then Some Dis
     else (if bytes_eq word (codes "--help") then Some Help
     else (if bytes_eq word (codes "--version") then Some Version
-    else None))
+    else None)))
 
 -- that word stands at the place as an option does: at an even place from 2 on
 abbrev pub stands_at : List (List ℕ) → List ℕ → ℕ → Bool
@@ -73,10 +74,15 @@ run_fault words place =
     else (if place % 2 == 0 then option_fault words place (slice_get words place)
     else value_fault (option_and_then setting_of (slice_get words (place - 1))) (slice_get words place))
 
+-- after a command that takes a name alone: the name at place 1, and nothing more
+unfoldable pub named_fault : List (List ℕ) → ℕ → Option UsageKind
+named_fault words place = if place == 1 then missing_fault (slice_get words 1) else extra_fault (slice_get words place)
+
 -- after a command: nothing stands after `--help` and `--version`; after no command the fault is before
 abbrev pub rest_fault : Option Verb → List (List ℕ) → ℕ → Option UsageKind
 rest_fault None words place = None
 rest_fault (Some Run) words place = run_fault words place
+rest_fault (Some Dis) words place = named_fault words place
 rest_fault (Some Help) words place = extra_fault (slice_get words place)
 rest_fault (Some Version) words place = extra_fault (slice_get words place)
 
@@ -124,6 +130,8 @@ options_given words = record {
 pub data Request : Type 0 where
   -- a run of the program of that name, with these options
   AsksRun : List ℕ → Options → Request
+  -- the listing of the program of that name
+  AsksListing : List ℕ → Request
   -- the text of help
   AsksHelp : Request
   -- the version
@@ -132,6 +140,7 @@ pub data Request : Type 0 where
 -- what a command asks for
 abbrev pub request_for : List (List ℕ) → Verb → Option Request
 request_for words Run = option_map (λ name. AsksRun name (options_given words)) (slice_get words 1)
+request_for words Dis = option_map AsksListing (slice_get words 1)
 request_for words Help = Some AsksHelp
 request_for words Version = Some AsksVersion
 

@@ -7,6 +7,8 @@ use sm_types::Config;
 pub enum Command {
     /// Runs the program file of that name.
     Run { program: String, config: Config },
+    /// Lists the code words of the program file of that name.
+    Dis { program: String },
     /// Tells how the command is used.
     Help,
     /// Tells the version.

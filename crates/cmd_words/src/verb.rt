@@ -6,6 +6,7 @@ ghost use Rattle.cmd_words.specs.Words as spec;
 #[derive(Clone, Copy)]
 pub enum Verb {
     Run,
+    Dis,
     Help,
     Version,
 }
@@ -17,6 +18,8 @@ pub fn verb_of(word: &str) -> Option<Verb>
 {
     if word == "run" {
         Some(Verb::Run)
+    } else if word == "dis" {
+        Some(Verb::Dis)
     } else if word == "--help" {
         Some(Verb::Help)
     } else if word == "--version" {

@@ -5,7 +5,7 @@ ghost use Rattle.cmd_words.specs.Numbers as numbers;
 ghost use Rattle.cmd_words.specs.Options as options;
 ghost use Rattle.cmd_words.specs.Words.{command_of, value_fault};
 ghost use Rattle.cmd_words.specs.Command.{request_of, IsFirstFault};
-ghost use Rattle.cmd_words.specs.Given.{given_of, IsRun, IsAlone, IsReadTo};
+ghost use Rattle.cmd_words.specs.Given.{given_of, IsRun, IsDis, IsAlone, IsReadTo};
 
 use crate::command::{Command, UsageKind, WordsFault};
 use crate::given::Given;
@@ -118,6 +118,24 @@ fn read_run(alloc: Global, words: &[String]) -> Result<Command, WordsFault>
     }
 }
 
+/// Reads the words after `dis`: the program's name, and nothing more.
+fn read_dis(alloc: Global, words: &[String]) -> Result<Command, WordsFault>
+    requires { IsDis (map string_bytes words.now) }
+    ensures command { IfOk result (λ command. command_of (map string_bytes words.now) ≡ Some (request_of command)) }
+    ensures fault { IfErr result (IsFirstFault (map string_bytes words.now)) }
+{
+    let Some(name) = word_at(words, 1) else {
+        return Err(usage(1, UsageKind::Missing));
+    };
+    if words.len() > 2 {
+        return Err(usage(2, UsageKind::Extra));
+    }
+    match String::from_str(alloc, name) {
+        Ok(program) => Ok(Command::Dis { program }),
+        Err(_) => Err(WordsFault::Memory),
+    }
+}
+
 /// Tells whether nothing stands after a command that stands alone.
 fn check_alone(words: &[String]) -> Result<(), WordsFault>
     requires { IsAlone (map string_bytes words.now) }
@@ -141,6 +159,7 @@ pub fn read_words(alloc: Global, words: &[String]) -> Result<Command, WordsFault
     };
     match verb_of(word) {
         Some(Verb::Run) => read_run(alloc, words),
+        Some(Verb::Dis) => read_dis(alloc, words),
         Some(Verb::Help) => {
             check_alone(words)?;
             Ok(Command::Help)
@@ -169,7 +188,7 @@ mod tests {
 
     #[test]
     fn the_first_fault_has_its_place_and_kind(rt: HostRuntime) -> Result<(), Fail> {
-        let cases: [(&[&str], usize, UsageKind); 26] = [
+        let cases: [(&[&str], usize, UsageKind); 29] = [
             (&[], 0, UsageKind::Missing),
             (&["walk", "p"], 0, UsageKind::Unknown),
             (&["RUN", "p"], 0, UsageKind::Unknown),
@@ -225,6 +244,9 @@ mod tests {
                 UsageKind::Repeated,
             ),
             (&["--help", "run"], 1, UsageKind::Extra),
+            (&["dis"], 1, UsageKind::Missing),
+            (&["dis", "p", "--vl"], 2, UsageKind::Extra),
+            (&["dis", "p", "q", "r"], 2, UsageKind::Extra),
         ];
         for (texts, place, kind) in cases {
             let words = words(rt.alloc(), texts)?;
@@ -278,6 +300,16 @@ mod tests {
                 }
                 _ => assert!(rt; false, "{texts:?}"),
             }
+        }
+        Ok(())
+    }
+
+    #[test]
+    fn a_listing_takes_a_name(rt: HostRuntime) -> Result<(), Fail> {
+        let words = words(rt.alloc(), &["dis", "--vl"])?;
+        match read_words(rt.alloc(), words.as_slice()) {
+            Ok(Command::Dis { program }) => assert_eq!(rt; program.as_str(), "--vl"),
+            _ => assert!(rt; false),
         }
         Ok(())
     }
