@@ -9,7 +9,8 @@ use Rattle.edge_io.specs.Sink.{Writes}
 use Rattle.edge_io.specs.declared.sink.PutFault.{PutFault}
 use Rattle.edge_io.specs.declared.sink.PutFault.TheVariants.{Failed}
 use Rattle.cmd_words.specs.Options.{Options, options_of}
-use Rattle.cmd_words.specs.Words.{Fault, Request, AsksRun, AsksHelp, AsksVersion, usage_fault, command_of}
+use Rattle.cmd_words.specs.Words.{Fault, Request, AsksRun, AsksListing, AsksHelp, AsksVersion, usage_fault, command_of}
+use Rattle.code_listing.specs.Listing.{listing_text}
 use Rattle.paged_memory.specs.Image.{Program}
 use Rattle.elf_loader.specs.Loading.{Loads, Refuses}
 use Rattle.elf_headers.specs.declared.fault.LoadFault.{LoadFault}
@@ -46,9 +47,18 @@ pub record IsReport (told : Told) (name : List ℕ) (options : Options) (text : 
   pub ends : EndsAs file config state stop
   pub is_text : text ≡ report_text config (sha256 file) (record { thread = 0; state = state; stop = stop; journal = [] } ∷ []) zero_words
 
+-- the text is the listing of the code words of the program that the file of that name is loaded as
+pub record IsListing (told : Told) (name text : List ℕ) : Type 0 where
+  pub file : List ℕ
+  pub program : Program
+  pub is_file : IsFile told name file
+  pub loads : Loads file program
+  pub is_text : text ≡ listing_text program.code
+
 -- the text is what the words ask for
 abbrev pub IsAnswer : Told → Request → List ℕ → Type 0
 IsAnswer told (AsksRun name options) text = IsReport told name options text
+IsAnswer told (AsksListing name) text = IsListing told name text
 IsAnswer told AsksHelp text = text ≡ help_text
 IsAnswer told AsksVersion text = text ≡ version_text
 
@@ -59,6 +69,17 @@ pub record IsRefusal (told : Told) (name text : List ℕ) : Type 0 where
   pub is_file : IsFile told name file
   pub refuses : Refuses file fault
   pub is_text : text ≡ fault_line fault
+
+-- the name of the file that is asked for
+abbrev pub file_named : Request → Option (List ℕ)
+file_named (AsksRun name options) = Some name
+file_named (AsksListing name) = Some name
+file_named AsksHelp = None
+file_named AsksVersion = None
+
+-- the words ask for something with the file of that name
+abbrev pub AsksFor : List (List ℕ) → List ℕ → Type 0
+AsksFor words name = (request : Request) × (command_of words ≡ Some request) × (file_named request ≡ Some name)
 
 -- what the words and the files before a call are, and the files after it
 module _ {F : Type 0} (told : F → Told) (absences faults : F → ℕ) (is_reliable : F → Type 0) (words : List (List ℕ)) (old new : F) where
@@ -80,11 +101,10 @@ module _ {F : Type 0} (told : F → Told) (absences faults : F → ℕ) (is_reli
     pub asked : command_of words ≡ Some request
     pub is_text : IsAnswer (told old) request text
 
-  -- the text goes with the name of the program that the words ask to run
-  pub record OfRun (Text : List ℕ → List ℕ → Type 0) (text : List ℕ) : Type 0 where
+  -- the text goes with the name of the file that the words ask for
+  pub record OfFile (Text : List ℕ → List ℕ → Type 0) (text : List ℕ) : Type 0 where
     pub name : List ℕ
-    pub options : Options
-    pub asked : command_of words ≡ Some (AsksRun name options)
+    pub asks : AsksFor words name
     pub is_text : Text name text
 
   -- the text is the line of the first fault of the words
@@ -97,9 +117,9 @@ module _ {F : Type 0} (told : F → Told) (absences faults : F → ℕ) (is_reli
   abbrev pub Defined : Status → List ℕ → Type 0
   Defined Done text = IsAnswered text
   Defined Usage text = IsUsage text
-  Defined Absent text = OfRun IsAbsence text
-  Defined ReadFault text = OfRun IsReadFault text
-  Defined BadFile text = OfRun (IsRefusal (told old)) text
+  Defined Absent text = OfFile IsAbsence text
+  Defined ReadFault text = OfFile IsReadFault text
+  Defined BadFile text = OfFile (IsRefusal (told old)) text
   Defined OutOfMemory text = text ≡ []
   Defined WriteFault text = ⊥
 
@@ -128,20 +148,21 @@ module _ {F K : Type 0} (told : F → Told) (absences faults : F → ℕ) (is_re
   IsRefused WriteFault = IsCutShort
   IsRefused other = Wrote held put_faults takes before after (Defined told absences faults is_reliable words old new other) (Ok tt)
 
--- what the words ask for can be written: a program's file is there, and is loaded
+-- the file of a program is there, and is loaded
+abbrev pub HasProgram : (List ℕ → Option (List ℕ)) → List ℕ → Type 0
+HasProgram files name = (file : List ℕ) × (files name ≡ Some file) × ((program : Program) × Loads file program)
+
+-- what the words ask for can be written
 abbrev pub IsReady : (List ℕ → Option (List ℕ)) → Request → Type 0
-IsReady files (AsksRun name options) = (file : List ℕ) × (files name ≡ Some file) × ((program : Program) × Loads file program)
+IsReady files (AsksRun name options) = HasProgram files name
+IsReady files (AsksListing name) = HasProgram files name
 IsReady files AsksHelp = Unit {0}
 IsReady files AsksVersion = Unit {0}
-
--- the words ask to run a program of that name
-abbrev pub AsksToRun : List (List ℕ) → List ℕ → Type 0
-AsksToRun words name = (options : Options) × (command_of words ≡ Some (AsksRun name options))
 
 -- the status that is due where the files are those, and neither they nor the sink fail
 abbrev pub IsDue : (List ℕ → Option (List ℕ)) → List (List ℕ) → Status → Type 0
 IsDue files words Usage = (fault : Fault) × (usage_fault words ≡ Some fault)
-IsDue files words Absent = (name : List ℕ) × AsksToRun words name × (files name ≡ None)
-IsDue files words BadFile = (name : List ℕ) × AsksToRun words name × ((file : List ℕ) × (files name ≡ Some file) × ((fault : LoadFault) × Refuses file fault))
+IsDue files words Absent = (name : List ℕ) × AsksFor words name × (files name ≡ None)
+IsDue files words BadFile = (name : List ℕ) × AsksFor words name × ((file : List ℕ) × (files name ≡ Some file) × ((fault : LoadFault) × Refuses file fault))
 IsDue files words Done = (request : Request) × (command_of words ≡ Some request) × IsReady files request
 IsDue files words other = ⊥

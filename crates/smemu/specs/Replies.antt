@@ -5,9 +5,10 @@ use Rattle.sha2.specs.Sha256.{sha256}
 use Rattle.std.specs.String.{string_bytes}
 use Rattle.sm_types.specs.declared.config.Config.{Config}
 use Rattle.cmd_words.specs.Options.{options_of}
-use Rattle.cmd_words.specs.Words.{AsksRun, AsksHelp, AsksVersion, usage_fault, command_of}
+use Rattle.cmd_words.specs.Words.{Request, AsksRun, AsksListing, AsksHelp, AsksVersion, usage_fault, command_of}
+use Rattle.code_listing.specs.Listing.{listing_text}
 use Rattle.edge_io.specs.Cause.{Rose}
-use Rattle.elf_loader.specs.Loading.{Refuses}
+use Rattle.elf_loader.specs.Loading.{Loads, Refuses}
 use Rattle.kernel_contexts.specs.Context.{state_of, thread_of}
 use Rattle.report_text.specs.Report.{report_text, zero_words}
 use Rattle.smemu.specs.Answers.{Told, IsFile, EndsAs}
@@ -15,6 +16,8 @@ use Rattle.smemu.specs.FaultLines.{fault_line}
 use Rattle.smemu.specs.Texts.{usage_line, help_text, version_text}
 use Rattle.smemu.specs.declared.reply.Reply.{Reply}
 use Rattle.smemu.specs.declared.reply.Reply.TheVariants as reply
+use Rattle.smemu.specs.declared.task.Task.{Task}
+use Rattle.smemu.specs.declared.task.Task.TheVariants as task
 use Rattle.smemu.specs.declared.status.Status.{Status}
 use Rattle.smemu.specs.declared.status.Status.TheVariants as status
 
@@ -22,6 +25,7 @@ use Rattle.smemu.specs.declared.status.Status.TheVariants as status
 unfoldable pub reply_text : Reply → List ℕ
 reply_text (reply.Report context stop head) =
     report_text head.config head.image (record { thread = thread_of context; state = state_of context; stop = stop; journal = [] } ∷ []) zero_words
+reply_text (reply.Listing image) = listing_text image.code
 reply_text reply.Help = help_text
 reply_text reply.Version = version_text
 reply_text (reply.Usage place kind) = usage_line (record { place = place; kind = kind })
@@ -33,6 +37,7 @@ reply_text reply.Memory = []
 -- the status of a reply that was written
 abbrev pub status_of : Reply → Status
 status_of (reply.Report context stop head) = status.Done
+status_of (reply.Listing image) = status.Done
 status_of reply.Help = status.Done
 status_of reply.Version = status.Done
 status_of (reply.Usage place kind) = status.Usage
@@ -46,30 +51,54 @@ abbrev pub Runs : List ℕ → Config → Reply → Type 0
 Runs file config (reply.Report context stop head) = EndsAs file config (state_of context) stop × (thread_of context ≡ 0) × (head.config ≡ config) × (head.image ≡ sha256 file)
 Runs file config (reply.BadFile fault) = Refuses file fault
 Runs file config reply.Memory = Unit {0}
+Runs file config (reply.Listing image) = ⊥
 Runs file config reply.Help = ⊥
 Runs file config reply.Version = ⊥
 Runs file config (reply.Usage place kind) = ⊥
 Runs file config (reply.Absent name) = ⊥
 Runs file config (reply.ReadFault name) = ⊥
 
-module _ {F : Type 0} (told : F → Told) (absences faults : F → ℕ) (is_reliable : F → Type 0) (old new : F) where
-  -- what a reply says of the file of that name and of these options
-  abbrev pub Prepares : List ℕ → Config → Reply → Type 0
-  Prepares name config (reply.Absent shown) = (string_bytes shown ≡ name) × IfSome (told old) (λ files. files name ≡ None) × Rose (absences old) (absences new)
-  Prepares name config (reply.ReadFault shown) = (string_bytes shown ≡ name) × Rose (faults old) (faults new) × (is_reliable old → ⊥)
-  Prepares name config (reply.BadFile fault) = (file : List ℕ) × IsFile (told old) name file × Refuses file fault
-  Prepares name config (reply.Report context stop head) = (file : List ℕ) × IsFile (told old) name file × Runs file config (reply.Report context stop head)
-  Prepares name config reply.Memory = Unit {0}
-  Prepares name config reply.Help = ⊥
-  Prepares name config reply.Version = ⊥
-  Prepares name config (reply.Usage place kind) = ⊥
+-- what the listing of a file gives
+abbrev pub Lists : List ℕ → Reply → Type 0
+Lists file (reply.Listing image) = Loads file image
+Lists file (reply.BadFile fault) = Refuses file fault
+Lists file reply.Memory = Unit {0}
+Lists file (reply.Report context stop head) = ⊥
+Lists file reply.Help = ⊥
+Lists file reply.Version = ⊥
+Lists file (reply.Usage place kind) = ⊥
+Lists file (reply.Absent name) = ⊥
+Lists file (reply.ReadFault name) = ⊥
 
-  -- what a reply says of the program that the words ask to run
-  pub record PreparesRun (words : List (List ℕ)) (r : Reply) : Type 0 where
+-- what a task gives on a file
+abbrev pub Gives : Task → List ℕ → Reply → Type 0
+Gives (task.Run config) file r = Runs file config r
+Gives task.List file r = Lists file r
+
+-- the words ask for a task on the file of that name
+abbrev pub request_of : Task → List ℕ → Request
+request_of (task.Run config) name = AsksRun name (options_of config)
+request_of task.List name = AsksListing name
+
+module _ {F : Type 0} (told : F → Told) (absences faults : F → ℕ) (is_reliable : F → Type 0) (old new : F) where
+  -- what a reply says of the file of that name and of the task on it
+  abbrev pub Prepares : List ℕ → Task → Reply → Type 0
+  Prepares name t (reply.Absent shown) = (string_bytes shown ≡ name) × IfSome (told old) (λ files. files name ≡ None) × Rose (absences old) (absences new)
+  Prepares name t (reply.ReadFault shown) = (string_bytes shown ≡ name) × Rose (faults old) (faults new) × (is_reliable old → ⊥)
+  Prepares name t (reply.BadFile fault) = (file : List ℕ) × IsFile (told old) name file × Refuses file fault
+  Prepares name t (reply.Report context stop head) = (file : List ℕ) × IsFile (told old) name file × Gives t file (reply.Report context stop head)
+  Prepares name t (reply.Listing image) = (file : List ℕ) × IsFile (told old) name file × Gives t file (reply.Listing image)
+  Prepares name t reply.Memory = Unit {0}
+  Prepares name t reply.Help = ⊥
+  Prepares name t reply.Version = ⊥
+  Prepares name t (reply.Usage place kind) = ⊥
+
+  -- what a reply says of the file that the words ask for
+  pub record PreparesFile (words : List (List ℕ)) (r : Reply) : Type 0 where
     pub name : List ℕ
-    pub config : Config
-    pub asked : command_of words ≡ Some (AsksRun name (options_of config))
-    pub prepares : Prepares name config r
+    pub on : Task
+    pub asked : command_of words ≡ Some (request_of on name)
+    pub prepares : Prepares name on r
 
   -- what a reply says of the words
   abbrev pub PreparesFor : List (List ℕ) → Reply → Type 0
@@ -77,7 +106,8 @@ module _ {F : Type 0} (told : F → Told) (absences faults : F → ℕ) (is_reli
   PreparesFor words reply.Help = command_of words ≡ Some AsksHelp
   PreparesFor words reply.Version = command_of words ≡ Some AsksVersion
   PreparesFor words reply.Memory = Unit {0}
-  PreparesFor words (reply.Absent name) = PreparesRun words (reply.Absent name)
-  PreparesFor words (reply.ReadFault name) = PreparesRun words (reply.ReadFault name)
-  PreparesFor words (reply.BadFile fault) = PreparesRun words (reply.BadFile fault)
-  PreparesFor words (reply.Report context stop head) = PreparesRun words (reply.Report context stop head)
+  PreparesFor words (reply.Absent name) = PreparesFile words (reply.Absent name)
+  PreparesFor words (reply.ReadFault name) = PreparesFile words (reply.ReadFault name)
+  PreparesFor words (reply.BadFile fault) = PreparesFile words (reply.BadFile fault)
+  PreparesFor words (reply.Report context stop head) = PreparesFile words (reply.Report context stop head)
+  PreparesFor words (reply.Listing image) = PreparesFile words (reply.Listing image)

@@ -4,11 +4,12 @@ ghost use Rattle.std.specs.String.{string_bytes};
 ghost use Rattle.edge_io.specs.Cause.{Rose};
 ghost use Rattle.elf_loader.specs.Loading.{Loads};
 ghost use Rattle.smemu.specs.Answers.{IsDone, IsRefused, IsDue};
-ghost use Rattle.smemu.specs.Replies.{Runs, Prepares, PreparesFor};
+ghost use Rattle.smemu.specs.Replies.{Runs, Lists, Gives, Prepares, PreparesFor};
 ghost use Rattle.smemu.specs.declared.status.Status.{Status};
 
 use crate::reply::{Reply, reply_status, write_reply};
 use crate::status::Status;
+use crate::task::Task;
 use cmd_words::{Command, WordsFault, read_words};
 use edge_io::{FileFault, Files, Sink};
 use elf_loader::{LoadFault, load};
@@ -51,12 +52,33 @@ fn run_file(alloc: Global, file: &[u8], config: &Config) -> Reply
     }
 }
 
-/// The run of the file of that name.
-fn run_named<F: Files>(alloc: Global, name: String, config: &Config, files: &mut F) -> Reply
-    ensures { Prepares F.told F.absences F.faults F.is_reliable files.old files.new (string_bytes name) config.now result }
+/// The listing of a file.
+fn list_file(alloc: Global, file: &[u8]) -> Reply
+    ensures { Lists file.now result }
+{
+    match load(alloc, file) {
+        Ok(image) => Reply::Listing(image),
+        Err(LoadFault::Memory) => Reply::Memory,
+        Err(fault) => Reply::BadFile(fault),
+    }
+}
+
+/// What a task gives on a file.
+fn carry_out(alloc: Global, task: &Task, file: &[u8]) -> Reply
+    ensures { Gives task.now file.now result }
+{
+    match task {
+        Task::Run(config) => run_file(alloc, file, config),
+        Task::List => list_file(alloc, file),
+    }
+}
+
+/// What a task gives on the file of that name.
+fn answer_file<F: Files>(alloc: Global, name: String, task: &Task, files: &mut F) -> Reply
+    ensures { Prepares F.told F.absences F.faults F.is_reliable files.old files.new (string_bytes name) task.now result }
 {
     match files.fetch(alloc, name.as_str(), FETCH_LIMIT) {
-        Ok(file) => run_file(alloc, file.as_slice(), config),
+        Ok(file) => carry_out(alloc, task, file.as_slice()),
         Err(FileFault::Absent) => Reply::Absent(name),
         Err(FileFault::Failed) => Reply::ReadFault(name),
         Err(FileFault::Memory) => Reply::Memory,
@@ -68,7 +90,10 @@ fn prepare<F: Files>(alloc: Global, words: &[String], files: &mut F) -> Reply
     ensures { PreparesFor F.told F.absences F.faults F.is_reliable files.old files.new (map string_bytes words.now) result }
 {
     match read_words(alloc, words) {
-        Ok(Command::Run { program, config }) => run_named(alloc, program, &config, files),
+        Ok(Command::Run { program, config }) => {
+            answer_file(alloc, program, &Task::Run(config), files)
+        }
+        Ok(Command::Dis { program }) => answer_file(alloc, program, &Task::List, files),
         Ok(Command::Help) => Reply::Help,
         Ok(Command::Version) => Reply::Version,
         Err(WordsFault::Usage { place, kind }) => Reply::Usage { place, kind },
@@ -77,8 +102,8 @@ fn prepare<F: Files>(alloc: Global, words: &[String], files: &mut F) -> Reply
 }
 
 /// Carries out the command of the words, which are the command line without the program's name: `run PROGRAM` with
-/// its options runs the program file of that name and writes the report of its run, `--help` and `--version` write
-/// their texts, and other words are answered by the line of their first fault.
+/// its options runs the program file of that name and writes the report of its run, `dis PROGRAM` writes its listing,
+/// `--help` and `--version` write their texts, and other words are answered by the line of their first fault.
 pub fn smemu_main<F: Files, K: Sink>(
     alloc: Global,
     words: &[String],

@@ -6,6 +6,7 @@ smemu runs AArch64 programs and reports what they did.
 
 commands:
   run PROGRAM   runs the ELF64 file PROGRAM and writes the report of its run
+  dis PROGRAM   lists the code words of the ELF64 file PROGRAM: address, word and text
   --help        writes this text
   --version     writes the version
 

@@ -12,6 +12,7 @@ mod fault_line;
 mod help;
 mod reply;
 mod status;
+mod task;
 
 pub use command::smemu_main;
 pub use status::Status;

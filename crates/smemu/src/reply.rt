@@ -10,7 +10,9 @@ use crate::status::Status;
 use cmd_words::UsageKind;
 use edge_io::{PutFault, Sink};
 use elf_loader::LoadFault;
+use code_listing::write_listing;
 use kernel_contexts::Context;
+use paged_memory::Image;
 use report_text::{Head, put_all, write_report};
 use sm_types::Stop;
 
@@ -22,6 +24,8 @@ pub enum Reply {
         stop: Stop,
         head: Head,
     },
+    /// The image of the program whose code words are listed.
+    Listing(Image),
     Help,
     Version,
     /// The first fault of the words.
@@ -91,6 +95,7 @@ pub fn write_reply<K: Sink>(out: &mut K, reply: &Reply) -> Result<(), PutFault>
             stop,
             head,
         } => write_report(context, *stop, head, out),
+        Reply::Listing(image) => write_listing(image.code(), out),
         Reply::Help => write_help(out),
         Reply::Version => write_version(out),
         Reply::Usage { place, kind } => write_usage(out, *place, *kind),
@@ -107,6 +112,7 @@ pub fn reply_status(reply: &Reply) -> Status
 {
     match reply {
         Reply::Report { .. } => Status::Done,
+        Reply::Listing(_) => Status::Done,
         Reply::Help => Status::Done,
         Reply::Version => Status::Done,
         Reply::Usage { .. } => Status::Usage,
