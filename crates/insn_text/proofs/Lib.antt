@@ -1,0 +1,5 @@
+pub mod Sizes
+pub mod Steps
+pub mod Tables
+pub mod Listed
+pub mod Lengths

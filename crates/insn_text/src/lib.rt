@@ -6,12 +6,15 @@
 
 mod item;
 mod operands;
+mod print;
 mod printed;
+mod shape;
 mod shapes;
 mod words;
 
 pub use item::{Item, Kind, Rule, Shape, Text};
 pub use operands::ITEMS;
+pub use print::print_word;
 pub use printed::{PRINTED, ROOTS};
 pub use shapes::{SHAPES, STARTS};
 pub use words::{NAMES, WORDS};
