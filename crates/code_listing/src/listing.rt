@@ -1,8 +1,7 @@
 //! Lines of code words, gathered into pieces that are written together.
-ghost use Rattle.std.specs.Prelude.{◌≡◌, ◌≤◌, ◌+◌, ◌++◌, length, All};
+ghost use Rattle.std.specs.Prelude.{◌≡◌, ◌≤◌, ◌+◌, ◌++◌, length};
 ghost use Rattle.arrayvec.specs.ArrayVec.{array_vec_len};
 ghost use Rattle.edge_io.specs.Sink.{Writes};
-ghost use Rattle.insn_text.specs.Rules.{IsPrinted};
 ghost use Rattle.code_listing.specs.Listing.{listing_line, listing_text};
 
 use arrayvec::{ArrayString, ArrayVec};
@@ -28,8 +27,7 @@ fn add(piece: &mut Piece, bytes: &[u8])
 /// Adds the line of a code word.
 #[tactic(auto, unfolding(crate::specs::Listing::listing_line))]
 fn add_line(piece: &mut Piece, entry: (u64, u32))
-    requires printed { IsPrinted entry.1 }
-    requires room { array_vec_len piece.old + 122 ≤ 16384 }
+    requires { array_vec_len piece.old + 122 ≤ 16384 }
     ensures items { piece.new.items ≡ piece.old.items ++ listing_line entry }
     ensures len { array_vec_len piece.new ≤ array_vec_len piece.old + 122 }
 {
@@ -46,8 +44,7 @@ fn add_line(piece: &mut Piece, entry: (u64, u32))
 
 /// The lines of a few code words.
 fn piece_of(code: &[(u64, u32)]) -> Piece
-    requires few { length code.now ≤ 128 }
-    requires printed { All (λ entry. IsPrinted entry.1) code.now }
+    requires { length code.now ≤ 128 }
     ensures { result.items ≡ listing_text code.now }
 {
     let mut piece = Piece::new();
@@ -59,7 +56,6 @@ fn piece_of(code: &[(u64, u32)]) -> Piece
 
 /// Writes a line for each code word, an address and a word, in their order.
 pub fn write_listing<K: Sink>(code: &[(u64, u32)], out: &mut K) -> Result<(), PutFault>
-    requires { All (λ entry. IsPrinted entry.1) code.now }
     ensures { Writes K.told K.faults K.takes out.old out.new result (listing_text code.now) }
 {
     let mut rest = code;

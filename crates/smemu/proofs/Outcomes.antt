@@ -1,7 +1,6 @@
 -- From a reply to what the command promises.
-use Rattle.std.proofs.Common.{◌≡◌, ℕ, ◌<◌, List, [], ◌∷◌, take, refl, ap, Option, Some, None, Ok, Err}
-use Rattle.std.specs.Prelude.{IfSome, option_map, codes}
-use Rattle.std.specs.String.{String}
+use Rattle.std.proofs.Common.{◌≡◌, ℕ, ◌<◌, List, [], ◌∷◌, take, refl, ap, Option, Some, None, Ok, Err, Global}
+use Rattle.std.specs.Prelude.{IfSome, option_map, codes, String}
 use Rattle.std.specs.List.{concat}
 use Rattle.edge_io.specs.Sink.{Writes}
 use Rattle.edge_io.specs.declared.sink.PutFault.{PutFault}
@@ -25,6 +24,15 @@ use Rattle.smemu.specs.declared.task.Task.TheVariants as task
 use Rattle.smemu.specs.declared.reply.Reply.{Reply}
 use Rattle.smemu.specs.declared.reply.Reply.TheVariants as reply
 use Rattle.smemu.proofs.Whole.{loaded_file, refused_file}
+
+-- a file that is refused gives its fault, whatever the task is
+pub fault_given : (t : Task) (file : List ℕ) (fault : LoadFault) → Refuses file fault → Gives t file (reply.BadFile fault)
+fault_given (task.Run config) file fault h = h
+fault_given task.List file fault h = h
+
+pub memory_given : (t : Task) (file : List ℕ) → Gives t file reply.Memory
+memory_given (task.Run config) file = tt
+memory_given task.List file = tt
 
 -- a task gives a fault only where the file is refused for it
 gives_fault : (t : Task) (file : List ℕ) (fault : LoadFault) → Gives t file (reply.BadFile fault) → Refuses file fault
@@ -52,11 +60,11 @@ no_usage : (t : Task) (file : List ℕ) (place : ℕ) (kind : UsageKind) → Giv
 no_usage (task.Run config) file place kind h = h
 no_usage task.List file place kind h = h
 
-no_absence : (t : Task) (file : List ℕ) (shown : String) → Gives t file (reply.Absent shown) → ⊥
+no_absence : (t : Task) (file : List ℕ) (shown : String Global) → Gives t file (reply.Absent shown) → ⊥
 no_absence (task.Run config) file shown h = h
 no_absence task.List file shown h = h
 
-no_read_fault : (t : Task) (file : List ℕ) (shown : String) → Gives t file (reply.ReadFault shown) → ⊥
+no_read_fault : (t : Task) (file : List ℕ) (shown : String Global) → Gives t file (reply.ReadFault shown) → ⊥
 no_read_fault (task.Run config) file shown h = h
 no_read_fault task.List file shown h = h
 

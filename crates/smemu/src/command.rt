@@ -4,7 +4,7 @@ ghost use Rattle.std.specs.String.{string_bytes};
 ghost use Rattle.edge_io.specs.Cause.{Rose};
 ghost use Rattle.elf_loader.specs.Loading.{Loads};
 ghost use Rattle.smemu.specs.Answers.{IsDone, IsRefused, IsDue};
-ghost use Rattle.smemu.specs.Replies.{Runs, Lists, Gives, Prepares, PreparesFor};
+ghost use Rattle.smemu.specs.Replies.{Runs, Gives, Prepares, PreparesFor};
 ghost use Rattle.smemu.specs.declared.status.Status.{Status};
 
 use crate::reply::{Reply, reply_status, write_reply};
@@ -41,35 +41,25 @@ fn run_image(alloc: Global, file: &[u8], config: &Config, image: &Image) -> Repl
     }
 }
 
-/// The run of a file.
-fn run_file(alloc: Global, file: &[u8], config: &Config) -> Reply
-    ensures { Runs file.now config.now result }
-{
-    match load(alloc, file) {
-        Ok(image) => run_image(alloc, file, config, &image),
-        Err(LoadFault::Memory) => Reply::Memory,
-        Err(fault) => Reply::BadFile(fault),
-    }
-}
-
-/// The listing of a file.
-fn list_file(alloc: Global, file: &[u8]) -> Reply
-    ensures { Lists file.now result }
-{
-    match load(alloc, file) {
-        Ok(image) => Reply::Listing(image),
-        Err(LoadFault::Memory) => Reply::Memory,
-        Err(fault) => Reply::BadFile(fault),
-    }
-}
-
-/// What a task gives on a file.
-fn carry_out(alloc: Global, task: &Task, file: &[u8]) -> Reply
+/// What a task gives on the image of a file.
+fn carry_out(alloc: Global, task: &Task, file: &[u8], image: Image) -> Reply
+    requires { Loads file.now image }
     ensures { Gives task.now file.now result }
 {
     match task {
-        Task::Run(config) => run_file(alloc, file, config),
-        Task::List => list_file(alloc, file),
+        Task::Run(config) => run_image(alloc, file, config, &image),
+        Task::List => Reply::Listing(image),
+    }
+}
+
+/// What a task gives on a program file.
+fn answer_program(alloc: Global, task: &Task, file: &[u8]) -> Reply
+    ensures { Gives task.now file.now result }
+{
+    match load(alloc, file) {
+        Ok(image) => carry_out(alloc, task, file, image),
+        Err(LoadFault::Memory) => Reply::Memory,
+        Err(fault) => Reply::BadFile(fault),
     }
 }
 
@@ -78,7 +68,7 @@ fn answer_file<F: Files>(alloc: Global, name: String, task: &Task, files: &mut F
     ensures { Prepares F.told F.absences F.faults F.is_reliable files.old files.new (string_bytes name) task.now result }
 {
     match files.fetch(alloc, name.as_str(), FETCH_LIMIT) {
-        Ok(file) => carry_out(alloc, task, file.as_slice()),
+        Ok(file) => answer_program(alloc, task, file.as_slice()),
         Err(FileFault::Absent) => Reply::Absent(name),
         Err(FileFault::Failed) => Reply::ReadFault(name),
         Err(FileFault::Memory) => Reply::Memory,
