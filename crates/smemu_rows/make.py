@@ -293,11 +293,33 @@ def accesses():
     yield "load-beside-pc", program(0x58FFFFE4, 0x18FFFFC5, 0x98FFFFA6)
 
 
+def listing(*lines):
+    """A listing of addresses, words and texts."""
+    return "".join(f"{address:016x} {word:08x} {text}\n" for address, word, text in lines)
+
+
+def listings():
+    """Files, and the status and the text of their listings; the texts of words are those of other tools."""
+    words = [line.split("\t") for line in (HERE.parent / "smemu_vectors" / "data" / "words.tsv").read_text().splitlines()]
+    words = [(int(word, 16), text) for word, text in words]
+    code = text_of(word for word, _ in words)
+    yield "words", with_code([Segment(TEXT, code)], code_section(len(code)))[0], 0, listing(*((TEXT + 4 * k, *line) for k, line in enumerate(words)))
+    answer = ((TEXT, 0xD2800540, "movz x0, #42"), (TEXT + 4, 0xD2800BA8, "movz x8, #93"), (TEXT + 8, 0xD4000001, "svc #0"))
+    yield "answer", elf(ANSWER), 0, listing(*answer)
+    yield "data-in-the-text", marked(ANSWER + [UNLISTED], ("$x", 1, TEXT), ("$d", 1, TEXT + 12)), 0, listing(*answer)
+    later = 0x500000
+    parts = [Segment(later, text_of([0xD503201F])), Segment(TEXT, text_of(ANSWER))]
+    yield "sections-out-of-order", with_code(parts, code_section(4, later), code_section(12))[0], 0, listing(*answer, (later, 0xD503201F, "hint #0"))
+    yield "no-section-table", build([Segment(TEXT, text_of(ANSWER))])[0], 0, ""
+    yield "refused", elf(ANSWER + [UNLISTED]), 6, f"bad file: unlisted 0x000000000040000c 0x{UNLISTED:08x}\n"
+
+
 def main():
     data = HERE / "data"
     rows = [(name, elf(words), {}) for name, words in REPORTS.items()] + list(loaded()) + [(name, file, {}) for name, file in accesses()]
-    rows = [(name, 0, file, report(file, **options), options) for name, file, options in rows]
-    rows += [(name, 6, file, text, {}) for name, file, text in refusals()]
+    rows = [(name, 0, file, report(file, **options), {"run": "", **options}) for name, file, options in rows]
+    rows += [(name, 6, file, text, {"run": ""}) for name, file, text in refusals()]
+    rows += [(f"listing-{name}", status, file, text, {"dis": ""}) for name, file, status, text in listings()]
     for old in data.glob("*.txt"):
         old.unlink()
     for old in data.glob("*.elf"):
@@ -306,7 +328,7 @@ def main():
     for name, _, file, text, _ in rows:
         (data / f"{name}.elf").write_bytes(file)
         (data / f"{name}.elf.txt").write_text(text)
-    words = lambda options: "".join(f" --{name} {value}" for name, value in options.items())
+    words = lambda options: "".join(f" --{name} {value}" if value else f" {name}" for name, value in options.items())
     (data / "rows.txt").write_text("".join(f"{name}.elf {status}{words(options)}\n" for name, status, _, _, options in rows))
     (HERE / "stdout").write_text("".join(f"{name}.elf agrees\n" for name, _, _, _, _ in rows))
     print(f"{len(rows)} rows")

@@ -3,3 +3,4 @@ pub mod Layout
 pub mod Targets
 pub mod Faults
 pub mod Assembly
+pub mod Known

@@ -2,5 +2,6 @@
 #![tactic(auto)]
 
 mod fault;
+mod labels;
 
 pub use fault::AsmFault;

@@ -2,6 +2,8 @@
 use a64_decode::decode_scalar;
 use a64_encode::encode;
 use anyhow::Result;
+use arrayvec::ArrayString;
+use insn_text::print_word;
 use sve_decode::decode_vector;
 
 /// The first field of a line as a word in hexadecimal.
@@ -21,22 +23,40 @@ fn round_trips(word: u32) -> bool {
     }
 }
 
+/// Tells whether the text is that of the word.
+fn is_text_of(word: u32, text: &str) -> bool {
+    let mut printed = ArrayString::<96>::new();
+    print_word(word, &mut printed);
+    printed.as_str() == text
+}
+
+/// Tells whether the line is a word that means an instruction whose word it is, and its text.
+fn agrees(line: &str) -> bool {
+    let Some((_, text)) = line.split_once('\t') else {
+        return false;
+    };
+    match word_of(line) {
+        Some(word) => round_trips(word) && is_text_of(word, text),
+        None => false,
+    }
+}
+
 /// Tells whether the word means no instruction.
 fn has_no_row(word: u32) -> bool {
     decode_scalar(word).is_none() && decode_vector(word).is_none()
 }
 
-/// Prints each line whose word means no instruction, or one with another word, and how many agree.
+/// Prints each line whose word means no instruction, or one with another word or another text, and how many agree.
 pub fn check_words<R: Print>(rt: &R, text: &str) -> Result<()> {
     let mut agree = 0u64;
     for line in text.lines() {
-        if word_of(line).is_some_and(round_trips) {
+        if agrees(line) {
             agree = agree.saturating_add(1);
         } else {
             println!(rt; "DIFFERS: {line}")?;
         }
     }
-    println!(rt; "words: {agree} agree")?;
+    println!(rt; "words and texts: {agree} agree")?;
     Ok(())
 }
 

@@ -1,0 +1,49 @@
+//! The labels of a source, by name.
+ghost use Rattle.std.specs.Prelude.{◌≡◌, ℕ, List, Option, Some, None, cond, OnOk};
+ghost use Rattle.std.specs.Str.{bytes_eq};
+ghost use Rattle.asm_core.specs.Known.{known};
+
+use sm_types::Section;
+use std::alloc::{AllocError, Global};
+use std::collections::HashMap;
+
+/// Where a label stands: at an offset in a part.
+#[derive(Clone, Copy)]
+pub struct LabelPlace {
+    pub part: Section,
+    pub offset: u64,
+}
+
+/// The labels so far.
+#[derive(Drop)]
+pub struct Labels<'a> {
+    pub places: HashMap<&'a [u8], LabelPlace>,
+}
+
+impl<'a> Labels<'a> {
+    /// No labels.
+    pub fn new(alloc: Global) -> Labels<'a>
+        ensures { (name : List ℕ) → known result name ≡ None }
+    {
+        Labels {
+            places: HashMap::new(alloc),
+        }
+    }
+
+    /// The label of that name.
+    pub fn find(&self, name: &[u8]) -> Option<LabelPlace>
+        ensures { result ≡ known self.now name.now }
+    {
+        self.places.get(name).copied()
+    }
+
+    /// Adds a label; one of the same name that stands before is forgotten.
+    pub fn add(&mut self, name: &'a [u8], place: LabelPlace) -> Result<(), AllocError>
+        ensures { OnOk result ((other : List ℕ) → known self.new other ≡ cond (bytes_eq other name.now) (Some place) (known self.old other)) }
+    {
+        match self.places.insert(name, place) {
+            Ok(_) => Ok(()),
+            Err(_) => Err(AllocError),
+        }
+    }
+}
