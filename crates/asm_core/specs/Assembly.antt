@@ -12,8 +12,10 @@ use Rattle.sm_types.specs.Objects.{name_says}
 use Rattle.sve_table.specs.Meaning.{instruction_of}
 use Rattle.asm_parser.specs.Statements.{QuadValue, IsNumber, IsAddressOf, Says, Nothing, IntoText, IntoData, Quads, Words, Bytes, Zeros, Aligns, Globals, Instructs, SourceLine}
 use Rattle.asm_core.specs.Source.{lines_of, said_lines}
-use Rattle.asm_core.specs.Layout.{Place, first_place, here, size_of, place_after, place_past, place_of, Label, labels_of, label_named, label_address, address_here}
-use Rattle.asm_core.specs.Targets.{Range, range_of, with_steps, steps_between}
+use Rattle.asm_core.specs.declared.place.Place.{Place}
+use Rattle.asm_core.specs.Layout.{first_place, here, size_of, place_after, place_past, place_of, Label, labels_of, label_named, label_address, address_here}
+use Rattle.asm_core.specs.declared.aim.Range.{Range}
+use Rattle.asm_core.specs.Targets.{range_of, with_steps, steps_between}
 use Rattle.asm_core.specs.Faults.{asm_fault, start_of, text_length_of}
 
 -- ---- bytes

@@ -13,8 +13,10 @@ use Rattle.asm_parser.specs.Lines.{line_of}
 use Rattle.asm_core.specs.declared.fault.AsmFault.{AsmFault}
 use Rattle.asm_core.specs.declared.fault.AsmFault.TheVariants.{TooLong, NotText, Line, Doubled, Undefined, TooFar, TooLarge, NoStart}
 use Rattle.asm_core.specs.Source.{lines_of, said_lines}
-use Rattle.asm_core.specs.Layout.{Place, first_place, here, place_after, place_past, Label, label_at, if_some, labels_of, label_named, label_address, address_in, address_here}
-use Rattle.asm_core.specs.Targets.{Range, range_of, distance, steps_between}
+use Rattle.asm_core.specs.declared.place.Place.{Place}
+use Rattle.asm_core.specs.Layout.{first_place, here, place_after, place_past, Label, label_at, if_some, labels_of, label_named, label_address, address_in, address_here}
+use Rattle.asm_core.specs.declared.aim.Range.{Range}
+use Rattle.asm_core.specs.Targets.{range_of, distance, steps_between}
 
 -- the first of two, else the second
 abbrev pub or_else : Option AsmFault → Option AsmFault → Option AsmFault

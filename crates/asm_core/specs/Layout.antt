@@ -7,13 +7,8 @@ use Rattle.sm_types.specs.declared.object.TheConstants.{TEXT_ADDRESS}
 use Rattle.sm_types.specs.declared.object.Section.{Section}
 use Rattle.sm_types.specs.declared.object.Section.TheVariants.{Text, Data}
 use Rattle.sm_types.specs.Objects.{data_address}
+use Rattle.asm_core.specs.declared.place.Place.{Place}
 use Rattle.asm_parser.specs.Statements.{Says, Nothing, IntoText, IntoData, Quads, Words, Bytes, Zeros, Aligns, Globals, Instructs, SourceLine}
-
--- the part that is written to, and how many bytes each part has so far
-pub record Place : Type 0 where
-  pub part : Section
-  pub text_size : ℕ
-  pub data_size : ℕ
 
 -- a source begins in the text
 abbrev pub first_place : Place

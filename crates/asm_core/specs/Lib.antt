@@ -1,6 +1,9 @@
 pub mod Source
 pub mod Layout
+pub mod Limits
 pub mod Targets
+pub mod Units
 pub mod Faults
 pub mod Assembly
 pub mod Known
+pub mod Parts

@@ -7,12 +7,9 @@ use Rattle.sm_types.specs.declared.insn.Branch.{Branch}
 use Rattle.sm_types.specs.declared.insn.Branch.TheVariants.{Unconditional, Conditional, Compare, TestBit}
 use Rattle.sm_types.specs.declared.insn.PcRelativeOp.{PcRelativeOp}
 use Rattle.sm_types.specs.declared.insn.PcRelativeOp.TheVariants.{Adr, Adrp}
+use Rattle.asm_core.specs.declared.aim.Range.{Range}
 
 -- a distance is a number of units in two's complement of so many bits
-pub record Range : Type 0 where
-  pub unit : ℕ
-  pub bits : ℕ
-
 abbrev pub pc_relative_range : PcRelativeOp → Range
 pc_relative_range Adr = record { unit = 1; bits = 21 }
 pc_relative_range Adrp = record { unit = 4096; bits = 21 }

@@ -13,19 +13,13 @@ pub enum AsmFault {
     /// No UTF-8: the offset of the first byte that is none.
     NotText(usize),
     /// The line is not in the grammar, or is an instruction at no multiple of 4.
-    Line {
-        line: u32,
-        fault: LineFault,
-    },
+    Line { line: u32, fault: LineFault },
     /// The line's label stands before.
     Doubled(u32),
     /// A name on the line is no label.
     Undefined(u32),
     /// The instruction cannot hold the distance to its target, in bytes.
-    TooFar {
-        line: u32,
-        distance: i64,
-    },
+    TooFar { line: u32, distance: i64 },
     /// With the line a part has more than 4,194,304 bytes.
     TooLarge(u32),
     /// There is no label `_start` at a multiple of 4 at a byte of the text.

@@ -1,7 +1,11 @@
 //! The assembler: `assemble` makes the object of a source, or tells its first fault.
 #![tactic(auto)]
 
+mod aim;
 mod fault;
 mod labels;
+mod lines;
+mod parts;
+mod place;
 
 pub use fault::AsmFault;

@@ -1,0 +1,22 @@
+-- What holds of a line that is in the grammar, and of a place that no fault was found before.
+use Rattle.std.specs.Prelude.{ℕ, ◌≤◌}
+use Rattle.asm_parser.specs.Statements.{Says, Nothing, IntoText, IntoData, Quads, Words, Bytes, Zeros, Aligns, Globals, Instructs}
+use Rattle.asm_core.specs.declared.place.Place.{Place}
+
+-- each part has at most 4 MiB
+pub record IsInLimits (p : Place) : Type 0 where
+  pub text : p.text_size ≤ 4194304
+  pub data_part : p.data_size ≤ 4194304
+
+-- an alignment is to 4096 at most
+abbrev pub HasSmallAlign : Says → Type 0
+HasSmallAlign (Aligns power) = power ≤ 12
+HasSmallAlign Nothing = Unit {0}
+HasSmallAlign IntoText = Unit {0}
+HasSmallAlign IntoData = Unit {0}
+HasSmallAlign (Quads values) = Unit {0}
+HasSmallAlign (Words numbers) = Unit {0}
+HasSmallAlign (Bytes numbers) = Unit {0}
+HasSmallAlign (Zeros count) = Unit {0}
+HasSmallAlign (Globals name) = Unit {0}
+HasSmallAlign (Instructs it target column) = Unit {0}
