@@ -1,0 +1,4 @@
+pub mod Fields
+pub mod Appending
+pub mod Slots
+pub mod Governing
