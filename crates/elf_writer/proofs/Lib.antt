@@ -4,3 +4,6 @@ pub mod Slots
 pub mod Governing
 pub mod Reading
 pub mod Headers
+pub mod Images
+pub mod Touched
+pub mod HeadersPass
