@@ -101,7 +101,7 @@ take-front xs ys n e = rw (← e) (taken xs ys)
   taken [] ys = refl
   taken (x ∷ xs) ys = ap (λ zs. x ∷ zs) (taken xs ys)
 
-drop-more : (k : ℕ) (xs : List ℕ) (j : ℕ) → drop (j + k) xs ≡ drop k (drop j xs)
+pub drop-more : (k : ℕ) (xs : List ℕ) (j : ℕ) → drop (j + k) xs ≡ drop k (drop j xs)
 drop-more k xs zero = let e : 0 + k ≡ k = omega arith in rw e refl
 drop-more k [] (suc j) = nothing (suc j + k) ∙ sym (nothing k)
   where
