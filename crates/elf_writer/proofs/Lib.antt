@@ -7,3 +7,8 @@ pub mod Headers
 pub mod Images
 pub mod Touched
 pub mod HeadersPass
+pub mod Symbols
+pub mod SectionsPass
+pub mod SaidCode
+pub mod CodeWords
+pub mod Law

@@ -1,5 +1,5 @@
 -- What stands at which place of a file that was written.
-use Rattle.std.proofs.Common.{◌≡◌, ℕ, zero, suc, ◌+◌, ◌-◌, ◌*◌, ◌/◌, ◌%◌, ◌^◌, ◌<◌, ◌≤◌, List, [], ◌∷◌, ◌++◌, length, take, drop, replicate, refl, ap, sym, subst, ◌∙◌, arith, append_assoc, length-append}
+use Rattle.std.proofs.Common.{◌≡◌, ℕ, zero, suc, ◌+◌, ◌-◌, ◌*◌, ◌/◌, ◌%◌, ◌^◌, ◌<◌, ◌≤◌, List, [], ◌∷◌, ◌++◌, length, take, drop, replicate, All, refl, ap, sym, subst, ◌∙◌, arith, append_assoc, length-append}
 use Rattle.sm_types.specs.declared.object.TheConstants.{TEXT_ADDRESS}
 use Rattle.sm_types.specs.Objects.{data_address}
 use Rattle.byteorder.specs.Endian.{little_bytes}
@@ -22,6 +22,7 @@ pub record IsFile (file : List ℕ) (l : Layout) (text data_bytes : List ℕ) (m
   pub aligned : l.entry % 4 ≡ 0
   pub from : TEXT_ADDRESS ≤ l.entry
   pub before : l.entry < TEXT_ADDRESS + l.text_size
+  pub addresses : All (λ m. m.address < 2 ^ 64) marks
 
 -- ---- places
 
