@@ -7,6 +7,8 @@
 
 mod loader;
 mod parts;
+#[cfg(test)]
+mod tests;
 mod words;
 mod write;
 
