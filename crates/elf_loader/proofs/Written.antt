@@ -1,10 +1,8 @@
 -- The file of an object is loaded as the object's image.
-use Rattle.std.proofs.Common.{◌≡◌, List, None, refl, ap, sym, subst, ◌∙◌}
+use Rattle.std.proofs.Common.{◌≡◌, List, None, ap, subst, ◌∙◌}
 use Rattle.sm_types.specs.declared.object.Object.{Object}
-use Rattle.sm_types.specs.Objects.{object_code}
 use Rattle.paged_memory.specs.Image.{Extent, Program, IsMemoryOf}
 use Rattle.elf_headers.specs.Loads.{extents_of}
-use Rattle.elf_sections.specs.Code.{code_words}
 use Rattle.elf_writer.specs.File.{file_of}
 use Rattle.elf_writer.proofs.Law.{IsSmallObject, headers-written, sections-written, entry-written, extents-written, code-written}
 use Rattle.elf_loader.specs.Loading.{words_fault, load_fault, Loads}

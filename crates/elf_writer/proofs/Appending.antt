@@ -1,6 +1,5 @@
 -- Bytes that are appended one after another.
-use Rattle.std.proofs.Common.{◌≡◌, ℕ, List, [], ◌∷◌, ◌++◌, Result, Ok, Err, OnOk, IfOk, refl, ap, sym, ◌∙◌, append_assoc}
-use Rattle.elf_headers.specs.declared.header.ProgramHeader.{ProgramHeader}
+use Rattle.std.proofs.Common.{◌≡◌, ℕ, List, [], ◌∷◌, ◌++◌, Result, Ok, Err, OnOk, IfOk, ap, sym, ◌∙◌, append_assoc}
 use Rattle.elf_writer.specs.Layout.{fields_bytes}
 use Rattle.elf_writer.proofs.Fields.{fields_bytes-append}
 

@@ -1,31 +1,29 @@
 -- The code words of a file that was written are the object's.
-use Rattle.std.proofs.Common.{◌≡◌, ℕ, zero, suc, ◌+◌, ◌-◌, ◌*◌, ◌/◌, ◌^◌, ◌<◌, ◌≤◌, ◌⊎◌, inl, inr, Bool, true, false, cond, List, [], ◌∷◌, ◌++◌, length, get_or, take, drop, map, Option, Some, None, refl, ap, sym, ◌∙◌, arith, append_assoc, add-one}
-use Rattle.std.specs.Prelude.{◌==◌, ◌&&◌, ◌||◌, nat_le, slice_get}
+use Rattle.std.proofs.Common.{◌≡◌, ℕ, zero, suc, ◌+◌, ◌-◌, ◌*◌, ◌/◌, ◌^◌, ◌<◌, ◌≤◌, ◌⊎◌, inl, inr, Bool, true, false, cond, List, [], ◌∷◌, ◌++◌, length, take, drop, map, Option, Some, None, refl, ap, sym, ◌∙◌, arith, add-one}
+use Rattle.std.specs.Prelude.{◌&&◌, ◌||◌, nat_le, slice_get}
 use Rattle.std.specs.List.{filter_map, range_with_len}
 use Rattle.std.proofs.lemmas.Bool.Decides.{nat_tests}
 use Rattle.std.proofs.lemmas.List.Elements.{filter_map-append}
 use Rattle.sm_types.specs.declared.object.TheConstants.{TEXT_ADDRESS}
 use Rattle.sm_types.specs.declared.object.Object.{Object}
-use Rattle.sm_types.specs.Objects.{little, text_word, object_word, object_code, is_text_code, mappings_of}
+use Rattle.sm_types.specs.Objects.{little, text_word, object_word, object_code}
 use Rattle.paged_memory.specs.Memory.{little_number}
 use Rattle.paged_memory.specs.Image.{or_zero, parts_byte}
 use Rattle.elf_headers.specs.Below.{answers, answers_below, any_below}
-use Rattle.elf_headers.specs.Loads.{extents_of}
 use Rattle.elf_headers.proofs.Below.{answers_below-zero, answers_below-next, answers_below-same}
 use Rattle.elf_sections.specs.declared.section.SectionHeader.{SectionHeader}
-use Rattle.elf_sections.specs.declared.marks.Mark.{Mark}
-use Rattle.elf_sections.specs.Sections.{section_of, section_count, sections_at, is_code_section, has_sections}
+use Rattle.elf_sections.specs.Sections.{section_of, is_code_section, has_sections}
 use Rattle.elf_sections.specs.Marks.{marks_of, is_code_at}
 use Rattle.elf_sections.specs.Code.{loaded_byte, loaded_word, has_word, is_code_in, code_word, code_words}
 use Rattle.elf_sections.specs.Code as code
 use Rattle.elf_sections.proofs.Answers.{answers_below-gap}
 use Rattle.elf_writer.specs.declared.layout.Layout.{Layout}
 use Rattle.elf_writer.specs.declared.marks.TextMark.{TextMark}
-use Rattle.elf_writer.specs.Layout.{no_section, text_section, data_section, symbols_section, strings_section, IsSmall}
-use Rattle.elf_writer.specs.TextMarks.{word_address, is_code_word, text_marks}
+use Rattle.elf_writer.specs.Layout.{no_section, text_section, data_section, symbols_section, strings_section}
+use Rattle.elf_writer.specs.TextMarks.{is_code_word, text_marks}
 use Rattle.elf_writer.proofs.Reading.{IsFile, Reads, reads}
 use Rattle.elf_writer.proofs.Headers.{sections_at-is, section_count-is, section_of-0, section_of-text, section_of-data, section_of-symbols, section_of-strings, section_of-names}
-use Rattle.elf_writer.proofs.Images.{images, extents_of-is}
+use Rattle.elf_writer.proofs.Images.{extents_of-is}
 use Rattle.elf_writer.proofs.SectionsPass.{byte_of_text}
 use Rattle.elf_writer.proofs.Symbols.{read_mark, marks_of-is}
 use Rattle.elf_writer.proofs.SaidCode.{marks_say}
@@ -93,7 +91,7 @@ loaded-is : (file : List ℕ) (l : Layout) (text bytes : List ℕ) (marks : List
 unfolding loaded_word
 loaded-is file l text bytes marks is at h =
     (λ i. little_number (byte-is file l text bytes marks is (TEXT_ADDRESS + at) (at + 0) (omega arith) (omega arith) i ∷ byte-is file l text bytes marks is (TEXT_ADDRESS + at + 1) (at + 1) (omega arith) (omega arith) i
-      ∷ byte-is file l text bytes marks is (TEXT_ADDRESS + at + 2) (at + 2) (omega arith) (omega arith) i ∷ byte-is file l text bytes marks is (TEXT_ADDRESS + at + 3) (at + 3) (omega arith) (omega arith) i ∷ []))
+    ∷ byte-is file l text bytes marks is (TEXT_ADDRESS + at + 2) (at + 2) (omega arith) (omega arith) i ∷ byte-is file l text bytes marks is (TEXT_ADDRESS + at + 3) (at + 3) (omega arith) (omega arith) i ∷ []))
     ∙ word-is text at h
 
 -- ---- which words are code
@@ -102,9 +100,9 @@ six_tests : (test : ℕ → Bool) → test 0 ≡ false → test 2 ≡ false → 
 unfolding any_below
 six_tests test a c d e f = rw (a, c, d, e, f) (alone (test 1))
   where
-  alone : (b : Bool) → (((((false || b) || false) || false) || false) || false) ≡ b
-  alone true = refl
-  alone false = refl
+    alone : (b : Bool) → (((((false || b) || false) || false) || false) || false) ≡ b
+    alone true = refl
+    alone false = refl
 
 no_code : (file : List ℕ) (a i : ℕ) (s : SectionHeader) → section_of file i ≡ s → is_code_section s ≡ false → is_code_in file a i ≡ false
 no_code file a i s e h = ap (λ (x : SectionHeader). is_code_section x && has_word x a && is_code_at (marks_of file) i a) e ∙ rw h refl
@@ -115,7 +113,7 @@ text_code file l text bytes marks is a =
     let r : Reads file l = reads file l text bytes marks is in
     ap (any_below (is_code_in file a)) (section_count-is file l r)
     ∙ six_tests (is_code_in file a) (no_code file a 0 no_section (section_of-0 file l r) refl) (no_code file a 2 (data_section l) (section_of-data file l is.small r) refl)
-      (no_code file a 3 (symbols_section l) (section_of-symbols file l is.small r) refl) (no_code file a 4 (strings_section 560 7) (section_of-strings file l r) refl) (no_code file a 5 (strings_section 568 39) (section_of-names file l r) refl)
+    (no_code file a 3 (symbols_section l) (section_of-symbols file l is.small r) refl) (no_code file a 4 (strings_section 560 7) (section_of-strings file l r) refl) (no_code file a 5 (strings_section 568 39) (section_of-names file l r) refl)
     ∙ (λ i. is_code_section (section_of-text file l is.small r i) && has_word (section_of-text file l is.small r i) a && is_code_at (marks_of-is file l text bytes marks is i) 1 a)
 
 outside : (x y : Bool) → (x ≡ false) ⊎ (y ≡ false) → (z : Bool) → (x && y && z) ≡ false
@@ -148,9 +146,9 @@ word-inside o file l is k h =
     let ends : TEXT_ADDRESS + 4 * k + 4 ≤ TEXT_ADDRESS + l.text_size = omega (arith, is.text_size) in
     let u : nat_le (TEXT_ADDRESS + 4 * k + 4) (TEXT_ADDRESS + l.text_size) ≡ true = grind (arith, nat_tests) in
     let is_code : code.is_code_word file (TEXT_ADDRESS + 4 * k) ≡ is_code_word o k =
-      text_code file l o.text_bytes.items o.data_bytes.items (text_marks o) is (TEXT_ADDRESS + 4 * k)
-      ∙ inside (nat_le TEXT_ADDRESS (TEXT_ADDRESS + 4 * k)) (nat_le (TEXT_ADDRESS + 4 * k + 4) (TEXT_ADDRESS + l.text_size)) (is_code_at (map read_mark (text_marks o)) 1 (TEXT_ADDRESS + 4 * k)) t u
-      ∙ marks_say o k h in
+    text_code file l o.text_bytes.items o.data_bytes.items (text_marks o) is (TEXT_ADDRESS + 4 * k)
+    ∙ inside (nat_le TEXT_ADDRESS (TEXT_ADDRESS + 4 * k)) (nat_le (TEXT_ADDRESS + 4 * k + 4) (TEXT_ADDRESS + l.text_size)) (is_code_at (map read_mark (text_marks o)) 1 (TEXT_ADDRESS + 4 * k)) t u
+    ∙ marks_say o k h in
     ap (λ a. cond (code.is_code_word file a) (Some (a, loaded_word file a)) None) at
     ∙ (λ i. cond (is_code i) (Some (TEXT_ADDRESS + 4 * k, loaded-is file l o.text_bytes.items o.data_bytes.items (text_marks o) is (4 * k) (omega arith) i)) None)
 

@@ -1,5 +1,5 @@
 -- The mark that governs a word is its own, or that of the word before.
-use Rattle.std.proofs.Common.{◌≡◌, ℕ, zero, suc, ◌+◌, ◌*◌, ◌-◌, ◌/◌, ◌<◌, ◌≤◌, ◌⊎◌, inl, inr, Bool, true, false, cond, List, [], ◌∷◌, ◌++◌, length, get_or, Option, Some, None, IfSome, refl, ap, sym, ◌∙◌, arith, add-one, length-append}
+use Rattle.std.proofs.Common.{◌≡◌, ℕ, zero, suc, ◌/◌, ◌<◌, ◌≤◌, ◌⊎◌, inl, inr, Bool, true, false, cond, List, [], ◌∷◌, length, get_or, Option, Some, None, refl, ap, sym, ◌∙◌, arith, add-one, length-append}
 use Rattle.std.specs.Prelude.{◌==◌, ◌&&◌, nat_le}
 use Rattle.std.proofs.lemmas.Bool.Decides.{nat_tests}
 use Rattle.paged_memory.specs.Memory.{or_else}
@@ -8,7 +8,7 @@ use Rattle.sm_types.specs.Objects.{Mapping, mappings_of, later_mapping, governin
 use Rattle.elf_headers.specs.Below.{answers, answers_below}
 use Rattle.elf_headers.proofs.Below.{answers_below-zero, answers_below-next, answers_below-same}
 use Rattle.elf_writer.specs.declared.marks.TextMark.{TextMark}
-use Rattle.elf_writer.specs.TextMarks.{mapping, mapping_if, newer, word_from, word_address, kept_at, says_word, slots_say, said_before, begins, mark_at, is_code_word, text_marks, AreSlots}
+use Rattle.elf_writer.specs.TextMarks.{mapping_if, newer, word_from, word_address, kept_at, says_word, slots_say, begins, mark_at, is_code_word, text_marks, AreSlots}
 
 -- a mark's address is past a, or is not
 abbrev IsPast : ℕ → Option Mapping → Type 0
@@ -39,9 +39,9 @@ step_here a b None None m p h k = let u : nat_le m.address b ≡ true = at_most 
 step_here a b None (Some y) m p h k = let t : nat_le y.address m.address ≡ true = at_most y.address m.address (omega arith) in let u : nat_le m.address b ≡ true = at_most m.address b k in rw (t, u) refl
 step_here a b (Some x) g m p h k = let u : nat_le m.address b ≡ true = at_most m.address b k in rw u (pick (nat_le x.address m.address) m x)
   where
-  pick : (t : Bool) (m x : Mapping) → cond t (Some m) (Some x) ≡ Some (cond t m x)
-  pick true m x = refl
-  pick false m x = refl
+    pick : (t : Bool) (m x : Mapping) → cond t (Some m) (Some x) ≡ Some (cond t m x)
+    pick true m x = refl
+    pick false m x = refl
 
 step_far : (b : ℕ) (o : Option Mapping) (m : Mapping) → b < m.address → later_mapping b o m ≡ o
 step_far b None m h = let u : nat_le m.address b ≡ false = above m.address b h in rw u refl
@@ -66,15 +66,15 @@ past_more a b here s m p (inr (inr (far, e))) = rw e p
 under_more : (a : ℕ) (g : Option Mapping) (m : Mapping) → IsUnder a g → IsUnder a (later_mapping a g m)
 under_more a None m u = either_under a (nat_le m.address a) None m refl tt
   where
-  either_under : (a : ℕ) (t : Bool) (g : Option Mapping) (m : Mapping) → nat_le m.address a ≡ t → IsUnder a g → IsUnder a (cond t (Some m) g)
-  either_under a true g m e u = grind (arith, nat_tests)
-  either_under a false g m e u = u
+    either_under : (a : ℕ) (t : Bool) (g : Option Mapping) (m : Mapping) → nat_le m.address a ≡ t → IsUnder a g → IsUnder a (cond t (Some m) g)
+    either_under a true g m e u = grind (arith, nat_tests)
+    either_under a false g m e u = u
 under_more a (Some x) m u = both_under a (nat_le m.address a) (nat_le x.address m.address) x m refl u
   where
-  both_under : (a : ℕ) (t k : Bool) (x m : Mapping) → nat_le m.address a ≡ t → x.address ≤ a → IsUnder a (cond (t && k) (Some m) (Some x))
-  both_under a true true x m e u = grind (arith, nat_tests)
-  both_under a true false x m e u = u
-  both_under a false k x m e u = u
+    both_under : (a : ℕ) (t k : Bool) (x m : Mapping) → nat_le m.address a ≡ t → x.address ≤ a → IsUnder a (cond (t && k) (Some m) (Some x))
+    both_under a true true x m e u = grind (arith, nat_tests)
+    both_under a true false x m e u = u
+    both_under a false k x m e u = u
 
 -- the words' addresses, and the first word for an address
 low_or_past : (x a : ℕ) → (x ≤ a) ⊎ (a < x)
@@ -88,10 +88,12 @@ not_eq x y h = grind (arith, nat_tests)
 
 stands : (n x : ℕ) → Stands (word_address n) (word_address (suc n)) (word_from x == suc n) x
 stands n x = elim (low_or_past x (word_address n)) [
-  inl low ↦ inl (low, not_eq (word_from x) (suc n) (λ e. omega arith))
+  | inl low ↦ inl (low, not_eq (word_from x) (suc n) (λ e. omega arith))
   | inr past ↦ elim (low_or_past x (word_address (suc n))) [
-    inl upto ↦ inr (inl (past, upto, eq_of (word_from x) (suc n) (omega arith)))
-    | inr far ↦ inr (inr (far, not_eq (word_from x) (suc n) (λ e. omega arith))) ] ]
+    | inl upto ↦ inr (inl (past, upto, eq_of (word_from x) (suc n) (omega arith)))
+    | inr far ↦ inr (inr (far, not_eq (word_from x) (suc n) (λ e. omega arith)))
+  ]
+]
 
 governing_more : (n : ℕ) (s g : Option Mapping) (ms : List Mapping) → IsPast (word_address n) s → IsUnder (word_address n) g
     → governing_mapping (word_address (suc n)) (or_else s g) ms ≡ or_else (kept_at (suc n) s ms) (governing_mapping (word_address n) g ms)
@@ -99,12 +101,13 @@ governing_more n s g [] p u = refl
 governing_more n s g (m ∷ ms) p u =
     ap (λ o. governing_mapping (word_address (suc n)) o ms) (step (word_address n) (word_address (suc n)) (word_from m.address == suc n) s g m (omega arith) p u (stands n m.address))
     ∙ governing_more n (cond (word_from m.address == suc n) (Some (newer s m)) s) (later_mapping (word_address n) g m) ms
-      (past_more (word_address n) (word_address (suc n)) (word_from m.address == suc n) s m p (stands n m.address)) (under_more (word_address n) g m u)
+    (past_more (word_address n) (word_address (suc n)) (word_from m.address == suc n) s m p (stands n m.address)) (under_more (word_address n) g m u)
 
 same_test : (x : ℕ) → nat_le x (word_address 0) ≡ (word_from x == 0)
 same_test x = elim (low_or_past x (word_address 0)) [
-  inl low ↦ at_most x (word_address 0) low ∙ sym (eq_of (word_from x) 0 (omega arith))
-  | inr past ↦ above x (word_address 0) past ∙ sym (not_eq (word_from x) 0 (λ e. omega arith)) ]
+  | inl low ↦ at_most x (word_address 0) low ∙ sym (eq_of (word_from x) 0 (omega arith))
+  | inr past ↦ above x (word_address 0) past ∙ sym (not_eq (word_from x) 0 (λ e. omega arith))
+]
 
 step_zero : (t : Bool) (b : ℕ) (g : Option Mapping) (m : Mapping) → nat_le m.address b ≡ t → later_mapping b g m ≡ cond t (Some (newer g m)) g
 step_zero t b None m e = rw e refl

@@ -1,8 +1,6 @@
 -- The headers of a file that was written, as a reader finds them.
-use Rattle.std.proofs.Common.{◌≡◌, ℕ, zero, suc, ◌+◌, ◌-◌, ◌*◌, ◌/◌, ◌%◌, ◌^◌, ◌<◌, ◌≤◌, ◌⊎◌, inl, inr, Bool, true, false, List, [], ◌∷◌, length, refl, ap, sym, ◌∙◌, arith}
+use Rattle.std.proofs.Common.{◌≡◌, ℕ, ◌+◌, ◌*◌, ◌%◌, ◌^◌, ◌<◌, Bool, true, false, List, refl, ap, ◌∙◌, arith}
 use Rattle.std.specs.Prelude.{◌==◌, cond}
-use Rattle.std.proofs.lemmas.Bool.Decides.{nat_tests}
-use Rattle.sm_types.specs.declared.object.TheConstants.{TEXT_ADDRESS}
 use Rattle.sm_types.specs.Objects.{data_address}
 use Rattle.elf_headers.specs.declared.header.ProgramHeader.{ProgramHeader}
 use Rattle.elf_headers.specs.Header.{number_at, header_type, header_machine, header_entry, segments_at, segment_size, segment_count}
@@ -11,7 +9,6 @@ use Rattle.elf_sections.specs.declared.section.SectionHeader.{SectionHeader}
 use Rattle.elf_sections.specs.Sections.{section_header, section_of, sections_at, section_size, section_count}
 use Rattle.elf_writer.specs.declared.layout.Layout.{Layout}
 use Rattle.elf_writer.specs.Layout.{all_fields, header_fields, segments_fields, segment_fields, part_sections_fields, table_sections_fields, section_fields, no_section, text_segment, data_segment, full_data_segment, text_section, data_section, symbols_section, strings_section, strings_place, names_place, data_place, symbols_place, load_count, IsSmall}
-use Rattle.elf_writer.proofs.Fields.{place, width, value}
 use Rattle.elf_writer.proofs.Reading.{Reads, data_place-near, symbols_place-near}
 
 low8 : (x : ℕ) → x < 2 ^ 64 → x % 256 ^ 8 ≡ x

@@ -1,27 +1,25 @@
 -- The headers of a file that was written pass all checks.
-use Rattle.std.proofs.Common.{◌≡◌, ℕ, zero, suc, ◌+◌, ◌-◌, ◌*◌, ◌/◌, ◌%◌, ◌^◌, ◌<◌, ◌≤◌, ◌⊎◌, inl, inr, Bool, true, false, List, [], ◌∷◌, length, Option, Some, None, refl, ap, sym, subst, ◌∙◌, arith}
-use Rattle.std.specs.Prelude.{◌==◌, ◌&&◌, ◌||◌, not, cond, nat_lt, nat_le}
+use Rattle.std.proofs.Common.{◌≡◌, ℕ, ◌+◌, ◌-◌, ◌*◌, ◌%◌, ◌^◌, ◌<◌, ◌≤◌, ◌⊎◌, inl, inr, Bool, true, false, List, [], ◌∷◌, length, Option, None, refl, ap, sym, subst, ◌∙◌, arith}
+use Rattle.std.specs.Prelude.{◌==◌, ◌&&◌, cond, nat_lt, nat_le}
 use Rattle.std.proofs.lemmas.Bool.Decides.{nat_tests}
 use Rattle.sm_types.specs.declared.object.TheConstants.{TEXT_ADDRESS}
 use Rattle.sm_types.specs.Objects.{data_address}
 use Rattle.paged_memory.specs.Memory.{or_else}
-use Rattle.paged_memory.specs.Image.{Extent}
 use Rattle.paged_memory.specs.Parts.{touched_below}
 use Rattle.elf_headers.specs.declared.fault.LoadFault.{LoadFault}
-use Rattle.elf_headers.specs.declared.fault.LoadFault.TheVariants.{Overlap, TooManyPages, EntryOutside}
 use Rattle.elf_headers.specs.declared.header.ProgramHeader.{ProgramHeader}
 use Rattle.elf_headers.specs.Below.{first_below, any_below}
-use Rattle.elf_headers.specs.Fault.{fault_when, fault_only, first_fault}
-use Rattle.elf_headers.specs.Header.{number_at, header_entry, segments_at, segment_count, length_fault, kind_fault, table_fault}
+use Rattle.elf_headers.specs.Fault.{fault_only}
+use Rattle.elf_headers.specs.Header.{header_entry, segment_count, length_fault, kind_fault, table_fault}
 use Rattle.elf_headers.specs.Segments.{segment_at, segment_of, is_dynamic, is_load, is_in_shared, load_fault_of, segment_fault, segments_fault}
-use Rattle.elf_headers.specs.Loads.{extents_of, share, has_executable, has_address, is_executable_at, overlap_at, overlap_fault, page_sum, pages_fault, entry_fault, headers_fault}
+use Rattle.elf_headers.specs.Loads.{extents_of, share, has_executable, is_executable_at, overlap_at, overlap_fault, page_sum, pages_fault, entry_fault, headers_fault}
 use Rattle.elf_headers.proofs.Below.{first_below-all_none, any_below-found}
 use Rattle.elf_writer.specs.declared.layout.Layout.{Layout}
 use Rattle.elf_writer.specs.declared.marks.TextMark.{TextMark}
 use Rattle.elf_writer.specs.Layout.{text_segment, full_data_segment, data_place, symbols_place, load_count, IsSmall}
 use Rattle.elf_writer.proofs.Reading.{IsFile, Reads, reads, file-length, data_place-after, data_place-near, symbols_place-after, symbols_place-near}
 use Rattle.elf_writer.proofs.Headers.{magic-is, class-is, version-is, type-is, machine-is, entry-is, segments_at-is, segment_size-is, segment_count-is, segment_of-text, segment_of-data}
-use Rattle.elf_writer.proofs.Images.{images, text_image, data_image, extents_of-is, one_of_two, text-is_load, data-is_load, not_zero}
+use Rattle.elf_writer.proofs.Images.{images, text_image, data_image, extents_of-is, one_of_two, text-is_load}
 use Rattle.elf_writer.proofs.Touched.{touched-part, touched-two}
 
 -- the size of the file
@@ -115,9 +113,10 @@ segments_pass : (file : List ℕ) (l : Layout) → IsSmall l → Reads file l �
 unfolding segments_fault
 segments_pass file l m r s =
     first_below-all_none (segment_fault file) (segment_count file) (λ i h.
-      elim (one_of_two (l.data_size == 0) i (subst (λ n. i < n) (segment_count-is file l r) h)) [
-        inl e ↦ ap (segment_fault file) e ∙ text_passes file l m r s
-        | inr p ↦ ap (segment_fault file) p.0 ∙ data_passes file l m r s p.1 ])
+    elim (one_of_two (l.data_size == 0) i (subst (λ n. i < n) (segment_count-is file l r) h)) [
+      | inl e ↦ ap (segment_fault file) e ∙ text_passes file l m r s
+      | inr p ↦ ap (segment_fault file) p.0 ∙ data_passes file l m r s p.1
+    ])
 
 -- ---- the program headers together
 
@@ -149,7 +148,7 @@ unfolding overlap_fault
 overlap_passes file l m r =
     let below : (i : ℕ) → i < segment_count file → (i ≡ 0) ⊎ ((i ≡ 1) × ((l.data_size == 0) ≡ false)) = λ i h. one_of_two (l.data_size == 0) i (subst (λ n. i < n) (segment_count-is file l r) h) in
     first_below-all_none (λ i. first_below (overlap_at file i) (segment_count file)) (segment_count file) (λ i h.
-      first_below-all_none (overlap_at file i) (segment_count file) (λ j k. overlap_pair file l i j m r (below i h) (below j k)))
+    first_below-all_none (overlap_at file i) (segment_count file) (λ j k. overlap_pair file l i j m r (below i h) (below j k)))
 
 -- ---- their pages
 
@@ -184,14 +183,14 @@ entry_passes file l text bytes marks is some =
     let e : header_entry file ≡ l.entry = entry-is file l is.small r in
     let word : (header_entry file % 4 == 0) ≡ true = entry_word (header_entry file) (ap (λ x. x % 4) e ∙ is.aligned) in
     let here : is_executable_at file (header_entry file) 0 ≡ true =
-      (λ k. is_load (segment_of-text file l is.small r k) && has_executable (segment_of-text file l is.small r k) (e k)) ∙ text_executable l l.entry is.from is.before some in
+    (λ k. is_load (segment_of-text file l is.small r k) && has_executable (segment_of-text file l is.small r k) (e k)) ∙ text_executable l l.entry is.from is.before some in
     let count : 0 < segment_count file = subst (λ n. 0 < n) (sym (segment_count-is file l r)) (one_at_least (l.data_size == 0)) in
     let found : any_below (is_executable_at file (header_entry file)) (segment_count file) ≡ true = any_below-found (is_executable_at file (header_entry file)) 0 (segment_count file) here count in
     rw (word, found) refl
   where
-  one_at_least : (b : Bool) → 0 < cond b 1 2
-  one_at_least true = omega arith
-  one_at_least false = omega arith
+    one_at_least : (b : Bool) → 0 < cond b 1 2
+    one_at_least true = omega arith
+    one_at_least false = omega arith
 
 -- ---- all
 

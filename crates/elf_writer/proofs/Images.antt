@@ -1,18 +1,17 @@
 -- The loads of a file that was written are the object's parts.
-use Rattle.std.proofs.Common.{◌≡◌, ℕ, zero, suc, ◌+◌, ◌-◌, ◌*◌, ◌/◌, ◌%◌, ◌<◌, ◌≤◌, ◌⊎◌, inl, inr, Bool, true, false, List, [], ◌∷◌, ◌++◌, length, take, drop, map, Option, Some, None, refl, ap, sym, ◌∙◌, arith}
-use Rattle.std.specs.Prelude.{◌==◌, ◌&&◌, not, cond}
+use Rattle.std.proofs.Common.{◌≡◌, ℕ, ◌<◌, ◌⊎◌, inl, Bool, true, false, List, [], ◌∷◌, length, map, Option, Some, None, refl, ap, sym, ◌∙◌, arith}
+use Rattle.std.specs.Prelude.{◌==◌, cond}
 use Rattle.std.proofs.lemmas.Bool.Decides.{nat_tests}
 use Rattle.sm_types.specs.declared.object.TheConstants.{TEXT_ADDRESS}
 use Rattle.sm_types.specs.Objects.{data_address}
 use Rattle.paged_memory.specs.Image.{Extent}
 use Rattle.elf_headers.specs.declared.header.ProgramHeader.{ProgramHeader}
-use Rattle.elf_headers.specs.Below.{answers, answers_below}
-use Rattle.elf_headers.specs.Header.{segment_count}
-use Rattle.elf_headers.specs.Segments.{segment_of, is_load, is_dynamic}
+use Rattle.elf_headers.specs.Below.{answers_below}
+use Rattle.elf_headers.specs.Segments.{segment_of, is_load}
 use Rattle.elf_headers.specs.Loads.{load_of, loads_of, extent_of_load, extents_of}
 use Rattle.elf_writer.specs.declared.layout.Layout.{Layout}
 use Rattle.elf_writer.specs.declared.marks.TextMark.{TextMark}
-use Rattle.elf_writer.specs.Layout.{text_segment, full_data_segment, data_place, load_count, IsSmall}
+use Rattle.elf_writer.specs.Layout.{text_segment, full_data_segment, IsSmall}
 use Rattle.elf_writer.proofs.Reading.{IsFile, Reads, reads, text-bytes, data-bytes}
 use Rattle.elf_writer.proofs.Headers.{segment_count-is, segment_of-text, segment_of-data}
 

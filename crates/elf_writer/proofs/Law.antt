@@ -1,8 +1,7 @@
 -- What a reader finds in the file of an object.
-use Rattle.std.proofs.Common.{◌≡◌, ℕ, suc, ◌+◌, ◌*◌, ◌/◌, ◌%◌, ◌<◌, ◌≤◌, List, length, None, Option, refl, ap, ◌∙◌, arith}
+use Rattle.std.proofs.Common.{◌≡◌, ◌≤◌, length, None, refl, arith}
 use Rattle.sm_types.specs.declared.object.Object.{Object}
 use Rattle.sm_types.specs.Objects.{object_code, IsStartable}
-use Rattle.paged_memory.specs.Image.{Extent}
 use Rattle.elf_headers.specs.Header.{header_entry}
 use Rattle.elf_headers.specs.Loads.{extents_of, headers_fault}
 use Rattle.elf_sections.specs.Sections.{sections_fault}

@@ -1,14 +1,13 @@
 -- What stands at which place of a file that was written.
-use Rattle.std.proofs.Common.{◌≡◌, ℕ, zero, suc, ◌+◌, ◌-◌, ◌*◌, ◌/◌, ◌%◌, ◌^◌, ◌<◌, ◌≤◌, List, [], ◌∷◌, ◌++◌, length, take, drop, replicate, All, refl, ap, sym, subst, ◌∙◌, arith, append_assoc, length-append}
+use Rattle.std.proofs.Common.{◌≡◌, ℕ, zero, suc, ◌+◌, ◌-◌, ◌*◌, ◌%◌, ◌^◌, ◌<◌, ◌≤◌, List, [], ◌∷◌, ◌++◌, length, take, drop, replicate, All, refl, ap, sym, ◌∙◌, arith, append_assoc, length-append}
 use Rattle.sm_types.specs.declared.object.TheConstants.{TEXT_ADDRESS}
-use Rattle.sm_types.specs.Objects.{data_address}
 use Rattle.byteorder.specs.Endian.{little_bytes}
 use Rattle.byteorder.specs.Numbers.{length-bytes_low_first}
 use Rattle.elf_headers.specs.Header.{number_at}
 use Rattle.elf_writer.specs.declared.layout.Layout.{Layout}
 use Rattle.elf_writer.specs.declared.marks.TextMark.{TextMark}
 use Rattle.elf_writer.specs.declared.file.TheConstants.{STRINGS, SECTION_NAMES}
-use Rattle.elf_writer.specs.Layout.{fields_bytes, all_fields, header_fields, segments_fields, segment_fields, part_sections_fields, table_sections_fields, section_fields, text_segment, data_segment, text_section, data_section, symbols_section, strings_section, data_place, symbols_place, text_place, IsSmall}
+use Rattle.elf_writer.specs.Layout.{fields_bytes, all_fields, header_fields, segments_fields, segment_fields, part_sections_fields, table_sections_fields, section_fields, data_place, symbols_place, IsSmall}
 use Rattle.elf_writer.specs.File.{symbol_fields, marks_bytes, symbols_bytes, front_bytes, text_part, data_part, file_bytes}
 use Rattle.elf_writer.proofs.Fields.{drop-past, number_at-past, place, width, value, read_field}
 
@@ -80,14 +79,14 @@ length-text_part : (l : Layout) (text : List ℕ) → length text ≡ l.text_siz
 unfolding text_part
 length-text_part l text e =
     let n : length (text ++ replicate (data_place l - (4096 + l.text_size)) 0) ≡ length text + (data_place l - (4096 + l.text_size)) =
-      length-append text (replicate (data_place l - (4096 + l.text_size)) 0) ∙ ap (λ k. length text + k) (length-zeros (data_place l - (4096 + l.text_size))) in
+    length-append text (replicate (data_place l - (4096 + l.text_size)) 0) ∙ ap (λ k. length text + k) (length-zeros (data_place l - (4096 + l.text_size))) in
     omega (arith, n, data_place-after l)
 
 length-data_part : (l : Layout) (bytes : List ℕ) → length bytes ≡ l.data_size → data_place l + length (data_part l bytes) ≡ symbols_place l
 unfolding data_part
 length-data_part l bytes e =
     let n : length (bytes ++ replicate (symbols_place l - (data_place l + l.data_size)) 0) ≡ length bytes + (symbols_place l - (data_place l + l.data_size)) =
-      length-append bytes (replicate (symbols_place l - (data_place l + l.data_size)) 0) ∙ ap (λ k. length bytes + k) (length-zeros (symbols_place l - (data_place l + l.data_size))) in
+    length-append bytes (replicate (symbols_place l - (data_place l + l.data_size)) 0) ∙ ap (λ k. length bytes + k) (length-zeros (symbols_place l - (data_place l + l.data_size))) in
     omega (arith, n, symbols_place-after l)
 
 -- ---- parts
@@ -98,17 +97,17 @@ drop-all xs ys n e = let k : n ≡ length xs + 0 = omega arith in rw k (drop-pas
 take-front : (xs ys : List ℕ) (n : ℕ) → length xs ≡ n → take n (xs ++ ys) ≡ xs
 take-front xs ys n e = rw (← e) (taken xs ys)
   where
-  taken : (xs ys : List ℕ) → take (length xs) (xs ++ ys) ≡ xs
-  taken [] ys = refl
-  taken (x ∷ xs) ys = ap (λ zs. x ∷ zs) (taken xs ys)
+    taken : (xs ys : List ℕ) → take (length xs) (xs ++ ys) ≡ xs
+    taken [] ys = refl
+    taken (x ∷ xs) ys = ap (λ zs. x ∷ zs) (taken xs ys)
 
 pub drop-more : (k : ℕ) (xs : List ℕ) (j : ℕ) → drop (j + k) xs ≡ drop k (drop j xs)
 drop-more k xs zero = let e : 0 + k ≡ k = omega arith in rw e refl
 drop-more k [] (suc j) = nothing (suc j + k) ∙ sym (nothing k)
   where
-  nothing : (n : ℕ) → drop {A = ℕ} n [] ≡ []
-  nothing zero = refl
-  nothing (suc n) = refl
+    nothing : (n : ℕ) → drop {A = ℕ} n [] ≡ []
+    nothing zero = refl
+    nothing (suc n) = refl
 drop-more k (x ∷ xs) (suc j) = let e : suc j + k ≡ suc (j + k) = omega arith in rw e (drop-more k xs j)
 
 pub file-length : (file : List ℕ) (l : Layout) (text bytes : List ℕ) (marks : List TextMark) → IsFile file l text bytes marks → length file ≡ symbols_place l + 24 * l.symbol_count
@@ -116,9 +115,9 @@ unfolding file_bytes
 file-length file l text bytes marks is =
     ap length is.whole ∙ length-append (front_bytes l) (text_part l text ++ (data_part l bytes ++ symbols_bytes marks))
     ∙ (let a : length (text_part l text ++ (data_part l bytes ++ symbols_bytes marks)) ≡ length (text_part l text) + length (data_part l bytes ++ symbols_bytes marks) = length-append (text_part l text) (data_part l bytes ++ symbols_bytes marks) in
-      let b : length (data_part l bytes ++ symbols_bytes marks) ≡ length (data_part l bytes) + length (symbols_bytes marks) = length-append (data_part l bytes) (symbols_bytes marks) in
-      let s : 24 * l.symbol_count ≡ 24 * suc (length marks) = ap (λ n. 24 * n) is.count in
-      omega (arith, a, b, s, length-front l, length-text_part l text is.text_size, length-data_part l bytes is.data_size, length-symbols marks))
+    let b : length (data_part l bytes ++ symbols_bytes marks) ≡ length (data_part l bytes) + length (symbols_bytes marks) = length-append (data_part l bytes) (symbols_bytes marks) in
+    let s : 24 * l.symbol_count ≡ 24 * suc (length marks) = ap (λ n. 24 * n) is.count in
+    omega (arith, a, b, s, length-front l, length-text_part l text is.text_size, length-data_part l bytes is.data_size, length-symbols marks))
 
 past-front : (file : List ℕ) (l : Layout) (text bytes : List ℕ) (marks : List TextMark) → IsFile file l text bytes marks → drop 4096 file ≡ text_part l text ++ (data_part l bytes ++ symbols_bytes marks)
 unfolding file_bytes
@@ -161,8 +160,9 @@ reads file l text bytes marks is k =
 -- the names of symbols, and whatever follows them
 pub names : (file : List ℕ) (l : Layout) (text bytes : List ℕ) (marks : List TextMark) → IsFile file l text bytes marks → (rest : List ℕ) × ((k : ℕ) → number_at file (560 + k) 1 ≡ number_at (STRINGS.now ++ rest) k 1)
 unfolding file_bytes front_bytes
-names file l text bytes marks is =
-    ((0 ∷ (SECTION_NAMES.now ++ replicate 3489 0)) ++ (text_part l text ++ (data_part l bytes ++ symbols_bytes marks)),
-    λ k. ap (λ f. number_at f (560 + k) 1) (is.whole ∙ append_assoc (fields_bytes (all_fields l)) (STRINGS.now ++ (0 ∷ (SECTION_NAMES.now ++ replicate 3489 0))) (text_part l text ++ (data_part l bytes ++ symbols_bytes marks)))
+names file l text bytes marks is = (
+  (0 ∷ (SECTION_NAMES.now ++ replicate 3489 0)) ++ (text_part l text ++ (data_part l bytes ++ symbols_bytes marks)),
+  λ k. ap (λ f. number_at f (560 + k) 1) (is.whole ∙ append_assoc (fields_bytes (all_fields l)) (STRINGS.now ++ (0 ∷ (SECTION_NAMES.now ++ replicate 3489 0))) (text_part l text ++ (data_part l bytes ++ symbols_bytes marks)))
       ∙ ap (λ n. number_at (fields_bytes (all_fields l) ++ (STRINGS.now ++ ((0 ∷ (SECTION_NAMES.now ++ replicate 3489 0)) ++ (text_part l text ++ (data_part l bytes ++ symbols_bytes marks))))) (n + k) 1) (sym (length-headers l))
-      ∙ number_at-past (fields_bytes (all_fields l)) (STRINGS.now ++ ((0 ∷ (SECTION_NAMES.now ++ replicate 3489 0)) ++ (text_part l text ++ (data_part l bytes ++ symbols_bytes marks)))) k 1)
+      ∙ number_at-past (fields_bytes (all_fields l)) (STRINGS.now ++ ((0 ∷ (SECTION_NAMES.now ++ replicate 3489 0)) ++ (text_part l text ++ (data_part l bytes ++ symbols_bytes marks)))) k 1,
+)

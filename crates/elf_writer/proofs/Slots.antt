@@ -1,13 +1,9 @@
 -- The mark that each word is the first for.
-use Rattle.std.proofs.Common.{◌≡◌, ℕ, zero, suc, ◌+◌, ◌*◌, ◌-◌, ◌/◌, ◌<◌, ◌≤◌, ◌⊎◌, inl, inr, Bool, true, false, cond, List, [], ◌∷◌, length, get_or, drop, Option, Some, None, refl, ap, sym, ◌∙◌, arith, add-one, drop-cons}
-use Rattle.std.specs.Prelude.{◌==◌, ◌&&◌, nat_le}
-use Rattle.std.proofs.lemmas.Bool.Decides.{nat_tests}
-use Rattle.paged_memory.specs.Memory.{or_else}
-use Rattle.sm_types.specs.declared.object.TheConstants.{TEXT_ADDRESS}
+use Rattle.std.proofs.Common.{◌≡◌, ℕ, zero, suc, ◌+◌, ◌<◌, List, [], ◌∷◌, length, get_or, drop, Option, Some, None, refl, ap, sym, ◌∙◌, arith, add-one, drop-cons}
 use Rattle.sm_types.specs.declared.object.Symbol.{Symbol}
-use Rattle.sm_types.specs.Objects.{Mapping, mapping_of, mappings_of, later_mapping, governing_mapping, mapping_says_code, is_text_code}
+use Rattle.sm_types.specs.Objects.{Mapping, mapping_of, mappings_of}
 use Rattle.elf_writer.specs.declared.marks.TextMark.{TextMark}
-use Rattle.elf_writer.specs.TextMarks.{mapping, mapping_if, newer, word_from, word_address, kept_at, says_word, slots_say, said_before, AreSlots, KeepsMark, KeepsSymbol}
+use Rattle.elf_writer.specs.TextMarks.{mapping_if, kept_at, says_word, slots_say, said_before, AreSlots, KeepsMark, KeepsSymbol}
 
 -- ---- a symbol more
 

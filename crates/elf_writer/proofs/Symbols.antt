@@ -1,20 +1,20 @@
 -- The symbols of a file that was written are the marks.
-use Rattle.std.proofs.Common.{◌≡◌, ℕ, zero, suc, ◌+◌, ◌-◌, ◌*◌, ◌/◌, ◌%◌, ◌^◌, ◌<◌, ◌≤◌, Bool, true, false, List, [], ◌∷◌, ◌++◌, length, get_or, take, drop, map, replicate, All, Option, Some, None, refl, ap, sym, ◌∙◌, arith, append_assoc}
-use Rattle.std.specs.Prelude.{◌==◌, ◌&&◌, ◌||◌, cond, nat_le, if◌then◌else◌}
+use Rattle.std.proofs.Common.{◌≡◌, ℕ, zero, suc, ◌+◌, ◌*◌, ◌/◌, ◌%◌, ◌^◌, ◌<◌, Bool, true, false, List, [], ◌∷◌, ◌++◌, length, get_or, drop, map, replicate, Option, Some, None, refl, ap, ◌∙◌, arith, append_assoc}
+use Rattle.std.specs.Prelude.{cond, if◌then◌else◌}
 use Rattle.byteorder.specs.Endian.{little_number}
 use Rattle.elf_headers.specs.Below.{answers, answers_below}
 use Rattle.elf_headers.specs.Header.{number_at}
-use Rattle.elf_headers.proofs.Below.{answers_below-zero, answers_below-next, answers_below-same}
+use Rattle.elf_headers.proofs.Below.{answers_below-zero}
 use Rattle.elf_sections.specs.declared.section.SectionHeader.{SectionHeader}
 use Rattle.elf_sections.specs.declared.marks.Mark.{Mark}
-use Rattle.elf_sections.specs.Sections.{section_of, section_count, symbol_at, symbol_count, strings_of, is_symbol_table}
+use Rattle.elf_sections.specs.Sections.{section_of, is_symbol_table}
 use Rattle.elf_sections.specs.Marks.{is_mapping_name, mark_at, table_marks, marks_below, marks_of}
 use Rattle.elf_writer.specs.declared.layout.Layout.{Layout}
 use Rattle.elf_writer.specs.declared.marks.TextMark.{TextMark}
 use Rattle.elf_writer.specs.declared.file.TheConstants.{STRINGS}
-use Rattle.elf_writer.specs.Layout.{fields_bytes, no_section, text_section, data_section, symbols_section, strings_section, strings_place, names_place, symbols_place}
+use Rattle.elf_writer.specs.Layout.{fields_bytes, text_section, data_section, symbols_section, strings_section, symbols_place}
 use Rattle.elf_writer.specs.File.{symbol_fields, marks_bytes, symbols_bytes}
-use Rattle.elf_writer.proofs.Fields.{drop-past, place, width, value, read_field}
+use Rattle.elf_writer.proofs.Fields.{drop-past, place, value, read_field}
 use Rattle.elf_writer.proofs.Reading.{IsFile, Reads, reads, names, past-data, drop-more}
 use Rattle.elf_writer.proofs.Headers.{section_count-is, section_of-0, section_of-text, section_of-data, section_of-symbols, section_of-strings, section_of-names}
 
@@ -153,9 +153,9 @@ front : {A : Type 0} (f : ℕ → Option A) (n : ℕ) → answers_below f (suc n
 unfolding answers_below
 front f zero = nil_end (answers (f 0))
   where
-  nil_end : {A : Type 0} (xs : List A) → xs ≡ xs ++ []
-  nil_end [] = refl
-  nil_end (x ∷ xs) = ap (λ ys. x ∷ ys) (nil_end xs)
+    nil_end : {A : Type 0} (xs : List A) → xs ≡ xs ++ []
+    nil_end [] = refl
+    nil_end (x ∷ xs) = ap (λ ys. x ∷ ys) (nil_end xs)
 front f (suc n) = ap (λ xs. xs ++ answers (f (suc n))) (front f n) ∙ append_assoc (answers (f 0)) (answers_below (λ k. f (suc k)) n) (answers (f (suc n)))
 
 listed : {A B : Type 0} (f : ℕ → Option B) (g : A → B) (xs : List A) → ((k : ℕ) (d : A) → k < length xs → f k ≡ Some (g (get_or xs k d))) → answers_below f (length xs) ≡ map g xs
@@ -181,9 +181,9 @@ marks_six : (file : List ℕ) (s : SectionHeader) → is_symbol_table (section_o
 unfolding marks_below
 marks_six file s a b c d t e f = rw (a, b, c, d, t, e, f) (no_more (table_marks file s))
   where
-  no_more : (xs : List Mark) → (xs ++ []) ++ [] ≡ xs
-  no_more [] = refl
-  no_more (x ∷ xs) = ap (λ ys. x ∷ ys) (no_more xs)
+    no_more : (xs : List Mark) → (xs ++ []) ++ [] ≡ xs
+    no_more [] = refl
+    no_more (x ∷ xs) = ap (λ ys. x ∷ ys) (no_more xs)
 
 pub marks_of-is : (file : List ℕ) (l : Layout) (text bytes : List ℕ) (marks : List TextMark) → IsFile file l text bytes marks → marks_of file ≡ map read_mark marks
 unfolding text_section data_section symbols_section strings_section
@@ -192,5 +192,5 @@ marks_of-is file l text bytes marks is =
     let kind : SectionHeader → Bool = λ s. is_symbol_table s in
     ap (marks_below file) (section_count-is file l r)
     ∙ marks_six file (symbols_section l) (ap kind (section_of-0 file l r)) (ap kind (section_of-text file l is.small r)) (ap kind (section_of-data file l is.small r)) (section_of-symbols file l is.small r) refl
-      (ap kind (section_of-strings file l r)) (ap kind (section_of-names file l r))
+    (ap kind (section_of-strings file l r)) (ap kind (section_of-names file l r))
     ∙ table_marks-is file l text bytes marks is

@@ -39,7 +39,7 @@ data_place l = page_after (text_place + l.text_size)
 unfoldable pub symbols_place : Layout → ℕ
 symbols_place l = (data_place l + l.data_size + 7) / 8 * 8
 
--- an object of at most 4 MiB of text and as much data, whose symbols are at most one for each word and two more
+-- at most 4 MiB of text and as much data; the symbols are at most one for each word of the text, and the null symbol
 pub record IsSmall (l : Layout) : Type 0 where
   pub text : l.text_size ≤ 4194304
   pub data_bytes : l.data_size ≤ 4194304
@@ -96,21 +96,21 @@ strings_section place size = record { kind = 3; flags = 0; address = 0; offset =
 unfoldable pub header_fields : Layout → List (ℕ × ℕ)
 header_fields l =
     (4, 0x464C457F) ∷ (2, 0x0102) ∷ (1, 1) ∷ (1, 0) ∷ (8, 0)
-  ∷ (2, 2) ∷ (2, 183) ∷ (4, 1) ∷ (8, l.entry) ∷ (8, 64) ∷ (8, sections_place) ∷ (4, 0)
-  ∷ (2, 64) ∷ (2, 56) ∷ (2, load_count l) ∷ (2, 64) ∷ (2, 6) ∷ (2, 5)
-  ∷ []
+    ∷ (2, 2) ∷ (2, 183) ∷ (4, 1) ∷ (8, l.entry) ∷ (8, 64) ∷ (8, sections_place) ∷ (4, 0)
+    ∷ (2, 64) ∷ (2, 56) ∷ (2, load_count l) ∷ (2, 64) ∷ (2, 6) ∷ (2, 5)
+    ∷ []
 
 -- p_type, p_flags, p_offset, p_vaddr, p_paddr, p_filesz, p_memsz, p_align
 unfoldable pub segment_fields : ProgramHeader → List (ℕ × ℕ)
 segment_fields s =
     (4, s.kind) ∷ (4, s.flags) ∷ (8, s.offset) ∷ (8, s.address) ∷ (8, s.address) ∷ (8, s.file_size) ∷ (8, s.memory_size) ∷ (8, segment_align s)
-  ∷ []
+    ∷ []
 
 -- sh_name, sh_type, sh_flags, sh_addr, sh_offset, sh_size, sh_link, sh_info, sh_addralign, sh_entsize
 unfoldable pub section_fields : ℕ → SectionHeader → ℕ → ℕ → List (ℕ × ℕ)
 section_fields name s info align =
     (4, name) ∷ (4, s.kind) ∷ (8, s.flags) ∷ (8, s.address) ∷ (8, s.offset) ∷ (8, s.size) ∷ (4, s.link) ∷ (4, info) ∷ (8, align) ∷ (8, s.entry_size)
-  ∷ []
+    ∷ []
 
 -- the program headers
 unfoldable pub segments_fields : Layout → List (ℕ × ℕ)

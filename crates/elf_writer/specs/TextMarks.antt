@@ -1,6 +1,6 @@
 -- The mapping symbols that are written of an object's text: as few as say which of its words are code.
 -- Source: ELF for the Arm 64-bit Architecture (AArch64), mapping symbols `$x` and `$d`.
-use Rattle.std.specs.Prelude.{◌≡◌, ℕ, zero, suc, ◌+◌, ◌*◌, ◌-◌, ◌/◌, ◌<◌, Bool, true, false, cond, not, List, [], ◌∷◌, length, get_or, Option, Some, None, ◌==◌, nat_le}
+use Rattle.std.specs.Prelude.{◌≡◌, ℕ, zero, suc, ◌+◌, ◌*◌, ◌-◌, ◌/◌, ◌<◌, Bool, true, cond, not, List, [], ◌∷◌, length, get_or, Option, Some, None, ◌==◌, nat_le}
 use Rattle.sm_types.specs.declared.object.TheConstants.{TEXT_ADDRESS}
 use Rattle.sm_types.specs.declared.object.Object.{Object}
 use Rattle.sm_types.specs.declared.object.Symbol.{Symbol}
@@ -62,7 +62,6 @@ kept_at n best (m ∷ ms) = kept_at n (cond (word_from m.address == n) (Some (ne
 -- each word has the mark that it is the first for, of all mapping symbols but the rest
 abbrev pub AreSlots : List (Option TextMark) → List Mapping → List Mapping → Type 0
 AreSlots slots rest all = (n : ℕ) → n < length slots → kept_at n (mapping_if (get_or slots n None)) rest ≡ kept_at n None all
-
 
 -- the mark is kept at the first word that it is for, unless that has a newer one
 abbrev pub KeepsMark : List (Option TextMark) → List (Option TextMark) → Mapping → Type 0

@@ -7,8 +7,4 @@ mod file;
 mod layout;
 mod marks;
 
-
-
 pub use file::write_file;
-pub use layout::Layout;
-pub use marks::TextMark;

@@ -1,7 +1,6 @@
-use Rattle.std.proofs.Common.{◌≡◌, List, [], ◌∷◌, ◌++◌, Option, Some, None, refl, ap, sym, ◌∙◌}
+use Rattle.std.proofs.Common.{◌≡◌, List, [], ◌∷◌, ◌++◌, Option, Some, None, refl, ap, ◌∙◌}
 use Rattle.std.proofs.lemmas.List.Elements.{filter_map-append}
 use Rattle.sm_types.specs.declared.object.Symbol.{Symbol}
-use Rattle.sm_types.specs.declared.object.Section.{Section}
 use Rattle.sm_types.specs.Objects.{Mapping, mapping_at, mapping_of, mappings_of, name_says, says_in, symbol_says}
 use Rattle.elf_headers.specs.Below.{answers}
 use Rattle.elf_loader.proofs.tests.add_symbol.Goals as goal

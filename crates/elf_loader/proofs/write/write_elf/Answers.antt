@@ -1,5 +1,4 @@
-use Rattle.std.proofs.Common.{◌≡◌, None, ap, ◌∙◌, sym, subst, List, ℕ}
-use Rattle.paged_memory.specs.Image.{Program}
+use Rattle.std.proofs.Common.{ap, ◌∙◌, subst, List, ℕ}
 use Rattle.elf_loader.specs.Loading.{load_fault, Loads}
 use Rattle.elf_loader.proofs.Written.{accepted-written, image-written}
 use Rattle.elf_loader.proofs.write.write_elf.Goals as goal

@@ -1,4 +1,4 @@
-use Rattle.std.proofs.Common.{◌≡◌, ◌++◌, replicate, refl}
+use Rattle.std.proofs.Common.{replicate, refl}
 use Rattle.elf_writer.specs.File.{marks_bytes, symbols_bytes}
 use Rattle.elf_writer.proofs.Appending.{appended_last}
 use Rattle.elf_writer.proofs.file.put_symbols.Goals as goal

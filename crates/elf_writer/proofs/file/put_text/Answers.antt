@@ -1,5 +1,4 @@
-use Rattle.std.proofs.Common.{◌≡◌, ◌+◌, ◌-◌, ◌++◌, replicate, ap, sym, refl}
-use Rattle.elf_writer.specs.Layout.{data_place}
+use Rattle.std.proofs.Common.{◌+◌, ◌-◌, replicate, refl}
 use Rattle.elf_writer.specs.File.{text_part}
 use Rattle.elf_writer.proofs.Appending.{appended_last}
 use Rattle.elf_writer.proofs.file.put_text.Goals as goal

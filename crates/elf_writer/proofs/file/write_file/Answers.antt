@@ -1,4 +1,4 @@
-use Rattle.std.proofs.Common.{◌≡◌, ◌+◌, ◌++◌, ℕ, suc, List, [], length, ap, sym, ◌∙◌, refl, arith, vec_len}
+use Rattle.std.proofs.Common.{◌≡◌, ◌+◌, ℕ, suc, List, length, ap, ◌∙◌, arith}
 use Rattle.sm_types.specs.declared.object.Object.{Object}
 use Rattle.elf_writer.specs.declared.marks.TextMark.{TextMark}
 use Rattle.elf_writer.specs.TextMarks.{text_marks}

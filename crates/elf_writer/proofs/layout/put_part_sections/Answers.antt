@@ -1,4 +1,4 @@
-use Rattle.std.proofs.Common.{◌≡◌, ◌++◌, sym, ◌∙◌}
+use Rattle.std.proofs.Common.{◌++◌}
 use Rattle.elf_writer.specs.Layout.{fields_bytes, section_fields, part_sections_fields, text_section, data_section, no_section}
 use Rattle.elf_writer.proofs.Appending.{appended, appended_last, fields_three}
 use Rattle.elf_writer.proofs.layout.put_part_sections.Goals as goal

@@ -1,4 +1,3 @@
-use Rattle.std.proofs.Common.{◌≡◌, ◌++◌, sym, ◌∙◌}
 use Rattle.elf_writer.specs.Layout.{fields_bytes, segment_fields, segments_fields, text_segment, data_segment}
 use Rattle.elf_writer.proofs.Fields.{fields_bytes-append}
 use Rattle.elf_writer.proofs.Appending.{appended_last}

@@ -1,4 +1,4 @@
-use Rattle.std.proofs.Common.{◌≡◌, ◌++◌, sym, ◌∙◌}
+use Rattle.std.proofs.Common.{◌++◌}
 use Rattle.elf_writer.specs.Layout.{fields_bytes, section_fields, table_sections_fields, symbols_section, strings_section, strings_place, names_place}
 use Rattle.elf_writer.proofs.Appending.{appended, appended_last, fields_three}
 use Rattle.elf_writer.proofs.layout.put_table_sections.Goals as goal

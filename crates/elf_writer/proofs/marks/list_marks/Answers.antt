@@ -1,7 +1,6 @@
-use Rattle.std.proofs.Common.{◌≡◌, ◌+◌, Option, Some, None, suc, Bool, ℕ, get_or, sym, ◌∙◌, ap, refl, add-one, cond, ◌++◌}
-use Rattle.elf_headers.specs.Below.{answers, answers_below}
+use Rattle.std.proofs.Common.{◌≡◌, Option, Some, None, Bool, ℕ, get_or, sym, ◌∙◌, ap, refl, add-one, cond, ◌++◌}
+use Rattle.elf_headers.specs.Below.{answers}
 use Rattle.elf_headers.proofs.Below.{answers_below-zero, answers_below-next}
-use Rattle.elf_writer.specs.declared.marks.TextMark.{TextMark}
 use Rattle.elf_writer.specs.TextMarks.{slots_say, mark_at, says_word, said_before, begins, word_address}
 use Rattle.elf_writer.proofs.Slots.{slots_say-at}
 use Rattle.elf_writer.proofs.marks.list_marks.Goals as goal

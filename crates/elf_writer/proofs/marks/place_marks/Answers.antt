@@ -1,4 +1,4 @@
-use Rattle.std.proofs.Common.{◌≡◌, length, sym, ◌∙◌, ap, arith}
+use Rattle.std.proofs.Common.{◌∙◌, arith}
 use Rattle.sm_types.specs.Objects.{mappings_of}
 use Rattle.elf_writer.proofs.Slots.{slots_more, slots_all}
 use Rattle.elf_writer.proofs.marks.place_marks.Goals as goal
