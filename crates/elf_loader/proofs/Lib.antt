@@ -1,3 +1,4 @@
 mod FirstUnlisted
 mod Extents
 pub mod Checks
+pub mod Written

@@ -1,6 +1,6 @@
 -- The image of an object, and when an object is written as a file.
 -- Source: ELF-64 Object File Format, PT_LOAD with p_flags (PF_X 1, PF_W 2, PF_R 4); where the parts stand is this project's own.
-use Rattle.std.specs.Prelude.{◌≡◌, ◌≤◌, List, [], ◌∷◌, ℕ, length, cond, ◌==◌, None}
+use Rattle.std.specs.Prelude.{◌≡◌, ◌≤◌, List, [], ◌∷◌, length, cond, ◌==◌, None}
 use Rattle.sm_types.specs.declared.object.TheConstants.{TEXT_ADDRESS}
 use Rattle.sm_types.specs.declared.object.Object.{Object}
 use Rattle.sm_types.specs.Objects.{data_address, object_code, IsStartable}

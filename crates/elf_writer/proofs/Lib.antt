@@ -1,0 +1,14 @@
+pub mod Fields
+pub mod Appending
+pub mod Slots
+pub mod Governing
+pub mod Reading
+pub mod Headers
+pub mod Images
+pub mod Touched
+pub mod HeadersPass
+pub mod Symbols
+pub mod SectionsPass
+pub mod SaidCode
+pub mod CodeWords
+pub mod Law

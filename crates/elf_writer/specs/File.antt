@@ -1,0 +1,46 @@
+-- The file of an object.
+-- Source: ELF-64 Object File Format, Elf64_Sym; ELF for the Arm 64-bit Architecture (AArch64), mapping symbols; the places are this project's own.
+use Rattle.std.specs.Prelude.{ℕ, suc, ◌+◌, ◌-◌, cond, List, [], ◌∷◌, ◌++◌, length, replicate}
+use Rattle.sm_types.specs.declared.object.Object.{Object}
+use Rattle.elf_writer.specs.declared.layout.Layout.{Layout}
+use Rattle.elf_writer.specs.declared.file.TheConstants.{STRINGS, SECTION_NAMES}
+use Rattle.elf_writer.specs.declared.marks.TextMark.{TextMark}
+use Rattle.elf_writer.specs.TextMarks.{text_marks}
+use Rattle.elf_writer.specs.Layout.{all_fields, fields_bytes, data_place, symbols_place, text_place}
+
+-- a local symbol of section 1 without a type: `$x` stands at 1 in the string table, `$d` at 4
+unfoldable pub symbol_fields : TextMark → List (ℕ × ℕ)
+symbol_fields m = (4, cond m.code 1 4) ∷ (1, 0) ∷ (1, 0) ∷ (2, 1) ∷ (8, m.address) ∷ (8, 0) ∷ []
+
+-- the symbols of marks
+abbrev pub marks_bytes : List TextMark → List ℕ
+marks_bytes [] = []
+marks_bytes (m ∷ marks) = fields_bytes (symbol_fields m) ++ marks_bytes marks
+
+-- the symbol table: the null symbol, and those of the marks
+unfoldable pub symbols_bytes : List TextMark → List ℕ
+symbols_bytes marks = replicate 24 0 ++ marks_bytes marks
+
+-- the headers, the names of symbols and sections, and zeros up to the text
+unfoldable pub front_bytes : Layout → List ℕ
+front_bytes l = fields_bytes (all_fields l) ++ (STRINGS.now ++ (0 ∷ (SECTION_NAMES.now ++ replicate 3489 0)))
+
+-- the text, and zeros up to the data
+unfoldable pub text_part : Layout → List ℕ → List ℕ
+text_part l text = text ++ replicate (data_place l - (text_place + l.text_size)) 0
+
+-- the data, and zeros up to the symbols
+unfoldable pub data_part : Layout → List ℕ → List ℕ
+data_part l data_bytes = data_bytes ++ replicate (symbols_place l - (data_place l + l.data_size)) 0
+
+-- the parts of the file
+unfoldable pub file_bytes : Layout → List ℕ → List ℕ → List TextMark → List ℕ
+file_bytes l text data_bytes marks = front_bytes l ++ (text_part l text ++ (data_part l data_bytes ++ symbols_bytes marks))
+
+-- the sizes of an object's parts
+unfoldable pub layout_of : Object → List TextMark → Layout
+layout_of o marks = record { entry = o.entry; text_size = length o.text_bytes.items; data_size = length o.data_bytes.items; symbol_count = suc (length marks) }
+
+-- the file of an object
+unfoldable pub file_of : Object → List ℕ
+file_of o = file_bytes (layout_of o (text_marks o)) o.text_bytes.items o.data_bytes.items (text_marks o)

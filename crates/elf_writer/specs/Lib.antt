@@ -1,0 +1,3 @@
+pub mod TextMarks
+pub mod Layout
+pub mod File
