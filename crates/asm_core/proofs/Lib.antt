@@ -1,2 +1,4 @@
 pub mod LineEnds
+pub mod LineFaults
 pub mod Places
+pub mod SmallAligns

@@ -2,6 +2,7 @@
 #![tactic(auto)]
 
 mod aim;
+mod check;
 mod fault;
 mod labels;
 mod lines;

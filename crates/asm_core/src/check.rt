@@ -1,0 +1,70 @@
+//! The faults of a line by itself, after those before it.
+ghost use Rattle.std.specs.Prelude.{◌≡◌, List, Option, Some, None, Ok, IfOk, IfErr, option_map};
+ghost use Rattle.asm_parser.specs.Statements.{line_said, says_of};
+ghost use Rattle.asm_core.specs.Faults as faults;
+ghost use Rattle.asm_core.specs.Layout as layout;
+ghost use Rattle.asm_core.specs.Limits.{IsInLimits, HasSmallAlign};
+ghost use Rattle.asm_core.specs.Known.{Knows};
+
+use crate::fault::AsmFault;
+use crate::labels::Labels;
+use crate::place::{Place, here, place_after};
+use asm_parser::{Line, LineFault, Statement};
+
+/// The column of an instruction that stands at no multiple of 4.
+#[tactic(auto, unfolding(crate::specs::Faults::misplaced))]
+fn misplaced(statement: &Statement<'_>, at: u64) -> Option<u32>
+    ensures { result ≡ faults.misplaced (says_of statement.now) at }
+{
+    match statement {
+        Statement::Instruction { column, .. } => { if at % 4 == 0 { None } else { Some(*column) } }
+        Statement::Empty => None,
+        Statement::Text => None,
+        Statement::Data => None,
+        Statement::Quad(_) => None,
+        Statement::Word(_) => None,
+        Statement::Byte(_) => None,
+        Statement::Zero(_) => None,
+        Statement::Align(_) => None,
+        Statement::Global(_) => None,
+    }
+}
+
+/// Tells whether a label has the name of the line's.
+fn is_doubled(labels: &Labels<'_>, label: Option<&[u8]>) -> bool
+    ensures { (list : List layout.Label) → Knows labels.now list → result ≡ faults.is_doubled list (option_map (λ name. name.now) label.entry) }
+{
+    match label {
+        Some(name) => labels.find(name).is_some(),
+        None => false,
+    }
+}
+
+/// The place after line number `number`, or its fault.
+pub fn check_line(
+    number: u32,
+    place: &Place,
+    labels: &Labels<'_>,
+    line: &Line<'_>,
+) -> Result<Place, AsmFault>
+    requires limits { IsInLimits place.now }
+    requires align { HasSmallAlign (says_of line.now.statement) }
+    ensures ok { (list : List layout.Label) → Knows labels.now list → IfOk result (λ after. faults.line_fault number place.now list (Ok (line_said line.now)) ≡ None) }
+    ensures after { IfOk result (λ after. after ≡ layout.place_after place.now (says_of line.now.statement)) }
+    ensures limits { IfOk result IsInLimits }
+    ensures err { (list : List layout.Label) → Knows labels.now list → IfErr result (λ fault. faults.line_fault number place.now list (Ok (line_said line.now)) ≡ Some fault) }
+{
+    if let Some(column) = misplaced(&line.statement, here(place)) {
+        return Err(AsmFault::Line {
+            line: number,
+            fault: LineFault::BadOperand(column),
+        });
+    }
+    if is_doubled(labels, line.label) {
+        return Err(AsmFault::Doubled(number));
+    }
+    match place_after(place, &line.statement) {
+        Some(after) => Ok(after),
+        None => Err(AsmFault::TooLarge(number)),
+    }
+}
