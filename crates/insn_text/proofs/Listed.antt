@@ -1,5 +1,5 @@
 -- The shapes that the table lists for a word's top byte are those that it may be printed in.
-use Rattle.std.proofs.Common.{◌≡◌, ℕ, zero, suc, ◌+◌, ◌*◌, ◌/◌, ◌^◌, ◌<◌, Bool, true, false, not, ◌&&◌, ◌==◌, cond, List, [], ◌∷◌, ◌++◌, Option, Some, None, slice_get, bit_and, length, refl, sym, ap, ap₂, ◌∙◌, arith, lit≤, eqb-true, eq-eqb, append_assoc, length-append, add-one, ltb-true, nat_lt, subst}
+use Rattle.std.proofs.Common.{◌≡◌, ℕ, zero, suc, ◌*◌, ◌/◌, ◌^◌, ◌<◌, Bool, true, false, not, ◌&&◌, ◌==◌, cond, List, [], ◌∷◌, ◌++◌, Option, Some, None, slice_get, bit_and, length, refl, sym, ap, ap₂, ◌∙◌, arith, lit≤, eqb-true, eq-eqb, append_assoc, length-append, add-one, ltb-true, nat_lt, subst}
 use Rattle.std.specs.List.{find}
 use Rattle.std.specs.Option.{option_or}
 use Rattle.std.proofs.lemmas.Nat.{and_assoc, and_comm}
@@ -102,7 +102,7 @@ first-candidates word before (s ∷ after) lt =
     let all : before ++ (s ∷ after) ≡ (before ++ (s ∷ [])) ++ after = sym (append_assoc before (s ∷ []) after) in
     let longer : suc (length before) ≡ length (before ++ (s ∷ [])) = sym (length-append before (s ∷ []) ∙ add-one (length before)) in
     let rest : first_at word (before ++ (s ∷ after)) (candidates (word / 2 ^ 24) (suc (length before)) after) ≡ find (prints word) after =
-        ap₂ (λ (x : List Shape) (n : ℕ). first_at word x (candidates (word / 2 ^ 24) n after)) all longer ∙ first-candidates word (before ++ (s ∷ [])) after lt in
+    ap₂ (λ (x : List Shape) (n : ℕ). first_at word x (candidates (word / 2 ^ 24) n after)) all longer ∙ first-candidates word (before ++ (s ∷ [])) after lt in
     let more = candidates (word / 2 ^ 24) (suc (length before)) after in
     cond_both (may_begin (word / 2 ^ 24) s) (length before ∷ more) more (λ ps. first_at word (before ++ (s ∷ after)) ps ≡ cond (prints word s) (Some s) (find (prints word) after))
     (λ _. at_shape word _ _ s (get_after before after s) ∙ ap (cond (prints word s) (Some s)) rest)

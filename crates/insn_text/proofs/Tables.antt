@@ -1,5 +1,5 @@
 -- What holds of the tables' texts and operands.
-use Rattle.std.proofs.Common.{◌≡◌, ℕ, zero, suc, ◌<◌, Bool, true, false, ◌&&◌, nat_lt, ltb-true, List, [], ◌∷◌, Option, Some, None, slice_get, slice_index, get_or, take, drop, length, refl, sym, ap, ◌∙◌, lit<, arith}
+use Rattle.std.proofs.Common.{◌≡◌, ℕ, zero, suc, ◌<◌, Bool, true, false, ◌&&◌, nat_lt, ltb-true, List, [], ◌∷◌, Option, Some, None, slice_get, get_or, take, drop, length, refl, sym, ap, ◌∙◌, arith}
 use Rattle.std.specs.List.{list_all}
 use Rattle.std.specs.Str.{IsAscii}
 use Rattle.std.proofs.lemmas.Bool.{and_parts}
@@ -7,11 +7,10 @@ use Rattle.std.proofs.lemmas.Str.{IsAscii-take}
 use Rattle.std.proofs.lemmas.Str.Ascii.{IsAscii-nil}
 use Rattle.insn_text.specs.declared.item.Kind.{Kind}
 use Rattle.insn_text.specs.declared.item.Kind.TheVariants.{Mark}
-use Rattle.insn_text.specs.declared.item.Item.{Item}
 use Rattle.insn_text.specs.declared.item.Text.{Text}
 use Rattle.insn_text.specs.declared.words.TheConstants.{WORDS, NAMES}
 use Rattle.insn_text.specs.declared.operands.TheConstants.{ITEMS}
-use Rattle.insn_text.specs.Texts.{text_in, text_at, bits_of}
+use Rattle.insn_text.specs.Texts.{text_in, text_at}
 use Rattle.insn_text.specs.Places.{has_ascii_mark, is_sized}
 
 pub all_take : {X : Type 0} (p : X → Bool) (n : ℕ) (xs : List X) → list_all p xs ≡ true → list_all p (take n xs) ≡ true

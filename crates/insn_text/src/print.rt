@@ -3,18 +3,19 @@ ghost use Rattle.std.specs.Prelude.{◌≡◌, ℕ, ◌+◌, ◌-◌, ◌*◌, �
 ghost use Rattle.std.specs.Fmt.{digit_glyph};
 ghost use Rattle.std.specs.List.{list_all};
 ghost use Rattle.std.specs.Str.{IsAscii};
-ghost use Rattle.a64_table.specs.Fields.{field_of};
+ghost use Rattle.a64_encode.specs.Either.{MeansEither};
 ghost use Rattle.insn_text.specs.declared.item.Kind.TheVariants.{Mark};
 ghost use Rattle.insn_text.specs.Places.{has_ascii_mark, is_sized};
 ghost use Rattle.insn_text.specs.Texts.{bits_of, distance_text, field_in, gap, hexadecimal, is_comma, is_mark, is_positive, item_text, items_text, kind_text, mask_in, mask_text, register_place, shape_text, signed_text, size_of, text_at, text_of};
 ghost use Rattle.insn_text.specs.declared.words.TheConstants.{WORDS};
 
-use arrayvec::ArrayString;
-
 use crate::item::{Item, Kind, Shape};
 use crate::shape::{name_at, operands_of, shape_of, word_at};
+use a64_encode::encode;
 use a64_table::field;
+use arrayvec::ArrayString;
 use bit_ops::bit_mask;
+use sm_types::Insn;
 
 /// Writes the text of a word, and nothing for a word that has none; whatever `out` held is gone.
 #[tactic(auto, unfolding(crate::specs::Texts::text_of, crate::specs::Texts::text_of_shape))]
@@ -26,6 +27,18 @@ pub fn print_word(word: u32, out: &mut ArrayString<96>)
     match shape_of(word) {
         Some(shape) => push_shape(out, &shape, word),
         None => {}
+    }
+}
+
+/// Writes the text of an instruction, each of whose fields is inside its row; whatever `out` held is gone.
+pub fn print_insn(insn: &Insn, out: &mut ArrayString<96>)
+    requires { (word : ℕ) × MeansEither word insn.now }
+    ensures text { (word : ℕ) → MeansEither word insn.now → out.new.bytes ≡ text_of word }
+    ensures short { length out.new.bytes < 96 }
+{
+    match encode(insn) {
+        Some(word) => print_word(word, out),
+        None => unreachable!(),
     }
 }
 
@@ -110,7 +123,12 @@ fn push_item(out: &mut ArrayString<96>, item: &Item, word: u32)
     ensures { out.new.bytes ≡ out.old.bytes ++ item_text word item.now }
 {
     let field = field_in(item, word);
-    push_kind(out, item.kind, item.width as u32 + item.upper_width as u32, field);
+    push_kind(
+        out,
+        item.kind,
+        item.width as u32 + item.upper_width as u32,
+        field,
+    );
 }
 
 /// The number of an operand's field in a word.
@@ -137,7 +155,10 @@ fn push_kind(out: &mut ArrayString<96>, kind: Kind, bits: u32, field: u64)
 {
     match kind {
         Kind::Mark(mark) => push_bytes(out, &[mark]),
-        Kind::Named { first, count: _ } => push_bytes(out, word_at(first as usize + field as usize)),
+        Kind::Named { first, count: _ } => push_bytes(
+            out,
+            word_at(first as usize + field as usize),
+        ),
         Kind::Register { first, last } => {
             if field == 31 {
                 push_bytes(out, word_at(last as usize));
@@ -145,12 +166,24 @@ fn push_kind(out: &mut ArrayString<96>, kind: Kind, bits: u32, field: u64)
                 push_bytes(out, word_at(first as usize + field as usize));
             }
         }
-        Kind::Unsigned { base, scale, most: _ } => {
+        Kind::Unsigned {
+            base,
+            scale,
+            most: _,
+        } => {
             out.push_str("#");
             push_number(out, field * scale as u64 + base as u64);
         }
-        Kind::Signed { scale } => push_signed(out, is_positive(bits, field), size_of(bits, field) * scale as u64),
-        Kind::Distance { scale } => push_distance(out, is_positive(bits, field), size_of(bits, field) * scale as u64),
+        Kind::Signed { scale } => push_signed(
+            out,
+            is_positive(bits, field),
+            size_of(bits, field) * scale as u64,
+        ),
+        Kind::Distance { scale } => push_distance(
+            out,
+            is_positive(bits, field),
+            size_of(bits, field) * scale as u64,
+        ),
         Kind::Mask { wide } => push_mask(out, mask_in(wide, field as u32)),
         Kind::SignedMask { .. } => {}
         Kind::ShiftLeft { .. } => {}
@@ -176,7 +209,11 @@ fn size_of(bits: u32, field: u64) -> u64
     ensures value { result ≡ size_of bits field }
     ensures small { result < 2 ^ 32 }
 {
-    if is_positive(bits, field) { field } else { (1 << bits) - field }
+    if is_positive(bits, field) {
+        field
+    } else {
+        (1 << bits) - field
+    }
 }
 
 /// Appends a number of this sign and size.
@@ -214,7 +251,12 @@ fn push_distance(out: &mut ArrayString<96>, positive: bool, size: u64)
 fn mask_in(wide: bool, bits: u32) -> Option<u64>
     ensures { result ≡ mask_in wide bits }
 {
-    bit_mask(field(bits, 12, 1) == 1, field(bits, 0, 6) as u8, field(bits, 6, 6) as u8, wide)
+    bit_mask(
+        field(bits, 12, 1) == 1,
+        field(bits, 0, 6) as u8,
+        field(bits, 6, 6) as u8,
+        wide,
+    )
 }
 
 /// Appends a mask.
@@ -274,7 +316,11 @@ fn digit(number: u64) -> u8
     ensures value { result ≡ digit_glyph false number }
     ensures ascii { result < 128 }
 {
-    if number < 10 { b'0' + number as u8 } else { b'a' + (number as u8 - 10) }
+    if number < 10 {
+        b'0' + number as u8
+    } else {
+        b'a' + (number as u8 - 10)
+    }
 }
 
 /// Appends bytes of ASCII.
