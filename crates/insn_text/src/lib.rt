@@ -11,6 +11,8 @@ mod print;
 mod printed;
 mod shape;
 mod shapes;
+#[cfg(test)]
+mod tests;
 mod words;
 
 pub use item::{Item, Kind, Rule, Shape, Text};
