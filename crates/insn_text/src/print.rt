@@ -1,5 +1,5 @@
 //! Printing a word.
-ghost use Rattle.std.specs.Prelude.{◌≡◌, ℕ, ◌+◌, ◌-◌, ◌*◌, ◌^◌, ◌<◌, ◌≤◌, ◌++◌, true, false, length, drop, decimal};
+ghost use Rattle.std.specs.Prelude.{◌≡◌, ℕ, ◌+◌, ◌-◌, ◌*◌, ◌^◌, ◌<◌, ◌≤◌, ◌++◌, true, false, length, drop, decimal, codes};
 ghost use Rattle.std.specs.Fmt.{digit_glyph};
 ghost use Rattle.std.specs.List.{list_all};
 ghost use Rattle.std.specs.Str.{IsAscii};
@@ -77,42 +77,20 @@ fn push_gap(out: &mut ArrayString<96>, before: Kind, after: Kind)
     }
 }
 
+/// Whether the operand is a mark.
 #[tactic(auto, unfolding(crate::specs::Texts::is_mark))]
 fn is_mark(kind: Kind) -> bool
     ensures { result ≡ is_mark kind }
 {
-    match kind {
-        Kind::Mark(_) => true,
-        Kind::Named { .. } => false,
-        Kind::Register { .. } => false,
-        Kind::Unsigned { .. } => false,
-        Kind::Signed { .. } => false,
-        Kind::Distance { .. } => false,
-        Kind::Mask { .. } => false,
-        Kind::SignedMask { .. } => false,
-        Kind::ShiftLeft { .. } => false,
-        Kind::Opposite { .. } => false,
-        Kind::Halfword { .. } => false,
-    }
+    matches!(kind, Kind::Mark(_))
 }
 
+/// Whether the operand is a comma.
 #[tactic(auto, unfolding(crate::specs::Texts::is_comma))]
 fn is_comma(kind: Kind) -> bool
     ensures { result ≡ is_comma kind }
 {
-    match kind {
-        Kind::Mark(mark) => mark == b',',
-        Kind::Named { .. } => false,
-        Kind::Register { .. } => false,
-        Kind::Unsigned { .. } => false,
-        Kind::Signed { .. } => false,
-        Kind::Distance { .. } => false,
-        Kind::Mask { .. } => false,
-        Kind::SignedMask { .. } => false,
-        Kind::ShiftLeft { .. } => false,
-        Kind::Opposite { .. } => false,
-        Kind::Halfword { .. } => false,
-    }
+    matches!(kind, Kind::Mark(b','))
 }
 
 /// Appends the text of an operand of a word.
@@ -144,7 +122,7 @@ fn field_in(item: &Item, word: u32) -> u64
 }
 
 /// Appends the text of a field of so many bits.
-#[tactic(auto, unfolding(crate::specs::Texts::kind_text, crate::specs::Texts::register_place))]
+#[tactic(auto, unfolding(crate::specs::Texts::kind_text))]
 fn push_kind(out: &mut ArrayString<96>, kind: Kind, bits: u32, field: u64)
     requires mark { has_ascii_mark kind ≡ true }
     requires bits { bits < 32 }
@@ -155,25 +133,12 @@ fn push_kind(out: &mut ArrayString<96>, kind: Kind, bits: u32, field: u64)
 {
     match kind {
         Kind::Mark(mark) => push_bytes(out, &[mark]),
-        Kind::Named { first, count: _ } => push_bytes(
+        Kind::Named { first, .. } => push_word(out, first as usize + field as usize),
+        Kind::Register { first, last } => push_word(out, register_place(first, last, field)),
+        Kind::Unsigned { base, scale, .. } => push_unsigned(
             out,
-            word_at(first as usize + field as usize),
+            field * scale as u64 + base as u64,
         ),
-        Kind::Register { first, last } => {
-            if field == 31 {
-                push_bytes(out, word_at(last as usize));
-            } else {
-                push_bytes(out, word_at(first as usize + field as usize));
-            }
-        }
-        Kind::Unsigned {
-            base,
-            scale,
-            most: _,
-        } => {
-            out.push_str("#");
-            push_number(out, field * scale as u64 + base as u64);
-        }
         Kind::Signed { scale } => push_signed(
             out,
             is_positive(bits, field),
@@ -185,11 +150,41 @@ fn push_kind(out: &mut ArrayString<96>, kind: Kind, bits: u32, field: u64)
             size_of(bits, field) * scale as u64,
         ),
         Kind::Mask { wide } => push_mask(out, mask_in(wide, field as u32)),
-        Kind::SignedMask { .. } => {}
-        Kind::ShiftLeft { .. } => {}
-        Kind::Opposite { .. } => {}
-        Kind::Halfword { .. } => {}
+        Kind::SignedMask { .. }
+        | Kind::ShiftLeft { .. }
+        | Kind::Opposite { .. }
+        | Kind::Halfword { .. } => {}
     }
+}
+
+/// Appends the word of an operand.
+fn push_word(out: &mut ArrayString<96>, place: usize)
+    requires { length out.old.bytes + length (text_at WORDS place) ≤ 96 }
+    ensures { out.new.bytes ≡ out.old.bytes ++ text_at WORDS place }
+{
+    push_bytes(out, word_at(place));
+}
+
+/// The place of the word of a register.
+#[tactic(auto, unfolding(crate::specs::Texts::register_place))]
+fn register_place(first: u16, last: u16, number: u64) -> usize
+    requires { number < 2 ^ 31 }
+    ensures { result ≡ register_place first last number }
+{
+    if number == 31 {
+        last as usize
+    } else {
+        first as usize + number as usize
+    }
+}
+
+/// Appends a number.
+fn push_unsigned(out: &mut ArrayString<96>, number: u64)
+    requires { length out.old.bytes + length (codes "#" ++ decimal number) ≤ 96 }
+    ensures { out.new.bytes ≡ out.old.bytes ++ (codes "#" ++ decimal number) }
+{
+    out.push_str("#");
+    push_number(out, number);
 }
 
 /// Whether a signed number of so many bits is not negative.
