@@ -1,0 +1,3 @@
+pub mod Places
+pub mod MaskFields
+pub mod Halfwords

@@ -1,8 +1,13 @@
 -- What the code's results stand for.
 use Rattle.std.specs.Prelude.{◌≡◌, Option, Result, Ok, Err}
+use Rattle.asm_operands.specs.declared.known.Known.{Known}
 use Rattle.asm_operands.specs.declared.operands.Operands.{Operands}
 use Rattle.asm_operands.specs.declared.operands.OperandFault.{OperandFault}
 use Rattle.asm_operands.specs.Operands.{OperandsSaid, Says, Fails}
+use Rattle.asm_operands.specs.Operands as operands
+
+abbrev pub known_of : Known → operands.Known
+known_of known = record { mask = known.mask; value = known.value }
 
 -- a result is what the operands say
 abbrev pub said_by : Result Operands OperandFault → OperandsSaid

@@ -2,6 +2,8 @@
 #![tactic(auto)]
 
 mod fault;
+mod fields;
+mod known;
 mod operands;
 
 pub use fault::FaultKind;
