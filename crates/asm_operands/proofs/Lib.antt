@@ -5,3 +5,4 @@ pub mod Placing
 pub mod Way
 pub mod Tables
 pub mod ShapeSteps
+pub mod Few
