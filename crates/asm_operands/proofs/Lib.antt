@@ -6,3 +6,4 @@ pub mod Way
 pub mod Tables
 pub mod ShapeSteps
 pub mod Few
+pub mod WordBits
