@@ -7,3 +7,4 @@ pub mod Tables
 pub mod ShapeSteps
 pub mod Few
 pub mod WordBits
+pub mod Heard
