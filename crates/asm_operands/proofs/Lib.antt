@@ -8,3 +8,6 @@ pub mod ShapeSteps
 pub mod Few
 pub mod WordBits
 pub mod Heard
+pub mod OwnTokens
+pub mod Apart
+pub mod OwnWord
