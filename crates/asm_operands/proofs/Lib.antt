@@ -11,3 +11,5 @@ pub mod Heard
 pub mod OwnTokens
 pub mod Apart
 pub mod OwnWord
+pub mod Stops
+pub mod GoesOn
