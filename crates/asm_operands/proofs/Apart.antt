@@ -1,6 +1,6 @@
 -- Shapes that no tokens of another shape are taken by.
-use Rattle.std.proofs.Common.{◌≡◌, ℕ, zero, suc, ◌+◌, ◌-◌, ◌*◌, ◌^◌, ◌<◌, ◌≤◌, ◌==◌, ◌&&◌, ◌||◌, not, Bool, true, false, nat_lt, nat_le, bit_and, List, [], ◌∷◌, map, Option, Some, None, cond, refl, sym, ap, ap₂, ◌∙◌, subst, arith, inl, inr, eqb-true, eq-eqb, ltb-true, leb-true}
-use Rattle.std.specs.Prelude.{bit_or, if◌then◌else◌, option_map, bit_xor}
+use Rattle.std.proofs.Common.{◌≡◌, ℕ, ◌+◌, ◌-◌, ◌*◌, ◌^◌, ◌<◌, ◌≤◌, ◌==◌, ◌&&◌, ◌||◌, not, Bool, true, false, nat_lt, nat_le, bit_and, List, [], ◌∷◌, map, Option, Some, None, cond, refl, ap, ◌∙◌, subst, arith, inl, inr, eqb-true, ltb-true, leb-true}
+use Rattle.std.specs.Prelude.{bit_or, option_map, bit_xor}
 use Rattle.std.specs.List.{list_all}
 use Rattle.std.proofs.lemmas.Bool.{and_parts, or_cases, cond_both, le-ltb, lt-leb, eqb-false}
 use borrow.Author.Tests.{ne_eqb}
@@ -10,7 +10,6 @@ use Rattle.insn_text.specs.declared.item.Item.{Item}
 use Rattle.insn_text.specs.declared.item.Shape.{Shape}
 use Rattle.insn_text.specs.Texts.{bits_of, field_in, items_of, register_place, mask_in, is_positive, size_of}
 use Rattle.insn_text.specs.Rules.{is_within, meets, is_sayable}
-use Rattle.asm_tokens.specs.declared.token.Token.{Token}
 use Rattle.asm_tokens.specs.declared.token.Token.TheVariants.{Word, Number, Distance, Mark, Other}
 use Rattle.asm_operands.specs.Fields.{on_mark, on_word, on_number, on_target, word_field, register_field, field_said}
 use Rattle.asm_operands.specs.Operands.{Known, known_with, known_after, taken_on, taken, fixed, word_in, mask_of}
@@ -247,8 +246,8 @@ after-none : (i j : Item) (w : ℕ) (known : Known) → is_printed_item i ≡ tr
 unfolding known_after known_with item_token is_printed_item is_sayable
 after-none i j w known p e a =
     ap (known_with j known) (kinds-apart i.kind j.kind (bits_of i) (bits_of j) (field_in i w)
-      (and_parts (is_printed_kind i.kind (bits_of i)) (bit_and (upper_mask i) (lower_mask i) == 0) p).0
-      (and_parts (is_within i.kind (field_in i w)) (meets i.rule w) e).0 (field_in-lt i w) a)
+    (and_parts (is_printed_kind i.kind (bits_of i)) (bit_and (upper_mask i) (lower_mask i) == 0) p).0
+    (and_parts (is_within i.kind (field_in i w)) (meets i.rule w) e).0 (field_in-lt i w) a)
 
 nothing_after : (on : Known → Option ℕ) (o : Option Known) → ((k : Known) → on k ≡ None) → taken_on on o ≡ None
 nothing_after on None f = refl

@@ -1,6 +1,6 @@
 -- A shape goes on after as many tokens as it takes: the operands that are left have tokens that it takes.
-use Rattle.std.proofs.Common.{◌≡◌, ℕ, zero, suc, ◌+◌, ◌-◌, ◌*◌, ◌/◌, ◌%◌, ◌^◌, ◌<◌, ◌≤◌, ◌==◌, ◌&&◌, ◌||◌, not, Bool, true, false, nat_lt, nat_le, bit_and, List, [], ◌∷◌, ◌++◌, length, take, drop, Option, Some, None, cond, min, max, refl, sym, ap, ap₂, ◌∙◌, subst, arith, inl, inr, eqb-true, eq-eqb, ltb-true, lt-ltb, leb-true, le-leb, mod-eq_of_lt, lit<}
-use Rattle.std.specs.Prelude.{bit_or, bit_xor, slice_index, if◌then◌else◌, option_map, option_and_then}
+use Rattle.std.proofs.Common.{◌≡◌, ℕ, zero, suc, ◌+◌, ◌-◌, ◌*◌, ◌/◌, ◌%◌, ◌^◌, ◌<◌, ◌≤◌, ◌==◌, ◌&&◌, ◌||◌, not, Bool, true, false, nat_lt, nat_le, bit_and, List, [], ◌∷◌, ◌++◌, length, take, drop, Option, Some, None, cond, min, max, refl, sym, ap, ap₂, ◌∙◌, arith, inl, inr, eqb-true, eq-eqb, ltb-true, lt-ltb, leb-true, le-leb, mod-eq_of_lt, lit<}
+use Rattle.std.specs.Prelude.{bit_or, bit_xor, slice_index, option_map, option_and_then}
 use Rattle.std.specs.Int.{bit_at}
 use Rattle.std.specs.List.{list_all}
 use Rattle.std.proofs.lemmas.Bool.{and_parts, cases_lt, cond_both}
@@ -23,8 +23,8 @@ use Rattle.insn_text.specs.declared.shapes.TheConstants.{SHAPES, STARTS}
 use Rattle.insn_text.specs.Texts.{bits_of, items_of, mask_in}
 use Rattle.insn_text.specs.Rules.{meets, is_base_apart}
 use Rattle.asm_tokens.specs.declared.token.Token.{Token}
-use Rattle.asm_tokens.specs.declared.token.Token.TheVariants.{Word, Name, Number, Distance, Mark}
-use Rattle.asm_operands.specs.Fields.{is_field_of, on_mark, on_word, on_number, on_target, word_field, register_field, unsigned_field, signed_field, mask_field, width_of, immediate_of, shift_left_field, is_halfword_at, halfword_field, inverted_if, field_said}
+use Rattle.asm_tokens.specs.declared.token.Token.TheVariants.{Word, Name, Number, Mark}
+use Rattle.asm_operands.specs.Fields.{is_field_of, on_mark, on_word, on_number, on_target, word_field, register_field, unsigned_field, signed_field, mask_field, immediate_of, shift_left_field, is_halfword_at, halfword_field, inverted_if, field_said}
 use Rattle.asm_operands.specs.Operands.{Known, mask_of, placed, with_field, agrees, known_with, known_after, taken_on, taken, reach_on, reach, fixed, word_in, reach_in, shapes_of, first_of_words, first_word, furthest}
 use Rattle.asm_operands.proofs.MaskFields.{all_below, all_below-at, mask_field-is}
 use Rattle.asm_operands.proofs.Tables.{all-take, all-drop}
@@ -150,7 +150,7 @@ apart_both : (a b c d : ℕ) → bit_and a b ≡ a → bit_and c d ≡ c → bit
 apart_both a b c d p q r = same_from_bits _ _ (λ k.
     bit_at_and a c k
     ∙ min_less (bit_at a k) (bit_at b k) (bit_at c k) (bit_at d k) (sym (bit_at_and a b k) ∙ ap (λ n. bit_at n k) p) (sym (bit_at_and c d k) ∙ ap (λ n. bit_at n k) q)
-      (sym (bit_at_and b d k) ∙ ap (λ n. bit_at n k) r ∙ bit_at-zero k)
+    (sym (bit_at_and b d k) ∙ ap (λ n. bit_at n k) r ∙ bit_at-zero k)
     ∙ sym (bit_at-zero k))
 
 part_within : (x n k : ℕ) → bit_and (x % 2 ^ n * 2 ^ k) ((2 ^ n - 1) * 2 ^ k) ≡ x % 2 ^ n * 2 ^ k

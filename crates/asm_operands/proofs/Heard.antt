@@ -1,7 +1,7 @@
 -- A token that is printed says the field that it is printed for.
-use Rattle.std.proofs.Common.{◌≡◌, ℕ, zero, suc, ◌+◌, ◌-◌, ◌*◌, ◌/◌, ◌%◌, ◌^◌, ◌<◌, ◌≤◌, ◌==◌, ◌&&◌, not, Bool, true, false, nat_lt, nat_le, Option, Some, None, cond, refl, sym, ap, ap₂, ◌∙◌, subst, arith, inl, inr, lit<, eqb-true, eq-eqb, lt-ltb, ltb-true, le-leb, leb-true, mod-eq_of_lt}
-use Rattle.std.proofs.lemmas.Bool.{and_parts, cases_lt, cases_order, le-ltb}
-use Rattle.std.proofs.lemmas.Nat.{pow-add, pow_pos, mod_below}
+use Rattle.std.proofs.Common.{◌≡◌, ℕ, zero, suc, ◌+◌, ◌-◌, ◌*◌, ◌/◌, ◌%◌, ◌^◌, ◌<◌, ◌≤◌, ◌==◌, ◌&&◌, not, Bool, true, false, nat_lt, nat_le, Some, None, cond, refl, sym, ap, ap₂, ◌∙◌, subst, arith, inl, inr, eqb-true, eq-eqb, lt-ltb, ltb-true, le-leb, leb-true, mod-eq_of_lt}
+use Rattle.std.proofs.lemmas.Bool.{and_parts, cases_lt, le-ltb}
+use Rattle.std.proofs.lemmas.Nat.{pow-add, pow_pos}
 use Rattle.std.proofs.Math.Nat.{mul-div_cancel, mul-mod_left}
 use borrow.Author.Tests.{ne_eqb}
 use Rattle.a64_table.specs.Fields.{field_of}
@@ -13,7 +13,7 @@ use Rattle.insn_text.specs.Rules.{is_within}
 use Rattle.asm_operands.specs.Fields.{on_mark, on_word, on_number, on_target, word_field, register_field, unsigned_field, signed_field, mask_field, field_said}
 use Rattle.std.specs.Prelude.{if◌then◌else◌}
 use Rattle.asm_operands.specs.Shown.{mask_token, token_said}
-use Rattle.asm_operands.proofs.MaskFields.{IsGiven, mask-given}
+use Rattle.asm_operands.proofs.MaskFields.{mask-given}
 
 -- the kind is one that is printed, with so many bits
 unfoldable pub is_printed_kind : Kind → ℕ → Bool

@@ -1,6 +1,6 @@
 -- The fields of a mask: those of the table are the ones that bit_ops finds, and a mask has no others.
-use Rattle.std.proofs.Common.{◌≡◌, ℕ, zero, suc, ◌+◌, ◌-◌, ◌*◌, ◌%◌, ◌/◌, ◌^◌, ◌<◌, ◌≤◌, ◌==◌, ◌||◌, ◌&&◌, ◌⊎◌, not, Bool, true, false, nat_lt, refl, sym, ap, ap₂, ◌∙◌, subst, arith, inl, inr, lit<, Option, Some, None, cond, eqb-true, eq-eqb, lt-ltb, ltb-true}
-use Rattle.std.proofs.lemmas.Bool.{and_parts, cases_lt, cond_both}
+use Rattle.std.proofs.Common.{◌≡◌, ℕ, zero, suc, ◌+◌, ◌-◌, ◌*◌, ◌%◌, ◌/◌, ◌^◌, ◌<◌, ◌≤◌, ◌==◌, ◌&&◌, ◌⊎◌, not, Bool, true, false, nat_lt, refl, sym, ap, ap₂, ◌∙◌, subst, arith, inl, inr, lit<, Option, Some, None, cond, eqb-true, eq-eqb, lt-ltb, ltb-true}
+use Rattle.std.proofs.lemmas.Bool.{and_parts, cases_lt}
 use Rattle.std.proofs.lemmas.Nat.{mod_below}
 use Rattle.std.proofs.Math.Nat.{mod-eq_of_lt}
 use Rattle.a64_table.specs.Conditions.{length_bits, is_highest_one, has_fewer_ones, is_mask_of, is_mask}
@@ -94,7 +94,7 @@ fields-of wide mask field e =
     let imms : field / 2 ^ 0 % 2 ^ 6 < 64 = mod_below (field / 2 ^ 0) (2 ^ 6) (lit< tt) in
     let immr : field / 2 ^ 6 % 2 ^ 6 < 64 = mod_below (field / 2 ^ 6) (2 ^ 6) (lit< tt) in
     let one = and_parts (not (is_reserved (field_of field 12 1 == 1) (field_of field 0 6) wide)) (nat_lt (field_of field 6 6) (size_of (field_of field 12 1 == 1) (field_of field 0 6)))
-      (sym (mask_test wide (field_of field 12 1 == 1) (field_of field 6 6) (field_of field 0 6) immr imms) ∙ parts.0) in
+    (sym (mask_test wide (field_of field 12 1 == 1) (field_of field 6 6) (field_of field 0 6) immr imms) ∙ parts.0) in
     record { imms_in_range = imms; immr_in_range = ltb-true _ _ one.1; given = that_mask mask (mask_in wide field) parts.1 }
 
 bit_back : (n : Bool) (immr imms : ℕ) → immr < 64 → imms < 64 → (joined n immr imms / 2 ^ 12 % 2 ^ 1 == 1) ≡ n
@@ -152,7 +152,7 @@ of-fields n wide imms immr mask f =
     let lt = f.imms_in_range in
     let small = immr-lt n wide imms immr mask f in
     let test : is_mask wide n immr imms ≡ true =
-      mask_test wide n immr imms small lt ∙ both_true (not (is_reserved n imms wide)) (nat_lt immr (size_of n imms)) (not_reserved n wide imms immr mask f.given) (lt-ltb _ _ f.immr_in_range) in
+    mask_test wide n immr imms small lt ∙ both_true (not (is_reserved n imms wide)) (nat_lt immr (size_of n imms)) (not_reserved n wide imms immr mask f.given) (lt-ltb _ _ f.immr_in_range) in
     let b = bit_back n immr imms small lt in
     let r = immr_back n immr imms small lt in
     let s = imms_back n immr imms small lt in

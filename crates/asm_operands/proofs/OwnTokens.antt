@@ -1,6 +1,6 @@
 -- The tokens of a word say the word in its shape.
-use Rattle.std.proofs.Common.{◌≡◌, ℕ, ◌-◌, ◌^◌, ◌<◌, ◌==◌, ◌&&◌, Bool, true, false, List, [], ◌∷◌, map, Option, Some, None, cond, bit_and, refl, sym, ap, ap₂, ◌∙◌, arith, eqb-true, eq-eqb, mod-eq_of_lt, lit<}
-use Rattle.std.specs.Prelude.{bit_or, if◌then◌else◌}
+use Rattle.std.proofs.Common.{◌≡◌, ℕ, ◌-◌, ◌^◌, ◌<◌, ◌==◌, ◌&&◌, Bool, true, List, [], ◌∷◌, map, Some, None, cond, bit_and, sym, ap, ap₂, ◌∙◌, eqb-true, eq-eqb, mod-eq_of_lt}
+use Rattle.std.specs.Prelude.{bit_or}
 use Rattle.std.specs.List.{list_all}
 use Rattle.std.proofs.lemmas.Bool.{and_parts}
 use Rattle.std.proofs.lemmas.Nat.{and_mask}

@@ -1,8 +1,8 @@
 -- The tokens of a word that is printed say the word, and no target: the shapes of a name are told apart by any operand's tokens.
-use Rattle.std.proofs.Common.{◌≡◌, ℕ, zero, suc, ◌+◌, ◌-◌, ◌*◌, ◌^◌, ◌<◌, ◌≤◌, ◌==◌, ◌&&◌, ◌||◌, not, Bool, true, false, nat_lt, nat_le, bit_and, List, [], ◌∷◌, map, take, drop, length, slice_get, Option, Some, None, cond, refl, sym, ap, ap₂, ◌∙◌, subst, arith, inl, inr, eqb-true, ltb-true, leb-true}
-use Rattle.std.specs.Prelude.{bit_or, slice_index, is_some, if◌then◌else◌, option_map, option_and_then}
+use Rattle.std.proofs.Common.{◌≡◌, ℕ, zero, suc, ◌+◌, ◌-◌, ◌^◌, ◌<◌, ◌≤◌, ◌==◌, ◌&&◌, ◌||◌, not, Bool, true, false, nat_lt, nat_le, bit_and, List, [], ◌∷◌, map, take, drop, length, slice_get, Option, Some, None, cond, refl, sym, ap, ap₂, ◌∙◌, arith, eqb-true, ltb-true, leb-true}
+use Rattle.std.specs.Prelude.{slice_index, is_some, if◌then◌else◌, option_map, option_and_then}
 use Rattle.std.specs.List.{list_all, find}
-use Rattle.std.proofs.lemmas.Bool.{and_parts, or_cases, both_ways}
+use Rattle.std.proofs.lemmas.Bool.{and_parts}
 use Rattle.sm_types.specs.declared.insn.Insn.{Insn}
 use Rattle.sve_table.specs.Meaning.{instruction_of}
 use Rattle.insn_text.specs.declared.item.Kind.{Kind}
@@ -15,7 +15,7 @@ use Rattle.insn_text.specs.Texts.{items_of, prints, printed_shape}
 use Rattle.insn_text.specs.Rules.{is_sayable, IsPrinted}
 use Rattle.asm_tokens.specs.declared.token.Token.{Token}
 use Rattle.asm_operands.specs.Operands.{word_in, shapes_of, first_of_words, first_word, mask_of, is_distance, is_distance_item, is_name, is_name_token, target_in, target_of, operand_fault, said_or, Says, Fails, insn_said, operands_said}
-use Rattle.asm_operands.specs.Shown.{mask_token, token_said, item_token, tokens_shown}
+use Rattle.asm_operands.specs.Shown.{token_said, item_token, tokens_shown}
 use Rattle.asm_operands.proofs.MaskFields.{all_below, all_below-at}
 use Rattle.asm_operands.proofs.WordBits.{has_register, covers}
 use Rattle.asm_operands.proofs.Heard.{is_printed_kind}
@@ -197,9 +197,9 @@ says-own (r ∷ ss) zero s w e g printed all says sayable =
     record {
       word = ap (λ o. first_of_words o (first_word ss ts)) here;
       target =
-        ap (λ o. if is_some o then target_in (items_of r) ts else target_of ss ts) here
-        ∙ ap (λ (x : Shape). target_in (items_of x) ts) same
-        ∙ target-none s w;
+          ap (λ o. if is_some o then target_in (items_of r) ts else target_of ss ts) here
+          ∙ ap (λ (x : Shape). target_in (items_of x) ts) same
+          ∙ target-none s w;
     }
 says-own (r ∷ ss) (suc k) s w e g printed all says sayable =
     let ts = tokens_shown s w in

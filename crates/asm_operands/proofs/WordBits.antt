@@ -1,5 +1,5 @@
 -- The bits of a word that an operand's field is, and those that a rule looks at.
-use Rattle.std.proofs.Common.{◌≡◌, ℕ, zero, suc, ◌+◌, ◌-◌, ◌*◌, ◌/◌, ◌%◌, ◌^◌, ◌<◌, ◌≤◌, ◌==◌, ◌&&◌, ◌||◌, not, Bool, true, bit_and, min, max, refl, sym, ap, ap₂, ◌∙◌, subst, arith, eqb-true, mod-eq_of_lt}
+use Rattle.std.proofs.Common.{◌≡◌, ℕ, zero, suc, ◌+◌, ◌-◌, ◌*◌, ◌/◌, ◌%◌, ◌^◌, ◌<◌, ◌==◌, ◌&&◌, ◌||◌, not, Bool, true, bit_and, min, max, refl, sym, ap, ap₂, ◌∙◌, subst, arith, eqb-true, mod-eq_of_lt}
 use Rattle.std.specs.Prelude.{bit_or}
 use Rattle.std.specs.Int.{bit_at}
 use Rattle.std.proofs.lemmas.Bool.{and_parts}
@@ -10,7 +10,7 @@ use Rattle.insn_text.specs.declared.item.Item.{Item}
 use Rattle.insn_text.specs.declared.item.Rule.{Rule}
 use Rattle.insn_text.specs.declared.item.Rule.TheVariants.{Free, SecondApart, BaseApart, BasePairApart}
 use Rattle.insn_text.specs.Texts.{bits_of, field_in}
-use Rattle.insn_text.specs.Rules.{meets, is_base_apart}
+use Rattle.insn_text.specs.Rules.{meets}
 use Rattle.asm_operands.specs.Operands.{mask_of, placed}
 
 -- ---- words by their bits

@@ -1,6 +1,6 @@
 -- The tokens in which the operands of a word are printed.
 -- Source: DDI 0487, C1.2 and C6.2.
-use Rattle.std.specs.Prelude.{ℕ, ◌+◌, ◌*◌, Bool, true, false, not, List, map, Option, Some, None}
+use Rattle.std.specs.Prelude.{ℕ, ◌+◌, ◌*◌, false, not, List, map, Option, Some, None}
 use Rattle.insn_text.specs.declared.item.Kind.{Kind}
 use Rattle.insn_text.specs.declared.item.Kind.TheVariants as kind
 use Rattle.insn_text.specs.declared.item.Item.{Item}

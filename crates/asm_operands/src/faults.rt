@@ -18,7 +18,14 @@ use insn_text::{Item, Kind, Shape};
 fn reach_in(shape: &Shape, tokens: &[Token]) -> usize
     ensures { result ≡ reach_in shape.now tokens.now }
 {
-    reach(items_of(shape), Known { mask: shape.mask, value: shape.value }, tokens)
+    reach(
+        items_of(shape),
+        Known {
+            mask: shape.mask,
+            value: shape.value,
+        },
+        tokens,
+    )
 }
 
 /// The tokens that a shape takes, at most.
@@ -73,7 +80,11 @@ fn is_number_token(token: Token) -> bool
 fn is_number_at(items: &[Item], place: usize) -> bool
     ensures { result ≡ is_number_item (slice_get items.now place) }
 {
-    if place < items.len() { is_number_kind(items[place].kind) } else { false }
+    if place < items.len() {
+        is_number_kind(items[place].kind)
+    } else {
+        false
+    }
 }
 
 /// Whether the shape takes so many tokens, and a number is its next operand.
@@ -138,5 +149,8 @@ pub(crate) fn operand_fault(shapes: &[Shape], tokens: &[Token]) -> OperandFault
     ensures { fault_of result ≡ operand_fault shapes.now tokens.now }
 {
     let place = furthest(shapes, tokens);
-    OperandFault { place, kind: kind_at(shapes, place, tokens) }
+    OperandFault {
+        place,
+        kind: kind_at(shapes, place, tokens),
+    }
 }

@@ -30,7 +30,8 @@ fn mask_of(item: &Item) -> u32
     requires { is_in_word item.now ≡ true }
     ensures { result ≡ mask_of item.now }
 {
-    (ones(item.upper_width) << u32::from(item.upper_low)) + (ones(item.width) << u32::from(item.low))
+    (ones(item.upper_width) << u32::from(item.upper_low))
+        + (ones(item.width) << u32::from(item.low))
 }
 
 /// The field at its place in a word.
@@ -69,7 +70,8 @@ fn meets(rule: Rule, word: u32) -> bool
         Rule::Free => true,
         Rule::SecondApart => register_at(word, 0) != register_at(word, 10),
         Rule::BaseApart => is_base_apart(word, register_at(word, 0)),
-        Rule::BasePairApart => is_base_apart(word, register_at(word, 0)) && is_base_apart(word, register_at(word, 10)),
+        Rule::BasePairApart => is_base_apart(word, register_at(word, 0))
+            && is_base_apart(word, register_at(word, 10)),
     }
 }
 
@@ -82,7 +84,10 @@ impl Known {
         requires { is_in_word item.now ≡ true }
         ensures { known_of result ≡ with_field item.now (known_of self) field }
     {
-        Known { mask: self.mask | mask_of(item), value: self.value | placed(item, field) }
+        Known {
+            mask: self.mask | mask_of(item),
+            value: self.value | placed(item, field),
+        }
     }
 
     /// Whether a field agrees with what is known, and meets the operand's rule.
@@ -91,7 +96,8 @@ impl Known {
         requires { is_in_word item.now ≡ true }
         ensures { result ≡ agrees item.now (known_of self) field }
     {
-        self.value & mask_of(item) == placed(item, field) & self.mask && meets(item.rule, self.with_field(item, field).value)
+        self.value & mask_of(item) == placed(item, field) & self.mask
+            && meets(item.rule, self.with_field(item, field).value)
     }
 
     /// What is known once the token is read as an operand.

@@ -57,14 +57,22 @@ fn is_name(token: Token) -> bool
 fn is_distance_at(items: &[Item], place: usize) -> bool
     ensures { result ≡ is_distance_item (slice_get items.now place) }
 {
-    if place < items.len() { is_distance(items[place].kind) } else { false }
+    if place < items.len() {
+        is_distance(items[place].kind)
+    } else {
+        false
+    }
 }
 
 /// Whether there is a token at the place, and a name.
 fn is_name_at(tokens: &[Token], place: usize) -> bool
     ensures { result ≡ is_name_token (slice_get tokens.now place) }
 {
-    if place < tokens.len() { is_name(tokens[place]) } else { false }
+    if place < tokens.len() {
+        is_name(tokens[place])
+    } else {
+        false
+    }
 }
 
 /// The place of the last token, where it is a name for a distance.
@@ -73,7 +81,11 @@ fn target_in(items: &[Item], tokens: &[Token]) -> Option<usize>
     ensures { result ≡ target_in items.now tokens.now }
 {
     let last = items.len().saturating_sub(1);
-    if is_distance_at(items, last) && is_name_at(tokens, last) { Some(last) } else { None }
+    if is_distance_at(items, last) && is_name_at(tokens, last) {
+        Some(last)
+    } else {
+        None
+    }
 }
 
 /// The word that tokens say, and the place of the token that names its target.
@@ -90,8 +102,18 @@ fn first_said(shapes: &[Shape], tokens: &[Token]) -> Option<Said>
 {
     for shape in shapes {
         let items = items_of(shape);
-        match taken(items, Known { mask: shape.mask, value: shape.value }, tokens) {
-            Some(word) => return Some(Said { word, target: target_in(items, tokens) }),
+        match taken(
+            items,
+            Known {
+                mask: shape.mask,
+                value: shape.value,
+            },
+            tokens,
+        ) {
+            Some(word) => return Some(Said {
+                word,
+                target: target_in(items, tokens),
+            }),
             None => {}
         }
     }
@@ -118,7 +140,10 @@ pub fn read_operands(name: u16, tokens: &[Token]) -> Result<Operands, OperandFau
     let shapes = shapes_of(name);
     match first_said(shapes, tokens) {
         Some(said) => match instruction(said.word) {
-            Some(insn) => Ok(Operands { insn, target: said.target }),
+            Some(insn) => Ok(Operands {
+                insn,
+                target: said.target,
+            }),
             None => Err(operand_fault(shapes, tokens)),
         },
         None => Err(operand_fault(shapes, tokens)),

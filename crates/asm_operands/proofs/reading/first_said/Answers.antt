@@ -1,4 +1,4 @@
-use Rattle.std.proofs.Common.{◌≡◌, ◌≤◌, sym, ◌∙◌, arith, length}
+use Rattle.std.proofs.Common.{◌≤◌, sym, ◌∙◌, arith, length}
 use Rattle.asm_operands.proofs.ShapeSteps.{first-none, first-some, first-end, target-none, target-some, word-is, target-is}
 use Rattle.asm_operands.proofs.reading.first_said.Goals as goal
 
@@ -12,7 +12,7 @@ pub returns-in-Some-clause-target : goal.returns-in-Some-clause-target
 returns-in-Some-clause-target c =
     target-is _ c.items_of-items.result.now c.args.tokens.now _ c.items_of-items.ensures.value c.target_in.ensures
     ∙ target-some c.args.shapes.now c.args.tokens.now c.loop-shape.shape-index c.in-Some.word _ c.loop-shape-test.true
-      (word-is _ c.items_of-items.result.now c.args.tokens.now _ c.items_of-items.ensures.value c.in-Some.ensures)
+    (word-is _ c.items_of-items.result.now c.args.tokens.now _ c.items_of-items.ensures.value c.in-Some.ensures)
     ∙ c.loop-shape.invariant.targets
 
 pub loop-shape-preserved : goal.loop-shape-preserved
