@@ -52,9 +52,5 @@ pub first-end : (ss : List Shape) (ts : List Token) (at : ℕ) → length ss ≤
 unfolding first_word
 first-end ss ts at le = ap (λ (x : List Shape). first_word x ts) (drop_of_length-le ss le)
 
-pub word-is : (s : Shape) (is : List Item) (ts : List Token) (o : Option ℕ) → is ≡ items_of s → o ≡ taken is (record { mask = s.mask; value = s.value }) ts → o ≡ word_in s ts
-unfolding word_in fixed
-word-is s is ts o e h = h ∙ ap (λ (x : List Item). taken x (record { mask = s.mask; value = s.value }) ts) e
-
 pub target-is : (s : Shape) (is : List Item) (ts : List Token) (o : Option ℕ) → is ≡ items_of s → o ≡ target_in is ts → o ≡ target_in (items_of s) ts
 target-is s is ts o e h = h ∙ ap (λ (x : List Item). target_in x ts) e

@@ -2,12 +2,12 @@
 
 ghost use Rattle.std.specs.Prelude.{◌≡◌, ◌-◌, ◌*◌, ◌/◌, ◌%◌, ◌^◌, ◌<◌, true, option_map};
 ghost use Rattle.insn_text.specs.Rules.{meets, is_base_apart};
-ghost use Rattle.asm_operands.specs.Operands.{mask_of, placed, agrees, with_field, known_after};
+ghost use Rattle.asm_operands.specs.Operands.{fixed, mask_of, placed, agrees, with_field, known_after};
 ghost use Rattle.asm_operands.specs.Sound.{is_sound, is_in_word};
 
 use crate::fields::field_said;
 use asm_tokens::Token;
-use insn_text::{Item, Rule};
+use insn_text::{Item, Rule, Shape};
 
 /// The known bits of a word, and their values.
 #[derive(Clone, Copy)]
@@ -77,6 +77,17 @@ fn meets(rule: Rule, word: u32) -> bool
 
 impl Known {
     ghost use Rattle.asm_operands.specs.Views.{known_of};
+
+    /// The bits that a shape fixes.
+    #[tactic(auto, unfolding(crate::specs::Operands::fixed))]
+    pub(crate) fn fixed(shape: &Shape) -> Known
+        ensures { known_of result ≡ fixed shape.now }
+    {
+        Known {
+            mask: shape.mask,
+            value: shape.value,
+        }
+    }
 
     /// What is known with a field.
     #[tactic(auto, unfolding(crate::specs::Operands::with_field))]

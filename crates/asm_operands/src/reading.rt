@@ -6,10 +6,9 @@ ghost use Rattle.asm_operands.specs.Operands.{first_word, is_distance, is_distan
 ghost use Rattle.asm_operands.specs.Views.{said_by};
 
 use crate::faults::operand_fault;
-use crate::known::Known;
 use crate::operands::{OperandFault, Operands};
 use crate::shapes::{items_of, shapes_of};
-use crate::taking::taken;
+use crate::taking::word_in;
 use a64_decode::decode_scalar;
 use asm_tokens::Token;
 use insn_text::{Item, Kind, Shape};
@@ -101,18 +100,10 @@ fn first_said(shapes: &[Shape], tokens: &[Token]) -> Option<Said>
     ensures target { IfSome result (λ said. said.target ≡ target_of shapes.now tokens.now) }
 {
     for shape in shapes {
-        let items = items_of(shape);
-        match taken(
-            items,
-            Known {
-                mask: shape.mask,
-                value: shape.value,
-            },
-            tokens,
-        ) {
+        match word_in(shape, tokens) {
             Some(word) => return Some(Said {
                 word,
-                target: target_in(items, tokens),
+                target: target_in(items_of(shape), tokens),
             }),
             None => {}
         }
