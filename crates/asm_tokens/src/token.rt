@@ -8,15 +8,9 @@ pub enum Token {
     /// Any other name.
     Name,
     /// `#n` or `#-n`.
-    Number {
-        negative: bool,
-        size: u64,
-    },
+    Number { negative: bool, size: u64 },
     /// `.+n`, or `.-n` for one back.
-    Distance {
-        back: bool,
-        size: u64,
-    },
+    Distance { back: bool, size: u64 },
     /// A number without `#`.
     Bare(u64),
     /// What begins as one of these numbers and is none, or does not fit 64 bits.
