@@ -104,11 +104,11 @@ fn characters(bytes: &[u8]) -> usize
 /// The column, from 1, of the character that begins at a byte of the line, or just past its end.
 #[tactic(auto, unfolding(crate::specs::Characters::column_at))]
 pub fn column_at(line: &[u8], at: usize) -> u32
-    requires short { length line.now < 2 ^ 32 - 1 }
-    requires within { at ≤ length line.now }
+    requires { length line.now < 2 ^ 32 - 1 }
     ensures { result ≡ column_at line.now at }
 {
-    characters(&line[..at]) as u32 + 1
+    let before = if at < line.len() { &line[..at] } else { line };
+    characters(before) as u32 + 1
 }
 
 fn starts_comment(line: &[u8], at: usize) -> bool

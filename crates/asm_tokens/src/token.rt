@@ -1,7 +1,7 @@
 //! The tokens of a line of a source.
 
 /// A token. A name is a run of letters, digits, `_`, `.` and `$` that begins with no digit.
-#[derive(Clone, Copy, PartialEq, Eq)]
+#[derive(Clone, Copy, PartialEq, Eq, Default)]
 pub enum Token {
     /// A name that is a word of operands: its place in `insn_text::WORDS`.
     Word(u16),
@@ -18,6 +18,7 @@ pub enum Token {
     /// Any other character of ASCII.
     Mark(u8),
     /// Any other character.
+    #[default]
     Other,
 }
 
