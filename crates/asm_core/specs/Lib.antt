@@ -7,3 +7,4 @@ pub mod Faults
 pub mod Assembly
 pub mod Known
 pub mod Parts
+pub mod Surveyed

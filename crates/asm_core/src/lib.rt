@@ -8,5 +8,6 @@ mod labels;
 mod lines;
 mod parts;
 mod place;
+mod survey;
 
 pub use fault::AsmFault;

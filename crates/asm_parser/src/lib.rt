@@ -2,5 +2,7 @@
 #![tactic(auto)]
 
 mod line;
+mod lists;
+mod stops;
 
 pub use line::{Line, LineFault, Statement, Value};

@@ -1,0 +1,45 @@
+-- What the code tells of some tokens of a line: a value, or where the line stops.
+-- Source: this project's own assembly language.
+use Rattle.std.specs.Prelude.{◌≡◌, ℕ, List, ◌++◌, length, drop, slice_get, Option, Some, None, Result, Ok, Err, option_map}
+use Rattle.asm_tokens.specs.declared.token.Lexeme.{Lexeme}
+use Rattle.asm_tokens.specs.Characters.{column_at}
+use Rattle.asm_tokens.specs.Tokens.{lexemes_of}
+use Rattle.asm_parser.specs.declared.line.LineFault.{LineFault}
+use Rattle.asm_parser.specs.declared.stops.Stop.{Stop}
+use Rattle.asm_parser.specs.declared.stops.Stop.TheVariants.{Fault, Memory}
+use Rattle.asm_parser.specs.declared.line.LineFault.TheVariants as fault
+use Rattle.asm_parser.specs.Lines.{Answer, Tells, Stops, fault_of_kind}
+
+-- what some tokens say, with a fault where its token begins in the line, or nowhere if it stands past the last token
+unfoldable pub located : {A : Type 0} → List Lexeme → Answer A → Result A Stop
+located ls (Tells a) = Ok a
+located ls (Stops place kind) = Err (Fault (option_map (λ l. l.start) (slice_get ls place)) kind)
+
+-- the tokens of a text from a place on
+abbrev pub lexemes_from : List ℕ → ℕ → List Lexeme
+lexemes_from text at = lexemes_of at (drop at text)
+
+-- what the tokens of a text from a place on say
+unfoldable pub said_from : {A : Type 0} → (List Lexeme → Answer A) → List ℕ → ℕ → Result A Stop
+said_from says text at = located (lexemes_from text at) (says (lexemes_from text at))
+
+-- a result shows what is said, but where memory is wanted
+abbrev pub Shows : {R A : Type 0} → (R → A) → Result R Stop → Result A Stop → Type 0
+Shows view (Ok r) said = said ≡ Ok (view r)
+Shows view (Err Memory) said = Unit {0}
+Shows view (Err (Fault start kind)) said = said ≡ Err (Fault start kind)
+
+-- values that stand before those of a list
+abbrev pub before : {A : Type 0} → List A → Result (List A) Stop → Result (List A) Stop
+before values (Ok others) = Ok (values ++ others)
+before values (Err stop) = Err stop
+
+-- the column of a byte of the line, or just past the line's end
+unfoldable pub column_from : List ℕ → Option ℕ → ℕ
+column_from line None = column_at line (length line)
+column_from line (Some start) = column_at line start
+
+-- the fault of a line that stops
+unfoldable pub stop_fault : List ℕ → Stop → LineFault
+stop_fault line (Fault start kind) = fault_of_kind kind (column_from line start)
+stop_fault line Memory = fault.Memory
