@@ -2,3 +2,4 @@ pub mod LineEnds
 pub mod LineFaults
 pub mod Places
 pub mod SmallAligns
+pub mod Surveying
