@@ -1,16 +1,14 @@
 -- What the tokens of a text say, one token after another.
-use Rattle.std.proofs.Common.{◌≡◌, ℕ, suc, ◌+◌, Bool, true, false, List, [], ◌∷◌, ◌++◌, Option, Some, None, Ok, Err, Result, length, drop, slice_get, map, cond, refl, sym, ap, ◌∙◌, arith, append_assoc}
-use Rattle.std.specs.Prelude.{option_map}
+use Rattle.std.proofs.Common.{◌≡◌, ℕ, suc, ◌+◌, true, false, List, [], ◌∷◌, ◌++◌, Option, Some, None, Ok, Err, Result, map, cond, refl, sym, ap, ◌∙◌, arith, append_assoc}
 use Rattle.std.proofs.lemmas.List.{append-nil, map-append}
 use Rattle.asm_tokens.specs.declared.token.Lexeme.{Lexeme}
-use Rattle.asm_tokens.specs.declared.token.Token.{Token}
 use Rattle.asm_operands.specs.declared.fault.FaultKind.{FaultKind}
 use Rattle.asm_operands.specs.declared.fault.FaultKind.TheVariants.{BadNumber, Extra, BadOperand}
 use Rattle.asm_operands.specs.Operands.{is_name, is_number_token}
 use Rattle.asm_parser.specs.declared.stops.Stop.{Stop}
 use Rattle.asm_parser.specs.declared.stops.Stop.TheVariants.{Fault, Memory}
 use Rattle.asm_parser.specs.Lines.{Answer, Tells, Stops, and_then, further, ends, no_number, number_up_to, number_then_end, one_number, one_name, text_of_lexeme, cons_answer, is_comma_token, value_or_fault, values_from}
-use Rattle.asm_parser.specs.Told.{located, lexemes_from, said_from, Shows, before}
+use Rattle.asm_parser.specs.Told.{located, lexemes_from, said_from, StopsAs, before}
 
 -- the tokens from a place on are this one and those from its end on
 abbrev pub First : List ℕ → ℕ → Lexeme → Type 0
@@ -163,11 +161,33 @@ module _ {A B : Type 0} (a : A) (b : B) where
   unfolding said_from
   ends-err text at stop e = ends_err (lexemes_from text at) stop e
 
+-- ---- what is made of an answer
+
+module _ {A B : Type 0} (make : A → B) where
+  made_ok : (ls : List Lexeme) (answer : Answer A) (a : A) → located ls answer ≡ Ok a → located ls (and_then make answer) ≡ Ok (make a)
+  unfolding located
+  made_ok ls (Tells b) a e = let same : b ≡ a = cc in ap (λ x. Ok (make x)) same
+  made_ok ls (Stops place kind) a e = cc
+
+  made_err : (ls : List Lexeme) (answer : Answer A) (stop : Stop) → located ls answer ≡ Err stop → located ls (and_then make answer) ≡ Err stop
+  unfolding located
+  made_err ls (Tells b) stop e = cc
+  made_err ls (Stops place kind) stop e = cc
+
+  pub made-ok : (says : List Lexeme → Answer A) (text : List ℕ) (at : ℕ) (a : A) → said_from says text at ≡ Ok a
+      → said_from (λ ls. and_then make (says ls)) text at ≡ Ok (make a)
+  unfolding said_from
+  made-ok says text at a e = made_ok (lexemes_from text at) (says (lexemes_from text at)) a e
+
+  pub made-err : (says : List Lexeme → Answer A) (text : List ℕ) (at : ℕ) (stop : Stop) → said_from says text at ≡ Err stop
+      → said_from (λ ls. and_then make (says ls)) text at ≡ Err stop
+  unfolding said_from
+  made-err says text at stop e = made_err (lexemes_from text at) (says (lexemes_from text at)) stop e
+
 -- a fault that is passed on
-pub passes_on : {R S A B : Type 0} (view : R → A) (show : S → B) (said : Result A Stop) (other : Result B Stop) (stop : Stop)
-    → ((s : Stop) → said ≡ Err s → other ≡ Err s) → Shows view (Err stop) said → Shows show (Err stop) other
-passes_on view show said other Memory same e = tt
-passes_on view show said other (Fault start kind) same e = same (Fault start kind) e
+pub passes_on : {A B : Type 0} (said : Result A Stop) (other : Result B Stop) (stop : Stop) → ((s : Stop) → said ≡ Err s → other ≡ Err s) → StopsAs stop said → StopsAs stop other
+passes_on said other Memory same e = tt
+passes_on said other (Fault start kind) same e = same (Fault start kind) e
 
 -- ---- a list that is read so far
 

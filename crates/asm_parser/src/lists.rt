@@ -5,13 +5,11 @@ ghost use Rattle.asm_parser.specs.Statements.{QuadValue, value_of};
 ghost use Rattle.asm_parser.specs.Lines.{ends, number_up_to, one_number, one_name, values_from, number_value, quad_value};
 ghost use Rattle.asm_parser.specs.Told.{said_from, Shows, before};
 
-use std::alloc::Global;
-
-use asm_operands::FaultKind;
-use asm_tokens::{Lexeme, Token, next_lexeme};
-
 use crate::line::Value;
 use crate::stops::{Stop, is_comma, is_name, no_number};
+use asm_operands::FaultKind;
+use asm_tokens::{Lexeme, Token, next_lexeme};
+use std::alloc::Global;
 
 /// A number without `#`, up to the greatest.
 #[tactic(auto, unfolding(crate::specs::Lines::number_up_to))]
@@ -38,7 +36,10 @@ pub fn expect_end(text: &[u8], at: usize) -> Result<(), Stop>
 {
     match next_lexeme(text, at) {
         None => Ok(()),
-        Some(extra) => Err(Stop::Fault { start: Some(extra.start), kind: FaultKind::Extra }),
+        Some(extra) => Err(Stop::Fault {
+            start: Some(extra.start),
+            kind: FaultKind::Extra,
+        }),
     }
 }
 
@@ -49,7 +50,10 @@ pub fn one_number(text: &[u8], at: usize, most: u64) -> Result<u64, Stop>
     ensures small { IfOk result (λ n. n ≤ most) }
 {
     match next_lexeme(text, at) {
-        None => Err(Stop::Fault { start: None, kind: FaultKind::BadOperand }),
+        None => Err(Stop::Fault {
+            start: None,
+            kind: FaultKind::BadOperand,
+        }),
         Some(lexeme) => match number_up_to(most, lexeme.token) {
             None => Err(no_number(lexeme)),
             Some(number) => {
@@ -67,10 +71,16 @@ pub fn one_name<'a>(line: &'a [u8], text: &[u8], at: usize) -> Result<&'a [u8], 
     ensures { Shows (λ name. name.now) result (said_from (one_name line.now) text.now at) }
 {
     match next_lexeme(text, at) {
-        None => Err(Stop::Fault { start: None, kind: FaultKind::BadOperand }),
+        None => Err(Stop::Fault {
+            start: None,
+            kind: FaultKind::BadOperand,
+        }),
         Some(lexeme) => {
             if !is_name(lexeme.token) {
-                return Err(Stop::Fault { start: Some(lexeme.start), kind: FaultKind::BadOperand });
+                return Err(Stop::Fault {
+                    start: Some(lexeme.start),
+                    kind: FaultKind::BadOperand,
+                });
             }
             expect_end(text, lexeme.end)?;
             Ok(&line[lexeme.start..lexeme.end])
@@ -154,7 +164,10 @@ fn value_at<'a, T: Listed<'a>>(line: &'a [u8], text: &[u8], at: usize) -> Result
     ensures err { IfErr result (λ stop. said_from (values_from (T.value_in line.now) true) text.now at ≡ Err stop) }
 {
     match next_lexeme(text, at) {
-        None => Err(Stop::Fault { start: None, kind: FaultKind::BadOperand }),
+        None => Err(Stop::Fault {
+            start: None,
+            kind: FaultKind::BadOperand,
+        }),
         Some(lexeme) => match T::value_in(line, lexeme) {
             None => Err(no_number(lexeme)),
             Some(value) => Ok((value, lexeme.end)),
@@ -163,7 +176,12 @@ fn value_at<'a, T: Listed<'a>>(line: &'a [u8], text: &[u8], at: usize) -> Result
 }
 
 /// One value or more, with a comma between each two.
-pub fn values<'a, T: Listed<'a>>(alloc: Global, line: &'a [u8], text: &[u8], at: usize) -> Result<Vec<T>, Stop>
+pub fn values<'a, T: Listed<'a>>(
+    alloc: Global,
+    line: &'a [u8],
+    text: &[u8],
+    at: usize,
+) -> Result<Vec<T>, Stop>
     requires within { at ≤ length text.now }
     requires part { length text.now ≤ length line.now }
     ensures { Shows (λ values. map T.seen values.items) result (said_from (values_from (T.value_in line.now) true) text.now at) }
@@ -180,7 +198,10 @@ pub fn values<'a, T: Listed<'a>>(alloc: Global, line: &'a [u8], text: &[u8], at:
             None => return Ok(values),
             Some(comma) => {
                 if !is_comma(comma.token) {
-                    return Err(Stop::Fault { start: Some(comma.start), kind: FaultKind::Extra });
+                    return Err(Stop::Fault {
+                        start: Some(comma.start),
+                        kind: FaultKind::Extra,
+                    });
                 }
                 from = comma.end;
             }

@@ -4,10 +4,9 @@ ghost use Rattle.asm_operands.specs.Operands.{is_name, is_number_token};
 ghost use Rattle.asm_parser.specs.Lines.{is_comma_token};
 ghost use Rattle.asm_parser.specs.Told.{stop_fault};
 
+use crate::line::LineFault;
 use asm_operands::FaultKind;
 use asm_tokens::{Lexeme, Token, column_at};
-
-use crate::line::LineFault;
 
 /// Why a line goes no further.
 #[derive(Clone, Copy)]
@@ -75,8 +74,15 @@ pub fn is_comma(token: Token) -> bool
 pub fn no_number(lexeme: Lexeme) -> Stop
     ensures { result ≡ Stop.Fault (Some lexeme.start) (if is_number_token lexeme.token then FaultKind.BadNumber else FaultKind.BadOperand) }
 {
-    let kind = if is_number(lexeme.token) { FaultKind::BadNumber } else { FaultKind::BadOperand };
-    Stop::Fault { start: Some(lexeme.start), kind }
+    let kind = if is_number(lexeme.token) {
+        FaultKind::BadNumber
+    } else {
+        FaultKind::BadOperand
+    };
+    Stop::Fault {
+        start: Some(lexeme.start),
+        kind,
+    }
 }
 
 /// The fault of a line that goes no further.

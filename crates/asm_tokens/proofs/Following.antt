@@ -53,7 +53,7 @@ lexemes-blank : (at c : ℕ) (cs : List ℕ) → is_blank c ≡ true → lexemes
 unfolding lexemes_from
 lexemes-blank at c cs e = cond-true (is_blank c) _ _ e
 
-lexemes-token : (at c : ℕ) (cs : List ℕ) → is_blank c ≡ false
+pub lexemes-token : (at c : ℕ) (cs : List ℕ) → is_blank c ≡ false
     → lexemes_of at (c ∷ cs) ≡ lexeme_at at (read_token c cs) ∷ lexemes_of (at + (read_token c cs).size) (drop (read_token c cs).size (c ∷ cs))
 unfolding lexemes_from
 lexemes-token at c cs e =

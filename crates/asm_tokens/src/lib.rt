@@ -8,7 +8,7 @@ mod numbers;
 mod places;
 mod token;
 
-pub use characters::{before_comment, column_at, is_blank, is_digit, run_at, skip_blanks};
+pub use characters::{before_comment, byte_at, column_at, is_digit, run_at, skip_blanks};
 pub use lexemes::{begins_name, next_lexeme};
 pub use names::name_place;
 pub use token::{Lexeme, Token};

@@ -1,7 +1,7 @@
-use Rattle.std.proofs.Common.{ℕ, List, Bor, ◌∙◌}
+use Rattle.std.proofs.Common.{◌∙◌}
 use Rattle.std.proofs.lemmas.Result.{err_from_is_err_and}
 use Rattle.asm_parser.specs.Lines.{ends, one_name, text_of_lexeme}
-use Rattle.asm_parser.specs.Told.{Shows, said_from}
+use Rattle.asm_parser.specs.Told.{said_from}
 use Rattle.asm_parser.proofs.Saying.{name-empty, name-bad, name-some, ends-ok, ends-err, passes_on}
 use Rattle.asm_parser.proofs.lists.one_name.Goals as goal
 
@@ -14,9 +14,9 @@ returns-in_err-expect_end-in-Some c =
     let l = c.in-Some.lexeme in
     let p = err_from_is_err_and c.from_residual.result c.from_residual.ensures.1 in
     rw (p.1, p.2)
-    (passes_on (λ (_ : Unit {0}). tt {0}) (λ (name : Bor (List ℕ)). name.now) (said_from (ends (tt {0})) text l.end) (said_from (one_name c.args.line.now) text c.args.at) c.in_err-expect_end-in-Some.field-0.0
-      (λ s e. name-some c.args.line.now text c.args.at l c.in-Some.ensures.first c.if-not-is_name.ensures ∙ ends-err (tt {0}) (text_of_lexeme c.args.line.now l) text l.end s e)
-      c.in_err-expect_end-in-Some.ensures)
+    (passes_on (said_from (ends (tt {0})) text l.end) (said_from (one_name c.args.line.now) text c.args.at) c.in_err-expect_end-in-Some.field-0.0
+    (λ s e. name-some c.args.line.now text c.args.at l c.in-Some.ensures.first c.if-not-is_name.ensures ∙ ends-err (tt {0}) (text_of_lexeme c.args.line.now l) text l.end s e)
+    c.in_err-expect_end-in-Some.ensures)
 
 pub returns-in-None : goal.returns-in-None
 returns-in-None c = name-empty c.args.line.now c.args.text.now c.args.at c.in-None.ensures.first

@@ -1,4 +1,3 @@
-use Rattle.std.proofs.Common.{◌∙◌, sym}
 use Rattle.asm_parser.proofs.Saying.{values-empty, values-bad, values-some}
 use Rattle.asm_parser.proofs.lists.value_at.Goals as goal
 
