@@ -1,5 +1,5 @@
 -- The steps of the first pass.
-use Rattle.std.proofs.Common.{◌≡◌, ℕ, ◌+◌, ◌-◌, ◌<◌, ◌≤◌, Bool, true, false, cond, not, List, [], ◌∷◌, ◌++◌, length, map, Option, Some, None, Result, Ok, Err, refl, sym, ap, ◌∙◌, subst, arith}
+use Rattle.std.proofs.Common.{◌≡◌, ℕ, ◌+◌, ◌-◌, ◌<◌, ◌≤◌, ◌≢◌, Bool, true, false, cond, not, List, [], ◌∷◌, ◌++◌, length, map, Option, Some, None, Result, Ok, Err, refl, sym, ap, ◌∙◌, subst, arith}
 use Rattle.std.specs.Prelude.{option_map, is_some}
 use Rattle.std.specs.List.{find, filter_map}
 use Rattle.std.specs.Str.{bytes_eq}
@@ -9,6 +9,7 @@ use Rattle.asm_parser.specs.declared.line.LineFault.{LineFault}
 use Rattle.asm_parser.specs.Statements.{SourceLine}
 use Rattle.asm_parser.specs.Lines.{line_of}
 use Rattle.asm_core.specs.declared.fault.AsmFault.{AsmFault}
+use Rattle.asm_core.specs.declared.fault.AsmFault.TheVariants.{Line}
 use Rattle.asm_core.specs.declared.labels.Labels.{Labels}
 use Rattle.asm_core.specs.declared.labels.LabelPlace.{LabelPlace}
 use Rattle.asm_core.specs.declared.place.Place.{Place}
@@ -17,7 +18,9 @@ use Rattle.asm_core.specs.Layout.{first_place, here, Label, label_at, if_some, l
 use Rattle.asm_core.specs.Faults.{or_else, after_line, line_fault, lines_fault, labels_after}
 use Rattle.asm_core.specs.Limits.{IsInLimits}
 use Rattle.asm_core.specs.Known.{known, label_place, Knows}
-use Rattle.asm_core.specs.Surveyed.{Passes, IsSurveyedTo}
+use Rattle.asm_core.specs.Surveyed.{fault_at, Passes, IsSurveyedTo}
+use Rattle.asm_core.specs.declared.fault.AsmFault.TheVariants as fault
+use Rattle.asm_parser.specs.declared.line.LineFault.TheVariants as line
 
 -- ---- one more label
 
@@ -102,7 +105,7 @@ place_cons p line lines = refl
 pub surveyed_more : (source : List ℕ) (n : ℕ) (p : Place) (table : Labels) (rest text after : List ℕ) (next : Place) (more : Labels) (h : IsSurveyedTo source n p table rest)
     → lines_of rest ≡ text ∷ lines_of after → length after < length rest → Passes n p h.list text next more → IsSurveyedTo source (n + 1) next more after
 surveyed_more source n p table rest text after next more h split shorter passes =
-    let line = passes.line in
+    let line = passes.said in
     let said : said_lines (lines_of rest) ≡ line ∷ said_lines (lines_of after) = ap said_lines split ∙ said_cons text (lines_of after) line passes.says in
     record {
       list = labels_after p h.list line;
@@ -114,6 +117,7 @@ surveyed_more source n p table rest text after next more h split shorter passes 
           ∙ sym (append_assoc h.list (if_some (option_map (label_at p) line.label)) (labels_from (place_after p line.says) (said_lines (lines_of after))))
           ∙ ap (λ (q : Place). labels_after p h.list line ++ labels_from q (said_lines (lines_of after))) (sym passes.after_is);
       place = h.place ∙ ap (place_past p) said ∙ place_cons p line (said_lines (lines_of after)) ∙ ap (λ (q : Place). place_past q (said_lines (lines_of after))) (sym passes.after_is);
+      numbered = omega arith;
       count = let c : n + length rest ≤ 67108865 = h.count in omega arith;
     }
 
@@ -147,6 +151,7 @@ surveyed_none source table short empty = record {
   faults = refl;
   labels = refl;
   place = refl;
+  numbered = omega arith;
   count = omega arith;
 }
 
@@ -163,3 +168,19 @@ module _ (source : List ℕ) (n : ℕ) (p : Place) (table : Labels) (rest : List
 
   pub all_placed : p ≡ place_past first_place (said_lines (lines_of source))
   all_placed = sym (h.place ∙ ap (place_past p) nothing_left ∙ no_place p)
+
+-- a line that is not in the grammar
+pub unread : (n : ℕ) (p : Place) (list : List Label) (text : List ℕ) (fault : LineFault) → line_of text ≡ Err fault → line_fault n p list (line_of text) ≡ Some (Line n fault)
+unfolding line_fault
+unread n p list text fault e = rw e refl
+
+-- the fault that its parsing gave is the line's
+pub read_fault : (n : ℕ) (p : Place) (list : List Label) (text : List ℕ) (f : LineFault) → (f ≢ line.Memory → line_of text ≡ Err f) → fault_at n f ≢ fault.Memory → line_fault n p list (line_of text) ≡ Some (fault_at n f)
+read_fault n p list text line.Memory h ne = absurd (ne refl)
+read_fault n p list text (line.UnknownName column) h ne = unread n p list text (line.UnknownName column) (h (λ e. cc))
+read_fault n p list text (line.BadOperand column) h ne = unread n p list text (line.BadOperand column) (h (λ e. cc))
+read_fault n p list text (line.BadNumber column) h ne = unread n p list text (line.BadNumber column) (h (λ e. cc))
+read_fault n p list text (line.Extra column) h ne = unread n p list text (line.Extra column) (h (λ e. cc))
+
+pub doubled_name : (list : List Label) (name : List ℕ) → is_some (label_named list name) ≡ false → label_named list name ≡ None
+doubled_name list name e = no_some (label_named list name) e

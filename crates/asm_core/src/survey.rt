@@ -1,12 +1,13 @@
 //! The first pass over a source: its labels, and how large its parts become.
-ghost use Rattle.std.specs.Prelude.{◌≡◌, ◌≢◌, ◌≤◌, ℕ, List, [], None, Some, length, IfOk, IfErr};
+ghost use Rattle.std.specs.Prelude.{◌≡◌, ◌≢◌, ◌≤◌, ◌++◌, ℕ, List, [], false, None, Some, Ok, length, option_map, IfOk, IfErr, OnOk};
+ghost use Rattle.asm_parser.specs.Statements.{line_said, says_of};
 ghost use Rattle.asm_parser.specs.Lines.{line_of};
 ghost use Rattle.asm_core.specs.Source.{lines_of, said_lines};
 ghost use Rattle.asm_core.specs.Layout as layout;
-ghost use Rattle.asm_core.specs.Faults.{line_fault, lines_fault};
-ghost use Rattle.asm_core.specs.Limits.{IsInLimits};
+ghost use Rattle.asm_core.specs.Faults.{is_doubled, line_fault, lines_fault};
+ghost use Rattle.asm_core.specs.Limits.{IsInLimits, HasSmallAlign};
 ghost use Rattle.asm_core.specs.Known.{Knows};
-ghost use Rattle.asm_core.specs.Surveyed.{Passes};
+ghost use Rattle.asm_core.specs.Surveyed.{fault_at, Passes};
 
 use crate::check::check_line;
 use crate::fault::AsmFault;
@@ -23,6 +24,31 @@ pub struct Survey<'a> {
     pub end: Place,
 }
 
+/// The fault of line number `number` that its parsing gave.
+fn fault_at(number: u32, fault: LineFault) -> AsmFault
+    ensures { result ≡ fault_at number fault }
+{
+    match fault {
+        LineFault::Memory => AsmFault::Memory,
+        LineFault::UnknownName(_) => AsmFault::Line {
+            line: number,
+            fault,
+        },
+        LineFault::BadOperand(_) => AsmFault::Line {
+            line: number,
+            fault,
+        },
+        LineFault::BadNumber(_) => AsmFault::Line {
+            line: number,
+            fault,
+        },
+        LineFault::Extra(_) => AsmFault::Line {
+            line: number,
+            fault,
+        },
+    }
+}
+
 /// What line number `number` says.
 fn read_line(alloc: Global, number: u32, text: &[u8]) -> Result<Line<'_>, AsmFault>
     requires { length text.now ≤ 67108864 }
@@ -32,11 +58,7 @@ fn read_line(alloc: Global, number: u32, text: &[u8]) -> Result<Line<'_>, AsmFau
 {
     match parse_bytes(alloc, text) {
         Ok(line) => Ok(line),
-        Err(LineFault::Memory) => Err(AsmFault::Memory),
-        Err(fault) => Err(AsmFault::Line {
-            line: number,
-            fault,
-        }),
+        Err(fault) => Err(fault_at(number, fault)),
     }
 }
 
@@ -83,7 +105,7 @@ fn survey_line<'a>(
 }
 
 /// The first pass over a source: its labels and the sizes of its parts, or the fault of its first line that has one.
-pub fn survey<'a>(alloc: Global, source: &'a [u8]) -> Result<Survey<'a>, AsmFault>
+pub fn survey_source<'a>(alloc: Global, source: &'a [u8]) -> Result<Survey<'a>, AsmFault>
     requires { length source.now ≤ 67108864 }
     ensures accepted { IfOk result (λ survey. lines_fault 1 layout.first_place [] (lines_of source.now) ≡ None) }
     ensures knows { IfOk result (λ survey. Knows survey.labels (layout.labels_of (said_lines (lines_of source.now)))) }
@@ -96,7 +118,10 @@ pub fn survey<'a>(alloc: Global, source: &'a [u8]) -> Result<Survey<'a>, AsmFaul
     let mut number = 1u32;
     let mut rest = source;
     while let Some((text, after)) = next_line(rest) {
-        place = survey_line(alloc, number, &place, &mut labels, text)?;
+        place = match survey_line(alloc, number, &place, &mut labels, text) {
+            Ok(next) => next,
+            Err(fault) => return Err(fault),
+        };
         number += 1;
         rest = after;
     }
