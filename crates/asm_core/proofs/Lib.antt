@@ -1,5 +1,9 @@
+pub mod Chain
 pub mod LineEnds
 pub mod LineFaults
+pub mod Listed
+pub mod Marks
 pub mod Places
 pub mod SmallAligns
+pub mod Sounds
 pub mod Surveying

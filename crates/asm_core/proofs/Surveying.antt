@@ -77,7 +77,7 @@ knows_same table list h = subst (Knows table) (sym (append_none list)) h
 
 -- ---- one more line
 
-lines_cons : (n : ℕ) (p : Place) (list : List Label) (text : List ℕ) (texts : List (List ℕ))
+pub lines_cons : (n : ℕ) (p : Place) (list : List Label) (text : List ℕ) (texts : List (List ℕ))
     → lines_fault n p list (text ∷ texts) ≡ or_else (line_fault n p list (line_of text)) (after_line (λ next known. lines_fault (n + 1) next known texts) p list (line_of text))
 unfolding lines_fault
 lines_cons n p list text texts = refl
@@ -89,7 +89,7 @@ line_passes n p list text texts line is sound = lines_cons n p list text texts �
 pub line_stops : (n : ℕ) (p : Place) (list : List Label) (text : List ℕ) (texts : List (List ℕ)) (fault : AsmFault) → line_fault n p list (line_of text) ≡ Some fault → lines_fault n p list (text ∷ texts) ≡ Some fault
 line_stops n p list text texts fault e = lines_cons n p list text texts ∙ ap (λ o. or_else o (after_line (λ next known. lines_fault (n + 1) next known texts) p list (line_of text))) e
 
-said_cons : (text : List ℕ) (texts : List (List ℕ)) (line : SourceLine) → line_of text ≡ Ok line → said_lines (text ∷ texts) ≡ line ∷ said_lines texts
+pub said_cons : (text : List ℕ) (texts : List (List ℕ)) (line : SourceLine) → line_of text ≡ Ok line → said_lines (text ∷ texts) ≡ line ∷ said_lines texts
 unfolding said_lines
 said_cons text texts line e = rw e refl
 

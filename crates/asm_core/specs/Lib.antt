@@ -8,3 +8,4 @@ pub mod Assembly
 pub mod Known
 pub mod Parts
 pub mod Surveyed
+pub mod Sound
