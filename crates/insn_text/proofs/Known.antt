@@ -1,7 +1,7 @@
 -- What a region and a group's condition say of the operands of a shape, and which regions have no word of the group.
 use Rattle.std.proofs.Common.{◌≡◌, ◌≢◌, ◌⊎◌, inl, inr, ℕ, ◌+◌, ◌*◌, ◌/◌, ◌%◌, ◌^◌, ◌<◌, ◌≤◌, Bool, true, false, not, ◌&&◌, ◌||◌, ◌==◌, nat_lt, nat_le, cond, List, [], ◌∷◌, bit_and, refl, sym, ap, ap₂, ◌∙◌, arith, eqb-true, eq-eqb, lt-ltb, ltb-true, leb-true}
 use Rattle.std.specs.List.{list_all}
-use Rattle.std.proofs.lemmas.Bool.{and_parts, both_ways, le-leb}
+use Rattle.std.proofs.lemmas.Bool.{and_from, and_parts, both_ways, le-leb}
 use Rattle.a64_table.specs.declared.rows.Group.{Group}
 use Rattle.a64_table.specs.declared.rows.Group.TheVariants.{G2, G3, G4, G5, G6, G7, G8, G18, G20}
 use Rattle.a64_table.specs.Fields.{field_of, bit_of}
@@ -424,21 +424,17 @@ rule_met g word m v BasePairApart r f e =
     pair_rule (not (bit_of word 22) || not (field_of word 0 5 == field_of word 10 5)) (bit_of word 23) (field_of word 5 5 == 31) (field_of word 5 5 == field_of word 0 5) (field_of word 5 5 == field_of word 10 5)
     (fixed_bit word m v 23 true r p.1) (two_accesses g word p.0 f)
 
-both : (a b : Bool) → a ≡ true → b ≡ true → (a && b) ≡ true
-both true b d e = e
-both false b d e = d
-
 item_said : (g : Group) (word m v : ℕ) (i : Item) → bit_and word m ≡ v → fits_of g word ≡ true → says_item g m v i ≡ true → is_sayable word i ≡ true
 unfolding says_item is_sayable
 item_said g word m v i r f e =
     let p = and_parts (says_kind g m v i i.kind) (says_rule g m v i.rule) e in
-    both _ _ (kind_within g word m v i i.kind r f p.0) (rule_met g word m v i.rule r f p.1)
+    and_from _ _ (kind_within g word m v i i.kind r f p.0) (rule_met g word m v i.rule r f p.1)
 
 all_said : (g : Group) (word m v : ℕ) (is : List Item) → bit_and word m ≡ v → fits_of g word ≡ true → list_all (says_item g m v) is ≡ true → list_all (is_sayable word) is ≡ true
 all_said g word m v [] r f e = refl
 all_said g word m v (i ∷ is) r f e =
     let p = and_parts (says_item g m v i) (list_all (says_item g m v) is) e in
-    both _ _ (item_said g word m v i r f p.0) (all_said g word m v is r f p.1)
+    and_from _ _ (item_said g word m v i r f p.0) (all_said g word m v is r f p.1)
 
 pub said : (g : Group) (word m v : ℕ) (s : Shape) → bit_and word m ≡ v → fits_of g word ≡ true → says g m v s ≡ true → list_all (is_sayable word) (items_of s) ≡ true
 unfolding says

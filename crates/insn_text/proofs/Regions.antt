@@ -7,7 +7,7 @@ use Rattle.std.specs.Int.{bit_at}
 use Rattle.std.specs.Int.Bits.{or_zero_r}
 use Rattle.std.proofs.lemmas.Nat.{and_assoc, and_comm}
 use Rattle.std.proofs.lemmas.Nat.Bits.{and_pow, bit_at_and, bit_at_or, bit_at-lt, same_from_bits}
-use Rattle.std.proofs.lemmas.Bool.{and_parts}
+use Rattle.std.proofs.lemmas.Bool.{and_parts, false_from_ne_true}
 use Rattle.bit_ops.specs.Masks.{highest_one}
 use Rattle.insn_text.specs.declared.item.Shape.{Shape}
 use Rattle.insn_text.specs.Texts.{prints, items_of}
@@ -82,17 +82,13 @@ half_set word mask value bit m z = and-or word mask bit ∙ ap₂ bit_or m z
 
 -- ---- a region and a shape
 
-is_false : (b : Bool) → (b ≡ true → ⊥) → b ≡ false
-is_false true h = absurd (h refl)
-is_false false h = refl
-
 agree : (word mask value : ℕ) (s : Shape) → bit_and word mask ≡ value → bit_and word s.mask ≡ s.value → bit_and s.value mask ≡ bit_and value s.mask
 agree word mask value s m n =
     ap (λ x. bit_and x mask) (sym n) ∙ and_assoc mask word s.mask ∙ ap (bit_and word) (and_comm s.mask mask) ∙ sym (and_assoc s.mask word mask) ∙ ap (λ x. bit_and x s.mask) m
 
 apart_prints : (word mask value : ℕ) (s : Shape) → bit_and word mask ≡ value → is_apart mask value s ≡ true → prints word s ≡ false
 unfolding is_apart prints
-apart_prints word mask value s m e = is_false (not s.alias && (bit_and word s.mask == s.value)) (λ p.
+apart_prints word mask value s m e = false_from_ne_true (not s.alias && (bit_and word s.mask == s.value)) (λ p.
     let parts = and_parts (not s.alias) (bit_and word s.mask == s.value) p in
     neither s.alias _ parts.0 (eq-eqb _ _ (agree word mask value s m (eqb-true _ _ parts.1))) e)
   where
