@@ -22,7 +22,7 @@ use Rattle.insn_text.specs.declared.words.TheConstants.{WORDS, NAMES}
 use Rattle.insn_text.specs.declared.operands.TheConstants.{ITEMS}
 use Rattle.insn_text.specs.declared.shapes.TheConstants.{SHAPES}
 use Rattle.insn_text.specs.Texts.{text_in, text_at, is_positive, size_of, hexadecimal, mask_in, mask_text, signed_text, distance_text, register_place, kind_text, bits_of, field_in, item_text, is_mark, is_comma, gap, items_text, items_of, shape_text, prints, printed_shape}
-use Rattle.insn_text.specs.Places.{has_ascii_mark, is_sized}
+use Rattle.insn_text.specs.Places.{is_sized}
 use Rattle.insn_text.proofs.Sizes.{sizes, join_small, pow_at_most}
 use Rattle.insn_text.proofs.Tables.{all_take, all_drop, all_get, items_sized}
 
