@@ -10,6 +10,7 @@ use bit_ops::mask_fields;
 use insn_text::Kind;
 
 /// One of `count` words from place `first` on.
+#[inline(always)]
 #[tactic(auto, unfolding(crate::specs::Fields::word_field))]
 fn word_field(first: u16, count: u16, place: u16) -> Option<u32>
     ensures { result ≡ word_field first count place }
@@ -24,6 +25,7 @@ fn word_field(first: u16, count: u16, place: u16) -> Option<u32>
 }
 
 /// The number of a register whose word stands at the place.
+#[inline(always)]
 #[tactic(auto, unfolding(crate::specs::Fields::register_field))]
 fn register_field(first: u16, last: u16, place: u16) -> Option<u32>
     ensures { result ≡ register_field first last place }
@@ -180,6 +182,7 @@ fn inverted_if(wide: bool, inverted: bool, number: u64) -> u64
 }
 
 /// The fields of a mask that is not negative.
+#[inline(never)]
 fn positive_mask_field(wide: bool, negative: bool, size: u64) -> Option<u32>
     ensures { result ≡ (if negative then None else mask_field wide size) }
 {
@@ -191,6 +194,7 @@ fn positive_mask_field(wide: bool, negative: bool, size: u64) -> Option<u32>
 }
 
 /// The fields of a mask that may be written as a negative number.
+#[inline(never)]
 fn signed_mask_field(wide: bool, negative: bool, size: u64) -> Option<u32>
     ensures { result ≡ option_and_then (mask_field wide) (immediate_of wide negative size) }
 {
@@ -201,6 +205,7 @@ fn signed_mask_field(wide: bool, negative: bool, size: u64) -> Option<u32>
 }
 
 /// The halfword of a number that may be negative, or of its bits inverted.
+#[inline(never)]
 fn signed_halfword_field(wide: bool, inverted: bool, negative: bool, size: u64) -> Option<u32>
     ensures { result ≡ option_and_then (λ number. halfword_field wide (inverted_if wide inverted number)) (immediate_of wide negative size) }
 {
@@ -221,6 +226,7 @@ fn opposite_field(first: u16, count: u16, place: u16) -> Option<u32>
 }
 
 /// The number of a field of so many bits that the token says.
+#[inline(always)]
 #[tactic(auto, unfolding(crate::specs::Fields::field_said, crate::specs::Fields::on_mark, crate::specs::Fields::on_word, crate::specs::Fields::on_number, crate::specs::Fields::on_target, crate::specs::Sound::has_factor))]
 pub(crate) fn field_said(kind: Kind, bits: u32, token: Token) -> Option<u32>
     requires few { bits < 32 }
