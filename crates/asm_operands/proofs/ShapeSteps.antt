@@ -6,7 +6,7 @@ use Rattle.asm_tokens.specs.declared.token.Token.{Token}
 use Rattle.insn_text.specs.declared.item.Item.{Item}
 use Rattle.insn_text.specs.declared.item.Shape.{Shape}
 use Rattle.insn_text.specs.Texts.{items_of}
-use Rattle.asm_operands.specs.Operands.{fixed, taken, word_in, reach_in, first_of_words, first_word, furthest, target_in, target_of}
+use Rattle.asm_operands.specs.Operands.{word_in, reach_in, first_of_words, first_word, furthest, target_in, target_of}
 use Rattle.asm_operands.proofs.Way.{drop-at}
 
 -- ---- the greatest reach

@@ -1,8 +1,8 @@
 //! The bits of a word that operands say.
 
-ghost use Rattle.std.specs.Prelude.{◌≡◌, ◌-◌, ◌*◌, ◌/◌, ◌%◌, ◌^◌, ◌<◌, true, option_map};
+ghost use Rattle.std.specs.Prelude.{◌≡◌, ◌-◌, ◌*◌, ◌/◌, ◌%◌, ◌^◌, ◌<◌, true, Some, option_map};
 ghost use Rattle.insn_text.specs.Rules.{meets, is_base_apart};
-ghost use Rattle.asm_operands.specs.Operands.{fixed, mask_of, placed, agrees, with_field, known_after};
+ghost use Rattle.asm_operands.specs.Operands.{fixed, mask_of, placed, known_with, known_after};
 ghost use Rattle.asm_operands.specs.Sound.{is_sound, is_in_word};
 
 use crate::fields::field_said;
@@ -17,6 +17,7 @@ pub(crate) struct Known {
 }
 
 /// So many ones.
+#[inline(always)]
 fn ones(width: u8) -> u32
     requires { width < 32 }
     ensures { result ≡ 2 ^ width - 1 }
@@ -25,6 +26,7 @@ fn ones(width: u8) -> u32
 }
 
 /// The bits of an operand's field in a word.
+#[inline(always)]
 #[tactic(auto, unfolding(crate::specs::Operands::mask_of, crate::specs::Sound::is_in_word))]
 fn mask_of(item: &Item) -> u32
     requires { is_in_word item.now ≡ true }
@@ -35,6 +37,7 @@ fn mask_of(item: &Item) -> u32
 }
 
 /// The field at its place in a word.
+#[inline(always)]
 #[tactic(auto, unfolding(crate::specs::Operands::placed, crate::specs::Sound::is_in_word))]
 fn placed(item: &Item, field: u32) -> u32
     requires { is_in_word item.now ≡ true }
@@ -46,6 +49,7 @@ fn placed(item: &Item, field: u32) -> u32
 }
 
 /// The number of the register whose five bits begin there.
+#[inline(always)]
 fn register_at(word: u32, low: u32) -> u32
     requires { low < 32 }
     ensures { result ≡ word / 2 ^ low % 32 }
@@ -54,6 +58,7 @@ fn register_at(word: u32, low: u32) -> u32
 }
 
 /// Whether Rn 9:5 is SP, or not the number.
+#[inline(always)]
 #[tactic(auto, unfolding(a64_table::specs::Fields::field_of))]
 fn is_base_apart(word: u32, number: u32) -> bool
     ensures { result ≡ is_base_apart word number }
@@ -62,6 +67,7 @@ fn is_base_apart(word: u32, number: u32) -> bool
 }
 
 /// Whether the registers of a word meet the rule.
+#[inline(always)]
 #[tactic(auto, unfolding(insn_text::specs::Rules::meets, a64_table::specs::Fields::field_of))]
 fn meets(rule: Rule, word: u32) -> bool
     ensures { result ≡ meets rule word }
@@ -89,29 +95,28 @@ impl Known {
         }
     }
 
-    /// What is known with a field.
-    #[tactic(auto, unfolding(crate::specs::Operands::with_field))]
-    fn with_field(self, item: &Item, field: u32) -> Known
+    /// What is known with a field, where it agrees with what is known and meets the operand's rule.
+    #[inline(always)]
+    #[tactic(auto, unfolding(crate::specs::Operands::known_with, crate::specs::Operands::agrees, crate::specs::Operands::with_field))]
+    fn with(self, item: &Item, field: u32) -> Option<Known>
         requires { is_in_word item.now ≡ true }
-        ensures { known_of result ≡ with_field item.now (known_of self) field }
+        ensures { option_map known_of result ≡ known_with item.now (known_of self) (Some field) }
     {
-        Known {
-            mask: self.mask | mask_of(item),
-            value: self.value | placed(item, field),
+        let own = mask_of(item);
+        let bits = placed(item, field);
+        let value = self.value | bits;
+        if self.value & own == bits & self.mask && meets(item.rule, value) {
+            Some(Known {
+                mask: self.mask | own,
+                value,
+            })
+        } else {
+            None
         }
     }
 
-    /// Whether a field agrees with what is known, and meets the operand's rule.
-    #[tactic(auto, unfolding(crate::specs::Operands::agrees))]
-    fn agrees(self, item: &Item, field: u32) -> bool
-        requires { is_in_word item.now ≡ true }
-        ensures { result ≡ agrees item.now (known_of self) field }
-    {
-        self.value & mask_of(item) == placed(item, field) & self.mask
-            && meets(item.rule, self.with_field(item, field).value)
-    }
-
     /// What is known once the token is read as an operand.
+    #[inline(always)]
     #[tactic(auto, unfolding(crate::specs::Operands::known_after, crate::specs::Operands::known_with, crate::specs::Sound::is_sound))]
     pub(crate) fn after(self, item: &Item, token: Token) -> Option<Known>
         requires { is_sound item.now ≡ true }
@@ -119,13 +124,7 @@ impl Known {
     {
         let bits = u32::from(item.width) + u32::from(item.upper_width);
         match field_said(item.kind, bits, token) {
-            Some(field) => {
-                if self.agrees(item, field) {
-                    Some(self.with_field(item, field))
-                } else {
-                    None
-                }
-            }
+            Some(field) => self.with(item, field),
             None => None,
         }
     }

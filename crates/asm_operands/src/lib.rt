@@ -10,6 +10,8 @@ mod operands;
 mod reading;
 mod shapes;
 mod taking;
+#[cfg(test)]
+mod tests;
 
 pub use fault::FaultKind;
 pub use laws::first_fault_law;

@@ -89,13 +89,13 @@ fn target_in(items: &[Item], tokens: &[Token]) -> Option<usize>
 
 /// The word that tokens say, and the place of the token that names its target.
 #[derive(Clone, Copy)]
-struct Said {
-    word: u32,
-    target: Option<usize>,
+pub(crate) struct Said {
+    pub(crate) word: u32,
+    pub(crate) target: Option<usize>,
 }
 
 /// What the first shape says that takes the tokens.
-fn first_said(shapes: &[Shape], tokens: &[Token]) -> Option<Said>
+pub(crate) fn first_said(shapes: &[Shape], tokens: &[Token]) -> Option<Said>
     ensures word { option_map (λ said. said.word) result ≡ first_word shapes.now tokens.now }
     ensures target { IfSome result (λ said. said.target ≡ target_of shapes.now tokens.now) }
 {
