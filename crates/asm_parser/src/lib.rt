@@ -8,6 +8,8 @@ mod lists;
 mod parsing;
 mod statements;
 mod stops;
+#[cfg(test)]
+mod tests;
 
 pub use line::{Line, LineFault, Statement, Value};
 pub use parsing::{parse_bytes, parse_line};
