@@ -10,6 +10,7 @@ use bit_ops::mask_fields;
 use insn_text::Kind;
 
 /// One of `count` words from place `first` on.
+#[inline(always)]
 #[tactic(auto, unfolding(crate::specs::Fields::word_field))]
 fn word_field(first: u16, count: u16, place: u16) -> Option<u32>
     ensures { result ≡ word_field first count place }
@@ -24,11 +25,16 @@ fn word_field(first: u16, count: u16, place: u16) -> Option<u32>
 }
 
 /// The number of a register whose word stands at the place.
+#[inline(always)]
 #[tactic(auto, unfolding(crate::specs::Fields::register_field))]
 fn register_field(first: u16, last: u16, place: u16) -> Option<u32>
     ensures { result ≡ register_field first last place }
 {
-    if place == last { Some(31) } else { word_field(first, 31, place) }
+    if place == last {
+        Some(31)
+    } else {
+        word_field(first, 31, place)
+    }
 }
 
 /// The field, up to the greatest, that times `scale` and with `base` more is the number.
@@ -39,7 +45,11 @@ fn unsigned_field(base: u16, scale: u16, most: u16, negative: bool, size: u64) -
 {
     let base = u64::from(base);
     let scale = u64::from(scale);
-    if !negative && base <= size && (size - base) % scale == 0 && (size - base) / scale <= u64::from(most) {
+    if !negative
+        && base <= size
+        && (size - base) % scale == 0
+        && (size - base) / scale <= u64::from(most)
+    {
         Some(((size - base) / scale) as u32)
     } else {
         None
@@ -61,7 +71,11 @@ fn signed_field(bits: u32, scale: u16, negative: bool, size: u64) -> Option<u32>
     if size % scale != 0 {
         None
     } else if negative {
-        if steps <= half { Some(((all - steps) % all) as u32) } else { None }
+        if steps <= half {
+            Some(((all - steps) % all) as u32)
+        } else {
+            None
+        }
     } else if steps < half {
         Some(steps as u32)
     } else {
@@ -89,9 +103,17 @@ fn immediate(wide: bool, negative: bool, size: u64) -> Option<u64>
     ensures in_range { IfSome result (λ number. number < 2 ^ width_of wide) }
 {
     match (wide, negative) {
-        (true, true) => if size <= 1 << 63 { Some(size.wrapping_neg()) } else { None },
+        (true, true) => if size <= 1 << 63 {
+            Some(size.wrapping_neg())
+        } else {
+            None
+        },
         (true, false) => Some(size),
-        (false, true) => if size <= 1 << 31 { Some(((1 << 32) - size) % (1 << 32)) } else { None },
+        (false, true) => if size <= 1 << 31 {
+            Some(((1 << 32) - size) % (1 << 32))
+        } else {
+            None
+        },
         (false, false) => if size < 1 << 32 { Some(size) } else { None },
     }
 }
@@ -160,13 +182,19 @@ fn inverted_if(wide: bool, inverted: bool, number: u64) -> u64
 }
 
 /// The fields of a mask that is not negative.
+#[inline(never)]
 fn positive_mask_field(wide: bool, negative: bool, size: u64) -> Option<u32>
     ensures { result ≡ (if negative then None else mask_field wide size) }
 {
-    if negative { None } else { mask_field(wide, size) }
+    if negative {
+        None
+    } else {
+        mask_field(wide, size)
+    }
 }
 
 /// The fields of a mask that may be written as a negative number.
+#[inline(never)]
 fn signed_mask_field(wide: bool, negative: bool, size: u64) -> Option<u32>
     ensures { result ≡ option_and_then (mask_field wide) (immediate_of wide negative size) }
 {
@@ -177,6 +205,7 @@ fn signed_mask_field(wide: bool, negative: bool, size: u64) -> Option<u32>
 }
 
 /// The halfword of a number that may be negative, or of its bits inverted.
+#[inline(never)]
 fn signed_halfword_field(wide: bool, inverted: bool, negative: bool, size: u64) -> Option<u32>
     ensures { result ≡ option_and_then (λ number. halfword_field wide (inverted_if wide inverted number)) (immediate_of wide negative size) }
 {
@@ -197,6 +226,7 @@ fn opposite_field(first: u16, count: u16, place: u16) -> Option<u32>
 }
 
 /// The number of a field of so many bits that the token says.
+#[inline(always)]
 #[tactic(auto, unfolding(crate::specs::Fields::field_said, crate::specs::Fields::on_mark, crate::specs::Fields::on_word, crate::specs::Fields::on_number, crate::specs::Fields::on_target, crate::specs::Sound::has_factor))]
 pub(crate) fn field_said(kind: Kind, bits: u32, token: Token) -> Option<u32>
     requires few { bits < 32 }
@@ -205,13 +235,7 @@ pub(crate) fn field_said(kind: Kind, bits: u32, token: Token) -> Option<u32>
 {
     match kind {
         Kind::Mark(wanted) => match token {
-            Token::Mark(mark) => {
-                if mark == wanted {
-                    Some(0)
-                } else {
-                    None
-                }
-            }
+            Token::Mark(mark) => { if mark == wanted { Some(0) } else { None } }
             _ => None,
         },
         Kind::Named { first, count } => match token {
@@ -253,7 +277,9 @@ pub(crate) fn field_said(kind: Kind, bits: u32, token: Token) -> Option<u32>
             _ => None,
         },
         Kind::Halfword { wide, inverted } => match token {
-            Token::Number { negative, size } => signed_halfword_field(wide, inverted, negative, size),
+            Token::Number { negative, size } => signed_halfword_field(
+                wide, inverted, negative, size,
+            ),
             _ => None,
         },
     }
