@@ -1,0 +1,262 @@
+-- No text passes 95 bytes.
+use Rattle.std.proofs.Common.{◌≡◌, ℕ, zero, suc, ◌+◌, ◌-◌, ◌*◌, ◌/◌, ◌%◌, ◌^◌, ◌<◌, ◌≤◌, Bool, true, false, not, ◌&&◌, ◌||◌, ◌==◌, nat_lt, nat_le, cond, List, [], ◌∷◌, ◌++◌, Option, Some, None, slice_get, length, take, drop, decimal, refl, sym, ap, ◌∙◌, arith, subst, lit<, ltb-true, leb-true, eq-eqb, length-append}
+use Rattle.std.specs.List.{find, list_all}
+use Rattle.std.specs.Str.{IsAscii}
+use Rattle.std.specs.Fmt.{digits, digits_onto, digit_glyph}
+use Rattle.std.proofs.lemmas.Fmt.{length-decimal-le}
+use Rattle.std.proofs.lemmas.Nat.{mod_below, pow_pos}
+use Rattle.std.proofs.lemmas.Bool.{and_parts, cond_both}
+use Rattle.std.proofs.Math.Nat.{mul-le-mul_left, pow-suc}
+use Rattle.bit_ops.specs.Bits.{width_of, number_of_digits}
+use Rattle.bit_ops.specs.Sums.{bool_number}
+use Rattle.bit_ops.specs.Masks.{bit_mask_of, is_reserved, mask_of, turn_of, size_of as element_size, ones_of}
+use Rattle.bit_ops.proofs.Digits.{number-lt}
+use Rattle.bit_ops.proofs.MaskBits.{bool_number-lt}
+use Rattle.a64_table.specs.Fields.{field_of}
+use Rattle.insn_text.specs.declared.item.Kind.{Kind}
+use Rattle.insn_text.specs.declared.item.Kind.TheVariants.{Mark, Named, Register, Unsigned, Signed, Distance, Mask, SignedMask, ShiftLeft, Opposite, Halfword}
+use Rattle.insn_text.specs.declared.item.Item.{Item}
+use Rattle.insn_text.specs.declared.item.Shape.{Shape}
+use Rattle.insn_text.specs.declared.item.Text.{Text}
+use Rattle.insn_text.specs.declared.words.TheConstants.{WORDS, NAMES}
+use Rattle.insn_text.specs.declared.operands.TheConstants.{ITEMS}
+use Rattle.insn_text.specs.declared.shapes.TheConstants.{SHAPES}
+use Rattle.insn_text.specs.Texts.{text_in, text_at, is_positive, size_of, hexadecimal, mask_in, mask_text, signed_text, distance_text, register_place, kind_text, bits_of, field_in, item_text, is_mark, is_comma, gap, items_text, items_of, shape_text, prints, printed_shape}
+use Rattle.insn_text.specs.Places.{is_sized}
+use Rattle.insn_text.proofs.Sizes.{sizes, join_small, pow_at_most}
+use Rattle.insn_text.proofs.Tables.{all_take, all_drop, all_get, items_sized}
+
+-- ---- words and names
+
+unfoldable is_short_text : Text → Bool
+is_short_text t = nat_le (length (take t.length t.bytes)) 10
+
+words_short : list_all is_short_text WORDS ≡ true
+unfolding is_short_text
+words_short = refl
+
+names_short : list_all is_short_text NAMES ≡ true
+unfolding is_short_text
+names_short = refl
+
+short_in : (texts : List Text) (place : ℕ) (o : Option Text) → slice_get texts place ≡ o → list_all is_short_text texts ≡ true → length (text_in o) ≤ 10
+unfolding text_in is_short_text
+short_in texts place None g e = omega arith
+short_in texts place (Some t) g e = leb-true (length (take t.length t.bytes)) 10 (all_get is_short_text texts place t e g)
+
+word_short : (place : ℕ) → length (text_at WORDS place) ≤ 10
+word_short place = short_in WORDS place (slice_get WORDS place) refl words_short
+
+name_short : (place : ℕ) → length (text_at NAMES place) ≤ 10
+name_short place = short_in NAMES place (slice_get NAMES place) refl names_short
+
+-- ---- numbers
+
+decimal_short : (n : ℕ) → n < 2 ^ 49 → length (decimal n) ≤ 15
+decimal_short n lt =
+    let fits : n < 2 ^ 64 = omega arith in
+    let few : n < 10 ^ 15 = omega arith in
+    length-decimal-le 15 n (lit< tt) few fits
+
+product_small : (a b : ℕ) → a ≤ 2 ^ 31 → b < 2 ^ 16 → a * b ≤ 2 ^ 47
+product_small a b h k =
+    let one : a * b ≤ a * 2 ^ 16 = mul-le-mul_left a (let le : b ≤ 2 ^ 16 = omega arith in le) in
+    omega arith
+
+size_small : (bits field : ℕ) → bits < 32 → field < 2 ^ 31 → size_of bits field ≤ 2 ^ 31
+unfolding size_of
+size_small bits field b f =
+    let p = pow_at_most bits b in
+    cond_both (is_positive bits field) field (2 ^ bits - field) (λ n. n ≤ 2 ^ 31) (λ _. omega arith) (λ _. omega arith)
+
+pub onto_ascii : (k n : ℕ) (acc : List ℕ) → IsAscii acc → IsAscii (digits_onto k 16 false n acc)
+onto_ascii zero n acc h = h
+onto_ascii (suc k) n acc h =
+    let glyph : digit_glyph false (n % 16) < 128 = glyph_ascii (n % 16) (mod_below n 16 (lit< tt)) in
+    let more = ascii_cons (digit_glyph false (n % 16)) acc glyph h in
+    cond_both (n / 16 == 0) (digit_glyph false (n % 16) ∷ acc) (digits_onto k 16 false (n / 16) (digit_glyph false (n % 16) ∷ acc)) IsAscii
+    (λ _. more) (λ _. onto_ascii k (n / 16) (digit_glyph false (n % 16) ∷ acc) more)
+  where
+    glyph_ascii : (d : ℕ) → d < 16 → digit_glyph false d < 128
+    glyph_ascii d lt = cond_both (nat_lt d 10) (48 + d) (87 + d) (λ g. g < 128) (λ _. omega arith) (λ _. omega arith)
+
+    ascii_cons : (b : ℕ) (bs : List ℕ) → b < 128 → IsAscii bs → IsAscii (b ∷ bs)
+    ascii_cons b bs lt h zero = lt
+    ascii_cons b bs lt h (suc i) = h i
+
+pub hexadecimal_ascii : (n : ℕ) → IsAscii (hexadecimal n)
+unfolding digits
+hexadecimal_ascii n = onto_ascii 64 n [] (λ i. lit< tt)
+
+onto_length : (k j n : ℕ) (acc : List ℕ) → n < 16 ^ suc k → length (digits_onto j 16 false n acc) ≤ suc k + length acc
+onto_length k zero n acc lt = omega arith
+onto_length zero (suc j) n acc lt =
+    let none_left : n / 16 ≡ 0 = omega arith in
+    let test = eq-eqb (n / 16) 0 none_left in
+    let e = ap (λ b. length (cond b (digit_glyph false (n % 16) ∷ acc) (digits_onto j 16 false (n / 16) (digit_glyph false (n % 16) ∷ acc)))) test in
+    omega (arith, e)
+onto_length (suc k) (suc j) n acc lt =
+    let more : n < 16 ^ suc k * 16 = subst (λ (m : ℕ). n < m) (pow-suc 16 (suc k)) lt in
+    let fewer : n / 16 < 16 ^ suc k = omega arith in
+    let rest = onto_length k j (n / 16) (digit_glyph false (n % 16) ∷ acc) fewer in
+    cond_both (n / 16 == 0) (digit_glyph false (n % 16) ∷ acc) (digits_onto j 16 false (n / 16) (digit_glyph false (n % 16) ∷ acc)) (λ (ds : List ℕ). length ds ≤ suc (suc k) + length acc)
+    (λ _. omega arith) (λ _. omega (arith, rest))
+
+mask_small : (n : Bool) (imms immr : ℕ) (wide : Bool) → mask_of n imms immr wide < 2 ^ 64
+unfolding mask_of
+mask_small n imms immr wide =
+    within wide (λ i. bool_number (nat_le ((i + turn_of n imms immr) % element_size n imms) (ones_of n imms))) (λ i. bool_number-lt (nat_le ((i + turn_of n imms immr) % element_size n imms) (ones_of n imms)))
+  where
+    within : (w : Bool) (f : ℕ → ℕ) → ((i : ℕ) → f i < 2) → number_of_digits 2 f (width_of w) < 2 ^ 64
+    within true f h = number-lt f 64 (λ i _. h i)
+    within false f h = let lt : number_of_digits 2 f 32 < 2 ^ 32 = number-lt f 32 (λ i _. h i) in omega (arith, lt)
+
+hexadecimal_length : (n : ℕ) → n < 2 ^ 64 → length (hexadecimal n) ≤ 16
+unfolding digits
+hexadecimal_length n lt = onto_length 15 64 n [] lt
+
+mask_length : (o : Option ℕ) → ((m : ℕ) → o ≡ Some m → m < 2 ^ 64) → length (mask_text o) ≤ 19
+unfolding mask_text
+mask_length None h = omega arith
+mask_length (Some m) h = omega (arith, hexadecimal_length m (h m refl))
+
+mask_in_small : (wide : Bool) (field m : ℕ) → mask_in wide field ≡ Some m → m < 2 ^ 64
+unfolding mask_in bit_mask_of
+mask_in_small wide field m e =
+    let n = field_of field 12 1 == 1 in
+    let imms = field_of field 0 6 in
+    let immr = field_of field 6 6 in
+    by_test (is_reserved n imms wide) (mask_of n imms immr wide) (mask_small n imms immr wide) e
+  where
+    by_test : (b : Bool) (mask : ℕ) → mask < 2 ^ 64 → cond b None (Some mask) ≡ Some m → m < 2 ^ 64
+    by_test true mask lt h = cc
+    by_test false mask lt h = let same : mask ≡ m = cc in subst (λ (k : ℕ). k < 2 ^ 64) same lt
+
+-- ---- operands
+
+-- the numbers of a kind are those of 16 bits
+unfoldable is_small : Kind → Bool
+is_small (Mark c) = true
+is_small (Named first count) = true
+is_small (Register first last) = true
+is_small (Unsigned base scale most) = nat_lt base 65536 && nat_lt scale 65536
+is_small (Signed scale) = nat_lt scale 65536
+is_small (Distance scale) = nat_lt scale 65536
+is_small (Mask wide) = true
+is_small (SignedMask wide) = true
+is_small (ShiftLeft wide) = true
+is_small (Opposite first count) = true
+is_small (Halfword wide inverted) = true
+
+-- the most bytes of an operand's text
+unfoldable room_of : Kind → ℕ
+room_of (Mark c) = 1
+room_of (Named first count) = 10
+room_of (Register first last) = 10
+room_of (Unsigned base scale most) = 16
+room_of (Signed scale) = 17
+room_of (Distance scale) = 17
+room_of (Mask wide) = 19
+room_of (SignedMask wide) = 0
+room_of (ShiftLeft wide) = 0
+room_of (Opposite first count) = 0
+room_of (Halfword wide inverted) = 0
+
+signed_length : (positive : Bool) (n : ℕ) → n ≤ 2 ^ 47 → length (signed_text positive n) ≤ 17
+unfolding signed_text
+signed_length true n le = let lt : n < 2 ^ 49 = omega arith in omega (arith, decimal_short n lt)
+signed_length false n le = let lt : n < 2 ^ 49 = omega arith in omega (arith, decimal_short n lt)
+
+distance_length : (positive : Bool) (n : ℕ) → n ≤ 2 ^ 47 → length (distance_text positive n) ≤ 17
+unfolding distance_text
+distance_length true n le = let lt : n < 2 ^ 49 = omega arith in omega (arith, decimal_short n lt)
+distance_length false n le = let lt : n < 2 ^ 49 = omega arith in omega (arith, decimal_short n lt)
+
+kind_length : (kind : Kind) (bits field : ℕ) → is_small kind ≡ true → bits < 32 → field < 2 ^ 31 → length (kind_text kind bits field) ≤ room_of kind
+unfolding kind_text room_of is_small
+kind_length (Mark c) bits field e b f = omega arith
+kind_length (Named first count) bits field e b f = word_short (first + field)
+kind_length (Register first last) bits field e b f = word_short (register_place first last field)
+kind_length (Unsigned base scale most) bits field e b f =
+    let p = and_parts (nat_lt base 65536) (nat_lt scale 65536) e in
+    let base_small : base < 65536 = ltb-true base 65536 p.0 in
+    let le : field ≤ 2 ^ 31 = omega arith in
+    let product = product_small field scale le (ltb-true scale 65536 p.1) in
+    let lt : field * scale + base < 2 ^ 49 = omega arith in
+    omega (arith, decimal_short (field * scale + base) lt)
+kind_length (Signed scale) bits field e b f =
+    signed_length (is_positive bits field) (size_of bits field * scale) (product_small (size_of bits field) scale (size_small bits field b f) (ltb-true scale 65536 e))
+kind_length (Distance scale) bits field e b f =
+    distance_length (is_positive bits field) (size_of bits field * scale) (product_small (size_of bits field) scale (size_small bits field b f) (ltb-true scale 65536 e))
+kind_length (Mask wide) bits field e b f = mask_length (mask_in wide field) (mask_in_small wide field)
+kind_length (SignedMask wide) bits field e b f = omega arith
+kind_length (ShiftLeft wide) bits field e b f = omega arith
+kind_length (Opposite first count) bits field e b f = omega arith
+kind_length (Halfword wide inverted) bits field e b f = omega arith
+
+field_small : (i : Item) (word : ℕ) → is_sized i ≡ true → field_in i word < 2 ^ 31
+unfolding field_in field_of
+field_small i word e =
+    let z = sizes i e in
+    join_small (word / 2 ^ i.upper_low % 2 ^ i.upper_width) (word / 2 ^ i.low % 2 ^ i.width) i.upper_width i.width
+    (mod_below (word / 2 ^ i.upper_low) (2 ^ i.upper_width) (pow_pos i.upper_width)) (mod_below (word / 2 ^ i.low) (2 ^ i.width) (pow_pos i.width)) z.both
+
+item_length : (i : Item) (word : ℕ) → is_sized i ≡ true → is_small i.kind ≡ true → length (item_text word i) ≤ room_of i.kind
+unfolding item_text
+item_length i word e s = let z = sizes i e in kind_length i.kind (bits_of i) (field_in i word) s z.both (field_small i word e)
+
+gap_length : (before after : Kind) → length (gap before after) ≤ 1
+unfolding gap
+gap_length before after =
+    cond_both (is_comma before || (not (is_mark before) && not (is_mark after))) (32 ∷ []) [] (λ (xs : List ℕ). length xs ≤ 1) (λ _. omega arith) (λ _. omega arith)
+
+-- the most bytes of operands, each with a space before it
+unfoldable items_room : List Item → ℕ
+items_room [] = 0
+items_room (i ∷ is) = 1 + room_of i.kind + items_room is
+
+items_length : (word : ℕ) (before : Kind) (is : List Item) → list_all is_sized is ≡ true → list_all (λ i. is_small i.kind) is ≡ true → length (items_text word before is) ≤ items_room is
+unfolding items_text items_room
+items_length word before [] e s = omega arith
+items_length word before (i ∷ is) e s =
+    let p = and_parts (is_sized i) (list_all is_sized is) e in
+    let q = and_parts (is_small i.kind) (list_all (λ j. is_small j.kind) is) s in
+    omega (arith, gap_length before i.kind, item_length i word p.0 q.0, items_length word i.kind is p.1 q.1, length-append (gap before i.kind) (item_text word i ++ items_text word i.kind is), length-append (item_text word i) (items_text word i.kind is))
+
+-- ---- shapes
+
+items_small : list_all (λ i. is_small i.kind) ITEMS ≡ true
+unfolding is_small
+items_small = refl
+
+unfoldable is_short : Shape → Bool
+is_short s = nat_lt (10 + items_room (items_of s)) 96
+
+shapes_short : list_all is_short SHAPES ≡ true
+unfolding is_short items_room room_of items_of
+shapes_short = refl
+
+shape_length : (s : Shape) (word : ℕ) → is_short s ≡ true → length (shape_text s word) < 96
+unfolding shape_text is_short items_of
+shape_length s word e =
+    let is = take s.count (drop s.first ITEMS) in
+    let short : 10 + items_room is < 96 = ltb-true (10 + items_room is) 96 e in
+    let rest = items_length word (Mark 44) is (all_take is_sized s.count (drop s.first ITEMS) (all_drop is_sized s.first ITEMS items_sized))
+    (all_take (λ i. is_small i.kind) s.count (drop s.first ITEMS) (all_drop (λ i. is_small i.kind) s.first ITEMS items_small)) in
+    omega (arith, rest, name_short s.name, length-append (text_at NAMES s.name) (items_text word (Mark 44) is))
+
+find_passes : (p q : Shape → Bool) (ss : List Shape) (s : Shape) → list_all q ss ≡ true → find p ss ≡ Some s → q s ≡ true
+find_passes p q [] s e f = cc
+find_passes p q (x ∷ xs) s e f = by_test (λ g. find_passes p q xs s (and_parts (q x) (list_all q xs) e).1 g) (p x) refl
+  where
+    by_test : (find p xs ≡ Some s → q s ≡ true) → (b : Bool) → p x ≡ b → q s ≡ true
+    by_test later true g =
+        let found : Some x ≡ Some s = sym (ap (λ b. cond b (Some x) (find p xs)) g) ∙ f in
+        let same : x ≡ s = cc in
+        subst (λ (y : Shape). q y ≡ true) same (and_parts (q x) (list_all q xs) e).0
+    by_test later false g = later (sym (ap (λ b. cond b (Some x) (find p xs)) g) ∙ f)
+
+-- the text of a word
+pub printed_length : (word : ℕ) (s : Shape) → printed_shape word ≡ Some s → length (shape_text s word) < 96
+unfolding printed_shape
+printed_length word s e = shape_length s word (find_passes (prints word) is_short SHAPES s shapes_short e)

@@ -1,0 +1,78 @@
+-- What holds of the tables' texts and operands.
+use Rattle.std.proofs.Common.{◌≡◌, ℕ, zero, suc, ◌<◌, Bool, true, ◌&&◌, nat_lt, ltb-true, List, [], ◌∷◌, Option, Some, None, slice_get, get_or, take, drop, length, refl, sym, ap, ◌∙◌, arith}
+use Rattle.std.specs.List.{list_all}
+use Rattle.std.specs.Str.{IsAscii}
+use Rattle.std.proofs.lemmas.Bool.{and_from, and_parts}
+use Rattle.std.proofs.lemmas.Str.{IsAscii-take}
+use Rattle.std.proofs.lemmas.Str.Ascii.{IsAscii-nil}
+use Rattle.insn_text.specs.declared.item.Kind.{Kind}
+use Rattle.insn_text.specs.declared.item.Kind.TheVariants.{Mark}
+use Rattle.insn_text.specs.declared.item.Text.{Text}
+use Rattle.insn_text.specs.declared.words.TheConstants.{WORDS, NAMES}
+use Rattle.insn_text.specs.declared.operands.TheConstants.{ITEMS}
+use Rattle.insn_text.specs.Texts.{text_in, text_at}
+use Rattle.insn_text.specs.Places.{has_ascii_mark, is_sized}
+
+pub all_take : {X : Type 0} (p : X → Bool) (n : ℕ) (xs : List X) → list_all p xs ≡ true → list_all p (take n xs) ≡ true
+all_take p zero xs e = refl
+all_take p (suc n) [] e = refl
+all_take p (suc n) (x ∷ xs) e = let h = and_parts (p x) (list_all p xs) e in and_from (p x) (list_all p (take n xs)) h.0 (all_take p n xs h.1)
+
+pub all_drop : {X : Type 0} (p : X → Bool) (n : ℕ) (xs : List X) → list_all p xs ≡ true → list_all p (drop n xs) ≡ true
+all_drop p zero xs e = e
+all_drop p (suc n) [] e = refl
+all_drop p (suc n) (x ∷ xs) e = all_drop p n xs (and_parts (p x) (list_all p xs) e).1
+
+pub all_get : {X : Type 0} (p : X → Bool) (xs : List X) (i : ℕ) (x : X) → list_all p xs ≡ true → slice_get xs i ≡ Some x → p x ≡ true
+all_get p [] i x e g = cc
+all_get p (y ∷ ys) zero x e g = let same : y ≡ x = cc in let h = (and_parts (p y) (list_all p ys) e).0 in cc
+all_get p (y ∷ ys) (suc i) x e g = all_get p ys i x (and_parts (p y) (list_all p ys) e).1 g
+
+pub all_at : {X : Type 0} (p : X → Bool) (xs : List X) (i : ℕ) (d : X) → list_all p xs ≡ true → i < length xs → p (get_or xs i d) ≡ true
+all_at p [] i d e lt = absurd (omega arith)
+all_at p (y ∷ ys) zero d e lt = (and_parts (p y) (list_all p ys) e).0
+all_at p (y ∷ ys) (suc i) d e lt = all_at p ys i d (and_parts (p y) (list_all p ys) e).1 (omega arith)
+
+-- ---- operands
+
+pub items_sized : list_all is_sized ITEMS ≡ true
+unfolding is_sized has_ascii_mark
+items_sized = refl
+
+pub sized_run : (first count : ℕ) → list_all is_sized (take count (drop first ITEMS)) ≡ true
+sized_run first count = all_take is_sized count (drop first ITEMS) (all_drop is_sized first ITEMS items_sized)
+
+-- ---- texts
+
+unfoldable is_ascii_text : Text → Bool
+is_ascii_text t = list_all (λ b. nat_lt b 128) t.bytes
+
+words_ascii : list_all is_ascii_text WORDS ≡ true
+unfolding is_ascii_text
+words_ascii = refl
+
+names_ascii : list_all is_ascii_text NAMES ≡ true
+unfolding is_ascii_text
+names_ascii = refl
+
+bytes_ascii : (bs : List ℕ) → list_all (λ b. nat_lt b 128) bs ≡ true → IsAscii bs
+bytes_ascii [] e i = IsAscii-nil i
+bytes_ascii (b ∷ bs) e zero = ltb-true b 128 (and_parts (nat_lt b 128) (list_all (λ c. nat_lt c 128) bs) e).0
+bytes_ascii (b ∷ bs) e (suc i) = bytes_ascii bs (and_parts (nat_lt b 128) (list_all (λ c. nat_lt c 128) bs) e).1 i
+
+ascii_in : (texts : List Text) (place : ℕ) (o : Option Text) → slice_get texts place ≡ o → list_all is_ascii_text texts ≡ true → IsAscii (text_in o)
+unfolding text_in is_ascii_text
+ascii_in texts place None g e = IsAscii-nil
+ascii_in texts place (Some t) g e = IsAscii-take t.bytes t.length (bytes_ascii t.bytes (all_get is_ascii_text texts place t e g))
+
+pub word_ascii : (place : ℕ) → IsAscii (text_at WORDS place)
+word_ascii place = ascii_in WORDS place (slice_get WORDS place) refl words_ascii
+
+pub name_ascii : (place : ℕ) → IsAscii (text_at NAMES place)
+name_ascii place = ascii_in NAMES place (slice_get NAMES place) refl names_ascii
+
+pub mark_ascii : (kind : Kind) (c : ℕ) → kind ≡ Mark c → has_ascii_mark kind ≡ true → IsAscii (c ∷ [])
+unfolding has_ascii_mark
+mark_ascii kind c e h =
+    let test : nat_lt c 128 ≡ true = sym (ap has_ascii_mark e) ∙ h in
+    bytes_ascii (c ∷ []) (ap (λ b. b && true) test)

@@ -1,0 +1,330 @@
+//! Printing a word.
+ghost use Rattle.std.specs.Prelude.{◌≡◌, ℕ, ◌+◌, ◌-◌, ◌*◌, ◌^◌, ◌<◌, ◌≤◌, ◌++◌, true, false, length, drop, decimal, codes};
+ghost use Rattle.std.specs.Fmt.{digit_glyph};
+ghost use Rattle.std.specs.List.{list_all};
+ghost use Rattle.std.specs.Str.{IsAscii};
+ghost use Rattle.a64_encode.specs.Either.{MeansEither};
+ghost use Rattle.insn_text.specs.declared.item.Kind.TheVariants.{Mark};
+ghost use Rattle.insn_text.specs.Places.{has_ascii_mark, is_sized};
+ghost use Rattle.insn_text.specs.Texts.{bits_of, distance_text, field_in, gap, hexadecimal, is_comma, is_mark, is_positive, item_text, items_text, kind_text, mask_in, mask_text, register_place, shape_text, signed_text, size_of, text_at, text_of};
+ghost use Rattle.insn_text.specs.declared.words.TheConstants.{WORDS};
+
+use crate::item::{Item, Kind, Shape};
+use crate::shape::{name_at, operands_of, shape_of, word_at};
+use a64_encode::encode;
+use a64_table::field;
+use arrayvec::ArrayString;
+use bit_ops::bit_mask;
+use sm_types::Insn;
+
+/// Writes the text of a word, and nothing for a word that has none; whatever `out` held is gone.
+#[tactic(auto, unfolding(crate::specs::Texts::text_of, crate::specs::Texts::text_of_shape))]
+pub fn print_word(word: u32, out: &mut ArrayString<96>)
+    ensures text { out.new.bytes ≡ text_of word }
+    ensures short { length out.new.bytes < 96 }
+{
+    out.clear();
+    match shape_of(word) {
+        Some(shape) => push_shape(out, &shape, word),
+        None => {}
+    }
+}
+
+/// Writes the text of an instruction, each of whose fields is inside its row; whatever `out` held is gone.
+pub fn print_insn(insn: &Insn, out: &mut ArrayString<96>)
+    requires { (word : ℕ) × MeansEither word insn.now }
+    ensures text { (word : ℕ) → MeansEither word insn.now → out.new.bytes ≡ text_of word }
+    ensures short { length out.new.bytes < 96 }
+{
+    match encode(insn) {
+        Some(word) => print_word(word, out),
+        None => unreachable!(),
+    }
+}
+
+/// Appends the text of a word of the shape.
+#[tactic(auto, unfolding(crate::specs::Texts::shape_text))]
+fn push_shape(out: &mut ArrayString<96>, shape: &Shape, word: u32)
+    requires { length out.old.bytes + length (shape_text shape.now word) ≤ 96 }
+    ensures { out.new.bytes ≡ out.old.bytes ++ shape_text shape.now word }
+{
+    push_bytes(out, name_at(shape.name as usize));
+    push_items(out, operands_of(shape), word);
+}
+
+/// Appends the texts of operands, with the spaces between them.
+fn push_items(out: &mut ArrayString<96>, items: &[Item], word: u32)
+    requires sized { list_all is_sized items.now ≡ true }
+    requires room { length out.old.bytes + length (items_text word (Mark 44) items.now) ≤ 96 }
+    ensures { out.new.bytes ≡ out.old.bytes ++ items_text word (Mark 44) items.now }
+{
+    let mut before = Kind::Mark(b',');
+    for item in items {
+        push_gap(out, before, item.kind);
+        push_item(out, item, word);
+        before = item.kind;
+    }
+}
+
+/// Appends the space between two operands, where there is one.
+#[tactic(auto, unfolding(crate::specs::Texts::gap))]
+fn push_gap(out: &mut ArrayString<96>, before: Kind, after: Kind)
+    requires { length out.old.bytes + length (gap before after) ≤ 96 }
+    ensures { out.new.bytes ≡ out.old.bytes ++ gap before after }
+{
+    if is_comma(before) || !is_mark(before) && !is_mark(after) {
+        out.push_str(" ");
+    }
+}
+
+/// Whether the operand is a mark.
+#[tactic(auto, unfolding(crate::specs::Texts::is_mark))]
+fn is_mark(kind: Kind) -> bool
+    ensures { result ≡ is_mark kind }
+{
+    matches!(kind, Kind::Mark(_))
+}
+
+/// Whether the operand is a comma.
+#[tactic(auto, unfolding(crate::specs::Texts::is_comma))]
+fn is_comma(kind: Kind) -> bool
+    ensures { result ≡ is_comma kind }
+{
+    matches!(kind, Kind::Mark(b','))
+}
+
+/// Appends the text of an operand of a word.
+#[tactic(auto, unfolding(crate::specs::Texts::item_text))]
+fn push_item(out: &mut ArrayString<96>, item: &Item, word: u32)
+    requires sized { is_sized item.now ≡ true }
+    requires room { length out.old.bytes + length (item_text word item.now) ≤ 96 }
+    ensures { out.new.bytes ≡ out.old.bytes ++ item_text word item.now }
+{
+    let field = field_in(item, word);
+    push_kind(
+        out,
+        item.kind,
+        item.width as u32 + item.upper_width as u32,
+        field,
+    );
+}
+
+/// The number of an operand's field in a word.
+fn field_in(item: &Item, word: u32) -> u64
+    requires { is_sized item.now ≡ true }
+    ensures value { result ≡ field_in item.now word }
+    ensures small { result < 2 ^ bits_of item.now }
+    ensures below { result < 2 ^ 31 }
+{
+    let upper = field(word, item.upper_low as u32, item.upper_width as u32) as u64;
+    let lower = field(word, item.low as u32, item.width as u32) as u64;
+    upper * (1 << item.width as u32) + lower
+}
+
+/// Appends the text of a field of so many bits.
+#[tactic(auto, unfolding(crate::specs::Texts::kind_text))]
+fn push_kind(out: &mut ArrayString<96>, kind: Kind, bits: u32, field: u64)
+    requires mark { has_ascii_mark kind ≡ true }
+    requires bits { bits < 32 }
+    requires field { field < 2 ^ bits }
+    requires below { field < 2 ^ 31 }
+    requires room { length out.old.bytes + length (kind_text kind bits field) ≤ 96 }
+    ensures { out.new.bytes ≡ out.old.bytes ++ kind_text kind bits field }
+{
+    match kind {
+        Kind::Mark(mark) => push_bytes(out, &[mark]),
+        Kind::Named { first, .. } => push_word(out, first as usize + field as usize),
+        Kind::Register { first, last } => push_word(out, register_place(first, last, field)),
+        Kind::Unsigned { base, scale, .. } => push_unsigned(
+            out,
+            field * scale as u64 + base as u64,
+        ),
+        Kind::Signed { scale } => push_signed(
+            out,
+            is_positive(bits, field),
+            size_of(bits, field) * scale as u64,
+        ),
+        Kind::Distance { scale } => push_distance(
+            out,
+            is_positive(bits, field),
+            size_of(bits, field) * scale as u64,
+        ),
+        Kind::Mask { wide } => push_mask(out, mask_in(wide, field as u32)),
+        Kind::SignedMask { .. }
+        | Kind::ShiftLeft { .. }
+        | Kind::Opposite { .. }
+        | Kind::Halfword { .. } => {}
+    }
+}
+
+/// Appends the word of an operand.
+fn push_word(out: &mut ArrayString<96>, place: usize)
+    requires { length out.old.bytes + length (text_at WORDS place) ≤ 96 }
+    ensures { out.new.bytes ≡ out.old.bytes ++ text_at WORDS place }
+{
+    push_bytes(out, word_at(place));
+}
+
+/// The place of the word of a register.
+#[tactic(auto, unfolding(crate::specs::Texts::register_place))]
+fn register_place(first: u16, last: u16, number: u64) -> usize
+    requires { number < 2 ^ 31 }
+    ensures { result ≡ register_place first last number }
+{
+    if number == 31 {
+        last as usize
+    } else {
+        first as usize + number as usize
+    }
+}
+
+/// Appends a number.
+fn push_unsigned(out: &mut ArrayString<96>, number: u64)
+    requires { length out.old.bytes + length (codes "#" ++ decimal number) ≤ 96 }
+    ensures { out.new.bytes ≡ out.old.bytes ++ (codes "#" ++ decimal number) }
+{
+    out.push_str("#");
+    push_number(out, number);
+}
+
+/// Whether a signed number of so many bits is not negative.
+#[tactic(auto, unfolding(crate::specs::Texts::is_positive))]
+fn is_positive(bits: u32, field: u64) -> bool
+    requires { bits < 32 }
+    ensures { result ≡ is_positive bits field }
+{
+    field < 1 << bits.saturating_sub(1)
+}
+
+/// The size of a signed number of so many bits, without its sign.
+#[tactic(auto, unfolding(crate::specs::Texts::size_of))]
+fn size_of(bits: u32, field: u64) -> u64
+    requires bits { bits < 32 }
+    requires field { field < 2 ^ bits }
+    ensures value { result ≡ size_of bits field }
+    ensures small { result < 2 ^ 32 }
+{
+    if is_positive(bits, field) {
+        field
+    } else {
+        (1 << bits) - field
+    }
+}
+
+/// Appends a number of this sign and size.
+#[tactic(auto, unfolding(crate::specs::Texts::signed_text))]
+fn push_signed(out: &mut ArrayString<96>, positive: bool, size: u64)
+    requires { length out.old.bytes + length (signed_text positive size) ≤ 96 }
+    ensures { out.new.bytes ≡ out.old.bytes ++ signed_text positive size }
+{
+    if positive {
+        out.push_str("#");
+        push_number(out, size);
+    } else {
+        out.push_str("#-");
+        push_number(out, size);
+    }
+}
+
+/// Appends a distance of this sign and size.
+#[tactic(auto, unfolding(crate::specs::Texts::distance_text))]
+fn push_distance(out: &mut ArrayString<96>, positive: bool, size: u64)
+    requires { length out.old.bytes + length (distance_text positive size) ≤ 96 }
+    ensures { out.new.bytes ≡ out.old.bytes ++ distance_text positive size }
+{
+    if positive {
+        out.push_str(".+");
+        push_number(out, size);
+    } else {
+        out.push_str(".-");
+        push_number(out, size);
+    }
+}
+
+/// The mask of the fields N, immr and imms, or of immr and imms alone.
+#[tactic(auto, unfolding(crate::specs::Texts::mask_in))]
+fn mask_in(wide: bool, bits: u32) -> Option<u64>
+    ensures { result ≡ mask_in wide bits }
+{
+    bit_mask(
+        field(bits, 12, 1) == 1,
+        field(bits, 0, 6) as u8,
+        field(bits, 6, 6) as u8,
+        wide,
+    )
+}
+
+/// Appends a mask.
+#[tactic(auto, unfolding(crate::specs::Texts::mask_text))]
+fn push_mask(out: &mut ArrayString<96>, mask: Option<u64>)
+    requires { length out.old.bytes + length (mask_text mask) ≤ 96 }
+    ensures { out.new.bytes ≡ out.old.bytes ++ mask_text mask }
+{
+    match mask {
+        Some(mask) => {
+            out.push_str("#0x");
+            push_hexadecimal(out, mask);
+        }
+        None => {}
+    }
+}
+
+/// Appends a number in decimal.
+fn push_number(out: &mut ArrayString<96>, number: u64)
+    requires { length out.old.bytes + length (decimal number) ≤ 96 }
+    ensures { out.new.bytes ≡ out.old.bytes ++ decimal number }
+{
+    let mut buffer = itoa::Buffer::new();
+    out.push_str(buffer.format(number));
+}
+
+/// Appends a number in hexadecimal.
+fn push_hexadecimal(out: &mut ArrayString<96>, number: u64)
+    requires { length out.old.bytes + length (hexadecimal number) ≤ 96 }
+    ensures { out.new.bytes ≡ out.old.bytes ++ hexadecimal number }
+{
+    let mut buffer = [0; 16];
+    let start = write_hexadecimal(&mut buffer, number);
+    push_bytes(out, &buffer[start..]);
+}
+
+/// Writes the digits of a number at the end of the buffer, and says where they start.
+fn write_hexadecimal(buffer: &mut [u8; 16], number: u64) -> usize
+    ensures start { result < 16 }
+    ensures digits { drop result buffer.new ≡ hexadecimal number }
+{
+    let mut rest = number;
+    for done in 0..16 {
+        let at = 15 - done;
+        buffer[at] = digit(rest % 16);
+        rest /= 16;
+        if rest == 0 {
+            return at;
+        }
+    }
+    unreachable!()
+}
+
+/// The hexadecimal digit of a number below 16.
+fn digit(number: u64) -> u8
+    requires { number < 16 }
+    ensures value { result ≡ digit_glyph false number }
+    ensures ascii { result < 128 }
+{
+    if number < 10 {
+        b'0' + number as u8
+    } else {
+        b'a' + (number as u8 - 10)
+    }
+}
+
+/// Appends bytes of ASCII.
+fn push_bytes(out: &mut ArrayString<96>, bytes: &[u8])
+    requires ascii { IsAscii bytes.now }
+    requires room { length out.old.bytes + length bytes.now ≤ 96 }
+    ensures { out.new.bytes ≡ out.old.bytes ++ bytes.now }
+{
+    for byte in bytes {
+        out.push(*byte as char);
+    }
+}
