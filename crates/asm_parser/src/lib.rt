@@ -3,6 +3,7 @@
 
 mod directives;
 mod instructions;
+mod laws;
 mod line;
 mod lists;
 mod parsing;
@@ -11,5 +12,6 @@ mod stops;
 #[cfg(test)]
 mod tests;
 
+pub use laws::printed_is_read;
 pub use line::{Line, LineFault, Statement, Value};
 pub use parsing::{parse_bytes, parse_line};
