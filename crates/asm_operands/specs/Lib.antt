@@ -1,3 +1,4 @@
 pub mod Fields
 pub mod Operands
+pub mod Sound
 pub mod Views

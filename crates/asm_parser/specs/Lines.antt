@@ -1,6 +1,6 @@
 -- The grammar of a line: an optional label, an optional directive or instruction, and an optional comment.
 -- Source: this project's own assembly language, with the directives of the GNU assembler.
-use Rattle.std.specs.Prelude.{ℕ, ◌+◌, ◌-◌, ◌^◌, Bool, true, false, not, ◌&&◌, ◌||◌, ◌==◌, nat_lt, nat_le, List, [], ◌∷◌, length, take, drop, map, slice_get, slice_index, Option, Some, None, Result, Ok, Err, codes, if◌then◌else◌, option_map}
+use Rattle.std.specs.Prelude.{ℕ, ◌+◌, ◌-◌, ◌^◌, Bool, true, false, not, ◌&&◌, ◌==◌, nat_le, List, [], ◌∷◌, length, take, drop, map, slice_get, slice_index, Option, Some, None, Result, Ok, Err, codes, if◌then◌else◌, option_map}
 use Rattle.std.specs.Str.{bytes_eq}
 use Rattle.insn_text.specs.declared.words.TheConstants.{NAMES}
 use Rattle.asm_tokens.specs.declared.token.Token.{Token}

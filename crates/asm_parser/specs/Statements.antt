@@ -1,6 +1,6 @@
 -- What a line of a source says: its label, and a directive or an instruction.
 -- Source: this project's own assembly language, with the directives of the GNU assembler.
-use Rattle.std.specs.Prelude.{◌≡◌, ℕ, List, Option, Some, None, map, option_map}
+use Rattle.std.specs.Prelude.{ℕ, List, Option, map, option_map}
 use Rattle.sm_types.specs.declared.insn.Insn.{Insn}
 use Rattle.asm_parser.specs.declared.line.Line.{Line}
 use Rattle.asm_parser.specs.declared.line.Statement.{Statement}

@@ -1,6 +1,13 @@
 //! Lines of assembly: `parse_line` tells what a line says, or its first fault.
 #![tactic(auto)]
 
+mod directives;
+mod instructions;
 mod line;
+mod lists;
+mod parsing;
+mod statements;
+mod stops;
 
 pub use line::{Line, LineFault, Statement, Value};
+pub use parsing::{parse_bytes, parse_line};

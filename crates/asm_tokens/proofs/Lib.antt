@@ -1,0 +1,4 @@
+pub mod Following
+pub mod Leading
+pub mod Naming
+pub mod Steps

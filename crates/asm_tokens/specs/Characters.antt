@@ -1,6 +1,6 @@
 -- The characters of a source, which is UTF-8, and their columns.
 -- Source: this project's own assembly language.
-use Rattle.std.specs.Prelude.{ℕ, ◌+◌, ◌-◌, Bool, false, not, ◌&&◌, ◌||◌, ◌==◌, nat_lt, nat_le, List, [], ◌∷◌, take, drop, if◌then◌else◌, length}
+use Rattle.std.specs.Prelude.{ℕ, ◌+◌, Bool, false, not, ◌&&◌, ◌||◌, ◌==◌, nat_le, List, [], ◌∷◌, take, drop, if◌then◌else◌, length}
 use Rattle.std.specs.List.{count_by, take_while}
 
 abbrev pub is_between : ℕ → ℕ → ℕ → Bool

@@ -1,10 +1,10 @@
 -- The tokens of a line: names, numbers and marks, with blanks between them.
 -- Source: this project's own assembly language.
-use Rattle.std.specs.Prelude.{ℕ, zero, suc, ◌+◌, ◌-◌, Bool, true, false, ◌&&◌, ◌||◌, ◌==◌, nat_lt, List, [], ◌∷◌, length, take, drop, slice_index, Option, Some, None, if◌then◌else◌, option_map}
+use Rattle.std.specs.Prelude.{ℕ, zero, suc, ◌+◌, Bool, true, false, not, ◌&&◌, ◌||◌, ◌==◌, nat_lt, List, [], ◌∷◌, length, drop, slice_index, Option, Some, None, if◌then◌else◌}
 use Rattle.std.specs.List.{position}
 use Rattle.std.specs.Str.{bytes_eq}
 use Rattle.insn_text.specs.declared.item.Text.{Text}
-use Rattle.insn_text.specs.declared.words.TheConstants.{WORDS, NAMES}
+use Rattle.insn_text.specs.declared.words.TheConstants.{WORDS}
 use Rattle.insn_text.specs.Texts.{text_in}
 use Rattle.asm_tokens.specs.declared.token.Token.{Token}
 use Rattle.asm_tokens.specs.declared.token.Token.TheVariants.{Word, Name, Number, Distance, Bare, Malformed, Mark, Other}
@@ -75,6 +75,11 @@ read_token c cs =
     else if (c == 46) && has_sign cs then read_distance cs
     else if is_name_character c then read_run (c ∷ cs)
     else read_character c cs
+
+-- a name stands first
+unfoldable pub begins_name : List ℕ → Bool
+begins_name [] = false
+begins_name (c ∷ cs) = is_name_character c && not (is_digit c) && not ((c == 46) && has_sign cs)
 
 abbrev pub lexeme_at : ℕ → Read → Lexeme
 lexeme_at at r = record { token = r.token; start = at; end = at + r.size }

@@ -1,22 +1,16 @@
 //! The tokens of a line of a source.
 
 /// A token. A name is a run of letters, digits, `_`, `.` and `$` that begins with no digit.
-#[derive(Clone, Copy, PartialEq, Eq)]
+#[derive(Clone, Copy, PartialEq, Eq, Default)]
 pub enum Token {
     /// A name that is a word of operands: its place in `insn_text::WORDS`.
     Word(u16),
     /// Any other name.
     Name,
     /// `#n` or `#-n`.
-    Number {
-        negative: bool,
-        size: u64,
-    },
+    Number { negative: bool, size: u64 },
     /// `.+n`, or `.-n` for one back.
-    Distance {
-        back: bool,
-        size: u64,
-    },
+    Distance { back: bool, size: u64 },
     /// A number without `#`.
     Bare(u64),
     /// What begins as one of these numbers and is none, or does not fit 64 bits.
@@ -24,6 +18,7 @@ pub enum Token {
     /// Any other character of ASCII.
     Mark(u8),
     /// Any other character.
+    #[default]
     Other,
 }
 

@@ -1,0 +1,158 @@
+-- No shape has more than 15 operands, so 16 tokens say all that there is to say.
+use Rattle.std.proofs.Common.{◌≡◌, ℕ, zero, suc, ◌+◌, ◌-◌, ◌<◌, ◌≤◌, ◌==◌, ◌&&◌, ◌||◌, Bool, true, false, nat_lt, List, [], ◌∷◌, Option, Some, None, length, take, drop, slice_get, max, refl, sym, ap, ap₂, ◌∙◌, arith, ltb-true, lit<}
+use Rattle.std.specs.List.{list_all, list_any}
+use Rattle.std.specs.Prelude.{is_some, slice_index, if◌then◌else◌, option_and_then}
+use Rattle.std.proofs.lemmas.Bool.{and_parts, cond_both}
+use Rattle.sve_table.specs.Meaning.{instruction_of}
+use Rattle.insn_text.specs.declared.shapes.TheConstants.{SHAPES, STARTS}
+use Rattle.insn_text.specs.declared.item.Item.{Item}
+use Rattle.insn_text.specs.declared.item.Shape.{Shape}
+use Rattle.insn_text.specs.Texts.{items_of}
+use Rattle.asm_tokens.specs.declared.token.Token.{Token}
+use Rattle.asm_operands.specs.Operands.{Known, known_after, taken_on, taken, reach_on, reach, fixed, word_in, reach_in, shapes_of, first_of_words, first_word, furthest, is_number_item, is_number_token, wants_number, is_whole, kind_at, Fault, operand_fault, is_distance_item, is_name_token, target_in, target_of, insn_said, said_or, Fails, operands_said}
+use Rattle.asm_operands.proofs.Tables.{all-take, all-drop}
+
+-- ---- one shape
+same_on : (f g : Known → Option ℕ) → ((k : Known) → f k ≡ g k) → (o : Option Known) → taken_on f o ≡ taken_on g o
+same_on f g e None = refl
+same_on f g e (Some k) = e k
+
+same_reach_on : (f g : Known → ℕ) → ((k : Known) → f k ≡ g k) → (o : Option Known) → reach_on f o ≡ reach_on g o
+same_reach_on f g e None = refl
+same_reach_on f g e (Some k) = ap suc (e k)
+
+taken-few : (is : List Item) (n : ℕ) (ts : List Token) (known : Known) → length is < n → taken is known (take n ts) ≡ taken is known ts
+unfolding taken
+taken-few is zero ts known lt = absurd (omega arith)
+taken-few [] (suc n) [] known lt = refl
+taken-few [] (suc n) (t ∷ ts) known lt = refl
+taken-few (i ∷ is) (suc n) [] known lt = refl
+taken-few (i ∷ is) (suc n) (t ∷ ts) known lt =
+    same_on (λ next. taken is next (take n ts)) (λ next. taken is next ts) (λ k. taken-few is n ts k (omega arith)) (known_after i known t)
+
+reach-few : (is : List Item) (n : ℕ) (ts : List Token) (known : Known) → length is < n → reach is known (take n ts) ≡ reach is known ts
+unfolding reach
+reach-few is zero ts known lt = absurd (omega arith)
+reach-few [] (suc n) [] known lt = refl
+reach-few [] (suc n) (t ∷ ts) known lt = refl
+reach-few (i ∷ is) (suc n) [] known lt = refl
+reach-few (i ∷ is) (suc n) (t ∷ ts) known lt =
+    same_reach_on (λ next. reach is next (take n ts)) (λ next. reach is next ts) (λ k. reach-few is n ts k (omega arith)) (known_after i known t)
+
+reach_on-le : (on : Known → ℕ) (n : ℕ) → ((k : Known) → on k ≤ n) → (o : Option Known) → reach_on on o ≤ suc n
+reach_on-le on n le None = omega arith
+reach_on-le on n le (Some k) = let h = le k in omega arith
+
+pub reach-le : (is : List Item) (ts : List Token) (known : Known) → reach is known ts ≤ length is
+unfolding reach
+reach-le [] ts known = omega arith
+reach-le (i ∷ is) [] known = omega arith
+reach-le (i ∷ is) (t ∷ ts) known = reach_on-le (λ next. reach is next ts) (length is) (λ k. reach-le is ts k) (known_after i known t)
+
+get-few : (n k : ℕ) (ts : List Token) → k < n → slice_get (take n ts) k ≡ slice_get ts k
+get-few zero k ts lt = absurd (omega arith)
+get-few (suc n) k [] lt = refl
+get-few (suc n) zero (t ∷ ts) lt = refl
+get-few (suc n) (suc k) (t ∷ ts) lt = get-few n k ts (omega arith)
+
+-- ---- shapes with few operands
+unfoldable pub has_few : Shape → Bool
+has_few s = nat_lt (length (items_of s)) 16
+
+all_few : list_all has_few SHAPES ≡ true
+unfolding items_of has_few
+all_few = refl
+
+few_of_name : (name : ℕ) → list_all has_few (shapes_of name) ≡ true
+unfolding shapes_of
+few_of_name name =
+    let first = slice_index STARTS name in
+    all-take has_few (slice_index STARTS (name + 1) - first) (drop first SHAPES) (all-drop has_few first SHAPES all_few)
+
+few-lt : (s : Shape) → has_few s ≡ true → length (items_of s) < 16
+unfolding has_few
+few-lt s e = ltb-true _ _ e
+
+word-few : (s : Shape) (ts : List Token) → has_few s ≡ true → word_in s (take 16 ts) ≡ word_in s ts
+unfolding word_in
+word-few s ts e = taken-few (items_of s) 16 ts (fixed s) (few-lt s e)
+
+shape-few : (s : Shape) (ts : List Token) → has_few s ≡ true → reach_in s (take 16 ts) ≡ reach_in s ts
+unfolding reach_in
+shape-few s ts e = reach-few (items_of s) 16 ts (fixed s) (few-lt s e)
+
+shape-le : (s : Shape) (ts : List Token) → has_few s ≡ true → reach_in s ts < 16
+unfolding reach_in
+shape-le s ts e = let lt = few-lt s e in let le = reach-le (items_of s) ts (fixed s) in omega arith
+
+-- ---- the shapes of a name
+first-few : (ss : List Shape) (ts : List Token) → list_all has_few ss ≡ true → first_word ss (take 16 ts) ≡ first_word ss ts
+unfolding first_word
+first-few [] ts e = refl
+first-few (s ∷ ss) ts e = let p = and_parts (has_few s) (list_all has_few ss) e in ap₂ first_of_words (word-few s ts p.0) (first-few ss ts p.1)
+
+furthest-few : (ss : List Shape) (ts : List Token) → list_all has_few ss ≡ true → furthest ss (take 16 ts) ≡ furthest ss ts
+unfolding furthest
+furthest-few [] ts e = refl
+furthest-few (s ∷ ss) ts e = let p = and_parts (has_few s) (list_all has_few ss) e in ap₂ max (shape-few s ts p.0) (furthest-few ss ts p.1)
+
+furthest-lt : (ss : List Shape) (ts : List Token) → list_all has_few ss ≡ true → furthest ss ts < 16
+unfolding furthest
+furthest-lt [] ts e = lit< tt
+furthest-lt (s ∷ ss) ts e =
+    let p = and_parts (has_few s) (list_all has_few ss) e in
+    let a = shape-le s ts p.0 in
+    let b = furthest-lt ss ts p.1 in
+    omega arith
+
+wants-few : (ss : List Shape) (count : ℕ) (ts : List Token) → list_all has_few ss ≡ true → list_any (wants_number count (take 16 ts)) ss ≡ list_any (wants_number count ts) ss
+unfolding wants_number
+wants-few [] count ts e = refl
+wants-few (s ∷ ss) count ts e =
+    let p = and_parts (has_few s) (list_all has_few ss) e in
+    ap₂ (λ n b. ((n == count) && is_number_item (slice_get (items_of s) count)) || b) (shape-few s ts p.0) (wants-few ss count ts p.1)
+
+whole-few : (ss : List Shape) (count : ℕ) (ts : List Token) → list_all has_few ss ≡ true → list_any (is_whole count (take 16 ts)) ss ≡ list_any (is_whole count ts) ss
+unfolding is_whole
+whole-few [] count ts e = refl
+whole-few (s ∷ ss) count ts e =
+    let p = and_parts (has_few s) (list_all has_few ss) e in
+    ap₂ (λ n b. ((n == count) && (length (items_of s) == count)) || b) (shape-few s ts p.0) (whole-few ss count ts p.1)
+
+kind-few : (ss : List Shape) (count : ℕ) (ts : List Token) (o : Option Token) → list_all has_few ss ≡ true → kind_at ss count (take 16 ts) o ≡ kind_at ss count ts o
+unfolding kind_at
+kind-few ss count ts None e = refl
+kind-few ss count ts (Some t) e = rw (wants-few ss count ts e, whole-few ss count ts e) refl
+
+fault-few : (ss : List Shape) (ts : List Token) → list_all has_few ss ≡ true → operand_fault ss (take 16 ts) ≡ operand_fault ss ts
+unfolding operand_fault
+fault-few ss ts e =
+    let same = furthest-few ss ts e in
+    let lt = furthest-lt ss ts e in
+    let make : ℕ → Option Token → Fault = λ n o. record { place = n; kind = kind_at ss n (take 16 ts) o } in
+    ap (λ n. make n (slice_get (take 16 ts) n)) same
+    ∙ ap (make (furthest ss ts)) (get-few 16 (furthest ss ts) ts lt)
+    ∙ ap (λ k. record { place = furthest ss ts; kind = k }) (kind-few ss (furthest ss ts) ts (slice_get ts (furthest ss ts)) e)
+
+target_in-few : (is : List Item) (ts : List Token) → length is < 16 → target_in is (take 16 ts) ≡ target_in is ts
+unfolding target_in
+target_in-few is ts lt =
+    let less : length is - 1 < 16 = omega arith in
+    ap (λ o. if is_distance_item (slice_get is (length is - 1)) && is_name_token o then Some (length is - 1) else None) (get-few 16 (length is - 1) ts less)
+
+target-few : (ss : List Shape) (ts : List Token) → list_all has_few ss ≡ true → target_of ss (take 16 ts) ≡ target_of ss ts
+unfolding target_of
+target-few [] ts e = refl
+target-few (s ∷ ss) ts e =
+    let p = and_parts (has_few s) (list_all has_few ss) e in
+    ap (λ o. if is_some o then target_in (items_of s) (take 16 ts) else target_of ss (take 16 ts)) (word-few s ts p.0)
+    ∙ ap₂ (λ a b. if is_some (word_in s ts) then a else b) (target_in-few (items_of s) ts (few-lt s p.0)) (target-few ss ts p.1)
+
+-- what the first 16 tokens say is what all of them say
+pub few_operands : (name : ℕ) (ts : List Token) → operands_said name (take 16 ts) ≡ operands_said name ts
+unfolding operands_said insn_said
+few_operands name ts =
+    let e = few_of_name name in
+    let ss = shapes_of name in
+    ap₂ (λ f t. said_or (Fails f) t (option_and_then instruction_of (first_word ss (take 16 ts)))) (fault-few ss ts e) (target-few ss ts e)
+    ∙ ap (λ w. said_or (Fails (operand_fault ss ts)) (target_of ss ts) (option_and_then instruction_of w)) (first-few ss ts e)

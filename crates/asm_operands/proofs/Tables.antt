@@ -1,0 +1,31 @@
+-- What the tables meet.
+use Rattle.std.proofs.Common.{◌≡◌, ℕ, zero, suc, ◌+◌, ◌-◌, ◌*◌, ◌^◌, ◌<◌, ◌&&◌, Bool, true, nat_lt, List, [], ◌∷◌, take, drop, refl, ap₂}
+use Rattle.std.specs.List.{list_all}
+use Rattle.std.proofs.lemmas.Bool.{and_parts}
+use Rattle.insn_text.specs.declared.operands.TheConstants.{ITEMS}
+use Rattle.insn_text.specs.declared.item.Item.{Item}
+use Rattle.insn_text.specs.declared.item.Shape.{Shape}
+use Rattle.insn_text.specs.Texts.{items_of}
+use Rattle.asm_operands.specs.Operands.{mask_of}
+use Rattle.asm_operands.specs.Sound.{has_factor, is_in_word, is_sound}
+
+pub all-take : {A : Type 0} (p : A → Bool) (n : ℕ) (xs : List A) → list_all p xs ≡ true → list_all p (take n xs) ≡ true
+all-take p zero xs e = refl
+all-take p (suc n) [] e = refl
+all-take p (suc n) (x ∷ xs) e = let parts = and_parts (p x) (list_all p xs) e in ap₂ (λ a b. a && b) parts.0 (all-take p n xs parts.1)
+
+pub all-drop : {A : Type 0} (p : A → Bool) (n : ℕ) (xs : List A) → list_all p xs ≡ true → list_all p (drop n xs) ≡ true
+all-drop p zero xs e = e
+all-drop p (suc n) [] e = refl
+all-drop p (suc n) (x ∷ xs) e = all-drop p n xs (and_parts (p x) (list_all p xs) e).1
+
+pub items-sound : list_all is_sound ITEMS ≡ true
+unfolding mask_of has_factor is_in_word is_sound
+items-sound = refl
+
+pub part-sound : (first count : ℕ) → list_all is_sound (take count (drop first ITEMS)) ≡ true
+part-sound first count = all-take is_sound count (drop first ITEMS) (all-drop is_sound first ITEMS items-sound)
+
+pub items_of-sound : (s : Shape) → list_all is_sound (items_of s) ≡ true
+unfolding items_of
+items_of-sound s = part-sound s.first s.count

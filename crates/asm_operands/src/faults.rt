@@ -1,0 +1,142 @@
+//! The first token with which no shape of a name goes on.
+
+ghost use Rattle.std.specs.Prelude.{◌≡◌, ◌-◌, ◌==◌, ◌&&◌, length, slice_get};
+ghost use Rattle.std.specs.List.{list_any};
+ghost use Rattle.asm_operands.specs.Operands.{reach_in, furthest, is_number_kind, is_distance, is_number_token, is_name, is_number_item, is_distance_item, is_name_token, wants_number, is_whole, kind_at, operand_fault};
+ghost use Rattle.asm_operands.specs.Views.{fault_of};
+
+use crate::fault::FaultKind;
+use crate::known::Known;
+use crate::operands::OperandFault;
+use crate::shapes::items_of;
+use crate::taking::reach;
+use asm_tokens::Token;
+use insn_text::{Item, Kind, Shape};
+
+/// How many tokens the operands of the shape take.
+#[tactic(auto, unfolding(crate::specs::Operands::reach_in, crate::specs::Operands::fixed))]
+fn reach_in(shape: &Shape, tokens: &[Token]) -> usize
+    ensures { result ≡ reach_in shape.now tokens.now }
+{
+    reach(items_of(shape), Known { mask: shape.mask, value: shape.value }, tokens)
+}
+
+/// The tokens that a shape takes, at most.
+fn furthest(shapes: &[Shape], tokens: &[Token]) -> usize
+    ensures { result ≡ furthest shapes.now tokens.now }
+{
+    let mut most = 0usize;
+    for shape in shapes {
+        most = most.max(reach_in(shape, tokens));
+    }
+    most
+}
+
+/// Whether the kind is written as a number.
+#[tactic(auto, unfolding(crate::specs::Operands::is_number_kind))]
+fn is_number_kind(kind: Kind) -> bool
+    ensures { result ≡ is_number_kind kind }
+{
+    match kind {
+        Kind::Mark(_) => false,
+        Kind::Named { .. } => false,
+        Kind::Register { .. } => false,
+        Kind::Unsigned { .. } => true,
+        Kind::Signed { .. } => true,
+        Kind::Distance { .. } => true,
+        Kind::Mask { .. } => true,
+        Kind::SignedMask { .. } => true,
+        Kind::ShiftLeft { .. } => true,
+        Kind::Opposite { .. } => false,
+        Kind::Halfword { .. } => true,
+    }
+}
+
+/// Whether the token is a number of any form.
+#[tactic(auto, unfolding(crate::specs::Operands::is_number_token))]
+fn is_number_token(token: Token) -> bool
+    ensures { result ≡ is_number_token token }
+{
+    match token {
+        Token::Word(_) => false,
+        Token::Name => false,
+        Token::Number { .. } => true,
+        Token::Distance { .. } => true,
+        Token::Bare(_) => true,
+        Token::Malformed => true,
+        Token::Mark(_) => false,
+        Token::Other => false,
+    }
+}
+
+/// Whether there is an operand at the place, and a number.
+fn is_number_at(items: &[Item], place: usize) -> bool
+    ensures { result ≡ is_number_item (slice_get items.now place) }
+{
+    if place < items.len() { is_number_kind(items[place].kind) } else { false }
+}
+
+/// Whether the shape takes so many tokens, and a number is its next operand.
+#[tactic(auto, unfolding(crate::specs::Operands::wants_number))]
+fn wants_number(count: usize, tokens: &[Token], shape: &Shape) -> bool
+    ensures { result ≡ wants_number count tokens.now shape.now }
+{
+    reach_in(shape, tokens) == count && is_number_at(items_of(shape), count)
+}
+
+/// Whether the shape takes so many tokens, and has no more operands.
+#[tactic(auto, unfolding(crate::specs::Operands::is_whole))]
+fn is_whole(count: usize, tokens: &[Token], shape: &Shape) -> bool
+    ensures { result ≡ is_whole count tokens.now shape.now }
+{
+    reach_in(shape, tokens) == count && items_of(shape).len() == count
+}
+
+/// Whether a shape takes so many tokens, and a number is its next operand.
+fn some_wants_number(shapes: &[Shape], count: usize, tokens: &[Token]) -> bool
+    ensures { result ≡ list_any (wants_number count tokens.now) shapes.now }
+{
+    for shape in shapes {
+        if wants_number(count, tokens, shape) {
+            return true;
+        }
+    }
+    false
+}
+
+/// Whether a shape takes so many tokens, and has no more operands.
+fn some_is_whole(shapes: &[Shape], count: usize, tokens: &[Token]) -> bool
+    ensures { result ≡ list_any (is_whole count tokens.now) shapes.now }
+{
+    for shape in shapes {
+        if is_whole(count, tokens, shape) {
+            return true;
+        }
+    }
+    false
+}
+
+/// Why no shape goes on with the token at the place.
+#[tactic(auto, unfolding(crate::specs::Operands::kind_at))]
+fn kind_at(shapes: &[Shape], place: usize, tokens: &[Token]) -> FaultKind
+    ensures { result ≡ kind_at shapes.now place tokens.now (slice_get tokens.now place) }
+{
+    if place >= tokens.len() {
+        FaultKind::BadOperand
+    } else if is_number_token(tokens[place]) && some_wants_number(shapes, place, tokens) {
+        FaultKind::BadNumber
+    } else if some_is_whole(shapes, place, tokens) {
+        FaultKind::Extra
+    } else {
+        FaultKind::BadOperand
+    }
+}
+
+/// The first token with which no shape goes on.
+#[tactic(auto, unfolding(crate::specs::Operands::operand_fault))]
+pub(crate) fn operand_fault(shapes: &[Shape], tokens: &[Token]) -> OperandFault
+    ensures { fault_of result ≡ operand_fault shapes.now tokens.now }
+{
+    let place = furthest(shapes, tokens);
+    OperandFault { place, kind: kind_at(shapes, place, tokens) }
+}

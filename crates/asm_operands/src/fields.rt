@@ -1,0 +1,260 @@
+//! The number of a field that a token says.
+
+ghost use Rattle.std.specs.Prelude.{◌≡◌, ◌-◌, ◌*◌, ◌<◌, ◌^◌, ◌==◌, ◌&&◌, ◌≤◌, true, Option, IfSome, IsTrue, bit_xor, option_map, option_and_then, None, if◌then◌else◌};
+ghost use Rattle.std.specs.List.{find, range_with_len};
+ghost use Rattle.asm_operands.specs.Fields.{word_field, register_field, unsigned_field, signed_field, width_of, mask_field, immediate_of, shift_left_field, is_halfword_at, halfword_field, inverted_if, field_said};
+ghost use Rattle.asm_operands.specs.Sound.{has_factor};
+
+use asm_tokens::Token;
+use bit_ops::mask_fields;
+use insn_text::Kind;
+
+/// One of `count` words from place `first` on.
+#[tactic(auto, unfolding(crate::specs::Fields::word_field))]
+fn word_field(first: u16, count: u16, place: u16) -> Option<u32>
+    ensures { result ≡ word_field first count place }
+{
+    let first = u32::from(first);
+    let place = u32::from(place);
+    if first <= place && place < first + u32::from(count) {
+        Some(place - first)
+    } else {
+        None
+    }
+}
+
+/// The number of a register whose word stands at the place.
+#[tactic(auto, unfolding(crate::specs::Fields::register_field))]
+fn register_field(first: u16, last: u16, place: u16) -> Option<u32>
+    ensures { result ≡ register_field first last place }
+{
+    if place == last { Some(31) } else { word_field(first, 31, place) }
+}
+
+/// The field, up to the greatest, that times `scale` and with `base` more is the number.
+#[tactic(auto, unfolding(crate::specs::Fields::unsigned_field))]
+fn unsigned_field(base: u16, scale: u16, most: u16, negative: bool, size: u64) -> Option<u32>
+    requires { 0 < scale }
+    ensures { result ≡ unsigned_field base scale most negative size }
+{
+    let base = u64::from(base);
+    let scale = u64::from(scale);
+    if !negative && base <= size && (size - base) % scale == 0 && (size - base) / scale <= u64::from(most) {
+        Some(((size - base) / scale) as u32)
+    } else {
+        None
+    }
+}
+
+/// The field of so many bits in two's complement that times `scale` is the number.
+#[tactic(auto, unfolding(crate::specs::Fields::signed_field))]
+fn signed_field(bits: u32, scale: u16, negative: bool, size: u64) -> Option<u32>
+    requires some { 0 < bits }
+    requires few { bits < 32 }
+    requires scale { 0 < scale }
+    ensures { result ≡ signed_field bits scale negative size }
+{
+    let scale = u64::from(scale);
+    let half = 1u64 << (bits - 1);
+    let all = 1u64 << bits;
+    let steps = size / scale;
+    if size % scale != 0 {
+        None
+    } else if negative {
+        if steps <= half { Some(((all - steps) % all) as u32) } else { None }
+    } else if steps < half {
+        Some(steps as u32)
+    } else {
+        None
+    }
+}
+
+/// The fields N, immr and imms of a mask.
+fn mask_field(wide: bool, mask: u64) -> Option<u32>
+    ensures { result ≡ mask_field wide mask }
+{
+    if !wide && mask >= 1 << 32 {
+        return None;
+    }
+    match mask_fields(mask, wide) {
+        Some((n, imms, immr)) => Some(u32::from(n) * 4096 + u32::from(immr) * 64 + u32::from(imms)),
+        None => None,
+    }
+}
+
+/// The number of the width, where a negative one is in two's complement.
+#[tactic(auto, unfolding(crate::specs::Fields::immediate_of))]
+fn immediate(wide: bool, negative: bool, size: u64) -> Option<u64>
+    ensures value { result ≡ immediate_of wide negative size }
+    ensures in_range { IfSome result (λ number. number < 2 ^ width_of wide) }
+{
+    match (wide, negative) {
+        (true, true) => if size <= 1 << 63 { Some(size.wrapping_neg()) } else { None },
+        (true, false) => Some(size),
+        (false, true) => if size <= 1 << 31 { Some(((1 << 32) - size) % (1 << 32)) } else { None },
+        (false, false) => if size < 1 << 32 { Some(size) } else { None },
+    }
+}
+
+/// The fields immr and imms of a shift to the left.
+#[tactic(auto, unfolding(crate::specs::Fields::shift_left_field))]
+fn shift_left_field(wide: bool, negative: bool, size: u64) -> Option<u32>
+    ensures { result ≡ shift_left_field wide negative size }
+{
+    let width = if wide { 64 } else { 32 };
+    let immr_factor = if wide { 64 } else { 32 };
+    if !negative && size < width {
+        Some(((width - size) % width * immr_factor + (width - 1 - size)) as u32)
+    } else {
+        None
+    }
+}
+
+/// Whether the number has no bits but those of the halfword at the place.
+#[tactic(auto, unfolding(crate::specs::Fields::is_halfword_at))]
+fn is_halfword_at(number: u64, place: u32) -> bool
+    requires { place < 4 }
+    ensures { result ≡ is_halfword_at number place }
+{
+    let unit = 1u64 << (16 * place);
+    number % unit == 0 && number / unit < 65536
+}
+
+/// The place of the lowest halfword, of so many, that has all bits of the number.
+fn halfword_place(number: u64, count: u32) -> Option<u32>
+    requires { count ≤ 4 }
+    ensures value { result ≡ find (is_halfword_at number) (range_with_len 0 count) }
+    ensures in_range { IfSome result (λ place. place < 4) }
+    ensures passes { IfSome result (λ place. is_halfword_at number place ≡ true) }
+{
+    for place in 0..count {
+        if is_halfword_at(number, place) {
+            return Some(place);
+        }
+    }
+    None
+}
+
+/// The place of the lowest halfword that has all bits of the number, above these bits.
+#[tactic(auto, unfolding(crate::specs::Fields::halfword_field))]
+fn halfword_field(wide: bool, number: u64) -> Option<u32>
+    ensures { result ≡ halfword_field wide number }
+{
+    match halfword_place(number, if wide { 4 } else { 2 }) {
+        Some(place) => Some(place * 65536 + (number >> (16 * place)) as u32),
+        None => None,
+    }
+}
+
+/// The number of the width, or all its bits inverted.
+#[tactic(auto, unfolding(crate::specs::Fields::inverted_if))]
+fn inverted_if(wide: bool, inverted: bool, number: u64) -> u64
+    requires { number < 2 ^ width_of wide }
+    ensures { result ≡ inverted_if wide inverted number }
+{
+    match (inverted, wide) {
+        (true, true) => u64::MAX - number,
+        (true, false) => u64::from(u32::MAX) - number,
+        (false, _) => number,
+    }
+}
+
+/// The fields of a mask that is not negative.
+fn positive_mask_field(wide: bool, negative: bool, size: u64) -> Option<u32>
+    ensures { result ≡ (if negative then None else mask_field wide size) }
+{
+    if negative { None } else { mask_field(wide, size) }
+}
+
+/// The fields of a mask that may be written as a negative number.
+fn signed_mask_field(wide: bool, negative: bool, size: u64) -> Option<u32>
+    ensures { result ≡ option_and_then (mask_field wide) (immediate_of wide negative size) }
+{
+    match immediate(wide, negative, size) {
+        Some(mask) => mask_field(wide, mask),
+        None => None,
+    }
+}
+
+/// The halfword of a number that may be negative, or of its bits inverted.
+fn signed_halfword_field(wide: bool, inverted: bool, negative: bool, size: u64) -> Option<u32>
+    ensures { result ≡ option_and_then (λ number. halfword_field wide (inverted_if wide inverted number)) (immediate_of wide negative size) }
+{
+    match immediate(wide, negative, size) {
+        Some(number) => halfword_field(wide, inverted_if(wide, inverted, number)),
+        None => None,
+    }
+}
+
+/// The opposite of one of `count` conditions from place `first` on.
+fn opposite_field(first: u16, count: u16, place: u16) -> Option<u32>
+    ensures { result ≡ option_map (λ field. bit_xor field 1) (word_field first count place) }
+{
+    match word_field(first, count, place) {
+        Some(field) => Some(field ^ 1),
+        None => None,
+    }
+}
+
+/// The number of a field of so many bits that the token says.
+#[tactic(auto, unfolding(crate::specs::Fields::field_said, crate::specs::Fields::on_mark, crate::specs::Fields::on_word, crate::specs::Fields::on_number, crate::specs::Fields::on_target, crate::specs::Sound::has_factor))]
+pub(crate) fn field_said(kind: Kind, bits: u32, token: Token) -> Option<u32>
+    requires few { bits < 32 }
+    requires factor { has_factor kind bits ≡ true }
+    ensures { result ≡ field_said kind bits token }
+{
+    match kind {
+        Kind::Mark(wanted) => match token {
+            Token::Mark(mark) => {
+                if mark == wanted {
+                    Some(0)
+                } else {
+                    None
+                }
+            }
+            _ => None,
+        },
+        Kind::Named { first, count } => match token {
+            Token::Word(place) => word_field(first, count, place),
+            _ => None,
+        },
+        Kind::Register { first, last } => match token {
+            Token::Word(place) => register_field(first, last, place),
+            _ => None,
+        },
+        Kind::Unsigned { base, scale, most } => match token {
+            Token::Number { negative, size } => unsigned_field(base, scale, most, negative, size),
+            _ => None,
+        },
+        Kind::Signed { scale } => match token {
+            Token::Number { negative, size } => signed_field(bits, scale, negative, size),
+            _ => None,
+        },
+        Kind::Distance { scale } => match token {
+            Token::Distance { back, size } => signed_field(bits, scale, back, size),
+            Token::Word(_) => Some(0),
+            Token::Name => Some(0),
+            _ => None,
+        },
+        Kind::Mask { wide } => match token {
+            Token::Number { negative, size } => positive_mask_field(wide, negative, size),
+            _ => None,
+        },
+        Kind::SignedMask { wide } => match token {
+            Token::Number { negative, size } => signed_mask_field(wide, negative, size),
+            _ => None,
+        },
+        Kind::ShiftLeft { wide } => match token {
+            Token::Number { negative, size } => shift_left_field(wide, negative, size),
+            _ => None,
+        },
+        Kind::Opposite { first, count } => match token {
+            Token::Word(place) => opposite_field(first, count, place),
+            _ => None,
+        },
+        Kind::Halfword { wide, inverted } => match token {
+            Token::Number { negative, size } => signed_halfword_field(wide, inverted, negative, size),
+            _ => None,
+        },
+    }
+}

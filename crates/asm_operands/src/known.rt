@@ -1,0 +1,115 @@
+//! The bits of a word that operands say.
+
+ghost use Rattle.std.specs.Prelude.{◌≡◌, ◌-◌, ◌*◌, ◌/◌, ◌%◌, ◌^◌, ◌<◌, true, option_map};
+ghost use Rattle.insn_text.specs.Rules.{meets, is_base_apart};
+ghost use Rattle.asm_operands.specs.Operands.{mask_of, placed, agrees, with_field, known_after};
+ghost use Rattle.asm_operands.specs.Sound.{is_sound, is_in_word};
+
+use crate::fields::field_said;
+use asm_tokens::Token;
+use insn_text::{Item, Rule};
+
+/// The known bits of a word, and their values.
+#[derive(Clone, Copy)]
+pub(crate) struct Known {
+    pub(crate) mask: u32,
+    pub(crate) value: u32,
+}
+
+/// So many ones.
+fn ones(width: u8) -> u32
+    requires { width < 32 }
+    ensures { result ≡ 2 ^ width - 1 }
+{
+    (1 << u32::from(width)) - 1
+}
+
+/// The bits of an operand's field in a word.
+#[tactic(auto, unfolding(crate::specs::Operands::mask_of, crate::specs::Sound::is_in_word))]
+fn mask_of(item: &Item) -> u32
+    requires { is_in_word item.now ≡ true }
+    ensures { result ≡ mask_of item.now }
+{
+    (ones(item.upper_width) << u32::from(item.upper_low)) + (ones(item.width) << u32::from(item.low))
+}
+
+/// The field at its place in a word.
+#[tactic(auto, unfolding(crate::specs::Operands::placed, crate::specs::Sound::is_in_word))]
+fn placed(item: &Item, field: u32) -> u32
+    requires { is_in_word item.now ≡ true }
+    ensures { result ≡ placed item.now field }
+{
+    let upper = field >> u32::from(item.width) & ones(item.upper_width);
+    let lower = field & ones(item.width);
+    (upper << u32::from(item.upper_low)) + (lower << u32::from(item.low))
+}
+
+/// The number of the register whose five bits begin there.
+fn register_at(word: u32, low: u32) -> u32
+    requires { low < 32 }
+    ensures { result ≡ word / 2 ^ low % 32 }
+{
+    (word >> low) % 32
+}
+
+/// Whether Rn 9:5 is SP, or not the number.
+#[tactic(auto, unfolding(a64_table::specs::Fields::field_of))]
+fn is_base_apart(word: u32, number: u32) -> bool
+    ensures { result ≡ is_base_apart word number }
+{
+    register_at(word, 5) == 31 || register_at(word, 5) != number
+}
+
+/// Whether the registers of a word meet the rule.
+#[tactic(auto, unfolding(insn_text::specs::Rules::meets, a64_table::specs::Fields::field_of))]
+fn meets(rule: Rule, word: u32) -> bool
+    ensures { result ≡ meets rule word }
+{
+    match rule {
+        Rule::Free => true,
+        Rule::SecondApart => register_at(word, 0) != register_at(word, 10),
+        Rule::BaseApart => is_base_apart(word, register_at(word, 0)),
+        Rule::BasePairApart => is_base_apart(word, register_at(word, 0)) && is_base_apart(word, register_at(word, 10)),
+    }
+}
+
+impl Known {
+    ghost use Rattle.asm_operands.specs.Views.{known_of};
+
+    /// What is known with a field.
+    #[tactic(auto, unfolding(crate::specs::Operands::with_field))]
+    fn with_field(self, item: &Item, field: u32) -> Known
+        requires { is_in_word item.now ≡ true }
+        ensures { known_of result ≡ with_field item.now (known_of self) field }
+    {
+        Known { mask: self.mask | mask_of(item), value: self.value | placed(item, field) }
+    }
+
+    /// Whether a field agrees with what is known, and meets the operand's rule.
+    #[tactic(auto, unfolding(crate::specs::Operands::agrees))]
+    fn agrees(self, item: &Item, field: u32) -> bool
+        requires { is_in_word item.now ≡ true }
+        ensures { result ≡ agrees item.now (known_of self) field }
+    {
+        self.value & mask_of(item) == placed(item, field) & self.mask && meets(item.rule, self.with_field(item, field).value)
+    }
+
+    /// What is known once the token is read as an operand.
+    #[tactic(auto, unfolding(crate::specs::Operands::known_after, crate::specs::Operands::known_with, crate::specs::Sound::is_sound))]
+    pub(crate) fn after(self, item: &Item, token: Token) -> Option<Known>
+        requires { is_sound item.now ≡ true }
+        ensures { option_map known_of result ≡ known_after item.now (known_of self) token }
+    {
+        let bits = u32::from(item.width) + u32::from(item.upper_width);
+        match field_said(item.kind, bits, token) {
+            Some(field) => {
+                if self.agrees(item, field) {
+                    Some(self.with_field(item, field))
+                } else {
+                    None
+                }
+            }
+            None => None,
+        }
+    }
+}

@@ -1,0 +1,43 @@
+use Rattle.std.proofs.Common.{◌+◌, ℕ, List, length, subst, sym, ap, ◌∙◌, arith}
+use Rattle.std.specs.Prelude.{Result}
+use Rattle.insn_text.specs.declared.words.TheConstants.{NAMES}
+use Rattle.asm_tokens.specs.Characters.{column_at}
+use Rattle.asm_tokens.specs.Tokens.{place_in}
+use Rattle.asm_parser.specs.declared.stops.Stop.{Stop}
+use Rattle.asm_parser.specs.Statements.{Says, says_of}
+use Rattle.asm_parser.specs.Lines.{directive_of, directive_says, instruction_says}
+use Rattle.asm_parser.specs.Told.{Shows, said_from, directive_said}
+use Rattle.asm_parser.proofs.Names.{comment_le, named-directive, named-instruction, named-unknown}
+use Rattle.asm_parser.proofs.statements.named_says.Goals as goal
+
+pub directive_says-requires-clause-part : goal.directive_says-requires-clause-part
+directive_says-requires-clause-part c = omega (arith, comment_le c.args.line.now, ap length c.requires.part)
+
+pub instruction_says-requires-clause-part : goal.instruction_says-requires-clause-part
+instruction_says-requires-clause-part c = omega (arith, comment_le c.args.line.now, ap length c.requires.part)
+
+pub returns-in-Some : goal.returns-in-Some
+returns-in-Some c =
+    let P : Result Says Stop → Type 0 = λ said. Shows says_of c.directive_says.result said in
+    let says = directive_says c.args.line.now (directive_said c.in-Some.directive) in
+    let text = c.args.text.now in
+    subst P
+    (ap (λ (name : List ℕ). said_from says text (c.args.start + length name)) c.run_at-name.ensures.value
+    ∙ sym (named-directive c.args.line.now text c.args.start c.requires.part c.requires.within c.requires.name (directive_said c.in-Some.directive) (c.in-Some.ensures ∙ ap directive_of c.run_at-name.ensures.value)))
+    c.directive_says.ensures
+
+pub returns-in-Some-name_place : goal.returns-in-Some-name_place
+returns-in-Some-name_place c =
+    let P : Result Says Stop → Type 0 = λ said. Shows says_of c.instruction_says.result said in
+    let says = instruction_says c.args.line.now c.in-Some-name_place.place (column_at c.args.line.now c.args.start) in
+    let text = c.args.text.now in
+    subst P
+    (ap (λ (name : List ℕ). said_from says text (c.args.start + length name)) c.run_at-name.ensures.value
+    ∙ sym (named-instruction c.args.line.now text c.args.start c.requires.part c.requires.within c.requires.name c.in-Some-name_place.place
+    (c.in-None.ensures ∙ ap directive_of c.run_at-name.ensures.value) (c.in-Some-name_place.ensures ∙ ap (place_in NAMES) c.run_at-name.ensures.value)))
+    c.instruction_says.ensures
+
+pub returns-in-None-name_place : goal.returns-in-None-name_place
+returns-in-None-name_place c =
+    named-unknown c.args.line.now c.args.text.now c.args.start c.requires.part c.requires.within c.requires.name
+    (c.in-None.ensures ∙ ap directive_of c.run_at-name.ensures.value) (c.in-None-name_place.ensures ∙ ap (place_in NAMES) c.run_at-name.ensures.value)

@@ -1,0 +1,101 @@
+//! Directives.
+ghost use Rattle.std.specs.Prelude.{◌≡◌, ◌≤◌, ◌==◌, length, option_map, slice_index};
+ghost use Rattle.asm_parser.specs.Lines.{directive_of, directive_says};
+ghost use Rattle.asm_parser.specs.Statements.{says_of};
+ghost use Rattle.asm_parser.specs.Told.{said_from, Shows, directive_said};
+
+use crate::line::Statement;
+use crate::lists::{expect_end, one_name, one_number, values};
+use crate::stops::Stop;
+use std::alloc::Global;
+
+/// The name of a directive.
+#[derive(Clone, Copy)]
+pub enum Directive {
+    Text,
+    Data,
+    Quad,
+    Word,
+    Byte,
+    Zero,
+    Align,
+    Global,
+}
+
+fn begins_dotted(name: &[u8]) -> bool
+    ensures { result ≡ (slice_index name.now 0 == 46) }
+{
+    if name.is_empty() {
+        false
+    } else {
+        name[0] == 46
+    }
+}
+
+#[tactic(auto, unfolding(crate::specs::Lines::directive_of))]
+fn dotted_directive(name: &[u8]) -> Option<Directive>
+    ensures { option_map directive_said result ≡ directive_of name.now }
+{
+    if name == b".text".as_slice() {
+        Some(Directive::Text)
+    } else if name == b".data".as_slice() {
+        Some(Directive::Data)
+    } else if name == b".quad".as_slice() {
+        Some(Directive::Quad)
+    } else if name == b".word".as_slice() {
+        Some(Directive::Word)
+    } else if name == b".byte".as_slice() {
+        Some(Directive::Byte)
+    } else if name == b".zero".as_slice() {
+        Some(Directive::Zero)
+    } else if name == b".align".as_slice() {
+        Some(Directive::Align)
+    } else if name == b".global".as_slice() {
+        Some(Directive::Global)
+    } else {
+        None
+    }
+}
+
+/// The directive of a name.
+#[tactic(auto, using(crate::proofs::Names::undotted))]
+pub fn directive_of(name: &[u8]) -> Option<Directive>
+    ensures { option_map directive_said result ≡ directive_of name.now }
+{
+    if begins_dotted(name) {
+        dotted_directive(name)
+    } else {
+        None
+    }
+}
+
+/// What a directive says with the tokens from a place on.
+#[tactic(auto, unfolding(crate::specs::Lines::directive_says))]
+pub fn directive_says<'a>(
+    alloc: Global,
+    line: &'a [u8],
+    text: &[u8],
+    at: usize,
+    directive: Directive,
+) -> Result<Statement<'a>, Stop>
+    requires within { at ≤ length text.now }
+    requires part { length text.now ≤ length line.now }
+    ensures { Shows says_of result (said_from (directive_says line.now (directive_said directive)) text.now at) }
+{
+    match directive {
+        Directive::Text => {
+            expect_end(text, at)?;
+            Ok(Statement::Text)
+        }
+        Directive::Data => {
+            expect_end(text, at)?;
+            Ok(Statement::Data)
+        }
+        Directive::Quad => Ok(Statement::Quad(values(alloc, line, text, at)?)),
+        Directive::Word => Ok(Statement::Word(values(alloc, line, text, at)?)),
+        Directive::Byte => Ok(Statement::Byte(values(alloc, line, text, at)?)),
+        Directive::Zero => Ok(Statement::Zero(one_number(text, at, u64::MAX)?)),
+        Directive::Align => Ok(Statement::Align(one_number(text, at, 12)? as u8)),
+        Directive::Global => Ok(Statement::Global(one_name(line, text, at)?)),
+    }
+}

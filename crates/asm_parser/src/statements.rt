@@ -1,0 +1,67 @@
+//! What stands on a line after its label.
+ghost use Rattle.std.specs.Prelude.{◌≡◌, ◌<◌, ◌≤◌, ◌-◌, ◌^◌, length, drop, true};
+ghost use Rattle.asm_tokens.specs.Characters.{before_comment};
+ghost use Rattle.asm_tokens.specs.Tokens.{begins_name};
+ghost use Rattle.asm_parser.specs.Lines.{tokens_say};
+ghost use Rattle.asm_parser.specs.Statements.{says_of};
+ghost use Rattle.asm_parser.specs.Told.{said_from, Shows};
+
+use crate::directives::{directive_of, directive_says};
+use crate::instructions::instruction_says;
+use crate::line::Statement;
+use crate::stops::Stop;
+use asm_operands::FaultKind;
+use asm_tokens::{begins_name, name_place, run_at, skip_blanks};
+use std::alloc::Global;
+
+/// What a name at a place says with the tokens after it.
+fn named_says<'a>(
+    alloc: Global,
+    line: &'a [u8],
+    text: &[u8],
+    start: usize,
+) -> Result<Statement<'a>, Stop>
+    requires short { length line.now < 2 ^ 32 - 1 }
+    requires within { start < length text.now }
+    requires part { text.now ≡ before_comment line.now }
+    requires name { begins_name (drop start text.now) ≡ true }
+    ensures { Shows says_of result (said_from (tokens_say line.now) text.now start) }
+{
+    let name = run_at(text, start);
+    let at = start + name.len();
+    match directive_of(name) {
+        Some(directive) => directive_says(alloc, line, text, at, directive),
+        None => match name_place(name) {
+            Some(place) => instruction_says(line, text, start, at, place),
+            None => Err(Stop::Fault {
+                start: Some(start),
+                kind: FaultKind::UnknownName,
+            }),
+        },
+    }
+}
+
+/// What the tokens from a place on say.
+pub fn tokens_say<'a>(
+    alloc: Global,
+    line: &'a [u8],
+    text: &[u8],
+    at: usize,
+) -> Result<Statement<'a>, Stop>
+    requires short { length line.now < 2 ^ 32 - 1 }
+    requires within { at ≤ length text.now }
+    requires part { text.now ≡ before_comment line.now }
+    ensures { Shows says_of result (said_from (tokens_say line.now) text.now at) }
+{
+    let start = skip_blanks(text, at);
+    if start == text.len() {
+        Ok(Statement::Empty)
+    } else if begins_name(text, start) {
+        named_says(alloc, line, text, start)
+    } else {
+        Err(Stop::Fault {
+            start: Some(start),
+            kind: FaultKind::Extra,
+        })
+    }
+}

@@ -1,0 +1,124 @@
+-- The steps of loops over a text.
+use Rattle.std.proofs.Common.{◌≡◌, ℕ, ◌+◌, ◌*◌, ◌%◌, ◌^◌, ◌<◌, ◌≤◌, Bool, true, false, not, ◌&&◌, ◌||◌, ◌==◌, List, [], ◌∷◌, ◌++◌, Option, Some, None, length, take, drop, get_or, cond, refl, sym, ap, ◌∙◌, arith, append_assoc, add-one, lt-ltb, nat_lt}
+use Rattle.std.specs.List.{prefix_len, list_all}
+use Rattle.std.proofs.Math.Seq.{take-suc}
+use Rattle.std.proofs.lemmas.List.{append-nil, drop-drop, at_drop_more, at_drop_all, length-take}
+use Rattle.std.proofs.lemmas.List.Sums.{prefix_len-drop_yes, prefix_len-drop_no, prefix_len-drop_all, prefix_len-le-length}
+use Rattle.std.proofs.Math.Nat.{mul-le-mul_left}
+use Rattle.std.proofs.lemmas.Bool.{le-ltb}
+use Rattle.asm_tokens.specs.Characters.{is_digit, front, starts_comment, before_comment}
+use Rattle.asm_tokens.specs.Numbers.{is_hex_digit, digit_of, number_after, if_fits, is_decimal, decimal_number, is_hexadecimal, hexadecimal_number}
+use Rattle.asm_tokens.specs.Places.{hash_after}
+
+-- what a text has from a place on, from a place on
+pub joined_drops : (n m : ℕ) (xs : List ℕ) → drop m (drop n xs) ≡ drop (n + m) xs
+joined_drops n m xs = drop-drop m n xs
+
+-- ---- runs
+
+pub front-length : (p : ℕ → Bool) (xs : List ℕ) → length (front p xs) ≡ prefix_len p xs
+front-length p xs = omega (arith, length-take (prefix_len p xs) xs, prefix_len-le-length p xs)
+
+pub take_front : (p : ℕ → Bool) (xs : List ℕ) → take (length (front p xs)) xs ≡ front p xs
+take_front p xs = ap (λ n. take n xs) (front-length p xs)
+
+pub front-more : (p : ℕ → Bool) (xs : List ℕ) (at whole : ℕ) → at < length xs → true ≡ p (get_or xs at 0)
+    → at + length (front p (drop at xs)) ≡ whole → at + 1 + length (front p (drop (at + 1) xs)) ≡ whole
+front-more p xs at whole lt e h = omega (arith, front-length p (drop at xs), front-length p (drop (at + 1) xs), prefix_len-drop_yes p xs at 0 lt (sym e))
+
+pub front-stop : (p : ℕ → Bool) (xs : List ℕ) (at whole : ℕ) → at < length xs → false ≡ p (get_or xs at 0)
+    → at + length (front p (drop at xs)) ≡ whole → at ≡ whole
+front-stop p xs at whole lt e h = omega (arith, front-length p (drop at xs), prefix_len-drop_no p xs at 0 lt (sym e))
+
+pub front-end : (p : ℕ → Bool) (xs : List ℕ) (at whole : ℕ) → length xs ≤ at → at + length (front p (drop at xs)) ≡ whole → at ≡ whole
+front-end p xs at whole le h = omega (arith, front-length p (drop at xs), prefix_len-drop_all p xs at le)
+
+-- ---- comments
+
+take-at : (xs : List ℕ) (at : ℕ) → at < length xs → take (at + 1) xs ≡ take at xs ++ (get_or xs at 0 ∷ [])
+take-at xs at lt = rw (add-one, take-suc xs at 0) refl
+
+pub comment-more : (xs whole : List ℕ) (at : ℕ) → at < length xs → false ≡ starts_comment (get_or xs at 0) (drop (at + 1) xs)
+    → take at xs ++ before_comment (drop at xs) ≡ whole → take (at + 1) xs ++ before_comment (drop (at + 1) xs) ≡ whole
+unfolding before_comment
+comment-more xs whole at lt e h =
+    ap (λ (ys : List ℕ). ys ++ before_comment (drop (at + 1) xs)) (take-at xs at lt) ∙ append_assoc (take at xs) (get_or xs at 0 ∷ []) (before_comment (drop (at + 1) xs))
+    ∙ ap (λ b. take at xs ++ cond b [] (get_or xs at 0 ∷ before_comment (drop (at + 1) xs))) e
+    ∙ ap (λ (ys : List ℕ). take at xs ++ ys) (sym (at_drop_more before_comment xs at 0 lt)) ∙ h
+
+pub comment-here : (xs whole : List ℕ) (at : ℕ) → at < length xs → true ≡ starts_comment (get_or xs at 0) (drop (at + 1) xs)
+    → take at xs ++ before_comment (drop at xs) ≡ whole → take at xs ≡ whole
+unfolding before_comment
+comment-here xs whole at lt e h =
+    sym (append-nil (take at xs)) ∙ ap (λ b. take at xs ++ cond b [] (get_or xs at 0 ∷ before_comment (drop (at + 1) xs))) e
+    ∙ ap (λ (ys : List ℕ). take at xs ++ ys) (sym (at_drop_more before_comment xs at 0 lt)) ∙ h
+
+pub comment-end : (xs whole : List ℕ) (at : ℕ) → length xs ≤ at → take at xs ++ before_comment (drop at xs) ≡ whole → take at xs ≡ whole
+unfolding before_comment
+comment-end xs whole at le h =
+    sym (append-nil (take at xs)) ∙ ap (λ (ys : List ℕ). take at xs ++ ys) (sym (at_drop_all before_comment xs at le)) ∙ h
+
+-- ---- numbers
+
+-- the number of digits that follow a number, if all of them are digits and it fits
+abbrev pub read_digits : (ℕ → Bool) → ℕ → ℕ → List ℕ → Option ℕ
+read_digits test base n ds = cond (list_all test ds) (if_fits (number_after base n ds)) None
+
+number_after-ge : (base n : ℕ) (ds : List ℕ) → 1 ≤ base → n ≤ number_after base n ds
+number_after-ge base n [] some = omega arith
+number_after-ge base n (d ∷ ds) some =
+    omega (arith, number_after-ge base (n * base + digit_of d) ds some, mul-le-mul_left n some)
+
+pub digits-more : (test : ℕ → Bool) (base n : ℕ) (xs : List ℕ) (at : ℕ) → at < length xs → true ≡ test (get_or xs at 0)
+    → read_digits test base n (drop at xs) ≡ read_digits test base (n * base + digit_of (get_or xs at 0)) (drop (at + 1) xs)
+digits-more test base n xs at lt e =
+    at_drop_more (read_digits test base n) xs at 0 lt
+    ∙ ap (λ b. cond (b && list_all test (drop (at + 1) xs)) (if_fits (number_after base (n * base + digit_of (get_or xs at 0)) (drop (at + 1) xs))) None) (sym e)
+
+pub digits-stop : (test : ℕ → Bool) (base n : ℕ) (xs : List ℕ) (at : ℕ) → at < length xs → false ≡ test (get_or xs at 0)
+    → read_digits test base n (drop at xs) ≡ None
+digits-stop test base n xs at lt e =
+    at_drop_more (read_digits test base n) xs at 0 lt
+    ∙ ap (λ b. cond (b && list_all test (drop (at + 1) xs)) (if_fits (number_after base (n * base + digit_of (get_or xs at 0)) (drop (at + 1) xs))) None) (sym e)
+
+if_fits-large : (n : ℕ) → 2 ^ 64 ≤ n → if_fits n ≡ None
+if_fits-large n le = ap (λ b. cond b (Some n) None) (le-ltb n (2 ^ 64) le)
+
+none_both : (b : Bool) (o : Option ℕ) → o ≡ None → cond b o None ≡ None
+none_both true o e = e
+none_both false o e = refl
+
+pub digits-large : (test : ℕ → Bool) (base n : ℕ) (xs : List ℕ) (at : ℕ) → 1 ≤ base → at < length xs → true ≡ test (get_or xs at 0)
+    → 2 ^ 64 ≤ n * base + digit_of (get_or xs at 0) → read_digits test base n (drop at xs) ≡ None
+digits-large test base n xs at some lt e large =
+    digits-more test base n xs at lt e
+    ∙ none_both (list_all test (drop (at + 1) xs)) _ (if_fits-large _ (omega (arith, number_after-ge base (n * base + digit_of (get_or xs at 0)) (drop (at + 1) xs) some)))
+
+pub digits-end : (test : ℕ → Bool) (base n : ℕ) (xs : List ℕ) (at : ℕ) → n < 2 ^ 64 → length xs ≤ at → read_digits test base n (drop at xs) ≡ Some n
+digits-end test base n xs at fits le = at_drop_all (read_digits test base n) xs at le ∙ ap (λ b. cond b (Some n) None) (lt-ltb n (2 ^ 64) fits)
+
+cond_parts : (a b c : Bool) (o : Option ℕ) → cond ((a && b) && c) o None ≡ cond (b && c) (cond a o None) None
+cond_parts true b c o = refl
+cond_parts false true c o = sym (none_both c None refl)
+cond_parts false false c o = refl
+
+cond_swap : (a b : Bool) (o : Option ℕ) → cond (a && b) o None ≡ cond b (cond a o None) None
+cond_swap true b o = refl
+cond_swap false b o = sym (none_both b None refl)
+
+pub decimal_by_digits : (ds : List ℕ) → decimal_number ds ≡ cond (nat_lt 0 (length ds) && (not (get_or ds 0 0 == 48) || (length ds == 1))) (read_digits is_digit 10 0 ds) None
+unfolding decimal_number is_decimal
+decimal_by_digits ds = cond_parts (list_all is_digit ds) (nat_lt 0 (length ds)) _ (if_fits (number_after 10 0 ds))
+
+pub hexadecimal_by_digits : (ds : List ℕ) → hexadecimal_number ds ≡ cond (nat_lt 0 (length ds)) (read_digits is_hex_digit 16 0 ds) None
+unfolding hexadecimal_number is_hexadecimal
+hexadecimal_by_digits ds = cond_swap (list_all is_hex_digit ds) (nat_lt 0 (length ds)) (if_fits (number_after 16 0 ds))
+
+-- ---- hashes
+
+pub hash-more : (factor size h : ℕ) (xs : List ℕ) (at : ℕ) → at < length xs
+    → hash_after factor size h (drop at xs) ≡ hash_after factor size ((h * factor + get_or xs at 0) % size) (drop (at + 1) xs)
+hash-more factor size h xs at lt = at_drop_more (hash_after factor size h) xs at 0 lt
+
+pub hash-end : (factor size h : ℕ) (xs : List ℕ) (at : ℕ) → length xs ≤ at → hash_after factor size h (drop at xs) ≡ h
+hash-end factor size h xs at le = at_drop_all (hash_after factor size h) xs at le

@@ -1,0 +1,187 @@
+//! The tokens of a text, one after another.
+ghost use Rattle.std.specs.Prelude.{◌≡◌, ◌+◌, ◌<◌, ◌≤◌, [], ◌∷◌, length, drop, slice_index, MatchOption, IfSome, IsTrue};
+ghost use Rattle.asm_tokens.specs.Tokens.{number_token, distance_token, bare_token, name_token, read_number, read_distance, read_run, read_character, read_token, has_sign, begins_name, lexeme_at, lexemes_of};
+
+use crate::characters::{
+    byte_at, character_end, is_blank, is_digit, is_name_character, run_at, skip_blanks,
+};
+use crate::names::word_place;
+use crate::numbers::{decimal_number, number_in};
+use crate::token::{Lexeme, Token};
+
+#[tactic(auto, unfolding(crate::specs::Tokens::number_token))]
+fn number_token(negative: bool, number: Option<u64>) -> Token
+    ensures { result ≡ number_token negative number }
+{
+    match number {
+        Some(size) => Token::Number { negative, size },
+        None => Token::Malformed,
+    }
+}
+
+#[tactic(auto, unfolding(crate::specs::Tokens::distance_token))]
+fn distance_token(back: bool, number: Option<u64>) -> Token
+    ensures { result ≡ distance_token back number }
+{
+    match number {
+        Some(size) => Token::Distance { back, size },
+        None => Token::Malformed,
+    }
+}
+
+#[tactic(auto, unfolding(crate::specs::Tokens::bare_token))]
+fn bare_token(number: Option<u64>) -> Token
+    ensures { result ≡ bare_token number }
+{
+    match number {
+        Some(size) => Token::Bare(size),
+        None => Token::Malformed,
+    }
+}
+
+#[tactic(auto, unfolding(crate::specs::Tokens::name_token))]
+fn name_token(place: Option<u16>) -> Token
+    ensures { result ≡ name_token place }
+{
+    match place {
+        Some(place) => Token::Word(place),
+        None => Token::Name,
+    }
+}
+
+/// `#`, a sign and a number.
+#[tactic(auto, using(crate::proofs::Steps::joined_drops), unfolding(crate::specs::Tokens::read_number))]
+fn read_number(text: &[u8], start: usize) -> Lexeme
+    requires { start < length text.now }
+    ensures value { result ≡ lexeme_at start (read_number (drop (start + 1) text.now)) }
+    ensures within { result.end ≤ length text.now }
+{
+    if byte_at(text, start + 1) == 45 {
+        let run = run_at(text, start + 2);
+        Lexeme {
+            token: number_token(true, number_in(run)),
+            start,
+            end: start + 2 + run.len(),
+        }
+    } else {
+        let run = run_at(text, start + 1);
+        Lexeme {
+            token: number_token(false, number_in(run)),
+            start,
+            end: start + 1 + run.len(),
+        }
+    }
+}
+
+/// `.`, a sign and a decimal number.
+#[tactic(auto, using(crate::proofs::Steps::joined_drops), unfolding(crate::specs::Tokens::read_distance))]
+fn read_distance(text: &[u8], start: usize) -> Lexeme
+    requires { start + 1 < length text.now }
+    ensures value { result ≡ lexeme_at start (read_distance (drop (start + 1) text.now)) }
+    ensures within { result.end ≤ length text.now }
+{
+    let run = run_at(text, start + 2);
+    let back = byte_at(text, start + 1) == 45;
+    Lexeme {
+        token: distance_token(back, decimal_number(run)),
+        start,
+        end: start + 2 + run.len(),
+    }
+}
+
+/// A name, or a number without `#`.
+#[tactic(auto, using(crate::proofs::Steps::joined_drops), unfolding(crate::specs::Tokens::read_run))]
+fn read_run(text: &[u8], start: usize) -> Lexeme
+    requires { start < length text.now }
+    ensures value { result ≡ lexeme_at start (read_run (drop start text.now)) }
+    ensures within { result.end ≤ length text.now }
+{
+    let run = run_at(text, start);
+    let token = if is_digit(text[start]) {
+        bare_token(number_in(run))
+    } else {
+        name_token(word_place(run))
+    };
+    Lexeme {
+        token,
+        start,
+        end: start + run.len(),
+    }
+}
+
+/// A character by itself.
+#[tactic(auto, using(crate::proofs::Steps::joined_drops), unfolding(crate::specs::Tokens::read_character))]
+fn read_character(text: &[u8], start: usize) -> Lexeme
+    requires { start < length text.now }
+    ensures value { result ≡ lexeme_at start (read_character (slice_index text.now start) (drop (start + 1) text.now)) }
+    ensures within { result.end ≤ length text.now }
+{
+    if text[start] < 128 {
+        Lexeme {
+            token: Token::Mark(text[start]),
+            start,
+            end: start + 1,
+        }
+    } else {
+        Lexeme {
+            token: Token::Other,
+            start,
+            end: character_end(text, start + 1),
+        }
+    }
+}
+
+#[tactic(auto, using(crate::proofs::Steps::joined_drops), unfolding(crate::specs::Tokens::has_sign))]
+fn has_sign(text: &[u8], at: usize) -> bool
+    ensures value { result ≡ has_sign (drop at text.now) }
+    ensures within { IsTrue result → at < length text.now }
+{
+    let c = byte_at(text, at);
+    c == 43 || c == 45
+}
+
+/// The token that begins at a place.
+#[tactic(auto, using(crate::proofs::Steps::joined_drops), unfolding(crate::specs::Tokens::read_token))]
+fn lexeme_at(text: &[u8], start: usize) -> Lexeme
+    requires { start < length text.now }
+    ensures value { result ≡ lexeme_at start (read_token (slice_index text.now start) (drop (start + 1) text.now)) }
+    ensures within { result.end ≤ length text.now }
+{
+    let c = text[start];
+    if c == 35 {
+        read_number(text, start)
+    } else if c == 46 && has_sign(text, start + 1) {
+        read_distance(text, start)
+    } else if is_name_character(c) {
+        read_run(text, start)
+    } else {
+        read_character(text, start)
+    }
+}
+
+/// The first token from a place on, which the others follow.
+pub fn next_lexeme(text: &[u8], at: usize) -> Option<Lexeme>
+    requires { at ≤ length text.now }
+    ensures first { MatchOption result (lexemes_of at (drop at text.now) ≡ []) (λ l. lexemes_of at (drop at text.now) ≡ l ∷ lexemes_of l.end (drop l.end text.now)) }
+    ensures after { IfSome result (λ l. at ≤ l.start) }
+    ensures some { IfSome result (λ l. l.start < l.end) }
+    ensures within { IfSome result (λ l. l.end ≤ length text.now) }
+{
+    let start = skip_blanks(text, at);
+    if start < text.len() {
+        Some(lexeme_at(text, start))
+    } else {
+        None
+    }
+}
+
+/// A name stands at a place, and no number.
+#[tactic(auto, using(crate::proofs::Steps::joined_drops), unfolding(crate::specs::Tokens::begins_name))]
+pub fn begins_name(text: &[u8], at: usize) -> bool
+    ensures { result ≡ begins_name (drop at text.now) }
+{
+    at < text.len()
+        && is_name_character(text[at])
+        && !is_digit(text[at])
+        && !(text[at] == 46 && has_sign(text, at + 1))
+}

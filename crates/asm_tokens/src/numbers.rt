@@ -1,0 +1,113 @@
+//! The numbers of a line.
+ghost use Rattle.std.specs.Prelude.{◌≡◌, ◌+◌, ◌*◌, ◌^◌, ◌<◌, ◌&&◌, ◌||◌, ◌==◌, not, nat_lt, None, SomeIff, length, slice_index, if◌then◌else◌};
+ghost use Rattle.std.specs.List.{list_all};
+ghost use Rattle.asm_tokens.specs.Characters.{is_digit};
+ghost use Rattle.asm_tokens.specs.Numbers.{is_hex_digit, digit_of, number_after, if_fits, decimal_number, hexadecimal_number, number_in};
+
+use crate::characters::{byte_at, is_digit};
+
+#[tactic(auto, unfolding(crate::specs::Numbers::is_hex_digit))]
+fn is_hex_digit(c: u8) -> bool
+    ensures { result ≡ is_hex_digit c }
+{
+    is_digit(c) || (97 <= c && c <= 102) || (65 <= c && c <= 70)
+}
+
+#[tactic(auto, unfolding(crate::specs::Numbers::digit_of))]
+fn digit_of(c: u8) -> u64
+    ensures { result ≡ digit_of c }
+{
+    if is_digit(c) {
+        c.saturating_sub(48) as u64
+    } else if 97 <= c {
+        (c - 87) as u64
+    } else {
+        c.saturating_sub(55) as u64
+    }
+}
+
+/// One more digit of a number, if it fits 64 bits.
+fn with_digit(number: u64, base: u64, digit: u64) -> Option<u64>
+    ensures { SomeIff result (number * base + digit < 2 ^ 64) (number * base + digit) }
+{
+    match number.checked_mul(base) {
+        Some(higher) => higher.checked_add(digit),
+        None => None,
+    }
+}
+
+fn decimal_digits(digits: &[u8]) -> Option<u64>
+    ensures { result ≡ (if list_all is_digit digits.now then if_fits (number_after 10 0 digits.now) else None) }
+{
+    let mut number = 0;
+    for at in 0..digits.len() {
+        let c = digits[at];
+        if !is_digit(c) {
+            return None;
+        }
+        match with_digit(number, 10, digit_of(c)) {
+            Some(next) => number = next,
+            None => return None,
+        }
+    }
+    Some(number)
+}
+
+fn hexadecimal_digits(digits: &[u8]) -> Option<u64>
+    ensures { result ≡ (if list_all is_hex_digit digits.now then if_fits (number_after 16 0 digits.now) else None) }
+{
+    let mut number = 0;
+    for at in 0..digits.len() {
+        let c = digits[at];
+        if !is_hex_digit(c) {
+            return None;
+        }
+        match with_digit(number, 16, digit_of(c)) {
+            Some(next) => number = next,
+            None => return None,
+        }
+    }
+    Some(number)
+}
+
+/// There are digits, of which the first is no 0 unless it stands alone.
+fn has_no_leading_zero(digits: &[u8]) -> bool
+    ensures { result ≡ (nat_lt 0 (length digits.now) && (not (slice_index digits.now 0 == 48) || (length digits.now == 1))) }
+{
+    0 < digits.len() && (byte_at(digits, 0) != 48 || digits.len() == 1)
+}
+
+/// The number that decimal digits are, with no leading zero.
+#[tactic(auto, using(crate::proofs::Steps::decimal_by_digits))]
+pub fn decimal_number(digits: &[u8]) -> Option<u64>
+    ensures { result ≡ decimal_number digits.now }
+{
+    if has_no_leading_zero(digits) {
+        decimal_digits(digits)
+    } else {
+        None
+    }
+}
+
+#[tactic(auto, using(crate::proofs::Steps::hexadecimal_by_digits))]
+fn hexadecimal_number(digits: &[u8]) -> Option<u64>
+    ensures { result ≡ hexadecimal_number digits.now }
+{
+    if 0 < digits.len() {
+        hexadecimal_digits(digits)
+    } else {
+        None
+    }
+}
+
+/// The number that a text is.
+#[tactic(auto, unfolding(crate::specs::Numbers::number_in, crate::specs::Numbers::begins_hexadecimal))]
+pub fn number_in(text: &[u8]) -> Option<u64>
+    ensures { result ≡ number_in text.now }
+{
+    if byte_at(text, 0) == 48 && byte_at(text, 1) == 120 {
+        hexadecimal_number(&text[2..])
+    } else {
+        decimal_number(text)
+    }
+}
