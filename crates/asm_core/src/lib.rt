@@ -3,10 +3,15 @@
 
 mod aim;
 mod check;
+mod emit_bytes;
+mod emit_lines;
+mod emit_source;
+mod emit_targets;
 mod fault;
 mod labels;
 mod lines;
 mod parts;
 mod place;
+mod symbols;
 
 pub use fault::AsmFault;
