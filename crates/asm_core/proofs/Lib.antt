@@ -4,3 +4,8 @@ pub mod Places
 pub mod SmallAligns
 pub mod Pieces
 pub mod Accepted
+pub mod WordBounds
+pub mod HasWords
+pub mod Encodable
+pub mod Stepped
+pub mod Emission

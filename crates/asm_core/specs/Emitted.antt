@@ -1,5 +1,5 @@
 -- What the second pass has put of a source, line by line.
-use Rattle.std.specs.Prelude.{◌≡◌, ℕ, ◌≤◌, Bool, List, [], ◌∷◌, ◌++◌, length, map, replicate, Option, Some, Ok, false}
+use Rattle.std.specs.Prelude.{◌≡◌, ℕ, ◌<◌, ◌≤◌, ◌^◌, Bool, List, [], ◌∷◌, ◌++◌, length, map, replicate, Option, Some, Ok, false}
 use Rattle.byteorder.specs.Endian.{little_bytes}
 use Rattle.sm_types.specs.declared.insn.Insn.{Insn}
 use Rattle.sm_types.specs.declared.object.Section.{Section}
@@ -17,9 +17,10 @@ use Rattle.asm_core.specs.Faults.{is_too_large}
 use Rattle.asm_core.specs.Known.{known}
 use Rattle.asm_core.specs.Parts.{bytes_in}
 
--- a word means the instruction
+-- a word of 32 bits means the instruction
 pub record IsEncodable (it : Insn) : Type 0 where
   pub word : ℕ
+  pub small : word < 2 ^ 32
   pub means : instruction_of word ≡ Some it
 
 -- what a line says has a word, where it is an instruction

@@ -15,7 +15,7 @@ use crate::emit_targets::{address_in, aim, quad_number};
 use crate::fault::AsmFault;
 use crate::labels::Labels;
 use crate::place::{Place, here, size_of};
-use a64_encode::encode;
+use a64_encode::{encode, one_row_of_both};
 use asm_parser::{Statement, Value};
 use sm_types::{Bytes, Insn};
 
@@ -98,6 +98,7 @@ fn word_of(insn: &Insn) -> u32
     requires { IsEncodable insn.now }
     ensures { instruction_of result ≡ Some insn.now }
 {
+    one_row_of_both();
     match encode(insn) {
         Some(word) => word,
         None => unreachable!(),
@@ -127,6 +128,7 @@ fn put_instruction(
 }
 
 /// Appends the bytes of line number `number` at a place, or tells the fault of its names and distances.
+#[tactic(auto, unfolding(crate::specs::Faults::target_fault))]
 pub fn put_statement(
     bytes: &mut Bytes,
     number: u32,

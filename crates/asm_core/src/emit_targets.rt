@@ -6,7 +6,7 @@ ghost use Rattle.asm_core.specs.Targets as targets;
 ghost use Rattle.asm_core.specs.Faults.{is_undefined, instruction_fault, range_fault};
 ghost use Rattle.asm_core.specs.Assembly as assembly;
 ghost use Rattle.asm_core.specs.Known.{Knows};
-ghost use Rattle.asm_core.specs.Emitted.{AreNear};
+ghost use Rattle.asm_core.specs.Emitted.{AreNear, IsEncodable};
 
 use crate::aim::{distance, range_of, steps_between, with_steps};
 use crate::fault::AsmFault;
@@ -66,8 +66,10 @@ pub fn quad_number(value: &Value<'_>, labels: &Labels<'_>, text_size: u64) -> Op
 fn with_distance(number: u32, insn: &Insn, from: u64, target: u64) -> Result<Insn, AsmFault>
     requires from { from < 2 ^ 32 }
     requires target { target < 2 ^ 32 }
+    requires has_word { IsEncodable insn.now }
     ensures ok { IfOk result (λ it. range_fault number from target (targets.range_of insn.now) ≡ None) }
     ensures value { IfOk result (λ it. it ≡ assembly.stepped insn.now (assembly.with_range insn.now from target (targets.range_of insn.now))) }
+    ensures has_word { IfOk result IsEncodable }
     ensures err { IfErr result (λ fault. range_fault number from target (targets.range_of insn.now) ≡ Some fault) }
 {
     let Some(range) = range_of(insn) else {
@@ -96,8 +98,10 @@ pub fn aim(
     requires from { from < 2 ^ 32 }
     requires text { text_size ≤ 4194304 }
     requires near { AreNear labels.now }
+    requires has_word { IsEncodable insn.now }
     ensures ok { (list : List layout.Label) → Knows labels.now list → IfOk result (λ it. instruction_fault number text_size list from insn.now (option_map (λ name. name.now) name.entry) ≡ None) }
     ensures value { (list : List layout.Label) → Knows labels.now list → IfOk result (λ it. it ≡ assembly.aimed text_size list from insn.now (option_map (λ name. name.now) name.entry)) }
+    ensures has_word { IfOk result IsEncodable }
     ensures err { (list : List layout.Label) → Knows labels.now list → IfErr result (λ fault. instruction_fault number text_size list from insn.now (option_map (λ name. name.now) name.entry) ≡ Some fault) }
 {
     let Some(name) = name else {
