@@ -6,6 +6,7 @@ use Rattle.asm_core.proofs.emit_source.emit.Given as goal
 
 abbrev pub invariant-loop-text : goal.invariant-loop-text
 invariant-loop-text l = record {
+  some : 1 ≤ l.number;
   left : l.number + length l.rest ≤ 1 + length l.source;
   at : IsAt l.text_size (labels_of (said_lines (lines_of l.source))) (said_lines (lines_of l.source)) (lines_of l.rest) l.number l.emission;
 }
