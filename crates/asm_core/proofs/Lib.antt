@@ -7,3 +7,10 @@ pub mod Places
 pub mod SmallAligns
 pub mod Sounds
 pub mod Surveying
+pub mod Pieces
+pub mod Accepted
+pub mod WordBounds
+pub mod HasWords
+pub mod Encodable
+pub mod Stepped
+pub mod Emission

@@ -4,6 +4,7 @@ pub mod Limits
 pub mod Targets
 pub mod Units
 pub mod Faults
+pub mod Emitted
 pub mod Assembly
 pub mod Known
 pub mod Parts

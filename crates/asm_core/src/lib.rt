@@ -3,7 +3,10 @@
 
 mod aim;
 mod check;
-mod emit;
+mod emit_bytes;
+mod emit_lines;
+mod emit_source;
+mod emit_targets;
 mod fault;
 mod labels;
 mod lines;
@@ -13,6 +16,7 @@ mod place;
 mod start;
 mod survey;
 mod text;
+mod symbols;
 
 pub use fault::AsmFault;
 pub use object::assemble;

@@ -4,7 +4,7 @@ ghost use Rattle.asm_core.specs.Faults.{asm_fault};
 ghost use Rattle.asm_core.specs.Assembly.{Assembles};
 ghost use Rattle.asm_core.specs.Sound.{IsSound};
 
-use crate::emit::emit;
+use crate::emit_source::emit;
 use crate::fault::AsmFault;
 use crate::start::start_of;
 use crate::survey::survey_source;

@@ -37,7 +37,7 @@ returns-in-Some-start_of-clause-assembles c =
     let short : nat_lt 67108864 (length source) ≡ false = grind (arith, nat_tests) in
     let size : c.in-Ok.survey.end.text_size ≡ text_length_of lines = ap (λ (p : Place). p.text_size) c.in-Ok.ensures.end in
     let starts : start_of (text_length_of lines) (labels_of lines) ≡ Some c.in-Some-start_of.entry = ap (λ n. start_of n (labels_of lines)) (sym size) ∙ sym (c.in-Some-start_of.ensures (labels_of lines) c.in-Ok.ensures.knows) in
-    assembled source c.in-Ok-emit.parts c.in-Some-start_of.entry (no_fault_is source short c.in_default.ensures c.in-Ok.ensures.accepted c.in-Some-start_of.entry c.in-Ok-emit.ensures.ok.0 starts) c.in-Ok-emit.ensures.ok.1 starts
+    assembled source c.in-Ok-emit.parts c.in-Some-start_of.entry (no_fault_is source short c.in_default.ensures c.in-Ok.ensures.accepted c.in-Some-start_of.entry c.in-Ok-emit.ensures.ok starts) c.in-Ok-emit.ensures.parts starts
 
 pub returns-in-Some-start_of-clause-sound : goal.returns-in-Some-start_of-clause-sound
 returns-in-Some-start_of-clause-sound c =
@@ -49,4 +49,4 @@ returns-clause-fault c = λ other.
     let lines = said_lines (lines_of source) in
     let short : nat_lt 67108864 (length source) ≡ false = grind (arith, nat_tests) in
     let size : c.in-Ok.survey.end.text_size ≡ text_length_of lines = ap (λ (p : Place). p.text_size) c.in-Ok.ensures.end in
-    no_start_is source short c.in_default.ensures c.in-Ok.ensures.accepted c.in-Ok-emit.ensures.ok.0 (ap (λ n. start_of n (labels_of lines)) (sym size) ∙ sym (c.in-None.ensures (labels_of lines) c.in-Ok.ensures.knows))
+    no_start_is source short c.in_default.ensures c.in-Ok.ensures.accepted c.in-Ok-emit.ensures.ok (ap (λ n. start_of n (labels_of lines)) (sym size) ∙ sym (c.in-None.ensures (labels_of lines) c.in-Ok.ensures.knows))

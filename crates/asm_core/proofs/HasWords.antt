@@ -1,0 +1,95 @@
+-- An instruction of a line of the grammar has a word.
+use Rattle.std.proofs.Common.{◌≡◌, ℕ, ◌-◌, ◌^◌, ◌<◌, Bool, true, false, cond, List, [], ◌∷◌, map, Option, Some, None, Result, Ok, Err, refl, subst}
+use Rattle.std.specs.Prelude.{option_and_then}
+use Rattle.sm_types.specs.declared.insn.Insn.{Insn}
+use Rattle.sve_table.specs.Meaning.{instruction_of}
+use Rattle.insn_text.specs.declared.words.TheConstants.{NAMES}
+use Rattle.asm_tokens.specs.declared.token.Token.{Token}
+use Rattle.asm_tokens.specs.declared.token.Lexeme.{Lexeme}
+use Rattle.asm_tokens.specs.Characters.{column_at, before_comment}
+use Rattle.asm_tokens.specs.Tokens.{place_in}
+use Rattle.asm_operands.specs.declared.fault.FaultKind.TheVariants.{Extra}
+use Rattle.asm_operands.specs.Operands.{Fault, OperandsSaid, said_or, insn_said, operands_said, operand_fault, target_of, first_word, shapes_of, is_name}
+use Rattle.asm_operands.specs.Operands as operands
+use Rattle.asm_parser.specs.declared.line.LineFault.{LineFault}
+use Rattle.asm_parser.specs.Statements.{Says, Nothing, IntoText, IntoData, Quads, Words, Bytes, Zeros, Aligns, Globals, Instructs, SourceLine}
+use Rattle.asm_parser.specs.Lines.{Answer, Tells, Stops, and_then, further, ends, number_value, one_number, one_name, values_from, quad_value, Directive, TextDirective, DataDirective, QuadDirective, WordDirective, ByteDirective, ZeroDirective, AlignDirective, GlobalDirective, directive_of, directive_says, instruction_or_fault, instruction_says, named_says, tokens_say, text_of_lexeme, line_answer, line_lexemes, label_of, line_of}
+use Rattle.asm_core.specs.Emitted.{IsEncodable, HasWord}
+use Rattle.asm_core.proofs.WordBounds.{said_lt}
+
+abbrev Told : Answer Says → Type 0
+Told (Tells says) = HasWord says
+Told (Stops place kind) = Unit {0}
+
+further_told : (k : ℕ) (a : Answer Says) → Told a → Told (further k a)
+further_told k (Tells says) h = h
+further_told k (Stops place kind) h = tt
+
+made_told : {A : Type 0} (make : A → Says) → ((a : A) → HasWord (make a)) → (a : Answer A) → Told (and_then make a)
+made_told make has (Tells a) = has a
+made_told make has (Stops place kind) = tt
+
+ends_told : (says : Says) (ls : List Lexeme) → HasWord says → Told (ends says ls)
+unfolding ends
+ends_told says [] h = h
+ends_told says (l ∷ ls) h = tt
+
+directive_told : (line : List ℕ) (d : Directive) (ls : List Lexeme) → Told (directive_says line d ls)
+unfolding directive_says
+directive_told line TextDirective ls = ends_told IntoText ls tt
+directive_told line DataDirective ls = ends_told IntoData ls tt
+directive_told line QuadDirective ls = made_told Quads (λ a. tt) (values_from (quad_value line) true ls)
+directive_told line WordDirective ls = made_told Words (λ a. tt) (values_from (number_value (2 ^ 32 - 1)) true ls)
+directive_told line ByteDirective ls = made_told Bytes (λ a. tt) (values_from (number_value 255) true ls)
+directive_told line ZeroDirective ls = made_told Zeros (λ a. tt) (one_number (2 ^ 64 - 1) ls)
+directive_told line AlignDirective ls = made_told Aligns (λ a. tt) (one_number 12 ls)
+directive_told line GlobalDirective ls = made_told Globals (λ a. tt) (one_name line ls)
+
+-- what operands say has a word
+abbrev Encodes : OperandsSaid → Type 0
+Encodes (operands.Says it target) = IsEncodable it
+Encodes (operands.Fails fault) = Unit {0}
+
+meaning_said : (fault : Fault) (target : Option ℕ) (word : ℕ) (o : Option Insn) → word < 2 ^ 32 → instruction_of word ≡ o → Encodes (said_or (operands.Fails fault) target o)
+meaning_said fault target word None lt e = tt
+meaning_said fault target word (Some it) lt e = record { word = word; small = lt; means = e }
+
+word_said : (fault : Fault) (target : Option ℕ) (o : Option ℕ) → ((word : ℕ) → o ≡ Some word → word < 2 ^ 32) → Encodes (said_or (operands.Fails fault) target (option_and_then instruction_of o))
+word_said fault target None lt = tt
+word_said fault target (Some word) lt = meaning_said fault target word (instruction_of word) (lt word refl) refl
+
+operands_encode : (name : ℕ) (ts : List Token) → Encodes (operands_said name ts)
+unfolding operands_said insn_said
+operands_encode name ts = word_said (operand_fault (shapes_of name) ts) (target_of (shapes_of name) ts) (first_word (shapes_of name) ts) (said_lt name ts)
+
+operands_told : (line : List ℕ) (column : ℕ) (ls : List Lexeme) (said : OperandsSaid) → Encodes said → Told (instruction_or_fault line column ls said)
+operands_told line column ls (operands.Says it target) h = h
+operands_told line column ls (operands.Fails f) h = tt
+
+instruction_told : (line : List ℕ) (name column : ℕ) (ls : List Lexeme) → Told (instruction_says line name column ls)
+unfolding instruction_says
+instruction_told line name column ls = operands_told line column ls (operands_said name (map (λ l. l.token) ls)) (operands_encode name (map (λ l. l.token) ls))
+
+named_told : (line : List ℕ) (l : Lexeme) (ls : List Lexeme) (d : Option Directive) (name : Option ℕ) → Told (named_says line l ls d name)
+named_told line l ls (Some d) name = further_told 1 (directive_says line d ls) (directive_told line d ls)
+named_told line l ls None (Some name) = further_told 1 (instruction_says line name (column_at line l.start) ls) (instruction_told line name (column_at line l.start) ls)
+named_told line l ls None None = tt
+
+tokens_told : (line : List ℕ) (ls : List Lexeme) → Told (tokens_say line ls)
+unfolding tokens_say
+tokens_told line [] = tt
+tokens_told line (l ∷ ls) = elim (is_name l.token) as (λ b. Told (cond b (named_says line l ls (directive_of (text_of_lexeme line l)) (place_in NAMES (text_of_lexeme line l))) (Stops 0 Extra))) [
+  | true ↦ named_told line l ls (directive_of (text_of_lexeme line l)) (place_in NAMES (text_of_lexeme line l))
+  | false ↦ tt
+]
+
+same_line : (a b : SourceLine) → ◌≡◌ {A = Result SourceLine LineFault} (Ok a) (Ok b) → a ≡ b
+same_line a b e = cc
+
+answer_told : (text : List ℕ) (label : Option (List ℕ)) (ls : List Lexeme) (a : Answer Says) (line : SourceLine) → Told a → line_answer text label ls a ≡ Ok line → HasWord line.says
+answer_told text label ls (Tells says) line h e = subst (λ (l : SourceLine). HasWord l.says) (same_line _ line e) h
+answer_told text label ls (Stops place kind) line h e = cc
+
+pub line_word : (text : List ℕ) (line : SourceLine) → line_of text ≡ Ok line → HasWord line.says
+unfolding line_of
+line_word text line e = answer_told text (label_of (before_comment text)) (line_lexemes text) (tokens_say text (line_lexemes text)) line (tokens_told text (line_lexemes text)) e

@@ -1,0 +1,97 @@
+use Rattle.std.proofs.Common.{◌≡◌, ◌+◌, ◌++◌, ◌≤◌, ◌<◌, ◌^◌, length, List, ℕ, Option, map, replicate, refl, sym, ap, ◌∙◌, subst, arith}
+use Rattle.std.specs.Prelude.{option_map}
+use Rattle.std.proofs.lemmas.Result.{on_ok_weaker}
+use Rattle.byteorder.specs.Endian.{little_bytes}
+use Rattle.asm_parser.specs.Statements.{value_of, Quads, Words, Bytes, Zeros, Aligns, Globals, Instructs, Nothing, IntoText, IntoData}
+use Rattle.asm_core.specs.Layout.{here, size_of, address_in}
+use Rattle.asm_core.specs.Assembly.{quad_number, numbers_bytes, aimed}
+use Rattle.asm_core.specs.Emitted.{IsPiece, IsWordAfter}
+use Rattle.asm_core.proofs.Pieces.{adds_word, adds_quads, adds_words, adds_bytes, adds_zeros, adds_padding, adds_nothing}
+use Rattle.asm_core.proofs.emit_bytes.put_statement.Goals as goal
+
+pub put_zeros-requires : goal.put_zeros-requires
+unfolding size_of
+put_zeros-requires c =
+    let size : length c.args.bytes.now.items ≡ here c.args.place.now = c.requires.size in
+    let fits : here c.args.place.now + c.in-Zero.count ≤ 4194304 = rw c.in-Zero.is at c.requires.fits in
+    omega arith
+
+pub returns-in-Instruction-clause-bytes : goal.returns-in-Instruction-clause-bytes
+returns-in-Instruction-clause-bytes c = λ list knows.
+    let T = c.args.text_size in
+    let p = c.args.place.now in
+    let it = c.in-Instruction.insn in
+    let name = option_map (λ name. name.now) c.in-Instruction.target in
+    let from : c.address_in-from.result ≡ address_in T p.part (here p) = c.address_in-from.ensures.value ∙ ap (address_in T p.part) c.here.ensures in
+    rw c.in-Instruction.is
+    (on_ok_weaker c.put_instruction.result
+    (λ (h : IsWordAfter (aimed T list c.address_in-from.result it name) c.args.bytes.now.items c.put_instruction.new.bytes.items).
+        adds_word T list p it name c.in-Instruction.column c.args.bytes.now.items c.put_instruction.new.bytes.items
+        (subst (λ n. IsWordAfter (aimed T list n it name) c.args.bytes.now.items c.put_instruction.new.bytes.items) from h))
+    (c.put_instruction.ensures.bytes list knows))
+
+pub returns-in-Quad-clause-bytes : goal.returns-in-Quad-clause-bytes
+returns-in-Quad-clause-bytes c = λ list knows.
+    let T = c.args.text_size in
+    let old = c.args.bytes.now.items in
+    let new = c.put_quads.new.bytes.items in
+    rw c.in-Quad.is
+    (on_ok_weaker c.put_quads.result
+    (λ (e : new ≡ old ++ numbers_bytes 8 (map (quad_number T list) (map value_of c.deref.result.now))).
+        adds_quads T list c.args.place.now (map value_of c.in-Quad.values.items) old new
+        (e ∙ ap (λ x. old ++ numbers_bytes 8 (map (quad_number T list) (map value_of x))) c.deref.ensures.value))
+    (c.put_quads.ensures.bytes list knows))
+
+pub returns-in-Word-clause-bytes : goal.returns-in-Word-clause-bytes
+returns-in-Word-clause-bytes c = λ list knows.
+    let old = c.args.bytes.now.items in
+    let new = c.put_words.new.bytes.items in
+    rw c.in-Word.is
+    (on_ok_weaker c.put_words.result
+    (λ (e : new ≡ old ++ numbers_bytes 4 c.deref-in-Word.result.now).
+        adds_words c.args.text_size list c.args.place.now c.in-Word.numbers.items old new (e ∙ ap (λ x. old ++ numbers_bytes 4 x) c.deref-in-Word.ensures.value))
+    c.put_words.ensures.ok)
+
+pub returns-in-Byte-clause-bytes : goal.returns-in-Byte-clause-bytes
+returns-in-Byte-clause-bytes c = λ list knows.
+    let old = c.args.bytes.now.items in
+    let new = c.put_all.new.bytes.items in
+    rw c.in-Byte.is
+    (on_ok_weaker c.put_all.result
+    (λ (e : new ≡ old ++ c.deref-in-Byte.result.now).
+        adds_bytes c.args.text_size list c.args.place.now c.in-Byte.numbers.items old new (e ∙ ap (λ x. old ++ x) c.deref-in-Byte.ensures.value))
+    c.put_all.ensures.ok)
+
+pub returns-in-Zero-clause-bytes : goal.returns-in-Zero-clause-bytes
+returns-in-Zero-clause-bytes c = λ list knows.
+    let old = c.args.bytes.now.items in
+    let new = c.put_zeros.new.bytes.items in
+    rw c.in-Zero.is
+    (on_ok_weaker c.put_zeros.result (λ (e : new ≡ old ++ replicate c.in-Zero.count 0). adds_zeros c.args.text_size list c.args.place.now c.in-Zero.count old new e) c.put_zeros.ensures.ok)
+
+pub returns-in-Align-clause-bytes : goal.returns-in-Align-clause-bytes
+returns-in-Align-clause-bytes c = λ list knows.
+    let old = c.args.bytes.now.items in
+    let new = c.put_zeros-in-Align.new.bytes.items in
+    let p = c.args.place.now in
+    let size : c.size_of.result ≡ size_of (Aligns c.in-Align.field-0) (here p) = rw (c.in-Align.is, c.here-in-Align.ensures) at c.size_of.ensures.value in
+    rw c.in-Align.is
+    (on_ok_weaker c.put_zeros-in-Align.result
+    (λ (e : new ≡ old ++ replicate c.size_of.result 0). adds_padding c.args.text_size list p c.in-Align.field-0 c.size_of.result old new size e)
+    c.put_zeros-in-Align.ensures.ok)
+
+pub returns-in-Empty-clause-bytes : goal.returns-in-Empty-clause-bytes
+unfolding size_of IsPiece
+returns-in-Empty-clause-bytes c = λ list knows. rw c.in-Empty.is (adds_nothing c.args.text_size list c.args.place.now c.args.bytes.now.items Nothing refl tt)
+
+pub returns-in-Text-clause-bytes : goal.returns-in-Text-clause-bytes
+unfolding size_of IsPiece
+returns-in-Text-clause-bytes c = λ list knows. rw c.in-Text.is (adds_nothing c.args.text_size list c.args.place.now c.args.bytes.now.items IntoText refl tt)
+
+pub returns-in-Data-clause-bytes : goal.returns-in-Data-clause-bytes
+unfolding size_of IsPiece
+returns-in-Data-clause-bytes c = λ list knows. rw c.in-Data.is (adds_nothing c.args.text_size list c.args.place.now c.args.bytes.now.items IntoData refl tt)
+
+pub returns-in-Global-clause-bytes : goal.returns-in-Global-clause-bytes
+unfolding size_of IsPiece
+returns-in-Global-clause-bytes c = λ list knows. rw c.in-Global.is (adds_nothing c.args.text_size list c.args.place.now c.args.bytes.now.items (Globals c.in-Global.field-0.now) refl tt)

@@ -1,0 +1,96 @@
+-- What the second pass has put of a source, line by line.
+use Rattle.std.specs.Prelude.{◌≡◌, ℕ, ◌<◌, ◌≤◌, ◌^◌, Bool, List, [], ◌∷◌, ◌++◌, length, map, replicate, Option, Some, Ok, false}
+use Rattle.byteorder.specs.Endian.{little_bytes}
+use Rattle.sm_types.specs.declared.insn.Insn.{Insn}
+use Rattle.sm_types.specs.declared.object.Section.{Section}
+use Rattle.sm_types.specs.declared.object.Section.TheVariants.{Text, Data}
+use Rattle.sve_table.specs.Meaning.{instruction_of}
+use Rattle.asm_parser.specs.Statements.{Says, Nothing, IntoText, IntoData, Quads, Words, Bytes, Zeros, Aligns, Globals, Instructs, SourceLine}
+use Rattle.asm_parser.specs.Lines.{line_of}
+use Rattle.asm_core.specs.declared.place.Place.{Place}
+use Rattle.asm_core.specs.declared.labels.Labels.{Labels}
+use Rattle.asm_core.specs.declared.labels.LabelPlace.{LabelPlace}
+use Rattle.asm_core.specs.declared.parts.Parts.{Parts}
+use Rattle.asm_core.specs.Layout.{Label, here, size_of, address_here}
+use Rattle.asm_core.specs.Assembly.{numbers_bytes, quad_number, aimed, SymbolSaid, symbol_said, label_symbol, mapping_symbol}
+use Rattle.asm_core.specs.Faults.{is_too_large}
+use Rattle.asm_core.specs.Known.{known}
+use Rattle.asm_core.specs.Parts.{bytes_in}
+
+-- a word of 32 bits means the instruction
+pub record IsEncodable (it : Insn) : Type 0 where
+  pub word : ℕ
+  pub small : word < 2 ^ 32
+  pub means : instruction_of word ≡ Some it
+
+-- what a line says has a word, where it is an instruction
+abbrev pub HasWord : Says → Type 0
+HasWord (Instructs it target column) = IsEncodable it
+HasWord Nothing = Unit {0}
+HasWord IntoText = Unit {0}
+HasWord IntoData = Unit {0}
+HasWord (Quads values) = Unit {0}
+HasWord (Words numbers) = Unit {0}
+HasWord (Bytes numbers) = Unit {0}
+HasWord (Zeros count) = Unit {0}
+HasWord (Aligns power) = Unit {0}
+HasWord (Globals name) = Unit {0}
+
+-- the line is in the grammar, and its part has at most 4 MiB with it
+pub record IsFine (p : Place) (text : List ℕ) : Type 0 where
+  pub line : SourceLine
+  pub says : line_of text ≡ Ok line
+  pub fits : is_too_large p line.says ≡ false
+
+-- the labels of the table stand within 4 MiB of their parts
+pub record AreNear (table : Labels) : Type 0 where
+  pub each : (name : List ℕ) (place : LabelPlace) → known table name ≡ Some place → place.offset ≤ 4194304
+
+-- the bytes of a word of 32 bits that means the instruction
+pub record IsWordOf (it : Insn) (piece : List ℕ) : Type 0 where
+  pub word : ℕ
+  pub is_word : word < 2 ^ 32
+  pub means : instruction_of word ≡ Some it
+  pub bytes : piece ≡ little_bytes 4 word
+
+-- the bytes of a word that means the instruction follow others
+abbrev pub IsWordAfter : Insn → List ℕ → List ℕ → Type 0
+IsWordAfter it old new = (piece : List ℕ) × (new ≡ old ++ piece) × IsWordOf it piece
+
+-- the bytes that a line at a place puts
+unfoldable pub IsPiece : ℕ → List Label → Place → Says → List ℕ → Type 0
+IsPiece text_length labels p (Instructs it target column) piece = IsWordOf (aimed text_length labels (address_here text_length p) it target) piece
+IsPiece text_length labels p (Quads values) piece = piece ≡ numbers_bytes 8 (map (quad_number text_length labels) values)
+IsPiece text_length labels p (Words numbers) piece = piece ≡ numbers_bytes 4 numbers
+IsPiece text_length labels p (Bytes numbers) piece = piece ≡ numbers
+IsPiece text_length labels p (Zeros count) piece = piece ≡ replicate count 0
+IsPiece text_length labels p (Aligns power) piece = piece ≡ replicate (size_of (Aligns power) (here p)) 0
+IsPiece text_length labels p Nothing piece = Unit {0}
+IsPiece text_length labels p IntoText piece = Unit {0}
+IsPiece text_length labels p IntoData piece = Unit {0}
+IsPiece text_length labels p (Globals name) piece = Unit {0}
+
+-- the bytes of a line follow others, as many as its size says
+pub record Adds (text_length : ℕ) (labels : List Label) (p : Place) (says : Says) (old new : List ℕ) : Type 0 where
+  pub piece : List ℕ
+  pub added : new ≡ old ++ piece
+  pub size : length piece ≡ size_of says (here p)
+  pub piece_is : IsPiece text_length labels p says piece
+
+-- the other part
+abbrev pub other : Section → Section
+other Text = Data
+other Data = Text
+
+abbrev pub one_symbol : List ℕ → ℕ → Section → List SymbolSaid
+one_symbol name address section = record { name = name; address = address; section = section } ∷ []
+
+-- the symbols of a line
+unfoldable pub line_symbols : ℕ → Place → Option Bool → SourceLine → List SymbolSaid
+line_symbols text_length p before line = label_symbol text_length p line.label ++ mapping_symbol text_length p line.says before
+
+-- the parts have grown by a line at a place: by its bytes, and by its symbols
+pub record HaveGrown (text_length : ℕ) (labels : List Label) (p : Place) (before : Option Bool) (line : SourceLine) (old new : Parts) : Type 0 where
+  pub bytes : Adds text_length labels p line.says (bytes_in old p.part) (bytes_in new p.part)
+  pub others : bytes_in new (other p.part) ≡ bytes_in old (other p.part)
+  pub symbols : map symbol_said new.symbols.items ≡ map symbol_said old.symbols.items ++ line_symbols text_length p before line

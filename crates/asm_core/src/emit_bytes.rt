@@ -1,0 +1,165 @@
+//! The bytes that lines put.
+ghost use Rattle.std.specs.Prelude.{◌≡◌, ◌≢◌, ◌≤◌, ◌<◌, ◌^◌, ◌+◌, ◌++◌, List, Some, None, true, false, length, map, replicate, OnOk, IfErr, option_map};
+ghost use Rattle.std.specs.List.{list_any};
+ghost use Rattle.byteorder.specs.Endian.{little_bytes};
+ghost use Rattle.sve_table.specs.Meaning.{instruction_of};
+ghost use Rattle.asm_parser.specs.Statements.{says_of, value_of};
+ghost use Rattle.asm_core.specs.Layout as layout;
+ghost use Rattle.asm_core.specs.Faults.{is_undefined, instruction_fault, target_fault};
+ghost use Rattle.asm_core.specs.Assembly as assembly;
+ghost use Rattle.asm_core.specs.Known.{Knows};
+ghost use Rattle.asm_core.specs.Limits.{HasSmallAlign};
+ghost use Rattle.asm_core.specs.Emitted.{Adds, AreNear, HasWord, IsEncodable, IsWordAfter};
+
+use crate::emit_targets::{address_in, aim, quad_number};
+use crate::fault::AsmFault;
+use crate::labels::Labels;
+use crate::place::{Place, here, size_of};
+use a64_encode::{encode, one_row_of_both};
+use asm_parser::{Statement, Value};
+use sm_types::{Bytes, Insn};
+
+/// Appends so many zeros.
+fn put_zeros(bytes: &mut Bytes, count: u64) -> Result<(), AsmFault>
+    requires { length bytes.old.items + count < 2 ^ 64 }
+    ensures ok { OnOk result (bytes.new.items ≡ bytes.old.items ++ replicate count 0) }
+    ensures err { IfErr result (λ fault. fault ≡ AsmFault.Memory) }
+{
+    let size = bytes.len() + count as usize;
+    match bytes.resize(size, 0) {
+        Ok(()) => Ok(()),
+        Err(_) => Err(AsmFault::Memory),
+    }
+}
+
+/// Appends bytes.
+fn put_all(bytes: &mut Bytes, more: &[u8]) -> Result<(), AsmFault>
+    ensures ok { OnOk result (bytes.new.items ≡ bytes.old.items ++ more.now) }
+    ensures err { IfErr result (λ fault. fault ≡ AsmFault.Memory) }
+{
+    match bytes.extend_from_slice(more) {
+        Ok(()) => Ok(()),
+        Err(_) => Err(AsmFault::Memory),
+    }
+}
+
+/// Appends a number of 4 bytes, the low one first.
+fn put_word(bytes: &mut Bytes, number: u32) -> Result<(), AsmFault>
+    ensures ok { OnOk result (bytes.new.items ≡ bytes.old.items ++ little_bytes 4 number) }
+    ensures err { IfErr result (λ fault. fault ≡ AsmFault.Memory) }
+{
+    put_all(bytes, &number.to_le_bytes())
+}
+
+/// Appends a number of 8 bytes, the low one first.
+fn put_quad(bytes: &mut Bytes, number: u64) -> Result<(), AsmFault>
+    ensures ok { OnOk result (bytes.new.items ≡ bytes.old.items ++ little_bytes 8 number) }
+    ensures err { IfErr result (λ fault. fault ≡ AsmFault.Memory) }
+{
+    put_all(bytes, &number.to_le_bytes())
+}
+
+/// Appends numbers of 4 bytes each.
+fn put_words(bytes: &mut Bytes, numbers: &[u32]) -> Result<(), AsmFault>
+    ensures ok { OnOk result (bytes.new.items ≡ bytes.old.items ++ assembly.numbers_bytes 4 numbers.now) }
+    ensures err { IfErr result (λ fault. fault ≡ AsmFault.Memory) }
+{
+    for number in numbers {
+        put_word(bytes, *number)?;
+    }
+    Ok(())
+}
+
+/// Appends the numbers of the values of line number `number`.
+fn put_quads(
+    bytes: &mut Bytes,
+    number: u32,
+    values: &[Value<'_>],
+    labels: &Labels<'_>,
+    text_size: u64,
+) -> Result<(), AsmFault>
+    requires text { text_size ≤ 4194304 }
+    requires near { AreNear labels.now }
+    ensures ok { (list : List layout.Label) → Knows labels.now list → OnOk result (list_any (is_undefined list) (map value_of values.now) ≡ false) }
+    ensures bytes { (list : List layout.Label) → Knows labels.now list → OnOk result (bytes.new.items ≡ bytes.old.items ++ assembly.numbers_bytes 8 (map (assembly.quad_number text_size list) (map value_of values.now))) }
+    ensures err { (list : List layout.Label) → Knows labels.now list → IfErr result (λ fault. fault ≢ AsmFault.Memory → (list_any (is_undefined list) (map value_of values.now) ≡ true) × (fault ≡ AsmFault.Undefined number)) }
+{
+    for value in values {
+        let Some(address) = quad_number(value, labels, text_size) else {
+            return Err(AsmFault::Undefined(number));
+        };
+        put_quad(bytes, address)?;
+    }
+    Ok(())
+}
+
+/// The word that means an instruction.
+fn word_of(insn: &Insn) -> u32
+    requires { IsEncodable insn.now }
+    ensures { instruction_of result ≡ Some insn.now }
+{
+    one_row_of_both();
+    match encode(insn) {
+        Some(word) => word,
+        None => unreachable!(),
+    }
+}
+
+/// Appends the word of the instruction on line number `number` at an address, with the distance to its target.
+fn put_instruction(
+    bytes: &mut Bytes,
+    number: u32,
+    insn: &Insn,
+    from: u64,
+    name: Option<&[u8]>,
+    labels: &Labels<'_>,
+    text_size: u64,
+) -> Result<(), AsmFault>
+    requires from { from < 2 ^ 32 }
+    requires text { text_size ≤ 4194304 }
+    requires near { AreNear labels.now }
+    requires has_word { IsEncodable insn.now }
+    ensures ok { (list : List layout.Label) → Knows labels.now list → OnOk result (instruction_fault number text_size list from insn.now (option_map (λ name. name.now) name.entry) ≡ None) }
+    ensures bytes { (list : List layout.Label) → Knows labels.now list → OnOk result (IsWordAfter (assembly.aimed text_size list from insn.now (option_map (λ name. name.now) name.entry)) bytes.old.items bytes.new.items) }
+    ensures err { (list : List layout.Label) → Knows labels.now list → IfErr result (λ fault. fault ≢ AsmFault.Memory → instruction_fault number text_size list from insn.now (option_map (λ name. name.now) name.entry) ≡ Some fault) }
+{
+    let it = aim(number, insn, from, name, labels, text_size)?;
+    put_word(bytes, word_of(&it))
+}
+
+/// Appends the bytes of line number `number` at a place, or tells the fault of its names and distances.
+#[tactic(auto, unfolding(crate::specs::Faults::target_fault))]
+pub fn put_statement(
+    bytes: &mut Bytes,
+    number: u32,
+    place: &Place,
+    statement: &Statement<'_>,
+    labels: &Labels<'_>,
+    text_size: u64,
+) -> Result<(), AsmFault>
+    requires align { HasSmallAlign (says_of statement.now) }
+    requires has_word { HasWord (says_of statement.now) }
+    requires size { length bytes.old.items ≡ layout.here place.now }
+    requires fits { layout.here place.now + layout.size_of (says_of statement.now) (layout.here place.now) ≤ 4194304 }
+    requires text { text_size ≤ 4194304 }
+    requires near { AreNear labels.now }
+    ensures ok { (list : List layout.Label) → Knows labels.now list → OnOk result (target_fault number text_size list place.now (says_of statement.now) ≡ None) }
+    ensures bytes { (list : List layout.Label) → Knows labels.now list → OnOk result (Adds text_size list place.now (says_of statement.now) bytes.old.items bytes.new.items) }
+    ensures err { (list : List layout.Label) → Knows labels.now list → IfErr result (λ fault. fault ≢ AsmFault.Memory → target_fault number text_size list place.now (says_of statement.now) ≡ Some fault) }
+{
+    match statement {
+        Statement::Instruction { insn, target, .. } => {
+            let from = address_in(place.part, here(place), text_size);
+            put_instruction(bytes, number, insn, from, *target, labels, text_size)
+        }
+        Statement::Quad(values) => put_quads(bytes, number, values, labels, text_size),
+        Statement::Word(numbers) => put_words(bytes, numbers),
+        Statement::Byte(numbers) => put_all(bytes, numbers),
+        Statement::Zero(count) => put_zeros(bytes, *count),
+        Statement::Align(_) => put_zeros(bytes, size_of(statement, here(place)) as u64),
+        Statement::Empty => Ok(()),
+        Statement::Text => Ok(()),
+        Statement::Data => Ok(()),
+        Statement::Global(_) => Ok(()),
+    }
+}

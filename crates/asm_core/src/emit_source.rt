@@ -1,0 +1,42 @@
+//! The second pass over a source: its parts, or the first of its names and distances at fault.
+ghost use Rattle.std.specs.Prelude.{◌≡◌, ◌≢◌, ◌≤◌, [], None, Some, length, IfOk, IfErr};
+ghost use Rattle.asm_core.specs.Source.{lines_of, said_lines};
+ghost use Rattle.asm_core.specs.Layout.{first_place, labels_of};
+ghost use Rattle.asm_core.specs.Faults.{lines_fault, targets_fault, text_length_of};
+ghost use Rattle.asm_core.specs.Known.{Knows};
+ghost use Rattle.asm_core.specs.Parts.{ArePartsOf};
+
+use crate::emit_lines::{Emission, emit_line, new_emission};
+use crate::fault::AsmFault;
+use crate::labels::Labels;
+use crate::lines::next_line;
+use crate::parts::Parts;
+use std::alloc::Global;
+
+/// The parts of the object of a source whose lines have no fault by themselves: what each line puts, with the distances to the
+/// targets; or the fault of the first line with an undefined name or a target too far.
+pub fn emit(
+    alloc: Global,
+    source: &[u8],
+    labels: &Labels<'_>,
+    text_size: u64,
+) -> Result<Parts, AsmFault>
+    requires short { length source.now ≤ 67108864 }
+    requires accepted { lines_fault 1 first_place [] (lines_of source.now) ≡ None }
+    requires knows { Knows labels.now (labels_of (said_lines (lines_of source.now))) }
+    requires size { text_size ≡ text_length_of (said_lines (lines_of source.now)) }
+    ensures parts { IfOk result (λ parts. ArePartsOf (said_lines (lines_of source.now)) parts) }
+    ensures ok { IfOk result (λ parts. targets_fault 1 (text_length_of (said_lines (lines_of source.now))) (labels_of (said_lines (lines_of source.now))) first_place (said_lines (lines_of source.now)) ≡ None) }
+    ensures err { IfErr result (λ fault. fault ≢ AsmFault.Memory → targets_fault 1 (text_length_of (said_lines (lines_of source.now))) (labels_of (said_lines (lines_of source.now))) first_place (said_lines (lines_of source.now)) ≡ Some fault) }
+{
+    let mut emission = new_emission(alloc);
+    let mut number = 1u32;
+    let mut rest = source;
+    while let Some((text, after)) = next_line(rest) {
+        emit_line(&mut emission, alloc, number, text, labels, text_size)?;
+        number += 1;
+        rest = after;
+    }
+    let Emission { parts, .. } = emission;
+    Ok(parts)
+}

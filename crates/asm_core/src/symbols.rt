@@ -1,0 +1,179 @@
+//! The symbols of lines: those of their labels, and the mapping symbols where the text changes between code and data.
+ghost use Rattle.std.specs.Prelude.{◌≡◌, ◌≤◌, ◌++◌, true, false, Some, None, map, is_some, OnOk, IfErr, option_map};
+ghost use Rattle.sm_types.specs.Objects.{name_says};
+ghost use Rattle.asm_parser.specs.Statements.{line_said, says_of};
+ghost use Rattle.asm_core.specs.Layout as layout;
+ghost use Rattle.asm_core.specs.Assembly as assembly;
+ghost use Rattle.asm_core.specs.Limits.{HasSmallAlign};
+ghost use Rattle.asm_core.specs.Emitted.{line_symbols, one_symbol};
+
+use crate::emit_targets::address_in;
+use crate::fault::AsmFault;
+use crate::place::{Place, here, size_of};
+use asm_parser::{Line, Statement};
+use sm_types::{Section, Symbol, Symbols};
+use std::alloc::Global;
+
+/// Tells whether a name is a mapping symbol's.
+fn is_mapping_name(name: &[u8]) -> bool
+    ensures { result ≡ is_some (name_says name.now) }
+{
+    match name {
+        [b'$', b'x'] | [b'$', b'x', b'.', ..] => true,
+        [b'$', b'd'] | [b'$', b'd', b'.', ..] => true,
+        _ => false,
+    }
+}
+
+/// Tells whether a statement is an instruction.
+#[tactic(auto, unfolding(crate::specs::Assembly::is_instruction))]
+fn is_instruction(statement: &Statement<'_>) -> bool
+    ensures { result ≡ assembly.is_instruction (says_of statement.now) }
+{
+    match statement {
+        Statement::Instruction { .. } => true,
+        Statement::Empty => false,
+        Statement::Text => false,
+        Statement::Data => false,
+        Statement::Quad(_) => false,
+        Statement::Word(_) => false,
+        Statement::Byte(_) => false,
+        Statement::Zero(_) => false,
+        Statement::Align(_) => false,
+        Statement::Global(_) => false,
+    }
+}
+
+/// Tells whether a statement puts bytes into the text.
+#[tactic(auto, unfolding(crate::specs::Assembly::fills_text))]
+fn fills_text(place: &Place, statement: &Statement<'_>) -> bool
+    requires { HasSmallAlign (says_of statement.now) }
+    ensures { result ≡ assembly.fills_text place.now (says_of statement.now) }
+{
+    match place.part {
+        Section::Text => size_of(statement, here(place)) > 0,
+        Section::Data => false,
+    }
+}
+
+/// What the text is after a statement: code, data, or nothing yet.
+#[tactic(auto, unfolding(crate::specs::Assembly::text_is))]
+pub fn text_is(place: &Place, statement: &Statement<'_>, before: Option<bool>) -> Option<bool>
+    requires { HasSmallAlign (says_of statement.now) }
+    ensures { result ≡ assembly.text_is place.now (says_of statement.now) before }
+{
+    if fills_text(place, statement) {
+        Some(is_instruction(statement))
+    } else {
+        before
+    }
+}
+
+/// Tells whether the text is code already, or data already.
+fn is_same(before: Option<bool>, code: bool) -> bool
+    ensures { result ≡ assembly.is_same before code }
+{
+    match before {
+        Some(was) => was == code,
+        None => false,
+    }
+}
+
+/// The name of the mapping symbol of code or of data.
+fn mapping_name(code: bool) -> &'static [u8]
+    ensures { result.now ≡ assembly.mapping_name code }
+{
+    if code { b"$x" } else { b"$d" }
+}
+
+/// Appends a symbol.
+fn put_symbol(
+    symbols: &mut Symbols,
+    alloc: Global,
+    name: &[u8],
+    address: u64,
+    section: Section,
+) -> Result<(), AsmFault>
+    ensures ok { OnOk result (map assembly.symbol_said symbols.new.items ≡ map assembly.symbol_said symbols.old.items ++ one_symbol name.now address section) }
+    ensures err { IfErr result (λ fault. fault ≡ AsmFault.Memory) }
+{
+    let Ok(name) = Vec::from_slice(alloc, name) else {
+        return Err(AsmFault::Memory);
+    };
+    match symbols.push(Symbol {
+        name,
+        address,
+        section,
+    }) {
+        Ok(()) => Ok(()),
+        Err(_) => Err(AsmFault::Memory),
+    }
+}
+
+/// Appends the symbol of a label at a place, unless it is called like a mapping symbol.
+#[tactic(auto, unfolding(crate::specs::Assembly::label_symbol))]
+fn put_label(
+    symbols: &mut Symbols,
+    alloc: Global,
+    place: &Place,
+    label: Option<&[u8]>,
+    text_size: u64,
+) -> Result<(), AsmFault>
+    requires text { text_size ≤ 4194304 }
+    requires here { layout.here place.now ≤ 4194304 }
+    ensures ok { OnOk result (map assembly.symbol_said symbols.new.items ≡ map assembly.symbol_said symbols.old.items ++ assembly.label_symbol text_size place.now (option_map (λ name. name.now) label.entry)) }
+    ensures err { IfErr result (λ fault. fault ≡ AsmFault.Memory) }
+{
+    let Some(name) = label else {
+        return Ok(());
+    };
+    if is_mapping_name(name) {
+        return Ok(());
+    }
+    let address = address_in(place.part, here(place), text_size);
+    put_symbol(symbols, alloc, name, address, place.part)
+}
+
+/// Appends the mapping symbol of a statement at a place, where the text changes between code and data with it.
+#[tactic(auto, unfolding(crate::specs::Assembly::mapping_symbol))]
+fn put_mapping(
+    symbols: &mut Symbols,
+    alloc: Global,
+    place: &Place,
+    statement: &Statement<'_>,
+    before: Option<bool>,
+    text_size: u64,
+) -> Result<(), AsmFault>
+    requires text { text_size ≤ 4194304 }
+    requires here { layout.here place.now ≤ 4194304 }
+    requires align { HasSmallAlign (says_of statement.now) }
+    ensures ok { OnOk result (map assembly.symbol_said symbols.new.items ≡ map assembly.symbol_said symbols.old.items ++ assembly.mapping_symbol text_size place.now (says_of statement.now) before) }
+    ensures err { IfErr result (λ fault. fault ≡ AsmFault.Memory) }
+{
+    let code = is_instruction(statement);
+    if !fills_text(place, statement) || is_same(before, code) {
+        return Ok(());
+    }
+    let address = address_in(place.part, here(place), text_size);
+    put_symbol(symbols, alloc, mapping_name(code), address, place.part)
+}
+
+/// Appends the symbols of a line at a place.
+#[tactic(auto, unfolding(crate::specs::Emitted::line_symbols))]
+pub fn put_symbols(
+    symbols: &mut Symbols,
+    alloc: Global,
+    place: &Place,
+    line: &Line<'_>,
+    before: Option<bool>,
+    text_size: u64,
+) -> Result<(), AsmFault>
+    requires text { text_size ≤ 4194304 }
+    requires here { layout.here place.now ≤ 4194304 }
+    requires align { HasSmallAlign (says_of line.now.statement) }
+    ensures ok { OnOk result (map assembly.symbol_said symbols.new.items ≡ map assembly.symbol_said symbols.old.items ++ line_symbols text_size place.now before (line_said line.now)) }
+    ensures err { IfErr result (λ fault. fault ≡ AsmFault.Memory) }
+{
+    put_label(symbols, alloc, place, line.label, text_size)?;
+    put_mapping(symbols, alloc, place, &line.statement, before, text_size)
+}
