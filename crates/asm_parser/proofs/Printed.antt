@@ -148,9 +148,6 @@ few_bits bits field e lt =
       | inr h ↦ (let small : field < 2 ^ 12 = subst (λ n. field < 2 ^ n) (eqb-true bits 12 h) lt in omega arith)
     ]
 
-when_no_mark : (k : Kind) (rest : List ℕ) → is_mark k ≡ false → (is_mark k || opens rest) ≡ true → opens rest ≡ true
-when_no_mark k rest e h = ap (λ b. b || opens rest) (sym e) ∙ h
-
 kind-read : (k : Kind) (bits field : ℕ) (rest : List ℕ) → is_clean_kind k bits ≡ true → is_within k field ≡ true → field < 2 ^ bits → (is_mark k || opens rest) ≡ true
     → IsRead (kind_text k bits field) rest (token_said k bits field)
 unfolding is_clean_kind is_within is_mark kind_text token_said
