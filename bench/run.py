@@ -1,6 +1,7 @@
 #!/usr/bin/env python3
 """Times the emulator on one core: instructions a second of three loops, words a second of the decoder, the time to load a file of 64 MiB
-and to refuse one at its last check, and the time from start to report of a short program.
+and to refuse one at its last check, and the time from start to report of a short program; then the assembler and the listing on sources of
+200,000 and 400,000 lines, beside those assemblers and disassemblers that are installed.
 
     bench/run.py
 
@@ -8,6 +9,7 @@ It runs the program that ./smemu builds, five times each, and prints the best. T
 word of a load: a file whose last word is unlisted against the same file with the first word unlisted too.
 """
 import pathlib
+import shutil
 import subprocess
 import sys
 import tempfile
@@ -62,6 +64,18 @@ ACCESSES = [
 UNLISTED = 0x1E604000
 FILE_SIZE = 67_108_864
 WORDS = 4_000_000
+LINES = 400_000
+
+
+def best_of(command, output):
+    """The least time of a command whose output goes to a file."""
+    times = []
+    for _ in range(RUNS):
+        with open(output, "wb") as out:
+            start = time.perf_counter()
+            subprocess.run(command, stdout=out, check=True)
+            times.append(time.perf_counter() - start)
+    return min(times)
 
 
 def best(path):
@@ -103,6 +117,32 @@ def large(words):
     return file + bytes(FILE_SIZE - len(file))
 
 
+def source_of(count):
+    """So many lines of mixed instructions, every eighth with a label and a branch to it or to an earlier one."""
+    texts = [line.split("\t")[1] for line in (TOP / "crates" / "smemu_vectors" / "data" / "words.tsv").read_text().splitlines()]
+    lines = ["    .text", "_start:"]
+    for i in range(count - 2):
+        lines.append(f"label{i}: b.ne label{max(i - 64, 0) // 8 * 8}" if i % 8 == 0 else f"    {texts[i % len(texts)]}")
+    return "\n".join(lines) + "\n"
+
+
+def time_sources(folder):
+    source, program, other, listing = (folder / name for name in ("source.s", "program.elf", "other.o", "listing"))
+    assemblers = [[tool, "-march=armv9-a+sme", "-o", other, source] for tool in ("aarch64-linux-gnu-as",) if shutil.which(tool)]
+    disassemblers = [[tool, "-d", program] for tool in ("llvm-objdump", "aarch64-linux-gnu-objdump") if shutil.which(tool)]
+    for count in (LINES // 2, LINES):
+        source.write_text(source_of(count))
+        taken = best_of([PROGRAM, "asm", source], program)
+        print(f"smemu asm: {count} lines in {taken:.3f} s, {count / taken / 1e6:.2f} million a second")
+        for command in assemblers:
+            taken = best_of(command, listing)
+            print(f"{command[0]}: {count} lines in {taken:.3f} s, {count / taken / 1e6:.2f} million a second")
+        for command in [[PROGRAM, "dis", program], *disassemblers]:
+            taken = best_of(command, listing)
+            name = "smemu dis" if command[0] == PROGRAM else command[0]
+            print(f"{name}: {count} words in {taken:.3f} s, {count / taken / 1e6:.2f} million a second")
+
+
 def main():
     subprocess.run([TOP / "smemu", "run", TOP / "examples" / "answer.elf"], check=True, stdout=subprocess.DEVNULL)
     start, _ = best(TOP / "examples" / "answer.elf")
@@ -130,6 +170,7 @@ def main():
         assert text.startswith("bad file: unlisted")
         print(f"64 MiB: {time_loaded:.3f} s from start to report, of which {time_loaded - start:.3f} s are the file's; {refused:.3f} s to the last check that fails")
         print(f"decoder: {WORDS} words in {whole - none:.3f} s, {WORDS / (whole - none) / 1e6:.1f} million a second")
+        time_sources(pathlib.Path(folder))
 
 
 if __name__ == "__main__":

@@ -77,3 +77,47 @@ def elf(words, address=ADDRESS, entry=None):
     text = text_of(words)
     section = Section(flags=ALLOC | EXECINSTR, address=address, size=len(text), offset=128)
     return build([Segment(address, text)], [section], address if entry is None else entry)[0]
+
+
+def sections_of(file):
+    """The sections of a file by their names: each has its header and its bytes."""
+    table, count, names = struct.unpack_from("<Q", file, 40)[0], *struct.unpack_from("<HH", file, 60)
+    headers = [struct.unpack_from("<IIQQQQIIQQ", file, table + 64 * i) for i in range(count)]
+    strings = headers[names][4]
+    name = lambda header: file[strings + header[0]:file.index(b"\0", strings + header[0])].decode()
+    return {name(header): (header, b"" if header[1] == NOBITS else file[header[4]:header[4] + header[5]]) for header in headers}
+
+
+def mapping_symbols(file):
+    """The mapping symbols of a linked file's text: pairs of an address and whether code begins there."""
+    sections = sections_of(file)
+    start, size = sections[".text"][0][3], sections[".text"][0][5]
+    strings = sections[".strtab"][1]
+    table = sections[".symtab"][1]
+    found = []
+    for at in range(0, len(table), 24):
+        name_at, _, _, _, value, _ = struct.unpack_from("<IBBHQQ", table, at)
+        name = strings[name_at:strings.index(b"\0", name_at)]
+        if name in (b"$x", b"$d") and start <= value < start + size:
+            found.append((value, name == b"$x"))
+    return sorted(found)
+
+
+def assembled(text, data, entry, marks):
+    """The file of a program of that text and data, laid out as docs/FORMATS.md says."""
+    page = lambda place: -(-place // 4096) * 4096
+    data_at, data_address = page(4096 + len(text)), page(ADDRESS + len(text))
+    symbols_at = -(-(data_at + len(data)) // 8) * 8
+    table = bytes(24) + b"".join(struct.pack("<IBBHQQ", 1 if code else 4, 0, 0, 1, value, 0) for value, code in marks)
+    segment = lambda flags, at, address, size: struct.pack("<IIQQQQQQ", LOAD, flags, at, address, address, size, size, 4096)
+    section = lambda name, *fields: struct.pack("<IIQQQQIIQQ", name, *fields)
+    head = b"\x7fELF" + bytes([2, 1, 1, 0]) + bytes(8) + struct.pack(
+        "<HHIQQQIHHHHHH", 2, 183, 1, entry, 64, 176, 0, 64, 56, 2 if data else 1, 64, 6, 5)
+    head += segment(5, 4096, ADDRESS, len(text)) + (segment(6, data_at, data_address, len(data)) if data else bytes(56))
+    head += bytes(64) + section(1, PROGBITS, ALLOC | EXECINSTR, ADDRESS, 4096, len(text), 0, 0, 4, 0)
+    head += section(7, PROGBITS, 3, data_address, data_at, len(data), 0, 0, 8, 0)
+    head += section(13, SYMTAB, 0, 0, symbols_at, len(table), 4, 1 + len(marks), 8, 24)
+    head += section(21, STRTAB, 0, 0, 560, 7, 0, 0, 1, 0) + section(29, STRTAB, 0, 0, 568, 39, 0, 0, 1, 0)
+    head += b"\0$x\0$d\0\0" + b"\0.text\0.data\0.symtab\0.strtab\0.shstrtab\0"
+    to = lambda body, size: body + bytes(size - len(body))
+    return to(to(to(head, 4096) + text, data_at) + data, symbols_at) + table
