@@ -134,6 +134,19 @@ class Thread:
             return self.add(word, wide, rd, self.sp if rn == 31 else self.x[rn], second, True) or after
         if word & 0x1FE0FC00 == 0x0B000000:
             return self.add(word, wide, rd, self.read(rn), self.read(word >> 16 & 31), False) or after
+        if word & 0x7FE0FC00 == 0x2A000000:
+            value = self.read(rn) | self.read(word >> 16 & 31)
+            self.write(rd, value & (MASK if wide else 0xFFFFFFFF), False)
+            return after
+        if word & 0xFFE00000 == 0x9B000000:
+            product = self.read(rn) * self.read(word >> 16 & 31)
+            addend = self.read(word >> 10 & 31)
+            self.write(rd, (addend - product if word >> 15 & 1 else addend + product) & MASK, False)
+            return after
+        if word & 0xFFE0FC00 == 0x9AC00800:
+            divisor = self.read(word >> 16 & 31)
+            self.write(rd, self.read(rn) // divisor if divisor else 0, False)
+            return after
         if word & 0xFF000010 == 0x54000000:
             return self.pc + 4 * signed(word >> 5, 19) if self.holds(word & 15) else after
         if word & 0x7E000000 == 0x34000000:

@@ -1,7 +1,12 @@
+pub mod Chain
 pub mod LineEnds
 pub mod LineFaults
+pub mod Listed
+pub mod Marks
 pub mod Places
 pub mod SmallAligns
+pub mod Sounds
+pub mod Surveying
 pub mod Pieces
 pub mod Accepted
 pub mod WordBounds

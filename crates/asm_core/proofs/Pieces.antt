@@ -47,6 +47,7 @@ module _ (text_length : ℕ) (labels : List Label) (p : Place) where
   unfolding IsPiece Puts
   piece_puts (Instructs it target column) old piece e h = record {
     word = h.word;
+    is_word = h.is_word;
     means = h.means;
     stands = subst (λ (x : List ℕ). HasBytes (old ++ piece) (here p) x) h.bytes (bytes_put old piece (here p) e);
   }
@@ -62,7 +63,7 @@ module _ (text_length : ℕ) (labels : List Label) (p : Place) where
 
   pub puts_kept : (says : Says) (bytes more : List ℕ) → Puts text_length labels bytes p says → Puts text_length labels (bytes ++ more) p says
   unfolding Puts
-  puts_kept (Instructs it target column) bytes more h = record { word = h.word; means = h.means; stands = bytes_kept bytes more (here p) (little_bytes 4 h.word) h.stands }
+  puts_kept (Instructs it target column) bytes more h = record { word = h.word; is_word = h.is_word; means = h.means; stands = bytes_kept bytes more (here p) (little_bytes 4 h.word) h.stands }
   puts_kept (Quads values) bytes more h = bytes_kept bytes more (here p) (numbers_bytes 8 (map (quad_number text_length labels) values)) h
   puts_kept (Words numbers) bytes more h = bytes_kept bytes more (here p) (numbers_bytes 4 numbers) h
   puts_kept (Bytes numbers) bytes more h = bytes_kept bytes more (here p) numbers h

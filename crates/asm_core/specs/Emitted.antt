@@ -46,9 +46,10 @@ pub record IsFine (p : Place) (text : List ℕ) : Type 0 where
 pub record AreNear (table : Labels) : Type 0 where
   pub each : (name : List ℕ) (place : LabelPlace) → known table name ≡ Some place → place.offset ≤ 4194304
 
--- the bytes of a word that means the instruction
+-- the bytes of a word of 32 bits that means the instruction
 pub record IsWordOf (it : Insn) (piece : List ℕ) : Type 0 where
   pub word : ℕ
+  pub is_word : word < 2 ^ 32
   pub means : instruction_of word ≡ Some it
   pub bytes : piece ≡ little_bytes 4 word
 

@@ -8,3 +8,5 @@ pub mod Emitted
 pub mod Assembly
 pub mod Known
 pub mod Parts
+pub mod Surveyed
+pub mod Sound

@@ -1,5 +1,5 @@
 //! The faults of a line by itself, after those before it.
-ghost use Rattle.std.specs.Prelude.{◌≡◌, List, Option, Some, None, Ok, IfOk, IfErr, option_map};
+ghost use Rattle.std.specs.Prelude.{◌≡◌, List, false, Option, Some, None, Ok, IfOk, IfErr, option_map};
 ghost use Rattle.asm_parser.specs.Statements.{line_said, says_of};
 ghost use Rattle.asm_core.specs.Faults as faults;
 ghost use Rattle.asm_core.specs.Layout as layout;
@@ -50,6 +50,7 @@ pub fn check_line(
     requires limits { IsInLimits place.now }
     requires align { HasSmallAlign (says_of line.now.statement) }
     ensures ok { (list : List layout.Label) → Knows labels.now list → IfOk result (λ after. faults.line_fault number place.now list (Ok (line_said line.now)) ≡ None) }
+    ensures new { (list : List layout.Label) → Knows labels.now list → IfOk result (λ after. faults.is_doubled list (line_said line.now).label ≡ false) }
     ensures after { IfOk result (λ after. after ≡ layout.place_after place.now (says_of line.now.statement)) }
     ensures limits { IfOk result IsInLimits }
     ensures err { (list : List layout.Label) → Knows labels.now list → IfErr result (λ fault. faults.line_fault number place.now list (Ok (line_said line.now)) ≡ Some fault) }

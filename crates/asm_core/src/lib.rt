@@ -10,8 +10,13 @@ mod emit_targets;
 mod fault;
 mod labels;
 mod lines;
+mod object;
 mod parts;
 mod place;
+mod start;
+mod survey;
+mod text;
 mod symbols;
 
 pub use fault::AsmFault;
+pub use object::assemble;

@@ -1,15 +1,15 @@
 -- No shape has more than 15 operands, so 16 tokens say all that there is to say.
-use Rattle.std.proofs.Common.{◌≡◌, ℕ, zero, suc, ◌+◌, ◌-◌, ◌<◌, ◌≤◌, ◌==◌, ◌&&◌, ◌||◌, Bool, true, false, nat_lt, List, [], ◌∷◌, Option, Some, None, length, take, drop, slice_get, max, refl, sym, ap, ap₂, ◌∙◌, arith, ltb-true, lit<}
+use Rattle.std.proofs.Common.{◌≡◌, ℕ, zero, suc, ◌+◌, ◌-◌, ◌<◌, ◌≤◌, ◌==◌, ◌&&◌, ◌||◌, Bool, true, nat_lt, List, [], ◌∷◌, Option, Some, None, length, take, drop, slice_get, max, refl, ap, ap₂, ◌∙◌, arith, ltb-true, lit<}
 use Rattle.std.specs.List.{list_all, list_any}
 use Rattle.std.specs.Prelude.{is_some, slice_index, if◌then◌else◌, option_and_then}
-use Rattle.std.proofs.lemmas.Bool.{and_parts, cond_both}
+use Rattle.std.proofs.lemmas.Bool.{and_parts}
 use Rattle.sve_table.specs.Meaning.{instruction_of}
 use Rattle.insn_text.specs.declared.shapes.TheConstants.{SHAPES, STARTS}
 use Rattle.insn_text.specs.declared.item.Item.{Item}
 use Rattle.insn_text.specs.declared.item.Shape.{Shape}
 use Rattle.insn_text.specs.Texts.{items_of}
 use Rattle.asm_tokens.specs.declared.token.Token.{Token}
-use Rattle.asm_operands.specs.Operands.{Known, known_after, taken_on, taken, reach_on, reach, fixed, word_in, reach_in, shapes_of, first_of_words, first_word, furthest, is_number_item, is_number_token, wants_number, is_whole, kind_at, Fault, operand_fault, is_distance_item, is_name_token, target_in, target_of, insn_said, said_or, Fails, operands_said}
+use Rattle.asm_operands.specs.Operands.{Known, known_after, taken_on, taken, reach_on, reach, fixed, word_in, reach_in, shapes_of, first_of_words, first_word, furthest, is_number_item, wants_number, is_whole, kind_at, Fault, operand_fault, is_distance_item, is_name_token, target_in, target_of, insn_said, said_or, Fails, operands_said}
 use Rattle.asm_operands.proofs.Tables.{all-take, all-drop}
 
 -- ---- one shape

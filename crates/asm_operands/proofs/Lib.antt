@@ -6,3 +6,10 @@ pub mod Way
 pub mod Tables
 pub mod ShapeSteps
 pub mod Few
+pub mod WordBits
+pub mod Heard
+pub mod OwnTokens
+pub mod Apart
+pub mod OwnWord
+pub mod Stops
+pub mod GoesOn

@@ -1,6 +1,6 @@
 -- The fields of a mask: those of the table are the ones that bit_ops finds, and a mask has no others.
-use Rattle.std.proofs.Common.{◌≡◌, ℕ, zero, suc, ◌+◌, ◌-◌, ◌*◌, ◌%◌, ◌/◌, ◌^◌, ◌<◌, ◌≤◌, ◌==◌, ◌||◌, ◌&&◌, ◌⊎◌, not, Bool, true, false, nat_lt, refl, sym, ap, ap₂, ◌∙◌, subst, arith, inl, inr, lit<, Option, Some, None, cond, eqb-true, eq-eqb, lt-ltb, ltb-true}
-use Rattle.std.proofs.lemmas.Bool.{and_parts, cases_lt, cond_both}
+use Rattle.std.proofs.Common.{◌≡◌, ℕ, zero, suc, ◌+◌, ◌-◌, ◌*◌, ◌%◌, ◌/◌, ◌^◌, ◌<◌, ◌≤◌, ◌==◌, ◌&&◌, ◌⊎◌, not, Bool, true, false, nat_lt, refl, sym, ap, ap₂, ◌∙◌, subst, arith, inl, inr, lit<, Option, Some, None, cond, eqb-true, eq-eqb, lt-ltb, ltb-true}
+use Rattle.std.proofs.lemmas.Bool.{and_parts, cases_lt}
 use Rattle.std.proofs.lemmas.Nat.{mod_below}
 use Rattle.std.proofs.Math.Nat.{mod-eq_of_lt}
 use Rattle.a64_table.specs.Conditions.{length_bits, is_highest_one, has_fewer_ones, is_mask_of, is_mask}
@@ -94,7 +94,7 @@ fields-of wide mask field e =
     let imms : field / 2 ^ 0 % 2 ^ 6 < 64 = mod_below (field / 2 ^ 0) (2 ^ 6) (lit< tt) in
     let immr : field / 2 ^ 6 % 2 ^ 6 < 64 = mod_below (field / 2 ^ 6) (2 ^ 6) (lit< tt) in
     let one = and_parts (not (is_reserved (field_of field 12 1 == 1) (field_of field 0 6) wide)) (nat_lt (field_of field 6 6) (size_of (field_of field 12 1 == 1) (field_of field 0 6)))
-      (sym (mask_test wide (field_of field 12 1 == 1) (field_of field 6 6) (field_of field 0 6) immr imms) ∙ parts.0) in
+    (sym (mask_test wide (field_of field 12 1 == 1) (field_of field 6 6) (field_of field 0 6) immr imms) ∙ parts.0) in
     record { imms_in_range = imms; immr_in_range = ltb-true _ _ one.1; given = that_mask mask (mask_in wide field) parts.1 }
 
 bit_back : (n : Bool) (immr imms : ℕ) → immr < 64 → imms < 64 → (joined n immr imms / 2 ^ 12 % 2 ^ 1 == 1) ≡ n
@@ -152,7 +152,7 @@ of-fields n wide imms immr mask f =
     let lt = f.imms_in_range in
     let small = immr-lt n wide imms immr mask f in
     let test : is_mask wide n immr imms ≡ true =
-      mask_test wide n immr imms small lt ∙ both_true (not (is_reserved n imms wide)) (nat_lt immr (size_of n imms)) (not_reserved n wide imms immr mask f.given) (lt-ltb _ _ f.immr_in_range) in
+    mask_test wide n immr imms small lt ∙ both_true (not (is_reserved n imms wide)) (nat_lt immr (size_of n imms)) (not_reserved n wide imms immr mask f.given) (lt-ltb _ _ f.immr_in_range) in
     let b = bit_back n immr imms small lt in
     let r = immr_back n immr imms small lt in
     let s = imms_back n immr imms small lt in
@@ -302,3 +302,30 @@ found-some wide n imms immr mask low e f = mask_field-some wide n imms immr mask
 
 pub found-none : (wide : Bool) (mask low : ℕ) → low ≡ mask → ((n : Bool) (imms immr : ℕ) → imms < 64 → immr < 64 → bit_mask_of n imms immr wide ≡ Some low → ⊥) → mask_field wide mask ≡ None
 found-none wide mask low e never = mask_field-none wide mask (λ n imms immr f. never n imms immr f.imms_in_range (immr-lt n wide imms immr mask f) (f.given ∙ ap Some (sym e)))
+
+-- ---- the mask of some fields
+pub record IsGiven (wide : Bool) (field : ℕ) : Type 0 where
+  pub mask : ℕ
+  pub given : mask_in wide field ≡ Some mask
+  pub back : mask_field wide mask ≡ Some field
+
+given_of : (b : Bool) (m : ℕ) → not b ≡ true → cond b None (Some m) ≡ Some m
+given_of true m e = cc
+given_of false m e = refl
+
+mask_given : (n wide : Bool) (imms immr : ℕ) → not (is_reserved n imms wide) ≡ true → bit_mask_of n imms immr wide ≡ Some (mask_of n imms immr wide)
+unfolding bit_mask_of
+mask_given n wide imms immr e = given_of (is_reserved n imms wide) (mask_of n imms immr wide) e
+
+pub mask-given : (wide : Bool) (field : ℕ) → field < 8192 → is_mask wide (field_of field 12 1 == 1) (field_of field 6 6) (field_of field 0 6) ≡ true → IsGiven wide field
+unfolding is_field_of mask_in has_one_mask field_of
+mask-given wide field lt e =
+    let n = field_of field 12 1 == 1 in
+    let immr = field_of field 6 6 in
+    let imms = field_of field 0 6 in
+    let small : field / 2 ^ 6 % 2 ^ 6 < 64 = mod_below (field / 2 ^ 6) (2 ^ 6) (lit< tt) in
+    let low : field / 2 ^ 0 % 2 ^ 6 < 64 = mod_below (field / 2 ^ 0) (2 ^ 6) (lit< tt) in
+    let parts = and_parts (not (is_reserved n imms wide)) (nat_lt immr (size_of n imms)) (sym (mask_test wide n immr imms small low) ∙ e) in
+    let m = mask_of n imms immr wide in
+    let given : mask_in wide field ≡ Some m = mask_given n wide imms immr parts.0 in
+    record { mask = m; given = given; back = mask_field-is wide m field lt (both_true (is_mask wide n immr imms) (is_that m (mask_in wide field)) e (is_that-same m (mask_in wide field) given)) }

@@ -1,5 +1,5 @@
 -- A field at its place in a word.
-use Rattle.std.proofs.Common.{◌≡◌, ℕ, ◌+◌, ◌-◌, ◌*◌, ◌/◌, ◌%◌, ◌^◌, ◌<◌, ◌≤◌, ◌&&◌, Bool, true, nat_lt, ltb-true, bit_and, sym, ap, ap₂, ◌∙◌, subst, arith, mul-le-mul_right, mod-eq_of_lt}
+use Rattle.std.proofs.Common.{◌≡◌, ℕ, ◌+◌, ◌-◌, ◌*◌, ◌/◌, ◌%◌, ◌^◌, ◌<◌, ◌≤◌, ◌&&◌, true, nat_lt, ltb-true, bit_and, ap, ap₂, ◌∙◌, arith, mul-le-mul_right, mod-eq_of_lt}
 use Rattle.std.proofs.lemmas.Bool.{and_parts}
 use Rattle.std.proofs.lemmas.Nat.{and_mask, mod_below, pow_pos}
 use Rattle.insn_text.specs.declared.item.Item.{Item}

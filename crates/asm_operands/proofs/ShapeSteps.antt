@@ -1,12 +1,12 @@
 -- The steps of a walk over the shapes of a name.
-use Rattle.std.proofs.Common.{◌≡◌, ℕ, zero, suc, ◌+◌, ◌<◌, ◌≤◌, ◌||◌, Bool, true, false, List, [], ◌∷◌, Option, Some, None, length, drop, get_or, cond, max, refl, sym, ap, ap₂, ◌∙◌, arith}
-use Rattle.std.specs.Prelude.{is_some, if◌then◌else◌}
+use Rattle.std.proofs.Common.{◌≡◌, ℕ, ◌+◌, ◌<◌, ◌≤◌, List, Option, Some, None, length, drop, get_or, cond, max, sym, ap, ◌∙◌, arith}
+use Rattle.std.specs.Prelude.{is_some}
 use Rattle.std.proofs.Math.ListN.{drop_of_length-le}
 use Rattle.asm_tokens.specs.declared.token.Token.{Token}
 use Rattle.insn_text.specs.declared.item.Item.{Item}
 use Rattle.insn_text.specs.declared.item.Shape.{Shape}
 use Rattle.insn_text.specs.Texts.{items_of}
-use Rattle.asm_operands.specs.Operands.{Known, fixed, taken, word_in, reach_in, first_of_words, first_word, furthest, target_in, target_of}
+use Rattle.asm_operands.specs.Operands.{word_in, reach_in, first_of_words, first_word, furthest, target_in, target_of}
 use Rattle.asm_operands.proofs.Way.{drop-at}
 
 -- ---- the greatest reach
@@ -51,10 +51,6 @@ target-some ss ts at word d lt e =
 pub first-end : (ss : List Shape) (ts : List Token) (at : ℕ) → length ss ≤ at → first_word (drop at ss) ts ≡ None
 unfolding first_word
 first-end ss ts at le = ap (λ (x : List Shape). first_word x ts) (drop_of_length-le ss le)
-
-pub word-is : (s : Shape) (is : List Item) (ts : List Token) (o : Option ℕ) → is ≡ items_of s → o ≡ taken is (record { mask = s.mask; value = s.value }) ts → o ≡ word_in s ts
-unfolding word_in fixed
-word-is s is ts o e h = h ∙ ap (λ (x : List Item). taken x (record { mask = s.mask; value = s.value }) ts) e
 
 pub target-is : (s : Shape) (is : List Item) (ts : List Token) (o : Option ℕ) → is ≡ items_of s → o ≡ target_in is ts → o ≡ target_in (items_of s) ts
 target-is s is ts o e h = h ∙ ap (λ (x : List Item). target_in x ts) e

@@ -1,12 +1,11 @@
 -- The steps of a shape's way along the tokens.
-use Rattle.std.proofs.Common.{◌≡◌, ◌≢◌, ℕ, zero, suc, ◌+◌, ◌<◌, ◌≤◌, Bool, true, false, List, [], ◌∷◌, Option, Some, None, length, drop, get_or, cond, refl, sym, ap, ap₂, ◌∙◌, arith, drop-cons, add-one}
+use Rattle.std.proofs.Common.{◌≡◌, ◌≢◌, ℕ, zero, suc, ◌+◌, ◌<◌, ◌≤◌, Bool, true, List, [], ◌∷◌, Option, Some, None, length, drop, get_or, refl, sym, ap, ap₂, ◌∙◌, arith, drop-cons, add-one}
 use Rattle.std.specs.List.{list_all}
 use Rattle.std.proofs.Math.ListN.{drop_of_length-le}
 use Rattle.std.proofs.lemmas.Bool.{and_parts}
 use Rattle.asm_tokens.specs.declared.token.Token.{Token}
 use Rattle.insn_text.specs.declared.item.Item.{Item}
 use Rattle.asm_operands.specs.Operands.{Known, known_after, taken_on, taken, reach_on, reach}
-use Rattle.asm_operands.specs.Sound.{is_sound}
 
 pub drop-at : {A : Type 0} (xs : List A) (at : ℕ) (d : A) → at < length xs → drop at xs ≡ get_or xs at d ∷ drop (at + 1) xs
 drop-at xs at d lt = rw (add-one, drop-cons xs at d) refl
@@ -74,7 +73,7 @@ pub reach-goes : (is : List Item) (ts : List Token) (at all : ℕ) (known next :
     → at + reach (drop at is) known (drop at ts) ≡ all → at + 1 + reach (drop (at + 1) is) next (drop (at + 1) ts) ≡ all
 reach-goes is ts at all known next d e lt less h inv =
     let z : reach (drop at is) known (drop at ts) ≡ suc (reach (drop (at + 1) is) next (drop (at + 1) ts)) =
-      reach-at is ts at known d e lt less ∙ ap (reach_on (λ n. reach (drop (at + 1) is) n (drop (at + 1) ts))) (sym h) in
+    reach-at is ts at known d e lt less ∙ ap (reach_on (λ n. reach (drop (at + 1) is) n (drop (at + 1) ts))) (sym h) in
     omega (arith, z, inv)
 
 reach_nothing : (is : List Item) (known : Known) → reach is known [] ≡ 0

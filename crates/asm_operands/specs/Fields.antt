@@ -1,6 +1,6 @@
 -- The number of a field that a token of an operand says.
 -- Source: DDI 0487, C1.2 and C6.2, with the aliases' pages for MOV (immediate), LSL (immediate) and CSET.
-use Rattle.std.specs.Prelude.{ℕ, ◌+◌, ◌-◌, ◌*◌, ◌/◌, ◌%◌, ◌^◌, Bool, true, false, not, ◌&&◌, ◌||◌, ◌==◌, nat_lt, nat_le, Option, Some, None, if◌then◌else◌, option_and_then, option_map, bit_xor}
+use Rattle.std.specs.Prelude.{ℕ, ◌+◌, ◌-◌, ◌*◌, ◌/◌, ◌%◌, ◌^◌, Bool, false, not, ◌&&◌, ◌==◌, nat_lt, nat_le, Option, Some, None, if◌then◌else◌, option_and_then, option_map, bit_xor}
 use Rattle.std.specs.List.{find, range_with_len}
 use Rattle.a64_table.specs.Conditions.{is_mask}
 use Rattle.a64_table.specs.Fields.{field_of}

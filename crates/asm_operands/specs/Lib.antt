@@ -1,4 +1,5 @@
 pub mod Fields
 pub mod Operands
+pub mod Shown
 pub mod Sound
 pub mod Views

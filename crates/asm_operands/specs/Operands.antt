@@ -1,6 +1,6 @@
 -- The operands of an instruction: which tokens a shape takes, the word that they say, and the first token with which no shape goes on.
 -- Source: DDI 0487, C6.2, the assembler symbols of each page; this project's own assembly language for the faults.
-use Rattle.std.specs.Prelude.{ℕ, zero, suc, ◌+◌, ◌-◌, ◌*◌, ◌/◌, ◌%◌, ◌^◌, Bool, true, false, ◌&&◌, ◌||◌, ◌==◌, nat_lt, List, [], ◌∷◌, length, take, drop, slice_get, slice_index, Option, Some, None, bit_and, bit_or, max, if◌then◌else◌, option_and_then, is_some}
+use Rattle.std.specs.Prelude.{ℕ, zero, suc, ◌+◌, ◌-◌, ◌*◌, ◌/◌, ◌%◌, ◌^◌, Bool, true, false, ◌&&◌, ◌==◌, List, [], ◌∷◌, length, take, drop, slice_get, slice_index, Option, Some, None, bit_and, bit_or, max, if◌then◌else◌, option_and_then, is_some}
 use Rattle.std.specs.List.{list_any}
 use Rattle.sm_types.specs.declared.insn.Insn.{Insn}
 use Rattle.sve_table.specs.Meaning.{instruction_of}

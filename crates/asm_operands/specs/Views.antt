@@ -1,5 +1,5 @@
 -- What the code's results stand for.
-use Rattle.std.specs.Prelude.{◌≡◌, Option, Result, Ok, Err}
+use Rattle.std.specs.Prelude.{Result, Ok, Err}
 use Rattle.asm_operands.specs.declared.known.Known.{Known}
 use Rattle.asm_operands.specs.declared.operands.Operands.{Operands}
 use Rattle.asm_operands.specs.declared.operands.OperandFault.{OperandFault}

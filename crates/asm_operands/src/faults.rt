@@ -6,20 +6,11 @@ ghost use Rattle.asm_operands.specs.Operands.{reach_in, furthest, is_number_kind
 ghost use Rattle.asm_operands.specs.Views.{fault_of};
 
 use crate::fault::FaultKind;
-use crate::known::Known;
 use crate::operands::OperandFault;
 use crate::shapes::items_of;
-use crate::taking::reach;
+use crate::taking::reach_in;
 use asm_tokens::Token;
 use insn_text::{Item, Kind, Shape};
-
-/// How many tokens the operands of the shape take.
-#[tactic(auto, unfolding(crate::specs::Operands::reach_in, crate::specs::Operands::fixed))]
-fn reach_in(shape: &Shape, tokens: &[Token]) -> usize
-    ensures { result ≡ reach_in shape.now tokens.now }
-{
-    reach(items_of(shape), Known { mask: shape.mask, value: shape.value }, tokens)
-}
 
 /// The tokens that a shape takes, at most.
 fn furthest(shapes: &[Shape], tokens: &[Token]) -> usize
@@ -73,7 +64,11 @@ fn is_number_token(token: Token) -> bool
 fn is_number_at(items: &[Item], place: usize) -> bool
     ensures { result ≡ is_number_item (slice_get items.now place) }
 {
-    if place < items.len() { is_number_kind(items[place].kind) } else { false }
+    if place < items.len() {
+        is_number_kind(items[place].kind)
+    } else {
+        false
+    }
 }
 
 /// Whether the shape takes so many tokens, and a number is its next operand.
@@ -138,5 +133,8 @@ pub(crate) fn operand_fault(shapes: &[Shape], tokens: &[Token]) -> OperandFault
     ensures { fault_of result ≡ operand_fault shapes.now tokens.now }
 {
     let place = furthest(shapes, tokens);
-    OperandFault { place, kind: kind_at(shapes, place, tokens) }
+    OperandFault {
+        place,
+        kind: kind_at(shapes, place, tokens),
+    }
 }

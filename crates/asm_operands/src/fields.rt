@@ -1,7 +1,8 @@
 //! The number of a field that a token says.
 
-ghost use Rattle.std.specs.Prelude.{◌≡◌, ◌-◌, ◌*◌, ◌<◌, ◌^◌, ◌==◌, ◌&&◌, ◌≤◌, true, Option, IfSome, IsTrue, bit_xor, option_map, option_and_then, None, if◌then◌else◌};
+ghost use Rattle.std.specs.Prelude.{ℕ, ◌≡◌, ◌-◌, ◌*◌, ◌<◌, ◌^◌, ◌==◌, ◌&&◌, ◌≤◌, true, Option, IfSome, IsTrue, bit_xor, option_map, option_and_then, None, if◌then◌else◌};
 ghost use Rattle.std.specs.List.{find, range_with_len};
+ghost use Rattle.asm_tokens.specs.declared.token.Token.TheVariants.{Word, Name, Number, Distance, Mark};
 ghost use Rattle.asm_operands.specs.Fields.{word_field, register_field, unsigned_field, signed_field, width_of, mask_field, immediate_of, shift_left_field, is_halfword_at, halfword_field, inverted_if, field_said};
 ghost use Rattle.asm_operands.specs.Sound.{has_factor};
 
@@ -10,6 +11,7 @@ use bit_ops::mask_fields;
 use insn_text::Kind;
 
 /// One of `count` words from place `first` on.
+#[inline(always)]
 #[tactic(auto, unfolding(crate::specs::Fields::word_field))]
 fn word_field(first: u16, count: u16, place: u16) -> Option<u32>
     ensures { result ≡ word_field first count place }
@@ -24,11 +26,16 @@ fn word_field(first: u16, count: u16, place: u16) -> Option<u32>
 }
 
 /// The number of a register whose word stands at the place.
+#[inline(always)]
 #[tactic(auto, unfolding(crate::specs::Fields::register_field))]
 fn register_field(first: u16, last: u16, place: u16) -> Option<u32>
     ensures { result ≡ register_field first last place }
 {
-    if place == last { Some(31) } else { word_field(first, 31, place) }
+    if place == last {
+        Some(31)
+    } else {
+        word_field(first, 31, place)
+    }
 }
 
 /// The field, up to the greatest, that times `scale` and with `base` more is the number.
@@ -39,7 +46,11 @@ fn unsigned_field(base: u16, scale: u16, most: u16, negative: bool, size: u64) -
 {
     let base = u64::from(base);
     let scale = u64::from(scale);
-    if !negative && base <= size && (size - base) % scale == 0 && (size - base) / scale <= u64::from(most) {
+    if !negative
+        && base <= size
+        && (size - base) % scale == 0
+        && (size - base) / scale <= u64::from(most)
+    {
         Some(((size - base) / scale) as u32)
     } else {
         None
@@ -61,7 +72,11 @@ fn signed_field(bits: u32, scale: u16, negative: bool, size: u64) -> Option<u32>
     if size % scale != 0 {
         None
     } else if negative {
-        if steps <= half { Some(((all - steps) % all) as u32) } else { None }
+        if steps <= half {
+            Some(((all - steps) % all) as u32)
+        } else {
+            None
+        }
     } else if steps < half {
         Some(steps as u32)
     } else {
@@ -89,9 +104,17 @@ fn immediate(wide: bool, negative: bool, size: u64) -> Option<u64>
     ensures in_range { IfSome result (λ number. number < 2 ^ width_of wide) }
 {
     match (wide, negative) {
-        (true, true) => if size <= 1 << 63 { Some(size.wrapping_neg()) } else { None },
+        (true, true) => if size <= 1 << 63 {
+            Some(size.wrapping_neg())
+        } else {
+            None
+        },
         (true, false) => Some(size),
-        (false, true) => if size <= 1 << 31 { Some(((1 << 32) - size) % (1 << 32)) } else { None },
+        (false, true) => if size <= 1 << 31 {
+            Some(((1 << 32) - size) % (1 << 32))
+        } else {
+            None
+        },
         (false, false) => if size < 1 << 32 { Some(size) } else { None },
     }
 }
@@ -160,13 +183,19 @@ fn inverted_if(wide: bool, inverted: bool, number: u64) -> u64
 }
 
 /// The fields of a mask that is not negative.
+#[inline(never)]
 fn positive_mask_field(wide: bool, negative: bool, size: u64) -> Option<u32>
     ensures { result ≡ (if negative then None else mask_field wide size) }
 {
-    if negative { None } else { mask_field(wide, size) }
+    if negative {
+        None
+    } else {
+        mask_field(wide, size)
+    }
 }
 
 /// The fields of a mask that may be written as a negative number.
+#[inline(never)]
 fn signed_mask_field(wide: bool, negative: bool, size: u64) -> Option<u32>
     ensures { result ≡ option_and_then (mask_field wide) (immediate_of wide negative size) }
 {
@@ -177,6 +206,7 @@ fn signed_mask_field(wide: bool, negative: bool, size: u64) -> Option<u32>
 }
 
 /// The halfword of a number that may be negative, or of its bits inverted.
+#[inline(never)]
 fn signed_halfword_field(wide: bool, inverted: bool, negative: bool, size: u64) -> Option<u32>
     ensures { result ≡ option_and_then (λ number. halfword_field wide (inverted_if wide inverted number)) (immediate_of wide negative size) }
 {
@@ -196,65 +226,102 @@ fn opposite_field(first: u16, count: u16, place: u16) -> Option<u32>
     }
 }
 
+/// The number of a field of so many bits that a number says.
+#[inline(always)]
+#[tactic(auto, unfolding(crate::specs::Fields::field_said, crate::specs::Fields::on_mark, crate::specs::Fields::on_word, crate::specs::Fields::on_number, crate::specs::Fields::on_target, crate::specs::Sound::has_factor))]
+fn number_said(kind: Kind, bits: u32, negative: bool, size: u64) -> Option<u32>
+    requires few { bits < 32 }
+    requires factor { has_factor kind bits ≡ true }
+    ensures { result ≡ field_said kind bits (Number negative size) }
+{
+    match kind {
+        Kind::Mark(_) => None,
+        Kind::Named { .. } => None,
+        Kind::Register { .. } => None,
+        Kind::Unsigned { base, scale, most } => unsigned_field(base, scale, most, negative, size),
+        Kind::Signed { scale } => signed_field(bits, scale, negative, size),
+        Kind::Distance { .. } => None,
+        Kind::Mask { wide } => positive_mask_field(wide, negative, size),
+        Kind::SignedMask { wide } => signed_mask_field(wide, negative, size),
+        Kind::ShiftLeft { wide } => shift_left_field(wide, negative, size),
+        Kind::Opposite { .. } => None,
+        Kind::Halfword { wide, inverted } => signed_halfword_field(wide, inverted, negative, size),
+    }
+}
+
+/// The number of a field that the word at a place says: any name stands for a distance.
+#[inline(always)]
+#[tactic(auto, unfolding(crate::specs::Fields::field_said, crate::specs::Fields::on_mark, crate::specs::Fields::on_word, crate::specs::Fields::on_number, crate::specs::Fields::on_target))]
+fn word_said(kind: Kind, place: u16) -> Option<u32>
+    ensures { (bits : ℕ) → result ≡ field_said kind bits (Word place) }
+{
+    match kind {
+        Kind::Mark(_) => None,
+        Kind::Named { first, count } => word_field(first, count, place),
+        Kind::Register { first, last } => register_field(first, last, place),
+        Kind::Unsigned { .. } => None,
+        Kind::Signed { .. } => None,
+        Kind::Distance { .. } => Some(0),
+        Kind::Mask { .. } => None,
+        Kind::SignedMask { .. } => None,
+        Kind::ShiftLeft { .. } => None,
+        Kind::Opposite { first, count } => opposite_field(first, count, place),
+        Kind::Halfword { .. } => None,
+    }
+}
+
+/// The number of a field that a name says that is no word: any stands for a distance.
+#[tactic(auto, unfolding(crate::specs::Fields::field_said, crate::specs::Fields::on_mark, crate::specs::Fields::on_word, crate::specs::Fields::on_number, crate::specs::Fields::on_target))]
+fn name_said(kind: Kind) -> Option<u32>
+    ensures { (bits : ℕ) → result ≡ field_said kind bits Name }
+{
+    match kind {
+        Kind::Distance { .. } => Some(0),
+        _ => None,
+    }
+}
+
+/// The number of a field of so many bits that a distance says.
+#[tactic(auto, unfolding(crate::specs::Fields::field_said, crate::specs::Fields::on_mark, crate::specs::Fields::on_word, crate::specs::Fields::on_number, crate::specs::Fields::on_target, crate::specs::Sound::has_factor))]
+fn distance_said(kind: Kind, bits: u32, back: bool, size: u64) -> Option<u32>
+    requires few { bits < 32 }
+    requires factor { has_factor kind bits ≡ true }
+    ensures { result ≡ field_said kind bits (Distance back size) }
+{
+    match kind {
+        Kind::Distance { scale } => signed_field(bits, scale, back, size),
+        _ => None,
+    }
+}
+
+/// The number of a field that a mark says: 0 where it is the one.
+#[inline(always)]
+#[tactic(auto, unfolding(crate::specs::Fields::field_said, crate::specs::Fields::on_mark, crate::specs::Fields::on_word, crate::specs::Fields::on_number, crate::specs::Fields::on_target))]
+fn mark_said(kind: Kind, mark: u8) -> Option<u32>
+    ensures { (bits : ℕ) → result ≡ field_said kind bits (Mark mark) }
+{
+    match kind {
+        Kind::Mark(wanted) => { if mark == wanted { Some(0) } else { None } }
+        _ => None,
+    }
+}
+
 /// The number of a field of so many bits that the token says.
+#[inline(always)]
 #[tactic(auto, unfolding(crate::specs::Fields::field_said, crate::specs::Fields::on_mark, crate::specs::Fields::on_word, crate::specs::Fields::on_number, crate::specs::Fields::on_target, crate::specs::Sound::has_factor))]
 pub(crate) fn field_said(kind: Kind, bits: u32, token: Token) -> Option<u32>
     requires few { bits < 32 }
     requires factor { has_factor kind bits ≡ true }
     ensures { result ≡ field_said kind bits token }
 {
-    match kind {
-        Kind::Mark(wanted) => match token {
-            Token::Mark(mark) => {
-                if mark == wanted {
-                    Some(0)
-                } else {
-                    None
-                }
-            }
-            _ => None,
-        },
-        Kind::Named { first, count } => match token {
-            Token::Word(place) => word_field(first, count, place),
-            _ => None,
-        },
-        Kind::Register { first, last } => match token {
-            Token::Word(place) => register_field(first, last, place),
-            _ => None,
-        },
-        Kind::Unsigned { base, scale, most } => match token {
-            Token::Number { negative, size } => unsigned_field(base, scale, most, negative, size),
-            _ => None,
-        },
-        Kind::Signed { scale } => match token {
-            Token::Number { negative, size } => signed_field(bits, scale, negative, size),
-            _ => None,
-        },
-        Kind::Distance { scale } => match token {
-            Token::Distance { back, size } => signed_field(bits, scale, back, size),
-            Token::Word(_) => Some(0),
-            Token::Name => Some(0),
-            _ => None,
-        },
-        Kind::Mask { wide } => match token {
-            Token::Number { negative, size } => positive_mask_field(wide, negative, size),
-            _ => None,
-        },
-        Kind::SignedMask { wide } => match token {
-            Token::Number { negative, size } => signed_mask_field(wide, negative, size),
-            _ => None,
-        },
-        Kind::ShiftLeft { wide } => match token {
-            Token::Number { negative, size } => shift_left_field(wide, negative, size),
-            _ => None,
-        },
-        Kind::Opposite { first, count } => match token {
-            Token::Word(place) => opposite_field(first, count, place),
-            _ => None,
-        },
-        Kind::Halfword { wide, inverted } => match token {
-            Token::Number { negative, size } => signed_halfword_field(wide, inverted, negative, size),
-            _ => None,
-        },
+    match token {
+        Token::Word(place) => word_said(kind, place),
+        Token::Name => name_said(kind),
+        Token::Number { negative, size } => number_said(kind, bits, negative, size),
+        Token::Distance { back, size } => distance_said(kind, bits, back, size),
+        Token::Bare(_) => None,
+        Token::Malformed => None,
+        Token::Mark(mark) => mark_said(kind, mark),
+        Token::Other => None,
     }
 }

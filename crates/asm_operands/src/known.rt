@@ -1,13 +1,13 @@
 //! The bits of a word that operands say.
 
-ghost use Rattle.std.specs.Prelude.{◌≡◌, ◌-◌, ◌*◌, ◌/◌, ◌%◌, ◌^◌, ◌<◌, true, option_map};
+ghost use Rattle.std.specs.Prelude.{◌≡◌, ◌-◌, ◌*◌, ◌/◌, ◌%◌, ◌^◌, ◌<◌, true, Some, option_map};
 ghost use Rattle.insn_text.specs.Rules.{meets, is_base_apart};
-ghost use Rattle.asm_operands.specs.Operands.{mask_of, placed, agrees, with_field, known_after};
+ghost use Rattle.asm_operands.specs.Operands.{fixed, mask_of, placed, known_with, known_after};
 ghost use Rattle.asm_operands.specs.Sound.{is_sound, is_in_word};
 
 use crate::fields::field_said;
 use asm_tokens::Token;
-use insn_text::{Item, Rule};
+use insn_text::{Item, Rule, Shape};
 
 /// The known bits of a word, and their values.
 #[derive(Clone, Copy)]
@@ -17,6 +17,7 @@ pub(crate) struct Known {
 }
 
 /// So many ones.
+#[inline(always)]
 fn ones(width: u8) -> u32
     requires { width < 32 }
     ensures { result ≡ 2 ^ width - 1 }
@@ -25,15 +26,18 @@ fn ones(width: u8) -> u32
 }
 
 /// The bits of an operand's field in a word.
+#[inline(always)]
 #[tactic(auto, unfolding(crate::specs::Operands::mask_of, crate::specs::Sound::is_in_word))]
 fn mask_of(item: &Item) -> u32
     requires { is_in_word item.now ≡ true }
     ensures { result ≡ mask_of item.now }
 {
-    (ones(item.upper_width) << u32::from(item.upper_low)) + (ones(item.width) << u32::from(item.low))
+    (ones(item.upper_width) << u32::from(item.upper_low))
+        + (ones(item.width) << u32::from(item.low))
 }
 
 /// The field at its place in a word.
+#[inline(always)]
 #[tactic(auto, unfolding(crate::specs::Operands::placed, crate::specs::Sound::is_in_word))]
 fn placed(item: &Item, field: u32) -> u32
     requires { is_in_word item.now ≡ true }
@@ -45,6 +49,7 @@ fn placed(item: &Item, field: u32) -> u32
 }
 
 /// The number of the register whose five bits begin there.
+#[inline(always)]
 fn register_at(word: u32, low: u32) -> u32
     requires { low < 32 }
     ensures { result ≡ word / 2 ^ low % 32 }
@@ -53,6 +58,7 @@ fn register_at(word: u32, low: u32) -> u32
 }
 
 /// Whether Rn 9:5 is SP, or not the number.
+#[inline(always)]
 #[tactic(auto, unfolding(a64_table::specs::Fields::field_of))]
 fn is_base_apart(word: u32, number: u32) -> bool
     ensures { result ≡ is_base_apart word number }
@@ -61,6 +67,7 @@ fn is_base_apart(word: u32, number: u32) -> bool
 }
 
 /// Whether the registers of a word meet the rule.
+#[inline(always)]
 #[tactic(auto, unfolding(insn_text::specs::Rules::meets, a64_table::specs::Fields::field_of))]
 fn meets(rule: Rule, word: u32) -> bool
     ensures { result ≡ meets rule word }
@@ -69,32 +76,47 @@ fn meets(rule: Rule, word: u32) -> bool
         Rule::Free => true,
         Rule::SecondApart => register_at(word, 0) != register_at(word, 10),
         Rule::BaseApart => is_base_apart(word, register_at(word, 0)),
-        Rule::BasePairApart => is_base_apart(word, register_at(word, 0)) && is_base_apart(word, register_at(word, 10)),
+        Rule::BasePairApart => is_base_apart(word, register_at(word, 0))
+            && is_base_apart(word, register_at(word, 10)),
     }
 }
 
 impl Known {
     ghost use Rattle.asm_operands.specs.Views.{known_of};
 
-    /// What is known with a field.
-    #[tactic(auto, unfolding(crate::specs::Operands::with_field))]
-    fn with_field(self, item: &Item, field: u32) -> Known
-        requires { is_in_word item.now ≡ true }
-        ensures { known_of result ≡ with_field item.now (known_of self) field }
+    /// The bits that a shape fixes.
+    #[tactic(auto, unfolding(crate::specs::Operands::fixed))]
+    pub(crate) fn fixed(shape: &Shape) -> Known
+        ensures { known_of result ≡ fixed shape.now }
     {
-        Known { mask: self.mask | mask_of(item), value: self.value | placed(item, field) }
+        Known {
+            mask: shape.mask,
+            value: shape.value,
+        }
     }
 
-    /// Whether a field agrees with what is known, and meets the operand's rule.
-    #[tactic(auto, unfolding(crate::specs::Operands::agrees))]
-    fn agrees(self, item: &Item, field: u32) -> bool
+    /// What is known with a field, where it agrees with what is known and meets the operand's rule.
+    #[inline(always)]
+    #[tactic(auto, unfolding(crate::specs::Operands::known_with, crate::specs::Operands::agrees, crate::specs::Operands::with_field))]
+    fn with(self, item: &Item, field: u32) -> Option<Known>
         requires { is_in_word item.now ≡ true }
-        ensures { result ≡ agrees item.now (known_of self) field }
+        ensures { option_map known_of result ≡ known_with item.now (known_of self) (Some field) }
     {
-        self.value & mask_of(item) == placed(item, field) & self.mask && meets(item.rule, self.with_field(item, field).value)
+        let own = mask_of(item);
+        let bits = placed(item, field);
+        let value = self.value | bits;
+        if self.value & own == bits & self.mask && meets(item.rule, value) {
+            Some(Known {
+                mask: self.mask | own,
+                value,
+            })
+        } else {
+            None
+        }
     }
 
     /// What is known once the token is read as an operand.
+    #[inline(always)]
     #[tactic(auto, unfolding(crate::specs::Operands::known_after, crate::specs::Operands::known_with, crate::specs::Sound::is_sound))]
     pub(crate) fn after(self, item: &Item, token: Token) -> Option<Known>
         requires { is_sound item.now ≡ true }
@@ -102,13 +124,7 @@ impl Known {
     {
         let bits = u32::from(item.width) + u32::from(item.upper_width);
         match field_said(item.kind, bits, token) {
-            Some(field) => {
-                if self.agrees(item, field) {
-                    Some(self.with_field(item, field))
-                } else {
-                    None
-                }
-            }
+            Some(field) => self.with(item, field),
             None => None,
         }
     }

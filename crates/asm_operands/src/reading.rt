@@ -6,10 +6,9 @@ ghost use Rattle.asm_operands.specs.Operands.{first_word, is_distance, is_distan
 ghost use Rattle.asm_operands.specs.Views.{said_by};
 
 use crate::faults::operand_fault;
-use crate::known::Known;
 use crate::operands::{OperandFault, Operands};
 use crate::shapes::{items_of, shapes_of};
-use crate::taking::taken;
+use crate::taking::word_in;
 use a64_decode::decode_scalar;
 use asm_tokens::Token;
 use insn_text::{Item, Kind, Shape};
@@ -57,14 +56,22 @@ fn is_name(token: Token) -> bool
 fn is_distance_at(items: &[Item], place: usize) -> bool
     ensures { result ≡ is_distance_item (slice_get items.now place) }
 {
-    if place < items.len() { is_distance(items[place].kind) } else { false }
+    if place < items.len() {
+        is_distance(items[place].kind)
+    } else {
+        false
+    }
 }
 
 /// Whether there is a token at the place, and a name.
 fn is_name_at(tokens: &[Token], place: usize) -> bool
     ensures { result ≡ is_name_token (slice_get tokens.now place) }
 {
-    if place < tokens.len() { is_name(tokens[place]) } else { false }
+    if place < tokens.len() {
+        is_name(tokens[place])
+    } else {
+        false
+    }
 }
 
 /// The place of the last token, where it is a name for a distance.
@@ -73,25 +80,31 @@ fn target_in(items: &[Item], tokens: &[Token]) -> Option<usize>
     ensures { result ≡ target_in items.now tokens.now }
 {
     let last = items.len().saturating_sub(1);
-    if is_distance_at(items, last) && is_name_at(tokens, last) { Some(last) } else { None }
+    if is_distance_at(items, last) && is_name_at(tokens, last) {
+        Some(last)
+    } else {
+        None
+    }
 }
 
 /// The word that tokens say, and the place of the token that names its target.
 #[derive(Clone, Copy)]
-struct Said {
-    word: u32,
-    target: Option<usize>,
+pub(crate) struct Said {
+    pub(crate) word: u32,
+    pub(crate) target: Option<usize>,
 }
 
 /// What the first shape says that takes the tokens.
-fn first_said(shapes: &[Shape], tokens: &[Token]) -> Option<Said>
+pub(crate) fn first_said(shapes: &[Shape], tokens: &[Token]) -> Option<Said>
     ensures word { option_map (λ said. said.word) result ≡ first_word shapes.now tokens.now }
     ensures target { IfSome result (λ said. said.target ≡ target_of shapes.now tokens.now) }
 {
     for shape in shapes {
-        let items = items_of(shape);
-        match taken(items, Known { mask: shape.mask, value: shape.value }, tokens) {
-            Some(word) => return Some(Said { word, target: target_in(items, tokens) }),
+        match word_in(shape, tokens) {
+            Some(word) => return Some(Said {
+                word,
+                target: target_in(items_of(shape), tokens),
+            }),
             None => {}
         }
     }
@@ -118,7 +131,10 @@ pub fn read_operands(name: u16, tokens: &[Token]) -> Result<Operands, OperandFau
     let shapes = shapes_of(name);
     match first_said(shapes, tokens) {
         Some(said) => match instruction(said.word) {
-            Some(insn) => Ok(Operands { insn, target: said.target }),
+            Some(insn) => Ok(Operands {
+                insn,
+                target: said.target,
+            }),
             None => Err(operand_fault(shapes, tokens)),
         },
         None => Err(operand_fault(shapes, tokens)),

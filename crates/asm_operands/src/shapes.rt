@@ -60,7 +60,11 @@ fn all_shapes_part(first: usize, count: usize) -> &'static [Shape]
 fn start_at(starts: &[u16], name: usize) -> usize
     ensures { result ≡ slice_index starts.now name }
 {
-    if name < starts.len() { usize::from(starts[name]) } else { 0 }
+    if name < starts.len() {
+        usize::from(starts[name])
+    } else {
+        0
+    }
 }
 
 /// Where the shapes of a name begin.

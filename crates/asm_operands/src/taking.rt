@@ -2,16 +2,17 @@
 
 ghost use Rattle.std.specs.Prelude.{◌≡◌, ◌<◌, true, length};
 ghost use Rattle.std.specs.List.{list_all};
-ghost use Rattle.asm_operands.specs.Operands.{taken, reach};
+ghost use Rattle.asm_operands.specs.Operands.{taken, reach, word_in, reach_in};
 ghost use Rattle.asm_operands.specs.Sound.{is_sound};
 ghost use Rattle.asm_operands.specs.Views.{known_of};
 
 use crate::known::Known;
+use crate::shapes::items_of;
 use asm_tokens::Token;
-use insn_text::Item;
+use insn_text::{Item, Shape};
 
 /// The word that the tokens say as these operands, all of them.
-pub(crate) fn taken(items: &[Item], known: Known, tokens: &[Token]) -> Option<u32>
+fn taken(items: &[Item], known: Known, tokens: &[Token]) -> Option<u32>
     requires { list_all is_sound items.now ≡ true }
     ensures { result ≡ taken items.now (known_of known) tokens.now }
 {
@@ -29,7 +30,7 @@ pub(crate) fn taken(items: &[Item], known: Known, tokens: &[Token]) -> Option<u3
 }
 
 /// How many tokens the operands take, in order, before the first that they do not.
-pub(crate) fn reach(items: &[Item], known: Known, tokens: &[Token]) -> usize
+fn reach(items: &[Item], known: Known, tokens: &[Token]) -> usize
     requires { list_all is_sound items.now ≡ true }
     ensures { result ≡ reach items.now (known_of known) tokens.now }
 {
@@ -44,4 +45,20 @@ pub(crate) fn reach(items: &[Item], known: Known, tokens: &[Token]) -> usize
         }
     }
     items.len()
+}
+
+/// The word that the tokens say in the shape.
+#[tactic(auto, unfolding(crate::specs::Operands::word_in))]
+pub(crate) fn word_in(shape: &Shape, tokens: &[Token]) -> Option<u32>
+    ensures { result ≡ word_in shape.now tokens.now }
+{
+    taken(items_of(shape), Known::fixed(shape), tokens)
+}
+
+/// How many tokens the operands of the shape take.
+#[tactic(auto, unfolding(crate::specs::Operands::reach_in))]
+pub(crate) fn reach_in(shape: &Shape, tokens: &[Token]) -> usize
+    ensures { result ≡ reach_in shape.now tokens.now }
+{
+    reach(items_of(shape), Known::fixed(shape), tokens)
 }

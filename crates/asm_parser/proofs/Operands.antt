@@ -30,22 +30,28 @@ module _ (text : List ℕ) (from i : ℕ) (most : ℕ) where
 
 -- ---- what the tokens say
 
-module _ (line text : List ℕ) (at name column : ℕ) (ts : List Token) where
+module _ (line text : List ℕ) (at name column : ℕ) where
   abbrev ls : List Lexeme
   ls = lexemes_from text at
 
-  all-say : (said : operands.OperandsSaid) → ts ≡ take 16 (tokens_of ls) → said ≡ operands_said name ts
+  all-say : (said : operands.OperandsSaid) → said ≡ operands_said name (tokens_of ls)
       → said_from (instruction_says line name column) text at ≡ located ls (instruction_or_fault line column ls said)
   unfolding said_from instruction_says
-  all-say said first is =
-      ap (λ o. located ls (instruction_or_fault line column ls o)) (sym (is ∙ ap (operands_said name) first ∙ few_operands name (tokens_of ls)))
+  all-say said is = ap (λ o. located ls (instruction_or_fault line column ls o)) (sym is)
 
-  pub instruction-ok : (it : Insn) (target : Option ℕ) → ts ≡ take 16 (tokens_of ls) → operands.Says it target ≡ operands_said name ts
+  first-say : (ts : List Token) (said : operands.OperandsSaid) → ts ≡ take 16 (tokens_of ls) → said ≡ operands_said name ts → said ≡ operands_said name (tokens_of ls)
+  first-say ts said first is = is ∙ ap (operands_said name) first ∙ few_operands name (tokens_of ls)
+
+  pub all-ok : (it : Insn) (target : Option ℕ) → operands.Says it target ≡ operands_said name (tokens_of ls)
       → said_from (instruction_says line name column) text at ≡ Ok (Instructs it (target_at line ls target) column)
   unfolding located
-  instruction-ok it target first is = all-say (operands.Says it target) first is
+  all-ok it target is = all-say (operands.Says it target) is
 
-  pub instruction-err : (f : operands.Fault) → ts ≡ take 16 (tokens_of ls) → operands.Fails f ≡ operands_said name ts
+  pub instruction-ok : (ts : List Token) (it : Insn) (target : Option ℕ) → ts ≡ take 16 (tokens_of ls) → operands.Says it target ≡ operands_said name ts
+      → said_from (instruction_says line name column) text at ≡ Ok (Instructs it (target_at line ls target) column)
+  instruction-ok ts it target first is = all-ok it target (first-say ts (operands.Says it target) first is)
+
+  pub instruction-err : (ts : List Token) (f : operands.Fault) → ts ≡ take 16 (tokens_of ls) → operands.Fails f ≡ operands_said name ts
       → said_from (instruction_says line name column) text at ≡ Err (Fault (option_map (λ (l : Lexeme). l.start) (slice_get ls f.place)) f.kind)
   unfolding located
-  instruction-err f first is = all-say (operands.Fails f) first is
+  instruction-err ts f first is = all-say (operands.Fails f) (first-say ts (operands.Fails f) first is)

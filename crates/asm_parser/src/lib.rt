@@ -3,11 +3,15 @@
 
 mod directives;
 mod instructions;
+mod laws;
 mod line;
 mod lists;
 mod parsing;
 mod statements;
 mod stops;
+#[cfg(test)]
+mod tests;
 
+pub use laws::printed_is_read;
 pub use line::{Line, LineFault, Statement, Value};
 pub use parsing::{parse_bytes, parse_line};

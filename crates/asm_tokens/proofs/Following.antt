@@ -49,7 +49,7 @@ enough (suc most) (suc more) at (c ∷ cs) l m =
     (enough most more (at + 1) cs (omega arith) (omega arith))
     (enough most more (at + r.size) (drop r.size (c ∷ cs)) (omega arith) (omega arith))
 
-lexemes-blank : (at c : ℕ) (cs : List ℕ) → is_blank c ≡ true → lexemes_of at (c ∷ cs) ≡ lexemes_of (at + 1) cs
+pub lexemes-blank : (at c : ℕ) (cs : List ℕ) → is_blank c ≡ true → lexemes_of at (c ∷ cs) ≡ lexemes_of (at + 1) cs
 unfolding lexemes_from
 lexemes-blank at c cs e = cond-true (is_blank c) _ _ e
 

@@ -9,7 +9,7 @@ use Rattle.asm_tokens.specs.Tokens.{Read, run, has_sign, begins_name, name_token
 use Rattle.asm_tokens.proofs.Following.{lexemes-token}
 
 -- a character of names is no blank and no `#`
-name_no_blank : (c : ℕ) → is_name_character c ≡ true → is_blank c ≡ false
+pub name_no_blank : (c : ℕ) → is_name_character c ≡ true → is_blank c ≡ false
 unfolding is_name_character is_digit is_blank
 name_no_blank c e = grind (arith, nat_tests)
 
@@ -21,7 +21,7 @@ name_no_number c e = grind (arith, nat_tests)
 abbrev pub named : List ℕ → Read
 named cs = record { token = name_token (place_in WORDS (run cs)); size = length (run cs) }
 
-read-name : (c : ℕ) (cs : List ℕ) → begins_name (c ∷ cs) ≡ true → read_token c cs ≡ named (c ∷ cs)
+pub read-name : (c : ℕ) (cs : List ℕ) → begins_name (c ∷ cs) ≡ true → read_token c cs ≡ named (c ∷ cs)
 unfolding begins_name read_token read_run
 read-name c cs e =
     let p = and_parts (is_name_character c && not (is_digit c)) (not ((c == 46) && has_sign cs)) e in

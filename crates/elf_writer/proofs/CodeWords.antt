@@ -138,6 +138,10 @@ word-outside file l text bytes marks is n (inr h) =
 inside : (x y z : Bool) → x ≡ true → y ≡ true → (x && y && z) ≡ z
 inside x y z a b = rw (a, b) refl
 
+-- a word with its address, where it is code, by what is known of the three
+word-by : (test : ℕ → Bool) (read : ℕ → ℕ) (a b word : ℕ) (code : Bool) → a ≡ b → test b ≡ code → read b ≡ word → cond {A = Option (ℕ × ℕ)} (test a) (Some (a, read a)) None ≡ cond code (Some (b, word)) None
+word-by test read a b word code e t r = rw (e, t, r) refl
+
 word-inside : (o : Object) (file : List ℕ) (l : Layout) → IsFile file l o.text_bytes.items o.data_bytes.items (text_marks o) → (k : ℕ) → k < length o.text_bytes.items / 4 → code_word file (1048576 + k) ≡ object_word o k
 unfolding code_word object_word is_code_word
 word-inside o file l is k h =
@@ -149,8 +153,8 @@ word-inside o file l is k h =
     text_code file l o.text_bytes.items o.data_bytes.items (text_marks o) is (TEXT_ADDRESS + 4 * k)
     ∙ inside (nat_le TEXT_ADDRESS (TEXT_ADDRESS + 4 * k)) (nat_le (TEXT_ADDRESS + 4 * k + 4) (TEXT_ADDRESS + l.text_size)) (is_code_at (map read_mark (text_marks o)) 1 (TEXT_ADDRESS + 4 * k)) t u
     ∙ marks_say o k h in
-    ap (λ a. cond (code.is_code_word file a) (Some (a, loaded_word file a)) None) at
-    ∙ (λ i. cond (is_code i) (Some (TEXT_ADDRESS + 4 * k, loaded-is file l o.text_bytes.items o.data_bytes.items (text_marks o) is (4 * k) (omega arith) i)) None)
+    let word : loaded_word file (TEXT_ADDRESS + 4 * k) ≡ text_word o.text_bytes.items (4 * k) = loaded-is file l o.text_bytes.items o.data_bytes.items (text_marks o) is (4 * k) (omega arith) in
+    word-by (code.is_code_word file) (loaded_word file) (4 * (1048576 + k)) (TEXT_ADDRESS + 4 * k) (text_word o.text_bytes.items (4 * k)) (is_code_word o k) at is_code word
 
 has_table : (file : List ℕ) (l : Layout) → Reads file l → has_sections file ≡ true
 has_table file l r = rw (sections_at-is file l r) refl

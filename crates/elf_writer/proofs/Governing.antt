@@ -8,7 +8,8 @@ use Rattle.sm_types.specs.Objects.{Mapping, mappings_of, later_mapping, governin
 use Rattle.elf_headers.specs.Below.{answers, answers_below}
 use Rattle.elf_headers.proofs.Below.{answers_below-zero, answers_below-next, answers_below-same}
 use Rattle.elf_writer.specs.declared.marks.TextMark.{TextMark}
-use Rattle.elf_writer.specs.TextMarks.{mapping_if, newer, word_from, word_address, kept_at, says_word, slots_say, begins, mark_at, is_code_word, text_marks, AreSlots}
+use Rattle.elf_writer.specs.TextMarks.{word_address, begins, mark_at, is_code_word, text_marks}
+use Rattle.elf_writer.specs.Slots.{mapping_if, newer, word_from, kept_at, says_word, slots_say, AreSlots}
 
 -- a mark's address is past a, or is not
 abbrev IsPast : ℕ → Option Mapping → Type 0

@@ -3,7 +3,8 @@ use Rattle.std.proofs.Common.{◌≡◌, ℕ, zero, suc, ◌+◌, ◌<◌, List,
 use Rattle.sm_types.specs.declared.object.Symbol.{Symbol}
 use Rattle.sm_types.specs.Objects.{Mapping, mapping_of, mappings_of}
 use Rattle.elf_writer.specs.declared.marks.TextMark.{TextMark}
-use Rattle.elf_writer.specs.TextMarks.{mapping_if, kept_at, says_word, slots_say, said_before, AreSlots, KeepsMark, KeepsSymbol}
+use Rattle.elf_writer.specs.TextMarks.{said_before}
+use Rattle.elf_writer.specs.Slots.{mapping_if, kept_at, says_word, slots_say, AreSlots, KeepsMark, KeepsSymbol}
 
 -- ---- a symbol more
 

@@ -1,3 +1,4 @@
 pub mod TextMarks
+pub mod Slots
 pub mod Layout
 pub mod File

@@ -6,5 +6,7 @@
 mod file;
 mod layout;
 mod marks;
+#[cfg(test)]
+mod tests;
 
 pub use file::write_file;

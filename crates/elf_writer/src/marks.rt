@@ -2,7 +2,8 @@
 ghost use Rattle.std.specs.Prelude.{◌≡◌, ◌≤◌, ◌+◌, ◌*◌, ◌/◌, ◌++◌, length, cond, IfOk, OnOk, Some, None, []};
 ghost use Rattle.sm_types.specs.Objects.{name_says, symbol_says, mappings_of, mapping_of};
 ghost use Rattle.elf_headers.specs.Below.{answers, answers_below};
-ghost use Rattle.elf_writer.specs.TextMarks.{begins, mark_at, mapping, mapping_if, newer, word_from, word_address, says_word, slots_say, text_marks, AreSlots, KeepsMark, KeepsSymbol};
+ghost use Rattle.elf_writer.specs.TextMarks.{begins, mark_at, word_address, text_marks};
+ghost use Rattle.elf_writer.specs.Slots.{mapping, mapping_if, newer, word_from, says_word, slots_say, AreSlots, KeepsMark, KeepsSymbol};
 
 use sm_types::{Object, Section, Symbol, TEXT_ADDRESS};
 use std::alloc::{AllocError, Global};

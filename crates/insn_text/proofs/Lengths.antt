@@ -22,9 +22,9 @@ use Rattle.insn_text.specs.declared.words.TheConstants.{WORDS, NAMES}
 use Rattle.insn_text.specs.declared.operands.TheConstants.{ITEMS}
 use Rattle.insn_text.specs.declared.shapes.TheConstants.{SHAPES}
 use Rattle.insn_text.specs.Texts.{text_in, text_at, is_positive, size_of, hexadecimal, mask_in, mask_text, signed_text, distance_text, register_place, kind_text, bits_of, field_in, item_text, is_mark, is_comma, gap, items_text, items_of, shape_text, prints, printed_shape}
-use Rattle.insn_text.specs.Places.{has_ascii_mark, is_sized}
-use Rattle.insn_text.proofs.Sizes.{Sizes, sizes, join_below, join_small, pow_at_most}
-use Rattle.insn_text.proofs.Tables.{all_take, all_drop, all_get}
+use Rattle.insn_text.specs.Places.{is_sized}
+use Rattle.insn_text.proofs.Sizes.{sizes, join_small, pow_at_most}
+use Rattle.insn_text.proofs.Tables.{all_take, all_drop, all_get, items_sized}
 
 -- ---- words and names
 
@@ -79,6 +79,7 @@ onto_ascii (suc k) n acc h =
   where
     glyph_ascii : (d : ℕ) → d < 16 → digit_glyph false d < 128
     glyph_ascii d lt = cond_both (nat_lt d 10) (48 + d) (87 + d) (λ g. g < 128) (λ _. omega arith) (λ _. omega arith)
+
     ascii_cons : (b : ℕ) (bs : List ℕ) → b < 128 → IsAscii bs → IsAscii (b ∷ bs)
     ascii_cons b bs lt h zero = lt
     ascii_cons b bs lt h (suc i) = h i
@@ -228,10 +229,6 @@ items_small : list_all (λ i. is_small i.kind) ITEMS ≡ true
 unfolding is_small
 items_small = refl
 
-items_sized : list_all is_sized ITEMS ≡ true
-unfolding is_sized has_ascii_mark
-items_sized = refl
-
 unfoldable is_short : Shape → Bool
 is_short s = nat_lt (10 + items_room (items_of s)) 96
 
@@ -245,7 +242,7 @@ shape_length s word e =
     let is = take s.count (drop s.first ITEMS) in
     let short : 10 + items_room is < 96 = ltb-true (10 + items_room is) 96 e in
     let rest = items_length word (Mark 44) is (all_take is_sized s.count (drop s.first ITEMS) (all_drop is_sized s.first ITEMS items_sized))
-        (all_take (λ i. is_small i.kind) s.count (drop s.first ITEMS) (all_drop (λ i. is_small i.kind) s.first ITEMS items_small)) in
+    (all_take (λ i. is_small i.kind) s.count (drop s.first ITEMS) (all_drop (λ i. is_small i.kind) s.first ITEMS items_small)) in
     omega (arith, rest, name_short s.name, length-append (text_at NAMES s.name) (items_text word (Mark 44) is))
 
 find_passes : (p q : Shape → Bool) (ss : List Shape) (s : Shape) → list_all q ss ≡ true → find p ss ≡ Some s → q s ≡ true

@@ -3,3 +3,6 @@ pub mod Steps
 pub mod Tables
 pub mod Listed
 pub mod Lengths
+pub mod Regions
+pub mod Known
+pub mod AllPrinted

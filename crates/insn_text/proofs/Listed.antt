@@ -1,10 +1,10 @@
 -- The shapes that the table lists for a word's top byte are those that it may be printed in.
-use Rattle.std.proofs.Common.{◌≡◌, ℕ, zero, suc, ◌+◌, ◌*◌, ◌/◌, ◌^◌, ◌<◌, Bool, true, false, not, ◌&&◌, ◌==◌, cond, List, [], ◌∷◌, ◌++◌, Option, Some, None, slice_get, bit_and, length, refl, sym, ap, ap₂, ◌∙◌, arith, lit≤, eqb-true, eq-eqb, append_assoc, length-append, add-one, ltb-true, nat_lt, subst}
+use Rattle.std.proofs.Common.{◌≡◌, ℕ, zero, suc, ◌*◌, ◌/◌, ◌^◌, ◌<◌, Bool, true, false, not, ◌&&◌, ◌==◌, cond, List, [], ◌∷◌, ◌++◌, Option, Some, None, slice_get, bit_and, length, refl, sym, ap, ap₂, ◌∙◌, arith, lit≤, eqb-true, eq-eqb, append_assoc, length-append, add-one, ltb-true, nat_lt, subst}
 use Rattle.std.specs.List.{find}
 use Rattle.std.specs.Option.{option_or}
 use Rattle.std.proofs.lemmas.Nat.{and_assoc, and_comm}
 use Rattle.std.proofs.lemmas.Nat.Bits.{and_high_mask}
-use Rattle.std.proofs.lemmas.Bool.{and_parts, cond_both, both_ways, ltb-false}
+use Rattle.std.proofs.lemmas.Bool.{and_from, and_parts, false_from_ne_true, cond_both, both_ways, ltb-false}
 use Rattle.insn_text.specs.declared.item.Shape.{Shape}
 use Rattle.insn_text.specs.declared.shapes.TheConstants.{SHAPES}
 use Rattle.insn_text.specs.declared.printed.TheConstants.{PRINTED, ROOTS}
@@ -69,19 +69,11 @@ fixed_there bits word s m =
 top_of : (word : ℕ) → word < 2 ^ 32 → bit_and word top_bits ≡ word / 2 ^ 24 * 2 ^ 24
 top_of word lt = and_high_mask 32 24 (lit≤ tt) word lt
 
-both : (a b : Bool) → a ≡ true → b ≡ true → (a && b) ≡ true
-both true b d e = e
-both false b d e = d
-
 begins : (word : ℕ) (s : Shape) → word < 2 ^ 32 → prints word s ≡ true → may_begin (word / 2 ^ 24) s ≡ true
 unfolding may_begin prints
 begins word s lt e =
     let p = and_parts (not s.alias) (bit_and word s.mask == s.value) e in
-    both (not s.alias) _ p.0 (eq-eqb _ _ (fixed_there top_bits word s (eqb-true _ _ p.1) ∙ ap (λ n. bit_and n s.mask) (top_of word lt)))
-
-is_false : (b : Bool) → (b ≡ true → ⊥) → b ≡ false
-is_false true h = absurd (h refl)
-is_false false h = refl
+    and_from (not s.alias) _ p.0 (eq-eqb _ _ (fixed_there top_bits word s (eqb-true _ _ p.1) ∙ ap (λ n. bit_and n s.mask) (top_of word lt)))
 
 get_after : (before after : List Shape) (s : Shape) → slice_get (before ++ (s ∷ after)) (length before) ≡ Some s
 get_after [] after s = refl
@@ -102,11 +94,11 @@ first-candidates word before (s ∷ after) lt =
     let all : before ++ (s ∷ after) ≡ (before ++ (s ∷ [])) ++ after = sym (append_assoc before (s ∷ []) after) in
     let longer : suc (length before) ≡ length (before ++ (s ∷ [])) = sym (length-append before (s ∷ []) ∙ add-one (length before)) in
     let rest : first_at word (before ++ (s ∷ after)) (candidates (word / 2 ^ 24) (suc (length before)) after) ≡ find (prints word) after =
-        ap₂ (λ (x : List Shape) (n : ℕ). first_at word x (candidates (word / 2 ^ 24) n after)) all longer ∙ first-candidates word (before ++ (s ∷ [])) after lt in
+    ap₂ (λ (x : List Shape) (n : ℕ). first_at word x (candidates (word / 2 ^ 24) n after)) all longer ∙ first-candidates word (before ++ (s ∷ [])) after lt in
     let more = candidates (word / 2 ^ 24) (suc (length before)) after in
     cond_both (may_begin (word / 2 ^ 24) s) (length before ∷ more) more (λ ps. first_at word (before ++ (s ∷ after)) ps ≡ cond (prints word s) (Some s) (find (prints word) after))
     (λ _. at_shape word _ _ s (get_after before after s) ∙ ap (cond (prints word s) (Some s)) rest)
-    (λ no_. rest ∙ sym (ap (λ b. cond b (Some s) (find (prints word) after)) (is_false (prints word s) (λ e. both_ways _ no_ (begins word s lt e)))))
+    (λ no_. rest ∙ sym (ap (λ b. cond b (Some s) (find (prints word) after)) (false_from_ne_true (prints word s) (λ e. both_ways _ no_ (begins word s lt e)))))
 
 -- the first of the listed shapes in which a word is printed is the first of all
 pub first_printed : (word : ℕ) → word < 2 ^ 32 → first_at word SHAPES (part_of PRINTED ROOTS (word / 2 ^ 24)) ≡ printed_shape word

@@ -1,5 +1,5 @@
 -- The steps of the loops.
-use Rattle.std.proofs.Common.{◌≡◌, ℕ, zero, suc, ◌+◌, ◌-◌, ◌*◌, ◌/◌, ◌%◌, ◌^◌, ◌<◌, ◌≤◌, Bool, true, false, ◌&&◌, ◌==◌, nat_lt, List, [], ◌∷◌, ◌++◌, Option, Some, None, slice_get, length, take, drop, get_or, set, cond, refl, sym, ap, ap₂, ◌∙◌, arith, subst, append_assoc, drop-cons, add-one, eq-eqb, length-append, length-take-le}
+use Rattle.std.proofs.Common.{◌≡◌, ℕ, suc, ◌+◌, ◌-◌, ◌*◌, ◌/◌, ◌%◌, ◌^◌, ◌<◌, ◌≤◌, false, ◌==◌, List, [], ◌∷◌, ◌++◌, Option, Some, None, slice_get, length, take, drop, get_or, set, cond, refl, sym, ap, ◌∙◌, arith, subst, append_assoc, drop-cons, add-one, eq-eqb, length-append, length-take-le}
 use Rattle.std.specs.Fmt.{digit_glyph, digits_onto}
 use Rattle.std.specs.Option.{option_or}
 use Rattle.std.proofs.lemmas.Grind.{drop-set_at}

@@ -1,27 +1,22 @@
 -- What holds of the tables' texts and operands.
-use Rattle.std.proofs.Common.{◌≡◌, ℕ, zero, suc, ◌<◌, Bool, true, false, ◌&&◌, nat_lt, ltb-true, List, [], ◌∷◌, Option, Some, None, slice_get, slice_index, get_or, take, drop, length, refl, sym, ap, ◌∙◌, lit<, arith}
+use Rattle.std.proofs.Common.{◌≡◌, ℕ, zero, suc, ◌<◌, Bool, true, ◌&&◌, nat_lt, ltb-true, List, [], ◌∷◌, Option, Some, None, slice_get, get_or, take, drop, length, refl, sym, ap, ◌∙◌, arith}
 use Rattle.std.specs.List.{list_all}
 use Rattle.std.specs.Str.{IsAscii}
-use Rattle.std.proofs.lemmas.Bool.{and_parts}
+use Rattle.std.proofs.lemmas.Bool.{and_from, and_parts}
 use Rattle.std.proofs.lemmas.Str.{IsAscii-take}
 use Rattle.std.proofs.lemmas.Str.Ascii.{IsAscii-nil}
 use Rattle.insn_text.specs.declared.item.Kind.{Kind}
 use Rattle.insn_text.specs.declared.item.Kind.TheVariants.{Mark}
-use Rattle.insn_text.specs.declared.item.Item.{Item}
 use Rattle.insn_text.specs.declared.item.Text.{Text}
 use Rattle.insn_text.specs.declared.words.TheConstants.{WORDS, NAMES}
 use Rattle.insn_text.specs.declared.operands.TheConstants.{ITEMS}
-use Rattle.insn_text.specs.Texts.{text_in, text_at, bits_of}
+use Rattle.insn_text.specs.Texts.{text_in, text_at}
 use Rattle.insn_text.specs.Places.{has_ascii_mark, is_sized}
 
 pub all_take : {X : Type 0} (p : X → Bool) (n : ℕ) (xs : List X) → list_all p xs ≡ true → list_all p (take n xs) ≡ true
 all_take p zero xs e = refl
 all_take p (suc n) [] e = refl
-all_take p (suc n) (x ∷ xs) e = let h = and_parts (p x) (list_all p xs) e in both (p x) (list_all p (take n xs)) h.0 (all_take p n xs h.1)
-  where
-    both : (a b : Bool) → a ≡ true → b ≡ true → (a && b) ≡ true
-    both true b d e = e
-    both false b d e = d
+all_take p (suc n) (x ∷ xs) e = let h = and_parts (p x) (list_all p xs) e in and_from (p x) (list_all p (take n xs)) h.0 (all_take p n xs h.1)
 
 pub all_drop : {X : Type 0} (p : X → Bool) (n : ℕ) (xs : List X) → list_all p xs ≡ true → list_all p (drop n xs) ≡ true
 all_drop p zero xs e = e
@@ -40,7 +35,7 @@ all_at p (y ∷ ys) (suc i) d e lt = all_at p ys i d (and_parts (p y) (list_all 
 
 -- ---- operands
 
-items_sized : list_all is_sized ITEMS ≡ true
+pub items_sized : list_all is_sized ITEMS ≡ true
 unfolding is_sized has_ascii_mark
 items_sized = refl
 

@@ -1,7 +1,7 @@
 -- The text of an instruction: its name, and the numbers of its fields as registers, words, numbers and distances.
 -- Source: DDI 0487, C1.2 (assembly language symbols) and the pages of C6.2; which text is printed, and that distances are in bytes from
 -- the instruction, is this project's own.
-use Rattle.std.specs.Prelude.{◌≡◌, ℕ, zero, suc, ◌+◌, ◌-◌, ◌*◌, ◌/◌, ◌%◌, ◌^◌, ◌<◌, Bool, true, false, not, ◌&&◌, ◌||◌, ◌==◌, nat_lt, List, [], ◌∷◌, ◌++◌, Option, Some, None, bit_and, slice_get, take, drop, if◌then◌else◌, decimal, cond, codes}
+use Rattle.std.specs.Prelude.{ℕ, ◌+◌, ◌-◌, ◌*◌, ◌^◌, Bool, true, false, not, ◌&&◌, ◌||◌, ◌==◌, nat_lt, List, [], ◌∷◌, ◌++◌, Option, Some, None, bit_and, slice_get, take, drop, if◌then◌else◌, decimal, codes}
 use Rattle.std.specs.List.{find}
 use Rattle.std.specs.Fmt.{digits}
 use Rattle.bit_ops.specs.Masks.{bit_mask_of}

@@ -6,52 +6,26 @@ pub enum Kind {
     /// This character, with no field.
     Mark(u8),
     /// One of `count` words of the table from place `first` on, in the order of their numbers.
-    Named {
-        first: u16,
-        count: u16,
-    },
+    Named { first: u16, count: u16 },
     /// A register: the word at `first` is that of number 0, and number 31 has the word at `last`.
-    Register {
-        first: u16,
-        last: u16,
-    },
+    Register { first: u16, last: u16 },
     /// `#n`, n the field times `scale`, and `base` more; the field is at most `most`.
-    Unsigned {
-        base: u16,
-        scale: u16,
-        most: u16,
-    },
+    Unsigned { base: u16, scale: u16, most: u16 },
     /// `#n`, n the signed field times `scale`.
-    Signed {
-        scale: u16,
-    },
+    Signed { scale: u16 },
     /// `.+n` or `.-n`, n the signed field times `scale`; or a name.
-    Distance {
-        scale: u16,
-    },
+    Distance { scale: u16 },
     /// `#0xn`, n the mask that the fields N, immr and imms give, of 64 or 32 bits.
-    Mask {
-        wide: bool,
-    },
+    Mask { wide: bool },
     /// Of an alias: a mask that may be written as a negative number.
-    SignedMask {
-        wide: bool,
-    },
+    SignedMask { wide: bool },
     /// Of an alias: `#n`, the amount of a shift to the left, which gives immr and imms of `ubfm`.
-    ShiftLeft {
-        wide: bool,
-    },
+    ShiftLeft { wide: bool },
     /// Of an alias: one of `count` conditions from place `first` on; the field has its opposite.
-    Opposite {
-        first: u16,
-        count: u16,
-    },
+    Opposite { first: u16, count: u16 },
     /// Of an alias: `#n`, a number with one halfword that is not zero, or not all ones where it is inverted; the field has
     /// the halfword's place above its bits.
-    Halfword {
-        wide: bool,
-        inverted: bool,
-    },
+    Halfword { wide: bool, inverted: bool },
 }
 
 /// What the registers of an instruction are to meet once an operand is read.

@@ -5,16 +5,20 @@
 #![tactic(auto)]
 
 mod item;
+mod laws;
 mod operands;
 mod print;
 mod printed;
 mod shape;
 mod shapes;
+#[cfg(test)]
+mod tests;
 mod words;
 
 pub use item::{Item, Kind, Rule, Shape, Text};
+pub use laws::every_word_is_printed;
 pub use operands::ITEMS;
-pub use print::print_word;
+pub use print::{print_insn, print_word};
 pub use printed::{PRINTED, ROOTS};
 pub use shapes::{SHAPES, STARTS};
 pub use words::{NAMES, WORDS};

@@ -1,20 +1,21 @@
 //! Printing a word.
-ghost use Rattle.std.specs.Prelude.{◌≡◌, ℕ, ◌+◌, ◌-◌, ◌*◌, ◌^◌, ◌<◌, ◌≤◌, ◌++◌, true, false, length, drop, decimal};
+ghost use Rattle.std.specs.Prelude.{◌≡◌, ℕ, ◌+◌, ◌-◌, ◌*◌, ◌^◌, ◌<◌, ◌≤◌, ◌++◌, true, false, length, drop, decimal, codes};
 ghost use Rattle.std.specs.Fmt.{digit_glyph};
 ghost use Rattle.std.specs.List.{list_all};
 ghost use Rattle.std.specs.Str.{IsAscii};
-ghost use Rattle.a64_table.specs.Fields.{field_of};
+ghost use Rattle.a64_encode.specs.Either.{MeansEither};
 ghost use Rattle.insn_text.specs.declared.item.Kind.TheVariants.{Mark};
 ghost use Rattle.insn_text.specs.Places.{has_ascii_mark, is_sized};
 ghost use Rattle.insn_text.specs.Texts.{bits_of, distance_text, field_in, gap, hexadecimal, is_comma, is_mark, is_positive, item_text, items_text, kind_text, mask_in, mask_text, register_place, shape_text, signed_text, size_of, text_at, text_of};
 ghost use Rattle.insn_text.specs.declared.words.TheConstants.{WORDS};
 
-use arrayvec::ArrayString;
-
 use crate::item::{Item, Kind, Shape};
 use crate::shape::{name_at, operands_of, shape_of, word_at};
+use a64_encode::encode;
 use a64_table::field;
+use arrayvec::ArrayString;
 use bit_ops::bit_mask;
+use sm_types::Insn;
 
 /// Writes the text of a word, and nothing for a word that has none; whatever `out` held is gone.
 #[tactic(auto, unfolding(crate::specs::Texts::text_of, crate::specs::Texts::text_of_shape))]
@@ -26,6 +27,18 @@ pub fn print_word(word: u32, out: &mut ArrayString<96>)
     match shape_of(word) {
         Some(shape) => push_shape(out, &shape, word),
         None => {}
+    }
+}
+
+/// Writes the text of an instruction, each of whose fields is inside its row; whatever `out` held is gone.
+pub fn print_insn(insn: &Insn, out: &mut ArrayString<96>)
+    requires { (word : ℕ) × MeansEither word insn.now }
+    ensures text { (word : ℕ) → MeansEither word insn.now → out.new.bytes ≡ text_of word }
+    ensures short { length out.new.bytes < 96 }
+{
+    match encode(insn) {
+        Some(word) => print_word(word, out),
+        None => unreachable!(),
     }
 }
 
@@ -64,42 +77,20 @@ fn push_gap(out: &mut ArrayString<96>, before: Kind, after: Kind)
     }
 }
 
+/// Whether the operand is a mark.
 #[tactic(auto, unfolding(crate::specs::Texts::is_mark))]
 fn is_mark(kind: Kind) -> bool
     ensures { result ≡ is_mark kind }
 {
-    match kind {
-        Kind::Mark(_) => true,
-        Kind::Named { .. } => false,
-        Kind::Register { .. } => false,
-        Kind::Unsigned { .. } => false,
-        Kind::Signed { .. } => false,
-        Kind::Distance { .. } => false,
-        Kind::Mask { .. } => false,
-        Kind::SignedMask { .. } => false,
-        Kind::ShiftLeft { .. } => false,
-        Kind::Opposite { .. } => false,
-        Kind::Halfword { .. } => false,
-    }
+    matches!(kind, Kind::Mark(_))
 }
 
+/// Whether the operand is a comma.
 #[tactic(auto, unfolding(crate::specs::Texts::is_comma))]
 fn is_comma(kind: Kind) -> bool
     ensures { result ≡ is_comma kind }
 {
-    match kind {
-        Kind::Mark(mark) => mark == b',',
-        Kind::Named { .. } => false,
-        Kind::Register { .. } => false,
-        Kind::Unsigned { .. } => false,
-        Kind::Signed { .. } => false,
-        Kind::Distance { .. } => false,
-        Kind::Mask { .. } => false,
-        Kind::SignedMask { .. } => false,
-        Kind::ShiftLeft { .. } => false,
-        Kind::Opposite { .. } => false,
-        Kind::Halfword { .. } => false,
-    }
+    matches!(kind, Kind::Mark(b','))
 }
 
 /// Appends the text of an operand of a word.
@@ -110,7 +101,12 @@ fn push_item(out: &mut ArrayString<96>, item: &Item, word: u32)
     ensures { out.new.bytes ≡ out.old.bytes ++ item_text word item.now }
 {
     let field = field_in(item, word);
-    push_kind(out, item.kind, item.width as u32 + item.upper_width as u32, field);
+    push_kind(
+        out,
+        item.kind,
+        item.width as u32 + item.upper_width as u32,
+        field,
+    );
 }
 
 /// The number of an operand's field in a word.
@@ -126,7 +122,7 @@ fn field_in(item: &Item, word: u32) -> u64
 }
 
 /// Appends the text of a field of so many bits.
-#[tactic(auto, unfolding(crate::specs::Texts::kind_text, crate::specs::Texts::register_place))]
+#[tactic(auto, unfolding(crate::specs::Texts::kind_text))]
 fn push_kind(out: &mut ArrayString<96>, kind: Kind, bits: u32, field: u64)
     requires mark { has_ascii_mark kind ≡ true }
     requires bits { bits < 32 }
@@ -137,26 +133,58 @@ fn push_kind(out: &mut ArrayString<96>, kind: Kind, bits: u32, field: u64)
 {
     match kind {
         Kind::Mark(mark) => push_bytes(out, &[mark]),
-        Kind::Named { first, count: _ } => push_bytes(out, word_at(first as usize + field as usize)),
-        Kind::Register { first, last } => {
-            if field == 31 {
-                push_bytes(out, word_at(last as usize));
-            } else {
-                push_bytes(out, word_at(first as usize + field as usize));
-            }
-        }
-        Kind::Unsigned { base, scale, most: _ } => {
-            out.push_str("#");
-            push_number(out, field * scale as u64 + base as u64);
-        }
-        Kind::Signed { scale } => push_signed(out, is_positive(bits, field), size_of(bits, field) * scale as u64),
-        Kind::Distance { scale } => push_distance(out, is_positive(bits, field), size_of(bits, field) * scale as u64),
+        Kind::Named { first, .. } => push_word(out, first as usize + field as usize),
+        Kind::Register { first, last } => push_word(out, register_place(first, last, field)),
+        Kind::Unsigned { base, scale, .. } => push_unsigned(
+            out,
+            field * scale as u64 + base as u64,
+        ),
+        Kind::Signed { scale } => push_signed(
+            out,
+            is_positive(bits, field),
+            size_of(bits, field) * scale as u64,
+        ),
+        Kind::Distance { scale } => push_distance(
+            out,
+            is_positive(bits, field),
+            size_of(bits, field) * scale as u64,
+        ),
         Kind::Mask { wide } => push_mask(out, mask_in(wide, field as u32)),
-        Kind::SignedMask { .. } => {}
-        Kind::ShiftLeft { .. } => {}
-        Kind::Opposite { .. } => {}
-        Kind::Halfword { .. } => {}
+        Kind::SignedMask { .. }
+        | Kind::ShiftLeft { .. }
+        | Kind::Opposite { .. }
+        | Kind::Halfword { .. } => {}
     }
+}
+
+/// Appends the word of an operand.
+fn push_word(out: &mut ArrayString<96>, place: usize)
+    requires { length out.old.bytes + length (text_at WORDS place) ≤ 96 }
+    ensures { out.new.bytes ≡ out.old.bytes ++ text_at WORDS place }
+{
+    push_bytes(out, word_at(place));
+}
+
+/// The place of the word of a register.
+#[tactic(auto, unfolding(crate::specs::Texts::register_place))]
+fn register_place(first: u16, last: u16, number: u64) -> usize
+    requires { number < 2 ^ 31 }
+    ensures { result ≡ register_place first last number }
+{
+    if number == 31 {
+        last as usize
+    } else {
+        first as usize + number as usize
+    }
+}
+
+/// Appends a number.
+fn push_unsigned(out: &mut ArrayString<96>, number: u64)
+    requires { length out.old.bytes + length (codes "#" ++ decimal number) ≤ 96 }
+    ensures { out.new.bytes ≡ out.old.bytes ++ (codes "#" ++ decimal number) }
+{
+    out.push_str("#");
+    push_number(out, number);
 }
 
 /// Whether a signed number of so many bits is not negative.
@@ -176,7 +204,11 @@ fn size_of(bits: u32, field: u64) -> u64
     ensures value { result ≡ size_of bits field }
     ensures small { result < 2 ^ 32 }
 {
-    if is_positive(bits, field) { field } else { (1 << bits) - field }
+    if is_positive(bits, field) {
+        field
+    } else {
+        (1 << bits) - field
+    }
 }
 
 /// Appends a number of this sign and size.
@@ -214,7 +246,12 @@ fn push_distance(out: &mut ArrayString<96>, positive: bool, size: u64)
 fn mask_in(wide: bool, bits: u32) -> Option<u64>
     ensures { result ≡ mask_in wide bits }
 {
-    bit_mask(field(bits, 12, 1) == 1, field(bits, 0, 6) as u8, field(bits, 6, 6) as u8, wide)
+    bit_mask(
+        field(bits, 12, 1) == 1,
+        field(bits, 0, 6) as u8,
+        field(bits, 6, 6) as u8,
+        wide,
+    )
 }
 
 /// Appends a mask.
@@ -274,7 +311,11 @@ fn digit(number: u64) -> u8
     ensures value { result ≡ digit_glyph false number }
     ensures ascii { result < 128 }
 {
-    if number < 10 { b'0' + number as u8 } else { b'a' + (number as u8 - 10) }
+    if number < 10 {
+        b'0' + number as u8
+    } else {
+        b'a' + (number as u8 - 10)
+    }
 }
 
 /// Appends bytes of ASCII.

@@ -16,7 +16,11 @@ use crate::words::{NAMES, WORDS};
 pub fn shape_of(word: u32) -> Option<Shape>
     ensures { result ≡ printed_shape word }
 {
-    first_at(&SHAPES, part_of(&PRINTED, &ROOTS, (word >> 24) as usize), word)
+    first_at(
+        &SHAPES,
+        part_of(&PRINTED, &ROOTS, (word >> 24) as usize),
+        word,
+    )
 }
 
 /// The first of the shapes at these places in which the word is printed.
@@ -59,14 +63,22 @@ fn part_of<'a>(places: &'a [u16], starts: &[u16], at: usize) -> &'a [u16]
     ensures { result.now ≡ part_of places.now starts.now at }
 {
     let start = start_at(starts, at);
-    run_of_places(places, start, start_at(starts, at + 1).saturating_sub(start))
+    run_of_places(
+        places,
+        start,
+        start_at(starts, at + 1).saturating_sub(start),
+    )
 }
 
 /// The start at a place, and 0 past the end.
 fn start_at(starts: &[u16], at: usize) -> usize
     ensures { result ≡ slice_index starts.now at }
 {
-    if at < starts.len() { starts[at] as usize } else { 0 }
+    if at < starts.len() {
+        starts[at] as usize
+    } else {
+        0
+    }
 }
 
 /// So many places, or as many as there are, from the first on.
@@ -120,7 +132,11 @@ fn text_at(texts: &[Text], place: usize) -> &[u8]
     if place < texts.len() {
         let text = &texts[place];
         let length = text.length as usize;
-        if length < 12 { &text.bytes[..length] } else { &text.bytes }
+        if length < 12 {
+            &text.bytes[..length]
+        } else {
+            &text.bytes
+        }
     } else {
         &[]
     }

@@ -1,4 +1,4 @@
-use Rattle.std.proofs.Common.{◌≡◌, ◌≤◌, ℕ, ◌+◌, drop, arith, length, max, ap, ◌∙◌}
+use Rattle.std.proofs.Common.{◌≤◌, ◌+◌, drop, arith, length, max, ap, ◌∙◌}
 use Rattle.asm_operands.specs.Operands.{furthest}
 use Rattle.asm_operands.proofs.ShapeSteps.{furthest-step, furthest-end}
 use Rattle.asm_operands.proofs.faults.furthest.Goals as goal

@@ -1,5 +1,4 @@
-use Rattle.std.proofs.Common.{◌≡◌, ◌<◌, ℕ, true, false, sym, ◌∙◌, ap, None, cond}
-use Rattle.std.specs.List.{find, range_with_len}
+use Rattle.std.proofs.Common.{sym, ◌∙◌, ap, None}
 use Rattle.asm_operands.specs.Fields.{is_halfword_at}
 use Rattle.asm_operands.proofs.Places.{find-first, none-find, find-more, or_next}
 use Rattle.asm_operands.proofs.fields.halfword_place.Goals as goal

@@ -1,4 +1,4 @@
-use Rattle.std.proofs.Common.{◌≡◌, ◌≤◌, ◌<◌, ◌⊎◌, inl, inr, ◌+◌, ◌*◌, ◌%◌, ◌^◌, ℕ, Bool, true, false, Some, sym, ◌∙◌, ap, ap₂, arith, refl}
+use Rattle.std.proofs.Common.{◌≡◌, inl, inr, ◌+◌, ◌*◌, ◌%◌, Bool, true, false, Some, sym, ◌∙◌, ap, ap₂, refl}
 use mir.Val.{bool_byte}
 use Rattle.bit_ops.specs.Sums.{bool_number, word_size}
 use Rattle.asm_operands.specs.Fields.{mask_field}

@@ -1,4 +1,4 @@
-use Rattle.std.proofs.Common.{◌≡◌, ◌≤◌, ◌<◌, arith, length}
+use Rattle.std.proofs.Common.{◌≡◌, arith, length}
 use Rattle.asm_operands.specs.Views.{known_of}
 use Rattle.asm_operands.proofs.Way.{reach-stops, reach-goes, reach-short, reach-end}
 use Rattle.asm_operands.proofs.taking.reach.Goals as goal

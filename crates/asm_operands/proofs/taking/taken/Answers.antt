@@ -1,4 +1,4 @@
-use Rattle.std.proofs.Common.{◌≡◌, ◌≢◌, ◌≤◌, sym, ◌∙◌, arith, length}
+use Rattle.std.proofs.Common.{◌≤◌, sym, ◌∙◌, arith, length}
 use Rattle.asm_operands.specs.Views.{known_of}
 use Rattle.asm_operands.proofs.Way.{taken-lengths, taken-stops, taken-goes, taken-end}
 use Rattle.asm_operands.proofs.taking.taken.Goals as goal

@@ -1,4 +1,4 @@
-use Rattle.std.proofs.Common.{rules, ◌≡◌, length, arith}
+use Rattle.std.proofs.Common.{◌≡◌, length, arith}
 use Rattle.std.proofs.lemmas.Grind.{common_steps}
 use Rattle.edge_io.proofs.Writing.{sofar_more, sofar_stop, sofar_end}
 use Rattle.code_listing.proofs.Lines.{listing_cut, listing_end}

@@ -1,5 +1,5 @@
 use Rattle.std.proofs.Common.{sym}
-use Rattle.elf_writer.specs.TextMarks.{mapping}
+use Rattle.elf_writer.specs.Slots.{mapping}
 use Rattle.elf_writer.proofs.Slots.{slots_skip, slots_keep}
 use Rattle.elf_writer.proofs.marks.keep_symbol.Goals as goal
 

@@ -1,7 +1,8 @@
 use Rattle.std.proofs.Common.{◌≡◌, Option, Some, None, Bool, ℕ, get_or, sym, ◌∙◌, ap, refl, add-one, cond, ◌++◌}
 use Rattle.elf_headers.specs.Below.{answers}
 use Rattle.elf_headers.proofs.Below.{answers_below-zero, answers_below-next}
-use Rattle.elf_writer.specs.TextMarks.{slots_say, mark_at, says_word, said_before, begins, word_address}
+use Rattle.elf_writer.specs.TextMarks.{mark_at, said_before, begins, word_address}
+use Rattle.elf_writer.specs.Slots.{slots_say, says_word}
 use Rattle.elf_writer.proofs.Slots.{slots_say-at}
 use Rattle.elf_writer.proofs.marks.list_marks.Goals as goal
 

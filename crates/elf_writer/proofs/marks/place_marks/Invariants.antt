@@ -1,6 +1,6 @@
 use Rattle.std.proofs.Common.{◌≡◌, drop, length}
 use Rattle.sm_types.specs.Objects.{mappings_of}
-use Rattle.elf_writer.specs.TextMarks.{AreSlots}
+use Rattle.elf_writer.specs.Slots.{AreSlots}
 use Rattle.elf_writer.proofs.marks.place_marks.Given as goal
 
 abbrev pub invariant-loop-symbol : goal.invariant-loop-symbol

@@ -2,7 +2,8 @@ use Rattle.std.proofs.Common.{◌≡◌, ◌/◌, List, [], Option, length, vec_
 use Rattle.sm_types.specs.Objects.{mappings_of}
 use Rattle.elf_headers.specs.Below.{answers_below}
 use Rattle.elf_writer.specs.declared.marks.TextMark.{TextMark}
-use Rattle.elf_writer.specs.TextMarks.{mark_at, slots_say, text_marks, AreSlots}
+use Rattle.elf_writer.specs.TextMarks.{mark_at, text_marks}
+use Rattle.elf_writer.specs.Slots.{slots_say, AreSlots}
 use Rattle.elf_writer.proofs.Appending.{if_ok-more}
 use Rattle.elf_writer.proofs.Governing.{marks_listed, few_marks}
 use Rattle.elf_writer.proofs.marks.text_marks.Goals as goal

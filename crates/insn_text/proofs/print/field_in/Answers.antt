@@ -1,4 +1,4 @@
-use Rattle.std.proofs.Common.{◌≡◌, ap, ap₂, sym, ◌∙◌, ◌-◌, ◌/◌, ◌^◌, ◌*◌, ◌%◌, ◌<◌, ◌+◌, ◌≤◌, ℕ, arith}
+use Rattle.std.proofs.Common.{◌≡◌, ap, ap₂, ◌∙◌, ◌^◌, ◌*◌, ◌%◌, ◌<◌, ◌+◌, ℕ, arith}
 use Rattle.std.proofs.lemmas.Nat.{one_shl, pow_pos}
 use Rattle.insn_text.specs.Texts.{field_in}
 use Rattle.insn_text.proofs.Sizes.{sizes, join_below, join_small}

@@ -1,5 +1,5 @@
-use Rattle.std.proofs.Common.{◌≡◌, ℕ, Some, ◌<◌, ◌≤◌, ◌++◌, List, length, sym, ap, ◌∙◌, arith, length-append}
-use Rattle.insn_text.specs.Texts.{printed_shape, shape_text}
+use Rattle.std.proofs.Common.{◌<◌, length, sym, ap, arith, length-append}
+use Rattle.insn_text.specs.Texts.{shape_text}
 use Rattle.insn_text.proofs.Lengths.{printed_length}
 use Rattle.insn_text.proofs.print.print_word.Goals as goal
 

@@ -1,4 +1,4 @@
-use Rattle.std.proofs.Common.{ℕ, List, ◌-◌, drop, take, sym, subst}
+use Rattle.std.proofs.Common.{ℕ, List, drop, sym, subst}
 use Rattle.std.specs.Str.{IsAscii}
 use Rattle.std.proofs.lemmas.Str.{IsAscii-take}
 use Rattle.insn_text.proofs.Lengths.{hexadecimal_ascii}

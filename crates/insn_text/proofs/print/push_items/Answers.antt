@@ -1,4 +1,4 @@
-use Rattle.std.proofs.Common.{ℕ, ◌+◌, ◌≤◌, ◌++◌, List, length, sym, ap, arith, length-append}
+use Rattle.std.proofs.Common.{ℕ, ◌+◌, ◌≤◌, ◌++◌, List, length, arith, length-append}
 use Rattle.insn_text.specs.declared.item.Kind.TheVariants.{Mark}
 use Rattle.insn_text.specs.Texts.{items_text}
 use Rattle.insn_text.specs.Places.{is_sized}

@@ -1,6 +1,3 @@
-use Rattle.std.proofs.Common.{ltb-true}
-use Rattle.std.proofs.lemmas.Str.Ascii.{IsAscii-nil}
-use Rattle.insn_text.specs.Places.{has_ascii_mark}
 use Rattle.insn_text.proofs.Tables.{mark_ascii}
 use Rattle.insn_text.proofs.print.push_kind.Goals as goal
 

@@ -1,6 +1,5 @@
 use Rattle.std.proofs.Common.{◌≡◌, ◌-◌, ◌^◌, ◌<◌, drop, false}
 use Rattle.std.specs.Fmt.{digits_onto}
-use Rattle.std.specs.Str.{IsAscii}
 use Rattle.insn_text.specs.Texts.{hexadecimal}
 use Rattle.insn_text.proofs.print.write_hexadecimal.Given as goal
 

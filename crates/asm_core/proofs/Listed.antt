@@ -1,0 +1,172 @@
+-- Each code word of a source's object means an instruction, since an instruction put it.
+use Rattle.std.proofs.Common.{◌≡◌, ℕ, zero, suc, ◌+◌, ◌-◌, ◌*◌, ◌/◌, ◌%◌, ◌^◌, ◌<◌, ◌≤◌, Bool, true, false, cond, ◌==◌, ◌&&◌, List, [], ◌∷◌, length, take, drop, map, Option, Some, None, Result, Ok, Err, refl, sym, ap, ◌∙◌, subst, arith}
+use Rattle.std.specs.Prelude.{slice_get, is_some, option_map}
+use Rattle.std.specs.List.{filter_map, cons_option, range_with_len, list_all}
+use Rattle.std.proofs.lemmas.Bool.Decides.{nat_tests}
+use Rattle.byteorder.specs.Endian.{little_bytes}
+use Rattle.sm_types.specs.declared.insn.Insn.{Insn}
+use Rattle.sm_types.specs.declared.object.TheConstants.{TEXT_ADDRESS}
+use Rattle.sm_types.specs.declared.object.Object.{Object}
+use Rattle.sm_types.specs.declared.object.Section.{Section}
+use Rattle.sm_types.specs.declared.object.Section.TheVariants.{Text, Data}
+use Rattle.sm_types.specs.Objects.{mappings_of, governing_mapping, mapping_says_code, is_text_code, little, text_word, object_word, object_code}
+use Rattle.sve_table.specs.Meaning.{instruction_of}
+use Rattle.asm_parser.specs.declared.line.LineFault.{LineFault}
+use Rattle.asm_parser.specs.Statements.{Says, Nothing, IntoText, IntoData, Quads, Words, Bytes, Zeros, Aligns, Globals, Instructs, SourceLine}
+use Rattle.asm_parser.specs.Lines.{line_of}
+use Rattle.asm_core.specs.declared.fault.AsmFault.{AsmFault}
+use Rattle.asm_core.specs.declared.place.Place.{Place}
+use Rattle.asm_core.specs.Source.{said_lines}
+use Rattle.asm_core.specs.Layout.{first_place, here_in, here, size_of, Label, labels_of, place_after, place_past}
+use Rattle.asm_core.specs.Faults.{or_else, misplaced, after_line, line_fault, lines_fault, labels_after, text_length_of}
+use Rattle.asm_core.specs.Assembly.{HasBytes, IsAssembled, Puts, part_bytes, symbol_said, is_instruction, symbols_from, IsObjectOf}
+use Rattle.asm_core.specs.Sound.{is_listed}
+use Rattle.asm_core.proofs.Marks.{mappings_said, marks_said, Put, told}
+use Rattle.asm_core.proofs.Surveying.{lines_cons, said_cons, line_passes}
+
+-- ---- instructions stand at multiples of 4
+
+first_none : (a b : Option AsmFault) → or_else a b ≡ None → a ≡ None
+first_none None b e = refl
+first_none (Some f) b e = cc
+
+second_none : (a b : Option AsmFault) → or_else a b ≡ None → b ≡ None
+second_none None b e = e
+second_none (Some f) b e = cc
+
+placed_column : (o : Option ℕ) (f : ℕ → AsmFault) → option_map f o ≡ None → o ≡ None
+placed_column None f e = refl
+placed_column (Some c) f e = cc
+
+no_column : (n : ℕ) (p : Place) (labels : List Label) (line : SourceLine) → line_fault n p labels (Ok line) ≡ None → misplaced line.says (here p) ≡ None
+unfolding line_fault
+no_column n p labels line e = placed_column (misplaced line.says (here p)) _ (first_none _ _ e)
+
+past_none : (p : Place) → place_past p [] ≡ p
+unfolding place_past
+past_none p = refl
+
+past_cons : (p : Place) (line : SourceLine) (lines : List SourceLine) → place_past p (line ∷ lines) ≡ place_past (place_after p line.says) lines
+unfolding place_past
+past_cons p line lines = refl
+
+nothing_said : said_lines [] ≡ []
+unfolding said_lines
+nothing_said = refl
+
+some_line : (a b : SourceLine) → ◌≡◌ {A = Option SourceLine} (Some a) (Some b) → a ≡ b
+some_line a b e = cc
+
+faulty : (n : ℕ) (p : Place) (list : List Label) (fault : LineFault) → line_fault n p list (Err fault) ≡ None → ⊥
+unfolding line_fault
+faulty n p list fault e = cc
+
+no_item : (lines : List SourceLine) (k : ℕ) (line : SourceLine) → lines ≡ [] → slice_get lines k ≡ Some line → ⊥
+no_item [] k line h e = cc
+no_item (l ∷ lines) k line h e = cc
+
+aligned_cons : (texts : List (List ℕ)) (n : ℕ) (p : Place) (list : List Label) (first : SourceLine) → line_fault n p list (Ok first) ≡ None
+    → ((j : ℕ) (other : SourceLine) → slice_get (said_lines texts) j ≡ Some other → misplaced other.says (here (place_past (place_after p first.says) (take j (said_lines texts)))) ≡ None)
+    → (k : ℕ) (line : SourceLine) → slice_get (first ∷ said_lines texts) k ≡ Some line → misplaced line.says (here (place_past p (take k (first ∷ said_lines texts)))) ≡ None
+aligned_cons texts n p list first sound later zero line at =
+    subst (λ (l : SourceLine). misplaced l.says (here (place_past p [])) ≡ None) (some_line first line at) (subst (λ (q : Place). misplaced first.says (here q) ≡ None) (sym (past_none p)) (no_column n p list first sound))
+aligned_cons texts n p list first sound later (suc k) line at =
+    subst (λ (q : Place). misplaced line.says (here q) ≡ None) (sym (past_cons p first (take k (said_lines texts)))) (later k line at)
+
+pub aligned_at : (texts : List (List ℕ)) (n : ℕ) (p : Place) (list : List Label) → lines_fault n p list texts ≡ None → (k : ℕ) (line : SourceLine) → slice_get (said_lines texts) k ≡ Some line
+    → misplaced line.says (here (place_past p (take k (said_lines texts)))) ≡ None
+aligned_at [] n p list e k line at = absurd (no_item (said_lines []) k line nothing_said at)
+aligned_at (text ∷ texts) n p list e k line at =
+    let split = sym (lines_cons n p list text texts) ∙ e in
+    elim (line_of text) as (λ r. line_of text ≡ r → misplaced line.says (here (place_past p (take k (said_lines (text ∷ texts))))) ≡ None) [
+      | Err fault ↦ λ is. absurd (faulty n p list fault (sym (ap (line_fault n p list) is) ∙ first_none _ _ split))
+      | Ok first ↦ λ is.
+          let sound : line_fault n p list (Ok first) ≡ None = sym (ap (line_fault n p list) is) ∙ first_none _ _ split in
+          let rest : lines_fault (n + 1) (place_after p first.says) (labels_after p list first) texts ≡ None = sym (line_passes n p list text texts first is sound) ∙ e in
+          let said : said_lines (text ∷ texts) ≡ first ∷ said_lines texts = said_cons text texts first is in
+          subst (λ (ls : List SourceLine). misplaced line.says (here (place_past p (take k ls))) ≡ None) (sym said)
+          (aligned_cons texts n p list first sound (λ j other there. aligned_at texts (n + 1) (place_after p first.says) (labels_after p list first) rest j other there) k line (sym (ap (λ (ls : List SourceLine). slice_get ls k) said) ∙ at))
+    ] refl
+
+-- ---- the word that an instruction put
+
+multiple : (at column : ℕ) (b : Bool) → (at % 4 == 0) ≡ b → cond b None (Some column) ≡ None → at % 4 ≡ 0
+multiple at column true e h = grind (arith, nat_tests)
+multiple at column false e h = cc
+
+bytes_word : (word : ℕ) → word < 2 ^ 32 → little (little_bytes 4 word) ≡ word
+bytes_word word l = omega arith
+
+here_text : (p : Place) → p.part ≡ Text → here p ≡ p.text_size
+here_text p e = ap (λ part. here_in part p) e
+
+word_there : (it : Insn) (text : List ℕ) (at : ℕ) → IsAssembled it text at → instruction_of (text_word text at) ≡ Some it
+unfolding text_word
+word_there it text at h = ap (λ bytes. instruction_of (little bytes)) h.stands ∙ ap instruction_of (bytes_word h.word h.is_word) ∙ h.means
+
+listed_some : (o : Option Insn) (it : Insn) → o ≡ Some it → is_some o ≡ true
+listed_some o it e = rw e refl
+
+same_place : (n at : ℕ) → at % 4 ≡ 0 → at ≤ 4 * n → 4 * n < at + 4 → at ≡ 4 * n
+same_place n at e l m = omega arith
+
+-- an instruction at a place of the text that has byte 4 * n put word n
+put_word : (tl : ℕ) (labels : List Label) (text : List ℕ) (says : Says) (p : Place) (n : ℕ) → is_instruction says ≡ true → p.part ≡ Text → p.text_size ≤ 4 * n → 4 * n < p.text_size + size_of says (here p)
+    → misplaced says (here p) ≡ None → Puts tl labels text p says → is_some (instruction_of (text_word text (4 * n))) ≡ true
+unfolding is_instruction size_of misplaced Puts
+put_word tl labels text (Instructs it target column) p n isn in_text from to aligned puts =
+    let at : here p ≡ p.text_size = here_text p in_text in
+    let whole : here p % 4 ≡ 0 = multiple (here p) column (here p % 4 == 0) refl aligned in
+    let same : here p ≡ 4 * n = same_place n (here p) whole (subst (λ m. m ≤ 4 * n) (sym at) from) (subst (λ m. 4 * n < m + 4) (sym at) to) in
+    listed_some _ _ (ap (λ m. instruction_of (text_word text m)) (sym same) ∙ word_there _ text (here p) puts)
+put_word tl labels text Nothing p n isn in_text from to aligned puts = cc
+put_word tl labels text IntoText p n isn in_text from to aligned puts = cc
+put_word tl labels text IntoData p n isn in_text from to aligned puts = cc
+put_word tl labels text (Quads values) p n isn in_text from to aligned puts = cc
+put_word tl labels text (Words numbers) p n isn in_text from to aligned puts = cc
+put_word tl labels text (Bytes numbers) p n isn in_text from to aligned puts = cc
+put_word tl labels text (Zeros count) p n isn in_text from to aligned puts = cc
+put_word tl labels text (Aligns power) p n isn in_text from to aligned puts = cc
+put_word tl labels text (Globals name) p n isn in_text from to aligned puts = cc
+
+-- ---- all code words
+
+all_listed : (f : ℕ → Option (ℕ × ℕ)) (a m : ℕ) → ((n : ℕ) → a ≤ n → n < a + m → (e : ℕ × ℕ) → f n ≡ Some e → is_listed e ≡ true) → list_all is_listed (filter_map f (range_with_len a m)) ≡ true
+all_listed f a zero h = refl
+all_listed f a (suc m) h =
+    elim (f a) as (λ o. f a ≡ o → list_all is_listed (cons_option o (filter_map f (range_with_len (a + 1) m))) ≡ true) [
+      | None ↦ λ is. all_listed f (a + 1) m (λ n l u e at. h n (omega arith) (omega arith) e at)
+      | Some e ↦ λ is. (λ i. h a (omega arith) (omega arith) e is i && all_listed f (a + 1) m (λ n l u e at. h n (omega arith) (omega arith) e at) i)
+    ] refl
+
+abbrev second_of : Option (ℕ × ℕ) → ℕ
+second_of None = 0
+second_of (Some e) = e.1
+
+same_word : (address word : ℕ) (e : ℕ × ℕ) → ◌≡◌ {A = Option (ℕ × ℕ)} (Some (address, word)) (Some e) → word ≡ e.1
+same_word address word e h = ap (λ (o : Option (ℕ × ℕ)). second_of o) h
+
+code_if : (b : Bool) (address word : ℕ) (e : ℕ × ℕ) → cond b (Some (address, word)) None ≡ Some e → (b ≡ true) × (word ≡ e.1)
+code_if true address word e h = (refl, same_word address word e h)
+code_if false address word e h = cc
+
+module _ (texts : List (List ℕ)) (accepted : lines_fault 1 first_place [] texts ≡ None) (object : Object) (is : IsObjectOf (said_lines texts) object) where
+  code_listed : (n : ℕ) → 4 * n < length object.text_bytes.items → is_text_code (mappings_of object.symbols.items) (TEXT_ADDRESS + 4 * n) ≡ true → is_some (instruction_of (text_word object.text_bytes.items (4 * n))) ≡ true
+  unfolding is_text_code
+  code_listed n l code =
+      let lines = said_lines texts in
+      let inside : 4 * n < (place_past first_place lines).text_size = subst (λ m. 4 * n < m) is.text_size l in
+      let t = told lines first_place None None (4 * n) refl (omega arith) inside in
+      let p = place_past first_place (take t.put.k lines) in
+      let marks = mappings_said object.symbols.items ∙ ap (filter_map _) is.symbols ∙ marks_said (text_length_of lines) first_place None lines in
+      let instruction : is_instruction t.put.line.says ≡ true = sym t.kind ∙ sym (ap (λ ms. mapping_says_code (governing_mapping (TEXT_ADDRESS + 4 * n) None ms)) marks) ∙ code in
+      let puts : Puts (text_length_of lines) (labels_of lines) object.text_bytes.items p t.put.line.says =
+      subst (λ (part : Section). Puts (text_length_of lines) (labels_of lines) (part_bytes object part) p t.put.line.says) t.put.in_text (is.puts t.put.k t.put.line t.put.listed) in
+      put_word (text_length_of lines) (labels_of lines) object.text_bytes.items t.put.line.says p n instruction t.put.in_text t.put.from t.put.to (aligned_at texts 1 first_place [] accepted t.put.k t.put.line t.put.listed) puts
+
+  -- each code word means an instruction
+  pub object_listed : list_all is_listed (object_code object) ≡ true
+  unfolding object_code object_word
+  object_listed = all_listed (object_word object) 0 (length object.text_bytes.items / 4) (λ n l u e at.
+      let c = code_if (is_text_code (mappings_of object.symbols.items) (TEXT_ADDRESS + 4 * n)) (TEXT_ADDRESS + 4 * n) (text_word object.text_bytes.items (4 * n)) e at in
+      ap (λ w. is_some (instruction_of w)) (sym c.1) ∙ code_listed n (omega arith) c.0)

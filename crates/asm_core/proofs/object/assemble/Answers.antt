@@ -1,0 +1,52 @@
+use Rattle.std.proofs.Common.{◌≡◌, ℕ, true, false, nat_lt, length, List, Some, None, sym, ap, ◌∙◌, subst, arith}
+use Rattle.std.proofs.lemmas.Bool.Decides.{nat_tests}
+use Rattle.std.specs.Str.Lossy.{utf8_valid_len}
+use Rattle.asm_core.specs.declared.fault.AsmFault.TheVariants.{NotText}
+use Rattle.asm_core.specs.declared.place.Place.{Place}
+use Rattle.asm_core.specs.Source.{lines_of, said_lines}
+use Rattle.asm_core.specs.Layout.{first_place, place_past, labels_of}
+use Rattle.asm_core.specs.Faults.{start_of, text_length_of}
+use Rattle.asm_core.proofs.Chain.{long_source, no_text, line_fault_is, target_fault_is, no_start_is, no_fault_is, assembled}
+use Rattle.asm_core.proofs.Sounds.{sound_object}
+use Rattle.asm_core.proofs.object.assemble.Goals as goal
+
+pub returns-then-source-gt-SOURCE_LIMIT-clause-fault : goal.returns-then-source-gt-SOURCE_LIMIT-clause-fault
+returns-then-source-gt-SOURCE_LIMIT-clause-fault c = λ other.
+    let long : nat_lt 67108864 (length c.args.source.now) ≡ true = grind (arith, nat_tests) in
+    long_source c.args.source.now long
+
+pub returns-in-Some-clause-fault : goal.returns-in-Some-clause-fault
+returns-in-Some-clause-fault c = λ other.
+    let short : nat_lt 67108864 (length c.args.source.now) ≡ false = grind (arith, nat_tests) in
+    no_text c.args.source.now short c.in-Some.ensures.0 ∙ ap (λ n. Some (NotText n)) (sym c.in-Some.ensures.1)
+
+pub returns-in-Err-clause-fault : goal.returns-in-Err-clause-fault
+returns-in-Err-clause-fault c = λ other.
+    let short : nat_lt 67108864 (length c.args.source.now) ≡ false = grind (arith, nat_tests) in
+    line_fault_is c.args.source.now short c.in_default.ensures c.in-Err.fault (c.in-Err.ensures.err other)
+
+pub returns-in-Err-emit-clause-fault : goal.returns-in-Err-emit-clause-fault
+returns-in-Err-emit-clause-fault c = λ other.
+    let short : nat_lt 67108864 (length c.args.source.now) ≡ false = grind (arith, nat_tests) in
+    target_fault_is c.args.source.now short c.in_default.ensures c.in-Ok.ensures.accepted c.in-Err-emit.fault (c.in-Err-emit.ensures.err other)
+
+pub returns-in-Some-start_of-clause-assembles : goal.returns-in-Some-start_of-clause-assembles
+returns-in-Some-start_of-clause-assembles c =
+    let source = c.args.source.now in
+    let lines = said_lines (lines_of source) in
+    let short : nat_lt 67108864 (length source) ≡ false = grind (arith, nat_tests) in
+    let size : c.in-Ok.survey.end.text_size ≡ text_length_of lines = ap (λ (p : Place). p.text_size) c.in-Ok.ensures.end in
+    let starts : start_of (text_length_of lines) (labels_of lines) ≡ Some c.in-Some-start_of.entry = ap (λ n. start_of n (labels_of lines)) (sym size) ∙ sym (c.in-Some-start_of.ensures (labels_of lines) c.in-Ok.ensures.knows) in
+    assembled source c.in-Ok-emit.parts c.in-Some-start_of.entry (no_fault_is source short c.in_default.ensures c.in-Ok.ensures.accepted c.in-Some-start_of.entry c.in-Ok-emit.ensures.ok starts) c.in-Ok-emit.ensures.parts starts
+
+pub returns-in-Some-start_of-clause-sound : goal.returns-in-Some-start_of-clause-sound
+returns-in-Some-start_of-clause-sound c =
+    sound_object c.args.source.now _ c.in-Ok.survey.end c.in-Ok.ensures.accepted (returns-in-Some-start_of-clause-assembles c) c.in-Ok.ensures.end c.in-Ok.ensures.limits
+
+pub returns-clause-fault : goal.returns-clause-fault
+returns-clause-fault c = λ other.
+    let source = c.args.source.now in
+    let lines = said_lines (lines_of source) in
+    let short : nat_lt 67108864 (length source) ≡ false = grind (arith, nat_tests) in
+    let size : c.in-Ok.survey.end.text_size ≡ text_length_of lines = ap (λ (p : Place). p.text_size) c.in-Ok.ensures.end in
+    no_start_is source short c.in_default.ensures c.in-Ok.ensures.accepted c.in-Ok-emit.ensures.ok (ap (λ n. start_of n (labels_of lines)) (sym size) ∙ sym (c.in-None.ensures (labels_of lines) c.in-Ok.ensures.knows))

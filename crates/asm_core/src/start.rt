@@ -1,0 +1,34 @@
+//! Where a program starts.
+ghost use Rattle.std.specs.Prelude.{◌≡◌, ◌≤◌, List};
+ghost use Rattle.asm_core.specs.Layout as layout;
+ghost use Rattle.asm_core.specs.Faults.{start_in, start_of};
+ghost use Rattle.asm_core.specs.Known.{Knows};
+
+use crate::labels::{LabelPlace, Labels};
+use sm_types::{Section, TEXT_ADDRESS};
+
+/// The address of a label in a text of so many bytes, where a program can start there.
+fn start_in(text_size: u64, label: LabelPlace) -> Option<u64>
+    requires { text_size ≤ 4194304 }
+    ensures { result ≡ start_in text_size label.part label.offset }
+{
+    match label.part {
+        Section::Text => {
+            if label.offset % 4 == 0 && label.offset < text_size {
+                Some(TEXT_ADDRESS + label.offset)
+            } else {
+                None
+            }
+        }
+        Section::Data => None,
+    }
+}
+
+/// The address of the label `_start`, where a program can start there.
+#[tactic(auto, unfolding(crate::specs::Faults::start_of))]
+pub fn start_of(text_size: u64, labels: &Labels<'_>) -> Option<u64>
+    requires { text_size ≤ 4194304 }
+    ensures { (list : List layout.Label) → Knows labels.now list → result ≡ start_of text_size list }
+{
+    start_in(text_size, labels.find(b"_start")?)
+}

@@ -1,0 +1,491 @@
+-- A shape goes on after as many tokens as it takes: the operands that are left have tokens that it takes.
+use Rattle.std.proofs.Common.{◌≡◌, ℕ, zero, suc, ◌+◌, ◌-◌, ◌*◌, ◌/◌, ◌%◌, ◌^◌, ◌<◌, ◌≤◌, ◌==◌, ◌&&◌, ◌||◌, not, Bool, true, false, nat_lt, nat_le, bit_and, List, [], ◌∷◌, ◌++◌, length, take, drop, Option, Some, None, cond, min, max, refl, sym, ap, ap₂, ◌∙◌, arith, inl, inr, eqb-true, eq-eqb, ltb-true, lt-ltb, leb-true, le-leb, mod-eq_of_lt, lit<}
+use Rattle.std.specs.Prelude.{bit_or, bit_xor, slice_index, option_map, option_and_then}
+use Rattle.std.specs.Int.{bit_at}
+use Rattle.std.specs.List.{list_all}
+use Rattle.std.proofs.lemmas.Bool.{and_parts, cases_lt, cond_both}
+use Rattle.std.proofs.lemmas.Nat.{and_assoc, and_comm, and_or_self, and_or_apart, or_comm, or_disjoint, mod_below, pow_pos, shl-shr}
+use Rattle.std.proofs.Math.Nat.{zero-mod, zero-div}
+use Rattle.std.proofs.lemmas.Nat.Bits.{bit_at_and, bit_at_or, bit_at-zero, same_from_bits}
+use borrow.Author.Tests.{ne_eqb}
+use Rattle.a64_table.specs.Conditions.{length_bits, is_highest_one, has_fewer_ones, is_mask_of, is_mask}
+use Rattle.a64_table.specs.Fields.{field_of}
+use Rattle.bit_ops.specs.Bits.{number_of_digits}
+use Rattle.bit_ops.specs.Masks.{highest_one, length_of, is_reserved, bit_mask_of, mask_of as mask_of_fields}
+use Rattle.insn_text.specs.declared.item.Kind.{Kind}
+use Rattle.insn_text.specs.declared.item.Kind.TheVariants as kind
+use Rattle.insn_text.specs.declared.item.Rule.{Rule}
+use Rattle.insn_text.specs.declared.item.Rule.TheVariants.{Free, SecondApart, BaseApart, BasePairApart}
+use Rattle.insn_text.specs.declared.item.Item.{Item}
+use Rattle.insn_text.specs.declared.item.Shape.{Shape}
+use Rattle.insn_text.specs.declared.words.TheConstants.{NAMES}
+use Rattle.insn_text.specs.declared.shapes.TheConstants.{SHAPES, STARTS}
+use Rattle.insn_text.specs.Texts.{bits_of, items_of, mask_in}
+use Rattle.insn_text.specs.Rules.{meets, is_base_apart}
+use Rattle.asm_tokens.specs.declared.token.Token.{Token}
+use Rattle.asm_tokens.specs.declared.token.Token.TheVariants.{Word, Name, Number, Mark}
+use Rattle.asm_operands.specs.Fields.{is_field_of, on_mark, on_word, on_number, on_target, word_field, register_field, unsigned_field, signed_field, mask_field, immediate_of, shift_left_field, is_halfword_at, halfword_field, inverted_if, field_said}
+use Rattle.asm_operands.specs.Operands.{Known, mask_of, placed, with_field, agrees, known_with, known_after, taken_on, taken, reach_on, reach, fixed, word_in, reach_in, shapes_of, first_of_words, first_word, furthest}
+use Rattle.asm_operands.proofs.MaskFields.{all_below, all_below-at, mask_field-is}
+use Rattle.asm_operands.proofs.Tables.{all-take, all-drop}
+use Rattle.asm_operands.proofs.WordBits.{field_masked, upper_mask, lower_mask}
+
+-- ---- a token that each kind takes
+pub record IsSaid (k : Kind) (bits : ℕ) : Type 0 where
+  pub token : Token
+  pub field : ℕ
+  pub said : field_said k bits token ≡ Some field
+
+unfoldable pub has_word : Kind → Bool
+has_word (kind.Mark c) = true
+has_word (kind.Named first count) = nat_lt 0 count
+has_word (kind.Register first last) = true
+has_word (kind.Unsigned base scale most) = true
+has_word (kind.Signed scale) = true
+has_word (kind.Distance scale) = true
+has_word (kind.Mask wide) = true
+has_word (kind.SignedMask wide) = true
+has_word (kind.ShiftLeft wide) = true
+has_word (kind.Opposite first count) = nat_lt 0 count
+has_word (kind.Halfword wide inverted) = true
+
+word_first : (first count : ℕ) → nat_lt 0 count ≡ true → word_field first count first ≡ Some 0
+unfolding word_field
+word_first first count e =
+    let h = ltb-true 0 count e in
+    let le : first ≤ first = omega arith in
+    let lt : first < first + count = omega arith in
+    let z : first - first ≡ 0 = omega arith in
+    ap₂ (λ a b. cond (a && b) (Some (first - first)) None) (le-leb first first le) (lt-ltb first (first + count) lt) ∙ ap Some z
+
+unsigned_first : (base scale most : ℕ) → unsigned_field base scale most false base ≡ Some 0
+unfolding unsigned_field
+unsigned_first base scale most =
+    let le : base ≤ base = omega arith in
+    let z : base - base ≡ 0 = omega arith in
+    let lowest : 0 ≤ most = omega arith in
+    ap₂ (λ b n. cond (b && (n % scale == 0) && nat_le (n / scale) most) (Some (n / scale)) None) (le-leb base base le) z
+    ∙ ap₂ (λ r q. cond (true && (r == 0) && nat_le q most) (Some q) None) (zero-mod scale) (zero-div scale)
+    ∙ ap (λ b. cond b (Some 0) None) (le-leb 0 most lowest)
+
+signed_first : (bits scale : ℕ) → signed_field bits scale false 0 ≡ Some 0
+unfolding signed_field
+signed_first bits scale =
+    ap₂ (λ r q. cond (not (r == 0)) None (cond (nat_lt q (2 ^ (bits - 1))) (Some q) None)) (zero-mod scale) (zero-div scale)
+    ∙ ap (λ b. cond b (Some 0) None) (lt-ltb 0 (2 ^ (bits - 1)) (pow_pos (bits - 1)))
+
+-- the mask of fields that are zero
+zero_mask : Bool → ℕ
+zero_mask true = 4294967297
+zero_mask false = 1
+
+zero_fields : (wide : Bool) → is_field_of wide (zero_mask wide) 0 ≡ true
+unfolding zero_mask is_field_of mask_in is_mask length_bits is_highest_one has_fewer_ones is_mask_of field_of bit_mask_of is_reserved mask_of_fields highest_one length_of number_of_digits
+zero_fields true = refl
+zero_fields false = refl
+
+mask_first : (wide : Bool) → mask_field wide (zero_mask wide) ≡ Some 0
+mask_first wide = mask_field-is wide (zero_mask wide) 0 (lit< tt) (zero_fields wide)
+
+immediate_first : (wide : Bool) → immediate_of wide false (zero_mask wide) ≡ Some (zero_mask wide)
+unfolding immediate_of zero_mask
+immediate_first true = refl
+immediate_first false = refl
+
+no_shift : Bool → ℕ
+no_shift true = 63
+no_shift false = 31
+
+shift_first : (wide : Bool) → shift_left_field wide false 0 ≡ Some (no_shift wide)
+unfolding shift_left_field no_shift
+shift_first true = refl
+shift_first false = refl
+
+-- the number whose bits, or whose inverted bits, are all zero
+no_bits_size : Bool → ℕ
+no_bits_size inverted = cond inverted 1 0
+
+halfword_first : (wide inverted : Bool) → option_and_then (λ number. halfword_field wide (inverted_if wide inverted number)) (immediate_of wide inverted (no_bits_size inverted)) ≡ Some 0
+unfolding no_bits_size halfword_field is_halfword_at inverted_if immediate_of
+halfword_first true true = refl
+halfword_first true false = refl
+halfword_first false true = refl
+halfword_first false false = refl
+
+said : (k : Kind) (bits : ℕ) → has_word k ≡ true → IsSaid k bits
+unfolding has_word field_said on_mark on_word on_number on_target register_field
+said (kind.Mark c) bits e = record { token = Mark c; field = 0; said = ap (λ b. cond b (Some 0) None) (eq-eqb c c refl) }
+said (kind.Named first count) bits e = record { token = Word first; field = 0; said = word_first first count e }
+said (kind.Register first last) bits e = record { token = Word last; field = 31; said = ap (λ b. cond b (Some 31) (word_field first 31 last)) (eq-eqb last last refl) }
+said (kind.Unsigned base scale most) bits e = record { token = Number false base; field = 0; said = unsigned_first base scale most }
+said (kind.Signed scale) bits e = record { token = Number false 0; field = 0; said = signed_first bits scale }
+said (kind.Distance scale) bits e = record { token = Name; field = 0; said = refl }
+said (kind.Mask wide) bits e = record { token = Number false (zero_mask wide); field = 0; said = mask_first wide }
+said (kind.SignedMask wide) bits e = record { token = Number false (zero_mask wide); field = 0; said = ap (option_and_then (mask_field wide)) (immediate_first wide) ∙ mask_first wide }
+said (kind.ShiftLeft wide) bits e = record { token = Number false 0; field = no_shift wide; said = shift_first wide }
+said (kind.Opposite first count) bits e = record { token = Word first; field = 1; said = ap (option_map (λ field. bit_xor field 1)) (word_first first count e) }
+said (kind.Halfword wide inverted) bits e = record { token = Number inverted (no_bits_size inverted); field = 0; said = halfword_first wide inverted }
+
+-- ---- bits
+nothing_and : (v : ℕ) → bit_and v 0 ≡ 0
+nothing_and v = and_comm v 0
+
+outside : (v mask own : ℕ) → bit_and v mask ≡ v → bit_and mask own ≡ 0 → bit_and v own ≡ 0
+outside v mask own within apart =
+    ap (λ n. bit_and n own) (sym within) ∙ and_assoc own v mask ∙ ap (bit_and v) apart ∙ nothing_and v
+
+min_max : (a b c d : ℕ) → min a b ≡ a → min c d ≡ c → min (max a c) (max b d) ≡ max a c
+min_max a b c d p q = omega arith
+
+within_both : (a b c d : ℕ) → bit_and a b ≡ a → bit_and c d ≡ c → bit_and (bit_or a c) (bit_or b d) ≡ bit_or a c
+within_both a b c d p q = same_from_bits _ _ (λ k.
+    bit_at_and (bit_or a c) (bit_or b d) k ∙ ap₂ min (bit_at_or a c k) (bit_at_or b d k)
+    ∙ min_max (bit_at a k) (bit_at b k) (bit_at c k) (bit_at d k) (sym (bit_at_and a b k) ∙ ap (λ n. bit_at n k) p) (sym (bit_at_and c d k) ∙ ap (λ n. bit_at n k) q)
+    ∙ sym (bit_at_or a c k))
+
+min_less : (a b c d : ℕ) → min a b ≡ a → min c d ≡ c → min b d ≡ 0 → min a c ≡ 0
+min_less a b c d p q r = omega arith
+
+apart_both : (a b c d : ℕ) → bit_and a b ≡ a → bit_and c d ≡ c → bit_and b d ≡ 0 → bit_and a c ≡ 0
+apart_both a b c d p q r = same_from_bits _ _ (λ k.
+    bit_at_and a c k
+    ∙ min_less (bit_at a k) (bit_at b k) (bit_at c k) (bit_at d k) (sym (bit_at_and a b k) ∙ ap (λ n. bit_at n k) p) (sym (bit_at_and c d k) ∙ ap (λ n. bit_at n k) q)
+    (sym (bit_at_and b d k) ∙ ap (λ n. bit_at n k) r ∙ bit_at-zero k)
+    ∙ sym (bit_at-zero k))
+
+part_within : (x n k : ℕ) → bit_and (x % 2 ^ n * 2 ^ k) ((2 ^ n - 1) * 2 ^ k) ≡ x % 2 ^ n * 2 ^ k
+part_within x n k =
+    sym (field_masked (x % 2 ^ n * 2 ^ k) n k)
+    ∙ ap (λ m. m % 2 ^ n * 2 ^ k) (shl-shr (x % 2 ^ n) k)
+    ∙ ap (λ m. m * 2 ^ k) (mod-eq_of_lt (mod_below x (2 ^ n) (pow_pos n)))
+
+placed_within : (i : Item) (f : ℕ) → bit_and (upper_mask i) (lower_mask i) ≡ 0 → bit_and (placed i f) (mask_of i) ≡ placed i f
+unfolding placed mask_of
+placed_within i f apart =
+    let a = f / 2 ^ i.width % 2 ^ i.upper_width * 2 ^ i.upper_low in
+    let b = f % 2 ^ i.width * 2 ^ i.low in
+    let p = part_within (f / 2 ^ i.width) i.upper_width i.upper_low in
+    let q = part_within f i.width i.low in
+    let sum = or_disjoint a b (apart_both a (upper_mask i) b (lower_mask i) p q apart) in
+    ap₂ bit_and (sym sum) (sym (or_disjoint (upper_mask i) (lower_mask i) apart)) ∙ within_both a (upper_mask i) b (lower_mask i) p q ∙ sum
+
+-- ---- registers
+unfoldable pub is_register : Kind → Bool
+is_register (kind.Mark c) = false
+is_register (kind.Named first count) = false
+is_register (kind.Register first last) = nat_le (first + 31) last
+is_register (kind.Unsigned base scale most) = false
+is_register (kind.Signed scale) = false
+is_register (kind.Distance scale) = false
+is_register (kind.Mask wide) = false
+is_register (kind.SignedMask wide) = false
+is_register (kind.ShiftLeft wide) = false
+is_register (kind.Opposite first count) = false
+is_register (kind.Halfword wide inverted) = false
+
+record SaysNumber (k : Kind) (bits number : ℕ) : Type 0 where
+  token : Token
+  said : field_said k bits token ≡ Some number
+
+low_number : (first last number : ℕ) → first + 31 ≤ last → number < 31 → register_field first last (first + number) ≡ Some number
+unfolding register_field word_field
+low_number first last number le lt =
+    let other : (first + number ≡ last) → ⊥ = λ e. omega arith in
+    let low : first ≤ first + number = omega arith in
+    let high : first + number < first + 31 = omega arith in
+    let back : first + number - first ≡ number = omega arith in
+    ap (λ b. cond b (Some 31) (cond (nat_le first (first + number) && nat_lt (first + number) (first + 31)) (Some (first + number - first)) None)) (ne_eqb (first + number) last other)
+    ∙ ap₂ (λ a b. cond (a && b) (Some (first + number - first)) None) (le-leb first (first + number) low) (lt-ltb (first + number) (first + 31) high) ∙ ap Some back
+
+says_number : (k : Kind) (bits number : ℕ) → is_register k ≡ true → number < 31 → SaysNumber k bits number
+unfolding is_register field_said on_word
+says_number (kind.Mark c) bits number e lt = cc
+says_number (kind.Named first count) bits number e lt = cc
+says_number (kind.Register first last) bits number e lt = record { token = Word (first + number); said = low_number first last number (leb-true (first + 31) last e) lt }
+says_number (kind.Unsigned base scale most) bits number e lt = cc
+says_number (kind.Signed scale) bits number e lt = cc
+says_number (kind.Distance scale) bits number e lt = cc
+says_number (kind.Mask wide) bits number e lt = cc
+says_number (kind.SignedMask wide) bits number e lt = cc
+says_number (kind.ShiftLeft wide) bits number e lt = cc
+says_number (kind.Opposite first count) bits number e lt = cc
+says_number (kind.Halfword wide inverted) bits number e lt = cc
+
+says_last : (k : Kind) (bits : ℕ) → is_register k ≡ true → SaysNumber k bits 31
+unfolding is_register field_said on_word register_field
+says_last (kind.Mark c) bits e = cc
+says_last (kind.Named first count) bits e = cc
+says_last (kind.Register first last) bits e = record { token = Word last; said = ap (λ b. cond b (Some 31) (word_field first 31 last)) (eq-eqb last last refl) }
+says_last (kind.Unsigned base scale most) bits e = cc
+says_last (kind.Signed scale) bits e = cc
+says_last (kind.Distance scale) bits e = cc
+says_last (kind.Mask wide) bits e = cc
+says_last (kind.SignedMask wide) bits e = cc
+says_last (kind.ShiftLeft wide) bits e = cc
+says_last (kind.Opposite first count) bits e = cc
+says_last (kind.Halfword wide inverted) bits e = cc
+
+-- a register of five bits from a place on
+unfoldable pub is_register_at : ℕ → Item → Bool
+is_register_at low i = is_register i.kind && (i.low == low) && (i.width == 5) && (i.upper_width == 0)
+
+record IsRegisterAt (low : ℕ) (i : Item) : Type 0 where
+  register : is_register i.kind ≡ true
+  begins : i.low ≡ low
+  five : i.width ≡ 5
+  alone : i.upper_width ≡ 0
+
+register_at : (low : ℕ) (i : Item) → is_register_at low i ≡ true → IsRegisterAt low i
+unfolding is_register_at
+register_at low i e =
+    let p = and_parts (is_register i.kind && (i.low == low) && (i.width == 5)) (i.upper_width == 0) e in
+    let q = and_parts (is_register i.kind && (i.low == low)) (i.width == 5) p.0 in
+    let r = and_parts (is_register i.kind) (i.low == low) q.0 in
+    record { register = r.0; begins = eqb-true _ _ r.1; five = eqb-true _ _ q.1; alone = eqb-true _ _ p.1 }
+
+placed_number : (low : ℕ) (i : Item) (f : ℕ) → IsRegisterAt low i → f < 32 → placed i f ≡ f * 2 ^ low
+unfolding placed
+placed_number low i f r lt =
+    let z : f / 2 ^ 5 % 2 ^ 0 ≡ 0 = omega arith in
+    ap₂ (λ w u. f / 2 ^ w % 2 ^ u * 2 ^ i.upper_low + f % 2 ^ w * 2 ^ i.low) r.five r.alone
+    ∙ ap₂ (λ n l. n * 2 ^ i.upper_low + f % 2 ^ 5 * 2 ^ l) z r.begins
+    ∙ ap (λ n. 0 * 2 ^ i.upper_low + n * 2 ^ low) (mod-eq_of_lt lt)
+    ∙ omega arith
+
+mask_number : (low : ℕ) (i : Item) → IsRegisterAt low i → mask_of i ≡ 31 * 2 ^ low
+unfolding mask_of
+mask_number low i r =
+    ap₂ (λ w u. (2 ^ u - 1) * 2 ^ i.upper_low + (2 ^ w - 1) * 2 ^ i.low) r.five r.alone
+    ∙ ap (λ l. 0 * 2 ^ i.upper_low + 31 * 2 ^ l) r.begins
+    ∙ omega arith
+
+-- ---- an operand's token that agrees with what is known, and meets the rule
+record IsChosen (i : Item) (rule : Rule) (value : ℕ) : Type 0 where
+  token : Token
+  field : ℕ
+  said : field_said i.kind (bits_of i) token ≡ Some field
+  meets_rule : meets rule (bit_or value (placed i field)) ≡ true
+
+-- the number of a register of a word with some more bits
+register_is : (low value bits number : ℕ) → bit_and (bit_or value bits) ((2 ^ 5 - 1) * 2 ^ low) ≡ number * 2 ^ low → field_of (bit_or value bits) low 5 ≡ number
+unfolding field_of
+register_is low value bits number e =
+    sym (shl-shr (bit_or value bits / 2 ^ low % 2 ^ 5) low) ∙ ap (λ n. n / 2 ^ low) (field_masked (bit_or value bits) 5 low ∙ e) ∙ shl-shr number low
+
+base_is : (value : ℕ) → field_of (bit_or value (31 * 2 ^ 5)) 5 5 ≡ 31
+base_is value = register_is 5 value (31 * 2 ^ 5) 31 (and_or_self (31 * 2 ^ 5) value)
+
+base_apart : (i : Item) (value number : ℕ) → IsRegisterAt 5 i → is_base_apart (bit_or value (placed i 31)) number ≡ true
+base_apart i value number r =
+    let at : field_of (bit_or value (placed i 31)) 5 5 ≡ 31 = ap (λ p. field_of (bit_or value p) 5 5) (placed_number 5 i 31 r (lit< tt)) ∙ base_is value in
+    ap (λ n. (n == 31) || not (n == number)) at
+
+-- another number than the first register's
+other_number : ℕ → ℕ
+other_number number = cond (number == 0) 1 0
+
+other_small : (number : ℕ) → other_number number < 31
+unfolding other_number
+other_small number = cond_both (number == 0) 1 0 (λ n. n < 31) (λ _. lit< tt) (λ _. lit< tt)
+
+other_is : (number : ℕ) → (number == other_number number) ≡ false
+unfolding other_number
+other_is number = other_by (number == 0) refl
+  where
+    other_by : (b : Bool) → (number == 0) ≡ b → (number == cond b 1 0) ≡ false
+    other_by true e = ap (λ n. n == 1) (eqb-true number 0 e)
+    other_by false e = e
+
+other_kept : (number value : ℕ) → field_of (bit_or value (other_number number * 2 ^ 10)) 0 5 ≡ field_of value 0 5
+unfolding field_of other_number
+other_kept number value =
+    let p = cond (number == 0) 1 0 * 2 ^ 10 in
+    let none_low : bit_and p ((2 ^ 5 - 1) * 2 ^ 0) ≡ 0 = cond_both (number == 0) 1 0 (λ n. bit_and (n * 2 ^ 10) 31 ≡ 0) (λ _. refl) (λ _. refl) in
+    let same : bit_and (bit_or value p) ((2 ^ 5 - 1) * 2 ^ 0) ≡ bit_and value ((2 ^ 5 - 1) * 2 ^ 0) = and_or_apart ((2 ^ 5 - 1) * 2 ^ 0) value p none_low in
+    sym (shl-shr (bit_or value p / 2 ^ 0 % 2 ^ 5) 0) ∙ ap (λ n. n / 2 ^ 0) (field_masked (bit_or value p) 5 0 ∙ same ∙ sym (field_masked value 5 0)) ∙ shl-shr (value / 2 ^ 0 % 2 ^ 5) 0
+
+other_there : (number value : ℕ) → bit_and value (31 * 2 ^ 10) ≡ 0 → field_of (bit_or value (other_number number * 2 ^ 10)) 10 5 ≡ other_number number
+unfolding other_number
+other_there number value free =
+    let p = cond (number == 0) 1 0 * 2 ^ 10 in
+    let kept : bit_and p (31 * 2 ^ 10) ≡ p = cond_both (number == 0) 1 0 (λ n. bit_and (n * 2 ^ 10) (31 * 2 ^ 10) ≡ n * 2 ^ 10) (λ _. refl) (λ _. refl) in
+    register_is 10 value p (cond (number == 0) 1 0) (ap (λ n. bit_and n (31 * 2 ^ 10)) (or_comm value p) ∙ and_or_apart (31 * 2 ^ 10) p value free ∙ kept)
+
+second_apart : (i : Item) (value : ℕ) → IsRegisterAt 10 i → bit_and value (mask_of i) ≡ 0 → meets SecondApart (bit_or value (placed i (other_number (field_of value 0 5)))) ≡ true
+unfolding meets
+second_apart i value r free =
+    let number = field_of value 0 5 in
+    let small = other_small number in
+    let bits = placed_number 10 i (other_number number) r (omega arith) in
+    let none_there : bit_and value (31 * 2 ^ 10) ≡ 0 = ap (bit_and value) (sym (mask_number 10 i r)) ∙ free in
+    ap (λ p. not (field_of (bit_or value p) 0 5 == field_of (bit_or value p) 10 5)) bits
+    ∙ ap₂ (λ a b. not (a == b)) (other_kept number value) (other_there number value none_there)
+    ∙ ap not (other_is number)
+
+unfoldable pub has_choice : Rule → Item → Bool
+has_choice Free i = has_word i.kind
+has_choice SecondApart i = is_register_at 10 i
+has_choice BaseApart i = is_register_at 5 i
+has_choice BasePairApart i = is_register_at 5 i
+
+both_true : (a b : Bool) → a ≡ true → b ≡ true → (a && b) ≡ true
+both_true a b p q = ap₂ (λ x y. x && y) p q
+
+choose : (rule : Rule) (i : Item) (value : ℕ) → has_choice rule i ≡ true → bit_and value (mask_of i) ≡ 0 → IsChosen i rule value
+unfolding has_choice meets
+choose Free i value e free = let s = said i.kind (bits_of i) e in record { token = s.token; field = s.field; said = s.said; meets_rule = refl }
+choose SecondApart i value e free =
+    let r = register_at 10 i e in
+    let s = says_number i.kind (bits_of i) (other_number (field_of value 0 5)) r.register (other_small (field_of value 0 5)) in
+    record { token = s.token; field = other_number (field_of value 0 5); said = s.said; meets_rule = second_apart i value r free }
+choose BaseApart i value e free =
+    let r = register_at 5 i e in
+    let s = says_last i.kind (bits_of i) r.register in
+    record { token = s.token; field = 31; said = s.said; meets_rule = base_apart i value (field_of (bit_or value (placed i 31)) 0 5) r }
+choose BasePairApart i value e free =
+    let r = register_at 5 i e in
+    let s = says_last i.kind (bits_of i) r.register in
+    record {
+      token = s.token;
+      field = 31;
+      said = s.said;
+      meets_rule = both_true _ _ (base_apart i value (field_of (bit_or value (placed i 31)) 0 5) r) (base_apart i value (field_of (bit_or value (placed i 31)) 10 5) r);
+    }
+
+-- ---- the operands of a shape
+-- the field's bits are not known yet, nor twice its own, and there is a token
+unfoldable pub is_next : Item → ℕ → Bool
+is_next i mask = (bit_and mask (mask_of i) == 0) && (bit_and (upper_mask i) (lower_mask i) == 0) && has_choice i.rule i
+
+unfoldable pub goes_through : List Item → ℕ → Bool
+goes_through [] mask = true
+goes_through (i ∷ is) mask = is_next i mask && goes_through is (bit_or mask (mask_of i))
+
+record IsNext (i : Item) (mask : ℕ) : Type 0 where
+  unknown : bit_and mask (mask_of i) ≡ 0
+  parts_apart : bit_and (upper_mask i) (lower_mask i) ≡ 0
+  choice : has_choice i.rule i ≡ true
+
+next_item : (i : Item) (mask : ℕ) → is_next i mask ≡ true → IsNext i mask
+unfolding is_next
+next_item i mask e =
+    let p = and_parts ((bit_and mask (mask_of i) == 0) && (bit_and (upper_mask i) (lower_mask i) == 0)) (has_choice i.rule i) e in
+    let q = and_parts (bit_and mask (mask_of i) == 0) (bit_and (upper_mask i) (lower_mask i) == 0) p.0 in
+    record { unknown = eqb-true _ _ q.0; parts_apart = eqb-true _ _ q.1; choice = p.1 }
+
+-- the values of no bits but the known ones
+IsWithin : Known → Type 0
+IsWithin known = bit_and known.value known.mask ≡ known.value
+
+with_within : (i : Item) (known : Known) (field : ℕ) → IsNext i known.mask → IsWithin known → IsWithin (with_field i known field)
+unfolding IsWithin with_field
+with_within i known field n w = within_both known.value known.mask (placed i field) (mask_of i) w (placed_within i field n.parts_apart)
+
+chosen_after : (i : Item) (known : Known) → IsNext i known.mask → IsWithin known → (c : IsChosen i i.rule known.value) → known_after i known c.token ≡ Some (with_field i known c.field)
+unfolding IsWithin known_after known_with agrees with_field
+chosen_after i known n w c =
+    let before : bit_and known.value (mask_of i) ≡ 0 = outside known.value known.mask (mask_of i) w n.unknown in
+    let own = placed_within i c.field n.parts_apart in
+    let here : bit_and (placed i c.field) known.mask ≡ 0 = outside (placed i c.field) (mask_of i) known.mask own (and_comm (mask_of i) known.mask ∙ n.unknown) in
+    ap (known_with i known) c.said
+    ∙ ap (λ b. cond b (Some (with_field i known c.field)) None) (both_true _ _ (ap₂ (λ a b. a == b) before here) c.meets_rule)
+
+record Ends (is : List Item) (known : Known) (before : List Token) : Type 0 where
+  rest : List Token
+  word : ℕ
+  taken_so : taken is known (before ++ rest) ≡ Some word
+
+next_mask : (i : Item) (known : Known) (field : ℕ) (is : List Item) → goes_through is (bit_or known.mask (mask_of i)) ≡ true → goes_through is (with_field i known field).mask ≡ true
+unfolding with_field
+next_mask i known field is g = g
+
+complete : (is : List Item) (known : Known) → goes_through is known.mask ≡ true → IsWithin known → Ends is known []
+unfolding goes_through taken IsWithin
+complete [] known g w = record { rest = []; word = known.value; taken_so = refl }
+complete (i ∷ is) known g w =
+    let p = and_parts (is_next i known.mask) (goes_through is (bit_or known.mask (mask_of i))) g in
+    let n = next_item i known.mask p.0 in
+    let c = choose i.rule i known.value n.choice (outside known.value known.mask (mask_of i) w n.unknown) in
+    let e = complete is (with_field i known c.field) (next_mask i known c.field is p.1) (with_within i known c.field n w) in
+    record { rest = c.token ∷ e.rest; word = e.word; taken_so = ap (taken_on (λ next. taken is next e.rest)) (chosen_after i known n w c) ∙ e.taken_so }
+
+-- as many tokens as the operands take, and then others
+go_if : (is : List Item) (next : Known) (ts : List Token) (n : ℕ) → (n ≤ reach is next ts → Ends is next (take n ts)) → (b : Bool) → suc n ≤ reach_on (λ k. reach is k ts) (cond b (Some next) None)
+    → (rest : List Token) × (word : ℕ) × (taken_on (λ k. taken is k (take n ts ++ rest)) (cond b (Some next) None) ≡ Some word)
+go_if is next ts n ih true h = let e = ih (omega arith) in (e.rest, e.word, e.taken_so)
+go_if is next ts n ih false h = absurd (omega arith)
+
+go_field : (i : Item) (is : List Item) (known : Known) (ts : List Token) (n : ℕ) → ((field : ℕ) → n ≤ reach is (with_field i known field) ts → Ends is (with_field i known field) (take n ts))
+    → (o : Option ℕ) → suc n ≤ reach_on (λ k. reach is k ts) (known_with i known o)
+    → (rest : List Token) × (word : ℕ) × (taken_on (λ k. taken is k (take n ts ++ rest)) (known_with i known o) ≡ Some word)
+unfolding known_with
+go_field i is known ts n ih None h = absurd (omega arith)
+go_field i is known ts n ih (Some field) h = go_if is (with_field i known field) ts n (ih field) (agrees i known field) h
+
+go : (is : List Item) (known : Known) (n : ℕ) (ts : List Token) → goes_through is known.mask ≡ true → IsWithin known → n ≤ reach is known ts → Ends is known (take n ts)
+unfolding reach taken known_after goes_through
+go is known zero ts g w h = complete is known g w
+go [] known (suc n) ts g w h = absurd (omega arith)
+go (i ∷ is) known (suc n) [] g w h = absurd (omega arith)
+go (i ∷ is) known (suc n) (t ∷ ts) g w h =
+    let p = and_parts (is_next i known.mask) (goes_through is (bit_or known.mask (mask_of i))) g in
+    let it = next_item i known.mask p.0 in
+    let e = go_field i is known ts n (λ field l. go is (with_field i known field) n ts (next_mask i known field is p.1) (with_within i known field it w) l) (field_said i.kind (bits_of i) t) h in
+    record { rest = e.0; word = e.1; taken_so = e.2 }
+
+-- ---- the shapes of a name
+-- the fixed bits are those of the mask, and the operands go through
+unfoldable pub is_open : Shape → Bool
+is_open s = (bit_and s.value s.mask == s.value) && goes_through (items_of s) s.mask
+
+all_open : list_all is_open SHAPES ≡ true
+unfolding items_of mask_of has_word is_register is_register_at has_choice is_next goes_through is_open
+all_open = refl
+
+open_of_name : (name : ℕ) → list_all is_open (shapes_of name) ≡ true
+unfolding shapes_of
+open_of_name name =
+    let first = slice_index STARTS name in
+    all-take is_open (slice_index STARTS (name + 1) - first) (drop first SHAPES) (all-drop is_open first SHAPES all_open)
+
+has_shape : ℕ → Bool
+has_shape name = nat_lt 0 (length (shapes_of name))
+
+all_have_shapes : all_below has_shape (length NAMES) ≡ true
+unfolding shapes_of all_below has_shape
+all_have_shapes = refl
+
+shape_goes : (s : Shape) (n : ℕ) (ts : List Token) → is_open s ≡ true → n ≤ reach_in s ts → (rest : List Token) × (word : ℕ) × (word_in s (take n ts ++ rest) ≡ Some word)
+unfolding is_open reach_in word_in fixed IsWithin
+shape_goes s n ts o h =
+    let p = and_parts (bit_and s.value s.mask == s.value) (goes_through (items_of s) s.mask) o in
+    let e = go (items_of s) (fixed s) n ts p.1 (eqb-true _ _ p.0) h in
+    (e.rest, e.word, e.taken_so)
+
+some_first : (a b : Option ℕ) (word : ℕ) → b ≡ Some word → (first : ℕ) × (first_of_words a b ≡ Some first)
+some_first None b word e = (word, e)
+some_first (Some first) b word e = (first, refl)
+
+furthest_some : (ss : List Shape) (ts : List Token) (n : ℕ) → 0 < n → n ≤ furthest ss ts → 0 < length ss
+unfolding furthest
+furthest_some [] ts n h le = absurd (omega arith)
+furthest_some (s ∷ ss) ts n h le = omega arith
+
+shapes_go : (ss : List Shape) (n : ℕ) (ts : List Token) → list_all is_open ss ≡ true → 0 < length ss → n ≤ furthest ss ts → (rest : List Token) × (word : ℕ) × (first_word ss (take n ts ++ rest) ≡ Some word)
+unfolding furthest first_word
+shapes_go [] n ts o some_shape h = absurd (omega arith)
+shapes_go (s ∷ ss) n ts o some_shape h =
+    let p = and_parts (is_open s) (list_all is_open ss) o in
+    elim (cases_lt (reach_in s ts) n) [
+      | inr here ↦ let e = shape_goes s n ts p.0 here in (e.0, e.1, ap (λ a. first_of_words a (first_word ss (take n ts ++ e.0))) e.2)
+      | inl later ↦
+          let below : n ≤ furthest ss ts = omega arith in
+          let more : 0 < length ss = furthest_some ss ts n (omega arith) below in
+          let e = shapes_go ss n ts p.1 more below in
+          let f = some_first (word_in s (take n ts ++ e.0)) (first_word ss (take n ts ++ e.0)) e.1 e.2 in
+          (e.0, f.0, f.1)
+    ]
+
+pub goes-on : (name n : ℕ) (ts : List Token) → name < length NAMES → n ≤ furthest (shapes_of name) ts → (rest : List Token) × (word : ℕ) × (first_word (shapes_of name) (take n ts ++ rest) ≡ Some word)
+unfolding has_shape
+goes-on name n ts lt h = shapes_go (shapes_of name) n ts (open_of_name name) (ltb-true 0 (length (shapes_of name)) (all_below-at has_shape (length NAMES) name all_have_shapes lt)) h

@@ -1,0 +1,142 @@
+-- A token that is printed says the field that it is printed for.
+use Rattle.std.proofs.Common.{◌≡◌, ℕ, zero, suc, ◌+◌, ◌-◌, ◌*◌, ◌/◌, ◌%◌, ◌^◌, ◌<◌, ◌≤◌, ◌==◌, ◌&&◌, not, Bool, true, false, nat_lt, nat_le, Some, None, cond, refl, sym, ap, ap₂, ◌∙◌, subst, arith, inl, inr, eqb-true, eq-eqb, lt-ltb, ltb-true, le-leb, leb-true, mod-eq_of_lt}
+use Rattle.std.proofs.lemmas.Bool.{and_parts, cases_lt, le-ltb}
+use Rattle.std.proofs.lemmas.Nat.{pow-add, pow_pos}
+use Rattle.std.proofs.Math.Nat.{mul-div_cancel, mul-mod_left}
+use borrow.Author.Tests.{ne_eqb}
+use Rattle.a64_table.specs.Fields.{field_of}
+use Rattle.a64_table.specs.Conditions.{is_mask}
+use Rattle.insn_text.specs.declared.item.Kind.{Kind}
+use Rattle.insn_text.specs.declared.item.Kind.TheVariants as kind
+use Rattle.insn_text.specs.Texts.{is_positive, size_of, register_place, mask_in}
+use Rattle.insn_text.specs.Rules.{is_within}
+use Rattle.asm_operands.specs.Fields.{on_mark, on_word, on_number, on_target, word_field, register_field, unsigned_field, signed_field, mask_field, field_said}
+use Rattle.std.specs.Prelude.{if◌then◌else◌}
+use Rattle.asm_operands.specs.Shown.{mask_token, token_said}
+use Rattle.asm_operands.proofs.MaskFields.{mask-given}
+
+-- the kind is one that is printed, with so many bits
+unfoldable pub is_printed_kind : Kind → ℕ → Bool
+is_printed_kind (kind.Mark c) bits = bits == 0
+is_printed_kind (kind.Named first count) bits = true
+is_printed_kind (kind.Register first last) bits = (bits == 5) && nat_le (first + 31) last
+is_printed_kind (kind.Unsigned base scale most) bits = nat_lt 0 scale
+is_printed_kind (kind.Signed scale) bits = nat_lt 0 scale && nat_lt 0 bits
+is_printed_kind (kind.Distance scale) bits = nat_lt 0 scale && nat_lt 0 bits
+is_printed_kind (kind.Mask wide) bits = nat_le bits 13
+is_printed_kind (kind.SignedMask wide) bits = false
+is_printed_kind (kind.ShiftLeft wide) bits = false
+is_printed_kind (kind.Opposite first count) bits = false
+is_printed_kind (kind.Halfword wide inverted) bits = false
+
+both_true : (a b : Bool) → a ≡ true → b ≡ true → (a && b) ≡ true
+both_true a b p q = ap₂ (λ x y. x && y) p q
+
+-- ---- words
+word_back : (first count field : ℕ) → field < count → word_field first count (first + field) ≡ Some field
+unfolding word_field
+word_back first count field lt =
+    let le : first ≤ first + field = omega arith in
+    let less : first + field < first + count = omega arith in
+    let back : first + field - first ≡ field = omega arith in
+    ap₂ (λ b n. cond b (Some n) None) (both_true _ _ (le-leb first (first + field) le) (lt-ltb (first + field) (first + count) less)) back
+
+register_back : (first last field : ℕ) → first + 31 ≤ last → field < 32 → register_field first last (register_place first last field) ≡ Some field
+unfolding register_field register_place
+register_back first last field le lt = elim (cases_lt field 31) [
+  | inl low ↦
+      let other : (first + field ≡ last) → ⊥ = λ e. omega arith in
+      let no31 : (field ≡ 31) → ⊥ = λ e. omega arith in
+      ap (λ b. cond (cond b last (first + field) == last) (Some 31) (word_field first 31 (cond b last (first + field)))) (ne_eqb field 31 no31)
+      ∙ ap (λ b. cond b (Some 31) (word_field first 31 (first + field))) (ne_eqb (first + field) last other)
+      ∙ word_back first 31 field low
+  | inr high ↦
+      let e : field ≡ 31 = omega arith in
+      ap (λ b. cond (cond b last (first + field) == last) (Some 31) (word_field first 31 (cond b last (first + field)))) (eq-eqb field 31 e)
+      ∙ ap (λ b. cond b (Some 31) (word_field first 31 last)) (eq-eqb last last refl)
+      ∙ ap Some (sym e)
+]
+
+-- ---- numbers
+scaled_in : {X : Type 0} (P : ℕ → ℕ → X) (f scale : ℕ) → 0 < scale → P (f * scale / scale) (f * scale % scale) ≡ P f 0
+scaled_in P f scale positive = ap₂ P (mul-div_cancel f positive) (mul-mod_left f scale)
+
+unsigned_back : (base scale most f : ℕ) → 0 < scale → f ≤ most → unsigned_field base scale most false (f * scale + base) ≡ Some f
+unfolding unsigned_field
+unsigned_back base scale most f positive le =
+    let s = f * scale + base in
+    let e : s - base ≡ f * scale = omega arith in
+    let l : base ≤ s = omega arith in
+    ap (λ m. cond (nat_le base s && (m % scale == 0) && nat_le (m / scale) most) (Some (m / scale)) None) e
+    ∙ scaled_in (λ q r. cond (nat_le base s && (r == 0) && nat_le q most) (Some q) None) f scale positive
+    ∙ ap (λ b. cond b (Some f) None) (both_true _ _ (both_true (nat_le base s) (0 == 0) (le-leb base s l) refl) (le-leb f most le))
+
+half_twice : (n : ℕ) → 0 < n → 2 ^ n ≡ 2 ^ (n - 1) + 2 ^ (n - 1)
+half_twice zero h = absurd (omega arith)
+half_twice (suc n) h = let e : suc n - 1 ≡ n = omega arith in let d : 2 ^ suc n ≡ 2 ^ n + 2 ^ n = omega (arith, pow-add 2 n 1) in d ∙ sym (ap (λ m. 2 ^ m + 2 ^ m) e)
+
+signed_back : (scale n f : ℕ) → 0 < scale → 0 < n → f < 2 ^ n → signed_field n scale (not (is_positive n f)) (size_of n f * scale) ≡ Some f
+unfolding signed_field size_of is_positive
+signed_back scale n f positive signed lt =
+    let two = half_twice n signed in
+    elim (cases_lt f (2 ^ (n - 1))) [
+      | inl l ↦
+          ap (λ b. signed_field n scale (not b) (cond b f (2 ^ n - f) * scale)) (lt-ltb f (2 ^ (n - 1)) l)
+          ∙ scaled_in (λ q r. cond (not (r == 0)) None (cond (nat_lt q (2 ^ (n - 1))) (Some q) None)) f scale positive
+          ∙ ap (λ b. cond b (Some f) None) (lt-ltb f (2 ^ (n - 1)) l)
+      | inr g ↦
+          let q = 2 ^ n - f in
+          let within : q ≤ 2 ^ (n - 1) = omega arith in
+          let back : 2 ^ n - q ≡ f = omega arith in
+          ap (λ b. signed_field n scale (not b) (cond b f (2 ^ n - f) * scale)) (le-ltb f (2 ^ (n - 1)) g)
+          ∙ scaled_in (λ q r. cond (not (r == 0)) None (cond (nat_le q (2 ^ (n - 1))) (Some ((2 ^ n - q) % 2 ^ n)) None)) q scale positive
+          ∙ ap (λ b. cond b (Some ((2 ^ n - q) % 2 ^ n)) None) (le-leb q (2 ^ (n - 1)) within)
+          ∙ ap (λ m. Some (m % 2 ^ n)) back ∙ ap Some (mod-eq_of_lt lt)
+    ]
+
+-- ---- masks
+mask_back : (wide : Bool) (bits field : ℕ) → field < 8192 → is_mask wide (field_of field 12 1 == 1) (field_of field 6 6) (field_of field 0 6) ≡ true
+    → on_number (λ negative size. if negative then None else mask_field wide size) (mask_token (mask_in wide field)) ≡ Some field
+unfolding on_number
+mask_back wide bits field lt e =
+    let g = mask-given wide field lt e in
+    ap (λ o. on_number (λ negative size. if negative then None else mask_field wide size) (mask_token o)) g.given ∙ g.back
+
+-- ---- any
+pow_le_13 : (bits field : ℕ) → bits ≤ 13 → field < 2 ^ bits → field < 8192
+pow_le_13 bits field le lt =
+    let e : bits + (13 - bits) ≡ 13 = omega arith in
+    let whole : 2 ^ bits * 2 ^ (13 - bits) ≡ 8192 = sym (pow-add 2 bits (13 - bits)) ∙ ap (λ n. 2 ^ n) e in
+    let more = grow (2 ^ bits) (2 ^ (13 - bits)) (pow_pos (13 - bits)) in
+    omega arith
+  where
+    grow : (a b : ℕ) → 0 < b → a ≤ a * b
+    grow a zero h = absurd (omega arith)
+    grow a (suc b) h = omega arith
+
+below_32 : (bits field : ℕ) → bits ≡ 5 → field < 2 ^ bits → field < 32
+below_32 bits field e lt = subst (λ n. field < 2 ^ n) e lt
+
+mark_back : (c field bits : ℕ) → bits ≡ 0 → field < 2 ^ bits → cond (c == c) (Some 0) None ≡ Some field
+mark_back c field bits e lt =
+    let small : field < 2 ^ 0 = subst (λ n. field < 2 ^ n) e lt in
+    let z : 0 ≡ field = omega arith in
+    ap (λ b. cond b (Some 0) None) (eq-eqb c c refl) ∙ ap Some z
+
+pub said-heard : (k : Kind) (bits field : ℕ) → is_printed_kind k bits ≡ true → is_within k field ≡ true → field < 2 ^ bits → field_said k bits (token_said k bits field) ≡ Some field
+unfolding is_printed_kind is_within field_said token_said on_mark on_word on_number on_target
+said-heard (kind.Mark c) bits field p w lt = mark_back c field bits (eqb-true bits 0 p) lt
+said-heard (kind.Named first count) bits field p w lt = word_back first count field (ltb-true field count w)
+said-heard (kind.Register first last) bits field p w lt =
+    let q = and_parts (bits == 5) (nat_le (first + 31) last) p in
+    register_back first last field (leb-true (first + 31) last q.1) (below_32 bits field (eqb-true bits 5 q.0) lt)
+said-heard (kind.Unsigned base scale most) bits field p w lt = unsigned_back base scale most field (ltb-true 0 scale p) (leb-true field most w)
+said-heard (kind.Signed scale) bits field p w lt =
+    let q = and_parts (nat_lt 0 scale) (nat_lt 0 bits) p in signed_back scale bits field (ltb-true 0 scale q.0) (ltb-true 0 bits q.1) lt
+said-heard (kind.Distance scale) bits field p w lt =
+    let q = and_parts (nat_lt 0 scale) (nat_lt 0 bits) p in signed_back scale bits field (ltb-true 0 scale q.0) (ltb-true 0 bits q.1) lt
+said-heard (kind.Mask wide) bits field p w lt = mask_back wide bits field (pow_le_13 bits field (leb-true bits 13 p) lt) w
+said-heard (kind.SignedMask wide) bits field p w lt = cc
+said-heard (kind.ShiftLeft wide) bits field p w lt = cc
+said-heard (kind.Opposite first count) bits field p w lt = cc
+said-heard (kind.Halfword wide inverted) bits field p w lt = cc

@@ -1,0 +1,246 @@
+-- The tokens of a word that is printed say the word, and no target: the shapes of a name are told apart by any operand's tokens.
+use Rattle.std.proofs.Common.{◌≡◌, ℕ, zero, suc, ◌+◌, ◌-◌, ◌^◌, ◌<◌, ◌≤◌, ◌==◌, ◌&&◌, ◌||◌, not, Bool, true, false, nat_lt, nat_le, bit_and, List, [], ◌∷◌, map, take, drop, length, slice_get, Option, Some, None, cond, refl, sym, ap, ap₂, ◌∙◌, arith, eqb-true, ltb-true, leb-true}
+use Rattle.std.specs.Prelude.{slice_index, is_some, if◌then◌else◌, option_map, option_and_then}
+use Rattle.std.specs.List.{list_all, find}
+use Rattle.std.proofs.lemmas.Bool.{and_parts}
+use Rattle.sm_types.specs.declared.insn.Insn.{Insn}
+use Rattle.sve_table.specs.Meaning.{instruction_of}
+use Rattle.insn_text.specs.declared.item.Kind.{Kind}
+use Rattle.insn_text.specs.declared.item.Kind.TheVariants as kind
+use Rattle.insn_text.specs.declared.item.Item.{Item}
+use Rattle.insn_text.specs.declared.item.Shape.{Shape}
+use Rattle.insn_text.specs.declared.words.TheConstants.{NAMES}
+use Rattle.insn_text.specs.declared.shapes.TheConstants.{SHAPES, STARTS}
+use Rattle.insn_text.specs.Texts.{items_of, prints, printed_shape}
+use Rattle.insn_text.specs.Rules.{is_sayable, IsPrinted}
+use Rattle.asm_tokens.specs.declared.token.Token.{Token}
+use Rattle.asm_operands.specs.Operands.{word_in, shapes_of, first_of_words, first_word, mask_of, is_distance, is_distance_item, is_name, is_name_token, target_in, target_of, operand_fault, said_or, Says, Fails, insn_said, operands_said}
+use Rattle.asm_operands.specs.Shown.{token_said, item_token, tokens_shown}
+use Rattle.asm_operands.proofs.MaskFields.{all_below, all_below-at}
+use Rattle.asm_operands.proofs.WordBits.{has_register, covers}
+use Rattle.asm_operands.proofs.Heard.{is_printed_kind}
+use Rattle.asm_operands.proofs.OwnTokens.{is_printed_item, says_rest, word-shown}
+use Rattle.asm_operands.proofs.Apart.{is_said_by_mark, is_said_by_number, is_said_by_distance, is_apart_from_words, kinds_apart, apart, shapes-apart}
+
+-- ---- the table
+unfoldable pub says_word : Shape → Bool
+says_word s = s.alias || says_rest (items_of s) s.mask
+
+-- a later shape's tokens are not taken by an earlier one
+unfoldable pub is_later_apart : List Item → Shape → Bool
+is_later_apart earlier s = s.alias || apart (items_of s) earlier
+
+unfoldable pub are_apart : List Shape → Bool
+are_apart [] = true
+are_apart (r ∷ ss) = says_word r && (list_all (is_later_apart (items_of r)) ss && are_apart ss)
+
+unfoldable pub name_apart : ℕ → Bool
+name_apart name = are_apart (shapes_of name)
+
+names_apart : all_below name_apart (length NAMES) ≡ true
+unfolding items_of shapes_of mask_of all_below has_register covers is_printed_kind is_printed_item says_rest is_said_by_mark is_said_by_number is_said_by_distance is_apart_from_words kinds_apart apart says_word is_later_apart are_apart name_apart
+names_apart = refl
+
+-- a shape stands among those of its name
+unfoldable pub is_at_name : ℕ → ℕ → Bool
+is_at_name place name = (nat_le (slice_index STARTS name) place && nat_lt place (slice_index STARTS (name + 1))) && nat_lt name (length NAMES)
+
+unfoldable pub are_at_names : ℕ → List Shape → Bool
+are_at_names place [] = true
+are_at_names place (s ∷ ss) = is_at_name place s.name && are_at_names (suc place) ss
+
+all_at_names : are_at_names 0 SHAPES ≡ true
+unfolding is_at_name are_at_names
+all_at_names = refl
+
+at_names-get : (place k : ℕ) (ss : List Shape) (s : Shape) → are_at_names place ss ≡ true → slice_get ss k ≡ Some s → is_at_name (place + k) s.name ≡ true
+unfolding are_at_names
+at_names-get place k [] s e g = cc
+at_names-get place zero (r ∷ ss) s e g =
+    let same : r ≡ s = cc in
+    let z : place + zero ≡ place = omega arith in
+    ap (λ m. is_at_name m s.name) z ∙ ap (λ (x : Shape). is_at_name place x.name) (sym same) ∙ (and_parts (is_at_name place r.name) (are_at_names (suc place) ss) e).0
+at_names-get place (suc k) (r ∷ ss) s e g =
+    let z : place + suc k ≡ suc place + k = omega arith in
+    ap (λ m. is_at_name m s.name) z ∙ at_names-get (suc place) k ss s (and_parts (is_at_name place r.name) (are_at_names (suc place) ss) e).1 g
+
+get-drop : (a k : ℕ) (ss : List Shape) → a ≤ k → slice_get (drop a ss) (k - a) ≡ slice_get ss k
+get-drop zero k ss h = let e : k - zero ≡ k = omega arith in ap (slice_get ss) e
+get-drop (suc a) zero ss h = absurd (omega arith)
+get-drop (suc a) (suc k) [] h = refl
+get-drop (suc a) (suc k) (s ∷ ss) h = let e : suc k - suc a ≡ k - a = omega arith in let l : a ≤ k = omega arith in ap (slice_get (drop a ss)) e ∙ get-drop a k ss l
+
+get-take : (n k : ℕ) (ss : List Shape) → k < n → slice_get (take n ss) k ≡ slice_get ss k
+get-take zero k ss h = absurd (omega arith)
+get-take (suc n) k [] h = refl
+get-take (suc n) zero (s ∷ ss) h = refl
+get-take (suc n) (suc k) (s ∷ ss) h = let l : k < n = omega arith in get-take n k ss l
+
+record IsOfName (s : Shape) : Type 0 where
+  place : ℕ
+  listed : slice_get (shapes_of s.name) place ≡ Some s
+  named : s.name < length NAMES
+
+of_name : (k : ℕ) (s : Shape) → slice_get SHAPES k ≡ Some s → IsOfName s
+unfolding shapes_of is_at_name
+of_name k s g =
+    let a = slice_index STARTS s.name in
+    let b = slice_index STARTS (s.name + 1) in
+    let z : 0 + k ≡ k = omega arith in
+    let here : is_at_name k s.name ≡ true = sym (ap (λ m. is_at_name m s.name) z) ∙ at_names-get 0 k SHAPES s all_at_names g in
+    let p = and_parts (nat_le a k && nat_lt k b) (nat_lt s.name (length NAMES)) here in
+    let q = and_parts (nat_le a k) (nat_lt k b) p.0 in
+    let low : a ≤ k = leb-true a k q.0 in
+    let high : k < b = ltb-true k b q.1 in
+    let within : k - a < b - a = omega arith in
+    record { place = k - a; listed = get-take (b - a) (k - a) (drop a SHAPES) within ∙ get-drop a k SHAPES low ∙ g; named = ltb-true s.name (length NAMES) p.1 }
+
+-- what is found is listed, and passes
+record IsFound (p : Shape → Bool) (ss : List Shape) (s : Shape) : Type 0 where
+  place : ℕ
+  listed : slice_get ss place ≡ Some s
+  passes : p s ≡ true
+
+same_shape : (a b : Shape) → ◌≡◌ {A = Option Shape} (Some a) (Some b) → a ≡ b
+same_shape a b e = cc
+
+found : (p : Shape → Bool) (ss : List Shape) (s : Shape) → find p ss ≡ Some s → IsFound p ss s
+found p [] s e = cc
+found p (r ∷ ss) s e = elim (p r) as (λ b. p r ≡ b → cond b (Some r) (find p ss) ≡ Some s → IsFound p (r ∷ ss) s) [
+  | true ↦ λ is h. let same = same_shape r s h in record { place = 0; listed = h; passes = ap p (sym same) ∙ is }
+  | false ↦ λ is h. let f = found p ss s h in record { place = suc f.place; listed = f.listed; passes = f.passes }
+] refl e
+
+record IsOwn (word : ℕ) (s : Shape) : Type 0 where
+  of_its_name : IsOfName s
+  printed : s.alias ≡ false
+  matches : bit_and word s.mask ≡ s.value
+
+not_true : (b : Bool) → not b ≡ true → b ≡ false
+not_true true e = cc
+not_true false e = refl
+
+own : (word : ℕ) (s : Shape) → printed_shape word ≡ Some s → IsOwn word s
+unfolding printed_shape prints
+own word s e =
+    let f = found (λ x. not x.alias && (bit_and word x.mask == x.value)) SHAPES s e in
+    let p = and_parts (not s.alias) (bit_and word s.mask == s.value) f.passes in
+    record { of_its_name = of_name f.place s f.listed; printed = not_true s.alias p.0; matches = eqb-true _ _ p.1 }
+
+-- ---- the place of a target
+get-map : (f : Item → Token) (is : List Item) (n : ℕ) → slice_get (map f is) n ≡ option_map f (slice_get is n)
+get-map f [] n = refl
+get-map f (i ∷ is) zero = refl
+get-map f (i ∷ is) (suc n) = get-map f is n
+
+and_false : (b : Bool) → (b && false) ≡ false
+and_false true = refl
+and_false false = refl
+
+never_named : (k : Kind) (bits field : ℕ) → (is_distance k && is_name (token_said k bits field)) ≡ false
+unfolding is_distance is_name token_said
+never_named (kind.Mark c) bits field = refl
+never_named (kind.Named first count) bits field = refl
+never_named (kind.Register first last) bits field = refl
+never_named (kind.Unsigned base scale most) bits field = refl
+never_named (kind.Signed scale) bits field = refl
+never_named (kind.Distance scale) bits field = refl
+never_named (kind.Mask wide) bits field = refl
+never_named (kind.SignedMask wide) bits field = refl
+never_named (kind.ShiftLeft wide) bits field = refl
+never_named (kind.Opposite first count) bits field = refl
+never_named (kind.Halfword wide inverted) bits field = refl
+
+no_name : (w : ℕ) (o : Option Item) → (is_distance_item o && is_name_token (option_map (item_token w) o)) ≡ false
+unfolding item_token
+no_name w None = refl
+no_name w (Some i) = never_named i.kind _ _
+
+target-none : (s : Shape) (w : ℕ) → target_in (items_of s) (tokens_shown s w) ≡ None
+unfolding target_in tokens_shown
+target-none s w =
+    let is = items_of s in
+    let last = length is - 1 in
+    ap (λ o. if is_distance_item (slice_get is last) && is_name_token o then Some last else None) (get-map (item_token w) is last)
+    ∙ ap (λ b. if b then Some last else None) (no_name w (slice_get is last))
+
+-- ---- among the shapes of the name
+record SaysOwn (ss : List Shape) (s : Shape) (w : ℕ) : Type 0 where
+  word : first_word ss (tokens_shown s w) ≡ Some w
+  target : target_of ss (tokens_shown s w) ≡ None
+
+when_printed : (s : Shape) (b : Bool) → s.alias ≡ false → (s.alias || b) ≡ true → b ≡ true
+when_printed s b e h = sym (ap (λ a. a || b) e) ∙ h
+
+later-get : (earlier : List Item) (ss : List Shape) (k : ℕ) (s : Shape) → list_all (is_later_apart earlier) ss ≡ true → slice_get ss k ≡ Some s → is_later_apart earlier s ≡ true
+later-get earlier [] k s e g = cc
+later-get earlier (r ∷ ss) zero s e g =
+    let same = same_shape r s g in ap (is_later_apart earlier) (sym same) ∙ (and_parts (is_later_apart earlier r) (list_all (is_later_apart earlier) ss) e).0
+later-get earlier (r ∷ ss) (suc k) s e g = later-get earlier ss k s (and_parts (is_later_apart earlier r) (list_all (is_later_apart earlier) ss) e).1 g
+
+says_word-get : (ss : List Shape) (k : ℕ) (s : Shape) → are_apart ss ≡ true → slice_get ss k ≡ Some s → says_word s ≡ true
+unfolding are_apart
+says_word-get [] k s e g = cc
+says_word-get (r ∷ ss) zero s e g =
+    let same = same_shape r s g in ap says_word (sym same) ∙ (and_parts (says_word r) (list_all (is_later_apart (items_of r)) ss && are_apart ss) e).0
+says_word-get (r ∷ ss) (suc k) s e g =
+    says_word-get ss k s (and_parts (list_all (is_later_apart (items_of r)) ss) (are_apart ss) (and_parts (says_word r) (list_all (is_later_apart (items_of r)) ss && are_apart ss) e).1).1 g
+
+says-own : (ss : List Shape) (k : ℕ) (s : Shape) (w : ℕ) → are_apart ss ≡ true → slice_get ss k ≡ Some s → s.alias ≡ false → says_rest (items_of s) s.mask ≡ true
+    → word_in s (tokens_shown s w) ≡ Some w → list_all (is_sayable w) (items_of s) ≡ true → SaysOwn ss s w
+unfolding are_apart is_later_apart first_word target_of
+says-own [] k s w e g printed all says sayable = cc
+says-own (r ∷ ss) zero s w e g printed all says sayable =
+    let ts = tokens_shown s w in
+    let same = same_shape r s g in
+    let here : word_in r ts ≡ Some w = ap (λ (x : Shape). word_in x ts) same ∙ says in
+    record {
+      word = ap (λ o. first_of_words o (first_word ss ts)) here;
+      target =
+          ap (λ o. if is_some o then target_in (items_of r) ts else target_of ss ts) here
+          ∙ ap (λ (x : Shape). target_in (items_of x) ts) same
+          ∙ target-none s w;
+    }
+says-own (r ∷ ss) (suc k) s w e g printed all says sayable =
+    let ts = tokens_shown s w in
+    let p = and_parts (list_all (is_later_apart (items_of r)) ss) (are_apart ss) (and_parts (says_word r) (list_all (is_later_apart (items_of r)) ss && are_apart ss) e).1 in
+    let distinct = when_printed s (apart (items_of s) (items_of r)) printed (later-get (items_of r) ss k s p.0 g) in
+    let missed : word_in r ts ≡ None = shapes-apart s r w distinct all sayable in
+    let rest = says-own ss k s w p.1 g printed all says sayable in
+    record {
+      word = ap (λ o. first_of_words o (first_word ss ts)) missed ∙ rest.word;
+      target = ap (λ o. if is_some o then target_in (items_of r) ts else target_of ss ts) missed ∙ rest.target;
+    }
+
+printed-says : (w : ℕ) → w < 2 ^ 32 → (p : IsPrinted w) → SaysOwn (shapes_of p.shape.name) p.shape w
+unfolding name_apart says_word
+printed-says w lt p =
+    let s = p.shape in
+    let o = own w s p.found in
+    let n = o.of_its_name in
+    let ss = shapes_of s.name in
+    let told : are_apart ss ≡ true = all_below-at name_apart (length NAMES) s.name names_apart n.named in
+    let all = when_printed s (says_rest (items_of s) s.mask) o.printed (says_word-get ss n.place s told n.listed) in
+    says-own ss n.place s w told n.listed o.printed all (word-shown s w lt o.matches all p.sayable) p.sayable
+
+-- ---- what asm_parser needs
+-- the tokens of a word that is printed say the word
+pub own-word : (w : ℕ) → w < 2 ^ 32 → (p : IsPrinted w) → first_word (shapes_of p.shape.name) (tokens_shown p.shape w) ≡ Some w
+own-word w lt p = (printed-says w lt p).word
+
+-- none of them names a target
+pub own-target : (w : ℕ) → w < 2 ^ 32 → (p : IsPrinted w) → target_of (shapes_of p.shape.name) (tokens_shown p.shape w) ≡ None
+own-target w lt p = (printed-says w lt p).target
+
+-- the name of the shape stands in the table of names
+pub own-name : (w : ℕ) (p : IsPrinted w) → p.shape.name < length NAMES
+own-name w p = (own w p.shape p.found).of_its_name.named
+
+-- the tokens say the instruction that the word means
+pub own-said : (w : ℕ) (it : Insn) → w < 2 ^ 32 → (p : IsPrinted w) → instruction_of w ≡ Some it → operands_said p.shape.name (tokens_shown p.shape w) ≡ Says it None
+unfolding operands_said insn_said
+own-said w it lt p e =
+    let ss = shapes_of p.shape.name in
+    let ts = tokens_shown p.shape w in
+    ap₂ (λ t o. said_or (Fails (operand_fault ss ts)) t (option_and_then instruction_of o)) (own-target w lt p) (own-word w lt p)
+    ∙ ap (said_or (Fails (operand_fault ss ts)) None) e

@@ -1,0 +1,37 @@
+-- The tokens in which the operands of a word are printed.
+-- Source: DDI 0487, C1.2 and C6.2.
+use Rattle.std.specs.Prelude.{ℕ, ◌+◌, ◌*◌, false, not, List, map, Option, Some, None}
+use Rattle.insn_text.specs.declared.item.Kind.{Kind}
+use Rattle.insn_text.specs.declared.item.Kind.TheVariants as kind
+use Rattle.insn_text.specs.declared.item.Item.{Item}
+use Rattle.insn_text.specs.declared.item.Shape.{Shape}
+use Rattle.insn_text.specs.Texts.{bits_of, field_in, items_of, is_positive, size_of, register_place, mask_in}
+use Rattle.asm_tokens.specs.declared.token.Token.{Token}
+use Rattle.asm_tokens.specs.declared.token.Token.TheVariants.{Word, Number, Distance, Mark, Other}
+
+-- the token of a mask, if the fields have one
+abbrev pub mask_token : Option ℕ → Token
+mask_token None = Other
+mask_token (Some mask) = Number false mask
+
+-- the token that a field of so many bits is printed as; the kinds of aliases are never printed
+unfoldable pub token_said : Kind → ℕ → ℕ → Token
+token_said (kind.Mark c) bits field = Mark c
+token_said (kind.Named first count) bits field = Word (first + field)
+token_said (kind.Register first last) bits field = Word (register_place first last field)
+token_said (kind.Unsigned base scale most) bits field = Number false (field * scale + base)
+token_said (kind.Signed scale) bits field = Number (not (is_positive bits field)) (size_of bits field * scale)
+token_said (kind.Distance scale) bits field = Distance (not (is_positive bits field)) (size_of bits field * scale)
+token_said (kind.Mask wide) bits field = mask_token (mask_in wide field)
+token_said (kind.SignedMask wide) bits field = Other
+token_said (kind.ShiftLeft wide) bits field = Other
+token_said (kind.Opposite first count) bits field = Other
+token_said (kind.Halfword wide inverted) bits field = Other
+
+-- the token of an operand of a word
+unfoldable pub item_token : ℕ → Item → Token
+item_token word i = token_said i.kind (bits_of i) (field_in i word)
+
+-- the tokens of the operands of a word of the shape
+unfoldable pub tokens_shown : Shape → ℕ → List Token
+tokens_shown s word = map (item_token word) (items_of s)

@@ -1,0 +1,228 @@
+-- Texts that are read as tokens, whatever follows them.
+use Rattle.std.proofs.Common.{◌≡◌, ℕ, suc, ◌+◌, ◌^◌, ◌<◌, Bool, true, false, not, ◌&&◌, ◌==◌, nat_lt, List, [], ◌∷◌, ◌++◌, Some, length, drop, get_or, refl, sym, ap, ap₂, ◌∙◌, arith}
+use Rattle.std.specs.Prelude.{decimal}
+use Rattle.std.specs.Fmt.{digits}
+use Rattle.std.specs.List.{list_all}
+use Rattle.std.proofs.lemmas.Bool.{and_parts, and_from, not-true, not_from_false, cond-true, cond-false}
+use Rattle.std.proofs.lemmas.Bool.Decides.{nat_tests}
+use Rattle.std.proofs.lemmas.Fmt.{decimal_nonempty}
+use Rattle.std.proofs.lemmas.List.{drop_at}
+use Rattle.std.proofs.lemmas.List.Sums.{take_while-cons}
+use Rattle.insn_text.specs.declared.words.TheConstants.{WORDS}
+use Rattle.asm_tokens.specs.declared.token.Lexeme.{Lexeme}
+use Rattle.asm_tokens.specs.declared.token.Token.{Token}
+use Rattle.asm_tokens.specs.declared.token.Token.TheVariants.{Word, Number, Distance, Mark}
+use Rattle.asm_tokens.specs.Characters.{is_name_character, is_blank, is_digit}
+use Rattle.asm_tokens.specs.Numbers.{number_in, decimal_number, begins_hexadecimal}
+use Rattle.asm_tokens.specs.Tokens.{Read, run, has_sign, begins_name, name_token, number_token, distance_token, place_in, read_number, read_distance, read_character, read_token, lexemes_of}
+use Rattle.asm_tokens.proofs.Following.{lexemes-token}
+use Rattle.asm_tokens.proofs.Naming.{read-name, name_no_blank}
+use Rattle.asm_parser.proofs.Numerals.{decimal-read, decimal-names, number-read, no_minus, hexadecimal-read, hexadecimal-names}
+
+-- no character of a name stands first
+unfoldable pub opens : List ℕ → Bool
+opens [] = true
+opens (c ∷ cs) = not (is_name_character c)
+
+pub run-whole : (xs rest : List ℕ) → list_all is_name_character xs ≡ true → opens rest ≡ true → run (xs ++ rest) ≡ xs
+unfolding opens
+run-whole [] [] a o = refl
+run-whole [] (c ∷ cs) a o = take_while-cons is_name_character c cs ∙ cond-false (is_name_character c) _ _ (not-true _ o)
+run-whole (x ∷ xs) rest a o =
+    let p = and_parts (is_name_character x) (list_all is_name_character xs) a in
+    take_while-cons is_name_character x (xs ++ rest) ∙ cond-true (is_name_character x) _ _ p.0 ∙ ap (λ ys. x ∷ ys) (run-whole xs rest p.1 o)
+
+-- no character is that with which a comment begins
+abbrev pub no_slash : ℕ → Bool
+no_slash c = not (c == 47)
+
+name_no_slash : (c : ℕ) → is_name_character c ≡ true → (c == 47) ≡ false
+unfolding is_name_character is_digit
+name_no_slash c e = grind (arith, nat_tests)
+
+pub names_no_slash : (xs : List ℕ) → list_all is_name_character xs ≡ true → list_all no_slash xs ≡ true
+names_no_slash [] e = refl
+names_no_slash (c ∷ cs) e =
+    let p = and_parts (is_name_character c) (list_all is_name_character cs) e in
+    and_from (no_slash c) (list_all no_slash cs) (not_from_false _ (name_no_slash c p.0)) (names_no_slash cs p.1)
+
+abbrev make : Token → ℕ → Read
+make t k = record { token = t; size = k }
+
+-- the text is read as the token where it stands before the other text
+pub record IsRead (xs rest : List ℕ) (t : Token) : Type 0 where
+  pub first : ℕ
+  pub others : List ℕ
+  pub whole : xs ≡ first ∷ others
+  pub no_blank : is_blank first ≡ false
+  pub plain : list_all no_slash xs ≡ true
+  pub reads : read_token first (others ++ rest) ≡ record { token = t; size = length xs }
+
+pub lexemes-read : (xs rest : List ℕ) (t : Token) (at : ℕ) → IsRead xs rest t
+    → lexemes_of at (xs ++ rest) ≡ record { token = t; start = at; end = at + length xs } ∷ lexemes_of (at + length xs) rest
+lexemes-read xs rest t at r =
+    let next : Read → List Lexeme = λ q. record { token = q.token; start = at; end = at + q.size } ∷ lexemes_of (at + q.size) (drop q.size (r.first ∷ (r.others ++ rest))) in
+    let l : Lexeme = record { token = t; start = at; end = at + length xs } in
+    ap (λ ys. lexemes_of at (ys ++ rest)) r.whole ∙ lexemes-token at r.first (r.others ++ rest) r.no_blank ∙ ap next r.reads
+    ∙ ap (λ ys. l ∷ lexemes_of (at + length xs) (drop (length xs) (ys ++ rest))) (sym r.whole)
+    ∙ ap (λ ys. l ∷ lexemes_of (at + length xs) ys) (drop_at xs rest (length xs) refl)
+
+-- ---- words and names
+
+-- characters of names, no digit and no dot first
+unfoldable pub is_plain : List ℕ → Bool
+is_plain [] = false
+is_plain (c ∷ cs) = list_all is_name_character (c ∷ cs) && not (is_digit c) && not (c == 46)
+
+pub plain-names : (xs : List ℕ) → is_plain xs ≡ true → list_all is_name_character xs ≡ true
+unfolding is_plain
+plain-names [] e = refl
+plain-names (c ∷ cs) e = (and_parts (list_all is_name_character (c ∷ cs)) (not (is_digit c)) (and_parts _ (not (c == 46)) e).0).0
+
+pub plain-begins : (xs rest : List ℕ) → is_plain xs ≡ true → begins_name (xs ++ rest) ≡ true
+unfolding is_plain begins_name
+plain-begins [] rest e = cc
+plain-begins (c ∷ cs) rest e =
+    let p = and_parts (list_all is_name_character (c ∷ cs) && not (is_digit c)) (not (c == 46)) e in
+    let q = and_parts (list_all is_name_character (c ∷ cs)) (not (is_digit c)) p.0 in
+    let name = (and_parts (is_name_character c) (list_all is_name_character cs) q.0).0 in
+    and_from _ _ (and_from (is_name_character c) (not (is_digit c)) name q.1) (not_from_false _ (ap (λ b. b && has_sign (cs ++ rest)) (not-true (c == 46) p.1)))
+
+pub word-read : (xs rest : List ℕ) (place : ℕ) → is_plain xs ≡ true → place_in WORDS xs ≡ Some place → opens rest ≡ true → IsRead xs rest (Word place)
+unfolding is_plain name_token
+word-read [] rest place e found o = cc
+word-read (c ∷ cs) rest place e found o =
+    let names = plain-names (c ∷ cs) e in
+    record {
+      first = c;
+      others = cs;
+      whole = refl;
+      no_blank = name_no_blank c (and_parts (is_name_character c) (list_all is_name_character cs) names).0;
+      plain = names_no_slash (c ∷ cs) names;
+      reads =
+          read-name c (cs ++ rest) (plain-begins (c ∷ cs) rest e)
+          ∙ ap (λ ys. make (name_token (place_in WORDS ys)) (length ys)) (run-whole (c ∷ cs) rest names o)
+          ∙ ap (λ v. make (name_token v) (length (c ∷ cs))) found;
+    }
+
+-- ---- numbers
+
+first_of : (xs rest : List ℕ) → 0 < length xs → get_or (xs ++ rest) 0 0 ≡ get_or xs 0 0
+first_of [] rest some = absurd (omega arith)
+first_of (x ∷ xs) rest some = refl
+
+pub number-is-read : (n : ℕ) (rest : List ℕ) → n < 2 ^ 64 → opens rest ≡ true → IsRead (35 ∷ decimal n) rest (Number false n)
+unfolding read_token read_number number_token is_blank
+number-is-read n rest lt o =
+    let plus : (get_or (decimal n ++ rest) 0 0 == 45) ≡ false = ap (λ c. c == 45) (first_of (decimal n) rest (decimal_nonempty n lt)) ∙ no_minus n lt in
+    let size : 1 + length (decimal n) ≡ suc (length (decimal n)) = omega arith in
+    record {
+      first = 35;
+      others = decimal n;
+      whole = refl;
+      no_blank = refl;
+      plain = names_no_slash (decimal n) (decimal-names n lt);
+      reads =
+          cond-false _ _ _ plus
+          ∙ ap (λ ys. make (number_token false (number_in ys)) (1 + length ys)) (run-whole (decimal n) rest (decimal-names n lt) o)
+          ∙ ap₂ (λ v k. make (number_token false v) k) (number-read n lt) size;
+    }
+
+pub negative-is-read : (n : ℕ) (rest : List ℕ) → n < 2 ^ 64 → opens rest ≡ true → IsRead (35 ∷ 45 ∷ decimal n) rest (Number true n)
+unfolding read_token read_number number_token is_blank
+negative-is-read n rest lt o =
+    let size : 2 + length (decimal n) ≡ suc (suc (length (decimal n))) = omega arith in
+    record {
+      first = 35;
+      others = 45 ∷ decimal n;
+      whole = refl;
+      no_blank = refl;
+      plain = names_no_slash (decimal n) (decimal-names n lt);
+      reads =
+          ap (λ ys. make (number_token true (number_in ys)) (2 + length ys)) (run-whole (decimal n) rest (decimal-names n lt) o)
+          ∙ ap₂ (λ v k. make (number_token true v) k) (number-read n lt) size;
+    }
+
+pub forward-is-read : (n : ℕ) (rest : List ℕ) → n < 2 ^ 64 → opens rest ≡ true → IsRead (46 ∷ 43 ∷ decimal n) rest (Distance false n)
+unfolding read_token read_distance distance_token has_sign is_blank
+forward-is-read n rest lt o =
+    let size : 2 + length (decimal n) ≡ suc (suc (length (decimal n))) = omega arith in
+    record {
+      first = 46;
+      others = 43 ∷ decimal n;
+      whole = refl;
+      no_blank = refl;
+      plain = names_no_slash (decimal n) (decimal-names n lt);
+      reads =
+          ap (λ ys. make (distance_token false (decimal_number ys)) (2 + length ys)) (run-whole (decimal n) rest (decimal-names n lt) o)
+          ∙ ap₂ (λ v k. make (distance_token false v) k) (decimal-read n lt) size;
+    }
+
+pub back-is-read : (n : ℕ) (rest : List ℕ) → n < 2 ^ 64 → opens rest ≡ true → IsRead (46 ∷ 45 ∷ decimal n) rest (Distance true n)
+unfolding read_token read_distance distance_token has_sign is_blank
+back-is-read n rest lt o =
+    let size : 2 + length (decimal n) ≡ suc (suc (length (decimal n))) = omega arith in
+    record {
+      first = 46;
+      others = 45 ∷ decimal n;
+      whole = refl;
+      no_blank = refl;
+      plain = names_no_slash (decimal n) (decimal-names n lt);
+      reads =
+          ap (λ ys. make (distance_token true (decimal_number ys)) (2 + length ys)) (run-whole (decimal n) rest (decimal-names n lt) o)
+          ∙ ap₂ (λ v k. make (distance_token true v) k) (decimal-read n lt) size;
+    }
+
+pub mask-is-read : (n : ℕ) (rest : List ℕ) → n < 2 ^ 64 → opens rest ≡ true → IsRead (35 ∷ 48 ∷ 120 ∷ digits 16 false n) rest (Number false n)
+unfolding read_token read_number number_token number_in begins_hexadecimal is_blank is_name_character is_digit
+mask-is-read n rest lt o =
+    let text = 48 ∷ 120 ∷ digits 16 false n in
+    let size : 1 + length text ≡ suc (length text) = omega arith in
+    record {
+      first = 35;
+      others = text;
+      whole = refl;
+      no_blank = refl;
+      plain = names_no_slash (digits 16 false n) (hexadecimal-names n lt);
+      reads =
+          ap (λ ys. make (number_token false (number_in ys)) (1 + length ys)) (run-whole text rest (hexadecimal-names n lt) o)
+          ∙ ap₂ (λ v k. make (number_token false v) k) (hexadecimal-read n lt) size;
+    }
+
+-- ---- marks
+
+unfoldable pub is_clean_mark : ℕ → Bool
+is_clean_mark c = nat_lt c 128 && (not (is_name_character c) && (not (is_blank c) && (not (c == 35) && (not (c == 46) && not (c == 47)))))
+
+pub record IsCleanMark (c : ℕ) : Type 0 where
+  pub ascii : nat_lt c 128 ≡ true
+  pub no_name : is_name_character c ≡ false
+  pub no_blank : is_blank c ≡ false
+  pub no_number : (c == 35) ≡ false
+  pub no_dot : (c == 46) ≡ false
+  pub no_slash : (c == 47) ≡ false
+
+pub clean_mark : (c : ℕ) → is_clean_mark c ≡ true → IsCleanMark c
+unfolding is_clean_mark
+clean_mark c e =
+    let p = and_parts (nat_lt c 128) _ e in
+    let q = and_parts (not (is_name_character c)) _ p.1 in
+    let r = and_parts (not (is_blank c)) _ q.1 in
+    let s = and_parts (not (c == 35)) _ r.1 in
+    let t = and_parts (not (c == 46)) (not (c == 47)) s.1 in
+    record { ascii = p.0; no_name = not-true _ q.0; no_blank = not-true _ r.0; no_number = not-true _ s.0; no_dot = not-true _ t.0; no_slash = not-true _ t.1 }
+
+pub mark-is-read : (c : ℕ) (rest : List ℕ) → is_clean_mark c ≡ true → IsRead (c ∷ []) rest (Mark c)
+unfolding read_token read_character
+mark-is-read c rest e =
+    let m = clean_mark c e in
+    record {
+      first = c;
+      others = [];
+      whole = refl;
+      no_blank = m.no_blank;
+      plain = and_from (no_slash c) true (not_from_false _ m.no_slash) refl;
+      reads =
+          cond-false (c == 35) _ _ m.no_number ∙ cond-false ((c == 46) && has_sign rest) _ _ (ap (λ b. b && has_sign rest) m.no_dot)
+          ∙ cond-false (is_name_character c) _ _ m.no_name ∙ cond-true (nat_lt c 128) _ _ m.ascii;
+    }
