@@ -1,5 +1,5 @@
 -- Lines of which none has a fault by itself: what holds of the first, of the places and of the labels.
-use Rattle.std.proofs.Common.{◌≡◌, ℕ, ◌+◌, ◌<◌, ◌≤◌, Bool, true, false, cond, List, [], ◌∷◌, ◌++◌, Option, Some, None, Result, Ok, Err, ◌||◌, nat_lt, refl, sym, ap, ◌∙◌, subst, arith, ltb-false}
+use Rattle.std.proofs.Common.{◌≡◌, ℕ, ◌+◌, ◌≤◌, Bool, true, false, cond, List, [], ◌∷◌, ◌++◌, Option, Some, None, Result, Ok, Err, ◌||◌, nat_lt, refl, sym, ap, ◌∙◌, subst, arith, ltb-false}
 use Rattle.std.specs.Prelude.{option_map}
 use Rattle.std.specs.List.{find}
 use Rattle.std.specs.Str.{bytes_eq}
@@ -12,13 +12,13 @@ use Rattle.asm_core.specs.declared.fault.AsmFault.TheVariants.{Line, Doubled, To
 use Rattle.asm_core.specs.declared.place.Place.{Place}
 use Rattle.asm_core.specs.declared.labels.Labels.{Labels}
 use Rattle.asm_core.specs.declared.labels.LabelPlace.{LabelPlace}
-use Rattle.asm_core.specs.Source.{if_line, said_lines}
+use Rattle.asm_core.specs.Source.{said_lines}
 use Rattle.sm_types.specs.declared.object.Section.{Section}
 use Rattle.sm_types.specs.declared.object.Section.TheVariants.{Text, Data}
 use Rattle.asm_core.specs.Layout.{here, here_in, size_of, grown_in, Label, label_at, if_some, place_after, place_past, labels_from, label_named, labels_of, first_place}
 use Rattle.asm_core.specs.Faults.{or_else, fault_if, misplaced, is_doubled, is_too_large, line_fault, labels_after, after_line, lines_fault, text_length_of}
 use Rattle.asm_core.specs.Limits.{IsInLimits}
-use Rattle.asm_core.specs.Known.{Knows, known, label_place}
+use Rattle.asm_core.specs.Known.{Knows, label_place}
 use Rattle.asm_core.specs.Emitted.{IsFine, AreNear}
 
 -- neither of two is a fault

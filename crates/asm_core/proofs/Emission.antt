@@ -16,7 +16,7 @@ use Rattle.asm_core.specs.Faults.{target_fault, targets_fault, labels_after, lin
 use Rattle.asm_core.specs.Limits.{IsInLimits}
 use Rattle.asm_core.specs.Assembly.{Puts, SymbolSaid, symbol_said, text_is, label_symbol, mapping_symbol, symbols_from}
 use Rattle.asm_core.specs.Parts.{bytes_in, ArePartsOf}
-use Rattle.asm_core.specs.Emitted.{Adds, other, line_symbols, HaveGrown, IsFine}
+use Rattle.asm_core.specs.Emitted.{other, line_symbols, HaveGrown}
 use Rattle.asm_core.proofs.Pieces.{piece_puts, puts_kept}
 use Rattle.asm_core.proofs.Accepted.{accepted_first, said_first, limits_after, one_line}
 
@@ -143,9 +143,9 @@ module _ (T : ℕ) (L : List Label) where
         puts = λ k lt. below_more P h.done
             (λ j less l is. put_before old.place old.code line old.parts new.parts (place_of ls j) l.says g (h.puts j less l is))
             (λ l is.
-                let one : line ≡ l = let found = get_next ls h.done line (said_lines texts) left in cc in
-                subst (λ (x : SourceLine). Puts T L (bytes_in new.parts (place_of ls h.done).part) (place_of ls h.done) x.says) one
-                (subst (λ (p : Place). Puts T L (bytes_in new.parts p.part) p line.says) h.place now))
+            let one : line ≡ l = let found = get_next ls h.done line (said_lines texts) left in cc in
+            subst (λ (x : SourceLine). Puts T L (bytes_in new.parts (place_of ls h.done).part) (place_of ls h.done) x.says) one
+            (subst (λ (p : Place). Puts T L (bytes_in new.parts p.part) p line.says) h.place now))
             k (omega arith);
         symbols = ap₂ (λ (p : Place) (c : Option Bool). map symbol_said new.parts.symbols.items ++ symbols_from T p c (said_lines texts)) place code
             ∙ symbols_next old.place old.code line (said_lines texts) old.parts new.parts g

@@ -1,10 +1,10 @@
 -- What a word means, by the rows of either table and by both.
-use Rattle.std.proofs.Common.{◌≡◌, inl, inr, ℕ, zero, suc, ◌+◌, ◌^◌, ◌<◌, Bool, true, false, cond, List, [], ◌∷◌, ◌++◌, length, slice_get, Option, Some, None, refl, sym, ap, ◌∙◌}
+use Rattle.std.proofs.Common.{◌≡◌, inl, inr, ℕ, zero, suc, ◌^◌, ◌<◌, true, false, cond, List, [], ◌∷◌, ◌++◌, slice_get, Option, Some, None, refl, sym, ap, ◌∙◌}
 use Rattle.std.specs.Option.{option_or}
 use Rattle.sm_types.specs.declared.insn.Insn.{Insn}
 use Rattle.a64_table.specs.declared.rows.Row.{Row}
 use Rattle.a64_table.specs.declared.rows.TheConstants.{SCALAR_ROWS}
-use Rattle.a64_table.specs.Meaning.{Means, HasAtMostOneRow, meaning_in, meaning_of, stands_for, insn_of}
+use Rattle.a64_table.specs.Meaning.{HasAtMostOneRow, meaning_in, meaning_of, stands_for, insn_of}
 use Rattle.a64_table.proofs.FirstRow.{first_means, row_first}
 use Rattle.sve_table.specs.declared.rows.TheConstants.{VECTOR_ROWS}
 use Rattle.sve_table.specs.Meaning.{vector_meaning_of, instruction_of}

@@ -1,5 +1,5 @@
 -- An instruction of a line of the grammar has a word.
-use Rattle.std.proofs.Common.{◌≡◌, ℕ, ◌-◌, ◌^◌, ◌<◌, Bool, true, false, cond, List, [], ◌∷◌, map, Option, Some, None, Result, Ok, Err, refl, subst}
+use Rattle.std.proofs.Common.{◌≡◌, ℕ, ◌-◌, ◌^◌, ◌<◌, true, false, cond, List, [], ◌∷◌, map, Option, Some, None, Result, Ok, refl, subst}
 use Rattle.std.specs.Prelude.{option_and_then}
 use Rattle.sm_types.specs.declared.insn.Insn.{Insn}
 use Rattle.sve_table.specs.Meaning.{instruction_of}
@@ -12,10 +12,11 @@ use Rattle.asm_operands.specs.declared.fault.FaultKind.TheVariants.{Extra}
 use Rattle.asm_operands.specs.Operands.{Fault, OperandsSaid, said_or, insn_said, operands_said, operand_fault, target_of, first_word, shapes_of, is_name}
 use Rattle.asm_operands.specs.Operands as operands
 use Rattle.asm_parser.specs.declared.line.LineFault.{LineFault}
-use Rattle.asm_parser.specs.Statements.{Says, Nothing, IntoText, IntoData, Quads, Words, Bytes, Zeros, Aligns, Globals, Instructs, SourceLine}
+use Rattle.asm_parser.specs.Statements.{Says, IntoText, IntoData, Quads, Words, Bytes, Zeros, Aligns, Globals, SourceLine}
 use Rattle.asm_parser.specs.Lines.{Answer, Tells, Stops, and_then, further, ends, number_value, one_number, one_name, values_from, quad_value, Directive, TextDirective, DataDirective, QuadDirective, WordDirective, ByteDirective, ZeroDirective, AlignDirective, GlobalDirective, directive_of, directive_says, instruction_or_fault, instruction_says, named_says, tokens_say, text_of_lexeme, line_answer, line_lexemes, label_of, line_of}
 use Rattle.asm_core.specs.Emitted.{IsEncodable, HasWord}
 use Rattle.asm_core.proofs.WordBounds.{said_lt}
+use Rattle.asm_core.proofs.Encodable.{means_either}
 
 abbrev Told : Answer Says → Type 0
 Told (Tells says) = HasWord says
@@ -52,7 +53,7 @@ Encodes (operands.Fails fault) = Unit {0}
 
 meaning_said : (fault : Fault) (target : Option ℕ) (word : ℕ) (o : Option Insn) → word < 2 ^ 32 → instruction_of word ≡ o → Encodes (said_or (operands.Fails fault) target o)
 meaning_said fault target word None lt e = tt
-meaning_said fault target word (Some it) lt e = record { word = word; small = lt; means = e }
+meaning_said fault target word (Some it) lt e = record { word = word; means = means_either word it lt e }
 
 word_said : (fault : Fault) (target : Option ℕ) (o : Option ℕ) → ((word : ℕ) → o ≡ Some word → word < 2 ^ 32) → Encodes (said_or (operands.Fails fault) target (option_and_then instruction_of o))
 word_said fault target None lt = tt

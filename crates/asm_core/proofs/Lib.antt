@@ -14,3 +14,5 @@ pub mod HasWords
 pub mod Encodable
 pub mod Stepped
 pub mod Emission
+pub mod PutFields
+pub mod StepFields

@@ -1,5 +1,5 @@
 -- Bytes that are put after others: they stand there, and those before stay.
-use Rattle.std.proofs.Common.{◌≡◌, ℕ, zero, suc, ◌+◌, ◌*◌, ◌<◌, ◌≤◌, Bool, true, false, ◌||◌, get_or, List, [], ◌∷◌, ◌++◌, length, take, drop, map, replicate, refl, sym, ap, ◌∙◌, subst, arith, length-append, append_assoc, min, Option}
+use Rattle.std.proofs.Common.{◌≡◌, ℕ, zero, suc, ◌*◌, ◌<◌, Bool, true, false, ◌||◌, get_or, List, [], ◌∷◌, ◌++◌, length, take, drop, map, replicate, refl, sym, ap, ◌∙◌, subst, arith, length-append, append_assoc, min, Option}
 use Rattle.std.proofs.lemmas.List.{length-take, length-replicate, length-map, take_all, drop_at, take-append-le, append-nil, map-append}
 use Rattle.std.proofs.lemmas.List.Folds.{list_any-append}
 use Rattle.std.specs.List.{list_any}
@@ -9,8 +9,8 @@ use Rattle.sm_types.specs.declared.insn.Insn.{Insn}
 use Rattle.asm_parser.specs.Statements.{QuadValue, Says, Nothing, IntoText, IntoData, Quads, Words, Bytes, Zeros, Aligns, Globals, Instructs}
 use Rattle.asm_core.specs.declared.place.Place.{Place}
 use Rattle.asm_core.specs.Layout.{Label, here, size_of, address_here}
-use Rattle.asm_core.specs.Assembly.{HasBytes, numbers_bytes, quad_number, aimed, IsAssembled, Puts}
-use Rattle.asm_core.specs.Emitted.{IsWordOf, IsWordAfter, IsPiece, Adds}
+use Rattle.asm_core.specs.Assembly.{HasBytes, numbers_bytes, quad_number, aimed, Puts}
+use Rattle.asm_core.specs.Emitted.{IsWordAfter, IsPiece, Adds}
 
 pub length-numbers : (width : ℕ) (ns : List ℕ) → length (numbers_bytes width ns) ≡ width * length ns
 length-numbers width [] = omega arith

@@ -1,10 +1,11 @@
 -- What the second pass has put of a source, line by line.
-use Rattle.std.specs.Prelude.{◌≡◌, ℕ, ◌<◌, ◌≤◌, ◌^◌, Bool, List, [], ◌∷◌, ◌++◌, length, map, replicate, Option, Some, Ok, false}
+use Rattle.std.specs.Prelude.{◌≡◌, ℕ, ◌≤◌, Bool, List, [], ◌∷◌, ◌++◌, length, map, replicate, Option, Some, Ok, false}
 use Rattle.byteorder.specs.Endian.{little_bytes}
 use Rattle.sm_types.specs.declared.insn.Insn.{Insn}
 use Rattle.sm_types.specs.declared.object.Section.{Section}
 use Rattle.sm_types.specs.declared.object.Section.TheVariants.{Text, Data}
 use Rattle.sve_table.specs.Meaning.{instruction_of}
+use Rattle.a64_encode.specs.Either.{MeansEither}
 use Rattle.asm_parser.specs.Statements.{Says, Nothing, IntoText, IntoData, Quads, Words, Bytes, Zeros, Aligns, Globals, Instructs, SourceLine}
 use Rattle.asm_parser.specs.Lines.{line_of}
 use Rattle.asm_core.specs.declared.place.Place.{Place}
@@ -17,11 +18,10 @@ use Rattle.asm_core.specs.Faults.{is_too_large}
 use Rattle.asm_core.specs.Known.{known}
 use Rattle.asm_core.specs.Parts.{bytes_in}
 
--- a word of 32 bits means the instruction
+-- a word means the instruction
 pub record IsEncodable (it : Insn) : Type 0 where
   pub word : ℕ
-  pub small : word < 2 ^ 32
-  pub means : instruction_of word ≡ Some it
+  pub means : MeansEither word it
 
 -- what a line says has a word, where it is an instruction
 abbrev pub HasWord : Says → Type 0

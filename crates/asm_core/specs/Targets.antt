@@ -1,6 +1,6 @@
 -- Instructions with a distance to a target: in which steps it is counted, how far it can be, and the instruction that has it.
 -- Source: DDI 0487, C6.2: ADR, ADRP, B, BL, B.cond, CBZ, CBNZ, TBZ, TBNZ, LDR (literal), LDRSW (literal).
-use Rattle.std.specs.Prelude.{ℕ, ◌+◌, ◌-◌, ◌*◌, ◌/◌, ◌%◌, ◌^◌, Bool, ◌==◌, ◌&&◌, nat_lt, nat_le, Option, Some, None, ℤ, pos, negsuc, ◌-ℤ◌, if◌then◌else◌}
+use Rattle.std.specs.Prelude.{ℕ, ◌-◌, ◌*◌, ◌/◌, ◌%◌, ◌^◌, ◌==◌, ◌&&◌, nat_lt, nat_le, Option, Some, None, ℤ, pos, ◌-ℤ◌, if◌then◌else◌}
 use Rattle.sm_types.specs.declared.insn.Insn.{Insn}
 use Rattle.sm_types.specs.declared.insn.Insn.TheVariants as insn
 use Rattle.sm_types.specs.declared.insn.Branch.{Branch}

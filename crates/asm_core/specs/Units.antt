@@ -1,5 +1,5 @@
 -- What the ranges of instructions have in common.
-use Rattle.std.specs.Prelude.{ℕ, ◌<◌, ◌≤◌}
+use Rattle.std.specs.Prelude.{◌<◌, ◌≤◌}
 use Rattle.asm_core.specs.declared.aim.Range.{Range}
 
 -- units of a byte, a word or a page, and a number of them that fits 32 bits

@@ -1,4 +1,4 @@
-use Rattle.std.proofs.Common.{◌≡◌, ◌+◌, ◌++◌, [], ◌∷◌, get_or, refl, take, map, false}
+use Rattle.std.proofs.Common.{◌≡◌, ◌+◌, ◌++◌, [], ◌∷◌, get_or, refl, take, map}
 use Rattle.std.proofs.lemmas.List.{take_more}
 use Rattle.asm_parser.specs.declared.line.Value.TheVariants as value
 use Rattle.asm_parser.specs.Statements.{value_of}

@@ -1,8 +1,7 @@
-use Rattle.std.proofs.Common.{◌≡◌, ◌+◌, ◌++◌, ◌≤◌, ◌<◌, ◌^◌, length, List, ℕ, Option, map, replicate, refl, sym, ap, ◌∙◌, subst, arith}
+use Rattle.std.proofs.Common.{◌≡◌, ◌+◌, ◌++◌, ◌≤◌, length, map, replicate, refl, ap, ◌∙◌, subst, arith}
 use Rattle.std.specs.Prelude.{option_map}
 use Rattle.std.proofs.lemmas.Result.{on_ok_weaker}
-use Rattle.byteorder.specs.Endian.{little_bytes}
-use Rattle.asm_parser.specs.Statements.{value_of, Quads, Words, Bytes, Zeros, Aligns, Globals, Instructs, Nothing, IntoText, IntoData}
+use Rattle.asm_parser.specs.Statements.{value_of, Aligns, Globals, Nothing, IntoText, IntoData}
 use Rattle.asm_core.specs.Layout.{here, size_of, address_in}
 use Rattle.asm_core.specs.Assembly.{quad_number, numbers_bytes, aimed}
 use Rattle.asm_core.specs.Emitted.{IsPiece, IsWordAfter}
@@ -26,8 +25,8 @@ returns-in-Instruction-clause-bytes c = λ list knows.
     rw c.in-Instruction.is
     (on_ok_weaker c.put_instruction.result
     (λ (h : IsWordAfter (aimed T list c.address_in-from.result it name) c.args.bytes.now.items c.put_instruction.new.bytes.items).
-        adds_word T list p it name c.in-Instruction.column c.args.bytes.now.items c.put_instruction.new.bytes.items
-        (subst (λ n. IsWordAfter (aimed T list n it name) c.args.bytes.now.items c.put_instruction.new.bytes.items) from h))
+    adds_word T list p it name c.in-Instruction.column c.args.bytes.now.items c.put_instruction.new.bytes.items
+    (subst (λ n. IsWordAfter (aimed T list n it name) c.args.bytes.now.items c.put_instruction.new.bytes.items) from h))
     (c.put_instruction.ensures.bytes list knows))
 
 pub returns-in-Quad-clause-bytes : goal.returns-in-Quad-clause-bytes
@@ -38,8 +37,8 @@ returns-in-Quad-clause-bytes c = λ list knows.
     rw c.in-Quad.is
     (on_ok_weaker c.put_quads.result
     (λ (e : new ≡ old ++ numbers_bytes 8 (map (quad_number T list) (map value_of c.deref.result.now))).
-        adds_quads T list c.args.place.now (map value_of c.in-Quad.values.items) old new
-        (e ∙ ap (λ x. old ++ numbers_bytes 8 (map (quad_number T list) (map value_of x))) c.deref.ensures.value))
+    adds_quads T list c.args.place.now (map value_of c.in-Quad.values.items) old new
+    (e ∙ ap (λ x. old ++ numbers_bytes 8 (map (quad_number T list) (map value_of x))) c.deref.ensures.value))
     (c.put_quads.ensures.bytes list knows))
 
 pub returns-in-Word-clause-bytes : goal.returns-in-Word-clause-bytes
@@ -49,7 +48,7 @@ returns-in-Word-clause-bytes c = λ list knows.
     rw c.in-Word.is
     (on_ok_weaker c.put_words.result
     (λ (e : new ≡ old ++ numbers_bytes 4 c.deref-in-Word.result.now).
-        adds_words c.args.text_size list c.args.place.now c.in-Word.numbers.items old new (e ∙ ap (λ x. old ++ numbers_bytes 4 x) c.deref-in-Word.ensures.value))
+    adds_words c.args.text_size list c.args.place.now c.in-Word.numbers.items old new (e ∙ ap (λ x. old ++ numbers_bytes 4 x) c.deref-in-Word.ensures.value))
     c.put_words.ensures.ok)
 
 pub returns-in-Byte-clause-bytes : goal.returns-in-Byte-clause-bytes
@@ -59,7 +58,7 @@ returns-in-Byte-clause-bytes c = λ list knows.
     rw c.in-Byte.is
     (on_ok_weaker c.put_all.result
     (λ (e : new ≡ old ++ c.deref-in-Byte.result.now).
-        adds_bytes c.args.text_size list c.args.place.now c.in-Byte.numbers.items old new (e ∙ ap (λ x. old ++ x) c.deref-in-Byte.ensures.value))
+    adds_bytes c.args.text_size list c.args.place.now c.in-Byte.numbers.items old new (e ∙ ap (λ x. old ++ x) c.deref-in-Byte.ensures.value))
     c.put_all.ensures.ok)
 
 pub returns-in-Zero-clause-bytes : goal.returns-in-Zero-clause-bytes

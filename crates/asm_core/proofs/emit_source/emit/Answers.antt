@@ -1,10 +1,8 @@
-use Rattle.std.proofs.Common.{◌≡◌, ◌+◌, ◌<◌, ◌≤◌, ℕ, List, [], ◌∷◌, None, Some, length, refl, sym, ap, ◌∙◌, subst, arith}
+use Rattle.std.proofs.Common.{◌≡◌, ◌≤◌, ℕ, List, None, Some, refl, sym, subst, arith}
 use Rattle.std.proofs.lemmas.Result.{err_from_is_err_and}
-use Rattle.asm_parser.specs.Statements.{SourceLine}
-use Rattle.asm_core.specs.declared.fault.AsmFault.{AsmFault}
 use Rattle.asm_core.specs.Source.{lines_of, said_lines}
 use Rattle.asm_core.specs.Layout.{first_place, labels_of}
-use Rattle.asm_core.specs.Faults.{lines_fault, targets_fault, text_length_of}
+use Rattle.asm_core.specs.Faults.{lines_fault, targets_fault}
 use Rattle.asm_core.proofs.Accepted.{fine_first, size_near, table_near}
 use Rattle.asm_core.proofs.Emission.{IsAt, at_start, at_next, at_fault, at_end, at_end_fine}
 use Rattle.asm_core.proofs.emit_source.emit.Goals as goal
@@ -42,9 +40,9 @@ returns-in_err-emit_line-clause-err c =
     let p = err_from_is_err_and c.from_residual.result c.from_residual.ensures.1 in
     rw (p.1, p.2)
     (λ differs.
-        subst (λ n. targets_fault 1 n L first_place ls ≡ Some c.in_err-emit_line.field-0.0) c.requires.size
-        (at_fault c.args.text_size L ls c.in-Some.text.now (lines_of c.in-Some.after.now) c.loop-text.number c.loop-text.emission fine.line c.in_err-emit_line.field-0.0 fine.says at
-        (c.in_err-emit_line.ensures.err L c.requires.knows fine.line fine.says differs)))
+    subst (λ n. targets_fault 1 n L first_place ls ≡ Some c.in_err-emit_line.field-0.0) c.requires.size
+    (at_fault c.args.text_size L ls c.in-Some.text.now (lines_of c.in-Some.after.now) c.loop-text.number c.loop-text.emission fine.line c.in_err-emit_line.field-0.0 fine.says at
+    (c.in_err-emit_line.ensures.err L c.requires.knows fine.line fine.says differs)))
 
 pub loop-text-preserved : goal.loop-text-preserved
 loop-text-preserved c = record {

@@ -9,4 +9,4 @@ pub returns-in-Some-steps_between-clause-has_word : goal.returns-in-Some-steps_b
 returns-in-Some-steps_between-clause-has_word c =
     let is : c.with_steps.result ≡ with_steps c.args.insn.now c.in-Some-steps_between.steps = search rules in
     subst (λ (it : Insn). IsEncodable it) (sym is)
-    (stepped_word c.args.insn.now c.in-Some.range c.args.from c.args.target c.in-Some-steps_between.steps (sym c.in-Some.ensures.value) (sym c.in-Some-steps_between.ensures) c.requires.has_word)
+    (stepped_word c.args.insn.now c.in-Some.range c.args.from c.args.target c.in-Some-steps_between.steps c.in-Some.ensures.range.signed (sym c.in-Some.ensures.value) (sym c.in-Some-steps_between.ensures) c.requires.has_word)
