@@ -1,6 +1,5 @@
 -- The faults of a source in their order.
-use Rattle.std.proofs.Common.{◌≡◌, ℕ, true, false, not, nat_lt, List, [], length, Option, Some, None, refl, sym, ap, ◌∙◌, subst}
-use Rattle.std.specs.Prelude.{is_some}
+use Rattle.std.proofs.Common.{◌≡◌, ℕ, true, false, nat_lt, List, [], length, Some, None, refl, ◌∙◌, subst}
 use Rattle.std.specs.Str.Lossy.{utf8_valid_len}
 use Rattle.sm_types.specs.declared.object.Object.{Object}
 use Rattle.sm_types.specs.declared.object.Section.{Section}

@@ -1,5 +1,5 @@
 -- The fault of a line by the tests on it, in their order.
-use Rattle.std.proofs.Common.{◌≡◌, ℕ, true, false, List, Option, Some, None, Ok, refl}
+use Rattle.std.proofs.Common.{◌≡◌, ℕ, true, false, List, Some, None, Ok, refl}
 use Rattle.asm_parser.specs.declared.line.LineFault.TheVariants.{BadOperand}
 use Rattle.asm_parser.specs.Statements.{SourceLine}
 use Rattle.asm_core.specs.declared.fault.AsmFault.TheVariants.{Line, Doubled, TooLarge}

@@ -1,5 +1,5 @@
 -- Each code word of a source's object means an instruction, since an instruction put it.
-use Rattle.std.proofs.Common.{◌≡◌, ℕ, zero, suc, ◌+◌, ◌-◌, ◌*◌, ◌/◌, ◌%◌, ◌^◌, ◌<◌, ◌≤◌, Bool, true, false, cond, ◌==◌, ◌&&◌, List, [], ◌∷◌, length, take, drop, map, Option, Some, None, Result, Ok, Err, refl, sym, ap, ◌∙◌, subst, arith}
+use Rattle.std.proofs.Common.{◌≡◌, ℕ, zero, suc, ◌+◌, ◌*◌, ◌/◌, ◌%◌, ◌^◌, ◌<◌, ◌≤◌, Bool, true, false, cond, ◌==◌, ◌&&◌, List, [], ◌∷◌, length, take, Option, Some, None, Ok, Err, refl, sym, ap, ◌∙◌, subst, arith}
 use Rattle.std.specs.Prelude.{slice_get, is_some, option_map}
 use Rattle.std.specs.List.{filter_map, cons_option, range_with_len, list_all}
 use Rattle.std.proofs.lemmas.Bool.Decides.{nat_tests}
@@ -8,7 +8,7 @@ use Rattle.sm_types.specs.declared.insn.Insn.{Insn}
 use Rattle.sm_types.specs.declared.object.TheConstants.{TEXT_ADDRESS}
 use Rattle.sm_types.specs.declared.object.Object.{Object}
 use Rattle.sm_types.specs.declared.object.Section.{Section}
-use Rattle.sm_types.specs.declared.object.Section.TheVariants.{Text, Data}
+use Rattle.sm_types.specs.declared.object.Section.TheVariants.{Text}
 use Rattle.sm_types.specs.Objects.{mappings_of, governing_mapping, mapping_says_code, is_text_code, little, text_word, object_word, object_code}
 use Rattle.sve_table.specs.Meaning.{instruction_of}
 use Rattle.asm_parser.specs.declared.line.LineFault.{LineFault}
@@ -18,10 +18,10 @@ use Rattle.asm_core.specs.declared.fault.AsmFault.{AsmFault}
 use Rattle.asm_core.specs.declared.place.Place.{Place}
 use Rattle.asm_core.specs.Source.{said_lines}
 use Rattle.asm_core.specs.Layout.{first_place, here_in, here, size_of, Label, labels_of, place_after, place_past}
-use Rattle.asm_core.specs.Faults.{or_else, misplaced, after_line, line_fault, lines_fault, labels_after, text_length_of}
-use Rattle.asm_core.specs.Assembly.{HasBytes, IsAssembled, Puts, part_bytes, symbol_said, is_instruction, symbols_from, IsObjectOf}
+use Rattle.asm_core.specs.Faults.{or_else, misplaced, line_fault, lines_fault, labels_after, text_length_of}
+use Rattle.asm_core.specs.Assembly.{IsAssembled, Puts, part_bytes, is_instruction, IsObjectOf}
 use Rattle.asm_core.specs.Sound.{is_listed}
-use Rattle.asm_core.proofs.Marks.{mappings_said, marks_said, Put, told}
+use Rattle.asm_core.proofs.Marks.{mappings_said, marks_said, told}
 use Rattle.asm_core.proofs.Surveying.{lines_cons, said_cons, line_passes}
 
 -- ---- instructions stand at multiples of 4

@@ -1,5 +1,5 @@
 -- What the mapping symbols of a source's lines say of each byte of its text: whether an instruction put it.
-use Rattle.std.proofs.Common.{◌≡◌, ℕ, zero, suc, ◌+◌, ◌<◌, ◌≤◌, ◌⊎◌, inl, inr, Bool, true, false, not, cond, ◌&&◌, List, [], ◌∷◌, ◌++◌, take, map, Option, Some, None, nat_lt, nat_le, refl, sym, ap, ◌∙◌, subst, arith}
+use Rattle.std.proofs.Common.{◌≡◌, ℕ, suc, ◌+◌, ◌<◌, ◌≤◌, ◌⊎◌, inl, inr, Bool, true, false, not, cond, ◌&&◌, List, [], ◌∷◌, ◌++◌, take, map, Option, Some, None, nat_lt, nat_le, refl, sym, ap, ◌∙◌, subst, arith}
 use Rattle.std.specs.Prelude.{slice_get, is_none}
 use Rattle.std.specs.List.{filter_map, cons_option}
 use Rattle.std.proofs.lemmas.Bool.Decides.{nat_tests}
@@ -10,7 +10,7 @@ use Rattle.sm_types.specs.declared.object.Symbol.{Symbol}
 use Rattle.sm_types.specs.Objects.{Mapping, mapping_at, says_in, name_says, symbol_says, mapping_of, mappings_of, later_mapping, governing_mapping, mapping_says_code}
 use Rattle.asm_parser.specs.Statements.{Says, SourceLine}
 use Rattle.asm_core.specs.declared.place.Place.{Place}
-use Rattle.asm_core.specs.Layout.{here_in, here, grown_in, size_of, part_after, place_after, place_past, address_in, address_here}
+use Rattle.asm_core.specs.Layout.{here_in, here, grown_in, size_of, place_after, place_past, address_in, address_here}
 use Rattle.asm_core.specs.Assembly.{SymbolSaid, symbol_said, label_symbol, is_instruction, fills_in, fills_text, text_is, is_same, mapping_name, mapping_symbol, symbols_from}
 
 -- ---- from symbols to mapping symbols

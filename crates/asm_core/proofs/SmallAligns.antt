@@ -1,17 +1,16 @@
 -- A line of the grammar aligns to 2 ^ 12 at most.
-use Rattle.std.proofs.Common.{◌≡◌, ℕ, ◌+◌, ◌-◌, ◌^◌, ◌≤◌, Bool, true, false, cond, List, [], ◌∷◌, map, slice_get, Option, Some, None, Result, Ok, Err, nat_le, refl, subst, sym, ap, leb-true}
+use Rattle.std.proofs.Common.{◌≡◌, ℕ, ◌-◌, ◌^◌, ◌≤◌, Bool, true, false, cond, List, [], ◌∷◌, Option, Some, None, Result, Ok, nat_le, refl, subst, leb-true}
 use Rattle.insn_text.specs.declared.words.TheConstants.{NAMES}
 use Rattle.asm_tokens.specs.declared.token.Token.{Token}
 use Rattle.asm_tokens.specs.declared.token.Token.TheVariants.{Word, Name, Number, Distance, Bare, Malformed, Mark, Other}
 use Rattle.asm_tokens.specs.declared.token.Lexeme.{Lexeme}
 use Rattle.asm_tokens.specs.Characters.{column_at, before_comment}
 use Rattle.asm_tokens.specs.Tokens.{place_in}
-use Rattle.asm_operands.specs.declared.fault.FaultKind.{FaultKind}
 use Rattle.asm_operands.specs.declared.fault.FaultKind.TheVariants.{Extra}
 use Rattle.asm_operands.specs.Operands.{OperandsSaid, operands_said, is_name, is_number_token}
 use Rattle.asm_operands.specs.Operands as operands
 use Rattle.asm_parser.specs.declared.line.LineFault.{LineFault}
-use Rattle.asm_parser.specs.Statements.{Says, Nothing, IntoText, IntoData, Quads, Words, Bytes, Zeros, Aligns, Globals, Instructs, SourceLine}
+use Rattle.asm_parser.specs.Statements.{Says, IntoText, IntoData, Quads, Words, Bytes, Zeros, Aligns, Globals, SourceLine}
 use Rattle.asm_parser.specs.Lines.{Answer, Tells, Stops, and_then, further, ends, no_number, number_up_to, number_then_end, one_number, one_name, values_from, quad_value, number_value, Directive, TextDirective, DataDirective, QuadDirective, WordDirective, ByteDirective, ZeroDirective, AlignDirective, GlobalDirective, directive_of, directive_says, instruction_or_fault, instruction_says, named_says, tokens_say, text_of_lexeme, line_answer, line_lexemes, label_of, line_of}
 use Rattle.asm_core.specs.Limits.{HasSmallAlign}
 

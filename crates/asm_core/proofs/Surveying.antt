@@ -1,7 +1,6 @@
 -- The steps of the first pass.
-use Rattle.std.proofs.Common.{◌≡◌, ℕ, ◌+◌, ◌-◌, ◌<◌, ◌≤◌, ◌≢◌, Bool, true, false, cond, not, List, [], ◌∷◌, ◌++◌, length, map, Option, Some, None, Result, Ok, Err, refl, sym, ap, ◌∙◌, subst, arith}
+use Rattle.std.proofs.Common.{◌≡◌, ℕ, ◌+◌, ◌<◌, ◌≤◌, ◌≢◌, Bool, true, false, cond, List, [], ◌∷◌, ◌++◌, length, Option, Some, None, Ok, Err, refl, sym, ap, ◌∙◌, subst, arith}
 use Rattle.std.specs.Prelude.{option_map, is_some}
-use Rattle.std.specs.List.{find, filter_map}
 use Rattle.std.specs.Str.{bytes_eq}
 use Rattle.std.proofs.lemmas.List.{append_assoc}
 use Rattle.std.proofs.lemmas.Slice.Eq.{bytes_eq-Decides}
@@ -11,12 +10,10 @@ use Rattle.asm_parser.specs.Lines.{line_of}
 use Rattle.asm_core.specs.declared.fault.AsmFault.{AsmFault}
 use Rattle.asm_core.specs.declared.fault.AsmFault.TheVariants.{Line}
 use Rattle.asm_core.specs.declared.labels.Labels.{Labels}
-use Rattle.asm_core.specs.declared.labels.LabelPlace.{LabelPlace}
 use Rattle.asm_core.specs.declared.place.Place.{Place}
-use Rattle.asm_core.specs.Source.{lines_of, said_lines, if_line}
-use Rattle.asm_core.specs.Layout.{first_place, here, Label, label_at, if_some, label_named, labels_of, labels_from, place_after, place_past}
+use Rattle.asm_core.specs.Source.{lines_of, said_lines}
+use Rattle.asm_core.specs.Layout.{first_place, Label, label_at, if_some, label_named, labels_of, labels_from, place_after, place_past}
 use Rattle.asm_core.specs.Faults.{or_else, after_line, line_fault, lines_fault, labels_after}
-use Rattle.asm_core.specs.Limits.{IsInLimits}
 use Rattle.asm_core.specs.Known.{known, label_place, Knows}
 use Rattle.asm_core.specs.Surveyed.{fault_at, Passes, IsSurveyedTo}
 use Rattle.asm_core.specs.declared.fault.AsmFault.TheVariants as fault

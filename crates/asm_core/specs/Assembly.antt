@@ -1,6 +1,6 @@
 -- The object of a source: the bytes that its lines put, its symbols and its start.
 -- Source: the GNU assembler for directives; ELF for the Arm 64-bit Architecture (AArch64), mapping symbols `$x` and `$d`.
-use Rattle.std.specs.Prelude.{◌≡◌, ℕ, ◌+◌, ◌%◌, ◌^◌, ◌<◌, Bool, true, false, not, ◌&&◌, ◌==◌, nat_lt, List, [], ◌∷◌, ◌++◌, length, take, drop, map, replicate, slice_get, Option, Some, None, is_none, codes, if◌then◌else◌, ℤ}
+use Rattle.std.specs.Prelude.{◌≡◌, ℕ, ◌^◌, ◌<◌, Bool, true, false, not, ◌&&◌, nat_lt, List, [], ◌∷◌, ◌++◌, length, take, drop, map, replicate, slice_get, Option, Some, None, is_none, codes, if◌then◌else◌, ℤ}
 use Rattle.std.specs.List.{concat}
 use Rattle.byteorder.specs.Endian.{little_bytes}
 use Rattle.sm_types.specs.declared.insn.Insn.{Insn}

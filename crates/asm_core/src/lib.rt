@@ -15,8 +15,8 @@ mod parts;
 mod place;
 mod start;
 mod survey;
-mod text;
 mod symbols;
+mod text;
 
 pub use fault::AsmFault;
 pub use object::assemble;

@@ -1,4 +1,4 @@
-use Rattle.std.proofs.Common.{◌≡◌, ℕ, Option, Some, None, true, false, sym, ap, ◌∙◌}
+use Rattle.std.proofs.Common.{◌≡◌, Some, None, sym, ap, ◌∙◌}
 use Rattle.asm_parser.specs.Statements.{line_said, says_of}
 use Rattle.asm_core.specs.Layout.{here}
 use Rattle.asm_core.specs.Faults.{misplaced}

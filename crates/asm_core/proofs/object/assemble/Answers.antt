@@ -1,10 +1,9 @@
-use Rattle.std.proofs.Common.{◌≡◌, ℕ, true, false, nat_lt, length, List, Some, None, sym, ap, ◌∙◌, subst, arith}
+use Rattle.std.proofs.Common.{◌≡◌, true, false, nat_lt, length, Some, sym, ap, ◌∙◌, arith}
 use Rattle.std.proofs.lemmas.Bool.Decides.{nat_tests}
-use Rattle.std.specs.Str.Lossy.{utf8_valid_len}
 use Rattle.asm_core.specs.declared.fault.AsmFault.TheVariants.{NotText}
 use Rattle.asm_core.specs.declared.place.Place.{Place}
 use Rattle.asm_core.specs.Source.{lines_of, said_lines}
-use Rattle.asm_core.specs.Layout.{first_place, place_past, labels_of}
+use Rattle.asm_core.specs.Layout.{labels_of}
 use Rattle.asm_core.specs.Faults.{start_of, text_length_of}
 use Rattle.asm_core.proofs.Chain.{long_source, no_text, line_fault_is, target_fault_is, no_start_is, no_fault_is, assembled}
 use Rattle.asm_core.proofs.Sounds.{sound_object}

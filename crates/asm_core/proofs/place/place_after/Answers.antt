@@ -1,7 +1,6 @@
-use Rattle.std.proofs.Common.{◌≡◌, ◌<◌, ◌≤◌, ◌+◌, ℕ, sym, subst, ap, ◌∙◌}
+use Rattle.std.proofs.Common.{◌≡◌, ◌<◌, ◌≤◌, ◌+◌, sym, subst, ap, ◌∙◌}
 use Rattle.asm_parser.specs.Statements.{says_of}
-use Rattle.asm_core.specs.declared.place.Place.{Place}
-use Rattle.asm_core.specs.Layout.{here, size_of, place_after}
+use Rattle.asm_core.specs.Layout.{here, size_of}
 use Rattle.asm_core.specs.Limits.{IsInLimits}
 use Rattle.asm_core.proofs.Places.{too_large, in_limits, not_too_large, grown_place}
 use Rattle.asm_core.proofs.place.place_after.Goals as goal

@@ -1,9 +1,5 @@
-use Rattle.std.proofs.Common.{◌≡◌, ◌∙◌, ℕ, List, sym, ap, Some, cond}
-use Rattle.std.specs.Str.{bytes_eq}
-use Rattle.asm_core.specs.declared.labels.LabelPlace.{LabelPlace}
 use Rattle.asm_core.specs.Layout.{label_at}
-use Rattle.asm_core.specs.Known.{known}
-use Rattle.asm_core.proofs.Surveying.{knows_more, knows_same, doubled_name}
+use Rattle.asm_core.proofs.Surveying.{knows_more, doubled_name}
 use Rattle.asm_core.proofs.survey.add_label.Goals as goal
 
 pub returns-in-Ok-clause-ok : goal.returns-in-Ok-clause-ok

@@ -1,5 +1,4 @@
-use Rattle.std.proofs.Common.{◌≡◌, subst, sym}
-use Rattle.asm_parser.specs.Statements.{line_said, says_of}
+use Rattle.asm_parser.specs.Statements.{line_said}
 use Rattle.asm_core.proofs.SmallAligns.{small_align}
 use Rattle.asm_core.proofs.Surveying.{read_fault}
 use Rattle.asm_core.proofs.survey.read_line.Goals as goal

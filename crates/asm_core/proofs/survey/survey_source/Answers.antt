@@ -1,4 +1,4 @@
-use Rattle.std.proofs.Common.{◌≡◌, ◌≤◌, ◌+◌, length, sym, ◌∙◌, ap, subst, arith}
+use Rattle.std.proofs.Common.{◌≤◌, ◌+◌, length, arith}
 use Rattle.asm_core.proofs.Surveying.{surveyed_none, surveyed_more, surveyed_stops, all_accepted, all_known, all_placed}
 use Rattle.asm_core.proofs.survey.survey_source.Goals as goal
 
