@@ -2,13 +2,13 @@
 use Rattle.std.proofs.Common.{◌≡◌, ℕ, ◌+◌, ◌<◌, ◌≤◌, Bool, true, false, cond, List, [], ◌∷◌, length, Option, Some, None, refl, sym, ◌∙◌, arith}
 use Rattle.std.specs.Prelude.{◌↔◌, slice_get, is_some, is_none, IsSome, option_and_then, option_map}
 use Rattle.std.specs.List.{find, range_with_len}
-use Rattle.cmd_words.specs.Words.{Fault, Request, verb_of, command_fault, missing_fault, request_for, fault_at, place_fault, usage_fault, command_of}
+use Rattle.cmd_words.specs.Words.{Fault, Request, verb_of, command_fault, missing_fault, named_fault, rest_fault, request_for, fault_at, place_fault, usage_fault, command_of}
 use Rattle.cmd_words.specs.declared.command.UsageKind.{UsageKind}
 use Rattle.cmd_words.specs.declared.command.UsageKind.TheVariants.{Unknown}
 use Rattle.cmd_words.specs.declared.verb.Verb.{Verb}
-use Rattle.cmd_words.specs.declared.verb.Verb.TheVariants.{Run, Dis, Help, Version}
+use Rattle.cmd_words.specs.declared.verb.Verb.TheVariants.{Run, Dis, Asm, Help, Version}
 use Rattle.cmd_words.proofs.Places.{none-find, find-passes}
-use Rattle.cmd_words.proofs.Reading.{fault_at-name, listed-name}
+use Rattle.cmd_words.proofs.Reading.{fault_at-name, named_first}
 
 none_if_not : {A : Type 0} (o : Option A) → is_some o ≡ false → o ≡ None
 none_if_not None e = refl
@@ -49,10 +49,16 @@ some_word : (words : List (List ℕ)) (verb : Verb) → option_and_then verb_of 
 some_word [] verb e = cc
 some_word (w ∷ ws) verb e = omega arith
 
+-- a command that takes a name alone has its name
+name_given : (words : List (List ℕ)) (verb : Verb) → usage_fault words ≡ None → option_and_then verb_of (slice_get words 0) ≡ Some verb → ((place : ℕ) → rest_fault (Some verb) words place ≡ named_fault words place) → IsSome (slice_get words 1)
+name_given words verb none is named =
+    name_stands (slice_get words 1) (sym (named_first words verb is named) ∙ no_place words none 1 (let l : 1 ≤ length words = some_word words verb is in omega arith))
+
 -- a command that stands asks for something
 requested : (words : List (List ℕ)) (verb : Verb) → usage_fault words ≡ None → option_and_then verb_of (slice_get words 0) ≡ Some verb → IsSome (request_for words verb)
 requested words Run none is = map_is_some _ (slice_get words 1) (name_stands (slice_get words 1) (sym (fault_at-name words is) ∙ no_place words none 1 (let l : 1 ≤ length words = some_word words Run is in omega arith)))
-requested words Dis none is = map_is_some _ (slice_get words 1) (name_stands (slice_get words 1) (sym (listed-name words is) ∙ no_place words none 1 (let l : 1 ≤ length words = some_word words Dis is in omega arith)))
+requested words Dis none is = map_is_some _ (slice_get words 1) (name_given words Dis none is (λ place. refl))
+requested words Asm none is = map_is_some _ (slice_get words 1) (name_given words Asm none is (λ place. refl))
 requested words Help none is = refl
 requested words Version none is = refl
 

@@ -9,14 +9,14 @@ use Rattle.std.proofs.lemmas.Slice.Eq.{bytes_eq-Decides}
 use Rattle.cmd_words.specs.Numbers.{is_number, number_of}
 use Rattle.cmd_words.specs.Options.{Options, word_of, setting_of, takes, default_of}
 use Rattle.cmd_words.specs.Words.{Request, AsksRun, verb_of, command_fault, missing_fault, extra_fault, named_fault, request_for, stands_at, option_place, option_fault, value_fault, run_fault, rest_fault, fault_at, usage_fault, value_below, number_given, options_given, command_of}
-use Rattle.cmd_words.specs.Given.{given_of, IsRun, IsDis, IsReadTo}
+use Rattle.cmd_words.specs.Given.{given_of, IsRun, HasName, IsReadTo}
 use Rattle.cmd_words.specs.declared.command.UsageKind.{UsageKind}
 use Rattle.cmd_words.specs.declared.command.UsageKind.TheVariants.{Unknown, Missing, Repeated, Extra}
 use Rattle.cmd_words.specs.declared.given.Given.{Given}
 use Rattle.cmd_words.specs.declared.setting.Setting.{Setting}
 use Rattle.cmd_words.specs.declared.setting.Setting.TheVariants.{Vl, Svl, Budget}
 use Rattle.cmd_words.specs.declared.verb.Verb.{Verb}
-use Rattle.cmd_words.specs.declared.verb.Verb.TheVariants.{Run, Dis}
+use Rattle.cmd_words.specs.declared.verb.Verb.TheVariants.{Run}
 use Rattle.cmd_words.proofs.Places.{or_next, find-more}
 use Rattle.cmd_words.proofs.Faults.{fault_at-option, fault_at-value, usage_at, usage_none}
 
@@ -364,9 +364,11 @@ module _ (words : List (List ℕ)) (verb : Verb) (is : option_and_then verb_of (
   unfolding command_of
   named_command request some l e = rw (usage_none words (λ q b. named_sound some l q), is) e
 
--- after `dis`, the program's name is to stand
-pub listed-name : (words : List (List ℕ)) → IsDis words → fault_at words 1 ≡ missing_fault (slice_get words 1)
-listed-name words dis = named_first words Dis dis (λ place. refl)
+-- a command that takes a name alone asks for what it is with its name
+pub named_request : (words : List (List ℕ)) (verb : Verb) → option_and_then verb_of (slice_get words 0) ≡ Some verb → ((place : ℕ) → rest_fault (Some verb) words place ≡ named_fault words place)
+    → (asks : List ℕ → Request) (name : List ℕ) → request_for words verb ≡ option_map asks (slice_get words 1) → HasName words name → command_of words ≡ Some (asks name)
+named_request words verb is named asks name says has =
+    named_command words verb is named (asks name) (rw has.0 refl) has.1 (says ∙ ap (option_map asks) has.0)
 
 -- no option is read yet
 pub read_start : (words : List (List ℕ)) (given : Given) → IsRun words → IsSome (slice_get words 1) → ((s : Setting) → given_of given s ≡ None) → IsReadTo words 2 given

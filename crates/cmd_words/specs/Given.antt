@@ -6,7 +6,7 @@ use Rattle.cmd_words.specs.Words.{verb_of, option_place, value_below, fault_at}
 use Rattle.cmd_words.specs.declared.given.Given.{Given}
 use Rattle.cmd_words.specs.declared.setting.Setting.{Setting}
 use Rattle.cmd_words.specs.declared.setting.Setting.TheVariants.{Vl, Svl, Budget}
-use Rattle.cmd_words.specs.declared.verb.Verb.TheVariants.{Run, Dis, Help, Version}
+use Rattle.cmd_words.specs.declared.verb.Verb.TheVariants.{Run, Dis, Asm, Help, Version}
 
 -- the number of an option, where it is given
 abbrev pub given_of : Given → Setting → Option ℕ
@@ -22,9 +22,13 @@ IsRun words = option_and_then verb_of (slice_get words 0) ≡ Some Run
 abbrev pub IsAlone : List (List ℕ) → Type 0
 IsAlone words = (option_and_then verb_of (slice_get words 0) ≡ Some Help) ⊎ (option_and_then verb_of (slice_get words 0) ≡ Some Version)
 
--- the first word is `dis`
-abbrev pub IsDis : List (List ℕ) → Type 0
-IsDis words = option_and_then verb_of (slice_get words 0) ≡ Some Dis
+-- the first word is a command that takes a name alone
+abbrev pub IsNamed : List (List ℕ) → Type 0
+IsNamed words = (option_and_then verb_of (slice_get words 0) ≡ Some Dis) ⊎ (option_and_then verb_of (slice_get words 0) ≡ Some Asm)
+
+-- the name stands after the command, and nothing more
+abbrev pub HasName : List (List ℕ) → List ℕ → Type 0
+HasName words name = (slice_get words 1 ≡ Some name) × (length words ≤ 2)
 
 -- the words of a run below place n, an even one, have no fault, and give these options
 pub record IsReadTo (words : List (List ℕ)) (n : ℕ) (given : Given) : Type 0 where

@@ -11,16 +11,17 @@ use Rattle.cmd_words.specs.declared.command.UsageKind.TheVariants.{Unknown, Miss
 use Rattle.cmd_words.specs.declared.setting.Setting.{Setting}
 use Rattle.cmd_words.specs.declared.setting.Setting.TheVariants.{Vl, Svl, Budget}
 use Rattle.cmd_words.specs.declared.verb.Verb.{Verb}
-use Rattle.cmd_words.specs.declared.verb.Verb.TheVariants.{Run, Dis, Help, Version}
+use Rattle.cmd_words.specs.declared.verb.Verb.TheVariants.{Run, Dis, Asm, Help, Version}
 
 -- the command of a word
 unfoldable pub verb_of : List ℕ → Option Verb
 verb_of word =
     if bytes_eq word (codes "run") then Some Run
     else (if bytes_eq word (codes "dis") then Some Dis
+    else (if bytes_eq word (codes "asm") then Some Asm
     else (if bytes_eq word (codes "--help") then Some Help
     else (if bytes_eq word (codes "--version") then Some Version
-    else None)))
+    else None))))
 
 -- that word stands at the place as an option does: at an even place from 2 on
 abbrev pub stands_at : List (List ℕ) → List ℕ → ℕ → Bool
@@ -83,6 +84,7 @@ abbrev pub rest_fault : Option Verb → List (List ℕ) → ℕ → Option Usage
 rest_fault None words place = None
 rest_fault (Some Run) words place = run_fault words place
 rest_fault (Some Dis) words place = named_fault words place
+rest_fault (Some Asm) words place = named_fault words place
 rest_fault (Some Help) words place = extra_fault (slice_get words place)
 rest_fault (Some Version) words place = extra_fault (slice_get words place)
 
@@ -132,6 +134,8 @@ pub data Request : Type 0 where
   AsksRun : List ℕ → Options → Request
   -- the listing of the program of that name
   AsksListing : List ℕ → Request
+  -- the program that the source of that name is assembled to
+  AsksAssembly : List ℕ → Request
   -- the text of help
   AsksHelp : Request
   -- the version
@@ -141,6 +145,7 @@ pub data Request : Type 0 where
 abbrev pub request_for : List (List ℕ) → Verb → Option Request
 request_for words Run = option_map (λ name. AsksRun name (options_given words)) (slice_get words 1)
 request_for words Dis = option_map AsksListing (slice_get words 1)
+request_for words Asm = option_map AsksAssembly (slice_get words 1)
 request_for words Help = Some AsksHelp
 request_for words Version = Some AsksVersion
 

@@ -9,6 +9,8 @@ pub enum Command {
     Run { program: String, config: Config },
     /// Lists the code words of the program file of that name.
     Dis { program: String },
+    /// Assembles the source file of that name.
+    Asm { source: String },
     /// Tells how the command is used.
     Help,
     /// Tells the version.

@@ -7,6 +7,7 @@ ghost use Rattle.cmd_words.specs.Words as spec;
 pub enum Verb {
     Run,
     Dis,
+    Asm,
     Help,
     Version,
 }
@@ -20,6 +21,8 @@ pub fn verb_of(word: &str) -> Option<Verb>
         Some(Verb::Run)
     } else if word == "dis" {
         Some(Verb::Dis)
+    } else if word == "asm" {
+        Some(Verb::Asm)
     } else if word == "--help" {
         Some(Verb::Help)
     } else if word == "--version" {

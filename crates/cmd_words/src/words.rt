@@ -5,7 +5,7 @@ ghost use Rattle.cmd_words.specs.Numbers as numbers;
 ghost use Rattle.cmd_words.specs.Options as options;
 ghost use Rattle.cmd_words.specs.Words.{command_of, value_fault};
 ghost use Rattle.cmd_words.specs.Command.{request_of, IsFirstFault};
-ghost use Rattle.cmd_words.specs.Given.{given_of, IsRun, IsDis, IsAlone, IsReadTo};
+ghost use Rattle.cmd_words.specs.Given.{given_of, IsRun, IsNamed, HasName, IsAlone, IsReadTo};
 
 use crate::command::{Command, UsageKind, WordsFault};
 use crate::given::Given;
@@ -118,11 +118,11 @@ fn read_run(alloc: Global, words: &[String]) -> Result<Command, WordsFault>
     }
 }
 
-/// Reads the words after `dis`: the program's name, and nothing more.
-fn read_dis(alloc: Global, words: &[String]) -> Result<Command, WordsFault>
-    requires { IsDis (map string_bytes words.now) }
-    ensures command { IfOk result (λ command. command_of (map string_bytes words.now) ≡ Some (request_of command)) }
-    ensures fault { IfErr result (IsFirstFault (map string_bytes words.now)) }
+/// Reads the words after a command that takes a name alone: the name, and nothing more.
+fn read_name(alloc: Global, words: &[String]) -> Result<String, WordsFault>
+    requires { IsNamed (map string_bytes words.now) }
+    ensures ok { IfOk result (λ name. HasName (map string_bytes words.now) (string_bytes name)) }
+    ensures err { IfErr result (IsFirstFault (map string_bytes words.now)) }
 {
     let Some(name) = word_at(words, 1) else {
         return Err(usage(1, UsageKind::Missing));
@@ -131,7 +131,7 @@ fn read_dis(alloc: Global, words: &[String]) -> Result<Command, WordsFault>
         return Err(usage(2, UsageKind::Extra));
     }
     match String::from_str(alloc, name) {
-        Ok(program) => Ok(Command::Dis { program }),
+        Ok(name) => Ok(name),
         Err(_) => Err(WordsFault::Memory),
     }
 }
@@ -159,7 +159,14 @@ pub fn read_words(alloc: Global, words: &[String]) -> Result<Command, WordsFault
     };
     match verb_of(word) {
         Some(Verb::Run) => read_run(alloc, words),
-        Some(Verb::Dis) => read_dis(alloc, words),
+        Some(Verb::Dis) => {
+            let program = read_name(alloc, words)?;
+            Ok(Command::Dis { program })
+        }
+        Some(Verb::Asm) => {
+            let source = read_name(alloc, words)?;
+            Ok(Command::Asm { source })
+        }
         Some(Verb::Help) => {
             check_alone(words)?;
             Ok(Command::Help)
@@ -188,7 +195,7 @@ mod tests {
 
     #[test]
     fn the_first_fault_has_its_place_and_kind(rt: HostRuntime) -> Result<(), Fail> {
-        let cases: [(&[&str], usize, UsageKind); 29] = [
+        let cases: [(&[&str], usize, UsageKind); 33] = [
             (&[], 0, UsageKind::Missing),
             (&["walk", "p"], 0, UsageKind::Unknown),
             (&["RUN", "p"], 0, UsageKind::Unknown),
@@ -247,6 +254,10 @@ mod tests {
             (&["dis"], 1, UsageKind::Missing),
             (&["dis", "p", "--vl"], 2, UsageKind::Extra),
             (&["dis", "p", "q", "r"], 2, UsageKind::Extra),
+            (&["asm"], 1, UsageKind::Missing),
+            (&["asm", "s", "--budget", "1"], 2, UsageKind::Extra),
+            (&["asm", "s", "t", "u"], 2, UsageKind::Extra),
+            (&["Asm", "s"], 0, UsageKind::Unknown),
         ];
         for (texts, place, kind) in cases {
             let words = words(rt.alloc(), texts)?;
@@ -298,7 +309,7 @@ mod tests {
                     assert_eq!(rt; (config.vl, config.svl, config.budget), (vl, svl, budget));
                     assert_eq!(rt; (config.slice, config.threads, config.cores), (1000, 1, 1));
                 }
-                _ => assert!(rt; false, "{texts:?}"),
+                _other => assert!(rt; false, "{texts:?}"),
             }
         }
         Ok(())
@@ -309,7 +320,17 @@ mod tests {
         let words = words(rt.alloc(), &["dis", "--vl"])?;
         match read_words(rt.alloc(), words.as_slice()) {
             Ok(Command::Dis { program }) => assert_eq!(rt; program.as_str(), "--vl"),
-            _ => assert!(rt; false),
+            _other => assert!(rt; false),
+        }
+        Ok(())
+    }
+
+    #[test]
+    fn an_assembly_takes_a_name(rt: HostRuntime) -> Result<(), Fail> {
+        let words = words(rt.alloc(), &["asm", "dis"])?;
+        match read_words(rt.alloc(), words.as_slice()) {
+            Ok(Command::Asm { source }) => assert_eq!(rt; source.as_str(), "dis"),
+            _other => assert!(rt; false),
         }
         Ok(())
     }

@@ -1,3 +1,4 @@
 pub mod Whole
+pub mod Writable
 pub mod Outcomes
 pub mod Due

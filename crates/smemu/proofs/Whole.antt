@@ -1,26 +1,19 @@
--- What is fetched of a file, with a limit of one byte more than a program file may have, stands for the whole file.
-use Rattle.std.proofs.Common.{◌≡◌, ℕ, ◌<◌, ◌≤◌, ◌⊎◌, inl, inr, List, take, length, Option, Some, None, refl, sym, ◌∙◌, ap, arith}
+-- What is fetched of a file, with a limit of one byte more than a program file or a source may have, stands for the whole file.
+use Rattle.std.proofs.Common.{◌≡◌, ℕ, ◌<◌, ◌≤◌, ◌⊎◌, inl, inr, List, take, length, true, Option, Some, None, refl, sym, ◌∙◌, ap, arith}
+use Rattle.std.proofs.lemmas.Bool.Decides.{nat_tests}
 use Rattle.std.proofs.lemmas.Grind.{common_steps}
-use Rattle.std.specs.Prelude.{IfSome, option_map}
+use Rattle.std.specs.Prelude.{IfSome, option_map, nat_lt}
+use Rattle.asm_core.specs.Faults.{asm_fault}
+use Rattle.asm_core.specs.declared.fault.AsmFault.{AsmFault}
+use Rattle.asm_core.specs.declared.fault.AsmFault.TheVariants as asm
 use Rattle.elf_headers.specs.declared.fault.LoadFault.{LoadFault}
-use Rattle.elf_headers.specs.declared.fault.LoadFault.TheVariants.{TooLong}
+use Rattle.elf_headers.specs.declared.fault.LoadFault.TheVariants as load
 use Rattle.elf_loader.specs.Loading.{load_fault, Refuses}
 use Rattle.elf_loader.proofs.Checks.{long_refused}
 use Rattle.smemu.specs.Answers.{Told, IsFile}
 
 low_or : (a b : ℕ) → (a < b) ⊎ (b ≤ a)
 low_or a b = grind arith
-
-refused_or_not : (o : Option LoadFault) (f : LoadFault) → o ≡ None → o ≡ Some f → ⊥
-refused_or_not o f e h = cc
-
--- a file that is loaded is short enough
-accepted_short : (file : List ℕ) → load_fault file ≡ None → length file ≤ 67108864
-accepted_short file h =
-    elim (low_or 67108864 (length file)) [
-      | inl long ↦ absurd (refused_or_not (load_fault file) TooLong h (long_refused file long))
-      | inr short ↦ short
-    ]
 
 take_short : (n : ℕ) (xs : List ℕ) → length xs ≤ n → take n xs ≡ xs
 take_short n xs h = grind (arith, common_steps)
@@ -36,41 +29,78 @@ whole_file n file fetched e h =
       | inr long ↦ absurd (let l : length (take n file) ≡ n = take_long n file long in let same = ap length e in omega arith)
     ]
 
-same_fault : (f g : LoadFault) → ◌≡◌ {A = Option LoadFault} (Some f) (Some g) → f ≡ g
-same_fault f g e = cc
-
-refused_whole : (n : ℕ) (file fetched : List ℕ) (fault : LoadFault) → 67108864 < n → take n file ≡ fetched → load_fault fetched ≡ Some fault → load_fault file ≡ Some fault
-refused_whole n file fetched fault l e h =
-    elim (low_or (length file) n) [
-      | inl short ↦ ap load_fault (sym (take_short n file (omega arith)) ∙ e) ∙ h
-      | inr long ↦
-          let size : length fetched ≡ n = sym (ap length e) ∙ take_long n file long in
-          let too_long : TooLong ≡ fault = same_fault TooLong fault (sym (long_refused fetched (omega arith)) ∙ h) in
-          long_refused file (omega arith) ∙ ap Some too_long
-    ]
-
 some_is : (a b : List ℕ) → ◌≡◌ {A = Option (List ℕ)} (Some a) (Some b) → a ≡ b
 some_is a b e = cc
 
--- the file of the name, where what was fetched is loaded
-pub loaded_file : (told : Told) (n : ℕ) (name fetched : List ℕ) → 67108864 < n → IfSome told (λ files. option_map (take n) (files name) ≡ Some fetched) → load_fault fetched ≡ None → IsFile told name fetched
-loaded_file None n name fetched l e h = tt
-loaded_file (Some files) n name fetched l e h =
-    elim (files name) as (λ o. option_map (take n) o ≡ Some fetched → o ≡ Some fetched) [
-      | None ↦ λ x. cc
-      | Some file ↦ λ x. ap Some (whole_file n file fetched (some_is (take n file) fetched x) (let s = accepted_short fetched h in omega arith))
-    ] e
-
-pub record IsRefusedFile (told : Told) (name : List ℕ) (fault : LoadFault) : Type 0 where
+-- the file of the name has this fault
+pub record IsFaulty {F : Type 0} (fault_of : List ℕ → Option F) (told : Told) (name : List ℕ) (fault : F) : Type 0 where
   pub file : List ℕ
   pub is_file : IsFile told name file
-  pub refuses : Refuses file fault
+  pub faulty : fault_of file ≡ Some fault
 
--- the file of the name, where what was fetched is refused
-pub refused_file : (told : Told) (n : ℕ) (name fetched : List ℕ) (fault : LoadFault) → 67108864 < n → IfSome told (λ files. option_map (take n) (files name) ≡ Some fetched) → Refuses fetched fault → IsRefusedFile told name fault
-refused_file None n name fetched fault l e h = record { file = fetched; is_file = tt; refuses = h }
-refused_file (Some files) n name fetched fault l e h =
-    elim (files name) as (λ o. files name ≡ o → option_map (take n) o ≡ Some fetched → IsRefusedFile (Some files) name fault) [
-      | None ↦ λ is x. cc
-      | Some file ↦ λ is x. record { file = file; is_file = is; refuses = refused_whole n file fetched fault l (some_is (take n file) fetched x) h }
-    ] refl e
+-- ---- files of a kind, of which those that are too long have a fault of their own
+
+module _ {F : Type 0} (fault_of : List ℕ → Option F) (too_long : F) (long_fault : (file : List ℕ) → 67108864 < length file → fault_of file ≡ Some too_long) where
+  faulty_or_not : (o : Option F) (f : F) → o ≡ None → o ≡ Some f → ⊥
+  faulty_or_not o f e h = cc
+
+  same_fault : (f g : F) → ◌≡◌ {A = Option F} (Some f) (Some g) → f ≡ g
+  same_fault f g e = cc
+
+  -- a file without a fault is short enough
+  sound_short : (file : List ℕ) → fault_of file ≡ None → length file ≤ 67108864
+  sound_short file h =
+      elim (low_or 67108864 (length file)) [
+        | inl long ↦ absurd (faulty_or_not (fault_of file) too_long h (long_fault file long))
+        | inr short ↦ short
+      ]
+
+  faulty_whole : (n : ℕ) (file fetched : List ℕ) (fault : F) → 67108864 < n → take n file ≡ fetched → fault_of fetched ≡ Some fault → fault_of file ≡ Some fault
+  faulty_whole n file fetched fault l e h =
+      elim (low_or (length file) n) [
+        | inl short ↦ ap fault_of (sym (take_short n file (omega arith)) ∙ e) ∙ h
+        | inr long ↦
+            let size : length fetched ≡ n = sym (ap length e) ∙ take_long n file long in
+            let is_long : too_long ≡ fault = same_fault too_long fault (sym (long_fault fetched (omega arith)) ∙ h) in
+            long_fault file (omega arith) ∙ ap Some is_long
+      ]
+
+  -- the file of the name, where what was fetched has no fault
+  sound_file : (told : Told) (n : ℕ) (name fetched : List ℕ) → 67108864 < n → IfSome told (λ files. option_map (take n) (files name) ≡ Some fetched) → fault_of fetched ≡ None → IsFile told name fetched
+  sound_file None n name fetched l e h = tt
+  sound_file (Some files) n name fetched l e h =
+      elim (files name) as (λ o. option_map (take n) o ≡ Some fetched → o ≡ Some fetched) [
+        | None ↦ λ x. cc
+        | Some file ↦ λ x. ap Some (whole_file n file fetched (some_is (take n file) fetched x) (let s = sound_short fetched h in omega arith))
+      ] e
+
+  -- the file of the name, where what was fetched has a fault
+  faulty_file : (told : Told) (n : ℕ) (name fetched : List ℕ) (fault : F) → 67108864 < n → IfSome told (λ files. option_map (take n) (files name) ≡ Some fetched) → fault_of fetched ≡ Some fault → IsFaulty fault_of told name fault
+  faulty_file None n name fetched fault l e h = record { file = fetched; is_file = tt; faulty = h }
+  faulty_file (Some files) n name fetched fault l e h =
+      elim (files name) as (λ o. files name ≡ o → option_map (take n) o ≡ Some fetched → IsFaulty fault_of (Some files) name fault) [
+        | None ↦ λ is x. cc
+        | Some file ↦ λ is x. record { file = file; is_file = is; faulty = faulty_whole n file fetched fault l (some_is (take n file) fetched x) h }
+      ] refl e
+
+-- ---- program files, and sources
+
+is_long : (source : List ℕ) → 67108864 < length source → nat_lt 67108864 (length source) ≡ true
+is_long source h = grind (arith, nat_tests)
+
+-- a source of more than 64 MiB is refused for its length
+long_source : (source : List ℕ) → 67108864 < length source → asm_fault source ≡ Some asm.TooLong
+unfolding asm_fault
+long_source source h = rw (is_long source h) refl
+
+pub loaded_file : (told : Told) (n : ℕ) (name fetched : List ℕ) → 67108864 < n → IfSome told (λ files. option_map (take n) (files name) ≡ Some fetched) → load_fault fetched ≡ None → IsFile told name fetched
+loaded_file = sound_file load_fault load.TooLong long_refused
+
+pub refused_file : (told : Told) (n : ℕ) (name fetched : List ℕ) (fault : LoadFault) → 67108864 < n → IfSome told (λ files. option_map (take n) (files name) ≡ Some fetched) → Refuses fetched fault → IsFaulty load_fault told name fault
+refused_file = faulty_file load_fault load.TooLong long_refused
+
+pub assembled_file : (told : Told) (n : ℕ) (name fetched : List ℕ) → 67108864 < n → IfSome told (λ files. option_map (take n) (files name) ≡ Some fetched) → asm_fault fetched ≡ None → IsFile told name fetched
+assembled_file = sound_file asm_fault asm.TooLong long_source
+
+pub refused_source : (told : Told) (n : ℕ) (name fetched : List ℕ) (fault : AsmFault) → 67108864 < n → IfSome told (λ files. option_map (take n) (files name) ≡ Some fetched) → asm_fault fetched ≡ Some fault → IsFaulty asm_fault told name fault
+refused_source = faulty_file asm_fault asm.TooLong long_source

@@ -1,7 +1,7 @@
 -- The exit status of each answer.
 use Rattle.std.specs.Prelude.{ℕ}
 use Rattle.smemu.specs.declared.status.Status.{Status}
-use Rattle.smemu.specs.declared.status.Status.TheVariants.{Done, Usage, Absent, ReadFault, WriteFault, BadFile, OutOfMemory}
+use Rattle.smemu.specs.declared.status.Status.TheVariants.{Done, Usage, Absent, ReadFault, WriteFault, BadFile, BadSource, OutOfMemory}
 
 abbrev pub code_of : Status → ℕ
 code_of Done = 0
@@ -10,4 +10,5 @@ code_of Absent = 3
 code_of ReadFault = 4
 code_of WriteFault = 5
 code_of BadFile = 6
+code_of BadSource = 7
 code_of OutOfMemory = 8

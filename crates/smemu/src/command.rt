@@ -2,25 +2,28 @@
 ghost use Rattle.std.specs.Prelude.{◌≡◌, ◌⊎◌, ℕ, List, Option, Some, map};
 ghost use Rattle.std.specs.String.{string_bytes};
 ghost use Rattle.edge_io.specs.Cause.{Rose};
+ghost use Rattle.asm_core.specs.Assembly.{Assembles};
+ghost use Rattle.asm_core.specs.Sound.{IsSound};
 ghost use Rattle.elf_loader.specs.Loading.{Loads};
 ghost use Rattle.smemu.specs.Answers.{IsDone, IsRefused, IsDue};
-ghost use Rattle.smemu.specs.Replies.{Runs, Gives, Prepares, PreparesFor};
+ghost use Rattle.smemu.specs.Replies.{Runs, Lists, Makes, Gives, Prepares, PreparesFor};
 ghost use Rattle.smemu.specs.declared.status.Status.{Status};
 
 use crate::reply::{Reply, reply_status, write_reply};
 use crate::status::Status;
 use crate::task::Task;
+use asm_core::{AsmFault, assemble};
 use cmd_words::{Command, WordsFault, read_words};
 use edge_io::{FileFault, Files, Sink};
-use elf_loader::{LoadFault, load};
+use elf_loader::{LoadFault, load, write_elf};
 use lone_runner::run_to_stop;
 use paged_memory::Image;
 use report_text::Head;
 use sha2::{Digest, Sha256};
-use sm_types::Config;
+use sm_types::{Config, Memory, Object};
 use std::alloc::Global;
 
-/// A file of more bytes than a program file may have is fetched up to its first byte too many.
+/// A file of more bytes than a program file or a source may have is fetched up to its first byte too many.
 const FETCH_LIMIT: u64 = 67_108_865;
 
 /// The run of the image of a file.
@@ -41,25 +44,60 @@ fn run_image(alloc: Global, file: &[u8], config: &Config, image: &Image) -> Repl
     }
 }
 
-/// What a task gives on the image of a file.
-fn carry_out(alloc: Global, task: &Task, file: &[u8], image: Image) -> Reply
-    requires { Loads file.now image }
-    ensures { Gives task.now file.now result }
+/// The run of a program file.
+fn run_file(alloc: Global, file: &[u8], config: &Config) -> Reply
+    ensures { Runs file.now config.now result }
 {
-    match task {
-        Task::Run(config) => run_image(alloc, file, config, &image),
-        Task::List => Reply::Listing(image),
+    let image = match load(alloc, file) {
+        Ok(image) => image,
+        Err(LoadFault::Memory) => return Reply::Memory,
+        Err(fault) => return Reply::BadFile(fault),
+    };
+    run_image(alloc, file, config, &image)
+}
+
+/// The listing of a program file.
+fn list_file(alloc: Global, file: &[u8]) -> Reply
+    ensures { Lists file.now result }
+{
+    match load(alloc, file) {
+        Ok(image) => Reply::Listing(image),
+        Err(LoadFault::Memory) => Reply::Memory,
+        Err(fault) => Reply::BadFile(fault),
     }
 }
 
-/// What a task gives on a program file.
-fn answer_program(alloc: Global, task: &Task, file: &[u8]) -> Reply
+/// The program file of the object of a source.
+fn write_object(alloc: Global, source: &[u8], object: &Object) -> Reply
+    requires assembles { Assembles source.now object.now }
+    requires sound { IsSound object.now }
+    ensures { Makes source.now result }
+{
+    match write_elf(alloc, object) {
+        Ok(bytes) => Reply::Program(bytes),
+        Err(Memory) => Reply::Memory,
+    }
+}
+
+/// The program file of a source.
+fn assemble_file(alloc: Global, source: &[u8]) -> Reply
+    ensures { Makes source.now result }
+{
+    match assemble(alloc, source) {
+        Ok(object) => write_object(alloc, source, &object),
+        Err(AsmFault::Memory) => Reply::Memory,
+        Err(fault) => Reply::BadSource(fault),
+    }
+}
+
+/// What a task gives on a file.
+fn carry_out(alloc: Global, task: &Task, file: &[u8]) -> Reply
     ensures { Gives task.now file.now result }
 {
-    match load(alloc, file) {
-        Ok(image) => carry_out(alloc, task, file, image),
-        Err(LoadFault::Memory) => Reply::Memory,
-        Err(fault) => Reply::BadFile(fault),
+    match task {
+        Task::Run(config) => run_file(alloc, file, config),
+        Task::List => list_file(alloc, file),
+        Task::Assemble => assemble_file(alloc, file),
     }
 }
 
@@ -68,7 +106,7 @@ fn answer_file<F: Files>(alloc: Global, name: String, task: &Task, files: &mut F
     ensures { Prepares F.told F.absences F.faults F.is_reliable files.old files.new (string_bytes name) task.now result }
 {
     match files.fetch(alloc, name.as_str(), FETCH_LIMIT) {
-        Ok(file) => answer_program(alloc, task, file.as_slice()),
+        Ok(file) => carry_out(alloc, task, file.as_slice()),
         Err(FileFault::Absent) => Reply::Absent(name),
         Err(FileFault::Failed) => Reply::ReadFault(name),
         Err(FileFault::Memory) => Reply::Memory,
@@ -84,6 +122,7 @@ fn prepare<F: Files>(alloc: Global, words: &[String], files: &mut F) -> Reply
             answer_file(alloc, program, &Task::Run(config), files)
         }
         Ok(Command::Dis { program }) => answer_file(alloc, program, &Task::List, files),
+        Ok(Command::Asm { source }) => answer_file(alloc, source, &Task::Assemble, files),
         Ok(Command::Help) => Reply::Help,
         Ok(Command::Version) => Reply::Version,
         Err(WordsFault::Usage { place, kind }) => Reply::Usage { place, kind },
@@ -93,7 +132,7 @@ fn prepare<F: Files>(alloc: Global, words: &[String], files: &mut F) -> Reply
 
 /// Carries out the command of the words, which are the command line without the program's name: `run PROGRAM` with
 /// its options runs the program file of that name and writes the report of its run, `dis PROGRAM` writes its listing,
-/// `--help` and `--version` write their texts, and other words are answered by the line of their first fault.
+/// `asm SOURCE` assembles the source file of that name and writes the program file, `--help` and `--version` write their texts, and other words are answered by the line of their first fault.
 pub fn smemu_main<F: Files, K: Sink>(
     alloc: Global,
     words: &[String],

@@ -10,7 +10,7 @@ use elf_headers::LoadFault;
 use report_text::{hex32_digits, hex64_digits, put_all};
 
 /// A word and a number in decimal.
-fn put_counted<K: Sink>(out: &mut K, word: &[u8], n: u64) -> Result<(), PutFault>
+pub fn put_counted<K: Sink>(out: &mut K, word: &[u8], n: u64) -> Result<(), PutFault>
     ensures { Writes K.told K.faults K.takes out.old out.new result (concat (word.now ∷ decimal n ∷ [])) }
 {
     let mut buffer = itoa::Buffer::new();

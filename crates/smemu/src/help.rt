@@ -2,11 +2,12 @@
 
 /// The commands, their options and the statuses.
 pub const HELP: &[u8] = b"\
-smemu runs AArch64 programs and reports what they did.
+smemu runs AArch64 programs and reports what they did, and assembles them.
 
 commands:
   run PROGRAM   runs the ELF64 file PROGRAM and writes the report of its run
   dis PROGRAM   lists the code words of the ELF64 file PROGRAM: address, word and text
+  asm SOURCE    assembles SOURCE and writes the ELF64 file of the program
   --help        writes this text
   --version     writes the version
 
@@ -22,6 +23,7 @@ statuses:
   4   read fault: NAME, where the file could not be read
   5   the output could not be written
   6   bad file: KIND VALUES, where the file is no program that is loaded
+  7   bad source: line L: KIND VALUES, where the file is no source that is assembled
   8   there was no memory
 ";
 

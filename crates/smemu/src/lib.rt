@@ -1,9 +1,9 @@
 //! The emulator's command: `smemu_main` runs a program file with the options of the words and writes the report of
-//! its run.
+//! its run, lists its code words, or assembles a source and writes the program file.
 //!
 //! Its contract says, for every words, files and sink: with `Done` what the words ask for was written, which is the
-//! report of the lone run of the program that the file stands for, or the text of help or of the version; every
-//! other status comes with its line, for its cause alone; and what is due is answered, where the outside does not
+//! report of the lone run of the program that the file stands for, its listing, the file of the program that the source
+//! is assembled to, or the text of help or of the version; every other status comes with its line, for its cause alone; and what is due is answered, where the outside does not
 //! fail and there is memory.
 #![tactic(auto)]
 
@@ -11,6 +11,7 @@ mod command;
 mod fault_line;
 mod help;
 mod reply;
+mod source_line;
 mod status;
 mod task;
 

@@ -6,11 +6,13 @@ ghost use Rattle.smemu.specs.Texts as text;
 
 use crate::fault_line::write_fault;
 use crate::help::{HELP, VERSION};
+use crate::source_line::write_source_fault;
 use crate::status::Status;
+use asm_core::AsmFault;
 use cmd_words::UsageKind;
+use code_listing::write_listing;
 use edge_io::{PutFault, Sink};
 use elf_loader::LoadFault;
-use code_listing::write_listing;
 use kernel_contexts::Context;
 use paged_memory::Image;
 use report_text::{Head, put_all, write_report};
@@ -26,6 +28,8 @@ pub enum Reply {
     },
     /// The image of the program whose code words are listed.
     Listing(Image),
+    /// The bytes of the program file that a source is assembled to.
+    Program(Vec<u8>),
     Help,
     Version,
     /// The first fault of the words.
@@ -38,6 +42,7 @@ pub enum Reply {
     /// The name of the file that could not be read.
     ReadFault(String),
     BadFile(LoadFault),
+    BadSource(AsmFault),
     Memory,
 }
 
@@ -96,12 +101,14 @@ pub fn write_reply<K: Sink>(out: &mut K, reply: &Reply) -> Result<(), PutFault>
             head,
         } => write_report(context, *stop, head, out),
         Reply::Listing(image) => write_listing(image.code(), out),
+        Reply::Program(bytes) => out.put(bytes.as_slice()),
         Reply::Help => write_help(out),
         Reply::Version => write_version(out),
         Reply::Usage { place, kind } => write_usage(out, *place, *kind),
         Reply::Absent(name) => put_all(out, &[b"absent: ", name.as_bytes(), b"\n"]),
         Reply::ReadFault(name) => put_all(out, &[b"read fault: ", name.as_bytes(), b"\n"]),
         Reply::BadFile(fault) => write_fault(out, *fault),
+        Reply::BadSource(fault) => write_source_fault(out, *fault),
         Reply::Memory => put_all(out, &[]),
     }
 }
@@ -113,12 +120,14 @@ pub fn reply_status(reply: &Reply) -> Status
     match reply {
         Reply::Report { .. } => Status::Done,
         Reply::Listing(_) => Status::Done,
+        Reply::Program(_) => Status::Done,
         Reply::Help => Status::Done,
         Reply::Version => Status::Done,
         Reply::Usage { .. } => Status::Usage,
         Reply::Absent(_) => Status::Absent,
         Reply::ReadFault(_) => Status::ReadFault,
         Reply::BadFile(_) => Status::BadFile,
+        Reply::BadSource(_) => Status::BadSource,
         Reply::Memory => Status::OutOfMemory,
     }
 }

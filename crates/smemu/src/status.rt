@@ -17,6 +17,8 @@ pub enum Status {
     WriteFault,
     /// The file is no program that is loaded.
     BadFile,
+    /// The file is no source that is assembled.
+    BadSource,
     /// There was no memory; nothing was written.
     OutOfMemory,
 }
@@ -33,6 +35,7 @@ impl Status {
             Status::ReadFault => 4,
             Status::WriteFault => 5,
             Status::BadFile => 6,
+            Status::BadSource => 7,
             Status::OutOfMemory => 8,
         }
     }

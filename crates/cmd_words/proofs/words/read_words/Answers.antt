@@ -2,10 +2,10 @@ use Rattle.std.proofs.Common.{map, refl, sym, ◌∙◌, ap}
 use Rattle.std.specs.Prelude.{option_and_then}
 use Rattle.std.specs.String.{string_bytes}
 use Rattle.std.proofs.lemmas.List.{length-map}
-use Rattle.cmd_words.specs.Words.{AsksHelp, AsksVersion, verb_of, command_fault}
+use Rattle.cmd_words.specs.Words.{AsksListing, AsksAssembly, AsksHelp, AsksVersion, verb_of, command_fault}
 use Rattle.cmd_words.specs.declared.command.UsageKind.TheVariants.{Missing, Unknown}
-use Rattle.cmd_words.specs.declared.verb.Verb.TheVariants.{Help, Version}
-use Rattle.cmd_words.proofs.Reading.{first_fault, unknown_word, alone_command}
+use Rattle.cmd_words.specs.declared.verb.Verb.TheVariants.{Dis, Asm, Help, Version}
+use Rattle.cmd_words.proofs.Reading.{first_fault, unknown_word, alone_command, named_request}
 use Rattle.cmd_words.proofs.words.read_words.Goals as goal
 
 pub returns-in_default-clause-fault : goal.returns-in_default-clause-fault
@@ -22,3 +22,11 @@ returns-in_ok-check_alone-in-Some-Help-clause-command c =
 pub returns-in_ok-check_alone-in-Some-Version-clause-command : goal.returns-in_ok-check_alone-in-Some-Version-clause-command
 returns-in_ok-check_alone-in-Some-Version-clause-command c =
     alone_command (map string_bytes c.args.words.now) Version (ap (option_and_then verb_of) (sym c.in-Some.ensures) ∙ sym (rw c.in-Some-Version.field-0-is at c.in-Some-Version.ensures)) (λ place. refl) AsksVersion (rw (length-map c.args.words.now string_bytes) c.in_ok-check_alone-in-Some-Version.ensures.ok) refl
+
+pub returns-in_ok-program-in-Some-Dis-clause-command : goal.returns-in_ok-program-in-Some-Dis-clause-command
+returns-in_ok-program-in-Some-Dis-clause-command c =
+    named_request (map string_bytes c.args.words.now) Dis (ap (option_and_then verb_of) (sym c.in-Some.ensures) ∙ sym (rw c.in-Some-Dis.field-0-is at c.in-Some-Dis.ensures)) (λ place. refl) AsksListing (string_bytes c.in_ok-program-in-Some-Dis.program) refl c.in_ok-program-in-Some-Dis.ensures.ok
+
+pub returns-in_ok-source-in-Some-Asm-clause-command : goal.returns-in_ok-source-in-Some-Asm-clause-command
+returns-in_ok-source-in-Some-Asm-clause-command c =
+    named_request (map string_bytes c.args.words.now) Asm (ap (option_and_then verb_of) (sym c.in-Some.ensures) ∙ sym (rw c.in-Some-Asm.field-0-is at c.in-Some-Asm.ensures)) (λ place. refl) AsksAssembly (string_bytes c.in_ok-source-in-Some-Asm.source) refl c.in_ok-source-in-Some-Asm.ensures.ok

@@ -1,6 +1,6 @@
 use Rattle.std.proofs.Common.{map}
 use Rattle.std.specs.String.{string_bytes}
-use Rattle.smemu.specs.declared.task.Task.TheVariants.{Run, List}
+use Rattle.smemu.specs.declared.task.Task.TheVariants.{Run}
 use Rattle.smemu.proofs.Outcomes.{prepares_file}
 use Rattle.smemu.proofs.command.prepare.Goals as goal
 

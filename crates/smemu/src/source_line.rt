@@ -1,0 +1,80 @@
+//! The line of the fault for which a source is refused.
+ghost use Rattle.std.specs.Prelude.{◌≡◌, ◌∷◌, [], codes};
+ghost use Rattle.std.specs.Fmt.{signed_decimal};
+ghost use Rattle.std.specs.List.{concat};
+ghost use Rattle.edge_io.specs.Sink.{Writes};
+ghost use Rattle.smemu.specs.SourceLines as spec;
+
+use crate::fault_line::put_counted;
+use asm_core::AsmFault;
+use asm_parser::LineFault;
+use edge_io::{PutFault, Sink};
+use report_text::put_all;
+
+/// What is wrong with a line by itself, and at which column.
+#[tactic(auto, unfolding(crate::specs::SourceLines::line_words))]
+fn put_line_words<K: Sink>(out: &mut K, fault: LineFault) -> Result<(), PutFault>
+    ensures { Writes K.told K.faults K.takes out.old out.new result (spec.line_words fault) }
+{
+    match fault {
+        LineFault::UnknownName(column) => {
+            put_counted(out, b"line unknownname ", u64::from(column))
+        }
+        LineFault::BadOperand(column) => put_counted(out, b"line badoperand ", u64::from(column)),
+        LineFault::BadNumber(column) => put_counted(out, b"line badnumber ", u64::from(column)),
+        LineFault::Extra(column) => put_counted(out, b"line extra ", u64::from(column)),
+        LineFault::Memory => out.put(b"line memory"),
+    }
+}
+
+/// A target that is too far.
+fn put_distance<K: Sink>(out: &mut K, distance: i64) -> Result<(), PutFault>
+    ensures { Writes K.told K.faults K.takes out.old out.new result (concat (codes "toofar " ∷ signed_decimal distance ∷ [])) }
+{
+    let mut buffer = itoa::Buffer::new();
+    put_all(out, &[b"toofar ", buffer.format(distance).as_bytes()])
+}
+
+/// Why a source is refused, with the values of the fault.
+#[tactic(auto, unfolding(crate::specs::SourceLines::source_words))]
+fn put_source_words<K: Sink>(out: &mut K, fault: AsmFault) -> Result<(), PutFault>
+    ensures { Writes K.told K.faults K.takes out.old out.new result (spec.source_words fault) }
+{
+    match fault {
+        AsmFault::TooLong => out.put(b"toolong"),
+        AsmFault::NotText(offset) => put_counted(out, b"nottext ", offset as u64),
+        AsmFault::Line { fault, .. } => put_line_words(out, fault),
+        AsmFault::Doubled(_) => out.put(b"doubled"),
+        AsmFault::Undefined(_) => out.put(b"undefined"),
+        AsmFault::TooFar { distance, .. } => put_distance(out, distance),
+        AsmFault::TooLarge(_) => out.put(b"toolarge"),
+        AsmFault::NoStart => out.put(b"nostart"),
+        AsmFault::Memory => out.put(b"memory"),
+    }
+}
+
+/// The line of a fault, or 0.
+fn line_number(fault: AsmFault) -> u32
+    ensures { result ≡ spec.line_number fault }
+{
+    match fault {
+        AsmFault::Line { line, .. } => line,
+        AsmFault::Doubled(line) => line,
+        AsmFault::Undefined(line) => line,
+        AsmFault::TooFar { line, .. } => line,
+        AsmFault::TooLarge(line) => line,
+        AsmFault::TooLong | AsmFault::NotText(_) | AsmFault::NoStart | AsmFault::Memory => 0,
+    }
+}
+
+/// Writes the line of a fault.
+pub fn write_source_fault<K: Sink>(out: &mut K, fault: AsmFault) -> Result<(), PutFault>
+    ensures { Writes K.told K.faults K.takes out.old out.new result (spec.source_line fault) }
+{
+    let mut buffer = itoa::Buffer::new();
+    out.put(b"bad source: line ")?;
+    out.put(buffer.format(line_number(fault)).as_bytes())?;
+    out.put(b": ")?;
+    put_source_words(out, fault)?;
+    out.put(b"\n")
+}
