@@ -1,0 +1,2 @@
+far: .zero 1048580
+_start: adr x0, far

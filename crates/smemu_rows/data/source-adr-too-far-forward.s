@@ -1,0 +1,3 @@
+_start: adr x0, far
+.zero 1048572
+far: svc #0

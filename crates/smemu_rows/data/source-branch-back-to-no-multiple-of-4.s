@@ -1,0 +1,3 @@
+.byte 1
+odd: .byte 1, 1, 1
+_start: b odd

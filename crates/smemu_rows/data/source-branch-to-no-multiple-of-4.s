@@ -1,0 +1,3 @@
+_start: b odd
+.byte 1
+odd:

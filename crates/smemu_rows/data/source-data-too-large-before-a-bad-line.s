@@ -1,0 +1,5 @@
+.data
+.zero 4194304
+.byte 0
+.text
+frob

@@ -1,0 +1,3 @@
+_start: svc #0
+.data
+.zero 4194305

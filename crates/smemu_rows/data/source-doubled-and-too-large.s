@@ -1,0 +1,2 @@
+_start: svc #0
+_start: .zero 5000000

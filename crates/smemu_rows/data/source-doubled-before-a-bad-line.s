@@ -1,0 +1,3 @@
+a: svc #0
+a: svc #0
+frob

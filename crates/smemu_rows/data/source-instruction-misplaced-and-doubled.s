@@ -1,0 +1,3 @@
+_start: svc #0
+.byte 1
+_start: svc #0

@@ -1,0 +1,2 @@
+_start: svc #0
+add x0, x1,

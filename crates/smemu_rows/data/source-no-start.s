@@ -1,0 +1,1 @@
+begin: svc #0

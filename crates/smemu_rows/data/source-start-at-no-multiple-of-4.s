@@ -1,0 +1,2 @@
+.byte 1
+_start: .byte 2

@@ -1,0 +1,3 @@
+svc #0
+.data
+_start: .quad 0

@@ -1,0 +1,3 @@
+_start: tbz x0, #0, far
+.zero 32764
+far: svc #0

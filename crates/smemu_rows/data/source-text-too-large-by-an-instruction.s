@@ -1,0 +1,2 @@
+.zero 4194304
+_start: svc #0

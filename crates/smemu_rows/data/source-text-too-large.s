@@ -1,0 +1,2 @@
+_start: svc #0
+.zero 4194301

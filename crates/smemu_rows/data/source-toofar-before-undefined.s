@@ -1,0 +1,4 @@
+_start: b odd
+ b nowhere
+.byte 1
+odd:

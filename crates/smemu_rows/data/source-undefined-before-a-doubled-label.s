@@ -1,0 +1,2 @@
+_start: b nowhere
+_start:

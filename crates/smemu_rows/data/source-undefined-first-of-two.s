@@ -1,0 +1,3 @@
+_start: svc #0
+.quad nowhere
+ b nowhere

@@ -1,0 +1,2 @@
+_start: b Loop
+loop: svc #0

@@ -1,0 +1,2 @@
+_start: svc #0
+.quad 1, _start, nowhere

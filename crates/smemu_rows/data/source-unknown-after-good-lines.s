@@ -1,0 +1,3 @@
+_start:
+ svc #0
+	svc2 #0

@@ -1,0 +1,4 @@
+_start: svc #0
+
+frob
+frab
