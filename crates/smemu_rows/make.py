@@ -10,9 +10,10 @@ import pathlib
 import sys
 
 HERE = pathlib.Path(__file__).resolve().parent
-sys.path.insert(0, str(HERE.parent.parent / "examples"))
-from elf import (ALLOC, DYNAMIC, EXECINSTR, INTERP, LOAD, NOTE, STACK, STRTAB, SYMTAB, TLS, Section, Segment, build, elf, symbols,
-                 text_of)
+TOP = HERE.parent.parent
+sys.path.insert(0, str(TOP / "examples"))
+from elf import (ALLOC, DYNAMIC, EXECINSTR, INTERP, LOAD, NOTE, STACK, STRTAB, SYMTAB, TLS, Section, Segment, assembled, build, elf,
+                 mapping_symbols, sections_of, symbols, text_of)
 from expected import report
 
 MOVZ, ADD, SUBS, B, SVC = 0xD2800000, 0x91000000, 0xF1000000, 0x54000000, 0xD4000001
@@ -43,8 +44,6 @@ EXIT = call(93, (0, 0))
 AT_TEXT = (0x40, 1)
 
 REPORTS = {
-    "answer": call(93, (42, 0)),
-    "countdown": [movz(3, 3), subs(3, 3, 1), branch(1, -1), *EXIT],
     "writes-5-bytes": [*call(64, (1, 0), AT_TEXT, (5, 0)), *EXIT],
     "writes-no-bytes-at-0": [*call(64, (2, 0), (0, 0), (0, 0)), *EXIT],
     "writes-33-and-then-to-2": [*call(64, (1, 0), AT_TEXT, (33, 0)), *call(64, (2, 0), AT_TEXT, (32, 0)), *EXIT],
@@ -317,7 +316,7 @@ def listings():
 def line_faults():
     """Sources with a line that is not in the grammar: the line, its number and what is wrong there. Columns count characters from 1."""
     # no instruction and no directive has the name
-    yield "unknown-first", "frob x0", 1, "unknownname 1"
+    yield "unknown-first", "foo x0", 1, "unknownname 1"
     yield "unknown-after-a-label", "_start: frob", 1, "unknownname 9"
     yield "unknown-after-good-lines", "_start:\n svc #0\n\tsvc2 #0\n", 3, "unknownname 2"
     yield "unknown-directive", "_start: svc #0\n  .long 1\n", 2, "unknownname 3"
@@ -437,13 +436,33 @@ def source_refusals():
         yield name, source, f"bad source: line {line}: {fault}\n"
 
 
+def linked(path):
+    """The text, the data, the entry and the mapping symbols of a file that a linker made."""
+    file = path.read_bytes()
+    sections = sections_of(file)
+    of = lambda name: sections[name][1] if name in sections else b""
+    return of(".text"), of(".data"), int.from_bytes(file[24:32], "little"), mapping_symbols(file)
+
+
+def assemblies():
+    """Sources and their files: the bytes are those that another assembler and linker put, laid out as docs/FORMATS.md says."""
+    for path in sorted((HERE / "real" / "linked").glob("*.elf")):
+        example = TOP / "examples" / f"{path.stem}.s"
+        source = example if example.exists() else HERE / "real" / f"{path.stem}.s"
+        yield path.stem, source.read_bytes(), assembled(*linked(path))
+    yield "move-of-65536", b"_start:\n    mov x0, #65536\n", assembled(text_of([0xD2A00020]), b"", 0x400000, [(0x400000, True)])
+
+
 def main():
     data = HERE / "data"
     rows = [(name, elf(words), {}) for name, words in REPORTS.items()] + list(loaded()) + [(name, file, {}) for name, file in accesses()]
+    programs = list(assemblies())
+    rows += [(name, file, {}) for name, _, file in programs]
     rows = [(f"{name}.elf", 0, file, report(file, **options), {"run": "", **options}) for name, file, options in rows]
     rows += [(f"{name}.elf", 6, file, text, {"run": ""}) for name, file, text in refusals()]
     rows += [(f"listing-{name}.elf", status, file, text, {"dis": ""}) for name, file, status, text in listings()]
     rows += [(f"source-{name}.s", 7, source, text, {"asm": ""}) for name, source, text in source_refusals()]
+    rows += [(f"{name}.s", 0, source, file, {"asm": ""}) for name, source, file in programs]
     for old in [*data.glob("*.txt"), *data.glob("*.s")]:
         old.unlink()
     for old in data.glob("*.elf"):
@@ -451,7 +470,7 @@ def main():
             old.unlink()
     for name, _, file, text, _ in rows:
         (data / name).write_bytes(file)
-        (data / f"{name}.txt").write_text(text)
+        (data / f"{name}.txt").write_bytes(text if isinstance(text, bytes) else text.encode())
     words = lambda options: "".join(f" --{name} {value}" if value else f" {name}" for name, value in options.items())
     (data / "rows.txt").write_text("".join(f"{name} {status}{words(options)}\n" for name, status, _, _, options in rows))
     (HERE / "stdout").write_text("".join(f"{name} agrees\n" for name, _, _, _, _ in rows))

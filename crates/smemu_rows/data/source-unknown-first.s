@@ -1,1 +1,1 @@
-frob x0
+foo x0

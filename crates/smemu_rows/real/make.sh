@@ -1,11 +1,13 @@
 #!/usr/bin/env bash
-# Makes the program files real-*.elf of ../data by an assembler and two linkers (Debian: binutils-aarch64-linux-gnu, binutils, lld).
+# Makes the program files real-*.elf of ../data, and linked/*.elf, by an assembler and two linkers (Debian: binutils-aarch64-linux-gnu, binutils, lld).
 #
 #     crates/smemu_rows/real/make.sh
 set -eu
 cd "$(dirname "${BASH_SOURCE[0]}")"
 work=$(mktemp -d)
 data=$PWD/../data
+sources=$PWD
+examples=$PWD/../../../examples
 trap 'rm -r "$work"' EXIT
 for source in sum tls plain shared; do
     aarch64-linux-gnu-as -o "$work/$source.o" "$source.s"
@@ -23,3 +25,11 @@ aarch64-linux-gnu-ld -no-pie -z max-page-size=4096 --dynamic-linker /lib/ld.so -
 aarch64-linux-gnu-ld -static -z max-page-size=4096 -o "$data/real-tls.elf" tls.o
 ld -static -o "$data/real-x86-64.elf" x86.o
 cp plain.o "$data/real-object.elf"
+# the examples and a source with data in the text, at the addresses that the assembler of this project gives them
+for path in "$examples"/*.s "$sources/marked.s"; do
+    name=$(basename "$path" .s)
+    aarch64-linux-gnu-as -o "$name.o" "$path"
+    size=$(aarch64-linux-gnu-size -A "$name.o" | awk '$1 == ".text" { print $2 }')
+    aarch64-linux-gnu-ld -static -z noseparate-code -Ttext=0x400000 "-Tdata=$(printf '0x%x' $(((0x400000 + size + 4095) / 4096 * 4096)))" \
+        -o "$sources/linked/$name.elf" "$name.o"
+done
