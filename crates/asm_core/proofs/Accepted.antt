@@ -10,7 +10,7 @@ use Rattle.asm_parser.specs.Lines.{line_of}
 use Rattle.asm_core.specs.declared.fault.AsmFault.{AsmFault}
 use Rattle.asm_core.specs.declared.fault.AsmFault.TheVariants.{Line, Doubled, TooLarge}
 use Rattle.asm_core.specs.declared.place.Place.{Place}
-use Rattle.asm_core.specs.declared.labels.Labels.{Labels}
+use Rattle.asm_core.specs.declared.emit_targets.Addresses.{Addresses}
 use Rattle.asm_core.specs.declared.labels.LabelPlace.{LabelPlace}
 use Rattle.asm_core.specs.Source.{said_lines}
 use Rattle.sm_types.specs.declared.object.Section.{Section}
@@ -140,15 +140,13 @@ near_place : (o : Option Label) (place : LabelPlace) → ((found : Label) → o 
 near_place None place near e = cc
 near_place (Some found) place near e = let same : label_place found ≡ place = cc in subst (λ (l : LabelPlace). l.offset ≤ 4194304) same (near found refl)
 
--- the labels that a table knows of such lines stand within 4 MiB of their parts
-pub table_near : (table : Labels) (texts : List (List ℕ)) → Knows table (labels_of (said_lines texts)) → lines_fault 1 first_place [] texts ≡ None → AreNear table
+-- the text of such lines has at most 4 MiB, and so has what stands before their labels
+pub addresses_near : (addresses : Addresses) (texts : List (List ℕ)) → addresses.text_size ≡ text_length_of (said_lines texts) → Knows addresses.labels.now (labels_of (said_lines texts)) → lines_fault 1 first_place [] texts ≡ None → AreNear addresses
 unfolding label_named
-table_near table texts knows e = record {
-  each = λ name place is.
+addresses_near addresses texts size knows e = record {
+  text = subst (λ n. n ≤ 4194304) (sym size) (limits_past 1 first_place [] texts (record { text = omega arith; data_part = omega arith }) e).text;
+  labels = λ name place is.
       near_place (label_named (labels_of (said_lines texts)) name) place
       (λ found named. labels_near (λ label. bytes_eq label.name name) 1 first_place [] texts (record { text = omega arith; data_part = omega arith }) e found named)
       (sym (knows.each name) ∙ is);
 }
-
-pub size_near : (texts : List (List ℕ)) → lines_fault 1 first_place [] texts ≡ None → text_length_of (said_lines texts) ≤ 4194304
-size_near texts e = (limits_past 1 first_place [] texts (record { text = omega arith; data_part = omega arith }) e).text

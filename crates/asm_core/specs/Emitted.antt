@@ -9,7 +9,7 @@ use Rattle.a64_encode.specs.Either.{MeansEither}
 use Rattle.asm_parser.specs.Statements.{Says, Nothing, IntoText, IntoData, Quads, Words, Bytes, Zeros, Aligns, Globals, Instructs, SourceLine}
 use Rattle.asm_parser.specs.Lines.{line_of}
 use Rattle.asm_core.specs.declared.place.Place.{Place}
-use Rattle.asm_core.specs.declared.labels.Labels.{Labels}
+use Rattle.asm_core.specs.declared.emit_targets.Addresses.{Addresses}
 use Rattle.asm_core.specs.declared.labels.LabelPlace.{LabelPlace}
 use Rattle.asm_core.specs.declared.parts.Parts.{Parts}
 use Rattle.asm_core.specs.Layout.{Label, here, size_of, address_here}
@@ -42,9 +42,10 @@ pub record IsFine (p : Place) (text : List ℕ) : Type 0 where
   pub says : line_of text ≡ Ok line
   pub fits : is_too_large p line.says ≡ false
 
--- the labels of the table stand within 4 MiB of their parts
-pub record AreNear (table : Labels) : Type 0 where
-  pub each : (name : List ℕ) (place : LabelPlace) → known table name ≡ Some place → place.offset ≤ 4194304
+-- each part has at most 4 MiB: the text, and what stands before a label
+pub record AreNear (addresses : Addresses) : Type 0 where
+  pub text : addresses.text_size ≤ 4194304
+  pub labels : (name : List ℕ) (place : LabelPlace) → known addresses.labels.now name ≡ Some place → place.offset ≤ 4194304
 
 -- the bytes of a word of 32 bits that means the instruction
 pub record IsWordOf (it : Insn) (piece : List ℕ) : Type 0 where

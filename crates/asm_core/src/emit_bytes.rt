@@ -11,9 +11,8 @@ ghost use Rattle.asm_core.specs.Known.{Knows};
 ghost use Rattle.asm_core.specs.Limits.{HasSmallAlign};
 ghost use Rattle.asm_core.specs.Emitted.{Adds, AreNear, HasWord, IsEncodable, IsWordAfter};
 
-use crate::emit_targets::{address_in, aim, quad_number};
+use crate::emit_targets::{Addresses, address_in, aim, quad_number};
 use crate::fault::AsmFault;
-use crate::labels::Labels;
 use crate::place::{Place, here, size_of};
 use a64_encode::{encode, one_row_of_both};
 use asm_parser::{Statement, Value};
@@ -75,17 +74,15 @@ fn put_quads(
     bytes: &mut Bytes,
     number: u32,
     values: &[Value<'_>],
-    labels: &Labels<'_>,
-    text_size: u64,
+    addresses: &Addresses<'_, '_>,
 ) -> Result<(), AsmFault>
-    requires text { text_size ≤ 4194304 }
-    requires near { AreNear labels.now }
-    ensures ok { (list : List layout.Label) → Knows labels.now list → OnOk result (list_any (is_undefined list) (map value_of values.now) ≡ false) }
-    ensures bytes { (list : List layout.Label) → Knows labels.now list → OnOk result (bytes.new.items ≡ bytes.old.items ++ assembly.numbers_bytes 8 (map (assembly.quad_number text_size list) (map value_of values.now))) }
-    ensures err { (list : List layout.Label) → Knows labels.now list → IfErr result (λ fault. fault ≢ AsmFault.Memory → (list_any (is_undefined list) (map value_of values.now) ≡ true) × (fault ≡ AsmFault.Undefined number)) }
+    requires near { AreNear addresses.now }
+    ensures ok { (list : List layout.Label) → Knows addresses.now.labels.now list → OnOk result (list_any (is_undefined list) (map value_of values.now) ≡ false) }
+    ensures bytes { (list : List layout.Label) → Knows addresses.now.labels.now list → OnOk result (bytes.new.items ≡ bytes.old.items ++ assembly.numbers_bytes 8 (map (assembly.quad_number addresses.now.text_size list) (map value_of values.now))) }
+    ensures err { (list : List layout.Label) → Knows addresses.now.labels.now list → IfErr result (λ fault. fault ≢ AsmFault.Memory → (list_any (is_undefined list) (map value_of values.now) ≡ true) × (fault ≡ AsmFault.Undefined number)) }
 {
     for value in values {
-        let Some(address) = quad_number(value, labels, text_size) else {
+        let Some(address) = quad_number(value, addresses) else {
             return Err(AsmFault::Undefined(number));
         };
         put_quad(bytes, address)?;
@@ -112,18 +109,16 @@ fn put_instruction(
     insn: &Insn,
     from: u64,
     name: Option<&[u8]>,
-    labels: &Labels<'_>,
-    text_size: u64,
+    addresses: &Addresses<'_, '_>,
 ) -> Result<(), AsmFault>
     requires from { from < 2 ^ 32 }
-    requires text { text_size ≤ 4194304 }
-    requires near { AreNear labels.now }
+    requires near { AreNear addresses.now }
     requires has_word { IsEncodable insn.now }
-    ensures ok { (list : List layout.Label) → Knows labels.now list → OnOk result (instruction_fault number text_size list from insn.now (option_map (λ name. name.now) name.entry) ≡ None) }
-    ensures bytes { (list : List layout.Label) → Knows labels.now list → OnOk result (IsWordAfter (assembly.aimed text_size list from insn.now (option_map (λ name. name.now) name.entry)) bytes.old.items bytes.new.items) }
-    ensures err { (list : List layout.Label) → Knows labels.now list → IfErr result (λ fault. fault ≢ AsmFault.Memory → instruction_fault number text_size list from insn.now (option_map (λ name. name.now) name.entry) ≡ Some fault) }
+    ensures ok { (list : List layout.Label) → Knows addresses.now.labels.now list → OnOk result (instruction_fault number addresses.now.text_size list from insn.now (option_map (λ name. name.now) name.entry) ≡ None) }
+    ensures bytes { (list : List layout.Label) → Knows addresses.now.labels.now list → OnOk result (IsWordAfter (assembly.aimed addresses.now.text_size list from insn.now (option_map (λ name. name.now) name.entry)) bytes.old.items bytes.new.items) }
+    ensures err { (list : List layout.Label) → Knows addresses.now.labels.now list → IfErr result (λ fault. fault ≢ AsmFault.Memory → instruction_fault number addresses.now.text_size list from insn.now (option_map (λ name. name.now) name.entry) ≡ Some fault) }
 {
-    let it = aim(number, insn, from, name, labels, text_size)?;
+    let it = aim(number, insn, from, name, addresses)?;
     put_word(bytes, word_of(&it))
 }
 
@@ -134,25 +129,23 @@ pub fn put_statement(
     number: u32,
     place: &Place,
     statement: &Statement<'_>,
-    labels: &Labels<'_>,
-    text_size: u64,
+    addresses: &Addresses<'_, '_>,
 ) -> Result<(), AsmFault>
     requires align { HasSmallAlign (says_of statement.now) }
     requires has_word { HasWord (says_of statement.now) }
     requires size { length bytes.old.items ≡ layout.here place.now }
     requires fits { layout.here place.now + layout.size_of (says_of statement.now) (layout.here place.now) ≤ 4194304 }
-    requires text { text_size ≤ 4194304 }
-    requires near { AreNear labels.now }
-    ensures ok { (list : List layout.Label) → Knows labels.now list → OnOk result (target_fault number text_size list place.now (says_of statement.now) ≡ None) }
-    ensures bytes { (list : List layout.Label) → Knows labels.now list → OnOk result (Adds text_size list place.now (says_of statement.now) bytes.old.items bytes.new.items) }
-    ensures err { (list : List layout.Label) → Knows labels.now list → IfErr result (λ fault. fault ≢ AsmFault.Memory → target_fault number text_size list place.now (says_of statement.now) ≡ Some fault) }
+    requires near { AreNear addresses.now }
+    ensures ok { (list : List layout.Label) → Knows addresses.now.labels.now list → OnOk result (target_fault number addresses.now.text_size list place.now (says_of statement.now) ≡ None) }
+    ensures bytes { (list : List layout.Label) → Knows addresses.now.labels.now list → OnOk result (Adds addresses.now.text_size list place.now (says_of statement.now) bytes.old.items bytes.new.items) }
+    ensures err { (list : List layout.Label) → Knows addresses.now.labels.now list → IfErr result (λ fault. fault ≢ AsmFault.Memory → target_fault number addresses.now.text_size list place.now (says_of statement.now) ≡ Some fault) }
 {
     match statement {
         Statement::Instruction { insn, target, .. } => {
-            let from = address_in(place.part, here(place), text_size);
-            put_instruction(bytes, number, insn, from, *target, labels, text_size)
+            let from = address_in(place.part, here(place), addresses.text_size);
+            put_instruction(bytes, number, insn, from, *target, addresses)
         }
-        Statement::Quad(values) => put_quads(bytes, number, values, labels, text_size),
+        Statement::Quad(values) => put_quads(bytes, number, values, addresses),
         Statement::Word(numbers) => put_words(bytes, numbers),
         Statement::Byte(numbers) => put_all(bytes, numbers),
         Statement::Zero(count) => put_zeros(bytes, *count),

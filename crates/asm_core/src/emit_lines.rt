@@ -11,8 +11,8 @@ ghost use Rattle.asm_core.specs.Limits.{IsInLimits, HasSmallAlign};
 ghost use Rattle.asm_core.specs.Emitted.{Adds, AreNear, HasWord, HaveGrown, IsFine, other};
 
 use crate::emit_bytes::put_statement;
+use crate::emit_targets::Addresses;
 use crate::fault::AsmFault;
-use crate::labels::Labels;
 use crate::parts::Parts;
 use crate::place::{Place, first_place, place_after};
 use crate::symbols::{put_symbols, text_is};
@@ -53,38 +53,22 @@ fn put_bytes(
     number: u32,
     place: &Place,
     statement: &Statement<'_>,
-    labels: &Labels<'_>,
-    text_size: u64,
+    addresses: &Addresses<'_, '_>,
 ) -> Result<(), AsmFault>
     requires align { HasSmallAlign (says_of statement.now) }
     requires has_word { HasWord (says_of statement.now) }
     requires size { length (bytes_in parts.old place.now.part) ≡ layout.here place.now }
     requires fits { layout.here place.now + layout.size_of (says_of statement.now) (layout.here place.now) ≤ 4194304 }
-    requires text { text_size ≤ 4194304 }
-    requires near { AreNear labels.now }
-    ensures ok { (list : List layout.Label) → Knows labels.now list → OnOk result (target_fault number text_size list place.now (says_of statement.now) ≡ None) }
-    ensures bytes { (list : List layout.Label) → Knows labels.now list → OnOk result (Adds text_size list place.now (says_of statement.now) (bytes_in parts.old place.now.part) (bytes_in parts.new place.now.part)) }
+    requires near { AreNear addresses.now }
+    ensures ok { (list : List layout.Label) → Knows addresses.now.labels.now list → OnOk result (target_fault number addresses.now.text_size list place.now (says_of statement.now) ≡ None) }
+    ensures bytes { (list : List layout.Label) → Knows addresses.now.labels.now list → OnOk result (Adds addresses.now.text_size list place.now (says_of statement.now) (bytes_in parts.old place.now.part) (bytes_in parts.new place.now.part)) }
     ensures others { OnOk result (bytes_in parts.new (other place.now.part) ≡ bytes_in parts.old (other place.now.part)) }
     ensures symbols { OnOk result (parts.new.symbols ≡ parts.old.symbols) }
-    ensures err { (list : List layout.Label) → Knows labels.now list → IfErr result (λ fault. fault ≢ AsmFault.Memory → target_fault number text_size list place.now (says_of statement.now) ≡ Some fault) }
+    ensures err { (list : List layout.Label) → Knows addresses.now.labels.now list → IfErr result (λ fault. fault ≢ AsmFault.Memory → target_fault number addresses.now.text_size list place.now (says_of statement.now) ≡ Some fault) }
 {
     match place.part {
-        Section::Text => put_statement(
-            &mut parts.text_bytes,
-            number,
-            place,
-            statement,
-            labels,
-            text_size,
-        ),
-        Section::Data => put_statement(
-            &mut parts.data_bytes,
-            number,
-            place,
-            statement,
-            labels,
-            text_size,
-        ),
+        Section::Text => put_statement(&mut parts.text_bytes, number, place, statement, addresses),
+        Section::Data => put_statement(&mut parts.data_bytes, number, place, statement, addresses),
     }
 }
 
@@ -96,21 +80,26 @@ fn put_line(
     place: &Place,
     code: Option<bool>,
     line: &Line<'_>,
-    labels: &Labels<'_>,
-    text_size: u64,
+    addresses: &Addresses<'_, '_>,
 ) -> Result<(), AsmFault>
     requires align { HasSmallAlign (says_of line.now.statement) }
     requires has_word { HasWord (says_of line.now.statement) }
     requires size { length (bytes_in parts.old place.now.part) ≡ layout.here place.now }
     requires fits { layout.here place.now + layout.size_of (says_of line.now.statement) (layout.here place.now) ≤ 4194304 }
-    requires text { text_size ≤ 4194304 }
-    requires near { AreNear labels.now }
-    ensures ok { (list : List layout.Label) → Knows labels.now list → OnOk result (target_fault number text_size list place.now (says_of line.now.statement) ≡ None) }
-    ensures grown { (list : List layout.Label) → Knows labels.now list → OnOk result (HaveGrown text_size list place.now code (line_said line.now) parts.old parts.new) }
-    ensures err { (list : List layout.Label) → Knows labels.now list → IfErr result (λ fault. fault ≢ AsmFault.Memory → target_fault number text_size list place.now (says_of line.now.statement) ≡ Some fault) }
+    requires near { AreNear addresses.now }
+    ensures ok { (list : List layout.Label) → Knows addresses.now.labels.now list → OnOk result (target_fault number addresses.now.text_size list place.now (says_of line.now.statement) ≡ None) }
+    ensures grown { (list : List layout.Label) → Knows addresses.now.labels.now list → OnOk result (HaveGrown addresses.now.text_size list place.now code (line_said line.now) parts.old parts.new) }
+    ensures err { (list : List layout.Label) → Knows addresses.now.labels.now list → IfErr result (λ fault. fault ≢ AsmFault.Memory → target_fault number addresses.now.text_size list place.now (says_of line.now.statement) ≡ Some fault) }
 {
-    put_symbols(&mut parts.symbols, alloc, place, line, code, text_size)?;
-    put_bytes(parts, number, place, &line.statement, labels, text_size)
+    put_symbols(
+        &mut parts.symbols,
+        alloc,
+        place,
+        line,
+        code,
+        addresses.text_size,
+    )?;
+    put_bytes(parts, number, place, &line.statement, addresses)
 }
 
 /// Appends what line number `number` puts, or tells the fault of its names and distances.
@@ -119,21 +108,19 @@ pub fn emit_line(
     alloc: Global,
     number: u32,
     text: &[u8],
-    labels: &Labels<'_>,
-    text_size: u64,
+    addresses: &Addresses<'_, '_>,
 ) -> Result<(), AsmFault>
     requires short { length text.now ≤ 67108864 }
     requires fine { IsFine emission.old.place text.now }
     requires limits { IsInLimits emission.old.place }
     requires text_size { length emission.old.parts.text_bytes.items ≡ emission.old.place.text_size }
     requires data_size { length emission.old.parts.data_bytes.items ≡ emission.old.place.data_size }
-    requires text { text_size ≤ 4194304 }
-    requires near { AreNear labels.now }
-    ensures ok { (list : List layout.Label) → Knows labels.now list → (line : SourceLine) → line_of text.now ≡ Ok line → OnOk result (target_fault number text_size list emission.old.place line.says ≡ None) }
-    ensures grown { (list : List layout.Label) → Knows labels.now list → (line : SourceLine) → line_of text.now ≡ Ok line → OnOk result (HaveGrown text_size list emission.old.place emission.old.code line emission.old.parts emission.new.parts) }
+    requires near { AreNear addresses.now }
+    ensures ok { (list : List layout.Label) → Knows addresses.now.labels.now list → (line : SourceLine) → line_of text.now ≡ Ok line → OnOk result (target_fault number addresses.now.text_size list emission.old.place line.says ≡ None) }
+    ensures grown { (list : List layout.Label) → Knows addresses.now.labels.now list → (line : SourceLine) → line_of text.now ≡ Ok line → OnOk result (HaveGrown addresses.now.text_size list emission.old.place emission.old.code line emission.old.parts emission.new.parts) }
     ensures place { (line : SourceLine) → line_of text.now ≡ Ok line → OnOk result (emission.new.place ≡ layout.place_after emission.old.place line.says) }
     ensures code { (line : SourceLine) → line_of text.now ≡ Ok line → OnOk result (emission.new.code ≡ assembly.text_is emission.old.place line.says emission.old.code) }
-    ensures err { (list : List layout.Label) → Knows labels.now list → (line : SourceLine) → line_of text.now ≡ Ok line → IfErr result (λ fault. fault ≢ AsmFault.Memory → target_fault number text_size list emission.old.place line.says ≡ Some fault) }
+    ensures err { (list : List layout.Label) → Knows addresses.now.labels.now list → (line : SourceLine) → line_of text.now ≡ Ok line → IfErr result (λ fault. fault ≢ AsmFault.Memory → target_fault number addresses.now.text_size list emission.old.place line.says ≡ Some fault) }
 {
     let Ok(line) = parse_bytes(alloc, text) else {
         return Err(AsmFault::Memory);
@@ -150,8 +137,7 @@ pub fn emit_line(
         &place,
         code,
         &line,
-        labels,
-        text_size,
+        addresses,
     )?;
     emission.code = text_is(&place, &line.statement, code);
     emission.place = after;

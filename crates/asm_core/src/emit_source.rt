@@ -7,6 +7,7 @@ ghost use Rattle.asm_core.specs.Known.{Knows};
 ghost use Rattle.asm_core.specs.Parts.{ArePartsOf};
 
 use crate::emit_lines::{Emission, emit_line, new_emission};
+use crate::emit_targets::Addresses;
 use crate::fault::AsmFault;
 use crate::labels::Labels;
 use crate::lines::next_line;
@@ -29,11 +30,12 @@ pub fn emit(
     ensures ok { IfOk result (λ parts. targets_fault 1 (text_length_of (said_lines (lines_of source.now))) (labels_of (said_lines (lines_of source.now))) first_place (said_lines (lines_of source.now)) ≡ None) }
     ensures err { IfErr result (λ fault. fault ≢ AsmFault.Memory → targets_fault 1 (text_length_of (said_lines (lines_of source.now))) (labels_of (said_lines (lines_of source.now))) first_place (said_lines (lines_of source.now)) ≡ Some fault) }
 {
+    let addresses = Addresses { labels, text_size };
     let mut emission = new_emission(alloc);
     let mut number = 1u32;
     let mut rest = source;
     while let Some((text, after)) = next_line(rest) {
-        emit_line(&mut emission, alloc, number, text, labels, text_size)?;
+        emit_line(&mut emission, alloc, number, text, &addresses)?;
         number += 1;
         rest = after;
     }

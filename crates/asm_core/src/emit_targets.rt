@@ -14,6 +14,13 @@ use crate::labels::{LabelPlace, Labels};
 use asm_parser::Value;
 use sm_types::{Insn, Section, TEXT_ADDRESS};
 
+/// What the names of a source stand for: its labels, and how many bytes its text has.
+#[derive(Clone, Copy)]
+pub struct Addresses<'l, 'a> {
+    pub labels: &'l Labels<'a>,
+    pub text_size: u64,
+}
+
 /// Where a part begins, for a text of so many bytes.
 fn base_of(part: Section, text_size: u64) -> u64
     requires { text_size ≤ 4194304 }
@@ -37,28 +44,26 @@ pub fn address_in(part: Section, offset: u64, text_size: u64) -> u64
 }
 
 /// The address of the label of that name.
-fn find_address(labels: &Labels<'_>, name: &[u8], text_size: u64) -> Option<u64>
-    requires text { text_size ≤ 4194304 }
-    requires near { AreNear labels.now }
-    ensures value { (list : List layout.Label) → Knows labels.now list → result ≡ option_map (layout.label_address text_size) (layout.label_named list name.now) }
+fn find_address(addresses: &Addresses<'_, '_>, name: &[u8]) -> Option<u64>
+    requires { AreNear addresses.now }
+    ensures value { (list : List layout.Label) → Knows addresses.now.labels.now list → result ≡ option_map (layout.label_address addresses.now.text_size) (layout.label_named list name.now) }
     ensures small { MatchOption result (Unit {0}) (λ address. address < 2 ^ 32) }
 {
-    match labels.find(name) {
-        Some(LabelPlace { part, offset }) => Some(address_in(part, offset, text_size)),
+    match addresses.labels.find(name) {
+        Some(LabelPlace { part, offset }) => Some(address_in(part, offset, addresses.text_size)),
         None => None,
     }
 }
 
 /// The number of a value of `.quad`; an undefined name has none.
 #[tactic(auto, unfolding(crate::specs::Faults::is_undefined, crate::specs::Assembly::quad_number))]
-pub fn quad_number(value: &Value<'_>, labels: &Labels<'_>, text_size: u64) -> Option<u64>
-    requires text { text_size ≤ 4194304 }
-    requires near { AreNear labels.now }
-    ensures { (list : List layout.Label) → Knows labels.now list → MatchOption result (is_undefined list (value_of value.now) ≡ true) (λ n. (is_undefined list (value_of value.now) ≡ false) × (n ≡ assembly.quad_number text_size list (value_of value.now))) }
+pub fn quad_number(value: &Value<'_>, addresses: &Addresses<'_, '_>) -> Option<u64>
+    requires { AreNear addresses.now }
+    ensures { (list : List layout.Label) → Knows addresses.now.labels.now list → MatchOption result (is_undefined list (value_of value.now) ≡ true) (λ n. (is_undefined list (value_of value.now) ≡ false) × (n ≡ assembly.quad_number addresses.now.text_size list (value_of value.now))) }
 {
     match value {
         Value::Number(number) => Some(*number),
-        Value::Name(name) => find_address(labels, name, text_size),
+        Value::Name(name) => find_address(addresses, name),
     }
 }
 
@@ -92,22 +97,20 @@ pub fn aim(
     insn: &Insn,
     from: u64,
     name: Option<&[u8]>,
-    labels: &Labels<'_>,
-    text_size: u64,
+    addresses: &Addresses<'_, '_>,
 ) -> Result<Insn, AsmFault>
     requires from { from < 2 ^ 32 }
-    requires text { text_size ≤ 4194304 }
-    requires near { AreNear labels.now }
+    requires near { AreNear addresses.now }
     requires has_word { IsEncodable insn.now }
-    ensures ok { (list : List layout.Label) → Knows labels.now list → IfOk result (λ it. instruction_fault number text_size list from insn.now (option_map (λ name. name.now) name.entry) ≡ None) }
-    ensures value { (list : List layout.Label) → Knows labels.now list → IfOk result (λ it. it ≡ assembly.aimed text_size list from insn.now (option_map (λ name. name.now) name.entry)) }
+    ensures ok { (list : List layout.Label) → Knows addresses.now.labels.now list → IfOk result (λ it. instruction_fault number addresses.now.text_size list from insn.now (option_map (λ name. name.now) name.entry) ≡ None) }
+    ensures value { (list : List layout.Label) → Knows addresses.now.labels.now list → IfOk result (λ it. it ≡ assembly.aimed addresses.now.text_size list from insn.now (option_map (λ name. name.now) name.entry)) }
     ensures has_word { IfOk result IsEncodable }
-    ensures err { (list : List layout.Label) → Knows labels.now list → IfErr result (λ fault. instruction_fault number text_size list from insn.now (option_map (λ name. name.now) name.entry) ≡ Some fault) }
+    ensures err { (list : List layout.Label) → Knows addresses.now.labels.now list → IfErr result (λ fault. instruction_fault number addresses.now.text_size list from insn.now (option_map (λ name. name.now) name.entry) ≡ Some fault) }
 {
     let Some(name) = name else {
         return Ok(*insn);
     };
-    match find_address(labels, name, text_size) {
+    match find_address(addresses, name) {
         Some(target) => with_distance(number, insn, from, target),
         None => Err(AsmFault::Undefined(number)),
     }

@@ -23,7 +23,7 @@ loop-value-preserved c = λ list knows.
     record {
       defined = none_more (is_undefined list) (map value_of (take i values)) (map value_of (take (i + 1) values)) (value_of x) before.defined read.0 said;
       bytes =
-          numbers_more 8 c.args.bytes.now.items c.loop-value.bytes.items c.put_quad.new.bytes.items (map (quad_number c.args.text_size list) (map value_of (take i values)))
-          (map (quad_number c.args.text_size list) (map value_of (take (i + 1) values))) c.in-Some.address before.bytes c.in_ok-put_quad.ensures.ok
-          (rw read.1 (mapped_more (quad_number c.args.text_size list) (map value_of (take i values)) (map value_of (take (i + 1) values)) (value_of x) said));
+          numbers_more 8 c.args.bytes.now.items c.loop-value.bytes.items c.put_quad.new.bytes.items (map (quad_number c.args.addresses.now.text_size list) (map value_of (take i values)))
+          (map (quad_number c.args.addresses.now.text_size list) (map value_of (take (i + 1) values))) c.in-Some.address before.bytes c.in_ok-put_quad.ensures.ok
+          (rw read.1 (mapped_more (quad_number c.args.addresses.now.text_size list) (map value_of (take i values)) (map value_of (take (i + 1) values)) (value_of x) said));
     }

@@ -1,9 +1,9 @@
-use Rattle.std.proofs.Common.{◌≡◌, ◌≤◌, ℕ, List, None, Some, refl, sym, subst, arith}
+use Rattle.std.proofs.Common.{◌≡◌, ℕ, List, None, Some, refl, subst, arith}
 use Rattle.std.proofs.lemmas.Result.{err_from_is_err_and}
 use Rattle.asm_core.specs.Source.{lines_of, said_lines}
 use Rattle.asm_core.specs.Layout.{first_place, labels_of}
 use Rattle.asm_core.specs.Faults.{lines_fault, targets_fault}
-use Rattle.asm_core.proofs.Accepted.{fine_first, size_near, table_near}
+use Rattle.asm_core.proofs.Accepted.{fine_first, addresses_near}
 use Rattle.asm_core.proofs.Emission.{IsAt, at_start, at_next, at_fault, at_end, at_end_fine}
 use Rattle.asm_core.proofs.emit_source.emit.Goals as goal
 
@@ -25,11 +25,8 @@ emit_line-requires-clause-fine c =
     fine_first c.loop-text.number c.loop-text.emission.place at.known c.in-Some.text.now (lines_of c.in-Some.after.now)
     (subst (λ (texts : List (List ℕ)). lines_fault c.loop-text.number c.loop-text.emission.place at.known texts ≡ None) c.in-Some.ensures.lines at.accepted)
 
-pub emit_line-requires-clause-text : goal.emit_line-requires-clause-text
-emit_line-requires-clause-text c = subst (λ n. n ≤ 4194304) (sym c.requires.size) (size_near (lines_of c.args.source.now) c.requires.accepted)
-
 pub emit_line-requires-clause-near : goal.emit_line-requires-clause-near
-emit_line-requires-clause-near c = table_near c.args.labels.now (lines_of c.args.source.now) c.requires.knows c.requires.accepted
+emit_line-requires-clause-near c = addresses_near _ (lines_of c.args.source.now) c.requires.size c.requires.knows c.requires.accepted
 
 pub returns-in_err-emit_line-clause-err : goal.returns-in_err-emit_line-clause-err
 returns-in_err-emit_line-clause-err c =
