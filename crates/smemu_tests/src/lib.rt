@@ -50,7 +50,7 @@ mod tests {
 
     #[test]
     fn words_that_are_no_command(rt: HostRuntime) -> Result<(), Fail> {
-        let cases: [(&[&str], &str); 12] = [
+        let cases: [(&[&str], &str); 15] = [
             (&[], "usage: word 0: missing\n"),
             (&["walk", "answer"], "usage: word 0: unknown\n"),
             (&["RUN", "answer"], "usage: word 0: unknown\n"),
@@ -74,6 +74,12 @@ mod tests {
                 "usage: word 4: repeated\n",
             ),
             (&["--help", "run"], "usage: word 1: extra\n"),
+            (&["dis"], "usage: word 1: missing\n"),
+            (&["asm"], "usage: word 1: missing\n"),
+            (
+                &["asm", "answer", "--budget", "1"],
+                "usage: word 2: extra\n",
+            ),
             (&["--version", "--help"], "usage: word 1: extra\n"),
         ];
         for (texts, line) in cases {
@@ -140,6 +146,35 @@ mod tests {
     }
 
     #[test]
+    fn a_source_of_one_byte_more_than_64_mib(rt: HostRuntime) -> Result<(), Fail> {
+        let bytes = vec![in rt.alloc(); b'\n'; 67_108_865]?;
+        let mut files = MemFiles::new(rt.alloc());
+        files.add("long", bytes.as_slice())?;
+        let mut out = MemSink::new(rt.alloc(), 100)?;
+        let status = status_of(rt.alloc(), &["asm", "long"], &mut files, &mut out)?;
+        assert_eq!(rt; status.code(), 7);
+        assert!(rt; out.bytes() == b"bad source: line 0: toolong\n".as_slice());
+        Ok(())
+    }
+
+    #[test]
+    fn a_program_that_is_assembled_runs(rt: HostRuntime) -> Result<(), Fail> {
+        let source = "// answers 42\n_start: movz x0, #42\n movz x8, #93\n svc #0\n";
+        let mut files = MemFiles::new(rt.alloc());
+        files.add("source", source.as_bytes())?;
+        let mut program = MemSink::new(rt.alloc(), 20_000)?;
+        let status = status_of(rt.alloc(), &["asm", "source"], &mut files, &mut program)?;
+        assert_eq!(rt; status, Status::Done);
+        files.add("program", program.bytes())?;
+        let mut out = MemSink::new(rt.alloc(), 4000)?;
+        let status = status_of(rt.alloc(), &["run", "program"], &mut files, &mut out)?;
+        assert_eq!(rt; status, Status::Done);
+        let report = std::str::from_utf8(out.bytes()).map_err(|_| "not text")?;
+        assert!(rt; report.contains("\nstop exited 42\ncount 3\n"), "{report}");
+        Ok(())
+    }
+
+    #[test]
     fn help_and_version(rt: HostRuntime) -> Result<(), Fail> {
         let (status, version) = written(rt.alloc(), &["--version"])?;
         assert_eq!(rt; status.code(), 0);
@@ -149,6 +184,8 @@ mod tests {
         let help = std::str::from_utf8(out.bytes()).map_err(|_| "not text")?;
         for part in [
             "\n  run PROGRAM ",
+            "\n  dis PROGRAM ",
+            "\n  asm SOURCE ",
             "\n  --vl BITS ",
             "\n  --svl BITS ",
             "\n  --budget N ",
@@ -158,6 +195,7 @@ mod tests {
             "absent: NAME",
             "read fault: NAME",
             "bad file: KIND VALUES",
+            "bad source: line L: KIND VALUES",
         ] {
             assert!(rt; help.contains(part), "{part}");
         }
