@@ -36,7 +36,9 @@ fn is_text_of(word: u32, text: &str) -> bool {
 fn is_instruction_of(word: u32, statement: &Statement<'_>) -> bool {
     match statement {
         Statement::Instruction {
-            insn, target: None, ..
+            insn,
+            target: None,
+            ..
         } => encode(insn) == Some(word),
         _ => false,
     }
