@@ -16,6 +16,8 @@ mod place;
 mod start;
 mod survey;
 mod symbols;
+#[cfg(test)]
+mod tests;
 mod text;
 
 pub use fault::AsmFault;
