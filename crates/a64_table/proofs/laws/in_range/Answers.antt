@@ -1,0 +1,5 @@
+use Rattle.a64_table.proofs.Ranged.{ranged}
+use Rattle.a64_table.proofs.laws.in_range.Goals as goal
+
+pub returns : goal.returns
+returns c = ranged
