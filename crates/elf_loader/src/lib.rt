@@ -7,8 +7,6 @@
 
 mod loader;
 mod parts;
-#[cfg(test)]
-mod tests;
 mod words;
 mod write;
 
