@@ -7,10 +7,9 @@ ghost use Rattle.bit_ops.specs.Masks.{bit_mask_of, is_reserved, length_of, ones_
 use crate::words::{low_word, width};
 
 /// The mask that the fields N, imms and immr of a logical instruction give a word of 64 bits where `wide`,
-/// else of 32. None where the fields are reserved. Bits of `immr` above the size of an element are ignored.
+/// else of 32. None exactly where the fields are reserved. `imms` and `immr` have six bits, and what stands above
+/// them is not read; nor are bits of `immr` above the size of an element.
 pub fn bit_mask(n: bool, imms: u8, immr: u8, wide: bool) -> Option<u64>
-    requires imms { imms < 64 }
-    requires immr { immr < 64 }
     ensures value { result ≡ bit_mask_of n imms immr wide }
     ensures none { IsNone result ↔ IsTrue (is_reserved n imms wide) }
     ensures bits { IfSome result (λ mask. IsMask n imms immr wide mask) }
@@ -26,15 +25,13 @@ pub fn bit_mask(n: bool, imms: u8, immr: u8, wide: bool) -> Option<u64>
 
 /// The seven bits N, NOT(imms).
 fn length_bits(n: bool, imms: u8) -> u32
-    requires { imms < 64 }
-    ensures { result ≡ bool_number n * 64 + (63 - imms) }
+    ensures { result ≡ bool_number n * 64 + (63 - imms % 64) }
 {
-    u32::from(n) * 64 + (63 - u32::from(imms))
+    u32::from(n) * 64 + (63 - u32::from(imms % 64))
 }
 
 /// The place of the highest one in the bits of the length, and 0 where there is none.
 fn element_length(n: bool, imms: u8) -> u32
-    requires { imms < 64 }
     ensures value { result ≡ length_of n imms }
     ensures small { result < 7 }
 {
@@ -229,6 +226,9 @@ mod tests {
         assert!(rt; bit_mask(false, 53, 3, false) == Some(0xe7e7_e7e7));
         // bits of immr above the element
         assert!(rt; bit_mask(false, 39, 28, true) == Some(0x0ff0_0ff0_0ff0_0ff0));
+        // bits above the fields
+        assert!(rt; bit_mask(false, 124, 64, true) == Some(0x5555_5555_5555_5555));
+        assert!(rt; bit_mask(true, 199, 68, true) == Some(0xf000_0000_0000_000f));
     }
 
     #[test]
@@ -238,6 +238,7 @@ mod tests {
         assert!(rt; bit_mask(false, 63, 0, false).is_none());
         assert!(rt; bit_mask(true, 63, 0, true).is_none());
         assert!(rt; bit_mask(true, 7, 4, false).is_none());
+        assert!(rt; bit_mask(true, 127, 0, true).is_none());
     }
 
     #[test]
