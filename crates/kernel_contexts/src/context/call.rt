@@ -67,7 +67,7 @@ impl Context {
 
     /// The call of the number in X8.
     #[tactic(auto, unfolding(crate::specs::Call::call_of))]
-    pub fn call(&mut self) -> Turn
+    pub(super) fn call(&mut self) -> Turn
         requires room { self.old.count < self.old.config.budget }
         requires runs { stop_of self.old ≡ None }
         ensures turn { Turns (call_of (state_of self.old)) (state_of self.old) self.new result }
