@@ -78,9 +78,10 @@ not_same : (n m : ℕ) → n ≤ m → (m ≡ n → ⊥) → n < m
 not_same n m l h = grind arith
 
 pub fine_insert : (ps : List Page) (i : ℕ) (p : Page) → IsFine ps → i ≤ length ps → ((k : ℕ) (d : Page) → k < i → (get_or ps k d).number < p.number)
-    → ((k : ℕ) (d : Page) → i ≤ k → k < length ps → p.number ≤ (get_or ps k d).number) → length p.bytes.items ≡ 4096 → p.number < 2 ^ 51 → get (perm_of ps) p.number ≡ None → IsFine (insert ps i p)
-fine_insert ps i p fine l below rest whole low missing = record {
+    → ((k : ℕ) (d : Page) → i ≤ k → k < length ps → p.number ≤ (get_or ps k d).number) → length p.bytes.items ≡ 4096 → p.flags < 8 → p.number < 2 ^ 51 → get (perm_of ps) p.number ≡ None → IsFine (insert ps i p)
+fine_insert ps i p fine l below rest whole sum low missing = record {
   full = All-insert (λ x. length x.bytes.items ≡ 4096) ps i p fine.full whole;
+  flags = All-insert (λ x. x.flags < 8) ps i p fine.flags sum;
   low = All-insert (λ x. x.number < 2 ^ 51) ps i p fine.low low;
   sorted = sorted-insert ps i p fine.sorted l below (λ k d m n. not_same p.number _ (rest k d m n) (page_at-there ps k d p.number n (page_absent ps p.number missing)));
 }

@@ -2,6 +2,7 @@
 use Rattle.std.proofs.Common.{◌≡◌, ◌≢◌, ℕ, ◌+◌, ◌-◌, ◌*◌, ◌/◌, ◌%◌, ◌^◌, ◌<◌, ◌≤◌, true, false, cond, List, [], length, get_or, set, refl, ap, sym, ◌∙◌, arith, Option, Some, None, slice_get, replicate}
 use Rattle.std.specs.Prelude.{◌==◌, ◌&&◌, bit_or, nat_le, nat_lt}
 use Rattle.std.proofs.lemmas.Bool.Decides.{nat_tests}
+use Rattle.std.proofs.lemmas.Nat.{or_lt}
 use Rattle.std.proofs.lemmas.List.{length-replicate, get_or-replicate}
 use Rattle.std.proofs.lemmas.Option.{slice_get-get_or}
 use Rattle.std.specs.FinMap.{get, get-empty}
@@ -71,6 +72,10 @@ new_zero m new n f bs none low zeros is a =
     ] refl
     ∙ ap zero_in (sym (ap (λ x. get x.perm (a / 4096)) is ∙ perm-with_page m n f bs (a / 4096)))
 
+-- flags that are added to others
+pub sum_of_both : (f g : ℕ) → f < 8 → g < 8 → bit_or f g < 8
+sum_of_both f g l m = or_lt 3 f g l m
+
 -- ---- the pages from one on, up to another
 
 same_test : (n q : ℕ) → (n == q) ≡ true → n ≡ q
@@ -105,7 +110,7 @@ touched_all address size q f old h =
 -- ---- no page
 
 pub no_pages_fine : (ps : List Page) → ps ≡ [] → IsFine ps
-no_pages_fine ps e = rw e (record { full = λ k d l. absurd (omega arith); low = λ k d l. absurd (omega arith); sorted = refl })
+no_pages_fine ps e = rw e (record { full = λ k d l. absurd (omega arith); flags = λ k d l. absurd (omega arith); low = λ k d l. absurd (omega arith); sorted = refl })
 
 no_flags : (n : ℕ) → get (perm_of []) n ≡ None
 unfolding perm_of

@@ -1,6 +1,6 @@
 -- The private memory of a guest thread: a byte at each address of its pages, and the permission of each page.
 -- Source: DDI 0487, D8 (translation granule of 4 KiB, permissions to read, write and execute), with addresses modulo 2 ^ 64.
-use Rattle.std.specs.Prelude.{ℕ, zero, suc, ◌+◌, ◌*◌, ◌/◌, ◌%◌, ◌^◌, Bool, cond, List, [], ◌∷◌, ◌++◌, Option, Some, None, bit_and, ◌==◌, refl, option_map, replicate, unwrap_or}
+use Rattle.std.specs.Prelude.{◌≡◌, ℕ, zero, suc, ◌+◌, ◌*◌, ◌/◌, ◌%◌, ◌^◌, ◌<◌, is_some, Bool, cond, List, [], ◌∷◌, ◌++◌, Option, Some, None, bit_and, ◌==◌, refl, option_map, replicate, unwrap_or}
 use Rattle.std.specs.FinMap.{FinMap, get, insert, empty}
 use Rattle.std.specs.FinMap as map
 use Rattle.std.specs.Ordering.{nat_cmp}
@@ -20,6 +20,11 @@ memory_code =
 -- no page
 abbrev pub no_memory : Memory
 no_memory = record { mem = empty; perm = empty }
+
+-- the addresses that have a byte are those of the pages, and each permission is a sum of execute, write and read
+pub record IsWhole (m : Memory) : Type 0 where
+  pub bytes : (a : ℕ) → is_some (get m.mem a) ≡ is_some (get m.perm (a / 4096))
+  pub flags : (n flags : ℕ) → get m.perm n ≡ Some flags → flags < 8
 
 -- the flags have the permission, which is one of execute 1, write 2 and read 4
 abbrev pub permits : ℕ → ℕ → Bool

@@ -1,6 +1,6 @@
 -- The pages of a guest thread as its callers see them: the memory that they make, and which of them are owned. An owned page is the
 -- thread's alone, and a write to it takes no memory. Source: copy on write, as System V's fork has it.
-use Rattle.std.specs.Prelude.{ℕ, ◌+◌, ◌/◌, ◌%◌, ◌^◌, ◌<◌, refl, IsSome, IsTrue}
+use Rattle.std.specs.Prelude.{◌≡◌, ◌↔◌, ◌⊎◌, ℕ, ◌+◌, ◌/◌, ◌%◌, ◌^◌, ◌<◌, refl, IsSome, IsTrue}
 use Rattle.std.specs.FinMap.{get}
 use Rattle.std.specs.FinSet.{FinSet, contains}
 use Rattle.std.specs.FinSet as set
@@ -20,6 +20,17 @@ page_table_code = code_by (Memory × FinSet nat_cmp) (coded× memory_code (set.c
 -- the page of that number is owned
 abbrev pub IsOwned : PageTable → ℕ → Type 0
 IsOwned t n = IsTrue (contains t.owned n)
+
+-- there is a page of that number, and one of the n bytes from an address on lies in it
+pub record IsTouched (m : Memory) (address n number : ℕ) : Type 0 where
+  pub mapped : IsSome (get m.perm number)
+  pub place : ℕ
+  pub within : place < n
+  pub there : (address + place) % 2 ^ 64 / 4096 ≡ number
+
+-- the owned pages are those that were, and besides them exactly the pages of the n bytes from an address on
+abbrev pub OwnsAlso : PageTable → PageTable → ℕ → ℕ → Type 0
+OwnsAlso old new address n = (number : ℕ) → IsOwned new number ↔ (IsOwned old number ⊎ IsTouched old.memory address n number)
 
 -- the pages of the n bytes from an address on are owned, where there are such pages
 abbrev pub AreOwned : PageTable → ℕ → ℕ → Type 0

@@ -45,8 +45,9 @@ program_of ps entry code = record { memory = memory_of ps; entry = entry; code =
 abbrev pub page_entry : Page → ℕ × ℕ
 page_entry p = (p.number, p.flags)
 
--- each page is whole and below address 2 ^ 63, and their numbers rise
+-- each page is whole and below address 2 ^ 63, its flags are a sum of execute, write and read, and the numbers rise
 pub record IsFine (ps : List Page) : Type 0 where
   pub full : All (λ p. length p.bytes.items ≡ 4096) ps
+  pub flags : All (λ p. p.flags < 8) ps
   pub low : All (λ p. p.number < 2 ^ 51) ps
   pub sorted : is_sorted nat_cmp (map page_entry ps) ≡ true

@@ -4,9 +4,11 @@ use Rattle.paged_memory.specs.Image.{Extent, image_flags, part_byte, parts_byte,
 use Rattle.paged_memory.specs.Memory.{Memory}
 use Rattle.std.specs.FinMap.{get}
 
--- the bytes of a part are within its size, and each of its addresses is in a page that an image may have
+-- the bytes of a part are within its size, its flags are a sum of execute 1, write 2 and read 4, and each of its addresses is in a page
+-- that an image may have
 pub record IsPlaced (part : Extent) : Type 0 where
   pub inside : length part.bytes ≤ part.size
+  pub flags : part.flags < 8
   pub places : (a : ℕ) → part.address ≤ a → a < part.address + part.size → IsImagePage (a / 4096)
 
 -- no two parts have an address in common

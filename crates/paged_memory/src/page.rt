@@ -78,6 +78,7 @@ pub fn run(pages: &[Page], address: u64, count: usize, need: u8) -> Option<&[u8]
 pub fn add_page(pages: &mut Vec<Page>, page: Page) -> Result<(), AllocError>
     requires fine { IsFine pages.old.items }
     requires whole { length page.bytes.items ≡ 4096 }
+    requires flags { page.flags < 8 }
     requires low { page.number < 2 ^ 51 }
     requires missing { get (perm_of pages.old.items) page.number ≡ None }
     ensures fine { IsFine pages.new.items }

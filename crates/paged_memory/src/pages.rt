@@ -1,8 +1,8 @@
 //! The pages of a guest thread.
 ghost use Rattle.std.specs.Prelude.{◌≡◌, ◌≢◌, ℕ, ◌+◌, ◌*◌, ◌/◌, ◌%◌, ◌^◌, ◌<◌, ◌≤◌, ◌↔◌, length, slice_get, IsSome, IfSome, IfNone, IfOk, IfErr, OnOk, OnErr, Some, None};
 ghost use Rattle.std.specs.FinMap.{get, entries, len};
-ghost use Rattle.paged_memory.specs.Memory.{with_stack, with_zero_pages, no_memory, bytes_from, byte_with, bytes_with, first_without, word_at, set_bytes};
-ghost use Rattle.paged_memory.specs.PageTable.{AreOwned, KeepsOwned};
+ghost use Rattle.paged_memory.specs.Memory.{IsWhole, with_stack, with_zero_pages, no_memory, bytes_from, byte_with, bytes_with, first_without, word_at, set_bytes};
+ghost use Rattle.paged_memory.specs.PageTable.{AreOwned, OwnsAlso, KeepsOwned};
 ghost use Rattle.paged_memory.specs.Accesses.{need_of, stopped_at, IsOfWrite};
 ghost use Rattle.paged_memory.specs.Pages.{perm_of, memory_of, IsFine};
 
@@ -72,6 +72,7 @@ impl Pages {
     pub fn from_image(alloc: Global, image: &Image) -> Result<Pages, Memory>
         ensures ok { IfOk result (λ p. p.memory ≡ with_stack image.now.memory) }
         ensures few { IfOk result (λ p. len p.memory.perm ≤ 4096) }
+        ensures whole { IfOk result (λ p. IsWhole p.memory) }
     {
         match image_and_stack(alloc, image) {
             Ok(pages) => Ok(Pages { pages }),
@@ -145,9 +146,9 @@ impl Pages {
         }
     }
 
-    /// Makes the pages of so many bytes from an address on owned; after `Err` some of them may be.
+    /// Makes the pages of so many bytes from an address on owned, and no others; after `Err` some of them may be.
     pub fn own(&mut self, address: u64, length: u64) -> Result<(), Memory>
-        ensures ok { OnOk result (AreOwned self.new address length) }
+        ensures ok { OnOk result (OwnsAlso self.old self.new address length) }
         ensures memory { self.new.memory ≡ self.old.memory }
         ensures kept { KeepsOwned self.old self.new }
     {
@@ -166,8 +167,9 @@ impl Pages {
         ensures access { IfErr result IsOfWrite }
         ensures err { OnErr result (self.new.memory ≡ self.old.memory) }
         ensures room { AreOwned self.old address (length bytes.now) → result ≢ Err WriteStop.Memory }
-        ensures owned { OnOk result (AreOwned self.new address (length bytes.now)) }
+        ensures owned { OnOk result (OwnsAlso self.old self.new address (length bytes.now)) }
         ensures kept { KeepsOwned self.old self.new }
+        ensures whole { IsWhole self.new.memory }
     {
         match put_permitted(&mut self.pages, address, bytes) {
             None => Ok(()),
@@ -182,6 +184,7 @@ impl Pages {
     pub fn page_count(&self) -> usize
         ensures value { result ≡ len self.now.memory.perm }
         ensures few { result ≤ 4096 }
+        ensures whole { IsWhole self.now.memory }
     {
         self.pages.len()
     }
