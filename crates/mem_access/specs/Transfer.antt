@@ -1,6 +1,6 @@
 -- The registers and the memory after a load, a store or an atomic instruction that no check refuses. PC is moved by the machine.
 -- Source: DDI 0487, C6.2: LDR, LDRB, LDRH, LDRSB, LDRSH, LDRSW, LDUR.., STR.., STUR.., LDP, STP, LDAR, STLR, CAS, SWP, LDADD.. and their kin.
-use Rattle.std.specs.Prelude.{◌≡◌, ℕ, ◌+◌, ◌%◌, ◌^◌, ◌==◌, Bool, true, false, cond, Option, Some, None, Result, Ok, Err, option_and_then}
+use Rattle.std.specs.Prelude.{◌≡◌, ℕ, ◌+◌, ◌%◌, ◌^◌, ◌==◌, Bool, true, false, cond, Option, Some, None, Result, Ok, Err, IfSome, option_and_then}
 use Rattle.sm_types.specs.declared.scalars.Scalars.{Scalars}
 use Rattle.sm_types.specs.declared.insn.Insn.{Insn}
 use Rattle.sm_types.specs.declared.insn.Insn.TheVariants as insn
@@ -15,7 +15,7 @@ use Rattle.sm_types.specs.declared.insn.Atomic.{Atomic}
 use Rattle.sm_types.specs.declared.insn.Atomic.TheVariants as atomic
 use Rattle.scalar_exec.specs.Registers.{x_of, with_x}
 use Rattle.paged_memory.specs.Memory.{Memory}
-use Rattle.paged_memory.specs.PageTable.{PageTable}
+use Rattle.paged_memory.specs.PageTable.{PageTable, AreOwned}
 use Rattle.sm_types.specs.declared.stop.Exception.{Exception}
 use Rattle.mem_access.specs.declared.access.MemoryAccess.{MemoryAccess}
 use Rattle.mem_access.specs.declared.stop.AccessStop.{AccessStop}
@@ -101,6 +101,14 @@ contents_of s pages = record { scalars = s; memory = pages.memory }
 -- the exception of the first check of its access that fails, if any does
 abbrev pub transfer_fault : Insn → Scalars → Memory → Option Exception
 transfer_fault it s m = option_and_then (λ access. access_fault access s m) (access_of it s)
+
+-- the pages that an access writes are owned, so that it takes no memory; a load writes none
+abbrev pub HasRoom : MemoryAccess → PageTable → Type 0
+HasRoom access pages = access.writes ≡ true → AreOwned pages access.address access.size
+
+-- the pages that the access of an instruction writes are owned
+abbrev pub HasRoomFor : Insn → Scalars → PageTable → Type 0
+HasRoomFor it s pages = IfSome (access_of it s) (λ access. HasRoom access pages)
 
 -- the exception for which an access is not made; want of memory is none
 abbrev pub raised_by : AccessStop → Option Exception
