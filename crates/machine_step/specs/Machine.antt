@@ -1,5 +1,8 @@
 -- What a machine, which has no vectors of its own, is together with a bank of vectors.
-use Rattle.std.specs.Prelude.{◌≡◌}
+use Rattle.std.specs.Prelude.{◌≡◌, IfSome, option_and_then}
+use Rattle.paged_memory.specs.Memory.{word_at}
+use Rattle.sve_table.specs.Meaning.{instruction_of}
+use Rattle.mem_access.specs.Transfer.{HasRoomFor}
 use Rattle.machine_step.specs.Core.{Core, Bank}
 use Rattle.machine_step.specs.Effect.{Effect, Raises, Calls, Becomes}
 use Rattle.machine_step.specs.declared.machine.Machine.{Machine}
@@ -10,9 +13,20 @@ use Rattle.machine_step.specs.declared.machine.StepEnd.TheVariants.{Next, Call, 
 abbrev pub core_of : Machine → Bank → Core
 core_of m bank = record { scalars = m.scalars; tpidr = m.tpidr; tpidr2 = m.tpidr2; streaming = m.streaming; za_on = m.za_on; memory = m.pages.memory; bank = bank }
 
--- the answer of a step is the effect of the instruction, and all answers but Next leave the state as it was
+-- the instruction is executed: it neither raises nor calls
+abbrev pub IsBecomes : Effect → Type 0
+IsBecomes (Raises exception) = ⊥
+IsBecomes (Calls number) = ⊥
+IsBecomes (Becomes core) = Unit {0}
+
+-- the pages that the instruction at PC writes are owned
+abbrev pub HasRoomToStep : Machine → Type 0
+HasRoomToStep m = IfSome (option_and_then instruction_of (word_at m.pages.memory m.scalars.pc)) (λ it. HasRoomFor it m.scalars m.pages)
+
+-- the answer of a step is the effect of the instruction, and all answers but Next leave the state as it was; memory can only be wanting where
+-- the instruction is executed
 abbrev pub Steps : Effect → Core → Core → StepEnd → Type 0
 Steps effect old new Next = effect ≡ Becomes new
 Steps effect old new (Call number) = (effect ≡ Calls number) × (new ≡ old)
 Steps effect old new (Raise exception) = (effect ≡ Raises exception) × (new ≡ old)
-Steps effect old new Memory = new ≡ old
+Steps effect old new Memory = (new ≡ old) × IsBecomes effect

@@ -15,21 +15,21 @@ returns-then-self-clause-turn c =
 pub returns-in-Next-clause-turn : goal.returns-in-Next-clause-turn
 returns-in-Next-clause-turn c =
     let bank = zero_bank c.args.self.now.config.vl c.args.self.now.config.svl in (
-      turn_becomes (config_of c.args.self.now) (state_of c.args.self.now) _ c.if-self.false (c.in-Next.ensures bank) ∙ ap Goes (sym c.count_turn.ensures.state),
+      turn_becomes (config_of c.args.self.now) (state_of c.args.self.now) _ c.if-self.false (c.in-Next.ensures.effect bank) ∙ ap Goes (sym c.count_turn.ensures.state),
       c.count_turn.ensures.stop ∙ c.requires,
     )
 
 pub returns-in-Call-clause-turn : goal.returns-in-Call-clause-turn
 returns-in-Call-clause-turn c =
     let bank = zero_bank c.args.self.now.config.vl c.args.self.now.config.svl in
-    let h = c.in-Call.ensures bank in
+    let h = c.in-Call.ensures.effect bank in
     turns_from _ _ _ (state_of c.args.self.now) c.call.new.self c.call.result (turn_calls (config_of c.args.self.now) (state_of c.args.self.now) _ _ c.if-self.false h.0 h.1)
     (ap (λ core. record (state_of c.args.self.now) { core = core }) h.1) c.call.ensures.turn
 
 pub returns-in-Raise-clause-turn : goal.returns-in-Raise-clause-turn
 returns-in-Raise-clause-turn c =
     let bank = zero_bank c.args.self.now.config.vl c.args.self.now.config.svl in
-    let h = c.in-Raise.ensures bank in
+    let h = c.in-Raise.ensures.effect bank in
     stops_so _ (state_of c.args.self.now) c.stop_with-in-Raise.new.self c.stop_with-in-Raise.result _ c.stop_with-in-Raise.ensures.answer
     (turn_raises (config_of c.args.self.now) (state_of c.args.self.now) _ _ c.if-self.false h.0 h.1 ∙ ap (λ s. Ends s (Raised c.in-Raise.exception c.step.new.self.scalars.pc)) (sym c.stop_with-in-Raise.ensures.state))
     c.stop_with-in-Raise.ensures.stop
@@ -37,4 +37,4 @@ returns-in-Raise-clause-turn c =
 pub returns-in-Memory-clause-turn : goal.returns-in-Memory-clause-turn
 returns-in-Memory-clause-turn c =
     let bank = zero_bank c.args.self.now.config.vl c.args.self.now.config.svl in
-    (ap (λ core. record (state_of c.args.self.now) { core = core }) (c.in-Memory.ensures bank), c.requires)
+    (ap (λ core. record (state_of c.args.self.now) { core = core }) (c.in-Memory.ensures.effect bank).0, c.requires)
