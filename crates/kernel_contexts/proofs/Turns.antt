@@ -1,5 +1,5 @@
 -- What one turn is, case by case, and that a turn after which the thread goes on counts one instruction.
-use Rattle.std.proofs.Common.{◌≡◌, ℕ, ◌+◌, true, false, List, Option, Some, None, refl, ap, sym, ◌∙◌, arith, subst, slice_index, length}
+use Rattle.std.proofs.Common.{◌⊎◌, inl, inr, ◌≡◌, ℕ, ◌+◌, true, false, List, Option, Some, None, refl, ap, sym, ◌∙◌, arith, subst, slice_index, length}
 use Rattle.std.proofs.lemmas.Bool.{cond_both}
 use Rattle.std.proofs.lemmas.Bool.Decides.{nat_tests}
 use Rattle.std.specs.Prelude.{◌==◌, ◌||◌, nat_lt}
@@ -30,35 +30,43 @@ pub turn_raises : (config : Config) (s : State) (core : Core) (exception : Excep
     → turn_of config s ≡ Ends (record s { core = core }) (Raised exception core.scalars.pc)
 turn_raises config s core exception e is same = turn_on config s e ∙ ap (after_effect s) is ∙ ap (λ core. Ends (record s { core = core }) (Raised exception core.scalars.pc)) (sym same)
 
--- where the turn goes on, it has counted one instruction
-abbrev pub CountsOne : State → TurnEnd → Type 0
-CountsOne s (Goes t) = t.count ≡ s.count + 1
-CountsOne s (Asks op next) = Unit {0}
-CountsOne s (Ends t stop) = Unit {0}
+-- one instruction more is counted, and one turn
+pub record IsOneMore (s t : State) : Type 0 where
+  pub count : t.count ≡ s.count + 1
+  pub turns : t.turns ≡ s.turns + 1
 
-written_counts : (s : State) (read : Option (List ℕ)) (length : ℕ) → (written s read length).count ≡ s.count + 1
-written_counts s None length = refl
-written_counts s (Some bytes) length = refl
+-- where the turn goes on, it has counted one instruction, and so may one that stops
+abbrev pub CountsOne : State → TurnEnd → Type 0
+CountsOne s (Goes t) = IsOneMore s t
+CountsOne s (Asks op next) = (answer : ℕ) → IsOneMore s (next answer)
+CountsOne s (Ends t stop) = (t.turns ≡ s.turns) ⊎ IsOneMore s t
+
+one_more : (s : State) (core : Core) → IsOneMore s (counted s core)
+one_more s core = record { count = refl; turns = refl }
+
+written_counts : (s : State) (read : Option (List ℕ)) (length : ℕ) → IsOneMore s (written s read length)
+written_counts s None length = one_more s _
+written_counts s (Some bytes) length = record { count = refl; turns = refl }
 
 write_counts : (s : State) → CountsOne s (write_of s)
 unfolding write_of
 write_counts s = cond_both ((slice_index s.core.scalars.x 0 == 1) || (slice_index s.core.scalars.x 0 == 2)) _ _ (CountsOne s)
-    (λ _. cond_both (nat_lt output_limit (length s.output + slice_index s.core.scalars.x 2)) _ _ (CountsOne s) (λ _. tt) (λ _. written_counts s _ _))
-    (λ _. refl)
+    (λ _. cond_both (nat_lt output_limit (length s.output + slice_index s.core.scalars.x 2)) _ _ (CountsOne s) (λ _. inl refl) (λ _. written_counts s _ _))
+    (λ _. one_more s _)
 
 call_counts : (s : State) → CountsOne s (call_of s)
 unfolding call_of exit_of
 call_counts s = cond_both (slice_index s.core.scalars.x 8 == 64) _ _ (CountsOne s) (λ _. write_counts s)
-    (λ _. cond_both (slice_index s.core.scalars.x 8 == 93) _ _ (CountsOne s) (λ _. tt) (λ _. refl))
+    (λ _. cond_both (slice_index s.core.scalars.x 8 == 93) _ _ (CountsOne s) (λ _. inr (one_more s _)) (λ _. one_more s _))
 
 effect_counts : (s : State) (effect : Effect) → CountsOne s (after_effect s effect)
-effect_counts s (Raises exception) = tt
+effect_counts s (Raises exception) = inl refl
 effect_counts s (Calls number) = call_counts s
-effect_counts s (Becomes core) = refl
+effect_counts s (Becomes core) = one_more s core
 
-turn_counts : (config : Config) (s : State) → CountsOne s (turn_of config s)
+pub turn_counts : (config : Config) (s : State) → CountsOne s (turn_of config s)
 unfolding turn_of
-turn_counts config s = cond_both (s.count == config.budget) _ _ (CountsOne s) (λ _. tt) (λ _. effect_counts s (effect_of s.core))
+turn_counts config s = cond_both (s.count == config.budget) _ _ (CountsOne s) (λ _. inl refl) (λ _. effect_counts s (effect_of s.core))
 
 pub goes_counted : (config : Config) (s t : State) → turn_of config s ≡ Goes t → t.count ≡ s.count + 1
-goes_counted config s t e = subst (CountsOne s) e (turn_counts config s)
+goes_counted config s t e = let more : IsOneMore s t = subst (CountsOne s) e (turn_counts config s) in more.count
