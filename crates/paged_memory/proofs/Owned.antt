@@ -23,11 +23,13 @@ contains-numbers_of (p ∷ ps) n =
 -- all pages are owned before and after, so those of any bytes are
 owned_as_before : (ps qs : List Page) (address n : ℕ) → perm_of qs ≡ perm_of ps → OwnsAlso (table_of ps) (table_of qs) address n
 owned_as_before ps qs address n e number =
-    let same : is_some (get (perm_of qs) number) ≡ is_some (get (perm_of ps) number) = ap (λ m. is_some (get m number)) e in
-    (λ h. inl (contains-numbers_of ps number ∙ sym same ∙ sym (contains-numbers_of qs number) ∙ h), λ h. elim h [
-      | inl old ↦ contains-numbers_of qs number ∙ same ∙ sym (contains-numbers_of ps number) ∙ old
-      | inr touched ↦ contains-numbers_of qs number ∙ same ∙ touched.mapped
-    ])
+    let same : is_some (get (perm_of qs) number) ≡ is_some (get (perm_of ps) number) = ap (λ m. is_some (get m number)) e in (
+      λ h. inl (contains-numbers_of ps number ∙ sym same ∙ sym (contains-numbers_of qs number) ∙ h),
+      λ h. elim h [
+        | inl old ↦ contains-numbers_of qs number ∙ same ∙ sym (contains-numbers_of ps number) ∙ old
+        | inr touched ↦ contains-numbers_of qs number ∙ same ∙ touched.mapped
+      ],
+    )
 
 pub owns_also : (ps qs : List Page) (t : PageTable) (address n : ℕ) → table_of ps ≡ t → perm_of qs ≡ perm_of ps → OwnsAlso t (table_of qs) address n
 owns_also ps qs t address n is e = subst (λ t. OwnsAlso t (table_of qs) address n) is (owned_as_before ps qs address n e)

@@ -5,7 +5,7 @@ ghost use Rattle.paged_memory.specs.Image.{IsMemoryOf, IsImage, extent_of, union
 ghost use Rattle.paged_memory.specs.Parts.{ArePlaced, IsZero};
 ghost use Rattle.paged_memory.specs.Pages.{perm_of, memory_of, IsFine};
 
-use crate::page::{Page, add_page, copy_pages, find, put_bytes};
+use crate::page::{Page, add_page, copy_pages, put_bytes, search};
 use sm_types::Memory;
 use std::alloc::{AllocError, Global};
 use std::marker::Model;
@@ -161,7 +161,7 @@ fn touch(alloc: Global, pages: &mut Vec<Page>, number: u64, flags: u8) -> Result
     ensures zero { OnOk result (IsZero (memory_of pages.new.items)) }
     ensures flags { OnOk result ((n : ℕ) → get (perm_of pages.new.items) n ≡ cond (number == n) (union (Some flags) (get (perm_of pages.old.items) n)) (get (perm_of pages.old.items) n)) }
 {
-    match find(pages.as_slice(), number) {
+    match search(pages.as_slice(), number) {
         Some(i) => {
             let page = &mut pages[i];
             page.flags = flags | page.flags;

@@ -6,6 +6,7 @@ ghost use Rattle.paged_memory.specs.PageTable.{AreOwned, OwnsAlso, KeepsOwned};
 ghost use Rattle.paged_memory.specs.Accesses.{need_of, stopped_at, IsOfWrite};
 ghost use Rattle.paged_memory.specs.Pages.{perm_of, memory_of, IsFine};
 
+use crate::hints::hints_of;
 use crate::image::Image;
 use crate::page::{Page, add_page, first_lacking, put_permitted, run};
 use sm_types::{Access, Memory};
@@ -16,6 +17,7 @@ use std::marker::Model;
 #[derive(Drop)]
 pub struct Pages {
     pages: Vec<Page>,
+    hints: Vec<u16>,
 }
 
 impl Model for Pages {
@@ -75,7 +77,10 @@ impl Pages {
         ensures whole { IfOk result (λ p. IsWhole p.memory) }
     {
         match image_and_stack(alloc, image) {
-            Ok(pages) => Ok(Pages { pages }),
+            Ok(pages) => match hints_of(alloc, pages.as_slice()) {
+                Ok(hints) => Ok(Pages { pages, hints }),
+                Err(_) => Err(Memory),
+            },
             Err(_) => Err(Memory),
         }
     }
@@ -87,7 +92,13 @@ impl Pages {
         ensures access { IfErr result (λ e. e.access ≡ Access.Read) }
         ensures refused { OnErr result (bytes_with 4 self.now.memory address (length into.old) ≡ None) }
     {
-        match copy_out(self.pages.as_slice(), address, 4, into) {
+        match copy_out(
+            self.pages.as_slice(),
+            self.hints.as_slice(),
+            address,
+            4,
+            into,
+        ) {
             None => Ok(()),
             Some(address) => Err(Abort {
                 address,
@@ -105,7 +116,13 @@ impl Pages {
         ensures count { IfSome result (λ bytes. length bytes.now ≡ count) }
         ensures gone { IfNone result (first_without 4 self.now.memory address count ≡ Some address) }
     {
-        run(self.pages.as_slice(), address, count, 4)
+        run(
+            self.pages.as_slice(),
+            self.hints.as_slice(),
+            address,
+            count,
+            4,
+        )
     }
 
     /// The word of the four bytes from an address on; `None` exactly where one of them is in no executable page.
@@ -114,7 +131,7 @@ impl Pages {
         ensures { result ≡ word_at self.now.memory pc }
     {
         if pc % 4096 <= 4092 {
-            match run(self.pages.as_slice(), pc, 4, 1) {
+            match run(self.pages.as_slice(), self.hints.as_slice(), pc, 4, 1) {
                 Some(bytes) => Some(u32::from_le_bytes([bytes[0], bytes[1], bytes[2], bytes[3]])),
                 None => None,
             }
@@ -128,7 +145,13 @@ impl Pages {
         ensures { result ≡ word_at self.now.memory pc }
     {
         let mut word = [0; 4];
-        match copy_out(self.pages.as_slice(), pc, 1, &mut word) {
+        match copy_out(
+            self.pages.as_slice(),
+            self.hints.as_slice(),
+            pc,
+            1,
+            &mut word,
+        ) {
             None => Some(u32::from_le_bytes(word)),
             Some(_) => None,
         }
@@ -140,7 +163,13 @@ impl Pages {
         ensures abort { IfErr result (λ e. first_without (need_of access) self.now.memory address length ≡ Some e.address) }
         ensures access { IfErr result (λ e. e.access ≡ access) }
     {
-        match first_lacking(self.pages.as_slice(), address, length, need_of(access)) {
+        match first_lacking(
+            self.pages.as_slice(),
+            self.hints.as_slice(),
+            address,
+            length,
+            need_of(access),
+        ) {
             None => Ok(()),
             Some(address) => Err(Abort { address, access }),
         }
@@ -171,7 +200,7 @@ impl Pages {
         ensures kept { KeepsOwned self.old self.new }
         ensures whole { IsWhole self.new.memory }
     {
-        match put_permitted(&mut self.pages, address, bytes) {
+        match put_permitted(&mut self.pages, self.hints.as_slice(), address, bytes) {
             None => Ok(()),
             Some(address) => Err(WriteStop::Abort(Abort {
                 address,
@@ -211,7 +240,7 @@ impl Pages {
 }
 
 /// Copies bytes out, run by run, or names the first that lacks the permission.
-fn copy_out(pages: &[Page], address: u64, need: u8, into: &mut [u8]) -> Option<u64>
+fn copy_out(pages: &[Page], hints: &[u16], address: u64, need: u8, into: &mut [u8]) -> Option<u64>
     requires { IsFine pages.now }
     ensures ok { IfNone result (bytes_with need (memory_of pages.now) address (length into.old) ≡ Some into.new) }
     ensures stops { IfSome result (λ _. bytes_with need (memory_of pages.now) address (length into.old) ≡ None) }
@@ -222,7 +251,7 @@ fn copy_out(pages: &[Page], address: u64, need: u8, into: &mut [u8]) -> Option<u
         let at = address.wrapping_add(done as u64);
         let room = (4096 - at % 4096) as usize;
         let count = room.min(into.len() - done);
-        match run(pages, at, count, need) {
+        match run(pages, hints, at, count, need) {
             Some(bytes) => into[done..done + count].copy_from_slice(bytes),
             None => return Some(at),
         }
