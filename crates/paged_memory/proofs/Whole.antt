@@ -4,7 +4,7 @@ use Rattle.std.specs.Prelude.{◌==◌, is_some}
 use Rattle.std.specs.List.{AllByRecursion}
 use Rattle.std.proofs.lemmas.List.Elements.{recursion_from_All}
 use Rattle.paged_memory.specs.declared.page.Page.{Page}
-use Rattle.paged_memory.specs.Memory.{Memory, IsWhole}
+use Rattle.paged_memory.specs.Memory.{AddressSpace, IsWhole}
 use Rattle.paged_memory.specs.Pages.{page_at, memory_of, IsFine}
 use Rattle.paged_memory.proofs.Bytes.{bind, get-perm_of}
 use Rattle.paged_memory.proofs.Set.{get-mem_of-fine}
@@ -40,5 +40,5 @@ whole_pages ps fine = record {
   flags = λ n flags e. found ps n flags (recursion_from_All (λ p. p.flags < 8) ps fine.flags) (sym (get-perm_of ps n) ∙ e);
 }
 
-pub whole_memory : (ps : List Page) (m : Memory) → IsFine ps → memory_of ps ≡ m → IsWhole m
+pub whole_memory : (ps : List Page) (m : AddressSpace) → IsFine ps → memory_of ps ≡ m → IsWhole m
 whole_memory ps m fine is = subst IsWhole is (whole_pages ps fine)

@@ -6,23 +6,23 @@ use Rattle.std.specs.FinSet.{FinSet, contains}
 use Rattle.std.specs.FinSet as set
 use Rattle.std.specs.Ordering.{nat_cmp}
 use Rattle.std.specs.Coded.{Coded, code_by, coded×, coded_ℕ}
-use Rattle.paged_memory.specs.Memory.{Memory, memory_code}
+use Rattle.paged_memory.specs.Memory.{AddressSpace, memory_code}
 
 pub record PageTable : Type 0 where
-  pub memory : Memory
+  pub memory : AddressSpace
   -- the numbers of the owned pages
   pub owned : FinSet nat_cmp
 
 -- a page table, seen as a pair
 abbrev pub page_table_code : Coded PageTable
-page_table_code = code_by (Memory × FinSet nat_cmp) (coded× memory_code (set.code coded_ℕ)) (λ t. (t.memory, t.owned)) (λ p. record { memory = p.0; owned = p.1 }) (λ _. refl)
+page_table_code = code_by (AddressSpace × FinSet nat_cmp) (coded× memory_code (set.code coded_ℕ)) (λ t. (t.memory, t.owned)) (λ p. record { memory = p.0; owned = p.1 }) (λ _. refl)
 
 -- the page of that number is owned
 abbrev pub IsOwned : PageTable → ℕ → Type 0
 IsOwned t n = IsTrue (contains t.owned n)
 
 -- there is a page of that number, and one of the n bytes from an address on lies in it
-pub record IsTouched (m : Memory) (address n number : ℕ) : Type 0 where
+pub record IsTouched (m : AddressSpace) (address n number : ℕ) : Type 0 where
   pub mapped : IsSome (get m.perm number)
   pub place : ℕ
   pub within : place < n

@@ -5,7 +5,7 @@ use Rattle.std.specs.FinSet.{FinSet}
 use Rattle.std.specs.FinSet as set
 use Rattle.std.specs.Ordering.{nat_cmp}
 use Rattle.paged_memory.specs.declared.page.Page.{Page}
-use Rattle.paged_memory.specs.Memory.{Memory, set_bytes}
+use Rattle.paged_memory.specs.Memory.{AddressSpace, set_bytes}
 use Rattle.paged_memory.specs.PageTable.{PageTable}
 use Rattle.paged_memory.specs.Image.{Program}
 
@@ -25,7 +25,7 @@ perm_of [] = empty
 perm_of (p ∷ ps) = insert (perm_of ps) p.number p.flags
 
 -- the memory that the pages make
-abbrev pub memory_of : List Page → Memory
+abbrev pub memory_of : List Page → AddressSpace
 memory_of ps = record { mem = mem_of ps; perm = perm_of ps }
 
 -- the numbers of the pages
