@@ -7,10 +7,9 @@ ghost use Rattle.bit_ops.specs.Masks.{are_mask_fields, bit_mask_of, is_reserved,
 use crate::words::{low_word, width};
 
 /// The mask that the fields N, imms and immr of a logical instruction give a word of 64 bits where `wide`,
-/// else of 32. None where the fields are reserved. Bits of `immr` above the size of an element are ignored.
+/// else of 32. None exactly where the fields are reserved. `imms` and `immr` have six bits, and what stands above
+/// them is not read; nor are bits of `immr` above the size of an element.
 pub fn bit_mask(n: bool, imms: u8, immr: u8, wide: bool) -> Option<u64>
-    requires imms { imms < 64 }
-    requires immr { immr < 64 }
     ensures value { result ≡ bit_mask_of n imms immr wide }
     ensures none { IsNone result ↔ IsTrue (is_reserved n imms wide) }
     ensures bits { IfSome result (λ mask. IsMask n imms immr wide mask) }
@@ -29,7 +28,6 @@ pub fn bit_mask(n: bool, imms: u8, immr: u8, wide: bool) -> Option<u64>
 #[inline(always)]
 #[tactic(auto, unfolding(crate::specs::Masks::are_mask_fields, crate::specs::Masks::is_reserved))]
 pub fn are_mask_fields(n: bool, imms: u8, immr: u8, wide: bool) -> bool
-    requires { imms < 64 }
     ensures { result ≡ are_mask_fields n imms immr wide }
 {
     let length = element_length(n, imms);
@@ -38,15 +36,13 @@ pub fn are_mask_fields(n: bool, imms: u8, immr: u8, wide: bool) -> bool
 
 /// The seven bits N, NOT(imms).
 fn length_bits(n: bool, imms: u8) -> u32
-    requires { imms < 64 }
-    ensures { result ≡ bool_number n * 64 + (63 - imms) }
+    ensures { result ≡ bool_number n * 64 + (63 - imms % 64) }
 {
-    u32::from(n) * 64 + (63 - u32::from(imms))
+    u32::from(n) * 64 + (63 - u32::from(imms % 64))
 }
 
 /// The place of the highest one in the bits of the length, and 0 where there is none.
 fn element_length(n: bool, imms: u8) -> u32
-    requires { imms < 64 }
     ensures value { result ≡ length_of n imms }
     ensures small { result < 7 }
 {

@@ -1,11 +1,12 @@
 //! The pages of a guest thread.
 ghost use Rattle.std.specs.Prelude.{◌≡◌, ◌≢◌, ℕ, ◌+◌, ◌*◌, ◌/◌, ◌%◌, ◌^◌, ◌<◌, ◌≤◌, ◌↔◌, length, slice_get, IsSome, IfSome, IfNone, IfOk, IfErr, OnOk, OnErr, Some, None};
 ghost use Rattle.std.specs.FinMap.{get, entries, len};
-ghost use Rattle.paged_memory.specs.Memory.{with_stack, with_zero_pages, no_memory, bytes_from, byte_with, bytes_with, first_without, word_at, set_bytes};
-ghost use Rattle.paged_memory.specs.PageTable.{AreOwned, KeepsOwned};
+ghost use Rattle.paged_memory.specs.Memory.{IsWhole, with_stack, with_zero_pages, no_memory, bytes_from, byte_with, bytes_with, first_without, word_at, set_bytes};
+ghost use Rattle.paged_memory.specs.PageTable.{AreOwned, OwnsAlso, KeepsOwned};
 ghost use Rattle.paged_memory.specs.Accesses.{need_of, stopped_at, IsOfWrite};
 ghost use Rattle.paged_memory.specs.Pages.{perm_of, memory_of, IsFine};
 
+use crate::hints::hints_of;
 use crate::image::Image;
 use crate::page::{Page, add_page, first_lacking, put_permitted, run};
 use sm_types::{Access, Memory};
@@ -16,6 +17,7 @@ use std::marker::Model;
 #[derive(Drop)]
 pub struct Pages {
     pages: Vec<Page>,
+    hints: Vec<u16>,
 }
 
 impl Model for Pages {
@@ -72,9 +74,13 @@ impl Pages {
     pub fn from_image(alloc: Global, image: &Image) -> Result<Pages, Memory>
         ensures ok { IfOk result (λ p. p.memory ≡ with_stack image.now.memory) }
         ensures few { IfOk result (λ p. len p.memory.perm ≤ 4096) }
+        ensures whole { IfOk result (λ p. IsWhole p.memory) }
     {
         match image_and_stack(alloc, image) {
-            Ok(pages) => Ok(Pages { pages }),
+            Ok(pages) => match hints_of(alloc, pages.as_slice()) {
+                Ok(hints) => Ok(Pages { pages, hints }),
+                Err(_) => Err(Memory),
+            },
             Err(_) => Err(Memory),
         }
     }
@@ -86,7 +92,13 @@ impl Pages {
         ensures access { IfErr result (λ e. e.access ≡ Access.Read) }
         ensures refused { OnErr result (bytes_with 4 self.now.memory address (length into.old) ≡ None) }
     {
-        match copy_out(self.pages.as_slice(), address, 4, into) {
+        match copy_out(
+            self.pages.as_slice(),
+            self.hints.as_slice(),
+            address,
+            4,
+            into,
+        ) {
             None => Ok(()),
             Some(address) => Err(Abort {
                 address,
@@ -104,7 +116,13 @@ impl Pages {
         ensures count { IfSome result (λ bytes. length bytes.now ≡ count) }
         ensures gone { IfNone result (first_without 4 self.now.memory address count ≡ Some address) }
     {
-        run(self.pages.as_slice(), address, count, 4)
+        run(
+            self.pages.as_slice(),
+            self.hints.as_slice(),
+            address,
+            count,
+            4,
+        )
     }
 
     /// The word of the four bytes from an address on; `None` exactly where one of them is in no executable page.
@@ -113,7 +131,7 @@ impl Pages {
         ensures { result ≡ word_at self.now.memory pc }
     {
         if pc % 4096 <= 4092 {
-            match run(self.pages.as_slice(), pc, 4, 1) {
+            match run(self.pages.as_slice(), self.hints.as_slice(), pc, 4, 1) {
                 Some(bytes) => Some(u32::from_le_bytes([bytes[0], bytes[1], bytes[2], bytes[3]])),
                 None => None,
             }
@@ -127,7 +145,13 @@ impl Pages {
         ensures { result ≡ word_at self.now.memory pc }
     {
         let mut word = [0; 4];
-        match copy_out(self.pages.as_slice(), pc, 1, &mut word) {
+        match copy_out(
+            self.pages.as_slice(),
+            self.hints.as_slice(),
+            pc,
+            1,
+            &mut word,
+        ) {
             None => Some(u32::from_le_bytes(word)),
             Some(_) => None,
         }
@@ -139,15 +163,21 @@ impl Pages {
         ensures abort { IfErr result (λ e. first_without (need_of access) self.now.memory address length ≡ Some e.address) }
         ensures access { IfErr result (λ e. e.access ≡ access) }
     {
-        match first_lacking(self.pages.as_slice(), address, length, need_of(access)) {
+        match first_lacking(
+            self.pages.as_slice(),
+            self.hints.as_slice(),
+            address,
+            length,
+            need_of(access),
+        ) {
             None => Ok(()),
             Some(address) => Err(Abort { address, access }),
         }
     }
 
-    /// Makes the pages of so many bytes from an address on owned; after `Err` some of them may be.
+    /// Makes the pages of so many bytes from an address on owned, and no others; after `Err` some of them may be.
     pub fn own(&mut self, address: u64, length: u64) -> Result<(), Memory>
-        ensures ok { OnOk result (AreOwned self.new address length) }
+        ensures ok { OnOk result (OwnsAlso self.old self.new address length) }
         ensures memory { self.new.memory ≡ self.old.memory }
         ensures kept { KeepsOwned self.old self.new }
     {
@@ -166,10 +196,11 @@ impl Pages {
         ensures access { IfErr result IsOfWrite }
         ensures err { OnErr result (self.new.memory ≡ self.old.memory) }
         ensures room { AreOwned self.old address (length bytes.now) → result ≢ Err WriteStop.Memory }
-        ensures owned { OnOk result (AreOwned self.new address (length bytes.now)) }
+        ensures owned { OnOk result (OwnsAlso self.old self.new address (length bytes.now)) }
         ensures kept { KeepsOwned self.old self.new }
+        ensures whole { IsWhole self.new.memory }
     {
-        match put_permitted(&mut self.pages, address, bytes) {
+        match put_permitted(&mut self.pages, self.hints.as_slice(), address, bytes) {
             None => Ok(()),
             Some(address) => Err(WriteStop::Abort(Abort {
                 address,
@@ -182,6 +213,7 @@ impl Pages {
     pub fn page_count(&self) -> usize
         ensures value { result ≡ len self.now.memory.perm }
         ensures few { result ≤ 4096 }
+        ensures whole { IsWhole self.now.memory }
     {
         self.pages.len()
     }
@@ -208,7 +240,7 @@ impl Pages {
 }
 
 /// Copies bytes out, run by run, or names the first that lacks the permission.
-fn copy_out(pages: &[Page], address: u64, need: u8, into: &mut [u8]) -> Option<u64>
+fn copy_out(pages: &[Page], hints: &[u16], address: u64, need: u8, into: &mut [u8]) -> Option<u64>
     requires { IsFine pages.now }
     ensures ok { IfNone result (bytes_with need (memory_of pages.now) address (length into.old) ≡ Some into.new) }
     ensures stops { IfSome result (λ _. bytes_with need (memory_of pages.now) address (length into.old) ≡ None) }
@@ -219,7 +251,7 @@ fn copy_out(pages: &[Page], address: u64, need: u8, into: &mut [u8]) -> Option<u
         let at = address.wrapping_add(done as u64);
         let room = (4096 - at % 4096) as usize;
         let count = room.min(into.len() - done);
-        match run(pages, at, count, need) {
+        match run(pages, hints, at, count, need) {
             Some(bytes) => into[done..done + count].copy_from_slice(bytes),
             None => return Some(at),
         }

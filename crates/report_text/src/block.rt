@@ -1,7 +1,7 @@
 //! The block of a guest thread in a report.
 ghost use Rattle.std.specs.Prelude.{◌≡◌, [], ℕ};
 ghost use Rattle.edge_io.specs.Sink.{Writes};
-ghost use Rattle.machine_step.specs.Core.{Bank};
+ghost use Rattle.machine_step.specs.ProcessorState.{VectorState};
 ghost use Rattle.machine_step.specs.Machine.{core_of};
 ghost use Rattle.kernel_contexts.specs.Context.{state_of, thread_of};
 ghost use Rattle.report_text.specs.Block.{head_text, nzcv_line, svcr_of, system_text, register_text, signal_text, kernel_text, block_text};
@@ -47,14 +47,14 @@ fn put_nzcv_line<K: Sink>(out: &mut K, scalars: &Scalars) -> Result<(), PutFault
 
 /// SVCR: bit 0 is PSTATE.SM, bit 1 is PSTATE.ZA.
 fn svcr(machine: &Machine) -> u64
-    ensures { (bank : Bank) → result ≡ svcr_of (core_of machine.now bank) }
+    ensures { (bank : VectorState) → result ≡ svcr_of (core_of machine.now bank) }
 {
     u64::from(machine.streaming) + 2 * u64::from(machine.za_on)
 }
 
 /// The thread's system registers.
 fn put_system<K: Sink>(out: &mut K, machine: &Machine) -> Result<(), PutFault>
-    ensures { (bank : Bank) → Writes K.told K.faults K.takes out.old out.new result (system_text (core_of machine.now bank)) }
+    ensures { (bank : VectorState) → Writes K.told K.faults K.takes out.old out.new result (system_text (core_of machine.now bank)) }
 {
     let svcr = svcr(machine);
     put_hex_line(out, b"tpidr", machine.tpidr)?;
@@ -64,7 +64,7 @@ fn put_system<K: Sink>(out: &mut K, machine: &Machine) -> Result<(), PutFault>
 
 /// X0 to X30 where they are not zero, SP, the flags and the system registers.
 fn put_registers<K: Sink>(out: &mut K, machine: &Machine) -> Result<(), PutFault>
-    ensures { (bank : Bank) → Writes K.told K.faults K.takes out.old out.new result (register_text (core_of machine.now bank)) }
+    ensures { (bank : VectorState) → Writes K.told K.faults K.takes out.old out.new result (register_text (core_of machine.now bank)) }
 {
     put_value_lines(out, b"x", &machine.scalars.x)?;
     put_hex_line(out, b"sp", machine.scalars.sp)?;

@@ -8,7 +8,7 @@ use Rattle.bit_ops.proofs.MaskBits.{highest_one-is}
 use Rattle.a64_table.specs.Conditions.{length_bits, is_highest_one, has_fewer_ones, is_mask_of, is_mask}
 
 -- the seven bits N, NOT(imms) in both forms
-seven_bits : (n : Bool) (imms : ℕ) → imms < 64 → length_bits n imms ≡ bool_number n * 64 + (63 - imms)
+seven_bits : (n : Bool) (imms : ℕ) → imms < 64 → length_bits n imms ≡ bool_number n * 64 + (63 - imms % 64)
 unfolding length_bits
 seven_bits true imms lt = omega arith
 seven_bits false imms lt = omega arith
@@ -21,7 +21,7 @@ length-is len n imms small lt at =
     let low : 2 ^ len ≤ length_bits n imms = leb-true _ _ both.0 in
     let high : length_bits n imms < 2 ^ (len + 1) = ltb-true _ _ both.1 in
     let same = seven_bits n imms lt in
-    highest_one-is 7 len (bool_number n * 64 + (63 - imms)) (subst (λ v. 2 ^ len ≤ v) same low) (subst (λ v. v < 2 ^ suc len) same (rw add-one at high)) small
+    highest_one-is 7 len (bool_number n * 64 + (63 - imms % 64)) (subst (λ v. 2 ^ len ≤ v) same low) (subst (λ v. v < 2 ^ suc len) same (rw add-one at high)) small
 
 not_true : (b : Bool) → not b ≡ true → b ≡ false
 not_true true e = cc

@@ -1,6 +1,6 @@
 use Rattle.std.proofs.Common.{◌≡◌, ◌≤◌, ◌-◌, ◌+◌, replicate, take, drop, length, vec_len, ap, arith, ◌∙◌}
 use Rattle.kernel_contexts.proofs.Answered.{appended, take_before}
-use Rattle.kernel_contexts.proofs.context.call.append.Goals as goal
+use Rattle.kernel_contexts.proofs.guest.call.append.Goals as goal
 
 pub returns-then-read_end-clause-appends : goal.returns-then-read_end-clause-appends
 returns-then-read_end-clause-appends c =

@@ -3,7 +3,8 @@ ghost use Rattle.std.specs.Prelude.{◌≡◌, ◌+◌, ◌-◌, ◌<◌, ◌≤
 ghost use Rattle.paged_memory.specs.Memory.{bytes_with};
 ghost use Rattle.kernel_contexts.specs.Output.{Appends};
 
-use crate::context::{Context, Turn};
+use crate::context::Turn;
+use crate::guest::GuestThread;
 use paged_memory::Pages;
 use sm_types::Stop;
 
@@ -61,17 +62,17 @@ fn append(pages: &Pages, address: u64, count: usize, output: &mut Vec<u8>) -> Ap
     }
 }
 
-impl Context {
+impl GuestThread {
     ghost use Rattle.kernel_contexts.specs.Call.{call_of, write_of, exit_of, returned};
-    ghost use Rattle.kernel_contexts.specs.Context.{state_of, config_of, stop_of, Turns, IsSameThread};
+    ghost use Rattle.kernel_contexts.specs.Context.{held_state, Turns, IsSameGuest};
 
     /// The call of the number in X8.
     #[tactic(auto, unfolding(crate::specs::Call::call_of))]
-    pub fn call(&mut self) -> Turn
+    pub(super) fn call(&mut self) -> Turn
         requires room { self.old.count < self.old.config.budget }
-        requires runs { stop_of self.old ≡ None }
-        ensures turn { Turns (call_of (state_of self.old)) (state_of self.old) self.new result }
-        ensures same { IsSameThread self.old self.new }
+        requires runs { self.old.stop ≡ None }
+        ensures turn { Turns (call_of self.old.config self.old.number (held_state self.old) (held_state self.old)) (held_state self.old) (held_state self.new) self.new.stop result }
+        ensures same { IsSameGuest self.old self.new }
     {
         match self.machine.scalars.x[8] {
             WRITE => self.write(),
@@ -83,11 +84,11 @@ impl Context {
     /// Goes on past the call, with its answer in X0.
     fn return_with(&mut self, answer: u64) -> Turn
         requires room { self.old.count < self.old.config.budget }
-        requires runs { stop_of self.old ≡ None }
+        requires runs { self.old.stop ≡ None }
         ensures answer { result ≡ Turn.Ran }
-        ensures state { state_of self.new ≡ returned (state_of self.old) answer }
-        ensures stop { stop_of self.new ≡ None }
-        ensures same { IsSameThread self.old self.new }
+        ensures state { held_state self.new ≡ returned (held_state self.old) answer }
+        ensures stop { self.new.stop ≡ None }
+        ensures same { IsSameGuest self.old self.new }
     {
         self.machine.scalars.x[0] = answer;
         self.machine.scalars.pc = self.machine.scalars.pc.wrapping_add(4);
@@ -99,9 +100,9 @@ impl Context {
     #[tactic(auto, unfolding(crate::specs::Call::exit_of))]
     fn exit(&mut self) -> Turn
         requires room { self.old.count < self.old.config.budget }
-        requires runs { stop_of self.old ≡ None }
-        ensures turn { Turns (exit_of (state_of self.old)) (state_of self.old) self.new result }
-        ensures same { IsSameThread self.old self.new }
+        requires runs { self.old.stop ≡ None }
+        ensures turn { Turns (exit_of (held_state self.old)) (held_state self.old) (held_state self.new) self.new.stop result }
+        ensures same { IsSameGuest self.old self.new }
     {
         let status = (self.machine.scalars.x[0] % 256) as u8;
         self.machine.scalars.pc = self.machine.scalars.pc.wrapping_add(4);
@@ -113,9 +114,9 @@ impl Context {
     #[tactic(auto, unfolding(crate::specs::Call::write_of))]
     fn write(&mut self) -> Turn
         requires room { self.old.count < self.old.config.budget }
-        requires runs { stop_of self.old ≡ None }
-        ensures turn { Turns (write_of (state_of self.old)) (state_of self.old) self.new result }
-        ensures same { IsSameThread self.old self.new }
+        requires runs { self.old.stop ≡ None }
+        ensures turn { Turns (write_of (held_state self.old) (held_state self.old)) (held_state self.old) (held_state self.new) self.new.stop result }
+        ensures same { IsSameGuest self.old self.new }
     {
         let descriptor = self.machine.scalars.x[0];
         let address = self.machine.scalars.x[1];
