@@ -1,5 +1,5 @@
 -- Where files come from. Source: the project's own rule.
-use Rattle.std.specs.Prelude.{ℕ, ◌≡◌, ◌≢◌, ◌≤◌, Bool, IsTrue, List, Option, Some, None, take, Result, Ok, Err, IfSome, IsSome, option_map}
+use Rattle.std.specs.Prelude.{ℕ, ◌≡◌, ◌≤◌, Bool, IsTrue, List, Option, Some, None, take, Result, Ok, Err, IfSome, IsSome, option_map}
 use Rattle.std.specs.BTreeMap.{BTreeMap, get_by_text}
 use Rattle.std.specs.declared.vec.Vec.{Vec}
 use Rattle.std.specs.declared.string.String.{String}

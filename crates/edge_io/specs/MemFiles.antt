@@ -1,5 +1,5 @@
 -- Files in memory. Source: the project's own rule.
-use Rattle.std.specs.Prelude.{ℕ, ◌≡◌, Bool, List, [], Option, Some}
+use Rattle.std.specs.Prelude.{ℕ, ◌≡◌, List, Option, Some}
 use Rattle.edge_io.specs.Failing.{is_nil, next_call}
 use Rattle.edge_io.specs.Files.{FilesView, content_of}
 use Rattle.edge_io.specs.declared.mem_files.MemFiles.{MemFiles}
