@@ -119,8 +119,11 @@ fn masks(rt: HostRuntime) {
         (false, 63, 0, false, None),
         (true, 63, 0, true, None),
         (true, 7, 4, false, None),
+        // bits above the fields
+        (false, 124, 64, true, Some(0x5555_5555_5555_5555)),
+        (true, 199, 68, true, Some(0xf000_0000_0000_000f)),
+        (true, 127, 0, true, None),
     ] {
-        assert!(rt; imms < 64 && immr < 64);
         assert_eq!(rt;
             bit_mask(n, imms, immr, wide),
             mask,

@@ -10,7 +10,7 @@ use edge_io::{PutFault, Sink};
 #[tactic(auto, unfolding(crate::specs::Output::out_line))]
 fn put_out_line<K: Sink>(out: &mut K, bytes: &[u8]) -> Result<(), PutFault>
     requires { length bytes.now ≤ 32 }
-    ensures { Writes K.told K.faults K.takes out.old out.new result (out_line bytes.now) }
+    ensures { Writes (K.view out.old) (K.view out.new) result (out_line bytes.now) }
 {
     let mut buffer = [0; 64];
     let digits = &mut buffer[..2 * bytes.len()];
@@ -20,7 +20,7 @@ fn put_out_line<K: Sink>(out: &mut K, bytes: &[u8]) -> Result<(), PutFault>
 
 /// The lines of some bytes.
 fn put_out_lines<K: Sink>(out: &mut K, bytes: &[u8]) -> Result<(), PutFault>
-    ensures { Writes K.told K.faults K.takes out.old out.new result (out_lines (line_count (length bytes.now)) bytes.now) }
+    ensures { Writes (K.view out.old) (K.view out.new) result (out_lines (line_count (length bytes.now)) bytes.now) }
 {
     let mut rest = bytes;
     while !rest.is_empty() {
@@ -33,7 +33,7 @@ fn put_out_lines<K: Sink>(out: &mut K, bytes: &[u8]) -> Result<(), PutFault>
 
 /// The number of the bytes, and their lines.
 pub fn put_output<K: Sink>(out: &mut K, bytes: &[u8]) -> Result<(), PutFault>
-    ensures { Writes K.told K.faults K.takes out.old out.new result (output_text bytes.now) }
+    ensures { Writes (K.view out.old) (K.view out.new) result (output_text bytes.now) }
 {
     put_number_line(out, b"output", bytes.len() as u64)?;
     put_out_lines(out, bytes)

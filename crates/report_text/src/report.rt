@@ -21,7 +21,7 @@ pub struct Head {
 
 /// The shared words and pending signals where all are zero.
 fn put_zero_words<K: Sink>(out: &mut K) -> Result<(), PutFault>
-    ensures { Writes K.told K.faults K.takes out.old out.new result (words_text zero_words) }
+    ensures { Writes (K.view out.old) (K.view out.new) result (words_text zero_words) }
 {
     out.put(b"shared\nend\n")
 }
@@ -34,7 +34,7 @@ pub fn write_report<K: Sink>(
     head: &Head,
     out: &mut K,
 ) -> Result<(), PutFault>
-    ensures { Writes K.told K.faults K.takes out.old out.new result (report_text head.now.config head.now.image (record { thread = thread_of context.now; state = state_of context.now; stop = stop; journal = [] } ∷ []) zero_words) }
+    ensures { Writes (K.view out.old) (K.view out.new) result (report_text head.now.config head.now.image (record { thread = thread_of context.now; state = state_of context.now; stop = stop; journal = [] } ∷ []) zero_words) }
 {
     put_header(out, &head.config, &head.image)?;
     write_block(context, stop, out)?;

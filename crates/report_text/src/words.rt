@@ -43,7 +43,7 @@ fn exception_name(exception: Exception) -> &'static [u8]
 /// The values of an exception, each after a space.
 #[tactic(auto, unfolding(crate::specs::Words::exception_values))]
 fn put_exception_values<K: Sink>(out: &mut K, exception: Exception) -> Result<(), PutFault>
-    ensures { Writes K.told K.faults K.takes out.old out.new result (spec.exception_values exception) }
+    ensures { Writes (K.view out.old) (K.view out.new) result (spec.exception_values exception) }
 {
     match exception {
         Exception::Undefined(word) => put_all(out, &[b" ", &hex32_digits(word)]),
@@ -70,7 +70,7 @@ fn put_exception_values<K: Sink>(out: &mut K, exception: Exception) -> Result<()
 
 /// A word and a number in decimal.
 fn put_counted<K: Sink>(out: &mut K, word: &[u8], n: u32) -> Result<(), PutFault>
-    ensures { Writes K.told K.faults K.takes out.old out.new result (concat (word.now ∷ decimal n ∷ [])) }
+    ensures { Writes (K.view out.old) (K.view out.new) result (concat (word.now ∷ decimal n ∷ [])) }
 {
     let mut buffer = itoa::Buffer::new();
     put_all(out, &[word, buffer.format(n).as_bytes()])
@@ -78,7 +78,7 @@ fn put_counted<K: Sink>(out: &mut K, word: &[u8], n: u32) -> Result<(), PutFault
 
 /// The name of an exception, and where it was raised.
 fn put_raised_at<K: Sink>(out: &mut K, exception: Exception, pc: u64) -> Result<(), PutFault>
-    ensures { Writes K.told K.faults K.takes out.old out.new result (concat (codes "raised " ∷ spec.exception_name exception ∷ codes " " ∷ hex64 pc ∷ [])) }
+    ensures { Writes (K.view out.old) (K.view out.new) result (concat (codes "raised " ∷ spec.exception_name exception ∷ codes " " ∷ hex64 pc ∷ [])) }
 {
     put_all(
         out,
@@ -93,7 +93,7 @@ fn put_raised_at<K: Sink>(out: &mut K, exception: Exception, pc: u64) -> Result<
 
 /// An exception at an instruction, with its values.
 fn put_raised<K: Sink>(out: &mut K, exception: Exception, pc: u64) -> Result<(), PutFault>
-    ensures { Writes K.told K.faults K.takes out.old out.new result (spec.stop_words (Raised exception pc)) }
+    ensures { Writes (K.view out.old) (K.view out.new) result (spec.stop_words (Raised exception pc)) }
 {
     put_raised_at(out, exception, pc)?;
     put_exception_values(out, exception)
@@ -102,7 +102,7 @@ fn put_raised<K: Sink>(out: &mut K, exception: Exception, pc: u64) -> Result<(),
 /// A stop with its values.
 #[tactic(auto, unfolding(crate::specs::Words::stop_words))]
 fn put_stop_words<K: Sink>(out: &mut K, stop: Stop) -> Result<(), PutFault>
-    ensures { Writes K.told K.faults K.takes out.old out.new result (spec.stop_words stop) }
+    ensures { Writes (K.view out.old) (K.view out.new) result (spec.stop_words stop) }
 {
     match stop {
         Stop::Exited(status) => put_counted(out, b"exited ", status as u32),
@@ -117,7 +117,7 @@ fn put_stop_words<K: Sink>(out: &mut K, stop: Stop) -> Result<(), PutFault>
 
 /// The line of a stop.
 pub fn put_stop_line<K: Sink>(out: &mut K, stop: Stop) -> Result<(), PutFault>
-    ensures { Writes K.told K.faults K.takes out.old out.new result (spec.stop_line stop) }
+    ensures { Writes (K.view out.old) (K.view out.new) result (spec.stop_line stop) }
 {
     out.put(b"stop ")?;
     put_stop_words(out, stop)?;

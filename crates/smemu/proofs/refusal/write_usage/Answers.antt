@@ -1,5 +1,5 @@
 use Rattle.smemu.specs.Texts.{usage_line}
-use Rattle.smemu.proofs.reply.write_usage.Goals as goal
+use Rattle.smemu.proofs.refusal.write_usage.Goals as goal
 
 pub returns : goal.returns
 unfolding usage_line
