@@ -12,7 +12,7 @@ use Rattle.a64_table.specs.declared.rows.Group.{Group}
 use Rattle.a64_table.specs.declared.rows.Group.TheVariants.{G1, G2, G3, G4, G5, G6, G7, G8, G9, G10, G11, G12, G13, G14, G15, G16, G17, G18, G19, G20, G21, G22, G23}
 use Rattle.a64_table.specs.declared.rows.TheConstants.{SCALAR_ROWS}
 use Rattle.a64_table.specs.Conditions.{fits_of}
-use Rattle.a64_table.specs.Meaning.{meaning_in, meaning_of, stands_for, insn_of}
+use Rattle.a64_table.specs.Meaning.{meaning_in, meaning_of, stands_for}
 use Rattle.sm_types.specs.declared.insn.Insn.{Insn}
 use Rattle.sve_table.specs.declared.rows.TheConstants.{VECTOR_ROWS}
 use Rattle.sve_table.specs.Meaning.{vector_meaning_of, instruction_of}

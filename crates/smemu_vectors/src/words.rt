@@ -33,13 +33,13 @@ fn is_text_of(word: u32, text: &str) -> bool {
 }
 
 /// Tells whether the statement is an instruction of that word.
-fn is_instruction_of(word: u32, statement: &Statement<'_>) -> bool {
+fn is_instruction_of(wanted: u32, statement: &Statement<'_>) -> bool {
     match statement {
         Statement::Instruction {
-            insn,
+            word,
             target: None,
             ..
-        } => encode(insn) == Some(word),
+        } => *word == wanted,
         _ => false,
     }
 }
