@@ -1,7 +1,6 @@
--- An instruction of a line of the grammar has a word.
-use Rattle.std.proofs.Common.{◌≡◌, ℕ, ◌-◌, ◌^◌, ◌<◌, true, false, cond, List, [], ◌∷◌, map, Option, Some, None, Result, Ok, refl, subst}
-use Rattle.std.specs.Prelude.{option_and_then}
-use Rattle.sm_types.specs.declared.insn.Insn.{Insn}
+-- The word of a line of the grammar means an instruction.
+use Rattle.std.proofs.Common.{◌≡◌, ℕ, ◌-◌, ◌^◌, true, false, cond, List, [], ◌∷◌, map, Option, Some, None, Result, Ok, refl, subst}
+use Rattle.std.specs.Prelude.{is_some, slice_get}
 use Rattle.sve_table.specs.Meaning.{instruction_of}
 use Rattle.insn_text.specs.declared.words.TheConstants.{NAMES}
 use Rattle.asm_tokens.specs.declared.token.Token.{Token}
@@ -9,14 +8,14 @@ use Rattle.asm_tokens.specs.declared.token.Lexeme.{Lexeme}
 use Rattle.asm_tokens.specs.Characters.{column_at, before_comment}
 use Rattle.asm_tokens.specs.Tokens.{place_in}
 use Rattle.asm_operands.specs.declared.fault.FaultKind.TheVariants.{Extra}
-use Rattle.asm_operands.specs.Operands.{Fault, OperandsSaid, said_or, insn_said, operands_said, operand_fault, target_of, first_word, shapes_of, is_name}
+use Rattle.asm_operands.specs.declared.operands.Target.{Target}
+use Rattle.asm_operands.specs.Operands.{OperandsSaid, operands_said, is_name}
 use Rattle.asm_operands.specs.Operands as operands
+use Rattle.asm_operands.proofs.Aimed.{said-means, target-sound, aimed-means}
 use Rattle.asm_parser.specs.declared.line.LineFault.{LineFault}
 use Rattle.asm_parser.specs.Statements.{Says, IntoText, IntoData, Quads, Words, Bytes, Zeros, Aligns, Globals, SourceLine}
-use Rattle.asm_parser.specs.Lines.{Answer, Tells, Stops, and_then, further, ends, number_value, one_number, one_name, values_from, quad_value, Directive, TextDirective, DataDirective, QuadDirective, WordDirective, ByteDirective, ZeroDirective, AlignDirective, GlobalDirective, directive_of, directive_says, instruction_or_fault, instruction_says, named_says, tokens_say, text_of_lexeme, line_answer, line_lexemes, label_of, line_of}
-use Rattle.asm_core.specs.Emitted.{IsEncodable, HasWord}
-use Rattle.asm_core.proofs.WordBounds.{said_lt}
-use Rattle.asm_core.proofs.Encodable.{means_either}
+use Rattle.asm_parser.specs.Lines.{Answer, Tells, Stops, and_then, further, ends, number_value, one_number, one_name, values_from, quad_value, Directive, TextDirective, DataDirective, QuadDirective, WordDirective, ByteDirective, ZeroDirective, AlignDirective, GlobalDirective, directive_of, directive_says, target_named, target_at, instruction_or_fault, instruction_says, named_says, tokens_say, text_of_lexeme, line_answer, line_lexemes, label_of, line_of}
+use Rattle.asm_core.specs.Emitted.{CanHave, CanBeAimed, HasWord}
 
 abbrev Told : Answer Says → Type 0
 Told (Tells says) = HasWord says
@@ -46,30 +45,41 @@ directive_told line ZeroDirective ls = made_told Zeros (λ a. tt) (one_number (2
 directive_told line AlignDirective ls = made_told Aligns (λ a. tt) (one_number 12 ls)
 directive_told line GlobalDirective ls = made_told Globals (λ a. tt) (one_name line ls)
 
--- what operands say has a word
-abbrev Encodes : OperandsSaid → Type 0
-Encodes (operands.Says it target) = IsEncodable it
-Encodes (operands.Fails fault) = Unit {0}
+-- a target can have each distance
+abbrev CanAim : ℕ → Option Target → Type 0
+CanAim word None = Unit {0}
+CanAim word (Some target) = CanHave target.operand word
 
-meaning_said : (fault : Fault) (target : Option ℕ) (word : ℕ) (o : Option Insn) → word < 2 ^ 32 → instruction_of word ≡ o → Encodes (said_or (operands.Fails fault) target o)
-meaning_said fault target word None lt e = tt
-meaning_said fault target word (Some it) lt e = record { word = word; means = means_either word it lt e }
+-- the word that operands say means an instruction
+abbrev Means : OperandsSaid → Type 0
+Means (operands.Says word target) = (is_some (instruction_of word) ≡ true) × CanAim word target
+Means (operands.Fails fault) = Unit {0}
 
-word_said : (fault : Fault) (target : Option ℕ) (o : Option ℕ) → ((word : ℕ) → o ≡ Some word → word < 2 ^ 32) → Encodes (said_or (operands.Fails fault) target (option_and_then instruction_of o))
-word_said fault target None lt = tt
-word_said fault target (Some word) lt = meaning_said fault target word (instruction_of word) (lt word refl) refl
+can_aim : (name : ℕ) (ts : List Token) (word : ℕ) (target : Option Target) → operands_said name ts ≡ operands.Says word target → CanAim word target
+can_aim name ts word None e = tt
+can_aim name ts word (Some target) e = record { sound = target-sound name ts word target e; means = λ back size aimed is. aimed-means name ts word target back size aimed e is }
 
-operands_encode : (name : ℕ) (ts : List Token) → Encodes (operands_said name ts)
-unfolding operands_said insn_said
-operands_encode name ts = word_said (operand_fault (shapes_of name) ts) (target_of (shapes_of name) ts) (first_word (shapes_of name) ts) (said_lt name ts)
+operands_mean : (name : ℕ) (ts : List Token) (said : OperandsSaid) → operands_said name ts ≡ said → Means said
+operands_mean name ts (operands.Says word target) e = (said-means name ts word target e, can_aim name ts word target e)
+operands_mean name ts (operands.Fails fault) e = tt
 
-operands_told : (line : List ℕ) (column : ℕ) (ls : List Lexeme) (said : OperandsSaid) → Encodes said → Told (instruction_or_fault line column ls said)
-operands_told line column ls (operands.Says it target) h = h
+aims_named : (line : List ℕ) (word : ℕ) (target : Target) (o : Option Lexeme) → CanHave target.operand word → CanBeAimed word (target_named line target.operand o)
+aims_named line word target None h = tt
+aims_named line word target (Some l) h = h
+
+aims_at : (line : List ℕ) (ls : List Lexeme) (word : ℕ) (target : Option Target) → CanAim word target → CanBeAimed word (target_at line ls target)
+aims_at line ls word None h = tt
+aims_at line ls word (Some target) h = aims_named line word target (slice_get ls target.place) h
+
+operands_told : (line : List ℕ) (column : ℕ) (ls : List Lexeme) (said : OperandsSaid) → Means said → Told (instruction_or_fault line column ls said)
+operands_told line column ls (operands.Says word target) h = record { means = h.0; aims = aims_at line ls word target h.1 }
 operands_told line column ls (operands.Fails f) h = tt
 
 instruction_told : (line : List ℕ) (name column : ℕ) (ls : List Lexeme) → Told (instruction_says line name column ls)
 unfolding instruction_says
-instruction_told line name column ls = operands_told line column ls (operands_said name (map (λ l. l.token) ls)) (operands_encode name (map (λ l. l.token) ls))
+instruction_told line name column ls =
+    let ts = map (λ (l : Lexeme). l.token) ls in
+    operands_told line column ls (operands_said name ts) (operands_mean name ts (operands_said name ts) refl)
 
 named_told : (line : List ℕ) (l : Lexeme) (ls : List Lexeme) (d : Option Directive) (name : Option ℕ) → Told (named_says line l ls d name)
 named_told line l ls (Some d) name = further_told 1 (directive_says line d ls) (directive_told line d ls)

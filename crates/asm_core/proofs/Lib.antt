@@ -9,10 +9,6 @@ pub mod Sounds
 pub mod Surveying
 pub mod Pieces
 pub mod Accepted
-pub mod WordBounds
 pub mod HasWords
-pub mod Encodable
-pub mod Stepped
 pub mod Emission
-pub mod PutFields
-pub mod StepFields
+pub mod Aims

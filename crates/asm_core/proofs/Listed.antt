@@ -4,7 +4,6 @@ use Rattle.std.specs.Prelude.{slice_get, is_some, option_map}
 use Rattle.std.specs.List.{filter_map, cons_option, range_with_len, list_all}
 use Rattle.std.proofs.lemmas.Bool.Decides.{nat_tests}
 use Rattle.byteorder.specs.Endian.{little_bytes}
-use Rattle.sm_types.specs.declared.insn.Insn.{Insn}
 use Rattle.sm_types.specs.declared.object.TheConstants.{TEXT_ADDRESS}
 use Rattle.sm_types.specs.declared.object.Object.{Object}
 use Rattle.sm_types.specs.declared.object.Section.{Section}
@@ -100,12 +99,9 @@ bytes_word word l = omega arith
 here_text : (p : Place) → p.part ≡ Text → here p ≡ p.text_size
 here_text p e = ap (λ part. here_in part p) e
 
-word_there : (it : Insn) (text : List ℕ) (at : ℕ) → IsAssembled it text at → instruction_of (text_word text at) ≡ Some it
+word_there : (word : ℕ) (text : List ℕ) (at : ℕ) → IsAssembled word text at → is_some (instruction_of (text_word text at)) ≡ true
 unfolding text_word
-word_there it text at h = ap (λ bytes. instruction_of (little bytes)) h.stands ∙ ap instruction_of (bytes_word h.word h.is_word) ∙ h.means
-
-listed_some : (o : Option Insn) (it : Insn) → o ≡ Some it → is_some o ≡ true
-listed_some o it e = rw e refl
+word_there word text at h = ap (λ bytes. is_some (instruction_of (little bytes))) h.stands ∙ ap (λ w. is_some (instruction_of w)) (bytes_word word h.is_word) ∙ h.means
 
 same_place : (n at : ℕ) → at % 4 ≡ 0 → at ≤ 4 * n → 4 * n < at + 4 → at ≡ 4 * n
 same_place n at e l m = omega arith
@@ -114,11 +110,11 @@ same_place n at e l m = omega arith
 put_word : (tl : ℕ) (labels : List Label) (text : List ℕ) (says : Says) (p : Place) (n : ℕ) → is_instruction says ≡ true → p.part ≡ Text → p.text_size ≤ 4 * n → 4 * n < p.text_size + size_of says (here p)
     → misplaced says (here p) ≡ None → Puts tl labels text p says → is_some (instruction_of (text_word text (4 * n))) ≡ true
 unfolding is_instruction size_of misplaced Puts
-put_word tl labels text (Instructs it target column) p n isn in_text from to aligned puts =
+put_word tl labels text (Instructs word target column) p n isn in_text from to aligned puts =
     let at : here p ≡ p.text_size = here_text p in_text in
     let whole : here p % 4 ≡ 0 = multiple (here p) column (here p % 4 == 0) refl aligned in
     let same : here p ≡ 4 * n = same_place n (here p) whole (subst (λ m. m ≤ 4 * n) (sym at) from) (subst (λ m. 4 * n < m + 4) (sym at) to) in
-    listed_some _ _ (ap (λ m. instruction_of (text_word text m)) (sym same) ∙ word_there _ text (here p) puts)
+    ap (λ m. is_some (instruction_of (text_word text m))) (sym same) ∙ word_there _ text (here p) puts
 put_word tl labels text Nothing p n isn in_text from to aligned puts = cc
 put_word tl labels text IntoText p n isn in_text from to aligned puts = cc
 put_word tl labels text IntoData p n isn in_text from to aligned puts = cc

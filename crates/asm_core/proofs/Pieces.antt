@@ -5,8 +5,7 @@ use Rattle.std.proofs.lemmas.List.Folds.{list_any-append}
 use Rattle.std.specs.List.{list_any}
 use Rattle.byteorder.specs.Endian.{little_bytes}
 use Rattle.byteorder.specs.Numbers.{length-bytes_low_first}
-use Rattle.sm_types.specs.declared.insn.Insn.{Insn}
-use Rattle.asm_parser.specs.Statements.{QuadValue, Says, Nothing, IntoText, IntoData, Quads, Words, Bytes, Zeros, Aligns, Globals, Instructs}
+use Rattle.asm_parser.specs.Statements.{QuadValue, TargetSaid, Says, Nothing, IntoText, IntoData, Quads, Words, Bytes, Zeros, Aligns, Globals, Instructs}
 use Rattle.asm_core.specs.declared.place.Place.{Place}
 use Rattle.asm_core.specs.Layout.{Label, here, size_of, address_here}
 use Rattle.asm_core.specs.Assembly.{HasBytes, numbers_bytes, quad_number, aimed, Puts}
@@ -45,8 +44,7 @@ bytes_put old piece at e = ap (take (length piece)) (drop_at old piece at e) ∙
 module _ (text_length : ℕ) (labels : List Label) (p : Place) where
   pub piece_puts : (says : Says) (old piece : List ℕ) → length old ≡ here p → IsPiece text_length labels p says piece → Puts text_length labels (old ++ piece) p says
   unfolding IsPiece Puts
-  piece_puts (Instructs it target column) old piece e h = record {
-    word = h.word;
+  piece_puts (Instructs word target column) old piece e h = record {
     is_word = h.is_word;
     means = h.means;
     stands = subst (λ (x : List ℕ). HasBytes (old ++ piece) (here p) x) h.bytes (bytes_put old piece (here p) e);
@@ -63,7 +61,8 @@ module _ (text_length : ℕ) (labels : List Label) (p : Place) where
 
   pub puts_kept : (says : Says) (bytes more : List ℕ) → Puts text_length labels bytes p says → Puts text_length labels (bytes ++ more) p says
   unfolding Puts
-  puts_kept (Instructs it target column) bytes more h = record { word = h.word; is_word = h.is_word; means = h.means; stands = bytes_kept bytes more (here p) (little_bytes 4 h.word) h.stands }
+  puts_kept (Instructs word target column) bytes more h =
+      record { is_word = h.is_word; means = h.means; stands = bytes_kept bytes more (here p) (little_bytes 4 (aimed text_length labels (address_here text_length p) word target)) h.stands }
   puts_kept (Quads values) bytes more h = bytes_kept bytes more (here p) (numbers_bytes 8 (map (quad_number text_length labels) values)) h
   puts_kept (Words numbers) bytes more h = bytes_kept bytes more (here p) (numbers_bytes 4 numbers) h
   puts_kept (Bytes numbers) bytes more h = bytes_kept bytes more (here p) numbers h
@@ -101,9 +100,11 @@ module _ (text_length : ℕ) (labels : List Label) (p : Place) where
   pub adds_nothing : (old : List ℕ) (says : Says) → size_of says (here p) ≡ 0 → IsPiece text_length labels p says [] → Adds text_length labels p says old old
   adds_nothing old says s h = record { piece = []; added = sym (append-nil old); size = sym s; piece_is = h }
 
-  pub adds_word : (it : Insn) (target : Option (List ℕ)) (column : ℕ) (old new : List ℕ) → IsWordAfter (aimed text_length labels (address_here text_length p) it target) old new → Adds text_length labels p (Instructs it target column) old new
+  pub adds_word : (word : ℕ) (target : Option TargetSaid) (column : ℕ) (old new : List ℕ) → IsWordAfter (aimed text_length labels (address_here text_length p) word target) old new
+      → Adds text_length labels p (Instructs word target column) old new
   unfolding IsPiece size_of
-  adds_word it target column old new h = record { piece = h.0; added = h.1; size = ap length h.2.bytes ∙ length-bytes_low_first 0 4 h.2.word; piece_is = h.2 }
+  adds_word word target column old new h =
+      record { piece = h.piece; added = h.added; size = ap length h.piece_is.bytes ∙ length-bytes_low_first 0 4 (aimed text_length labels (address_here text_length p) word target); piece_is = h.piece_is }
 
 -- ---- numbers, one after the other
 

@@ -1,21 +1,20 @@
 -- The object of a source: the bytes that its lines put, its symbols and its start.
 -- Source: the GNU assembler for directives; ELF for the Arm 64-bit Architecture (AArch64), mapping symbols `$x` and `$d`.
-use Rattle.std.specs.Prelude.{◌≡◌, ℕ, ◌^◌, ◌<◌, Bool, true, false, not, ◌&&◌, nat_lt, List, [], ◌∷◌, ◌++◌, length, take, drop, map, replicate, slice_get, Option, Some, None, is_none, codes, if◌then◌else◌, ℤ}
+use Rattle.std.specs.Prelude.{◌≡◌, ℕ, ◌^◌, ◌<◌, Bool, true, false, not, ◌&&◌, nat_lt, List, [], ◌∷◌, ◌++◌, length, take, drop, map, replicate, slice_get, Option, Some, None, is_some, is_none, codes, if◌then◌else◌}
 use Rattle.std.specs.List.{concat}
 use Rattle.byteorder.specs.Endian.{little_bytes}
-use Rattle.sm_types.specs.declared.insn.Insn.{Insn}
 use Rattle.sm_types.specs.declared.object.Section.{Section}
 use Rattle.sm_types.specs.declared.object.Section.TheVariants.{Text, Data}
 use Rattle.sm_types.specs.declared.object.Symbol.{Symbol}
 use Rattle.sm_types.specs.declared.object.Object.{Object}
 use Rattle.sm_types.specs.Objects.{name_says}
 use Rattle.sve_table.specs.Meaning.{instruction_of}
-use Rattle.asm_parser.specs.Statements.{QuadValue, IsNumber, IsAddressOf, Says, Nothing, IntoText, IntoData, Quads, Words, Bytes, Zeros, Aligns, Globals, Instructs, SourceLine}
+use Rattle.asm_parser.specs.Statements.{QuadValue, IsNumber, IsAddressOf, TargetSaid, Says, Nothing, IntoText, IntoData, Quads, Words, Bytes, Zeros, Aligns, Globals, Instructs, SourceLine}
 use Rattle.asm_core.specs.Source.{lines_of, said_lines}
 use Rattle.asm_core.specs.declared.place.Place.{Place}
 use Rattle.asm_core.specs.Layout.{first_place, here, size_of, place_after, place_past, place_of, Label, labels_of, label_named, label_address, address_here}
-use Rattle.asm_core.specs.declared.aim.Range.{Range}
-use Rattle.asm_core.specs.Targets.{range_of, with_steps, steps_between}
+use Rattle.insn_text.specs.declared.item.Item.{Item}
+use Rattle.asm_core.specs.Targets.{word_to}
 use Rattle.asm_core.specs.Faults.{asm_fault, start_of, text_length_of}
 
 -- ---- bytes
@@ -37,33 +36,28 @@ unfoldable pub quad_number : ℕ → List Label → QuadValue → ℕ
 quad_number text_length labels (IsNumber n) = n
 quad_number text_length labels (IsAddressOf name) = address_or_zero text_length (label_named labels name)
 
-abbrev pub with_range : Insn → ℕ → ℕ → Option Range → Option ℤ
-with_range it from target None = None
-with_range it from target (Some range) = steps_between range from target
+abbrev pub word_or : ℕ → Option ℕ → ℕ
+word_or word None = word
+word_or word (Some aimed) = aimed
 
-abbrev pub stepped : Insn → Option ℤ → Insn
-stepped it None = it
-stepped it (Some steps) = with_steps it steps
+abbrev pub aimed_at : ℕ → Item → ℕ → ℕ → Option Label → ℕ
+aimed_at text_length i word from None = word
+aimed_at text_length i word from (Some label) = word_or word (word_to i word from (label_address text_length label))
 
-abbrev pub aimed_at : ℕ → ℕ → Insn → Option Label → Insn
-aimed_at text_length from it None = it
-aimed_at text_length from it (Some label) = stepped it (with_range it from (label_address text_length label) (range_of it))
+-- the word of an instruction at an address with the distance to its target, where a name says the target
+unfoldable pub aimed : ℕ → List Label → ℕ → ℕ → Option TargetSaid → ℕ
+aimed text_length labels from word None = word
+aimed text_length labels from word (Some target) = aimed_at text_length target.operand word from (label_named labels target.name)
 
--- the instruction at an address with the distance to its target, where a name says the target
-unfoldable pub aimed : ℕ → List Label → ℕ → Insn → Option (List ℕ) → Insn
-aimed text_length labels from it None = it
-aimed text_length labels from it (Some name) = aimed_at text_length from it (label_named labels name)
-
--- the word means the instruction, and its bytes stand there
-pub record IsAssembled (it : Insn) (bytes : List ℕ) (at : ℕ) : Type 0 where
-  pub word : ℕ
+-- the word means an instruction, and its bytes stand there
+pub record IsAssembled (word : ℕ) (bytes : List ℕ) (at : ℕ) : Type 0 where
   pub is_word : word < 2 ^ 32
-  pub means : instruction_of word ≡ Some it
+  pub means : is_some (instruction_of word) ≡ true
   pub stands : HasBytes bytes at (little_bytes 4 word)
 
 -- what a line at a place puts stands in its part
 unfoldable pub Puts : ℕ → List Label → List ℕ → Place → Says → Type 0
-Puts text_length labels bytes p (Instructs it target column) = IsAssembled (aimed text_length labels (address_here text_length p) it target) bytes (here p)
+Puts text_length labels bytes p (Instructs word target column) = IsAssembled (aimed text_length labels (address_here text_length p) word target) bytes (here p)
 Puts text_length labels bytes p (Quads values) = HasBytes bytes (here p) (numbers_bytes 8 (map (quad_number text_length labels) values))
 Puts text_length labels bytes p (Words numbers) = HasBytes bytes (here p) (numbers_bytes 4 numbers)
 Puts text_length labels bytes p (Bytes numbers) = HasBytes bytes (here p) numbers
@@ -95,7 +89,7 @@ label_symbol text_length p (Some name) = if is_none (name_says name) then record
 
 -- a line is an instruction
 unfoldable pub is_instruction : Says → Bool
-is_instruction (Instructs it target column) = true
+is_instruction (Instructs word target column) = true
 is_instruction Nothing = false
 is_instruction IntoText = false
 is_instruction IntoData = false

@@ -1,12 +1,13 @@
 -- What the second pass has put of a source, line by line.
-use Rattle.std.specs.Prelude.{◌≡◌, ℕ, ◌<◌, ◌≤◌, ◌^◌, Bool, List, [], ◌∷◌, ◌++◌, length, map, replicate, Option, Some, Ok, false}
+use Rattle.std.specs.Prelude.{◌≡◌, ℕ, ◌<◌, ◌≤◌, ◌^◌, Bool, List, [], ◌∷◌, ◌++◌, length, map, replicate, Option, Some, None, Ok, true, false, is_some}
 use Rattle.byteorder.specs.Endian.{little_bytes}
-use Rattle.sm_types.specs.declared.insn.Insn.{Insn}
+use Rattle.insn_text.specs.declared.item.Item.{Item}
+use Rattle.asm_operands.specs.Distances.{with_distance}
+use Rattle.asm_operands.specs.Sound.{is_sound}
 use Rattle.sm_types.specs.declared.object.Section.{Section}
 use Rattle.sm_types.specs.declared.object.Section.TheVariants.{Text, Data}
 use Rattle.sve_table.specs.Meaning.{instruction_of}
-use Rattle.a64_encode.specs.Either.{MeansEither}
-use Rattle.asm_parser.specs.Statements.{Says, Nothing, IntoText, IntoData, Quads, Words, Bytes, Zeros, Aligns, Globals, Instructs, SourceLine}
+use Rattle.asm_parser.specs.Statements.{TargetSaid, Says, Nothing, IntoText, IntoData, Quads, Words, Bytes, Zeros, Aligns, Globals, Instructs, SourceLine}
 use Rattle.asm_parser.specs.Lines.{line_of}
 use Rattle.asm_core.specs.declared.place.Place.{Place}
 use Rattle.asm_core.specs.declared.emit_targets.Addresses.{Addresses}
@@ -18,14 +19,23 @@ use Rattle.asm_core.specs.Faults.{is_too_large}
 use Rattle.asm_core.specs.Known.{known}
 use Rattle.asm_core.specs.Parts.{bytes_in}
 
--- a word means the instruction
-pub record IsEncodable (it : Insn) : Type 0 where
-  pub word : ℕ
-  pub means : MeansEither word it
+-- with each distance that the operand holds the word means an instruction
+pub record CanHave (i : Item) (word : ℕ) : Type 0 where
+  pub sound : is_sound i ≡ true
+  pub means : (back : Bool) (size aimed : ℕ) → with_distance i word back size ≡ Some aimed → is_some (instruction_of aimed) ≡ true
 
--- what a line says has a word, where it is an instruction
+abbrev pub CanBeAimed : ℕ → Option TargetSaid → Type 0
+CanBeAimed word None = Unit {0}
+CanBeAimed word (Some target) = CanHave target.operand word
+
+-- the word means an instruction, and it does with each distance to its target
+pub record IsMeant (word : ℕ) (target : Option TargetSaid) : Type 0 where
+  pub means : is_some (instruction_of word) ≡ true
+  pub aims : CanBeAimed word target
+
+-- the word of a line means an instruction, where it is one
 abbrev pub HasWord : Says → Type 0
-HasWord (Instructs it target column) = IsEncodable it
+HasWord (Instructs word target column) = IsMeant word target
 HasWord Nothing = Unit {0}
 HasWord IntoText = Unit {0}
 HasWord IntoData = Unit {0}
@@ -47,20 +57,21 @@ pub record AreNear (addresses : Addresses) : Type 0 where
   pub text : addresses.text_size ≤ 4194304
   pub labels : (name : List ℕ) (place : LabelPlace) → known addresses.labels.now name ≡ Some place → place.offset ≤ 4194304
 
--- the bytes of a word of 32 bits that means the instruction
-pub record IsWordOf (it : Insn) (piece : List ℕ) : Type 0 where
-  pub word : ℕ
+-- the word of 32 bits means an instruction, and these are its bytes
+pub record IsWordOf (word : ℕ) (piece : List ℕ) : Type 0 where
   pub is_word : word < 2 ^ 32
-  pub means : instruction_of word ≡ Some it
+  pub means : is_some (instruction_of word) ≡ true
   pub bytes : piece ≡ little_bytes 4 word
 
--- the bytes of a word that means the instruction follow others
-abbrev pub IsWordAfter : Insn → List ℕ → List ℕ → Type 0
-IsWordAfter it old new = (piece : List ℕ) × (new ≡ old ++ piece) × IsWordOf it piece
+-- the bytes of a word that means an instruction follow others
+pub record IsWordAfter (word : ℕ) (old new : List ℕ) : Type 0 where
+  pub piece : List ℕ
+  pub added : new ≡ old ++ piece
+  pub piece_is : IsWordOf word piece
 
 -- the bytes that a line at a place puts
 unfoldable pub IsPiece : ℕ → List Label → Place → Says → List ℕ → Type 0
-IsPiece text_length labels p (Instructs it target column) piece = IsWordOf (aimed text_length labels (address_here text_length p) it target) piece
+IsPiece text_length labels p (Instructs word target column) piece = IsWordOf (aimed text_length labels (address_here text_length p) word target) piece
 IsPiece text_length labels p (Quads values) piece = piece ≡ numbers_bytes 8 (map (quad_number text_length labels) values)
 IsPiece text_length labels p (Words numbers) piece = piece ≡ numbers_bytes 4 numbers
 IsPiece text_length labels p (Bytes numbers) piece = piece ≡ numbers

@@ -3,20 +3,19 @@
 use Rattle.std.specs.Prelude.{ℕ, ◌+◌, ◌%◌, Bool, true, false, not, ◌&&◌, ◌||◌, ◌==◌, nat_lt, List, [], ◌∷◌, ◌++◌, length, Option, Some, None, Result, Ok, Err, is_some, if◌then◌else◌, codes, ℤ, option_map}
 use Rattle.std.specs.List.{list_any}
 use Rattle.std.specs.Str.Lossy.{utf8_valid_len}
-use Rattle.sm_types.specs.declared.insn.Insn.{Insn}
 use Rattle.sm_types.specs.declared.object.Section.{Section}
 use Rattle.sm_types.specs.declared.object.Section.TheVariants.{Text, Data}
 use Rattle.asm_parser.specs.declared.line.LineFault.{LineFault}
 use Rattle.asm_parser.specs.declared.line.LineFault.TheVariants.{BadOperand}
-use Rattle.asm_parser.specs.Statements.{QuadValue, IsNumber, IsAddressOf, Says, Nothing, IntoText, IntoData, Quads, Words, Bytes, Zeros, Aligns, Globals, Instructs, SourceLine}
+use Rattle.asm_parser.specs.Statements.{QuadValue, IsNumber, IsAddressOf, TargetSaid, Says, Nothing, IntoText, IntoData, Quads, Words, Bytes, Zeros, Aligns, Globals, Instructs, SourceLine}
 use Rattle.asm_parser.specs.Lines.{line_of}
 use Rattle.asm_core.specs.declared.fault.AsmFault.{AsmFault}
 use Rattle.asm_core.specs.declared.fault.AsmFault.TheVariants.{TooLong, NotText, Line, Doubled, Undefined, TooFar, TooLarge, NoStart}
 use Rattle.asm_core.specs.Source.{lines_of, said_lines}
 use Rattle.asm_core.specs.declared.place.Place.{Place}
 use Rattle.asm_core.specs.Layout.{first_place, here, place_after, place_past, Label, label_at, if_some, labels_of, label_named, label_address, address_in, address_here}
-use Rattle.asm_core.specs.declared.aim.Range.{Range}
-use Rattle.asm_core.specs.Targets.{range_of, distance, steps_between}
+use Rattle.insn_text.specs.declared.item.Item.{Item}
+use Rattle.asm_core.specs.Targets.{distance, word_to}
 
 -- the first of two, else the second
 abbrev pub or_else : Option AsmFault → Option AsmFault → Option AsmFault
@@ -31,7 +30,7 @@ fault_if false fault = None
 
 -- the column of an instruction that stands at no multiple of 4
 unfoldable pub misplaced : Says → ℕ → Option ℕ
-misplaced (Instructs it target column) at = if at % 4 == 0 then None else Some column
+misplaced (Instructs word target column) at = if at % 4 == 0 then None else Some column
 misplaced Nothing at = None
 misplaced IntoText at = None
 misplaced IntoData at = None
@@ -80,26 +79,26 @@ unfoldable pub is_undefined : List Label → QuadValue → Bool
 is_undefined labels (IsNumber n) = false
 is_undefined labels (IsAddressOf name) = not (is_some (label_named labels name))
 
-abbrev pub too_far : ℕ → ℤ → Option ℤ → Option AsmFault
+abbrev pub too_far : ℕ → ℤ → Option ℕ → Option AsmFault
 too_far n bytes None = Some (TooFar n bytes)
-too_far n bytes (Some steps) = None
+too_far n bytes (Some word) = None
 
-abbrev pub range_fault : ℕ → ℕ → ℕ → Option Range → Option AsmFault
-range_fault n from target None = None
-range_fault n from target (Some range) = too_far n (distance range from target) (steps_between range from target)
+-- the fault of an instruction at an address whose operand is to have the distance to another
+abbrev pub distance_fault : ℕ → Item → ℕ → ℕ → ℕ → Option AsmFault
+distance_fault n i word from target = too_far n (distance i from target) (word_to i word from target)
 
 -- the fault of an instruction at an address with the label of its target
-abbrev pub aim_fault : ℕ → ℕ → Insn → ℕ → Option Label → Option AsmFault
-aim_fault n text_length it from None = Some (Undefined n)
-aim_fault n text_length it from (Some label) = range_fault n from (label_address text_length label) (range_of it)
+abbrev pub aim_fault : ℕ → ℕ → Item → ℕ → ℕ → Option Label → Option AsmFault
+aim_fault n text_length i word from None = Some (Undefined n)
+aim_fault n text_length i word from (Some label) = distance_fault n i word from (label_address text_length label)
 
-abbrev pub instruction_fault : ℕ → ℕ → List Label → ℕ → Insn → Option (List ℕ) → Option AsmFault
-instruction_fault n text_length labels from it None = None
-instruction_fault n text_length labels from it (Some name) = aim_fault n text_length it from (label_named labels name)
+abbrev pub instruction_fault : ℕ → ℕ → List Label → ℕ → ℕ → Option TargetSaid → Option AsmFault
+instruction_fault n text_length labels from word None = None
+instruction_fault n text_length labels from word (Some target) = aim_fault n text_length target.operand word from (label_named labels target.name)
 
 -- the fault of the names and distances of line number n at a place
 unfoldable pub target_fault : ℕ → ℕ → List Label → Place → Says → Option AsmFault
-target_fault n text_length labels p (Instructs it target column) = instruction_fault n text_length labels (address_here text_length p) it target
+target_fault n text_length labels p (Instructs word target column) = instruction_fault n text_length labels (address_here text_length p) word target
 target_fault n text_length labels p (Quads values) = fault_if (list_any (is_undefined labels) values) (Undefined n)
 target_fault n text_length labels p Nothing = None
 target_fault n text_length labels p IntoText = None

@@ -37,7 +37,7 @@ size_of (Bytes numbers) at = length numbers
 size_of (Zeros count) at = count
 size_of (Aligns power) at = padding (2 ^ power) at
 size_of (Globals name) at = 0
-size_of (Instructs it target column) at = 4
+size_of (Instructs word target column) at = 4
 
 -- so many bytes more in the part
 abbrev pub grown_in : Section → Place → ℕ → Place
@@ -55,7 +55,7 @@ part_after (Bytes numbers) part = part
 part_after (Zeros count) part = part
 part_after (Aligns power) part = part
 part_after (Globals name) part = part
-part_after (Instructs it target column) part = part
+part_after (Instructs word target column) part = part
 
 -- the place after a line
 unfoldable pub place_after : Place → Says → Place

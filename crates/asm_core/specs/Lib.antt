@@ -2,7 +2,6 @@ pub mod Source
 pub mod Layout
 pub mod Limits
 pub mod Targets
-pub mod Units
 pub mod Faults
 pub mod Emitted
 pub mod Assembly

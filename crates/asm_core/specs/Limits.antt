@@ -19,4 +19,4 @@ HasSmallAlign (Words numbers) = Unit {0}
 HasSmallAlign (Bytes numbers) = Unit {0}
 HasSmallAlign (Zeros count) = Unit {0}
 HasSmallAlign (Globals name) = Unit {0}
-HasSmallAlign (Instructs it target column) = Unit {0}
+HasSmallAlign (Instructs word target column) = Unit {0}

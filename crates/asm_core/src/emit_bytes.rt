@@ -2,21 +2,19 @@
 ghost use Rattle.std.specs.Prelude.{◌≡◌, ◌≢◌, ◌≤◌, ◌<◌, ◌^◌, ◌+◌, ◌++◌, List, Some, None, true, false, length, map, replicate, OnOk, IfErr, option_map};
 ghost use Rattle.std.specs.List.{list_any};
 ghost use Rattle.byteorder.specs.Endian.{little_bytes};
-ghost use Rattle.sve_table.specs.Meaning.{instruction_of};
-ghost use Rattle.asm_parser.specs.Statements.{says_of, value_of};
+ghost use Rattle.asm_parser.specs.Statements.{says_of, target_said, value_of};
 ghost use Rattle.asm_core.specs.Layout as layout;
 ghost use Rattle.asm_core.specs.Faults.{is_undefined, instruction_fault, target_fault};
 ghost use Rattle.asm_core.specs.Assembly as assembly;
 ghost use Rattle.asm_core.specs.Known.{Knows};
 ghost use Rattle.asm_core.specs.Limits.{HasSmallAlign};
-ghost use Rattle.asm_core.specs.Emitted.{Adds, AreNear, HasWord, IsEncodable, IsWordAfter};
+ghost use Rattle.asm_core.specs.Emitted.{Adds, AreNear, HasWord, IsMeant, IsWordAfter};
 
 use crate::emit_targets::{Addresses, address_in, aim, quad_number};
 use crate::fault::AsmFault;
 use crate::place::{Place, here, size_of};
-use a64_encode::{encode, one_row_of_both};
-use asm_parser::{Statement, Value};
-use sm_types::{Bytes, Insn};
+use asm_parser::{Statement, Target, Value};
+use sm_types::Bytes;
 
 /// Appends so many zeros.
 fn put_zeros(bytes: &mut Bytes, count: u64) -> Result<(), AsmFault>
@@ -90,36 +88,27 @@ fn put_quads(
     Ok(())
 }
 
-/// The word that means an instruction.
-fn word_of(insn: &Insn) -> u32
-    requires { IsEncodable insn.now }
-    ensures { instruction_of result ≡ Some insn.now }
-{
-    one_row_of_both();
-    match encode(insn) {
-        Some(word) => word,
-        None => unreachable!(),
-    }
-}
-
 /// Appends the word of the instruction on line number `number` at an address, with the distance to its target.
 fn put_instruction(
     bytes: &mut Bytes,
     number: u32,
-    insn: &Insn,
+    word: u32,
     from: u64,
-    name: Option<&[u8]>,
+    target: &Option<Target<'_>>,
     addresses: &Addresses<'_, '_>,
 ) -> Result<(), AsmFault>
     requires from { from < 2 ^ 32 }
     requires near { AreNear addresses.now }
-    requires has_word { IsEncodable insn.now }
-    ensures ok { (list : List layout.Label) → Knows addresses.now.labels.now list → OnOk result (instruction_fault number addresses.now.text_size list from insn.now (option_map (λ name. name.now) name.entry) ≡ None) }
-    ensures bytes { (list : List layout.Label) → Knows addresses.now.labels.now list → OnOk result (IsWordAfter (assembly.aimed addresses.now.text_size list from insn.now (option_map (λ name. name.now) name.entry)) bytes.old.items bytes.new.items) }
-    ensures err { (list : List layout.Label) → Knows addresses.now.labels.now list → IfErr result (λ fault. fault ≢ AsmFault.Memory → instruction_fault number addresses.now.text_size list from insn.now (option_map (λ name. name.now) name.entry) ≡ Some fault) }
+    requires meant { IsMeant word (option_map target_said target.now) }
+    ensures ok { (list : List layout.Label) → Knows addresses.now.labels.now list
+        → OnOk result (instruction_fault number addresses.now.text_size list from word (option_map target_said target.now) ≡ None) }
+    ensures bytes { (list : List layout.Label) → Knows addresses.now.labels.now list
+        → OnOk result (IsWordAfter (assembly.aimed addresses.now.text_size list from word (option_map target_said target.now)) bytes.old.items bytes.new.items) }
+    ensures err { (list : List layout.Label) → Knows addresses.now.labels.now list
+        → IfErr result (λ fault. fault ≢ AsmFault.Memory → instruction_fault number addresses.now.text_size list from word (option_map target_said target.now) ≡ Some fault) }
 {
-    let it = aim(number, insn, from, name, addresses)?;
-    put_word(bytes, word_of(&it))
+    let aimed = aim(number, word, from, target, addresses)?;
+    put_word(bytes, aimed)
 }
 
 /// Appends the bytes of line number `number` at a place, or tells the fault of its names and distances.
@@ -141,9 +130,9 @@ pub fn put_statement(
     ensures err { (list : List layout.Label) → Knows addresses.now.labels.now list → IfErr result (λ fault. fault ≢ AsmFault.Memory → target_fault number addresses.now.text_size list place.now (says_of statement.now) ≡ Some fault) }
 {
     match statement {
-        Statement::Instruction { insn, target, .. } => {
+        Statement::Instruction { word, target, .. } => {
             let from = address_in(place.part, here(place), addresses.text_size);
-            put_instruction(bytes, number, insn, from, *target, addresses)
+            put_instruction(bytes, number, *word, from, target, addresses)
         }
         Statement::Quad(values) => put_quads(bytes, number, values, addresses),
         Statement::Word(numbers) => put_words(bytes, numbers),

@@ -1,18 +1,20 @@
 //! Names on a line: the addresses that they stand for, and the distances to them.
-ghost use Rattle.std.specs.Prelude.{◌≡◌, ◌≤◌, ◌<◌, ◌^◌, List, Option, Some, None, true, false, IfOk, IfErr, MatchOption, option_map};
-ghost use Rattle.asm_parser.specs.Statements.{value_of};
+ghost use Rattle.std.specs.Prelude.{◌≡◌, ◌≤◌, ◌<◌, ◌^◌, List, Option, Some, None, true, false, IfOk, IfErr, MatchOption, option_map, is_some};
+ghost use Rattle.sve_table.specs.Meaning.{instruction_of};
+ghost use Rattle.asm_parser.specs.Statements.{target_said, value_of};
 ghost use Rattle.asm_core.specs.Layout as layout;
 ghost use Rattle.asm_core.specs.Targets as targets;
-ghost use Rattle.asm_core.specs.Faults.{is_undefined, instruction_fault, range_fault};
+ghost use Rattle.asm_core.specs.Faults.{is_undefined, instruction_fault, distance_fault};
 ghost use Rattle.asm_core.specs.Assembly as assembly;
 ghost use Rattle.asm_core.specs.Known.{Knows};
-ghost use Rattle.asm_core.specs.Emitted.{AreNear, IsEncodable};
+ghost use Rattle.asm_core.specs.Emitted.{AreNear, CanHave, IsMeant};
 
-use crate::aim::{distance, range_of, steps_between, with_steps};
+use crate::aim::{distance, word_to};
 use crate::fault::AsmFault;
 use crate::labels::{LabelPlace, Labels};
-use asm_parser::Value;
-use sm_types::{Insn, Section, TEXT_ADDRESS};
+use asm_parser::{Target, Value};
+use insn_text::Item;
+use sm_types::{Section, TEXT_ADDRESS};
 
 /// What the names of a source stand for: its labels, and how many bytes its text has.
 #[derive(Clone, Copy)]
@@ -67,51 +69,56 @@ pub fn quad_number(value: &Value<'_>, addresses: &Addresses<'_, '_>) -> Option<u
     }
 }
 
-/// The instruction at an address with the distance to a target, where it has one, or that the target is too far.
-fn with_distance(number: u32, insn: &Insn, from: u64, target: u64) -> Result<Insn, AsmFault>
+/// The word of an instruction at an address with the distance to a target, or that the target is too far.
+fn with_target(
+    number: u32,
+    word: u32,
+    operand: &Item,
+    from: u64,
+    target: u64,
+) -> Result<u32, AsmFault>
     requires from { from < 2 ^ 32 }
     requires target { target < 2 ^ 32 }
-    requires has_word { IsEncodable insn.now }
-    ensures ok { IfOk result (λ it. range_fault number from target (targets.range_of insn.now) ≡ None) }
-    ensures value { IfOk result (λ it. it ≡ assembly.stepped insn.now (assembly.with_range insn.now from target (targets.range_of insn.now))) }
-    ensures has_word { IfOk result IsEncodable }
-    ensures err { IfErr result (λ fault. range_fault number from target (targets.range_of insn.now) ≡ Some fault) }
+    requires can { CanHave operand.now word }
+    ensures ok { IfOk result (λ aimed. targets.word_to operand.now word from target ≡ Some aimed) }
+    ensures means { IfOk result (λ aimed. is_some (instruction_of aimed) ≡ true) }
+    ensures err { IfErr result (λ fault. distance_fault number operand.now word from target ≡ Some fault) }
 {
-    let Some(range) = range_of(insn) else {
-        return Ok(*insn);
-    };
-    match steps_between(range, from, target) {
-        Some(steps) => Ok(with_steps(insn, steps)),
+    match word_to(operand, word, from, target) {
+        Some(aimed) => Ok(aimed),
         None => Err(AsmFault::TooFar {
             line: number,
-            distance: distance(range, from, target),
+            distance: distance(operand, from, target),
         }),
     }
 }
 
-/// The instruction at an address with the distance to the label of a name, where a name says its target; or that there is
+/// The word of an instruction at an address with the distance to its target, where a name says the target; or that there is
 /// no such label, or that it is too far.
 #[tactic(auto, unfolding(crate::specs::Assembly::aimed))]
 pub fn aim(
     number: u32,
-    insn: &Insn,
+    word: u32,
     from: u64,
-    name: Option<&[u8]>,
+    target: &Option<Target<'_>>,
     addresses: &Addresses<'_, '_>,
-) -> Result<Insn, AsmFault>
+) -> Result<u32, AsmFault>
     requires from { from < 2 ^ 32 }
     requires near { AreNear addresses.now }
-    requires has_word { IsEncodable insn.now }
-    ensures ok { (list : List layout.Label) → Knows addresses.now.labels.now list → IfOk result (λ it. instruction_fault number addresses.now.text_size list from insn.now (option_map (λ name. name.now) name.entry) ≡ None) }
-    ensures value { (list : List layout.Label) → Knows addresses.now.labels.now list → IfOk result (λ it. it ≡ assembly.aimed addresses.now.text_size list from insn.now (option_map (λ name. name.now) name.entry)) }
-    ensures has_word { IfOk result IsEncodable }
-    ensures err { (list : List layout.Label) → Knows addresses.now.labels.now list → IfErr result (λ fault. instruction_fault number addresses.now.text_size list from insn.now (option_map (λ name. name.now) name.entry) ≡ Some fault) }
+    requires meant { IsMeant word (option_map target_said target.now) }
+    ensures ok { (list : List layout.Label) → Knows addresses.now.labels.now list
+        → IfOk result (λ aimed. instruction_fault number addresses.now.text_size list from word (option_map target_said target.now) ≡ None) }
+    ensures value { (list : List layout.Label) → Knows addresses.now.labels.now list
+        → IfOk result (λ aimed. aimed ≡ assembly.aimed addresses.now.text_size list from word (option_map target_said target.now)) }
+    ensures means { IfOk result (λ aimed. is_some (instruction_of aimed) ≡ true) }
+    ensures err { (list : List layout.Label) → Knows addresses.now.labels.now list
+        → IfErr result (λ fault. instruction_fault number addresses.now.text_size list from word (option_map target_said target.now) ≡ Some fault) }
 {
-    let Some(name) = name else {
-        return Ok(*insn);
+    let Some(target) = target else {
+        return Ok(word);
     };
-    match find_address(addresses, name) {
-        Some(target) => with_distance(number, insn, from, target),
+    match find_address(addresses, target.name) {
+        Some(address) => with_target(number, word, &target.operand, from, address),
         None => Err(AsmFault::Undefined(number)),
     }
 }

@@ -1,15 +1,14 @@
--- No shape has more than 15 operands, so 16 tokens say all that there is to say.
+-- No shape has more than 23 operands, so 24 tokens say all that there is to say.
 use Rattle.std.proofs.Common.{◌≡◌, ℕ, zero, suc, ◌+◌, ◌-◌, ◌<◌, ◌≤◌, ◌==◌, ◌&&◌, ◌||◌, Bool, true, nat_lt, List, [], ◌∷◌, Option, Some, None, length, take, drop, slice_get, max, refl, ap, ap₂, ◌∙◌, arith, ltb-true, lit<}
 use Rattle.std.specs.List.{list_all, list_any}
-use Rattle.std.specs.Prelude.{is_some, slice_index, if◌then◌else◌, option_and_then}
+use Rattle.std.specs.Prelude.{is_some, slice_index, if◌then◌else◌, option_and_then, option_map}
 use Rattle.std.proofs.lemmas.Bool.{and_parts}
-use Rattle.sve_table.specs.Meaning.{instruction_of}
 use Rattle.insn_text.specs.declared.shapes.TheConstants.{SHAPES, STARTS}
 use Rattle.insn_text.specs.declared.item.Item.{Item}
 use Rattle.insn_text.specs.declared.item.Shape.{Shape}
 use Rattle.insn_text.specs.Texts.{items_of}
 use Rattle.asm_tokens.specs.declared.token.Token.{Token}
-use Rattle.asm_operands.specs.Operands.{Known, known_after, taken_on, taken, reach_on, reach, fixed, word_in, reach_in, shapes_of, first_of_words, first_word, furthest, is_number_item, wants_number, is_whole, kind_at, Fault, operand_fault, is_distance_item, is_name_token, target_in, target_of, insn_said, said_or, Fails, operands_said}
+use Rattle.asm_operands.specs.Operands.{Known, known_after, taken_on, taken, reach_on, reach, fixed, word_in, reach_in, shapes_of, first_of_words, first_word, furthest, is_number_item, wants_number, is_whole, kind_at, Fault, operand_fault, names, target_in, target_of, if_meant, word_said, said_or, Fails, operands_said}
 use Rattle.asm_operands.proofs.Tables.{all-take, all-drop}
 
 -- ---- one shape
@@ -57,7 +56,7 @@ get-few (suc n) (suc k) (t ∷ ts) lt = get-few n k ts (omega arith)
 
 -- ---- shapes with few operands
 unfoldable pub has_few : Shape → Bool
-has_few s = nat_lt (length (items_of s)) 16
+has_few s = nat_lt (length (items_of s)) 24
 
 all_few : list_all has_few SHAPES ≡ true
 unfolding items_of has_few
@@ -69,34 +68,34 @@ few_of_name name =
     let first = slice_index STARTS name in
     all-take has_few (slice_index STARTS (name + 1) - first) (drop first SHAPES) (all-drop has_few first SHAPES all_few)
 
-few-lt : (s : Shape) → has_few s ≡ true → length (items_of s) < 16
+few-lt : (s : Shape) → has_few s ≡ true → length (items_of s) < 24
 unfolding has_few
 few-lt s e = ltb-true _ _ e
 
-word-few : (s : Shape) (ts : List Token) → has_few s ≡ true → word_in s (take 16 ts) ≡ word_in s ts
+word-few : (s : Shape) (ts : List Token) → has_few s ≡ true → word_in s (take 24 ts) ≡ word_in s ts
 unfolding word_in
-word-few s ts e = taken-few (items_of s) 16 ts (fixed s) (few-lt s e)
+word-few s ts e = taken-few (items_of s) 24 ts (fixed s) (few-lt s e)
 
-shape-few : (s : Shape) (ts : List Token) → has_few s ≡ true → reach_in s (take 16 ts) ≡ reach_in s ts
+shape-few : (s : Shape) (ts : List Token) → has_few s ≡ true → reach_in s (take 24 ts) ≡ reach_in s ts
 unfolding reach_in
-shape-few s ts e = reach-few (items_of s) 16 ts (fixed s) (few-lt s e)
+shape-few s ts e = reach-few (items_of s) 24 ts (fixed s) (few-lt s e)
 
-shape-le : (s : Shape) (ts : List Token) → has_few s ≡ true → reach_in s ts < 16
+shape-le : (s : Shape) (ts : List Token) → has_few s ≡ true → reach_in s ts < 24
 unfolding reach_in
 shape-le s ts e = let lt = few-lt s e in let le = reach-le (items_of s) ts (fixed s) in omega arith
 
 -- ---- the shapes of a name
-first-few : (ss : List Shape) (ts : List Token) → list_all has_few ss ≡ true → first_word ss (take 16 ts) ≡ first_word ss ts
+first-few : (ss : List Shape) (ts : List Token) → list_all has_few ss ≡ true → first_word ss (take 24 ts) ≡ first_word ss ts
 unfolding first_word
 first-few [] ts e = refl
 first-few (s ∷ ss) ts e = let p = and_parts (has_few s) (list_all has_few ss) e in ap₂ first_of_words (word-few s ts p.0) (first-few ss ts p.1)
 
-furthest-few : (ss : List Shape) (ts : List Token) → list_all has_few ss ≡ true → furthest ss (take 16 ts) ≡ furthest ss ts
+furthest-few : (ss : List Shape) (ts : List Token) → list_all has_few ss ≡ true → furthest ss (take 24 ts) ≡ furthest ss ts
 unfolding furthest
 furthest-few [] ts e = refl
 furthest-few (s ∷ ss) ts e = let p = and_parts (has_few s) (list_all has_few ss) e in ap₂ max (shape-few s ts p.0) (furthest-few ss ts p.1)
 
-furthest-lt : (ss : List Shape) (ts : List Token) → list_all has_few ss ≡ true → furthest ss ts < 16
+furthest-lt : (ss : List Shape) (ts : List Token) → list_all has_few ss ≡ true → furthest ss ts < 24
 unfolding furthest
 furthest-lt [] ts e = lit< tt
 furthest-lt (s ∷ ss) ts e =
@@ -105,54 +104,54 @@ furthest-lt (s ∷ ss) ts e =
     let b = furthest-lt ss ts p.1 in
     omega arith
 
-wants-few : (ss : List Shape) (count : ℕ) (ts : List Token) → list_all has_few ss ≡ true → list_any (wants_number count (take 16 ts)) ss ≡ list_any (wants_number count ts) ss
+wants-few : (ss : List Shape) (count : ℕ) (ts : List Token) → list_all has_few ss ≡ true → list_any (wants_number count (take 24 ts)) ss ≡ list_any (wants_number count ts) ss
 unfolding wants_number
 wants-few [] count ts e = refl
 wants-few (s ∷ ss) count ts e =
     let p = and_parts (has_few s) (list_all has_few ss) e in
     ap₂ (λ n b. ((n == count) && is_number_item (slice_get (items_of s) count)) || b) (shape-few s ts p.0) (wants-few ss count ts p.1)
 
-whole-few : (ss : List Shape) (count : ℕ) (ts : List Token) → list_all has_few ss ≡ true → list_any (is_whole count (take 16 ts)) ss ≡ list_any (is_whole count ts) ss
+whole-few : (ss : List Shape) (count : ℕ) (ts : List Token) → list_all has_few ss ≡ true → list_any (is_whole count (take 24 ts)) ss ≡ list_any (is_whole count ts) ss
 unfolding is_whole
 whole-few [] count ts e = refl
 whole-few (s ∷ ss) count ts e =
     let p = and_parts (has_few s) (list_all has_few ss) e in
     ap₂ (λ n b. ((n == count) && (length (items_of s) == count)) || b) (shape-few s ts p.0) (whole-few ss count ts p.1)
 
-kind-few : (ss : List Shape) (count : ℕ) (ts : List Token) (o : Option Token) → list_all has_few ss ≡ true → kind_at ss count (take 16 ts) o ≡ kind_at ss count ts o
+kind-few : (ss : List Shape) (count : ℕ) (ts : List Token) (o : Option Token) → list_all has_few ss ≡ true → kind_at ss count (take 24 ts) o ≡ kind_at ss count ts o
 unfolding kind_at
 kind-few ss count ts None e = refl
 kind-few ss count ts (Some t) e = rw (wants-few ss count ts e, whole-few ss count ts e) refl
 
-fault-few : (ss : List Shape) (ts : List Token) → list_all has_few ss ≡ true → operand_fault ss (take 16 ts) ≡ operand_fault ss ts
+fault-few : (ss : List Shape) (ts : List Token) → list_all has_few ss ≡ true → operand_fault ss (take 24 ts) ≡ operand_fault ss ts
 unfolding operand_fault
 fault-few ss ts e =
     let same = furthest-few ss ts e in
     let lt = furthest-lt ss ts e in
-    let make : ℕ → Option Token → Fault = λ n o. record { place = n; kind = kind_at ss n (take 16 ts) o } in
-    ap (λ n. make n (slice_get (take 16 ts) n)) same
-    ∙ ap (make (furthest ss ts)) (get-few 16 (furthest ss ts) ts lt)
+    let make : ℕ → Option Token → Fault = λ n o. record { place = n; kind = kind_at ss n (take 24 ts) o } in
+    ap (λ n. make n (slice_get (take 24 ts) n)) same
+    ∙ ap (make (furthest ss ts)) (get-few 24 (furthest ss ts) ts lt)
     ∙ ap (λ k. record { place = furthest ss ts; kind = k }) (kind-few ss (furthest ss ts) ts (slice_get ts (furthest ss ts)) e)
 
-target_in-few : (is : List Item) (ts : List Token) → length is < 16 → target_in is (take 16 ts) ≡ target_in is ts
+target_in-few : (is : List Item) (ts : List Token) → length is < 24 → target_in is (take 24 ts) ≡ target_in is ts
 unfolding target_in
 target_in-few is ts lt =
-    let less : length is - 1 < 16 = omega arith in
-    ap (λ o. if is_distance_item (slice_get is (length is - 1)) && is_name_token o then Some (length is - 1) else None) (get-few 16 (length is - 1) ts less)
+    let less : length is - 1 < 24 = omega arith in
+    ap (λ o. option_map (λ (i : Item). record { place = length is - 1; operand = i }) (option_and_then (names o) (slice_get is (length is - 1)))) (get-few 24 (length is - 1) ts less)
 
-target-few : (ss : List Shape) (ts : List Token) → list_all has_few ss ≡ true → target_of ss (take 16 ts) ≡ target_of ss ts
+target-few : (ss : List Shape) (ts : List Token) → list_all has_few ss ≡ true → target_of ss (take 24 ts) ≡ target_of ss ts
 unfolding target_of
 target-few [] ts e = refl
 target-few (s ∷ ss) ts e =
     let p = and_parts (has_few s) (list_all has_few ss) e in
-    ap (λ o. if is_some o then target_in (items_of s) (take 16 ts) else target_of ss (take 16 ts)) (word-few s ts p.0)
+    ap (λ o. if is_some o then target_in (items_of s) (take 24 ts) else target_of ss (take 24 ts)) (word-few s ts p.0)
     ∙ ap₂ (λ a b. if is_some (word_in s ts) then a else b) (target_in-few (items_of s) ts (few-lt s p.0)) (target-few ss ts p.1)
 
--- what the first 16 tokens say is what all of them say
-pub few_operands : (name : ℕ) (ts : List Token) → operands_said name (take 16 ts) ≡ operands_said name ts
-unfolding operands_said insn_said
+-- what the first 24 tokens say is what all of them say
+pub few_operands : (name : ℕ) (ts : List Token) → operands_said name (take 24 ts) ≡ operands_said name ts
+unfolding operands_said word_said
 few_operands name ts =
     let e = few_of_name name in
     let ss = shapes_of name in
-    ap₂ (λ f t. said_or (Fails f) t (option_and_then instruction_of (first_word ss (take 16 ts)))) (fault-few ss ts e) (target-few ss ts e)
-    ∙ ap (λ w. said_or (Fails (operand_fault ss ts)) (target_of ss ts) (option_and_then instruction_of w)) (first-few ss ts e)
+    ap₂ (λ f t. said_or (Fails f) t (option_and_then if_meant (first_word ss (take 24 ts)))) (fault-few ss ts e) (target-few ss ts e)
+    ∙ ap (λ w. said_or (Fails (operand_fault ss ts)) (target_of ss ts) (option_and_then if_meant w)) (first-few ss ts e)

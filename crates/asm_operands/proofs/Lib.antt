@@ -13,3 +13,4 @@ pub mod Apart
 pub mod OwnWord
 pub mod Stops
 pub mod GoesOn
+pub mod Aimed

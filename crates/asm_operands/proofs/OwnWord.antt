@@ -14,7 +14,8 @@ use Rattle.insn_text.specs.declared.shapes.TheConstants.{SHAPES, STARTS}
 use Rattle.insn_text.specs.Texts.{items_of, prints, printed_shape}
 use Rattle.insn_text.specs.Rules.{is_sayable, IsPrinted}
 use Rattle.asm_tokens.specs.declared.token.Token.{Token}
-use Rattle.asm_operands.specs.Operands.{word_in, shapes_of, first_of_words, first_word, mask_of, is_distance, is_distance_item, is_name, is_name_token, target_in, target_of, operand_fault, said_or, Says, Fails, insn_said, operands_said}
+use Rattle.asm_operands.specs.declared.operands.Target.{Target}
+use Rattle.asm_operands.specs.Operands.{word_in, shapes_of, first_of_words, first_word, mask_of, is_distance, is_name, names, target_in, target_of, operand_fault, said_or, Says, Fails, if_meant, word_said, operands_said}
 use Rattle.asm_operands.specs.Shown.{token_said, item_token, tokens_shown}
 use Rattle.asm_operands.proofs.MaskFields.{all_below, all_below-at}
 use Rattle.asm_operands.proofs.WordBits.{has_register, covers}
@@ -151,18 +152,23 @@ never_named (kind.ShiftLeft wide) bits field = refl
 never_named (kind.Opposite first count) bits field = refl
 never_named (kind.Halfword wide inverted) bits field = refl
 
-no_name : (w : ℕ) (o : Option Item) → (is_distance_item o && is_name_token (option_map (item_token w) o)) ≡ false
+not_named : (b : Bool) (i : Item) → b ≡ false → cond b (Some i) None ≡ None
+not_named true i e = cc
+not_named false i e = refl
+
+no_name : (w : ℕ) (o : Option Item) → option_and_then (names (option_map (item_token w) o)) o ≡ None
 unfolding item_token
 no_name w None = refl
-no_name w (Some i) = never_named i.kind _ _
+no_name w (Some i) = not_named _ i (never_named i.kind _ _)
 
 target-none : (s : Shape) (w : ℕ) → target_in (items_of s) (tokens_shown s w) ≡ None
 unfolding target_in tokens_shown
 target-none s w =
     let is = items_of s in
     let last = length is - 1 in
-    ap (λ o. if is_distance_item (slice_get is last) && is_name_token o then Some last else None) (get-map (item_token w) is last)
-    ∙ ap (λ b. if b then Some last else None) (no_name w (slice_get is last))
+    let make : Option Item → Option Target = option_map (λ (i : Item). record { place = last; operand = i }) in
+    ap (λ o. make (option_and_then (names o) (slice_get is last))) (get-map (item_token w) is last)
+    ∙ ap make (no_name w (slice_get is last))
 
 -- ---- among the shapes of the name
 record SaysOwn (ss : List Shape) (s : Shape) (w : ℕ) : Type 0 where
@@ -236,11 +242,11 @@ own-target w lt p = (printed-says w lt p).target
 pub own-name : (w : ℕ) (p : IsPrinted w) → p.shape.name < length NAMES
 own-name w p = (own w p.shape p.found).of_its_name.named
 
--- the tokens say the instruction that the word means
-pub own-said : (w : ℕ) (it : Insn) → w < 2 ^ 32 → (p : IsPrinted w) → instruction_of w ≡ Some it → operands_said p.shape.name (tokens_shown p.shape w) ≡ Says it None
-unfolding operands_said insn_said
+-- the tokens say the word, where it means an instruction
+pub own-said : (w : ℕ) (it : Insn) → w < 2 ^ 32 → (p : IsPrinted w) → instruction_of w ≡ Some it → operands_said p.shape.name (tokens_shown p.shape w) ≡ Says w None
+unfolding operands_said word_said if_meant
 own-said w it lt p e =
     let ss = shapes_of p.shape.name in
     let ts = tokens_shown p.shape w in
-    ap₂ (λ t o. said_or (Fails (operand_fault ss ts)) t (option_and_then instruction_of o)) (own-target w lt p) (own-word w lt p)
-    ∙ ap (said_or (Fails (operand_fault ss ts)) None) e
+    ap₂ (λ t o. said_or (Fails (operand_fault ss ts)) t (option_and_then if_meant o)) (own-target w lt p) (own-word w lt p)
+    ∙ ap (λ o. said_or (Fails (operand_fault ss ts)) None (cond (is_some o) (Some w) None)) e

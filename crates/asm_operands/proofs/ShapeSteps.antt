@@ -6,6 +6,7 @@ use Rattle.asm_tokens.specs.declared.token.Token.{Token}
 use Rattle.insn_text.specs.declared.item.Item.{Item}
 use Rattle.insn_text.specs.declared.item.Shape.{Shape}
 use Rattle.insn_text.specs.Texts.{items_of}
+use Rattle.asm_operands.specs.declared.operands.Target.{Target}
 use Rattle.asm_operands.specs.Operands.{word_in, reach_in, first_of_words, first_word, furthest, target_in, target_of}
 use Rattle.asm_operands.proofs.Way.{drop-at}
 
@@ -52,5 +53,5 @@ pub first-end : (ss : List Shape) (ts : List Token) (at : ℕ) → length ss ≤
 unfolding first_word
 first-end ss ts at le = ap (λ (x : List Shape). first_word x ts) (drop_of_length-le ss le)
 
-pub target-is : (s : Shape) (is : List Item) (ts : List Token) (o : Option ℕ) → is ≡ items_of s → o ≡ target_in is ts → o ≡ target_in (items_of s) ts
+pub target-is : (s : Shape) (is : List Item) (ts : List Token) (o : Option Target) → is ≡ items_of s → o ≡ target_in is ts → o ≡ target_in (items_of s) ts
 target-is s is ts o e h = h ∙ ap (λ (x : List Item). target_in x ts) e

@@ -1,3 +1,4 @@
+pub mod Distances
 pub mod Fields
 pub mod Operands
 pub mod Shown

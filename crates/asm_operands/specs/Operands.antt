@@ -1,8 +1,7 @@
 -- The operands of an instruction: which tokens a shape takes, the word that they say, and the first token with which no shape goes on.
 -- Source: DDI 0487, C6.2, the assembler symbols of each page; this project's own assembly language for the faults.
-use Rattle.std.specs.Prelude.{ℕ, zero, suc, ◌+◌, ◌-◌, ◌*◌, ◌/◌, ◌%◌, ◌^◌, Bool, true, false, ◌&&◌, ◌==◌, List, [], ◌∷◌, length, take, drop, slice_get, slice_index, Option, Some, None, bit_and, bit_or, max, if◌then◌else◌, option_and_then, is_some}
+use Rattle.std.specs.Prelude.{ℕ, zero, suc, ◌+◌, ◌-◌, ◌*◌, ◌/◌, ◌%◌, ◌^◌, Bool, true, false, ◌&&◌, ◌==◌, List, [], ◌∷◌, length, take, drop, slice_get, slice_index, Option, Some, None, bit_and, bit_or, max, if◌then◌else◌, option_and_then, option_map, is_some}
 use Rattle.std.specs.List.{list_any}
-use Rattle.sm_types.specs.declared.insn.Insn.{Insn}
 use Rattle.sve_table.specs.Meaning.{instruction_of}
 use Rattle.insn_text.specs.declared.item.Kind.{Kind}
 use Rattle.insn_text.specs.declared.item.Kind.TheVariants as kind
@@ -15,6 +14,7 @@ use Rattle.asm_tokens.specs.declared.token.Token.{Token}
 use Rattle.asm_tokens.specs.declared.token.Token.TheVariants.{Word, Name, Number, Distance, Bare, Malformed, Mark, Other}
 use Rattle.asm_operands.specs.declared.fault.FaultKind.{FaultKind}
 use Rattle.asm_operands.specs.declared.fault.FaultKind.TheVariants.{BadOperand, BadNumber, Extra}
+use Rattle.asm_operands.specs.declared.operands.Target.{Target}
 use Rattle.asm_operands.specs.Fields.{field_said}
 
 -- ---- one operand
@@ -175,9 +175,13 @@ operand_fault ss ts = record { place = furthest ss ts; kind = kind_at ss (furthe
 
 -- ---- what a name and its operands say
 
--- the instruction that the tokens say after the name at a place of the table of names
-unfoldable pub insn_said : ℕ → List Token → Option Insn
-insn_said name ts = option_and_then instruction_of (first_word (shapes_of name) ts)
+-- the word, where it means an instruction
+unfoldable pub if_meant : ℕ → Option ℕ
+if_meant word = if is_some (instruction_of word) then Some word else None
+
+-- the word that the tokens say after the name at a place of the table of names
+unfoldable pub word_said : ℕ → List Token → Option ℕ
+word_said name ts = option_and_then if_meant (first_word (shapes_of name) ts)
 
 -- a name may stand for a distance
 unfoldable pub is_name : Token → Bool
@@ -190,32 +194,34 @@ is_name Malformed = false
 is_name (Mark c) = false
 is_name Other = false
 
-abbrev pub is_distance_item : Option Item → Bool
-is_distance_item None = false
-is_distance_item (Some i) = is_distance i.kind
-
 abbrev pub is_name_token : Option Token → Bool
 is_name_token None = false
 is_name_token (Some t) = is_name t
 
--- the last token, where it is a name in the place of a distance: a distance is the last operand of each shape that has one
-unfoldable pub target_in : List Item → List Token → Option ℕ
-target_in is ts = if is_distance_item (slice_get is (length is - 1)) && is_name_token (slice_get ts (length is - 1)) then Some (length is - 1) else None
+-- the operand is a distance, and the token a name
+abbrev pub names : Option Token → Item → Option Item
+names t i = if is_distance i.kind && is_name_token t then Some i else None
 
--- the place of the token that names the target, in the first shape that takes the tokens
-unfoldable pub target_of : List Shape → List Token → Option ℕ
+-- the last operand with its token, where that is a name in the place of a distance: a distance is the last operand of each shape that has one
+unfoldable pub target_in : List Item → List Token → Option Target
+target_in is ts =
+    option_map (λ i. record { place = length is - 1; operand = i })
+    (option_and_then (names (slice_get ts (length is - 1))) (slice_get is (length is - 1)))
+
+-- the token that names the target, and its operand, in the first shape that takes the tokens
+unfoldable pub target_of : List Shape → List Token → Option Target
 target_of [] ts = None
 target_of (s ∷ ss) ts = if is_some (word_in s ts) then target_in (items_of s) ts else target_of ss ts
 
--- what the operands after a name say: the instruction, and which of their tokens names its target; or the first fault
+-- what the operands after a name say: the word, and which of their tokens names its target; or the first fault
 pub data OperandsSaid : Type 0 where
-  Says : Insn → Option ℕ → OperandsSaid
+  Says : ℕ → Option Target → OperandsSaid
   Fails : Fault → OperandsSaid
 
-abbrev pub said_or : OperandsSaid → Option ℕ → Option Insn → OperandsSaid
+abbrev pub said_or : OperandsSaid → Option Target → Option ℕ → OperandsSaid
 said_or fault target None = fault
-said_or fault target (Some it) = Says it target
+said_or fault target (Some word) = Says word target
 
 -- what the tokens say after the name at a place of the table of names
 unfoldable pub operands_said : ℕ → List Token → OperandsSaid
-operands_said name ts = said_or (Fails (operand_fault (shapes_of name) ts)) (target_of (shapes_of name) ts) (insn_said name ts)
+operands_said name ts = said_or (Fails (operand_fault (shapes_of name) ts)) (target_of (shapes_of name) ts) (word_said name ts)

@@ -14,5 +14,5 @@ fault_of fault = record { place = fault.place; kind = fault.kind }
 
 -- a result is what the operands say
 abbrev pub said_by : Result Operands OperandFault → OperandsSaid
-said_by (Ok operands) = Says operands.insn operands.target
+said_by (Ok operands) = Says operands.word operands.target
 said_by (Err fault) = Fails (fault_of fault)

@@ -2,7 +2,7 @@
 
 ghost use Rattle.std.specs.Prelude.{◌≡◌, ◌-◌, ◌==◌, ◌&&◌, length, slice_get};
 ghost use Rattle.std.specs.List.{list_any};
-ghost use Rattle.asm_operands.specs.Operands.{reach_in, furthest, is_number_kind, is_distance, is_number_token, is_name, is_number_item, is_distance_item, is_name_token, wants_number, is_whole, kind_at, operand_fault};
+ghost use Rattle.asm_operands.specs.Operands.{reach_in, furthest, is_number_kind, is_distance, is_number_token, is_name, is_number_item, is_name_token, wants_number, is_whole, kind_at, operand_fault};
 ghost use Rattle.asm_operands.specs.Views.{fault_of};
 
 use crate::fault::FaultKind;

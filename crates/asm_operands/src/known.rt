@@ -39,7 +39,7 @@ fn mask_of(item: &Item) -> u32
 /// The field at its place in a word.
 #[inline(always)]
 #[tactic(auto, unfolding(crate::specs::Operands::placed, crate::specs::Sound::is_in_word))]
-fn placed(item: &Item, field: u32) -> u32
+pub(crate) fn placed(item: &Item, field: u32) -> u32
     requires { is_in_word item.now ≡ true }
     ensures { result ≡ placed item.now field }
 {

@@ -1,13 +1,22 @@
 //! What the faults say, as laws over every name and all tokens.
 
-ghost use Rattle.std.specs.Prelude.{◌≡◌, ◌+◌, ◌<◌, ◌≤◌, ℕ, List, ◌++◌, Some, None, length, take};
+ghost use Rattle.std.specs.Prelude.{◌≡◌, ◌+◌, ◌<◌, ◌≤◌, ℕ, Bool, true, List, ◌++◌, Some, None, length, take, is_some};
 ghost use Rattle.asm_tokens.specs.declared.token.Token.{Token};
 ghost use Rattle.insn_text.specs.declared.words.TheConstants.{NAMES};
-ghost use Rattle.asm_operands.specs.Operands.{shapes_of, first_word, furthest};
+ghost use Rattle.sve_table.specs.Meaning.{instruction_of};
+ghost use Rattle.asm_operands.specs.declared.operands.Target.{Target};
+ghost use Rattle.asm_operands.specs.Distances.{with_distance};
+ghost use Rattle.asm_operands.specs.Operands.{shapes_of, first_word, furthest, operands_said, Says};
 
 /// The fault stands at the first token with which no instruction of the name goes on: with other tokens in place of it and of those
 /// after it some shape takes them all, and with it none does.
 pub fn first_fault_law()
     ensures goes_on { (name n : ℕ) (ts : List Token) → name < length NAMES → n ≤ furthest (shapes_of name) ts → (rest : List Token) × (word : ℕ) × (first_word (shapes_of name) (take n ts ++ rest) ≡ Some word) }
     ensures stops { (name : ℕ) (ts rest : List Token) → furthest (shapes_of name) ts < length ts → first_word (shapes_of name) (take (furthest (shapes_of name) ts + 1) ts ++ rest) ≡ None }
+{}
+
+/// A word whose target is named means an instruction with each distance that its operand holds.
+pub fn any_distance_law()
+    ensures { (name : ℕ) (ts : List Token) (word : ℕ) (target : Target) (back : Bool) (size aimed : ℕ) → operands_said name ts ≡ Says word (Some target)
+        → with_distance target.operand word back size ≡ Some aimed → is_some (instruction_of aimed) ≡ true }
 {}

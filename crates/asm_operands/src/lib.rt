@@ -1,6 +1,7 @@
 //! The operands of instructions: tokens become the word that a shape gives them, or the first token at fault.
 #![tactic(auto)]
 
+mod distances;
 mod fault;
 mod faults;
 mod fields;
@@ -13,7 +14,8 @@ mod taking;
 #[cfg(test)]
 mod tests;
 
+pub use distances::{unit_of, with_distance};
 pub use fault::FaultKind;
-pub use laws::first_fault_law;
-pub use operands::{OperandFault, Operands};
+pub use laws::{any_distance_law, first_fault_law};
+pub use operands::{OperandFault, Operands, Target};
 pub use reading::read_operands;

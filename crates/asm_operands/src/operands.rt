@@ -1,13 +1,21 @@
 //! What operands say.
 
 use crate::fault::FaultKind;
-use sm_types::Insn;
+use insn_text::Item;
 
-/// An instruction, and the place among its operands' tokens of the name of its target, where that is a name.
+/// A name in the place of a distance: the place of its token among those of the operands, and the operand whose field is to have the
+/// distance.
+#[derive(Clone, Copy)]
+pub struct Target {
+    pub place: usize,
+    pub operand: Item,
+}
+
+/// The word of an instruction, and its target, where that is a name; the distance is 0 then.
 #[derive(Clone, Copy)]
 pub struct Operands {
-    pub insn: Insn,
-    pub target: Option<usize>,
+    pub word: u32,
+    pub target: Option<Target>,
 }
 
 /// The first token with which no instruction of the name goes on: its place, or that just past the last, and why.

@@ -1,18 +1,17 @@
 //! What the operands after a name say.
 
-ghost use Rattle.std.specs.Prelude.{◌≡◌, ◌-◌, ◌&&◌, length, slice_get, option_map, IfSome};
+ghost use Rattle.std.specs.Prelude.{◌≡◌, ◌-◌, ◌&&◌, length, slice_get, option_and_then, option_map, is_some, IfSome};
 ghost use Rattle.sve_table.specs.Meaning.{instruction_of};
-ghost use Rattle.asm_operands.specs.Operands.{first_word, is_distance, is_distance_item, is_name, is_name_token, target_in, target_of, operands_said};
+ghost use Rattle.asm_operands.specs.Operands.{first_word, is_distance, is_name, is_name_token, names, target_in, target_of, operands_said};
 ghost use Rattle.asm_operands.specs.Views.{said_by};
 
 use crate::faults::operand_fault;
-use crate::operands::{OperandFault, Operands};
+use crate::operands::{OperandFault, Operands, Target};
 use crate::shapes::{items_of, shapes_of};
 use crate::taking::word_in;
 use a64_decode::decode_scalar;
 use asm_tokens::Token;
 use insn_text::{Item, Kind, Shape};
-use sm_types::Insn;
 use sve_decode::decode_vector;
 
 /// Whether the kind is a distance, for which a name may stand.
@@ -52,17 +51,6 @@ fn is_name(token: Token) -> bool
     }
 }
 
-/// Whether there is an operand at the place, and a distance.
-fn is_distance_at(items: &[Item], place: usize) -> bool
-    ensures { result ≡ is_distance_item (slice_get items.now place) }
-{
-    if place < items.len() {
-        is_distance(items[place].kind)
-    } else {
-        false
-    }
-}
-
 /// Whether there is a token at the place, and a name.
 fn is_name_at(tokens: &[Token], place: usize) -> bool
     ensures { result ≡ is_name_token (slice_get tokens.now place) }
@@ -74,24 +62,36 @@ fn is_name_at(tokens: &[Token], place: usize) -> bool
     }
 }
 
-/// The place of the last token, where it is a name for a distance.
-#[tactic(auto, unfolding(crate::specs::Operands::target_in))]
-fn target_in(items: &[Item], tokens: &[Token]) -> Option<usize>
-    ensures { result ≡ target_in items.now tokens.now }
+/// The operand at a place, where it is a distance and its token a name.
+fn named_at(items: &[Item], tokens: &[Token], place: usize) -> Option<Item>
+    ensures { result ≡ option_and_then (names (slice_get tokens.now place)) (slice_get items.now place) }
 {
-    let last = items.len().saturating_sub(1);
-    if is_distance_at(items, last) && is_name_at(tokens, last) {
-        Some(last)
+    if place >= items.len() {
+        None
+    } else if is_distance(items[place].kind) && is_name_at(tokens, place) {
+        Some(items[place])
     } else {
         None
     }
 }
 
-/// The word that tokens say, and the place of the token that names its target.
+/// The last operand with its token, where that is a name for a distance.
+#[tactic(auto, unfolding(crate::specs::Operands::target_in))]
+fn target_in(items: &[Item], tokens: &[Token]) -> Option<Target>
+    ensures { result ≡ target_in items.now tokens.now }
+{
+    let place = items.len().saturating_sub(1);
+    match named_at(items, tokens, place) {
+        Some(operand) => Some(Target { place, operand }),
+        None => None,
+    }
+}
+
+/// The word that tokens say, and its target, where that is a name.
 #[derive(Clone, Copy)]
 pub(crate) struct Said {
     pub(crate) word: u32,
-    pub(crate) target: Option<usize>,
+    pub(crate) target: Option<Target>,
 }
 
 /// What the first shape says that takes the tokens.
@@ -111,32 +111,26 @@ pub(crate) fn first_said(shapes: &[Shape], tokens: &[Token]) -> Option<Said>
     None
 }
 
-/// The instruction that a word means.
+/// Whether a word means an instruction.
 #[tactic(auto, unfolding(sve_table::specs::Meaning::instruction_of))]
-fn instruction(word: u32) -> Option<Insn>
-    ensures { result ≡ instruction_of word }
+fn is_instruction(word: u32) -> bool
+    ensures { result ≡ is_some (instruction_of word) }
 {
-    match decode_scalar(word) {
-        Some(insn) => Some(insn),
-        None => decode_vector(word),
-    }
+    decode_scalar(word).is_some() || decode_vector(word).is_some()
 }
 
-/// What the tokens after a name say: the instruction, with the place of the token that names its target, or the first fault; `name`
-/// is a place of `insn_text::NAMES`.
-#[tactic(auto, unfolding(crate::specs::Operands::operands_said, crate::specs::Operands::insn_said))]
+/// What the tokens after a name say: the word, with the token that names its target, or the first fault; `name` is a place of
+/// `insn_text::NAMES`.
+#[tactic(auto, unfolding(crate::specs::Operands::operands_said, crate::specs::Operands::word_said, crate::specs::Operands::if_meant))]
 pub fn read_operands(name: u16, tokens: &[Token]) -> Result<Operands, OperandFault>
     ensures { said_by result ≡ operands_said name tokens.now }
 {
     let shapes = shapes_of(name);
     match first_said(shapes, tokens) {
-        Some(said) => match instruction(said.word) {
-            Some(insn) => Ok(Operands {
-                insn,
-                target: said.target,
-            }),
-            None => Err(operand_fault(shapes, tokens)),
-        },
-        None => Err(operand_fault(shapes, tokens)),
+        Some(said) if is_instruction(said.word) => Ok(Operands {
+            word: said.word,
+            target: said.target,
+        }),
+        _ => Err(operand_fault(shapes, tokens)),
     }
 }

@@ -34,7 +34,7 @@ fn fault(name: u16, tokens: &[Token]) -> Option<(usize, FaultKind)> {
 
 fn target(name: u16, tokens: &[Token]) -> Option<usize> {
     match read_operands(name, tokens) {
-        Ok(operands) => operands.target,
+        Ok(operands) => operands.target.map(|target| target.place),
         Err(_) => None,
     }
 }

@@ -1,9 +1,9 @@
 -- The tokens of an instruction, one after another, and what they say.
 use Rattle.std.proofs.Common.{◌≡◌, ℕ, suc, ◌+◌, ◌-◌, ◌<◌, List, [], ◌∷◌, ◌++◌, Option, Ok, Err, take, map, slice_get, sym, ap, ◌∙◌, arith, append_assoc}
 use Rattle.std.specs.Prelude.{option_map}
-use Rattle.sm_types.specs.declared.insn.Insn.{Insn}
 use Rattle.asm_tokens.specs.declared.token.Lexeme.{Lexeme}
 use Rattle.asm_tokens.specs.declared.token.Token.{Token}
+use Rattle.asm_operands.specs.declared.operands.Target.{Target}
 use Rattle.asm_operands.specs.Operands as operands
 use Rattle.asm_operands.specs.Operands.{operands_said}
 use Rattle.asm_operands.proofs.Few.{few_operands}
@@ -39,19 +39,19 @@ module _ (line text : List ℕ) (at name column : ℕ) where
   unfolding said_from instruction_says
   all-say said is = ap (λ o. located ls (instruction_or_fault line column ls o)) (sym is)
 
-  first-say : (ts : List Token) (said : operands.OperandsSaid) → ts ≡ take 16 (tokens_of ls) → said ≡ operands_said name ts → said ≡ operands_said name (tokens_of ls)
+  first-say : (ts : List Token) (said : operands.OperandsSaid) → ts ≡ take 24 (tokens_of ls) → said ≡ operands_said name ts → said ≡ operands_said name (tokens_of ls)
   first-say ts said first is = is ∙ ap (operands_said name) first ∙ few_operands name (tokens_of ls)
 
-  pub all-ok : (it : Insn) (target : Option ℕ) → operands.Says it target ≡ operands_said name (tokens_of ls)
-      → said_from (instruction_says line name column) text at ≡ Ok (Instructs it (target_at line ls target) column)
+  pub all-ok : (word : ℕ) (target : Option Target) → operands.Says word target ≡ operands_said name (tokens_of ls)
+      → said_from (instruction_says line name column) text at ≡ Ok (Instructs word (target_at line ls target) column)
   unfolding located
-  all-ok it target is = all-say (operands.Says it target) is
+  all-ok word target is = all-say (operands.Says word target) is
 
-  pub instruction-ok : (ts : List Token) (it : Insn) (target : Option ℕ) → ts ≡ take 16 (tokens_of ls) → operands.Says it target ≡ operands_said name ts
-      → said_from (instruction_says line name column) text at ≡ Ok (Instructs it (target_at line ls target) column)
-  instruction-ok ts it target first is = all-ok it target (first-say ts (operands.Says it target) first is)
+  pub instruction-ok : (ts : List Token) (word : ℕ) (target : Option Target) → ts ≡ take 24 (tokens_of ls) → operands.Says word target ≡ operands_said name ts
+      → said_from (instruction_says line name column) text at ≡ Ok (Instructs word (target_at line ls target) column)
+  instruction-ok ts word target first is = all-ok word target (first-say ts (operands.Says word target) first is)
 
-  pub instruction-err : (ts : List Token) (f : operands.Fault) → ts ≡ take 16 (tokens_of ls) → operands.Fails f ≡ operands_said name ts
+  pub instruction-err : (ts : List Token) (f : operands.Fault) → ts ≡ take 24 (tokens_of ls) → operands.Fails f ≡ operands_said name ts
       → said_from (instruction_says line name column) text at ≡ Err (Fault (option_map (λ (l : Lexeme). l.start) (slice_get ls f.place)) f.kind)
   unfolding located
   instruction-err ts f first is = all-say (operands.Fails f) (first-say ts (operands.Fails f) first is)

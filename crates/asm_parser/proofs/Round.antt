@@ -1,4 +1,4 @@
--- A printed instruction is read as that instruction.
+-- The text of a word is read as that word.
 use Rattle.std.proofs.Common.{◌≡◌, ℕ, ◌+◌, ◌^◌, ◌<◌, Bool, true, false, not, ◌&&◌, ◌||◌, ◌==◌, List, [], ◌∷◌, ◌++◌, Some, None, Ok, length, drop, get_or, slice_get, cond, refl, sym, ap, ◌∙◌, arith, inl, inr, length-append}
 use Rattle.std.specs.List.{list_all, find}
 use Rattle.std.proofs.lemmas.Bool.{and_parts, and_right, not-true, cond-false}
@@ -165,22 +165,22 @@ module _ (word : ℕ) (it : Insn) (lt : word < 2 ^ 32) (p : IsPrinted word) (mea
   first-word : run (drop 0 line) ≡ name
   first-word = run-name name rest good.0 opens-rest
 
-  said : said_from (tokens_say line) line 0 ≡ Ok (Instructs it None 1)
+  said : said_from (tokens_say line) line 0 ≡ Ok (Instructs word None 1)
   unfolding column_at characters
   said =
       let size : 0 + length (run (drop 0 line)) ≡ length name = omega (arith, ap length first-word) in
       named-instruction line line 0 whole (text-some name rest good.0 opens-rest) (plain-begins name rest good.0) place
       (sym (ap directive_of first-word ∙ undotted name (plain_undotted name good.0))) (sym (ap (place_in NAMES) first-word ∙ good.1))
       ∙ ap (λ n. said_from (instruction_says line place (column_at line 0)) line n) size
-      ∙ all-ok line line (length name) place (column_at line 0) it None (sym (own-said word it lt p means) ∙ ap (operands_said place) (sym tokens-shown))
+      ∙ all-ok line line (length name) place (column_at line 0) word None (sym (own-said word it lt p means) ∙ ap (operands_said place) (sym tokens-shown))
 
-  line-said : line_of line ≡ Ok (record { label = None; says = Instructs it None 1 })
+  line-said : line_of line ≡ Ok (record { label = None; says = Instructs word None 1 })
   line-said =
       let labels = no-label name rest good.0 opens-rest (rest-colon word is) in
-      line-ok line line None 0 whole labels.0 labels.1 (Instructs it None 1) said
+      line-ok line line None 0 whole labels.0 labels.1 (Instructs word None 1) said
 
--- an instruction is read from the text in which its word is printed
-pub round : (word : ℕ) (it : Insn) → MeansEither word it → line_of (text_of word) ≡ Ok (record { label = None; says = Instructs it None 1 })
+-- the word of an instruction is read from the text in which it is printed
+pub round : (word : ℕ) (it : Insn) → MeansEither word it → line_of (text_of word) ≡ Ok (record { label = None; says = Instructs word None 1 })
 unfolding text_of text_of_shape shape_text
 round word it m =
     let w = instruction_is word it m in

@@ -2,6 +2,7 @@
 -- Source: this project's own assembly language, with the directives of the GNU assembler.
 use Rattle.std.specs.Prelude.{ℕ, ◌+◌, ◌-◌, ◌^◌, Bool, true, false, not, ◌&&◌, ◌==◌, nat_le, List, [], ◌∷◌, length, take, drop, map, slice_get, slice_index, Option, Some, None, Result, Ok, Err, codes, if◌then◌else◌, option_map}
 use Rattle.std.specs.Str.{bytes_eq}
+use Rattle.insn_text.specs.declared.item.Item.{Item}
 use Rattle.insn_text.specs.declared.words.TheConstants.{NAMES}
 use Rattle.asm_tokens.specs.declared.token.Token.{Token}
 use Rattle.asm_tokens.specs.declared.token.Token.TheVariants.{Word, Name, Number, Distance, Bare, Malformed, Mark, Other}
@@ -11,10 +12,11 @@ use Rattle.asm_tokens.specs.Tokens.{run, lexemes_of, place_in}
 use Rattle.asm_operands.specs.declared.fault.FaultKind.{FaultKind}
 use Rattle.asm_operands.specs.declared.fault.FaultKind.TheVariants.{UnknownName, BadNumber, Extra, BadOperand}
 use Rattle.asm_operands.specs.Operands.{OperandsSaid, operands_said, is_name, is_number_token}
+use Rattle.asm_operands.specs.declared.operands.Target.{Target}
 use Rattle.asm_operands.specs.Operands as operands
 use Rattle.asm_parser.specs.declared.line.LineFault.{LineFault}
 use Rattle.asm_parser.specs.declared.line.LineFault.TheVariants as fault
-use Rattle.asm_parser.specs.Statements.{QuadValue, IsNumber, IsAddressOf, Says, Nothing, IntoText, IntoData, Quads, Words, Bytes, Zeros, Aligns, Globals, Instructs, SourceLine}
+use Rattle.asm_parser.specs.Statements.{QuadValue, IsNumber, IsAddressOf, TargetSaid, Says, Nothing, IntoText, IntoData, Quads, Words, Bytes, Zeros, Aligns, Globals, Instructs, SourceLine}
 
 -- the bytes of a token of the line
 unfoldable pub text_of_lexeme : List ℕ → Lexeme → List ℕ
@@ -133,17 +135,17 @@ directive_says line GlobalDirective ls = and_then Globals (one_name line ls)
 
 -- ---- instructions
 
--- the name of the target, from the place of its token
-abbrev pub target_name : List ℕ → Option Lexeme → Option (List ℕ)
-target_name line None = None
-target_name line (Some l) = Some (text_of_lexeme line l)
+-- the target, from the place of its token
+abbrev pub target_named : List ℕ → Item → Option Lexeme → Option TargetSaid
+target_named line i None = None
+target_named line i (Some l) = Some (record { name = text_of_lexeme line l; operand = i })
 
-abbrev pub target_at : List ℕ → List Lexeme → Option ℕ → Option (List ℕ)
+abbrev pub target_at : List ℕ → List Lexeme → Option Target → Option TargetSaid
 target_at line ls None = None
-target_at line ls (Some place) = target_name line (slice_get ls place)
+target_at line ls (Some target) = target_named line target.operand (slice_get ls target.place)
 
 abbrev pub instruction_or_fault : List ℕ → ℕ → List Lexeme → OperandsSaid → Answer Says
-instruction_or_fault line column ls (operands.Says it target) = Tells (Instructs it (target_at line ls target) column)
+instruction_or_fault line column ls (operands.Says word target) = Tells (Instructs word (target_at line ls target) column)
 instruction_or_fault line column ls (operands.Fails f) = Stops f.place f.kind
 
 -- what an instruction says, whose name stands at that place of the table of names and at that column

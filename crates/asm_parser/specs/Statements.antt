@@ -1,10 +1,11 @@
 -- What a line of a source says: its label, and a directive or an instruction.
 -- Source: this project's own assembly language, with the directives of the GNU assembler.
 use Rattle.std.specs.Prelude.{ℕ, List, Option, map, option_map}
-use Rattle.sm_types.specs.declared.insn.Insn.{Insn}
+use Rattle.insn_text.specs.declared.item.Item.{Item}
 use Rattle.asm_parser.specs.declared.line.Line.{Line}
 use Rattle.asm_parser.specs.declared.line.Statement.{Statement}
 use Rattle.asm_parser.specs.declared.line.Statement.TheVariants as statement
+use Rattle.asm_parser.specs.declared.line.Target.{Target}
 use Rattle.asm_parser.specs.declared.line.Value.{Value}
 use Rattle.asm_parser.specs.declared.line.Value.TheVariants as value
 
@@ -12,6 +13,11 @@ use Rattle.asm_parser.specs.declared.line.Value.TheVariants as value
 pub data QuadValue : Type 0 where
   IsNumber : ℕ → QuadValue
   IsAddressOf : List ℕ → QuadValue
+
+-- the name of an instruction's target, and the operand that is to have the distance to it
+pub record TargetSaid : Type 0 where
+  pub name : List ℕ
+  pub operand : Item
 
 pub data Says : Type 0 where
   -- nothing
@@ -29,8 +35,8 @@ pub data Says : Type 0 where
   Aligns : ℕ → Says
   -- a name that is to be seen from outside, which has no effect
   Globals : List ℕ → Says
-  -- an instruction, the name of its target where that is a name, and the column of the instruction's name
-  Instructs : Insn → Option (List ℕ) → ℕ → Says
+  -- an instruction's word, its target where that is a name, the distance in the word being 0 then, and the column of the instruction's name
+  Instructs : ℕ → Option TargetSaid → ℕ → Says
 
 pub record SourceLine : Type 0 where
   pub label : Option (List ℕ)
@@ -40,6 +46,9 @@ pub record SourceLine : Type 0 where
 abbrev pub value_of : Value → QuadValue
 value_of (value.Number n) = IsNumber n
 value_of (value.Name name) = IsAddressOf name.now
+
+abbrev pub target_said : Target → TargetSaid
+target_said target = record { name = target.name.now; operand = target.operand }
 
 abbrev pub says_of : Statement → Says
 says_of statement.Empty = Nothing
@@ -51,7 +60,7 @@ says_of (statement.Byte values) = Bytes values.items
 says_of (statement.Zero count) = Zeros count
 says_of (statement.Align power) = Aligns power
 says_of (statement.Global name) = Globals name.now
-says_of (statement.Instruction insn target column) = Instructs insn (option_map (λ name. name.now) target) column
+says_of (statement.Instruction word target column) = Instructs word (option_map target_said target) column
 
 abbrev pub line_said : Line → SourceLine
 line_said line = record { label = option_map (λ name. name.now) line.label; says = says_of line.statement }

@@ -3,23 +3,23 @@ ghost use Rattle.std.specs.Prelude.{◌≡◌, ◌<◌, ◌≤◌, ◌-◌, ◌^
 ghost use Rattle.asm_tokens.specs.Characters.{column_at};
 ghost use Rattle.asm_tokens.specs.Tokens.{lexemes_of};
 ghost use Rattle.asm_parser.specs.Lines.{instruction_says, target_at};
-ghost use Rattle.asm_parser.specs.Statements.{says_of};
+ghost use Rattle.asm_parser.specs.Statements.{says_of, target_said};
 ghost use Rattle.asm_parser.specs.Told.{said_from, Shows, lexemes_from};
 
-use crate::line::Statement;
+use crate::line::{Statement, Target};
 use crate::stops::Stop;
 use arrayvec::ArrayVec;
 use asm_operands::{OperandFault, read_operands};
 use asm_tokens::{Lexeme, Token, column_at, next_lexeme};
 
-/// The first tokens, at most 16.
-fn first_tokens(text: &[u8], at: usize) -> ArrayVec<Token, 16>
+/// The first tokens, at most 24.
+fn first_tokens(text: &[u8], at: usize) -> ArrayVec<Token, 24>
     requires { at ≤ length text.now }
-    ensures { result.items ≡ take 16 (map (λ l. l.token) (lexemes_from text.now at)) }
+    ensures { result.items ≡ take 24 (map (λ l. l.token) (lexemes_from text.now at)) }
 {
     let mut tokens = ArrayVec::new();
     let mut from = at;
-    for count in 0..16usize {
+    for count in 0..24usize {
         match next_lexeme(text, from) {
             None => return tokens,
             Some(lexeme) => {
@@ -48,18 +48,26 @@ fn lexeme_after(text: &[u8], at: usize, count: usize) -> Option<Lexeme>
     next_lexeme(text, from)
 }
 
-/// The name of the target, from the place of its token.
+/// The target, from the place of its token.
 #[tactic(auto, unfolding(crate::specs::Lines::text_of_lexeme))]
-fn target_at<'a>(line: &'a [u8], text: &[u8], at: usize, place: Option<usize>) -> Option<&'a [u8]>
+fn target_at<'a>(
+    line: &'a [u8],
+    text: &[u8],
+    at: usize,
+    named: Option<asm_operands::Target>,
+) -> Option<Target<'a>>
     requires within { at ≤ length text.now }
     requires part { length text.now ≤ length line.now }
-    ensures { option_map (λ name. name.now) result ≡ target_at line.now (lexemes_from text.now at) place }
+    ensures { option_map target_said result ≡ target_at line.now (lexemes_from text.now at) named }
 {
-    match place {
+    match named {
         None => None,
-        Some(place) => match lexeme_after(text, at, place) {
+        Some(named) => match lexeme_after(text, at, named.place) {
             None => None,
-            Some(lexeme) => Some(&line[lexeme.start..lexeme.end]),
+            Some(lexeme) => Some(Target {
+                name: &line[lexeme.start..lexeme.end],
+                operand: named.operand,
+            }),
         },
     }
 }
@@ -96,7 +104,7 @@ pub fn instruction_says<'a>(
     let tokens = first_tokens(text, at);
     match read_operands(name, tokens.as_slice()) {
         Ok(operands) => Ok(Statement::Instruction {
-            insn: operands.insn,
+            word: operands.word,
             target: target_at(line, text, at, operands.target),
             column: column_at(line, start),
         }),

@@ -6,7 +6,7 @@ ghost use Rattle.insn_text.specs.Texts.{text_of};
 ghost use Rattle.asm_parser.specs.Lines.{line_of};
 ghost use Rattle.asm_parser.specs.Statements.{Instructs};
 
-/// An instruction is read from the text in which its word is printed.
+/// The word of an instruction is read from the text in which it is printed.
 pub fn printed_is_read()
-    ensures { (word : ℕ) (it : Insn) → MeansEither word it → line_of (text_of word) ≡ Ok (record { label = None; says = Instructs it None 1 }) }
+    ensures { (word : ℕ) (it : Insn) → MeansEither word it → line_of (text_of word) ≡ Ok (record { label = None; says = Instructs word None 1 }) }
 {}

@@ -13,5 +13,5 @@ mod stops;
 mod tests;
 
 pub use laws::printed_is_read;
-pub use line::{Line, LineFault, Statement, Value};
+pub use line::{Line, LineFault, Statement, Target, Value};
 pub use parsing::{parse_bytes, parse_line};

@@ -1,6 +1,6 @@
 //! What a line of a source says.
 
-use sm_types::Insn;
+use insn_text::Item;
 
 /// A value of `.quad`.
 #[derive(Clone, Copy)]
@@ -8,6 +8,13 @@ pub enum Value<'a> {
     Number(u64),
     /// The address of the label of this name.
     Name(&'a [u8]),
+}
+
+/// A target of an instruction: its name, and the operand whose field is to have the distance to it.
+#[derive(Clone, Copy)]
+pub struct Target<'a> {
+    pub name: &'a [u8],
+    pub operand: Item,
 }
 
 /// What stands on a line after its label.
@@ -31,10 +38,11 @@ pub enum Statement<'a> {
     Align(u8),
     /// `.global NAME`, which has no effect.
     Global(&'a [u8]),
-    /// An instruction, the name of its target where that is a name, whose distance then is 0, and the column of the instruction's name.
+    /// An instruction's word, its target where that is a name, the distance in the word being 0 then, and the column of the
+    /// instruction's name.
     Instruction {
-        insn: Insn,
-        target: Option<&'a [u8]>,
+        word: u32,
+        target: Option<Target<'a>>,
         column: u32,
     },
 }

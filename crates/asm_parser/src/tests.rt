@@ -60,7 +60,7 @@ fn a_label_and_an_instruction(rt: HostRuntime) -> Result<(), Fail> {
             assert!(rt; line.label == None);
             match line.statement {
                 Statement::Instruction { target, column, .. } => {
-                    assert!(rt; target == Some(b"done".as_slice()));
+                    assert!(rt; target.map(|target| target.name) == Some(b"done".as_slice()));
                     assert_eq!(rt; column, 2);
                 }
                 _ => assert!(rt; false),

@@ -1,6 +1,7 @@
-//! Reads files of instruction words and of single steps, as other tools give them, and tells of each line whether the
-//! emulator agrees: the words of the first file mean instructions, each of which has that word; those of the second
-//! mean none; and a step of each line of the third gives what the line says.
+//! Reads files of instruction words, of texts and of single steps, as other tools give them, and tells of each line whether the
+//! emulator agrees: the words of the first file mean instructions, each of which has that word and that text; each text of the
+//! second is read as its word, and is printed exactly where the line says so; the words of the third mean none; and a step of each
+//! line of the fourth gives what the line says. A line that it cannot read is shown as one that differs.
 #![tactic(auto)]
 
 mod case;
@@ -9,20 +10,22 @@ mod pages;
 mod words;
 
 use crate::case::check_steps;
-use crate::words::{check_no_row, check_words};
+use crate::words::{check_no_row, check_texts, check_words};
 use anyhow::{Context, Result};
 use std::{env, fs};
 
 fn main(rt: HostRuntime) -> Result<()> {
     let names: Vec<String> = env::args(&rt)?.skip(1).collect(rt.alloc())?;
-    let [words_name, no_row_name, steps_name] = names.as_slice() else {
-        println!(rt; "usage: WORDS NO_ROW STEPS")?;
+    let [words_name, texts_name, no_row_name, steps_name] = names.as_slice() else {
+        println!(rt; "usage: WORDS TEXTS NO_ROW STEPS")?;
         return Ok(());
     };
     let words = fs::read_to_string(&rt, words_name.as_str()).context("the words")?;
+    let texts = fs::read_to_string(&rt, texts_name.as_str()).context("the texts")?;
     let no_row = fs::read_to_string(&rt, no_row_name.as_str()).context("the words of no row")?;
     let steps = fs::read_to_string(&rt, steps_name.as_str()).context("the steps")?;
     check_words(&rt, words.as_str())?;
+    check_texts(&rt, texts.as_str())?;
     check_no_row(&rt, no_row.as_str())?;
     check_steps(&rt, rt.alloc(), steps.as_str())
 }

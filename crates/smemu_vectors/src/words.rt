@@ -33,13 +33,13 @@ fn is_text_of(word: u32, text: &str) -> bool {
 }
 
 /// Tells whether the statement is an instruction of that word.
-fn is_instruction_of(word: u32, statement: &Statement<'_>) -> bool {
+fn is_instruction_of(wanted: u32, statement: &Statement<'_>) -> bool {
     match statement {
         Statement::Instruction {
-            insn,
+            word,
             target: None,
             ..
-        } => encode(insn) == Some(word),
+        } => *word == wanted,
         _ => false,
     }
 }
@@ -55,14 +55,38 @@ fn is_word_of(alloc: Global, text: &str, word: u32) -> bool {
     }
 }
 
-/// Tells whether the line is a word that means an instruction whose word it is, and its text, from which the word is read.
+/// Tells whether the word means an instruction whose word it is, and whether the text is its text, from which the word is read.
+fn is_printed_as(alloc: Global, word: u32, text: &str) -> bool {
+    round_trips(word) && is_text_of(word, text) && is_word_of(alloc, text, word)
+}
+
+/// Tells whether the word means an instruction whose word it is, and whether it is read from the text, which is not its text.
+fn has_alias(alloc: Global, word: u32, text: &str) -> bool {
+    round_trips(word) && !is_text_of(word, text) && is_word_of(alloc, text, word)
+}
+
+/// Tells whether the line is a word and its text.
 fn agrees(alloc: Global, line: &str) -> bool {
-    let Some((_, text)) = line.split_once('\t') else {
-        return false;
-    };
-    match word_of(line) {
-        Some(word) => round_trips(word) && is_text_of(word, text) && is_word_of(alloc, text, word),
-        None => false,
+    match (word_of(line), line.split_once('\t')) {
+        (Some(word), Some((_, text))) => is_printed_as(alloc, word, text),
+        _ => false,
+    }
+}
+
+/// The sorts of a text: that in which a word is printed, and one that is read alone.
+#[derive(Drop)]
+enum Sort {
+    Printed,
+    Alias,
+}
+
+/// The sort that a line names, and its text.
+fn sorted_text(line: &str) -> Option<(Sort, &str)> {
+    let (_, rest) = line.split_once('\t')?;
+    match rest.split_once('\t')? {
+        ("printed", text) => Some((Sort::Printed, text)),
+        ("alias", text) => Some((Sort::Alias, text)),
+        _ => None,
     }
 }
 
@@ -83,6 +107,26 @@ pub fn check_words<R: Print + AllocGlobal>(rt: &R, text: &str) -> Result<()> {
         }
     }
     println!(rt; "words and texts, both ways: {agree} agree")?;
+    Ok(())
+}
+
+/// Prints each line of a word, `printed` or `alias`, and a text, where the word means no instruction, or one with another word; where the text is
+/// read as another word; and where it is printed and should not be, or the other way round. Prints how many of both sorts agree.
+pub fn check_texts<R: Print + AllocGlobal>(rt: &R, text: &str) -> Result<()> {
+    let mut printed = 0u64;
+    let mut aliases = 0u64;
+    for line in text.lines() {
+        match (word_of(line), sorted_text(line)) {
+            (Some(word), Some((Sort::Printed, text))) if is_printed_as(rt.alloc(), word, text) => {
+                printed = printed.saturating_add(1);
+            }
+            (Some(word), Some((Sort::Alias, text))) if has_alias(rt.alloc(), word, text) => {
+                aliases = aliases.saturating_add(1);
+            }
+            _ => println!(rt; "DIFFERS: {line}")?,
+        }
+    }
+    println!(rt; "texts: {printed} agree both ways, {aliases} aliases are read")?;
     Ok(())
 }
 

@@ -1,7 +1,7 @@
 use Rattle.std.proofs.Common.{◌≡◌, ◌+◌, ◌++◌, ◌≤◌, length, map, replicate, refl, ap, ◌∙◌, subst, arith}
 use Rattle.std.specs.Prelude.{option_map}
 use Rattle.std.proofs.lemmas.Result.{on_ok_weaker}
-use Rattle.asm_parser.specs.Statements.{value_of, Aligns, Globals, Nothing, IntoText, IntoData}
+use Rattle.asm_parser.specs.Statements.{target_said, value_of, Aligns, Globals, Nothing, IntoText, IntoData}
 use Rattle.asm_core.specs.Layout.{here, size_of, address_in}
 use Rattle.asm_core.specs.Assembly.{quad_number, numbers_bytes, aimed}
 use Rattle.asm_core.specs.Emitted.{IsPiece, IsWordAfter}
@@ -19,14 +19,14 @@ pub returns-in-Instruction-clause-bytes : goal.returns-in-Instruction-clause-byt
 returns-in-Instruction-clause-bytes c = λ list knows.
     let T = c.args.addresses.now.text_size in
     let p = c.args.place.now in
-    let it = c.in-Instruction.insn in
-    let name = option_map (λ name. name.now) c.in-Instruction.target in
+    let word = c.in-Instruction.word in
+    let target = option_map target_said c.in-Instruction.target in
     let from : c.address_in-from.result ≡ address_in T p.part (here p) = c.address_in-from.ensures.value ∙ ap (address_in T p.part) c.here.ensures in
     rw c.in-Instruction.is
     (on_ok_weaker c.put_instruction.result
-    (λ (h : IsWordAfter (aimed T list c.address_in-from.result it name) c.args.bytes.now.items c.put_instruction.new.bytes.items).
-    adds_word T list p it name c.in-Instruction.column c.args.bytes.now.items c.put_instruction.new.bytes.items
-    (subst (λ n. IsWordAfter (aimed T list n it name) c.args.bytes.now.items c.put_instruction.new.bytes.items) from h))
+    (λ (h : IsWordAfter (aimed T list c.address_in-from.result word target) c.args.bytes.now.items c.put_instruction.new.bytes.items).
+    adds_word T list p word target c.in-Instruction.column c.args.bytes.now.items c.put_instruction.new.bytes.items
+    (subst (λ n. IsWordAfter (aimed T list n word target) c.args.bytes.now.items c.put_instruction.new.bytes.items) from h))
     (c.put_instruction.ensures.bytes list knows))
 
 pub returns-in-Quad-clause-bytes : goal.returns-in-Quad-clause-bytes

@@ -7,7 +7,7 @@ pub returns-in-Ok : goal.returns-in-Ok
 returns-in-Ok c =
     rw (c.target_at.ensures, c.column_at.ensures)
     (instruction-ok c.args.line.now c.args.text.now c.args.at c.args.name (column_at c.args.line.now c.args.start) c.as_slice.result.now
-    c.in-Ok.operands.insn c.in-Ok.operands.target (c.as_slice.ensures.value ∙ c.first_tokens-tokens.ensures) c.in-Ok.ensures)
+    c.in-Ok.operands.word c.in-Ok.operands.target (c.as_slice.ensures.value ∙ c.first_tokens-tokens.ensures) c.in-Ok.ensures)
 
 pub returns-in-Err : goal.returns-in-Err
 returns-in-Err c =

@@ -1,0 +1,350 @@
+-- A word whose target is named means an instruction with each distance that its operand can hold.
+use Rattle.std.proofs.Common.{◌≡◌, ℕ, zero, suc, ◌+◌, ◌-◌, ◌*◌, ◌/◌, ◌%◌, ◌^◌, ◌<◌, ◌==◌, ◌&&◌, ◌||◌, not, Bool, true, false, cond, bit_and, min, max, List, [], ◌∷◌, length, take, drop, slice_get, Option, Some, None, refl, sym, ap, ap₂, ◌∙◌, subst, arith, eqb-true, eq-eqb, inl, inr}
+use Rattle.std.specs.Prelude.{bit_or, is_some, option_map, option_and_then, slice_index}
+use Rattle.std.specs.Option.{option_or}
+use Rattle.std.specs.Int.{bit_at}
+use Rattle.std.specs.List.{list_all}
+use Rattle.std.proofs.lemmas.Bool.{and_parts, cases_Bool}
+use Rattle.std.proofs.lemmas.Nat.{or_disjoint, shl-shr}
+use Rattle.std.proofs.lemmas.Nat.Bits.{bit_at_and, bit_at_or, bit_at-lt, bit_at-zero, same_from_bits}
+use Rattle.a64_table.specs.declared.rows.Row.{Row}
+use Rattle.a64_table.specs.declared.rows.Group.{Group}
+use Rattle.a64_table.specs.declared.rows.Group.TheVariants.{G1, G2, G3, G4, G5, G6, G7, G8, G9, G10, G11, G12, G13, G14, G15, G16, G17, G18, G19, G20, G21, G22, G23}
+use Rattle.a64_table.specs.declared.rows.TheConstants.{SCALAR_ROWS}
+use Rattle.a64_table.specs.Conditions.{fits_of}
+use Rattle.a64_table.specs.Meaning.{meaning_in, meaning_of, stands_for}
+use Rattle.sm_types.specs.declared.insn.Insn.{Insn}
+use Rattle.sve_table.specs.declared.rows.TheConstants.{VECTOR_ROWS}
+use Rattle.sve_table.specs.Meaning.{vector_meaning_of, instruction_of}
+use Rattle.insn_text.specs.declared.item.Item.{Item}
+use Rattle.insn_text.specs.declared.item.Shape.{Shape}
+use Rattle.insn_text.specs.declared.shapes.TheConstants.{SHAPES, STARTS}
+use Rattle.insn_text.specs.Texts.{items_of, bits_of}
+use Rattle.asm_tokens.specs.declared.token.Token.{Token}
+use Rattle.asm_tokens.specs.declared.token.Token.TheVariants.{Distance}
+use Rattle.asm_operands.specs.Fields.{field_said}
+use Rattle.asm_operands.specs.declared.operands.Target.{Target}
+use Rattle.asm_operands.specs.Operands.{Known, mask_of, placed, with_field, agrees, known_with, known_after, taken_on, taken, fixed, word_in, shapes_of, first_of_words, first_word, is_distance, names, is_name_token, target_in, target_of, if_meant, word_said, operand_fault, OperandsSaid, Says, Fails, said_or, operands_said}
+use Rattle.asm_operands.specs.Distances.{with_distance}
+use Rattle.asm_operands.specs.Sound.{is_sound}
+use Rattle.asm_operands.proofs.Tables.{all-take, all-drop, items_of-sound}
+use Rattle.asm_operands.proofs.WordBits.{and_swap, upper_mask, lower_mask, field_masked}
+
+-- ---- the word of a shape has the bits that the shape fixes
+
+some_is : {A : Type 0} (a b : A) → ◌≡◌ {A = Option A} (Some a) (Some b) → a ≡ b
+some_is a b e = cc
+
+kept_bit : (w a k p o : ℕ) → w < 2 → a < 2 → k < 2 → p < 2 → o < 2 → min a o ≡ min p k → min w (max k o) ≡ min (max a p) (max k o) → min w k ≡ min a k
+kept_bit w a k p o wl al kl pl ol e f = omega arith
+
+bits_kept : (w a k p o : ℕ) → bit_and a o ≡ bit_and p k → bit_and w (bit_or k o) ≡ bit_and (bit_or a p) (bit_or k o) → bit_and w k ≡ bit_and a k
+bits_kept w a k p o e f = same_from_bits _ _ (λ i.
+    let agreed : min (bit_at a i) (bit_at o i) ≡ min (bit_at p i) (bit_at k i) = sym (bit_at_and a o i) ∙ ap (λ n. bit_at n i) e ∙ bit_at_and p k i in
+    let after : min (bit_at w i) (max (bit_at k i) (bit_at o i)) ≡ min (max (bit_at a i) (bit_at p i)) (max (bit_at k i) (bit_at o i)) =
+    sym (bit_at_and w (bit_or k o) i ∙ ap (min (bit_at w i)) (bit_at_or k o i)) ∙ ap (λ n. bit_at n i) f
+    ∙ bit_at_and (bit_or a p) (bit_or k o) i ∙ ap₂ min (bit_at_or a p i) (bit_at_or k o i) in
+    bit_at_and w k i
+    ∙ kept_bit (bit_at w i) (bit_at a i) (bit_at k i) (bit_at p i) (bit_at o i) (bit_at-lt w i) (bit_at-lt a i) (bit_at-lt k i) (bit_at-lt p i) (bit_at-lt o i) agreed after
+    ∙ sym (bit_at_and a k i))
+
+-- the word has the bits that are known
+abbrev Keeps : ℕ → Known → Type 0
+Keeps w known = bit_and w known.mask ≡ bit_and known.value known.mask
+
+kept_by : (i : Item) (known next : Known) (field w : ℕ) (b : Bool) → agrees i known field ≡ b → ◌≡◌ {A = Option Known} (cond b (Some (with_field i known field)) None) (Some next) → Keeps w next → Keeps w known
+unfolding agrees with_field
+kept_by i known next field w true a e h =
+    let same = some_is (with_field i known field) next e in
+    let parts = and_parts (bit_and known.value (mask_of i) == bit_and (placed i field) known.mask) _ a in
+    bits_kept w known.value known.mask (placed i field) (mask_of i) (eqb-true _ _ parts.0) (subst (λ (k : Known). Keeps w k) (sym same) h)
+kept_by i known next field w false a e h = cc
+
+kept_with : (i : Item) (known next : Known) (o : Option ℕ) (w : ℕ) → known_with i known o ≡ Some next → Keeps w next → Keeps w known
+unfolding known_with
+kept_with i known next None w e h = cc
+kept_with i known next (Some field) w e h = kept_by i known next field w (agrees i known field) refl e h
+
+kept_after : (i : Item) (known next : Known) (t : Token) (w : ℕ) → known_after i known t ≡ Some next → Keeps w next → Keeps w known
+unfolding known_after
+kept_after i known next t w e h = kept_with i known next (field_said i.kind (bits_of i) t) w e h
+
+taken_kept : (is : List Item) (known : Known) (ts : List Token) (w : ℕ) → taken is known ts ≡ Some w → Keeps w known
+unfolding taken
+taken_kept [] known [] w e = ap (λ v. bit_and v known.mask) (sym (some_is known.value w e))
+taken_kept [] known (t ∷ ts) w e = cc
+taken_kept (i ∷ is) known [] w e = cc
+taken_kept (i ∷ is) known (t ∷ ts) w e =
+    elim (known_after i known t) as (λ o. known_after i known t ≡ o → taken_on (λ next. taken is next ts) o ≡ Some w → Keeps w known) [
+      | None ↦ λ is_none h. cc
+      | Some next ↦ λ is_next h. kept_after i known next t w is_next (taken_kept is next ts w h)
+    ] refl e
+
+word_kept : (s : Shape) (ts : List Token) (w : ℕ) → word_in s ts ≡ Some w → bit_and w s.mask ≡ bit_and s.value s.mask
+unfolding word_in fixed
+word_kept s ts w e = taken_kept (items_of s) (fixed s) ts w e
+
+-- ---- a field lies in its mask
+
+no_bit : (a u b l : ℕ) → a < 2 → u < 2 → b < 2 → l < 2 → min u l ≡ 0 → min (min a u) (min b l) ≡ 0
+no_bit a u b l al ul bl ll e = omega arith
+
+and_none : (a u b l : ℕ) → bit_and u l ≡ 0 → bit_and (bit_and a u) (bit_and b l) ≡ 0
+and_none a u b l e = same_from_bits _ _ (λ i.
+    let none : min (bit_at u i) (bit_at l i) ≡ 0 = sym (bit_at_and u l i) ∙ ap (λ n. bit_at n i) e ∙ bit_at-zero i in
+    bit_at_and (bit_and a u) (bit_and b l) i ∙ ap₂ min (bit_at_and a u i) (bit_at_and b l i)
+    ∙ no_bit (bit_at a i) (bit_at u i) (bit_at b i) (bit_at l i) (bit_at-lt a i) (bit_at-lt u i) (bit_at-lt b i) (bit_at-lt l i) none ∙ sym (bit_at-zero i))
+
+clear_bit : (a u b l m : ℕ) → a < 2 → u < 2 → b < 2 → l < 2 → m < 2 → min m (max u l) ≡ 0 → min (max (min a u) (min b l)) m ≡ 0
+clear_bit a u b l m al ul bl ll ml e = omega arith
+
+and_clear : (a u b l m : ℕ) → bit_and m (bit_or u l) ≡ 0 → bit_and (bit_or (bit_and a u) (bit_and b l)) m ≡ 0
+and_clear a u b l m e = same_from_bits _ _ (λ i.
+    let none : min (bit_at m i) (max (bit_at u i) (bit_at l i)) ≡ 0 = sym (bit_at_and m (bit_or u l) i ∙ ap (min (bit_at m i)) (bit_at_or u l i)) ∙ ap (λ n. bit_at n i) e ∙ bit_at-zero i in
+    bit_at_and (bit_or (bit_and a u) (bit_and b l)) m i
+    ∙ ap (λ n. min n (bit_at m i)) (bit_at_or (bit_and a u) (bit_and b l) i ∙ ap₂ max (bit_at_and a u i) (bit_at_and b l i))
+    ∙ clear_bit (bit_at a i) (bit_at u i) (bit_at b i) (bit_at l i) (bit_at m i) (bit_at-lt a i) (bit_at-lt u i) (bit_at-lt b i) (bit_at-lt l i) (bit_at-lt m i) none
+    ∙ sym (bit_at-zero i))
+
+part_masked : (x n k : ℕ) → x % 2 ^ n * 2 ^ k ≡ bit_and (x * 2 ^ k) ((2 ^ n - 1) * 2 ^ k)
+part_masked x n k = ap (λ y. y % 2 ^ n * 2 ^ k) (sym (shl-shr x k)) ∙ field_masked (x * 2 ^ k) n k
+
+placed_clear : (i : Item) (field mask : ℕ) → bit_and (upper_mask i) (lower_mask i) ≡ 0 → bit_and mask (mask_of i) ≡ 0 → bit_and (placed i field) mask ≡ 0
+unfolding placed mask_of
+placed_clear i field mask apart clear =
+    let a = field / 2 ^ i.width * 2 ^ i.upper_low in
+    let b = field * 2 ^ i.low in
+    let joined : bit_and mask (bit_or (upper_mask i) (lower_mask i)) ≡ 0 = ap (bit_and mask) (or_disjoint (upper_mask i) (lower_mask i) apart) ∙ clear in
+    ap (λ n. bit_and n mask)
+    (ap₂ (λ x y. x + y) (part_masked (field / 2 ^ i.width) i.upper_width i.upper_low) (part_masked field i.width i.low)
+    ∙ sym (or_disjoint (bit_and a (upper_mask i)) (bit_and b (lower_mask i)) (and_none a (upper_mask i) b (lower_mask i) apart)))
+    ∙ and_clear a (upper_mask i) b (lower_mask i) mask joined
+
+same_bit : (w p m : ℕ) → w < 2 → p < 2 → m < 2 → min p m ≡ 0 → min (max w p) m ≡ min w m
+same_bit w p m wl pl ml e = omega arith
+
+or_clear : (w p m : ℕ) → bit_and p m ≡ 0 → bit_and (bit_or w p) m ≡ bit_and w m
+or_clear w p m e = same_from_bits _ _ (λ i.
+    let none : min (bit_at p i) (bit_at m i) ≡ 0 = sym (bit_at_and p m i) ∙ ap (λ n. bit_at n i) e ∙ bit_at-zero i in
+    bit_at_and (bit_or w p) m i ∙ ap (λ n. min n (bit_at m i)) (bit_at_or w p i)
+    ∙ same_bit (bit_at w i) (bit_at p i) (bit_at m i) (bit_at-lt w i) (bit_at-lt p i) (bit_at-lt m i) none ∙ sym (bit_at_and w m i))
+
+-- ---- the rows of the words of a shape leave room for its distance, and have no condition
+
+unfoldable pub is_free : Group → Bool
+is_free G9 = true
+is_free G10 = true
+is_free G19 = true
+is_free group = false
+
+free_fits : (group : Group) → is_free group ≡ true → (word : ℕ) → fits_of group word ≡ true
+unfolding is_free fits_of
+free_fits G1 e word = cc
+free_fits G2 e word = cc
+free_fits G3 e word = cc
+free_fits G4 e word = cc
+free_fits G5 e word = cc
+free_fits G6 e word = cc
+free_fits G7 e word = cc
+free_fits G8 e word = cc
+free_fits G9 e word = refl
+free_fits G10 e word = refl
+free_fits G11 e word = cc
+free_fits G12 e word = cc
+free_fits G13 e word = cc
+free_fits G14 e word = cc
+free_fits G15 e word = cc
+free_fits G16 e word = cc
+free_fits G17 e word = cc
+free_fits G18 e word = cc
+free_fits G19 e word = refl
+free_fits G20 e word = cc
+free_fits G21 e word = cc
+free_fits G22 e word = cc
+free_fits G23 e word = cc
+
+-- no word of the row is one of the shape, or the row has no bit of the field, and no condition
+unfoldable pub leaves_room : Item → Shape → Row → Bool
+leaves_room i s row = not (bit_and row.value s.mask == bit_and (bit_and s.value s.mask) row.mask) || ((bit_and row.mask (mask_of i) == 0) && is_free row.group)
+
+unfoldable pub has_room : Shape → Item → Bool
+has_room s i = not (is_distance i.kind) || ((bit_and (upper_mask i) (lower_mask i) == 0) && (list_all (leaves_room i s) SCALAR_ROWS && list_all (leaves_room i s) VECTOR_ROWS))
+
+unfoldable pub all_room : Shape → Bool
+all_room s = list_all (has_room s) (items_of s)
+
+shapes_room : list_all all_room SHAPES ≡ true
+unfolding items_of mask_of is_distance is_free leaves_room has_room all_room
+shapes_room = refl
+
+when_true : (a b : Bool) → a ≡ true → (not a || b) ≡ true → b ≡ true
+when_true true b e h = h
+when_true false b e h = cc
+
+both_true : (a b : Bool) → a ≡ true → b ≡ true → (a && b) ≡ true
+both_true a b p q = ap₂ (λ x y. x && y) p q
+
+module _ (i : Item) (s : Shape) (ts : List Token) (w field : ℕ) (said : word_in s ts ≡ Some w) (apart : bit_and (upper_mask i) (lower_mask i) ≡ 0) where
+  abbrev aimed : ℕ
+  aimed = bit_or w (placed i field)
+
+  row_stands : (row : Row) → leaves_room i s row ≡ true → stands_for row w ≡ true → stands_for row aimed ≡ true
+  unfolding leaves_room stands_for
+  row_stands row room stands =
+      let matches = eqb-true (bit_and w row.mask) row.value (and_parts (bit_and w row.mask == row.value) _ stands).0 in
+      let common : bit_and row.value s.mask ≡ bit_and (bit_and s.value s.mask) row.mask =
+      ap (λ v. bit_and v s.mask) (sym matches) ∙ and_swap w row.mask s.mask ∙ ap (λ v. bit_and v row.mask) (word_kept s ts w said) in
+      let parts = and_parts (bit_and row.mask (mask_of i) == 0) (is_free row.group) (when_true _ _ (eq-eqb _ _ common) room) in
+      let clear = placed_clear i field row.mask apart (eqb-true _ 0 parts.0) in
+      both_true _ _ (eq-eqb _ _ (or_clear w (placed i field) row.mask clear ∙ matches)) (free_fits row.group parts.1 aimed)
+
+  some_of : (b : Bool) (it : Insn) (rest : Option Insn) → is_some rest ≡ true → is_some (cond b (Some it) rest) ≡ true
+  some_of true it rest e = refl
+  some_of false it rest e = e
+
+  some_here : (b : Bool) (it : Insn) (rest : Option Insn) → b ≡ true → is_some (cond b (Some it) rest) ≡ true
+  some_here true it rest e = refl
+  some_here false it rest e = cc
+
+  some_other : (b : Bool) (it : Insn) (rest : Option Insn) → b ≡ false → is_some (cond b (Some it) rest) ≡ true → is_some rest ≡ true
+  some_other true it rest e h = cc
+  some_other false it rest e h = h
+
+  still_meant : (rows : List Row) → list_all (leaves_room i s) rows ≡ true → is_some (meaning_in rows w) ≡ true → is_some (meaning_in rows aimed) ≡ true
+  unfolding meaning_in
+  still_meant [] room e = cc
+  still_meant (row ∷ rows) room e =
+      let parts = and_parts (leaves_room i s row) (list_all (leaves_room i s) rows) room in
+      elim (cases_Bool (stands_for row w)) [
+        | inl h ↦ some_here (stands_for row aimed) _ _ (row_stands row parts.0 h)
+        | inr h ↦ some_of (stands_for row aimed) _ _ (still_meant rows parts.1 (some_other (stands_for row w) _ _ h e))
+      ]
+
+  some_either : (a b c d : Option Insn) → (is_some a ≡ true → is_some c ≡ true) → (is_some b ≡ true → is_some d ≡ true) → is_some (option_or a b) ≡ true → is_some (option_or c d) ≡ true
+  some_either (Some x) b (Some y) d f g e = refl
+  some_either (Some x) b None d f g e = let clash : false ≡ true = f refl in cc
+  some_either None b (Some y) d f g e = refl
+  some_either None b None d f g e = g e
+
+  either_meant : list_all (leaves_room i s) SCALAR_ROWS ≡ true → list_all (leaves_room i s) VECTOR_ROWS ≡ true → is_some (instruction_of w) ≡ true → is_some (instruction_of aimed) ≡ true
+  unfolding instruction_of meaning_of vector_meaning_of
+  either_meant scalar vector e =
+      some_either (meaning_in SCALAR_ROWS w) (meaning_in VECTOR_ROWS w) (meaning_in SCALAR_ROWS aimed) (meaning_in VECTOR_ROWS aimed) (still_meant SCALAR_ROWS scalar) (still_meant VECTOR_ROWS vector) e
+
+-- ---- the shape of a word whose target is named
+
+record IsNamedIn (ts : List Token) (w : ℕ) (i : Item) : Type 0 where
+  shape : Shape
+  said : word_in shape ts ≡ Some w
+  room : has_room shape i ≡ true
+  sound : is_sound i ≡ true
+  distance : is_distance i.kind ≡ true
+
+all_at : {A : Type 0} (p : A → Bool) (xs : List A) (n : ℕ) (x : A) → list_all p xs ≡ true → slice_get xs n ≡ Some x → p x ≡ true
+all_at p [] n x e g = cc
+all_at p (y ∷ ys) zero x e g = let same = some_is y x g in subst (λ z. p z ≡ true) same (and_parts (p y) (list_all p ys) e).0
+all_at p (y ∷ ys) (suc n) x e g = all_at p ys n x (and_parts (p y) (list_all p ys) e).1 g
+
+record IsNamed (is : List Item) (i : Item) : Type 0 where
+  place : ℕ
+  listed : slice_get is place ≡ Some i
+  distance : is_distance i.kind ≡ true
+
+named_if : (b : Bool) (t : Bool) (j : Item) (place : ℕ) (target : Target) → is_distance j.kind ≡ b → option_map (λ (i : Item). record { place = place; operand = i }) (cond (b && t) (Some j) None) ≡ Some target → (j ≡ target.operand) × (is_distance j.kind ≡ true)
+named_if true true j place target d e = let same : record { place = place; operand = j } ≡ target = some_is _ target e in (ap (λ (x : Target). x.operand) same, d)
+named_if true false j place target d e = cc
+named_if false t j place target d e = cc
+
+named_by : (is : List Item) (t : Option Token) (place : ℕ) (o : Option Item) (target : Target) → slice_get is place ≡ o → option_map (λ (i : Item). record { place = place; operand = i }) (option_and_then (names t) o) ≡ Some target → IsNamed is target.operand
+named_by is t place None target g e = cc
+named_by is t place (Some j) target g e =
+    let n = named_if (is_distance j.kind) (is_name_token t) j place target refl e in
+    record { place = place; listed = g ∙ ap Some n.0; distance = subst (λ (x : Item). is_distance x.kind ≡ true) n.0 n.1 }
+
+named_in : (is : List Item) (ts : List Token) (target : Target) → target_in is ts ≡ Some target → IsNamed is target.operand
+unfolding target_in
+named_in is ts target e = named_by is (slice_get ts (length is - 1)) (length is - 1) (slice_get is (length is - 1)) target refl e
+
+of_shape : (s : Shape) (ts : List Token) (w : ℕ) (target : Target) → all_room s ≡ true → word_in s ts ≡ Some w → target_in (items_of s) ts ≡ Some target → IsNamedIn ts w target.operand
+unfolding all_room
+of_shape s ts w target room said e =
+    let n = named_in (items_of s) ts target e in
+    record {
+      shape = s;
+      said = said;
+      room = all_at (has_room s) (items_of s) n.place target.operand room n.listed;
+      sound = all_at is_sound (items_of s) n.place target.operand (items_of-sound s) n.listed;
+      distance = n.distance;
+    }
+
+of_shapes : (ss : List Shape) (ts : List Token) (w : ℕ) (target : Target) → list_all all_room ss ≡ true → first_word ss ts ≡ Some w → target_of ss ts ≡ Some target → IsNamedIn ts w target.operand
+unfolding first_word target_of
+of_shapes [] ts w target room e f = cc
+of_shapes (s ∷ ss) ts w target room e f =
+    let parts = and_parts (all_room s) (list_all all_room ss) room in
+    elim (word_in s ts) as (λ o. word_in s ts ≡ o → first_of_words o (first_word ss ts) ≡ Some w → cond (is_some o) (target_in (items_of s) ts) (target_of ss ts) ≡ Some target → IsNamedIn ts w target.operand) [
+      | None ↦ λ is g h. of_shapes ss ts w target parts.1 g h
+      | Some v ↦ λ is g h. of_shape s ts w target parts.0 (is ∙ g) h
+    ] refl e f
+
+of_name : (name : ℕ) (ts : List Token) (w : ℕ) (target : Target) → first_word (shapes_of name) ts ≡ Some w → target_of (shapes_of name) ts ≡ Some target → IsNamedIn ts w target.operand
+unfolding shapes_of
+of_name name ts w target e f =
+    let first = slice_index STARTS name in
+    let count = slice_index STARTS (name + 1) - first in
+    of_shapes (take count (drop first SHAPES)) ts w target (all-take all_room count (drop first SHAPES) (all-drop all_room first SHAPES shapes_room)) e f
+
+-- ---- what operands say
+
+-- the word is that of a shape and means an instruction
+record IsSaid (name : ℕ) (ts : List Token) (w : ℕ) (target : Option Target) : Type 0 where
+  word : first_word (shapes_of name) ts ≡ Some w
+  named : target_of (shapes_of name) ts ≡ target
+  means : is_some (instruction_of w) ≡ true
+
+same_said : (v w : ℕ) (s t : Option Target) → ◌≡◌ {A = OperandsSaid} (Says v s) (Says w t) → (v ≡ w) × (s ≡ t)
+same_said v w s t e = (cc, cc)
+
+said_if : (name : ℕ) (ts : List Token) (v w : ℕ) (target : Option Target) (b : Bool) → first_word (shapes_of name) ts ≡ Some v → is_some (instruction_of v) ≡ b
+    → said_or (Fails (operand_fault (shapes_of name) ts)) (target_of (shapes_of name) ts) (cond b (Some v) None) ≡ Says w target → IsSaid name ts w target
+said_if name ts v w target true f m e = let same = same_said v w (target_of (shapes_of name) ts) target e in
+    record { word = f ∙ ap Some same.0; named = same.1; means = subst (λ n. is_some (instruction_of n) ≡ true) same.0 m }
+said_if name ts v w target false f m e = cc
+
+said_by : (name : ℕ) (ts : List Token) (w : ℕ) (target : Option Target) (o : Option ℕ) → first_word (shapes_of name) ts ≡ o
+    → said_or (Fails (operand_fault (shapes_of name) ts)) (target_of (shapes_of name) ts) (option_and_then if_meant o) ≡ Says w target → IsSaid name ts w target
+unfolding if_meant
+said_by name ts w target None f e = cc
+said_by name ts w target (Some v) f e = said_if name ts v w target (is_some (instruction_of v)) f refl e
+
+is_said : (name : ℕ) (ts : List Token) (w : ℕ) (target : Option Target) → operands_said name ts ≡ Says w target → IsSaid name ts w target
+unfolding operands_said word_said
+is_said name ts w target e = said_by name ts w target (first_word (shapes_of name) ts) refl e
+
+-- what operands say means an instruction
+pub said-means : (name : ℕ) (ts : List Token) (w : ℕ) (target : Option Target) → operands_said name ts ≡ Says w target → is_some (instruction_of w) ≡ true
+said-means name ts w target e = (is_said name ts w target e).means
+
+named_said : (name : ℕ) (ts : List Token) (w : ℕ) (target : Target) → operands_said name ts ≡ Says w (Some target) → IsNamedIn ts w target.operand
+named_said name ts w target e = let s = is_said name ts w (Some target) e in of_name name ts w target s.word s.named
+
+-- the operand of a target can be said
+pub target-sound : (name : ℕ) (ts : List Token) (w : ℕ) (target : Target) → operands_said name ts ≡ Says w (Some target) → is_sound target.operand ≡ true
+target-sound name ts w target e = (named_said name ts w target e).sound
+
+aimed_by : (i : Item) (ts : List Token) (w aimed : ℕ) (o : Option ℕ) → IsNamedIn ts w i → is_some (instruction_of w) ≡ true → option_map (λ field. bit_or w (placed i field)) o ≡ Some aimed → is_some (instruction_of aimed) ≡ true
+unfolding has_room
+aimed_by i ts w aimed None n m e = cc
+aimed_by i ts w aimed (Some field) n m e =
+    let parts = and_parts (bit_and (upper_mask i) (lower_mask i) == 0) _ (when_true (is_distance i.kind) _ n.distance n.room) in
+    let rows = and_parts (list_all (leaves_room i n.shape) SCALAR_ROWS) (list_all (leaves_room i n.shape) VECTOR_ROWS) parts.1 in
+    subst (λ v. is_some (instruction_of v) ≡ true) (some_is _ aimed e)
+    (either_meant i n.shape ts w field n.said (eqb-true _ 0 parts.0) rows.0 rows.1 m)
+
+-- with each distance it means one too
+pub aimed-means : (name : ℕ) (ts : List Token) (w : ℕ) (target : Target) (back : Bool) (size aimed : ℕ) → operands_said name ts ≡ Says w (Some target)
+    → with_distance target.operand w back size ≡ Some aimed → is_some (instruction_of aimed) ≡ true
+unfolding with_distance
+aimed-means name ts w target back size aimed e f =
+    let i = target.operand in
+    aimed_by i ts w aimed (field_said i.kind (bits_of i) (Distance back size)) (named_said name ts w target e) (said-means name ts w (Some target) e) f

@@ -1,0 +1,34 @@
+//! A word with a distance in the field of its last operand.
+ghost use Rattle.std.specs.Prelude.{◌≡◌, true};
+ghost use Rattle.asm_operands.specs.Distances as distances;
+ghost use Rattle.asm_operands.specs.Sound.{is_sound};
+
+use crate::fields::field_said;
+use crate::known::placed;
+use asm_tokens::Token;
+use insn_text::{Item, Kind};
+
+/// In units of how many bytes the distance is counted; 1 for an operand that is none.
+#[tactic(auto, unfolding(crate::specs::Distances::unit_of))]
+pub fn unit_of(kind: Kind) -> u16
+    ensures { result ≡ distances.unit_of kind }
+{
+    match kind {
+        Kind::Distance { scale } => scale,
+        _ => 1,
+    }
+}
+
+/// A word whose operand has the distance 0, with a distance of so many bytes, forward or back; `None` exactly where the operand
+/// does not hold it.
+#[tactic(auto, unfolding(crate::specs::Distances::with_distance, crate::specs::Sound::is_sound, crate::specs::Sound::is_in_word))]
+pub fn with_distance(operand: &Item, word: u32, back: bool, size: u64) -> Option<u32>
+    requires { is_sound operand.now ≡ true }
+    ensures { result ≡ distances.with_distance operand.now word back size }
+{
+    let bits = u32::from(operand.width) + u32::from(operand.upper_width);
+    match field_said(operand.kind, bits, Token::Distance { back, size }) {
+        Some(field) => Some(word | placed(operand, field)),
+        None => None,
+    }
+}
