@@ -7,7 +7,7 @@ use Rattle.std.specs.Prelude.{option_and_then}
 use Rattle.sm_types.specs.declared.stop.Exception.{Exception}
 use Rattle.sm_types.specs.declared.stop.Exception.TheVariants.{Undefined}
 use Rattle.mem_access.specs.Transfer.{is_access, transfer_fault}
-use Rattle.sve_table.specs.Meaning.{instruction_of}
+use Rattle.a64_encode.specs.Either.{instruction_of}
 use Rattle.paged_memory.specs.Memory.{or_else}
 use Rattle.scalar_exec.specs.Step.{is_scalar}
 use Rattle.machine_step.specs.ProcessorState.{ProcessorState}

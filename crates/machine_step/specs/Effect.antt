@@ -8,7 +8,7 @@ use Rattle.sm_types.specs.declared.insn.SystemRegister.{SystemRegister}
 use Rattle.sm_types.specs.declared.insn.SystemRegister.TheVariants.{Nzcv, TpidrEl0, Tpidr2El0, Svcr}
 use Rattle.sm_types.specs.declared.stop.Exception.{Exception}
 use Rattle.sm_types.specs.declared.stop.Exception.TheVariants.{Undefined, PcAlign, Fetch, Breakpoint}
-use Rattle.sve_table.specs.Meaning.{instruction_of}
+use Rattle.a64_encode.specs.Either.{instruction_of}
 use Rattle.paged_memory.specs.Memory.{word_at}
 use Rattle.scalar_exec.specs.Registers.{past}
 use Rattle.scalar_exec.specs.Step.{scalar_step}

@@ -1,7 +1,7 @@
 -- What a machine, which has no vectors of its own, is together with a bank of vectors.
 use Rattle.std.specs.Prelude.{◌≡◌, ℕ, IfSome, option_and_then}
 use Rattle.paged_memory.specs.Memory.{word_at}
-use Rattle.sve_table.specs.Meaning.{instruction_of}
+use Rattle.a64_encode.specs.Either.{instruction_of}
 use Rattle.mem_access.specs.Transfer.{HasRoomFor}
 use Rattle.machine_step.specs.ProcessorState.{ProcessorState, VectorState}
 use Rattle.machine_step.specs.Effect.{Effect, Raises, Calls, Becomes}

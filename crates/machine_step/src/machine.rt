@@ -1,7 +1,7 @@
 //! The machine and its step.
 ghost use Rattle.std.specs.Prelude.{ℕ, ◌≡◌, ◌≢◌, ◌<◌, IsTrue, IfSome};
 ghost use Rattle.a64_table.specs.Ranges.{IsInRow};
-ghost use Rattle.sve_table.specs.Meaning.{instruction_of};
+ghost use Rattle.a64_encode.specs.Either.{instruction_of};
 ghost use Rattle.scalar_exec.specs.Step.{is_scalar, scalar_step, flowed};
 ghost use Rattle.paged_memory.specs.PageTable.{KeepsOwned};
 ghost use Rattle.mem_access.specs.Transfer.{is_access, HasRoomFor};
@@ -89,7 +89,7 @@ impl Machine {
     }
 
     /// Executes the instruction of a word, by either table.
-    #[tactic(auto, unfolding(sve_table::specs::Meaning::instruction_of))]
+    #[tactic(auto, unfolding(a64_encode::specs::Either::instruction_of))]
     fn execute_word(&mut self, word: u32) -> StepEnd
         ensures effect { StepsBy (effect_of_meaning word (instruction_of word)) self.old self.new result }
         ensures room { IfSome (instruction_of word) (λ it. HasRoomFor it self.old.scalars self.old.pages) → result ≢ StepEnd.Memory }

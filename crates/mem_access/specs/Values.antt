@@ -8,7 +8,7 @@ use Rattle.sm_types.specs.declared.insn.LoadLiteralOp.{LoadLiteralOp}
 use Rattle.sm_types.specs.declared.insn.LoadLiteralOp.TheVariants.{Word, Doubleword, SignedWord}
 use Rattle.sm_types.specs.declared.insn.AtomicOp.{AtomicOp}
 use Rattle.sm_types.specs.declared.insn.AtomicOp.TheVariants.{Add, Clear, Eor, Set, Smax, Smin, Umax, Umin}
-use Rattle.a64_table.specs.Fields.{signed_value}
+use Rattle.insn_forms.specs.Fields.{signed_value}
 use Rattle.scalar_exec.specs.Operands.{sign_extend}
 use Rattle.paged_memory.specs.Memory.{AddressSpace, bytes_with, set_bytes, little_number}
 

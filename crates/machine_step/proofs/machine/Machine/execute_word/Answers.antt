@@ -1,6 +1,7 @@
 use Rattle.std.proofs.Common.{◌≡◌, Some, sym, ap, ◌∙◌}
 use Rattle.std.specs.Option.{option_or}
-use Rattle.sve_table.specs.Meaning.{instruction_of, vector_meaning_of}
+use Rattle.a64_encode.specs.Either.{instruction_of}
+use Rattle.sve_table.specs.Table.{vector_meaning_of}
 use Rattle.machine_step.proofs.machine.Machine.execute_word.Goals as goal
 
 pub returns-in-Some-clause-effect : goal.returns-in-Some-clause-effect

@@ -1,6 +1,6 @@
 use Rattle.std.proofs.Common.{◌≡◌, sym, ◌∙◌, refl}
 use Rattle.machine_step.proofs.machine.Machine.step.Goals as goal
-use Rattle.sve_table.specs.Meaning.{instruction_of}
+use Rattle.a64_encode.specs.Either.{instruction_of}
 use Rattle.machine_step.specs.Effect.{effect_of}
 use Rattle.machine_step.specs.Execution.{effect_of_meaning}
 use Rattle.machine_step.specs.Machine.{core_of}
