@@ -14,6 +14,5 @@ mod tests;
 mod transfers;
 mod values;
 
-pub use access::MemoryAccess;
 pub use stop::AccessStop;
 pub use transfers::transfer;
