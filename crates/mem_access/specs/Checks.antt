@@ -1,6 +1,6 @@
 -- The checks of an access, in their order, all before anything changes.
--- Source: DDI 0487, D1.3 and J1.1, CheckSPAlignment, alignment of ordered and atomic accesses, permission faults; the region of shared
--- words from 0x7F0000000000 on is this emulator's own.
+-- Source: DDI 0487, D1.3 and J1.1, CheckSPAlignment, alignment of ordered and atomic accesses, permission
+-- faults; the region of shared words from 0x7F0000000000 on is this emulator's own.
 use Rattle.std.specs.Prelude.{ℕ, ◌%◌, ◌==◌, ◌&&◌, Bool, true, false, not, nat_lt, nat_le, List, [], ◌∷◌, Option, Some, None, option_map, is_some}
 use Rattle.std.specs.List.{find}
 use Rattle.sm_types.specs.declared.scalars.Scalars.{Scalars}
@@ -48,18 +48,21 @@ check_when false check = None
 
 -- the first of the bytes that cannot be read, where the access reads
 abbrev pub read_fault : DataAccess → AddressSpace → Option Exception
-read_fault access m = check_when access.reads (option_map (λ a. Data a Read) (find (lacks 4 m) access.bytes))
+read_fault access m =
+    check_when access.reads (option_map (λ a. Data a Read) (find (lacks 4 m) access.bytes))
 
 -- the first of them that cannot be written, where the access writes
 abbrev pub write_fault : DataAccess → AddressSpace → Option Exception
-write_fault access m = check_when access.writes (option_map (λ a. Data a Write) (find (lacks 2 m) access.bytes))
+write_fault access m =
+    check_when access.writes (option_map (λ a. Data a Write) (find (lacks 2 m) access.bytes))
 
 -- the check of an access to private memory: an operation on a shared word has none
 abbrev pub if_private : Option SharedOp → Option Exception → Option Exception
 if_private None check = check
 if_private (Some op) check = None
 
--- the exception of the first check that fails, if any does; the access touches a shared word by that operation, or none
+-- the exception of the first check that fails, if any does; the access touches a shared word by that
+-- operation, or none
 unfoldable pub access_fault : Option SharedOp → DataAccess → Scalars → AddressSpace → Option Exception
 access_fault op access s m = first_fault (
     sp_fault access s

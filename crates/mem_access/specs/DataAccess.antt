@@ -1,5 +1,5 @@
--- An access to memory: its bytes in the order of their transfer, and how it is made. Source: DDI 0487, B2.3 (an access of several bytes),
--- C1.3.3 (addresses are taken modulo 2 ^ 64).
+-- An access to memory: its bytes in the order of their transfer, and how it is made.
+-- Source: DDI 0487, J1.1 (Mem), C1.3.3; addresses are taken modulo 2 ^ 64.
 use Rattle.std.specs.Prelude.{ℕ, zero, suc, ◌+◌, ◌%◌, ◌^◌, Bool, List, [], ◌∷◌}
 use Rattle.mem_access.specs.declared.access.MemoryAccess.{MemoryAccess}
 

@@ -41,7 +41,8 @@ run_shared_fault run = option_map Shared (first_shared run.address run.size)
 
 -- the first of the checks that look at no page
 abbrev pub place_fault : MemoryAccess → Scalars → Option Exception
-place_fault run s = first_fault (sp_fault (of_run run) s ∷ align_fault (of_run run) ∷ run_shared_fault run ∷ [])
+place_fault run s =
+    first_fault (sp_fault (of_run run) s ∷ align_fault (of_run run) ∷ run_shared_fault run ∷ [])
 
 -- the first of the n bytes from an address on that cannot be read
 abbrev pub denied_read : AddressSpace → ℕ → ℕ → Option Exception
@@ -66,7 +67,12 @@ run_write_fault run m = check_when run.writes (denied_write m run.address run.si
 -- the exception of the first check that fails, if any does
 unfoldable pub run_fault : MemoryAccess → Scalars → AddressSpace → Option Exception
 run_fault run s m = first_fault (
-    sp_fault (of_run run) s ∷ align_fault (of_run run) ∷ run_shared_fault run ∷ run_read_fault run m ∷ run_write_fault run m ∷ [])
+    sp_fault (of_run run) s
+    ∷ align_fault (of_run run)
+    ∷ run_shared_fault run
+    ∷ run_read_fault run m
+    ∷ run_write_fault run m
+    ∷ [])
 
 -- the pages of the bytes that are written are owned
 abbrev pub RunHasRoom : MemoryAccess → PageTable → Type 0
@@ -98,7 +104,8 @@ unfoldable pub after_pair : PairOp → LoadStorePair → ℕ → Scalars → Add
 after_pair Stp x a s m = record { scalars = with_pair_base x.index x s; memory = with_bytes m a (pair_bytes x.wide (x_of s x.rt) (x_of s x.rt2)) }
 after_pair Ldp x a s m = record { scalars = pair_after Ldp x (number_in m a (2 * register_size x.wide)) s; memory = m }
 
--- LDAR and STLR; CAS writes Rt where memory equals Rs, SWP writes Rs, the operations write their result; the old number goes to Rs in CAS, else to Rt
+-- LDAR and STLR; CAS writes Rt where memory equals Rs, SWP writes Rs, the operations write their result; the
+-- old number goes to Rs in CAS, else to Rt
 unfoldable pub after_atomic : Atomic → ℕ → Scalars → AddressSpace → AfterAccess
 after_atomic (atomic.Ldar n rn rt) a s m = record { scalars = with_x s rt (number_in m a (bytes_in n)); memory = m }
 after_atomic (atomic.Stlr n rn rt) a s m = record { scalars = s; memory = with_number m a (bytes_in n) (x_of s rt) }

@@ -1,5 +1,7 @@
--- The registers and the memory after a load, a store or an atomic instruction that no check refuses. PC is moved by the machine.
--- Source: DDI 0487, C6.2: LDR, LDRB, LDRH, LDRSB, LDRSH, LDRSW, LDUR.., STR.., STUR.., LDP, STP, LDAR, STLR, CAS, SWP, LDADD.. and their kin.
+-- The registers and the memory after a load, a store or an atomic instruction that no check refuses. PC is
+-- moved by the machine.
+-- Source: DDI 0487, C6.2: LDR, LDRB, LDRH, LDRSB, LDRSH, LDRSW, LDUR.., STR.., STUR.., LDP, STP, LDAR, STLR,
+-- CAS, SWP, LDADD.. and their kin.
 use Rattle.std.specs.Prelude.{◌≡◌, ℕ, ◌*◌, ◌/◌, ◌%◌, ◌^◌, ◌==◌, ◌++◌, Bool, true, false, cond, List, Option, Some, None, Result, Ok, Err, IfSome, IsSome, All, option_and_then}
 use Rattle.std.specs.Int.{bytes_low_first}
 use Rattle.std.specs.FinMap.{get}
@@ -54,9 +56,12 @@ touched it s = None
 -- a store leaves the base; a load writes Xt after it, with the number that was read
 unfoldable pub load_store_after : LoadStoreOp → LoadStore → ℕ → Scalars → Scalars
 load_store_after Store x number s = with_base x.address x.rn s
-load_store_after Load x number s = with_x (with_base x.address x.rn s) x.rt (loaded Load (bytes_in x.size) number)
-load_store_after LoadSignedTo64 x number s = with_x (with_base x.address x.rn s) x.rt (loaded LoadSignedTo64 (bytes_in x.size) number)
-load_store_after LoadSignedTo32 x number s = with_x (with_base x.address x.rn s) x.rt (loaded LoadSignedTo32 (bytes_in x.size) number)
+load_store_after Load x number s =
+    with_x (with_base x.address x.rn s) x.rt (loaded Load (bytes_in x.size) number)
+load_store_after LoadSignedTo64 x number s =
+    with_x (with_base x.address x.rn s) x.rt (loaded LoadSignedTo64 (bytes_in x.size) number)
+load_store_after LoadSignedTo32 x number s =
+    with_x (with_base x.address x.rn s) x.rt (loaded LoadSignedTo32 (bytes_in x.size) number)
 
 -- a store writes the low bytes of Xt
 unfoldable pub load_store_stored : LoadStoreOp → LoadStore → Scalars → Option (List ℕ)
@@ -69,11 +74,15 @@ load_store_stored LoadSignedTo32 x s = None
 unfoldable pub pair_after : PairOp → LoadStorePair → ℕ → Scalars → Scalars
 pair_after Stp x number s = with_pair_base x.index x s
 pair_after Ldp x number s =
-    with_x (with_x (with_pair_base x.index x s) x.rt (number % 2 ^ (8 * register_size x.wide))) x.rt2 (number / 2 ^ (8 * register_size x.wide))
+    with_x
+    (with_x (with_pair_base x.index x s) x.rt (number % 2 ^ (8 * register_size x.wide)))
+    x.rt2
+    (number / 2 ^ (8 * register_size x.wide))
 
 -- the low bytes of two registers, one after the other
 abbrev pub pair_bytes : Bool → ℕ → ℕ → List ℕ
-pair_bytes wide first second = bytes_low_first 0 (register_size wide) first ++ bytes_low_first 0 (register_size wide) second
+pair_bytes wide first second =
+    bytes_low_first 0 (register_size wide) first ++ bytes_low_first 0 (register_size wide) second
 
 unfoldable pub pair_stored : PairOp → LoadStorePair → Scalars → Option (List ℕ)
 pair_stored Stp x s = Some (pair_bytes x.wide (x_of s x.rt) (x_of s x.rt2))
@@ -87,13 +96,17 @@ atomic_after (atomic.Cas n acquire release rs rn rt) number s = with_x s rs numb
 atomic_after (atomic.Swap n acquire release rs rn rt) number s = with_x s rt number
 atomic_after (atomic.Update op n acquire release rs rn rt) number s = with_x s rt number
 
--- STLR writes Rt; CAS writes Rt where the number equals the low bytes of Rs, SWP writes Rs, the operations write their result
+-- STLR writes Rt; CAS writes Rt where the number equals the low bytes of Rs, SWP writes Rs, the operations
+-- write their result
 unfoldable pub atomic_stored : Atomic → ℕ → Scalars → Option (List ℕ)
 atomic_stored (atomic.Ldar n rn rt) number s = None
 atomic_stored (atomic.Stlr n rn rt) number s = Some (bytes_low_first 0 (bytes_in n) (x_of s rt))
 atomic_stored (atomic.Cas n acquire release rs rn rt) number s =
-    cond (number == low_bytes (bytes_in n) (x_of s rs)) (Some (bytes_low_first 0 (bytes_in n) (x_of s rt))) None
-atomic_stored (atomic.Swap n acquire release rs rn rt) number s = Some (bytes_low_first 0 (bytes_in n) (x_of s rs))
+    cond (number == low_bytes (bytes_in n) (x_of s rs))
+    (Some (bytes_low_first 0 (bytes_in n) (x_of s rt)))
+    None
+atomic_stored (atomic.Swap n acquire release rs rn rt) number s =
+    Some (bytes_low_first 0 (bytes_in n) (x_of s rs))
 atomic_stored (atomic.Update op n acquire release rs rn rt) number s =
     Some (bytes_low_first 0 (bytes_in n) (updated op (bytes_in n) number (low_bytes (bytes_in n) (x_of s rs))))
 
@@ -143,7 +156,8 @@ transfer_fault it s m = option_and_then (λ access. access_fault (touched it s) 
 
 -- the pages that an access writes are owned, so that it takes no memory; a load writes none
 abbrev pub HasRoom : DataAccess → PageTable → Type 0
-HasRoom access pages = access.writes ≡ true → All (λ a. IsSome (get pages.memory.perm (a / 4096)) → IsOwned pages (a / 4096)) access.bytes
+HasRoom access pages =
+    access.writes ≡ true → All (λ a. IsSome (get pages.memory.perm (a / 4096)) → IsOwned pages (a / 4096)) access.bytes
 
 -- the pages that the access of an instruction writes are owned
 abbrev pub HasRoomFor : Insn → Scalars → PageTable → Type 0
@@ -154,7 +168,8 @@ abbrev pub raised_by : AccessStop → Option Exception
 raised_by (Raise exception) = Some exception
 raised_by WantOfMemory = None
 
--- the answer of an access that has this fault, if any, and makes this: after Ok it is made, and any other answer leaves what was
+-- the answer of an access that has this fault, if any, and makes this: after Ok it is made, and any other
+-- answer leaves what was
 abbrev pub Transfers : Option Exception → AfterAccess → AfterAccess → AfterAccess → Result (Unit {0}) AccessStop → Type 0
 Transfers fault made old new (Ok done) = (fault ≡ None) × (new ≡ made)
 Transfers fault made old new (Err stop) = (fault ≡ raised_by stop) × (new ≡ old)

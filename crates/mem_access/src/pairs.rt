@@ -37,8 +37,10 @@ fn numbers_of(bytes: &[u8], wide: bool) -> (u64, u64)
 /// The numbers at an address, or the exception of the first byte that cannot be read.
 #[inline]
 pub fn read_pair(pages: &Pages, address: u64, wide: bool) -> Result<(u64, u64), Exception>
-    ensures first { IfOk result (λ p. p.0 ≡ number_in pages.now.memory address (2 * register_size wide) % 2 ^ (8 * register_size wide)) }
-    ensures second { IfOk result (λ p. p.1 ≡ number_in pages.now.memory address (2 * register_size wide) / 2 ^ (8 * register_size wide)) }
+    ensures first { let whole = number_in pages.now.memory address (2 * register_size wide)
+        in IfOk result (λ p. p.0 ≡ whole % 2 ^ (8 * register_size wide)) }
+    ensures second { let whole = number_in pages.now.memory address (2 * register_size wide)
+        in IfOk result (λ p. p.1 ≡ whole / 2 ^ (8 * register_size wide)) }
     ensures allowed { OnOk result (denied_read pages.now.memory address (2 * register_size wide) ≡ None) }
     ensures denied { IfErr result (λ e. denied_read pages.now.memory address (2 * register_size wide) ≡ Some e) }
 {
@@ -58,8 +60,10 @@ pub fn read_pair(pages: &Pages, address: u64, wide: bool) -> Result<(u64, u64), 
 
 /// The same, where the bytes may lie in two pages.
 fn read_pair_across(pages: &Pages, address: u64, wide: bool) -> Result<(u64, u64), Exception>
-    ensures first { IfOk result (λ p. p.0 ≡ number_in pages.now.memory address (2 * register_size wide) % 2 ^ (8 * register_size wide)) }
-    ensures second { IfOk result (λ p. p.1 ≡ number_in pages.now.memory address (2 * register_size wide) / 2 ^ (8 * register_size wide)) }
+    ensures first { let whole = number_in pages.now.memory address (2 * register_size wide)
+        in IfOk result (λ p. p.0 ≡ whole % 2 ^ (8 * register_size wide)) }
+    ensures second { let whole = number_in pages.now.memory address (2 * register_size wide)
+        in IfOk result (λ p. p.1 ≡ whole / 2 ^ (8 * register_size wide)) }
     ensures allowed { OnOk result (denied_read pages.now.memory address (2 * register_size wide) ≡ None) }
     ensures denied { IfErr result (λ e. denied_read pages.now.memory address (2 * register_size wide) ≡ Some e) }
 {
@@ -104,7 +108,8 @@ pub fn write_pair(
     first: u64,
     second: u64,
 ) -> Result<(), AccessStop>
-    ensures ok { OnOk result (pages.new.memory ≡ with_bytes pages.old.memory address (pair_bytes wide first second)) }
+    ensures ok { OnOk result
+        (pages.new.memory ≡ with_bytes pages.old.memory address (pair_bytes wide first second)) }
     ensures allowed { OnOk result (denied_write pages.old.memory address (2 * register_size wide) ≡ None) }
     ensures stops { IfErr result (λ e. denied_write pages.old.memory address (2 * register_size wide) ≡ raised_by e) }
     ensures err { OnErr result (pages.new.memory ≡ pages.old.memory) }

@@ -211,8 +211,9 @@ fn transfer_run(insn: &Insn, scalars: &mut Scalars, pages: &mut Pages) -> Result
     }
 }
 
-/// The instructions of this crate: makes all checks of the access, and then the access; any answer but Ok leaves registers and memory as
-/// they were, but that more pages may be owned. `Memory` comes only where the access writes a page that is not owned. PC stays as it is.
+/// The instructions of this crate: makes all checks of the access, and then the access; any answer but Ok
+/// leaves registers and memory as they were, but that more pages may be owned. `Memory` comes only where the
+/// access writes a page that is not owned. PC stays as it is.
 #[inline]
 pub fn transfer(insn: &Insn, scalars: &mut Scalars, pages: &mut Pages) -> Result<(), AccessStop>
     requires access { IsTrue (is_access insn.now) }
