@@ -20,5 +20,5 @@ mod status;
 
 pub use command::smemu_main;
 pub use in_memory::smemu_in_memory;
-pub use laws::one_answer;
+pub use laws::{help_is_true, one_answer};
 pub use status::Status;

@@ -1,8 +1,10 @@
-//! Tests of the command where the outside fails, and where the words are no command.
+//! Tests of the command where the outside fails, and where the words are no command, and of the outside itself.
 #![tactic(auto)]
 
 #[cfg(test)]
 mod instructions;
+#[cfg(test)]
+mod outside;
 
 #[cfg(test)]
 mod tests {
