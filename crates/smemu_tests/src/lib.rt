@@ -1,8 +1,10 @@
-//! Tests of the command: where the outside fails, its words, and programs that it assembles, lists and runs.
+//! Tests of the command: where the outside fails, its words, and programs that it assembles, lists and runs; and of the outside itself.
 #![tactic(auto)]
 
 #[cfg(test)]
 mod instructions;
+#[cfg(test)]
+mod outside;
 #[cfg(test)]
 mod programs;
 
