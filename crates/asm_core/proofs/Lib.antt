@@ -16,3 +16,4 @@ pub mod Stepped
 pub mod Emission
 pub mod PutFields
 pub mod StepFields
+pub mod Marking

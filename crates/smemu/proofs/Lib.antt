@@ -5,4 +5,5 @@ pub mod Ends
 pub mod Words
 pub mod OneAnswer
 pub mod InMemory
-pub mod Help
+pub mod HelpLines
+pub mod ForeignWords
