@@ -12,3 +12,4 @@ pub mod Accepted
 pub mod HasWords
 pub mod Emission
 pub mod Aims
+pub mod Marking

@@ -9,3 +9,4 @@ pub mod Known
 pub mod Parts
 pub mod Surveyed
 pub mod Sound
+pub mod Marked

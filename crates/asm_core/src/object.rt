@@ -2,6 +2,7 @@
 ghost use Rattle.std.specs.Prelude.{◌≡◌, ◌≢◌, Some, IfOk, IfErr};
 ghost use Rattle.asm_core.specs.Faults.{asm_fault};
 ghost use Rattle.asm_core.specs.Assembly.{Assembles};
+ghost use Rattle.asm_core.specs.Marked.{MarksCode};
 ghost use Rattle.asm_core.specs.Sound.{IsSound};
 
 use crate::emit_source::emit;
@@ -19,6 +20,7 @@ const SOURCE_LIMIT: usize = 67_108_864;
 pub fn assemble(alloc: Global, source: &[u8]) -> Result<Object, AsmFault>
     ensures assembles { IfOk result (λ object. Assembles source.now object) }
     ensures sound { IfOk result IsSound }
+    ensures code { IfOk result (λ object. MarksCode source.now object) }
     ensures fault { IfErr result (λ fault. fault ≢ AsmFault.Memory → asm_fault source.now ≡ Some fault) }
 {
     if source.len() > SOURCE_LIMIT {

@@ -2,6 +2,7 @@ pub mod Status
 pub mod Texts
 pub mod FaultLines
 pub mod SourceLines
+pub mod Foreign
 pub mod Requests
 pub mod Answers
 pub mod Ends

@@ -11,6 +11,7 @@
 mod answer;
 mod command;
 mod fault_line;
+mod foreign;
 mod help;
 mod in_memory;
 mod laws;
@@ -19,6 +20,7 @@ mod source_line;
 mod status;
 
 pub use command::smemu_main;
+pub use foreign::refuse_foreign_word;
 pub use in_memory::smemu_in_memory;
 pub use laws::{help_is_true, one_answer};
 pub use status::Status;

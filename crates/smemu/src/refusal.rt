@@ -46,7 +46,7 @@ fn kind_word(kind: UsageKind) -> &'static [u8]
 
 /// Writes the line of a fault of the words.
 #[tactic(auto, unfolding(crate::specs::Texts::usage_line))]
-fn write_usage<K: Sink>(out: &mut K, place: usize, kind: UsageKind) -> Result<(), PutFault>
+pub fn write_usage<K: Sink>(out: &mut K, place: usize, kind: UsageKind) -> Result<(), PutFault>
     ensures { Writes (K.view out.old) (K.view out.new) result (text.usage_line (record { place = place; kind = kind })) }
 {
     let mut buffer = itoa::Buffer::new();

@@ -6,6 +6,7 @@ use Rattle.asm_core.specs.Source.{lines_of, said_lines}
 use Rattle.asm_core.specs.Layout.{labels_of}
 use Rattle.asm_core.specs.Faults.{start_of, text_length_of}
 use Rattle.asm_core.proofs.Chain.{long_source, no_text, line_fault_is, target_fault_is, no_start_is, no_fault_is, assembled}
+use Rattle.asm_core.proofs.Marking.{marked_object}
 use Rattle.asm_core.proofs.Sounds.{sound_object}
 use Rattle.asm_core.proofs.object.assemble.Goals as goal
 
@@ -41,6 +42,9 @@ returns-in-Some-start_of-clause-assembles c =
 pub returns-in-Some-start_of-clause-sound : goal.returns-in-Some-start_of-clause-sound
 returns-in-Some-start_of-clause-sound c =
     sound_object c.args.source.now _ c.in-Ok.survey.end c.in-Ok.ensures.accepted (returns-in-Some-start_of-clause-assembles c) c.in-Ok.ensures.end c.in-Ok.ensures.limits
+
+pub returns-in-Some-start_of-clause-code : goal.returns-in-Some-start_of-clause-code
+returns-in-Some-start_of-clause-code c = marked_object c.args.source.now _ (returns-in-Some-start_of-clause-assembles c)
 
 pub returns-clause-fault : goal.returns-clause-fault
 returns-clause-fault c = λ other.
