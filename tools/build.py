@@ -140,13 +140,13 @@ class Progress:
 
     def show(self, running):
         if self.is_terminal:
-            line = f"smemu: {self.done} of {self.count} crates proved, {self.time()}: {', '.join(running)}"
+            line = f"smemu: {self.done} of {self.count} crates proved after {self.time()}, now {', '.join(running)}"
             self.say(f"\r{line[:shutil.get_terminal_size().columns - 1]}\033[K")
 
     def proved(self, name):
         self.done += 1
         if not self.is_terminal:
-            self.say(f"smemu: {self.done} of {self.count} crates proved, {self.time()}: {name}\n")
+            self.say(f"smemu: {self.done} of {self.count} crates proved after {self.time()}: {name}\n")
 
     def end(self, text):
         self.say("\r\033[K" * self.is_terminal + f"smemu: {text}\n")
