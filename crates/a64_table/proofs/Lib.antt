@@ -1,10 +1,5 @@
-pub mod AccessesWords
-pub mod Apart
-pub mod ControlWords
-pub mod FirstRow
-pub mod Frames
+pub mod Checks
+pub mod Groups
+pub mod HasLine
 pub mod Numbers
-pub mod OneWord
-pub mod ProcessingWords
 pub mod Ranged
-pub mod Sums

@@ -1,37 +1,52 @@
 -- The fields of an instruction that a row gives are in their ranges.
-use Rattle.std.proofs.Common.{◌≡◌, ◌≢◌, ℕ, zero, suc, ◌-◌, ◌+◌, ◌*◌, ◌<◌, ◌≤◌, ◌^◌, ◌==◌, List, Bool, true, false, cond, not, ◌&&◌, ◌||◌, nat_lt, refl, sym, ap, subst, arith, eq-eqb, eqb-true, ℤ, pos, ◌-ℤ◌, ◌≤ℤ◌, ◌<ℤ◌}
-use Rattle.std.proofs.Math.Nat.{two-pow-succ}
-use Rattle.std.proofs.lemmas.Nat.{mod_below, pow_pos}
+use Rattle.std.proofs.Common.{◌≡◌, ◌≢◌, ℕ, zero, suc, ◌-◌, ◌+◌, ◌%◌, ◌<◌, ◌≤◌, ◌^◌, ◌==◌, Bool, true, false, cond, not, ◌&&◌, ◌||◌, nat_lt, refl, sym, ap, ap₂, ◌∙◌, subst, arith, eqb-true, eq-eqb, mod-eq_of_lt, ℤ, pos, ◌-ℤ◌, ◌≤ℤ◌, ◌<ℤ◌}
 use Rattle.std.proofs.lemmas.Int.{ints}
 use Rattle.std.proofs.lemmas.Bool.{ltb-true, ltb-false, and_parts, both_ways}
+use Rattle.bit_ops.specs.Masks.{are_mask_fields}
+use Rattle.insn_forms.specs.declared.field.Field.{Field}
+use Rattle.insn_forms.specs.Fields.{bits_of, field_in, signed_value}
+use Rattle.insn_forms.specs.Tables.{Means, numbers_in, signed_numbers_in}
+use Rattle.insn_forms.proofs.Bits.{field_in-lt, doubled}
 use Rattle.sm_types.specs.declared.insn.Insn.{Insn}
+use Rattle.sm_types.specs.declared.insn.Branch.{Branch}
 use Rattle.sm_types.specs.declared.insn.ShiftKind.TheVariants.{Ror}
+use Rattle.sm_types.specs.declared.insn.OneSourceOp.{OneSourceOp}
 use Rattle.sm_types.specs.declared.insn.OneSourceOp.TheVariants.{Rbit, Rev16, Rev32, Rev64, Clz, Cls}
-use Rattle.sm_types.specs.declared.insn.Address.{Address}
-use Rattle.sm_types.specs.declared.insn.Address.TheVariants as address
+use Rattle.sm_types.specs.declared.insn.PairOp.{PairOp}
 use Rattle.sm_types.specs.declared.insn.PairOp.TheVariants.{Stp, Ldp}
+use Rattle.sm_types.specs.declared.insn.PairIndex.{PairIndex}
 use Rattle.sm_types.specs.declared.insn.PairIndex.TheVariants.{Offset, PostIndex, PreIndex}
-use Rattle.a64_table.specs.declared.rows.Row.{Row}
-use Rattle.a64_table.specs.declared.rows.Group.{Group}
-use Rattle.a64_table.specs.declared.rows.Group.TheVariants.{G1, G2, G3, G4, G5, G6, G7, G8, G9, G10, G11, G12, G13, G14, G15, G16, G17, G18, G19, G20, G21, G22, G23}
-use Rattle.a64_table.specs.Fields.{field_of, bit_of, signed_value}
-use Rattle.a64_table.specs.Operands.{shift_of, extend_of, access_size_of}
-use Rattle.a64_table.specs.Processing.{add_sub_immediate_of, add_sub_register_of, logical_register_of, add_sub_extended_of, logical_immediate_of, move_wide_of, bitfield_move_of, extract_of, pc_relative_of, add_sub_carry_of, conditional_select_of, compare_operand_of, conditional_compare_of, one_source_op_of, one_source_of, two_source_of, multiply_of, shifted_register_of, extended_register_of}
-use Rattle.a64_table.specs.Control.{branch_of, branch_register_of, exception_of, hint_or_barrier_of, system_of, system_move_of}
-use Rattle.a64_table.specs.Accesses.{load_store_op_of, address_of, load_store_of, load_literal_of, pair_op_of, pair_index_of, load_store_pair_of, swap_of, update_of, compare_and_swap_of, ordered_of, atomic_of}
-use Rattle.a64_table.specs.Conditions.{fits_of, is_below_width, has_load_of, is_address_option, has_access, writes_apart, writes_pair_apart}
-use Rattle.a64_table.specs.Meaning.{Means, insn_of}
-use Rattle.a64_table.specs.Ranges.{IsInRow, IsSigned, width_of, is_address_extend, has_size, IsAddress, writes_base, IsLoadStore, IsLoadStorePair, IsBranch, IsMultiply, IsAtomic, IsSystem, IsCompareOperand}
+use Rattle.a64_table.specs.declared.fields.TheConstants.{BIT, CRM, HINT, HW, IMM12, IMM14, IMM16, IMM19, IMM21, IMM26, IMM3, IMM5, IMM6, IMM7, IMM9, IMMR, IMMS, N, NZCV, OPC, OPTION, RA, RD, RM, RN, RS, RT, RT2, SF, SHIFT, SIZE, UDF_IMM16}
+use Rattle.a64_table.specs.declared.operation.Operation.{Operation}
+use Rattle.a64_table.specs.declared.operation.Operation.TheVariants.{G1, G2, G3, G4, G5, G6, G7, G8, G9, G10, G11, G12, G13, G14, G15, G16, G17, G18, G19, G20, G21, G22, G23}
+use Rattle.a64_table.specs.declared.operation.BranchOp.{BranchOp}
+use Rattle.a64_table.specs.declared.operation.BranchOp.TheVariants.{B, Bl, BCond, Cbz, Cbnz, Tbz, Tbnz}
+use Rattle.a64_table.specs.declared.operation.MultiplyOp.{MultiplyOp}
+use Rattle.a64_table.specs.declared.operation.MultiplyOp.TheVariants.{Madd, Msub, Smaddl, Smsubl, Umaddl, Umsubl, Smulh, Umulh}
+use Rattle.a64_table.specs.declared.operation.AddressForm.{AddressForm}
+use Rattle.a64_table.specs.declared.operation.AddressForm.TheVariants as form
+use Rattle.a64_table.specs.declared.operation.AtomicForm.{AtomicForm}
+use Rattle.a64_table.specs.declared.operation.AtomicForm.TheVariants.{Ldar, Stlr, Cas, Swap, Update}
+use Rattle.a64_table.specs.declared.operation.SystemOp.{SystemOp}
+use Rattle.a64_table.specs.declared.operation.SystemOp.TheVariants.{Svc, Brk, Udf, Hint, Dmb, Dsb, Isb}
+use Rattle.a64_table.specs.Values.{byte, shift_of, extend_of, access_size_of, load_store_op_of}
+use Rattle.a64_table.specs.Conditions.{fits_of, is_below_width, has_load, is_address_option, is_apart, are_two, is_pair_apart}
+use Rattle.a64_table.specs.Named.{shifted_register, extended_register, named_branch, compare_operand, is_wide_source, named_multiply, named_address, named_atomic, named_system, named}
+use Rattle.a64_table.specs.Ranges.{IsInRow, IsSigned, width_of, is_address_extend, has_size, IsAddress, IsLoadStore, IsLoadStorePair, IsBranch, IsMultiply, IsAtomic, IsSystem, IsCompareOperand}
+use Rattle.a64_table.specs.Table.{scalar}
 
-field_small : (word low width : ℕ) → field_of word low width < 2 ^ width
-unfolding field_of
-field_small word low width = mod_below _ _ (pow_pos width)
+-- ---- numbers of fields
+small : (f : Field) (w : ℕ) → field_in f w % 2 ^ 8 < 2 ^ bits_of f
+small f w = let lt = field_in-lt f w in omega arith
 
-doubled : (width : ℕ) → 0 < width → 2 ^ width ≡ 2 ^ (width - 1) + 2 ^ (width - 1)
-doubled zero some = omega arith
-doubled (suc k) some =
-    let same : suc k - 1 ≡ k = omega arith in
-    subst (λ m. 2 ^ suc k ≡ 2 ^ m + 2 ^ m) (sym same) (two-pow-succ k)
+half_small : (f : Field) (w : ℕ) → field_in f w % 2 ^ 16 < 2 ^ bits_of f
+half_small f w = let lt = field_in-lt f w in omega arith
+
+cut_below : (n m : ℕ) → n < m → n % 2 ^ 8 < m
+cut_below n m lt = omega arith
+
+uncut : (f : Field) (w : ℕ) → 2 ^ bits_of f ≤ 2 ^ 8 → field_in f w % 2 ^ 8 ≡ field_in f w
+uncut f w le = let lt = field_in-lt f w in mod-eq_of_lt (omega arith)
 
 -- a number below twice a half, less the whole from the half on
 in_halves : (half whole bits : ℕ) → whole ≡ half + half → bits < whole → (b : Bool) → (b ≡ true → bits < half) → (b ≡ false → half ≤ bits)
@@ -39,31 +54,22 @@ in_halves : (half whole bits : ℕ) → whole ≡ half + half → bits < whole �
 in_halves half whole bits e small true f g = let h = f refl in (omega (arith, ints), omega (arith, ints))
 in_halves half whole bits e small false f g = let h = g refl in (omega (arith, ints), omega (arith, ints))
 
-signed_small : (width bits : ℕ) → 0 < width → bits < 2 ^ width → IsSigned width (signed_value width bits)
+signed_small : (f : Field) (w : ℕ) → 0 < bits_of f → IsSigned (bits_of f) (signed_value (bits_of f) (field_in f w))
 unfolding signed_value
-signed_small width bits some small =
-    let both = in_halves (2 ^ (width - 1)) (2 ^ width) bits (doubled width some) small (nat_lt bits (2 ^ (width - 1))) (ltb-true _ _) (ltb-false _ _) in
+signed_small f w some =
+    let n = field_in f w in
+    let both = in_halves (2 ^ (bits_of f - 1)) (2 ^ bits_of f) n (doubled (bits_of f) some) (field_in-lt f w) (nat_lt n (2 ^ (bits_of f - 1))) (ltb-true _ _) (ltb-false _ _) in
     record { low = both.0; high = both.1 }
 
+-- ---- conditions
 below_two : (b : Bool) (n : ℕ) → (b || nat_lt n 2) ≡ true → b ≡ false → n < 2
 below_two true n f e = cc
 below_two false n f e = ltb-true _ _ f
 
--- what holds of both ways holds of the one that is taken
-either : {A : Type 0} (P : A → Type 0) (b : Bool) (x y : A) → P x → P y → P (cond b x y)
-either P true x y p q = p
-either P false x y p q = q
-
-below_width : (b : Bool) (n : ℕ) → cond b (nat_lt n 64) (nat_lt n 32) ≡ true → n < width_of b
-below_width true n f = ltb-true _ _ f
-below_width false n f = ltb-true _ _ f
-
-in_width : (word n : ℕ) → is_below_width word n ≡ true → n < width_of (bit_of word 31)
+below_width : (b : Bool) (n : ℕ) → is_below_width b n ≡ true → n % 2 ^ 8 < width_of b
 unfolding is_below_width
-in_width word n f = below_width (bit_of word 31) n f
-
-signed_field_small : (word low width : ℕ) → 0 < width → IsSigned width (signed_value width (field_of word low width))
-signed_field_small word low width some = signed_small width (field_of word low width) some (field_small word low width)
+below_width true n f = cut_below n 64 (ltb-true _ _ f)
+below_width false n f = cut_below n 32 (ltb-true _ _ f)
 
 -- a number of two bits that is not 3 is no rotation
 no_rotation : (n : ℕ) → n < 4 → not (n == 3) ≡ true → shift_of n ≢ Ror
@@ -87,8 +93,8 @@ address_extend (suc (suc (suc (suc (suc (suc zero)))))) small f = refl
 address_extend (suc (suc (suc (suc (suc (suc (suc zero))))))) small f = refl
 address_extend (suc (suc (suc (suc (suc (suc (suc (suc n)))))))) small f = absurd (omega arith)
 
-load_sized : (size opc : ℕ) → size < 4 → opc < 4 → has_load_of size opc ≡ true → has_size (load_store_op_of opc) (access_size_of size) ≡ true
-unfolding has_load_of load_store_op_of access_size_of
+load_sized : (size opc : ℕ) → size < 4 → opc < 4 → has_load size opc ≡ true → has_size (load_store_op_of opc) (access_size_of size) ≡ true
+unfolding has_load load_store_op_of access_size_of
 load_sized size zero s o f = refl
 load_sized size (suc zero) s o f = refl
 load_sized zero (suc (suc zero)) s o f = refl
@@ -103,216 +109,169 @@ load_sized (suc (suc (suc zero))) (suc (suc (suc zero))) s o f = cc
 load_sized (suc (suc (suc (suc n)))) (suc (suc (suc zero))) s o f = absurd (omega arith)
 load_sized size (suc (suc (suc (suc n)))) s o f = absurd (omega arith)
 
-branch_ranged : (word : ℕ) → IsBranch (branch_of word)
-unfolding branch_of
-branch_ranged word =
-    let far = signed_field_small word 0 26 (omega arith) in
-    let near = signed_field_small word 5 19 (omega arith) in
-    let short = signed_field_small word 5 14 (omega arith) in
-    let rt = field_small word 0 5 in
-    let high = field_small word 31 1 in
-    let low = field_small word 19 5 in
-    either IsBranch (field_of word 26 5 == 5) _ _ far
-    (either IsBranch (field_of word 24 8 == 0x54) _ _ near
-    (either IsBranch (bit_of word 25) _ _ (omega arith, short, rt) (near, rt)))
-
-exception_ranged : (word : ℕ) → IsSystem (exception_of word)
-unfolding exception_of
-exception_ranged word =
-    let imm = field_small word 5 16 in
-    either IsSystem (bit_of word 21) _ _ imm imm
-
-hint_or_barrier_ranged : (word : ℕ) → IsSystem (hint_or_barrier_of word)
-unfolding hint_or_barrier_of
-hint_or_barrier_ranged word =
-    let option = field_small word 8 4 in
-    either IsSystem (field_of word 12 4 == 2) _ _ (field_small word 5 7)
-    (either IsSystem (field_of word 5 3 == 5) _ _ option (either IsSystem (field_of word 5 3 == 4) _ _ option option))
-
-system_ranged : (word : ℕ) → IsSystem (system_of word)
-unfolding system_of
-system_ranged word =
-    either IsSystem (field_of word 24 8 == 0) _ _ (field_small word 0 16)
-    (either IsSystem (field_of word 24 8 == 0xD4) _ _ (exception_ranged word) (hint_or_barrier_ranged word))
-
-multiply_ranged : (word : ℕ) → IsMultiply (multiply_of word)
-unfolding multiply_of
-multiply_ranged word =
-    let rm = field_small word 16 5 in
-    let ra = field_small word 10 5 in
-    let rn = field_small word 5 5 in
-    let rd = field_small word 0 5 in
-    either IsMultiply (bit_of word 22) _ _ (rm, rn, rd) (either IsMultiply (bit_of word 21) _ _ (rm, ra, rn, rd) (rm, ra, rn, rd))
-
-atomic_ranged : (word : ℕ) → IsAtomic (atomic_of word)
-unfolding atomic_of swap_of update_of compare_and_swap_of ordered_of
-atomic_ranged word =
-    let rs = field_small word 16 5 in
-    let rn = field_small word 5 5 in
-    let rt = field_small word 0 5 in
-    either IsAtomic (bit_of word 29) _ _ (either IsAtomic (bit_of word 15) _ _ (rs, rn, rt) (rs, rn, rt))
-    (either IsAtomic (bit_of word 21) _ _ (rs, rn, rt) (either IsAtomic (bit_of word 22) _ _ (rn, rt) (rn, rt)))
-
-compare_operand_ranged : (word : ℕ) → IsCompareOperand (compare_operand_of word)
-unfolding compare_operand_of
-compare_operand_ranged word =
-    let both = field_small word 16 5 in
-    either IsCompareOperand (bit_of word 11) _ _ both both
-
-add_sub_register_ranged : (word : ℕ) → (not (field_of word 22 2 == 3) && is_below_width word (field_of word 10 6)) ≡ true → IsInRow (insn_of G2 word)
-unfolding insn_of add_sub_register_of shifted_register_of
-add_sub_register_ranged word f = record {
-  operand = record { rm = field_small word 16 5; amount = in_width word _ (and_parts _ _ f).1 };
-  shift = no_rotation (field_of word 22 2) (field_small word 22 2) (and_parts _ _ f).0;
-  rn = field_small word 5 5;
-  rd = field_small word 0 5;
-}
-
--- the fourth of six operations is taken by its own number
-fourth : (a b c d e : Bool) → cond a Rbit (cond b Rev16 (cond c Rev32 (cond d Rev64 (cond e Clz Cls)))) ≡ Rev64 → d ≡ true
-fourth true b c d e h = cc
-fourth false true c d e h = cc
-fourth false false true d e h = cc
-fourth false false false true e h = refl
-fourth false false false false true h = cc
-fourth false false false false false h = cc
-
-doubleword_wide : (b : Bool) (n : ℕ) → (b || not (n == 3)) ≡ true → one_source_op_of n ≡ Rev64 → b ≡ true
-unfolding one_source_op_of
-doubleword_wide true n f e = refl
-doubleword_wide false n f e = absurd (both_ways (not (n == 3)) (ap not (fourth (n == 0) (n == 1) (n == 2) (n == 3) (n == 4) e)) f)
-
-unfoldable form : Bool → Bool → Bool → Bool → ℕ → ℕ → ℕ → Bool → ℤ → Address
-form a b c d imm rm option scaled offset =
-    cond a (address.Offset imm)
-    (cond b (address.Register rm (extend_of option) scaled) (cond c (cond d (address.PreIndex offset) (address.PostIndex offset)) (address.Unscaled offset)))
-
-form_ranged : (a b c d : Bool) (imm rm option : ℕ) (scaled : Bool) (offset : ℤ) → imm < 2 ^ 12 → rm < 32 → option < 8 → IsSigned 9 offset → (a || not b || is_address_option option) ≡ true → IsAddress (form a b c d imm rm option scaled offset)
-unfolding form
-form_ranged true b c d imm rm option scaled offset i r n o f = i
-form_ranged false true c d imm rm option scaled offset i r n o f = (r, address_extend option n f)
-form_ranged false false true true imm rm option scaled offset i r n o f = o
-form_ranged false false true false imm rm option scaled offset i r n o f = o
-form_ranged false false false d imm rm option scaled offset i r n o f = o
+unlike : (p q : ℕ) → not (p == q) ≡ true → p ≢ q
+unlike p q f e = both_ways (not (p == q)) (ap not (eq-eqb p q e)) f
 
 given : (p q : Bool) → (not p || q) ≡ true → p ≡ true → q ≡ true
 given true q f e = f
 given false q f e = cc
 
-form_apart : (a b c d : Bool) (imm rm option : ℕ) (scaled : Bool) (offset : ℤ) (rn rt : ℕ) → (a || b || not c || not (rn == rt) || rn == 31) ≡ true → writes_base (form a b c d imm rm option scaled offset) ≡ true → rn ≡ rt → rn ≡ 31
-unfolding form
-form_apart true b c d imm rm option scaled offset rn rt f w e = cc
-form_apart false true c d imm rm option scaled offset rn rt f w e = cc
-form_apart false false true d imm rm option scaled offset rn rt f w e = eqb-true rn 31 (given (rn == rt) (rn == 31) f (eq-eqb rn rt e))
-form_apart false false false d imm rm option scaled offset rn rt f w e = cc
-
-load_store_ranged : (word : ℕ) → (has_access word && writes_apart word) ≡ true → IsLoadStore (load_store_of word)
-unfolding has_access writes_apart load_store_of address_of form
-load_store_ranged word f =
-    let parts = and_parts (has_access word) (writes_apart word) f in
-    let access = and_parts (has_load_of (field_of word 30 2) (field_of word 22 2)) _ parts.0 in
-    let offset = signed_field_small word 12 9 (omega arith) in
-    record {
-      size = load_sized (field_of word 30 2) (field_of word 22 2) (field_small word 30 2) (field_small word 22 2) access.0;
-      address =
-          form_ranged (bit_of word 24) (bit_of word 21) (bit_of word 10) (bit_of word 11) (field_of word 10 12) (field_of word 16 5) (field_of word 13 3) (bit_of word 12) _
-          (field_small word 10 12) (field_small word 16 5) (field_small word 13 3) offset access.1;
-      apart =
-          form_apart (bit_of word 24) (bit_of word 21) (bit_of word 10) (bit_of word 11) (field_of word 10 12) (field_of word 16 5) (field_of word 13 3) (bit_of word 12) (signed_value 9 (field_of word 12 9))
-          (field_of word 5 5) (field_of word 0 5) parts.1;
-      rn = field_small word 5 5;
-      rt = field_small word 0 5;
-    }
-
-unlike : (p q : ℕ) → not (p == q) ≡ true → p ≢ q
-unlike p q f e = both_ways (not (p == q)) (ap not (eq-eqb p q e)) f
-
 or_else : (p q : Bool) → (p || q) ≡ true → (p ≡ true → ⊥) → q ≡ true
 or_else true q f h = absurd (h refl)
 or_else false q f h = f
 
-pair_two : (b : Bool) (p q : ℕ) → (not b || not (p == q)) ≡ true → cond b Ldp Stp ≡ Ldp → p ≢ q
-pair_two true p q f e = unlike p q f
-pair_two false p q f e = cc
+-- the registers of fields of 5 bits, as they are kept
+module _ (w : ℕ) where
+  abbrev register : Field → ℕ
+  register f = field_in f w % 2 ^ 8
 
-pair_apart : (b c : Bool) (rn rt rt2 : ℕ) → (not b || rn == 31 || (not (rn == rt) && not (rn == rt2))) ≡ true → cond b (cond c PreIndex PostIndex) Offset ≢ Offset → rn ≢ 31 → (rn ≢ rt) × (rn ≢ rt2)
-pair_apart true c rn rt rt2 f w n =
-    let both = and_parts (not (rn == rt)) (not (rn == rt2)) (or_else (rn == 31) _ f (λ e. n (eqb-true rn 31 e))) in
-    (unlike rn rt both.0, unlike rn rt2 both.1)
-pair_apart false c rn rt rt2 f w n = absurd (w refl)
+  apart : is_apart (field_in RN w) (field_in RT w) ≡ true → register RN ≡ register RT → register RN ≡ 31
+  unfolding is_apart
+  apart f e =
+      let rn = uncut RN w (omega arith) in
+      let rt = uncut RT w (omega arith) in
+      rn ∙ eqb-true _ _ (given (field_in RN w == field_in RT w) _ f (eq-eqb _ _ (sym rn ∙ e ∙ rt)))
 
-load_store_pair_ranged : (word : ℕ) → writes_pair_apart word ≡ true → IsLoadStorePair (load_store_pair_of word)
-unfolding writes_pair_apart load_store_pair_of pair_index_of pair_op_of
-load_store_pair_ranged word f =
-    let parts = and_parts (not (bit_of word 22) || not (field_of word 0 5 == field_of word 10 5)) _ f in
-    record {
-      offset = signed_field_small word 15 7 (omega arith);
-      two = pair_two (bit_of word 22) (field_of word 0 5) (field_of word 10 5) parts.0;
-      apart = pair_apart (bit_of word 23) (bit_of word 24) (field_of word 5 5) (field_of word 0 5) (field_of word 10 5) parts.1;
-      rn = field_small word 5 5;
-      rt = field_small word 0 5;
-      rt2 = field_small word 10 5;
-    }
+  two : (op : PairOp) → are_two op (field_in RT w) (field_in RT2 w) ≡ true → op ≡ Ldp → register RT ≢ register RT2
+  unfolding are_two
+  two Ldp f e g = unlike _ _ f (sym (uncut RT w (omega arith)) ∙ g ∙ uncut RT2 w (omega arith))
+  two Stp f e g = cc
 
-group_ranged : (group : Group) (word : ℕ) → fits_of group word ≡ true → IsInRow (insn_of group word)
-unfolding fits_of insn_of add_sub_immediate_of logical_register_of shifted_register_of add_sub_extended_of extended_register_of logical_immediate_of move_wide_of bitfield_move_of extract_of pc_relative_of branch_register_of add_sub_carry_of conditional_select_of conditional_compare_of one_source_of two_source_of load_literal_of system_move_of
-group_ranged G1 word f = record { imm = field_small word 10 12; rn = field_small word 5 5; rd = field_small word 0 5 }
-group_ranged G2 word f = add_sub_register_ranged word f
-group_ranged G3 word f = record {
-  operand = record { rm = field_small word 16 5; amount = in_width word _ f };
-  rn = field_small word 5 5;
-  rd = field_small word 0 5;
-}
-group_ranged G4 word f = record {
-  operand = record { rm = field_small word 16 5; amount = ltb-true _ _ f };
-  rn = field_small word 5 5;
-  rd = field_small word 0 5;
-}
-group_ranged G5 word f = record {
-  mask = f;
-  immr = field_small word 16 6;
-  imms = field_small word 10 6;
-  rn = field_small word 5 5;
-  rd = field_small word 0 5;
-}
-group_ranged G6 word f = record {
-  imm = field_small word 5 16;
-  hw = field_small word 21 2;
-  narrow = λ e. below_two _ _ f e;
-  rd = field_small word 0 5;
-}
-group_ranged G7 word f =
-    let both = (and_parts (field_of word 22 1 == field_of word 31 1 && is_below_width word (field_of word 16 6)) _ f) in
-    record {
-      immr = in_width word _ (and_parts (field_of word 22 1 == field_of word 31 1) _ both.0).1;
-      imms = in_width word _ both.1;
-      rn = field_small word 5 5;
-      rd = field_small word 0 5;
-    }
-group_ranged G8 word f = record {
-  rm = field_small word 16 5;
-  lsb = in_width word _ (and_parts (field_of word 22 1 == field_of word 31 1) _ f).1;
-  rn = field_small word 5 5;
-  rd = field_small word 0 5;
-}
-group_ranged G9 word f =
-    let high = field_small word 5 19 in
-    let low = field_small word 29 2 in
-    record { imm = signed_small 21 (field_of word 5 19 * 4 + field_of word 29 2) (omega arith) (omega arith); rd = field_small word 0 5 }
-group_ranged G10 word f = branch_ranged word
-group_ranged G11 word f = field_small word 5 5
-group_ranged G12 word f = record { rm = field_small word 16 5; rn = field_small word 5 5; rd = field_small word 0 5 }
-group_ranged G13 word f = record { rm = field_small word 16 5; rn = field_small word 5 5; rd = field_small word 0 5 }
-group_ranged G14 word f = record { operand = compare_operand_ranged word; nzcv = field_small word 0 4; rn = field_small word 5 5 }
-group_ranged G15 word f = record { doubleword = doubleword_wide (bit_of word 31) (field_of word 10 6) f; rn = field_small word 5 5; rd = field_small word 0 5 }
-group_ranged G16 word f = record { rm = field_small word 16 5; rn = field_small word 5 5; rd = field_small word 0 5 }
-group_ranged G17 word f = multiply_ranged word
-group_ranged G18 word f = load_store_ranged word f
-group_ranged G19 word f = record { words = signed_field_small word 5 19 (omega arith); rt = field_small word 0 5 }
-group_ranged G20 word f = load_store_pair_ranged word f
-group_ranged G21 word f = atomic_ranged word
-group_ranged G22 word f = system_ranged word
-group_ranged G23 word f = field_small word 0 5
+  written_apart : (field_in RN w == 31 || (not (field_in RN w == field_in RT w) && not (field_in RN w == field_in RT2 w))) ≡ true → register RN ≢ 31 → (register RN ≢ register RT) × (register RN ≢ register RT2)
+  written_apart f n =
+      let rn = uncut RN w (omega arith) in
+      let both = and_parts _ _ (or_else _ _ f (λ e. n (rn ∙ eqb-true _ _ e))) in
+      (λ e. unlike _ _ both.0 (sym rn ∙ e ∙ uncut RT w (omega arith)), λ e. unlike _ _ both.1 (sym rn ∙ e ∙ uncut RT2 w (omega arith)))
 
-pub ranged : (rows : List Row) (word : ℕ) (it : Insn) → Means rows word it → IsInRow it
-ranged rows word it m = subst IsInRow (sym m.gives) (group_ranged m.row.group word m.fits)
+  pair_apart : (index : PairIndex) → is_pair_apart index (field_in RN w) (field_in RT w) (field_in RT2 w) ≡ true → index ≢ Offset → register RN ≢ 31 → (register RN ≢ register RT) × (register RN ≢ register RT2)
+  unfolding is_pair_apart
+  pair_apart Offset f o n = absurd (o refl)
+  pair_apart PostIndex f o n = written_apart f n
+  pair_apart PreIndex f o n = written_apart f n
+
+  -- ---- by operation
+  branch_ranged : (op : BranchOp) → IsBranch (named_branch op (numbers_in w) (signed_numbers_in w))
+  unfolding named_branch
+  branch_ranged B = signed_small IMM26 w (omega arith)
+  branch_ranged Bl = signed_small IMM26 w (omega arith)
+  branch_ranged BCond = signed_small IMM19 w (omega arith)
+  branch_ranged Cbz = (signed_small IMM19 w (omega arith), small RT w)
+  branch_ranged Cbnz = (signed_small IMM19 w (omega arith), small RT w)
+  branch_ranged Tbz = (small BIT w, signed_small IMM14 w (omega arith), small RT w)
+  branch_ranged Tbnz = (small BIT w, signed_small IMM14 w (omega arith), small RT w)
+
+  compare_ranged : (immediate : Bool) → IsCompareOperand (compare_operand immediate (numbers_in w))
+  unfolding compare_operand
+  compare_ranged true = small IMM5 w
+  compare_ranged false = small RM w
+
+  doubleword_wide : (op : OneSourceOp) → op ≡ Rev64 → is_wide_source op (numbers_in w) ≡ true
+  unfolding is_wide_source
+  doubleword_wide Rev64 e = refl
+  doubleword_wide Rbit e = cc
+  doubleword_wide Rev16 e = cc
+  doubleword_wide Rev32 e = cc
+  doubleword_wide Clz e = cc
+  doubleword_wide Cls e = cc
+
+  multiply_ranged : (op : MultiplyOp) → IsMultiply (named_multiply op (numbers_in w))
+  unfolding named_multiply
+  multiply_ranged Smulh = (small RM w, small RN w, small RD w)
+  multiply_ranged Umulh = (small RM w, small RN w, small RD w)
+  multiply_ranged _ = (small RM w, small RA w, small RN w, small RD w)
+
+  load_store_ranged : (f : AddressForm) → fits_of (G18 f) (numbers_in w) ≡ true → IsInRow (named (G18 f) (numbers_in w) (signed_numbers_in w))
+  unfolding fits_of named named_address
+  load_store_ranged form.Offset f = record {
+    size = load_sized _ _ (field_in-lt SIZE w) (field_in-lt OPC w) f;
+    address = half_small IMM12 w;
+    apart = λ e. cc;
+    rn = small RN w;
+    rt = small RT w;
+  }
+  load_store_ranged form.Unscaled f = record {
+    size = load_sized _ _ (field_in-lt SIZE w) (field_in-lt OPC w) f;
+    address = signed_small IMM9 w (omega arith);
+    apart = λ e. cc;
+    rn = small RN w;
+    rt = small RT w;
+  }
+  load_store_ranged form.PostIndex f = record {
+    size = load_sized _ _ (field_in-lt SIZE w) (field_in-lt OPC w) (and_parts _ _ f).0;
+    address = signed_small IMM9 w (omega arith);
+    apart = λ e. apart (and_parts _ _ f).1;
+    rn = small RN w;
+    rt = small RT w;
+  }
+  load_store_ranged form.PreIndex f = record {
+    size = load_sized _ _ (field_in-lt SIZE w) (field_in-lt OPC w) (and_parts _ _ f).0;
+    address = signed_small IMM9 w (omega arith);
+    apart = λ e. apart (and_parts _ _ f).1;
+    rn = small RN w;
+    rt = small RT w;
+  }
+  load_store_ranged form.Register f = record {
+    size = load_sized _ _ (field_in-lt SIZE w) (field_in-lt OPC w) (and_parts _ _ f).0;
+    address = (small RM w, address_extend _ (field_in-lt OPTION w) (and_parts _ _ f).1);
+    apart = λ e. cc;
+    rn = small RN w;
+    rt = small RT w;
+  }
+
+  atomic_ranged : (f : AtomicForm) → IsAtomic (named_atomic f (numbers_in w))
+  unfolding named_atomic
+  atomic_ranged Ldar = (small RN w, small RT w)
+  atomic_ranged Stlr = (small RN w, small RT w)
+  atomic_ranged Cas = (small RS w, small RN w, small RT w)
+  atomic_ranged Swap = (small RS w, small RN w, small RT w)
+  atomic_ranged (Update op) = (small RS w, small RN w, small RT w)
+
+  system_ranged : (op : SystemOp) → IsSystem (named_system op (numbers_in w))
+  unfolding named_system
+  system_ranged Svc = half_small IMM16 w
+  system_ranged Brk = half_small IMM16 w
+  system_ranged Udf = half_small UDF_IMM16 w
+  system_ranged Hint = small HINT w
+  system_ranged Dmb = small CRM w
+  system_ranged Dsb = small CRM w
+  system_ranged Isb = small CRM w
+
+  operation_ranged : (op : Operation) → fits_of op (numbers_in w) ≡ true → IsInRow (named op (numbers_in w) (signed_numbers_in w))
+  unfolding fits_of named shifted_register extended_register
+  operation_ranged (G1 op) f = record { imm = half_small IMM12 w; rn = small RN w; rd = small RD w }
+  operation_ranged (G2 op) f =
+      let p = and_parts _ _ f in
+      record { operand = record { rm = small RM w; amount = below_width _ _ p.1 }; shift = no_rotation _ (field_in-lt SHIFT w) p.0; rn = small RN w; rd = small RD w }
+  operation_ranged (G3 op inverted) f = record { operand = record { rm = small RM w; amount = below_width _ _ f }; rn = small RN w; rd = small RD w }
+  operation_ranged (G4 op) f = record { operand = record { rm = small RM w; amount = cut_below _ 5 (ltb-true _ _ f) }; rn = small RN w; rd = small RD w }
+  operation_ranged (G5 op) f = record {
+    mask = ap₂ (λ a b. are_mask_fields (field_in N w == 1) a b (field_in SF w == 1)) (uncut IMMS w (omega arith)) (uncut IMMR w (omega arith)) ∙ f;
+    immr = small IMMR w;
+    imms = small IMMS w;
+    rn = small RN w;
+    rd = small RD w;
+  }
+  operation_ranged (G6 op) f = record { imm = half_small IMM16 w; hw = small HW w; narrow = λ e. cut_below _ 2 (below_two _ _ f e); rd = small RD w }
+  operation_ranged (G7 op wide) f = let p = and_parts _ _ f in record { immr = below_width _ _ p.0; imms = below_width _ _ p.1; rn = small RN w; rd = small RD w }
+  operation_ranged (G8 wide) f = record { rm = small RM w; lsb = below_width _ _ f; rn = small RN w; rd = small RD w }
+  operation_ranged (G9 op) f = record { imm = signed_small IMM21 w (omega arith); rd = small RD w }
+  operation_ranged (G10 op) f = branch_ranged op
+  operation_ranged (G11 op) f = small RN w
+  operation_ranged (G12 op) f = record { rm = small RM w; rn = small RN w; rd = small RD w }
+  operation_ranged (G13 op) f = record { rm = small RM w; rn = small RN w; rd = small RD w }
+  operation_ranged (G14 op immediate) f = record { operand = compare_ranged immediate; nzcv = small NZCV w; rn = small RN w }
+  operation_ranged (G15 op) f = record { doubleword = doubleword_wide op; rn = small RN w; rd = small RD w }
+  operation_ranged (G16 op) f = record { rm = small RM w; rn = small RN w; rd = small RD w }
+  operation_ranged (G17 op) f = multiply_ranged op
+  operation_ranged (G18 form) f = load_store_ranged form f
+  operation_ranged (G19 op) f = record { words = signed_small IMM19 w (omega arith); rt = small RT w }
+  operation_ranged (G20 op wide index) f =
+      let p = and_parts _ _ f in
+      record { offset = signed_small IMM7 w (omega arith); two = two op p.0; apart = pair_apart index p.1; rn = small RN w; rt = small RT w; rt2 = small RT2 w }
+  operation_ranged (G21 form) f = atomic_ranged form
+  operation_ranged (G22 op) f = system_ranged op
+  operation_ranged (G23 op register) f = small RT w
+
+pub ranged : (w : ℕ) (it : Insn) → Means scalar w it → IsInRow it
+unfolding scalar
+ranged w it m = subst IsInRow (sym m.gives) (operation_ranged w m.line.operation m.fits)

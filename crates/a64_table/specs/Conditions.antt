@@ -1,84 +1,57 @@
--- The conditions on the fields of a word that has a row's fixed bits: no row stands for the words that do not meet them.
+-- The conditions on the fields of an operation: no row stands for the words that do not meet them.
 -- Source: DDI 0487, C6.2, the encodings that each instruction's page calls undefined, unallocated or constrained unpredictable.
 -- Of the fields of a mask only those are taken that have the bits of immr above the rotation clear.
-use Rattle.std.specs.Prelude.{ℕ, ◌+◌, ◌-◌, ◌%◌, ◌^◌, ◌==◌, Bool, true, not, ◌&&◌, ◌||◌, nat_lt, nat_le, if◌then◌else◌}
-use Rattle.a64_table.specs.declared.rows.Group.{Group}
-use Rattle.a64_table.specs.declared.rows.Group.TheVariants.{G1, G2, G3, G4, G5, G6, G7, G8, G9, G10, G11, G12, G13, G14, G15, G16, G17, G18, G19, G20, G21, G22, G23}
-use Rattle.a64_table.specs.Fields.{field_of, bit_of}
+use Rattle.std.specs.Prelude.{ℕ, ◌==◌, Bool, true, false, not, ◌&&◌, ◌||◌, nat_lt, nat_le, if◌then◌else◌}
+use Rattle.bit_ops.specs.Masks.{are_mask_fields}
+use Rattle.sm_types.specs.declared.insn.PairOp.{PairOp}
+use Rattle.sm_types.specs.declared.insn.PairOp.TheVariants.{Stp, Ldp}
+use Rattle.sm_types.specs.declared.insn.PairIndex.{PairIndex}
+use Rattle.sm_types.specs.declared.insn.PairIndex.TheVariants as index
+use Rattle.insn_forms.specs.declared.field.Field.{Field}
+use Rattle.a64_table.specs.declared.fields.TheConstants.{HW, IMM3, IMM6, IMMR, IMMS, N, OPC, OPTION, RN, RT, RT2, SF, SHIFT, SIZE}
+use Rattle.a64_table.specs.declared.operation.Operation.{Operation}
+use Rattle.a64_table.specs.declared.operation.Operation.TheVariants.{G2, G3, G4, G5, G6, G7, G8, G18, G20}
+use Rattle.a64_table.specs.declared.operation.AddressForm.TheVariants.{PostIndex, PreIndex, Register}
+use Rattle.a64_table.specs.Values.{is_one}
 
--- the number is below the width of the registers, sf 31
-unfoldable pub is_below_width : ℕ → ℕ → Bool
-is_below_width word number = if bit_of word 31 then nat_lt number 64 else nat_lt number 32
-
--- the seven bits N, not(imms)
-unfoldable pub length_bits : Bool → ℕ → ℕ
-length_bits n imms = if n then 127 - imms else 63 - imms
-
--- the highest one of the number is at the place
-unfoldable pub is_highest_one : ℕ → ℕ → Bool
-is_highest_one place number = nat_le (2 ^ place) number && nat_lt number (2 ^ (place + 1))
-
--- the ones of an element, one more than the low len bits of imms, are less than its 2 ^ len bits
-unfoldable pub has_fewer_ones : ℕ → ℕ → Bool
-has_fewer_ones len imms = not (imms % 2 ^ len == 2 ^ len - 1)
-
--- len is the place of the highest one of the seven bits, the element is not of ones alone, and immr has no bits above its low len bits
-unfoldable pub is_mask_of : ℕ → Bool → ℕ → ℕ → Bool
-is_mask_of len n immr imms = is_highest_one len (length_bits n imms) && has_fewer_ones len imms && nat_lt immr (2 ^ len)
-
--- the fields give a mask of the width
-unfoldable pub is_mask : Bool → Bool → ℕ → ℕ → Bool
-is_mask wide n immr imms =
-    (wide || not n)
-    && (is_mask_of 1 n immr imms || is_mask_of 2 n immr imms || is_mask_of 3 n immr imms || is_mask_of 4 n immr imms || is_mask_of 5 n immr imms || is_mask_of 6 n immr imms)
+-- the number is below the width of the registers
+unfoldable pub is_below_width : Bool → ℕ → Bool
+is_below_width wide number = if wide then nat_lt number 64 else nat_lt number 32
 
 -- no signed load of a doubleword, nor of a word to 32 bits
-unfoldable pub has_load_of : ℕ → ℕ → Bool
-has_load_of size opc = not (size == 3 && nat_le 2 opc) && not (size == 2 && opc == 3)
+unfoldable pub has_load : ℕ → ℕ → Bool
+has_load size opc = not (size == 3 && nat_le 2 opc) && not (size == 2 && opc == 3)
 
--- option 15:13 of an address with a register: a word or a doubleword, without or with its sign
+-- an extension of an address is from a word or a doubleword, without or with its sign
 unfoldable pub is_address_option : ℕ → Bool
 is_address_option option = option == 2 || option == 3 || option == 6 || option == 7
 
--- size 31:30 and opc 23:22, and option 15:13 of an address with a register, by bits 24 and 21
-unfoldable pub has_access : ℕ → Bool
-has_access word =
-    has_load_of (field_of word 30 2) (field_of word 22 2)
-    && (bit_of word 24 || not (bit_of word 21) || is_address_option (field_of word 13 3))
+-- a base that is written is not the register that is loaded or stored, or is SP
+unfoldable pub is_apart : ℕ → ℕ → Bool
+is_apart rn rt = not (rn == rt) || rn == 31
 
--- post-index and pre-index, by bits 24, 21 and 10: the base Rn 9:5 is not Rt 4:0, or is SP
-unfoldable pub writes_apart : ℕ → Bool
-writes_apart word =
-    bit_of word 24 || bit_of word 21 || not (bit_of word 10) || not (field_of word 5 5 == field_of word 0 5) || field_of word 5 5 == 31
+-- the two registers of a pair that is loaded are two
+unfoldable pub are_two : PairOp → ℕ → ℕ → Bool
+are_two Ldp rt rt2 = not (rt == rt2)
+are_two Stp rt rt2 = true
 
--- a pair: a load, L 22, has Rt 4:0 unlike Rt2 14:10; post-index and pre-index, by bit 23, have Rn 9:5 unlike both, or SP
-unfoldable pub writes_pair_apart : ℕ → Bool
-writes_pair_apart word =
-    (not (bit_of word 22) || not (field_of word 0 5 == field_of word 10 5))
-    && (not (bit_of word 23) || field_of word 5 5 == 31 || (not (field_of word 5 5 == field_of word 0 5) && not (field_of word 5 5 == field_of word 10 5)))
+-- a base that is written is neither register of the pair, or is SP
+unfoldable pub is_pair_apart : PairIndex → ℕ → ℕ → ℕ → Bool
+is_pair_apart index.Offset rn rt rt2 = true
+is_pair_apart _ rn rt rt2 = rn == 31 || (not (rn == rt) && not (rn == rt2))
 
--- the word meets the group's condition; that of G15, that a doubleword is reversed at 64 bits alone, its row fixes too
-unfoldable pub fits_of : Group → ℕ → Bool
-fits_of G1 word = true
-fits_of G2 word = not (field_of word 22 2 == 3) && is_below_width word (field_of word 10 6)
-fits_of G3 word = is_below_width word (field_of word 10 6)
-fits_of G4 word = nat_lt (field_of word 10 3) 5
-fits_of G5 word = is_mask (bit_of word 31) (bit_of word 22) (field_of word 16 6) (field_of word 10 6)
-fits_of G6 word = bit_of word 31 || nat_lt (field_of word 21 2) 2
-fits_of G7 word = field_of word 22 1 == field_of word 31 1 && is_below_width word (field_of word 16 6) && is_below_width word (field_of word 10 6)
-fits_of G8 word = field_of word 22 1 == field_of word 31 1 && is_below_width word (field_of word 10 6)
-fits_of G9 word = true
-fits_of G10 word = true
-fits_of G11 word = true
-fits_of G12 word = true
-fits_of G13 word = true
-fits_of G14 word = true
-fits_of G15 word = bit_of word 31 || not (field_of word 10 6 == 3)
-fits_of G16 word = true
-fits_of G17 word = true
-fits_of G18 word = has_access word && writes_apart word
-fits_of G19 word = true
-fits_of G20 word = writes_pair_apart word
-fits_of G21 word = true
-fits_of G22 word = true
-fits_of G23 word = true
+-- the condition of an operation
+unfoldable pub fits_of : Operation → (Field → ℕ) → Bool
+fits_of (G2 op) n = not (n SHIFT == 3) && is_below_width (is_one (n SF)) (n IMM6)
+fits_of (G3 op inverted) n = is_below_width (is_one (n SF)) (n IMM6)
+fits_of (G4 op) n = nat_lt (n IMM3) 5
+fits_of (G5 op) n = are_mask_fields (is_one (n N)) (n IMMS) (n IMMR) (is_one (n SF))
+fits_of (G6 op) n = is_one (n SF) || nat_lt (n HW) 2
+fits_of (G7 op wide) n = is_below_width wide (n IMMR) && is_below_width wide (n IMMS)
+fits_of (G8 wide) n = is_below_width wide (n IMMS)
+fits_of (G18 PostIndex) n = has_load (n SIZE) (n OPC) && is_apart (n RN) (n RT)
+fits_of (G18 PreIndex) n = has_load (n SIZE) (n OPC) && is_apart (n RN) (n RT)
+fits_of (G18 Register) n = has_load (n SIZE) (n OPC) && is_address_option (n OPTION)
+fits_of (G18 form) n = has_load (n SIZE) (n OPC)
+fits_of (G20 op wide index) n = are_two op (n RT) (n RT2) && is_pair_apart index (n RN) (n RT) (n RT2)
+fits_of operation n = true

@@ -1,10 +1,7 @@
-pub mod Accesses
 pub mod Conditions
-pub mod Control
-pub mod Fields
-pub mod Meaning
-pub mod Operands
-pub mod Processing
+pub mod Named
+pub mod Parts
 pub mod Ranges
 pub mod Rows
-pub mod Words
+pub mod Table
+pub mod Values

@@ -44,7 +44,7 @@ use Rattle.sm_types.specs.declared.insn.System.{System}
 use Rattle.sm_types.specs.declared.insn.System.TheVariants.{Svc, Brk, Udf, Hint, Dmb, Dsb, Isb}
 use Rattle.sm_types.specs.declared.insn.Insn.{Insn}
 use Rattle.sm_types.specs.declared.insn.Insn.TheVariants as insn
-use Rattle.a64_table.specs.Conditions.{is_mask}
+use Rattle.bit_ops.specs.Masks.{are_mask_fields}
 
 -- a number of so many bits in two's complement
 pub record IsSigned (width : ℕ) (number : ℤ) : Type 0 where
@@ -93,7 +93,7 @@ pub record IsAddSubExtended (it : AddSubExtended) : Type 0 where
 
 -- the fields of a mask, with no bit of immr above the rotation
 pub record IsLogicalImmediate (it : LogicalImmediate) : Type 0 where
-  pub mask : IsTrue (is_mask it.wide it.n it.immr it.imms)
+  pub mask : are_mask_fields it.n it.imms it.immr it.wide ≡ true
   pub immr : it.immr < 2 ^ 6
   pub imms : it.imms < 2 ^ 6
   pub rn : it.rn < 32

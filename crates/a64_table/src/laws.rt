@@ -1,29 +1,40 @@
 //! The laws of the table.
-ghost use Rattle.std.specs.Prelude.{◌≡◌, ◌<◌, ◌^◌, ◌↔◌, Some, ℕ};
+ghost use Rattle.std.specs.Prelude.{◌≡◌, ◌<◌, ◌^◌, ◌↔◌, Some, ℕ, map};
 ghost use Rattle.sm_types.specs.declared.insn.Insn.{Insn};
-ghost use Rattle.a64_table.specs.Meaning.{HasAtMostOneRow, Means, meaning_of};
+ghost use Rattle.insn_forms.specs.Tables.{HasAtMostOneLine, HasWord, Means};
+ghost use Rattle.a64_table.specs.declared.rows.TheConstants.{SCALAR_LINES};
 ghost use Rattle.a64_table.specs.Ranges.{IsInRow};
-ghost use Rattle.a64_table.specs.Words.{word_of};
+ghost use Rattle.a64_table.specs.Rows.{row_of};
+ghost use Rattle.a64_table.specs.Table.{meaning_of, scalar};
 
 use crate::rows::SCALAR_ROWS;
 
+/// The rows are those of the lines.
+pub fn rows_of_lines()
+    ensures { map row_of SCALAR_LINES ≡ SCALAR_ROWS }
+{}
+
 /// At most one row of the table matches and fits a word.
 pub fn one_row()
-    ensures { (word : ℕ) → HasAtMostOneRow SCALAR_ROWS word }
+    ensures { (word : ℕ) → HasAtMostOneLine scalar word }
 {}
 
 /// What a word means by the first row that stands for it is what it means by any.
 pub fn one_meaning()
-    ensures { (word : ℕ) (it : Insn) → word < 2 ^ 32 → (meaning_of word ≡ Some it) ↔ Means SCALAR_ROWS word it }
+    ensures { (word : ℕ) (it : Insn) → word < 2 ^ 32 → (meaning_of word ≡ Some it) ↔ Means scalar word it }
 {}
 
 /// The fields of each instruction that a word means are in their ranges.
 pub fn in_range()
-    ensures { (word : ℕ) (it : Insn) → Means SCALAR_ROWS word it → IsInRow it }
+    ensures { (word : ℕ) (it : Insn) → Means scalar word it → IsInRow it }
 {}
 
-/// An instruction has at most one word, which its operation and fields say.
+/// An instruction whose fields are in their ranges has a word.
+pub fn has_word()
+    ensures { (it : Insn) → IsInRow it → HasWord scalar it }
+{}
+
+/// An instruction has at most one word.
 pub fn one_word()
-    ensures word { (word : ℕ) (it : Insn) → Means SCALAR_ROWS word it → word_of it ≡ word }
-    ensures one { (word other : ℕ) (it : Insn) → Means SCALAR_ROWS word it → Means SCALAR_ROWS other it → word ≡ other }
+    ensures { (word other : ℕ) (it : Insn) → Means scalar word it → Means scalar other it → word ≡ other }
 {}

@@ -1,6 +1,6 @@
 -- Masks of the logical instructions: equal elements, each a run of ones that is rotated.
 -- Source: DDI 0487, J1.1, DecodeBitMasks. Words are of 64 bits where `wide` holds, else of 32.
-use Rattle.std.specs.Prelude.{◌≡◌, ℕ, zero, suc, ◌+◌, ◌-◌, ◌*◌, ◌%◌, ◌^◌, ◌≤◌, ◌<◌, ◌↔◌, Bool, not, ◌&&◌, ◌||◌, ◌==◌, nat_le, if◌then◌else◌, Option, Some, None}
+use Rattle.std.specs.Prelude.{◌≡◌, ℕ, zero, suc, ◌+◌, ◌-◌, ◌*◌, ◌%◌, ◌^◌, ◌≤◌, ◌<◌, ◌↔◌, Bool, not, ◌&&◌, ◌||◌, ◌==◌, nat_le, nat_lt, if◌then◌else◌, Option, Some, None}
 use Rattle.bit_ops.specs.Sums.{bool_number}
 use Rattle.bit_ops.specs.Bits.{width_of, digit_at, number_of_digits}
 
@@ -28,6 +28,10 @@ turn_of n imms immr = immr % size_of n imms
 -- no mask has these fields: elements of 64 bits in words of 32, elements of one bit or none, or no zero in an element
 unfoldable pub is_reserved : Bool → ℕ → Bool → Bool
 is_reserved n imms wide = (n && not wide) || (length_of n imms == 0) || (ones_of n imms == size_of n imms - 1)
+
+-- the fields in which a mask is written: they are not reserved, and immr has no bits above R
+unfoldable pub are_mask_fields : Bool → ℕ → ℕ → Bool → Bool
+are_mask_fields n imms immr wide = not (is_reserved n imms wide) && nat_lt immr (size_of n imms)
 
 -- bit i of the mask is bit i + R of the run of S + 1 ones, within elements
 unfoldable pub mask_of : Bool → ℕ → ℕ → Bool → ℕ

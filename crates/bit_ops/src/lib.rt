@@ -10,7 +10,7 @@ mod sums;
 mod words;
 
 pub use counts::{count_signs, count_zeros};
-pub use masks::{bit_mask, mask_fields};
+pub use masks::{are_mask_fields, bit_mask, mask_fields};
 pub use reversals::{reverse_bits, reverse_bytes};
 pub use shifts::{ShiftKind, shift};
 pub use sums::{Nzcv, add_carry};

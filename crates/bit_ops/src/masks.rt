@@ -2,7 +2,7 @@
 ghost use Rattle.std.specs.Prelude.{◌≡◌, ◌≢◌, ◌+◌, ◌-◌, ◌*◌, ◌%◌, ◌^◌, ◌<◌, ◌≤◌, ◌↔◌, ℕ, Bool, not, ◌&&◌, ◌||◌, ◌==◌, nat_le, true, false, IsTrue, IfSome, IsNone, Some};
 ghost use Rattle.bit_ops.specs.Sums.{bool_number, word_size};
 ghost use Rattle.bit_ops.specs.Bits.{digit_at};
-ghost use Rattle.bit_ops.specs.Masks.{bit_mask_of, is_reserved, length_of, ones_of, size_of, starts_at, IsMask, IsFieldsOf};
+ghost use Rattle.bit_ops.specs.Masks.{are_mask_fields, bit_mask_of, is_reserved, length_of, ones_of, size_of, starts_at, IsMask, IsFieldsOf};
 
 use crate::words::{low_word, width};
 
@@ -22,6 +22,18 @@ pub fn bit_mask(n: bool, imms: u8, immr: u8, wide: bool) -> Option<u64>
     }
     let mask = repeated(length, ones).rotate_right(low_bits(immr, length));
     Some(low_word(mask, wide))
+}
+
+/// Whether the fields N, imms and immr write a mask of 64 bits where `wide`, else of 32: they are not reserved, and `immr` is
+/// below the size of an element.
+#[inline(always)]
+#[tactic(auto, unfolding(crate::specs::Masks::are_mask_fields, crate::specs::Masks::is_reserved))]
+pub fn are_mask_fields(n: bool, imms: u8, immr: u8, wide: bool) -> bool
+    requires { imms < 64 }
+    ensures { result ≡ are_mask_fields n imms immr wide }
+{
+    let length = element_length(n, imms);
+    !has_no_mask(n, wide, length, low_bits(imms, length)) && u32::from(immr) < element_size(length)
 }
 
 /// The seven bits N, NOT(imms).

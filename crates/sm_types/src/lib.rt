@@ -8,6 +8,7 @@ mod config;
 mod insn;
 mod length;
 mod object;
+mod row;
 mod scalars;
 mod shared_op;
 mod stop;
@@ -24,6 +25,7 @@ pub use insn::{
 };
 pub use length::VecLen;
 pub use object::{Bytes, Object, Section, Symbol, Symbols, TEXT_ADDRESS};
+pub use row::{Group, Row};
 pub use scalars::Scalars;
 pub use shared_op::{Event, OpKind, SharedOp};
 pub use stop::{Access, Exception, Stop};

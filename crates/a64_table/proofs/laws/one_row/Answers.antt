@@ -1,5 +1,5 @@
-use Rattle.a64_table.proofs.FirstRow.{scalar_one_row}
+use Rattle.a64_table.proofs.Checks.{one_row}
 use Rattle.a64_table.proofs.laws.one_row.Goals as goal
 
 pub returns : goal.returns
-returns c = scalar_one_row
+returns c = one_row

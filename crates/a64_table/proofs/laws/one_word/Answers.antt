@@ -1,9 +1,8 @@
-use Rattle.std.proofs.Common.{sym, ◌∙◌}
-use Rattle.a64_table.proofs.OneWord.{scalar_word}
+use Rattle.insn_forms.proofs.Tables.{means-word, one_word}
+use Rattle.a64_table.specs.Parts.{parts_of}
+use Rattle.a64_table.specs.Table.{scalar}
+use Rattle.a64_table.proofs.Checks.{is_table}
 use Rattle.a64_table.proofs.laws.one_word.Goals as goal
 
-pub returns-clause-word : goal.returns-clause-word
-returns-clause-word c = scalar_word
-
-pub returns-clause-one : goal.returns-clause-one
-returns-clause-one c word other it m n = sym (scalar_word word it m) ∙ scalar_word other it n
+pub returns : goal.returns
+returns c w v it m n = one_word scalar parts_of is_table w v it (means-word scalar parts_of is_table w it m) (means-word scalar parts_of is_table v it n)

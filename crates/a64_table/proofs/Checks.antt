@@ -1,0 +1,249 @@
+-- The finite checks of the table, and its laws.
+use Rattle.std.proofs.Common.{◌≡◌, ℕ, zero, suc, ◌+◌, ◌*◌, ◌==◌, ◌&&◌, not, Bool, true, false, cond, refl, sym, ap, ◌∙◌, eqb-true, eq-eqb, bit_and, List, [], ◌∷◌, slice_get, Option, Some, None, subst}
+use Rattle.std.specs.List.{list_all}
+use Rattle.std.specs.Prelude.{option_map}
+use Rattle.std.proofs.lemmas.Bool.{and_parts, both_ways}
+use denote.Enum.Declared.{tag_of}
+use Rattle.insn_forms.specs.declared.field.Field.{Field}
+use Rattle.insn_forms.specs.declared.line.Line.{Line}
+use Rattle.insn_forms.specs.Fields.{is_field, list_of, mask_of}
+use Rattle.insn_forms.specs.Forms.{is_form, fills}
+use Rattle.insn_forms.specs.Tables.{HasAtMostOneLine}
+use Rattle.insn_forms.proofs.Laws.{all-get, suits, pairwise, one_place}
+use Rattle.insn_forms.proofs.Ways.{take_of, field_of_slot, eight}
+use Rattle.insn_forms.proofs.Tables.{IsTable, differ, not_alike}
+use Rattle.sm_types.specs.contracts.insn.AddSub as add_sub
+use Rattle.sm_types.specs.contracts.insn.AtomicOp as atomic_op
+use Rattle.sm_types.specs.contracts.insn.BitfieldOp as bitfield_op
+use Rattle.sm_types.specs.contracts.insn.BranchRegisterOp as branch_register_op
+use Rattle.sm_types.specs.contracts.insn.CompareOp as compare_op
+use Rattle.sm_types.specs.contracts.insn.LoadLiteralOp as load_literal_op
+use Rattle.sm_types.specs.contracts.insn.Logical as logical
+use Rattle.sm_types.specs.contracts.insn.MoveOp as move_op
+use Rattle.sm_types.specs.contracts.insn.OneSourceOp as one_source_op
+use Rattle.sm_types.specs.contracts.insn.PairIndex as pair_index
+use Rattle.sm_types.specs.contracts.insn.PairOp as pair_op
+use Rattle.sm_types.specs.contracts.insn.PcRelativeOp as pc_relative_op
+use Rattle.sm_types.specs.contracts.insn.SelectOp as select_op
+use Rattle.sm_types.specs.contracts.insn.SystemMoveOp as system_move_op
+use Rattle.sm_types.specs.contracts.insn.SystemRegister as system_register
+use Rattle.sm_types.specs.contracts.insn.TwoSourceOp as two_source_op
+use Rattle.sm_types.specs.declared.insn.AddSub.TheVariants.{Add}
+use Rattle.sm_types.specs.declared.insn.AtomicOp.TheVariants as atomic_ops
+use Rattle.sm_types.specs.declared.insn.BitfieldOp.TheVariants.{Sbfm, Bfm, Ubfm}
+use Rattle.sm_types.specs.declared.insn.BranchRegisterOp.TheVariants.{Br}
+use Rattle.sm_types.specs.declared.insn.CompareOp.TheVariants.{Ccmn, Ccmp}
+use Rattle.sm_types.specs.declared.insn.LoadLiteralOp.TheVariants.{Word}
+use Rattle.sm_types.specs.declared.insn.Logical.TheVariants.{And, Orr, Eor, Ands}
+use Rattle.sm_types.specs.declared.insn.MoveOp.TheVariants.{Movn}
+use Rattle.sm_types.specs.declared.insn.OneSourceOp.TheVariants.{Rbit}
+use Rattle.sm_types.specs.declared.insn.PairIndex.TheVariants.{Offset}
+use Rattle.sm_types.specs.declared.insn.PairOp.TheVariants.{Stp, Ldp}
+use Rattle.sm_types.specs.declared.insn.PcRelativeOp.TheVariants.{Adr}
+use Rattle.sm_types.specs.declared.insn.SelectOp.TheVariants.{Csel}
+use Rattle.sm_types.specs.declared.insn.SystemMoveOp.TheVariants.{Mrs, Msr}
+use Rattle.sm_types.specs.declared.insn.SystemRegister.TheVariants.{Nzcv}
+use Rattle.sm_types.specs.declared.insn.TwoSourceOp.TheVariants.{Udiv}
+use Rattle.a64_table.specs.contracts.operation.AddressForm as form
+use Rattle.a64_table.specs.contracts.operation.BranchOp as branch
+use Rattle.a64_table.specs.contracts.operation.MultiplyOp as multiply
+use Rattle.a64_table.specs.contracts.operation.SystemOp as system
+use Rattle.a64_table.specs.declared.operation.Operation.{Operation}
+use Rattle.a64_table.specs.declared.operation.Operation.TheVariants.{G1, G2, G3, G4, G5, G6, G7, G8, G9, G10, G11, G12, G13, G14, G15, G16, G17, G18, G19, G20, G21, G22, G23}
+use Rattle.a64_table.specs.declared.operation.AddressForm.TheVariants as address_form
+use Rattle.a64_table.specs.declared.operation.AtomicForm.{AtomicForm}
+use Rattle.a64_table.specs.declared.operation.AtomicForm.TheVariants.{Ldar, Stlr, Cas, Swap, Update}
+use Rattle.a64_table.specs.declared.operation.BranchOp.TheVariants.{B}
+use Rattle.a64_table.specs.declared.operation.MultiplyOp.TheVariants.{Madd}
+use Rattle.a64_table.specs.declared.operation.SystemOp.TheVariants.{Svc}
+use Rattle.a64_table.specs.declared.rows.TheConstants.{SCALAR_LINES}
+use Rattle.a64_table.specs.Parts.{parts_of}
+use Rattle.a64_table.specs.Table.{scalar}
+use Rattle.a64_table.proofs.Groups.{takes, format, slots, kept, back, forth, IsRemade}
+
+abbrev Row : Type 0
+Row = Line Operation
+
+-- ---- no two rows have one operation
+unfoldable form_number : AtomicForm → ℕ
+form_number Ldar = 0
+form_number Stlr = 1
+form_number Cas = 2
+form_number Swap = 3
+form_number (Update op) = 10 + tag_of atomic_op.the_type op
+
+unfoldable number_of : Operation → ℕ
+number_of (G1 op) = 100 + tag_of add_sub.the_type op
+number_of (G2 op) = 200 + tag_of add_sub.the_type op
+number_of (G3 op false) = 300 + tag_of logical.the_type op
+number_of (G3 op true) = 350 + tag_of logical.the_type op
+number_of (G4 op) = 400 + tag_of add_sub.the_type op
+number_of (G5 op) = 500 + tag_of logical.the_type op
+number_of (G6 op) = 600 + tag_of move_op.the_type op
+number_of (G7 op false) = 700 + tag_of bitfield_op.the_type op
+number_of (G7 op true) = 750 + tag_of bitfield_op.the_type op
+number_of (G8 false) = 800
+number_of (G8 true) = 850
+number_of (G9 op) = 900 + tag_of pc_relative_op.the_type op
+number_of (G10 op) = 1000 + tag_of branch.the_type op
+number_of (G11 op) = 1100 + tag_of branch_register_op.the_type op
+number_of (G12 op) = 1200 + tag_of add_sub.the_type op
+number_of (G13 op) = 1300 + tag_of select_op.the_type op
+number_of (G14 op false) = 1400 + tag_of compare_op.the_type op
+number_of (G14 op true) = 1450 + tag_of compare_op.the_type op
+number_of (G15 op) = 1500 + tag_of one_source_op.the_type op
+number_of (G16 op) = 1600 + tag_of two_source_op.the_type op
+number_of (G17 op) = 1700 + tag_of multiply.the_type op
+number_of (G18 op) = 1800 + tag_of form.the_type op
+number_of (G19 op) = 1900 + tag_of load_literal_op.the_type op
+number_of (G20 op false index) = 2000 + 10 * tag_of pair_op.the_type op + tag_of pair_index.the_type index
+number_of (G20 op true index) = 2050 + 10 * tag_of pair_op.the_type op + tag_of pair_index.the_type index
+number_of (G21 op) = 2100 + form_number op
+number_of (G22 op) = 2200 + tag_of system.the_type op
+number_of (G23 op register) = 2300 + 10 * tag_of system_move_op.the_type op + tag_of system_register.the_type register
+
+unfoldable unlike : Row → Row → Bool
+unlike r s = not (number_of r.operation == number_of s.operation)
+
+all_unlike : pairwise unlike SCALAR_LINES ≡ true
+unfolding pairwise unlike number_of form_number
+all_unlike = refl
+
+never_alike : (op : Operation) (r s : Row) → unlike r s ≡ true → r.operation ≡ op → s.operation ≡ op → ⊥
+unfolding unlike
+never_alike op r s e f g = not_same (number_of r.operation) (number_of s.operation) e (ap number_of (f ∙ sym g))
+  where
+    not_same : (m n : ℕ) → not (m == n) ≡ true → m ≡ n → ⊥
+    not_same m n e f = both_ways (not (m == n)) (ap not (eq-eqb m n f)) e
+
+-- ---- and each operation has a row
+unfoldable place_in : ℕ → List Row → ℕ
+place_in n [] = 0
+place_in n (r ∷ rs) = cond (number_of r.operation == n) 0 (suc (place_in n rs))
+
+listed : (op : Operation) → option_map (λ (r : Row). r.operation) (slice_get SCALAR_LINES (place_in (number_of op) SCALAR_LINES)) ≡ Some op
+unfolding place_in number_of form_number
+listed (G1 Add) = refl
+listed (G2 Add) = refl
+listed (G3 And false) = refl
+listed (G3 Orr false) = refl
+listed (G3 Eor false) = refl
+listed (G3 Ands false) = refl
+listed (G4 Add) = refl
+listed (G5 And) = refl
+listed (G6 Movn) = refl
+listed (G7 Sbfm false) = refl
+listed (G7 Bfm false) = refl
+listed (G7 Ubfm false) = refl
+listed (G8 false) = refl
+listed (G9 Adr) = refl
+listed (G10 B) = refl
+listed (G11 Br) = refl
+listed (G12 Add) = refl
+listed (G13 Csel) = refl
+listed (G14 Ccmn false) = refl
+listed (G14 Ccmp false) = refl
+listed (G15 Rbit) = refl
+listed (G16 Udiv) = refl
+listed (G17 Madd) = refl
+listed (G18 address_form.Offset) = refl
+listed (G19 Word) = refl
+listed (G20 Stp false Offset) = refl
+listed (G20 Stp true Offset) = refl
+listed (G20 Ldp false Offset) = refl
+listed (G20 Ldp true Offset) = refl
+listed (G21 (Update atomic_ops.Add)) = refl
+listed (G22 Svc) = refl
+listed (G23 Mrs Nzcv) = refl
+listed (G23 Msr Nzcv) = refl
+listed _ = refl
+
+pub record HasRow (op : Operation) : Type 0 where
+  pub place : ℕ
+  pub row : Row
+  pub listed : slice_get SCALAR_LINES place ≡ Some row
+  pub same : row.operation ≡ op
+
+pub has_row : (op : Operation) → HasRow op
+has_row op = go (slice_get SCALAR_LINES (place_in (number_of op) SCALAR_LINES)) refl (listed op)
+  where
+    go : (found : Option Row) → slice_get SCALAR_LINES (place_in (number_of op) SCALAR_LINES) ≡ found → option_map (λ (r : Row). r.operation) found ≡ Some op → HasRow op
+    go None e f = cc
+    go (Some row) e f = let same : row.operation ≡ op = cc in record { place = place_in (number_of op) SCALAR_LINES; row = row; listed = e; same = same }
+
+-- ---- the rows are forms, and their fields are as narrow as what is taken of them
+all_forms : list_all (λ (r : Row). is_form r.mask r.value (list_of r.fields)) SCALAR_LINES ≡ true
+unfolding list_of is_form is_field mask_of fills
+all_forms = refl
+
+all_suit : list_all (λ (r : Row). suits (takes r.operation) (list_of r.fields)) SCALAR_LINES ≡ true
+unfolding list_of suits takes slots eight kept take_of
+all_suit = refl
+
+-- ---- the fields that the instruction is read from are those of the rows
+unfoldable same_field : Field → Field → Bool
+same_field f g = (f.low == g.low) && (f.width == g.width) && (f.upper_low == g.upper_low) && (f.upper_width == g.upper_width)
+
+unfoldable same_fields : List Field → List Field → Bool
+same_fields [] [] = true
+same_fields [] (g ∷ gs) = false
+same_fields (f ∷ fs) [] = false
+same_fields (f ∷ fs) (g ∷ gs) = same_field f g && same_fields fs gs
+
+one_field : (f g : Field) → same_field f g ≡ true → f ≡ g
+unfolding same_field
+one_field f g e =
+    let p = and_parts ((f.low == g.low) && (f.width == g.width) && (f.upper_low == g.upper_low)) (f.upper_width == g.upper_width) e in
+    let q = and_parts ((f.low == g.low) && (f.width == g.width)) (f.upper_low == g.upper_low) p.0 in
+    let r = and_parts (f.low == g.low) (f.width == g.width) q.0 in
+    λ i. record { low = eqb-true f.low g.low r.0 i; width = eqb-true f.width g.width r.1 i; upper_low = eqb-true f.upper_low g.upper_low q.1 i; upper_width = eqb-true f.upper_width g.upper_width p.1 i }
+
+one_list : (fs gs : List Field) → same_fields fs gs ≡ true → fs ≡ gs
+unfolding same_fields
+one_list [] [] e = refl
+one_list [] (g ∷ gs) e = cc
+one_list (f ∷ fs) [] e = cc
+one_list (f ∷ fs) (g ∷ gs) e = let p = and_parts (same_field f g) (same_fields fs gs) e in λ i. one_field f g p.0 i ∷ one_list fs gs p.1 i
+
+all_formats : list_all (λ (r : Row). same_fields (list_of r.fields) (format r.operation)) SCALAR_LINES ≡ true
+unfolding list_of same_fields same_field format slots eight kept field_of_slot
+all_formats = refl
+
+pub row-format : (i : ℕ) (r : Row) → slice_get SCALAR_LINES i ≡ Some r → list_of r.fields ≡ format r.operation
+row-format i r g = one_list (list_of r.fields) (format r.operation) (all-get (λ (r : Row). same_fields (list_of r.fields) (format r.operation)) SCALAR_LINES i r all_formats g)
+
+-- ---- no two rows match a word
+unfoldable apart : Row → Row → Bool
+apart r s = differ r.mask r.value s.mask s.value
+
+all_apart : pairwise apart SCALAR_LINES ≡ true
+unfolding pairwise apart differ
+all_apart = refl
+
+never_both : (word : ℕ) (r s : Row) → apart r s ≡ true → bit_and word r.mask ≡ r.value → bit_and word s.mask ≡ s.value → ⊥
+unfolding apart
+never_both word r s e m n = not_alike word r.mask r.value s.mask s.value e m n
+
+pub one_match : (word i j : ℕ) (r s : Row) → slice_get SCALAR_LINES i ≡ Some r → slice_get SCALAR_LINES j ≡ Some s → bit_and word r.mask ≡ r.value → bit_and word s.mask ≡ s.value → i ≡ j
+one_match word i j r s f g m n = one_place apart (λ x. bit_and word x.mask ≡ x.value) (never_both word) SCALAR_LINES all_apart i j r s f g m n
+
+pub one_row : (word : ℕ) → HasAtMostOneLine scalar word
+unfolding scalar
+one_row word i j r s f g m n d e = one_match word i j r s f g m n
+
+-- ---- the table meets what is asked of a table
+one_operation : (i j : ℕ) (r s : Row) → slice_get SCALAR_LINES i ≡ Some r → slice_get SCALAR_LINES j ≡ Some s → r.operation ≡ s.operation → i ≡ j
+one_operation i j r s f g e = one_place unlike (λ x. x.operation ≡ s.operation) (never_alike s.operation) SCALAR_LINES all_unlike i j r s f g e refl
+
+pub is_table : IsTable scalar parts_of
+unfolding scalar
+is_table = record {
+  takes = takes;
+  format = format;
+  forms = all_forms;
+  formats = row-format;
+  suit = all_suit;
+  own = one_operation;
+  back = back;
+  forth = λ it p e u s a h. subst (λ o. IsRemade it o) e (forth it) u s a h;
+}

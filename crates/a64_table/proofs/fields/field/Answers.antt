@@ -1,9 +1,0 @@
-use Rattle.std.proofs.Common.{ap, ◌∙◌, ◌-◌, ◌/◌, ◌^◌, bit_and}
-use Rattle.std.proofs.lemmas.Nat.{one_shl, and_mask}
-use Rattle.a64_table.specs.Fields.{field_of}
-use Rattle.a64_table.proofs.fields.field.Goals as goal
-
-pub returns-clause-value : goal.returns-clause-value
-unfolding field_of
-returns-clause-value c =
-    ap (λ m. bit_and (c.args.word / 2 ^ c.args.low) (m - 1)) (one_shl c.args.width 32 c.requires.width) ∙ and_mask (c.args.word / 2 ^ c.args.low) c.args.width

@@ -1,0 +1,33 @@
+//! The number of a field as an instruction keeps it.
+ghost use Rattle.std.specs.Prelude.{◌≡◌, true};
+ghost use Rattle.insn_forms.specs.Fields.{field_in, is_field};
+ghost use Rattle.a64_table.specs.Values.{byte, half, is_one};
+
+use insn_forms::{Field, field_in};
+
+/// The number of a field as 8 bits.
+#[inline(always)]
+pub fn byte(it: Field, word: u32) -> u8
+    requires { is_field it ≡ true }
+    ensures { result ≡ byte (field_in it word) }
+{
+    (field_in(&it, word) & 0xFF) as u8
+}
+
+/// The number of a field as 16 bits.
+#[inline(always)]
+pub fn half(it: Field, word: u32) -> u16
+    requires { is_field it ≡ true }
+    ensures { result ≡ half (field_in it word) }
+{
+    (field_in(&it, word) & 0xFFFF) as u16
+}
+
+/// Whether the number of a field is 1.
+#[inline(always)]
+pub fn one(it: Field, word: u32) -> bool
+    requires { is_field it ≡ true }
+    ensures { result ≡ is_one (field_in it word) }
+{
+    field_in(&it, word) == 1
+}

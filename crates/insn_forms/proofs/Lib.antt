@@ -1,0 +1,9 @@
+pub mod Bits
+pub mod Cover
+pub mod Deciding
+pub mod FirstLine
+pub mod Forms
+pub mod Laws
+pub mod Tables
+pub mod Walk
+pub mod Ways
