@@ -373,6 +373,9 @@ def text(w):
     return f'b"{w}' + "\\0" * (12 - len(w)) + f'" {len(w)};'
 
 
+FACTOR, FREE = 31, 65535
+
+
 def hash_of(w, factor, size):
     h = 0
     for c in w.encode():
@@ -381,12 +384,13 @@ def hash_of(w, factor, size):
 
 
 def slots(texts, size):
-    """A factor for which no two texts have one hash, and the place of the text of each hash."""
-    for factor in range(3, 60000, 2):
-        places = {hash_of(w, factor, size): i for i, w in enumerate(texts)}
-        if len(places) == len(texts):
-            return factor, [places.get(h, 65535) for h in range(size)]
-    raise Exception("no factor")
+    """Where each text stands: in the first free slot from that of its hash on, at most 16 steps away."""
+    places = [FREE] * size
+    for i, w in enumerate(texts):
+        start = hash_of(w, FACTOR, size)
+        at = next(k for k in range(16) if places[(start + k) % size] == FREE)
+        places[(start + at) % size] = i
+    return places
 
 
 names = sorted(SHAPES)
@@ -443,10 +447,10 @@ write("src/printed.rt", [
     "/// Where the places in `PRINTED` begin for each value of the top byte of a word, and the end.", "pub static ROOTS: [u16; 257] = [", numbers(roots), "];", "",
     "/// The places of the shapes that are no aliases and that a word with the top byte may have, in order.", f"pub static PRINTED: [u16; {len(printed)}] = [", numbers(printed), "];"])
 
-out = ["//! Where words and names stand in their tables, by hash, as `make_table.py` of insn_text writes it.", ""]
-for ident, texts, size in (("WORD", WORDS, 1024), ("NAME", names, 4096)):
-    factor, places = slots(texts, size)
-    out += [f"/// The factor of the hash.", f"pub const {ident}_FACTOR: u32 = {factor};", "", "/// The place of the text with that hash; 65535 where there is none.", f"pub static {ident}_SLOTS: [u16; {size}] = [", numbers(places), "];", ""]
+out = ["//! Where words and names stand in their tables, by hash, as `make_table.py` of insn_text writes it.", "",
+       "/// The factor of the hash.", f"pub const FACTOR: u32 = {FACTOR};", "", "/// What a free slot has.", f"pub const FREE: u16 = {FREE};", ""]
+for ident, texts, size in (("WORD", WORDS, 512), ("NAME", names, 1024)):
+    out += ["/// The place of the text in each slot: its hash's, or one of the 15 after it.", f"pub static {ident}_SLOTS: [u16; {size}] = [", numbers(slots(texts, size)), "];", ""]
 os.makedirs("../asm_tokens/src", exist_ok=True)
 write("../asm_tokens/src/places.rt", out[:-1])
 print(len(WORDS), "words,", len(names), "names,", len(forms), "lists of", len(flat), "operands,", len(shapes), "shapes,", len(printed), "printed")

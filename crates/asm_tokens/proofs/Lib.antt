@@ -1,4 +1,5 @@
 pub mod Following
 pub mod Leading
+pub mod Probing
 pub mod Naming
 pub mod Steps

@@ -4,9 +4,9 @@ ghost use Rattle.std.specs.Str.{bytes_eq};
 ghost use Rattle.insn_text.specs.declared.words.TheConstants.{WORDS, NAMES};
 ghost use Rattle.insn_text.specs.Texts.{text_in};
 ghost use Rattle.asm_tokens.specs.Tokens.{place_in};
-ghost use Rattle.asm_tokens.specs.Places.{hash_after, place_if, place_by};
+ghost use Rattle.asm_tokens.specs.Places.{hash_after, place_if, place_by, probed};
 
-use crate::places::{NAME_FACTOR, NAME_SLOTS, WORD_FACTOR, WORD_SLOTS};
+use crate::places::{FACTOR, FREE, NAME_SLOTS, WORD_SLOTS};
 use insn_text::{NAMES, Text, WORDS};
 
 #[inline(always)]
@@ -14,7 +14,8 @@ fn hash(text: &[u8], factor: u32, size: u32) -> usize
     requires some { 0 < size }
     requires small { size ≤ 4096 }
     requires short { factor ≤ 4096 }
-    ensures { result ≡ hash_after factor size 0 text.now }
+    ensures value { result ≡ hash_after factor size 0 text.now }
+    ensures small { result < size }
 {
     let mut hash: u32 = 0;
     for at in 0..text.len() {
@@ -51,30 +52,40 @@ fn place_if(texts: &[Text], place: u16, bytes: &[u8]) -> Option<u16>
     }
 }
 
-fn word_slot(text: &[u8]) -> u16
-    ensures { result ≡ slice_index WORD_SLOTS (hash_after WORD_FACTOR 1024 0 text.now) }
+/// The place of the text by at most 16 slots from one on; a free slot is the last.
+#[inline(always)]
+fn probed(texts: &[Text], slots: &[u16], size: usize, text: &[u8], start: usize) -> Option<u16>
+    requires some { 0 < size }
+    requires small { size ≤ 4096 }
+    requires start { start < size }
+    ensures { result ≡ probed texts.now slots.now size text.now 16 start }
 {
-    slot_at(&WORD_SLOTS, hash(text, WORD_FACTOR, 1024))
-}
-
-fn name_slot(text: &[u8]) -> u16
-    ensures { result ≡ slice_index NAME_SLOTS (hash_after NAME_FACTOR 4096 0 text.now) }
-{
-    slot_at(&NAME_SLOTS, hash(text, NAME_FACTOR, 4096))
+    let mut at = start;
+    for step in 0..16usize {
+        let slot = slot_at(slots, at);
+        if slot == FREE {
+            return None;
+        }
+        match place_if(texts, slot, text) {
+            Some(place) => return Some(place),
+            None => at = (at + 1) % size,
+        }
+    }
+    None
 }
 
 #[tactic(auto, unfolding(crate::specs::Places::place_by))]
 fn word_by(text: &[u8]) -> Option<u16>
-    ensures { result ≡ place_by WORDS WORD_SLOTS WORD_FACTOR 1024 text.now }
+    ensures { result ≡ place_by WORDS WORD_SLOTS FACTOR 512 text.now }
 {
-    place_if(&WORDS, word_slot(text), text)
+    probed(&WORDS, &WORD_SLOTS, 512, text, hash(text, FACTOR, 512))
 }
 
 #[tactic(auto, unfolding(crate::specs::Places::place_by))]
 fn name_by(text: &[u8]) -> Option<u16>
-    ensures { result ≡ place_by NAMES NAME_SLOTS NAME_FACTOR 4096 text.now }
+    ensures { result ≡ place_by NAMES NAME_SLOTS FACTOR 1024 text.now }
 {
-    place_if(&NAMES, name_slot(text), text)
+    probed(&NAMES, &NAME_SLOTS, 1024, text, hash(text, FACTOR, 1024))
 }
 
 /// The place of a word of operands.

@@ -9,4 +9,9 @@ loop-at-preserved c = record {
 }
 
 pub returns : goal.returns
-returns c = let le : length c.args.text.now ≤ c.loop-at.at = omega arith in sym (hash-end c.args.factor c.args.size c.loop-at.hash c.args.text.now c.loop-at.at le) ∙ c.loop-at.invariant.way
+returns c =
+    let le : length c.args.text.now ≤ c.loop-at.at = omega arith in
+    record {
+      value = sym (hash-end c.args.factor c.args.size c.loop-at.hash c.args.text.now c.loop-at.at le) ∙ c.loop-at.invariant.way;
+      small = c.loop-at.invariant.below;
+    }
