@@ -161,7 +161,10 @@ def whole_refusals():
     yield "overlap-past-others", build([at(0x600000, 8), Segment(0, b"", kind=NOTE), at(0x500000, 16), text, at(0x50000F, 1), at(0x600007, 9)])[0], "overlap 0 5"
     yield "overlap-of-the-later", build([text, at(0x500000, 16), at(0x500004, 1), at(0x500000, 2)])[0], "overlap 1 2"
     yield "overlap-within", build([at(0x500000, 4096), text, at(0x500800, 1)])[0], "overlap 0 2"
+    yield "overlap-with-a-long-load", build([text, at(0x600000, 9), at(0x700000, 9), at(0x500000, 0x300000)])[0], "overlap 1 3"
+    yield "overlap-beside-a-load-of-no-bytes", build([text, at(0x3FF000, 0x3000), at(0x400004, 0), at(0x401000, 1)])[0], "overlap 0 1"
     yield "too-many-pages", build([text, at(0x1000000, 4032 * 4096)])[0], "toomanypages 4097"
+    yield "too-many-pages-of-loads-that-share-one", build([text, at(TEXT + 4095, 4031 * 4096 + 1), at(2**46, 1)])[0], "toomanypages 4097"
     yield "too-many-pages-by-far", build([text, at(0x100000000, 0x7C0000000000)])[0], f"toomanypages {0x7C0000000 + 1 + 64}"
     yield "entry-of-no-multiple", build([text], entry=TEXT + 2)[0], "entryoutside 0x0000000000400002"
     yield "entry-before", build([text], entry=TEXT - 4)[0], "entryoutside 0x00000000003ffffc"
@@ -199,9 +202,11 @@ def section_refusals():
     yield "names-outside", patched(file, places[3] + 32, number(len(file), 8)), f"badtable {places[2]}"
     name_at = int.from_bytes(file[places[2] + 24:places[2] + 32], "little") + 24
     yield "name-past-the-last-end", patched(file, name_at, number(4, 4)), f"badtable {places[2]}"
-    for name, address, size in (("section-before-its-load", TEXT - 4, 8), ("section-past-its-load", TEXT + 8, 5), ("section-in-no-load", 0, 4), ("section-far", 2**64 - 4, 8)):
+    for name, address, size in (("section-before-its-load", TEXT - 4, 8), ("section-past-its-load", TEXT + 8, 5), ("section-in-no-load", 0, 4), ("section-far", 2**64 - 4, 8), ("section-far-and-long", 2**64 - 1, 2**64 - 1)):
         file, _, places = with_code([Segment(TEXT, text)], code_section(size, address))
         yield name, file, f"badtable {places[1]}"
+    file, _, places = with_code([Segment(TEXT, text), Segment(0x500000, b"", memory=16)], code_section(0x100010))
+    yield "section-over-a-gap", file, f"badtable {places[1]}"
     file, _, places = with_code([Segment(TEXT, text)], code_section(16), Section(SYMTAB, link=9, entry_size=24))
     yield "first-of-two-bad-sections", file, f"badtable {places[1]}"
 
@@ -265,6 +270,9 @@ def loaded():
     yield "loads-that-share-a-page", build([Segment(TEXT, text), Segment(TEXT + 0x800, b"abc", flags=6, memory=0x900)])[0], {}
     yield "no-bytes-at-a-far-offset", build([Segment(TEXT, text), Segment(0x500000, b"", flags=4, memory=1, offset=2**63)])[0], {}
     yield "4096-pages", build([Segment(TEXT, text), Segment(0x1000000, b"", flags=0, memory=4031 * 4096)])[0], {}
+    yield "4096-pages-of-loads-that-share-one", build([Segment(TEXT, text), Segment(TEXT + 4095, b"", flags=0, memory=4031 * 4096 + 1)])[0], {}
+    yield "loads-that-touch", build([Segment(TEXT, text, memory=4096), Segment(TEXT + 4096, b"", memory=1), Segment(TEXT - 4096, b"", memory=4096)])[0], {}
+    yield "no-memory-in-the-shared-region", build([Segment(TEXT, text), Segment(0x7F0000000FFF, b"", memory=0)])[0], {}
     for name in ("lld", "gnu"):
         yield f"real-{name}", (HERE / "data" / f"real-{name}.elf").read_bytes(), {}
 
@@ -311,6 +319,61 @@ def listings():
     yield "sections-out-of-order", with_code(parts, code_section(4, later), code_section(12))[0], 0, listing(*answer, (later, 0xD503201F, "hint #0"))
     yield "no-section-table", build([Segment(TEXT, text_of(ANSWER))])[0], 0, ""
     yield "refused", elf(ANSWER + [UNLISTED]), 6, f"bad file: unlisted 0x000000000040000c 0x{UNLISTED:08x}\n"
+    for name, file, text in [*marked_listings(), *table_listings()]:
+        yield name, file, 0, text
+
+
+HINTS = [0xD503201F | number << 5 for number in range(1, 9)]
+
+
+def hints(*places):
+    """The listing of those of the eight hints."""
+    return listing(*((TEXT + 4 * k, HINTS[k], f"hint #{k + 1}") for k in places))
+
+
+def marked_listings():
+    """Files of the eight hints whose mapping symbols say which of them are code."""
+    yield "symbols-in-order", marked(HINTS, ("$d", 1, TEXT + 4), ("$x", 1, TEXT + 12)), hints(0, 3, 4, 5, 6, 7)
+    yield "symbols-in-no-order", marked(HINTS, ("$x", 1, TEXT + 16), ("$d", 1, TEXT + 8)), hints(0, 1, 4, 5, 6, 7)
+    yield "symbol-for-the-rest", marked(HINTS, ("$d.1", 1, TEXT + 16)), hints(0, 1, 2, 3)
+    yield "code-by-a-symbol-with-a-suffix", marked(HINTS, ("$d", 1, TEXT), ("$x.a", 1, TEXT + 8)), hints(2, 3, 4, 5, 6, 7)
+    yield "names-that-go-on", marked(HINTS, ("$d", 1, TEXT), ("$xa", 1, TEXT + 8)), hints()
+    yield "code-by-the-later-symbol", marked(HINTS, ("$d", 1, TEXT + 8), ("$x", 1, TEXT + 8)), hints(*range(8))
+    yield "data-by-the-later-symbol", marked(HINTS, ("$x", 1, TEXT + 8), ("$d", 1, TEXT + 8)), hints(0, 1)
+    yield "data-before-the-section", marked(HINTS, ("$d", 1, TEXT - 4096)), hints()
+    yield "symbol-within-a-word", marked(HINTS, ("$d", 1, TEXT + 5)), hints(0, 1)
+    yield "symbols-past-the-section", marked(HINTS, ("$d", 1, TEXT + 32), ("$x", 1, 2**64 - 1)), hints(*range(8))
+
+
+def with_tables(*sections):
+    """A file of the eight hints with these sections, and the places of their headers."""
+    file, _, places = with_code([Segment(TEXT, text_of(HINTS))], *sections)
+    return file, places
+
+
+def table_listings():
+    """Files of the eight hints with two sections of code, or with two symbol tables."""
+    yield "section-of-no-whole-words", with_tables(code_section(8, TEXT + 2))[0], hints(1)
+    yield "sections-that-overlap", with_tables(code_section(24), code_section(16, TEXT + 8))[0], hints(*range(6))
+    yield "sections-that-overlap-out-of-order", with_tables(code_section(16, TEXT + 16), code_section(20))[0], hints(*range(8))
+    for name, section, places in (("first", 1, range(2, 8)), ("second", 2, range(4))):
+        table, strings = symbols(("$d", section, TEXT))
+        both = code_section(16), code_section(24, TEXT + 8), Section(SYMTAB, data=table, link=4, entry_size=24), Section(STRTAB, data=strings)
+        yield f"data-in-the-{name}-of-two-sections", with_tables(*both)[0], hints(*places)
+    code, data = symbols(("$x", 1, TEXT))[0], symbols(("$d", 1, TEXT))[0]
+    names = {"$x": b"\0$x\0", "$d": b"\0$d\0"}
+    tables = lambda first, second, x, y: (code_section(32), Section(SYMTAB, data=first, link=4, entry_size=24), Section(SYMTAB, data=second, link=5, entry_size=24),
+                                          Section(STRTAB, data=names[x]), Section(STRTAB, data=names[y]))
+    yield "data-by-the-last-table", with_tables(*tables(code, data, "$x", "$d"))[0], hints()
+    yield "code-by-the-last-table", with_tables(*tables(data, code, "$d", "$x"))[0], hints(*range(8))
+    file, places = with_tables(*tables(data, code, "$d", "$x"))
+    yield "one-table-twice", patched(file, places[3], file[places[2]:places[2] + 64]), hints()
+    yield "far-table-of-no-symbols", with_tables(code_section(32), Section(SYMTAB, offset=2**64 - 1, entry_size=24))[0], hints(*range(8))
+    yield "table-of-no-whole-symbol", with_tables(code_section(32), Section(SYMTAB, data=data[:23], entry_size=24))[0], hints(*range(8))
+    last = patched(data, 24, number(3, 4))
+    yield "name-at-the-last-end", with_tables(code_section(32), Section(SYMTAB, data=last, link=3, entry_size=24), Section(STRTAB, data=names["$d"]))[0], hints(*range(8))
+    zeros = [Segment(TEXT, text_of(HINTS)), Segment(0x500000, b"", memory=16)]
+    yield "section-of-zeros", with_code(zeros, code_section(16, 0x500000))[0], listing(*((0x500000 + 4 * k, 0, "udf #0") for k in range(4)))
 
 
 def line_faults():

@@ -2,14 +2,7 @@
 //! give it. A tree of tests on bits leads to the one row that may match, and no other row is looked at.
 #![tactic(auto)]
 
-mod accesses;
-mod control;
 mod decode;
-mod groups;
-mod operands;
-mod processing;
-#[cfg(test)]
-mod tests;
 mod tree;
 
 pub use decode::decode_scalar;

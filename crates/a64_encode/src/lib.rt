@@ -1,19 +1,11 @@
-//! The encoder of the instructions of A64: an instruction becomes the one word that the rows of the tables give it.
+//! The encoder, over both tables of instructions: an instruction becomes its word, of which there is at most one.
 //!
-//! The fields of an instruction, put at their places, make the only word that it may have; it has that word exactly
-//! where the decoders give the instruction back.
+//! An instruction's operation finds its row, whose fixed bits and fields take the numbers of the instruction; no decoder and no comparison of
+//! instructions is asked. What a word means by either table stands here, with the laws over both.
 #![tactic(auto)]
 
-mod accesses;
-mod candidate;
-mod control;
 mod laws;
-mod numbers;
-mod processing;
-mod same;
-#[cfg(test)]
-mod tests;
 mod word;
 
-pub use laws::{one_row_of_both, one_word};
+pub use laws::{has_word, means_either, one_row_of_both, one_word};
 pub use word::encode;

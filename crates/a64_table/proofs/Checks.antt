@@ -1,33 +1,18 @@
 -- The finite checks of the table, and its laws.
 use Rattle.std.proofs.Common.{◌≡◌, ℕ, zero, suc, ◌+◌, ◌*◌, ◌==◌, ◌&&◌, not, Bool, true, false, cond, refl, sym, ap, ◌∙◌, eqb-true, eq-eqb, bit_and, List, [], ◌∷◌, slice_get, Option, Some, None, subst}
 use Rattle.std.specs.List.{list_all}
+use Rattle.bit_ops.specs.Sums.{bool_number}
 use Rattle.std.specs.Prelude.{option_map}
 use Rattle.std.proofs.lemmas.Bool.{and_parts, both_ways}
-use denote.Enum.Declared.{tag_of}
 use Rattle.insn_forms.specs.declared.field.Field.{Field}
 use Rattle.insn_forms.specs.declared.line.Line.{Line}
 use Rattle.insn_forms.specs.Fields.{is_field, list_of, mask_of}
 use Rattle.insn_forms.specs.Forms.{is_form, fills}
 use Rattle.insn_forms.specs.Tables.{HasAtMostOneLine}
+use Rattle.insn_forms.proofs.Deciding.{some_is}
 use Rattle.insn_forms.proofs.Laws.{all-get, suits, pairwise, one_place}
 use Rattle.insn_forms.proofs.Ways.{take_of, field_of_slot, eight}
 use Rattle.insn_forms.proofs.Tables.{IsTable, differ, not_alike}
-use Rattle.sm_types.specs.contracts.insn.AddSub as add_sub
-use Rattle.sm_types.specs.contracts.insn.AtomicOp as atomic_op
-use Rattle.sm_types.specs.contracts.insn.BitfieldOp as bitfield_op
-use Rattle.sm_types.specs.contracts.insn.BranchRegisterOp as branch_register_op
-use Rattle.sm_types.specs.contracts.insn.CompareOp as compare_op
-use Rattle.sm_types.specs.contracts.insn.LoadLiteralOp as load_literal_op
-use Rattle.sm_types.specs.contracts.insn.Logical as logical
-use Rattle.sm_types.specs.contracts.insn.MoveOp as move_op
-use Rattle.sm_types.specs.contracts.insn.OneSourceOp as one_source_op
-use Rattle.sm_types.specs.contracts.insn.PairIndex as pair_index
-use Rattle.sm_types.specs.contracts.insn.PairOp as pair_op
-use Rattle.sm_types.specs.contracts.insn.PcRelativeOp as pc_relative_op
-use Rattle.sm_types.specs.contracts.insn.SelectOp as select_op
-use Rattle.sm_types.specs.contracts.insn.SystemMoveOp as system_move_op
-use Rattle.sm_types.specs.contracts.insn.SystemRegister as system_register
-use Rattle.sm_types.specs.contracts.insn.TwoSourceOp as two_source_op
 use Rattle.sm_types.specs.declared.insn.AddSub.TheVariants.{Add}
 use Rattle.sm_types.specs.declared.insn.AtomicOp.TheVariants as atomic_ops
 use Rattle.sm_types.specs.declared.insn.BitfieldOp.TheVariants.{Sbfm, Bfm, Ubfm}
@@ -44,10 +29,6 @@ use Rattle.sm_types.specs.declared.insn.SelectOp.TheVariants.{Csel}
 use Rattle.sm_types.specs.declared.insn.SystemMoveOp.TheVariants.{Mrs, Msr}
 use Rattle.sm_types.specs.declared.insn.SystemRegister.TheVariants.{Nzcv}
 use Rattle.sm_types.specs.declared.insn.TwoSourceOp.TheVariants.{Udiv}
-use Rattle.a64_table.specs.contracts.operation.AddressForm as form
-use Rattle.a64_table.specs.contracts.operation.BranchOp as branch
-use Rattle.a64_table.specs.contracts.operation.MultiplyOp as multiply
-use Rattle.a64_table.specs.contracts.operation.SystemOp as system
 use Rattle.a64_table.specs.declared.operation.Operation.{Operation}
 use Rattle.a64_table.specs.declared.operation.Operation.TheVariants.{G1, G2, G3, G4, G5, G6, G7, G8, G9, G10, G11, G12, G13, G14, G15, G16, G17, G18, G19, G20, G21, G22, G23}
 use Rattle.a64_table.specs.declared.operation.AddressForm.TheVariants as address_form
@@ -57,6 +38,7 @@ use Rattle.a64_table.specs.declared.operation.BranchOp.TheVariants.{B}
 use Rattle.a64_table.specs.declared.operation.MultiplyOp.TheVariants.{Madd}
 use Rattle.a64_table.specs.declared.operation.SystemOp.TheVariants.{Svc}
 use Rattle.a64_table.specs.declared.rows.TheConstants.{SCALAR_LINES}
+use Rattle.a64_table.specs.Numbers.{form_number, number_of}
 use Rattle.a64_table.specs.Parts.{parts_of}
 use Rattle.a64_table.specs.Table.{scalar}
 use Rattle.a64_table.proofs.Groups.{takes, format, slots, kept, back, forth, IsRemade}
@@ -65,43 +47,6 @@ abbrev Row : Type 0
 Row = Line Operation
 
 -- ---- no two rows have one operation
-unfoldable form_number : AtomicForm → ℕ
-form_number Ldar = 0
-form_number Stlr = 1
-form_number Cas = 2
-form_number Swap = 3
-form_number (Update op) = 10 + tag_of atomic_op.the_type op
-
-unfoldable number_of : Operation → ℕ
-number_of (G1 op) = 100 + tag_of add_sub.the_type op
-number_of (G2 op) = 200 + tag_of add_sub.the_type op
-number_of (G3 op false) = 300 + tag_of logical.the_type op
-number_of (G3 op true) = 350 + tag_of logical.the_type op
-number_of (G4 op) = 400 + tag_of add_sub.the_type op
-number_of (G5 op) = 500 + tag_of logical.the_type op
-number_of (G6 op) = 600 + tag_of move_op.the_type op
-number_of (G7 op false) = 700 + tag_of bitfield_op.the_type op
-number_of (G7 op true) = 750 + tag_of bitfield_op.the_type op
-number_of (G8 false) = 800
-number_of (G8 true) = 850
-number_of (G9 op) = 900 + tag_of pc_relative_op.the_type op
-number_of (G10 op) = 1000 + tag_of branch.the_type op
-number_of (G11 op) = 1100 + tag_of branch_register_op.the_type op
-number_of (G12 op) = 1200 + tag_of add_sub.the_type op
-number_of (G13 op) = 1300 + tag_of select_op.the_type op
-number_of (G14 op false) = 1400 + tag_of compare_op.the_type op
-number_of (G14 op true) = 1450 + tag_of compare_op.the_type op
-number_of (G15 op) = 1500 + tag_of one_source_op.the_type op
-number_of (G16 op) = 1600 + tag_of two_source_op.the_type op
-number_of (G17 op) = 1700 + tag_of multiply.the_type op
-number_of (G18 op) = 1800 + tag_of form.the_type op
-number_of (G19 op) = 1900 + tag_of load_literal_op.the_type op
-number_of (G20 op false index) = 2000 + 10 * tag_of pair_op.the_type op + tag_of pair_index.the_type index
-number_of (G20 op true index) = 2050 + 10 * tag_of pair_op.the_type op + tag_of pair_index.the_type index
-number_of (G21 op) = 2100 + form_number op
-number_of (G22 op) = 2200 + tag_of system.the_type op
-number_of (G23 op register) = 2300 + 10 * tag_of system_move_op.the_type op + tag_of system_register.the_type register
-
 unfoldable unlike : Row → Row → Bool
 unlike r s = not (number_of r.operation == number_of s.operation)
 
@@ -157,6 +102,10 @@ listed (G22 Svc) = refl
 listed (G23 Mrs Nzcv) = refl
 listed (G23 Msr Nzcv) = refl
 listed _ = refl
+
+-- two operations of one number are one
+pub same_operation : (a b : Operation) → number_of a ≡ number_of b → a ≡ b
+same_operation a b e = some_is (sym (listed a) ∙ ap (λ n. option_map (λ (r : Row). r.operation) (slice_get SCALAR_LINES (place_in n SCALAR_LINES))) e ∙ listed b)
 
 pub record HasRow (op : Operation) : Type 0 where
   pub place : ℕ

@@ -1,5 +1,6 @@
 pub mod Conditions
 pub mod Named
+pub mod Numbers
 pub mod Parts
 pub mod Ranges
 pub mod Rows

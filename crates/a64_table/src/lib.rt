@@ -17,6 +17,8 @@ mod values;
 pub use conditions::{condition, fits};
 pub use insn::insn_given;
 pub use laws::{has_word, in_range, one_meaning, one_row, one_word, rows_of_lines};
-pub use operation::{AddressForm, AtomicForm, BranchOp, MultiplyOp, Operation, SystemOp};
+pub use operation::{
+    AddressForm, AtomicForm, BranchOp, MultiplyOp, Operation, SystemOp, number_of,
+};
 pub use parts::parts_of;
 pub use rows::{SCALAR_LINES, SCALAR_ROWS};

@@ -2,7 +2,7 @@
 use Rattle.std.proofs.Common.{◌≡◌, ℕ, ◌-◌, Bool, true, false, nat_le, cond, Some}
 use Rattle.std.specs.Prelude.{is_some}
 use Rattle.insn_text.specs.declared.item.Item.{Item}
-use Rattle.sve_table.specs.Meaning.{instruction_of}
+use Rattle.a64_encode.specs.Either.{instruction_of}
 use Rattle.asm_operands.specs.Distances.{with_distance}
 use Rattle.asm_core.specs.Targets.{counted_from, word_to}
 use Rattle.asm_core.specs.Emitted.{CanHave}

@@ -1,7 +1,7 @@
 -- The word of a line of the grammar means an instruction.
 use Rattle.std.proofs.Common.{◌≡◌, ℕ, ◌-◌, ◌^◌, true, false, cond, List, [], ◌∷◌, map, Option, Some, None, Result, Ok, refl, subst}
 use Rattle.std.specs.Prelude.{is_some, slice_get}
-use Rattle.sve_table.specs.Meaning.{instruction_of}
+use Rattle.a64_encode.specs.Either.{instruction_of}
 use Rattle.insn_text.specs.declared.words.TheConstants.{NAMES}
 use Rattle.asm_tokens.specs.declared.token.Token.{Token}
 use Rattle.asm_tokens.specs.declared.token.Lexeme.{Lexeme}

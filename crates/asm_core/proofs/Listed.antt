@@ -9,7 +9,7 @@ use Rattle.sm_types.specs.declared.object.Object.{Object}
 use Rattle.sm_types.specs.declared.object.Section.{Section}
 use Rattle.sm_types.specs.declared.object.Section.TheVariants.{Text}
 use Rattle.sm_types.specs.Objects.{mappings_of, governing_mapping, mapping_says_code, is_text_code, little, text_word, object_word, object_code}
-use Rattle.sve_table.specs.Meaning.{instruction_of}
+use Rattle.a64_encode.specs.Either.{instruction_of}
 use Rattle.asm_parser.specs.declared.line.LineFault.{LineFault}
 use Rattle.asm_parser.specs.Statements.{Says, Nothing, IntoText, IntoData, Quads, Words, Bytes, Zeros, Aligns, Globals, Instructs, SourceLine}
 use Rattle.asm_parser.specs.Lines.{line_of}

@@ -8,7 +8,7 @@ use Rattle.sm_types.specs.declared.object.Section.TheVariants.{Text, Data}
 use Rattle.sm_types.specs.declared.object.Symbol.{Symbol}
 use Rattle.sm_types.specs.declared.object.Object.{Object}
 use Rattle.sm_types.specs.Objects.{name_says}
-use Rattle.sve_table.specs.Meaning.{instruction_of}
+use Rattle.a64_encode.specs.Either.{instruction_of}
 use Rattle.asm_parser.specs.Statements.{QuadValue, IsNumber, IsAddressOf, TargetSaid, Says, Nothing, IntoText, IntoData, Quads, Words, Bytes, Zeros, Aligns, Globals, Instructs, SourceLine}
 use Rattle.asm_core.specs.Source.{lines_of, said_lines}
 use Rattle.asm_core.specs.declared.place.Place.{Place}

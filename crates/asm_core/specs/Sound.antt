@@ -3,7 +3,7 @@ use Rattle.std.specs.Prelude.{◌≡◌, ◌≤◌, ℕ, length, Bool, true, is_
 use Rattle.std.specs.List.{list_all}
 use Rattle.sm_types.specs.declared.object.Object.{Object}
 use Rattle.sm_types.specs.Objects.{object_code, IsStartable}
-use Rattle.sve_table.specs.Meaning.{instruction_of}
+use Rattle.a64_encode.specs.Either.{instruction_of}
 
 -- a code word, an address and a word, means an instruction
 abbrev pub is_listed : ℕ × ℕ → Bool

@@ -1,6 +1,6 @@
 //! Names on a line: the addresses that they stand for, and the distances to them.
 ghost use Rattle.std.specs.Prelude.{◌≡◌, ◌≤◌, ◌<◌, ◌^◌, List, Option, Some, None, true, false, IfOk, IfErr, MatchOption, option_map, is_some};
-ghost use Rattle.sve_table.specs.Meaning.{instruction_of};
+ghost use Rattle.a64_encode.specs.Either.{instruction_of};
 ghost use Rattle.asm_parser.specs.Statements.{target_said, value_of};
 ghost use Rattle.asm_core.specs.Layout as layout;
 ghost use Rattle.asm_core.specs.Targets as targets;

@@ -16,8 +16,6 @@ mod place;
 mod start;
 mod survey;
 mod symbols;
-#[cfg(test)]
-mod tests;
 mod text;
 
 pub use fault::AsmFault;

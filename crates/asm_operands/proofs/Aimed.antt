@@ -15,7 +15,8 @@ use Rattle.a64_table.specs.Conditions.{fits_of}
 use Rattle.a64_table.specs.Meaning.{meaning_in, meaning_of, stands_for}
 use Rattle.sm_types.specs.declared.insn.Insn.{Insn}
 use Rattle.sve_table.specs.declared.rows.TheConstants.{VECTOR_ROWS}
-use Rattle.sve_table.specs.Meaning.{vector_meaning_of, instruction_of}
+use Rattle.a64_encode.specs.Either.{instruction_of}
+use Rattle.sve_table.specs.Table.{vector_meaning_of}
 use Rattle.insn_text.specs.declared.item.Item.{Item}
 use Rattle.insn_text.specs.declared.item.Shape.{Shape}
 use Rattle.insn_text.specs.declared.shapes.TheConstants.{SHAPES, STARTS}

@@ -9,7 +9,7 @@ use Rattle.std.proofs.Math.Nat.{zero-mod, zero-div}
 use Rattle.std.proofs.lemmas.Nat.Bits.{bit_at_and, bit_at_or, bit_at-zero, same_from_bits}
 use borrow.Author.Tests.{ne_eqb}
 use Rattle.a64_table.specs.Conditions.{length_bits, is_highest_one, has_fewer_ones, is_mask_of, is_mask}
-use Rattle.a64_table.specs.Fields.{field_of}
+use Rattle.insn_forms.specs.Fields.{field_of}
 use Rattle.bit_ops.specs.Bits.{number_of_digits}
 use Rattle.bit_ops.specs.Masks.{highest_one, length_of, is_reserved, bit_mask_of, mask_of as mask_of_fields}
 use Rattle.insn_text.specs.declared.item.Kind.{Kind}

@@ -4,7 +4,7 @@ use Rattle.std.proofs.lemmas.Bool.{and_parts, cases_lt}
 use Rattle.std.proofs.lemmas.Nat.{mod_below}
 use Rattle.std.proofs.Math.Nat.{mod-eq_of_lt}
 use Rattle.a64_table.specs.Conditions.{length_bits, is_highest_one, has_fewer_ones, is_mask_of, is_mask}
-use Rattle.a64_table.specs.Fields.{field_of}
+use Rattle.insn_forms.specs.Fields.{field_of}
 use Rattle.bit_ops.specs.Bits.{digit_at, width_of}
 use Rattle.bit_ops.specs.Sums.{bool_number, word_size}
 use Rattle.bit_ops.specs.Masks.{highest_one, length_of, size_of, ones_of, is_reserved, mask_of, bit_mask_of, starts_at, IsFieldsOf}

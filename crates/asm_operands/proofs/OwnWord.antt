@@ -4,7 +4,7 @@ use Rattle.std.specs.Prelude.{slice_index, is_some, if◌then◌else◌, option_
 use Rattle.std.specs.List.{list_all, find}
 use Rattle.std.proofs.lemmas.Bool.{and_parts}
 use Rattle.sm_types.specs.declared.insn.Insn.{Insn}
-use Rattle.sve_table.specs.Meaning.{instruction_of}
+use Rattle.a64_encode.specs.Either.{instruction_of}
 use Rattle.insn_text.specs.declared.item.Kind.{Kind}
 use Rattle.insn_text.specs.declared.item.Kind.TheVariants as kind
 use Rattle.insn_text.specs.declared.item.Item.{Item}

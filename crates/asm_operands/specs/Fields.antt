@@ -3,7 +3,7 @@
 use Rattle.std.specs.Prelude.{ℕ, ◌+◌, ◌-◌, ◌*◌, ◌/◌, ◌%◌, ◌^◌, Bool, false, not, ◌&&◌, ◌==◌, nat_lt, nat_le, Option, Some, None, if◌then◌else◌, option_and_then, option_map, bit_xor}
 use Rattle.std.specs.List.{find, range_with_len}
 use Rattle.a64_table.specs.Conditions.{is_mask}
-use Rattle.a64_table.specs.Fields.{field_of}
+use Rattle.insn_forms.specs.Fields.{field_of}
 use Rattle.insn_text.specs.declared.item.Kind.{Kind}
 use Rattle.insn_text.specs.declared.item.Kind.TheVariants as kind
 use Rattle.insn_text.specs.Texts.{mask_in}

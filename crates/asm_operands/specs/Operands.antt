@@ -2,7 +2,7 @@
 -- Source: DDI 0487, C6.2, the assembler symbols of each page; this project's own assembly language for the faults.
 use Rattle.std.specs.Prelude.{ℕ, zero, suc, ◌+◌, ◌-◌, ◌*◌, ◌/◌, ◌%◌, ◌^◌, Bool, true, false, ◌&&◌, ◌==◌, List, [], ◌∷◌, length, take, drop, slice_get, slice_index, Option, Some, None, bit_and, bit_or, max, if◌then◌else◌, option_and_then, option_map, is_some}
 use Rattle.std.specs.List.{list_any}
-use Rattle.sve_table.specs.Meaning.{instruction_of}
+use Rattle.a64_encode.specs.Either.{instruction_of}
 use Rattle.insn_text.specs.declared.item.Kind.{Kind}
 use Rattle.insn_text.specs.declared.item.Kind.TheVariants as kind
 use Rattle.insn_text.specs.declared.item.Item.{Item}

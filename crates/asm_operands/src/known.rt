@@ -59,7 +59,7 @@ fn register_at(word: u32, low: u32) -> u32
 
 /// Whether Rn 9:5 is SP, or not the number.
 #[inline(always)]
-#[tactic(auto, unfolding(a64_table::specs::Fields::field_of))]
+#[tactic(auto, unfolding(insn_forms::specs::Fields::field_of))]
 fn is_base_apart(word: u32, number: u32) -> bool
     ensures { result ≡ is_base_apart word number }
 {
@@ -68,7 +68,7 @@ fn is_base_apart(word: u32, number: u32) -> bool
 
 /// Whether the registers of a word meet the rule.
 #[inline(always)]
-#[tactic(auto, unfolding(insn_text::specs::Rules::meets, a64_table::specs::Fields::field_of))]
+#[tactic(auto, unfolding(insn_text::specs::Rules::meets, insn_forms::specs::Fields::field_of))]
 fn meets(rule: Rule, word: u32) -> bool
     ensures { result ≡ meets rule word }
 {

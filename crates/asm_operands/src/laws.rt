@@ -3,7 +3,7 @@
 ghost use Rattle.std.specs.Prelude.{◌≡◌, ◌+◌, ◌<◌, ◌≤◌, ℕ, Bool, true, List, ◌++◌, Some, None, length, take, is_some};
 ghost use Rattle.asm_tokens.specs.declared.token.Token.{Token};
 ghost use Rattle.insn_text.specs.declared.words.TheConstants.{NAMES};
-ghost use Rattle.sve_table.specs.Meaning.{instruction_of};
+ghost use Rattle.a64_encode.specs.Either.{instruction_of};
 ghost use Rattle.asm_operands.specs.declared.operands.Target.{Target};
 ghost use Rattle.asm_operands.specs.Distances.{with_distance};
 ghost use Rattle.asm_operands.specs.Operands.{shapes_of, first_word, furthest, operands_said, Says};

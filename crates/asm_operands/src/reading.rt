@@ -1,7 +1,7 @@
 //! What the operands after a name say.
 
 ghost use Rattle.std.specs.Prelude.{◌≡◌, ◌-◌, ◌&&◌, length, slice_get, option_and_then, option_map, is_some, IfSome};
-ghost use Rattle.sve_table.specs.Meaning.{instruction_of};
+ghost use Rattle.a64_encode.specs.Either.{instruction_of};
 ghost use Rattle.asm_operands.specs.Operands.{first_word, is_distance, is_name, is_name_token, names, target_in, target_of, operands_said};
 ghost use Rattle.asm_operands.specs.Views.{said_by};
 
@@ -112,7 +112,7 @@ pub(crate) fn first_said(shapes: &[Shape], tokens: &[Token]) -> Option<Said>
 }
 
 /// Whether a word means an instruction.
-#[tactic(auto, unfolding(sve_table::specs::Meaning::instruction_of))]
+#[tactic(auto, unfolding(a64_encode::specs::Either::instruction_of))]
 fn is_instruction(word: u32) -> bool
     ensures { result ≡ is_some (instruction_of word) }
 {

@@ -7,7 +7,7 @@ use Rattle.bit_ops.specs.Bits.{width_of}
 use Rattle.bit_ops.specs.Masks.{is_reserved, mask_of, bit_mask_of}
 use Rattle.bit_ops.specs.Sums.{bool_number}
 use Rattle.bit_ops.proofs.Digits.{number-lt}
-use Rattle.a64_table.specs.Fields.{field_of}
+use Rattle.insn_forms.specs.Fields.{field_of}
 use Rattle.insn_text.specs.declared.item.Kind.{Kind}
 use Rattle.insn_text.specs.declared.item.Kind.TheVariants as kind
 use Rattle.insn_text.specs.declared.item.Item.{Item}

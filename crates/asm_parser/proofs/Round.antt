@@ -9,7 +9,8 @@ use Rattle.sm_types.specs.declared.insn.Insn.{Insn}
 use Rattle.a64_table.specs.declared.rows.Row.{Row}
 use Rattle.a64_table.proofs.FirstRow.{scalar_meaning}
 use Rattle.sve_table.specs.declared.rows.TheConstants.{VECTOR_ROWS}
-use Rattle.sve_table.specs.Meaning.{instruction_of, vector_meaning_of}
+use Rattle.a64_encode.specs.Either.{instruction_of}
+use Rattle.sve_table.specs.Table.{vector_meaning_of}
 use Rattle.a64_encode.specs.Either.{MeansEither}
 use Rattle.insn_text.specs.declared.item.Kind.TheVariants as kind
 use Rattle.insn_text.specs.declared.item.Item.{Item}

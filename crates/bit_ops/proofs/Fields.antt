@@ -248,12 +248,12 @@ highest-lt (suc k) n =
 
 pub length-lt : (n : Bool) (imms : ℕ) → length_of n imms < 7
 unfolding length_of
-length-lt n imms = highest-lt 6 (bool_number n * 64 + (63 - imms))
+length-lt n imms = highest-lt 6 (bool_number n * 64 + (63 - imms % 64))
 
-length-spec : (n : Bool) (imms : ℕ) → 2 ≤ size_of n imms → (size_of n imms ≤ bool_number n * 64 + (63 - imms)) × (bool_number n * 64 + (63 - imms) < size_of n imms * 2)
+length-spec : (n : Bool) (imms : ℕ) → 2 ≤ size_of n imms → (size_of n imms ≤ bool_number n * 64 + (63 - imms % 64)) × (bool_number n * 64 + (63 - imms % 64) < size_of n imms * 2)
 unfolding length_of
 length-spec n imms some =
-    let bits = bool_number n * 64 + (63 - imms) in
+    let bits = bool_number n * 64 + (63 - imms % 64) in
     let bit = bool_number-lt n in
     let place : 0 < highest_one 7 bits = elim (cases_lt 0 (highest_one 7 bits)) [
       | inl more ↦ more

@@ -39,11 +39,11 @@ highest_one-is (suc k) j n p q lt = elim (cases_lt n (2 ^ k)) [
       rw (le_true (2 ^ k) n over) (omega arith)
 ]
 
-pub length_none : (n : Bool) (imms bits : ℕ) → bits ≡ bool_number n * 64 + (63 - imms) → bits ≡ 0 → 0 ≡ length_of n imms
+pub length_none : (n : Bool) (imms bits : ℕ) → bits ≡ bool_number n * 64 + (63 - imms % 64) → bits ≡ 0 → 0 ≡ length_of n imms
 unfolding length_of highest_one
 length_none n imms bits e z = sym (ap (highest_one 7) (sym e ∙ z))
 
-pub length_some : (n : Bool) (imms bits : ℕ) → bits ≡ bool_number n * 64 + (63 - imms) → 0 < bits → bits < 2 ^ 7 → (31 - leading_zeros w32 bits ≡ length_of n imms) × (31 - leading_zeros w32 bits < 7)
+pub length_some : (n : Bool) (imms bits : ℕ) → bits ≡ bool_number n * 64 + (63 - imms % 64) → 0 < bits → bits < 2 ^ 7 → (31 - leading_zeros w32 bits ≡ length_of n imms) × (31 - leading_zeros w32 bits < 7)
 unfolding length_of
 length_some n imms bits e some lt =
     let top = leading_top 32 bits some (omega arith) in

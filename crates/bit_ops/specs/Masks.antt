@@ -9,9 +9,9 @@ unfoldable pub highest_one : ℕ → ℕ → ℕ
 highest_one zero n = 0
 highest_one (suc limit) n = if nat_le (2 ^ limit) n then limit else highest_one limit n
 
--- len: the place of the highest one in the seven bits N, NOT(imms)
+-- len: the place of the highest one in the seven bits N, NOT(imms); imms has six bits, and what stands above them is not read
 unfoldable pub length_of : Bool → ℕ → ℕ
-length_of n imms = highest_one 7 (bool_number n * 64 + (63 - imms))
+length_of n imms = highest_one 7 (bool_number n * 64 + (63 - imms % 64))
 
 -- how many bits an element has
 abbrev pub size_of : Bool → ℕ → ℕ

@@ -42,27 +42,3 @@ fn without_sign(word: u64, wide: bool) -> u64
         low_word(!word, wide)
     }
 }
-
-#[cfg(test)]
-mod tests {
-    use crate::{count_signs, count_zeros};
-
-    #[test]
-    fn zeros(rt: HostRuntime) {
-        assert!(rt; count_zeros(0, true) == 64);
-        assert!(rt; count_zeros(0, false) == 32);
-        assert!(rt; count_zeros(1, true) == 63);
-        assert!(rt; count_zeros(1 << 63, true) == 0);
-        assert!(rt; count_zeros(0xffff_ffff_0000_0001, false) == 31);
-    }
-
-    #[test]
-    fn signs(rt: HostRuntime) {
-        assert!(rt; count_signs(0, true) == 63);
-        assert!(rt; count_signs(u64::MAX, true) == 63);
-        assert!(rt; count_signs(u64::MAX, false) == 31);
-        assert!(rt; count_signs(1 << 63, true) == 0);
-        assert!(rt; count_signs(0x00ff_0000_0000_0000, true) == 7);
-        assert!(rt; count_signs(0xffff_0000_ff00_0000, false) == 7);
-    }
-}

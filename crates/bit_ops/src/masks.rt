@@ -7,10 +7,9 @@ ghost use Rattle.bit_ops.specs.Masks.{are_mask_fields, bit_mask_of, is_reserved,
 use crate::words::{low_word, width};
 
 /// The mask that the fields N, imms and immr of a logical instruction give a word of 64 bits where `wide`,
-/// else of 32. None where the fields are reserved. Bits of `immr` above the size of an element are ignored.
+/// else of 32. None exactly where the fields are reserved. `imms` and `immr` have six bits, and what stands above
+/// them is not read; nor are bits of `immr` above the size of an element.
 pub fn bit_mask(n: bool, imms: u8, immr: u8, wide: bool) -> Option<u64>
-    requires imms { imms < 64 }
-    requires immr { immr < 64 }
     ensures value { result ≡ bit_mask_of n imms immr wide }
     ensures none { IsNone result ↔ IsTrue (is_reserved n imms wide) }
     ensures bits { IfSome result (λ mask. IsMask n imms immr wide mask) }
@@ -29,7 +28,6 @@ pub fn bit_mask(n: bool, imms: u8, immr: u8, wide: bool) -> Option<u64>
 #[inline(always)]
 #[tactic(auto, unfolding(crate::specs::Masks::are_mask_fields, crate::specs::Masks::is_reserved))]
 pub fn are_mask_fields(n: bool, imms: u8, immr: u8, wide: bool) -> bool
-    requires { imms < 64 }
     ensures { result ≡ are_mask_fields n imms immr wide }
 {
     let length = element_length(n, imms);
@@ -38,15 +36,13 @@ pub fn are_mask_fields(n: bool, imms: u8, immr: u8, wide: bool) -> bool
 
 /// The seven bits N, NOT(imms).
 fn length_bits(n: bool, imms: u8) -> u32
-    requires { imms < 64 }
-    ensures { result ≡ bool_number n * 64 + (63 - imms) }
+    ensures { result ≡ bool_number n * 64 + (63 - imms % 64) }
 {
-    u32::from(n) * 64 + (63 - u32::from(imms))
+    u32::from(n) * 64 + (63 - u32::from(imms % 64))
 }
 
 /// The place of the highest one in the bits of the length, and 0 where there is none.
 fn element_length(n: bool, imms: u8) -> u32
-    requires { imms < 64 }
     ensures value { result ≡ length_of n imms }
     ensures small { result < 7 }
 {
@@ -224,42 +220,5 @@ fn written(size: u32, ones: u32, first: u32) -> Option<(bool, u8, u8)>
         Some((false, (64 - 2 * size + (ones - 1)) as u8, turn))
     } else {
         None
-    }
-}
-
-#[cfg(test)]
-mod tests {
-    use crate::{bit_mask, mask_fields};
-
-    #[test]
-    fn masks(rt: HostRuntime) {
-        assert!(rt; bit_mask(false, 60, 0, true) == Some(0x5555_5555_5555_5555));
-        assert!(rt; bit_mask(false, 60, 1, true) == Some(0xaaaa_aaaa_aaaa_aaaa));
-        assert!(rt; bit_mask(true, 7, 4, true) == Some(0xf000_0000_0000_000f));
-        assert!(rt; bit_mask(true, 62, 63, true) == Some(0xffff_ffff_ffff_fffe));
-        assert!(rt; bit_mask(false, 7, 4, false) == Some(0xf000_000f));
-        assert!(rt; bit_mask(false, 53, 3, false) == Some(0xe7e7_e7e7));
-        // bits of immr above the element
-        assert!(rt; bit_mask(false, 39, 28, true) == Some(0x0ff0_0ff0_0ff0_0ff0));
-    }
-
-    #[test]
-    fn reserved(rt: HostRuntime) {
-        assert!(rt; bit_mask(false, 61, 0, true).is_none());
-        assert!(rt; bit_mask(false, 62, 0, true).is_none());
-        assert!(rt; bit_mask(false, 63, 0, false).is_none());
-        assert!(rt; bit_mask(true, 63, 0, true).is_none());
-        assert!(rt; bit_mask(true, 7, 4, false).is_none());
-    }
-
-    #[test]
-    fn fields(rt: HostRuntime) {
-        assert!(rt; mask_fields(0x5555_5555_5555_5555, true) == Some((false, 60, 0)));
-        assert!(rt; mask_fields(0xf000_0000_0000_000f, true) == Some((true, 7, 4)));
-        assert!(rt; mask_fields(0x0ff0_0ff0_0ff0_0ff0, true) == Some((false, 39, 12)));
-        assert!(rt; mask_fields(0x1234_5678_f000_000f, false) == Some((false, 7, 4)));
-        assert!(rt; mask_fields(0, true).is_none());
-        assert!(rt; mask_fields(u64::MAX, true).is_none());
-        assert!(rt; mask_fields(5, true).is_none());
     }
 }

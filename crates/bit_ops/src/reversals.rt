@@ -51,25 +51,3 @@ fn reverse_words(word: u64) -> u64
     let b = word.to_le_bytes();
     u64::from_le_bytes([b[3], b[2], b[1], b[0], b[7], b[6], b[5], b[4]])
 }
-
-#[cfg(test)]
-mod tests {
-    use crate::{reverse_bits, reverse_bytes};
-
-    const WORD: u64 = 0x0123_4567_89ab_cdef;
-
-    #[test]
-    fn bits(rt: HostRuntime) {
-        assert!(rt; reverse_bits(WORD, true) == 0xf7b3_d591_e6a2_c480);
-        assert!(rt; reverse_bits(WORD, false) == 0xf7b3_d591);
-    }
-
-    #[test]
-    fn bytes(rt: HostRuntime) {
-        assert!(rt; reverse_bytes(WORD, 2, true) == 0x2301_6745_ab89_efcd);
-        assert!(rt; reverse_bytes(WORD, 4, true) == 0x6745_2301_efcd_ab89);
-        assert!(rt; reverse_bytes(WORD, 8, true) == 0xefcd_ab89_6745_2301);
-        assert!(rt; reverse_bytes(WORD, 2, false) == 0xab89_efcd);
-        assert!(rt; reverse_bytes(WORD, 4, false) == 0xefcd_ab89);
-    }
-}

@@ -62,29 +62,3 @@ fn rotate(word: u64, amount: u32, wide: bool) -> u64
         u64::from((word as u32).rotate_right(amount))
     }
 }
-
-#[cfg(test)]
-mod tests {
-    use crate::{ShiftKind, shift};
-
-    const WORD: u64 = 0x8123_4567_89ab_cdef;
-
-    #[test]
-    fn wide(rt: HostRuntime) {
-        assert!(rt; shift(WORD, ShiftKind::Lsl, 63, true) == 1 << 63);
-        assert!(rt; shift(WORD, ShiftKind::Lsl, 0, true) == WORD);
-        assert!(rt; shift(WORD, ShiftKind::Lsr, 63, true) == 1);
-        assert!(rt; shift(WORD, ShiftKind::Asr, 4, true) == 0xf812_3456_789a_bcde);
-        assert!(rt; shift(WORD, ShiftKind::Asr, 63, true) == u64::MAX);
-        assert!(rt; shift(WORD, ShiftKind::Ror, 0, true) == WORD);
-        assert!(rt; shift(WORD, ShiftKind::Ror, 63, true) == 0x0246_8acf_1357_9bdf);
-    }
-
-    #[test]
-    fn narrow(rt: HostRuntime) {
-        assert!(rt; shift(WORD, ShiftKind::Lsl, 4, false) == 0x9abc_def0);
-        assert!(rt; shift(WORD, ShiftKind::Lsr, 0, false) == 0x89ab_cdef);
-        assert!(rt; shift(WORD, ShiftKind::Asr, 31, false) == 0xffff_ffff);
-        assert!(rt; shift(WORD, ShiftKind::Ror, 31, false) == 0x1357_9bdf);
-    }
-}

@@ -56,7 +56,7 @@ fn piece_of(code: &[(u64, u32)]) -> Piece
 
 /// Writes a line for each code word, an address and a word, in their order.
 pub fn write_listing<K: Sink>(code: &[(u64, u32)], out: &mut K) -> Result<(), PutFault>
-    ensures { Writes K.told K.faults K.takes out.old out.new result (listing_text code.now) }
+    ensures { Writes (K.view out.old) (K.view out.new) result (listing_text code.now) }
 {
     let mut rest = code;
     while !rest.is_empty() {

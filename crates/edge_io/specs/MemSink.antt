@@ -1,6 +1,7 @@
 -- A sink in memory. Source: the project's own rule.
-use Rattle.std.specs.Prelude.{ℕ, ◌≡◌, ◌+◌, ◌-◌, ◌≤◌, List, [], length, Option, Some}
-use Rattle.edge_io.specs.Failing.{allowance, next_call}
+use Rattle.std.specs.Prelude.{ℕ, ◌-◌, List, length, Some, if◌then◌else◌}
+use Rattle.edge_io.specs.Failing.{allowance, is_nil, next_call}
+use Rattle.edge_io.specs.Sink.{SinkView}
 use Rattle.edge_io.specs.declared.mem_sink.MemSink.{MemSink}
 
 -- which calls of `put` fail, counted from 1, each with the most bytes that it appends; how many were made; how many failed
@@ -25,14 +26,10 @@ log_of sink = record { failing = sink.failing.items; made = sink.made; faults = 
 abbrev pub taken_of : MemSink → ℕ
 taken_of sink = allowance sink.failing.items (next_call sink.made) (sink.room - length sink.held.items)
 
--- it tells the bytes that it holds
-abbrev pub told_of : MemSink → Option (List ℕ)
-told_of sink = Some sink.held.items
+-- the bytes for which there is room left, where no call is listed
+abbrev pub room_left : MemSink → ℕ
+room_left sink = (if is_nil sink.failing.items then sink.room - length sink.held.items else 0)
 
--- how many calls failed
-abbrev pub faults_of : MemSink → ℕ
-faults_of sink = sink.faults
-
--- no call is listed, and there is room for so many bytes more, so the pieces that they come in do not fail
-abbrev pub Takes : MemSink → ℕ → Type 0
-Takes sink n = (sink.failing.items ≡ []) × (length sink.held.items + n ≤ sink.room)
+-- it tells the bytes that it holds, and no piece fails for which there is room, where no call is listed
+abbrev pub view_of : MemSink → SinkView
+view_of sink = record { held = Some sink.held.items; faults = sink.faults; room = room_left sink }

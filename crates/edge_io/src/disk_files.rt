@@ -1,6 +1,5 @@
 //! The files of the system.
-ghost use Rattle.std.specs.Prelude.{◌≡◌, ◌≢◌, ◌^◌, ◌<◌, None, Err, IfOk, IfErr, IfSome, OnErr, take};
-ghost use Rattle.edge_io.specs.Files.{FetchAnswer};
+ghost use Rattle.std.specs.Prelude.{◌≡◌, ◌≢◌, ◌↔◌, IfOk, IfErr, IfSome, take};
 
 use crate::files::{FileFault, Files};
 use std::alloc::Global;
@@ -32,13 +31,12 @@ impl<R: rt::Files + Drop> DiskFiles<R> {
 }
 
 impl<R: rt::Files + Drop> Files for DiskFiles<R> {
-    ghost use Rattle.edge_io.specs.DiskFiles.{absences_of, faults_of};
+    ghost use Rattle.edge_io.specs.DiskFiles.{view_of};
 
-    ghost told = { λ _. None };
+    ghost view = { view_of };
 
-    ghost absences = { absences_of };
-
-    ghost faults = { faults_of };
+    /// It tells nothing of what it has fetched.
+    ghost fetched = { λ old name limit new. Unit {0} };
 
     /// `Absent` where the path leads nowhere. `Failed` for a directory, a path through a file, a name with a
     /// zero byte, and any other fault of the system. It reads no more than `limit` bytes, and nothing at
@@ -67,8 +65,7 @@ fn read_file<R: rt::Files>(
 ) -> Result<Vec<u8>, FileFault> {
     match fs::open(system, name) {
         Ok(file) => first_bytes(file, alloc, limit),
-        Err(error) if error.kind() == ErrorKind::NotFound => Err(FileFault::Absent),
-        Err(error) => Err(fault_of(error.kind())),
+        Err(error) => Err(fault_of_open(error.kind())),
     }
 }
 
@@ -81,18 +78,30 @@ fn first_bytes<R: Read + Drop>(reader: R, alloc: Global, limit: u64) -> Result<V
     let mut first = reader.take(limit);
     match first.read_to_end(&mut bytes) {
         Ok(_) => Ok(bytes),
-        Err(error) => Err(fault_of(error.kind())),
+        Err(error) => Err(fault_of_read(error.kind())),
     }
 }
 
-/// The fault that an error of a file that is there is.
-fn fault_of(kind: ErrorKind) -> FileFault
-    ensures { result ≢ FileFault.Absent }
+/// The fault that an error in opening a file is.
+fn fault_of_open(kind: ErrorKind) -> FileFault
+    ensures absent { (result ≡ FileFault.Absent) ↔ (kind ≡ ErrorKind.NotFound) }
+    ensures memory { (result ≡ FileFault.Memory) ↔ (kind ≡ ErrorKind.OutOfMemory) }
 {
-    if kind == ErrorKind::OutOfMemory {
-        FileFault::Memory
-    } else {
-        FileFault::Failed
+    match kind {
+        ErrorKind::NotFound => FileFault::Absent,
+        ErrorKind::OutOfMemory => FileFault::Memory,
+        _ => FileFault::Failed,
+    }
+}
+
+/// The fault that an error in reading a file is.
+fn fault_of_read(kind: ErrorKind) -> FileFault
+    ensures never_absent { result ≢ FileFault.Absent }
+    ensures memory { (result ≡ FileFault.Memory) ↔ (kind ≡ ErrorKind.OutOfMemory) }
+{
+    match kind {
+        ErrorKind::OutOfMemory => FileFault::Memory,
+        _ => FileFault::Failed,
     }
 }
 

@@ -1,6 +1,6 @@
 //! Where files come from.
-ghost use Rattle.std.specs.Prelude.{◌≡◌, ◌≢◌, ℕ, Option, List, Err};
-ghost use Rattle.edge_io.specs.Files.{FetchAnswer};
+ghost use Rattle.std.specs.Prelude.{◌≡◌, ◌≢◌, ℕ, List, Err, IsTrue};
+ghost use Rattle.edge_io.specs.Files.{FilesView, FetchAnswer};
 
 use std::alloc::Global;
 
@@ -17,23 +17,19 @@ pub enum FileFault {
 
 /// Where files come from. It may tell which files there are.
 pub trait Files {
-    /// From a name to the file's bytes, where it tells that. No call changes it.
-    ghost told: { Self → Option (List ℕ → Option (List ℕ)) };
+    /// What is known of it.
+    ghost view: { Self → FilesView };
 
-    /// How often a file was not there.
-    ghost absences: { Self → ℕ };
-
-    /// How often a file could not be read.
-    ghost faults: { Self → ℕ };
-
-    /// No `fetch` answers `Failed`, now and after any number of calls. What does not know of itself claims
-    /// nothing.
-    ghost is_reliable: { Self → Type 0 } = { λ _. ⊥ };
+    /// What one fetch of a name with a limit makes of it. A caller who shows this of the place before and the place
+    /// now has made that one fetch, and no other.
+    ghost fetched: { Self → List ℕ → ℕ → Self → Type 0 };
 
     /// The file's first `limit` bytes, or all where it has fewer. `Absent` where no file has the name,
     /// `Failed` where it could not be read, `Memory` for want of memory.
     fn fetch(&mut self, alloc: Global, name: &str, limit: u64) -> Result<Vec<u8>, FileFault>
-        ensures same { told self.new ≡ told self.old }
-        ensures answer { FetchAnswer (told self.old) name.now limit (absences self.old) (absences self.new) (faults self.old) (faults self.new) result }
-        ensures reliable { is_reliable self.old → is_reliable self.new × (result ≢ Err FileFault.Failed) };
+        ensures same { (view self.new).told ≡ (view self.old).told }
+        ensures answer { FetchAnswer (view self.old) (view self.new) name.now limit result }
+        ensures reliable { IsTrue (view self.old).reliable → IsTrue (view self.new).reliable }
+        ensures never_failed { IsTrue (view self.old).reliable → result ≢ Err FileFault.Failed }
+        ensures fetched { fetched self.old name.now limit self.new };
 }

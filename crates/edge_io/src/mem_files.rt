@@ -1,5 +1,5 @@
 //! Files in memory.
-ghost use Rattle.std.specs.Prelude.{◌≡◌, ◌≢◌, ℕ, ◌++◌, Option, Some, None, IsSome, List, [], ◌∷◌, take, Contains, OnOk, OnErr, IfOk, IfErr, Err, ◌↔◌};
+ghost use Rattle.std.specs.Prelude.{◌≡◌, ◌≢◌, ℕ, ◌++◌, Option, Some, None, IsSome, List, [], ◌∷◌, take, Contains, IsTrue, OnOk, OnErr, IfOk, IfErr, Err, ◌↔◌};
 ghost use Rattle.edge_io.specs.Files.{FetchAnswer};
 
 use crate::files::{FileFault, Files};
@@ -87,25 +87,21 @@ fn first_bytes(alloc: Global, bytes: &[u8], limit: u64) -> Result<Vec<u8>, FileF
 }
 
 impl Files for MemFiles {
-    ghost use Rattle.edge_io.specs.MemFiles.{files_of, log_of, told_of, absences_of, faults_of, IsReliable};
+    ghost use Rattle.edge_io.specs.MemFiles.{files_of, log_of, view_of, IsAfterFetch};
     ghost use Rattle.edge_io.specs.Failing.{next_call};
 
-    ghost told = { told_of };
+    ghost view = { view_of };
 
-    ghost absences = { absences_of };
-
-    ghost faults = { faults_of };
-
-    ghost is_reliable = { IsReliable };
+    ghost fetched = { IsAfterFetch };
 
     /// A listed call fails exactly where the name is there.
     fn fetch(&mut self, alloc: Global, name: &str, limit: u64) -> Result<Vec<u8>, FileFault>
-        ensures same { told_of self.new ≡ told_of self.old }
-        ensures answer { FetchAnswer (told_of self.old) name.now limit (absences_of self.old) (absences_of self.new) (faults_of self.old) (faults_of self.new) result }
-        ensures reliable { IsReliable self.old → IsReliable self.new × (result ≢ Err FileFault.Failed) }
+        ensures same { (view_of self.new).told ≡ (view_of self.old).told }
+        ensures answer { FetchAnswer (view_of self.old) (view_of self.new) name.now limit result }
+        ensures reliable { IsTrue (view_of self.old).reliable → IsTrue (view_of self.new).reliable }
+        ensures never_failed { IsTrue (view_of self.old).reliable → result ≢ Err FileFault.Failed }
+        ensures fetched { IsAfterFetch self.old name.now limit self.new }
         ensures failed { (result ≡ Err FileFault.Failed) ↔ (IsSome (files_of self.old name.now) × Contains (log_of self.old).failing (next_call (log_of self.old).made)) }
-        ensures list { (log_of self.new).failing ≡ (log_of self.old).failing }
-        ensures made { (log_of self.new).made ≡ next_call (log_of self.old).made }
     {
         self.made = self.made.saturating_add(1);
         match self.entries.get(name) {

@@ -111,19 +111,14 @@ fn is_whole(failing: &[(u64, usize)], call: u64, room: usize, wanted: usize) -> 
 }
 
 impl Sink for MemSink {
-    ghost use Rattle.edge_io.specs.MemSink.{text_of, room_of, log_of, taken_of, told_of, faults_of, Takes};
+    ghost use Rattle.edge_io.specs.MemSink.{text_of, room_of, log_of, taken_of, view_of};
     ghost use Rattle.edge_io.specs.Failing.{next_call};
 
-    ghost told = { told_of };
-
-    ghost faults = { faults_of };
-
-    ghost takes = { Takes };
+    ghost view = { view_of };
 
     /// Fails exactly where the piece is not empty, and the call is listed or the piece does not fit.
     fn put(&mut self, bytes: &[u8]) -> Result<(), PutFault>
-        ensures writes { Writes told_of faults_of Takes self.old self.new result bytes.now }
-        ensures empty { bytes.now ≡ [] → IsOk result }
+        ensures writes { Writes (view_of self.old) (view_of self.new) result bytes.now }
         ensures ok { IsOk result ↔ ((bytes.now ≡ []) ⊎ ((is_listed (log_of self.old).failing (next_call (log_of self.old).made) ≡ false) × (length (text_of self.old) + length bytes.now ≤ room_of self.old))) }
         ensures text { text_of self.new ≡ text_of self.old ++ take (taken_of self.old) bytes.now }
         ensures room { room_of self.new ≡ room_of self.old }

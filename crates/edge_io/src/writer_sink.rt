@@ -1,5 +1,5 @@
 //! A sink that writes to the system.
-ghost use Rattle.std.specs.Prelude.{◌≡◌, ℕ, ◌+◌, ◌^◌, ◌<◌, ◌≤◌, ◌++◌, List, [], None, IfOk, IsOk, OnOk, OnErr, take, length};
+ghost use Rattle.std.specs.Prelude.{◌≡◌, ◌↔◌, ℕ, ◌+◌, ◌^◌, ◌<◌, ◌≤◌, ◌++◌, List, [], None, IfOk, IsOk, OnOk, OnErr, take, length};
 ghost use Rattle.std.specs.Io.KnownBytes.{Appends, Keeps};
 ghost use Rattle.edge_io.specs.Sink.{Writes};
 
@@ -30,16 +30,14 @@ impl<W: Write + Drop> WriterSink<W> {
 }
 
 impl<W: Write + Drop> Sink for WriterSink<W> {
-    ghost use Rattle.edge_io.specs.WriterSink.{writer_of, faults_of};
+    ghost use Rattle.edge_io.specs.WriterSink.{writer_of, view_of};
 
-    ghost told = { λ _. None };
-
-    ghost faults = { faults_of };
+    ghost view = { view_of };
 
     /// Fails where the system takes nothing more or reports a fault. What the writer is known to hold grows by
     /// the piece, or after a fault by a part of it from the front.
     fn put(&mut self, bytes: &[u8]) -> Result<(), PutFault>
-        ensures writes { Writes (λ _. None) faults_of (λ _ _. ⊥) self.old self.new result bytes.now }
+        ensures writes { Writes (view_of self.old) (view_of self.new) result bytes.now }
         ensures empty { bytes.now ≡ [] → IsOk result }
         ensures ok { OnOk result (Appends (W.contents (writer_of self.old)) (W.contents (writer_of self.new)) bytes.now) }
         ensures err { OnErr result ((n : ℕ) × Appends (W.contents (writer_of self.old)) (W.contents (writer_of self.new)) (take n bytes.now)) }
@@ -85,8 +83,19 @@ fn write_part<W: Write>(writer: &mut W, bytes: &[u8]) -> Result<usize, PutFault>
     match writer.write(bytes) {
         Ok(0) => Err(PutFault::Failed),
         Ok(n) => Ok(n),
-        Err(error) if error.kind() == ErrorKind::Interrupted => Ok(0),
-        Err(_) => Err(PutFault::Failed),
+        Err(error) => part_of_fault(error.kind()),
+    }
+}
+
+/// What a write that was not done has written: nothing where it was interrupted, so that it is tried again; else it
+/// is a fault.
+fn part_of_fault(kind: ErrorKind) -> Result<usize, PutFault>
+    ensures interrupted { IsOk result ↔ (kind ≡ ErrorKind.Interrupted) }
+    ensures none { IfOk result (λ n. n ≡ 0) }
+{
+    match kind {
+        ErrorKind::Interrupted => Ok(0),
+        _ => Err(PutFault::Failed),
     }
 }
 

@@ -106,7 +106,7 @@ extent_placed : (file : List ℕ) (s : ProgramHeader) → IsSound (length file) 
 unfolding extent_of_load
 extent_placed file s sound =
     let short : length (take s.file_size (drop s.offset file)) ≤ s.file_size = grind (arith, common_steps) in
-    placed_by_ends _ (omega (arith, sound.bytes)) sound.low sound.private
+    placed_by_ends _ (omega (arith, sound.bytes)) (omega arith) sound.low sound.private
 
 pub loads_placed : (file : List ℕ) (loads : List ProgramHeader) → AreSound file loads → ArePlaced (map (extent_of_load file) loads)
 loads_placed file loads sound = record {

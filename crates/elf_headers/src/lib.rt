@@ -10,8 +10,6 @@ mod pages;
 mod places;
 mod segments;
 mod spans;
-#[cfg(test)]
-mod tests;
 
 pub use fault::LoadFault;
 pub use header::{ProgramHeader, u8_at, u16_at, u32_at, u64_at};

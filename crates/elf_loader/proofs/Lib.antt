@@ -2,3 +2,4 @@ mod FirstUnlisted
 mod Extents
 pub mod Checks
 pub mod Written
+pub mod Images

@@ -2,7 +2,7 @@
 -- Source: ELF-64 Object File Format; which instructions are listed is this project's own.
 use Rattle.std.specs.Prelude.{◌≡◌, ℕ, List, [], ◌∷◌, Option, Some, None, map}
 use Rattle.sm_types.specs.declared.insn.Insn.{Insn}
-use Rattle.sve_table.specs.Meaning.{instruction_of}
+use Rattle.a64_encode.specs.Either.{instruction_of}
 use Rattle.paged_memory.specs.Image.{Program, IsMemoryOf}
 use Rattle.elf_headers.specs.declared.fault.LoadFault.{LoadFault}
 use Rattle.elf_headers.specs.declared.fault.LoadFault.TheVariants.{Unlisted}

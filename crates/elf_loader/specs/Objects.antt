@@ -1,11 +1,11 @@
 -- The image of an object, and when an object is written as a file.
 -- Source: ELF-64 Object File Format, PT_LOAD with p_flags (PF_X 1, PF_W 2, PF_R 4); where the parts stand is this project's own.
-use Rattle.std.specs.Prelude.{◌≡◌, ◌≤◌, List, [], ◌∷◌, length, cond, ◌==◌, None}
+use Rattle.std.specs.Prelude.{◌≡◌, ◌≤◌, ℕ, List, [], ◌∷◌, length, cond, ◌==◌, None}
 use Rattle.sm_types.specs.declared.object.TheConstants.{TEXT_ADDRESS}
 use Rattle.sm_types.specs.declared.object.Object.{Object}
 use Rattle.sm_types.specs.Objects.{data_address, object_code, IsStartable}
 use Rattle.paged_memory.specs.Image.{Extent, Program, IsMemoryOf}
-use Rattle.elf_loader.specs.Loading.{words_fault}
+use Rattle.elf_loader.specs.Loading.{words_fault, Loads}
 
 -- the text, which can be read and executed
 unfoldable pub text_extent : Object → Extent
@@ -24,6 +24,12 @@ pub record IsObjectImage (o : Object) (program : Program) : Type 0 where
   pub memory : IsMemoryOf (object_extents o) program.memory
   pub entry_is : program.entry ≡ o.entry
   pub code_is : program.code ≡ object_code o
+
+-- the file is loaded, as the image of the object
+pub record IsFileOf (o : Object) (file : List ℕ) : Type 0 where
+  pub program : Program
+  pub loads : Loads file program
+  pub image : IsObjectImage o program
 
 -- the object can be written: it can start, each part has at most 4 MiB, and each of its code words means an instruction
 pub record IsWritable (o : Object) : Type 0 where

@@ -5,13 +5,13 @@
 //! of instructions, and the image is made.
 #![tactic(auto)]
 
+mod laws;
 mod loader;
 mod parts;
-#[cfg(test)]
-mod tests;
 mod words;
 mod write;
 
 pub use elf_headers::LoadFault;
+pub use laws::{one_image, some_image};
 pub use loader::load;
 pub use write::write_elf;

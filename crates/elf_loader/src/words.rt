@@ -1,19 +1,17 @@
 //! The code words of a file, looked up in the tables of instructions.
 ghost use Rattle.std.specs.Prelude.{◌≡◌, is_some};
-ghost use Rattle.sve_table.specs.Meaning.{instruction_of};
+ghost use Rattle.a64_encode.specs.Either.{instruction_of};
 ghost use Rattle.elf_headers.specs.Fault.{Tells};
 ghost use Rattle.elf_loader.specs.Loading.{unlisted, words_fault};
 
-use a64_decode::decode_scalar;
 use elf_headers::LoadFault;
-use sve_decode::decode_vector;
+use insn_decode::decode;
 
 /// Tells whether the word means an instruction by either table.
-#[tactic(auto, unfolding(sve_table::specs::Meaning::instruction_of))]
 fn is_listed(word: u32) -> bool
     ensures { result ≡ is_some (instruction_of word) }
 {
-    decode_scalar(word).is_some() || decode_vector(word).is_some()
+    decode(word).is_some()
 }
 
 /// Refuses a code word that means no instruction.

@@ -8,8 +8,6 @@ mod intervals;
 mod marks;
 mod section;
 mod symbols;
-#[cfg(test)]
-mod tests;
 mod words;
 
 pub use code::read_code;

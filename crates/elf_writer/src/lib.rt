@@ -6,7 +6,5 @@
 mod file;
 mod layout;
 mod marks;
-#[cfg(test)]
-mod tests;
 
 pub use file::write_file;

@@ -6,7 +6,7 @@ use Rattle.sm_types.specs.declared.insn.Insn.{Insn}
 use Rattle.a64_table.specs.declared.rows.Row.{Row}
 use Rattle.a64_table.specs.declared.rows.TheConstants.{SCALAR_ROWS}
 use Rattle.sve_table.specs.declared.rows.TheConstants.{VECTOR_ROWS}
-use Rattle.a64_table.specs.Fields.{field_of, bit_of}
+use Rattle.insn_forms.specs.Fields.{field_of, bit_of}
 use Rattle.a64_table.specs.Conditions.{fits_of}
 use Rattle.a64_encode.specs.Either.{MeansEither}
 use Rattle.insn_text.specs.declared.shapes.TheConstants.{SHAPES}

@@ -4,7 +4,7 @@ use Rattle.std.specs.List.{list_all}
 use Rattle.std.proofs.lemmas.Bool.{and_from, and_parts, both_ways, le-leb}
 use Rattle.a64_table.specs.declared.rows.Group.{Group}
 use Rattle.a64_table.specs.declared.rows.Group.TheVariants.{G2, G3, G4, G5, G6, G7, G8, G18, G20}
-use Rattle.a64_table.specs.Fields.{field_of, bit_of}
+use Rattle.insn_forms.specs.Fields.{field_of, bit_of}
 use Rattle.a64_table.specs.Conditions.{is_below_width, is_mask, has_load_of, is_address_option, has_access, writes_apart, writes_pair_apart, fits_of}
 use Rattle.a64_table.proofs.Sums.{split, field_below, fixed_field}
 use Rattle.insn_text.specs.declared.item.Kind.{Kind}

@@ -12,7 +12,7 @@ use Rattle.bit_ops.specs.Sums.{bool_number}
 use Rattle.bit_ops.specs.Masks.{bit_mask_of, is_reserved, mask_of, turn_of, size_of as element_size, ones_of}
 use Rattle.bit_ops.proofs.Digits.{number-lt}
 use Rattle.bit_ops.proofs.MaskBits.{bool_number-lt}
-use Rattle.a64_table.specs.Fields.{field_of}
+use Rattle.insn_forms.specs.Fields.{field_of}
 use Rattle.insn_text.specs.declared.item.Kind.{Kind}
 use Rattle.insn_text.specs.declared.item.Kind.TheVariants.{Mark, Named, Register, Unsigned, Signed, Distance, Mask, SignedMask, ShiftLeft, Opposite, Halfword}
 use Rattle.insn_text.specs.declared.item.Item.{Item}

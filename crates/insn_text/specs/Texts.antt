@@ -5,7 +5,7 @@ use Rattle.std.specs.Prelude.{ℕ, ◌+◌, ◌-◌, ◌*◌, ◌^◌, Bool, tru
 use Rattle.std.specs.List.{find}
 use Rattle.std.specs.Fmt.{digits}
 use Rattle.bit_ops.specs.Masks.{bit_mask_of}
-use Rattle.a64_table.specs.Fields.{field_of}
+use Rattle.insn_forms.specs.Fields.{field_of}
 use Rattle.insn_text.specs.declared.item.Kind.{Kind}
 use Rattle.insn_text.specs.declared.item.Kind.TheVariants.{Mark, Named, Register, Unsigned, Signed, Distance, Mask, SignedMask, ShiftLeft, Opposite, Halfword}
 use Rattle.insn_text.specs.declared.item.Item.{Item}

@@ -1,5 +1,5 @@
 -- From the turns of the plain state to the answers of a context.
-use Rattle.std.proofs.Common.{◌≡◌, ℕ, ◌+◌, ◌≤◌, ◌++◌, List, take, drop, length, Some, ap, sym, ◌∙◌, arith}
+use Rattle.std.proofs.Common.{◌≡◌, ℕ, ◌+◌, ◌≤◌, ◌++◌, List, take, drop, length, Option, Some, ap, sym, ◌∙◌, arith}
 use Rattle.std.proofs.lemmas.Grind.{common_steps}
 use Rattle.std.proofs.lemmas.List.{take-append-drop}
 use Rattle.sm_types.specs.declared.stop.Stop.{Stop}
@@ -7,25 +7,24 @@ use Rattle.sm_types.specs.declared.config.Config.{Config}
 use Rattle.kernel_contexts.specs.State.{State}
 use Rattle.kernel_contexts.specs.Call.{TurnEnd, Ends}
 use Rattle.kernel_contexts.specs.Turn.{turn_of}
-use Rattle.kernel_contexts.specs.Context.{state_of, stop_of, Turns}
-use Rattle.kernel_contexts.specs.declared.context.Context.{Context}
+use Rattle.kernel_contexts.specs.Context.{Turns}
 use Rattle.kernel_contexts.specs.declared.context.Turn.{Turn}
 use Rattle.kernel_contexts.specs.declared.context.Turn.TheVariants.{Ran, Stopped, Memory}
-use Rattle.kernel_contexts.proofs.Turns.{goes_counted}
+use Rattle.kernel_contexts.proofs.Turns.{goes_turned}
 
-pub stops_so : (end : TurnEnd) (old : State) (new : Context) (turn : Turn) (stop : Stop) → turn ≡ Stopped stop → end ≡ Ends (state_of new) stop → stop_of new ≡ Some stop → Turns end old new turn
-stops_so end old new turn stop answer ends is = rw answer (ends, is)
+pub stops_so : (end : TurnEnd) (old new : State) (stopped : Option Stop) (turn : Turn) (stop : Stop) → turn ≡ Stopped stop → end ≡ Ends new stop → stopped ≡ Some stop → Turns end old new stopped turn
+stops_so end old new stopped turn stop answer ends is = rw answer (ends, is)
 
 -- the same turn, from the same state
-pub turns_from : (end end' : TurnEnd) (s t : State) (new : Context) (turn : Turn) → end' ≡ end → s ≡ t → Turns end s new turn → Turns end' t new turn
-turns_from end end' s t new Ran e same h = (e ∙ h.0, h.1)
-turns_from end end' s t new (Stopped stop) e same h = (e ∙ h.0, h.1)
-turns_from end end' s t new Memory e same h = (h.0 ∙ same, h.1)
+pub turns_from : (end end' : TurnEnd) (s t new : State) (stopped : Option Stop) (turn : Turn) → end' ≡ end → s ≡ t → Turns end s new stopped turn → Turns end' t new stopped turn
+turns_from end end' s t new stopped Ran e same h = (e ∙ h.0, h.1)
+turns_from end end' s t new stopped (Stopped stop) e same h = (e ∙ h.0, h.1)
+turns_from end end' s t new stopped Memory e same h = (h.0 ∙ same, h.1)
 
-pub ran_counted : (config : Config) (old : State) (new : Context) (turn : Turn) → Turns (turn_of config old) old new turn → turn ≡ Ran → (state_of new).count ≡ old.count + 1
-ran_counted config old new Ran h e = goes_counted config old (state_of new) h.0
-ran_counted config old new (Stopped stop) h e = cc
-ran_counted config old new Memory h e = cc
+pub ran_turned : (config : Config) (thread events : ℕ) (old new : State) (stopped : Option Stop) (turn : Turn) → Turns (turn_of config thread events old) old new stopped turn → turn ≡ Ran → new.turns ≡ old.turns + 1
+ran_turned config thread events old new stopped Ran h e = goes_turned config thread events old new h.0
+ran_turned config thread events old new stopped (Stopped stop) h e = cc
+ran_turned config thread events old new stopped Memory h e = cc
 
 take_all : (into rest : List ℕ) → take (length into) (into ++ rest) ≡ into
 take_all into rest = grind (arith, common_steps)

@@ -1,64 +1,73 @@
--- What one turn is, case by case, and that a turn after which the thread goes on counts one instruction.
-use Rattle.std.proofs.Common.{◌≡◌, ℕ, ◌+◌, true, false, List, Option, Some, None, refl, ap, sym, ◌∙◌, arith, subst, slice_index, length}
+-- What one turn is, case by case, and that a turn after which the thread goes on counts one instruction and one turn.
+use Rattle.std.proofs.Common.{◌⊎◌, inl, inr, ◌≡◌, ℕ, ◌+◌, true, false, List, Option, Some, None, refl, ap, sym, ◌∙◌, arith, subst, slice_index, length}
 use Rattle.std.proofs.lemmas.Bool.{cond_both}
 use Rattle.std.proofs.lemmas.Bool.Decides.{nat_tests}
 use Rattle.std.specs.Prelude.{◌==◌, ◌||◌, nat_lt}
 use Rattle.sm_types.specs.declared.config.Config.{Config}
 use Rattle.sm_types.specs.declared.stop.Exception.{Exception}
 use Rattle.sm_types.specs.declared.stop.Stop.TheVariants.{Budget, Raised}
-use Rattle.machine_step.specs.Core.{Core}
+use Rattle.machine_step.specs.ProcessorState.{ProcessorState, vector_bytes}
 use Rattle.machine_step.specs.Effect.{Effect, Raises, Calls, Becomes, effect_of}
 use Rattle.kernel_contexts.specs.State.{State}
-use Rattle.kernel_contexts.specs.Call.{TurnEnd, Goes, Asks, Ends, counted, written, call_of, write_of, exit_of, output_limit}
+use Rattle.kernel_contexts.specs.Call.{TurnEnd, Goes, Yields, Asks, Ends, counted, written, call_of, write_of, exit_of, output_limit}
 use Rattle.kernel_contexts.specs.Turn.{turn_of, after_effect}
 
-pub turn_spent : (config : Config) (s : State) → s.count ≡ config.budget → turn_of config s ≡ Ends s Budget
+pub turn_spent : (config : Config) (thread events : ℕ) (s : State) → s.count ≡ config.budget → turn_of config thread events s ≡ Ends s Budget
 unfolding turn_of
-turn_spent config s e = let test : (s.count == config.budget) ≡ true = grind (arith, nat_tests) in rw test refl
+turn_spent config thread events s e = let test : (s.count == config.budget) ≡ true = grind (arith, nat_tests) in rw test refl
 
-turn_on : (config : Config) (s : State) → (s.count ≡ config.budget → ⊥) → turn_of config s ≡ after_effect s (effect_of s.core)
+turn_on : (config : Config) (thread events : ℕ) (s : State) → (s.count ≡ config.budget → ⊥) → turn_of config thread events s ≡ after_effect config thread s (effect_of (vector_bytes config.vl) s.core)
 unfolding turn_of
-turn_on config s e = let test : (s.count == config.budget) ≡ false = grind (arith, nat_tests) in rw test refl
+turn_on config thread events s e = let test : (s.count == config.budget) ≡ false = grind (arith, nat_tests) in rw test refl
 
-pub turn_becomes : (config : Config) (s : State) (core : Core) → (s.count ≡ config.budget → ⊥) → effect_of s.core ≡ Becomes core → turn_of config s ≡ Goes (counted s core)
-turn_becomes config s core e is = turn_on config s e ∙ ap (after_effect s) is
+pub turn_becomes : (config : Config) (thread events : ℕ) (s : State) (core : ProcessorState) → (s.count ≡ config.budget → ⊥) → effect_of (vector_bytes config.vl) s.core ≡ Becomes core → turn_of config thread events s ≡ Goes (counted s core)
+turn_becomes config thread events s core e is = turn_on config thread events s e ∙ ap (after_effect config thread s) is
 
-pub turn_calls : (config : Config) (s : State) (core : Core) (number : ℕ) → (s.count ≡ config.budget → ⊥) → effect_of s.core ≡ Calls number → core ≡ s.core → turn_of config s ≡ call_of (record s { core = core })
-turn_calls config s core number e is same = turn_on config s e ∙ ap (after_effect s) is ∙ ap (λ core. call_of (record s { core = core })) (sym same)
+pub turn_calls : (config : Config) (thread events : ℕ) (s : State) (core : ProcessorState) (number : ℕ) → (s.count ≡ config.budget → ⊥) → effect_of (vector_bytes config.vl) s.core ≡ Calls number → core ≡ s.core → turn_of config thread events s ≡ call_of config thread (record s { core = core }) (record s { core = core })
+turn_calls config thread events s core number e is same = turn_on config thread events s e ∙ ap (after_effect config thread s) is ∙ ap (λ core. call_of config thread (record s { core = core }) (record s { core = core })) (sym same)
 
-pub turn_raises : (config : Config) (s : State) (core : Core) (exception : Exception) → (s.count ≡ config.budget → ⊥) → effect_of s.core ≡ Raises exception → core ≡ s.core
-    → turn_of config s ≡ Ends (record s { core = core }) (Raised exception core.scalars.pc)
-turn_raises config s core exception e is same = turn_on config s e ∙ ap (after_effect s) is ∙ ap (λ core. Ends (record s { core = core }) (Raised exception core.scalars.pc)) (sym same)
+pub turn_raises : (config : Config) (thread events : ℕ) (s : State) (core : ProcessorState) (exception : Exception) → (s.count ≡ config.budget → ⊥) → effect_of (vector_bytes config.vl) s.core ≡ Raises exception → core ≡ s.core
+    → turn_of config thread events s ≡ Ends (record s { core = core }) (Raised exception core.scalars.pc)
+turn_raises config thread events s core exception e is same = turn_on config thread events s e ∙ ap (after_effect config thread s) is ∙ ap (λ core. Ends (record s { core = core }) (Raised exception core.scalars.pc)) (sym same)
 
--- where the turn goes on, it has counted one instruction
+-- one instruction more is counted, and one turn
+pub record IsOneMore (s t : State) : Type 0 where
+  pub count : t.count ≡ s.count + 1
+  pub turns : t.turns ≡ s.turns + 1
+
+-- where the turn goes on, it has counted one instruction, and so may one that stops
 abbrev pub CountsOne : State → TurnEnd → Type 0
-CountsOne s (Goes t) = t.count ≡ s.count + 1
-CountsOne s (Asks op next) = Unit {0}
-CountsOne s (Ends t stop) = Unit {0}
+CountsOne s (Goes t) = IsOneMore s t
+CountsOne s (Yields t) = IsOneMore s t
+CountsOne s (Asks op next) = (answer : ℕ) → IsOneMore s (next answer)
+CountsOne s (Ends t stop) = (t.turns ≡ s.turns) ⊎ IsOneMore s t
 
-written_counts : (s : State) (read : Option (List ℕ)) (length : ℕ) → (written s read length).count ≡ s.count + 1
-written_counts s None length = refl
-written_counts s (Some bytes) length = refl
+one_more : (s : State) (core : ProcessorState) → IsOneMore s (counted s core)
+one_more s core = record { count = refl; turns = refl }
 
-write_counts : (s : State) → CountsOne s (write_of s)
+written_counts : (s : State) (read : Option (List ℕ)) (length : ℕ) → IsOneMore s (written s read length)
+written_counts s None length = one_more s _
+written_counts s (Some bytes) length = record { count = refl; turns = refl }
+
+write_counts : (s : State) → CountsOne s (write_of s s)
 unfolding write_of
 write_counts s = cond_both ((slice_index s.core.scalars.x 0 == 1) || (slice_index s.core.scalars.x 0 == 2)) _ _ (CountsOne s)
-    (λ _. cond_both (nat_lt output_limit (length s.output + slice_index s.core.scalars.x 2)) _ _ (CountsOne s) (λ _. tt) (λ _. written_counts s _ _))
-    (λ _. refl)
+    (λ _. cond_both (nat_lt output_limit (length s.output + slice_index s.core.scalars.x 2)) _ _ (CountsOne s) (λ _. inl refl) (λ _. written_counts s _ _))
+    (λ _. one_more s _)
 
-call_counts : (s : State) → CountsOne s (call_of s)
+call_counts : (config : Config) (thread : ℕ) (s : State) → CountsOne s (call_of config thread s s)
 unfolding call_of exit_of
-call_counts s = cond_both (slice_index s.core.scalars.x 8 == 64) _ _ (CountsOne s) (λ _. write_counts s)
-    (λ _. cond_both (slice_index s.core.scalars.x 8 == 93) _ _ (CountsOne s) (λ _. tt) (λ _. refl))
+call_counts config thread s = cond_both (slice_index s.core.scalars.x 8 == 64) _ _ (CountsOne s) (λ _. write_counts s)
+    (λ _. cond_both (slice_index s.core.scalars.x 8 == 93) _ _ (CountsOne s) (λ _. inr (one_more s _)) (λ _. one_more s _))
 
-effect_counts : (s : State) (effect : Effect) → CountsOne s (after_effect s effect)
-effect_counts s (Raises exception) = tt
-effect_counts s (Calls number) = call_counts s
-effect_counts s (Becomes core) = refl
+effect_counts : (config : Config) (thread : ℕ) (s : State) (effect : Effect) → CountsOne s (after_effect config thread s effect)
+effect_counts config thread s (Raises exception) = inl refl
+effect_counts config thread s (Calls number) = call_counts config thread s
+effect_counts config thread s (Becomes core) = one_more s core
 
-turn_counts : (config : Config) (s : State) → CountsOne s (turn_of config s)
+pub turn_counts : (config : Config) (thread events : ℕ) (s : State) → CountsOne s (turn_of config thread events s)
 unfolding turn_of
-turn_counts config s = cond_both (s.count == config.budget) _ _ (CountsOne s) (λ _. tt) (λ _. effect_counts s (effect_of s.core))
+turn_counts config thread events s = cond_both (s.count == config.budget) _ _ (CountsOne s) (λ _. inl refl) (λ _. effect_counts config thread s (effect_of (vector_bytes config.vl) s.core))
 
-pub goes_counted : (config : Config) (s t : State) → turn_of config s ≡ Goes t → t.count ≡ s.count + 1
-goes_counted config s t e = subst (CountsOne s) e (turn_counts config s)
+pub goes_turned : (config : Config) (thread events : ℕ) (s t : State) → turn_of config thread events s ≡ Goes t → t.turns ≡ s.turns + 1
+goes_turned config thread events s t e = let more : IsOneMore s t = subst (CountsOne s) e (turn_counts config thread events s) in more.turns

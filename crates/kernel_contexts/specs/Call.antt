@@ -1,24 +1,27 @@
 -- The calls of the kernel, by the number in X8. Source: the numbers are Linux's for AArch64; the kernel is this emulator's own.
 use Rattle.std.specs.Prelude.{ℕ, ◌+◌, ◌-◌, ◌%◌, ◌^◌, ◌==◌, ◌++◌, ◌||◌, nat_lt, cond, List, Option, Some, None, length, slice_index, slice_set}
+use Rattle.sm_types.specs.declared.config.Config.{Config}
 use Rattle.sm_types.specs.declared.scalars.Scalars.{Scalars}
 use Rattle.sm_types.specs.declared.shared_op.SharedOp.{SharedOp}
 use Rattle.sm_types.specs.declared.stop.Stop.{Stop}
 use Rattle.sm_types.specs.declared.stop.Stop.TheVariants.{Exited, OutputFull}
 use Rattle.paged_memory.specs.Memory.{bytes_with}
-use Rattle.machine_step.specs.Core.{Core}
+use Rattle.machine_step.specs.ProcessorState.{ProcessorState}
 use Rattle.kernel_contexts.specs.State.{State}
 
 -- what a turn comes to
 pub data TurnEnd : Type 0 where
   -- the state after it
   Goes : State → TurnEnd
+  -- the same, and the thread gives way to others
+  Yields : State → TurnEnd
   -- an operation on the shared words, and the state for each answer
   Asks : SharedOp → (ℕ → State) → TurnEnd
   -- the thread stops
   Ends : State → Stop → TurnEnd
 
 -- one more counted turn, after which the core is so
-abbrev pub counted : State → Core → State
+abbrev pub counted : State → ProcessorState → State
 counted s core = record s { core = core; count = s.count + 1; turns = s.turns + 1 }
 
 -- the registers past the call
@@ -46,12 +49,13 @@ abbrev pub written : State → Option (List ℕ) → ℕ → State
 written s None length = returned s (failure 14)
 written s (Some bytes) length = record (returned s length) { output = s.output ++ bytes }
 
--- write: X0 is 1 or 2, the output has room for X2 bytes, and those from X1 on can be read, in this order
-unfoldable pub write_of : State → TurnEnd
-write_of s = let x : List ℕ = s.core.scalars.x in
+-- write: X0 is 1 or 2, the output has room for X2 bytes, and those from X1 on can be read, in this order; where it has no room, the thread
+-- stops as it was before the call
+unfoldable pub write_of : State → State → TurnEnd
+write_of before s = let x : List ℕ = s.core.scalars.x in
     cond ((slice_index x 0 == 1) || (slice_index x 0 == 2))
     (cond (nat_lt output_limit (length s.output + slice_index x 2))
-    (Ends s OutputFull)
+    (Ends before OutputFull)
     (Goes (written s (bytes_with 4 s.core.memory (slice_index x 1) (slice_index x 2)) (slice_index x 2))))
     (Goes (returned s (failure 9)))
 
@@ -59,7 +63,8 @@ write_of s = let x : List ℕ = s.core.scalars.x in
 unfoldable pub exit_of : State → TurnEnd
 exit_of s = Ends (counted s (record s.core { scalars = past_call s.core.scalars })) (Exited (slice_index s.core.scalars.x 0 % 256))
 
--- the call of the number in X8: 64 is write, 93 is exit, and every other number fails
-unfoldable pub call_of : State → TurnEnd
-call_of s = let number : ℕ = slice_index s.core.scalars.x 8 in
-    cond (number == 64) (write_of s) (cond (number == 93) (exit_of s) (Goes (returned s (failure 38))))
+-- the call of the number in X8, of the thread of that number, from a state in which streaming mode has been left; the state before is that of
+-- the call. 64 is write, 93 is exit, and every other number fails.
+unfoldable pub call_of : Config → ℕ → State → State → TurnEnd
+call_of config thread before s = let number : ℕ = slice_index s.core.scalars.x 8 in
+    cond (number == 64) (write_of before s) (cond (number == 93) (exit_of s) (Goes (returned s (failure 38))))

@@ -3,60 +3,91 @@ use Rattle.std.specs.Prelude.{◌≡◌, ℕ, false, Option, Some, None}
 use Rattle.std.specs.FinMap.{empty}
 use Rattle.sm_types.specs.declared.config.Config.{Config}
 use Rattle.sm_types.specs.declared.stop.Stop.{Stop}
-use Rattle.machine_step.specs.Core.{zero_bank}
+use Rattle.paged_memory.specs.Image.{Program}
+use Rattle.machine_step.specs.ProcessorState.{VectorState, zero_bank}
 use Rattle.machine_step.specs.Machine.{core_of}
 use Rattle.machine_step.specs.declared.machine.Machine.{Machine}
 use Rattle.kernel_contexts.specs.State.{State}
 use Rattle.kernel_contexts.specs.Call.{TurnEnd, Goes, Ends}
 use Rattle.kernel_contexts.specs.Turn.{turn_of}
+use Rattle.kernel_contexts.specs.declared.guest.GuestThread.{GuestThread}
 use Rattle.kernel_contexts.specs.declared.context.Context.{Context}
 use Rattle.kernel_contexts.specs.declared.context.Turn.{Turn}
 use Rattle.kernel_contexts.specs.declared.context.Turn.TheVariants.{Ran, Stopped, Memory}
 
--- the plain state of a context's thread, whose vectors, handlers and signals no instruction reaches yet
-abbrev pub state_of : Context → State
-state_of c = record {
-  core = core_of c.machine (zero_bank c.config.vl c.config.svl);
+-- the plain state of a guest thread with a bank; its handlers and signals no instruction reaches yet
+abbrev pub guest_state : GuestThread → VectorState → State
+guest_state g bank = record {
+  core = core_of g.machine bank;
   handlers = empty;
   held = 0;
   inside = false;
   polled = false;
-  output = c.output.items;
-  count = c.count;
-  turns = c.turns;
+  output = g.output.items;
+  count = g.count;
+  turns = g.turns;
 }
+
+-- with its own vectors, which no instruction reaches yet
+abbrev pub held_state : GuestThread → State
+held_state g = guest_state g (zero_bank g.config.vl g.config.svl)
+
+-- the plain state of a context with a bank
+abbrev pub state_with : Context → VectorState → State
+state_with c bank = guest_state c.guest bank
+
+-- the vectors that a context keeps
+abbrev pub bank_of : Context → VectorState
+bank_of c = zero_bank c.guest.config.vl c.guest.config.svl
+
+-- the plain state of a context
+abbrev pub state_of : Context → State
+state_of c = state_with c (bank_of c)
 
 -- its registers and pages
 abbrev pub machine_of : Context → Machine
-machine_of c = c.machine
+machine_of c = c.guest.machine
+
+-- the program from which it started
+abbrev pub image_of : Context → Program
+image_of c = c.image
 
 -- the options with which it started
 abbrev pub config_of : Context → Config
-config_of c = c.config
+config_of c = c.guest.config
 
 -- the thread's number
 abbrev pub thread_of : Context → ℕ
-thread_of c = c.thread
+thread_of c = c.guest.number
 
 -- why it stopped, if it has
 abbrev pub stop_of : Context → Option Stop
-stop_of c = c.stop
+stop_of c = c.guest.stop
 
--- the answer and the context after a turn of a thread that had not stopped are those of the turn; want of memory changes nothing
-abbrev pub Turns : TurnEnd → State → Context → Turn → Type 0
-Turns end old new Ran = (end ≡ Goes (state_of new)) × (stop_of new ≡ None)
-Turns end old new (Stopped stop) = (end ≡ Ends (state_of new) stop) × (stop_of new ≡ Some stop)
-Turns end old new Memory = (state_of new ≡ old) × (stop_of new ≡ None)
+-- the answer of a turn of a thread that had not stopped, and the state and the stop after it, are those of the turn; want of memory changes
+-- nothing
+abbrev pub Turns : TurnEnd → State → State → Option Stop → Turn → Type 0
+Turns end old new stopped Ran = (end ≡ Goes new) × (stopped ≡ None)
+Turns end old new stopped (Stopped stop) = (end ≡ Ends new stop) × (stopped ≡ Some stop)
+Turns end old new stopped Memory = (new ≡ old) × (stopped ≡ None)
 
 -- a context that is stopped answers its stop and stays as it is
 abbrev pub Stays : Stop → Context → Context → Turn → Type 0
 Stays stop old new turn = (turn ≡ Stopped stop) × (state_of new ≡ state_of old) × (stop_of new ≡ Some stop)
 
+-- a context that is not stopped makes a turn; its journal has no event yet
 abbrev pub TurnsOrStays : Option Stop → Context → Context → Turn → Type 0
-TurnsOrStays None old new turn = Turns (turn_of (config_of old) (state_of old)) (state_of old) new turn
+TurnsOrStays None old new turn =
+    Turns (turn_of (config_of old) (thread_of old) 0 (state_of old)) (state_of old) (state_of new) (stop_of new) turn
 TurnsOrStays (Some stop) old new turn = Stays stop old new turn
+
+-- the options and the number of a guest thread are those of its start
+pub record IsSameGuest (old new : GuestThread) : Type 0 where
+  pub config : new.config ≡ old.config
+  pub number : new.number ≡ old.number
 
 -- the options, the thread and the image of a context are those of its start
 pub record IsSameThread (old new : Context) : Type 0 where
   pub config : config_of new ≡ config_of old
   pub thread : thread_of new ≡ thread_of old
+  pub image : image_of new ≡ image_of old

@@ -7,10 +7,10 @@ use Rattle.sm_types.specs.declared.config.Config.{Config}
 use Rattle.sm_types.specs.declared.scalars.Scalars.{Scalars}
 use Rattle.paged_memory.specs.Memory.{with_stack}
 use Rattle.paged_memory.specs.Image.{Program}
-use Rattle.machine_step.specs.Core.{Core, zero_bank}
+use Rattle.machine_step.specs.ProcessorState.{ProcessorState, zero_bank}
 
 pub record State : Type 0 where
-  pub core : Core
+  pub core : ProcessorState
   -- from signal to the address of its handler
   pub handlers : FinMap nat_cmp ℕ
   -- the signals that are held back, a bit for each

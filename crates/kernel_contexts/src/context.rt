@@ -1,12 +1,10 @@
 //! Contexts and their turns.
-ghost use Rattle.std.specs.Prelude.{◌≡◌, ◌+◌, ◌<◌, ◌≤◌, ◌^◌, vec_len, None, Some, IfOk};
-ghost use Rattle.kernel_contexts.specs.State.{start_scalars};
+ghost use Rattle.std.specs.Prelude.{◌≡◌, ◌+◌, ◌*◌, ◌<◌, ◌≤◌, None, IfOk};
 
-mod call;
-
-use machine_step::{Machine, StepEnd};
-use paged_memory::{Image, Pages};
-use sm_types::{Config, Memory, Scalars, Stop};
+use crate::guest::GuestThread;
+use machine_step::Machine;
+use paged_memory::Image;
+use sm_types::{Config, Memory, Stop};
 use std::alloc::Global;
 
 /// What a turn came to.
@@ -20,48 +18,18 @@ pub enum Turn {
     Memory,
 }
 
-/// One guest thread: its machine, its options, and what the kernel keeps of it.
+/// One guest thread, with the image from which it started.
 #[derive(Drop)]
 pub struct Context {
-    machine: Machine,
-    config: Config,
-    thread: u32,
-    output: Vec<u8>,
-    count: u32,
-    turns: u64,
-    stop: Option<Stop>,
-    ghost turns_are_counted: { turns ≡ count },
-    ghost within_budget: { count ≤ config.budget },
-    ghost output_within: { vec_len output ≤ 1048576 },
-}
-
-/// The registers of a thread before its first turn.
-#[tactic(auto, unfolding(crate::specs::State::start_scalars))]
-fn start_registers(entry: u64, thread: u32, threads: u32) -> Scalars
-    ensures { result ≡ start_scalars entry thread threads }
-{
-    let mut x = [0; 31];
-    x[0] = u64::from(thread);
-    x[1] = u64::from(threads);
-    Scalars {
-        x,
-        sp: 0x7E00_0000_0000,
-        pc: entry,
-        n: false,
-        z: false,
-        c: false,
-        v: false,
-    }
+    guest: GuestThread,
+    image: Image,
 }
 
 impl Context {
     ghost use Rattle.kernel_contexts.specs.State.{start_state};
-    ghost use Rattle.kernel_contexts.specs.Call.{counted};
-    ghost use Rattle.kernel_contexts.specs.Turn.{turn_of};
-    ghost use Rattle.kernel_contexts.specs.Context.{state_of, config_of, thread_of, stop_of, machine_of, Turns, TurnsOrStays, IsSameThread};
+    ghost use Rattle.kernel_contexts.specs.Context.{state_of, config_of, thread_of, stop_of, machine_of, image_of, TurnsOrStays, IsSameThread};
 
     /// A thread before its first turn, with its pages taken at once.
-    #[tactic(auto, unfolding(crate::specs::State::start_state))]
     pub fn start(
         alloc: Global,
         image: &Image,
@@ -73,25 +41,11 @@ impl Context {
         ensures config { IfOk result (λ c. config_of c ≡ config.now) }
         ensures thread { IfOk result (λ c. thread_of c ≡ thread) }
         ensures stop { IfOk result (λ c. stop_of c ≡ None) }
+        ensures image { IfOk result (λ c. image_of c ≡ image.now) }
     {
-        let pages = Pages::from_image(alloc, image)?;
-        let machine = Machine {
-            scalars: start_registers(image.entry(), thread, config.threads),
-            streaming: false,
-            za_on: false,
-            tpidr: 0,
-            tpidr2: 0,
-            pages,
-        };
-        Ok(Context {
-            machine,
-            config: *config,
-            thread,
-            output: Vec::new(alloc),
-            count: 0,
-            turns: 0,
-            stop: None,
-        })
+        let guest = GuestThread::start(alloc, image, config, thread)?;
+        let image = image.copy(alloc)?;
+        Ok(Context { guest, image })
     }
 
     /// Makes one turn; a thread that has stopped answers its stop, and nothing changes.
@@ -99,106 +53,68 @@ impl Context {
     pub fn advance(&mut self) -> Turn
         ensures turn { TurnsOrStays (stop_of self.old) self.old self.new result }
         ensures same { IsSameThread self.old self.new }
-        ensures counted { result ≡ Turn.Ran → (state_of self.new).count ≡ (state_of self.old).count + 1 }
-        ensures budget { (state_of self.new).count ≤ (config_of self.new).budget }
+        ensures made { result ≡ Turn.Ran → (state_of self.new).turns ≡ (state_of self.old).turns + 1 }
+        ensures few { (state_of self.new).turns ≤ 3 * (config_of self.new).budget }
     {
-        match self.stop {
+        match self.guest.stop {
             Some(stop) => Turn::Stopped(stop),
-            None => self.make_turn(),
+            None => self.guest.make_turn(),
         }
     }
 
-    /// Makes one turn of a thread that has not stopped.
-    fn make_turn(&mut self) -> Turn
-        requires { stop_of self.old ≡ None }
-        ensures turn { Turns (turn_of (config_of self.old) (state_of self.old)) (state_of self.old) self.new result }
-        ensures same { IsSameThread self.old self.new }
+    /// The image from which the thread started.
+    pub fn image(&self) -> &Image
+        ensures { result.now ≡ image_of self.now }
     {
-        if self.count == self.config.budget {
-            return self.stop_with(Stop::Budget);
-        }
-        match self.machine.step() {
-            StepEnd::Next => {
-                self.count_turn();
-                Turn::Ran
-            }
-            StepEnd::Call(_) => self.call(),
-            StepEnd::Raise(exception) => {
-                let pc = self.machine.scalars.pc;
-                self.stop_with(Stop::Raised { exception, pc })
-            }
-            StepEnd::Memory => Turn::Memory,
-        }
-    }
-
-    /// Counts an instruction and its turn.
-    fn count_turn(&mut self)
-        requires { self.old.count < self.old.config.budget }
-        ensures state { state_of self.new ≡ counted (state_of self.old) (state_of self.old).core }
-        ensures stop { stop_of self.new ≡ stop_of self.old }
-        ensures same { IsSameThread self.old self.new }
-    {
-        self.count += 1;
-        self.turns += 1;
-    }
-
-    /// Stops the thread as it stands.
-    fn stop_with(&mut self, stop: Stop) -> Turn
-        ensures answer { result ≡ Turn.Stopped stop }
-        ensures state { state_of self.new ≡ state_of self.old }
-        ensures stop { stop_of self.new ≡ Some stop }
-        ensures same { IsSameThread self.old self.new }
-    {
-        self.stop = Some(stop);
-        Turn::Stopped(stop)
+        &self.image
     }
 
     /// The options with which the thread started.
     pub fn config(&self) -> &Config
         ensures { result.now ≡ config_of self.now }
     {
-        &self.config
+        &self.guest.config
     }
 
     /// The thread's number.
     pub fn thread(&self) -> u32
         ensures { result ≡ thread_of self.now }
     {
-        self.thread
+        self.guest.number
     }
 
     /// Counted instructions.
     pub fn count(&self) -> u32
         ensures { result ≡ (state_of self.now).count }
     {
-        self.count
+        self.guest.count
     }
 
     /// Turns made.
     pub fn turns(&self) -> u64
         ensures { result ≡ (state_of self.now).turns }
     {
-        self.turns
+        self.guest.turns
     }
 
     /// Why the thread stopped; `None` exactly where it has not.
     pub fn stop(&self) -> Option<Stop>
         ensures { result ≡ stop_of self.now }
     {
-        self.stop
+        self.guest.stop
     }
 
     /// The bytes that the thread has written.
     pub fn output(&self) -> &[u8]
         ensures { result.now ≡ (state_of self.now).output }
     {
-        self.output.as_slice()
+        self.guest.output.as_slice()
     }
 
     /// The thread's registers and pages.
     pub fn machine(&self) -> &Machine
         ensures { result.now ≡ machine_of self.now }
     {
-        &self.machine
+        &self.guest.machine
     }
 }

@@ -3,5 +3,6 @@
 #![tactic(auto)]
 
 mod context;
+mod guest;
 
 pub use context::{Context, Turn};

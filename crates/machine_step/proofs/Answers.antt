@@ -7,100 +7,102 @@ use Rattle.std.specs.Prelude.{option_and_then}
 use Rattle.sm_types.specs.declared.stop.Exception.{Exception}
 use Rattle.sm_types.specs.declared.stop.Exception.TheVariants.{Undefined}
 use Rattle.mem_access.specs.Transfer.{is_access, transfer_fault}
-use Rattle.sve_table.specs.Meaning.{instruction_of}
+use Rattle.a64_encode.specs.Either.{instruction_of}
 use Rattle.paged_memory.specs.Memory.{or_else}
-use Rattle.scalar_exec.specs.Step.{is_scalar, scalar_step}
-use Rattle.machine_step.specs.Core.{Core}
+use Rattle.scalar_exec.specs.Step.{is_scalar}
+use Rattle.machine_step.specs.ProcessorState.{ProcessorState}
 use Rattle.machine_step.specs.System.{system_move, core_past, moved}
-use Rattle.machine_step.specs.Effect.{Effect, Raises, Becomes, word_of, insn_at, is_executed, is_executed_register, next_of, unless_fault, fault_of, effect_of, effect_of_insn, effect_of_meaning, perform, row_fault, data_fault, accessed, unless_raised}
+use Rattle.machine_step.specs.Effect.{Effect, Raises, Becomes, word_of, insn_at, is_executed, is_executed_register, next_of, unless_fault, fault_of, effect_of, perform, row_fault, data_fault, accessed, computed}
+use Rattle.machine_step.specs.Execution.{effect_of_insn, effect_of_meaning, unless_raised}
 use Rattle.machine_step.specs.Machine.{Steps}
 use Rattle.machine_step.specs.declared.machine.StepEnd.{StepEnd}
 use Rattle.machine_step.specs.declared.machine.StepEnd.TheVariants.{Next, Call, Raise, Memory}
 
 -- the state after an instruction that is executed
-pub steps_on : (effect : Effect) (old new made : Core) (end : StepEnd) → effect ≡ Becomes made → new ≡ made → end ≡ Next → Steps effect old new end
+pub steps_on : (effect : Effect) (old new made : ProcessorState) (end : StepEnd) → effect ≡ Becomes made → new ≡ made → end ≡ Next → Steps effect old new end
 steps_on effect old new made Next is same e = is ∙ ap Becomes (sym same)
 steps_on effect old new made (Call number) is same e = cc
 steps_on effect old new made (Raise exception) is same e = cc
 steps_on effect old new made Memory is same e = cc
 
 -- an instruction of the scalar registers alone
-pub scalar_effect : (word : ℕ) (it : Insn) (s : Core) → IsTrue (is_scalar it) → effect_of_insn word it s ≡ Becomes (record s { scalars = scalar_step it s.scalars })
-scalar_effect word (insn.AddSubImmediate x) s h = refl
-scalar_effect word (insn.AddSubRegister x) s h = refl
-scalar_effect word (insn.LogicalRegister x) s h = refl
-scalar_effect word (insn.AddSubExtended x) s h = refl
-scalar_effect word (insn.LogicalImmediate x) s h = refl
-scalar_effect word (insn.MoveWide x) s h = refl
-scalar_effect word (insn.BitfieldMove x) s h = refl
-scalar_effect word (insn.Extract x) s h = refl
-scalar_effect word (insn.PcRelative x) s h = refl
-scalar_effect word (insn.Branch x) s h = refl
-scalar_effect word (insn.BranchRegister x) s h = refl
-scalar_effect word (insn.AddSubCarry x) s h = refl
-scalar_effect word (insn.ConditionalSelect x) s h = refl
-scalar_effect word (insn.ConditionalCompare x) s h = refl
-scalar_effect word (insn.OneSource x) s h = refl
-scalar_effect word (insn.TwoSource x) s h = refl
-scalar_effect word (insn.Multiply x) s h = refl
-scalar_effect word (insn.LoadStore x) s h = cc
-scalar_effect word (insn.LoadLiteral x) s h = cc
-scalar_effect word (insn.LoadStorePair x) s h = cc
-scalar_effect word (insn.Atomic x) s h = cc
-scalar_effect word (insn.System x) s h = cc
-scalar_effect word (insn.SystemMove x) s h = cc
+pub scalar_effect : (word vl : ℕ) (it : Insn) (s : ProcessorState) → IsTrue (is_scalar it) → effect_of_insn word it vl s ≡ Becomes (computed it s)
+scalar_effect word vl (insn.AddSubImmediate x) s h = refl
+scalar_effect word vl (insn.AddSubRegister x) s h = refl
+scalar_effect word vl (insn.LogicalRegister x) s h = refl
+scalar_effect word vl (insn.AddSubExtended x) s h = refl
+scalar_effect word vl (insn.LogicalImmediate x) s h = refl
+scalar_effect word vl (insn.MoveWide x) s h = refl
+scalar_effect word vl (insn.BitfieldMove x) s h = refl
+scalar_effect word vl (insn.Extract x) s h = refl
+scalar_effect word vl (insn.PcRelative x) s h = refl
+scalar_effect word vl (insn.Branch x) s h = refl
+scalar_effect word vl (insn.BranchRegister x) s h = refl
+scalar_effect word vl (insn.AddSubCarry x) s h = refl
+scalar_effect word vl (insn.ConditionalSelect x) s h = refl
+scalar_effect word vl (insn.ConditionalCompare x) s h = refl
+scalar_effect word vl (insn.OneSource x) s h = refl
+scalar_effect word vl (insn.TwoSource x) s h = refl
+scalar_effect word vl (insn.Multiply x) s h = refl
+scalar_effect word vl (insn.LoadStore x) s h = cc
+scalar_effect word vl (insn.LoadLiteral x) s h = cc
+scalar_effect word vl (insn.LoadStorePair x) s h = cc
+scalar_effect word vl (insn.Atomic x) s h = cc
+scalar_effect word vl (insn.System x) s h = cc
+scalar_effect word vl (insn.SystemMove x) s h = cc
 
 -- a move of a system register that is executed
-pub move_effect : (word : ℕ) (x : SystemMove) (s : Core) → is_executed_register x.register ≡ true → effect_of_insn word (insn.SystemMove x) s ≡ Becomes (core_past (moved x.op x s))
+pub move_effect : (word vl : ℕ) (x : SystemMove) (s : ProcessorState) → is_executed_register x.register ≡ true → effect_of_insn word (insn.SystemMove x) vl s ≡ Becomes (core_past (moved x.op x s))
 unfolding system_move
-move_effect word x s h = ap (λ b. cond b (next_of (insn.SystemMove x) s) (Raises (Undefined word))) h
+move_effect word vl x s h = ap (λ b. cond b (next_of vl (insn.SystemMove x) s) (Raises (Undefined word))) h
 
-unless_row : (executed : Bool) (fault : Option Exception) (word : ℕ) (it : Insn) (s : Core) → insn_at s ≡ Some it
-    → unless_fault (or_else (cond executed None (Some (Undefined word))) (or_else fault None)) s ≡ cond executed (unless_raised fault (next_of it s)) (Raises (Undefined word))
-unless_row true None word it s h = ap (λ k. perform k s) h
-unless_row true (Some exception) word it s h = refl
-unless_row false fault word it s h = refl
+unless_row : (executed : Bool) (fault : Option Exception) (word vl : ℕ) (it : Insn) (s : ProcessorState) → insn_at s ≡ Some it
+    → unless_fault vl (or_else (or_else (cond executed None (Some (Undefined word))) None) (or_else fault None)) s ≡ cond executed (unless_raised fault (next_of vl it s)) (Raises (Undefined word))
+unless_row true None word vl it s h = ap (λ k. perform vl k s) h
+unless_row true (Some exception) word vl it s h = refl
+unless_row false fault word vl it s h = refl
 
-first_of : (s : Core) (word : ℕ) → s.scalars.pc % 4 ≡ 0 → word_of s ≡ Some word → fault_of s ≡ or_else (row_fault word (instruction_of word)) (or_else (data_fault s) None)
+first_of : (s : ProcessorState) (word : ℕ) → s.scalars.pc % 4 ≡ 0 → word_of s ≡ Some word → fault_of s ≡ or_else (or_else (row_fault word (instruction_of word)) None) (or_else (data_fault s) None)
 unfolding fault_of
 first_of s word aligned fetched = rw (aligned, fetched) refl
 
 -- the effect at PC is that of the instruction there
-pub effect_at : (s : Core) (word : ℕ) (it : Insn) → s.scalars.pc % 4 ≡ 0 → word_of s ≡ Some word → instruction_of word ≡ Some it → effect_of s ≡ effect_of_insn word it s
+pub effect_at : (vl : ℕ) (s : ProcessorState) (word : ℕ) (it : Insn) → s.scalars.pc % 4 ≡ 0 → word_of s ≡ Some word → instruction_of word ≡ Some it → effect_of vl s ≡ effect_of_insn word it vl s
 unfolding effect_of
-effect_at s word it aligned fetched is =
+effect_at vl s word it aligned fetched is =
     let here : insn_at s ≡ Some it = rw fetched is in
     let data_checks : data_fault s ≡ transfer_fault it s.scalars s.memory = ap (option_and_then (λ k. transfer_fault k s.scalars s.memory)) here in
-    ap (λ k. unless_fault k s) (first_of s word aligned fetched ∙ ap (λ k. or_else (row_fault word k) (or_else (data_fault s) None)) is ∙ ap (λ k. or_else (row_fault word (Some it)) (or_else k None)) data_checks) ∙ unless_row (is_executed it) (transfer_fault it s.scalars s.memory) word it s here
+    ap (λ k. unless_fault vl k s) (first_of s word aligned fetched ∙ ap (λ k. or_else (or_else (row_fault word k) None) (or_else (data_fault s) None)) is ∙ ap (λ k. or_else (or_else (row_fault word (Some it)) None) (or_else k None)) data_checks)
+    ∙ unless_row (is_executed it) (transfer_fault it s.scalars s.memory) word vl it s here
 
 -- the effect at PC is that of the word there
-pub effect_of_word : (s : Core) (word : ℕ) (meaning : Option Insn) → s.scalars.pc % 4 ≡ 0 → word_of s ≡ Some word → instruction_of word ≡ meaning → effect_of s ≡ effect_of_meaning word meaning s
+pub effect_of_word : (vl : ℕ) (s : ProcessorState) (word : ℕ) (meaning : Option Insn) → s.scalars.pc % 4 ≡ 0 → word_of s ≡ Some word → instruction_of word ≡ meaning → effect_of vl s ≡ effect_of_meaning word meaning vl s
 unfolding effect_of
-effect_of_word s word None aligned fetched is = ap (λ k. unless_fault k s) (first_of s word aligned fetched ∙ ap (λ k. or_else (row_fault word k) (or_else (data_fault s) None)) is)
-effect_of_word s word (Some it) aligned fetched is = effect_at s word it aligned fetched is
+effect_of_word vl s word None aligned fetched is = ap (λ k. unless_fault vl k s) (first_of s word aligned fetched ∙ ap (λ k. or_else (or_else (row_fault word k) None) (or_else (data_fault s) None)) is)
+effect_of_word vl s word (Some it) aligned fetched is = effect_at vl s word it aligned fetched is
 
 -- a load, a store or an atomic instruction that no check refuses
-pub access_effect : (word : ℕ) (it : Insn) (s : Core) → IsTrue (is_access it) → transfer_fault it s.scalars s.memory ≡ None → effect_of_insn word it s ≡ Becomes (accessed it s)
-access_effect word (insn.LoadStore x) s h none = ap (λ f. unless_raised f (next_of (insn.LoadStore x) s)) none
-access_effect word (insn.LoadLiteral x) s h none = ap (λ f. unless_raised f (next_of (insn.LoadLiteral x) s)) none
-access_effect word (insn.LoadStorePair x) s h none = ap (λ f. unless_raised f (next_of (insn.LoadStorePair x) s)) none
-access_effect word (insn.Atomic x) s h none = ap (λ f. unless_raised f (next_of (insn.Atomic x) s)) none
-access_effect word (insn.AddSubImmediate x) s h none = cc
-access_effect word (insn.AddSubRegister x) s h none = cc
-access_effect word (insn.LogicalRegister x) s h none = cc
-access_effect word (insn.AddSubExtended x) s h none = cc
-access_effect word (insn.LogicalImmediate x) s h none = cc
-access_effect word (insn.MoveWide x) s h none = cc
-access_effect word (insn.BitfieldMove x) s h none = cc
-access_effect word (insn.Extract x) s h none = cc
-access_effect word (insn.PcRelative x) s h none = cc
-access_effect word (insn.Branch x) s h none = cc
-access_effect word (insn.BranchRegister x) s h none = cc
-access_effect word (insn.AddSubCarry x) s h none = cc
-access_effect word (insn.ConditionalSelect x) s h none = cc
-access_effect word (insn.ConditionalCompare x) s h none = cc
-access_effect word (insn.OneSource x) s h none = cc
-access_effect word (insn.TwoSource x) s h none = cc
-access_effect word (insn.Multiply x) s h none = cc
-access_effect word (insn.System x) s h none = cc
-access_effect word (insn.SystemMove x) s h none = cc
+pub access_effect : (word vl : ℕ) (it : Insn) (s : ProcessorState) → IsTrue (is_access it) → transfer_fault it s.scalars s.memory ≡ None → effect_of_insn word it vl s ≡ Becomes (accessed it s)
+access_effect word vl (insn.LoadStore x) s h none = ap (λ f. unless_raised f (next_of vl (insn.LoadStore x) s)) none
+access_effect word vl (insn.LoadLiteral x) s h none = ap (λ f. unless_raised f (next_of vl (insn.LoadLiteral x) s)) none
+access_effect word vl (insn.LoadStorePair x) s h none = ap (λ f. unless_raised f (next_of vl (insn.LoadStorePair x) s)) none
+access_effect word vl (insn.Atomic x) s h none = ap (λ f. unless_raised f (next_of vl (insn.Atomic x) s)) none
+access_effect word vl (insn.AddSubImmediate x) s h none = cc
+access_effect word vl (insn.AddSubRegister x) s h none = cc
+access_effect word vl (insn.LogicalRegister x) s h none = cc
+access_effect word vl (insn.AddSubExtended x) s h none = cc
+access_effect word vl (insn.LogicalImmediate x) s h none = cc
+access_effect word vl (insn.MoveWide x) s h none = cc
+access_effect word vl (insn.BitfieldMove x) s h none = cc
+access_effect word vl (insn.Extract x) s h none = cc
+access_effect word vl (insn.PcRelative x) s h none = cc
+access_effect word vl (insn.Branch x) s h none = cc
+access_effect word vl (insn.BranchRegister x) s h none = cc
+access_effect word vl (insn.AddSubCarry x) s h none = cc
+access_effect word vl (insn.ConditionalSelect x) s h none = cc
+access_effect word vl (insn.ConditionalCompare x) s h none = cc
+access_effect word vl (insn.OneSource x) s h none = cc
+access_effect word vl (insn.TwoSource x) s h none = cc
+access_effect word vl (insn.Multiply x) s h none = cc
+access_effect word vl (insn.System x) s h none = cc
+access_effect word vl (insn.SystemMove x) s h none = cc

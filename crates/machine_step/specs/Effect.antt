@@ -8,21 +8,21 @@ use Rattle.sm_types.specs.declared.insn.SystemRegister.{SystemRegister}
 use Rattle.sm_types.specs.declared.insn.SystemRegister.TheVariants.{Nzcv, TpidrEl0, Tpidr2El0, Svcr}
 use Rattle.sm_types.specs.declared.stop.Exception.{Exception}
 use Rattle.sm_types.specs.declared.stop.Exception.TheVariants.{Undefined, PcAlign, Fetch, Breakpoint}
-use Rattle.sve_table.specs.Meaning.{instruction_of}
+use Rattle.a64_encode.specs.Either.{instruction_of}
 use Rattle.paged_memory.specs.Memory.{word_at}
 use Rattle.scalar_exec.specs.Registers.{past}
 use Rattle.scalar_exec.specs.Step.{scalar_step}
 use Rattle.mem_access.specs.Checks.{first_fault}
 use Rattle.mem_access.specs.Transfer.{after_access, transfer_fault}
-use Rattle.machine_step.specs.Core.{Core}
+use Rattle.machine_step.specs.ProcessorState.{ProcessorState}
 use Rattle.machine_step.specs.System.{system_move, core_past}
 
 -- the word at PC, where its bytes are executable
-abbrev pub word_of : Core → Option ℕ
+abbrev pub word_of : ProcessorState → Option ℕ
 word_of s = word_at s.memory s.scalars.pc
 
 -- the instruction at PC
-abbrev pub insn_at : Core → Option Insn
+abbrev pub insn_at : ProcessorState → Option Insn
 insn_at s = option_and_then instruction_of (word_of s)
 
 -- UDF is never executed
@@ -46,10 +46,30 @@ is_executed_register Svcr = false
 abbrev pub is_executed : Insn → Bool
 is_executed (insn.System x) = is_executed_system x
 is_executed (insn.SystemMove x) = is_executed_register x.register
-is_executed it = true
+is_executed (insn.AddSubImmediate x) = true
+is_executed (insn.AddSubRegister x) = true
+is_executed (insn.LogicalRegister x) = true
+is_executed (insn.AddSubExtended x) = true
+is_executed (insn.LogicalImmediate x) = true
+is_executed (insn.MoveWide x) = true
+is_executed (insn.BitfieldMove x) = true
+is_executed (insn.Extract x) = true
+is_executed (insn.PcRelative x) = true
+is_executed (insn.Branch x) = true
+is_executed (insn.BranchRegister x) = true
+is_executed (insn.AddSubCarry x) = true
+is_executed (insn.ConditionalSelect x) = true
+is_executed (insn.ConditionalCompare x) = true
+is_executed (insn.OneSource x) = true
+is_executed (insn.TwoSource x) = true
+is_executed (insn.Multiply x) = true
+is_executed (insn.LoadStore x) = true
+is_executed (insn.LoadLiteral x) = true
+is_executed (insn.LoadStorePair x) = true
+is_executed (insn.Atomic x) = true
 
 -- PC is a multiple of 4
-abbrev pub alignment_fault : Core → Option Exception
+abbrev pub alignment_fault : ProcessorState → Option Exception
 alignment_fault s = cond (s.scalars.pc % 4 == 0) None (Some PcAlign)
 
 -- the four bytes at PC are in executable pages
@@ -67,12 +87,16 @@ undefined_fault None = None
 undefined_fault (Some word) = row_fault word (instruction_of word)
 
 -- the checks of the access that the instruction at PC makes to memory
-abbrev pub data_fault : Core → Option Exception
+abbrev pub data_fault : ProcessorState → Option Exception
 data_fault s = option_and_then (λ it. transfer_fault it s.scalars s.memory) (insn_at s)
 
--- the exception of the first check that fails, if any does
-unfoldable pub fault_of : Core → Option Exception
-fault_of s = first_fault (alignment_fault s ∷ fetch_fault (word_of s) ∷ undefined_fault (word_of s) ∷ data_fault s ∷ [])
+-- the exception of the first check of the instruction itself that fails: it is aligned, it can be fetched, and it is executed
+abbrev pub early_fault : ProcessorState → Option Exception
+early_fault s = first_fault (alignment_fault s ∷ fetch_fault (word_of s) ∷ undefined_fault (word_of s) ∷ [])
+
+-- the exception of the first check that fails, if any does: those of the instruction come before those of its access
+unfoldable pub fault_of : ProcessorState → Option Exception
+fault_of s = first_fault (early_fault s ∷ data_fault s ∷ [])
 
 pub data Effect : Type 0 where
   -- the instruction raises, and nothing changes
@@ -80,10 +104,10 @@ pub data Effect : Type 0 where
   -- a call of the kernel, with the number in the instruction
   Calls : ℕ → Effect
   -- the state after the instruction
-  Becomes : Core → Effect
+  Becomes : ProcessorState → Effect
 
--- SVC calls the kernel, BRK raises; hints and barriers have no effect here. UDF's word is its number.
-abbrev pub system_effect : System → Core → Effect
+-- SVC calls the kernel, BRK raises; hints and barriers have no effect here. UDF has a fault, so what stands for it is never asked for.
+abbrev pub system_effect : System → ProcessorState → Effect
 system_effect (Svc imm) s = Calls imm
 system_effect (Brk imm) s = Raises (Breakpoint imm)
 system_effect (Udf imm) s = Raises (Undefined imm)
@@ -92,43 +116,49 @@ system_effect (Dmb imm) s = Becomes (core_past s)
 system_effect (Dsb imm) s = Becomes (core_past s)
 system_effect (Isb imm) s = Becomes (core_past s)
 
--- the core after a load, a store or an atomic instruction
-abbrev pub accessed : Insn → Core → Core
+-- the state after a load, a store or an atomic instruction
+abbrev pub accessed : Insn → ProcessorState → ProcessorState
 accessed it s = record s { scalars = past (after_access it s.scalars s.memory).scalars; memory = (after_access it s.scalars s.memory).memory }
 
--- what an executed instruction does where it has no fault
-abbrev pub next_of : Insn → Core → Effect
-next_of (insn.System x) s = system_effect x s
-next_of (insn.SystemMove x) s = Becomes (system_move x s)
-next_of (insn.LoadStore x) s = Becomes (accessed (insn.LoadStore x) s)
-next_of (insn.LoadLiteral x) s = Becomes (accessed (insn.LoadLiteral x) s)
-next_of (insn.LoadStorePair x) s = Becomes (accessed (insn.LoadStorePair x) s)
-next_of (insn.Atomic x) s = Becomes (accessed (insn.Atomic x) s)
-next_of it s = Becomes (record s { scalars = scalar_step it s.scalars })
+-- the state after an instruction that sees the scalar registers alone
+abbrev pub computed : Insn → ProcessorState → ProcessorState
+computed it s = record s { scalars = scalar_step it s.scalars }
+
+-- what an executed instruction does where it has no fault, with this vector length in bytes
+abbrev pub next_of : ℕ → Insn → ProcessorState → Effect
+next_of vl (insn.System x) s = system_effect x s
+next_of vl (insn.SystemMove x) s = Becomes (system_move x s)
+next_of vl (insn.LoadStore x) s = Becomes (accessed (insn.LoadStore x) s)
+next_of vl (insn.LoadLiteral x) s = Becomes (accessed (insn.LoadLiteral x) s)
+next_of vl (insn.LoadStorePair x) s = Becomes (accessed (insn.LoadStorePair x) s)
+next_of vl (insn.Atomic x) s = Becomes (accessed (insn.Atomic x) s)
+next_of vl (insn.AddSubImmediate x) s = Becomes (computed (insn.AddSubImmediate x) s)
+next_of vl (insn.AddSubRegister x) s = Becomes (computed (insn.AddSubRegister x) s)
+next_of vl (insn.LogicalRegister x) s = Becomes (computed (insn.LogicalRegister x) s)
+next_of vl (insn.AddSubExtended x) s = Becomes (computed (insn.AddSubExtended x) s)
+next_of vl (insn.LogicalImmediate x) s = Becomes (computed (insn.LogicalImmediate x) s)
+next_of vl (insn.MoveWide x) s = Becomes (computed (insn.MoveWide x) s)
+next_of vl (insn.BitfieldMove x) s = Becomes (computed (insn.BitfieldMove x) s)
+next_of vl (insn.Extract x) s = Becomes (computed (insn.Extract x) s)
+next_of vl (insn.PcRelative x) s = Becomes (computed (insn.PcRelative x) s)
+next_of vl (insn.Branch x) s = Becomes (computed (insn.Branch x) s)
+next_of vl (insn.BranchRegister x) s = Becomes (computed (insn.BranchRegister x) s)
+next_of vl (insn.AddSubCarry x) s = Becomes (computed (insn.AddSubCarry x) s)
+next_of vl (insn.ConditionalSelect x) s = Becomes (computed (insn.ConditionalSelect x) s)
+next_of vl (insn.ConditionalCompare x) s = Becomes (computed (insn.ConditionalCompare x) s)
+next_of vl (insn.OneSource x) s = Becomes (computed (insn.OneSource x) s)
+next_of vl (insn.TwoSource x) s = Becomes (computed (insn.TwoSource x) s)
+next_of vl (insn.Multiply x) s = Becomes (computed (insn.Multiply x) s)
 
 -- where there is no fault there is an instruction
-abbrev pub perform : Option Insn → Core → Effect
-perform (Some it) s = next_of it s
-perform None s = Raises Fetch
+abbrev pub perform : ℕ → Option Insn → ProcessorState → Effect
+perform vl (Some it) s = next_of vl it s
+perform vl None s = Raises Fetch
 
-abbrev pub unless_fault : Option Exception → Core → Effect
-unless_fault (Some exception) s = Raises exception
-unless_fault None s = perform (insn_at s) s
+abbrev pub unless_fault : ℕ → Option Exception → ProcessorState → Effect
+unless_fault vl (Some exception) s = Raises exception
+unless_fault vl None s = perform vl (insn_at s) s
 
--- the effect of the instruction at PC
-unfoldable pub effect_of : Core → Effect
-effect_of s = unless_fault (fault_of s) s
-
--- the exception, or the effect where there is none
-abbrev pub unless_raised : Option Exception → Effect → Effect
-unless_raised (Some exception) effect = Raises exception
-unless_raised None effect = effect
-
--- what an instruction that has a row does: it raises where it is not executed, or where a check of its access fails
-abbrev pub effect_of_insn : ℕ → Insn → Core → Effect
-effect_of_insn word it s = cond (is_executed it) (unless_raised (transfer_fault it s.scalars s.memory) (next_of it s)) (Raises (Undefined word))
-
--- the effect of a word by its meaning: one that means no instruction raises
-abbrev pub effect_of_meaning : ℕ → Option Insn → Core → Effect
-effect_of_meaning word None s = Raises (Undefined word)
-effect_of_meaning word (Some it) s = effect_of_insn word it s
+-- the effect of the instruction at PC, with this vector length in bytes
+unfoldable pub effect_of : ℕ → ProcessorState → Effect
+effect_of vl s = unless_fault vl (fault_of s) s

@@ -1,4 +1,5 @@
-pub mod Core
+pub mod ProcessorState
 pub mod System
 pub mod Effect
+pub mod Execution
 pub mod Machine

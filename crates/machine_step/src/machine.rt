@@ -1,13 +1,15 @@
 //! The machine and its step.
-ghost use Rattle.std.specs.Prelude.{ℕ, ◌≡◌, ◌<◌, IsTrue, IfSome};
+ghost use Rattle.std.specs.Prelude.{ℕ, ◌≡◌, ◌≢◌, ◌<◌, IsTrue, IfSome};
 ghost use Rattle.a64_table.specs.Ranges.{IsInRow};
-ghost use Rattle.sve_table.specs.Meaning.{instruction_of};
+ghost use Rattle.a64_encode.specs.Either.{instruction_of};
 ghost use Rattle.scalar_exec.specs.Step.{is_scalar, scalar_step, flowed};
-ghost use Rattle.mem_access.specs.Transfer.{is_access};
-ghost use Rattle.machine_step.specs.Core.{Bank};
+ghost use Rattle.paged_memory.specs.PageTable.{KeepsOwned};
+ghost use Rattle.mem_access.specs.Transfer.{is_access, HasRoomFor};
+ghost use Rattle.machine_step.specs.ProcessorState.{VectorState};
 ghost use Rattle.machine_step.specs.System.{moved, core_past, system_register, with_system_register};
-ghost use Rattle.machine_step.specs.Effect.{effect_of, effect_of_meaning, effect_of_insn, is_executed_register};
-ghost use Rattle.machine_step.specs.Machine.{core_of, Steps};
+ghost use Rattle.machine_step.specs.Effect.{effect_of, is_executed_register};
+ghost use Rattle.machine_step.specs.Execution.{effect_of_meaning, effect_of_insn};
+ghost use Rattle.machine_step.specs.Machine.{core_of, HasRoomToStep, StepsBy};
 
 use crate::system::{read_nzcv, write_nzcv};
 use a64_decode::decode_scalar;
@@ -69,10 +71,12 @@ fn move_pc(s: &mut Scalars, flow: Flow)
 }
 
 impl Machine {
-    /// Executes the instruction at PC.
+    /// Executes the instruction at PC. `Memory` comes only where it writes a page that is not owned.
     #[tactic(auto, unfolding(crate::specs::Effect::fault_of, crate::specs::Effect::effect_of))]
     pub fn step(&mut self) -> StepEnd
-        ensures { (bank : Bank) → Steps (effect_of (core_of self.old bank)) (core_of self.old bank) (core_of self.new bank) result }
+        ensures effect { StepsBy effect_of self.old self.new result }
+        ensures room { HasRoomToStep self.old → result ≢ StepEnd.Memory }
+        ensures kept { KeepsOwned self.old.pages self.new.pages }
     {
         let pc = self.scalars.pc;
         if pc % 4 != 0 {
@@ -85,9 +89,11 @@ impl Machine {
     }
 
     /// Executes the instruction of a word, by either table.
-    #[tactic(auto, unfolding(sve_table::specs::Meaning::instruction_of))]
+    #[tactic(auto, unfolding(a64_encode::specs::Either::instruction_of))]
     fn execute_word(&mut self, word: u32) -> StepEnd
-        ensures { (bank : Bank) → Steps (effect_of_meaning word (instruction_of word) (core_of self.old bank)) (core_of self.old bank) (core_of self.new bank) result }
+        ensures effect { StepsBy (effect_of_meaning word (instruction_of word)) self.old self.new result }
+        ensures room { IfSome (instruction_of word) (λ it. HasRoomFor it self.old.scalars self.old.pages) → result ≢ StepEnd.Memory }
+        ensures kept { KeepsOwned self.old.pages self.new.pages }
     {
         match decode_scalar(word) {
             Some(insn) => self.execute(word, &insn),
@@ -101,7 +107,9 @@ impl Machine {
     /// Executes an instruction that the word means.
     fn execute(&mut self, word: u32, insn: &Insn) -> StepEnd
         requires { IsInRow insn.now }
-        ensures { (bank : Bank) → Steps (effect_of_insn word insn.now (core_of self.old bank)) (core_of self.old bank) (core_of self.new bank) result }
+        ensures effect { StepsBy (effect_of_insn word insn.now) self.old self.new result }
+        ensures room { HasRoomFor insn.now self.old.scalars self.old.pages → result ≢ StepEnd.Memory }
+        ensures kept { KeepsOwned self.old.pages self.new.pages }
     {
         match insn {
             Insn::System(x) => self.execute_system(word, *x),
@@ -118,7 +126,9 @@ impl Machine {
     fn execute_scalar(&mut self, insn: &Insn) -> StepEnd
         requires scalar { IsTrue (is_scalar insn.now) }
         requires fields { IsInRow insn.now }
-        ensures { (word : ℕ) (bank : Bank) → Steps (effect_of_insn word insn.now (core_of self.old bank)) (core_of self.old bank) (core_of self.new bank) result }
+        ensures effect { (word : ℕ) → StepsBy (effect_of_insn word insn.now) self.old self.new result }
+        ensures answer { result ≡ StepEnd.Next }
+        ensures pages { self.new.pages ≡ self.old.pages }
     {
         let flow = exec_scalar(&mut self.scalars, insn);
         move_pc(&mut self.scalars, flow);
@@ -129,7 +139,9 @@ impl Machine {
     fn execute_access(&mut self, insn: &Insn) -> StepEnd
         requires access { IsTrue (is_access insn.now) }
         requires fields { IsInRow insn.now }
-        ensures { (word : ℕ) (bank : Bank) → Steps (effect_of_insn word insn.now (core_of self.old bank)) (core_of self.old bank) (core_of self.new bank) result }
+        ensures effect { (word : ℕ) → StepsBy (effect_of_insn word insn.now) self.old self.new result }
+        ensures room { HasRoomFor insn.now self.old.scalars self.old.pages → result ≢ StepEnd.Memory }
+        ensures kept { KeepsOwned self.old.pages self.new.pages }
     {
         match transfer(insn, &mut self.scalars, &mut self.pages) {
             Ok(()) => self.step_past(),
@@ -142,7 +154,8 @@ impl Machine {
     #[tactic(auto, unfolding(scalar_exec::specs::Step::flowed))]
     fn step_past(&mut self) -> StepEnd
         ensures answer { result ≡ StepEnd.Next }
-        ensures core { (bank : Bank) → core_of self.new bank ≡ core_past (core_of self.old bank) }
+        ensures pages { self.new.pages ≡ self.old.pages }
+        ensures core { (bank : VectorState) → core_of self.new bank ≡ core_past (core_of self.old bank) }
     {
         move_pc(&mut self.scalars, Flow::Next);
         StepEnd::Next
@@ -150,7 +163,9 @@ impl Machine {
 
     /// Executes a call, an exception, a hint or a barrier.
     fn execute_system(&mut self, word: u32, x: System) -> StepEnd
-        ensures { (bank : Bank) → Steps (effect_of_insn word (Insn.System x) (core_of self.old bank)) (core_of self.old bank) (core_of self.new bank) result }
+        ensures effect { StepsBy (effect_of_insn word (Insn.System x)) self.old self.new result }
+        ensures room { result ≢ StepEnd.Memory }
+        ensures pages { self.new.pages ≡ self.old.pages }
     {
         match x {
             System::Svc(imm) => StepEnd::Call(imm),
@@ -166,7 +181,7 @@ impl Machine {
     /// The value of a system register.
     #[tactic(auto, unfolding(crate::specs::System::system_register))]
     fn read_register(&self, register: SystemRegister) -> u64
-        ensures { (bank : Bank) → result ≡ system_register register (core_of self.now bank) }
+        ensures { (bank : VectorState) → result ≡ system_register register (core_of self.now bank) }
     {
         match register {
             SystemRegister::Nzcv => read_nzcv(&self.scalars),
@@ -179,7 +194,8 @@ impl Machine {
     /// Writes a system register, but SVCR.
     #[tactic(auto, unfolding(crate::specs::System::with_system_register))]
     fn write_register(&mut self, register: SystemRegister, value: u64)
-        ensures { (bank : Bank) → core_of self.new bank ≡ with_system_register register (core_of self.old bank) value }
+        ensures core { (bank : VectorState) → core_of self.new bank ≡ with_system_register register (core_of self.old bank) value }
+        ensures pages { self.new.pages ≡ self.old.pages }
     {
         match register {
             SystemRegister::Nzcv => write_nzcv(&mut self.scalars, value),
@@ -192,7 +208,9 @@ impl Machine {
     /// Executes a move to or from a system register; those of SVCR raise.
     fn execute_move(&mut self, word: u32, x: &SystemMove) -> StepEnd
         requires { x.now.rt < 32 }
-        ensures { (bank : Bank) → Steps (effect_of_insn word (Insn.SystemMove x.now) (core_of self.old bank)) (core_of self.old bank) (core_of self.new bank) result }
+        ensures effect { StepsBy (effect_of_insn word (Insn.SystemMove x.now)) self.old self.new result }
+        ensures room { result ≢ StepEnd.Memory }
+        ensures pages { self.new.pages ≡ self.old.pages }
     {
         if !is_executed(x.register) {
             return StepEnd::Raise(Exception::Undefined(word));
@@ -204,7 +222,8 @@ impl Machine {
     /// Moves a system register to a register, or back.
     fn move_register(&mut self, x: &SystemMove)
         requires { x.now.rt < 32 }
-        ensures { (bank : Bank) → core_of self.new bank ≡ moved x.now.op x.now (core_of self.old bank) }
+        ensures core { (bank : VectorState) → core_of self.new bank ≡ moved x.now.op x.now (core_of self.old bank) }
+        ensures pages { self.new.pages ≡ self.old.pages }
     {
         match x.op {
             SystemMoveOp::Mrs => {

@@ -4,7 +4,7 @@ use Rattle.std.proofs.lemmas.Grind.{common_steps}
 use Rattle.std.specs.FinMap.{FinMap, insert}
 use Rattle.std.specs.Ordering.{nat_cmp}
 use Rattle.std.specs.Int.{bytes_low_first}
-use Rattle.paged_memory.specs.Memory.{Memory, bytes_with, byte_with, and_byte, set_bytes, little_number}
+use Rattle.paged_memory.specs.Memory.{AddressSpace, bytes_with, byte_with, and_byte, set_bytes, little_number}
 use Rattle.paged_memory.proofs.Accesses.{joined, bytes_with-join}
 use Rattle.paged_memory.proofs.Over.{set_bytes-append}
 use Rattle.mem_access.specs.Access.{register_size}
@@ -20,7 +20,7 @@ one_more (Some xs) (Some b) bs n h e =
     ap length (sym same) ∙ length-append xs (b ∷ []) ∙ omega arith
 
 -- as many bytes are read as were wanted
-length_of : (need : ℕ) (m : Memory) (a n : ℕ) (bs : List ℕ) → bytes_with need m a n ≡ Some bs → length bs ≡ n
+length_of : (need : ℕ) (m : AddressSpace) (a n : ℕ) (bs : List ℕ) → bytes_with need m a n ≡ Some bs → length bs ≡ n
 unfolding bytes_with
 length_of need m a zero bs e = let none : [] ≡ bs = cc in ap length (sym none)
 length_of need m a (suc n) bs e = one_more (bytes_with need m a n) (byte_with need m ((a + n) % 2 ^ 64)) bs n (λ xs f. length_of need m a n xs f) e
@@ -39,15 +39,15 @@ parts_of (Some xs) (Some ys) bs n h e =
     let long : length xs ≡ n = h xs refl in
     (ap Some (sym (ap (λ k. take k (xs ++ ys)) (sym long) ∙ front xs ys) ∙ ap (take n) same), ap Some (sym (ap (λ k. drop k (xs ++ ys)) (sym long) ∙ back xs ys) ∙ ap (drop n) same))
 
-halves_read : (m : Memory) (a n : ℕ) (bs : List ℕ) → bytes_with 4 m a (2 * n) ≡ Some bs → (bytes_with 4 m a n ≡ Some (take n bs)) × (bytes_with 4 m ((a + n) % 2 ^ 64) n ≡ Some (drop n bs))
+halves_read : (m : AddressSpace) (a n : ℕ) (bs : List ℕ) → bytes_with 4 m a (2 * n) ≡ Some bs → (bytes_with 4 m a n ≡ Some (take n bs)) × (bytes_with 4 m ((a + n) % 2 ^ 64) n ≡ Some (drop n bs))
 halves_read m a n bs e =
     let twice : 2 * n ≡ n + n = omega arith in
     parts_of (bytes_with 4 m a n) (bytes_with 4 m ((a + n) % 2 ^ 64) n) bs n (λ xs f. length_of 4 m a n xs f) (sym (ap (bytes_with 4 m a) twice ∙ bytes_with-join 4 m a n n) ∙ e)
 
-pub first_read : (m : Memory) (a k v : ℕ) (wide : Bool) (bs : List ℕ) → bytes_with 4 m a k ≡ Some bs → k ≡ 2 * register_size wide → v ≡ little_number (take (register_size wide) bs) → v ≡ number_in m a (register_size wide)
+pub first_read : (m : AddressSpace) (a k v : ℕ) (wide : Bool) (bs : List ℕ) → bytes_with 4 m a k ≡ Some bs → k ≡ 2 * register_size wide → v ≡ little_number (take (register_size wide) bs) → v ≡ number_in m a (register_size wide)
 first_read m a k v wide bs there count is = number_read m a (register_size wide) (register_size wide) v _ (halves_read m a (register_size wide) bs (ap (bytes_with 4 m a) (sym count) ∙ there)).0 refl is
 
-pub second_read : (m : Memory) (a k v : ℕ) (wide : Bool) (bs : List ℕ) → bytes_with 4 m a k ≡ Some bs → k ≡ 2 * register_size wide → v ≡ little_number (drop (register_size wide) bs) → v ≡ number_in m ((a + register_size wide) % 2 ^ 64) (register_size wide)
+pub second_read : (m : AddressSpace) (a k v : ℕ) (wide : Bool) (bs : List ℕ) → bytes_with 4 m a k ≡ Some bs → k ≡ 2 * register_size wide → v ≡ little_number (drop (register_size wide) bs) → v ≡ number_in m ((a + register_size wide) % 2 ^ 64) (register_size wide)
 second_read m a k v wide bs there count is = number_read m ((a + register_size wide) % 2 ^ 64) (register_size wide) (register_size wide) v _ (halves_read m a (register_size wide) bs (ap (bytes_with 4 m a) (sym count) ∙ there)).1 refl is
 
 -- ---- bytes written in two parts
@@ -67,7 +67,7 @@ length_low : (i n v : ℕ) → length (bytes_low_first i n v) ≡ n
 length_low i zero v = refl
 length_low i (suc n) v = ap suc (length_low (suc i) n v)
 
-pub pair_written : (m new : Memory) (a n v w : ℕ) → new ≡ record m { mem = set_bytes m.mem a (bytes_low_first 0 n v ++ bytes_low_first 0 n w) } → new ≡ with_number (with_number m a n v) ((a + n) % 2 ^ 64) n w
+pub pair_written : (m new : AddressSpace) (a n v w : ℕ) → new ≡ record m { mem = set_bytes m.mem a (bytes_low_first 0 n v ++ bytes_low_first 0 n w) } → new ≡ with_number (with_number m a n v) ((a + n) % 2 ^ 64) n w
 unfolding with_number
 pair_written m new a n v w is =
     is ∙ ap (λ x. record m { mem = x }) (set_bytes-append m.mem a (bytes_low_first 0 n v) (bytes_low_first 0 n w) ∙ ap (λ k. set_bytes (set_bytes m.mem a (bytes_low_first 0 n v)) (a + k) (bytes_low_first 0 n w)) (length_low 0 n v)

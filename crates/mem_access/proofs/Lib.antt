@@ -4,3 +4,4 @@ pub mod Halves
 pub mod Faults
 pub mod OneRegister
 pub mod Atomics
+pub mod Room

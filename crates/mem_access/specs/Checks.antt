@@ -6,7 +6,7 @@ use Rattle.sm_types.specs.declared.scalars.Scalars.{Scalars}
 use Rattle.sm_types.specs.declared.stop.Access.TheVariants.{Read, Write}
 use Rattle.sm_types.specs.declared.stop.Exception.{Exception}
 use Rattle.sm_types.specs.declared.stop.Exception.TheVariants.{SpAlign, Align, Shared, Data}
-use Rattle.paged_memory.specs.Memory.{Memory, or_else, first_without}
+use Rattle.paged_memory.specs.Memory.{AddressSpace, or_else, first_without}
 use Rattle.mem_access.specs.declared.access.MemoryAccess.{MemoryAccess}
 
 -- the first of a list of checks that fails
@@ -49,15 +49,15 @@ abbrev pub place_fault : MemoryAccess → Scalars → Option Exception
 place_fault access s = first_fault (sp_fault access s ∷ align_fault access ∷ shared_fault access ∷ [])
 
 -- the first of the n bytes from an address on that cannot be read
-abbrev pub denied_read : Memory → ℕ → ℕ → Option Exception
+abbrev pub denied_read : AddressSpace → ℕ → ℕ → Option Exception
 denied_read m a n = option_map (λ x. Data x Read) (first_without 4 m a n)
 
 -- the first that cannot be written
-abbrev pub denied_write : Memory → ℕ → ℕ → Option Exception
+abbrev pub denied_write : AddressSpace → ℕ → ℕ → Option Exception
 denied_write m a n = option_map (λ x. Data x Write) (first_without 2 m a n)
 
 -- the first that cannot be read, else the first that cannot be written
-abbrev pub denied_update : Memory → ℕ → ℕ → Option Exception
+abbrev pub denied_update : AddressSpace → ℕ → ℕ → Option Exception
 denied_update m a n = or_else (denied_read m a n) (denied_write m a n)
 
 -- the check, where the access is of that kind
@@ -66,13 +66,13 @@ check_when true check = check
 check_when false check = None
 
 -- each byte can be read, where the access reads
-abbrev pub read_fault : MemoryAccess → Memory → Option Exception
+abbrev pub read_fault : MemoryAccess → AddressSpace → Option Exception
 read_fault access m = check_when access.reads (denied_read m access.address access.size)
 
 -- each byte can be written, where the access writes
-abbrev pub write_fault : MemoryAccess → Memory → Option Exception
+abbrev pub write_fault : MemoryAccess → AddressSpace → Option Exception
 write_fault access m = check_when access.writes (denied_write m access.address access.size)
 
 -- the exception of the first check that fails, if any does
-unfoldable pub access_fault : MemoryAccess → Scalars → Memory → Option Exception
+unfoldable pub access_fault : MemoryAccess → Scalars → AddressSpace → Option Exception
 access_fault access s m = first_fault (sp_fault access s ∷ align_fault access ∷ shared_fault access ∷ read_fault access m ∷ write_fault access m ∷ [])

@@ -1,3 +1,4 @@
+pub mod VectorState
 pub mod Access
 pub mod Checks
 pub mod Values

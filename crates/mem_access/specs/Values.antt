@@ -8,9 +8,9 @@ use Rattle.sm_types.specs.declared.insn.LoadLiteralOp.{LoadLiteralOp}
 use Rattle.sm_types.specs.declared.insn.LoadLiteralOp.TheVariants.{Word, Doubleword, SignedWord}
 use Rattle.sm_types.specs.declared.insn.AtomicOp.{AtomicOp}
 use Rattle.sm_types.specs.declared.insn.AtomicOp.TheVariants.{Add, Clear, Eor, Set, Smax, Smin, Umax, Umin}
-use Rattle.a64_table.specs.Fields.{signed_value}
+use Rattle.insn_forms.specs.Fields.{signed_value}
 use Rattle.scalar_exec.specs.Operands.{sign_extend}
-use Rattle.paged_memory.specs.Memory.{Memory, bytes_with, set_bytes, little_number}
+use Rattle.paged_memory.specs.Memory.{AddressSpace, bytes_with, set_bytes, little_number}
 
 -- the number of some bytes, and 0 where there are none
 abbrev pub number_or_zero : Option (List ℕ) → ℕ
@@ -18,11 +18,11 @@ number_or_zero None = 0
 number_or_zero (Some bytes) = little_number bytes
 
 -- the number of the n bytes from an address on, which can be read
-unfoldable pub number_in : Memory → ℕ → ℕ → ℕ
+unfoldable pub number_in : AddressSpace → ℕ → ℕ → ℕ
 number_in m a n = number_or_zero (bytes_with 4 m a n)
 
 -- the memory with the low n bytes of a value from an address on
-unfoldable pub with_number : Memory → ℕ → ℕ → ℕ → Memory
+unfoldable pub with_number : AddressSpace → ℕ → ℕ → ℕ → AddressSpace
 with_number m a n value = record m { mem = set_bytes m.mem a (bytes_low_first 0 n value) }
 
 -- the register that a load of n bytes gives: extended by zeros, by the sign to 64 bits, or by the sign to 32 bits and then by zeros

@@ -1,11 +1,11 @@
 //! The ordered and atomic accesses.
-ghost use Rattle.std.specs.Prelude.{◌==◌, ◌<◌, cond};
+ghost use Rattle.std.specs.Prelude.{◌≢◌, ◌==◌, ◌<◌, cond, Err};
 ghost use Rattle.a64_table.specs.Ranges.{IsAtomic};
 ghost use Rattle.scalar_exec.specs.Registers.{x_of, with_x};
-ghost use Rattle.paged_memory.specs.PageTable.{KeepsOwned};
+ghost use Rattle.paged_memory.specs.PageTable.{AreOwned, KeepsOwned};
 ghost use Rattle.mem_access.specs.Access.{bytes_in, atomic_access};
 ghost use Rattle.mem_access.specs.Checks.{denied_read, denied_write, denied_update, access_fault};
-ghost use Rattle.mem_access.specs.Transfer.{after_atomic, contents_of, Transfers};
+ghost use Rattle.mem_access.specs.Transfer.{after_atomic, contents_of, HasRoom, Transfers};
 ghost use Rattle.mem_access.specs.Values.{number_in, with_number, low_bytes, updated};
 
 use crate::access::atomic_access;
@@ -27,9 +27,10 @@ fn load_ordered(
     pages: &Pages,
 ) -> Result<(), AccessStop>
     requires { rt < 32 }
-    ensures { Transfers (denied_read pages.now.memory address (bytes_in size))
+    ensures made { Transfers (denied_read pages.now.memory address (bytes_in size))
         (record { scalars = with_x s.old rt (number_in pages.now.memory address (bytes_in size)); memory = pages.now.memory })
         (contents_of s.old pages.now) (contents_of s.new pages.now) result }
+    ensures room { result ≢ Err AccessStop.Memory }
 {
     match read_number(pages, address, size) {
         Ok(value) => {
@@ -52,6 +53,7 @@ fn store_ordered(
     ensures made { Transfers (denied_write pages.old.memory address (bytes_in size))
         (record { scalars = s.now; memory = with_number pages.old.memory address (bytes_in size) (x_of s.now rt) })
         (contents_of s.now pages.old) (contents_of s.now pages.new) result }
+    ensures room { AreOwned pages.old address (bytes_in size) → result ≢ Err AccessStop.Memory }
     ensures kept { KeepsOwned pages.old pages.new }
 {
     write_number(pages, address, size, read_x(s, rt))
@@ -71,6 +73,7 @@ fn swap_where_equal(
     ensures made { Transfers (denied_update pages.old.memory address (bytes_in size))
         (record { scalars = with_x s.old rs (number_in pages.old.memory address (bytes_in size)); memory = cond (number_in pages.old.memory address (bytes_in size) == low_bytes (bytes_in size) (x_of s.old rs)) (with_number pages.old.memory address (bytes_in size) (x_of s.old rt)) pages.old.memory })
         (contents_of s.old pages.old) (contents_of s.new pages.new) result }
+    ensures room { AreOwned pages.old address (bytes_in size) → result ≢ Err AccessStop.Memory }
     ensures kept { KeepsOwned pages.old pages.new }
 {
     let expected = low_bytes(size, read_x(s, rs));
@@ -97,6 +100,7 @@ fn swap_register(
     ensures made { Transfers (denied_update pages.old.memory address (bytes_in size))
         (record { scalars = with_x s.old rt (number_in pages.old.memory address (bytes_in size)); memory = with_number pages.old.memory address (bytes_in size) (x_of s.old rs) })
         (contents_of s.old pages.old) (contents_of s.new pages.new) result }
+    ensures room { AreOwned pages.old address (bytes_in size) → result ≢ Err AccessStop.Memory }
     ensures kept { KeepsOwned pages.old pages.new }
 {
     match swap(pages, address, size, read_x(s, rs)) {
@@ -123,6 +127,7 @@ fn update_by_register(
     ensures made { Transfers (denied_update pages.old.memory address (bytes_in size))
         (record { scalars = with_x s.old rt (number_in pages.old.memory address (bytes_in size)); memory = with_number pages.old.memory address (bytes_in size) (updated op (bytes_in size) (number_in pages.old.memory address (bytes_in size)) (low_bytes (bytes_in size) (x_of s.old rs))) })
         (contents_of s.old pages.old) (contents_of s.new pages.new) result }
+    ensures room { AreOwned pages.old address (bytes_in size) → result ≢ Err AccessStop.Memory }
     ensures kept { KeepsOwned pages.old pages.new }
 {
     let operand = low_bytes(size, read_x(s, rs));
@@ -141,6 +146,7 @@ pub fn transfer_atomic(x: &Atomic, s: &mut Scalars, pages: &mut Pages) -> Result
     ensures made { Transfers (access_fault (atomic_access x.now s.old) s.old pages.old.memory)
         (after_atomic x.now (atomic_access x.now s.old).address s.old pages.old.memory)
         (contents_of s.old pages.old) (contents_of s.new pages.new) result }
+    ensures room { HasRoom (atomic_access x.now s.old) pages.old → result ≢ Err AccessStop.Memory }
     ensures kept { KeepsOwned pages.old pages.new }
 {
     let access = atomic_access(x, s);

@@ -1,6 +1,6 @@
 //! Numbers in memory that are read and then written.
-ghost use Rattle.std.specs.Prelude.{◌≡◌, ◌==◌, ◌*◌, ◌^◌, ◌<◌, None, Some, cond, IfOk, IfErr, OnOk, OnErr};
-ghost use Rattle.paged_memory.specs.PageTable.{KeepsOwned};
+ghost use Rattle.std.specs.Prelude.{◌≡◌, ◌≢◌, ◌==◌, ◌*◌, ◌^◌, ◌<◌, None, Some, cond, IfOk, IfErr, OnOk, OnErr, Err};
+ghost use Rattle.paged_memory.specs.PageTable.{AreOwned, KeepsOwned};
 ghost use Rattle.mem_access.specs.Access.{bytes_in};
 ghost use Rattle.mem_access.specs.Checks.{denied_write, denied_update};
 ghost use Rattle.mem_access.specs.Transfer.{raised_by};
@@ -17,6 +17,7 @@ use sm_types::{Access, AccessSize, AtomicOp, Exception};
 fn check_write(pages: &Pages, address: u64, size: AccessSize) -> Result<(), AccessStop>
     ensures allowed { OnOk result (denied_write pages.now.memory address (bytes_in size) ≡ None) }
     ensures denied { IfErr result (λ e. denied_write pages.now.memory address (bytes_in size) ≡ raised_by e) }
+    ensures room { result ≢ Err AccessStop.Memory }
 {
     match pages.check(address, bytes_in(size), Access::Write) {
         Ok(()) => Ok(()),
@@ -39,6 +40,7 @@ pub fn swap(
     ensures allowed { OnOk result (denied_update pages.old.memory address (bytes_in size) ≡ None) }
     ensures stops { IfErr result (λ e. denied_update pages.old.memory address (bytes_in size) ≡ raised_by e) }
     ensures err { OnErr result (pages.new.memory ≡ pages.old.memory) }
+    ensures room { AreOwned pages.old address (bytes_in size) → result ≢ Err AccessStop.Memory }
     ensures kept { KeepsOwned pages.old pages.new }
 {
     match read_number(pages, address, size) {
@@ -64,6 +66,7 @@ pub fn update(
     ensures allowed { OnOk result (denied_update pages.old.memory address (bytes_in size) ≡ None) }
     ensures stops { IfErr result (λ e. denied_update pages.old.memory address (bytes_in size) ≡ raised_by e) }
     ensures err { OnErr result (pages.new.memory ≡ pages.old.memory) }
+    ensures room { AreOwned pages.old address (bytes_in size) → result ≢ Err AccessStop.Memory }
     ensures kept { KeepsOwned pages.old pages.new }
 {
     match read_number(pages, address, size) {
@@ -88,6 +91,7 @@ pub fn compare_and_swap(
     ensures allowed { OnOk result (denied_update pages.old.memory address (bytes_in size) ≡ None) }
     ensures stops { IfErr result (λ e. denied_update pages.old.memory address (bytes_in size) ≡ raised_by e) }
     ensures err { OnErr result (pages.new.memory ≡ pages.old.memory) }
+    ensures room { AreOwned pages.old address (bytes_in size) → result ≢ Err AccessStop.Memory }
     ensures kept { KeepsOwned pages.old pages.new }
 {
     match read_number(pages, address, size) {

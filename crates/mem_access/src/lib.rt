@@ -9,8 +9,6 @@ mod exchange;
 mod numbers;
 mod pairs;
 mod stop;
-#[cfg(test)]
-mod tests;
 mod transfers;
 mod values;
 

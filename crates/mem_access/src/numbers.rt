@@ -1,7 +1,7 @@
 //! Numbers in memory, the low byte first.
-ghost use Rattle.std.specs.Prelude.{◌≡◌, ◌+◌, ◌*◌, ◌%◌, ◌^◌, ◌<◌, ◌≤◌, length, take, drop, None, Some, IfOk, IfErr, OnOk, OnErr};
+ghost use Rattle.std.specs.Prelude.{◌≡◌, ◌≢◌, ◌+◌, ◌*◌, ◌%◌, ◌^◌, ◌<◌, ◌≤◌, length, take, drop, None, Some, IfOk, IfErr, OnOk, OnErr, Err};
 ghost use Rattle.paged_memory.specs.Memory.{little_number, set_bytes};
-ghost use Rattle.paged_memory.specs.PageTable.{KeepsOwned};
+ghost use Rattle.paged_memory.specs.PageTable.{AreOwned, KeepsOwned};
 ghost use Rattle.mem_access.specs.Access.{bytes_in, register_size};
 ghost use Rattle.mem_access.specs.Checks.{denied_read, denied_write};
 ghost use Rattle.mem_access.specs.Transfer.{raised_by};
@@ -78,6 +78,7 @@ pub fn write_bytes(pages: &mut Pages, address: u64, bytes: &[u8]) -> Result<(), 
     ensures allowed { OnOk result (denied_write pages.old.memory address (length bytes.now) ≡ None) }
     ensures stops { IfErr result (λ e. denied_write pages.old.memory address (length bytes.now) ≡ raised_by e) }
     ensures err { OnErr result (pages.new.memory ≡ pages.old.memory) }
+    ensures room { AreOwned pages.old address (length bytes.now) → result ≢ Err AccessStop.Memory }
     ensures kept { KeepsOwned pages.old pages.new }
 {
     match pages.write(address, bytes) {
@@ -102,6 +103,7 @@ pub fn write_number(
     ensures allowed { OnOk result (denied_write pages.old.memory address (bytes_in size) ≡ None) }
     ensures stops { IfErr result (λ e. denied_write pages.old.memory address (bytes_in size) ≡ raised_by e) }
     ensures err { OnErr result (pages.new.memory ≡ pages.old.memory) }
+    ensures room { AreOwned pages.old address (bytes_in size) → result ≢ Err AccessStop.Memory }
     ensures kept { KeepsOwned pages.old pages.new }
 {
     let bytes = value.to_le_bytes();

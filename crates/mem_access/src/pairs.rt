@@ -1,8 +1,8 @@
 //! Pairs of registers in memory, the first in the lower bytes.
-ghost use Rattle.std.specs.Prelude.{◌≡◌, ◌+◌, ◌*◌, ◌%◌, ◌^◌, ◌++◌, length, take, drop, None, IfOk, IfErr, OnOk, OnErr};
+ghost use Rattle.std.specs.Prelude.{◌≡◌, ◌≢◌, ◌+◌, ◌*◌, ◌%◌, ◌^◌, ◌++◌, length, take, drop, None, IfOk, IfErr, OnOk, OnErr, Err};
 ghost use Rattle.std.specs.Int.{bytes_low_first};
 ghost use Rattle.paged_memory.specs.Memory.{little_number};
-ghost use Rattle.paged_memory.specs.PageTable.{KeepsOwned};
+ghost use Rattle.paged_memory.specs.PageTable.{AreOwned, KeepsOwned};
 ghost use Rattle.mem_access.specs.Access.{register_size};
 ghost use Rattle.mem_access.specs.Checks.{denied_read, denied_write};
 ghost use Rattle.mem_access.specs.Transfer.{raised_by};
@@ -108,6 +108,7 @@ pub fn write_pair(
     ensures allowed { OnOk result (denied_write pages.old.memory address (2 * register_size wide) ≡ None) }
     ensures stops { IfErr result (λ e. denied_write pages.old.memory address (2 * register_size wide) ≡ raised_by e) }
     ensures err { OnErr result (pages.new.memory ≡ pages.old.memory) }
+    ensures room { AreOwned pages.old address (2 * register_size wide) → result ≢ Err AccessStop.Memory }
     ensures kept { KeepsOwned pages.old pages.new }
 {
     if wide {

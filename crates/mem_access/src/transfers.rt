@@ -1,10 +1,10 @@
 //! The loads, stores and atomic instructions.
-ghost use Rattle.std.specs.Prelude.{◌*◌, IsTrue};
+ghost use Rattle.std.specs.Prelude.{◌≢◌, ◌*◌, IsTrue, Err};
 ghost use Rattle.a64_table.specs.Ranges.{IsInRow, IsLoadStore, IsLoadLiteral, IsLoadStorePair};
-ghost use Rattle.paged_memory.specs.PageTable.{KeepsOwned};
+ghost use Rattle.paged_memory.specs.PageTable.{AreOwned, KeepsOwned};
 ghost use Rattle.mem_access.specs.Access.{bytes_in, literal_size, register_size, is_load, load_store_access, load_literal_access, pair_access};
 ghost use Rattle.mem_access.specs.Checks.{denied_read, denied_write, access_fault};
-ghost use Rattle.mem_access.specs.Transfer.{is_access, after_load_store, after_load_literal, after_pair, after_access, transfer_fault, contents_of, Transfers};
+ghost use Rattle.mem_access.specs.Transfer.{is_access, after_load_store, after_load_literal, after_pair, after_access, transfer_fault, contents_of, HasRoom, HasRoomFor, Transfers};
 
 use crate::access::{
     literal_size, load_literal_access, load_store_access, pair_access, write_base, write_pair_base,
@@ -27,6 +27,7 @@ fn store(x: &LoadStore, address: u64, s: &mut Scalars, pages: &mut Pages) -> Res
     ensures made { Transfers (denied_write pages.old.memory address (bytes_in x.now.size))
         (after_load_store LoadStoreOp.Store x.now address s.old pages.old.memory)
         (contents_of s.old pages.old) (contents_of s.new pages.new) result }
+    ensures room { AreOwned pages.old address (bytes_in x.now.size) → result ≢ Err AccessStop.Memory }
     ensures kept { KeepsOwned pages.old pages.new }
 {
     match write_number(pages, address, x.size, read_x(s, x.rt)) {
@@ -44,9 +45,10 @@ fn store(x: &LoadStore, address: u64, s: &mut Scalars, pages: &mut Pages) -> Res
 fn load(x: &LoadStore, address: u64, s: &mut Scalars, pages: &Pages) -> Result<(), AccessStop>
     requires fields { IsLoadStore x.now }
     requires load { IsTrue (is_load x.now.op) }
-    ensures { Transfers (denied_read pages.now.memory address (bytes_in x.now.size))
+    ensures made { Transfers (denied_read pages.now.memory address (bytes_in x.now.size))
         (after_load_store x.now.op x.now address s.old pages.now.memory)
         (contents_of s.old pages.now) (contents_of s.new pages.now) result }
+    ensures room { result ≢ Err AccessStop.Memory }
 {
     match read_number(pages, address, x.size) {
         Ok(value) => {
@@ -65,6 +67,7 @@ fn transfer_load_store(x: &LoadStore, s: &mut Scalars, pages: &mut Pages) -> Res
     ensures made { Transfers (access_fault (load_store_access x.now s.old) s.old pages.old.memory)
         (after_load_store x.now.op x.now (load_store_access x.now s.old).address s.old pages.old.memory)
         (contents_of s.old pages.old) (contents_of s.new pages.new) result }
+    ensures room { HasRoom (load_store_access x.now s.old) pages.old → result ≢ Err AccessStop.Memory }
     ensures kept { KeepsOwned pages.old pages.new }
 {
     let access = load_store_access(x, s);
@@ -87,9 +90,10 @@ fn load_literal(
     pages: &Pages,
 ) -> Result<(), AccessStop>
     requires { IsLoadLiteral x.now }
-    ensures { Transfers (denied_read pages.now.memory address (literal_size x.now.op))
+    ensures made { Transfers (denied_read pages.now.memory address (literal_size x.now.op))
         (after_load_literal x.now address s.old pages.now.memory)
         (contents_of s.old pages.now) (contents_of s.new pages.now) result }
+    ensures room { result ≢ Err AccessStop.Memory }
 {
     match read_number(pages, address, literal_size(x.op)) {
         Ok(value) => {
@@ -104,9 +108,10 @@ fn load_literal(
 #[inline]
 fn transfer_load_literal(x: &LoadLiteral, s: &mut Scalars, pages: &Pages) -> Result<(), AccessStop>
     requires { IsLoadLiteral x.now }
-    ensures { Transfers (access_fault (load_literal_access x.now s.old) s.old pages.now.memory)
+    ensures made { Transfers (access_fault (load_literal_access x.now s.old) s.old pages.now.memory)
         (after_load_literal x.now (load_literal_access x.now s.old).address s.old pages.now.memory)
         (contents_of s.old pages.now) (contents_of s.new pages.now) result }
+    ensures room { result ≢ Err AccessStop.Memory }
 {
     let access = load_literal_access(x, s);
     match place_fault(&access, s) {
@@ -128,6 +133,7 @@ fn store_pair(
     ensures made { Transfers (denied_write pages.old.memory address (2 * register_size x.now.wide))
         (after_pair PairOp.Stp x.now address s.old pages.old.memory)
         (contents_of s.old pages.old) (contents_of s.new pages.new) result }
+    ensures room { AreOwned pages.old address (2 * register_size x.now.wide) → result ≢ Err AccessStop.Memory }
     ensures kept { KeepsOwned pages.old pages.new }
 {
     match write_pair(pages, address, x.wide, read_x(s, x.rt), read_x(s, x.rt2)) {
@@ -149,9 +155,10 @@ fn load_pair(
     pages: &Pages,
 ) -> Result<(), AccessStop>
     requires { IsLoadStorePair x.now }
-    ensures { Transfers (denied_read pages.now.memory address (2 * register_size x.now.wide))
+    ensures made { Transfers (denied_read pages.now.memory address (2 * register_size x.now.wide))
         (after_pair PairOp.Ldp x.now address s.old pages.now.memory)
         (contents_of s.old pages.now) (contents_of s.new pages.now) result }
+    ensures room { result ≢ Err AccessStop.Memory }
 {
     match read_pair(pages, address, x.wide) {
         Ok((first, second)) => {
@@ -171,6 +178,7 @@ fn transfer_pair(x: &LoadStorePair, s: &mut Scalars, pages: &mut Pages) -> Resul
     ensures made { Transfers (access_fault (pair_access x.now s.old) s.old pages.old.memory)
         (after_pair x.now.op x.now (pair_access x.now s.old).address s.old pages.old.memory)
         (contents_of s.old pages.old) (contents_of s.new pages.new) result }
+    ensures room { HasRoom (pair_access x.now s.old) pages.old → result ≢ Err AccessStop.Memory }
     ensures kept { KeepsOwned pages.old pages.new }
 {
     let access = pair_access(x, s);
@@ -184,7 +192,7 @@ fn transfer_pair(x: &LoadStorePair, s: &mut Scalars, pages: &mut Pages) -> Resul
 }
 
 /// The instructions of this crate: makes all checks of the access, and then the access; any answer but Ok leaves registers and memory as
-/// they were, but that more pages may be owned. PC stays as it is.
+/// they were, but that more pages may be owned. `Memory` comes only where the access writes a page that is not owned. PC stays as it is.
 #[inline]
 pub fn transfer(insn: &Insn, scalars: &mut Scalars, pages: &mut Pages) -> Result<(), AccessStop>
     requires access { IsTrue (is_access insn.now) }
@@ -192,6 +200,7 @@ pub fn transfer(insn: &Insn, scalars: &mut Scalars, pages: &mut Pages) -> Result
     ensures made { Transfers (transfer_fault insn.now scalars.old pages.old.memory)
         (after_access insn.now scalars.old pages.old.memory)
         (contents_of scalars.old pages.old) (contents_of scalars.new pages.new) result }
+    ensures room { HasRoomFor insn.now scalars.old pages.old → result ≢ Err AccessStop.Memory }
     ensures kept { KeepsOwned pages.old pages.new }
 {
     match insn {

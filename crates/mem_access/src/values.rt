@@ -81,7 +81,7 @@ fn signed_narrow(value: u64, half: i64) -> i64
 
 /// The number of the bytes in two's complement.
 #[inline]
-#[tactic(auto, unfolding(a64_table::specs::Fields::signed_value))]
+#[tactic(auto, unfolding(insn_forms::specs::Fields::signed_value))]
 fn signed_bytes(size: AccessSize, value: u64) -> i64
     requires { value < 2 ^ (8 * bytes_in size) }
     ensures { result ≡ signed_bytes (bytes_in size) value }

@@ -28,6 +28,7 @@ sorted-take (p ∷ ps) (suc i) h = and_both _ _ (below_all-take p.number ps i (a
 pub fine_take : (ps : List Page) (i : ℕ) → IsFine ps → IsFine (take i ps)
 fine_take ps i fine = record {
   full = All-take (λ x. length x.bytes.items ≡ 4096) i ps fine.full;
+  flags = All-take (λ x. x.flags < 8) i ps fine.flags;
   low = All-take (λ x. x.number < 2 ^ 51) i ps fine.low;
   sorted = sorted-take ps i fine.sorted;
 }

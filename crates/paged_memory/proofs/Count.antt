@@ -183,9 +183,10 @@ one_placed p placed size few = record {
 }
 
 -- a part lies where it may if its ends do
-pub placed_by_ends : (p : Extent) → length p.bytes ≤ p.size → p.address + p.size ≤ 2 ^ 47 → (p.address + p.size ≤ 0x7DFFFFFC0000) ⊎ (0x7F0000001000 ≤ p.address) → IsPlaced p
-placed_by_ends p inside low apart = record {
+pub placed_by_ends : (p : Extent) → length p.bytes ≤ p.size → p.flags < 8 → p.address + p.size ≤ 2 ^ 47 → (p.address + p.size ≤ 0x7DFFFFFC0000) ⊎ (0x7F0000001000 ≤ p.address) → IsPlaced p
+placed_by_ends p inside sum low apart = record {
   inside = inside;
+  flags = sum;
   places = λ a from to. (omega arith, elim apart [ inl l ↦ inl (omega arith) | inr g ↦ inr (omega arith) ]);
 }
 

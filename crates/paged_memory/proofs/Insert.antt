@@ -9,7 +9,7 @@ use Rattle.std.specs.Ordering.{nat_cmp, is_lt}
 use Rattle.std.proofs.lemmas.Bool.Decides.{nat_tests}
 use Rattle.std.proofs.lemmas.List.Elements.{recursion_from_All, All-append, All-cons, All-take, All-drop}
 use Rattle.paged_memory.specs.declared.page.Page.{Page}
-use Rattle.paged_memory.specs.Memory.{Memory, with_page}
+use Rattle.paged_memory.specs.Memory.{AddressSpace, with_page}
 use Rattle.paged_memory.specs.Pages.{page_entry, page_at, perm_of, memory_of, IsFine}
 use Rattle.paged_memory.proofs.Over.{over, eq_by_cmp-nat, get-set_bytes}
 use Rattle.paged_memory.proofs.Bytes.{bind, get-perm_of, get-mem_of, get_mem_step, get_perm_step}
@@ -78,23 +78,24 @@ not_same : (n m : ℕ) → n ≤ m → (m ≡ n → ⊥) → n < m
 not_same n m l h = grind arith
 
 pub fine_insert : (ps : List Page) (i : ℕ) (p : Page) → IsFine ps → i ≤ length ps → ((k : ℕ) (d : Page) → k < i → (get_or ps k d).number < p.number)
-    → ((k : ℕ) (d : Page) → i ≤ k → k < length ps → p.number ≤ (get_or ps k d).number) → length p.bytes.items ≡ 4096 → p.number < 2 ^ 51 → get (perm_of ps) p.number ≡ None → IsFine (insert ps i p)
-fine_insert ps i p fine l below rest whole low missing = record {
+    → ((k : ℕ) (d : Page) → i ≤ k → k < length ps → p.number ≤ (get_or ps k d).number) → length p.bytes.items ≡ 4096 → p.flags < 8 → p.number < 2 ^ 51 → get (perm_of ps) p.number ≡ None → IsFine (insert ps i p)
+fine_insert ps i p fine l below rest whole sum low missing = record {
   full = All-insert (λ x. length x.bytes.items ≡ 4096) ps i p fine.full whole;
+  flags = All-insert (λ x. x.flags < 8) ps i p fine.flags sum;
   low = All-insert (λ x. x.number < 2 ^ 51) ps i p fine.low low;
   sorted = sorted-insert ps i p fine.sorted l below (λ k d m n. not_same p.number _ (rest k d m n) (page_at-there ps k d p.number n (page_absent ps p.number missing)));
 }
 
 -- what a memory with one more page has at an address and at a number
-pub mem-with_page : (m : Memory) (n flags : ℕ) (bs : List ℕ) (a : ℕ) → length bs ≡ 4096 → n < 2 ^ 51 → get (with_page m n flags bs).mem a ≡ over (4096 * n) bs a (get m.mem a)
+pub mem-with_page : (m : AddressSpace) (n flags : ℕ) (bs : List ℕ) (a : ℕ) → length bs ≡ 4096 → n < 2 ^ 51 → get (with_page m n flags bs).mem a ≡ over (4096 * n) bs a (get m.mem a)
 unfolding with_page
 mem-with_page m n flags bs a full low = get-set_bytes m.mem (4096 * n) bs a (rw full (omega arith))
 
-pub perm-with_page : (m : Memory) (n flags : ℕ) (bs : List ℕ) (q : ℕ) → get (with_page m n flags bs).perm q ≡ cond (n == q) (Some flags) (get m.perm q)
+pub perm-with_page : (m : AddressSpace) (n flags : ℕ) (bs : List ℕ) (q : ℕ) → get (with_page m n flags bs).perm q ≡ cond (n == q) (Some flags) (get m.perm q)
 unfolding with_page
 perm-with_page m n flags bs q = rw (get-insert nat_cmp_total, eq_by_cmp-nat) refl
 
-pub same_memory : (m n : Memory) → ((a : ℕ) → get m.mem a ≡ get n.mem a) → ((q : ℕ) → get m.perm q ≡ get n.perm q) → m ≡ n
+pub same_memory : (m n : AddressSpace) → ((a : ℕ) → get m.mem a ≡ get n.mem a) → ((q : ℕ) → get m.perm q ≡ get n.perm q) → m ≡ n
 same_memory m n bytes flags =
     let mem : m.mem ≡ n.mem = same_map nat_cmp_total nat_cmp-IsAntisymmetric _ _ bytes in
     let perm : m.perm ≡ n.perm = same_map nat_cmp_total nat_cmp-IsAntisymmetric _ _ flags in

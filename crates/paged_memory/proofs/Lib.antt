@@ -9,6 +9,7 @@ pub mod Insert
 pub mod Copy
 pub mod Stack
 pub mod Set
+pub mod Whole
 pub mod Touch
 pub mod Parts
 pub mod Count

@@ -11,7 +11,7 @@ use Rattle.std.specs.Ordering.{nat_cmp, is_lt}
 use Rattle.std.specs.declared.cmp.Ordering.{Ordering}
 use Rattle.std.specs.declared.cmp.Ordering.TheVariants.{Less, Equal, Greater}
 use Rattle.paged_memory.specs.declared.page.Page.{Page}
-use Rattle.paged_memory.specs.Memory.{Memory}
+use Rattle.paged_memory.specs.Memory.{AddressSpace}
 use Rattle.paged_memory.specs.Pages.{page_entry, page_at, perm_of, memory_of, IsFine}
 
 pub and_first : (a b : Bool) → (a && b) ≡ true → a ≡ true
@@ -68,7 +68,7 @@ length-entries : (ps : List Page) → length (map page_entry ps) ≡ length ps
 length-entries [] = refl
 length-entries (p ∷ ps) = ap suc (length-entries ps)
 
-pub len-perm_of : (ps : List Page) (m : Memory) → IsFine ps → memory_of ps ≡ m → len m.perm ≡ length ps
+pub len-perm_of : (ps : List Page) (m : AddressSpace) → IsFine ps → memory_of ps ≡ m → len m.perm ≡ length ps
 len-perm_of ps m fine e = rw (← e) (len-entries (perm_of ps) ∙ ap length (entries-perm_of ps fine.sorted) ∙ length-entries ps)
 
 -- pages of the same flags are as many

@@ -6,18 +6,18 @@ use Rattle.std.proofs.lemmas.List.Elements.{recursion_from_All}
 use Rattle.std.proofs.lemmas.Bool.Decides.{nat_tests}
 use Rattle.std.specs.FinMap.{get}
 use Rattle.paged_memory.specs.declared.page.Page.{Page}
-use Rattle.paged_memory.specs.Memory.{Memory, byte_with, first_without, permitted}
+use Rattle.paged_memory.specs.Memory.{AddressSpace, byte_with, first_without, permitted}
 use Rattle.paged_memory.specs.Parts.{IsMapped}
 use Rattle.paged_memory.specs.Pages.{page_at, perm_of, memory_of, IsFine}
 use Rattle.paged_memory.proofs.Over.{low_or}
 use Rattle.paged_memory.proofs.Bytes.{get-perm_of}
 use Rattle.paged_memory.proofs.Accesses.{first_without-at, first_without-stays}
 
-none_before : (need : ℕ) (m : Memory) (a n k : ℕ) (o : Option ℕ) → first_without need m a k ≡ o → first_without need m a n ≡ None → k ≤ n → o ≡ None
+none_before : (need : ℕ) (m : AddressSpace) (a n k : ℕ) (o : Option ℕ) → first_without need m a k ≡ o → first_without need m a n ≡ None → k ≤ n → o ≡ None
 none_before need m a n k None is none l = refl
 none_before need m a n k (Some x) is none l = let there : first_without need m a n ≡ Some x = first_without-stays need m a k n x is l in cc
 
-byte_there : (need : ℕ) (m : Memory) (a n k : ℕ) (o : Option ℕ) → byte_with need m ((a + k) % 2 ^ 64) ≡ o → first_without need m a n ≡ None → k < n → IsSome o
+byte_there : (need : ℕ) (m : AddressSpace) (a n k : ℕ) (o : Option ℕ) → byte_with need m ((a + k) % 2 ^ 64) ≡ o → first_without need m a n ≡ None → k < n → IsSome o
 byte_there need m a n k None is none l =
     let before : first_without need m a k ≡ None = none_before need m a n k (first_without need m a k) refl none (omega arith) in
     let stop : first_without need m a n ≡ Some ((a + k) % 2 ^ 64) = first_without-at need m a k n before is l in
@@ -29,7 +29,7 @@ flags_there need None byte h = cc
 flags_there need (Some f) byte h = refl
 
 -- each of the bytes is in a page
-pub mapped_at : (need : ℕ) (m : Memory) (a n k : ℕ) → first_without need m a n ≡ None → k < n → IsSome (get m.perm ((a + k) % 2 ^ 64 / 4096))
+pub mapped_at : (need : ℕ) (m : AddressSpace) (a n k : ℕ) → first_without need m a n ≡ None → k < n → IsSome (get m.perm ((a + k) % 2 ^ 64 / 4096))
 unfolding byte_with
 mapped_at need m a n k none l =
     let at : ℕ = (a + k) % 2 ^ 64 in

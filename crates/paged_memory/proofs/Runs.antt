@@ -6,7 +6,7 @@ use Rattle.std.proofs.lemmas.Bool.Decides.{nat_tests}
 use Rattle.std.proofs.lemmas.List.{take_more, get_or-drop}
 use Rattle.std.proofs.lemmas.Option.{slice_get-get_or}
 use Rattle.paged_memory.specs.declared.page.Page.{Page}
-use Rattle.paged_memory.specs.Memory.{Memory, byte_with, bytes_with, first_without, permits}
+use Rattle.paged_memory.specs.Memory.{AddressSpace, byte_with, bytes_with, first_without, permits}
 use Rattle.paged_memory.specs.Pages.{page_at, memory_of, IsFine}
 use Rattle.paged_memory.proofs.Bytes.{byte-memory_of}
 use Rattle.paged_memory.proofs.Accesses.{first_without-none, first_without-first}
@@ -62,6 +62,6 @@ pub run_gone : (ps : List Page) (need a n : ℕ) → IsFine ps → page_at ps (a
 run_gone ps need a n fine none low some = first_without-first need (memory_of ps) a n low (page_gone ps need a fine none) some
 
 -- a run that was sought, where its page cannot be accessed so
-pub run_sought : (ps : List Page) (m : Memory) (need a n : ℕ) (o : Option (Bor (List ℕ))) → memory_of ps ≡ m → a < 2 ^ 64 → 0 < n → IfNone o (byte_with need (memory_of ps) a ≡ None) → IfNone o (first_without need m a n ≡ Some a)
+pub run_sought : (ps : List Page) (m : AddressSpace) (need a n : ℕ) (o : Option (Bor (List ℕ))) → memory_of ps ≡ m → a < 2 ^ 64 → 0 < n → IfNone o (byte_with need (memory_of ps) a ≡ None) → IfNone o (first_without need m a n ≡ Some a)
 run_sought ps m need a n None e low some h = first_without-first need m a n low (rw (← e) h) some
 run_sought ps m need a n (Some bytes) e low some h = tt

@@ -41,9 +41,10 @@ sorted-set [] i new d l e h = h
 sorted-set (p ∷ ps) zero new d l e h = let first : below_all nat_cmp new.number (map page_entry ps) ≡ true = rw e (and_first _ _ h) in and_both _ _ first (and_second _ _ h)
 sorted-set (p ∷ ps) (suc i) new d l e h = and_both _ _ (below_all-set p.number ps i new d (omega arith) e (and_first _ _ h)) (sorted-set ps i new d (omega arith) e (and_second _ _ h))
 
-pub fine_set : (ps : List Page) (i : ℕ) (new d : Page) → IsFine ps → i < length ps → length new.bytes.items ≡ 4096 → new.number ≡ (get_or ps i d).number → IsFine (set ps i new)
-fine_set ps i new d fine l whole e = record {
+pub fine_set : (ps : List Page) (i : ℕ) (new d : Page) → IsFine ps → i < length ps → length new.bytes.items ≡ 4096 → new.flags < 8 → new.number ≡ (get_or ps i d).number → IsFine (set ps i new)
+fine_set ps i new d fine l whole sum e = record {
   full = All-set (λ x. length x.bytes.items ≡ 4096) ps i new whole fine.full;
+  flags = All-set (λ x. x.flags < 8) ps i new sum fine.flags;
   low = All-set (λ x. x.number < 2 ^ 51) ps i new (rw e (fine.low i d l)) fine.low;
   sorted = sorted-set ps i new d l e fine.sorted;
 }

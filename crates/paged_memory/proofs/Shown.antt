@@ -4,7 +4,7 @@ use Rattle.std.proofs.lemmas.List.Elements.{recursion_from_All}
 use Rattle.std.specs.FinMap.{FinMap, get, entries}
 use Rattle.std.specs.Ordering.{nat_cmp}
 use Rattle.paged_memory.specs.declared.page.Page.{Page}
-use Rattle.paged_memory.specs.Memory.{Memory, bytes_from}
+use Rattle.paged_memory.specs.Memory.{AddressSpace, bytes_from}
 use Rattle.paged_memory.specs.Pages.{page_entry, mem_of, memory_of, IsFine}
 use Rattle.paged_memory.proofs.Bytes.{get-mem_of}
 use Rattle.paged_memory.proofs.Order.{page_at-index, entries-perm_of, slice_get-entry}
@@ -28,11 +28,11 @@ page_bytes ps i d fine l =
     ∙ rw (place, inside, page_at-index ps i d fine.sorted l) refl) in
     rw full at all
 
-pub entry_shown : (ps : List Page) (m : Memory) (i : ℕ) (p : Page) → IsFine ps → memory_of ps ≡ m → i < length ps → p ≡ get_or ps i p → slice_get (entries m.perm) i ≡ Some (p.number * 4096 / 4096, p.flags)
+pub entry_shown : (ps : List Page) (m : AddressSpace) (i : ℕ) (p : Page) → IsFine ps → memory_of ps ≡ m → i < length ps → p ≡ get_or ps i p → slice_get (entries m.perm) i ≡ Some (p.number * 4096 / 4096, p.flags)
 entry_shown ps m i p fine e l is =
     let number : p.number * 4096 / 4096 ≡ p.number = omega arith in
     rw (← e, entries-perm_of ps fine.sorted, number) (slice_get-entry ps i p l ∙ ap (λ x. Some (page_entry x)) (sym is))
 
-pub bytes_shown : (ps : List Page) (m : Memory) (i : ℕ) (p : Page) (bs : List ℕ) → IsFine ps → memory_of ps ≡ m → i < length ps → p ≡ get_or ps i p → bs ≡ p.bytes.items → bs ≡ bytes_from m.mem (p.number * 4096) 4096
+pub bytes_shown : (ps : List Page) (m : AddressSpace) (i : ℕ) (p : Page) (bs : List ℕ) → IsFine ps → memory_of ps ≡ m → i < length ps → p ≡ get_or ps i p → bs ≡ p.bytes.items → bs ≡ bytes_from m.mem (p.number * 4096) 4096
 bytes_shown ps m i p bs fine e l is same =
     rw (← e) (same ∙ ap (λ x. x.bytes.items) is ∙ sym (page_bytes ps i p fine l) ∙ ap (λ x. bytes_from (mem_of ps) (x.number * 4096) 4096) (sym is))

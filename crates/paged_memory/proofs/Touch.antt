@@ -2,12 +2,13 @@
 use Rattle.std.proofs.Common.{◌≡◌, ◌≢◌, ℕ, ◌+◌, ◌-◌, ◌*◌, ◌/◌, ◌%◌, ◌^◌, ◌<◌, ◌≤◌, true, false, cond, List, [], length, get_or, set, refl, ap, sym, ◌∙◌, arith, Option, Some, None, slice_get, replicate}
 use Rattle.std.specs.Prelude.{◌==◌, ◌&&◌, bit_or, nat_le, nat_lt}
 use Rattle.std.proofs.lemmas.Bool.Decides.{nat_tests}
+use Rattle.std.proofs.lemmas.Nat.{or_lt}
 use Rattle.std.proofs.lemmas.List.{length-replicate, get_or-replicate}
 use Rattle.std.proofs.lemmas.Option.{slice_get-get_or}
 use Rattle.std.specs.FinMap.{get, get-empty}
 use Rattle.std.specs.Ordering.{nat_cmp}
 use Rattle.paged_memory.specs.declared.page.Page.{Page}
-use Rattle.paged_memory.specs.Memory.{Memory, with_page}
+use Rattle.paged_memory.specs.Memory.{AddressSpace, with_page}
 use Rattle.paged_memory.specs.Image.{union, zero_in}
 use Rattle.paged_memory.specs.Parts.{IsZero}
 use Rattle.paged_memory.specs.Pages.{page_at, mem_of, perm_of, memory_of, IsFine}
@@ -44,7 +45,7 @@ old_zero ps i n new d fine fine' none l found e is a =
     ] refl
     ∙ sym (ap zero_in (perm_of-set ps i new d (a / 4096) fine l e ∙ ap (λ k. cond (k == a / 4096) (Some new.flags) (get (perm_of ps) (a / 4096))) number))
 
-pub new_flags : (m new : Memory) (n f : ℕ) (bs : List ℕ) (q : ℕ) → get m.perm n ≡ None → new ≡ with_page m n f bs → get new.perm q ≡ cond (n == q) (union (Some f) (get m.perm q)) (get m.perm q)
+pub new_flags : (m new : AddressSpace) (n f : ℕ) (bs : List ℕ) (q : ℕ) → get m.perm n ≡ None → new ≡ with_page m n f bs → get new.perm q ≡ cond (n == q) (union (Some f) (get m.perm q)) (get m.perm q)
 new_flags m new n f bs q gone is =
     ap (λ x. get x.perm q) is ∙ perm-with_page m n f bs q ∙ elim (n == q) as (λ t. (n == q) ≡ t → cond t (Some f) (get m.perm q) ≡ cond t (union (Some f) (get m.perm q)) (get m.perm q)) [
       | true ↦ λ t.
@@ -57,7 +58,7 @@ new_flags m new n f bs q gone is =
 zero_at : (n k : ℕ) → k < n → slice_get {X = ℕ} (replicate n 0) k ≡ Some 0
 zero_at n k h = slice_get-get_or (replicate n 0) k 0 (rw (length-replicate {A = ℕ} n 0) h) ∙ ap Some (get_or-replicate {A = ℕ} n k 0 0 h)
 
-pub new_zero : (m new : Memory) (n f : ℕ) (bs : List ℕ) → IsZero m → n < 2 ^ 51 → bs ≡ replicate 4096 0 → new ≡ with_page m n f bs → IsZero new
+pub new_zero : (m new : AddressSpace) (n f : ℕ) (bs : List ℕ) → IsZero m → n < 2 ^ 51 → bs ≡ replicate 4096 0 → new ≡ with_page m n f bs → IsZero new
 new_zero m new n f bs none low zeros is a =
     let full : length bs ≡ 4096 = ap length zeros ∙ length-replicate {A = ℕ} 4096 0 in
     ap (λ x. get x.mem a) is ∙ mem-with_page m n f bs a full low
@@ -70,6 +71,10 @@ new_zero m new n f bs none low zeros is a =
           off_page n a bs (get m.mem a) full apart ∙ none a
     ] refl
     ∙ ap zero_in (sym (ap (λ x. get x.perm (a / 4096)) is ∙ perm-with_page m n f bs (a / 4096)))
+
+-- flags that are added to others
+pub sum_of_both : (f g : ℕ) → f < 8 → g < 8 → bit_or f g < 8
+sum_of_both f g l m = or_lt 3 f g l m
 
 -- ---- the pages from one on, up to another
 
@@ -105,7 +110,7 @@ touched_all address size q f old h =
 -- ---- no page
 
 pub no_pages_fine : (ps : List Page) → ps ≡ [] → IsFine ps
-no_pages_fine ps e = rw e (record { full = λ k d l. absurd (omega arith); low = λ k d l. absurd (omega arith); sorted = refl })
+no_pages_fine ps e = rw e (record { full = λ k d l. absurd (omega arith); flags = λ k d l. absurd (omega arith); low = λ k d l. absurd (omega arith); sorted = refl })
 
 no_flags : (n : ℕ) → get (perm_of []) n ≡ None
 unfolding perm_of

@@ -2,11 +2,11 @@
 use Rattle.std.specs.Prelude.{◌≡◌, ℕ, ◌+◌, ◌-◌, ◌/◌, ◌<◌, ◌≤◌, ◌^◌, ◌⊎◌, cond, List, [], ◌∷◌, Option, Some, None, ◌&&◌, nat_lt, nat_le, slice_get, bit_or, refl, IsSome}
 use Rattle.std.specs.FinMap.{get, len}
 use Rattle.std.specs.Coded.{Coded, code_by, coded×, coded_ℕ, coded_list}
-use Rattle.paged_memory.specs.Memory.{Memory, memory_code, or_else}
+use Rattle.paged_memory.specs.Memory.{AddressSpace, memory_code, or_else}
 use Rattle.paged_memory.specs.declared.image.Part.{Part}
 
 pub record Program : Type 0 where
-  pub memory : Memory
+  pub memory : AddressSpace
   -- the address of the first instruction
   pub entry : ℕ
   -- the code words, each with its address
@@ -62,14 +62,14 @@ unfoldable pub image_byte : List Extent → ℕ → Option ℕ
 image_byte parts a = or_else (parts_byte parts a) (zero_in (image_flags parts (a / 4096)))
 
 -- the memory has the pages that the parts touch, with their flags and bytes, and no others
-pub record IsMemoryOf (parts : List Extent) (m : Memory) : Type 0 where
+pub record IsMemoryOf (parts : List Extent) (m : AddressSpace) : Type 0 where
   pub flags : (n : ℕ) → get m.perm n ≡ image_flags parts n
   pub bytes : (a : ℕ) → get m.mem a ≡ image_byte parts a
 
 -- a program, seen as pairs
 abbrev pub program_code : Coded Program
 program_code =
-    code_by (Memory × (ℕ × List (ℕ × ℕ))) (coded× memory_code (coded× coded_ℕ (coded_list (coded× coded_ℕ coded_ℕ)))) (λ p. (p.memory, (p.entry, p.code))) (λ t. record { memory = t.0; entry = t.1.0; code = t.1.1 }) (λ _. refl)
+    code_by (AddressSpace × (ℕ × List (ℕ × ℕ))) (coded× memory_code (coded× coded_ℕ (coded_list (coded× coded_ℕ coded_ℕ)))) (λ p. (p.memory, (p.entry, p.code))) (λ t. record { memory = t.0; entry = t.1.0; code = t.1.1 }) (λ _. refl)
 
 -- a page of that number may be an image's: it is below 2 ^ 47 and in neither the stack nor the shared region
 abbrev pub IsImagePage : ℕ → Type 0

@@ -5,7 +5,7 @@ use Rattle.std.specs.FinSet.{FinSet}
 use Rattle.std.specs.FinSet as set
 use Rattle.std.specs.Ordering.{nat_cmp}
 use Rattle.paged_memory.specs.declared.page.Page.{Page}
-use Rattle.paged_memory.specs.Memory.{Memory, set_bytes}
+use Rattle.paged_memory.specs.Memory.{AddressSpace, set_bytes}
 use Rattle.paged_memory.specs.PageTable.{PageTable}
 use Rattle.paged_memory.specs.Image.{Program}
 
@@ -25,7 +25,7 @@ perm_of [] = empty
 perm_of (p ∷ ps) = insert (perm_of ps) p.number p.flags
 
 -- the memory that the pages make
-abbrev pub memory_of : List Page → Memory
+abbrev pub memory_of : List Page → AddressSpace
 memory_of ps = record { mem = mem_of ps; perm = perm_of ps }
 
 -- the numbers of the pages
@@ -45,8 +45,9 @@ program_of ps entry code = record { memory = memory_of ps; entry = entry; code =
 abbrev pub page_entry : Page → ℕ × ℕ
 page_entry p = (p.number, p.flags)
 
--- each page is whole and below address 2 ^ 63, and their numbers rise
+-- each page is whole and below address 2 ^ 63, its flags are a sum of execute, write and read, and the numbers rise
 pub record IsFine (ps : List Page) : Type 0 where
   pub full : All (λ p. length p.bytes.items ≡ 4096) ps
+  pub flags : All (λ p. p.flags < 8) ps
   pub low : All (λ p. p.number < 2 ^ 51) ps
   pub sorted : is_sorted nat_cmp (map page_entry ps) ≡ true

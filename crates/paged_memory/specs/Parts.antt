@@ -1,12 +1,14 @@
 -- Which parts an image may have. Source: the address space of a guest thread, with its stack and the shared region.
 use Rattle.std.specs.Prelude.{◌≡◌, ℕ, zero, suc, ◌+◌, ◌/◌, ◌<◌, ◌≤◌, ◌^◌, cond, List, [], ◌∷◌, None, length, All, IsSome, is_some}
 use Rattle.paged_memory.specs.Image.{Extent, image_flags, part_byte, parts_byte, zero_in, IsImagePage}
-use Rattle.paged_memory.specs.Memory.{Memory}
+use Rattle.paged_memory.specs.Memory.{AddressSpace}
 use Rattle.std.specs.FinMap.{get}
 
--- the bytes of a part are within its size, and each of its addresses is in a page that an image may have
+-- the bytes of a part are within its size, its flags are a sum of execute 1, write 2 and read 4, and each of its addresses is in a page
+-- that an image may have
 pub record IsPlaced (part : Extent) : Type 0 where
   pub inside : length part.bytes ≤ part.size
+  pub flags : part.flags < 8
   pub places : (a : ℕ) → part.address ≤ a → a < part.address + part.size → IsImagePage (a / 4096)
 
 -- no two parts have an address in common
@@ -26,9 +28,9 @@ pub record ArePlaced (parts : List Extent) : Type 0 where
   pub few : touched_below parts (2 ^ 35) ≤ 4032
 
 -- each byte of the memory's pages is there, and is zero
-abbrev pub IsZero : Memory → Type 0
+abbrev pub IsZero : AddressSpace → Type 0
 IsZero m = (a : ℕ) → get m.mem a ≡ zero_in (get m.perm (a / 4096))
 
 -- each of the n addresses from an address on is in a page
-abbrev pub IsMapped : Memory → ℕ → ℕ → Type 0
+abbrev pub IsMapped : AddressSpace → ℕ → ℕ → Type 0
 IsMapped m address n = (a : ℕ) → address ≤ a → a < address + n → IsSome (get m.perm (a / 4096))

@@ -5,7 +5,7 @@ ghost use Rattle.paged_memory.specs.Image.{IsMemoryOf, IsImage, extent_of, union
 ghost use Rattle.paged_memory.specs.Parts.{ArePlaced, IsZero};
 ghost use Rattle.paged_memory.specs.Pages.{perm_of, memory_of, IsFine};
 
-use crate::page::{Page, add_page, copy_pages, find, put_bytes};
+use crate::page::{Page, add_page, copy_pages, put_bytes, search};
 use sm_types::Memory;
 use std::alloc::{AllocError, Global};
 use std::marker::Model;
@@ -117,7 +117,8 @@ fn pages_of(alloc: Global, parts: &[Part<'_>]) -> Result<Vec<Page>, AllocError>
 
 /// The pages that parts touch, of zeros.
 fn touched_pages(alloc: Global, parts: &[Part<'_>]) -> Result<Vec<Page>, AllocError>
-    requires { All (λ e. 0 < e.size → e.address + e.size ≤ 2 ^ 62) (map extent_of parts.now) }
+    requires low { All (λ e. 0 < e.size → e.address + e.size ≤ 2 ^ 62) (map extent_of parts.now) }
+    requires sums { All (λ e. e.flags < 8) (map extent_of parts.now) }
     ensures fine { IfOk result (λ pages. IsFine pages.items) }
     ensures zero { IfOk result (λ pages. IsZero (memory_of pages.items)) }
     ensures flags { IfOk result (λ pages. (n : ℕ) → get (perm_of pages.items) n ≡ image_flags (map extent_of parts.now) n) }
@@ -136,6 +137,7 @@ fn touch_part(alloc: Global, pages: &mut Vec<Page>, part: &Part<'_>) -> Result<(
     requires fine { IsFine pages.old.items }
     requires zero { IsZero (memory_of pages.old.items) }
     requires low { 0 < part.now.size → part.now.address + part.now.size ≤ 2 ^ 62 }
+    requires sum { part.now.flags < 8 }
     ensures fine { OnOk result (IsFine pages.new.items) }
     ensures zero { OnOk result (IsZero (memory_of pages.new.items)) }
     ensures flags { OnOk result ((n : ℕ) → get (perm_of pages.new.items) n ≡ union (part_flags (extent_of part.now) n) (get (perm_of pages.old.items) n)) }
@@ -154,11 +156,12 @@ fn touch(alloc: Global, pages: &mut Vec<Page>, number: u64, flags: u8) -> Result
     requires fine { IsFine pages.old.items }
     requires zero { IsZero (memory_of pages.old.items) }
     requires low { number < 2 ^ 51 }
+    requires sum { flags < 8 }
     ensures fine { OnOk result (IsFine pages.new.items) }
     ensures zero { OnOk result (IsZero (memory_of pages.new.items)) }
     ensures flags { OnOk result ((n : ℕ) → get (perm_of pages.new.items) n ≡ cond (number == n) (union (Some flags) (get (perm_of pages.old.items) n)) (get (perm_of pages.old.items) n)) }
 {
-    match find(pages.as_slice(), number) {
+    match search(pages.as_slice(), number) {
         Some(i) => {
             let page = &mut pages[i];
             page.flags = flags | page.flags;

@@ -6,6 +6,7 @@ ghost use Rattle.paged_memory.specs.Memory.{with_page, byte_with, bytes_with, fi
 ghost use Rattle.paged_memory.specs.Parts.{IsMapped};
 ghost use Rattle.paged_memory.specs.Pages.{page_at, mem_of, perm_of, memory_of, IsFine};
 
+use crate::hints::hinted_place;
 use std::alloc::{AllocError, Global};
 
 /// A page of 4096 bytes: its number is its address over 4096, its flags are a sum of execute 1, write 2 and read 4.
@@ -17,7 +18,6 @@ pub struct Page {
 }
 
 /// How many of the pages have a number below that one.
-#[inline]
 pub fn count_below(pages: &[Page], number: u64) -> usize
     requires { IsFine pages.now }
     ensures bound { result ≤ length pages.now }
@@ -37,9 +37,22 @@ pub fn count_below(pages: &[Page], number: u64) -> usize
     low
 }
 
-/// The place of the page of that number.
+/// The place of the page of that number: the one that is hinted at, or the one that a search finds.
 #[inline]
-pub fn find(pages: &[Page], number: u64) -> Option<usize>
+pub fn find(pages: &[Page], hints: &[u16], number: u64) -> Option<usize>
+    requires { IsFine pages.now }
+    ensures { MatchOption result (page_at pages.now number ≡ None) (λ i. (i < length pages.now) × (page_at pages.now number ≡ slice_get pages.now i)) }
+{
+    let i = hinted_place(hints, number);
+    if i < pages.len() && pages[i].number == number {
+        Some(i)
+    } else {
+        search(pages, number)
+    }
+}
+
+/// The place of the page of that number, by binary search.
+pub fn search(pages: &[Page], number: u64) -> Option<usize>
     requires { IsFine pages.now }
     ensures { MatchOption result (page_at pages.now number ≡ None) (λ i. (i < length pages.now) × (page_at pages.now number ≡ slice_get pages.now i)) }
 {
@@ -53,14 +66,20 @@ pub fn find(pages: &[Page], number: u64) -> Option<usize>
 
 /// The bytes from an address on that lie in one page, if there is such a page and it has the permission.
 #[inline]
-pub fn run(pages: &[Page], address: u64, count: usize, need: u8) -> Option<&[u8]>
+pub fn run<'a>(
+    pages: &'a [Page],
+    hints: &[u16],
+    address: u64,
+    count: usize,
+    need: u8,
+) -> Option<&'a [u8]>
     requires fine { IsFine pages.now }
     requires fits { address % 4096 + count ≤ 4096 }
     ensures there { IfSome result (λ bytes. bytes_with need (memory_of pages.now) address count ≡ Some bytes.now) }
     ensures count { IfSome result (λ bytes. length bytes.now ≡ count) }
     ensures gone { IfNone result (byte_with need (memory_of pages.now) address ≡ None) }
 {
-    match find(pages, address / 4096) {
+    match find(pages, hints, address / 4096) {
         Some(i) => {
             let page = &pages[i];
             let start = (address % 4096) as usize;
@@ -78,6 +97,7 @@ pub fn run(pages: &[Page], address: u64, count: usize, need: u8) -> Option<&[u8]
 pub fn add_page(pages: &mut Vec<Page>, page: Page) -> Result<(), AllocError>
     requires fine { IsFine pages.old.items }
     requires whole { length page.bytes.items ≡ 4096 }
+    requires flags { page.flags < 8 }
     requires low { page.number < 2 ^ 51 }
     requires missing { get (perm_of pages.old.items) page.number ≡ None }
     ensures fine { IsFine pages.new.items }
@@ -142,7 +162,7 @@ pub fn put_run(pages: &mut Vec<Page>, address: u64, bytes: &[u8])
     ensures bytes { mem_of pages.new.items ≡ set_bytes (mem_of pages.old.items) address bytes.now }
     ensures flags { perm_of pages.new.items ≡ perm_of pages.old.items }
 {
-    match find(pages.as_slice(), address / 4096) {
+    match search(pages.as_slice(), address / 4096) {
         Some(i) => set_at(pages, i, address, bytes),
         None => unreachable!(),
     }
@@ -168,7 +188,13 @@ pub fn put_bytes(pages: &mut Vec<Page>, address: u64, bytes: &[u8])
 }
 
 /// The first of the addresses from one on that lacks the permission, page by page.
-pub fn first_lacking(pages: &[Page], address: u64, length: u64, need: u8) -> Option<u64>
+pub fn first_lacking(
+    pages: &[Page],
+    hints: &[u16],
+    address: u64,
+    length: u64,
+    need: u8,
+) -> Option<u64>
     requires { IsFine pages.now }
     ensures { result ≡ first_without need (memory_of pages.now) address length }
 {
@@ -176,7 +202,7 @@ pub fn first_lacking(pages: &[Page], address: u64, length: u64, need: u8) -> Opt
     while done < length {
         let at = address.wrapping_add(done);
         let count = (4096 - at % 4096).min(length - done);
-        match run(pages, at, count as usize, need) {
+        match run(pages, hints, at, count as usize, need) {
             Some(_) => done += count,
             None => return Some(at),
         }
@@ -186,7 +212,7 @@ pub fn first_lacking(pages: &[Page], address: u64, length: u64, need: u8) -> Opt
 
 /// Sets bytes that lie within one page, or names the first that may not be written.
 #[inline]
-fn put_within(pages: &mut Vec<Page>, address: u64, bytes: &[u8]) -> Option<u64>
+fn put_within(pages: &mut Vec<Page>, hints: &[u16], address: u64, bytes: &[u8]) -> Option<u64>
     requires fine { IsFine pages.old.items }
     requires fits { address % 4096 + length bytes.now ≤ 4096 }
     ensures fine { IsFine pages.new.items }
@@ -198,7 +224,7 @@ fn put_within(pages: &mut Vec<Page>, address: u64, bytes: &[u8]) -> Option<u64>
     if bytes.is_empty() {
         return None;
     }
-    match find(pages.as_slice(), address / 4096) {
+    match find(pages.as_slice(), hints, address / 4096) {
         Some(i) => {
             if pages[i].flags & 2 == 2 {
                 set_at(pages, i, address, bytes);
@@ -212,7 +238,7 @@ fn put_within(pages: &mut Vec<Page>, address: u64, bytes: &[u8]) -> Option<u64>
 }
 
 /// The same, where the bytes may lie in several pages.
-fn put_across(pages: &mut Vec<Page>, address: u64, bytes: &[u8]) -> Option<u64>
+fn put_across(pages: &mut Vec<Page>, hints: &[u16], address: u64, bytes: &[u8]) -> Option<u64>
     requires fine { IsFine pages.old.items }
     ensures fine { IsFine pages.new.items }
     ensures denied { result ≡ first_without 2 (memory_of pages.old.items) address (length bytes.now) }
@@ -220,7 +246,7 @@ fn put_across(pages: &mut Vec<Page>, address: u64, bytes: &[u8]) -> Option<u64>
     ensures stays { OnSome result (mem_of pages.new.items ≡ mem_of pages.old.items) }
     ensures flags { perm_of pages.new.items ≡ perm_of pages.old.items }
 {
-    match first_lacking(pages.as_slice(), address, bytes.len() as u64, 2) {
+    match first_lacking(pages.as_slice(), hints, address, bytes.len() as u64, 2) {
         None => {
             put_bytes(pages, address, bytes);
             None
@@ -231,7 +257,12 @@ fn put_across(pages: &mut Vec<Page>, address: u64, bytes: &[u8]) -> Option<u64>
 
 /// Sets bytes from an address on, which goes round at 2^64, or names the first that may not be written; then none is set.
 #[inline]
-pub fn put_permitted(pages: &mut Vec<Page>, address: u64, bytes: &[u8]) -> Option<u64>
+pub fn put_permitted(
+    pages: &mut Vec<Page>,
+    hints: &[u16],
+    address: u64,
+    bytes: &[u8],
+) -> Option<u64>
     requires fine { IsFine pages.old.items }
     ensures fine { IsFine pages.new.items }
     ensures denied { result ≡ first_without 2 (memory_of pages.old.items) address (length bytes.now) }
@@ -240,8 +271,8 @@ pub fn put_permitted(pages: &mut Vec<Page>, address: u64, bytes: &[u8]) -> Optio
     ensures flags { perm_of pages.new.items ≡ perm_of pages.old.items }
 {
     if bytes.len() <= (4096 - address % 4096) as usize {
-        put_within(pages, address, bytes)
+        put_within(pages, hints, address, bytes)
     } else {
-        put_across(pages, address, bytes)
+        put_across(pages, hints, address, bytes)
     }
 }

@@ -1,11 +1,12 @@
 //! The pages of a guest thread.
 ghost use Rattle.std.specs.Prelude.{◌≡◌, ◌≢◌, ℕ, ◌+◌, ◌*◌, ◌/◌, ◌%◌, ◌^◌, ◌<◌, ◌≤◌, ◌↔◌, length, slice_get, IsSome, IfSome, IfNone, IfOk, IfErr, OnOk, OnErr, Some, None};
 ghost use Rattle.std.specs.FinMap.{get, entries, len};
-ghost use Rattle.paged_memory.specs.Memory.{with_stack, with_zero_pages, no_memory, bytes_from, byte_with, bytes_with, first_without, word_at, set_bytes};
-ghost use Rattle.paged_memory.specs.PageTable.{AreOwned, KeepsOwned};
+ghost use Rattle.paged_memory.specs.Memory.{IsWhole, with_stack, with_zero_pages, no_memory, bytes_from, byte_with, bytes_with, first_without, word_at, set_bytes};
+ghost use Rattle.paged_memory.specs.PageTable.{AreOwned, OwnsAlso, KeepsOwned};
 ghost use Rattle.paged_memory.specs.Accesses.{need_of, stopped_at, IsOfWrite};
 ghost use Rattle.paged_memory.specs.Pages.{perm_of, memory_of, IsFine};
 
+use crate::hints::hints_of;
 use crate::image::Image;
 use crate::page::{Page, add_page, first_lacking, put_permitted, run};
 use sm_types::{Access, Memory};
@@ -16,6 +17,7 @@ use std::marker::Model;
 #[derive(Drop)]
 pub struct Pages {
     pages: Vec<Page>,
+    hints: Vec<u16>,
 }
 
 impl Model for Pages {
@@ -72,9 +74,13 @@ impl Pages {
     pub fn from_image(alloc: Global, image: &Image) -> Result<Pages, Memory>
         ensures ok { IfOk result (λ p. p.memory ≡ with_stack image.now.memory) }
         ensures few { IfOk result (λ p. len p.memory.perm ≤ 4096) }
+        ensures whole { IfOk result (λ p. IsWhole p.memory) }
     {
         match image_and_stack(alloc, image) {
-            Ok(pages) => Ok(Pages { pages }),
+            Ok(pages) => match hints_of(alloc, pages.as_slice()) {
+                Ok(hints) => Ok(Pages { pages, hints }),
+                Err(_) => Err(Memory),
+            },
             Err(_) => Err(Memory),
         }
     }
@@ -86,7 +92,13 @@ impl Pages {
         ensures access { IfErr result (λ e. e.access ≡ Access.Read) }
         ensures refused { OnErr result (bytes_with 4 self.now.memory address (length into.old) ≡ None) }
     {
-        match copy_out(self.pages.as_slice(), address, 4, into) {
+        match copy_out(
+            self.pages.as_slice(),
+            self.hints.as_slice(),
+            address,
+            4,
+            into,
+        ) {
             None => Ok(()),
             Some(address) => Err(Abort {
                 address,
@@ -104,7 +116,13 @@ impl Pages {
         ensures count { IfSome result (λ bytes. length bytes.now ≡ count) }
         ensures gone { IfNone result (first_without 4 self.now.memory address count ≡ Some address) }
     {
-        run(self.pages.as_slice(), address, count, 4)
+        run(
+            self.pages.as_slice(),
+            self.hints.as_slice(),
+            address,
+            count,
+            4,
+        )
     }
 
     /// The word of the four bytes from an address on; `None` exactly where one of them is in no executable page.
@@ -113,7 +131,7 @@ impl Pages {
         ensures { result ≡ word_at self.now.memory pc }
     {
         if pc % 4096 <= 4092 {
-            match run(self.pages.as_slice(), pc, 4, 1) {
+            match run(self.pages.as_slice(), self.hints.as_slice(), pc, 4, 1) {
                 Some(bytes) => Some(u32::from_le_bytes([bytes[0], bytes[1], bytes[2], bytes[3]])),
                 None => None,
             }
@@ -127,7 +145,13 @@ impl Pages {
         ensures { result ≡ word_at self.now.memory pc }
     {
         let mut word = [0; 4];
-        match copy_out(self.pages.as_slice(), pc, 1, &mut word) {
+        match copy_out(
+            self.pages.as_slice(),
+            self.hints.as_slice(),
+            pc,
+            1,
+            &mut word,
+        ) {
             None => Some(u32::from_le_bytes(word)),
             Some(_) => None,
         }
@@ -139,15 +163,21 @@ impl Pages {
         ensures abort { IfErr result (λ e. first_without (need_of access) self.now.memory address length ≡ Some e.address) }
         ensures access { IfErr result (λ e. e.access ≡ access) }
     {
-        match first_lacking(self.pages.as_slice(), address, length, need_of(access)) {
+        match first_lacking(
+            self.pages.as_slice(),
+            self.hints.as_slice(),
+            address,
+            length,
+            need_of(access),
+        ) {
             None => Ok(()),
             Some(address) => Err(Abort { address, access }),
         }
     }
 
-    /// Makes the pages of so many bytes from an address on owned; after `Err` some of them may be.
+    /// Makes the pages of so many bytes from an address on owned, and no others; after `Err` some of them may be.
     pub fn own(&mut self, address: u64, length: u64) -> Result<(), Memory>
-        ensures ok { OnOk result (AreOwned self.new address length) }
+        ensures ok { OnOk result (OwnsAlso self.old self.new address length) }
         ensures memory { self.new.memory ≡ self.old.memory }
         ensures kept { KeepsOwned self.old self.new }
     {
@@ -166,10 +196,11 @@ impl Pages {
         ensures access { IfErr result IsOfWrite }
         ensures err { OnErr result (self.new.memory ≡ self.old.memory) }
         ensures room { AreOwned self.old address (length bytes.now) → result ≢ Err WriteStop.Memory }
-        ensures owned { OnOk result (AreOwned self.new address (length bytes.now)) }
+        ensures owned { OnOk result (OwnsAlso self.old self.new address (length bytes.now)) }
         ensures kept { KeepsOwned self.old self.new }
+        ensures whole { IsWhole self.new.memory }
     {
-        match put_permitted(&mut self.pages, address, bytes) {
+        match put_permitted(&mut self.pages, self.hints.as_slice(), address, bytes) {
             None => Ok(()),
             Some(address) => Err(WriteStop::Abort(Abort {
                 address,
@@ -182,6 +213,7 @@ impl Pages {
     pub fn page_count(&self) -> usize
         ensures value { result ≡ len self.now.memory.perm }
         ensures few { result ≤ 4096 }
+        ensures whole { IsWhole self.now.memory }
     {
         self.pages.len()
     }
@@ -208,7 +240,7 @@ impl Pages {
 }
 
 /// Copies bytes out, run by run, or names the first that lacks the permission.
-fn copy_out(pages: &[Page], address: u64, need: u8, into: &mut [u8]) -> Option<u64>
+fn copy_out(pages: &[Page], hints: &[u16], address: u64, need: u8, into: &mut [u8]) -> Option<u64>
     requires { IsFine pages.now }
     ensures ok { IfNone result (bytes_with need (memory_of pages.now) address (length into.old) ≡ Some into.new) }
     ensures stops { IfSome result (λ _. bytes_with need (memory_of pages.now) address (length into.old) ≡ None) }
@@ -219,7 +251,7 @@ fn copy_out(pages: &[Page], address: u64, need: u8, into: &mut [u8]) -> Option<u
         let at = address.wrapping_add(done as u64);
         let room = (4096 - at % 4096) as usize;
         let count = room.min(into.len() - done);
-        match run(pages, at, count, need) {
+        match run(pages, hints, at, count, need) {
             Some(bytes) => into[done..done + count].copy_from_slice(bytes),
             None => return Some(at),
         }
@@ -257,142 +289,4 @@ fn add_stack(alloc: Global, pages: &mut Vec<Page>) -> Result<(), AllocError>
         add_page(pages, page)?;
     }
     Ok(())
-}
-
-#[cfg(test)]
-mod tests {
-    use super::*;
-    use crate::image::Part;
-
-    /// An image of twelve bytes at 0x400000: `movz x0, #3`, `movz x8, #0`, `svc #0`, and its pages with the stack.
-    fn thread_pages(alloc: Global) -> Result<Pages, Memory> {
-        let bytes = [
-            0x60, 0x00, 0x80, 0xd2, 0x08, 0x00, 0x80, 0xd2, 0x01, 0x00, 0x00, 0xd4,
-        ];
-        let part = Part {
-            address: 0x400000,
-            size: 12,
-            flags: 5,
-            bytes: &bytes,
-        };
-        let image = Image::new(alloc, &[part], 0x400000, &[])?;
-        Pages::from_image(alloc, &image)
-    }
-
-    #[test]
-    fn words_are_fetched_from_executable_pages(rt: HostRuntime) {
-        let pages = thread_pages(rt.alloc()).expect(&rt, "memory");
-        for (pc, word) in [
-            (0x400000, Some(0xd2800060)),
-            (0x400008, Some(0xd4000001)),
-            (0x400001, Some(0x08d28000)),
-            (0x40000c, Some(0)),
-            (0x400ffe, None),
-            (0x3ffffe, None),
-            (0x401000, None),
-            (0x7dfffffff000, None),
-            (0xffffffffffffffff, None),
-        ] {
-            assert_eq!(rt; pages.fetch(pc), word, "at {pc}");
-        }
-    }
-
-    #[test]
-    fn bytes_are_read_up_to_the_first_that_may_not_be(rt: HostRuntime) {
-        let pages = thread_pages(rt.alloc()).expect(&rt, "memory");
-        let mut four = [9; 4];
-        assert_eq!(rt; pages.read(0x400004, &mut four), Ok(()));
-        assert_eq!(rt; four, [0x08, 0x00, 0x80, 0xd2]);
-        let abort = Abort {
-            address: 0x401000,
-            access: Access::Read,
-        };
-        assert_eq!(rt; pages.read(0x400ffe, &mut four), Err(abort));
-        let mut many = [9; 5000];
-        assert_eq!(rt; pages.read(0x7dfffffc0000, &mut many), Ok(()));
-        assert_eq!(rt; many[4999], 0);
-    }
-
-    #[test]
-    fn pages_are_shown_in_order(rt: HostRuntime) {
-        let pages = thread_pages(rt.alloc()).expect(&rt, "memory");
-        assert_eq!(rt; pages.page_count(), 65);
-        assert!(rt; pages.page(65).is_none());
-        let code = pages.page(0).expect(&rt, "the page of code");
-        assert_eq!(rt;
-            (code.address, code.flags, code.bytes.len()),
-            (0x400000, 5, 4096)
-        );
-        let stack = pages.page(64).expect(&rt, "the last page of the stack");
-        assert_eq!(rt;
-            (stack.address, stack.flags, stack.bytes.len()),
-            (0x7dfffffff000, 6, 4096)
-        );
-        assert!(rt; stack.bytes.iter().all(|b| *b == 0));
-    }
-
-    /// A thread with a page at 0x410000 that may be accessed in every way, and none after it.
-    fn data_pages(alloc: Global) -> Result<Pages, Memory> {
-        let part = Part {
-            address: 0x410000,
-            size: 4096,
-            flags: 7,
-            bytes: &[1, 2, 3, 4],
-        };
-        let image = Image::new(alloc, &[part], 0x410000, &[(0x410000, 0x04030201)])?;
-        Pages::from_image(alloc, &image.copy(alloc)?)
-    }
-
-    #[test]
-    fn accesses_are_checked_up_to_the_first_byte_that_fails(rt: HostRuntime) {
-        let pages = data_pages(rt.alloc()).expect(&rt, "memory");
-        assert_eq!(rt; pages.check(0x410000, 4096, Access::Read), Ok(()));
-        assert_eq!(rt; pages.check(0x410fff, 1, Access::Write), Ok(()));
-        assert_eq!(rt; pages.check(0x999999, 0, Access::Write), Ok(()));
-        assert_eq!(rt; pages.check(0x7dfffffc0000, 0x40000, Access::Write), Ok(()));
-        for (address, length, access, first) in [
-            (0x410ff8, 16, Access::Write, 0x411000),
-            (0x410000, u64::MAX, Access::Read, 0x411000),
-            (0x40ffff, 2, Access::Read, 0x40ffff),
-            (0xffffffffffffffff, 1, Access::Write, 0xffffffffffffffff),
-        ] {
-            let abort = Abort {
-                address: first,
-                access,
-            };
-            assert_eq!(rt;
-                pages.check(address, length, access),
-                Err(abort),
-                "at {address}"
-            );
-        }
-    }
-
-    #[test]
-    fn a_write_that_may_not_be_made_changes_nothing(rt: HostRuntime) {
-        let mut pages = data_pages(rt.alloc()).expect(&rt, "memory");
-        let stop = WriteStop::Abort(Abort {
-            address: 0x411000,
-            access: Access::Write,
-        });
-        assert_eq!(rt; pages.write(0x410ff8, &[9; 16]), Err(stop));
-        let mut eight = [7; 8];
-        assert_eq!(rt; pages.read(0x410ff8, &mut eight), Ok(()));
-        assert_eq!(rt; eight, [0; 8]);
-    }
-
-    #[test]
-    fn bytes_that_are_written_are_read(rt: HostRuntime) {
-        let mut pages = data_pages(rt.alloc()).expect(&rt, "memory");
-        assert_eq!(rt; pages.own(0x410000, 4096), Ok(()));
-        assert_eq!(rt; pages.write(0x410002, &[8, 9]), Ok(()));
-        let bytes = pages.bytes_within(0x410000, 4).expect(&rt, "a page");
-        assert!(rt; bytes == [1, 2, 8, 9].as_slice());
-        assert!(rt; pages.bytes_within(0x411000, 4).is_none());
-        assert_eq!(rt; pages.write(0x7dfffffc0ffe, &[1, 2, 3]), Ok(()));
-        let mut three = [0; 3];
-        assert_eq!(rt; pages.read(0x7dfffffc0ffe, &mut three), Ok(()));
-        assert_eq!(rt; three, [1, 2, 3]);
-        assert_eq!(rt; pages.write(0x411000, &[]), Ok(()));
-    }
 }

@@ -4,7 +4,7 @@ use Rattle.std.proofs.Common.{length, replicate}
 use Rattle.std.specs.List.{list_all}
 use Rattle.std.proofs.lemmas.List.{drop-replicate}
 use Rattle.sm_types.specs.declared.length.VecLen.{VecLen}
-use Rattle.machine_step.specs.Core.{zero_bank}
+use Rattle.machine_step.specs.ProcessorState.{zero_bank}
 use Rattle.report_text.specs.Lines.{value_line, value_lines}
 use Rattle.report_text.specs.Bank.{byte_of_bits, bytes_of_bits, predicate_bytes, all_predicate_bytes, bytes_line, bytes_lines, bank_text}
 use Rattle.std.specs.FinMap.{entries, empty, len-entries, len-empty}

@@ -2,7 +2,7 @@
 use Rattle.std.specs.Prelude.{ℕ, zero, suc, ◌+◌, ◌*◌, ◌/◌, ◌++◌, ◌∷◌, [], ◌==◌, List, Bool, cond, decimal, codes, take, drop, length}
 use Rattle.std.specs.List.{concat, list_all}
 use Rattle.hex.specs.Hex.{encode_lower}
-use Rattle.machine_step.specs.Core.{Bank}
+use Rattle.machine_step.specs.ProcessorState.{VectorState}
 
 -- the byte of eight truth values, the first of them its lowest bit
 abbrev pub byte_of_bits : List Bool → ℕ
@@ -33,7 +33,7 @@ bytes_lines name k [] = []
 bytes_lines name k (bytes ∷ rest) = bytes_line (concat (name ∷ codes " " ∷ decimal k ∷ [])) bytes ++ bytes_lines name (k + 1) rest
 
 -- Z0 to Z31, P0 to P15, FFR, and with PSTATE.ZA the vectors of ZA
-unfoldable pub bank_text : Bank → Bool → List ℕ
+unfoldable pub bank_text : VectorState → Bool → List ℕ
 bank_text bank za_on = concat (
     bytes_lines (codes "z") 0 bank.vectors
     ∷ bytes_lines (codes "p") 0 (all_predicate_bytes bank.predicates)

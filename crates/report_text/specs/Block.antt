@@ -5,7 +5,7 @@ use Rattle.std.specs.FinMap.{entries}
 use Rattle.sm_types.specs.declared.scalars.Scalars.{Scalars}
 use Rattle.sm_types.specs.declared.shared_op.Event.{Event}
 use Rattle.sm_types.specs.declared.stop.Stop.{Stop}
-use Rattle.machine_step.specs.Core.{Core}
+use Rattle.machine_step.specs.ProcessorState.{ProcessorState}
 use Rattle.kernel_contexts.specs.State.{State}
 use Rattle.report_text.specs.Lines.{hex64, number_line, hex_line, flag_line, digit, value_lines}
 use Rattle.report_text.specs.Words.{stop_line, kind_word}
@@ -28,15 +28,15 @@ unfoldable pub nzcv_line : Scalars → List ℕ
 nzcv_line s = concat (codes "nzcv " ∷ digit s.n ∷ digit s.z ∷ digit s.c ∷ digit s.v ∷ codes "\n" ∷ [])
 
 -- SVCR: bit 0 is PSTATE.SM, bit 1 is PSTATE.ZA
-abbrev pub svcr_of : Core → ℕ
+abbrev pub svcr_of : ProcessorState → ℕ
 svcr_of core = cond core.streaming 1 0 + 2 * cond core.za_on 1 0
 
 -- the thread's system registers
-unfoldable pub system_text : Core → List ℕ
+unfoldable pub system_text : ProcessorState → List ℕ
 system_text core = concat (hex_line (codes "tpidr") core.tpidr ∷ hex_line (codes "tpidr2") core.tpidr2 ∷ number_line (codes "svcr") (svcr_of core) ∷ [])
 
 -- X0 to X30 where they are not zero, SP, the flags and the system registers
-unfoldable pub register_text : Core → List ℕ
+unfoldable pub register_text : ProcessorState → List ℕ
 register_text core = concat (
     value_lines (codes "x") 0 core.scalars.x
     ∷ hex_line (codes "sp") core.scalars.sp

@@ -1,7 +1,7 @@
 //! The block of a guest thread in a report.
 ghost use Rattle.std.specs.Prelude.{◌≡◌, [], ℕ};
 ghost use Rattle.edge_io.specs.Sink.{Writes};
-ghost use Rattle.machine_step.specs.Core.{Bank};
+ghost use Rattle.machine_step.specs.ProcessorState.{VectorState};
 ghost use Rattle.machine_step.specs.Machine.{core_of};
 ghost use Rattle.kernel_contexts.specs.Context.{state_of, thread_of};
 ghost use Rattle.report_text.specs.Block.{head_text, nzcv_line, svcr_of, system_text, register_text, signal_text, kernel_text, block_text};
@@ -20,7 +20,7 @@ use sm_types::{Scalars, Stop};
 
 /// The thread, its stop, and how far it came.
 fn put_head<K: Sink>(out: &mut K, context: &Context, stop: Stop) -> Result<(), PutFault>
-    ensures { Writes K.told K.faults K.takes out.old out.new result (head_text (thread_of context.now) stop (state_of context.now)) }
+    ensures { Writes (K.view out.old) (K.view out.new) result (head_text (thread_of context.now) stop (state_of context.now)) }
 {
     let thread = u64::from(context.thread());
     let count = u64::from(context.count());
@@ -36,7 +36,7 @@ fn put_head<K: Sink>(out: &mut K, context: &Context, stop: Stop) -> Result<(), P
 /// The flags N, Z, C and V.
 #[tactic(auto, unfolding(crate::specs::Block::nzcv_line))]
 fn put_nzcv_line<K: Sink>(out: &mut K, scalars: &Scalars) -> Result<(), PutFault>
-    ensures { Writes K.told K.faults K.takes out.old out.new result (nzcv_line scalars.now) }
+    ensures { Writes (K.view out.old) (K.view out.new) result (nzcv_line scalars.now) }
 {
     let n = flag_digit(scalars.n);
     let z = flag_digit(scalars.z);
@@ -47,14 +47,14 @@ fn put_nzcv_line<K: Sink>(out: &mut K, scalars: &Scalars) -> Result<(), PutFault
 
 /// SVCR: bit 0 is PSTATE.SM, bit 1 is PSTATE.ZA.
 fn svcr(machine: &Machine) -> u64
-    ensures { (bank : Bank) → result ≡ svcr_of (core_of machine.now bank) }
+    ensures { (bank : VectorState) → result ≡ svcr_of (core_of machine.now bank) }
 {
     u64::from(machine.streaming) + 2 * u64::from(machine.za_on)
 }
 
 /// The thread's system registers.
 fn put_system<K: Sink>(out: &mut K, machine: &Machine) -> Result<(), PutFault>
-    ensures { (bank : Bank) → Writes K.told K.faults K.takes out.old out.new result (system_text (core_of machine.now bank)) }
+    ensures { (bank : VectorState) → Writes (K.view out.old) (K.view out.new) result (system_text (core_of machine.now bank)) }
 {
     let svcr = svcr(machine);
     put_hex_line(out, b"tpidr", machine.tpidr)?;
@@ -64,7 +64,7 @@ fn put_system<K: Sink>(out: &mut K, machine: &Machine) -> Result<(), PutFault>
 
 /// X0 to X30 where they are not zero, SP, the flags and the system registers.
 fn put_registers<K: Sink>(out: &mut K, machine: &Machine) -> Result<(), PutFault>
-    ensures { (bank : Bank) → Writes K.told K.faults K.takes out.old out.new result (register_text (core_of machine.now bank)) }
+    ensures { (bank : VectorState) → Writes (K.view out.old) (K.view out.new) result (register_text (core_of machine.now bank)) }
 {
     put_value_lines(out, b"x", &machine.scalars.x)?;
     put_hex_line(out, b"sp", machine.scalars.sp)?;
@@ -74,7 +74,7 @@ fn put_registers<K: Sink>(out: &mut K, machine: &Machine) -> Result<(), PutFault
 
 /// The signals of a thread that holds none back, is in no handler and has none set.
 fn put_signals<K: Sink>(out: &mut K) -> Result<(), PutFault>
-    ensures { (context : Context) → Writes K.told K.faults K.takes out.old out.new result (signal_text (state_of context)) }
+    ensures { (context : Context) → Writes (K.view out.old) (K.view out.new) result (signal_text (state_of context)) }
 {
     put_hex_line(out, b"held", 0)?;
     put_flag_line(out, b"inside", false)?;
@@ -83,7 +83,7 @@ fn put_signals<K: Sink>(out: &mut K) -> Result<(), PutFault>
 
 /// What the kernel keeps of the thread.
 fn put_kernel<K: Sink>(out: &mut K, context: &Context) -> Result<(), PutFault>
-    ensures { Writes K.told K.faults K.takes out.old out.new result (kernel_text (state_of context.now) []) }
+    ensures { Writes (K.view out.old) (K.view out.new) result (kernel_text (state_of context.now) []) }
 {
     let output = context.output();
     put_signals(out)?;
@@ -94,7 +94,7 @@ fn put_kernel<K: Sink>(out: &mut K, context: &Context) -> Result<(), PutFault>
 /// The block of a thread that stopped so. `Failed` where the sink fails; a part of the block from the front is then
 /// written.
 pub fn write_block<K: Sink>(context: &Context, stop: Stop, out: &mut K) -> Result<(), PutFault>
-    ensures { Writes K.told K.faults K.takes out.old out.new result (block_text (thread_of context.now) (state_of context.now) stop []) }
+    ensures { Writes (K.view out.old) (K.view out.new) result (block_text (thread_of context.now) (state_of context.now) stop []) }
 {
     let machine = context.machine();
     put_head(out, context, stop)?;

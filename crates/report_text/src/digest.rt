@@ -37,7 +37,7 @@ fn memory_digest(pages: &Pages) -> [u8; 32]
 /// The number of pages, and the digest.
 #[tactic(auto, unfolding(crate::specs::Digest::memory_line))]
 pub fn put_memory_line<K: Sink>(out: &mut K, pages: &Pages) -> Result<(), PutFault>
-    ensures { Writes K.told K.faults K.takes out.old out.new result (memory_line pages.now.memory) }
+    ensures { Writes (K.view out.old) (K.view out.new) result (memory_line pages.now.memory) }
 {
     let digest = memory_digest(pages);
     let mut digits = [0; 64];

@@ -10,7 +10,7 @@ use sm_types::Config;
 /// The line of the options.
 #[tactic(auto, unfolding(crate::specs::Header::options_line))]
 fn put_options_line<K: Sink>(out: &mut K, config: &Config) -> Result<(), PutFault>
-    ensures { Writes K.told K.faults K.takes out.old out.new result (options_line config.now) }
+    ensures { Writes (K.view out.old) (K.view out.new) result (options_line config.now) }
 {
     let mut vl_buffer = itoa::Buffer::new();
     let mut svl_buffer = itoa::Buffer::new();
@@ -43,7 +43,7 @@ fn put_options_line<K: Sink>(out: &mut K, config: &Config) -> Result<(), PutFaul
 /// The line of the digest of the program's file.
 #[tactic(auto, unfolding(crate::specs::Header::image_line))]
 fn put_image_line<K: Sink>(out: &mut K, digest: &[u8; 32]) -> Result<(), PutFault>
-    ensures { Writes K.told K.faults K.takes out.old out.new result (image_line digest.now) }
+    ensures { Writes (K.view out.old) (K.view out.new) result (image_line digest.now) }
 {
     let mut digits = [0; 64];
     let _ = hex::encode_to_slice(digest.as_slice(), &mut digits);
@@ -52,7 +52,7 @@ fn put_image_line<K: Sink>(out: &mut K, digest: &[u8; 32]) -> Result<(), PutFaul
 
 /// The lines before the blocks.
 pub fn put_header<K: Sink>(out: &mut K, config: &Config, digest: &[u8; 32]) -> Result<(), PutFault>
-    ensures { Writes K.told K.faults K.takes out.old out.new result (header_text config.now digest.now) }
+    ensures { Writes (K.view out.old) (K.view out.new) result (header_text config.now digest.now) }
 {
     out.put(b"smemu-report 1\n")?;
     put_options_line(out, config)?;

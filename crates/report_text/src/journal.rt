@@ -31,7 +31,7 @@ fn kind_word(kind: OpKind) -> &'static [u8]
 /// The line of an event: the operation's kind, place and values, and its answer.
 #[tactic(auto, unfolding(crate::specs::Block::event_line))]
 fn put_event_line<K: Sink>(out: &mut K, event: Event) -> Result<(), PutFault>
-    ensures { Writes K.told K.faults K.takes out.old out.new result (event_line event) }
+    ensures { Writes (K.view out.old) (K.view out.new) result (event_line event) }
 {
     let kind = kind_word(event.op.kind);
     let mut buffer = itoa::Buffer::new();
@@ -49,7 +49,7 @@ fn put_event_line<K: Sink>(out: &mut K, event: Event) -> Result<(), PutFault>
 
 /// The lines of the events, the oldest first.
 fn put_event_lines<K: Sink>(out: &mut K, events: &[Event]) -> Result<(), PutFault>
-    ensures { Writes K.told K.faults K.takes out.old out.new result (event_lines events.now) }
+    ensures { Writes (K.view out.old) (K.view out.new) result (event_lines events.now) }
 {
     for k in 0..events.len() {
         put_event_line(out, events[k])?;
@@ -59,57 +59,9 @@ fn put_event_lines<K: Sink>(out: &mut K, events: &[Event]) -> Result<(), PutFaul
 
 /// The journal, and the end of the thread's block.
 pub fn put_journal<K: Sink>(out: &mut K, journal: &[Event]) -> Result<(), PutFault>
-    ensures { Writes K.told K.faults K.takes out.old out.new result (journal_text journal.now) }
+    ensures { Writes (K.view out.old) (K.view out.new) result (journal_text journal.now) }
 {
     put_number_line(out, b"journal", journal.len() as u64)?;
     put_event_lines(out, journal)?;
     out.put(b"end-thread\n")
-}
-
-#[cfg(test)]
-mod tests {
-    use super::*;
-    use edge_io::MemSink;
-    use sm_types::SharedOp;
-    use std::test::Fail;
-
-    fn event(kind: OpKind) -> Event {
-        let op = SharedOp {
-            kind,
-            place: 511,
-            a: 1,
-            b: 0xab,
-        };
-        Event {
-            op,
-            answer: u64::MAX,
-        }
-    }
-
-    #[test]
-    fn events_are_written_with_their_values(rt: HostRuntime) -> Result<(), Fail> {
-        let cases = [
-            (OpKind::Load, "ld"),
-            (OpKind::Store, "st"),
-            (OpKind::Swap, "swp"),
-            (OpKind::Add, "add"),
-            (OpKind::Clear, "clr"),
-            (OpKind::Eor, "eor"),
-            (OpKind::Set, "set"),
-            (OpKind::Umax, "umax"),
-            (OpKind::Umin, "umin"),
-            (OpKind::Cas, "cas"),
-            (OpKind::Post, "post"),
-            (OpKind::Poll, "poll"),
-        ];
-        for (kind, word) in cases {
-            let mut sink = MemSink::new(rt.alloc(), 100)?;
-            assert_eq!(rt; put_journal(&mut sink, &[event(kind)]), Ok(()), "{word}");
-            let want = format!(in rt.alloc();
-                "journal 1\ne {word} 511 0000000000000001 00000000000000ab ffffffffffffffff\nend-thread\n"
-            )?;
-            assert_eq!(rt; sink.bytes(), want.as_bytes(), "{word}");
-        }
-        Ok(())
-    }
 }

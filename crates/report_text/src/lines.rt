@@ -8,7 +8,7 @@ use edge_io::{PutFault, Sink};
 
 /// Writes the parts one after another.
 pub fn put_all<K: Sink>(out: &mut K, parts: &[&[u8]]) -> Result<(), PutFault>
-    ensures { Writes K.told K.faults K.takes out.old out.new result (flat_map (λ p. p.now) parts.now) }
+    ensures { Writes (K.view out.old) (K.view out.new) result (flat_map (λ p. p.now) parts.now) }
 {
     for part in parts {
         out.put(part)?;
@@ -46,7 +46,7 @@ pub fn flag_digit(holds: bool) -> [u8; 1]
 /// A line of a name and a number in decimal.
 #[tactic(auto, unfolding(crate::specs::Lines::number_line))]
 pub fn put_number_line<K: Sink>(out: &mut K, name: &[u8], n: u64) -> Result<(), PutFault>
-    ensures { Writes K.told K.faults K.takes out.old out.new result (number_line name.now n) }
+    ensures { Writes (K.view out.old) (K.view out.new) result (number_line name.now n) }
 {
     let mut buffer = itoa::Buffer::new();
     let digits = buffer.format(n).as_bytes();
@@ -56,7 +56,7 @@ pub fn put_number_line<K: Sink>(out: &mut K, name: &[u8], n: u64) -> Result<(), 
 /// A line of a name and a number in hexadecimal.
 #[tactic(auto, unfolding(crate::specs::Lines::hex_line))]
 pub fn put_hex_line<K: Sink>(out: &mut K, name: &[u8], n: u64) -> Result<(), PutFault>
-    ensures { Writes K.told K.faults K.takes out.old out.new result (hex_line name.now n) }
+    ensures { Writes (K.view out.old) (K.view out.new) result (hex_line name.now n) }
 {
     let digits = hex64_digits(n);
     put_all(out, &[name, b" ", &digits, b"\n"])
@@ -65,7 +65,7 @@ pub fn put_hex_line<K: Sink>(out: &mut K, name: &[u8], n: u64) -> Result<(), Put
 /// A line of a name and a truth value.
 #[tactic(auto, unfolding(crate::specs::Lines::flag_line))]
 pub fn put_flag_line<K: Sink>(out: &mut K, name: &[u8], holds: bool) -> Result<(), PutFault>
-    ensures { Writes K.told K.faults K.takes out.old out.new result (flag_line name.now holds) }
+    ensures { Writes (K.view out.old) (K.view out.new) result (flag_line name.now holds) }
 {
     let digit = flag_digit(holds);
     put_all(out, &[name, b" ", &digit, b"\n"])
@@ -74,7 +74,7 @@ pub fn put_flag_line<K: Sink>(out: &mut K, name: &[u8], holds: bool) -> Result<(
 /// A line of a name, a number and a value, or nothing where the value is zero.
 #[tactic(auto, unfolding(crate::specs::Lines::value_line))]
 fn put_value_line<K: Sink>(out: &mut K, name: &[u8], k: usize, value: u64) -> Result<(), PutFault>
-    ensures { Writes K.told K.faults K.takes out.old out.new result (value_line name.now k value) }
+    ensures { Writes (K.view out.old) (K.view out.new) result (value_line name.now k value) }
 {
     if value == 0 {
         return put_all(out, &[]);
@@ -87,7 +87,7 @@ fn put_value_line<K: Sink>(out: &mut K, name: &[u8], k: usize, value: u64) -> Re
 
 /// Those lines for values that are numbered from 0.
 pub fn put_value_lines<K: Sink>(out: &mut K, name: &[u8], values: &[u64]) -> Result<(), PutFault>
-    ensures { Writes K.told K.faults K.takes out.old out.new result (value_lines name.now 0 values.now) }
+    ensures { Writes (K.view out.old) (K.view out.new) result (value_lines name.now 0 values.now) }
 {
     for k in 0..values.len() {
         put_value_line(out, name, k, values[k])?;

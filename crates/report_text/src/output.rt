@@ -10,7 +10,7 @@ use edge_io::{PutFault, Sink};
 #[tactic(auto, unfolding(crate::specs::Output::out_line))]
 fn put_out_line<K: Sink>(out: &mut K, bytes: &[u8]) -> Result<(), PutFault>
     requires { length bytes.now ≤ 32 }
-    ensures { Writes K.told K.faults K.takes out.old out.new result (out_line bytes.now) }
+    ensures { Writes (K.view out.old) (K.view out.new) result (out_line bytes.now) }
 {
     let mut buffer = [0; 64];
     let digits = &mut buffer[..2 * bytes.len()];
@@ -20,7 +20,7 @@ fn put_out_line<K: Sink>(out: &mut K, bytes: &[u8]) -> Result<(), PutFault>
 
 /// The lines of some bytes.
 fn put_out_lines<K: Sink>(out: &mut K, bytes: &[u8]) -> Result<(), PutFault>
-    ensures { Writes K.told K.faults K.takes out.old out.new result (out_lines (line_count (length bytes.now)) bytes.now) }
+    ensures { Writes (K.view out.old) (K.view out.new) result (out_lines (line_count (length bytes.now)) bytes.now) }
 {
     let mut rest = bytes;
     while !rest.is_empty() {
@@ -33,37 +33,8 @@ fn put_out_lines<K: Sink>(out: &mut K, bytes: &[u8]) -> Result<(), PutFault>
 
 /// The number of the bytes, and their lines.
 pub fn put_output<K: Sink>(out: &mut K, bytes: &[u8]) -> Result<(), PutFault>
-    ensures { Writes K.told K.faults K.takes out.old out.new result (output_text bytes.now) }
+    ensures { Writes (K.view out.old) (K.view out.new) result (output_text bytes.now) }
 {
     put_number_line(out, b"output", bytes.len() as u64)?;
     put_out_lines(out, bytes)
-}
-
-#[cfg(test)]
-mod tests {
-    use super::*;
-    use edge_io::MemSink;
-    use std::test::Fail;
-
-    #[test]
-    fn lines_have_32_bytes_and_the_last_the_rest(rt: HostRuntime) -> Result<(), Fail> {
-        let cases = [
-            ("", "output 0\n"),
-            ("Hello\n", "output 6\nout 48656c6c6f0a\n"),
-            (
-                "0123456789abcdefghijklmnopqrstuv",
-                "output 32\nout 303132333435363738396162636465666768696a6b6c6d6e6f70717273747576\n",
-            ),
-            (
-                "0123456789abcdefghijklmnopqrstuvw",
-                "output 33\nout 303132333435363738396162636465666768696a6b6c6d6e6f70717273747576\nout 77\n",
-            ),
-        ];
-        for (bytes, want) in cases {
-            let mut sink = MemSink::new(rt.alloc(), 100)?;
-            assert_eq!(rt; put_output(&mut sink, bytes.as_bytes()), Ok(()), "{want}");
-            assert_eq!(rt; sink.bytes(), want.as_bytes(), "{want}");
-        }
-        Ok(())
-    }
 }

@@ -15,8 +15,6 @@ mod operands;
 mod registers;
 mod sources;
 mod sums;
-#[cfg(test)]
-mod tests;
 
 pub use branches::{address_at, branch_target};
 pub use exec::{Flow, exec_scalar};

@@ -1,4 +1,5 @@
 pub mod Whole
 pub mod Writable
-pub mod Outcomes
-pub mod Due
+pub mod Requests
+pub mod Ends
+pub mod Words

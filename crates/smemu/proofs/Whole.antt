@@ -4,13 +4,12 @@ use Rattle.std.proofs.lemmas.Bool.Decides.{nat_tests}
 use Rattle.std.proofs.lemmas.Grind.{common_steps}
 use Rattle.std.specs.Prelude.{IfSome, option_map, nat_lt}
 use Rattle.asm_core.specs.Faults.{asm_fault}
-use Rattle.asm_core.specs.declared.fault.AsmFault.{AsmFault}
 use Rattle.asm_core.specs.declared.fault.AsmFault.TheVariants as asm
-use Rattle.elf_headers.specs.declared.fault.LoadFault.{LoadFault}
 use Rattle.elf_headers.specs.declared.fault.LoadFault.TheVariants as load
-use Rattle.elf_loader.specs.Loading.{load_fault, Refuses}
 use Rattle.elf_loader.proofs.Checks.{long_refused}
-use Rattle.smemu.specs.Answers.{Told, IsFile}
+use Rattle.edge_io.specs.Files.{Told}
+use Rattle.smemu.specs.Answers.{IsFile}
+use Rattle.smemu.specs.Requests.{Kind, IsProgram, IsSource, Rejection, NoProgram, NoSource, rejection_of}
 
 low_or : (a b : ℕ) → (a < b) ⊎ (b ≤ a)
 low_or a b = grind arith
@@ -93,14 +92,19 @@ long_source : (source : List ℕ) → 67108864 < length source → asm_fault sou
 unfolding asm_fault
 long_source source h = rw (is_long source h) refl
 
-pub loaded_file : (told : Told) (n : ℕ) (name fetched : List ℕ) → 67108864 < n → IfSome told (λ files. option_map (take n) (files name) ≡ Some fetched) → load_fault fetched ≡ None → IsFile told name fetched
-loaded_file = sound_file load_fault load.TooLong long_refused
+too_long : Kind → Rejection
+too_long IsProgram = NoProgram load.TooLong
+too_long IsSource = NoSource asm.TooLong
 
-pub refused_file : (told : Told) (n : ℕ) (name fetched : List ℕ) (fault : LoadFault) → 67108864 < n → IfSome told (λ files. option_map (take n) (files name) ≡ Some fetched) → Refuses fetched fault → IsFaulty load_fault told name fault
-refused_file = faulty_file load_fault load.TooLong long_refused
+long_rejected : (kind : Kind) (file : List ℕ) → 67108864 < length file → rejection_of kind file ≡ Some (too_long kind)
+unfolding too_long
+long_rejected IsProgram file h = ap (option_map NoProgram) (long_refused file h)
+long_rejected IsSource file h = ap (option_map NoSource) (long_source file h)
 
-pub assembled_file : (told : Told) (n : ℕ) (name fetched : List ℕ) → 67108864 < n → IfSome told (λ files. option_map (take n) (files name) ≡ Some fetched) → asm_fault fetched ≡ None → IsFile told name fetched
-assembled_file = sound_file asm_fault asm.TooLong long_source
+-- what was fetched is the file, where it is accepted
+pub accepted_file : (kind : Kind) (told : Told) (n : ℕ) (name fetched : List ℕ) → 67108864 < n → IfSome told (λ files. option_map (take n) (files name) ≡ Some fetched) → rejection_of kind fetched ≡ None → IsFile told name fetched
+accepted_file kind = sound_file (rejection_of kind) (too_long kind) (long_rejected kind)
 
-pub refused_source : (told : Told) (n : ℕ) (name fetched : List ℕ) (fault : AsmFault) → 67108864 < n → IfSome told (λ files. option_map (take n) (files name) ≡ Some fetched) → asm_fault fetched ≡ Some fault → IsFaulty asm_fault told name fault
-refused_source = faulty_file asm_fault asm.TooLong long_source
+-- the file is not accepted, where what was fetched is not
+pub rejected_file : (kind : Kind) (told : Told) (n : ℕ) (name fetched : List ℕ) (fault : Rejection) → 67108864 < n → IfSome told (λ files. option_map (take n) (files name) ≡ Some fetched) → rejection_of kind fetched ≡ Some fault → IsFaulty (rejection_of kind) told name fault
+rejected_file kind = faulty_file (rejection_of kind) (too_long kind) (long_rejected kind)

@@ -5,7 +5,7 @@ use Rattle.std.specs.List.{list_all}
 use Rattle.sm_types.specs.declared.insn.Insn.{Insn}
 use Rattle.sm_types.specs.declared.object.Object.{Object}
 use Rattle.sm_types.specs.Objects.{object_code}
-use Rattle.sve_table.specs.Meaning.{instruction_of}
+use Rattle.a64_encode.specs.Either.{instruction_of}
 use Rattle.asm_core.specs.Sound.{is_listed, IsSound}
 use Rattle.elf_loader.specs.Loading.{unless_listed, unlisted, words_fault}
 use Rattle.elf_loader.specs.Objects.{IsWritable}

@@ -2,5 +2,7 @@ pub mod Status
 pub mod Texts
 pub mod FaultLines
 pub mod SourceLines
+pub mod Requests
 pub mod Answers
-pub mod Replies
+pub mod Ends
+pub mod Views

@@ -1,20 +1,24 @@
 //! The command of the words.
-ghost use Rattle.std.specs.Prelude.{◌≡◌, ◌⊎◌, ℕ, List, Option, Some, map};
+ghost use Rattle.std.specs.Prelude.{◌≡◌, IfOk, IfErr, map};
 ghost use Rattle.std.specs.String.{string_bytes};
-ghost use Rattle.edge_io.specs.Cause.{Rose};
 ghost use Rattle.asm_core.specs.Assembly.{Assembles};
 ghost use Rattle.asm_core.specs.Sound.{IsSound};
+ghost use Rattle.cmd_words.specs.Options.{options_of};
+ghost use Rattle.cmd_words.specs.Words.{AsksRun, AsksListing, AsksAssembly};
+ghost use Rattle.edge_io.specs.Files.{IsKept};
+ghost use Rattle.edge_io.specs.Sink.{Writes};
 ghost use Rattle.elf_loader.specs.Loading.{Loads};
-ghost use Rattle.smemu.specs.Answers.{IsDone, IsRefused, IsDue};
-ghost use Rattle.smemu.specs.Replies.{Runs, Lists, Makes, Gives, Prepares, PreparesFor};
-ghost use Rattle.smemu.specs.declared.status.Status.{Status};
+ghost use Rattle.smemu.specs.Answers.{IsReportOf, IsProgramOf};
+ghost use Rattle.smemu.specs.Ends.{change, call, IsDone, IsRefused, IsComplete, Fetches};
+ghost use Rattle.smemu.specs.Requests.{IsProgram, IsSource};
+ghost use Rattle.smemu.specs.Views.{run_text, end_text, end_status, IsFront, IsUnread, IsRejected, EndsRequest, EndsWords};
 
-use crate::reply::{Reply, reply_status, write_reply};
+use crate::answer::{Answer, RunReport, write_answer};
+use crate::refusal::{Refusal, status_of, write_refusal};
 use crate::status::Status;
-use crate::task::Task;
 use asm_core::{AsmFault, assemble};
 use cmd_words::{Command, WordsFault, read_words};
-use edge_io::{FileFault, Files, Sink};
+use edge_io::{FileFault, Files, PutFault, Sink};
 use elf_loader::{LoadFault, load, write_elf};
 use lone_runner::run_to_stop;
 use paged_memory::Image;
@@ -26,127 +30,182 @@ use std::alloc::Global;
 /// A file of more bytes than a program file or a source may have is fetched up to its first byte too many.
 const FETCH_LIMIT: u64 = 67_108_865;
 
-/// The run of the image of a file.
-fn run_image(alloc: Global, file: &[u8], config: &Config, image: &Image) -> Reply
-    requires { Loads file.now image.now }
-    ensures { Runs file.now config.now result }
+/// The bytes of the file of that name, or those of its front.
+fn fetch_file<F: Files>(alloc: Global, name: String, files: &mut F) -> Result<Vec<u8>, Refusal>
+    ensures front { IfOk result (λ file. IsFront (F.view files.old).told (string_bytes name) file.items) }
+    ensures unread { IfErr result (IsUnread (change F.view files.old files.new) (string_bytes name)) }
+    ensures kept { IsKept (F.view files.old) (F.view files.new) }
+    ensures fetched { F.fetched files.old (string_bytes name) FETCH_LIMIT files.new }
 {
-    match run_to_stop(alloc, image, config, 0) {
-        Ok((context, stop)) => Reply::Report {
-            context,
-            stop,
-            head: Head {
-                config: *config,
-                image: Sha256::digest(file),
-            },
-        },
-        Err(_) => Reply::Memory,
+    match files.fetch(alloc, name.as_str(), FETCH_LIMIT) {
+        Ok(file) => Ok(file),
+        Err(FileFault::Absent) => Err(Refusal::Absent(name)),
+        Err(FileFault::Failed) => Err(Refusal::ReadFault(name)),
+        Err(FileFault::Memory) => Err(Refusal::Memory),
     }
 }
 
-/// The run of a program file.
-fn run_file(alloc: Global, file: &[u8], config: &Config) -> Reply
-    ensures { Runs file.now config.now result }
-{
-    let image = match load(alloc, file) {
-        Ok(image) => image,
-        Err(LoadFault::Memory) => return Reply::Memory,
-        Err(fault) => return Reply::BadFile(fault),
-    };
-    run_image(alloc, file, config, &image)
-}
-
-/// The listing of a program file.
-fn list_file(alloc: Global, file: &[u8]) -> Reply
-    ensures { Lists file.now result }
+/// The image of a program file.
+fn load_file(alloc: Global, file: &[u8]) -> Result<Image, Refusal>
+    ensures loads { IfOk result (λ image. Loads file.now image) }
+    ensures rejected { IfErr result (IsRejected IsProgram file.now) }
 {
     match load(alloc, file) {
-        Ok(image) => Reply::Listing(image),
-        Err(LoadFault::Memory) => Reply::Memory,
-        Err(fault) => Reply::BadFile(fault),
+        Ok(image) => Ok(image),
+        Err(LoadFault::Memory) => Err(Refusal::Memory),
+        Err(fault) => Err(Refusal::BadFile(fault)),
+    }
+}
+
+/// The run of the image of a file, which has one thread.
+fn run_image(
+    alloc: Global,
+    file: &[u8],
+    config: &Config,
+    image: &Image,
+) -> Result<RunReport, Memory>
+    requires loads { Loads file.now image.now }
+    requires one { config.now.threads ≡ 1 }
+    ensures { IfOk result (λ report. IsReportOf file.now config.now (run_text report)) }
+{
+    let (context, stop) = run_to_stop(alloc, image, config, 0)?;
+    Ok(RunReport {
+        context,
+        stop,
+        head: Head {
+            config: *config,
+            image: Sha256::digest(file),
+        },
+    })
+}
+
+/// The program file that a source is assembled to.
+fn assemble_file(alloc: Global, source: &[u8]) -> Result<Vec<u8>, Refusal>
+    ensures program { IfOk result (λ file. IsProgramOf source.now file.items) }
+    ensures rejected { IfErr result (IsRejected IsSource source.now) }
+{
+    match assemble(alloc, source) {
+        Ok(object) => write_object(alloc, source, &object),
+        Err(AsmFault::Memory) => Err(Refusal::Memory),
+        Err(fault) => Err(Refusal::BadSource(fault)),
     }
 }
 
 /// The program file of the object of a source.
-fn write_object(alloc: Global, source: &[u8], object: &Object) -> Reply
+fn write_object(alloc: Global, source: &[u8], object: &Object) -> Result<Vec<u8>, Refusal>
     requires assembles { Assembles source.now object.now }
     requires sound { IsSound object.now }
-    ensures { Makes source.now result }
+    ensures program { IfOk result (λ file. IsProgramOf source.now file.items) }
+    ensures rejected { IfErr result (IsRejected IsSource source.now) }
 {
     match write_elf(alloc, object) {
-        Ok(bytes) => Reply::Program(bytes),
-        Err(Memory) => Reply::Memory,
+        Ok(file) => Ok(file),
+        Err(Memory) => Err(Refusal::Memory),
     }
 }
 
-/// The program file of a source.
-fn assemble_file(alloc: Global, source: &[u8]) -> Reply
-    ensures { Makes source.now result }
+/// `run PROGRAM` with its options: the report of the run of that file, of one thread.
+fn run_program<F: Files>(
+    alloc: Global,
+    program: String,
+    config: &Config,
+    files: &mut F,
+) -> Result<Answer, Refusal>
+    requires { config.now.threads ≡ 1 }
+    ensures ends { EndsRequest (AsksRun (string_bytes program) (options_of config.now)) (change F.view files.old files.new) result }
+    ensures kept { IsKept (F.view files.old) (F.view files.new) }
+    ensures fetched { F.fetched files.old (string_bytes program) FETCH_LIMIT files.new }
 {
-    match assemble(alloc, source) {
-        Ok(object) => write_object(alloc, source, &object),
-        Err(AsmFault::Memory) => Reply::Memory,
-        Err(fault) => Reply::BadSource(fault),
+    let file = fetch_file(alloc, program, files)?;
+    let image = load_file(alloc, file.as_slice())?;
+    match run_image(alloc, file.as_slice(), config, &image) {
+        Ok(report) => Ok(Answer::Report(report)),
+        Err(Memory) => Err(Refusal::Memory),
     }
 }
 
-/// What a task gives on a file.
-fn carry_out(alloc: Global, task: &Task, file: &[u8]) -> Reply
-    ensures { Gives task.now file.now result }
+/// `dis PROGRAM`: the listing of that file.
+fn list_program<F: Files>(alloc: Global, program: String, files: &mut F) -> Result<Answer, Refusal>
+    ensures ends { EndsRequest (AsksListing (string_bytes program)) (change F.view files.old files.new) result }
+    ensures kept { IsKept (F.view files.old) (F.view files.new) }
+    ensures fetched { F.fetched files.old (string_bytes program) FETCH_LIMIT files.new }
 {
-    match task {
-        Task::Run(config) => run_file(alloc, file, config),
-        Task::List => list_file(alloc, file),
-        Task::Assemble => assemble_file(alloc, file),
-    }
+    let file = fetch_file(alloc, program, files)?;
+    let image = load_file(alloc, file.as_slice())?;
+    Ok(Answer::Listing(image))
 }
 
-/// What a task gives on the file of that name.
-fn answer_file<F: Files>(alloc: Global, name: String, task: &Task, files: &mut F) -> Reply
-    ensures { Prepares F.told F.absences F.faults F.is_reliable files.old files.new (string_bytes name) task.now result }
+/// `asm SOURCE`: the program file that the source of that name is assembled to.
+fn assemble_source<F: Files>(
+    alloc: Global,
+    source: String,
+    files: &mut F,
+) -> Result<Answer, Refusal>
+    ensures ends { EndsRequest (AsksAssembly (string_bytes source)) (change F.view files.old files.new) result }
+    ensures kept { IsKept (F.view files.old) (F.view files.new) }
+    ensures fetched { F.fetched files.old (string_bytes source) FETCH_LIMIT files.new }
 {
-    match files.fetch(alloc, name.as_str(), FETCH_LIMIT) {
-        Ok(file) => carry_out(alloc, task, file.as_slice()),
-        Err(FileFault::Absent) => Reply::Absent(name),
-        Err(FileFault::Failed) => Reply::ReadFault(name),
-        Err(FileFault::Memory) => Reply::Memory,
-    }
+    let file = fetch_file(alloc, source, files)?;
+    let program = assemble_file(alloc, file.as_slice())?;
+    Ok(Answer::Program(program))
 }
 
 /// All that comes before the writing.
-fn prepare<F: Files>(alloc: Global, words: &[String], files: &mut F) -> Reply
-    ensures { PreparesFor F.told F.absences F.faults F.is_reliable files.old files.new (map string_bytes words.now) result }
+fn answer_words<F: Files>(alloc: Global, words: &[String], files: &mut F) -> Result<Answer, Refusal>
+    ensures ends { EndsWords (map string_bytes words.now) (change F.view files.old files.new) result }
+    ensures kept { IsKept (F.view files.old) (F.view files.new) }
+    ensures fetched { Fetches F.fetched F.view words.now files.old files.new (end_status result) }
 {
     match read_words(alloc, words) {
-        Ok(Command::Run { program, config }) => {
-            answer_file(alloc, program, &Task::Run(config), files)
-        }
-        Ok(Command::Dis { program }) => answer_file(alloc, program, &Task::List, files),
-        Ok(Command::Asm { source }) => answer_file(alloc, source, &Task::Assemble, files),
-        Ok(Command::Help) => Reply::Help,
-        Ok(Command::Version) => Reply::Version,
-        Err(WordsFault::Usage { place, kind }) => Reply::Usage { place, kind },
-        Err(WordsFault::Memory) => Reply::Memory,
+        Ok(Command::Run { program, config }) => run_program(alloc, program, &config, files),
+        Ok(Command::Dis { program }) => list_program(alloc, program, files),
+        Ok(Command::Asm { source }) => assemble_source(alloc, source, files),
+        Ok(Command::Help) => Ok(Answer::Help),
+        Ok(Command::Version) => Ok(Answer::Version),
+        Err(WordsFault::Usage { place, kind }) => Err(Refusal::Usage { place, kind }),
+        Err(WordsFault::Memory) => Err(Refusal::Memory),
+    }
+}
+
+/// Writes the text of a command's end.
+fn write_end<K: Sink>(out: &mut K, end: &Result<Answer, Refusal>) -> Result<(), PutFault>
+    ensures { Writes (K.view out.old) (K.view out.new) result (end_text end.now) }
+{
+    match end {
+        Ok(answer) => write_answer(out, answer),
+        Err(refusal) => write_refusal(out, refusal),
+    }
+}
+
+/// The status of a command's end that was written.
+fn status_of_end(end: &Result<Answer, Refusal>) -> Status
+    ensures { result ≡ end_status end.now }
+{
+    match end {
+        Ok(_) => Status::Done,
+        Err(refusal) => status_of(refusal),
     }
 }
 
 /// Carries out the command of the words, which are the command line without the program's name: `run PROGRAM` with
 /// its options runs the program file of that name and writes the report of its run, `dis PROGRAM` writes its listing,
-/// `asm SOURCE` assembles the source file of that name and writes the program file, `--help` and `--version` write their texts, and other words are answered by the line of their first fault.
+/// `asm SOURCE` assembles the source file of that name and writes the program file, `--help` and `--version` write
+/// their texts, and other words are answered by the line of their first fault.
 pub fn smemu_main<F: Files, K: Sink>(
     alloc: Global,
     words: &[String],
     files: &mut F,
     out: &mut K,
 ) -> Status
-    ensures done { IsDone F.told F.absences F.faults F.is_reliable K.told K.faults K.takes (map string_bytes words.now) files.old files.new out.old out.new result }
-    ensures refused { IsRefused F.told F.absences F.faults F.is_reliable K.told K.faults K.takes (map string_bytes words.now) files.old files.new out.old out.new result }
-    ensures complete { (told : List ℕ → Option (List ℕ)) (status : Status) → F.told files.old ≡ Some told → IsDue told (map string_bytes words.now) status
-        → (Rose (F.faults files.old) (F.faults files.new) → ⊥) → (Rose (K.faults out.old) (K.faults out.new) → ⊥) → (result ≡ status) ⊎ (result ≡ Status.OutOfMemory) }
+    ensures done { IsDone (call F.view K.view words.now files.old files.new out.old out.new) result }
+    ensures refused { IsRefused (call F.view K.view words.now files.old files.new out.old out.new) result }
+    ensures complete { IsComplete (call F.view K.view words.now files.old files.new out.old out.new) result }
+    ensures kept { IsKept (F.view files.old) (F.view files.new) }
+    ensures fetched { Fetches F.fetched F.view words.now files.old files.new result }
 {
-    let reply = prepare(alloc, words, files);
-    match write_reply(out, &reply) {
-        Ok(()) => reply_status(&reply),
+    let end = answer_words(alloc, words, files);
+    match write_end(out, &end) {
+        Ok(()) => status_of_end(&end),
         Err(_) => Status::WriteFault,
     }
 }

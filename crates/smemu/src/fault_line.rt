@@ -11,7 +11,7 @@ use report_text::{hex32_digits, hex64_digits, put_all};
 
 /// A word and a number in decimal.
 pub fn put_counted<K: Sink>(out: &mut K, word: &[u8], n: u64) -> Result<(), PutFault>
-    ensures { Writes K.told K.faults K.takes out.old out.new result (concat (word.now ∷ decimal n ∷ [])) }
+    ensures { Writes (K.view out.old) (K.view out.new) result (concat (word.now ∷ decimal n ∷ [])) }
 {
     let mut buffer = itoa::Buffer::new();
     put_all(out, &[word, buffer.format(n).as_bytes()])
@@ -19,7 +19,7 @@ pub fn put_counted<K: Sink>(out: &mut K, word: &[u8], n: u64) -> Result<(), PutF
 
 /// Two program headers that have an address in common.
 fn put_overlap<K: Sink>(out: &mut K, first: u16, second: u16) -> Result<(), PutFault>
-    ensures { Writes K.told K.faults K.takes out.old out.new result (concat (codes "overlap " ∷ decimal first ∷ codes " " ∷ decimal second ∷ [])) }
+    ensures { Writes (K.view out.old) (K.view out.new) result (concat (codes "overlap " ∷ decimal first ∷ codes " " ∷ decimal second ∷ [])) }
 {
     let mut first_buffer = itoa::Buffer::new();
     let mut second_buffer = itoa::Buffer::new();
@@ -30,7 +30,7 @@ fn put_overlap<K: Sink>(out: &mut K, first: u16, second: u16) -> Result<(), PutF
 
 /// A word that means no instruction, with its address.
 fn put_unlisted<K: Sink>(out: &mut K, address: u64, word: u32) -> Result<(), PutFault>
-    ensures { Writes K.told K.faults K.takes out.old out.new result (concat (codes "unlisted 0x" ∷ hex64 address ∷ codes " 0x" ∷ hex32 word ∷ [])) }
+    ensures { Writes (K.view out.old) (K.view out.new) result (concat (codes "unlisted 0x" ∷ hex64 address ∷ codes " 0x" ∷ hex32 word ∷ [])) }
 {
     put_all(
         out,
@@ -46,7 +46,7 @@ fn put_unlisted<K: Sink>(out: &mut K, address: u64, word: u32) -> Result<(), Put
 /// Why a file is refused, with the values of the fault.
 #[tactic(auto, unfolding(crate::specs::FaultLines::fault_words))]
 fn put_fault_words<K: Sink>(out: &mut K, fault: LoadFault) -> Result<(), PutFault>
-    ensures { Writes K.told K.faults K.takes out.old out.new result (fault_words fault) }
+    ensures { Writes (K.view out.old) (K.view out.new) result (fault_words fault) }
 {
     match fault {
         LoadFault::TooLong => out.put(b"toolong"),
@@ -70,7 +70,7 @@ fn put_fault_words<K: Sink>(out: &mut K, fault: LoadFault) -> Result<(), PutFaul
 
 /// Writes the line of a fault.
 pub fn write_fault<K: Sink>(out: &mut K, fault: LoadFault) -> Result<(), PutFault>
-    ensures { Writes K.told K.faults K.takes out.old out.new result (fault_line fault) }
+    ensures { Writes (K.view out.old) (K.view out.new) result (fault_line fault) }
 {
     out.put(b"bad file: ")?;
     put_fault_words(out, fault)?;

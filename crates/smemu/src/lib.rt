@@ -7,13 +7,13 @@
 //! fail and there is memory.
 #![tactic(auto)]
 
+mod answer;
 mod command;
 mod fault_line;
 mod help;
-mod reply;
+mod refusal;
 mod source_line;
 mod status;
-mod task;
 
 pub use command::smemu_main;
 pub use status::Status;

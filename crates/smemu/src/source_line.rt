@@ -14,7 +14,7 @@ use report_text::put_all;
 /// What is wrong with a line by itself, and at which column.
 #[tactic(auto, unfolding(crate::specs::SourceLines::line_words))]
 fn put_line_words<K: Sink>(out: &mut K, fault: LineFault) -> Result<(), PutFault>
-    ensures { Writes K.told K.faults K.takes out.old out.new result (spec.line_words fault) }
+    ensures { Writes (K.view out.old) (K.view out.new) result (spec.line_words fault) }
 {
     match fault {
         LineFault::UnknownName(column) => {
@@ -29,7 +29,7 @@ fn put_line_words<K: Sink>(out: &mut K, fault: LineFault) -> Result<(), PutFault
 
 /// A target that is too far.
 fn put_distance<K: Sink>(out: &mut K, distance: i64) -> Result<(), PutFault>
-    ensures { Writes K.told K.faults K.takes out.old out.new result (concat (codes "toofar " ∷ signed_decimal distance ∷ [])) }
+    ensures { Writes (K.view out.old) (K.view out.new) result (concat (codes "toofar " ∷ signed_decimal distance ∷ [])) }
 {
     let mut buffer = itoa::Buffer::new();
     put_all(out, &[b"toofar ", buffer.format(distance).as_bytes()])
@@ -38,7 +38,7 @@ fn put_distance<K: Sink>(out: &mut K, distance: i64) -> Result<(), PutFault>
 /// Why a source is refused, with the values of the fault.
 #[tactic(auto, unfolding(crate::specs::SourceLines::source_words))]
 fn put_source_words<K: Sink>(out: &mut K, fault: AsmFault) -> Result<(), PutFault>
-    ensures { Writes K.told K.faults K.takes out.old out.new result (spec.source_words fault) }
+    ensures { Writes (K.view out.old) (K.view out.new) result (spec.source_words fault) }
 {
     match fault {
         AsmFault::TooLong => out.put(b"toolong"),
@@ -69,7 +69,7 @@ fn line_number(fault: AsmFault) -> u32
 
 /// Writes the line of a fault.
 pub fn write_source_fault<K: Sink>(out: &mut K, fault: AsmFault) -> Result<(), PutFault>
-    ensures { Writes K.told K.faults K.takes out.old out.new result (spec.source_line fault) }
+    ensures { Writes (K.view out.old) (K.view out.new) result (spec.source_line fault) }
 {
     let mut buffer = itoa::Buffer::new();
     out.put(b"bad source: line ")?;

@@ -1,8 +1,10 @@
-//! Tests of the command where the outside fails, and where the words are no command.
+//! Tests of the command: where the outside fails, its words, and programs that it assembles, lists and runs.
 #![tactic(auto)]
 
 #[cfg(test)]
 mod instructions;
+#[cfg(test)]
+mod programs;
 
 #[cfg(test)]
 mod tests {
@@ -34,11 +36,13 @@ mod tests {
 
     fn answer_file(alloc: Global) -> Result<MemFiles, Fail> {
         let mut files = MemFiles::new(alloc);
-        files.add("answer", &ANSWER)?;
+        for name in ["answer", "", "run", "--vl"] {
+            files.add(name, &ANSWER)?;
+        }
         Ok(files)
     }
 
-    fn status_of(
+    pub fn status_of(
         alloc: Global,
         texts: &[&str],
         files: &mut MemFiles,
@@ -50,47 +54,61 @@ mod tests {
 
     #[test]
     fn words_that_are_no_command(rt: HostRuntime) -> Result<(), Fail> {
-        let cases: [(&[&str], &str); 15] = [
-            (&[], "usage: word 0: missing\n"),
-            (&["walk", "answer"], "usage: word 0: unknown\n"),
-            (&["RUN", "answer"], "usage: word 0: unknown\n"),
-            (&["run"], "usage: word 1: missing\n"),
-            (&["run", "answer", "answer"], "usage: word 2: unknown\n"),
-            (&["run", "answer", "--vl"], "usage: word 3: missing\n"),
+        let cases: [(&[&str], &str); 34] = [
+            (&[], "0: missing"),
+            (&["walk", "p"], "0: unknown"),
+            (&["RUN", "p"], "0: unknown"),
+            (&[""], "0: unknown"),
+            (&["--vl", "128", "run", "p"], "0: unknown"),
+            (&["run"], "1: missing"),
+            (&["run", "p", "x"], "2: unknown"),
+            (&["run", "p", "--VL", "128"], "2: unknown"),
+            (&["run", "p", "--vl"], "3: missing"),
+            (&["run", "p", "--vl", "129"], "3: outofrange"),
+            (&["run", "p", "--svl", "0"], "3: outofrange"),
+            (&["run", "p", "--budget", "0"], "3: outofrange"),
+            (&["run", "p", "--budget", "4294967296"], "3: outofrange"),
             (
-                &["run", "answer", "--vl", "129"],
-                "usage: word 3: outofrange\n",
+                &["run", "p", "--budget", "18446744073709551617"],
+                "3: outofrange",
             ),
             (
-                &["run", "answer", "--budget", "07"],
-                "usage: word 3: badnumber\n",
+                &[
+                    "run",
+                    "p",
+                    "--budget",
+                    "100000000000000000000000000000000000000000",
+                ],
+                "3: outofrange",
             ),
+            (&["run", "p", "--budget", ""], "3: badnumber"),
+            (&["run", "p", "--budget", "+1"], "3: badnumber"),
+            (&["run", "p", "--budget", "-1"], "3: badnumber"),
+            (&["run", "p", "--budget", "01"], "3: badnumber"),
+            (&["run", "p", "--budget", "00"], "3: badnumber"),
+            (&["run", "p", "--budget", "1 "], "3: badnumber"),
+            (&["run", "p", "--budget", "0x10"], "3: badnumber"),
+            (&["run", "p", "--vl", "--svl", "128"], "3: badnumber"),
+            (&["run", "p", "--vl", "128", "--vl", "128"], "4: repeated"),
             (
-                &["run", "answer", "--budget", "0"],
-                "usage: word 3: outofrange\n",
+                &["run", "p", "--vl", "128", "--svl", "512", "--vl"],
+                "6: repeated",
             ),
-            (
-                &["run", "answer", "--vl", "128", "--vl", "128"],
-                "usage: word 4: repeated\n",
-            ),
-            (&["--help", "run"], "usage: word 1: extra\n"),
-            (&["dis"], "usage: word 1: missing\n"),
-            (&["asm"], "usage: word 1: missing\n"),
-            (
-                &["asm", "answer", "--budget", "1"],
-                "usage: word 2: extra\n",
-            ),
-            (&["--version", "--help"], "usage: word 1: extra\n"),
+            (&["--help", "run"], "1: extra"),
+            (&["dis"], "1: missing"),
+            (&["dis", "p", "--vl"], "2: extra"),
+            (&["dis", "p", "q", "r"], "2: extra"),
+            (&["asm"], "1: missing"),
+            (&["asm", "s", "--budget", "1"], "2: extra"),
+            (&["asm", "s", "t", "u"], "2: extra"),
+            (&["Asm", "s"], "0: unknown"),
+            (&["--version", "--help"], "1: extra"),
         ];
-        for (texts, line) in cases {
-            let mut files = answer_file(rt.alloc())?;
-            let mut out = MemSink::new(rt.alloc(), 1000)?;
-            assert_eq!(rt;
-                status_of(rt.alloc(), texts, &mut files, &mut out)?.code(),
-                2,
-                "{line}"
-            );
-            assert!(rt; out.bytes() == line.as_bytes(), "{line}");
+        for (texts, wanted) in cases {
+            let (status, out) = written(rt.alloc(), texts)?;
+            assert_eq!(rt; status.code(), 2, "{texts:?}");
+            let line = format!(in rt.alloc(); "usage: word {wanted}\n")?;
+            assert!(rt; out.bytes() == line.as_bytes(), "{texts:?}");
         }
         Ok(())
     }
@@ -105,7 +123,17 @@ mod tests {
 
     #[test]
     fn a_run_has_the_options_of_its_words(rt: HostRuntime) -> Result<(), Fail> {
-        let cases: [(&[&str], &str, &str); 3] = [
+        let cases: [(&[&str], &str, &str); 7] = [
+            (
+                &["run", "answer"],
+                "options vl=128 svl=256 slice=1000 budget=10000000 threads=1\n",
+                "\nstop exited 42\ncount 3\nturns 3\n",
+            ),
+            (
+                &["run", "--vl"],
+                "options vl=128 svl=256 slice=1000 budget=10000000 threads=1\n",
+                "\nstop exited 42\ncount 3\nturns 3\n",
+            ),
             (
                 &["run", "answer", "--budget", "1"],
                 "options vl=128 svl=256 slice=1000 budget=1 threads=1\n",
@@ -120,6 +148,18 @@ mod tests {
                 &["run", "answer", "--svl", "2048", "--vl", "512"],
                 "options vl=512 svl=2048 slice=1000 budget=10000000 threads=1\n",
                 "\nstop exited 42\ncount 3\nturns 3\n",
+            ),
+            (
+                &["run", "", "--budget", "4294967295", "--vl", "2048"],
+                "options vl=2048 svl=256 slice=1000 budget=4294967295 threads=1\n",
+                "\nstop exited 42\ncount 3\nturns 3\n",
+            ),
+            (
+                &[
+                    "run", "run", "--svl", "1024", "--budget", "1", "--vl", "512",
+                ],
+                "options vl=512 svl=1024 slice=1000 budget=1 threads=1\n",
+                "\nstop budget\ncount 1\nturns 1\n",
             ),
         ];
         for (texts, options, stop) in cases {
@@ -154,23 +194,6 @@ mod tests {
         let status = status_of(rt.alloc(), &["asm", "long"], &mut files, &mut out)?;
         assert_eq!(rt; status.code(), 7);
         assert!(rt; out.bytes() == b"bad source: line 0: toolong\n".as_slice());
-        Ok(())
-    }
-
-    #[test]
-    fn a_program_that_is_assembled_runs(rt: HostRuntime) -> Result<(), Fail> {
-        let source = "// answers 42\n_start: movz x0, #42\n movz x8, #93\n svc #0\n";
-        let mut files = MemFiles::new(rt.alloc());
-        files.add("source", source.as_bytes())?;
-        let mut program = MemSink::new(rt.alloc(), 20_000)?;
-        let status = status_of(rt.alloc(), &["asm", "source"], &mut files, &mut program)?;
-        assert_eq!(rt; status, Status::Done);
-        files.add("program", program.bytes())?;
-        let mut out = MemSink::new(rt.alloc(), 4000)?;
-        let status = status_of(rt.alloc(), &["run", "program"], &mut files, &mut out)?;
-        assert_eq!(rt; status, Status::Done);
-        let report = std::str::from_utf8(out.bytes()).map_err(|_| "not text")?;
-        assert!(rt; report.contains("\nstop exited 42\ncount 3\n"), "{report}");
         Ok(())
     }
 

@@ -1,1 +1,1 @@
-pub mod VectorRows
+pub mod NoRows

@@ -1,25 +1,23 @@
-use Rattle.std.proofs.Common.{sym, ◌∙◌, arith}
+use Rattle.std.proofs.Common.{◌≡◌, arith}
 use Rattle.std.proofs.lemmas.Bool.{both_ways}
-use Rattle.a64_table.specs.declared.rows.TheConstants.{SCALAR_ROWS}
-use Rattle.a64_decode.proofs.Decoded.{no_place, no_row, no_match, match}
-use Rattle.a64_decode.proofs.decode.by_tree.Goals.{else-matches-via-then-matches+else-fits, else-matches-via-else-matches}
+use Rattle.insn_forms.proofs.Deciding.{no_place, no_line, no_match, match}
+use Rattle.a64_table.specs.Table.{scalar}
 use Rattle.a64_decode.proofs.decode.by_tree.Goals as goal
 
 pub returns-in_default : goal.returns-in_default
-returns-in_default c it = no_place SCALAR_ROWS c.args.word c.in_default.ensures it
+unfolding scalar
+returns-in_default c it = no_place scalar c.args.word c.in_default.ensures it
 
-pub returns-in_default-row_at : goal.returns-in_default-row_at
-returns-in_default-row_at c it = no_row SCALAR_ROWS c.args.word c.in-Some.place c.in-Some.ensures c.in_default-row_at.ensures it
+pub returns-in_default-line_at : goal.returns-in_default-line_at
+unfolding scalar
+returns-in_default-line_at c it = no_line scalar c.args.word c.in-Some.number c.in-Some.ensures c.in_default-line_at.ensures it
 
-pub returns-then-fits : goal.returns-then-fits
-returns-then-fits c it =
-    match SCALAR_ROWS c.args.word c.in-Some.place c.in-Some.ensures (omega arith) c.in-Some-row_at.row c.in-Some-row_at.ensures
-    (c.matches.ensures.0 c.if-matches.true) (sym c.if-fits.ensures) it _ c.insn.ensures
+pub returns-then-matches : goal.returns-then-matches
+unfolding scalar
+returns-then-matches c it =
+    match scalar c.args.word c.in-Some.number c.in-Some.ensures (omega arith) c.in-Some-line_at.line.now c.in-Some-line_at.ensures (c.matches.ensures.0 c.if-matches.true) c.insn_given.result c.insn_given.ensures it
 
 pub returns-else-matches : goal.returns-else-matches
+unfolding scalar
 returns-else-matches c it =
-    no_match SCALAR_ROWS c.args.word c.in-Some.place c.in-Some.ensures c.in-Some-row_at.row c.in-Some-row_at.ensures
-    (λ m f. elim c.else-matches.branch [
-      | else-matches-via-then-matches+else-fits w ↦ both_ways _ (sym w.fits.ensures ∙ w.if-fits.false) f
-      | else-matches-via-else-matches w ↦ both_ways _ w.if-matches.false (c.matches.ensures.1 m)
-    ]) it
+    no_match scalar c.args.word c.in-Some.number c.in-Some.ensures c.in-Some-line_at.line.now c.in-Some-line_at.ensures (λ m. both_ways _ c.if-matches.false (c.matches.ensures.1 m)) it

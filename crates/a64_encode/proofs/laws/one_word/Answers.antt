@@ -1,6 +1,13 @@
-use Rattle.std.proofs.Common.{sym, ◌∙◌}
-use Rattle.a64_encode.proofs.Encoded.{either_word}
+use Rattle.std.proofs.Common.{inl, inr}
+use Rattle.insn_forms.proofs.Tables.{means-word, one_word}
+use Rattle.a64_table.specs.Parts.{parts_of}
+use Rattle.a64_table.specs.Table.{scalar}
+use Rattle.a64_table.proofs.Checks.{is_table}
+use Rattle.sve_table.proofs.NoRows.{no_meaning}
 use Rattle.a64_encode.proofs.laws.one_word.Goals as goal
 
 pub returns : goal.returns
-returns c = λ first second it m n. sym (either_word first it m) ∙ either_word second it n
+returns c w v it m n = elim m [
+  | inl a ↦ elim n [ inl b ↦ one_word scalar parts_of is_table w v it (means-word scalar parts_of is_table w it a) (means-word scalar parts_of is_table v it b) | inr b ↦ absurd (no_meaning v it b) ]
+  | inr a ↦ absurd (no_meaning w it a)
+]

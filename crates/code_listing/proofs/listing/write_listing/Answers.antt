@@ -5,10 +5,10 @@ use Rattle.code_listing.proofs.Lines.{listing_cut, listing_end}
 use Rattle.code_listing.proofs.listing.write_listing.Goals as goal
 
 pub returns-in_err-put : goal.returns-in_err-put
-returns-in_err-put g c = sofar_stop _ (listing_cut c.loop-rest.rest.now c.min-count.result) c.loop-rest.invariant (rw (c.as_slice.ensures.value, c.piece_of.ensures) at c.in_err-put.ensures.writes) c.from_residual.ensures.0
+returns-in_err-put g c = sofar_stop _ (listing_cut c.loop-rest.rest.now c.min-count.result) c.loop-rest.invariant (rw (c.as_slice.ensures.value, c.piece_of.ensures) at c.in_err-put.ensures) c.from_residual.ensures.0
 
 pub loop-rest-preserved : goal.loop-rest-preserved
-loop-rest-preserved g c = sofar_more (listing_cut c.loop-rest.rest.now c.min-count.result) c.loop-rest.invariant (rw (c.as_slice.ensures.value, c.piece_of.ensures) at c.in_ok-put.ensures.writes)
+loop-rest-preserved g c = sofar_more (listing_cut c.loop-rest.rest.now c.min-count.result) c.loop-rest.invariant (rw (c.as_slice.ensures.value, c.piece_of.ensures) at c.in_ok-put.ensures)
 
 pub returns : goal.returns
 returns g c =

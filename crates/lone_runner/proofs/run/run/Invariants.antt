@@ -1,14 +1,14 @@
-use Rattle.std.proofs.Common.{◌≡◌, ◌-◌, None}
-use Rattle.kernel_contexts.specs.Context.{state_of, config_of, stop_of, IsSameThread}
+use Rattle.std.proofs.Common.{◌≡◌, ◌-◌, ◌*◌, None}
+use Rattle.kernel_contexts.specs.Context.{state_of, config_of, thread_of, stop_of, IsSameThread}
 use Rattle.lone_runner.proofs.Runs.{IsUnderWay}
 use Rattle.lone_runner.proofs.run.run.Given as goal
 
 abbrev pub invariant-turns : goal.invariant-turns
 invariant-turns l = record {
-  under_way : IsUnderWay (config_of l.initial.context) (state_of l.initial.context) (state_of l.context);
+  under_way : IsUnderWay (config_of l.initial.context) (thread_of l.initial.context) (state_of l.initial.context) (state_of l.context);
   runs : stop_of l.context ≡ None;
   same : IsSameThread l.initial.context l.context;
 }
 
 abbrev pub decreases-turns : goal.decreases-turns
-decreases-turns l = (config_of l.context).budget - (state_of l.context).count
+decreases-turns l = 3 * (config_of l.context).budget - (state_of l.context).turns

@@ -1,10 +1,11 @@
-use Rattle.std.proofs.Common.{◌==◌, ℕ, cond, refl}
+use Rattle.std.proofs.Common.{◌==◌, ℕ, cond, refl, ap}
 use Rattle.scalar_exec.specs.Registers.{x_of, with_x}
 use Rattle.mem_access.specs.Access.{bytes_in, atomic_access}
 use Rattle.mem_access.specs.Transfer.{AfterAccess, after_atomic}
 use Rattle.mem_access.specs.Values.{number_in, with_number, low_bytes, updated}
 use Rattle.mem_access.proofs.Faults.{raised}
 use Rattle.mem_access.proofs.Atomics.{atomic_read, atomic_written, atomic_updated}
+use Rattle.mem_access.proofs.Room.{owned_bytes}
 use Rattle.mem_access.proofs.atomic.transfer_atomic.Goals as goal
 
 pub returns-in-Some-clause-made : goal.returns-in-Some-clause-made
@@ -17,7 +18,7 @@ returns-in-Ldar-clause-made c =
     let m = c.args.pages.now.memory in
     let n = bytes_in c.in-Ldar.size in
     let made : ℕ → AfterAccess = λ a. record { scalars = with_x s c.in-Ldar.rt (number_in m a n); memory = m } in
-    atomic_read c.args.x.now _ _ s m n made _ _ c.load_ordered.result (record { kind = c.in-Ldar.is; access = c.atomic_access-access.ensures.value; placed = c.in-None.ensures; reads = refl; writes = refl; size = refl }) (λ a. refl) c.load_ordered.ensures
+    atomic_read c.args.x.now _ _ s m n made _ _ c.load_ordered.result (record { kind = c.in-Ldar.is; access = c.atomic_access-access.ensures.value; placed = c.in-None.ensures; reads = refl; writes = refl; size = refl }) (λ a. refl) c.load_ordered.ensures.made
 
 pub returns-in-Stlr-clause-made : goal.returns-in-Stlr-clause-made
 unfolding atomic_access after_atomic
@@ -54,3 +55,27 @@ returns-in-Update-clause-made c =
     let n = bytes_in c.in-Update.size in
     let made : ℕ → AfterAccess = λ a. record { scalars = with_x s c.in-Update.rt (number_in m a n); memory = with_number m a n (updated c.in-Update.op n (number_in m a n) (low_bytes n (x_of s c.in-Update.rs))) } in
     atomic_updated c.args.x.now _ _ s m n made _ _ c.update_by_register.result (record { kind = c.in-Update.is; access = c.atomic_access-access.ensures.value; placed = c.in-None.ensures; reads = refl; writes = refl; size = refl }) (λ a. refl) c.update_by_register.ensures.made
+
+pub returns-in-Stlr-clause-room : goal.returns-in-Stlr-clause-room
+unfolding atomic_access
+returns-in-Stlr-clause-room c room =
+    let s = c.args.s.now in
+    c.store_ordered.ensures.room (owned_bytes (atomic_access c.args.x.now s) _ c.args.pages.now (bytes_in c.in-Stlr.size) c.atomic_access-access.ensures.value (ap (λ x. (atomic_access x s).writes) c.in-Stlr.is) (ap (λ x. (atomic_access x s).size) c.in-Stlr.is) room)
+
+pub returns-in-Cas-clause-room : goal.returns-in-Cas-clause-room
+unfolding atomic_access
+returns-in-Cas-clause-room c room =
+    let s = c.args.s.now in
+    c.swap_where_equal.ensures.room (owned_bytes (atomic_access c.args.x.now s) _ c.args.pages.now (bytes_in c.in-Cas.size) c.atomic_access-access.ensures.value (ap (λ x. (atomic_access x s).writes) c.in-Cas.is) (ap (λ x. (atomic_access x s).size) c.in-Cas.is) room)
+
+pub returns-in-Swap-clause-room : goal.returns-in-Swap-clause-room
+unfolding atomic_access
+returns-in-Swap-clause-room c room =
+    let s = c.args.s.now in
+    c.swap_register.ensures.room (owned_bytes (atomic_access c.args.x.now s) _ c.args.pages.now (bytes_in c.in-Swap.size) c.atomic_access-access.ensures.value (ap (λ x. (atomic_access x s).writes) c.in-Swap.is) (ap (λ x. (atomic_access x s).size) c.in-Swap.is) room)
+
+pub returns-in-Update-clause-room : goal.returns-in-Update-clause-room
+unfolding atomic_access
+returns-in-Update-clause-room c room =
+    let s = c.args.s.now in
+    c.update_by_register.ensures.room (owned_bytes (atomic_access c.args.x.now s) _ c.args.pages.now (bytes_in c.in-Update.size) c.atomic_access-access.ensures.value (ap (λ x. (atomic_access x s).writes) c.in-Update.is) (ap (λ x. (atomic_access x s).size) c.in-Update.is) room)

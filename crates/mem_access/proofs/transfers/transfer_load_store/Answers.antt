@@ -4,6 +4,7 @@ use Rattle.mem_access.specs.Access.{bytes_in, is_load, is_store, load_store_acce
 use Rattle.mem_access.specs.Transfer.{after_load_store}
 use Rattle.mem_access.proofs.Faults.{raised, made_reading, made_writing, made_as}
 use Rattle.mem_access.proofs.OneRegister.{no_store, a_load}
+use Rattle.mem_access.proofs.Room.{owned_bytes}
 use Rattle.mem_access.proofs.transfers.transfer_load_store.Goals as goal
 
 pub returns-in-Some-clause-made : goal.returns-in-Some-clause-made
@@ -20,4 +21,10 @@ pub returns-in_default-clause-made : goal.returns-in_default-clause-made
 unfolding load_store_access
 returns-in_default-clause-made c =
     let x = c.args.x.now in
-    made_reading (load_store_access x c.args.s.now) _ c.args.s.now c.args.pages.now.memory (bytes_in x.size) (λ a. after_load_store x.op x a c.args.s.now c.args.pages.now.memory) _ _ c.load.result c.load_store_access-access.ensures.value c.in-None.ensures (a_load x.op c.in_default.not-Store) (no_store x.op c.in_default.not-Store) refl c.load.ensures
+    made_reading (load_store_access x c.args.s.now) _ c.args.s.now c.args.pages.now.memory (bytes_in x.size) (λ a. after_load_store x.op x a c.args.s.now c.args.pages.now.memory) _ _ c.load.result c.load_store_access-access.ensures.value c.in-None.ensures (a_load x.op c.in_default.not-Store) (no_store x.op c.in_default.not-Store) refl c.load.ensures.made
+
+pub returns-in-Store-clause-room : goal.returns-in-Store-clause-room
+unfolding load_store_access
+returns-in-Store-clause-room c room =
+    let x = c.args.x.now in
+    c.store.ensures.room (owned_bytes (load_store_access x c.args.s.now) _ c.args.pages.now (bytes_in x.size) c.load_store_access-access.ensures.value (ap is_store c.in-Store.is) refl room)

@@ -1,7 +1,7 @@
 use Rattle.std.proofs.Common.{◌∙◌, rules, ap, ◌<◌, length, bit_or}
 use Rattle.paged_memory.specs.Pages.{memory_of}
 use Rattle.paged_memory.proofs.Set.{fine_set, none_found}
-use Rattle.paged_memory.proofs.Touch.{old_flags, old_zero, new_flags, new_zero}
+use Rattle.paged_memory.proofs.Touch.{sum_of_both, old_flags, old_zero, new_flags, new_zero}
 use Rattle.paged_memory.proofs.image.touch.Goals as goal
 
 pub add_page-requires-clause-missing : goal.add_page-requires-clause-missing
@@ -11,7 +11,8 @@ pub returns-in-Some-clause-fine : goal.returns-in-Some-clause-fine
 returns-in-Some-clause-fine c =
     let within : c.in-Some.i < length c.args.pages.now.items = rw c.as_slice.ensures.value at c.in-Some.ensures.0 in
     fine_set c.args.pages.now.items c.in-Some.i (record { number = c.index_mut-page.result.now.number; flags = bit_or c.args.flags c.index_mut-page.result.now.flags; bytes = c.index_mut-page.result.now.bytes }) c.index_mut-page.result.now c.requires.fine within
-    (ap (λ p. length p.bytes.items) c.index_mut-page.ensures.value ∙ c.requires.fine.full c.in-Some.i c.index_mut-page.result.now within) (ap (λ p. p.number) c.index_mut-page.ensures.value)
+    (ap (λ p. length p.bytes.items) c.index_mut-page.ensures.value ∙ c.requires.fine.full c.in-Some.i c.index_mut-page.result.now within)
+    (sum_of_both c.args.flags c.index_mut-page.result.now.flags c.requires.sum (rw c.index_mut-page.ensures.value (c.requires.fine.flags c.in-Some.i c.index_mut-page.result.now within))) (ap (λ p. p.number) c.index_mut-page.ensures.value)
 
 pub returns-in-Some-clause-zero : goal.returns-in-Some-clause-zero
 returns-in-Some-clause-zero c = old_zero c.args.pages.now.items c.in-Some.i c.args.number _ c.index_mut-page.result.now c.requires.fine (returns-in-Some-clause-fine c) c.requires.zero (rw c.as_slice.ensures.value at c.in-Some.ensures.0) (rw c.as_slice.ensures.value at c.in-Some.ensures.1) (ap (λ p. p.number) c.index_mut-page.ensures.value) (ap (λ p. p.bytes.items) c.index_mut-page.ensures.value)

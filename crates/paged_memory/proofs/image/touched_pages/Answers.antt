@@ -13,7 +13,10 @@ loop-left-init c = record {
 }
 
 pub touch_part-requires-clause-low : goal.touch_part-requires-clause-low
-touch_part-requires-clause-low c = placed_at (λ e. 0 < e.size → e.address + e.size ≤ 2 ^ 62) c.args.parts.now (c.loop-left.left - 1) _ c.requires (omega arith)
+touch_part-requires-clause-low c = placed_at (λ e. 0 < e.size → e.address + e.size ≤ 2 ^ 62) c.args.parts.now (c.loop-left.left - 1) _ c.requires.low (omega arith)
+
+pub touch_part-requires-clause-sum : goal.touch_part-requires-clause-sum
+touch_part-requires-clause-sum c = placed_at (λ e. e.flags < 8) c.args.parts.now (c.loop-left.left - 1) _ c.requires.sums (omega arith)
 
 pub loop-left-preserved : goal.loop-left-preserved
 loop-left-preserved c =

@@ -4,4 +4,4 @@ use Rattle.report_text.specs.Block.{event_lines}
 use Rattle.report_text.proofs.journal.put_event_lines.Given as goal
 
 abbrev pub invariant-loop-k : goal.invariant-loop-k
-invariant-loop-k g l = SoFar g.K.Sink.told g.K.Sink.faults g.K.Sink.takes l.initial.out l.out (event_lines (drop l.k l.events)) (event_lines l.events)
+invariant-loop-k g l = SoFar (g.K.Sink.view l.initial.out) (g.K.Sink.view l.out) (event_lines (drop l.k l.events)) (event_lines l.events)

@@ -12,4 +12,4 @@ returns-in_err-put_event_lines g c = and_then c.in_ok-put_number_line.ensures (a
 
 pub returns : goal.returns
 unfolding journal_text
-returns g c = and_then c.in_ok-put_number_line.ensures (and_then c.in_ok-put_event_lines.ensures (and_end c.put.ensures.writes))
+returns g c = and_then c.in_ok-put_number_line.ensures (and_then c.in_ok-put_event_lines.ensures (and_end c.put.ensures))

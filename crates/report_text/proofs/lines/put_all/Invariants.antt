@@ -4,4 +4,4 @@ use Rattle.edge_io.specs.Sink.{Writes}
 use Rattle.report_text.proofs.lines.put_all.Given as goal
 
 abbrev pub invariant-loop-part : goal.invariant-loop-part
-invariant-loop-part g l = Writes g.K.Sink.told g.K.Sink.faults g.K.Sink.takes l.initial.out l.out (Ok tt) (flat_map (λ p. p.now) (take l.part-index l.parts))
+invariant-loop-part g l = Writes (g.K.Sink.view l.initial.out) (g.K.Sink.view l.out) (Ok tt) (flat_map (λ p. p.now) (take l.part-index l.parts))

@@ -4,4 +4,4 @@ use Rattle.report_text.specs.Lines.{value_lines}
 use Rattle.report_text.proofs.lines.put_value_lines.Given as goal
 
 abbrev pub invariant-loop-k : goal.invariant-loop-k
-invariant-loop-k g l = SoFar g.K.Sink.told g.K.Sink.faults g.K.Sink.takes l.initial.out l.out (value_lines l.name l.k (drop l.k l.values)) (value_lines l.name 0 l.values)
+invariant-loop-k g l = SoFar (g.K.Sink.view l.initial.out) (g.K.Sink.view l.out) (value_lines l.name l.k (drop l.k l.values)) (value_lines l.name 0 l.values)

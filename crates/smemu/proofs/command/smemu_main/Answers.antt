@@ -1,27 +1,27 @@
 use Rattle.std.proofs.Common.{map}
 use Rattle.std.specs.String.{string_bytes}
-use Rattle.smemu.proofs.Outcomes.{defined_of, done_of, refused_of, cut_of}
-use Rattle.smemu.proofs.Due.{answered}
+use Rattle.cmd_words.specs.Words.{command_of}
+use Rattle.smemu.specs.Ends.{call, change}
+use Rattle.smemu.specs.Requests.{files_asked}
+use Rattle.smemu.specs.Views.{end_status}
+use Rattle.smemu.specs.declared.status.Status.TheVariants.{WriteFault}
+use Rattle.smemu.proofs.Ends.{completed, refused_of, cut_of, failed_status, fetches_as}
 use Rattle.smemu.proofs.command.smemu_main.Goals as goal
-
-pub returns-in-Ok-clause-done : goal.returns-in-Ok-clause-done
-returns-in-Ok-clause-done g c =
-    let words = map string_bytes c.args.words.now in
-    let defined = defined_of g.F.Files.told g.F.Files.absences g.F.Files.faults g.F.Files.is_reliable words c.args.files.now c.prepare-reply.new.files c.prepare-reply.result c.prepare-reply.ensures in
-    rw c.reply_status.ensures (done_of g.F.Files.told g.F.Files.absences g.F.Files.faults g.F.Files.is_reliable g.K.Sink.told g.K.Sink.faults g.K.Sink.takes words c.args.files.now c.prepare-reply.new.files c.args.out.now c.write_reply.new.out c.prepare-reply.result defined c.in-Ok.ensures)
-
-pub returns-in-Ok-clause-complete : goal.returns-in-Ok-clause-complete
-returns-in-Ok-clause-complete g c = λ files status tells due whole written.
-    rw c.reply_status.ensures (answered g.F.Files.told g.F.Files.absences g.F.Files.faults g.F.Files.is_reliable (map string_bytes c.args.words.now) c.args.files.now c.prepare-reply.new.files files tells whole c.prepare-reply.result status c.prepare-reply.ensures due)
 
 pub returns-in-Ok-clause-refused : goal.returns-in-Ok-clause-refused
 returns-in-Ok-clause-refused g c =
-    let words = map string_bytes c.args.words.now in
-    let defined = defined_of g.F.Files.told g.F.Files.absences g.F.Files.faults g.F.Files.is_reliable words c.args.files.now c.prepare-reply.new.files c.prepare-reply.result c.prepare-reply.ensures in
-    rw c.reply_status.ensures (refused_of g.F.Files.told g.F.Files.absences g.F.Files.faults g.F.Files.is_reliable g.K.Sink.told g.K.Sink.faults g.K.Sink.takes words c.args.files.now c.prepare-reply.new.files c.args.out.now c.write_reply.new.out c.prepare-reply.result defined c.in-Ok.ensures)
+    rw c.status_of_end.ensures
+    (refused_of (call g.F.Files.view g.K.Sink.view c.args.words.now c.args.files.now c.answer_words-end.new.files c.args.out.now c.write_end.new.out) c.answer_words-end.result c.answer_words-end.ensures.ends c.in-Ok.ensures)
+
+pub returns-in-Ok-clause-complete : goal.returns-in-Ok-clause-complete
+returns-in-Ok-clause-complete g c = λ files tells.
+    rw c.status_of_end.ensures (completed (map string_bytes c.args.words.now) (change g.F.Files.view c.args.files.now c.answer_words-end.new.files) files tells c.answer_words-end.result c.answer_words-end.ensures.ends)
 
 pub returns-clause-refused : goal.returns-clause-refused
 returns-clause-refused g c =
-    let words = map string_bytes c.args.words.now in
-    let defined = defined_of g.F.Files.told g.F.Files.absences g.F.Files.faults g.F.Files.is_reliable words c.args.files.now c.prepare-reply.new.files c.prepare-reply.result c.prepare-reply.ensures in
-    cut_of g.F.Files.told g.F.Files.absences g.F.Files.faults g.F.Files.is_reliable g.K.Sink.told g.K.Sink.faults g.K.Sink.takes words c.args.files.now c.prepare-reply.new.files c.args.out.now c.write_reply.new.out c.prepare-reply.result c.in-Err.field-0 defined c.in-Err.ensures
+    cut_of (call g.F.Files.view g.K.Sink.view c.args.words.now c.args.files.now c.answer_words-end.new.files c.args.out.now c.write_end.new.out) c.in-Err.field-0 c.answer_words-end.result c.answer_words-end.ensures.ends c.in-Err.ensures
+
+pub returns-clause-fetched : goal.returns-clause-fetched
+returns-clause-fetched g c =
+    fetches_as g.F.Files.fetched (g.F.Files.view c.args.files.now).told (files_asked (command_of (map string_bytes c.args.words.now))) c.args.files.now c.answer_words-end.new.files (end_status c.answer_words-end.result) WriteFault
+    (failed_status (g.K.Sink.view c.args.out.now) (g.K.Sink.view c.write_end.new.out) c.in-Err.field-0 c.answer_words-end.result c.in-Err.ensures) c.answer_words-end.ensures.fetched

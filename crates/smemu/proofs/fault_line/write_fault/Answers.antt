@@ -4,12 +4,12 @@ use Rattle.smemu.proofs.fault_line.write_fault.Goals as goal
 
 pub returns-in_err-put : goal.returns-in_err-put
 unfolding fault_line
-returns-in_err-put g c = and_stop _ c.in_err-put.ensures.writes c.from_residual.ensures.0
+returns-in_err-put g c = and_stop _ c.in_err-put.ensures c.from_residual.ensures.0
 
 pub returns-in_err-put_fault_words : goal.returns-in_err-put_fault_words
 unfolding fault_line
-returns-in_err-put_fault_words g c = and_then c.in_ok-put.ensures.writes (and_stop _ c.in_err-put_fault_words.ensures c.from_residual-in_err-put_fault_words.ensures.0)
+returns-in_err-put_fault_words g c = and_then c.in_ok-put.ensures (and_stop _ c.in_err-put_fault_words.ensures c.from_residual-in_err-put_fault_words.ensures.0)
 
 pub returns : goal.returns
 unfolding fault_line
-returns g c = and_then c.in_ok-put.ensures.writes (and_then c.in_ok-put_fault_words.ensures (and_end c.put-2.ensures.writes))
+returns g c = and_then c.in_ok-put.ensures (and_then c.in_ok-put_fault_words.ensures (and_end c.put-2.ensures))

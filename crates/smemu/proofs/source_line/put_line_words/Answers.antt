@@ -19,4 +19,4 @@ returns-in-Extra g c = rw (c.in-Extra.is, ← c.from-in-Extra.ensures) c.put_cou
 
 pub returns-in-Memory : goal.returns-in-Memory
 unfolding line_words
-returns-in-Memory g c = rw c.in-Memory.is c.put.ensures.writes
+returns-in-Memory g c = rw c.in-Memory.is c.put.ensures

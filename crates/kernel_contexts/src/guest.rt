@@ -1,0 +1,131 @@
+//! A guest thread as the kernel keeps it, and its turns.
+ghost use Rattle.std.specs.Prelude.{◌≡◌, ◌+◌, ◌*◌, ◌<◌, ◌≤◌, ◌^◌, vec_len, None, Some, IfOk};
+ghost use Rattle.kernel_contexts.specs.State.{start_scalars};
+
+mod call;
+
+use crate::context::Turn;
+use machine_step::{Machine, StepEnd};
+use paged_memory::{Image, Pages};
+use sm_types::{Config, Memory, Scalars, Stop};
+use std::alloc::Global;
+
+/// A guest thread: its machine, its options, and what the kernel keeps of it. Its functions take it through the parts of a turn.
+#[derive(Drop)]
+pub struct GuestThread {
+    pub machine: Machine,
+    pub config: Config,
+    pub number: u32,
+    pub output: Vec<u8>,
+    pub count: u32,
+    pub turns: u64,
+    pub stop: Option<Stop>,
+    ghost turns_are_few: { turns ≤ 3 * count },
+    ghost within_budget: { count ≤ config.budget },
+    ghost output_within: { vec_len output ≤ 1048576 },
+}
+
+/// The registers of a thread before its first turn.
+#[tactic(auto, unfolding(crate::specs::State::start_scalars))]
+fn start_registers(entry: u64, thread: u32, threads: u32) -> Scalars
+    ensures { result ≡ start_scalars entry thread threads }
+{
+    let mut x = [0; 31];
+    x[0] = u64::from(thread);
+    x[1] = u64::from(threads);
+    Scalars {
+        x,
+        sp: 0x7E00_0000_0000,
+        pc: entry,
+        n: false,
+        z: false,
+        c: false,
+        v: false,
+    }
+}
+
+impl GuestThread {
+    ghost use Rattle.kernel_contexts.specs.State.{start_state};
+    ghost use Rattle.kernel_contexts.specs.Call.{counted};
+    ghost use Rattle.kernel_contexts.specs.Turn.{turn_of};
+    ghost use Rattle.kernel_contexts.specs.Context.{held_state, Turns, IsSameGuest};
+
+    /// A thread before its first turn, with its pages taken at once.
+    #[tactic(auto, unfolding(crate::specs::State::start_state))]
+    pub fn start(
+        alloc: Global,
+        image: &Image,
+        config: &Config,
+        number: u32,
+    ) -> Result<GuestThread, Memory>
+        requires { number < config.now.threads }
+        ensures state { IfOk result (λ g. held_state g ≡ start_state image.now config.now number) }
+        ensures config { IfOk result (λ g. g.config ≡ config.now) }
+        ensures number { IfOk result (λ g. g.number ≡ number) }
+        ensures stop { IfOk result (λ g. g.stop ≡ None) }
+    {
+        let pages = Pages::from_image(alloc, image)?;
+        let machine = Machine {
+            scalars: start_registers(image.entry(), number, config.threads),
+            streaming: false,
+            za_on: false,
+            tpidr: 0,
+            tpidr2: 0,
+            pages,
+        };
+        Ok(GuestThread {
+            machine,
+            config: *config,
+            number,
+            output: Vec::new(alloc),
+            count: 0,
+            turns: 0,
+            stop: None,
+        })
+    }
+
+    /// Makes one turn of a thread that has not stopped.
+    pub fn make_turn(&mut self) -> Turn
+        requires { self.old.stop ≡ None }
+        ensures turn { Turns (turn_of self.old.config self.old.number 0 (held_state self.old)) (held_state self.old) (held_state self.new) self.new.stop result }
+        ensures same { IsSameGuest self.old self.new }
+    {
+        if self.count == self.config.budget {
+            return self.stop_with(Stop::Budget);
+        }
+        match self.machine.step() {
+            StepEnd::Next => {
+                self.count_turn();
+                Turn::Ran
+            }
+            StepEnd::Call(_) => self.call(),
+            StepEnd::Raise(exception) => {
+                let pc = self.machine.scalars.pc;
+                self.stop_with(Stop::Raised { exception, pc })
+            }
+            StepEnd::Memory => Turn::Memory,
+        }
+    }
+
+    /// Counts an instruction and its turn.
+    fn count_turn(&mut self)
+        requires { self.old.count < self.old.config.budget }
+        ensures state { held_state self.new ≡ counted (held_state self.old) (held_state self.old).core }
+        ensures stop { self.new.stop ≡ self.old.stop }
+        ensures same { IsSameGuest self.old self.new }
+    {
+        self.count += 1;
+        self.turns += 1;
+    }
+
+    /// Stops the thread as it stands.
+    fn stop_with(&mut self, stop: Stop) -> Turn
+        ensures answer { result ≡ Turn.Stopped stop }
+        ensures state { held_state self.new ≡ held_state self.old }
+        ensures stop { self.new.stop ≡ Some stop }
+        ensures same { IsSameGuest self.old self.new }
+    {
+        self.stop = Some(stop);
+        Turn::Stopped(stop)
+    }
+}

@@ -1,0 +1,141 @@
+//! The calls of the kernel.
+ghost use Rattle.std.specs.Prelude.{◌≡◌, ◌+◌, ◌-◌, ◌<◌, ◌≤◌, ◌^◌, length, vec_len, None, Some, take, drop, true, false};
+ghost use Rattle.paged_memory.specs.Memory.{bytes_with};
+ghost use Rattle.kernel_contexts.specs.Output.{Appends};
+
+use crate::context::Turn;
+use crate::guest::GuestThread;
+use paged_memory::Pages;
+use sm_types::Stop;
+
+/// The call that writes bytes to the thread's output.
+const WRITE: u64 = 64;
+/// The call that ends the thread.
+const EXIT: u64 = 93;
+/// The bytes that a thread may write in all.
+const OUTPUT_LIMIT: u64 = 1_048_576;
+/// The answer for a descriptor that is not open: EBADF is 9.
+const BAD_DESCRIPTOR: u64 = u64::MAX - 8;
+/// The answer for bytes that cannot be read: EFAULT is 14.
+const BAD_ADDRESS: u64 = u64::MAX - 13;
+/// The answer for a number that is no call: ENOSYS is 38.
+const NO_CALL: u64 = u64::MAX - 37;
+
+/// What became of bytes that were to be added to the output.
+#[derive(Clone, Copy)]
+pub enum Appended {
+    All,
+    Unreadable,
+    Memory,
+}
+
+/// Reads bytes of the pages into the end of a slice, from a place on.
+fn read_end(pages: &Pages, address: u64, into: &mut [u8], from: usize) -> bool
+    requires { from ≤ length into.old }
+    ensures kept { take from into.new ≡ take from into.old }
+    ensures read { result ≡ true → bytes_with 4 pages.now.memory address (length into.old - from) ≡ Some (drop from into.new) }
+    ensures refused { result ≡ false → bytes_with 4 pages.now.memory address (length into.old - from) ≡ None }
+{
+    match pages.read(address, &mut into[from..]) {
+        Ok(()) => true,
+        Err(_) => false,
+    }
+}
+
+/// Adds bytes of the pages at the end of the output, or leaves it as it is.
+fn append(pages: &Pages, address: u64, count: usize, output: &mut Vec<u8>) -> Appended
+    requires { vec_len output.old + count < 2 ^ 32 }
+    ensures appends { Appends (bytes_with 4 pages.now.memory address count) output.old.items output.new.items result }
+    ensures within { vec_len output.new ≤ vec_len output.old + count }
+{
+    let old = output.len();
+    match output.resize(old + count, 0) {
+        Ok(()) => {
+            if read_end(pages, address, output.as_mut_slice(), old) {
+                Appended::All
+            } else {
+                output.truncate(old);
+                Appended::Unreadable
+            }
+        }
+        Err(_) => Appended::Memory,
+    }
+}
+
+impl GuestThread {
+    ghost use Rattle.kernel_contexts.specs.Call.{call_of, write_of, exit_of, returned};
+    ghost use Rattle.kernel_contexts.specs.Context.{held_state, Turns, IsSameGuest};
+
+    /// The call of the number in X8.
+    #[tactic(auto, unfolding(crate::specs::Call::call_of))]
+    pub(super) fn call(&mut self) -> Turn
+        requires room { self.old.count < self.old.config.budget }
+        requires runs { self.old.stop ≡ None }
+        ensures turn { Turns (call_of self.old.config self.old.number (held_state self.old) (held_state self.old)) (held_state self.old) (held_state self.new) self.new.stop result }
+        ensures same { IsSameGuest self.old self.new }
+    {
+        match self.machine.scalars.x[8] {
+            WRITE => self.write(),
+            EXIT => self.exit(),
+            _ => self.return_with(NO_CALL),
+        }
+    }
+
+    /// Goes on past the call, with its answer in X0.
+    fn return_with(&mut self, answer: u64) -> Turn
+        requires room { self.old.count < self.old.config.budget }
+        requires runs { self.old.stop ≡ None }
+        ensures answer { result ≡ Turn.Ran }
+        ensures state { held_state self.new ≡ returned (held_state self.old) answer }
+        ensures stop { self.new.stop ≡ None }
+        ensures same { IsSameGuest self.old self.new }
+    {
+        self.machine.scalars.x[0] = answer;
+        self.machine.scalars.pc = self.machine.scalars.pc.wrapping_add(4);
+        self.count_turn();
+        Turn::Ran
+    }
+
+    /// Ends the thread, with the low byte of X0 as its status.
+    #[tactic(auto, unfolding(crate::specs::Call::exit_of))]
+    fn exit(&mut self) -> Turn
+        requires room { self.old.count < self.old.config.budget }
+        requires runs { self.old.stop ≡ None }
+        ensures turn { Turns (exit_of (held_state self.old)) (held_state self.old) (held_state self.new) self.new.stop result }
+        ensures same { IsSameGuest self.old self.new }
+    {
+        let status = (self.machine.scalars.x[0] % 256) as u8;
+        self.machine.scalars.pc = self.machine.scalars.pc.wrapping_add(4);
+        self.count_turn();
+        self.stop_with(Stop::Exited(status))
+    }
+
+    /// Writes the X2 bytes from X1 on to the thread's output.
+    #[tactic(auto, unfolding(crate::specs::Call::write_of))]
+    fn write(&mut self) -> Turn
+        requires room { self.old.count < self.old.config.budget }
+        requires runs { self.old.stop ≡ None }
+        ensures turn { Turns (write_of (held_state self.old) (held_state self.old)) (held_state self.old) (held_state self.new) self.new.stop result }
+        ensures same { IsSameGuest self.old self.new }
+    {
+        let descriptor = self.machine.scalars.x[0];
+        let address = self.machine.scalars.x[1];
+        let count = self.machine.scalars.x[2];
+        if descriptor != 1 && descriptor != 2 {
+            return self.return_with(BAD_DESCRIPTOR);
+        }
+        if count > OUTPUT_LIMIT - self.output.len() as u64 {
+            return self.stop_with(Stop::OutputFull);
+        }
+        match append(
+            &self.machine.pages,
+            address,
+            count as usize,
+            &mut self.output,
+        ) {
+            Appended::All => self.return_with(count),
+            Appended::Unreadable => self.return_with(BAD_ADDRESS),
+            Appended::Memory => Turn::Memory,
+        }
+    }
+}

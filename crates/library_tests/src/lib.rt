@@ -1,0 +1,12 @@
+//! Tests of the libraries by their public calls: words, memory, the lines of stops, and the object of a
+//! source.
+#![tactic(auto)]
+
+#[cfg(test)]
+mod memory;
+#[cfg(test)]
+mod sources;
+#[cfg(test)]
+mod stops;
+#[cfg(test)]
+mod words;

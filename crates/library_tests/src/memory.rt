@@ -1,0 +1,136 @@
+//! The private memory of a thread.
+
+use elf_loader::load;
+use paged_memory::{Abort, Pages, WriteStop};
+use sm_types::Access;
+use std::alloc::Global;
+use std::process::Abort as Stops;
+
+/// A program file with `movz x0, #3`, `movz x8, #0` and `svc #0` at 0x400000, and a page of data at 0x410000
+/// that may be accessed in every way, which begins with the bytes 1 to 4.
+pub const FILE: [u8; 192] = [
+    0x7F, 0x45, 0x4C, 0x46, 2, 1, 1, 0, 0, 0, 0, 0, 0, 0, 0, 0, // 64 bits, low byte first
+    2, 0, 183, 0, 1, 0, 0, 0, 0, 0, 0x40, 0, 0, 0, 0, 0, // an executable, its entry
+    64, 0, 0, 0, 0, 0, 0, 0, 0, 0, 0, 0, 0, 0, 0, 0, // its program headers at 64
+    0, 0, 0, 0, 64, 0, 56, 0, 2, 0, 64, 0, 0, 0, 0, 0, // two of 56 bytes
+    1, 0, 0, 0, 5, 0, 0, 0, 176, 0, 0, 0, 0, 0, 0, 0, // a load, read and execute
+    0, 0, 0x40, 0, 0, 0, 0, 0, 0, 0, 0x40, 0, 0, 0, 0, 0, // its address
+    12, 0, 0, 0, 0, 0, 0, 0, 12, 0, 0, 0, 0, 0, 0, 0, // its size
+    0, 16, 0, 0, 0, 0, 0, 0, // its alignment
+    1, 0, 0, 0, 7, 0, 0, 0, 188, 0, 0, 0, 0, 0, 0, 0, // a load, read, write and execute
+    0, 0, 0x41, 0, 0, 0, 0, 0, 0, 0, 0x41, 0, 0, 0, 0, 0, // its address
+    4, 0, 0, 0, 0, 0, 0, 0, 0, 16, 0, 0, 0, 0, 0, 0, // its sizes in the file and in memory
+    0, 16, 0, 0, 0, 0, 0, 0, // its alignment
+    0x60, 0x00, 0x80, 0xd2, 0x08, 0x00, 0x80, 0xd2, 0x01, 0x00, 0x00, 0xd4, // the code
+    1, 2, 3, 4, // the data
+];
+
+/// The pages of a thread that starts from a copy of the file's image.
+fn pages(rt: &impl Stops, alloc: Global) -> Pages {
+    let image = load(alloc, &FILE).ok().expect(rt, "an accepted file");
+    let image = image.copy(alloc).ok().expect(rt, "memory");
+    Pages::from_image(alloc, &image).ok().expect(rt, "memory")
+}
+
+#[test]
+fn words_are_fetched_from_executable_pages(rt: HostRuntime) {
+    let pages = pages(&rt, rt.alloc());
+    for (pc, word) in [
+        (0x400000, Some(0xd2800060)),
+        (0x400008, Some(0xd4000001)),
+        (0x400001, Some(0x08d28000)),
+        (0x40000c, Some(0)),
+        (0x400ffe, None),
+        (0x3ffffe, None),
+        (0x401000, None),
+        (0x7dfffffff000, None),
+        (0xffffffffffffffff, None),
+    ] {
+        assert_eq!(rt; pages.fetch(pc), word, "at {pc:#x}");
+    }
+}
+
+#[test]
+fn pages_are_shown_in_order(rt: HostRuntime) {
+    let pages = pages(&rt, rt.alloc());
+    assert_eq!(rt; pages.page_count(), 66);
+    assert!(rt; pages.page(66).is_none());
+    for (place, address, flags, bytes) in [
+        (0, 0x400000, 5, &FILE[176..188]),
+        (1, 0x410000, 7, &FILE[188..]),
+        (65, 0x7dfffffff000, 6, &[]),
+    ] {
+        let page = pages.page(place).expect(&rt, "a page");
+        assert_eq!(rt; (page.address, page.flags), (address, flags));
+        assert_eq!(rt; page.bytes.len(), 4096);
+        assert!(rt; page.bytes.starts_with(bytes));
+        assert!(rt; page.bytes.iter().skip(bytes.len()).all(|b| *b == 0));
+    }
+}
+
+#[test]
+fn accesses_are_checked_up_to_the_first_byte_that_fails(rt: HostRuntime) {
+    let pages = pages(&rt, rt.alloc());
+    for (address, length, access, first) in [
+        (0x410000, 4096, Access::Read, None),
+        (0x410fff, 1, Access::Write, None),
+        (0x999999, 0, Access::Write, None),
+        (0x7dfffffc0000, 0x40000, Access::Write, None),
+        (0x400ffe, 4, Access::Read, Some(0x401000)),
+        (0x410ff8, 16, Access::Write, Some(0x411000)),
+        (0x410000, u64::MAX, Access::Read, Some(0x411000)),
+        (0x40ffff, 2, Access::Read, Some(0x40ffff)),
+        (
+            0xffffffffffffffff,
+            1,
+            Access::Write,
+            Some(0xffffffffffffffff),
+        ),
+    ] {
+        let found = pages.check(address, length, access).err();
+        assert_eq!(rt; found.map(|abort| abort.address), first, "at {address:#x}");
+        assert!(rt;
+            found.is_none_or(|abort| abort.access == access),
+            "at {address:#x}"
+        );
+    }
+}
+
+#[test]
+fn bytes_that_are_written_are_read(rt: HostRuntime) {
+    let mut pages = pages(&rt, rt.alloc());
+    let mut four = [9; 4];
+    assert_eq!(rt; pages.read(0x400004, &mut four), Ok(()));
+    assert_eq!(rt; four, [0x08, 0x00, 0x80, 0xd2]);
+    let abort = Abort {
+        address: 0x401000,
+        access: Access::Read,
+    };
+    assert_eq!(rt; pages.read(0x400ffe, &mut four), Err(abort));
+    let mut many = [9; 5000];
+    assert_eq!(rt; pages.read(0x7dfffffc0000, &mut many), Ok(()));
+    assert_eq!(rt; many[4999], 0);
+    assert_eq!(rt; pages.own(0x410000, 4096), Ok(()));
+    assert_eq!(rt; pages.write(0x410002, &[8, 9]), Ok(()));
+    let bytes = pages.bytes_within(0x410000, 4).expect(&rt, "a page");
+    assert!(rt; bytes == [1, 2, 8, 9].as_slice());
+    assert!(rt; pages.bytes_within(0x411000, 4).is_none());
+    assert_eq!(rt; pages.write(0x7dfffffc0ffe, &[1, 2, 3]), Ok(()));
+    let mut three = [0; 3];
+    assert_eq!(rt; pages.read(0x7dfffffc0ffe, &mut three), Ok(()));
+    assert_eq!(rt; three, [1, 2, 3]);
+    assert_eq!(rt; pages.write(0x411000, &[]), Ok(()));
+}
+
+#[test]
+fn a_write_that_may_not_be_made_changes_nothing(rt: HostRuntime) {
+    let mut pages = pages(&rt, rt.alloc());
+    let stop = WriteStop::Abort(Abort {
+        address: 0x411000,
+        access: Access::Write,
+    });
+    assert_eq!(rt; pages.write(0x410ff8, &[9; 16]), Err(stop));
+    let mut eight = [7; 8];
+    assert_eq!(rt; pages.read(0x410ff8, &mut eight), Ok(()));
+    assert_eq!(rt; eight, [0; 8]);
+}

@@ -1,0 +1,101 @@
+//! The lines of stops in the block of a thread.
+
+use crate::memory::FILE;
+use edge_io::MemSink;
+use elf_loader::load;
+use kernel_contexts::Context;
+use report_text::write_block;
+use sm_types::{Access, Config, Exception, Stop};
+
+fn raised(exception: Exception) -> Stop {
+    Stop::Raised {
+        exception,
+        pc: 0x40000c,
+    }
+}
+
+#[test]
+fn stops_are_written_with_their_values(rt: HostRuntime) {
+    let address = 0x411000;
+    let written = Exception::Data {
+        address,
+        access: Access::Write,
+    };
+    let read = Exception::Data {
+        address: u64::MAX,
+        access: Access::Read,
+    };
+    let cases = [
+        (Stop::Exited(42), "stop exited 42\n"),
+        (Stop::Killed(3), "stop killed 3\n"),
+        (
+            Stop::BadFrame(0x7dfffffb0c80),
+            "stop badframe 00007dfffffb0c80\n",
+        ),
+        (Stop::Budget, "stop budget\n"),
+        (Stop::TraceFull, "stop tracefull\n"),
+        (Stop::OutputFull, "stop outputfull\n"),
+        (
+            raised(Exception::Undefined(0x1e604000)),
+            "stop raised undefined 000000000040000c 1e604000\n",
+        ),
+        (
+            raised(Exception::PcAlign),
+            "stop raised pcalign 000000000040000c\n",
+        ),
+        (
+            raised(Exception::Fetch),
+            "stop raised fetch 000000000040000c\n",
+        ),
+        (
+            raised(written),
+            "stop raised data 000000000040000c 0000000000411000 write\n",
+        ),
+        (
+            raised(read),
+            "stop raised data 000000000040000c ffffffffffffffff read\n",
+        ),
+        (
+            raised(Exception::SpAlign),
+            "stop raised spalign 000000000040000c\n",
+        ),
+        (
+            raised(Exception::Align(address)),
+            "stop raised align 000000000040000c 0000000000411000\n",
+        ),
+        (
+            raised(Exception::IllegalStreaming),
+            "stop raised illegalstreaming 000000000040000c\n",
+        ),
+        (
+            raised(Exception::NotStreaming),
+            "stop raised notstreaming 000000000040000c\n",
+        ),
+        (
+            raised(Exception::ZaInactive),
+            "stop raised zainactive 000000000040000c\n",
+        ),
+        (
+            raised(Exception::Breakpoint(1)),
+            "stop raised breakpoint 000000000040000c 1\n",
+        ),
+        (
+            raised(Exception::Shared(address)),
+            "stop raised shared 000000000040000c 0000000000411000\n",
+        ),
+    ];
+    let alloc = rt.alloc();
+    let image = load(alloc, &FILE).ok().expect(&rt, "an accepted file");
+    let context = Context::start(alloc, &image, &Config::defaults(), 0)
+        .ok()
+        .expect(&rt, "memory");
+    for (stop, want) in cases {
+        let mut sink = MemSink::new(alloc, 1000).ok().expect(&rt, "memory");
+        assert_eq!(rt; write_block(&context, stop, &mut sink), Ok(()), "{want}");
+        let rest = sink
+            .bytes()
+            .strip_prefix(b"thread 0\n".as_slice())
+            .expect(&rt, "the thread");
+        assert!(rt; rest.starts_with(want.as_bytes()), "{want}");
+    }
+}

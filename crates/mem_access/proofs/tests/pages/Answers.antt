@@ -1,6 +1,0 @@
-use Rattle.std.proofs.Common.{arith, inl}
-use Rattle.paged_memory.proofs.Count.{one_placed, placed_by_ends}
-use Rattle.mem_access.proofs.tests.pages.Goals as goal
-
-pub new-requires : goal.new-requires
-new-requires c = one_placed _ (placed_by_ends _ (omega arith) (omega arith) (inl (omega arith))) (omega arith) (omega arith)

@@ -1,0 +1,152 @@
+-- How a call of the command ends: which text is written with which status, and why.
+use Rattle.std.specs.Prelude.{◌≡◌, ◌≤◌, ◌++◌, ℕ, ◌∷◌, [], IsTrue, List, Option, Some, None, IfSome, IsSome, Result, Ok, Err, codes, length, map, ◌⊎◌}
+use Rattle.std.specs.List.{concat}
+use Rattle.std.specs.String.{string_bytes}
+use Rattle.std.specs.declared.string.String.{String}
+use Rattle.edge_io.specs.Cause.{Rose}
+use Rattle.edge_io.specs.Files.{Told, FilesView}
+use Rattle.edge_io.specs.Sink.{SinkView, Writes}
+use Rattle.edge_io.specs.declared.sink.PutFault.{PutFault}
+use Rattle.edge_io.specs.declared.sink.PutFault.TheVariants.{Failed}
+use Rattle.cmd_words.specs.Words.{Fault, Request, usage_fault, command_of}
+use Rattle.smemu.specs.Answers.{IsFile, IsAnswer}
+use Rattle.smemu.specs.FaultLines.{fault_line}
+use Rattle.smemu.specs.Requests.{Named, Rejection, NoProgram, NoSource, files_named, files_asked, limit_of, rejection_of, reached_of, IsReached, due_status}
+use Rattle.smemu.specs.SourceLines.{source_line}
+use Rattle.smemu.specs.Texts.{usage_line}
+use Rattle.smemu.specs.declared.status.Status.{Status}
+use Rattle.smemu.specs.declared.status.Status.TheVariants.{Done, Usage, Absent, ReadFault, WriteFault, BadFile, BadSource, OutOfMemory}
+
+-- something before a call and after it
+pub record Change (A : Type 0) : Type 0 where
+  pub before : A
+  pub after : A
+
+-- a call of the command: its words, and what is known of the files and of the sink before it and after it
+pub record Call : Type 0 where
+  pub words : List (List ℕ)
+  pub files : Change FilesView
+  pub out : Change SinkView
+
+abbrev pub change : {A V : Type 0} → (A → V) → A → A → Change V
+change view before after = record { before = view before; after = view after }
+
+abbrev pub call : {F K Z : Type 0} → (F → FilesView) → (K → SinkView) → List (String Z) → F → F → K → K → Call
+call files_view sink_view words files files_after out out_after =
+    record { words = map string_bytes words; files = change files_view files files_after; out = change sink_view out out_after }
+
+-- ---- what stands for a request, with its cause
+
+-- a file that is reached is not there, and the count of absences rose
+pub record IsAbsence (files : Change FilesView) (names : List Named) (text : List ℕ) : Type 0 where
+  pub named : Named
+  pub reached : IsReached files.before.told names named
+  pub missing : IfSome files.before.told (λ told. told named.name ≡ None)
+  pub rose : Rose files.before.absences files.after.absences
+  pub is_text : text ≡ concat (codes "absent: " ∷ named.name ∷ codes "\n" ∷ [])
+
+-- a file that is reached is there, it could not be read, and the count of faults rose
+pub record IsReadFault (files : Change FilesView) (names : List Named) (text : List ℕ) : Type 0 where
+  pub named : Named
+  pub reached : IsReached files.before.told names named
+  pub there : IfSome files.before.told (λ told. IsSome (told named.name))
+  pub rose : Rose files.before.faults files.after.faults
+  pub unreliable : IsTrue files.before.reliable → ⊥
+  pub is_text : text ≡ concat (codes "read fault: " ∷ named.name ∷ codes "\n" ∷ [])
+
+-- a file that is reached is not accepted, for this sort of fault, whose line the text is
+pub record IsRejection {A : Type 0} (rejected : A → Rejection) (line : A → List ℕ) (told : Told) (names : List Named) (text : List ℕ) : Type 0 where
+  pub named : Named
+  pub reached : IsReached told names named
+  pub file : List ℕ
+  pub fault : A
+  pub is_file : IsFile told named.name file
+  pub rejects : rejection_of named.kind file ≡ Some (rejected fault)
+  pub is_text : text ≡ line fault
+
+-- the text that goes with a status, where the request stands
+abbrev pub Stands : Request → Change FilesView → Status → List ℕ → Type 0
+Stands request files Done text = IsAnswer files.before.told request text
+Stands request files Absent text = IsAbsence files (files_named request) text
+Stands request files ReadFault text = IsReadFault files (files_named request) text
+Stands request files BadFile text = IsRejection NoProgram fault_line files.before.told (files_named request) text
+Stands request files BadSource text = IsRejection NoSource source_line files.before.told (files_named request) text
+Stands request files Usage text = ⊥
+Stands request files WriteFault text = ⊥
+Stands request files OutOfMemory text = ⊥
+
+-- ---- what stands for words
+
+-- the text is the line of the first fault of the words
+pub record IsUsage (words : List (List ℕ)) (text : List ℕ) : Type 0 where
+  pub fault : Fault
+  pub is_fault : usage_fault words ≡ Some fault
+  pub is_text : text ≡ usage_line fault
+
+-- the text that goes with a status, for what the words ask for
+pub record IsAsked (words : List (List ℕ)) (files : Change FilesView) (status : Status) (text : List ℕ) : Type 0 where
+  pub request : Request
+  pub asked : command_of words ≡ Some request
+  pub stands : Stands request files status text
+
+-- the text that goes with a status, and its cause
+abbrev pub Defined : List (List ℕ) → Change FilesView → Status → List ℕ → Type 0
+Defined words files Usage text = IsUsage words text
+Defined words files status text = IsAsked words files status text
+
+-- ---- the clauses
+
+-- the text that goes with that status was written, with that result
+pub record Wrote (c : Call) (status : Status) (result : Result Unit PutFault) : Type 0 where
+  pub text : List ℕ
+  pub defined : Defined c.words c.files status text
+  pub writes : Writes c.out.before c.out.after result text
+
+-- Done: what the words ask for was written
+abbrev pub IsDone : Call → Status → Type 0
+IsDone c Done = Wrote c Done (Ok tt)
+IsDone c other = Unit {0}
+
+-- every other status: its line was written, for its cause; with WriteFault a part of some status's text, and with OutOfMemory nothing
+abbrev pub IsRefused : Call → Status → Type 0
+IsRefused c Done = Unit {0}
+IsRefused c WriteFault = (status : Status) × Wrote c status (Err Failed)
+IsRefused c OutOfMemory = Writes c.out.before c.out.after (Ok tt) []
+IsRefused c other = Wrote c other (Ok tt)
+
+-- what may be answered in place of the status that is due: want of memory, a fault of the sink, and a fault of reading a file that is
+-- reached and is there
+abbrev pub MayCome : (List ℕ → Option (List ℕ)) → List (List ℕ) → Status → Type 0
+MayCome files words OutOfMemory = Unit {0}
+MayCome files words WriteFault = Unit {0}
+MayCome files words ReadFault = (named : Named) × IsReached (Some files) (files_asked (command_of words)) named × IsSome (files named.name)
+MayCome files words other = ⊥
+
+-- where the files are told, the status that is due is answered, or one that may come in its place
+abbrev pub IsComplete : Call → Status → Type 0
+IsComplete c result = (files : List ℕ → Option (List ℕ)) → c.files.before.told ≡ Some files → (result ≡ due_status files c.words) ⊎ MayCome files c.words result
+
+-- ---- what is fetched
+
+-- these files were fetched, each once and with its limit, in their order, and nothing else was
+abbrev pub AreFetched : {F : Type 0} → (F → List ℕ → ℕ → F → Type 0) → List Named → F → F → Type 0
+AreFetched fetched [] old new = new ≡ old
+AreFetched {F} fetched (named ∷ rest) old new = (now : F) × fetched old named.name (limit_of named.kind) now × AreFetched fetched rest now new
+
+-- the files that are reached were fetched; where memory was wanting, perhaps not the last of them
+pub record FetchesReached {F : Type 0} (fetched : F → List ℕ → ℕ → F → Type 0) (told : Told) (names : List Named) (old new : F) (status : Status) : Type 0 where
+  pub front : List Named
+  pub rest : List Named
+  pub part : reached_of told names ≡ front ++ rest
+  pub all : (status ≡ OutOfMemory → ⊥) → IfSome told (λ files. rest ≡ [])
+  pub each : AreFetched fetched front old new
+
+-- the files that are reached for the words were fetched, and nothing else was
+abbrev pub Fetches : {F Z : Type 0} → (F → List ℕ → ℕ → F → Type 0) → (F → FilesView) → List (String Z) → F → F → Status → Type 0
+Fetches fetched view words old new status = FetchesReached fetched (view old).told (files_asked (command_of (map string_bytes words))) old new status
+
+-- ---- in memory
+
+-- there is room for each text that may be due
+abbrev pub HasRoom : Call → Type 0
+HasRoom c = (status : Status) (text : List ℕ) → Defined c.words c.files status text → length text ≤ c.out.before.room

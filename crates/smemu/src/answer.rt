@@ -1,0 +1,73 @@
+//! What a command answers, and how it is written.
+ghost use Rattle.edge_io.specs.Sink.{Writes};
+ghost use Rattle.smemu.specs.Texts as text;
+ghost use Rattle.smemu.specs.Views.{answer_text, run_text};
+
+use crate::help::{HELP, VERSION};
+use code_listing::write_listing;
+use edge_io::{PutFault, Sink};
+use kernel_contexts::Context;
+use paged_memory::Image;
+use report_text::{Head, write_report};
+use sm_types::Stop;
+
+/// A run that has ended.
+#[derive(Drop)]
+pub struct RunReport {
+    /// The thread, as it stopped.
+    pub context: Context,
+    /// Why it stopped.
+    pub stop: Stop,
+    /// What stands before the report's blocks.
+    pub head: Head,
+}
+
+/// What a command answers.
+#[derive(Drop)]
+pub enum Answer {
+    /// The run of a program.
+    Report(RunReport),
+    /// The image of the program whose code words are listed.
+    Listing(Image),
+    /// The bytes of the program file that a source is assembled to.
+    Program(Vec<u8>),
+    Help,
+    Version,
+}
+
+/// Writes the report of a run.
+#[tactic(auto, unfolding(crate::specs::Views::run_text))]
+fn write_run<K: Sink>(out: &mut K, report: &RunReport) -> Result<(), PutFault>
+    ensures { Writes (K.view out.old) (K.view out.new) result (run_text report.now) }
+{
+    write_report(&report.context, report.stop, &report.head, out)
+}
+
+/// Writes the text of help.
+#[tactic(auto, unfolding(crate::specs::Texts::help_text))]
+fn write_help<K: Sink>(out: &mut K) -> Result<(), PutFault>
+    ensures { Writes (K.view out.old) (K.view out.new) result text.help_text }
+{
+    out.put(HELP)
+}
+
+/// Writes the line of the version.
+#[tactic(auto, unfolding(crate::specs::Texts::version_text))]
+fn write_version<K: Sink>(out: &mut K) -> Result<(), PutFault>
+    ensures { Writes (K.view out.old) (K.view out.new) result text.version_text }
+{
+    out.put(VERSION)
+}
+
+/// Writes an answer.
+pub fn write_answer<K: Sink>(out: &mut K, answer: &Answer) -> Result<(), PutFault>
+    ensures { Writes (K.view out.old) (K.view out.new) result (answer_text answer.now) }
+{
+    match answer {
+        Answer::Report(report) => write_run(out, report),
+        Answer::Listing(image) => write_listing(image.code(), out),
+        Answer::Program(bytes) => out.put(bytes.as_slice()),
+        Answer::Help => write_help(out),
+        Answer::Version => write_version(out),
+    }
+}

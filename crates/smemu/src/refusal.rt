@@ -1,0 +1,87 @@
+//! Why a command has no answer, and how that is written.
+ghost use Rattle.std.specs.Prelude.{◌≡◌};
+ghost use Rattle.edge_io.specs.Sink.{Writes};
+ghost use Rattle.smemu.specs.Texts as text;
+ghost use Rattle.smemu.specs.Views.{refusal_status, refusal_text};
+
+use crate::fault_line::write_fault;
+use crate::source_line::write_source_fault;
+use crate::status::Status;
+use asm_core::AsmFault;
+use cmd_words::UsageKind;
+use edge_io::{PutFault, Sink};
+use elf_loader::LoadFault;
+use report_text::put_all;
+
+/// Why a command has no answer.
+#[derive(Drop)]
+pub enum Refusal {
+    /// The first fault of the words.
+    Usage { place: usize, kind: UsageKind },
+    /// The name of the file that is not there.
+    Absent(String),
+    /// The name of the file that could not be read.
+    ReadFault(String),
+    /// The file is no program that is loaded.
+    BadFile(LoadFault),
+    /// The file is no source that is assembled.
+    BadSource(AsmFault),
+    /// There was no memory.
+    Memory,
+}
+
+/// What is wrong with a word.
+fn kind_word(kind: UsageKind) -> &'static [u8]
+    ensures { result.now ≡ text.kind_word kind }
+{
+    match kind {
+        UsageKind::Unknown => b"unknown",
+        UsageKind::Missing => b"missing",
+        UsageKind::Repeated => b"repeated",
+        UsageKind::BadNumber => b"badnumber",
+        UsageKind::OutOfRange => b"outofrange",
+        UsageKind::Extra => b"extra",
+    }
+}
+
+/// Writes the line of a fault of the words.
+#[tactic(auto, unfolding(crate::specs::Texts::usage_line))]
+fn write_usage<K: Sink>(out: &mut K, place: usize, kind: UsageKind) -> Result<(), PutFault>
+    ensures { Writes (K.view out.old) (K.view out.new) result (text.usage_line (record { place = place; kind = kind })) }
+{
+    let mut buffer = itoa::Buffer::new();
+    let place_digits = buffer.format(place).as_bytes();
+    put_all(
+        out,
+        &[b"usage: word ", place_digits, b": ", kind_word(kind), b"\n"],
+    )
+}
+
+/// Writes the line of a refusal; want of memory has none.
+#[tactic(auto, unfolding(crate::specs::Views::refusal_text))]
+pub fn write_refusal<K: Sink>(out: &mut K, refusal: &Refusal) -> Result<(), PutFault>
+    ensures { Writes (K.view out.old) (K.view out.new) result (refusal_text refusal.now) }
+{
+    match refusal {
+        Refusal::Usage { place, kind } => write_usage(out, *place, *kind),
+        Refusal::Absent(name) => put_all(out, &[b"absent: ", name.as_bytes(), b"\n"]),
+        Refusal::ReadFault(name) => put_all(out, &[b"read fault: ", name.as_bytes(), b"\n"]),
+        Refusal::BadFile(fault) => write_fault(out, *fault),
+        Refusal::BadSource(fault) => write_source_fault(out, *fault),
+        Refusal::Memory => put_all(out, &[]),
+    }
+}
+
+/// The status of a refusal.
+pub fn status_of(refusal: &Refusal) -> Status
+    ensures { result ≡ refusal_status refusal.now }
+{
+    match refusal {
+        Refusal::Usage { .. } => Status::Usage,
+        Refusal::Absent(_) => Status::Absent,
+        Refusal::ReadFault(_) => Status::ReadFault,
+        Refusal::BadFile(_) => Status::BadFile,
+        Refusal::BadSource(_) => Status::BadSource,
+        Refusal::Memory => Status::OutOfMemory,
+    }
+}
