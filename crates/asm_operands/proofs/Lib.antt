@@ -14,3 +14,4 @@ pub mod OwnWord
 pub mod Stops
 pub mod GoesOn
 pub mod Aimed
+pub mod AliasNumbers

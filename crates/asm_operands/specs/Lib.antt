@@ -1,3 +1,4 @@
+pub mod Aliases
 pub mod Distances
 pub mod Fields
 pub mod Operands

@@ -1,11 +1,16 @@
 //! What the faults say, as laws over every name and all tokens.
 
-ghost use Rattle.std.specs.Prelude.{◌≡◌, ◌+◌, ◌<◌, ◌≤◌, ℕ, Bool, true, List, ◌++◌, Some, None, length, take, is_some};
+ghost use Rattle.std.specs.Prelude.{◌≡◌, ◌+◌, ◌-◌, ◌^◌, ◌<◌, ◌≤◌, ℕ, Bool, true, false, List, ◌++◌, Some, None, length, take, is_some};
 ghost use Rattle.asm_tokens.specs.declared.token.Token.{Token};
 ghost use Rattle.insn_text.specs.declared.words.TheConstants.{NAMES};
 ghost use Rattle.a64_encode.specs.Either.{instruction_of};
 ghost use Rattle.asm_operands.specs.declared.operands.Target.{Target};
+ghost use Rattle.asm_tokens.specs.declared.token.Token.TheVariants.{Number};
+ghost use Rattle.insn_text.specs.declared.item.Kind.TheVariants.{Halfword, ShiftLeft, SignedMask};
+ghost use Rattle.insn_text.specs.Texts.{mask_in};
+ghost use Rattle.asm_operands.specs.Aliases.{halfword_number, IsShiftLeft};
 ghost use Rattle.asm_operands.specs.Distances.{with_distance};
+ghost use Rattle.asm_operands.specs.Fields.{field_said, immediate_of, width_of};
 ghost use Rattle.asm_operands.specs.Operands.{shapes_of, first_word, furthest, operands_said, Says};
 
 /// The fault stands at the first token with which no instruction of the name goes on: with other tokens in place of it and of those
@@ -19,4 +24,16 @@ pub fn first_fault_law()
 pub fn any_distance_law()
     ensures { (name : ℕ) (ts : List Token) (word : ℕ) (target : Target) (back : Bool) (size aimed : ℕ) → operands_said name ts ≡ Says word (Some target)
         → with_distance target.operand word back size ≡ Some aimed → is_some (instruction_of aimed) ≡ true }
+{}
+
+/// The fields of an alias with a number stand for that number: of `mov` a halfword at its place, or its bits inverted, or a mask; of
+/// `lsl` the rotation and the highest bit of `ubfm`.
+pub fn alias_law()
+    ensures halfword { (wide negative : Bool) (bits size number field : ℕ) → immediate_of wide negative size ≡ Some number
+        → field_said (Halfword wide false) bits (Number negative size) ≡ Some field → halfword_number field ≡ number }
+    ensures inverted { (wide negative : Bool) (bits size number field : ℕ) → immediate_of wide negative size ≡ Some number
+        → field_said (Halfword wide true) bits (Number negative size) ≡ Some field → 2 ^ width_of wide - 1 - halfword_number field ≡ number }
+    ensures mask { (wide negative : Bool) (bits size number field : ℕ) → immediate_of wide negative size ≡ Some number
+        → field_said (SignedMask wide) bits (Number negative size) ≡ Some field → mask_in wide field ≡ Some number }
+    ensures shift { (wide negative : Bool) (bits size field : ℕ) → field_said (ShiftLeft wide) bits (Number negative size) ≡ Some field → IsShiftLeft wide size field }
 {}

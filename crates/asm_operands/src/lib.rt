@@ -16,6 +16,6 @@ mod tests;
 
 pub use distances::{unit_of, with_distance};
 pub use fault::FaultKind;
-pub use laws::{any_distance_law, first_fault_law};
+pub use laws::{alias_law, any_distance_law, first_fault_law};
 pub use operands::{OperandFault, Operands, Target};
 pub use reading::read_operands;
