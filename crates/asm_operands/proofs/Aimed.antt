@@ -7,16 +7,17 @@ use Rattle.std.specs.List.{list_all}
 use Rattle.std.proofs.lemmas.Bool.{and_parts, cases_Bool}
 use Rattle.std.proofs.lemmas.Nat.{or_disjoint, shl-shr}
 use Rattle.std.proofs.lemmas.Nat.Bits.{bit_at_and, bit_at_or, bit_at-lt, bit_at-zero, same_from_bits}
-use Rattle.a64_table.specs.declared.rows.Row.{Row}
-use Rattle.a64_table.specs.declared.rows.Group.{Group}
-use Rattle.a64_table.specs.declared.rows.Group.TheVariants.{G1, G2, G3, G4, G5, G6, G7, G8, G9, G10, G11, G12, G13, G14, G15, G16, G17, G18, G19, G20, G21, G22, G23}
-use Rattle.a64_table.specs.declared.rows.TheConstants.{SCALAR_ROWS}
+use Rattle.insn_forms.specs.declared.field.Field.{Field}
+use Rattle.insn_forms.specs.declared.line.Line.{Line}
+use Rattle.insn_forms.specs.Tables.{fits_in, meaning_in, meaning_by, stands_for}
+use Rattle.a64_table.specs.declared.operation.Operation.{Operation}
+use Rattle.a64_table.specs.declared.operation.Operation.TheVariants.{G1, G2, G3, G4, G5, G6, G7, G8, G9, G10, G11, G12, G13, G14, G15, G16, G17, G18, G19, G20, G21, G22, G23}
+use Rattle.a64_table.specs.declared.rows.TheConstants.{SCALAR_LINES}
 use Rattle.a64_table.specs.Conditions.{fits_of}
-use Rattle.a64_table.specs.Meaning.{meaning_in, meaning_of, stands_for}
+use Rattle.a64_table.specs.Table.{scalar, meaning_of}
 use Rattle.sm_types.specs.declared.insn.Insn.{Insn}
-use Rattle.sve_table.specs.declared.rows.TheConstants.{VECTOR_ROWS}
 use Rattle.a64_encode.specs.Either.{instruction_of}
-use Rattle.sve_table.specs.Table.{vector_meaning_of}
+use Rattle.sve_table.specs.Table.{vector, vector_meaning_of}
 use Rattle.insn_text.specs.declared.item.Item.{Item}
 use Rattle.insn_text.specs.declared.item.Shape.{Shape}
 use Rattle.insn_text.specs.declared.shapes.TheConstants.{SHAPES, STARTS}
@@ -132,44 +133,25 @@ or_clear w p m e = same_from_bits _ _ (λ i.
 
 -- ---- the rows of the words of a shape leave room for its distance, and have no condition
 
-unfoldable pub is_free : Group → Bool
-is_free G9 = true
-is_free G10 = true
-is_free G19 = true
-is_free group = false
+unfoldable pub is_free : Operation → Bool
+is_free (G9 op) = true
+is_free (G10 op) = true
+is_free (G19 op) = true
+is_free operation = false
 
-free_fits : (group : Group) → is_free group ≡ true → (word : ℕ) → fits_of group word ≡ true
+free_fits : (operation : Operation) → is_free operation ≡ true → (n : Field → ℕ) → fits_of operation n ≡ true
 unfolding is_free fits_of
-free_fits G1 e word = cc
-free_fits G2 e word = cc
-free_fits G3 e word = cc
-free_fits G4 e word = cc
-free_fits G5 e word = cc
-free_fits G6 e word = cc
-free_fits G7 e word = cc
-free_fits G8 e word = cc
-free_fits G9 e word = refl
-free_fits G10 e word = refl
-free_fits G11 e word = cc
-free_fits G12 e word = cc
-free_fits G13 e word = cc
-free_fits G14 e word = cc
-free_fits G15 e word = cc
-free_fits G16 e word = cc
-free_fits G17 e word = cc
-free_fits G18 e word = cc
-free_fits G19 e word = refl
-free_fits G20 e word = cc
-free_fits G21 e word = cc
-free_fits G22 e word = cc
-free_fits G23 e word = cc
+free_fits (G9 op) e n = refl
+free_fits (G10 op) e n = refl
+free_fits (G19 op) e n = refl
+free_fits operation e n = cc
 
 -- no word of the row is one of the shape, or the row has no bit of the field, and no condition
-unfoldable pub leaves_room : Item → Shape → Row → Bool
-leaves_room i s row = not (bit_and row.value s.mask == bit_and (bit_and s.value s.mask) row.mask) || ((bit_and row.mask (mask_of i) == 0) && is_free row.group)
+unfoldable pub leaves_room : Item → Shape → Line Operation → Bool
+leaves_room i s row = not (bit_and row.value s.mask == bit_and (bit_and s.value s.mask) row.mask) || ((bit_and row.mask (mask_of i) == 0) && is_free row.operation)
 
 unfoldable pub has_room : Shape → Item → Bool
-has_room s i = not (is_distance i.kind) || ((bit_and (upper_mask i) (lower_mask i) == 0) && (list_all (leaves_room i s) SCALAR_ROWS && list_all (leaves_room i s) VECTOR_ROWS))
+has_room s i = not (is_distance i.kind) || ((bit_and (upper_mask i) (lower_mask i) == 0) && list_all (leaves_room i s) SCALAR_LINES)
 
 unfoldable pub all_room : Shape → Bool
 all_room s = list_all (has_room s) (items_of s)
@@ -189,15 +171,15 @@ module _ (i : Item) (s : Shape) (ts : List Token) (w field : ℕ) (said : word_i
   abbrev aimed : ℕ
   aimed = bit_or w (placed i field)
 
-  row_stands : (row : Row) → leaves_room i s row ≡ true → stands_for row w ≡ true → stands_for row aimed ≡ true
-  unfolding leaves_room stands_for
+  row_stands : (row : Line Operation) → leaves_room i s row ≡ true → stands_for scalar row w ≡ true → stands_for scalar row aimed ≡ true
+  unfolding leaves_room stands_for scalar
   row_stands row room stands =
       let matches = eqb-true (bit_and w row.mask) row.value (and_parts (bit_and w row.mask == row.value) _ stands).0 in
       let common : bit_and row.value s.mask ≡ bit_and (bit_and s.value s.mask) row.mask =
       ap (λ v. bit_and v s.mask) (sym matches) ∙ and_swap w row.mask s.mask ∙ ap (λ v. bit_and v row.mask) (word_kept s ts w said) in
-      let parts = and_parts (bit_and row.mask (mask_of i) == 0) (is_free row.group) (when_true _ _ (eq-eqb _ _ common) room) in
+      let parts = and_parts (bit_and row.mask (mask_of i) == 0) (is_free row.operation) (when_true _ _ (eq-eqb _ _ common) room) in
       let clear = placed_clear i field row.mask apart (eqb-true _ 0 parts.0) in
-      both_true _ _ (eq-eqb _ _ (or_clear w (placed i field) row.mask clear ∙ matches)) (free_fits row.group parts.1 aimed)
+      both_true _ _ (eq-eqb _ _ (or_clear w (placed i field) row.mask clear ∙ matches)) (free_fits row.operation parts.1 _)
 
   some_of : (b : Bool) (it : Insn) (rest : Option Insn) → is_some rest ≡ true → is_some (cond b (Some it) rest) ≡ true
   some_of true it rest e = refl
@@ -211,14 +193,14 @@ module _ (i : Item) (s : Shape) (ts : List Token) (w field : ℕ) (said : word_i
   some_other true it rest e h = cc
   some_other false it rest e h = h
 
-  still_meant : (rows : List Row) → list_all (leaves_room i s) rows ≡ true → is_some (meaning_in rows w) ≡ true → is_some (meaning_in rows aimed) ≡ true
+  still_meant : (rows : List (Line Operation)) → list_all (leaves_room i s) rows ≡ true → is_some (meaning_in scalar rows w) ≡ true → is_some (meaning_in scalar rows aimed) ≡ true
   unfolding meaning_in
   still_meant [] room e = cc
   still_meant (row ∷ rows) room e =
       let parts = and_parts (leaves_room i s row) (list_all (leaves_room i s) rows) room in
-      elim (cases_Bool (stands_for row w)) [
-        | inl h ↦ some_here (stands_for row aimed) _ _ (row_stands row parts.0 h)
-        | inr h ↦ some_of (stands_for row aimed) _ _ (still_meant rows parts.1 (some_other (stands_for row w) _ _ h e))
+      elim (cases_Bool (stands_for scalar row w)) [
+        | inl h ↦ some_here (stands_for scalar row aimed) _ _ (row_stands row parts.0 h)
+        | inr h ↦ some_of (stands_for scalar row aimed) _ _ (still_meant rows parts.1 (some_other (stands_for scalar row w) _ _ h e))
       ]
 
   some_either : (a b c d : Option Insn) → (is_some a ≡ true → is_some c ≡ true) → (is_some b ≡ true → is_some d ≡ true) → is_some (option_or a b) ≡ true → is_some (option_or c d) ≡ true
@@ -227,10 +209,17 @@ module _ (i : Item) (s : Shape) (ts : List Token) (w field : ℕ) (said : word_i
   some_either None b (Some y) d f g e = refl
   some_either None b None d f g e = g e
 
-  either_meant : list_all (leaves_room i s) SCALAR_ROWS ≡ true → list_all (leaves_room i s) VECTOR_ROWS ≡ true → is_some (instruction_of w) ≡ true → is_some (instruction_of aimed) ≡ true
-  unfolding instruction_of meaning_of vector_meaning_of
-  either_meant scalar vector e =
-      some_either (meaning_in SCALAR_ROWS w) (meaning_in VECTOR_ROWS w) (meaning_in SCALAR_ROWS aimed) (meaning_in VECTOR_ROWS aimed) (still_meant SCALAR_ROWS scalar) (still_meant VECTOR_ROWS vector) e
+  no_vector : (v : ℕ) → is_some (vector_meaning_of w) ≡ true → is_some (vector_meaning_of v) ≡ true
+  unfolding vector_meaning_of meaning_by meaning_in vector
+  no_vector v e = cc
+
+  scalar_meant : list_all (leaves_room i s) SCALAR_LINES ≡ true → is_some (meaning_of w) ≡ true → is_some (meaning_of aimed) ≡ true
+  unfolding meaning_of meaning_by scalar
+  scalar_meant room e = still_meant SCALAR_LINES room e
+
+  either_meant : list_all (leaves_room i s) SCALAR_LINES ≡ true → is_some (instruction_of w) ≡ true → is_some (instruction_of aimed) ≡ true
+  unfolding instruction_of
+  either_meant room e = some_either (meaning_of w) (vector_meaning_of w) (meaning_of aimed) (vector_meaning_of aimed) (scalar_meant room) (no_vector aimed) e
 
 -- ---- the shape of a word whose target is named
 
@@ -338,9 +327,8 @@ unfolding has_room
 aimed_by i ts w aimed None n m e = cc
 aimed_by i ts w aimed (Some field) n m e =
     let parts = and_parts (bit_and (upper_mask i) (lower_mask i) == 0) _ (when_true (is_distance i.kind) _ n.distance n.room) in
-    let rows = and_parts (list_all (leaves_room i n.shape) SCALAR_ROWS) (list_all (leaves_room i n.shape) VECTOR_ROWS) parts.1 in
     subst (λ v. is_some (instruction_of v) ≡ true) (some_is _ aimed e)
-    (either_meant i n.shape ts w field n.said (eqb-true _ 0 parts.0) rows.0 rows.1 m)
+    (either_meant i n.shape ts w field n.said (eqb-true _ 0 parts.0) parts.1 m)
 
 -- with each distance it means one too
 pub aimed-means : (name : ℕ) (ts : List Token) (w : ℕ) (target : Target) (back : Bool) (size aimed : ℕ) → operands_said name ts ≡ Says w (Some target)

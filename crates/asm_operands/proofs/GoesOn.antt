@@ -8,7 +8,7 @@ use Rattle.std.proofs.lemmas.Nat.{and_assoc, and_comm, and_or_self, and_or_apart
 use Rattle.std.proofs.Math.Nat.{zero-mod, zero-div}
 use Rattle.std.proofs.lemmas.Nat.Bits.{bit_at_and, bit_at_or, bit_at-zero, same_from_bits}
 use borrow.Author.Tests.{ne_eqb}
-use Rattle.a64_table.specs.Conditions.{length_bits, is_highest_one, has_fewer_ones, is_mask_of, is_mask}
+use Rattle.bit_ops.specs.Masks.{are_mask_fields}
 use Rattle.insn_forms.specs.Fields.{field_of}
 use Rattle.bit_ops.specs.Bits.{number_of_digits}
 use Rattle.bit_ops.specs.Masks.{highest_one, length_of, is_reserved, bit_mask_of, mask_of as mask_of_fields}
@@ -80,7 +80,7 @@ zero_mask true = 4294967297
 zero_mask false = 1
 
 zero_fields : (wide : Bool) → is_field_of wide (zero_mask wide) 0 ≡ true
-unfolding zero_mask is_field_of mask_in is_mask length_bits is_highest_one has_fewer_ones is_mask_of field_of bit_mask_of is_reserved mask_of_fields highest_one length_of number_of_digits
+unfolding zero_mask is_field_of mask_in are_mask_fields field_of bit_mask_of is_reserved mask_of_fields highest_one length_of number_of_digits
 zero_fields true = refl
 zero_fields false = refl
 

@@ -5,7 +5,7 @@ use Rattle.std.proofs.lemmas.Nat.{pow-add, pow_pos}
 use Rattle.std.proofs.Math.Nat.{mul-div_cancel, mul-mod_left}
 use borrow.Author.Tests.{ne_eqb}
 use Rattle.insn_forms.specs.Fields.{field_of}
-use Rattle.a64_table.specs.Conditions.{is_mask}
+use Rattle.bit_ops.specs.Masks.{are_mask_fields}
 use Rattle.insn_text.specs.declared.item.Kind.{Kind}
 use Rattle.insn_text.specs.declared.item.Kind.TheVariants as kind
 use Rattle.insn_text.specs.Texts.{is_positive, size_of, register_place, mask_in}
@@ -95,7 +95,7 @@ signed_back scale n f positive signed lt =
     ]
 
 -- ---- masks
-mask_back : (wide : Bool) (bits field : ℕ) → field < 8192 → is_mask wide (field_of field 12 1 == 1) (field_of field 6 6) (field_of field 0 6) ≡ true
+mask_back : (wide : Bool) (bits field : ℕ) → field < 8192 → are_mask_fields (field_of field 12 1 == 1) (field_of field 0 6) (field_of field 6 6) wide ≡ true
     → on_number (λ negative size. if negative then None else mask_field wide size) (mask_token (mask_in wide field)) ≡ Some field
 unfolding on_number
 mask_back wide bits field lt e =

@@ -3,11 +3,10 @@ use Rattle.std.proofs.Common.{◌≡◌, ℕ, zero, suc, ◌+◌, ◌-◌, ◌*�
 use Rattle.std.proofs.lemmas.Bool.{and_parts, cases_lt}
 use Rattle.std.proofs.lemmas.Nat.{mod_below}
 use Rattle.std.proofs.Math.Nat.{mod-eq_of_lt}
-use Rattle.a64_table.specs.Conditions.{length_bits, is_highest_one, has_fewer_ones, is_mask_of, is_mask}
 use Rattle.insn_forms.specs.Fields.{field_of}
 use Rattle.bit_ops.specs.Bits.{digit_at, width_of}
 use Rattle.bit_ops.specs.Sums.{bool_number, word_size}
-use Rattle.bit_ops.specs.Masks.{highest_one, length_of, size_of, ones_of, is_reserved, mask_of, bit_mask_of, starts_at, IsFieldsOf}
+use Rattle.bit_ops.specs.Masks.{are_mask_fields, highest_one, length_of, size_of, ones_of, is_reserved, mask_of, bit_mask_of, starts_at, IsFieldsOf}
 use Rattle.bit_ops.proofs.MaskBits.{mask-facts}
 use Rattle.bit_ops.proofs.Fields.{IsPeriodic, start-on, some-start, first-below, turn-is, next-is, none-is, ones-are, fields-wide, fields-narrow, size-known, periodic-of, size-some}
 use Rattle.insn_text.specs.Texts.{mask_in}
@@ -26,55 +25,6 @@ all_below-at p (suc n) k e h =
     let parts = and_parts (p n) (all_below p n) e in
     elim (cases_lt k n) [ inl l ↦ all_below-at p n k parts.1 l | inr g ↦ (let s : k ≡ n = omega arith in ap p s ∙ parts.0) ]
 
--- ---- the two conditions on the fields are one
-unfoldable pub same_test : Bool → Bool → Bool
-same_test true b = b
-same_test false b = not b
-
-same_test-true : (a b : Bool) → same_test a b ≡ true → a ≡ b
-unfolding same_test
-same_test-true true true e = refl
-same_test-true true false e = cc
-same_test-true false true e = cc
-same_test-true false false e = refl
-
-unfoldable pub has_one_mask : Bool → Bool → ℕ → ℕ → Bool
-has_one_mask wide n immr imms = not (is_reserved n imms wide) && nat_lt immr (size_of n imms)
-
-unfoldable pub conditions_agree : Bool → Bool → ℕ → ℕ → Bool
-conditions_agree wide n immr imms = same_test (is_mask wide n immr imms) (has_one_mask wide n immr imms)
-
-unfoldable pub all_agree : Bool → Bool → ℕ → Bool
-all_agree wide n immr = all_below (conditions_agree wide n immr) 64
-
-agree_wide_one : all_below (all_agree true true) 64 ≡ true
-unfolding all_below same_test has_one_mask conditions_agree all_agree length_bits is_highest_one has_fewer_ones is_mask_of is_mask highest_one length_of is_reserved
-agree_wide_one = refl
-
-agree_wide_zero : all_below (all_agree true false) 64 ≡ true
-unfolding all_below same_test has_one_mask conditions_agree all_agree length_bits is_highest_one has_fewer_ones is_mask_of is_mask highest_one length_of is_reserved
-agree_wide_zero = refl
-
-agree_narrow_one : all_below (all_agree false true) 64 ≡ true
-unfolding all_below same_test has_one_mask conditions_agree all_agree length_bits is_highest_one has_fewer_ones is_mask_of is_mask highest_one length_of is_reserved
-agree_narrow_one = refl
-
-agree_narrow_zero : all_below (all_agree false false) 64 ≡ true
-unfolding all_below same_test has_one_mask conditions_agree all_agree length_bits is_highest_one has_fewer_ones is_mask_of is_mask highest_one length_of is_reserved
-agree_narrow_zero = refl
-
-agree : (wide n : Bool) → all_below (all_agree wide n) 64 ≡ true
-agree true true = agree_wide_one
-agree true false = agree_wide_zero
-agree false true = agree_narrow_one
-agree false false = agree_narrow_zero
-
-mask_test : (wide n : Bool) (immr imms : ℕ) → immr < 64 → imms < 64 → is_mask wide n immr imms ≡ has_one_mask wide n immr imms
-unfolding conditions_agree all_agree
-mask_test wide n immr imms small lt =
-    same_test-true (is_mask wide n immr imms) (has_one_mask wide n immr imms)
-    (all_below-at (conditions_agree wide n immr) 64 imms (all_below-at (all_agree wide n) 64 immr (agree wide n) small) lt)
-
 -- ---- the fields as one number
 abbrev pub joined : Bool → ℕ → ℕ → ℕ
 joined n immr imms = bool_number n * 4096 + immr * 64 + imms
@@ -88,13 +38,11 @@ not_true true e = cc
 not_true false e = refl
 
 pub fields-of : (wide : Bool) (mask field : ℕ) → is_field_of wide mask field ≡ true → IsFieldsOf (field_of field 12 1 == 1) (field_of field 0 6) (field_of field 6 6) wide mask
-unfolding is_field_of mask_in has_one_mask field_of
+unfolding is_field_of mask_in are_mask_fields field_of
 fields-of wide mask field e =
-    let parts = and_parts (is_mask wide (field_of field 12 1 == 1) (field_of field 6 6) (field_of field 0 6)) (is_that mask (mask_in wide field)) e in
+    let parts = and_parts (are_mask_fields (field_of field 12 1 == 1) (field_of field 0 6) (field_of field 6 6) wide) (is_that mask (mask_in wide field)) e in
     let imms : field / 2 ^ 0 % 2 ^ 6 < 64 = mod_below (field / 2 ^ 0) (2 ^ 6) (lit< tt) in
-    let immr : field / 2 ^ 6 % 2 ^ 6 < 64 = mod_below (field / 2 ^ 6) (2 ^ 6) (lit< tt) in
-    let one = and_parts (not (is_reserved (field_of field 12 1 == 1) (field_of field 0 6) wide)) (nat_lt (field_of field 6 6) (size_of (field_of field 12 1 == 1) (field_of field 0 6)))
-    (sym (mask_test wide (field_of field 12 1 == 1) (field_of field 6 6) (field_of field 0 6) immr imms) ∙ parts.0) in
+    let one = and_parts (not (is_reserved (field_of field 12 1 == 1) (field_of field 0 6) wide)) (nat_lt (field_of field 6 6) (size_of (field_of field 12 1 == 1) (field_of field 0 6))) parts.0 in
     record { imms_in_range = imms; immr_in_range = ltb-true _ _ one.1; given = that_mask mask (mask_in wide field) parts.1 }
 
 bit_back : (n : Bool) (immr imms : ℕ) → immr < 64 → imms < 64 → (joined n immr imms / 2 ^ 12 % 2 ^ 1 == 1) ≡ n
@@ -147,12 +95,12 @@ both_true : (a b : Bool) → a ≡ true → b ≡ true → (a && b) ≡ true
 both_true a b p q = ap₂ (λ x y. x && y) p q
 
 pub of-fields : (n wide : Bool) (imms immr mask : ℕ) → IsFieldsOf n imms immr wide mask → is_field_of wide mask (joined n immr imms) ≡ true
-unfolding is_field_of mask_in has_one_mask field_of
+unfolding is_field_of mask_in are_mask_fields field_of
 of-fields n wide imms immr mask f =
     let lt = f.imms_in_range in
     let small = immr-lt n wide imms immr mask f in
-    let test : is_mask wide n immr imms ≡ true =
-    mask_test wide n immr imms small lt ∙ both_true (not (is_reserved n imms wide)) (nat_lt immr (size_of n imms)) (not_reserved n wide imms immr mask f.given) (lt-ltb _ _ f.immr_in_range) in
+    let test : are_mask_fields n imms immr wide ≡ true =
+    both_true (not (is_reserved n imms wide)) (nat_lt immr (size_of n imms)) (not_reserved n wide imms immr mask f.given) (lt-ltb _ _ f.immr_in_range) in
     let b = bit_back n immr imms small lt in
     let r = immr_back n immr imms small lt in
     let s = imms_back n immr imms small lt in
@@ -317,15 +265,13 @@ mask_given : (n wide : Bool) (imms immr : ℕ) → not (is_reserved n imms wide)
 unfolding bit_mask_of
 mask_given n wide imms immr e = given_of (is_reserved n imms wide) (mask_of n imms immr wide) e
 
-pub mask-given : (wide : Bool) (field : ℕ) → field < 8192 → is_mask wide (field_of field 12 1 == 1) (field_of field 6 6) (field_of field 0 6) ≡ true → IsGiven wide field
-unfolding is_field_of mask_in has_one_mask field_of
+pub mask-given : (wide : Bool) (field : ℕ) → field < 8192 → are_mask_fields (field_of field 12 1 == 1) (field_of field 0 6) (field_of field 6 6) wide ≡ true → IsGiven wide field
+unfolding is_field_of mask_in are_mask_fields field_of
 mask-given wide field lt e =
     let n = field_of field 12 1 == 1 in
     let immr = field_of field 6 6 in
     let imms = field_of field 0 6 in
-    let small : field / 2 ^ 6 % 2 ^ 6 < 64 = mod_below (field / 2 ^ 6) (2 ^ 6) (lit< tt) in
-    let low : field / 2 ^ 0 % 2 ^ 6 < 64 = mod_below (field / 2 ^ 0) (2 ^ 6) (lit< tt) in
-    let parts = and_parts (not (is_reserved n imms wide)) (nat_lt immr (size_of n imms)) (sym (mask_test wide n immr imms small low) ∙ e) in
+    let parts = and_parts (not (is_reserved n imms wide)) (nat_lt immr (size_of n imms)) e in
     let m = mask_of n imms immr wide in
     let given : mask_in wide field ≡ Some m = mask_given n wide imms immr parts.0 in
-    record { mask = m; given = given; back = mask_field-is wide m field lt (both_true (is_mask wide n immr imms) (is_that m (mask_in wide field)) e (is_that-same m (mask_in wide field) given)) }
+    record { mask = m; given = given; back = mask_field-is wide m field lt (both_true (are_mask_fields n imms immr wide) (is_that m (mask_in wide field)) e (is_that-same m (mask_in wide field) given)) }

@@ -2,7 +2,7 @@
 -- Source: DDI 0487, C1.2 and C6.2, with the aliases' pages for MOV (immediate), LSL (immediate) and CSET.
 use Rattle.std.specs.Prelude.{ℕ, ◌+◌, ◌-◌, ◌*◌, ◌/◌, ◌%◌, ◌^◌, Bool, false, not, ◌&&◌, ◌==◌, nat_lt, nat_le, Option, Some, None, if◌then◌else◌, option_and_then, option_map, bit_xor}
 use Rattle.std.specs.List.{find, range_with_len}
-use Rattle.a64_table.specs.Conditions.{is_mask}
+use Rattle.bit_ops.specs.Masks.{are_mask_fields}
 use Rattle.insn_forms.specs.Fields.{field_of}
 use Rattle.insn_text.specs.declared.item.Kind.{Kind}
 use Rattle.insn_text.specs.declared.item.Kind.TheVariants as kind
@@ -86,7 +86,7 @@ is_that number (Some mask) = mask == number
 -- the mask has the fields N, immr and imms
 unfoldable pub is_field_of : Bool → ℕ → ℕ → Bool
 is_field_of wide mask field =
-    is_mask wide (field_of field 12 1 == 1) (field_of field 6 6) (field_of field 0 6) && is_that mask (mask_in wide field)
+    are_mask_fields (field_of field 12 1 == 1) (field_of field 0 6) (field_of field 6 6) wide && is_that mask (mask_in wide field)
 
 -- the fields N, immr and imms of a mask
 unfoldable pub mask_field : Bool → ℕ → Option ℕ

@@ -9,10 +9,9 @@ use crate::faults::operand_fault;
 use crate::operands::{OperandFault, Operands, Target};
 use crate::shapes::{items_of, shapes_of};
 use crate::taking::word_in;
-use a64_decode::decode_scalar;
 use asm_tokens::Token;
+use insn_decode::decode;
 use insn_text::{Item, Kind, Shape};
-use sve_decode::decode_vector;
 
 /// Whether the kind is a distance, for which a name may stand.
 #[tactic(auto, unfolding(crate::specs::Operands::is_distance))]
@@ -112,11 +111,10 @@ pub(crate) fn first_said(shapes: &[Shape], tokens: &[Token]) -> Option<Said>
 }
 
 /// Whether a word means an instruction.
-#[tactic(auto, unfolding(a64_encode::specs::Either::instruction_of))]
 fn is_instruction(word: u32) -> bool
     ensures { result ≡ is_some (instruction_of word) }
 {
-    decode_scalar(word).is_some() || decode_vector(word).is_some()
+    decode(word).is_some()
 }
 
 /// What the tokens after a name say: the word, with the token that names its target, or the first fault; `name` is a place of

@@ -6,12 +6,9 @@ use Rattle.std.specs.Option.{option_or}
 use Rattle.std.proofs.lemmas.List.{drop_at, get_or-drop}
 use Rattle.std.proofs.lemmas.List.Sums.{take_while-cons}
 use Rattle.sm_types.specs.declared.insn.Insn.{Insn}
-use Rattle.a64_table.specs.declared.rows.Row.{Row}
-use Rattle.a64_table.proofs.FirstRow.{scalar_meaning}
-use Rattle.sve_table.specs.declared.rows.TheConstants.{VECTOR_ROWS}
 use Rattle.a64_encode.specs.Either.{instruction_of}
-use Rattle.sve_table.specs.Table.{vector_meaning_of}
 use Rattle.a64_encode.specs.Either.{MeansEither}
+use Rattle.a64_encode.proofs.Either.{either, is_word}
 use Rattle.insn_text.specs.declared.item.Kind.TheVariants as kind
 use Rattle.insn_text.specs.declared.item.Item.{Item}
 use Rattle.insn_text.specs.declared.item.Shape.{Shape}
@@ -108,13 +105,8 @@ module _ (name rest : List ℕ) (plain : is_plain name ≡ true) (o : opens rest
 
 -- ---- the text of a word
 
-no_vector : (word : ℕ) (it : Insn) (place : ℕ) (row : Row) → slice_get VECTOR_ROWS place ≡ Some row → (word < 2 ^ 32) × (instruction_of word ≡ Some it)
-no_vector word it place row e = cc
-
 instruction_is : (word : ℕ) (it : Insn) → MeansEither word it → (word < 2 ^ 32) × (instruction_of word ≡ Some it)
-unfolding instruction_of
-instruction_is word it (inl m) = (m.is_word, ap (λ o. option_or o (vector_meaning_of word)) ((scalar_meaning word it m.is_word).1 m))
-instruction_is word it (inr m) = no_vector word it m.place m.row m.listed
+instruction_is word it m = let lt = is_word word it m in (lt, (either word it lt).1 m)
 
 rest-opens : (word : ℕ) (is : List Item) → opens (items_text word (kind.Mark 44) is) ≡ true
 unfolding items_text opens gap is_comma is_name_character is_digit

@@ -9,7 +9,8 @@ unfoldable pub highest_one : ℕ → ℕ → ℕ
 highest_one zero n = 0
 highest_one (suc limit) n = if nat_le (2 ^ limit) n then limit else highest_one limit n
 
--- len: the place of the highest one in the seven bits N, NOT(imms); imms has six bits, and what stands above them is not read
+-- len: the place of the highest one in the seven bits N, NOT(imms); imms has six bits, and what stands above
+-- them is not read
 unfoldable pub length_of : Bool → ℕ → ℕ
 length_of n imms = highest_one 7 (bool_number n * 64 + (63 - imms % 64))
 
@@ -25,7 +26,8 @@ ones_of n imms = imms % size_of n imms
 abbrev pub turn_of : Bool → ℕ → ℕ → ℕ
 turn_of n imms immr = immr % size_of n imms
 
--- no mask has these fields: elements of 64 bits in words of 32, elements of one bit or none, or no zero in an element
+-- no mask has these fields: elements of 64 bits in words of 32, elements of one bit or none, or no zero in an
+-- element
 unfoldable pub is_reserved : Bool → ℕ → Bool → Bool
 is_reserved n imms wide = (n && not wide) || (length_of n imms == 0) || (ones_of n imms == size_of n imms - 1)
 
@@ -52,6 +54,7 @@ pub record IsFieldsOf (n : Bool) (imms immr : ℕ) (wide : Bool) (mask : ℕ) : 
   pub immr_in_range : immr < size_of n imms
   pub given : bit_mask_of n imms immr wide ≡ Some mask
 
--- a run of ones starts at a place of a word of so many bits: a one stands there, and a zero below it, round the end of the word
+-- a run of ones starts at a place of a word of so many bits: a one stands there, and a zero below it, round
+-- the end of the word
 unfoldable pub starts_at : ℕ → ℕ → ℕ → Bool
 starts_at word width i = (digit_at 2 word i == 1) && (digit_at 2 word ((i + (width - 1)) % width) == 0)

@@ -7,8 +7,8 @@ ghost use Rattle.bit_ops.specs.Masks.{are_mask_fields, bit_mask_of, is_reserved,
 use crate::words::{low_word, width};
 
 /// The mask that the fields N, imms and immr of a logical instruction give a word of 64 bits where `wide`,
-/// else of 32. None exactly where the fields are reserved. `imms` and `immr` have six bits, and what stands above
-/// them is not read; nor are bits of `immr` above the size of an element.
+/// else of 32. None exactly where the fields are reserved. `imms` and `immr` have six bits, and what stands
+/// above them is not read; nor are bits of `immr` above the size of an element.
 pub fn bit_mask(n: bool, imms: u8, immr: u8, wide: bool) -> Option<u64>
     ensures value { result ≡ bit_mask_of n imms immr wide }
     ensures none { IsNone result ↔ IsTrue (is_reserved n imms wide) }

@@ -1,15 +1,18 @@
 -- The image of an object, and when an object is written as a file.
 -- Source: ELF-64 Object File Format, PT_LOAD with p_flags (PF_X 1, PF_W 2, PF_R 4); where the parts stand is this project's own.
 use Rattle.std.specs.Prelude.{◌≡◌, ◌≤◌, ℕ, List, [], ◌∷◌, length, cond, ◌==◌, None}
-use Rattle.sm_types.specs.declared.object.TheConstants.{TEXT_ADDRESS}
 use Rattle.sm_types.specs.declared.object.Object.{Object}
 use Rattle.sm_types.specs.Objects.{data_address, object_code, IsStartable}
 use Rattle.paged_memory.specs.Image.{Extent, Program, IsMemoryOf}
 use Rattle.elf_loader.specs.Loading.{words_fault, Loads}
 
+-- where the text stands
+abbrev pub text_address : ℕ
+text_address = 0x400000
+
 -- the text, which can be read and executed
 unfoldable pub text_extent : Object → Extent
-text_extent o = record { address = TEXT_ADDRESS; size = length o.text_bytes.items; flags = 5; bytes = o.text_bytes.items }
+text_extent o = record { address = text_address; size = length o.text_bytes.items; flags = 5; bytes = o.text_bytes.items }
 
 -- the data, which can be read and written
 unfoldable pub data_extent : Object → Extent

@@ -12,6 +12,6 @@ mod words;
 mod write;
 
 pub use elf_headers::LoadFault;
-pub use laws::{one_image, some_image};
+pub use laws::{one_image, one_text_address, some_image};
 pub use loader::load;
 pub use write::write_elf;

@@ -1,12 +1,19 @@
 -- The file of an object.
 -- Source: ELF-64 Object File Format, Elf64_Sym; ELF for the Arm 64-bit Architecture (AArch64), mapping symbols; the places are this project's own.
-use Rattle.std.specs.Prelude.{ℕ, suc, ◌+◌, ◌-◌, cond, List, [], ◌∷◌, ◌++◌, length, replicate}
+use Rattle.std.specs.Prelude.{ℕ, suc, ◌+◌, ◌-◌, cond, List, [], ◌∷◌, ◌++◌, length, replicate, codes}
 use Rattle.sm_types.specs.declared.object.Object.{Object}
 use Rattle.elf_writer.specs.declared.layout.Layout.{Layout}
-use Rattle.elf_writer.specs.declared.file.TheConstants.{STRINGS, SECTION_NAMES}
 use Rattle.elf_writer.specs.declared.marks.TextMark.{TextMark}
 use Rattle.elf_writer.specs.TextMarks.{text_marks}
 use Rattle.elf_writer.specs.Layout.{all_fields, fields_bytes, data_place, symbols_place, text_place}
+
+-- the names of the mapping symbols, each ended by a zero byte, after that of the null symbol
+abbrev pub symbol_names : List ℕ
+symbol_names = 0 ∷ (codes "$x" ++ (0 ∷ (codes "$d" ++ (0 ∷ []))))
+
+-- the names of the sections, each ended by a zero byte, after that of the null section
+abbrev pub section_names : List ℕ
+section_names = 0 ∷ (codes ".text" ++ (0 ∷ (codes ".data" ++ (0 ∷ (codes ".symtab" ++ (0 ∷ (codes ".strtab" ++ (0 ∷ (codes ".shstrtab" ++ (0 ∷ []))))))))))
 
 -- a local symbol of section 1 without a type: `$x` stands at 1 in the string table, `$d` at 4
 unfoldable pub symbol_fields : TextMark → List (ℕ × ℕ)
@@ -23,7 +30,7 @@ symbols_bytes marks = replicate 24 0 ++ marks_bytes marks
 
 -- the headers, the names of symbols and sections, and zeros up to the text
 unfoldable pub front_bytes : Layout → List ℕ
-front_bytes l = fields_bytes (all_fields l) ++ (STRINGS.now ++ (0 ∷ (SECTION_NAMES.now ++ replicate 3489 0)))
+front_bytes l = fields_bytes (all_fields l) ++ (symbol_names ++ (0 ∷ (section_names ++ replicate 3489 0)))
 
 -- the text, and zeros up to the data
 unfoldable pub text_part : Layout → List ℕ → List ℕ

@@ -4,6 +4,7 @@ pub mod Deciding
 pub mod FirstLine
 pub mod Forms
 pub mod Laws
+pub mod Sums
 pub mod Tables
 pub mod Walk
 pub mod Ways

@@ -12,6 +12,10 @@ list_of it = it.a ∷ it.b ∷ it.c ∷ it.d ∷ it.e ∷ it.f ∷ it.g ∷ it.h
 unfoldable pub field_of : ℕ → ℕ → ℕ → ℕ
 field_of word low width = word / 2 ^ low % 2 ^ width
 
+-- whether the bit is 1
+unfoldable pub bit_of : ℕ → ℕ → Bool
+bit_of word place = field_of word place 1 == 1
+
 -- the number that so many bits are in two's complement
 unfoldable pub signed_value : ℕ → ℕ → ℤ
 signed_value width bits = if nat_lt bits (2 ^ (width - 1)) then pos bits else pos bits -ℤ pos (2 ^ width)

@@ -3,9 +3,12 @@ use Rattle.std.proofs.Common.{◌≡◌, ℕ, Bool, true, Some, slice_get, bit_a
 use Rattle.std.specs.List.{list_all}
 use Rattle.bit_ops.specs.Masks.{highest_one}
 use Rattle.sm_types.specs.declared.insn.Insn.{Insn}
-use Rattle.a64_table.specs.declared.rows.Row.{Row}
-use Rattle.a64_table.specs.declared.rows.TheConstants.{SCALAR_ROWS}
-use Rattle.sve_table.specs.declared.rows.TheConstants.{VECTOR_ROWS}
+use Rattle.insn_forms.specs.declared.line.Line.{Line}
+use Rattle.insn_forms.specs.Tables.{numbers_in}
+use Rattle.a64_table.specs.declared.operation.Operation.{Operation}
+use Rattle.a64_table.specs.declared.rows.TheConstants.{SCALAR_LINES}
+use Rattle.a64_table.specs.Table.{scalar}
+use Rattle.sve_table.proofs.NoRows.{no_meaning}
 use Rattle.insn_forms.specs.Fields.{field_of, bit_of}
 use Rattle.a64_table.specs.Conditions.{fits_of}
 use Rattle.a64_encode.specs.Either.{MeansEither}
@@ -14,25 +17,23 @@ use Rattle.insn_text.specs.Texts.{items_of, printed_shape}
 use Rattle.insn_text.specs.Rules.{IsPrinted}
 use Rattle.insn_text.proofs.Tables.{all_get}
 use Rattle.insn_text.proofs.Regions.{is_apart, is_inside, free_bit, covers_at, covers, keep_unless, kept, find-kept, covers-printed}
-use Rattle.insn_text.proofs.Known.{same, fixed, ends, never, is_field, has_three_shifts, has_amounts, has_masks, accesses_one, accesses_two, is_mask_field, says_kind, says_rule, says_item, says, said}
+use Rattle.insn_text.proofs.Known.{same, fixed, ends, never, is_field, has_three_shifts, has_amounts, has_masks, accesses_one, loads_two, writes_two, sizes, is_mask_field, says_kind, says_rule, says_item, says, said}
 
 -- each word that matches the row and meets its condition is printed
-unfoldable pub row_printed : Row → Bool
-row_printed r = covers (ends r.group) (says r.group) 1000 r.mask r.value (kept r.mask r.value SHAPES)
+unfoldable pub row_printed : Line Operation → Bool
+row_printed r = covers (ends r.operation) (says r.operation) 1000 r.mask r.value (kept r.mask r.value SHAPES)
 
-rows_printed : list_all row_printed SCALAR_ROWS ≡ true
-unfolding row_printed highest_one field_of bit_of items_of is_apart is_inside free_bit covers_at covers keep_unless kept same fixed ends is_field has_three_shifts has_amounts has_masks accesses_one accesses_two is_mask_field says_kind says_rule says_item says
+rows_printed : list_all row_printed SCALAR_LINES ≡ true
+unfolding row_printed highest_one field_of bit_of items_of is_apart is_inside free_bit covers_at covers keep_unless kept same fixed ends is_field has_three_shifts has_amounts has_masks accesses_one loads_two writes_two sizes is_mask_field says_kind says_rule says_item says
 rows_printed = refl
 
-row-printed : (word : ℕ) (r : Row) → bit_and word r.mask ≡ r.value → fits_of r.group word ≡ true → row_printed r ≡ true → IsPrinted word
+row-printed : (word : ℕ) (r : Line Operation) → bit_and word r.mask ≡ r.value → fits_of r.operation (numbers_in word) ≡ true → row_printed r ≡ true → IsPrinted word
 unfolding row_printed printed_shape
 row-printed word r m f e =
-    let p = covers-printed word (says r.group) (λ n v s q h. said r.group word n v s q f h) (ends r.group) (λ n v q h. never r.group word n v q h f) 1000 r.mask r.value (kept r.mask r.value SHAPES) e m in
+    let p = covers-printed word (says r.operation) (λ n v s q h. said r.operation word n v s q f h) (ends r.operation) (λ n v q h. never r.operation word n v q h f) 1000 r.mask r.value (kept r.mask r.value SHAPES) e m in
     record { shape = p.shape; found = sym (find-kept word r.mask r.value SHAPES m) ∙ p.found; sayable = p.sayable }
 
 pub all_printed : (word : ℕ) (it : Insn) → MeansEither word it → IsPrinted word
-all_printed word it (inl m) = row-printed word m.row m.matches m.fits (all_get row_printed SCALAR_ROWS m.place m.row rows_printed m.listed)
-all_printed word it (inr m) = none_listed m.place m.row m.listed
-  where
-    none_listed : (place : ℕ) (row : Row) → slice_get VECTOR_ROWS place ≡ Some row → IsPrinted word
-    none_listed place row e = cc
+unfolding scalar
+all_printed word it (inl m) = row-printed word m.line m.matches m.fits (all_get row_printed SCALAR_LINES m.place m.line rows_printed m.listed)
+all_printed word it (inr m) = absurd (no_meaning word it m)

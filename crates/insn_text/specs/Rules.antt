@@ -3,7 +3,7 @@
 use Rattle.std.specs.Prelude.{◌≡◌, ℕ, Bool, true, not, ◌&&◌, ◌||◌, ◌==◌, nat_lt, nat_le, Some}
 use Rattle.std.specs.List.{list_all}
 use Rattle.insn_forms.specs.Fields.{field_of}
-use Rattle.a64_table.specs.Conditions.{is_mask}
+use Rattle.bit_ops.specs.Masks.{are_mask_fields}
 use Rattle.insn_text.specs.declared.item.Kind.{Kind}
 use Rattle.insn_text.specs.declared.item.Kind.TheVariants.{Mark, Named, Register, Unsigned, Signed, Distance, Mask, SignedMask, ShiftLeft, Opposite, Halfword}
 use Rattle.insn_text.specs.declared.item.Rule.{Rule}
@@ -20,7 +20,7 @@ is_within (Register first last) field = true
 is_within (Unsigned base scale most) field = nat_le field most
 is_within (Signed scale) field = true
 is_within (Distance scale) field = true
-is_within (Mask wide) field = is_mask wide (field_of field 12 1 == 1) (field_of field 6 6) (field_of field 0 6)
+is_within (Mask wide) field = are_mask_fields (field_of field 12 1 == 1) (field_of field 0 6) (field_of field 6 6) wide
 is_within (SignedMask wide) field = true
 is_within (ShiftLeft wide) field = true
 is_within (Opposite first count) field = true

@@ -12,7 +12,7 @@ ghost use Rattle.insn_text.specs.declared.words.TheConstants.{WORDS};
 use crate::item::{Item, Kind, Shape};
 use crate::shape::{name_at, operands_of, shape_of, word_at};
 use a64_encode::encode;
-use a64_table::field;
+use insn_forms::run_of_bits;
 use arrayvec::ArrayString;
 use bit_ops::bit_mask;
 use sm_types::Insn;
@@ -116,8 +116,8 @@ fn field_in(item: &Item, word: u32) -> u64
     ensures small { result < 2 ^ bits_of item.now }
     ensures below { result < 2 ^ 31 }
 {
-    let upper = field(word, item.upper_low as u32, item.upper_width as u32) as u64;
-    let lower = field(word, item.low as u32, item.width as u32) as u64;
+    let upper = run_of_bits(word, item.upper_low as u32, item.upper_width as u32) as u64;
+    let lower = run_of_bits(word, item.low as u32, item.width as u32) as u64;
     upper * (1 << item.width as u32) + lower
 }
 
@@ -247,9 +247,9 @@ fn mask_in(wide: bool, bits: u32) -> Option<u64>
     ensures { result ≡ mask_in wide bits }
 {
     bit_mask(
-        field(bits, 12, 1) == 1,
-        field(bits, 0, 6) as u8,
-        field(bits, 6, 6) as u8,
+        run_of_bits(bits, 12, 1) == 1,
+        run_of_bits(bits, 0, 6) as u8,
+        run_of_bits(bits, 6, 6) as u8,
         wide,
     )
 }

@@ -1,4 +1,5 @@
--- The calls of the kernel, by the number in X8. Source: the numbers are Linux's for AArch64; the kernel is this emulator's own.
+-- The calls of the kernel, by the number in X8.
+-- Source: the numbers are Linux's for AArch64; the kernel is this emulator's own.
 use Rattle.std.specs.Prelude.{ℕ, ◌+◌, ◌-◌, ◌%◌, ◌^◌, ◌==◌, ◌++◌, ◌||◌, nat_lt, cond, List, Option, Some, None, length, slice_index, slice_set}
 use Rattle.sm_types.specs.declared.config.Config.{Config}
 use Rattle.sm_types.specs.declared.scalars.Scalars.{Scalars}
@@ -49,8 +50,8 @@ abbrev pub written : State → Option (List ℕ) → ℕ → State
 written s None length = returned s (failure 14)
 written s (Some bytes) length = record (returned s length) { output = s.output ++ bytes }
 
--- write: X0 is 1 or 2, the output has room for X2 bytes, and those from X1 on can be read, in this order; where it has no room, the thread
--- stops as it was before the call
+-- write: X0 is 1 or 2, the output has room for X2 bytes, and those from X1 on can be read, in this order;
+-- where it has no room, the thread stops as it was before the call
 unfoldable pub write_of : State → State → TurnEnd
 write_of before s = let x : List ℕ = s.core.scalars.x in
     cond ((slice_index x 0 == 1) || (slice_index x 0 == 2))
@@ -63,8 +64,8 @@ write_of before s = let x : List ℕ = s.core.scalars.x in
 unfoldable pub exit_of : State → TurnEnd
 exit_of s = Ends (counted s (record s.core { scalars = past_call s.core.scalars })) (Exited (slice_index s.core.scalars.x 0 % 256))
 
--- the call of the number in X8, of the thread of that number, from a state in which streaming mode has been left; the state before is that of
--- the call. 64 is write, 93 is exit, and every other number fails.
+-- the call of the number in X8, of the thread of that number, from a state in which streaming mode has been
+-- left; the state before is that of the call. 64 is write, 93 is exit, and every other number fails.
 unfoldable pub call_of : Config → ℕ → State → State → TurnEnd
 call_of config thread before s = let number : ℕ = slice_index s.core.scalars.x 8 in
     cond (number == 64) (write_of before s) (cond (number == 93) (exit_of s) (Goes (returned s (failure 38))))

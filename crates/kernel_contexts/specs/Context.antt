@@ -8,7 +8,7 @@ use Rattle.machine_step.specs.ProcessorState.{VectorState, zero_bank}
 use Rattle.machine_step.specs.Machine.{core_of}
 use Rattle.machine_step.specs.declared.machine.Machine.{Machine}
 use Rattle.kernel_contexts.specs.State.{State}
-use Rattle.kernel_contexts.specs.Call.{TurnEnd, Goes, Ends}
+use Rattle.kernel_contexts.specs.Call.{TurnEnd, Goes, Ends, call_of}
 use Rattle.kernel_contexts.specs.Turn.{turn_of}
 use Rattle.kernel_contexts.specs.declared.guest.GuestThread.{GuestThread}
 use Rattle.kernel_contexts.specs.declared.context.Context.{Context}
@@ -64,21 +64,36 @@ thread_of c = c.guest.number
 abbrev pub stop_of : Context → Option Stop
 stop_of c = c.guest.stop
 
--- the answer of a turn of a thread that had not stopped, and the state and the stop after it, are those of the turn; want of memory changes
--- nothing
+-- the answer of a turn of a thread that had not stopped, and the state and the stop after it, are those of
+-- the turn; want of memory changes nothing
 abbrev pub Turns : TurnEnd → State → State → Option Stop → Turn → Type 0
 Turns end old new stopped Ran = (end ≡ Goes new) × (stopped ≡ None)
 Turns end old new stopped (Stopped stop) = (end ≡ Ends new stop) × (stopped ≡ Some stop)
 Turns end old new stopped Memory = (new ≡ old) × (stopped ≡ None)
 
+-- the turn of a guest thread, whose journal has no event yet
+abbrev pub guest_turn : GuestThread → TurnEnd
+guest_turn g = turn_of g.config g.number 0 (held_state g)
+
+-- its call of the kernel, for which it has no streaming mode to leave
+abbrev pub guest_call : GuestThread → TurnEnd
+guest_call g = call_of g.config g.number (held_state g) (held_state g)
+
+-- the same, of a guest thread before and after
+abbrev pub Takes : TurnEnd → GuestThread → GuestThread → Turn → Type 0
+Takes end old new turn = Turns end (held_state old) (held_state new) new.stop turn
+
 -- a context that is stopped answers its stop and stays as it is
 abbrev pub Stays : Stop → Context → Context → Turn → Type 0
 Stays stop old new turn = (turn ≡ Stopped stop) × (state_of new ≡ state_of old) × (stop_of new ≡ Some stop)
 
--- a context that is not stopped makes a turn; its journal has no event yet
+-- the turn of a context, whose journal has no event yet
+abbrev pub turn_at : Context → TurnEnd
+turn_at c = turn_of (config_of c) (thread_of c) 0 (state_of c)
+
+-- a context that is not stopped makes a turn
 abbrev pub TurnsOrStays : Option Stop → Context → Context → Turn → Type 0
-TurnsOrStays None old new turn =
-    Turns (turn_of (config_of old) (thread_of old) 0 (state_of old)) (state_of old) (state_of new) (stop_of new) turn
+TurnsOrStays None old new turn = Turns (turn_at old) (state_of old) (state_of new) (stop_of new) turn
 TurnsOrStays (Some stop) old new turn = Stays stop old new turn
 
 -- the options and the number of a guest thread are those of its start

@@ -38,8 +38,10 @@ turned config thread (Strays s done events) = Strays s done events
 -- where the thread of that number is so many turns after a state, with so many events before it
 unfoldable pub reach_from : Config → ℕ → State → ℕ → List Event → ℕ → Reached
 reach_from config thread from done journal zero = At from done journal
-reach_from config thread from done journal (suc turns) = turned config thread (reach_from config thread from done journal turns)
+reach_from config thread from done journal (suc turns) =
+    turned config thread (reach_from config thread from done journal turns)
 
 -- where a thread is so many turns after its start
 unfoldable pub reach : Program → Config → ℕ → List Event → ℕ → Reached
-reach program config thread journal turns = reach_from config thread (start_state program config thread) 0 journal turns
+reach program config thread journal turns =
+    reach_from config thread (start_state program config thread) 0 journal turns

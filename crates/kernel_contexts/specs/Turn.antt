@@ -14,8 +14,10 @@ after_effect config thread s (Raises exception) = Ends s (Raised exception s.cor
 after_effect config thread s (Calls number) = call_of config thread s s
 after_effect config thread s (Becomes core) = Goes (counted s core)
 
--- the turn of the thread of that number, with so many events of its journal so far: where the counted instructions are the budget the
--- thread stops, and else it executes one
+-- the turn of the thread of that number, with so many events of its journal so far: where the counted
+-- instructions are the budget the thread stops, and else it executes one
 unfoldable pub turn_of : Config → ℕ → ℕ → State → TurnEnd
 turn_of config thread events s =
-    cond (s.count == config.budget) (Ends s Budget) (after_effect config thread s (effect_of (vector_bytes config.vl) s.core))
+    cond (s.count == config.budget)
+    (Ends s Budget)
+    (after_effect config thread s (effect_of (vector_bytes config.vl) s.core))

@@ -10,7 +10,8 @@ use paged_memory::{Image, Pages};
 use sm_types::{Config, Memory, Scalars, Stop};
 use std::alloc::Global;
 
-/// A guest thread: its machine, its options, and what the kernel keeps of it. Its functions take it through the parts of a turn.
+/// A guest thread: its machine, its options, and what the kernel keeps of it. Its functions take it through
+/// the parts of a turn.
 #[derive(Drop)]
 pub struct GuestThread {
     pub machine: Machine,
@@ -47,8 +48,7 @@ fn start_registers(entry: u64, thread: u32, threads: u32) -> Scalars
 impl GuestThread {
     ghost use Rattle.kernel_contexts.specs.State.{start_state};
     ghost use Rattle.kernel_contexts.specs.Call.{counted};
-    ghost use Rattle.kernel_contexts.specs.Turn.{turn_of};
-    ghost use Rattle.kernel_contexts.specs.Context.{held_state, Turns, IsSameGuest};
+    ghost use Rattle.kernel_contexts.specs.Context.{held_state, guest_turn, Takes, IsSameGuest};
 
     /// A thread before its first turn, with its pages taken at once.
     #[tactic(auto, unfolding(crate::specs::State::start_state))]
@@ -87,7 +87,7 @@ impl GuestThread {
     /// Makes one turn of a thread that has not stopped.
     pub fn make_turn(&mut self) -> Turn
         requires { self.old.stop ≡ None }
-        ensures turn { Turns (turn_of self.old.config self.old.number 0 (held_state self.old)) (held_state self.old) (held_state self.new) self.new.stop result }
+        ensures turn { Takes (guest_turn self.old) self.old self.new result }
         ensures same { IsSameGuest self.old self.new }
     {
         if self.count == self.config.budget {

@@ -96,30 +96,38 @@ fn accesses_are_checked_up_to_the_first_byte_that_fails(rt: HostRuntime) {
     }
 }
 
+/// The four bytes from an address on.
+fn four_at(rt: &impl Stops, pages: &Pages, address: u64) -> [u8; 4] {
+    let mut four = [9; 4];
+    assert!(rt; pages.read(address, &mut four).is_ok());
+    four
+}
+
+#[test]
+fn bytes_are_read_up_to_the_first_that_may_not_be(rt: HostRuntime) {
+    let pages = pages(&rt, rt.alloc());
+    assert!(rt; four_at(&rt, &pages, 0x400004) == [0x08, 0x00, 0x80, 0xd2]);
+    let stop = pages.read(0x400ffe, &mut [9; 4]).err();
+    assert!(rt;
+        stop.is_some_and(|abort| abort.address == 0x401000 && abort.access == Access::Read)
+    );
+    let mut many = [9; 5000];
+    assert!(rt; pages.read(0x7dfffffc0000, &mut many).is_ok());
+    assert!(rt; many[4999] == 0);
+}
+
 #[test]
 fn bytes_that_are_written_are_read(rt: HostRuntime) {
     let mut pages = pages(&rt, rt.alloc());
-    let mut four = [9; 4];
-    assert_eq!(rt; pages.read(0x400004, &mut four), Ok(()));
-    assert_eq!(rt; four, [0x08, 0x00, 0x80, 0xd2]);
-    let abort = Abort {
-        address: 0x401000,
-        access: Access::Read,
-    };
-    assert_eq!(rt; pages.read(0x400ffe, &mut four), Err(abort));
-    let mut many = [9; 5000];
-    assert_eq!(rt; pages.read(0x7dfffffc0000, &mut many), Ok(()));
-    assert_eq!(rt; many[4999], 0);
-    assert_eq!(rt; pages.own(0x410000, 4096), Ok(()));
-    assert_eq!(rt; pages.write(0x410002, &[8, 9]), Ok(()));
+    assert!(rt; pages.own(0x410000, 4096).is_ok());
+    assert!(rt; pages.write(0x410002, &[8, 9]).is_ok());
+    assert!(rt; pages.write(0x7dfffffc0ffe, &[1, 2, 3]).is_ok());
+    assert!(rt; pages.write(0x411000, &[]).is_ok());
+    assert!(rt; four_at(&rt, &pages, 0x410000) == [1, 2, 8, 9]);
+    assert!(rt; four_at(&rt, &pages, 0x7dfffffc0ffe) == [1, 2, 3, 0]);
     let bytes = pages.bytes_within(0x410000, 4).expect(&rt, "a page");
     assert!(rt; bytes == [1, 2, 8, 9].as_slice());
     assert!(rt; pages.bytes_within(0x411000, 4).is_none());
-    assert_eq!(rt; pages.write(0x7dfffffc0ffe, &[1, 2, 3]), Ok(()));
-    let mut three = [0; 3];
-    assert_eq!(rt; pages.read(0x7dfffffc0ffe, &mut three), Ok(()));
-    assert_eq!(rt; three, [1, 2, 3]);
-    assert_eq!(rt; pages.write(0x411000, &[]), Ok(()));
 }
 
 #[test]
@@ -129,8 +137,7 @@ fn a_write_that_may_not_be_made_changes_nothing(rt: HostRuntime) {
         address: 0x411000,
         access: Access::Write,
     });
-    assert_eq!(rt; pages.write(0x410ff8, &[9; 16]), Err(stop));
-    let mut eight = [7; 8];
-    assert_eq!(rt; pages.read(0x410ff8, &mut eight), Ok(()));
-    assert_eq!(rt; eight, [0; 8]);
+    assert!(rt; pages.write(0x410ff8, &[9; 16]) == Err(stop));
+    assert!(rt; four_at(&rt, &pages, 0x410ff8) == [0; 4]);
+    assert!(rt; four_at(&rt, &pages, 0x410ffc) == [0; 4]);
 }

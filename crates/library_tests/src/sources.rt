@@ -40,12 +40,13 @@ const DATA: [u8; 24] = [
 
 /// How many symbols have the name and the address.
 fn symbols_at(object: &Object, name: &[u8], address: u64) -> usize {
-    object
-        .symbols
-        .as_slice()
-        .iter()
-        .filter(|symbol| symbol.name.as_slice() == name && symbol.address == address)
-        .count()
+    let mut count = 0;
+    for symbol in object.symbols.as_slice() {
+        if symbol.name.as_slice() == name && symbol.address == address && count < 9 {
+            count += 1;
+        }
+    }
+    count
 }
 
 #[test]

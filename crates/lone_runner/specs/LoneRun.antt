@@ -7,13 +7,16 @@ use Rattle.paged_memory.specs.Image.{Program}
 use Rattle.kernel_contexts.specs.State.{State}
 use Rattle.kernel_contexts.specs.Run.{reach, reach_from, Ended}
 
--- from a state the turns of the thread of that number over this journal end so, and exactly the journal's events are used
-pub record EndsFrom (config : Config) (thread : ℕ) (from : State) (journal : List Event) (state : State) (stop : Stop) : Type 0 where
+-- from a state the turns of the thread of that number over this journal end so, and exactly the journal's
+-- events are used
+pub record EndsFrom (config : Config) (thread : ℕ) (from : State) (journal : List Event) (state : State) (stop : Stop)
+    : Type 0 where
   pub turns : ℕ
   pub used : ℕ
   pub ends : reach_from config thread from 0 journal turns ≡ Ended state stop used []
 
--- the thread's run over this journal ends in this state with this stop, and exactly the journal's events are used
+-- the thread's run over this journal ends in this state with this stop, and exactly the journal's events are
+-- used
 pub record IsLoneRun (program : Program) (config : Config) (thread : ℕ) (journal : List Event) (state : State) (stop : Stop) : Type 0 where
   pub turns : ℕ
   pub used : ℕ

@@ -16,13 +16,16 @@ pub fn one_end()
         → IsLoneRun program config thread journal s p → IsLoneRun program config thread journal t q → p ≡ q }
 {}
 
-/// A run has few turns: at most three for each instruction of the budget, which are a poll of signals, the delivery of one, and the
-/// instruction. A thread that goes on tells how many it has made.
+/// A run has few turns: at most three for each instruction of the budget, which are a poll of signals, the
+/// delivery of one, and the instruction. A thread that goes on tells how many it has made.
 pub fn few_turns()
-    ensures told { (program : Program) (config : Config) (thread : ℕ) (journal : List Event) (turns : ℕ) (s : State) (used : ℕ) (left : List Event)
+    ensures told { (program : Program) (config : Config) (thread : ℕ) (journal : List Event)
+        (turns : ℕ) (s : State) (used : ℕ) (left : List Event)
         → reach program config thread journal turns ≡ At s used left → s.turns ≡ turns }
-    ensures under_way { (program : Program) (config : Config) (thread : ℕ) (journal : List Event) (turns : ℕ) (s : State) (used : ℕ) (left : List Event)
+    ensures under_way { (program : Program) (config : Config) (thread : ℕ) (journal : List Event)
+        (turns : ℕ) (s : State) (used : ℕ) (left : List Event)
         → reach program config thread journal turns ≡ At s used left → turns ≤ 3 * config.budget }
-    ensures ended { (program : Program) (config : Config) (thread : ℕ) (journal : List Event) (turns : ℕ) (s : State) (p : Stop) (used : ℕ) (left : List Event)
+    ensures ended { (program : Program) (config : Config) (thread : ℕ) (journal : List Event)
+        (turns : ℕ) (s : State) (p : Stop) (used : ℕ) (left : List Event)
         → reach program config thread journal turns ≡ Ended s p used left → s.turns ≤ 3 * config.budget }
 {}

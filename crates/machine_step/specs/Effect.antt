@@ -1,4 +1,5 @@
--- One instruction: its first fault, and what it does where it has none. Source: DDI 0487, D1.3 (exceptions, in their order), C6.2.
+-- One instruction: its first fault, and what it does where it has none.
+-- Source: DDI 0487, D1.3 (exceptions, in their order), C6.2.
 use Rattle.std.specs.Prelude.{ℕ, ◌%◌, ◌==◌, Bool, true, false, cond, [], ◌∷◌, Option, Some, None, option_and_then}
 use Rattle.sm_types.specs.declared.insn.Insn.{Insn}
 use Rattle.sm_types.specs.declared.insn.Insn.TheVariants as insn
@@ -90,11 +91,13 @@ undefined_fault (Some word) = row_fault word (instruction_of word)
 abbrev pub data_fault : ProcessorState → Option Exception
 data_fault s = option_and_then (λ it. transfer_fault it s.scalars s.memory) (insn_at s)
 
--- the exception of the first check of the instruction itself that fails: it is aligned, it can be fetched, and it is executed
+-- the exception of the first check of the instruction itself that fails: it is aligned, it can be fetched,
+-- and it is executed
 abbrev pub early_fault : ProcessorState → Option Exception
 early_fault s = first_fault (alignment_fault s ∷ fetch_fault (word_of s) ∷ undefined_fault (word_of s) ∷ [])
 
--- the exception of the first check that fails, if any does: those of the instruction come before those of its access
+-- the exception of the first check that fails, if any does: those of the instruction come before those of its
+-- access
 unfoldable pub fault_of : ProcessorState → Option Exception
 fault_of s = first_fault (early_fault s ∷ data_fault s ∷ [])
 
@@ -106,7 +109,8 @@ pub data Effect : Type 0 where
   -- the state after the instruction
   Becomes : ProcessorState → Effect
 
--- SVC calls the kernel, BRK raises; hints and barriers have no effect here. UDF has a fault, so what stands for it is never asked for.
+-- SVC calls the kernel, BRK raises; hints and barriers have no effect here. UDF has a fault, so what stands
+-- for it is never asked for.
 abbrev pub system_effect : System → ProcessorState → Effect
 system_effect (Svc imm) s = Calls imm
 system_effect (Brk imm) s = Raises (Breakpoint imm)

@@ -12,9 +12,13 @@ abbrev pub unless_raised : Option Exception → Effect → Effect
 unless_raised (Some exception) effect = Raises exception
 unless_raised None effect = effect
 
--- what an instruction that has a row does: it raises where it is not executed, or where a check of its access fails
+-- what an instruction that has a row does: it raises where it is not executed, or where a check of its access
+-- fails
 abbrev pub effect_of_insn : ℕ → Insn → ℕ → ProcessorState → Effect
-effect_of_insn word it vl s = cond (is_executed it) (unless_raised (transfer_fault it s.scalars s.memory) (next_of vl it s)) (Raises (Undefined word))
+effect_of_insn word it vl s =
+    cond (is_executed it)
+    (unless_raised (transfer_fault it s.scalars s.memory) (next_of vl it s))
+    (Raises (Undefined word))
 
 -- the effect of a word by its meaning: one that means no instruction raises
 abbrev pub effect_of_meaning : ℕ → Option Insn → ℕ → ProcessorState → Effect

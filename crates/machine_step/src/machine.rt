@@ -1,5 +1,5 @@
 //! The machine and its step.
-ghost use Rattle.std.specs.Prelude.{ℕ, ◌≡◌, ◌≢◌, ◌<◌, IsTrue, IfSome};
+ghost use Rattle.std.specs.Prelude.{ℕ, ◌≡◌, ◌≢◌, ◌<◌, IsTrue};
 ghost use Rattle.a64_table.specs.Ranges.{IsInRow};
 ghost use Rattle.a64_encode.specs.Either.{instruction_of};
 ghost use Rattle.scalar_exec.specs.Step.{is_scalar, scalar_step, flowed};
@@ -9,7 +9,7 @@ ghost use Rattle.machine_step.specs.ProcessorState.{VectorState};
 ghost use Rattle.machine_step.specs.System.{moved, core_past, system_register, with_system_register};
 ghost use Rattle.machine_step.specs.Effect.{effect_of, is_executed_register};
 ghost use Rattle.machine_step.specs.Execution.{effect_of_meaning, effect_of_insn};
-ghost use Rattle.machine_step.specs.Machine.{core_of, HasRoomToStep, StepsBy};
+ghost use Rattle.machine_step.specs.Machine.{core_of, HasRoomIn, HasRoomToStep, StepsBy};
 
 use crate::system::{read_nzcv, write_nzcv};
 use a64_decode::decode_scalar;
@@ -92,7 +92,7 @@ impl Machine {
     #[tactic(auto, unfolding(a64_encode::specs::Either::instruction_of))]
     fn execute_word(&mut self, word: u32) -> StepEnd
         ensures effect { StepsBy (effect_of_meaning word (instruction_of word)) self.old self.new result }
-        ensures room { IfSome (instruction_of word) (λ it. HasRoomFor it self.old.scalars self.old.pages) → result ≢ StepEnd.Memory }
+        ensures room { HasRoomIn self.old (instruction_of word) → result ≢ StepEnd.Memory }
         ensures kept { KeepsOwned self.old.pages self.new.pages }
     {
         match decode_scalar(word) {
@@ -194,7 +194,8 @@ impl Machine {
     /// Writes a system register, but SVCR.
     #[tactic(auto, unfolding(crate::specs::System::with_system_register))]
     fn write_register(&mut self, register: SystemRegister, value: u64)
-        ensures core { (bank : VectorState) → core_of self.new bank ≡ with_system_register register (core_of self.old bank) value }
+        ensures core { (bank : VectorState)
+            → core_of self.new bank ≡ with_system_register register (core_of self.old bank) value }
         ensures pages { self.new.pages ≡ self.old.pages }
     {
         match register {
@@ -222,7 +223,8 @@ impl Machine {
     /// Moves a system register to a register, or back.
     fn move_register(&mut self, x: &SystemMove)
         requires { x.now.rt < 32 }
-        ensures core { (bank : VectorState) → core_of self.new bank ≡ moved x.now.op x.now (core_of self.old bank) }
+        ensures core { (bank : VectorState)
+            → core_of self.new bank ≡ moved x.now.op x.now (core_of self.old bank) }
         ensures pages { self.new.pages ≡ self.old.pages }
     {
         match x.op {

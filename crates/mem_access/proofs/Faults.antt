@@ -4,9 +4,11 @@ use Rattle.sm_types.specs.declared.scalars.Scalars.{Scalars}
 use Rattle.sm_types.specs.declared.stop.Exception.{Exception}
 use Rattle.paged_memory.specs.Memory.{AddressSpace, or_else}
 use Rattle.mem_access.specs.declared.access.MemoryAccess.{MemoryAccess}
+use Rattle.mem_access.specs.DataAccess.{of_run}
 use Rattle.mem_access.specs.declared.stop.AccessStop.{AccessStop}
-use Rattle.mem_access.specs.Checks.{place_fault, sp_fault, align_fault, shared_fault, read_fault, write_fault, check_when, denied_read, denied_write, denied_update, access_fault}
+use Rattle.mem_access.specs.Checks.{sp_fault, align_fault, check_when}
 use Rattle.mem_access.specs.Transfer.{AfterAccess, Transfers}
+use Rattle.mem_access.specs.Runs.{place_fault, run_shared_fault, run_read_fault, run_write_fault, denied_read, denied_write, denied_update, run_fault}
 
 or_else-none : (o : Option Exception) → or_else o None ≡ o
 or_else-none None = refl
@@ -18,30 +20,30 @@ first_three None None (Some e) rest = refl
 first_three None (Some e) c rest = refl
 first_three (Some e) b c rest = refl
 
-place_first : (access : MemoryAccess) (s : Scalars) (m : AddressSpace) → access_fault access s m ≡ or_else (place_fault access s) (or_else (read_fault access m) (or_else (write_fault access m) None))
-unfolding access_fault
-place_first access s m = first_three (sp_fault access s) (align_fault access) (shared_fault access) (or_else (read_fault access m) (or_else (write_fault access m) None))
+place_first : (access : MemoryAccess) (s : Scalars) (m : AddressSpace) → run_fault access s m ≡ or_else (place_fault access s) (or_else (run_read_fault access m) (or_else (run_write_fault access m) None))
+unfolding run_fault
+place_first access s m = first_three (sp_fault (of_run access) s) (align_fault (of_run access)) (run_shared_fault access) (or_else (run_read_fault access m) (or_else (run_write_fault access m) None))
 
 -- a check that looks at no page fails
-pub fault_raised : (access : MemoryAccess) (s : Scalars) (m : AddressSpace) (e : Exception) → place_fault access s ≡ Some e → access_fault access s m ≡ Some e
-fault_raised access s m e raised = place_first access s m ∙ ap (λ o. or_else o (or_else (read_fault access m) (or_else (write_fault access m) None))) raised
+pub fault_raised : (access : MemoryAccess) (s : Scalars) (m : AddressSpace) (e : Exception) → place_fault access s ≡ Some e → run_fault access s m ≡ Some e
+fault_raised access s m e raised = place_first access s m ∙ ap (λ o. or_else o (or_else (run_read_fault access m) (or_else (run_write_fault access m) None))) raised
 
 fault_on : (access : MemoryAccess) (s : Scalars) (m : AddressSpace) (reads writes : Bool) → place_fault access s ≡ None → access.reads ≡ reads → access.writes ≡ writes
-    → access_fault access s m ≡ or_else (check_when reads (denied_read m access.address access.size)) (check_when writes (denied_write m access.address access.size))
+    → run_fault access s m ≡ or_else (check_when reads (denied_read m access.address access.size)) (check_when writes (denied_write m access.address access.size))
 fault_on access s m reads writes none r w =
-    place_first access s m ∙ ap (λ o. or_else o (or_else (read_fault access m) (or_else (write_fault access m) None))) none
-    ∙ ap (λ o. or_else (read_fault access m) o) (or_else-none (write_fault access m))
-    ∙ ap (λ b. or_else (check_when b (denied_read m access.address access.size)) (write_fault access m)) r
+    place_first access s m ∙ ap (λ o. or_else o (or_else (run_read_fault access m) (or_else (run_write_fault access m) None))) none
+    ∙ ap (λ o. or_else (run_read_fault access m) o) (or_else-none (run_write_fault access m))
+    ∙ ap (λ b. or_else (check_when b (denied_read m access.address access.size)) (run_write_fault access m)) r
     ∙ ap (λ b. or_else (check_when reads (denied_read m access.address access.size)) (check_when b (denied_write m access.address access.size))) w
 
 -- none of them does, and the access reads, writes, or does both
-pub fault_of_read : (access : MemoryAccess) (s : Scalars) (m : AddressSpace) → place_fault access s ≡ None → access.reads ≡ true → access.writes ≡ false → access_fault access s m ≡ denied_read m access.address access.size
+pub fault_of_read : (access : MemoryAccess) (s : Scalars) (m : AddressSpace) → place_fault access s ≡ None → access.reads ≡ true → access.writes ≡ false → run_fault access s m ≡ denied_read m access.address access.size
 fault_of_read access s m none r w = fault_on access s m true false none r w ∙ or_else-none (denied_read m access.address access.size)
 
-pub fault_of_write : (access : MemoryAccess) (s : Scalars) (m : AddressSpace) → place_fault access s ≡ None → access.reads ≡ false → access.writes ≡ true → access_fault access s m ≡ denied_write m access.address access.size
+pub fault_of_write : (access : MemoryAccess) (s : Scalars) (m : AddressSpace) → place_fault access s ≡ None → access.reads ≡ false → access.writes ≡ true → run_fault access s m ≡ denied_write m access.address access.size
 fault_of_write access s m none r w = fault_on access s m false true none r w
 
-pub fault_of_update : (access : MemoryAccess) (s : Scalars) (m : AddressSpace) → place_fault access s ≡ None → access.reads ≡ true → access.writes ≡ true → access_fault access s m ≡ denied_update m access.address access.size
+pub fault_of_update : (access : MemoryAccess) (s : Scalars) (m : AddressSpace) → place_fault access s ≡ None → access.reads ≡ true → access.writes ≡ true → run_fault access s m ≡ denied_update m access.address access.size
 fault_of_update access s m none r w = fault_on access s m true true none r w
 
 -- the same transfer, said otherwise
@@ -51,24 +53,24 @@ transfers_as fault fault' made made' old new (Err stop) f a h = (f ∙ h.0, h.1)
 
 -- ---- the access that the code has, and that of the instruction
 
-pub raised : (of access : MemoryAccess) (s : Scalars) (m : AddressSpace) (e : Exception) → access ≡ of → Some e ≡ place_fault access s → access_fault of s m ≡ Some e
+pub raised : (of access : MemoryAccess) (s : Scalars) (m : AddressSpace) (e : Exception) → access ≡ of → Some e ≡ place_fault access s → run_fault of s m ≡ Some e
 raised of access s m e is at = fault_raised of s m e (ap (λ a. place_fault a s) (sym is) ∙ sym at)
 
 no_place : (of access : MemoryAccess) (s : Scalars) → access ≡ of → None ≡ place_fault access s → place_fault of s ≡ None
 no_place of access s is none = ap (λ a. place_fault a s) (sym is) ∙ sym none
 
 pub made_reading : (of access : MemoryAccess) (s : Scalars) (m : AddressSpace) (n : ℕ) (after : ℕ → AfterAccess) (old new : AfterAccess) (r : Result (Unit {0}) AccessStop) → access ≡ of → None ≡ place_fault access s → of.reads ≡ true → of.writes ≡ false → of.size ≡ n
-    → Transfers (denied_read m access.address n) (after access.address) old new r → Transfers (access_fault of s m) (after of.address) old new r
+    → Transfers (denied_read m access.address n) (after access.address) old new r → Transfers (run_fault of s m) (after of.address) old new r
 made_reading of access s m n after old new r is none reads writes size h =
     transfers_as _ _ _ _ old new r (fault_of_read of s m (no_place of access s is none) reads writes ∙ ap (denied_read m of.address) size ∙ ap (λ a. denied_read m a.address n) (sym is)) (ap (λ a. after a.address) (sym is)) h
 
 pub made_writing : (of access : MemoryAccess) (s : Scalars) (m : AddressSpace) (n : ℕ) (after : ℕ → AfterAccess) (old new : AfterAccess) (r : Result (Unit {0}) AccessStop) → access ≡ of → None ≡ place_fault access s → of.reads ≡ false → of.writes ≡ true → of.size ≡ n
-    → Transfers (denied_write m access.address n) (after access.address) old new r → Transfers (access_fault of s m) (after of.address) old new r
+    → Transfers (denied_write m access.address n) (after access.address) old new r → Transfers (run_fault of s m) (after of.address) old new r
 made_writing of access s m n after old new r is none reads writes size h =
     transfers_as _ _ _ _ old new r (fault_of_write of s m (no_place of access s is none) reads writes ∙ ap (denied_write m of.address) size ∙ ap (λ a. denied_write m a.address n) (sym is)) (ap (λ a. after a.address) (sym is)) h
 
 pub made_updating : (of access : MemoryAccess) (s : Scalars) (m : AddressSpace) (n : ℕ) (after : ℕ → AfterAccess) (old new : AfterAccess) (r : Result (Unit {0}) AccessStop) → access ≡ of → None ≡ place_fault access s → of.reads ≡ true → of.writes ≡ true → of.size ≡ n
-    → Transfers (denied_update m access.address n) (after access.address) old new r → Transfers (access_fault of s m) (after of.address) old new r
+    → Transfers (denied_update m access.address n) (after access.address) old new r → Transfers (run_fault of s m) (after of.address) old new r
 made_updating of access s m n after old new r is none reads writes size h =
     transfers_as _ _ _ _ old new r (fault_of_update of s m (no_place of access s is none) reads writes ∙ ap (denied_update m of.address) size ∙ ap (λ a. denied_update m a.address n) (sym is)) (ap (λ a. after a.address) (sym is)) h
 

@@ -7,8 +7,8 @@ use Rattle.sm_types.specs.declared.insn.AccessSize.TheVariants.{Byte, Halfword, 
 use Rattle.paged_memory.specs.Memory.{AddressSpace, bytes_with, set_bytes, little_number}
 use Rattle.paged_memory.proofs.Accesses.{first_without-none}
 use Rattle.mem_access.specs.Access.{bytes_in}
-use Rattle.mem_access.specs.Checks.{denied_read}
-use Rattle.mem_access.specs.Values.{number_in, number_or_zero, with_number}
+use Rattle.mem_access.specs.Values.{number_or_zero}
+use Rattle.mem_access.specs.Runs.{denied_read, number_in, with_number}
 
 -- bytes that were read, as many as were wanted
 pub number_read : (m : AddressSpace) (a k n v : ℕ) (bs : List ℕ) → bytes_with 4 m a k ≡ Some bs → k ≡ n → v ≡ little_number bs → v ≡ number_in m a n

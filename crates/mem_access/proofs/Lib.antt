@@ -5,3 +5,4 @@ pub mod Faults
 pub mod OneRegister
 pub mod Atomics
 pub mod Room
+pub mod Lists

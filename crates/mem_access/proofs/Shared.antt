@@ -1,7 +1,8 @@
 -- The first of some addresses that is shared.
 use Rattle.std.proofs.Common.{◌⊎◌, inl, inr, ◌≡◌, ℕ, zero, suc, ◌+◌, ◌-◌, ◌%◌, ◌^◌, ◌<◌, ◌≤◌, true, false, refl, ap, ◌∙◌, arith, Some, None}
 use Rattle.std.proofs.lemmas.Bool.Decides.{nat_tests}
-use Rattle.mem_access.specs.Checks.{is_shared, first_shared}
+use Rattle.mem_access.specs.Checks.{is_shared}
+use Rattle.mem_access.specs.Runs.{first_shared}
 
 pub shared-below : (a : ℕ) → a < 0x7F0000000000 → is_shared a ≡ false
 shared-below a h = grind (arith, nat_tests)

@@ -1,5 +1,7 @@
 pub mod VectorState
 pub mod Access
+pub mod DataAccess
 pub mod Checks
 pub mod Values
 pub mod Transfer
+pub mod Runs

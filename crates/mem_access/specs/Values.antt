@@ -1,7 +1,8 @@
 -- The values that accesses read and write. Source: DDI 0487, C6.2, the operations of the loads, stores and atomic instructions; bytes in
 -- memory are little-endian.
-use Rattle.std.specs.Prelude.{ℕ, ◌+◌, ◌-◌, ◌*◌, ◌%◌, ◌^◌, true, false, cond, List, Option, Some, None, bit_and, bit_or, bit_xor, ℤ, int_le, max, min}
-use Rattle.std.specs.Int.{bytes_low_first}
+use Rattle.std.specs.Prelude.{ℕ, ◌+◌, ◌-◌, ◌*◌, ◌%◌, ◌^◌, true, false, cond, List, [], ◌∷◌, Option, Some, None, bit_and, bit_or, bit_xor, ℤ, int_le, max, min}
+use Rattle.std.specs.FinMap.{FinMap, insert}
+use Rattle.std.specs.Ordering.{nat_cmp}
 use Rattle.sm_types.specs.declared.insn.LoadStoreOp.{LoadStoreOp}
 use Rattle.sm_types.specs.declared.insn.LoadStoreOp.TheVariants.{Store, Load, LoadSignedTo64, LoadSignedTo32}
 use Rattle.sm_types.specs.declared.insn.LoadLiteralOp.{LoadLiteralOp}
@@ -10,20 +11,33 @@ use Rattle.sm_types.specs.declared.insn.AtomicOp.{AtomicOp}
 use Rattle.sm_types.specs.declared.insn.AtomicOp.TheVariants.{Add, Clear, Eor, Set, Smax, Smin, Umax, Umin}
 use Rattle.insn_forms.specs.Fields.{signed_value}
 use Rattle.scalar_exec.specs.Operands.{sign_extend}
-use Rattle.paged_memory.specs.Memory.{AddressSpace, bytes_with, set_bytes, little_number}
+use Rattle.paged_memory.specs.Memory.{AddressSpace, byte_with, little_number}
+
+-- a byte before some bytes
+abbrev pub byte_and : Option ℕ → Option (List ℕ) → Option (List ℕ)
+byte_and None bs = None
+byte_and (Some b) None = None
+byte_and (Some b) (Some bs) = Some (b ∷ bs)
+
+-- the bytes at some addresses, where each can be read
+unfoldable pub bytes_at : AddressSpace → List ℕ → Option (List ℕ)
+bytes_at m [] = Some []
+bytes_at m (a ∷ addresses) = byte_and (byte_with 4 m a) (bytes_at m addresses)
 
 -- the number of some bytes, and 0 where there are none
 abbrev pub number_or_zero : Option (List ℕ) → ℕ
 number_or_zero None = 0
 number_or_zero (Some bytes) = little_number bytes
 
--- the number of the n bytes from an address on, which can be read
-unfoldable pub number_in : AddressSpace → ℕ → ℕ → ℕ
-number_in m a n = number_or_zero (bytes_with 4 m a n)
+-- the number of the bytes at some addresses, which can be read
+unfoldable pub number_at : AddressSpace → List ℕ → ℕ
+number_at m addresses = number_or_zero (bytes_at m addresses)
 
--- the memory with the low n bytes of a value from an address on
-unfoldable pub with_number : AddressSpace → ℕ → ℕ → ℕ → AddressSpace
-with_number m a n value = record m { mem = set_bytes m.mem a (bytes_low_first 0 n value) }
+-- the bytes as they stand after some are set, one at each address
+unfoldable pub set_each : FinMap nat_cmp ℕ → List ℕ → List ℕ → FinMap nat_cmp ℕ
+set_each mem [] bytes = mem
+set_each mem (a ∷ addresses) [] = mem
+set_each mem (a ∷ addresses) (b ∷ bytes) = set_each (insert mem a b) addresses bytes
 
 -- the register that a load of n bytes gives: extended by zeros, by the sign to 64 bits, or by the sign to 32 bits and then by zeros
 unfoldable pub loaded : LoadStoreOp → ℕ → ℕ → ℕ

@@ -4,9 +4,9 @@ ghost use Rattle.a64_table.specs.Ranges.{IsAtomic};
 ghost use Rattle.scalar_exec.specs.Registers.{x_of, with_x};
 ghost use Rattle.paged_memory.specs.PageTable.{AreOwned, KeepsOwned};
 ghost use Rattle.mem_access.specs.Access.{bytes_in, atomic_access};
-ghost use Rattle.mem_access.specs.Checks.{denied_read, denied_write, denied_update, access_fault};
-ghost use Rattle.mem_access.specs.Transfer.{after_atomic, contents_of, HasRoom, Transfers};
-ghost use Rattle.mem_access.specs.Values.{number_in, with_number, low_bytes, updated};
+ghost use Rattle.mem_access.specs.Transfer.{contents_of, Transfers};
+ghost use Rattle.mem_access.specs.Values.{low_bytes, updated};
+ghost use Rattle.mem_access.specs.Runs.{denied_read, denied_write, denied_update, run_fault, after_atomic, RunHasRoom, number_in, with_number};
 
 use crate::access::atomic_access;
 use crate::checks::place_fault;
@@ -143,10 +143,10 @@ fn update_by_register(
 /// An ordered or atomic access.
 pub fn transfer_atomic(x: &Atomic, s: &mut Scalars, pages: &mut Pages) -> Result<(), AccessStop>
     requires { IsAtomic x.now }
-    ensures made { Transfers (access_fault (atomic_access x.now s.old) s.old pages.old.memory)
+    ensures made { Transfers (run_fault (atomic_access x.now s.old) s.old pages.old.memory)
         (after_atomic x.now (atomic_access x.now s.old).address s.old pages.old.memory)
         (contents_of s.old pages.old) (contents_of s.new pages.new) result }
-    ensures room { HasRoom (atomic_access x.now s.old) pages.old → result ≢ Err AccessStop.Memory }
+    ensures room { RunHasRoom (atomic_access x.now s.old) pages.old → result ≢ Err AccessStop.Memory }
     ensures kept { KeepsOwned pages.old pages.new }
 {
     let access = atomic_access(x, s);

@@ -1,6 +1,6 @@
 //! The checks of an access that look at no page.
 ghost use Rattle.std.specs.Prelude.{◌≡◌, ◌≤◌};
-ghost use Rattle.mem_access.specs.Checks.{first_shared, place_fault};
+ghost use Rattle.mem_access.specs.Runs.{first_shared, place_fault};
 
 use crate::access::MemoryAccess;
 use sm_types::{Exception, Scalars};

@@ -2,9 +2,9 @@
 ghost use Rattle.std.specs.Prelude.{◌≡◌, ◌≢◌, ◌==◌, ◌*◌, ◌^◌, ◌<◌, None, Some, cond, IfOk, IfErr, OnOk, OnErr, Err};
 ghost use Rattle.paged_memory.specs.PageTable.{AreOwned, KeepsOwned};
 ghost use Rattle.mem_access.specs.Access.{bytes_in};
-ghost use Rattle.mem_access.specs.Checks.{denied_write, denied_update};
 ghost use Rattle.mem_access.specs.Transfer.{raised_by};
-ghost use Rattle.mem_access.specs.Values.{number_in, with_number, updated};
+ghost use Rattle.mem_access.specs.Values.{updated};
+ghost use Rattle.mem_access.specs.Runs.{denied_write, denied_update, number_in, with_number};
 
 use crate::access::bytes_in;
 use crate::numbers::{read_number, write_number};

@@ -12,6 +12,5 @@ mod stop;
 mod transfers;
 mod values;
 
-pub use access::MemoryAccess;
 pub use stop::AccessStop;
 pub use transfers::transfer;

@@ -3,9 +3,8 @@ ghost use Rattle.std.specs.Prelude.{◌≡◌, ◌≢◌, ◌+◌, ◌*◌, ◌%
 ghost use Rattle.paged_memory.specs.Memory.{little_number, set_bytes};
 ghost use Rattle.paged_memory.specs.PageTable.{AreOwned, KeepsOwned};
 ghost use Rattle.mem_access.specs.Access.{bytes_in, register_size};
-ghost use Rattle.mem_access.specs.Checks.{denied_read, denied_write};
 ghost use Rattle.mem_access.specs.Transfer.{raised_by};
-ghost use Rattle.mem_access.specs.Values.{number_in, with_number};
+ghost use Rattle.mem_access.specs.Runs.{denied_read, denied_write, number_in, with_number};
 
 use crate::access::bytes_in;
 use crate::stop::AccessStop;

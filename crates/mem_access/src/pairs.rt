@@ -1,12 +1,11 @@
 //! Pairs of registers in memory, the first in the lower bytes.
-ghost use Rattle.std.specs.Prelude.{◌≡◌, ◌≢◌, ◌+◌, ◌*◌, ◌%◌, ◌^◌, ◌++◌, length, take, drop, None, IfOk, IfErr, OnOk, OnErr, Err};
+ghost use Rattle.std.specs.Prelude.{◌≡◌, ◌≢◌, ◌*◌, ◌/◌, ◌%◌, ◌^◌, ◌<◌, ◌++◌, length, take, drop, None, IfOk, IfErr, OnOk, OnErr, Err};
 ghost use Rattle.std.specs.Int.{bytes_low_first};
 ghost use Rattle.paged_memory.specs.Memory.{little_number};
 ghost use Rattle.paged_memory.specs.PageTable.{AreOwned, KeepsOwned};
 ghost use Rattle.mem_access.specs.Access.{register_size};
-ghost use Rattle.mem_access.specs.Checks.{denied_read, denied_write};
-ghost use Rattle.mem_access.specs.Transfer.{raised_by};
-ghost use Rattle.mem_access.specs.Values.{number_in, with_number};
+ghost use Rattle.mem_access.specs.Transfer.{raised_by, pair_bytes};
+ghost use Rattle.mem_access.specs.Runs.{denied_read, denied_write, number_in, with_bytes};
 
 use crate::access::register_size;
 use crate::numbers::{number_of, write_bytes};
@@ -20,6 +19,7 @@ fn numbers_of(bytes: &[u8], wide: bool) -> (u64, u64)
     requires { length bytes.now ≡ 2 * register_size wide }
     ensures first { result.0 ≡ little_number (take (register_size wide) bytes.now) }
     ensures second { result.1 ≡ little_number (drop (register_size wide) bytes.now) }
+    ensures small { result.0 < 2 ^ (8 * register_size wide) }
 {
     if wide {
         (
@@ -37,8 +37,10 @@ fn numbers_of(bytes: &[u8], wide: bool) -> (u64, u64)
 /// The numbers at an address, or the exception of the first byte that cannot be read.
 #[inline]
 pub fn read_pair(pages: &Pages, address: u64, wide: bool) -> Result<(u64, u64), Exception>
-    ensures first { IfOk result (λ p. p.0 ≡ number_in pages.now.memory address (register_size wide)) }
-    ensures second { IfOk result (λ p. p.1 ≡ number_in pages.now.memory ((address + register_size wide) % 2 ^ 64) (register_size wide)) }
+    ensures first { let whole = number_in pages.now.memory address (2 * register_size wide)
+        in IfOk result (λ p. p.0 ≡ whole % 2 ^ (8 * register_size wide)) }
+    ensures second { let whole = number_in pages.now.memory address (2 * register_size wide)
+        in IfOk result (λ p. p.1 ≡ whole / 2 ^ (8 * register_size wide)) }
     ensures allowed { OnOk result (denied_read pages.now.memory address (2 * register_size wide) ≡ None) }
     ensures denied { IfErr result (λ e. denied_read pages.now.memory address (2 * register_size wide) ≡ Some e) }
 {
@@ -58,8 +60,10 @@ pub fn read_pair(pages: &Pages, address: u64, wide: bool) -> Result<(u64, u64), 
 
 /// The same, where the bytes may lie in two pages.
 fn read_pair_across(pages: &Pages, address: u64, wide: bool) -> Result<(u64, u64), Exception>
-    ensures first { IfOk result (λ p. p.0 ≡ number_in pages.now.memory address (register_size wide)) }
-    ensures second { IfOk result (λ p. p.1 ≡ number_in pages.now.memory ((address + register_size wide) % 2 ^ 64) (register_size wide)) }
+    ensures first { let whole = number_in pages.now.memory address (2 * register_size wide)
+        in IfOk result (λ p. p.0 ≡ whole % 2 ^ (8 * register_size wide)) }
+    ensures second { let whole = number_in pages.now.memory address (2 * register_size wide)
+        in IfOk result (λ p. p.1 ≡ whole / 2 ^ (8 * register_size wide)) }
     ensures allowed { OnOk result (denied_read pages.now.memory address (2 * register_size wide) ≡ None) }
     ensures denied { IfErr result (λ e. denied_read pages.now.memory address (2 * register_size wide) ≡ Some e) }
 {
@@ -104,7 +108,8 @@ pub fn write_pair(
     first: u64,
     second: u64,
 ) -> Result<(), AccessStop>
-    ensures ok { OnOk result (pages.new.memory ≡ with_number (with_number pages.old.memory address (register_size wide) first) ((address + register_size wide) % 2 ^ 64) (register_size wide) second) }
+    ensures ok { OnOk result
+        (pages.new.memory ≡ with_bytes pages.old.memory address (pair_bytes wide first second)) }
     ensures allowed { OnOk result (denied_write pages.old.memory address (2 * register_size wide) ≡ None) }
     ensures stops { IfErr result (λ e. denied_write pages.old.memory address (2 * register_size wide) ≡ raised_by e) }
     ensures err { OnErr result (pages.new.memory ≡ pages.old.memory) }

@@ -3,8 +3,8 @@ ghost use Rattle.std.specs.Prelude.{◌≢◌, ◌*◌, IsTrue, Err};
 ghost use Rattle.a64_table.specs.Ranges.{IsInRow, IsLoadStore, IsLoadLiteral, IsLoadStorePair};
 ghost use Rattle.paged_memory.specs.PageTable.{AreOwned, KeepsOwned};
 ghost use Rattle.mem_access.specs.Access.{bytes_in, literal_size, register_size, is_load, load_store_access, load_literal_access, pair_access};
-ghost use Rattle.mem_access.specs.Checks.{denied_read, denied_write, access_fault};
-ghost use Rattle.mem_access.specs.Transfer.{is_access, after_load_store, after_load_literal, after_pair, after_access, transfer_fault, contents_of, HasRoom, HasRoomFor, Transfers};
+ghost use Rattle.mem_access.specs.Transfer.{is_access, contents_of, HasRoomFor, Transfers, after_access, transfer_fault, pair_after, pair_stored};
+ghost use Rattle.mem_access.specs.Runs.{denied_read, denied_write, run_fault, after_load_store, after_load_literal, after_pair, after_run, run_transfer_fault, RunHasRoom, RunHasRoomFor};
 
 use crate::access::{
     literal_size, load_literal_access, load_store_access, pair_access, write_base, write_pair_base,
@@ -21,7 +21,7 @@ use sm_types::{Insn, LoadLiteral, LoadStore, LoadStoreOp, LoadStorePair, PairOp,
 
 /// Stores a register.
 #[inline]
-#[tactic(auto, unfolding(crate::specs::Transfer::after_load_store))]
+#[tactic(auto, unfolding(crate::specs::Runs::after_load_store))]
 fn store(x: &LoadStore, address: u64, s: &mut Scalars, pages: &mut Pages) -> Result<(), AccessStop>
     requires { IsLoadStore x.now }
     ensures made { Transfers (denied_write pages.old.memory address (bytes_in x.now.size))
@@ -41,7 +41,7 @@ fn store(x: &LoadStore, address: u64, s: &mut Scalars, pages: &mut Pages) -> Res
 
 /// Loads a register.
 #[inline]
-#[tactic(auto, unfolding(crate::specs::Transfer::after_load_store))]
+#[tactic(auto, unfolding(crate::specs::Runs::after_load_store))]
 fn load(x: &LoadStore, address: u64, s: &mut Scalars, pages: &Pages) -> Result<(), AccessStop>
     requires fields { IsLoadStore x.now }
     requires load { IsTrue (is_load x.now.op) }
@@ -64,10 +64,10 @@ fn load(x: &LoadStore, address: u64, s: &mut Scalars, pages: &Pages) -> Result<(
 #[inline]
 fn transfer_load_store(x: &LoadStore, s: &mut Scalars, pages: &mut Pages) -> Result<(), AccessStop>
     requires { IsLoadStore x.now }
-    ensures made { Transfers (access_fault (load_store_access x.now s.old) s.old pages.old.memory)
+    ensures made { Transfers (run_fault (load_store_access x.now s.old) s.old pages.old.memory)
         (after_load_store x.now.op x.now (load_store_access x.now s.old).address s.old pages.old.memory)
         (contents_of s.old pages.old) (contents_of s.new pages.new) result }
-    ensures room { HasRoom (load_store_access x.now s.old) pages.old → result ≢ Err AccessStop.Memory }
+    ensures room { RunHasRoom (load_store_access x.now s.old) pages.old → result ≢ Err AccessStop.Memory }
     ensures kept { KeepsOwned pages.old pages.new }
 {
     let access = load_store_access(x, s);
@@ -82,7 +82,7 @@ fn transfer_load_store(x: &LoadStore, s: &mut Scalars, pages: &mut Pages) -> Res
 
 /// Loads a register from beside the program counter.
 #[inline]
-#[tactic(auto, unfolding(crate::specs::Transfer::after_load_literal))]
+#[tactic(auto, unfolding(crate::specs::Runs::after_load_literal))]
 fn load_literal(
     x: &LoadLiteral,
     address: u64,
@@ -108,7 +108,7 @@ fn load_literal(
 #[inline]
 fn transfer_load_literal(x: &LoadLiteral, s: &mut Scalars, pages: &Pages) -> Result<(), AccessStop>
     requires { IsLoadLiteral x.now }
-    ensures made { Transfers (access_fault (load_literal_access x.now s.old) s.old pages.now.memory)
+    ensures made { Transfers (run_fault (load_literal_access x.now s.old) s.old pages.now.memory)
         (after_load_literal x.now (load_literal_access x.now s.old).address s.old pages.now.memory)
         (contents_of s.old pages.now) (contents_of s.new pages.now) result }
     ensures room { result ≢ Err AccessStop.Memory }
@@ -122,7 +122,7 @@ fn transfer_load_literal(x: &LoadLiteral, s: &mut Scalars, pages: &Pages) -> Res
 
 /// Stores two registers.
 #[inline]
-#[tactic(auto, unfolding(crate::specs::Transfer::after_pair))]
+#[tactic(auto, unfolding(crate::specs::Runs::after_pair, crate::specs::Transfer::pair_after))]
 fn store_pair(
     x: &LoadStorePair,
     address: u64,
@@ -147,7 +147,7 @@ fn store_pair(
 
 /// Loads two registers.
 #[inline]
-#[tactic(auto, unfolding(crate::specs::Transfer::after_pair))]
+#[tactic(auto, unfolding(crate::specs::Runs::after_pair, crate::specs::Transfer::pair_after))]
 fn load_pair(
     x: &LoadStorePair,
     address: u64,
@@ -175,10 +175,10 @@ fn load_pair(
 #[inline]
 fn transfer_pair(x: &LoadStorePair, s: &mut Scalars, pages: &mut Pages) -> Result<(), AccessStop>
     requires { IsLoadStorePair x.now }
-    ensures made { Transfers (access_fault (pair_access x.now s.old) s.old pages.old.memory)
+    ensures made { Transfers (run_fault (pair_access x.now s.old) s.old pages.old.memory)
         (after_pair x.now.op x.now (pair_access x.now s.old).address s.old pages.old.memory)
         (contents_of s.old pages.old) (contents_of s.new pages.new) result }
-    ensures room { HasRoom (pair_access x.now s.old) pages.old → result ≢ Err AccessStop.Memory }
+    ensures room { RunHasRoom (pair_access x.now s.old) pages.old → result ≢ Err AccessStop.Memory }
     ensures kept { KeepsOwned pages.old pages.new }
 {
     let access = pair_access(x, s);
@@ -191,8 +191,29 @@ fn transfer_pair(x: &LoadStorePair, s: &mut Scalars, pages: &mut Pages) -> Resul
     }
 }
 
-/// The instructions of this crate: makes all checks of the access, and then the access; any answer but Ok leaves registers and memory as
-/// they were, but that more pages may be owned. `Memory` comes only where the access writes a page that is not owned. PC stays as it is.
+/// The instructions of this crate, as accesses to consecutive bytes.
+#[inline]
+fn transfer_run(insn: &Insn, scalars: &mut Scalars, pages: &mut Pages) -> Result<(), AccessStop>
+    requires access { IsTrue (is_access insn.now) }
+    requires fields { IsInRow insn.now }
+    ensures made { Transfers (run_transfer_fault insn.now scalars.old pages.old.memory)
+        (after_run insn.now scalars.old pages.old.memory)
+        (contents_of scalars.old pages.old) (contents_of scalars.new pages.new) result }
+    ensures room { RunHasRoomFor insn.now scalars.old pages.old → result ≢ Err AccessStop.Memory }
+    ensures kept { KeepsOwned pages.old pages.new }
+{
+    match insn {
+        Insn::LoadStore(x) => transfer_load_store(x, scalars, pages),
+        Insn::LoadLiteral(x) => transfer_load_literal(x, scalars, pages),
+        Insn::LoadStorePair(x) => transfer_pair(x, scalars, pages),
+        Insn::Atomic(x) => transfer_atomic(x, scalars, pages),
+        _ => unreachable!(),
+    }
+}
+
+/// The instructions of this crate: makes all checks of the access, and then the access; any answer but Ok
+/// leaves registers and memory as they were, but that more pages may be owned. `Memory` comes only where the
+/// access writes a page that is not owned. PC stays as it is.
 #[inline]
 pub fn transfer(insn: &Insn, scalars: &mut Scalars, pages: &mut Pages) -> Result<(), AccessStop>
     requires access { IsTrue (is_access insn.now) }
@@ -203,11 +224,5 @@ pub fn transfer(insn: &Insn, scalars: &mut Scalars, pages: &mut Pages) -> Result
     ensures room { HasRoomFor insn.now scalars.old pages.old → result ≢ Err AccessStop.Memory }
     ensures kept { KeepsOwned pages.old pages.new }
 {
-    match insn {
-        Insn::LoadStore(x) => transfer_load_store(x, scalars, pages),
-        Insn::LoadLiteral(x) => transfer_load_literal(x, scalars, pages),
-        Insn::LoadStorePair(x) => transfer_pair(x, scalars, pages),
-        Insn::Atomic(x) => transfer_atomic(x, scalars, pages),
-        _ => unreachable!(),
-    }
+    transfer_run(insn, scalars, pages)
 }

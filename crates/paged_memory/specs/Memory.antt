@@ -1,5 +1,6 @@
 -- The private memory of a guest thread: a byte at each address of its pages, and the permission of each page.
--- Source: DDI 0487, D8 (translation granule of 4 KiB, permissions to read, write and execute), with addresses modulo 2 ^ 64.
+-- Source: DDI 0487, D8 (translation granule of 4 KiB, permissions to read, write and execute), with addresses
+-- modulo 2 ^ 64.
 use Rattle.std.specs.Prelude.{◌≡◌, ℕ, zero, suc, ◌+◌, ◌*◌, ◌/◌, ◌%◌, ◌^◌, ◌<◌, is_some, Bool, cond, List, [], ◌∷◌, ◌++◌, Option, Some, None, bit_and, ◌==◌, refl, option_map, replicate, unwrap_or}
 use Rattle.std.specs.FinMap.{FinMap, get, insert, empty}
 use Rattle.std.specs.FinMap as map
@@ -9,7 +10,8 @@ use Rattle.std.specs.Coded.{Coded, code_by, coded×, coded_ℕ}
 pub record AddressSpace : Type 0 where
   -- from address to byte
   pub mem : FinMap nat_cmp ℕ
-  -- from the number of a page, its address over 4096, to its permission: a sum of execute 1, write 2 and read 4
+  -- from the number of a page, its address over 4096, to its permission: a sum of execute 1, write 2 and read
+  -- 4
   pub perm : FinMap nat_cmp ℕ
 
 -- a memory, seen as a pair of maps
@@ -21,7 +23,8 @@ memory_code =
 abbrev pub no_memory : AddressSpace
 no_memory = record { mem = empty; perm = empty }
 
--- the addresses that have a byte are those of the pages, and each permission is a sum of execute, write and read
+-- the addresses that have a byte are those of the pages, and each permission is a sum of execute, write and
+-- read
 pub record IsWhole (m : AddressSpace) : Type 0 where
   pub bytes : (a : ℕ) → is_some (get m.mem a) ≡ is_some (get m.perm (a / 4096))
   pub flags : (n flags : ℕ) → get m.perm n ≡ Some flags → flags < 8

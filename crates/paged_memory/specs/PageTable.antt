@@ -30,7 +30,8 @@ pub record IsTouched (m : AddressSpace) (address n number : ℕ) : Type 0 where
 
 -- the owned pages are those that were, and besides them exactly the pages of the n bytes from an address on
 abbrev pub OwnsAlso : PageTable → PageTable → ℕ → ℕ → Type 0
-OwnsAlso old new address n = (number : ℕ) → IsOwned new number ↔ (IsOwned old number ⊎ IsTouched old.memory address n number)
+OwnsAlso old new address n =
+    (number : ℕ) → IsOwned new number ↔ (IsOwned old number ⊎ IsTouched old.memory address n number)
 
 -- the pages of the n bytes from an address on are owned, where there are such pages
 abbrev pub AreOwned : PageTable → ℕ → ℕ → Type 0

@@ -1,4 +1,5 @@
--- What a list of pages holds, by address and by number of page. Source: a page is 4096 bytes from its number times 4096 on.
+-- What a list of pages holds, by address and by number of page.
+-- Source: a page is 4096 bytes from its number times 4096 on.
 use Rattle.std.specs.Prelude.{◌≡◌, ℕ, ◌*◌, ◌<◌, ◌^◌, true, cond, List, [], ◌∷◌, Option, Some, None, ◌==◌, length, All, map}
 use Rattle.std.specs.FinMap.{FinMap, insert, empty, is_sorted}
 use Rattle.std.specs.FinSet.{FinSet}
@@ -45,7 +46,8 @@ program_of ps entry code = record { memory = memory_of ps; entry = entry; code =
 abbrev pub page_entry : Page → ℕ × ℕ
 page_entry p = (p.number, p.flags)
 
--- each page is whole and below address 2 ^ 63, its flags are a sum of execute, write and read, and the numbers rise
+-- each page is whole and below address 2 ^ 63, its flags are a sum of execute, write and read, and the
+-- numbers rise
 pub record IsFine (ps : List Page) : Type 0 where
   pub full : All (λ p. length p.bytes.items ≡ 4096) ps
   pub flags : All (λ p. p.flags < 8) ps

@@ -1,11 +1,12 @@
--- Which parts an image may have. Source: the address space of a guest thread, with its stack and the shared region.
+-- Which parts an image may have.
+-- Source: the address space of a guest thread, with its stack and the shared region.
 use Rattle.std.specs.Prelude.{◌≡◌, ℕ, zero, suc, ◌+◌, ◌/◌, ◌<◌, ◌≤◌, ◌^◌, cond, List, [], ◌∷◌, None, length, All, IsSome, is_some}
 use Rattle.paged_memory.specs.Image.{Extent, image_flags, part_byte, parts_byte, zero_in, IsImagePage}
 use Rattle.paged_memory.specs.Memory.{AddressSpace}
 use Rattle.std.specs.FinMap.{get}
 
--- the bytes of a part are within its size, its flags are a sum of execute 1, write 2 and read 4, and each of its addresses is in a page
--- that an image may have
+-- the bytes of a part are within its size, its flags are a sum of execute 1, write 2 and read 4, and each of
+-- its addresses is in a page that an image may have
 pub record IsPlaced (part : Extent) : Type 0 where
   pub inside : length part.bytes ≤ part.size
   pub flags : part.flags < 8

@@ -125,7 +125,8 @@ impl Pages {
         )
     }
 
-    /// The word of the four bytes from an address on; `None` exactly where one of them is in no executable page.
+    /// The word of the four bytes from an address on; `None` exactly where one of them is in no executable
+    /// page.
     #[inline]
     pub fn fetch(&self, pc: u64) -> Option<u32>
         ensures { result ≡ word_at self.now.memory pc }
@@ -157,7 +158,8 @@ impl Pages {
         }
     }
 
-    /// Tells whether all of so many bytes from an address on may be accessed so, and which is the first that may not.
+    /// Tells whether all of so many bytes from an address on may be accessed so, and which is the first that
+    /// may not.
     pub fn check(&self, address: u64, length: u64, access: Access) -> Result<(), Abort>
         ensures ok { OnOk result (first_without (need_of access) self.now.memory address length ≡ None) }
         ensures abort { IfErr result (λ e. first_without (need_of access) self.now.memory address length ≡ Some e.address) }
@@ -175,7 +177,8 @@ impl Pages {
         }
     }
 
-    /// Makes the pages of so many bytes from an address on owned, and no others; after `Err` some of them may be.
+    /// Makes the pages of so many bytes from an address on owned, and no others; after `Err` some of them may
+    /// be.
     pub fn own(&mut self, address: u64, length: u64) -> Result<(), Memory>
         ensures ok { OnOk result (OwnsAlso self.old self.new address length) }
         ensures memory { self.new.memory ≡ self.old.memory }
@@ -186,8 +189,8 @@ impl Pages {
         Ok(())
     }
 
-    /// Writes bytes from an address on, and makes their pages owned; addresses go round at 2^64. Nothing is written where one of them
-    /// may not be, or where there is no memory for a page that is not owned.
+    /// Writes bytes from an address on, and makes their pages owned; addresses go round at 2^64. Nothing is
+    /// written where one of them may not be, or where there is no memory for a page that is not owned.
     #[inline]
     pub fn write(&mut self, address: u64, bytes: &[u8]) -> Result<(), WriteStop>
         ensures ok { OnOk result (self.new.memory ≡ record self.old.memory { mem = set_bytes self.old.memory.mem address bytes.now }) }

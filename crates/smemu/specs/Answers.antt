@@ -74,14 +74,7 @@ IsAnswer told (AsksAssembly name) text = IsAssembly told name text
 IsAnswer told AsksHelp text = text ≡ help_text
 IsAnswer told AsksVersion text = text ≡ version_text
 
--- two files are loaded as one program
-abbrev pub AreOneProgram : List ℕ → List ℕ → Type 0
-AreOneProgram file other = (program : Program) × Loads file program × Loads other program
-
--- two texts are the same answer to a request: equal, but for the files of programs, which are loaded as one program
-abbrev pub AreOneAnswer : Request → List ℕ → List ℕ → Type 0
-AreOneAnswer (AsksRun name options) text other = text ≡ other
-AreOneAnswer (AsksListing name) text other = text ≡ other
-AreOneAnswer (AsksAssembly name) text other = AreOneProgram text other
-AreOneAnswer AsksHelp text other = text ≡ other
-AreOneAnswer AsksVersion text other = text ≡ other
+-- the request is for a text, and not for the file of a program
+abbrev pub IsTextOf : Request → Type 0
+IsTextOf (AsksAssembly name) = ⊥
+IsTextOf other = Unit {0}

@@ -145,8 +145,13 @@ pub record FetchesReached {F : Type 0} (fetched : F → List ℕ → ℕ → F �
 abbrev pub Fetches : {F Z : Type 0} → (F → List ℕ → ℕ → F → Type 0) → (F → FilesView) → List (String Z) → F → F → Status → Type 0
 Fetches fetched view words old new status = FetchesReached fetched (view old).told (files_asked (command_of (map string_bytes words))) old new status
 
--- ---- in memory
+-- ---- where nothing fails
 
 -- there is room for each text that may be due
 abbrev pub HasRoom : Call → Type 0
 HasRoom c = (status : Status) (text : List ℕ) → Defined c.words c.files status text → length text ≤ c.out.before.room
+
+-- where the files are told, no fetch fails, and there is room for the text: what is due is answered, or memory was wanting
+abbrev pub LacksMemoryAlone : Call → Status → Type 0
+LacksMemoryAlone c result =
+    IsTrue c.files.before.reliable → HasRoom c → IfSome c.files.before.told (λ files. (result ≡ due_status files c.words) ⊎ (result ≡ OutOfMemory))

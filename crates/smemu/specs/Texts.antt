@@ -1,9 +1,12 @@
 -- The texts that do not depend on a program: the line of a fault of the words, the text of help, and the version.
-use Rattle.std.specs.Prelude.{ℕ, ◌∷◌, [], List, decimal, codes}
+use Rattle.std.specs.Prelude.{◌≡◌, ℕ, ◌++◌, ◌∷◌, [], List, decimal, codes}
 use Rattle.std.specs.List.{concat}
+use Rattle.cmd_words.specs.Options.{default_of}
 use Rattle.cmd_words.specs.Words.{Fault}
 use Rattle.cmd_words.specs.declared.command.UsageKind.{UsageKind}
 use Rattle.cmd_words.specs.declared.command.UsageKind.TheVariants.{Unknown, Missing, Repeated, BadNumber, OutOfRange, Extra}
+use Rattle.cmd_words.specs.declared.setting.Setting.{Setting}
+use Rattle.cmd_words.specs.declared.setting.Setting.TheVariants.{Vl, Svl, Budget}
 use Rattle.smemu.specs.declared.help.TheConstants.{HELP, VERSION}
 
 -- what is wrong with a word
@@ -18,6 +21,16 @@ kind_word Extra = codes "extra"
 -- the line of a fault of the words: its place and what is wrong there
 unfoldable pub usage_line : Fault → List ℕ
 usage_line fault = concat (codes "usage: word " ∷ decimal fault.place ∷ codes ": " ∷ kind_word fault.kind ∷ codes "\n" ∷ [])
+
+-- what the text of help says of an option: the numbers that it takes, and the one where it is not given
+abbrev pub option_line : Setting → List ℕ
+option_line Vl = concat (codes "  --vl BITS     vector length outside streaming mode: 128, 256, 512, 1024 or 2048; else " ∷ decimal (default_of Vl) ∷ codes "\n" ∷ [])
+option_line Svl = concat (codes "  --svl BITS    vector length in streaming mode: 128, 256, 512, 1024 or 2048; else " ∷ decimal (default_of Svl) ∷ codes "\n" ∷ [])
+option_line Budget = concat (codes "  --budget N    instructions after which a thread is stopped: 1 to 4294967295; else " ∷ decimal (default_of Budget) ∷ codes "\n" ∷ [])
+
+-- the text has that part
+abbrev pub HasPart : List ℕ → List ℕ → Type 0
+HasPart text part = (front : List ℕ) × (rest : List ℕ) × (text ≡ front ++ (part ++ rest))
 
 -- the text of help
 unfoldable pub help_text : List ℕ

@@ -1,8 +1,10 @@
-//! Tests of the command: where the outside fails, its words, and programs that it assembles, lists and runs.
+//! Tests of the command: where the outside fails, its words, and programs that it assembles, lists and runs; and of the outside itself.
 #![tactic(auto)]
 
 #[cfg(test)]
 mod instructions;
+#[cfg(test)]
+mod outside;
 #[cfg(test)]
 mod programs;
 
@@ -25,6 +27,44 @@ mod tests {
         0, 16, 0, 0, 0, 0, 0, 0, // its alignment
         0x40, 0x05, 0x80, 0xD2, 0xA8, 0x0B, 0x80, 0xD2, 0x01, 0x00, 0x00, 0xD4,
     ];
+
+    /// Words that are no command: in each line the place and the kind of their first fault, and the words.
+    const NO_COMMANDS: &str = "\
+0: missing
+0: unknown|walk|p
+0: unknown|RUN|p
+0: unknown|
+0: unknown|--vl|128|run|p
+1: missing|run
+2: unknown|run|p|x
+2: unknown|run|p|--VL|128
+3: missing|run|p|--vl
+3: outofrange|run|p|--vl|129
+3: outofrange|run|p|--svl|0
+3: outofrange|run|p|--budget|0
+3: outofrange|run|p|--budget|4294967296
+3: outofrange|run|p|--budget|18446744073709551617
+3: outofrange|run|p|--budget|100000000000000000000000000000000000000000
+3: badnumber|run|p|--budget|
+3: badnumber|run|p|--budget|+1
+3: badnumber|run|p|--budget|-1
+3: badnumber|run|p|--budget|01
+3: badnumber|run|p|--budget|00
+3: badnumber|run|p|--budget|1 |--vl
+3: badnumber|run|p|--budget|0x10
+3: badnumber|run|p|--vl|--svl|128
+4: repeated|run|p|--vl|128|--vl|128
+6: repeated|run|p|--vl|128|--svl|512|--vl
+1: extra|--help|run
+1: missing|dis
+2: extra|dis|p|--vl
+2: extra|dis|p|q|r
+1: missing|asm
+2: extra|asm|s|--budget|1
+2: extra|asm|s|t|u
+0: unknown|Asm|s
+1: extra|--version|--help
+";
 
     fn words(alloc: Global, texts: &[&str]) -> Result<Vec<String>, Fail> {
         let mut words = Vec::new(alloc);
@@ -54,61 +94,19 @@ mod tests {
 
     #[test]
     fn words_that_are_no_command(rt: HostRuntime) -> Result<(), Fail> {
-        let cases: [(&[&str], &str); 34] = [
-            (&[], "0: missing"),
-            (&["walk", "p"], "0: unknown"),
-            (&["RUN", "p"], "0: unknown"),
-            (&[""], "0: unknown"),
-            (&["--vl", "128", "run", "p"], "0: unknown"),
-            (&["run"], "1: missing"),
-            (&["run", "p", "x"], "2: unknown"),
-            (&["run", "p", "--VL", "128"], "2: unknown"),
-            (&["run", "p", "--vl"], "3: missing"),
-            (&["run", "p", "--vl", "129"], "3: outofrange"),
-            (&["run", "p", "--svl", "0"], "3: outofrange"),
-            (&["run", "p", "--budget", "0"], "3: outofrange"),
-            (&["run", "p", "--budget", "4294967296"], "3: outofrange"),
-            (
-                &["run", "p", "--budget", "18446744073709551617"],
-                "3: outofrange",
-            ),
-            (
-                &[
-                    "run",
-                    "p",
-                    "--budget",
-                    "100000000000000000000000000000000000000000",
-                ],
-                "3: outofrange",
-            ),
-            (&["run", "p", "--budget", ""], "3: badnumber"),
-            (&["run", "p", "--budget", "+1"], "3: badnumber"),
-            (&["run", "p", "--budget", "-1"], "3: badnumber"),
-            (&["run", "p", "--budget", "01"], "3: badnumber"),
-            (&["run", "p", "--budget", "00"], "3: badnumber"),
-            (&["run", "p", "--budget", "1 "], "3: badnumber"),
-            (&["run", "p", "--budget", "0x10"], "3: badnumber"),
-            (&["run", "p", "--vl", "--svl", "128"], "3: badnumber"),
-            (&["run", "p", "--vl", "128", "--vl", "128"], "4: repeated"),
-            (
-                &["run", "p", "--vl", "128", "--svl", "512", "--vl"],
-                "6: repeated",
-            ),
-            (&["--help", "run"], "1: extra"),
-            (&["dis"], "1: missing"),
-            (&["dis", "p", "--vl"], "2: extra"),
-            (&["dis", "p", "q", "r"], "2: extra"),
-            (&["asm"], "1: missing"),
-            (&["asm", "s", "--budget", "1"], "2: extra"),
-            (&["asm", "s", "t", "u"], "2: extra"),
-            (&["Asm", "s"], "0: unknown"),
-            (&["--version", "--help"], "1: extra"),
-        ];
-        for (texts, wanted) in cases {
-            let (status, out) = written(rt.alloc(), texts)?;
-            assert_eq!(rt; status.code(), 2, "{texts:?}");
-            let line = format!(in rt.alloc(); "usage: word {wanted}\n")?;
-            assert!(rt; out.bytes() == line.as_bytes(), "{texts:?}");
+        for line in NO_COMMANDS.lines() {
+            let mut parts = line.split('|');
+            let wanted = parts.next().unwrap_or("");
+            let mut words = Vec::new(rt.alloc());
+            for word in parts {
+                words.push(String::from_str(rt.alloc(), word)?)?;
+            }
+            let mut files = answer_file(rt.alloc())?;
+            let mut out = MemSink::new(rt.alloc(), 100)?;
+            let status = smemu_main(rt.alloc(), words.as_slice(), &mut files, &mut out);
+            assert!(rt; status.code() == 2, "{line}");
+            let text = format!(in rt.alloc(); "usage: word {wanted}\n")?;
+            assert!(rt; out.bytes() == text.as_bytes(), "{line}");
         }
         Ok(())
     }

@@ -63,15 +63,15 @@ fn append(pages: &Pages, address: u64, count: usize, output: &mut Vec<u8>) -> Ap
 }
 
 impl GuestThread {
-    ghost use Rattle.kernel_contexts.specs.Call.{call_of, write_of, exit_of, returned};
-    ghost use Rattle.kernel_contexts.specs.Context.{held_state, Turns, IsSameGuest};
+    ghost use Rattle.kernel_contexts.specs.Call.{write_of, exit_of, returned};
+    ghost use Rattle.kernel_contexts.specs.Context.{held_state, guest_call, Takes, IsSameGuest};
 
     /// The call of the number in X8.
     #[tactic(auto, unfolding(crate::specs::Call::call_of))]
     pub(super) fn call(&mut self) -> Turn
         requires room { self.old.count < self.old.config.budget }
         requires runs { self.old.stop ≡ None }
-        ensures turn { Turns (call_of self.old.config self.old.number (held_state self.old) (held_state self.old)) (held_state self.old) (held_state self.new) self.new.stop result }
+        ensures turn { Takes (guest_call self.old) self.old self.new result }
         ensures same { IsSameGuest self.old self.new }
     {
         match self.machine.scalars.x[8] {
@@ -101,7 +101,7 @@ impl GuestThread {
     fn exit(&mut self) -> Turn
         requires room { self.old.count < self.old.config.budget }
         requires runs { self.old.stop ≡ None }
-        ensures turn { Turns (exit_of (held_state self.old)) (held_state self.old) (held_state self.new) self.new.stop result }
+        ensures turn { Takes (exit_of (held_state self.old)) self.old self.new result }
         ensures same { IsSameGuest self.old self.new }
     {
         let status = (self.machine.scalars.x[0] % 256) as u8;
@@ -115,7 +115,7 @@ impl GuestThread {
     fn write(&mut self) -> Turn
         requires room { self.old.count < self.old.config.budget }
         requires runs { self.old.stop ≡ None }
-        ensures turn { Turns (write_of (held_state self.old) (held_state self.old)) (held_state self.old) (held_state self.new) self.new.stop result }
+        ensures turn { Takes (write_of (held_state self.old) (held_state self.old)) self.old self.new result }
         ensures same { IsSameGuest self.old self.new }
     {
         let descriptor = self.machine.scalars.x[0];

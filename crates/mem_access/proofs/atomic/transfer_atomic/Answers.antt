@@ -1,8 +1,9 @@
 use Rattle.std.proofs.Common.{◌==◌, ℕ, cond, refl, ap}
 use Rattle.scalar_exec.specs.Registers.{x_of, with_x}
 use Rattle.mem_access.specs.Access.{bytes_in, atomic_access}
-use Rattle.mem_access.specs.Transfer.{AfterAccess, after_atomic}
-use Rattle.mem_access.specs.Values.{number_in, with_number, low_bytes, updated}
+use Rattle.mem_access.specs.Transfer.{AfterAccess}
+use Rattle.mem_access.specs.Values.{low_bytes, updated}
+use Rattle.mem_access.specs.Runs.{after_atomic, number_in, with_number}
 use Rattle.mem_access.proofs.Faults.{raised}
 use Rattle.mem_access.proofs.Atomics.{atomic_read, atomic_written, atomic_updated}
 use Rattle.mem_access.proofs.Room.{owned_bytes}

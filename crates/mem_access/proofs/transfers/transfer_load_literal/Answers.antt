@@ -1,6 +1,6 @@
 use Rattle.std.proofs.Common.{refl}
 use Rattle.mem_access.specs.Access.{literal_size, load_literal_access}
-use Rattle.mem_access.specs.Transfer.{after_load_literal}
+use Rattle.mem_access.specs.Runs.{after_load_literal}
 use Rattle.mem_access.proofs.Faults.{raised, made_reading}
 use Rattle.mem_access.proofs.transfers.transfer_load_literal.Goals as goal
 

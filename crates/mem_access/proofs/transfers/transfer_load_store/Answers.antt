@@ -1,7 +1,7 @@
 use Rattle.std.proofs.Common.{refl, ap}
 use Rattle.sm_types.specs.declared.insn.LoadStoreOp.TheVariants.{Store}
 use Rattle.mem_access.specs.Access.{bytes_in, is_load, is_store, load_store_access}
-use Rattle.mem_access.specs.Transfer.{after_load_store}
+use Rattle.mem_access.specs.Runs.{after_load_store}
 use Rattle.mem_access.proofs.Faults.{raised, made_reading, made_writing, made_as}
 use Rattle.mem_access.proofs.OneRegister.{no_store, a_load}
 use Rattle.mem_access.proofs.Room.{owned_bytes}

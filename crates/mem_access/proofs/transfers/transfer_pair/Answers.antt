@@ -1,7 +1,7 @@
 use Rattle.std.proofs.Common.{◌*◌, refl, ap}
 use Rattle.sm_types.specs.declared.insn.PairOp.TheVariants.{Stp, Ldp}
 use Rattle.mem_access.specs.Access.{register_size, is_ldp, is_stp, pair_access}
-use Rattle.mem_access.specs.Transfer.{after_pair}
+use Rattle.mem_access.specs.Runs.{after_pair}
 use Rattle.mem_access.proofs.Faults.{raised, made_reading, made_writing, made_as}
 use Rattle.mem_access.proofs.Room.{owned_bytes}
 use Rattle.mem_access.proofs.transfers.transfer_pair.Goals as goal

@@ -1,0 +1,127 @@
+-- Two texts that answer the same request over the same files are equal.
+use Rattle.std.proofs.Common.{◌≡◌, ℕ, zero, suc, ◌≤◌, List, [], ◌∷◌, length, Option, Some, None, refl, sym, ◌∙◌, ap, subst, arith}
+use Rattle.std.specs.Prelude.{◌==◌, slice_get, if◌then◌else◌}
+use mathlib.Core.HLevel.{Σ_prop_path}
+use native.Mathlib.Bridge.{le_prop}
+use Rattle.sha2.specs.Sha256.{sha256}
+use Rattle.sm_types.specs.declared.config.Config.{Config}
+use Rattle.sm_types.specs.declared.length.VecLen.{VecLen}
+use Rattle.sm_types.specs.declared.length.VecLen.TheVariants.{Bits128, Bits256, Bits512, Bits1024, Bits2048}
+use Rattle.sm_types.specs.declared.shared_op.Event.{Event}
+use Rattle.sm_types.specs.Length.{bits_of}
+use Rattle.cmd_words.specs.Options.{Options, options_of}
+use Rattle.cmd_words.specs.Words.{Request, AsksRun, AsksListing, AsksHelp, AsksVersion, AsksAssembly}
+use Rattle.code_listing.specs.Listing.{listing_text}
+use Rattle.elf_sections.specs.Code.{code_words}
+use Rattle.elf_loader.proofs.Images.{one_program}
+use Rattle.lone_runner.specs.LoneRun.{IsLoneRun}
+use Rattle.lone_runner.proofs.Runs.{one_state, one_stop}
+use Rattle.paged_memory.specs.Image.{Program}
+use Rattle.report_text.specs.Report.{ThreadEnd, report_text, zero_words}
+use Rattle.smemu.specs.Answers.{IsEndOf, IsReportOf, IsReport, IsListing, IsAnswer, IsTextOf}
+
+-- ---- options
+
+length_of : ℕ → VecLen
+length_of n =
+    if n == 128 then Bits128
+    else (if n == 256 then Bits256
+    else (if n == 512 then Bits512
+    else (if n == 1024 then Bits1024
+    else Bits2048)))
+
+length-bits : (v : VecLen) → length_of (bits_of v) ≡ v
+unfolding length_of
+length-bits Bits128 = refl
+length-bits Bits256 = refl
+length-bits Bits512 = refl
+length-bits Bits1024 = refl
+length-bits Bits2048 = refl
+
+abbrev Numbers : Type 0
+Numbers = VecLen × VecLen × ℕ × ℕ × ℕ × ℕ
+
+abbrev InRange : Numbers → Type 0
+InRange n = ((1 ≤ n.2) × (n.2 ≤ 1000000)) × ((1 ≤ n.3) × (((1 ≤ n.4) × (n.4 ≤ 32)) × ((1 ≤ n.5) × (n.5 ≤ 64))))
+
+in_range_prop : (n : Numbers) → IsProp (InRange n)
+in_range_prop n = hlevel le_prop
+
+abbrev numbers_of : Config → Numbers
+numbers_of c = (c.vl, c.svl, c.slice, c.budget, c.threads, c.cores)
+
+same_numbers : (a b : Config) → numbers_of a ≡ numbers_of b → a ≡ b
+same_numbers a b e =
+    let pairs : ◌≡◌ {A = (n : Numbers) × InRange n} (numbers_of a, (a.slice_in_range, (a.budget_in_range, (a.threads_in_range, a.cores_in_range)))) (numbers_of b, (b.slice_in_range, (b.budget_in_range, (b.threads_in_range, b.cores_in_range)))) =
+    Σ_prop_path in_range_prop e in
+    λ i. record {
+      vl = (pairs i).0.0;
+      svl = (pairs i).0.1;
+      slice = (pairs i).0.2;
+      budget = (pairs i).0.3;
+      threads = (pairs i).0.4;
+      cores = (pairs i).0.5;
+      slice_in_range = (pairs i).1.0;
+      budget_in_range = (pairs i).1.1.0;
+      threads_in_range = (pairs i).1.1.1.0;
+      cores_in_range = (pairs i).1.1.1.1;
+    }
+
+same_config : (a b : Config) → options_of a ≡ options_of b → a ≡ b
+same_config a b e =
+    let vl : a.vl ≡ b.vl = sym (length-bits a.vl) ∙ ap (λ (o : Options). length_of o.vl) e ∙ length-bits b.vl in
+    let svl : a.svl ≡ b.svl = sym (length-bits a.svl) ∙ ap (λ (o : Options). length_of o.svl) e ∙ length-bits b.svl in
+    let numbers : numbers_of a ≡ numbers_of b = λ i. (vl i, svl i, (e i).slice, (e i).budget, (e i).threads, (e i).cores) in
+    same_numbers a b numbers
+
+-- ---- files
+
+same_file : (o : Option (List ℕ)) (file other : List ℕ) → o ≡ Some file → o ≡ Some other → file ≡ other
+same_file o file other e h = cc
+
+-- ---- the ends of threads
+
+same_list : {A : Type 0} (xs ys : List A) → length xs ≡ length ys → ((k : ℕ) (x y : A) → slice_get xs k ≡ Some x → slice_get ys k ≡ Some y → x ≡ y) → xs ≡ ys
+same_list [] [] l h = refl
+same_list [] (y ∷ ys) l h = absurd (omega arith)
+same_list (x ∷ xs) [] l h = absurd (omega arith)
+same_list (x ∷ xs) (y ∷ ys) l h =
+    let first : x ≡ y = h 0 x y refl refl in
+    let rest : xs ≡ ys = same_list xs ys (omega arith) (λ k. h (suc k)) in
+    λ i. first i ∷ rest i
+
+alone : (program : Program) (config : Config) (k : ℕ) (end : ThreadEnd) → IsEndOf program config k end → IsLoneRun program config k [] end.state end.stop
+alone program config k end h = subst (λ (journal : List Event). IsLoneRun program config k journal end.state end.stop) h.journal h.run
+
+one_thread_end : (program : Program) (config : Config) (k : ℕ) (a b : ThreadEnd) → IsEndOf program config k a → IsEndOf program config k b → a ≡ b
+one_thread_end program config k a b h g =
+    let number = h.number ∙ sym g.number in
+    let journal = h.journal ∙ sym g.journal in
+    let state = one_state program config k [] a.state b.state a.stop b.stop (alone program config k a h) (alone program config k b g) in
+    let stop = one_stop program config k [] a.state b.state a.stop b.stop (alone program config k a h) (alone program config k b g) in
+    λ i. record { thread = number i; state = state i; stop = stop i; journal = journal i }
+
+-- ---- the texts
+
+one_report : (file : List ℕ) (config : Config) (text other : List ℕ) → IsReportOf file config text → IsReportOf file config other → text ≡ other
+one_report file config text other h g =
+    let program = one_program file h.program g.program h.loads g.loads in
+    let each : (k : ℕ) (end : ThreadEnd) → slice_get h.ends k ≡ Some end → IsEndOf g.program config k end =
+    λ k end at. subst (λ (p : Program). IsEndOf p config k end) program (h.each k end at) in
+    let ends = same_list h.ends g.ends (h.threads ∙ sym g.threads) (λ k a b at there. one_thread_end g.program config k a b (each k a at) (g.each k b there)) in
+    h.is_text ∙ ap (λ (es : List ThreadEnd). report_text config (sha256 file) es zero_words) ends ∙ sym g.is_text
+
+pub one_text : (files : List ℕ → Option (List ℕ)) (request : Request) (text other : List ℕ) → IsTextOf request → IsAnswer (Some files) request text → IsAnswer (Some files) request other → text ≡ other
+one_text files (AsksRun name options) text other is h g =
+    let file = same_file (files name) h.file g.file h.is_file g.is_file in
+    let config = same_config h.config g.config (h.given ∙ sym g.given) in
+    let of_file = subst (λ (f : List ℕ). IsReportOf f h.config text) file h.report in
+    let of_config = subst (λ (c : Config). IsReportOf g.file c text) config of_file in
+    one_report g.file g.config text other of_config g.report
+one_text files (AsksListing name) text other is h g =
+    let file = same_file (files name) h.file g.file h.is_file g.is_file in
+    let code = h.listing.loads.code_is ∙ ap code_words file ∙ sym g.listing.loads.code_is in
+    h.listing.is_text ∙ ap listing_text code ∙ sym g.listing.is_text
+one_text files (AsksAssembly name) text other is h g = absurd is
+one_text files AsksHelp text other is h g = h ∙ sym g
+one_text files AsksVersion text other is h g = h ∙ sym g

@@ -1,0 +1,5 @@
+use Rattle.smemu.proofs.OneAnswer.{one_text}
+use Rattle.smemu.proofs.laws.one_answer.Goals as goal
+
+pub returns : goal.returns
+returns c = one_text

@@ -1,0 +1,22 @@
+//! The command where nothing of the outside can fail.
+ghost use Rattle.edge_io.specs.MemFiles as mem_files;
+ghost use Rattle.edge_io.specs.MemSink as mem_sink;
+ghost use Rattle.smemu.specs.Ends.{call, LacksMemoryAlone};
+
+use crate::command::smemu_main;
+use crate::status::Status;
+use edge_io::{MemFiles, MemSink};
+use std::alloc::Global;
+
+/// The command over files and a sink in memory. Where no call of either is listed to fail and there is room for the
+/// text, what is due is answered, or `OutOfMemory`.
+pub fn smemu_in_memory(
+    alloc: Global,
+    words: &[String],
+    files: &mut MemFiles,
+    out: &mut MemSink,
+) -> Status
+    ensures { LacksMemoryAlone (call mem_files.view_of mem_sink.view_of words.now files.old files.new out.old out.new) result }
+{
+    smemu_main(alloc, words, files, out)
+}
