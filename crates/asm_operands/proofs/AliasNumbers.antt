@@ -4,8 +4,8 @@ use Rattle.std.specs.Prelude.{option_map, option_and_then}
 use Rattle.std.specs.List.{find, range_with_len}
 use Rattle.std.proofs.lemmas.Bool.{and_parts}
 use Rattle.std.proofs.lemmas.Nat.{shr_split, mod_below, pow_pos}
-use Rattle.a64_table.specs.Conditions.{is_mask}
-use Rattle.a64_table.specs.Fields.{field_of}
+use Rattle.bit_ops.specs.Masks.{are_mask_fields}
+use Rattle.insn_forms.specs.Fields.{field_of}
 use Rattle.insn_text.specs.declared.item.Kind.TheVariants as kind
 use Rattle.insn_text.specs.Texts.{mask_in}
 use Rattle.asm_tokens.specs.declared.token.Token.TheVariants.{Number}
@@ -84,7 +84,7 @@ pub mask : (wide negative : Bool) (bits size number field : ℕ) → immediate_o
 unfolding field_said on_number mask_field is_field_of
 mask wide negative bits size number field e f =
     let found = sym (ap (option_and_then (mask_field wide)) e) ∙ f in
-    that number (mask_in wide field) (and_parts (is_mask wide (field_of field 12 1 == 1) (field_of field 6 6) (field_of field 0 6)) _ (passes (is_field_of wide number) (range_with_len 0 8192) field found)).1
+    that number (mask_in wide field) (and_parts (are_mask_fields (field_of field 12 1 == 1) (field_of field 0 6) (field_of field 6 6) wide) _ (passes (is_field_of wide number) (range_with_len 0 8192) field found)).1
 
 -- ---- shifts
 

@@ -6,3 +6,5 @@ pub mod Lengths
 pub mod Regions
 pub mod Known
 pub mod AllPrinted
+pub mod Citing
+pub mod Naming
