@@ -54,6 +54,7 @@ impl Context {
         ensures turn { TurnsOrStays (stop_of self.old) self.old self.new result }
         ensures same { IsSameThread self.old self.new }
         ensures made { result ≡ Turn.Ran → (state_of self.new).turns ≡ (state_of self.old).turns + 1 }
+        ensures budget { (state_of self.new).count ≤ (config_of self.new).budget }
         ensures few { (state_of self.new).turns ≤ 3 * (config_of self.new).budget }
     {
         match self.guest.stop {

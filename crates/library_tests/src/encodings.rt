@@ -124,6 +124,8 @@ fn words_of_no_row(rt: HostRuntime) {
         0x5AC00C00, 0x9B400000, // rev of 64 bits without sf, smulh with Ra 0
         0xF9800000, 0xB9C00000, 0xB8221B28, // prfm, a word with its sign to 32 bits, str with a byte as an offset
         0xB80B3400, 0x29400000, 0xA9FF0529, // str w0, [x0], #179, ldp w0, w0, [x0], ldp x9, x1, [x9, #-16]!
+        0x53028020, 0xB80B3C00, 0xB84B3C00, // ubfm with imms 32, str and ldr w0, [x0, #179]!
+        0xB8223B28, 0xB8228B28, 0xB822AB28, // str with options 1, 4 and 5
         0x88DF7C00, 0x38209000, // ldar with a clear bit 15, swp with a set bit 12
     ] {
         assert!(rt; decode_scalar(word) == None, "at {word:#x}");

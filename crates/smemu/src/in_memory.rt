@@ -1,7 +1,9 @@
 //! The command where nothing of the outside can fail.
 ghost use Rattle.edge_io.specs.MemFiles as mem_files;
 ghost use Rattle.edge_io.specs.MemSink as mem_sink;
-ghost use Rattle.smemu.specs.Ends.{call, LacksMemoryAlone};
+ghost use Rattle.edge_io.specs.Files.{IsKept};
+ghost use Rattle.edge_io.specs.MemFiles.{IsAfterFetch};
+ghost use Rattle.smemu.specs.Ends.{call, IsDone, IsRefused, Fetches, LacksMemoryAlone};
 
 use crate::command::smemu_main;
 use crate::status::Status;
@@ -16,7 +18,11 @@ pub fn smemu_in_memory(
     files: &mut MemFiles,
     out: &mut MemSink,
 ) -> Status
-    ensures { LacksMemoryAlone (call mem_files.view_of mem_sink.view_of words.now files.old files.new out.old out.new) result }
+    ensures done { IsDone (call mem_files.view_of mem_sink.view_of words.now files.old files.new out.old out.new) result }
+    ensures refused { IsRefused (call mem_files.view_of mem_sink.view_of words.now files.old files.new out.old out.new) result }
+    ensures kept { IsKept (mem_files.view_of files.old) (mem_files.view_of files.new) }
+    ensures fetched { Fetches IsAfterFetch mem_files.view_of words.now files.old files.new result }
+    ensures lacks { LacksMemoryAlone (call mem_files.view_of mem_sink.view_of words.now files.old files.new out.old out.new) result }
 {
     smemu_main(alloc, words, files, out)
 }

@@ -3,7 +3,7 @@
 #![tactic(auto)]
 
 use edge_io::{DiskFiles, StdSink};
-use smemu::{refuse_foreign_word, smemu_main};
+use smemu::{Status, refuse_foreign_word, smemu_main};
 use std::alloc::Global;
 use std::env::FillError;
 use std::io::ErrorKind;
@@ -57,15 +57,24 @@ fn words_before<R: Env>(alloc: Global, system: &R) -> io::Result<Vec<String>> {
     Ok(words)
 }
 
-fn main(rt: HostRuntime) -> io::Result<ExitCode> {
+/// Carries out the command of the words.
+fn carry_out(rt: HostRuntime) -> io::Result<Status> {
     let alloc = rt.alloc();
     let mut out = StdSink::new(rt.stdout());
-    let status = match words_below(alloc, &rt, usize::MAX) {
-        Ok(words) => smemu_main(alloc, words.as_slice(), &mut DiskFiles::new(rt), &mut out),
+    match words_below(alloc, &rt, usize::MAX) {
+        Ok(words) => Ok(smemu_main(alloc, words.as_slice(), &mut DiskFiles::new(rt), &mut out)),
         Err(error) if error.kind() == ErrorKind::InvalidData => {
             let words = words_before(alloc, &rt)?;
-            refuse_foreign_word(alloc, words.as_slice(), &mut out)
+            Ok(refuse_foreign_word(alloc, words.as_slice(), &mut out))
         }
+        Err(error) => Err(error),
+    }
+}
+
+fn main(rt: HostRuntime) -> io::Result<ExitCode> {
+    let status = match carry_out(rt) {
+        Ok(status) => status,
+        Err(error) if error.kind() == ErrorKind::OutOfMemory => Status::OutOfMemory,
         Err(error) => return Err(error),
     };
     Ok(ExitCode::from(status.code()))

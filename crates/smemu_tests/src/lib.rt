@@ -11,7 +11,7 @@ mod programs;
 #[cfg(test)]
 mod tests {
     use edge_io::{MemFiles, MemSink};
-    use smemu::{Status, smemu_main};
+    use smemu::{Status, refuse_foreign_word, smemu_main};
     use std::alloc::Global;
     use std::test::Fail;
 
@@ -107,6 +107,25 @@ mod tests {
             assert!(rt; status.code() == 2, "{line}");
             let text = format!(in rt.alloc(); "usage: word {wanted}\n")?;
             assert!(rt; out.bytes() == text.as_bytes(), "{line}");
+        }
+        Ok(())
+    }
+
+    #[test]
+    fn a_word_that_is_no_text(rt: HostRuntime) -> Result<(), Fail> {
+        let cases: [(&[&str], &str); 5] = [
+            (&[], "usage: word 0: unknown\n"),
+            (&["run"], "usage: word 1: unknown\n"),
+            (&["run", "p", "--vl"], "usage: word 3: unknown\n"),
+            (&["walk"], "usage: word 0: unknown\n"),
+            (&["run", "p", "--vl", "129"], "usage: word 3: outofrange\n"),
+        ];
+        for (texts, line) in cases {
+            let words = words(rt.alloc(), texts)?;
+            let mut out = MemSink::new(rt.alloc(), 100)?;
+            let status = refuse_foreign_word(rt.alloc(), words.as_slice(), &mut out);
+            assert!(rt; status.code() == 2, "{line}");
+            assert!(rt; out.bytes() == line.as_bytes(), "{line}");
         }
         Ok(())
     }
