@@ -373,7 +373,7 @@ def text(w):
     return f'b"{w}' + "\\0" * (12 - len(w)) + f'" {len(w)};'
 
 
-FACTOR, FREE = 31, 65535
+FACTOR, FREE = 379, 65535
 
 
 def hash_of(w, factor, size):

@@ -1,4 +1,5 @@
 pub mod Checks
+pub mod RowFits
 pub mod Groups
 pub mod HasLine
 pub mod Numbers

@@ -1,10 +1,12 @@
 //! The laws of the table.
-ghost use Rattle.std.specs.Prelude.{◌≡◌, ◌<◌, ◌^◌, ◌↔◌, Some, ℕ, map};
+ghost use Rattle.std.specs.Prelude.{◌≡◌, ◌<◌, ◌^◌, ◌↔◌, Some, ℕ, map, slice_get};
+ghost use Rattle.insn_forms.specs.declared.line.Line.{Line};
 ghost use Rattle.sm_types.specs.declared.insn.Insn.{Insn};
-ghost use Rattle.insn_forms.specs.Tables.{HasAtMostOneLine, HasWord, Means};
+ghost use Rattle.insn_forms.specs.Tables.{HasAtMostOneLine, HasWord, Means, fits_in};
+ghost use Rattle.a64_table.specs.declared.operation.Operation.{Operation};
 ghost use Rattle.a64_table.specs.declared.rows.TheConstants.{SCALAR_LINES};
 ghost use Rattle.a64_table.specs.Ranges.{IsInRow};
-ghost use Rattle.a64_table.specs.Rows.{row_of};
+ghost use Rattle.a64_table.specs.Rows.{row_fits, row_of};
 ghost use Rattle.a64_table.specs.Table.{meaning_of, scalar};
 
 use crate::rows::SCALAR_ROWS;
@@ -12,6 +14,11 @@ use crate::rows::SCALAR_ROWS;
 /// The rows are those of the lines.
 pub fn rows_of_lines()
     ensures { map row_of SCALAR_LINES ≡ SCALAR_ROWS }
+{}
+
+/// The condition that `fits` tests for a row is that of the row's line.
+pub fn fits_of_rows()
+    ensures { (place : ℕ) (line : Line Operation) (word : ℕ) → slice_get SCALAR_LINES place ≡ Some line → row_fits SCALAR_LINES (row_of line) word ≡ fits_in scalar line.operation word }
 {}
 
 /// At most one row of the table matches and fits a word.

@@ -16,7 +16,7 @@ mod values;
 
 pub use conditions::{condition, fits};
 pub use insn::insn_given;
-pub use laws::{has_word, in_range, one_meaning, one_row, one_word, rows_of_lines};
+pub use laws::{fits_of_rows, has_word, in_range, one_meaning, one_row, one_word, rows_of_lines};
 pub use operation::{
     AddressForm, AtomicForm, BranchOp, MultiplyOp, Operation, SystemOp, number_of,
 };

@@ -5,7 +5,7 @@ use Rattle.std.specs.FinMap.{FinMap, get, insert, empty, get-insert, get-empty, 
 use Rattle.std.specs.Cmp.{nat_cmp_total}
 use Rattle.std.specs.Ordering.{nat_cmp, eq_by_cmp}
 use Rattle.std.proofs.lemmas.Bool.Decides.{nat_tests}
-use Rattle.paged_memory.specs.Memory.{Memory}
+use Rattle.paged_memory.specs.Memory.{AddressSpace}
 use Rattle.paged_memory.specs.Image.{Extent, Program, part_flags, image_flags, part_byte, parts_byte, image_byte, IsMemoryOf}
 use Rattle.elf_headers.specs.Header.{header_entry}
 use Rattle.elf_headers.specs.Loads.{extents_of}
@@ -118,7 +118,7 @@ bytes-above parts a l = rw (parts-above parts a (omega arith), flags-above parts
 
 -- ---- the memory of parts
 
-memory_of : List Extent → Memory
+memory_of : List Extent → AddressSpace
 memory_of parts = record { mem = map_below (image_byte parts) (4096 * bound_of parts); perm = map_below (image_flags parts) (bound_of parts) }
 
 is_memory : (parts : List Extent) → IsMemoryOf parts (memory_of parts)
@@ -128,7 +128,7 @@ is_memory parts = record {
   bytes = get-map (image_byte parts) (4096 * bound_of parts) (bytes-above parts);
 }
 
-one_memory : (parts : List Extent) (m n : Memory) → IsMemoryOf parts m → IsMemoryOf parts n → m ≡ n
+one_memory : (parts : List Extent) (m n : AddressSpace) → IsMemoryOf parts m → IsMemoryOf parts n → m ≡ n
 one_memory parts m n h k =
     let mem : m.mem ≡ n.mem = same_map nat_cmp_total nat_cmp-IsAntisymmetric _ _ (λ a. h.bytes a ∙ sym (k.bytes a)) in
     let perm : m.perm ≡ n.perm = same_map nat_cmp_total nat_cmp-IsAntisymmetric _ _ (λ a. h.flags a ∙ sym (k.flags a)) in

@@ -1,10 +1,10 @@
 //! The files and the writers of a system, where clauses cannot see them: what is opened, read, written and flushed.
 
 use edge_io::{DiskFiles, FileFault, Files, PutFault, Sink, WriterSink};
+use std::alloc::Allocator;
 use std::cell::Cell;
 use std::fs::{Metadata, OpenFile, OpenOptions};
 use std::io::{ErrorKind, Read, Seek, SeekFrom, Write};
-use std::alloc::Allocator;
 use std::test::Fail;
 use std::{io, rt};
 
