@@ -118,6 +118,10 @@ class Run:
         self.log = tempfile.TemporaryFile()
         self.process = subprocess.Popen(["rt", *words], cwd=folder, stdin=subprocess.DEVNULL, stdout=self.log, stderr=self.log, pass_fds=[held])
 
+    def was_killed(self):
+        """Tells whether it was killed, or ended as rattle was."""
+        return self.process.returncode in (-signal.SIGKILL, 256 - signal.SIGKILL)
+
     def said(self):
         self.log.seek(0)
         return self.log.read().decode(errors="replace")
@@ -172,10 +176,15 @@ def build(needed, running, progress, held):
             if run.process.poll() is not None:
                 take_back(name)
                 del running[name]
-                if run.process.returncode:
+                if run.was_killed() and most > 1:
+                    # most likely for memory
+                    most -= 1
+                    left.append(name)
+                elif run.process.returncode:
                     progress.end(f"what rt says of {name}:\n{run.said()}")
-                    return f"{name} is not proved"
-                progress.proved(name)
+                    return f"{name} is not proved: rt ended with status {run.process.returncode}"
+                else:
+                    progress.proved(name)
     (CRATES / PROGRAM / "out" / PROGRAM).touch()
 
 
