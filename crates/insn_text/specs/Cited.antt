@@ -125,7 +125,7 @@ unfoldable pub is_cited_by : Shape → Line Operation → Bool
 is_cited_by s line =
     has_bits s line
     && (if s.alias then list_any (is_text s line) (aliases_of line.operation (numbers_in s.value) (is_set s.mask))
-        else is_text s line (printed_naming line.operation (numbers_in s.value) (is_set s.mask)))
+    else is_text s line (printed_naming line.operation (numbers_in s.value) (is_set s.mask)))
 
 -- the shape is a text of a row
 unfoldable pub is_cited : Shape → Bool

@@ -16,9 +16,7 @@ mod tests;
 mod words;
 
 pub use item::{Item, Kind, Rule, Shape, Text};
-pub use laws::{
-    every_word_is_printed, names_are_those_of_operations, texts_are_those_of_rows,
-};
+pub use laws::{every_word_is_printed, names_are_those_of_operations, texts_are_those_of_rows};
 pub use operands::ITEMS;
 pub use print::{print_insn, print_word};
 pub use printed::{PRINTED, ROOTS};

@@ -12,9 +12,9 @@ ghost use Rattle.insn_text.specs.declared.words.TheConstants.{WORDS};
 use crate::item::{Item, Kind, Shape};
 use crate::shape::{name_at, operands_of, shape_of, word_at};
 use a64_encode::encode;
-use insn_forms::run_of_bits;
 use arrayvec::ArrayString;
 use bit_ops::bit_mask;
+use insn_forms::run_of_bits;
 use sm_types::Insn;
 
 /// Writes the text of a word, and nothing for a word that has none; whatever `out` held is gone.
