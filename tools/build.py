@@ -161,14 +161,13 @@ def build(needed, running, progress, held):
     left, most, most_lines = list(needed), slots(), urgency(needed)
     while left or running:
         ready = sorted((it for it in left if not {*USES[it]} & {*left, *running}), key=most_lines.get, reverse=True)
+        # the cores are shared out; where they do not come out even, a crate may have one that others use too
+        jobs = -(-most // max(1, len(running) + len(ready)))
         for name in ready[:most - len(running)]:
             left.remove(name)
             if name == PROGRAM:
                 running[name] = Run(held, CRATES / name, "run", "--", "--version")
                 continue
-            # the crate on which most depends gets the cores that the others do not take, and two at least
-            is_first = all(most_lines[name] >= most_lines[it] for it in [*running, *ready])
-            jobs = max(min(2, most), most - len(running) - len(ready) + 1) if is_first else 1
             running[name] = Run(held, make_tree(name), "lib", "--jobs", str(jobs))
         progress.show(running)
         time.sleep(0.2)

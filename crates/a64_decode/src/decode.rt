@@ -19,7 +19,8 @@ pub fn decode_scalar(word: u32) -> Option<Insn>
     by_tree(word)
 }
 
-/// The instruction of the one row that the tree leads to, where the word has its fixed bits and meets its condition.
+/// The instruction of the one row that the tree leads to, where the word has its fixed bits and meets its
+/// condition.
 #[inline(always)]
 fn by_tree(word: u32) -> Option<Insn>
     ensures { (it : Insn) → (result ≡ Some it) ↔ Means scalar word it }

@@ -1,5 +1,6 @@
-//! The decoder of the scalar instructions of A64: a word of 32 bits becomes the instruction that the table's rows
-//! give it. A tree of tests on bits leads to the one row that may match, and no other row is looked at.
+//! The decoder of the scalar instructions of A64: a word of 32 bits becomes the instruction that the
+//! table's rows give it. A tree of tests on bits leads to the one row that may match, and no other row is
+//! looked at.
 #![tactic(auto)]
 
 mod decode;

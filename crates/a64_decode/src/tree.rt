@@ -1,4 +1,5 @@
-//! Trees of tests on bits, which lead a word to the one row that it may match: one for each value of a word's top eight bits.
+//! Trees of tests on bits, which lead a word to the one row that it may match: one for each value of a
+//! word's top eight bits.
 ghost use Rattle.std.specs.Prelude.{◌≡◌, ℕ, Some, bit_and, slice_get};
 ghost use Rattle.insn_forms.specs.declared.line.Line.{Line};
 ghost use Rattle.a64_table.specs.declared.operation.Operation.{Operation};
@@ -9,7 +10,8 @@ use insn_forms::{Node, line_number};
 /// The number of the one row that may match the word.
 #[inline(always)]
 pub fn row_number(word: u32) -> Option<usize>
-    ensures { (i : ℕ) (line : Line Operation) → slice_get SCALAR_LINES i ≡ Some line → bit_and word line.mask ≡ line.value → result ≡ Some i }
+    ensures { (i : ℕ) (line : Line Operation) → slice_get SCALAR_LINES i ≡ Some line
+        → bit_and word line.mask ≡ line.value → result ≡ Some i }
 {
     line_number(&TREE, &ROOTS, DEPTH, word)
 }

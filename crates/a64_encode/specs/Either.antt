@@ -1,4 +1,5 @@
 -- The instruction that a word means by the rows of either table.
+-- Source: DDI 0487, C4.1: the top-level encodings, of which SVE and SME have their own.
 use Rattle.std.specs.Prelude.{ℕ, ◌≡◌, ◌⊎◌, Option, Some, slice_get, bit_and, true}
 use Rattle.std.specs.Option.{option_or}
 use Rattle.sm_types.specs.declared.insn.Insn.{Insn}

@@ -12,5 +12,7 @@ pub record IsListed (lines : List (Line Operation)) (number : ℕ) (line : Line 
 
 -- a line of the list whose operation has the number, or none where there is none
 abbrev pub IsLineOf : List (Line Operation) → ℕ → Option (Line Operation) → Type 0
-IsLineOf lines number None = (place : ℕ) (line : Line Operation) → slice_get lines place ≡ Some line → number_of line.operation ≢ number
+IsLineOf lines number None =
+    (place : ℕ) (line : Line Operation) → slice_get lines place ≡ Some line
+    → number_of line.operation ≢ number
 IsLineOf lines number (Some line) = IsListed lines number line

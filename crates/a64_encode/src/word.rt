@@ -10,8 +10,8 @@ use a64_table::{Operation, SCALAR_LINES, condition, number_of, parts_of};
 use insn_forms::{Line, fields_of, word_in};
 use sm_types::Insn;
 
-/// The word to which a row of either table gives the instruction; `None` exactly where there is none, that is where a field
-/// is outside the ranges of the instruction's rows.
+/// The word to which a row of either table gives the instruction; `None` exactly where there is none, that
+/// is where a field is outside the ranges of the instruction's rows.
 pub fn encode(insn: &Insn) -> Option<u32>
     ensures { (word : ℕ) → (result ≡ Some word) ↔ MeansEither word insn.now }
 {

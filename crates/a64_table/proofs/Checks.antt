@@ -1,42 +1,26 @@
 -- The finite checks of the table, and its laws.
-use Rattle.std.proofs.Common.{◌≡◌, ℕ, zero, suc, ◌+◌, ◌*◌, ◌==◌, ◌&&◌, not, Bool, true, false, cond, refl, sym, ap, ◌∙◌, eqb-true, eq-eqb, bit_and, List, [], ◌∷◌, slice_get, Option, Some, None, subst}
+use Rattle.std.proofs.Common.{◌≡◌, ℕ, suc, ◌==◌, not, Bool, true, false, cond, refl, sym, ap, ◌∙◌, eq-eqb, bit_and, List, [], ◌∷◌, slice_get, Option, Some, None, subst}
 use Rattle.std.specs.List.{list_all}
-use Rattle.bit_ops.specs.Sums.{bool_number}
 use Rattle.std.specs.Prelude.{option_map}
-use Rattle.std.proofs.lemmas.Bool.{and_parts, both_ways}
-use Rattle.insn_forms.specs.declared.field.Field.{Field}
+use Rattle.std.proofs.lemmas.Bool.{both_ways}
 use Rattle.insn_forms.specs.declared.line.Line.{Line}
 use Rattle.insn_forms.specs.Fields.{is_field, list_of, mask_of}
 use Rattle.insn_forms.specs.Forms.{is_form, fills}
 use Rattle.insn_forms.specs.Tables.{HasAtMostOneLine}
 use Rattle.insn_forms.proofs.Deciding.{some_is}
+use Rattle.insn_forms.proofs.Lines.{same_field, same_fields, one_list, unequal}
 use Rattle.insn_forms.proofs.Laws.{all-get, suits, pairwise, one_place}
 use Rattle.insn_forms.proofs.Ways.{take_of, field_of_slot, eight}
 use Rattle.insn_forms.proofs.Tables.{IsTable, differ, not_alike}
-use Rattle.sm_types.specs.declared.insn.AddSub.TheVariants.{Add}
-use Rattle.sm_types.specs.declared.insn.AtomicOp.TheVariants as atomic_ops
-use Rattle.sm_types.specs.declared.insn.BitfieldOp.TheVariants.{Sbfm, Bfm, Ubfm}
-use Rattle.sm_types.specs.declared.insn.BranchRegisterOp.TheVariants.{Br}
-use Rattle.sm_types.specs.declared.insn.CompareOp.TheVariants.{Ccmn, Ccmp}
-use Rattle.sm_types.specs.declared.insn.LoadLiteralOp.TheVariants.{Word}
-use Rattle.sm_types.specs.declared.insn.Logical.TheVariants.{And, Orr, Eor, Ands}
-use Rattle.sm_types.specs.declared.insn.MoveOp.TheVariants.{Movn}
-use Rattle.sm_types.specs.declared.insn.OneSourceOp.TheVariants.{Rbit}
-use Rattle.sm_types.specs.declared.insn.PairIndex.TheVariants.{Offset}
-use Rattle.sm_types.specs.declared.insn.PairOp.TheVariants.{Stp, Ldp}
-use Rattle.sm_types.specs.declared.insn.PcRelativeOp.TheVariants.{Adr}
-use Rattle.sm_types.specs.declared.insn.SelectOp.TheVariants.{Csel}
-use Rattle.sm_types.specs.declared.insn.SystemMoveOp.TheVariants.{Mrs, Msr}
-use Rattle.sm_types.specs.declared.insn.SystemRegister.TheVariants.{Nzcv}
-use Rattle.sm_types.specs.declared.insn.TwoSourceOp.TheVariants.{Udiv}
-use Rattle.a64_table.specs.declared.operation.Operation.{Operation}
-use Rattle.a64_table.specs.declared.operation.Operation.TheVariants.{G1, G2, G3, G4, G5, G6, G7, G8, G9, G10, G11, G12, G13, G14, G15, G16, G17, G18, G19, G20, G21, G22, G23}
-use Rattle.a64_table.specs.declared.operation.AddressForm.TheVariants as address_form
-use Rattle.a64_table.specs.declared.operation.AtomicForm.{AtomicForm}
-use Rattle.a64_table.specs.declared.operation.AtomicForm.TheVariants.{Ldar, Stlr, Cas, Swap, Update}
-use Rattle.a64_table.specs.declared.operation.BranchOp.TheVariants.{B}
-use Rattle.a64_table.specs.declared.operation.MultiplyOp.TheVariants.{Madd}
-use Rattle.a64_table.specs.declared.operation.SystemOp.TheVariants.{Svc}
+use Rattle.sm_types.specs.declared.insn as types
+use types.BitfieldOp.TheVariants.{Sbfm, Bfm, Ubfm}
+use types.Logical.TheVariants.{And, Orr, Eor, Ands}
+use types.{AddSub.TheVariants.Add, BranchRegisterOp.TheVariants.Br, CompareOp.TheVariants.Ccmn, CompareOp.TheVariants.Ccmp, LoadLiteralOp.TheVariants.Word, MoveOp.TheVariants.Movn, OneSourceOp.TheVariants.Rbit, PairIndex.TheVariants.Offset, PairOp.TheVariants.Stp, PairOp.TheVariants.Ldp, PcRelativeOp.TheVariants.Adr, SelectOp.TheVariants.Csel, SystemMoveOp.TheVariants.Mrs, SystemMoveOp.TheVariants.Msr, SystemRegister.TheVariants.Nzcv, TwoSourceOp.TheVariants.Udiv}
+use types.AtomicOp.TheVariants as atomic_ops
+use Rattle.a64_table.specs.declared.operation as operations
+use operations.Operation.TheVariants.{G1, G2, G3, G4, G5, G6, G7, G8, G9, G10, G11, G12, G13, G14, G15, G16, G17, G18, G19, G20, G21, G22, G23}
+use operations.{Operation.Operation, AtomicForm.TheVariants.Update, BranchOp.TheVariants.B, MultiplyOp.TheVariants.Madd, SystemOp.TheVariants.Svc}
+use operations.AddressForm.TheVariants as address_form
 use Rattle.a64_table.specs.declared.rows.TheConstants.{SCALAR_LINES}
 use Rattle.a64_table.specs.Numbers.{form_number, number_of}
 use Rattle.a64_table.specs.Parts.{parts_of}
@@ -130,36 +114,17 @@ unfolding list_of suits takes slots eight kept take_of
 all_suit = refl
 
 -- ---- the fields that the instruction is read from are those of the rows
-unfoldable same_field : Field → Field → Bool
-same_field f g = (f.low == g.low) && (f.width == g.width) && (f.upper_low == g.upper_low) && (f.upper_width == g.upper_width)
-
-unfoldable same_fields : List Field → List Field → Bool
-same_fields [] [] = true
-same_fields [] (g ∷ gs) = false
-same_fields (f ∷ fs) [] = false
-same_fields (f ∷ fs) (g ∷ gs) = same_field f g && same_fields fs gs
-
-one_field : (f g : Field) → same_field f g ≡ true → f ≡ g
-unfolding same_field
-one_field f g e =
-    let p = and_parts ((f.low == g.low) && (f.width == g.width) && (f.upper_low == g.upper_low)) (f.upper_width == g.upper_width) e in
-    let q = and_parts ((f.low == g.low) && (f.width == g.width)) (f.upper_low == g.upper_low) p.0 in
-    let r = and_parts (f.low == g.low) (f.width == g.width) q.0 in
-    λ i. record { low = eqb-true f.low g.low r.0 i; width = eqb-true f.width g.width r.1 i; upper_low = eqb-true f.upper_low g.upper_low q.1 i; upper_width = eqb-true f.upper_width g.upper_width p.1 i }
-
-one_list : (fs gs : List Field) → same_fields fs gs ≡ true → fs ≡ gs
-unfolding same_fields
-one_list [] [] e = refl
-one_list [] (g ∷ gs) e = cc
-one_list (f ∷ fs) [] e = cc
-one_list (f ∷ fs) (g ∷ gs) e = let p = and_parts (same_field f g) (same_fields fs gs) e in λ i. one_field f g p.0 i ∷ one_list fs gs p.1 i
-
 all_formats : list_all (λ (r : Row). same_fields (list_of r.fields) (format r.operation)) SCALAR_LINES ≡ true
 unfolding list_of same_fields same_field format slots eight kept field_of_slot
 all_formats = refl
 
 pub row-format : (i : ℕ) (r : Row) → slice_get SCALAR_LINES i ≡ Some r → list_of r.fields ≡ format r.operation
 row-format i r g = one_list (list_of r.fields) (format r.operation) (all-get (λ (r : Row). same_fields (list_of r.fields) (format r.operation)) SCALAR_LINES i r all_formats g)
+
+-- ---- no two rows have the same fixed bits
+pub all_unequal : pairwise unequal SCALAR_LINES ≡ true
+unfolding pairwise unequal
+all_unequal = refl
 
 -- ---- no two rows match a word
 unfoldable apart : Row → Row → Bool

@@ -1,33 +1,28 @@
 -- Group by group: an instruction tells what it was made of, and is made of what it tells.
-use Rattle.std.proofs.Common.{◌≡◌, ℕ, ◌^◌, ◌<◌, Bool, true, false, refl, sym, ap, ◌∙◌, subst, List, [], ◌∷◌, map, Option, Some, None, ℤ}
+use Rattle.std.proofs.Common.{◌≡◌, ℕ, Bool, true, false, refl, sym, ap, ◌∙◌, List, [], ◌∷◌, Option, Some, None, ℤ}
 use Rattle.insn_forms.specs.declared.field.Field.{Field}
 use Rattle.insn_forms.specs.declared.number.Parts.{Parts}
 use Rattle.insn_forms.proofs.Laws.{Take, taken, are_small, agrees}
-use Rattle.insn_forms.proofs.Ways.{Slot, flag, cut, code, signed, nothing, take_of, field_of_slot, takes_of, fields_of, pass, eight, passed, one, cuts}
-use Rattle.sm_types.specs.declared.insn.Insn.{Insn}
-use Rattle.sm_types.specs.declared.insn.Insn.TheVariants as insn
-use Rattle.sm_types.specs.declared.insn.Branch.TheVariants as branch
-use Rattle.sm_types.specs.declared.insn.CompareOperand.{CompareOperand}
-use Rattle.sm_types.specs.declared.insn.CompareOperand.TheVariants as operand
-use Rattle.sm_types.specs.declared.insn.ConditionalCompare.{ConditionalCompare}
-use Rattle.sm_types.specs.declared.insn.OneSource.{OneSource}
-use Rattle.sm_types.specs.declared.insn.OneSourceOp.{OneSourceOp}
-use Rattle.sm_types.specs.declared.insn.OneSourceOp.TheVariants.{Rbit, Rev16, Rev32, Rev64, Clz, Cls}
-use Rattle.sm_types.specs.declared.insn.Multiply.TheVariants as multiply
-use Rattle.sm_types.specs.declared.insn.Address.{Address}
-use Rattle.sm_types.specs.declared.insn.Address.TheVariants as address
-use Rattle.sm_types.specs.declared.insn.LoadStore.{LoadStore}
-use Rattle.sm_types.specs.declared.insn.Atomic.TheVariants as atomic
-use Rattle.sm_types.specs.declared.insn.System.TheVariants as system
+use Rattle.insn_forms.proofs.Ways.{Slot, flag, cut, code, signed, take_of, field_of_slot, takes_of, fields_of, pass, eight, passed, one, cuts}
+use Rattle.sm_types.specs.declared.insn as types
+use types.{Insn.Insn, CompareOperand.CompareOperand, ConditionalCompare.ConditionalCompare, OneSource.OneSource, OneSourceOp.OneSourceOp, OneSourceOp.TheVariants.Rbit, OneSourceOp.TheVariants.Rev64, Address.Address, LoadStore.LoadStore}
+use types.Insn.TheVariants as insn
+use types.Branch.TheVariants as branch
+use types.CompareOperand.TheVariants as operand
+use types.Multiply.TheVariants as multiply
+use types.Address.TheVariants as address
+use types.Atomic.TheVariants as atomic
+use types.System.TheVariants as system
 use Rattle.a64_table.specs.declared.fields.TheConstants.{ACQUIRE, BIT, BRANCH_COND, CAS_ACQUIRE, CAS_RELEASE, COND, CRM, HINT, HW, IMM12, IMM14, IMM16, IMM19, IMM21, IMM26, IMM3, IMM5, IMM6, IMM7, IMM9, IMMR, IMMS, N, NZCV, OPC, OPTION, RA, RD, RELEASE, RM, RN, RS, RT, RT2, SCALED, SF, SH, SHIFT, SIZE, UDF_IMM16}
-use Rattle.a64_table.specs.declared.operation.Operation.{Operation}
-use Rattle.a64_table.specs.declared.operation.Operation.TheVariants.{G1, G2, G3, G4, G5, G6, G7, G8, G9, G10, G11, G12, G13, G14, G15, G16, G17, G18, G19, G20, G21, G22, G23}
-use Rattle.a64_table.specs.declared.operation.BranchOp.TheVariants.{B, Bl, BCond, Cbz, Cbnz, Tbz, Tbnz}
-use Rattle.a64_table.specs.declared.operation.MultiplyOp.TheVariants.{Madd, Msub, Smulh, Umulh}
-use Rattle.a64_table.specs.declared.operation.AddressForm.TheVariants as form
-use Rattle.a64_table.specs.declared.operation.AtomicForm.TheVariants.{Ldar, Stlr, Cas, Swap, Update}
-use Rattle.a64_table.specs.declared.operation.SystemOp.TheVariants.{Svc, Brk, Udf, Hint}
-use Rattle.a64_table.specs.Values.{byte, half, condition_of, condition_number, shift_of, shift_number, extend_of, extend_number, access_size_of, access_size_number, load_store_op_of, load_store_op_number}
+use Rattle.a64_table.specs.declared.operation as operations
+use operations.Operation.TheVariants.{G1, G2, G3, G4, G5, G6, G7, G8, G9, G10, G11, G12, G13, G14, G15, G16, G17, G18, G19, G20, G21, G22, G23}
+use operations.BranchOp.TheVariants.{B, Bl, BCond, Cbz, Cbnz, Tbz, Tbnz}
+use operations.MultiplyOp.TheVariants.{Madd, Msub, Smulh, Umulh}
+use operations.AtomicForm.TheVariants.{Ldar, Stlr, Cas}
+use operations.SystemOp.TheVariants.{Svc, Brk, Udf, Hint}
+use operations.{Operation.Operation}
+use operations.AddressForm.TheVariants as form
+use Rattle.a64_table.specs.Values.{condition_of, condition_number, shift_of, shift_number, extend_of, extend_number, access_size_of, access_size_number, load_store_op_of, load_store_op_number}
 use Rattle.a64_table.specs.Named.{shifted_register, extended_register, named_branch, compare_operand, is_wide_source, named_multiply, named_address, named_atomic, named_system, named}
 use Rattle.a64_table.specs.Parts.{padded, branch_parts, compare_says, compare_parts, doubleword_parts, one_source_parts, multiply_parts, load_store_says, load_store_parts, atomic_parts, system_parts, parts_of}
 use Rattle.a64_table.proofs.Numbers.{condition_back, shift_back, extend_back, access_size_back, load_store_op_back, condition_is, shift_is, extend_is, access_size_is, load_store_op_is}
@@ -143,11 +138,7 @@ remade_doubleword x false e w = tt
 remade_one_source : (x : OneSource) (op : OneSourceOp) → x.op ≡ op → IsRemade (insn.OneSource x) (one_source_parts x op)
 unfolding one_source_parts padded agrees are_small takes format slots eight kept take_of field_of_slot named is_wide_source
 remade_one_source x Rev64 e = remade_doubleword x x.wide e refl
-remade_one_source x Rbit e = λ u s a h. (λ i. insn.OneSource (record { op = Rbit; wide = one (u SF) x.wide a.0 i; rn = cuts 8 (u RN) x.rn a.1.1.0 h.1.1.0 i; rd = cuts 8 (u RD) x.rd a.1.0 h.1.0 i })) ∙ (λ i. insn.OneSource (record x { op = sym e i }))
-remade_one_source x Rev16 e = λ u s a h. (λ i. insn.OneSource (record { op = Rev16; wide = one (u SF) x.wide a.0 i; rn = cuts 8 (u RN) x.rn a.1.1.0 h.1.1.0 i; rd = cuts 8 (u RD) x.rd a.1.0 h.1.0 i })) ∙ (λ i. insn.OneSource (record x { op = sym e i }))
-remade_one_source x Rev32 e = λ u s a h. (λ i. insn.OneSource (record { op = Rev32; wide = one (u SF) x.wide a.0 i; rn = cuts 8 (u RN) x.rn a.1.1.0 h.1.1.0 i; rd = cuts 8 (u RD) x.rd a.1.0 h.1.0 i })) ∙ (λ i. insn.OneSource (record x { op = sym e i }))
-remade_one_source x Clz e = λ u s a h. (λ i. insn.OneSource (record { op = Clz; wide = one (u SF) x.wide a.0 i; rn = cuts 8 (u RN) x.rn a.1.1.0 h.1.1.0 i; rd = cuts 8 (u RD) x.rd a.1.0 h.1.0 i })) ∙ (λ i. insn.OneSource (record x { op = sym e i }))
-remade_one_source x Cls e = λ u s a h. (λ i. insn.OneSource (record { op = Cls; wide = one (u SF) x.wide a.0 i; rn = cuts 8 (u RN) x.rn a.1.1.0 h.1.1.0 i; rd = cuts 8 (u RD) x.rd a.1.0 h.1.0 i })) ∙ (λ i. insn.OneSource (record x { op = sym e i }))
+remade_one_source x op e = λ u s a h. (λ i. insn.OneSource (record { op = op; wide = one (u SF) x.wide a.0 i; rn = cuts 8 (u RN) x.rn a.1.1.0 h.1.1.0 i; rd = cuts 8 (u RD) x.rd a.1.0 h.1.0 i })) ∙ (λ i. insn.OneSource (record x { op = sym e i }))
 
 -- a load or store, by its address
 remade_load_store : (x : LoadStore) (a : Address) → x.address ≡ a → IsRemade (insn.LoadStore x) (load_store_parts x a)

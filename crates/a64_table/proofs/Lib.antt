@@ -1,5 +1,4 @@
 pub mod Checks
-pub mod RowFits
 pub mod Groups
 pub mod HasLine
 pub mod Numbers

@@ -1,65 +1,31 @@
 -- The fields of an instruction that a row gives are in their ranges.
-use Rattle.std.proofs.Common.{◌≡◌, ◌≢◌, ℕ, zero, suc, ◌-◌, ◌+◌, ◌%◌, ◌<◌, ◌≤◌, ◌^◌, ◌==◌, Bool, true, false, cond, not, ◌&&◌, ◌||◌, nat_lt, refl, sym, ap, ap₂, ◌∙◌, subst, arith, eqb-true, eq-eqb, mod-eq_of_lt, ℤ, pos, ◌-ℤ◌, ◌≤ℤ◌, ◌<ℤ◌}
-use Rattle.std.proofs.lemmas.Int.{ints}
-use Rattle.std.proofs.lemmas.Bool.{ltb-true, ltb-false, and_parts, both_ways}
+use Rattle.std.proofs.Common.{◌≡◌, ◌≢◌, ℕ, ◌%◌, ◌<◌, ◌^◌, ◌==◌, Bool, true, false, not, ◌&&◌, ◌||◌, nat_lt, refl, sym, ap, ap₂, ◌∙◌, subst, arith, eqb-true, eq-eqb}
+use Rattle.std.proofs.lemmas.Bool.{ltb-true, and_parts, both_ways}
 use Rattle.bit_ops.specs.Masks.{are_mask_fields}
 use Rattle.insn_forms.specs.declared.field.Field.{Field}
 use Rattle.insn_forms.specs.Fields.{bits_of, field_in, signed_value}
 use Rattle.insn_forms.specs.Tables.{Means, numbers_in, signed_numbers_in}
-use Rattle.insn_forms.proofs.Bits.{field_in-lt, doubled}
-use Rattle.sm_types.specs.declared.insn.Insn.{Insn}
-use Rattle.sm_types.specs.declared.insn.Branch.{Branch}
-use Rattle.sm_types.specs.declared.insn.ShiftKind.TheVariants.{Ror}
-use Rattle.sm_types.specs.declared.insn.OneSourceOp.{OneSourceOp}
-use Rattle.sm_types.specs.declared.insn.OneSourceOp.TheVariants.{Rbit, Rev16, Rev32, Rev64, Clz, Cls}
-use Rattle.sm_types.specs.declared.insn.PairOp.{PairOp}
-use Rattle.sm_types.specs.declared.insn.PairOp.TheVariants.{Stp, Ldp}
-use Rattle.sm_types.specs.declared.insn.PairIndex.{PairIndex}
-use Rattle.sm_types.specs.declared.insn.PairIndex.TheVariants.{Offset, PostIndex, PreIndex}
-use Rattle.a64_table.specs.declared.fields.TheConstants.{BIT, CRM, HINT, HW, IMM12, IMM14, IMM16, IMM19, IMM21, IMM26, IMM3, IMM5, IMM6, IMM7, IMM9, IMMR, IMMS, N, NZCV, OPC, OPTION, RA, RD, RM, RN, RS, RT, RT2, SF, SHIFT, SIZE, UDF_IMM16}
-use Rattle.a64_table.specs.declared.operation.Operation.{Operation}
-use Rattle.a64_table.specs.declared.operation.Operation.TheVariants.{G1, G2, G3, G4, G5, G6, G7, G8, G9, G10, G11, G12, G13, G14, G15, G16, G17, G18, G19, G20, G21, G22, G23}
-use Rattle.a64_table.specs.declared.operation.BranchOp.{BranchOp}
-use Rattle.a64_table.specs.declared.operation.BranchOp.TheVariants.{B, Bl, BCond, Cbz, Cbnz, Tbz, Tbnz}
-use Rattle.a64_table.specs.declared.operation.MultiplyOp.{MultiplyOp}
-use Rattle.a64_table.specs.declared.operation.MultiplyOp.TheVariants.{Madd, Msub, Smaddl, Smsubl, Umaddl, Umsubl, Smulh, Umulh}
-use Rattle.a64_table.specs.declared.operation.AddressForm.{AddressForm}
-use Rattle.a64_table.specs.declared.operation.AddressForm.TheVariants as form
-use Rattle.a64_table.specs.declared.operation.AtomicForm.{AtomicForm}
-use Rattle.a64_table.specs.declared.operation.AtomicForm.TheVariants.{Ldar, Stlr, Cas, Swap, Update}
-use Rattle.a64_table.specs.declared.operation.SystemOp.{SystemOp}
-use Rattle.a64_table.specs.declared.operation.SystemOp.TheVariants.{Svc, Brk, Udf, Hint, Dmb, Dsb, Isb}
-use Rattle.a64_table.specs.Values.{byte, shift_of, extend_of, access_size_of, load_store_op_of}
+use Rattle.insn_forms.proofs.Bits.{field_in-lt}
+use Rattle.insn_forms.proofs.Numbers.{all_below, below, small, half_small, cut_below, uncut, signed_small as within}
+use Rattle.sm_types.specs.declared.insn as types
+use types.PairIndex.TheVariants.{Offset, PostIndex, PreIndex}
+use types.{Insn.Insn, ShiftKind.TheVariants.Ror, OneSourceOp.OneSourceOp, OneSourceOp.TheVariants.Rev64, PairOp.PairOp, PairOp.TheVariants.Stp, PairOp.TheVariants.Ldp, PairIndex.PairIndex}
+use Rattle.a64_table.specs.declared.fields.TheConstants.{BIT, CRM, HINT, HW, IMM12, IMM14, IMM16, IMM19, IMM21, IMM26, IMM5, IMM7, IMM9, IMMR, IMMS, N, NZCV, OPC, OPTION, RA, RD, RM, RN, RS, RT, RT2, SF, SHIFT, SIZE, UDF_IMM16}
+use Rattle.a64_table.specs.declared.operation as operations
+use operations.Operation.TheVariants.{G1, G2, G3, G4, G5, G6, G7, G8, G9, G10, G11, G12, G13, G14, G15, G16, G17, G18, G19, G20, G21, G22, G23}
+use operations.BranchOp.TheVariants.{B, Bl, BCond, Cbz, Cbnz, Tbz, Tbnz}
+use operations.SystemOp.TheVariants.{Svc, Brk, Udf, Hint}
+use operations.{Operation.Operation, BranchOp.BranchOp, MultiplyOp.MultiplyOp, MultiplyOp.TheVariants.Smulh, MultiplyOp.TheVariants.Umulh, AddressForm.AddressForm, AtomicForm.AtomicForm, AtomicForm.TheVariants.Ldar, AtomicForm.TheVariants.Stlr, SystemOp.SystemOp}
+use operations.AddressForm.TheVariants as form
+use Rattle.a64_table.specs.Values.{shift_of, shift_number, extend_of, access_size_of, load_store_op_of}
 use Rattle.a64_table.specs.Conditions.{fits_of, is_below_width, has_load, is_address_option, is_apart, are_two, is_pair_apart}
 use Rattle.a64_table.specs.Named.{shifted_register, extended_register, named_branch, compare_operand, is_wide_source, named_multiply, named_address, named_atomic, named_system, named}
-use Rattle.a64_table.specs.Ranges.{IsInRow, IsSigned, width_of, is_address_extend, has_size, IsAddress, IsLoadStore, IsLoadStorePair, IsBranch, IsMultiply, IsAtomic, IsSystem, IsCompareOperand}
+use Rattle.a64_table.specs.Ranges.{IsInRow, IsSigned, width_of, is_address_extend, has_size, IsAddress, writes_base, IsBranch, IsMultiply, IsAtomic, IsSystem, IsCompareOperand}
 use Rattle.a64_table.specs.Table.{scalar}
-
--- ---- numbers of fields
-small : (f : Field) (w : ℕ) → field_in f w % 2 ^ 8 < 2 ^ bits_of f
-small f w = let lt = field_in-lt f w in omega arith
-
-half_small : (f : Field) (w : ℕ) → field_in f w % 2 ^ 16 < 2 ^ bits_of f
-half_small f w = let lt = field_in-lt f w in omega arith
-
-cut_below : (n m : ℕ) → n < m → n % 2 ^ 8 < m
-cut_below n m lt = omega arith
-
-uncut : (f : Field) (w : ℕ) → 2 ^ bits_of f ≤ 2 ^ 8 → field_in f w % 2 ^ 8 ≡ field_in f w
-uncut f w le = let lt = field_in-lt f w in mod-eq_of_lt (omega arith)
-
--- a number below twice a half, less the whole from the half on
-in_halves : (half whole bits : ℕ) → whole ≡ half + half → bits < whole → (b : Bool) → (b ≡ true → bits < half) → (b ≡ false → half ≤ bits)
-    → ((pos 0 -ℤ pos half) ≤ℤ cond b (pos bits) (pos bits -ℤ pos whole)) × (cond b (pos bits) (pos bits -ℤ pos whole) <ℤ pos half)
-in_halves half whole bits e small true f g = let h = f refl in (omega (arith, ints), omega (arith, ints))
-in_halves half whole bits e small false f g = let h = g refl in (omega (arith, ints), omega (arith, ints))
+use Rattle.a64_table.proofs.Numbers.{shift_back}
 
 signed_small : (f : Field) (w : ℕ) → 0 < bits_of f → IsSigned (bits_of f) (signed_value (bits_of f) (field_in f w))
-unfolding signed_value
-signed_small f w some =
-    let n = field_in f w in
-    let both = in_halves (2 ^ (bits_of f - 1)) (2 ^ bits_of f) n (doubled (bits_of f) some) (field_in-lt f w) (nat_lt n (2 ^ (bits_of f - 1))) (ltb-true _ _) (ltb-false _ _) in
-    record { low = both.0; high = both.1 }
+signed_small f w some = let both = within f w some in record { low = both.0; high = both.1 }
 
 -- ---- conditions
 below_two : (b : Bool) (n : ℕ) → (b || nat_lt n 2) ≡ true → b ≡ false → n < 2
@@ -71,50 +37,29 @@ unfolding is_below_width
 below_width true n f = cut_below n 64 (ltb-true _ _ f)
 below_width false n f = cut_below n 32 (ltb-true _ _ f)
 
--- a number of two bits that is not 3 is no rotation
-no_rotation : (n : ℕ) → n < 4 → not (n == 3) ≡ true → shift_of n ≢ Ror
-unfolding shift_of
-no_rotation zero small f e = cc
-no_rotation (suc zero) small f e = cc
-no_rotation (suc (suc zero)) small f e = cc
-no_rotation (suc (suc (suc zero))) small f e = cc
-no_rotation (suc (suc (suc (suc n)))) small f e = omega arith
-
--- an extension of an address is from a word or a doubleword
-address_extend : (n : ℕ) → n < 8 → is_address_option n ≡ true → is_address_extend (extend_of n) ≡ true
-unfolding is_address_option extend_of
-address_extend zero small f = cc
-address_extend (suc zero) small f = cc
-address_extend (suc (suc zero)) small f = refl
-address_extend (suc (suc (suc zero))) small f = refl
-address_extend (suc (suc (suc (suc zero)))) small f = cc
-address_extend (suc (suc (suc (suc (suc zero))))) small f = cc
-address_extend (suc (suc (suc (suc (suc (suc zero)))))) small f = refl
-address_extend (suc (suc (suc (suc (suc (suc (suc zero))))))) small f = refl
-address_extend (suc (suc (suc (suc (suc (suc (suc (suc n)))))))) small f = absurd (omega arith)
-
-load_sized : (size opc : ℕ) → size < 4 → opc < 4 → has_load size opc ≡ true → has_size (load_store_op_of opc) (access_size_of size) ≡ true
-unfolding has_load load_store_op_of access_size_of
-load_sized size zero s o f = refl
-load_sized size (suc zero) s o f = refl
-load_sized zero (suc (suc zero)) s o f = refl
-load_sized (suc zero) (suc (suc zero)) s o f = refl
-load_sized (suc (suc zero)) (suc (suc zero)) s o f = refl
-load_sized (suc (suc (suc zero))) (suc (suc zero)) s o f = cc
-load_sized (suc (suc (suc (suc n)))) (suc (suc zero)) s o f = absurd (omega arith)
-load_sized zero (suc (suc (suc zero))) s o f = refl
-load_sized (suc zero) (suc (suc (suc zero))) s o f = refl
-load_sized (suc (suc zero)) (suc (suc (suc zero))) s o f = cc
-load_sized (suc (suc (suc zero))) (suc (suc (suc zero))) s o f = cc
-load_sized (suc (suc (suc (suc n)))) (suc (suc (suc zero))) s o f = absurd (omega arith)
-load_sized size (suc (suc (suc (suc n)))) s o f = absurd (omega arith)
-
 unlike : (p q : ℕ) → not (p == q) ≡ true → p ≢ q
 unlike p q f e = both_ways (not (p == q)) (ap not (eq-eqb p q e)) f
 
 given : (p q : Bool) → (not p || q) ≡ true → p ≡ true → q ≡ true
 given true q f e = f
 given false q f e = cc
+
+-- a number of two bits that is not 3 is no rotation
+no_rotation : (n : ℕ) → n < 4 → not (n == 3) ≡ true → shift_of n ≢ Ror
+no_rotation n small f e = unlike n 3 f (sym (shift_back n small) ∙ ap shift_number e)
+
+-- an extension of an address is from a word or a doubleword
+address_extend : (n : ℕ) → n < 8 → is_address_option n ≡ true → is_address_extend (extend_of n) ≡ true
+unfolding is_address_option extend_of all_below
+address_extend n small f =
+    given (is_address_option n) _ (below (λ k. not (is_address_option k) || is_address_extend (extend_of k)) 8 n refl small) f
+
+-- a signed load is of less bits than it gives
+load_sized : (size opc : ℕ) → size < 4 → opc < 4 → has_load size opc ≡ true → has_size (load_store_op_of opc) (access_size_of size) ≡ true
+unfolding has_load load_store_op_of access_size_of all_below
+load_sized size opc s o f =
+    let all = below (λ m. all_below (λ k. not (has_load m k) || has_size (load_store_op_of k) (access_size_of m)) 4) 4 size refl s in
+    given (has_load size opc) _ (below (λ k. not (has_load size k) || has_size (load_store_op_of k) (access_size_of size)) 4 opc all o) f
 
 or_else : (p q : Bool) → (p || q) ≡ true → (p ≡ true → ⊥) → q ≡ true
 or_else true q f h = absurd (h refl)
@@ -168,11 +113,7 @@ module _ (w : ℕ) where
   doubleword_wide : (op : OneSourceOp) → op ≡ Rev64 → is_wide_source op (numbers_in w) ≡ true
   unfolding is_wide_source
   doubleword_wide Rev64 e = refl
-  doubleword_wide Rbit e = cc
-  doubleword_wide Rev16 e = cc
-  doubleword_wide Rev32 e = cc
-  doubleword_wide Clz e = cc
-  doubleword_wide Cls e = cc
+  doubleword_wide _ e = cc
 
   multiply_ranged : (op : MultiplyOp) → IsMultiply (named_multiply op (numbers_in w))
   unfolding named_multiply
@@ -180,51 +121,35 @@ module _ (w : ℕ) where
   multiply_ranged Umulh = (small RM w, small RN w, small RD w)
   multiply_ranged _ = (small RM w, small RA w, small RN w, small RD w)
 
+  -- a load or store by its size, its address and its registers
+  is_ranged : (f : AddressForm) → has_load (field_in SIZE w) (field_in OPC w) ≡ true
+      → IsAddress (named_address f (numbers_in w) (signed_numbers_in w))
+      → (writes_base (named_address f (numbers_in w) (signed_numbers_in w)) ≡ true → is_apart (field_in RN w) (field_in RT w) ≡ true)
+      → IsInRow (named (G18 f) (numbers_in w) (signed_numbers_in w))
+  unfolding named
+  is_ranged f l a e = record {
+    size = load_sized _ _ (field_in-lt SIZE w) (field_in-lt OPC w) l;
+    address = a;
+    apart = λ b. apart (e b);
+    rn = small RN w;
+    rt = small RT w;
+  }
+
   load_store_ranged : (f : AddressForm) → fits_of (G18 f) (numbers_in w) ≡ true → IsInRow (named (G18 f) (numbers_in w) (signed_numbers_in w))
-  unfolding fits_of named named_address
-  load_store_ranged form.Offset f = record {
-    size = load_sized _ _ (field_in-lt SIZE w) (field_in-lt OPC w) f;
-    address = half_small IMM12 w;
-    apart = λ e. cc;
-    rn = small RN w;
-    rt = small RT w;
-  }
-  load_store_ranged form.Unscaled f = record {
-    size = load_sized _ _ (field_in-lt SIZE w) (field_in-lt OPC w) f;
-    address = signed_small IMM9 w (omega arith);
-    apart = λ e. cc;
-    rn = small RN w;
-    rt = small RT w;
-  }
-  load_store_ranged form.PostIndex f = record {
-    size = load_sized _ _ (field_in-lt SIZE w) (field_in-lt OPC w) (and_parts _ _ f).0;
-    address = signed_small IMM9 w (omega arith);
-    apart = λ e. apart (and_parts _ _ f).1;
-    rn = small RN w;
-    rt = small RT w;
-  }
-  load_store_ranged form.PreIndex f = record {
-    size = load_sized _ _ (field_in-lt SIZE w) (field_in-lt OPC w) (and_parts _ _ f).0;
-    address = signed_small IMM9 w (omega arith);
-    apart = λ e. apart (and_parts _ _ f).1;
-    rn = small RN w;
-    rt = small RT w;
-  }
-  load_store_ranged form.Register f = record {
-    size = load_sized _ _ (field_in-lt SIZE w) (field_in-lt OPC w) (and_parts _ _ f).0;
-    address = (small RM w, address_extend _ (field_in-lt OPTION w) (and_parts _ _ f).1);
-    apart = λ e. cc;
-    rn = small RN w;
-    rt = small RT w;
-  }
+  unfolding fits_of named_address
+  load_store_ranged form.Offset f = is_ranged form.Offset f (half_small IMM12 w) (λ e. cc)
+  load_store_ranged form.Unscaled f = is_ranged form.Unscaled f (signed_small IMM9 w (omega arith)) (λ e. cc)
+  load_store_ranged form.PostIndex f = let p = and_parts _ _ f in is_ranged form.PostIndex p.0 (signed_small IMM9 w (omega arith)) (λ e. p.1)
+  load_store_ranged form.PreIndex f = let p = and_parts _ _ f in is_ranged form.PreIndex p.0 (signed_small IMM9 w (omega arith)) (λ e. p.1)
+  load_store_ranged form.Register f =
+      let p = and_parts _ _ f in
+      is_ranged form.Register p.0 (small RM w, address_extend _ (field_in-lt OPTION w) p.1) (λ e. cc)
 
   atomic_ranged : (f : AtomicForm) → IsAtomic (named_atomic f (numbers_in w))
   unfolding named_atomic
   atomic_ranged Ldar = (small RN w, small RT w)
   atomic_ranged Stlr = (small RN w, small RT w)
-  atomic_ranged Cas = (small RS w, small RN w, small RT w)
-  atomic_ranged Swap = (small RS w, small RN w, small RT w)
-  atomic_ranged (Update op) = (small RS w, small RN w, small RT w)
+  atomic_ranged _ = (small RS w, small RN w, small RT w)
 
   system_ranged : (op : SystemOp) → IsSystem (named_system op (numbers_in w))
   unfolding named_system
@@ -232,9 +157,7 @@ module _ (w : ℕ) where
   system_ranged Brk = half_small IMM16 w
   system_ranged Udf = half_small UDF_IMM16 w
   system_ranged Hint = small HINT w
-  system_ranged Dmb = small CRM w
-  system_ranged Dsb = small CRM w
-  system_ranged Isb = small CRM w
+  system_ranged _ = small CRM w
 
   operation_ranged : (op : Operation) → fits_of op (numbers_in w) ≡ true → IsInRow (named op (numbers_in w) (signed_numbers_in w))
   unfolding fits_of named shifted_register extended_register

@@ -1,24 +1,27 @@
 -- The conditions on the fields of an operation: no row stands for the words that do not meet them.
--- Source: DDI 0487, C6.2, the encodings that each instruction's page calls undefined, unallocated or constrained unpredictable.
+-- Source: DDI 0487, C6.2, the encodings that each instruction's page calls undefined, unallocated or
+-- constrained unpredictable.
 -- Of the fields of a mask only those are taken that have the bits of immr above the rotation clear.
-use Rattle.std.specs.Prelude.{ℕ, ◌==◌, Bool, true, false, not, ◌&&◌, ◌||◌, nat_lt, nat_le, if◌then◌else◌}
+use Rattle.std.specs.Prelude.{ℕ, ◌==◌, Bool, true, not, ◌&&◌, ◌||◌, nat_lt, nat_le, if◌then◌else◌}
 use Rattle.bit_ops.specs.Masks.{are_mask_fields}
-use Rattle.sm_types.specs.declared.insn.PairOp.{PairOp}
-use Rattle.sm_types.specs.declared.insn.PairOp.TheVariants.{Stp, Ldp}
-use Rattle.sm_types.specs.declared.insn.PairIndex.{PairIndex}
-use Rattle.sm_types.specs.declared.insn.PairIndex.TheVariants as index
+use Rattle.sm_types.specs.declared.insn as types
+use types.{PairOp.PairOp, PairOp.TheVariants.Stp, PairOp.TheVariants.Ldp, PairIndex.PairIndex}
+use types.PairIndex.TheVariants as index
 use Rattle.insn_forms.specs.declared.field.Field.{Field}
-use Rattle.a64_table.specs.declared.fields.TheConstants.{HW, IMM3, IMM6, IMMR, IMMS, N, OPC, OPTION, RN, RT, RT2, SF, SHIFT, SIZE}
-use Rattle.a64_table.specs.declared.operation.Operation.{Operation}
-use Rattle.a64_table.specs.declared.operation.Operation.TheVariants.{G2, G3, G4, G5, G6, G7, G8, G18, G20}
-use Rattle.a64_table.specs.declared.operation.AddressForm.TheVariants.{PostIndex, PreIndex, Register}
+use Rattle.a64_table.specs.declared.fields.TheConstants.{HW, IMM3, IMM6, IMMR, IMMS, N, OPC, OPTION, RN, RT}
+use Rattle.a64_table.specs.declared.fields.TheConstants.{RT2, SF, SHIFT, SIZE}
+use Rattle.a64_table.specs.declared.operation as operations
+use operations.Operation.TheVariants.{G2, G3, G4, G5, G6, G7, G8, G18, G20}
+use operations.AddressForm.TheVariants.{PostIndex, PreIndex, Register}
+use operations.{Operation.Operation}
 use Rattle.a64_table.specs.Values.{is_one}
 
 -- the number is below the width of the registers
 unfoldable pub is_below_width : Bool → ℕ → Bool
 is_below_width wide number = if wide then nat_lt number 64 else nat_lt number 32
 
--- no signed load of a doubleword, nor of a word to 32 bits
+-- no signed load of a doubleword, nor of a word to 32 bits; where that of a doubleword to 64 bits would stand
+-- is PRFM, which has no row
 unfoldable pub has_load : ℕ → ℕ → Bool
 has_load size opc = not (size == 3 && nat_le 2 opc) && not (size == 2 && opc == 3)
 

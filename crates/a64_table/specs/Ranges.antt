@@ -1,49 +1,28 @@
 -- The ranges of an instruction's fields: those that a row of the table gives them, and no others.
--- Source: DDI 0487, C6.2: the widths of the fields of each instruction's encoding, and the values that have none.
+-- Source: DDI 0487, C6.2: the widths of the fields of each instruction's encoding, and the values that have
+-- none.
 use Rattle.std.specs.Prelude.{◌≡◌, ◌≢◌, ℕ, ◌-◌, ◌<◌, ◌^◌, Bool, true, false, IsTrue, ℤ, pos, ◌-ℤ◌, ◌≤ℤ◌, ◌<ℤ◌}
-use Rattle.sm_types.specs.declared.insn.ShiftKind.TheVariants.{Ror}
-use Rattle.sm_types.specs.declared.insn.ShiftedRegister.{ShiftedRegister}
-use Rattle.sm_types.specs.declared.insn.ExtendedRegister.{ExtendedRegister}
-use Rattle.sm_types.specs.declared.insn.AddSubImmediate.{AddSubImmediate}
-use Rattle.sm_types.specs.declared.insn.AddSubRegister.{AddSubRegister}
-use Rattle.sm_types.specs.declared.insn.LogicalRegister.{LogicalRegister}
-use Rattle.sm_types.specs.declared.insn.AddSubExtended.{AddSubExtended}
-use Rattle.sm_types.specs.declared.insn.LogicalImmediate.{LogicalImmediate}
-use Rattle.sm_types.specs.declared.insn.MoveWide.{MoveWide}
-use Rattle.sm_types.specs.declared.insn.BitfieldMove.{BitfieldMove}
-use Rattle.sm_types.specs.declared.insn.Extract.{Extract}
-use Rattle.sm_types.specs.declared.insn.PcRelative.{PcRelative}
-use Rattle.sm_types.specs.declared.insn.Branch.{Branch}
-use Rattle.sm_types.specs.declared.insn.Branch.TheVariants.{Unconditional, Conditional, Compare, TestBit}
-use Rattle.sm_types.specs.declared.insn.AddSubCarry.{AddSubCarry}
-use Rattle.sm_types.specs.declared.insn.ConditionalSelect.{ConditionalSelect}
-use Rattle.sm_types.specs.declared.insn.CompareOperand.{CompareOperand}
-use Rattle.sm_types.specs.declared.insn.CompareOperand.TheVariants as operand
-use Rattle.sm_types.specs.declared.insn.ConditionalCompare.{ConditionalCompare}
-use Rattle.sm_types.specs.declared.insn.OneSourceOp.TheVariants.{Rev64}
-use Rattle.sm_types.specs.declared.insn.OneSource.{OneSource}
-use Rattle.sm_types.specs.declared.insn.TwoSource.{TwoSource}
-use Rattle.sm_types.specs.declared.insn.Multiply.{Multiply}
-use Rattle.sm_types.specs.declared.insn.Multiply.TheVariants.{Same, Long, High}
-use Rattle.sm_types.specs.declared.insn.Extend.{Extend}
-use Rattle.sm_types.specs.declared.insn.Extend.TheVariants.{Uxtb, Uxth, Uxtw, Uxtx, Sxtb, Sxth, Sxtw, Sxtx}
-use Rattle.sm_types.specs.declared.insn.AccessSize.{AccessSize}
-use Rattle.sm_types.specs.declared.insn.AccessSize.TheVariants.{Byte, Halfword, Word, Doubleword}
-use Rattle.sm_types.specs.declared.insn.LoadStoreOp.{LoadStoreOp}
-use Rattle.sm_types.specs.declared.insn.LoadStoreOp.TheVariants.{Store, Load, LoadSignedTo64, LoadSignedTo32}
-use Rattle.sm_types.specs.declared.insn.Address.{Address}
-use Rattle.sm_types.specs.declared.insn.Address.TheVariants as address
-use Rattle.sm_types.specs.declared.insn.LoadStore.{LoadStore}
-use Rattle.sm_types.specs.declared.insn.LoadLiteral.{LoadLiteral}
-use Rattle.sm_types.specs.declared.insn.PairOp.TheVariants.{Ldp}
-use Rattle.sm_types.specs.declared.insn.PairIndex.TheVariants.{Offset}
-use Rattle.sm_types.specs.declared.insn.LoadStorePair.{LoadStorePair}
-use Rattle.sm_types.specs.declared.insn.Atomic.{Atomic}
-use Rattle.sm_types.specs.declared.insn.Atomic.TheVariants.{Ldar, Stlr, Cas, Swap, Update}
-use Rattle.sm_types.specs.declared.insn.System.{System}
-use Rattle.sm_types.specs.declared.insn.System.TheVariants.{Svc, Brk, Udf, Hint, Dmb, Dsb, Isb}
-use Rattle.sm_types.specs.declared.insn.Insn.{Insn}
-use Rattle.sm_types.specs.declared.insn.Insn.TheVariants as insn
+use Rattle.sm_types.specs.declared.insn as types
+use types.Branch.TheVariants.{Unconditional, Conditional, Compare, TestBit}
+use types.Multiply.TheVariants.{Same, Long, High}
+use types.Extend.TheVariants.{Uxtb, Uxth, Uxtw, Uxtx, Sxtb, Sxth, Sxtw, Sxtx}
+use types.AccessSize.TheVariants.{Byte, Halfword, Word, Doubleword}
+use types.LoadStoreOp.TheVariants.{Store, Load, LoadSignedTo64, LoadSignedTo32}
+use types.Atomic.TheVariants.{Ldar, Stlr, Cas, Swap, Update}
+use types.System.TheVariants.{Svc, Brk, Udf, Hint, Dmb, Dsb, Isb}
+use types.{ShiftKind.TheVariants.Ror, ShiftedRegister.ShiftedRegister, ExtendedRegister.ExtendedRegister}
+use types.{AddSubImmediate.AddSubImmediate, AddSubRegister.AddSubRegister, LogicalRegister.LogicalRegister}
+use types.{AddSubExtended.AddSubExtended, LogicalImmediate.LogicalImmediate, MoveWide.MoveWide}
+use types.{BitfieldMove.BitfieldMove, Extract.Extract, PcRelative.PcRelative, Branch.Branch}
+use types.{AddSubCarry.AddSubCarry, ConditionalSelect.ConditionalSelect, CompareOperand.CompareOperand}
+use types.{ConditionalCompare.ConditionalCompare, OneSourceOp.TheVariants.Rev64, OneSource.OneSource}
+use types.{TwoSource.TwoSource, Multiply.Multiply, Extend.Extend, AccessSize.AccessSize}
+use types.{LoadStoreOp.LoadStoreOp, Address.Address, LoadStore.LoadStore, LoadLiteral.LoadLiteral}
+use types.{PairOp.TheVariants.Ldp, PairIndex.TheVariants.Offset, LoadStorePair.LoadStorePair, Atomic.Atomic}
+use types.{System.System, Insn.Insn}
+use types.CompareOperand.TheVariants as operand
+use types.Address.TheVariants as address
+use types.Insn.TheVariants as insn
 use Rattle.bit_ops.specs.Masks.{are_mask_fields}
 
 -- a number of so many bits in two's complement
@@ -226,7 +205,8 @@ pub record IsLoadLiteral (it : LoadLiteral) : Type 0 where
   pub words : IsSigned 19 it.words
   pub rt : it.rt < 32
 
--- a signed offset of 7 bits; two registers are loaded, and a base that is written is neither of the two, unless it is SP
+-- a signed offset of 7 bits; two registers are loaded, and a base that is written is neither of the two,
+-- unless it is SP
 pub record IsLoadStorePair (it : LoadStorePair) : Type 0 where
   pub offset : IsSigned 7 it.offset
   pub two : it.op ≡ Ldp → it.rt ≢ it.rt2

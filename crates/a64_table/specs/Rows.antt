@@ -1,14 +1,16 @@
 -- A row of the table, and the words that meet its condition.
 -- Source: DDI 0487, C4, the encoding diagrams, whose bits that are no fields are fixed.
-use Rattle.std.specs.Prelude.{ℕ, ◌==◌, ◌&&◌, Bool, true, false, List, [], ◌∷◌, if◌then◌else◌}
+use Rattle.std.specs.Prelude.{ℕ, Bool}
 use Rattle.sm_types.specs.declared.row.Row.{Row}
 use Rattle.sm_types.specs.declared.row.Group.{Group}
 use Rattle.sm_types.specs.declared.row.Group.TheVariants as group
 use Rattle.insn_forms.specs.declared.line.Line.{Line}
-use Rattle.insn_forms.specs.Tables.{numbers_in}
-use Rattle.a64_table.specs.declared.operation.Operation.{Operation}
-use Rattle.a64_table.specs.declared.operation.Operation.TheVariants.{G1, G2, G3, G4, G5, G6, G7, G8, G9, G10, G11, G12, G13, G14, G15, G16, G17, G18, G19, G20, G21, G22, G23}
-use Rattle.a64_table.specs.Conditions.{fits_of}
+use Rattle.insn_forms.specs.Tables.{fits_with}
+use Rattle.a64_table.specs.declared.operation as operations
+use operations.Operation.TheVariants.{G1, G2, G3, G4, G5, G6, G7, G8, G9, G10, G11, G12, G13, G14, G15, G16}
+use operations.Operation.TheVariants.{G17, G18, G19, G20, G21, G22, G23}
+use operations.{Operation.Operation}
+use Rattle.a64_table.specs.Table.{scalar}
 
 -- the group of an operation
 unfoldable pub group_of : Operation → Group
@@ -40,11 +42,6 @@ group_of (G23 op register) = group.G23
 unfoldable pub row_of : Line Operation → Row
 row_of line = record { mask = line.mask; value = line.value; group = group_of line.operation }
 
--- the line has the row's fixed bits
-abbrev pub is_row_of : Row → Line Operation → Bool
-is_row_of row line = (line.mask == row.mask) && (line.value == row.value)
-
 -- the word meets the condition of the line with the row's fixed bits; none does where no line has them
-unfoldable pub row_fits : List (Line Operation) → Row → ℕ → Bool
-row_fits [] row word = false
-row_fits (line ∷ lines) row word = if is_row_of row line then fits_of line.operation (numbers_in word) else row_fits lines row word
+abbrev pub row_fits : Row → ℕ → Bool
+row_fits row word = fits_with scalar row.mask row.value word

@@ -1,49 +1,35 @@
 //! The conditions on a word that has a row's fixed bits.
+#![tactic(auto, unfolding(insn_forms::specs::Tables::fits_with, crate::specs::Table::scalar, crate::specs::Conditions::fits_of, crate::specs::Conditions::is_below_width, crate::specs::Conditions::has_load, crate::specs::Conditions::is_address_option, crate::specs::Conditions::is_apart, crate::specs::Conditions::are_two, crate::specs::Conditions::is_pair_apart, insn_forms::specs::Fields::is_field, insn_forms::specs::Fields::mask_of))]
+
 ghost use Rattle.std.specs.Prelude.{◌≡◌, ◌<◌, ◌^◌, ◌&&◌, ◌==◌};
 ghost use Rattle.bit_ops.specs.Masks.{are_mask_fields};
 ghost use Rattle.insn_forms.specs.Fields.{field_in};
 ghost use Rattle.insn_forms.specs.Tables.{numbers_in};
 ghost use Rattle.a64_table.specs.declared.rows.TheConstants.{SCALAR_LINES};
-ghost use Rattle.a64_table.specs.Conditions.{are_two, fits_of, has_load, is_address_option, is_apart, is_below_width, is_pair_apart};
-ghost use Rattle.a64_table.specs.Rows.{is_row_of, row_fits};
+ghost use Rattle.a64_table.specs.Conditions.{are_two, fits_of, has_load, is_below_width, is_pair_apart};
+ghost use Rattle.a64_table.specs.Rows.{row_fits};
 
 use crate::fields::{HW, IMM3, IMM6, IMMR, IMMS, N, OPC, OPTION, RN, RT, RT2, SF, SHIFT, SIZE};
 use crate::operation::{AddressForm, Operation};
 use crate::reading::one;
 use crate::rows::SCALAR_LINES;
 use bit_ops::are_mask_fields;
-use insn_forms::{Line, field_in};
+use insn_forms::{field_in, line_with};
 use sm_types::{PairIndex, PairOp, Row};
 
-/// Whether a word that has the row's fixed bits meets the condition of the row; no word does where the table has no such row.
+/// Whether a word that has the row's fixed bits meets the condition of the row; no word does where the table
+/// has no such row.
 pub fn fits(row: &Row, word: u32) -> bool
-    ensures { result ≡ row_fits SCALAR_LINES row.now word }
+    ensures { result ≡ row_fits row.now word }
 {
-    fits_among(&SCALAR_LINES, row, word)
-}
-
-/// The same by some lines.
-fn fits_among(lines: &[Line<Operation>], row: &Row, word: u32) -> bool
-    ensures { result ≡ row_fits lines.now row.now word }
-{
-    for line in lines {
-        if has_bits(line, row) {
-            return condition(line.operation, word);
-        }
+    match line_with(&SCALAR_LINES, row.mask, row.value) {
+        Some(line) => condition(line.operation, word),
+        None => false,
     }
-    false
-}
-
-/// Whether the line has the row's fixed bits.
-fn has_bits(line: &Line<Operation>, row: &Row) -> bool
-    ensures { result ≡ is_row_of row.now line.now }
-{
-    line.mask == row.mask && line.value == row.value
 }
 
 /// Whether the word meets the condition of the operation.
 #[inline(always)]
-#[tactic(auto, unfolding(crate::specs::Conditions::fits_of, insn_forms::specs::Fields::is_field, insn_forms::specs::Fields::mask_of))]
 pub fn condition(operation: Operation, word: u32) -> bool
     ensures { result ≡ fits_of operation (numbers_in word) }
 {
@@ -63,9 +49,14 @@ pub fn condition(operation: Operation, word: u32) -> bool
             let loads = load(field_in(&SIZE, word), field_in(&OPC, word));
             match form {
                 AddressForm::Offset | AddressForm::Unscaled => loads,
-                AddressForm::PostIndex | AddressForm::PreIndex => loads
-                    && apart(field_in(&RN, word), field_in(&RT, word)),
-                AddressForm::Register => loads && address_option(field_in(&OPTION, word)),
+                AddressForm::PostIndex | AddressForm::PreIndex => {
+                    let rn = field_in(&RN, word);
+                    loads && (rn != field_in(&RT, word) || rn == 31)
+                }
+                AddressForm::Register => {
+                    let option = field_in(&OPTION, word);
+                    loads && (option == 2 || option == 3 || option == 6 || option == 7)
+                }
             }
         }
         Operation::G20(op, _, index) => pair_fits(op, index, word),
@@ -75,9 +66,9 @@ pub fn condition(operation: Operation, word: u32) -> bool
 
 /// Whether the fields of the word write a mask.
 #[inline(always)]
-#[tactic(auto, unfolding(insn_forms::specs::Fields::is_field, insn_forms::specs::Fields::mask_of))]
 fn mask_fits(word: u32) -> bool
-    ensures { result ≡ are_mask_fields (field_in N word == 1) (field_in IMMS word) (field_in IMMR word) (field_in SF word == 1) }
+    ensures { let n = numbers_in word in
+        result ≡ are_mask_fields (n N == 1) (n IMMS) (n IMMR) (n SF == 1) }
 {
     are_mask_fields(
         one(N, word),
@@ -89,17 +80,17 @@ fn mask_fits(word: u32) -> bool
 
 /// Whether the registers of a pair are apart as the operation asks.
 #[inline(always)]
-#[tactic(auto, unfolding(insn_forms::specs::Fields::is_field, insn_forms::specs::Fields::mask_of))]
 fn pair_fits(op: PairOp, index: PairIndex, word: u32) -> bool
-    ensures { result ≡ (are_two op (field_in RT word) (field_in RT2 word) && is_pair_apart index (field_in RN word) (field_in RT word) (field_in RT2 word)) }
+    ensures { let n = numbers_in word in
+        result ≡ (are_two op (n RT) (n RT2) && is_pair_apart index (n RN) (n RT) (n RT2)) }
 {
     let rt = field_in(&RT, word);
     let rt2 = field_in(&RT2, word);
-    two(op, rt, rt2) && pair_apart(index, field_in(&RN, word), rt, rt2)
+    let two = matches!(op, PairOp::Stp) || rt != rt2;
+    two && pair_apart(index, field_in(&RN, word), rt, rt2)
 }
 
 #[inline(always)]
-#[tactic(auto, unfolding(crate::specs::Conditions::is_below_width))]
 fn below_width(wide: bool, number: u32) -> bool
     ensures { result ≡ is_below_width wide number }
 {
@@ -107,7 +98,6 @@ fn below_width(wide: bool, number: u32) -> bool
 }
 
 #[inline(always)]
-#[tactic(auto, unfolding(crate::specs::Conditions::has_load))]
 fn load(size: u32, opc: u32) -> bool
     ensures { result ≡ has_load size opc }
 {
@@ -115,34 +105,6 @@ fn load(size: u32, opc: u32) -> bool
 }
 
 #[inline(always)]
-#[tactic(auto, unfolding(crate::specs::Conditions::is_address_option))]
-fn address_option(option: u32) -> bool
-    ensures { result ≡ is_address_option option }
-{
-    option == 2 || option == 3 || option == 6 || option == 7
-}
-
-#[inline(always)]
-#[tactic(auto, unfolding(crate::specs::Conditions::is_apart))]
-fn apart(rn: u32, rt: u32) -> bool
-    ensures { result ≡ is_apart rn rt }
-{
-    rn != rt || rn == 31
-}
-
-#[inline(always)]
-#[tactic(auto, unfolding(crate::specs::Conditions::are_two))]
-fn two(op: PairOp, rt: u32, rt2: u32) -> bool
-    ensures { result ≡ are_two op rt rt2 }
-{
-    match op {
-        PairOp::Ldp => rt != rt2,
-        PairOp::Stp => true,
-    }
-}
-
-#[inline(always)]
-#[tactic(auto, unfolding(crate::specs::Conditions::is_pair_apart))]
 fn pair_apart(index: PairIndex, rn: u32, rt: u32, rt2: u32) -> bool
     ensures { result ≡ is_pair_apart index rn rt rt2 }
 {

@@ -1,9 +1,12 @@
-//! The fields of the scalar instructions, each named once; no other file has the place of a bit.
+//! The fields of the scalar instructions, each named once; no other file has the place of a bit, but for the rules by
+//! which the registers of a load or store differ, which read Rt, Rn and Rt2 (insn_text).
 //!
-//! The names are those of the encoding diagrams (DDI 0487, C6.2), where two fields there have one name with what tells them apart.
+//! The names are those of the encoding diagrams (DDI 0487, C6.2), but for these of our own: `ACQUIRE` and
+//! `RELEASE` (A and R there), `CAS_ACQUIRE` and `CAS_RELEASE` (L and o0), `SCALED` (S), `BRANCH_COND` (cond),
+//! `UDF_IMM16` (imm16), `HINT` (CRm:op2), `IMM21` (immhi:immlo) and `BIT` (b5:b40).
 use insn_forms::Field;
 
-// As many bits as the second number from the first on; with `above`, the upper bits are those of the first pair.
+// As many bits as the second number from the first on; with `above`, the upper bits are the first pair's.
 macro_rules! field {
     ($low:literal, $width:literal) => {
         Field { low: $low, width: $width, upper_low: 0, upper_width: 0 }

@@ -18,7 +18,8 @@ pub fn rows_of_lines()
 
 /// The condition that `fits` tests for a row is that of the row's line.
 pub fn fits_of_rows()
-    ensures { (place : ℕ) (line : Line Operation) (word : ℕ) → slice_get SCALAR_LINES place ≡ Some line → row_fits SCALAR_LINES (row_of line) word ≡ fits_in scalar line.operation word }
+    ensures { (place : ℕ) (line : Line Operation) (word : ℕ) → slice_get SCALAR_LINES place ≡ Some line
+        → row_fits (row_of line) word ≡ fits_in scalar line.operation word }
 {}
 
 /// At most one row of the table matches and fits a word.

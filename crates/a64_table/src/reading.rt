@@ -1,9 +1,10 @@
 //! The number of a field as an instruction keeps it.
 ghost use Rattle.std.specs.Prelude.{◌≡◌, true};
 ghost use Rattle.insn_forms.specs.Fields.{field_in, is_field};
+ghost use Rattle.insn_forms.specs.Tables.{signed_numbers_in};
 ghost use Rattle.a64_table.specs.Values.{byte, half, is_one};
 
-use insn_forms::{Field, field_in};
+use insn_forms::{Field, field_in, signed_in};
 
 /// The number of a field as 8 bits.
 #[inline(always)]
@@ -30,4 +31,13 @@ pub fn one(it: Field, word: u32) -> bool
     ensures { result ≡ is_one (field_in it word) }
 {
     field_in(&it, word) == 1
+}
+
+/// The number of a field in two's complement.
+#[inline(always)]
+pub fn signed(it: Field, word: u32) -> i32
+    requires { is_field it ≡ true }
+    ensures { result ≡ signed_numbers_in word it }
+{
+    signed_in(&it, word)
 }

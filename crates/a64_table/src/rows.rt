@@ -12,7 +12,8 @@ use sm_types::{
     SystemRegister, TwoSourceOp,
 };
 
-// The rows: which bits are fixed, their values, the group with its operation, and the fields in the order of the operands.
+// The rows: which bits are fixed, their values, the group with its operation, and the fields in the order of
+// the operands.
 macro_rules! table {
     ($then:ident) => {
         $then! {
@@ -152,19 +153,19 @@ macro_rules! rows {
     };
 }
 
+// Eight fields: those that are listed, and none.
 macro_rules! eight {
-    ($a:ident) => { Fields { a: $a, b: NONE, c: NONE, d: NONE, e: NONE, f: NONE, g: NONE, h: NONE } };
-    ($a:ident $b:ident) => { Fields { a: $a, b: $b, c: NONE, d: NONE, e: NONE, f: NONE, g: NONE, h: NONE } };
-    ($a:ident $b:ident $c:ident) => { Fields { a: $a, b: $b, c: $c, d: NONE, e: NONE, f: NONE, g: NONE, h: NONE } };
-    ($a:ident $b:ident $c:ident $d:ident) => { Fields { a: $a, b: $b, c: $c, d: $d, e: NONE, f: NONE, g: NONE, h: NONE } };
-    ($a:ident $b:ident $c:ident $d:ident $e:ident) => { Fields { a: $a, b: $b, c: $c, d: $d, e: $e, f: NONE, g: NONE, h: NONE } };
-    ($a:ident $b:ident $c:ident $d:ident $e:ident $f:ident) => { Fields { a: $a, b: $b, c: $c, d: $d, e: $e, f: $f, g: NONE, h: NONE } };
-    ($a:ident $b:ident $c:ident $d:ident $e:ident $f:ident $g:ident) => { Fields { a: $a, b: $b, c: $c, d: $d, e: $e, f: $f, g: $g, h: NONE } };
+    ($a:ident $b:ident $c:ident $d:ident $e:ident $f:ident $g:ident $h:ident) => {
+        Fields { a: $a, b: $b, c: $c, d: $d, e: $e, f: $f, g: $g, h: $h }
+    };
+    ($($field:ident)*) => { eight!($($field)* NONE) };
 }
 
 macro_rules! lines {
     ($($mask:literal $value:literal $group:ident($($op:tt)*) [$($field:ident)*];)*) => {
-        [$(Line { mask: $mask, value: $value, operation: Operation::$group($($op)*), fields: eight!($($field)*) }),*]
+        [$(Line {
+            mask: $mask, value: $value, operation: Operation::$group($($op)*), fields: eight!($($field)*)
+        }),*]
     };
 }
 

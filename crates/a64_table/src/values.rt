@@ -1,177 +1,64 @@
 //! What the number of a field stands for.
-ghost use Rattle.std.specs.Prelude.{◌≡◌};
-ghost use Rattle.a64_table.specs.Values.{access_size_number, access_size_of, condition_number, condition_of, extend_number, extend_of, load_store_op_number, load_store_op_of, shift_number, shift_of};
+#![tactic(auto, unfolding(crate::specs::Values::condition_of, crate::specs::Values::shift_of, crate::specs::Values::extend_of, crate::specs::Values::access_size_of, crate::specs::Values::load_store_op_of))]
 
+ghost use Rattle.std.specs.Prelude.{◌≡◌, true};
+ghost use Rattle.insn_forms.specs.Fields.{field_in, is_field};
+ghost use Rattle.a64_table.specs.Values.{access_size_of, condition_of, extend_of, load_store_op_of, shift_of};
+
+use insn_forms::{Field, field_in};
 use sm_types::{AccessSize, Condition, Extend, LoadStoreOp, ShiftKind};
 
-/// The condition of a number of 4 bits.
-#[inline(always)]
-#[tactic(auto, unfolding(crate::specs::Values::condition_of))]
-pub fn condition_of(n: u32) -> Condition
-    ensures { result ≡ condition_of n }
-{
-    match n {
-        0 => Condition::Eq,
-        1 => Condition::Ne,
-        2 => Condition::Cs,
-        3 => Condition::Cc,
-        4 => Condition::Mi,
-        5 => Condition::Pl,
-        6 => Condition::Vs,
-        7 => Condition::Vc,
-        8 => Condition::Hi,
-        9 => Condition::Ls,
-        10 => Condition::Ge,
-        11 => Condition::Lt,
-        12 => Condition::Gt,
-        13 => Condition::Le,
-        14 => Condition::Al,
-        _ => Condition::Nv,
-    }
+// The variant that each number stands for; the last stands for all others.
+macro_rules! variant {
+    ($number:expr; $kind:ident [$($n:literal $variant:ident),*] $last:ident) => {
+        match $number { $($n => $kind::$variant,)* _ => $kind::$last }
+    };
 }
 
-/// Its number.
+/// The condition of a field of 4 bits.
 #[inline(always)]
-#[tactic(auto, unfolding(crate::specs::Values::condition_number))]
-pub fn condition_number(it: Condition) -> u8
-    ensures { result ≡ condition_number it }
+pub fn condition_of(it: Field, word: u32) -> Condition
+    requires { is_field it ≡ true }
+    ensures { result ≡ condition_of (field_in it word) }
 {
-    match it {
-        Condition::Eq => 0,
-        Condition::Ne => 1,
-        Condition::Cs => 2,
-        Condition::Cc => 3,
-        Condition::Mi => 4,
-        Condition::Pl => 5,
-        Condition::Vs => 6,
-        Condition::Vc => 7,
-        Condition::Hi => 8,
-        Condition::Ls => 9,
-        Condition::Ge => 10,
-        Condition::Lt => 11,
-        Condition::Gt => 12,
-        Condition::Le => 13,
-        Condition::Al => 14,
-        Condition::Nv => 15,
-    }
+    variant!(field_in(&it, word); Condition [
+        0 Eq, 1 Ne, 2 Cs, 3 Cc, 4 Mi, 5 Pl, 6 Vs, 7 Vc, 8 Hi,
+        9 Ls, 10 Ge, 11 Lt, 12 Gt, 13 Le, 14 Al
+    ] Nv)
 }
 
-/// The shift of a number of 2 bits.
+/// The shift of a field of 2 bits.
 #[inline(always)]
-#[tactic(auto, unfolding(crate::specs::Values::shift_of))]
-pub fn shift_of(n: u32) -> ShiftKind
-    ensures { result ≡ shift_of n }
+pub fn shift_of(it: Field, word: u32) -> ShiftKind
+    requires { is_field it ≡ true }
+    ensures { result ≡ shift_of (field_in it word) }
 {
-    match n {
-        0 => ShiftKind::Lsl,
-        1 => ShiftKind::Lsr,
-        2 => ShiftKind::Asr,
-        _ => ShiftKind::Ror,
-    }
+    variant!(field_in(&it, word); ShiftKind [0 Lsl, 1 Lsr, 2 Asr] Ror)
 }
 
-/// Its number.
+/// The extension of a field of 3 bits.
 #[inline(always)]
-#[tactic(auto, unfolding(crate::specs::Values::shift_number))]
-pub fn shift_number(it: ShiftKind) -> u8
-    ensures { result ≡ shift_number it }
+pub fn extend_of(it: Field, word: u32) -> Extend
+    requires { is_field it ≡ true }
+    ensures { result ≡ extend_of (field_in it word) }
 {
-    match it {
-        ShiftKind::Lsl => 0,
-        ShiftKind::Lsr => 1,
-        ShiftKind::Asr => 2,
-        ShiftKind::Ror => 3,
-    }
-}
-
-/// The extension of a number of 3 bits.
-#[inline(always)]
-#[tactic(auto, unfolding(crate::specs::Values::extend_of))]
-pub fn extend_of(n: u32) -> Extend
-    ensures { result ≡ extend_of n }
-{
-    match n {
-        0 => Extend::Uxtb,
-        1 => Extend::Uxth,
-        2 => Extend::Uxtw,
-        3 => Extend::Uxtx,
-        4 => Extend::Sxtb,
-        5 => Extend::Sxth,
-        6 => Extend::Sxtw,
-        _ => Extend::Sxtx,
-    }
-}
-
-/// Its number.
-#[inline(always)]
-#[tactic(auto, unfolding(crate::specs::Values::extend_number))]
-pub fn extend_number(it: Extend) -> u8
-    ensures { result ≡ extend_number it }
-{
-    match it {
-        Extend::Uxtb => 0,
-        Extend::Uxth => 1,
-        Extend::Uxtw => 2,
-        Extend::Uxtx => 3,
-        Extend::Sxtb => 4,
-        Extend::Sxth => 5,
-        Extend::Sxtw => 6,
-        Extend::Sxtx => 7,
-    }
+    variant!(field_in(&it, word); Extend [0 Uxtb, 1 Uxth, 2 Uxtw, 3 Uxtx, 4 Sxtb, 5 Sxth, 6 Sxtw] Sxtx)
 }
 
 /// The size of an access from its logarithm, 2 bits.
 #[inline(always)]
-#[tactic(auto, unfolding(crate::specs::Values::access_size_of))]
-pub fn access_size_of(n: u32) -> AccessSize
-    ensures { result ≡ access_size_of n }
+pub fn access_size_of(it: Field, word: u32) -> AccessSize
+    requires { is_field it ≡ true }
+    ensures { result ≡ access_size_of (field_in it word) }
 {
-    match n {
-        0 => AccessSize::Byte,
-        1 => AccessSize::Halfword,
-        2 => AccessSize::Word,
-        _ => AccessSize::Doubleword,
-    }
-}
-
-/// Its number.
-#[inline(always)]
-#[tactic(auto, unfolding(crate::specs::Values::access_size_number))]
-pub fn access_size_number(it: AccessSize) -> u8
-    ensures { result ≡ access_size_number it }
-{
-    match it {
-        AccessSize::Byte => 0,
-        AccessSize::Halfword => 1,
-        AccessSize::Word => 2,
-        AccessSize::Doubleword => 3,
-    }
+    variant!(field_in(&it, word); AccessSize [0 Byte, 1 Halfword, 2 Word] Doubleword)
 }
 
 /// The operation of opc, 2 bits, in loads and stores of one register.
 #[inline(always)]
-#[tactic(auto, unfolding(crate::specs::Values::load_store_op_of))]
-pub fn load_store_op_of(n: u32) -> LoadStoreOp
-    ensures { result ≡ load_store_op_of n }
+pub fn load_store_op_of(it: Field, word: u32) -> LoadStoreOp
+    requires { is_field it ≡ true }
+    ensures { result ≡ load_store_op_of (field_in it word) }
 {
-    match n {
-        0 => LoadStoreOp::Store,
-        1 => LoadStoreOp::Load,
-        2 => LoadStoreOp::LoadSignedTo64,
-        _ => LoadStoreOp::LoadSignedTo32,
-    }
-}
-
-/// Its number.
-#[inline(always)]
-#[tactic(auto, unfolding(crate::specs::Values::load_store_op_number))]
-pub fn load_store_op_number(it: LoadStoreOp) -> u8
-    ensures { result ≡ load_store_op_number it }
-{
-    match it {
-        LoadStoreOp::Store => 0,
-        LoadStoreOp::Load => 1,
-        LoadStoreOp::LoadSignedTo64 => 2,
-        LoadStoreOp::LoadSignedTo32 => 3,
-    }
+    variant!(field_in(&it, word); LoadStoreOp [0 Store, 1 Load, 2 LoadSignedTo64] LoadSignedTo32)
 }

@@ -16,7 +16,8 @@ use Rattle.asm_core.specs.Source.{said_lines}
 use Rattle.sm_types.specs.declared.object.Section.{Section}
 use Rattle.sm_types.specs.declared.object.Section.TheVariants.{Text, Data}
 use Rattle.asm_core.specs.Layout.{here, here_in, size_of, grown_in, Label, label_at, if_some, place_after, place_past, labels_from, label_named, labels_of, first_place}
-use Rattle.asm_core.specs.Faults.{or_else, fault_if, misplaced, is_doubled, is_too_large, line_fault, labels_after, after_line, lines_fault, text_length_of}
+use Rattle.std.specs.Option.{option_or as or_else}
+use Rattle.asm_core.specs.Faults.{fault_if, misplaced, is_doubled, is_too_large, line_fault, labels_after, after_line, lines_fault, text_length_of}
 use Rattle.asm_core.specs.Limits.{IsInLimits}
 use Rattle.asm_core.specs.Known.{Knows, label_place}
 use Rattle.asm_core.specs.Emitted.{IsFine, AreNear}

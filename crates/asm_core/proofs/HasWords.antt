@@ -13,8 +13,11 @@ use Rattle.asm_operands.specs.Operands.{OperandsSaid, operands_said, is_name}
 use Rattle.asm_operands.specs.Operands as operands
 use Rattle.asm_operands.proofs.Aimed.{said-means, target-sound, aimed-means}
 use Rattle.asm_parser.specs.declared.line.LineFault.{LineFault}
-use Rattle.asm_parser.specs.Statements.{Says, IntoText, IntoData, Quads, Words, Bytes, Zeros, Aligns, Globals, SourceLine}
+use Rattle.asm_parser.specs.Statements.{Says, TargetSaid, Instructs, IntoText, IntoData, Quads, Words, Bytes, Zeros, Aligns, Globals, SourceLine}
 use Rattle.asm_parser.specs.Lines.{Answer, Tells, Stops, and_then, further, ends, number_value, one_number, one_name, values_from, quad_value, Directive, TextDirective, DataDirective, QuadDirective, WordDirective, ByteDirective, ZeroDirective, AlignDirective, GlobalDirective, directive_of, directive_says, target_named, target_at, instruction_or_fault, instruction_says, named_says, tokens_say, text_of_lexeme, line_answer, line_lexemes, label_of, line_of}
+use Rattle.asm_core.specs.Aimed.{MeansAimed}
+use Rattle.asm_core.specs.Targets.{word_to}
+use Rattle.asm_core.proofs.Immediates.{named-aims}
 use Rattle.asm_core.specs.Emitted.{CanHave, CanBeAimed, HasWord}
 
 abbrev Told : Answer Says → Type 0
@@ -57,7 +60,7 @@ Means (operands.Fails fault) = Unit {0}
 
 can_aim : (name : ℕ) (ts : List Token) (word : ℕ) (target : Option Target) → operands_said name ts ≡ operands.Says word target → CanAim word target
 can_aim name ts word None e = tt
-can_aim name ts word (Some target) e = record { sound = target-sound name ts word target e; means = λ back size aimed is. aimed-means name ts word target back size aimed e is }
+can_aim name ts word (Some target) e = record { sound = target-sound name ts word target e; means = λ back size aimed is. aimed-means name ts word target back size aimed e is; aims = named-aims name ts word target e }
 
 operands_mean : (name : ℕ) (ts : List Token) (said : OperandsSaid) → operands_said name ts ≡ said → Means said
 operands_mean name ts (operands.Says word target) e = (said-means name ts word target e, can_aim name ts word target e)
@@ -104,3 +107,10 @@ answer_told text label ls (Stops place kind) line h e = cc
 pub line_word : (text : List ℕ) (line : SourceLine) → line_of text ≡ Ok line → HasWord line.says
 unfolding line_of
 line_word text line e = answer_told text (label_of (before_comment text)) (line_lexemes text) (tokens_say text (line_lexemes text)) line (tokens_told text (line_lexemes text)) e
+
+aims_said : (says : Says) (word column : ℕ) (target : TargetSaid) → says ≡ Instructs word (Some target) column → HasWord says → (from to aimed : ℕ) → word_to target.operand word from to ≡ Some aimed → MeansAimed word from to aimed
+aims_said says word column target e h = (subst HasWord e h).aims.aims
+
+pub line_aims : (text : List ℕ) (line : SourceLine) (word column from to aimed : ℕ) (target : TargetSaid) → line_of text ≡ Ok line → line.says ≡ Instructs word (Some target) column → word_to target.operand word from to ≡ Some aimed
+    → MeansAimed word from to aimed
+line_aims text line word column from to aimed target e f g = aims_said line.says word column target f (line_word text line e) from to aimed g

@@ -13,3 +13,6 @@ pub mod HasWords
 pub mod Emission
 pub mod Aims
 pub mod Marking
+pub mod Immediates
+pub mod Keeping
+pub mod OneObject

@@ -4,11 +4,11 @@ use Rattle.std.specs.Prelude.{slice_get, is_some, option_map}
 use Rattle.std.specs.List.{filter_map, cons_option, range_with_len, list_all}
 use Rattle.std.proofs.lemmas.Bool.Decides.{nat_tests}
 use Rattle.byteorder.specs.Endian.{little_bytes}
-use Rattle.sm_types.specs.declared.object.TheConstants.{TEXT_ADDRESS}
 use Rattle.sm_types.specs.declared.object.Object.{Object}
 use Rattle.sm_types.specs.declared.object.Section.{Section}
 use Rattle.sm_types.specs.declared.object.Section.TheVariants.{Text}
-use Rattle.sm_types.specs.Objects.{mappings_of, governing_mapping, mapping_says_code, is_text_code, little, text_word, object_word, object_code}
+use Rattle.sm_types.specs.Bytes.{little_number as little}
+use Rattle.sm_types.specs.Objects.{text_address, mappings_of, governing_mapping, mapping_says_code, is_text_code, text_word, object_word, object_code}
 use Rattle.a64_encode.specs.Either.{instruction_of}
 use Rattle.asm_parser.specs.declared.line.LineFault.{LineFault}
 use Rattle.asm_parser.specs.Statements.{Says, Nothing, IntoText, IntoData, Quads, Words, Bytes, Zeros, Aligns, Globals, Instructs, SourceLine}
@@ -17,9 +17,10 @@ use Rattle.asm_core.specs.declared.fault.AsmFault.{AsmFault}
 use Rattle.asm_core.specs.declared.place.Place.{Place}
 use Rattle.asm_core.specs.Source.{said_lines}
 use Rattle.asm_core.specs.Layout.{first_place, here_in, here, size_of, Label, labels_of, place_after, place_past}
-use Rattle.asm_core.specs.Faults.{or_else, misplaced, line_fault, lines_fault, labels_after, text_length_of}
+use Rattle.std.specs.Option.{option_or as or_else}
+use Rattle.asm_core.specs.Faults.{misplaced, line_fault, lines_fault, labels_after, text_length_of}
 use Rattle.asm_core.specs.Assembly.{IsAssembled, Puts, part_bytes, is_instruction, IsObjectOf}
-use Rattle.asm_core.specs.Sound.{is_listed}
+use Rattle.a64_encode.specs.Writable.{is_listed}
 use Rattle.asm_core.proofs.Marks.{mappings_said, marks_said, told}
 use Rattle.asm_core.proofs.Surveying.{lines_cons, said_cons, line_passes}
 
@@ -147,7 +148,7 @@ code_if true address word e h = (refl, same_word address word e h)
 code_if false address word e h = cc
 
 module _ (texts : List (List ℕ)) (accepted : lines_fault 1 first_place [] texts ≡ None) (object : Object) (is : IsObjectOf (said_lines texts) object) where
-  code_listed : (n : ℕ) → 4 * n < length object.text_bytes.items → is_text_code (mappings_of object.symbols.items) (TEXT_ADDRESS + 4 * n) ≡ true → is_some (instruction_of (text_word object.text_bytes.items (4 * n))) ≡ true
+  code_listed : (n : ℕ) → 4 * n < length object.text_bytes.items → is_text_code (mappings_of object.symbols.items) (text_address + 4 * n) ≡ true → is_some (instruction_of (text_word object.text_bytes.items (4 * n))) ≡ true
   unfolding is_text_code
   code_listed n l code =
       let lines = said_lines texts in
@@ -155,7 +156,7 @@ module _ (texts : List (List ℕ)) (accepted : lines_fault 1 first_place [] text
       let t = told lines first_place None None (4 * n) refl (omega arith) inside in
       let p = place_past first_place (take t.put.k lines) in
       let marks = mappings_said object.symbols.items ∙ ap (filter_map _) is.symbols ∙ marks_said (text_length_of lines) first_place None lines in
-      let instruction : is_instruction t.put.line.says ≡ true = sym t.kind ∙ sym (ap (λ ms. mapping_says_code (governing_mapping (TEXT_ADDRESS + 4 * n) None ms)) marks) ∙ code in
+      let instruction : is_instruction t.put.line.says ≡ true = sym t.kind ∙ sym (ap (λ ms. mapping_says_code (governing_mapping (text_address + 4 * n) None ms)) marks) ∙ code in
       let puts : Puts (text_length_of lines) (labels_of lines) object.text_bytes.items p t.put.line.says =
       subst (λ (part : Section). Puts (text_length_of lines) (labels_of lines) (part_bytes object part) p t.put.line.says) t.put.in_text (is.puts t.put.k t.put.line t.put.listed) in
       put_word (text_length_of lines) (labels_of lines) object.text_bytes.items t.put.line.says p n instruction t.put.in_text t.put.from t.put.to (aligned_at texts 1 first_place [] accepted t.put.k t.put.line t.put.listed) puts
@@ -164,5 +165,5 @@ module _ (texts : List (List ℕ)) (accepted : lines_fault 1 first_place [] text
   pub object_listed : list_all is_listed (object_code object) ≡ true
   unfolding object_code object_word
   object_listed = all_listed (object_word object) 0 (length object.text_bytes.items / 4) (λ n l u e at.
-      let c = code_if (is_text_code (mappings_of object.symbols.items) (TEXT_ADDRESS + 4 * n)) (TEXT_ADDRESS + 4 * n) (text_word object.text_bytes.items (4 * n)) e at in
+      let c = code_if (is_text_code (mappings_of object.symbols.items) (text_address + 4 * n)) (text_address + 4 * n) (text_word object.text_bytes.items (4 * n)) e at in
       ap (λ w. is_some (instruction_of w)) (sym c.1) ∙ code_listed n (omega arith) c.0)

@@ -1,9 +1,8 @@
 -- The symbols of a source's object say of each byte of its text whether an instruction put it.
-use Rattle.std.proofs.Common.{◌≡◌, ℕ, ◌+◌, ◌<◌, List, None, refl, ap, ◌∙◌, subst, arith}
+use Rattle.std.proofs.Common.{ℕ, ◌+◌, ◌<◌, List, None, refl, ap, ◌∙◌, subst, arith}
 use Rattle.std.specs.List.{filter_map}
-use Rattle.sm_types.specs.declared.object.TheConstants.{TEXT_ADDRESS}
 use Rattle.sm_types.specs.declared.object.Object.{Object}
-use Rattle.sm_types.specs.Objects.{is_text_code, governing_mapping, mapping_says_code}
+use Rattle.sm_types.specs.Objects.{text_address, is_text_code, governing_mapping, mapping_says_code}
 use Rattle.asm_core.specs.Assembly.{Assembles}
 use Rattle.asm_core.specs.Faults.{text_length_of}
 use Rattle.asm_core.specs.Layout.{first_place, place_past}
@@ -22,5 +21,5 @@ marked_object source object h = λ offset l.
     record {
       line = t.put.line;
       put = record { number = t.put.k; listed = t.put.listed; in_text = t.put.in_text; from = t.put.from; to = t.put.to };
-      code = ap (λ ms. mapping_says_code (governing_mapping (TEXT_ADDRESS + offset) None ms)) marks ∙ t.kind;
+      code = ap (λ ms. mapping_says_code (governing_mapping (text_address + offset) None ms)) marks ∙ t.kind;
     }

@@ -3,11 +3,10 @@ use Rattle.std.proofs.Common.{◌≡◌, ℕ, suc, ◌+◌, ◌<◌, ◌≤◌, 
 use Rattle.std.specs.Prelude.{slice_get, is_none}
 use Rattle.std.specs.List.{filter_map, cons_option}
 use Rattle.std.proofs.lemmas.Bool.Decides.{nat_tests}
-use Rattle.sm_types.specs.declared.object.TheConstants.{TEXT_ADDRESS}
 use Rattle.sm_types.specs.declared.object.Section.{Section}
 use Rattle.sm_types.specs.declared.object.Section.TheVariants.{Text, Data}
 use Rattle.sm_types.specs.declared.object.Symbol.{Symbol}
-use Rattle.sm_types.specs.Objects.{Mapping, mapping_at, says_in, name_says, symbol_says, mapping_of, mappings_of, later_mapping, governing_mapping, mapping_says_code}
+use Rattle.sm_types.specs.Objects.{text_address, Mapping, mapping_at, says_in, name_says, symbol_says, mapping_of, mappings_of, later_mapping, governing_mapping, mapping_says_code}
 use Rattle.asm_parser.specs.Statements.{Says, SourceLine}
 use Rattle.asm_core.specs.declared.place.Place.{Place}
 use Rattle.asm_core.specs.Layout.{here_in, here, grown_in, size_of, place_after, place_past, address_in, address_here}
@@ -44,7 +43,7 @@ mark_if true address code = record { address = address; code = code } ∷ []
 mark_if false address code = []
 
 abbrev mark_of : Place → Says → Option Bool → List Mapping
-mark_of p says before = mark_if (fills_text p says && not (is_same before (is_instruction says))) (TEXT_ADDRESS + p.text_size) (is_instruction says)
+mark_of p says before = mark_if (fills_text p says && not (is_same before (is_instruction says))) (text_address + p.text_size) (is_instruction says)
 
 -- the marks of lines, the first of which stands at a place
 unfoldable pub marks_from : Place → Option Bool → List SourceLine → List Mapping
@@ -75,8 +74,8 @@ text_mark true address code = ap (λ o. cons_option o []) (named_mark address co
 text_mark false address code = refl
 
 symbol_mark_in : (part : Section) (tl : ℕ) (p : Place) (size : ℕ) (c code : Bool)
-    → filter_map mapping_said (cond (fills_in part size && c) (record { name = mapping_name code; address = address_in tl part (here_in part p); section = part } ∷ []) []) ≡ mark_if (fills_in part size && c) (TEXT_ADDRESS + p.text_size) code
-symbol_mark_in Text tl p size c code = text_mark (fills_in Text size && c) (TEXT_ADDRESS + p.text_size) code
+    → filter_map mapping_said (cond (fills_in part size && c) (record { name = mapping_name code; address = address_in tl part (here_in part p); section = part } ∷ []) []) ≡ mark_if (fills_in part size && c) (text_address + p.text_size) code
+symbol_mark_in Text tl p size c code = text_mark (fills_in Text size && c) (text_address + p.text_size) code
 symbol_mark_in Data tl p size c code = refl
 
 symbol_mark : (tl : ℕ) (p : Place) (says : Says) (before : Option Bool) → filter_map mapping_said (mapping_symbol tl p says before) ≡ mark_of p says before
@@ -151,11 +150,11 @@ over_mark a best true address code rest l = ap (λ o. governing_mapping a o rest
 over_mark a best false address code rest l = refl
 
 -- the marks of later lines say nothing of an address before them
-later_marks : (lines : List SourceLine) (p : Place) (before : Option Bool) (best : Option Mapping) (a : ℕ) → a < TEXT_ADDRESS + p.text_size → governing_mapping a best (marks_from p before lines) ≡ best
+later_marks : (lines : List SourceLine) (p : Place) (before : Option Bool) (best : Option Mapping) (a : ℕ) → a < text_address + p.text_size → governing_mapping a best (marks_from p before lines) ≡ best
 unfolding marks_from
 later_marks [] p before best a l = refl
 later_marks (line ∷ lines) p before best a l =
-    over_mark a best (fills_text p line.says && not (is_same before (is_instruction line.says))) (TEXT_ADDRESS + p.text_size) (is_instruction line.says) (marks_from (place_after p line.says) (text_is p line.says before) lines) l
+    over_mark a best (fills_text p line.says && not (is_same before (is_instruction line.says))) (text_address + p.text_size) (is_instruction line.says) (marks_from (place_after p line.says) (text_is p line.says before) lines) l
     ∙ later_marks lines (place_after p line.says) (text_is p line.says before) best a (let g = text_grows p line.says in omega arith)
 
 -- the mark so far agrees with what the text is so far
@@ -238,7 +237,7 @@ next_put p line lines offset h =
 -- the line that put a byte, and that the marks say of the byte whether the line is an instruction
 pub record Told (p : Place) (before : Option Bool) (best : Option Mapping) (lines : List SourceLine) (offset : ℕ) : Type 0 where
   pub put : Put p lines offset
-  pub kind : mapping_says_code (governing_mapping (TEXT_ADDRESS + offset) best (marks_from p before lines)) ≡ is_instruction put.line.says
+  pub kind : mapping_says_code (governing_mapping (text_address + offset) best (marks_from p before lines)) ≡ is_instruction put.line.says
 
 low_or : (a b : ℕ) → (a < b) ⊎ (b ≤ a)
 low_or a b = grind arith
@@ -264,39 +263,39 @@ says_of_agreed : (code : Bool) (now : Option Mapping) (limit : ℕ) → Agrees (
 says_of_agreed code now limit h = ap mapping_says_code h.1 ∙ h.2
 
 -- each byte of the text was put by a line, and the marks say which
-pub told : (lines : List SourceLine) (p : Place) (before : Option Bool) (best : Option Mapping) (offset : ℕ) → Agrees before best (TEXT_ADDRESS + p.text_size) → p.text_size ≤ offset → offset < (place_past p lines).text_size
+pub told : (lines : List SourceLine) (p : Place) (before : Option Bool) (best : Option Mapping) (offset : ℕ) → Agrees before best (text_address + p.text_size) → p.text_size ≤ offset → offset < (place_past p lines).text_size
     → Told p before best lines offset
 unfolding next_put first_put
 told [] p before best offset h from to = absurd (no_place_left p offset from to)
 told (line ∷ lines) p before best offset h from to =
     let next = place_after p line.says in
-    let a = TEXT_ADDRESS + offset in
+    let a = text_address + offset in
     let after : offset < (place_past next lines).text_size = subst (λ (q : Place). offset < q.text_size) (past_cons p line lines) to in
     elim (fills_text p line.says) as (λ b. fills_text p line.says ≡ b → Told p before best (line ∷ lines) offset) [
       | true ↦ λ e.
           let fills = filled p line.says e in
           let code = is_instruction line.says in
           let rest = marks_from next (Some code) lines in
-          let m = marked a (TEXT_ADDRESS + p.text_size) code before best rest (is_same before code) refl h (omega arith) in
-          let marks : marks_from p before (line ∷ lines) ≡ mark_if (not (is_same before code)) (TEXT_ADDRESS + p.text_size) code ++ rest =
-          marks_cons p before line lines ∙ (λ i. mark_if (e i && not (is_same before code)) (TEXT_ADDRESS + p.text_size) code ++ marks_from next (text_is-filled p line.says before e i) lines) in
+          let m = marked a (text_address + p.text_size) code before best rest (is_same before code) refl h (omega arith) in
+          let marks : marks_from p before (line ∷ lines) ≡ mark_if (not (is_same before code)) (text_address + p.text_size) code ++ rest =
+          marks_cons p before line lines ∙ (λ i. mark_if (e i && not (is_same before code)) (text_address + p.text_size) code ++ marks_from next (text_is-filled p line.says before e i) lines) in
           let governs : governing_mapping a best (marks_from p before (line ∷ lines)) ≡ governing_mapping a m.now rest = ap (governing_mapping a best) marks ∙ m.governs in
           elim (low_or offset next.text_size) [
             | inl here_put ↦
                 let over : governing_mapping a m.now rest ≡ m.now = later_marks lines next (Some code) m.now a (omega arith) in
                 record {
                   put = first_put p line lines offset fills.in_text from (subst (λ n. offset < n) fills.grown here_put);
-                  kind = ap mapping_says_code (governs ∙ over) ∙ says_of_agreed code m.now (TEXT_ADDRESS + p.text_size) m.agrees;
+                  kind = ap mapping_says_code (governs ∙ over) ∙ says_of_agreed code m.now (text_address + p.text_size) m.agrees;
                 }
             | inr past ↦
                 let g = text_grows p line.says in
-                let t = told lines next (Some code) m.now offset (agrees_further (Some code) m.now (TEXT_ADDRESS + p.text_size) (TEXT_ADDRESS + next.text_size) (omega arith) m.agrees) past after in
+                let t = told lines next (Some code) m.now offset (agrees_further (Some code) m.now (text_address + p.text_size) (text_address + next.text_size) (omega arith) m.agrees) past after in
                 record { put = next_put p line lines offset t.put; kind = ap mapping_says_code governs ∙ t.kind }
           ]
       | false ↦ λ e.
           let same = unfilled p line.says e in
-          let t = told lines next before best offset (subst (λ n. Agrees before best (TEXT_ADDRESS + n)) (sym same) h) (subst (λ n. n ≤ offset) (sym same) from) after in
+          let t = told lines next before best offset (subst (λ n. Agrees before best (text_address + n)) (sym same) h) (subst (λ n. n ≤ offset) (sym same) from) after in
           let marks : marks_from p before (line ∷ lines) ≡ marks_from next before lines =
-          marks_cons p before line lines ∙ (λ i. mark_if (e i && not (is_same before (is_instruction line.says))) (TEXT_ADDRESS + p.text_size) (is_instruction line.says) ++ marks_from next (text_is-unfilled p line.says before e i) lines) in
+          marks_cons p before line lines ∙ (λ i. mark_if (e i && not (is_same before (is_instruction line.says))) (text_address + p.text_size) (is_instruction line.says) ++ marks_from next (text_is-unfilled p line.says before e i) lines) in
           record { put = next_put p line lines offset t.put; kind = ap (λ ms. mapping_says_code (governing_mapping a best ms)) marks ∙ t.kind }
     ] refl

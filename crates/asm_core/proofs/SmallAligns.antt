@@ -2,7 +2,7 @@
 use Rattle.std.proofs.Common.{◌≡◌, ℕ, ◌-◌, ◌^◌, ◌≤◌, Bool, true, false, cond, List, [], ◌∷◌, Option, Some, None, Result, Ok, nat_le, refl, subst, leb-true}
 use Rattle.insn_text.specs.declared.words.TheConstants.{NAMES}
 use Rattle.asm_tokens.specs.declared.token.Token.{Token}
-use Rattle.asm_tokens.specs.declared.token.Token.TheVariants.{Word, Name, Number, Distance, Bare, Malformed, Mark, Other}
+use Rattle.asm_tokens.specs.declared.token.Token.TheVariants.{Register, Word, Name, Number, Distance, Bare, Malformed, Mark, Other}
 use Rattle.asm_tokens.specs.declared.token.Lexeme.{Lexeme}
 use Rattle.asm_tokens.specs.Characters.{column_at, before_comment}
 use Rattle.asm_tokens.specs.Tokens.{place_in}
@@ -42,6 +42,7 @@ up_to most n m false e h = cc
 number_small : (most : ℕ) (t : Token) (m : ℕ) → number_up_to most t ≡ Some m → m ≤ most
 unfolding number_up_to
 number_small most (Bare n) m e = up_to most n m (nat_le n most) refl e
+number_small most (Register file number) m e = cc
 number_small most (Word place) m e = cc
 number_small most Name m e = cc
 number_small most (Number negative size) m e = cc

@@ -13,7 +13,8 @@ use Rattle.asm_core.specs.declared.labels.Labels.{Labels}
 use Rattle.asm_core.specs.declared.place.Place.{Place}
 use Rattle.asm_core.specs.Source.{lines_of, said_lines}
 use Rattle.asm_core.specs.Layout.{first_place, Label, label_at, if_some, label_named, labels_of, labels_from, place_after, place_past}
-use Rattle.asm_core.specs.Faults.{or_else, after_line, line_fault, lines_fault, labels_after}
+use Rattle.std.specs.Option.{option_or as or_else}
+use Rattle.asm_core.specs.Faults.{after_line, line_fault, lines_fault, labels_after}
 use Rattle.asm_core.specs.Known.{known, label_place, Knows}
 use Rattle.asm_core.specs.Surveyed.{fault_at, Passes, IsSurveyedTo}
 use Rattle.asm_core.specs.declared.fault.AsmFault.TheVariants as fault
@@ -64,7 +65,7 @@ knows_more table next list l h new told = record {
       ∙ sym (ap (option_map label_place) (named_last list l name));
 }
 
-append_none : {A : Type 0} (xs : List A) → xs ++ [] ≡ xs
+pub append_none : {A : Type 0} (xs : List A) → xs ++ [] ≡ xs
 append_none [] = refl
 append_none (x ∷ xs) = ap (λ ys. x ∷ ys) (append_none xs)
 

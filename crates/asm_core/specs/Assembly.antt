@@ -1,6 +1,9 @@
 -- The object of a source: the bytes that its lines put, its symbols and its start.
--- Source: the GNU assembler for directives; ELF for the Arm 64-bit Architecture (AArch64), mapping symbols `$x` and `$d`.
-use Rattle.std.specs.Prelude.{◌≡◌, ℕ, ◌^◌, ◌<◌, Bool, true, false, not, ◌&&◌, nat_lt, List, [], ◌∷◌, ◌++◌, length, take, drop, map, replicate, slice_get, Option, Some, None, is_some, is_none, codes, if◌then◌else◌}
+-- Source: the GNU assembler for directives; ELF for the Arm 64-bit Architecture (AArch64), mapping symbols
+-- `$x` and `$d`.
+use Rattle.std.specs.Prelude.{◌≡◌, ℕ, ◌^◌, ◌<◌, Bool, true, false, not, ◌&&◌, nat_lt, List, [], ◌∷◌, ◌++◌}
+use Rattle.std.specs.Prelude.{length, take, drop, map, replicate, slice_get, Option, Some, None, is_some}
+use Rattle.std.specs.Prelude.{is_none, codes, if◌then◌else◌}
 use Rattle.std.specs.List.{concat}
 use Rattle.byteorder.specs.Endian.{little_bytes}
 use Rattle.sm_types.specs.declared.object.Section.{Section}
@@ -9,10 +12,13 @@ use Rattle.sm_types.specs.declared.object.Symbol.{Symbol}
 use Rattle.sm_types.specs.declared.object.Object.{Object}
 use Rattle.sm_types.specs.Objects.{name_says}
 use Rattle.a64_encode.specs.Either.{instruction_of}
-use Rattle.asm_parser.specs.Statements.{QuadValue, IsNumber, IsAddressOf, TargetSaid, Says, Nothing, IntoText, IntoData, Quads, Words, Bytes, Zeros, Aligns, Globals, Instructs, SourceLine}
+use Rattle.asm_parser.specs.Statements.{QuadValue, IsNumber, IsAddressOf, TargetSaid, Says, Nothing, IntoText}
+use Rattle.asm_parser.specs.Statements.{IntoData, Quads, Words, Bytes, Zeros, Aligns, Globals, Instructs}
+use Rattle.asm_parser.specs.Statements.{SourceLine}
 use Rattle.asm_core.specs.Source.{lines_of, said_lines}
 use Rattle.asm_core.specs.declared.place.Place.{Place}
-use Rattle.asm_core.specs.Layout.{first_place, here, size_of, place_after, place_past, place_of, Label, labels_of, label_named, label_address, address_here}
+use Rattle.asm_core.specs.Layout.{first_place, here, size_of, place_after, place_past, place_of, Label}
+use Rattle.asm_core.specs.Layout.{labels_of, label_named, label_address, address_here}
 use Rattle.insn_text.specs.declared.item.Item.{Item}
 use Rattle.asm_core.specs.Targets.{word_to}
 use Rattle.asm_core.specs.Faults.{asm_fault, start_of, text_length_of}
@@ -42,12 +48,14 @@ word_or word (Some aimed) = aimed
 
 abbrev pub aimed_at : ℕ → Item → ℕ → ℕ → Option Label → ℕ
 aimed_at text_length i word from None = word
-aimed_at text_length i word from (Some label) = word_or word (word_to i word from (label_address text_length label))
+aimed_at text_length i word from (Some label) =
+    word_or word (word_to i word from (label_address text_length label))
 
 -- the word of an instruction at an address with the distance to its target, where a name says the target
 unfoldable pub aimed : ℕ → List Label → ℕ → ℕ → Option TargetSaid → ℕ
 aimed text_length labels from word None = word
-aimed text_length labels from word (Some target) = aimed_at text_length target.operand word from (label_named labels target.name)
+aimed text_length labels from word (Some target) =
+    aimed_at text_length target.operand word from (label_named labels target.name)
 
 -- the word means an instruction, and its bytes stand there
 pub record IsAssembled (word : ℕ) (bytes : List ℕ) (at : ℕ) : Type 0 where
@@ -57,12 +65,15 @@ pub record IsAssembled (word : ℕ) (bytes : List ℕ) (at : ℕ) : Type 0 where
 
 -- what a line at a place puts stands in its part
 unfoldable pub Puts : ℕ → List Label → List ℕ → Place → Says → Type 0
-Puts text_length labels bytes p (Instructs word target column) = IsAssembled (aimed text_length labels (address_here text_length p) word target) bytes (here p)
-Puts text_length labels bytes p (Quads values) = HasBytes bytes (here p) (numbers_bytes 8 (map (quad_number text_length labels) values))
+Puts text_length labels bytes p (Instructs word target column) =
+    IsAssembled (aimed text_length labels (address_here text_length p) word target) bytes (here p)
+Puts text_length labels bytes p (Quads values) =
+    HasBytes bytes (here p) (numbers_bytes 8 (map (quad_number text_length labels) values))
 Puts text_length labels bytes p (Words numbers) = HasBytes bytes (here p) (numbers_bytes 4 numbers)
 Puts text_length labels bytes p (Bytes numbers) = HasBytes bytes (here p) numbers
 Puts text_length labels bytes p (Zeros count) = HasBytes bytes (here p) (replicate count 0)
-Puts text_length labels bytes p (Aligns power) = HasBytes bytes (here p) (replicate (size_of (Aligns power) (here p)) 0)
+Puts text_length labels bytes p (Aligns power) =
+    HasBytes bytes (here p) (replicate (size_of (Aligns power) (here p)) 0)
 Puts text_length labels bytes p Nothing = Unit {0}
 Puts text_length labels bytes p IntoText = Unit {0}
 Puts text_length labels bytes p IntoData = Unit {0}
@@ -85,7 +96,12 @@ symbol_said symbol = record { name = symbol.name.items; address = symbol.address
 -- the symbol of a label; one that is called like a mapping symbol has none
 unfoldable pub label_symbol : ℕ → Place → Option (List ℕ) → List SymbolSaid
 label_symbol text_length p None = []
-label_symbol text_length p (Some name) = if is_none (name_says name) then record { name = name; address = address_here text_length p; section = p.part } ∷ [] else []
+label_symbol text_length p (Some name) =
+    if is_none (name_says name) then record {
+      name = name;
+      address = address_here text_length p;
+      section = p.part;
+    } ∷ [] else []
 
 -- a line is an instruction
 unfoldable pub is_instruction : Says → Bool
@@ -124,7 +140,11 @@ mapping_name false = codes "$d"
 unfoldable pub mapping_symbol : ℕ → Place → Says → Option Bool → List SymbolSaid
 mapping_symbol text_length p says before =
     if fills_text p says && not (is_same before (is_instruction says))
-    then record { name = mapping_name (is_instruction says); address = address_here text_length p; section = p.part } ∷ []
+    then record {
+      name = mapping_name (is_instruction says);
+      address = address_here text_length p;
+      section = p.part;
+    } ∷ []
     else []
 
 -- the symbols of lines in their order: of each line that of its label and then its mapping symbol
@@ -141,11 +161,20 @@ pub record IsObjectOf (lines : List SourceLine) (object : Object) : Type 0 where
   pub text_size : length object.text_bytes.items ≡ text_length_of lines
   pub data_size : length object.data_bytes.items ≡ (place_past first_place lines).data_size
   pub puts : (k : ℕ) (line : SourceLine) → slice_get lines k ≡ Some line
-      → Puts (text_length_of lines) (labels_of lines) (part_bytes object (place_of lines k).part) (place_of lines k) line.says
-  pub symbols : map symbol_said object.symbols.items ≡ symbols_from (text_length_of lines) first_place None lines
+      → Puts (text_length_of lines) (labels_of lines) (part_bytes object (place_of lines k).part)
+      (place_of lines k) line.says
+  pub symbols :
+      map symbol_said object.symbols.items ≡ symbols_from (text_length_of lines) first_place None lines
   pub starts : start_of (text_length_of lines) (labels_of lines) ≡ Some object.entry
 
 -- the source is assembled to this object
 pub record Assembles (source : List ℕ) (object : Object) : Type 0 where
   pub accepted : asm_fault source ≡ None
   pub object_is : IsObjectOf (said_lines (lines_of source)) object
+
+-- two objects are one: their bytes, their symbols and their start are
+pub record IsSameObject (object other : Object) : Type 0 where
+  pub text_bytes : object.text_bytes.items ≡ other.text_bytes.items
+  pub data_bytes : object.data_bytes.items ≡ other.data_bytes.items
+  pub symbols : map symbol_said object.symbols.items ≡ map symbol_said other.symbols.items
+  pub entry : object.entry ≡ other.entry

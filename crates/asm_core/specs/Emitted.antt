@@ -1,5 +1,6 @@
 -- What the second pass has put of a source, line by line.
-use Rattle.std.specs.Prelude.{◌≡◌, ℕ, ◌<◌, ◌≤◌, ◌^◌, Bool, List, [], ◌∷◌, ◌++◌, length, map, replicate, Option, Some, None, Ok, true, false, is_some}
+use Rattle.std.specs.Prelude.{◌≡◌, ℕ, ◌<◌, ◌≤◌, ◌^◌, Bool, List, [], ◌∷◌, ◌++◌, length, map, replicate}
+use Rattle.std.specs.Prelude.{Option, Some, None, Ok, true, false, is_some}
 use Rattle.byteorder.specs.Endian.{little_bytes}
 use Rattle.insn_text.specs.declared.item.Item.{Item}
 use Rattle.asm_operands.specs.Distances.{with_distance}
@@ -7,22 +8,29 @@ use Rattle.asm_operands.specs.Sound.{is_sound}
 use Rattle.sm_types.specs.declared.object.Section.{Section}
 use Rattle.sm_types.specs.declared.object.Section.TheVariants.{Text, Data}
 use Rattle.a64_encode.specs.Either.{instruction_of}
-use Rattle.asm_parser.specs.Statements.{TargetSaid, Says, Nothing, IntoText, IntoData, Quads, Words, Bytes, Zeros, Aligns, Globals, Instructs, SourceLine}
+use Rattle.asm_parser.specs.Statements.{TargetSaid, Says, Nothing, IntoText, IntoData, Quads, Words, Bytes}
+use Rattle.asm_parser.specs.Statements.{Zeros, Aligns, Globals, Instructs, SourceLine}
 use Rattle.asm_parser.specs.Lines.{line_of}
 use Rattle.asm_core.specs.declared.place.Place.{Place}
 use Rattle.asm_core.specs.declared.emit_targets.Addresses.{Addresses}
 use Rattle.asm_core.specs.declared.labels.LabelPlace.{LabelPlace}
 use Rattle.asm_core.specs.declared.parts.Parts.{Parts}
 use Rattle.asm_core.specs.Layout.{Label, here, size_of, address_here}
-use Rattle.asm_core.specs.Assembly.{numbers_bytes, quad_number, aimed, SymbolSaid, symbol_said, label_symbol, mapping_symbol}
+use Rattle.asm_core.specs.Assembly.{numbers_bytes, quad_number, aimed, SymbolSaid, symbol_said, label_symbol}
+use Rattle.asm_core.specs.Assembly.{mapping_symbol}
 use Rattle.asm_core.specs.Faults.{is_too_large}
 use Rattle.asm_core.specs.Known.{known}
+use Rattle.asm_core.specs.Aimed.{MeansAimed}
+use Rattle.asm_core.specs.Targets.{word_to}
 use Rattle.asm_core.specs.Parts.{bytes_in}
 
--- with each distance that the operand holds the word means an instruction
+-- with each distance that the operand holds the word means an instruction: the same with that distance
 pub record CanHave (i : Item) (word : ℕ) : Type 0 where
   pub sound : is_sound i ≡ true
-  pub means : (back : Bool) (size aimed : ℕ) → with_distance i word back size ≡ Some aimed → is_some (instruction_of aimed) ≡ true
+  pub means :
+      (back : Bool) (size aimed : ℕ) → with_distance i word back size ≡ Some aimed
+      → is_some (instruction_of aimed) ≡ true
+  pub aims : (from to aimed : ℕ) → word_to i word from to ≡ Some aimed → MeansAimed word from to aimed
 
 abbrev pub CanBeAimed : ℕ → Option TargetSaid → Type 0
 CanBeAimed word None = Unit {0}
@@ -55,7 +63,9 @@ pub record IsFine (p : Place) (text : List ℕ) : Type 0 where
 -- each part has at most 4 MiB: the text, and what stands before a label
 pub record AreNear (addresses : Addresses) : Type 0 where
   pub text : addresses.text_size ≤ 4194304
-  pub labels : (name : List ℕ) (place : LabelPlace) → known addresses.labels.now name ≡ Some place → place.offset ≤ 4194304
+  pub labels :
+      (name : List ℕ) (place : LabelPlace) → known addresses.labels.now name ≡ Some place
+      → place.offset ≤ 4194304
 
 -- the word of 32 bits means an instruction, and these are its bytes
 pub record IsWordOf (word : ℕ) (piece : List ℕ) : Type 0 where
@@ -71,8 +81,10 @@ pub record IsWordAfter (word : ℕ) (old new : List ℕ) : Type 0 where
 
 -- the bytes that a line at a place puts
 unfoldable pub IsPiece : ℕ → List Label → Place → Says → List ℕ → Type 0
-IsPiece text_length labels p (Instructs word target column) piece = IsWordOf (aimed text_length labels (address_here text_length p) word target) piece
-IsPiece text_length labels p (Quads values) piece = piece ≡ numbers_bytes 8 (map (quad_number text_length labels) values)
+IsPiece text_length labels p (Instructs word target column) piece =
+    IsWordOf (aimed text_length labels (address_here text_length p) word target) piece
+IsPiece text_length labels p (Quads values) piece =
+    piece ≡ numbers_bytes 8 (map (quad_number text_length labels) values)
 IsPiece text_length labels p (Words numbers) piece = piece ≡ numbers_bytes 4 numbers
 IsPiece text_length labels p (Bytes numbers) piece = piece ≡ numbers
 IsPiece text_length labels p (Zeros count) piece = piece ≡ replicate count 0
@@ -83,7 +95,8 @@ IsPiece text_length labels p IntoData piece = Unit {0}
 IsPiece text_length labels p (Globals name) piece = Unit {0}
 
 -- the bytes of a line follow others, as many as its size says
-pub record Adds (text_length : ℕ) (labels : List Label) (p : Place) (says : Says) (old new : List ℕ) : Type 0 where
+pub record Adds (text_length : ℕ) (labels : List Label) (p : Place) (says : Says) (old new : List ℕ) : Type
+    0 where
   pub piece : List ℕ
   pub added : new ≡ old ++ piece
   pub size : length piece ≡ size_of says (here p)
@@ -99,10 +112,14 @@ one_symbol name address section = record { name = name; address = address; secti
 
 -- the symbols of a line
 unfoldable pub line_symbols : ℕ → Place → Option Bool → SourceLine → List SymbolSaid
-line_symbols text_length p before line = label_symbol text_length p line.label ++ mapping_symbol text_length p line.says before
+line_symbols text_length p before line =
+    label_symbol text_length p line.label ++ mapping_symbol text_length p line.says before
 
 -- the parts have grown by a line at a place: by its bytes, and by its symbols
-pub record HaveGrown (text_length : ℕ) (labels : List Label) (p : Place) (before : Option Bool) (line : SourceLine) (old new : Parts) : Type 0 where
+pub record HaveGrown (text_length : ℕ) (labels : List Label) (p : Place) (before : Option Bool)
+    (line : SourceLine) (old new : Parts) : Type 0 where
   pub bytes : Adds text_length labels p line.says (bytes_in old p.part) (bytes_in new p.part)
   pub others : bytes_in new (other p.part) ≡ bytes_in old (other p.part)
-  pub symbols : map symbol_said new.symbols.items ≡ map symbol_said old.symbols.items ++ line_symbols text_length p before line
+  pub symbols :
+      map symbol_said new.symbols.items
+      ≡ map symbol_said old.symbols.items ++ line_symbols text_length p before line

@@ -1,26 +1,29 @@
--- Why a source is refused: the first fault of its lines in order, then the first name or distance at fault, then that it has no start.
+-- Why a source is refused: the first fault of its lines in order, then the first name or distance at fault,
+-- then that it has no start.
 -- Source: this project's own assembly language.
-use Rattle.std.specs.Prelude.{ℕ, ◌+◌, ◌%◌, Bool, true, false, not, ◌&&◌, ◌||◌, ◌==◌, nat_lt, List, [], ◌∷◌, ◌++◌, length, Option, Some, None, Result, Ok, Err, is_some, if◌then◌else◌, codes, ℤ, option_map}
+use Rattle.std.specs.Prelude.{ℕ, ◌+◌, ◌%◌, Bool, true, false, not, ◌&&◌, ◌||◌, ◌==◌, nat_lt, List, [], ◌∷◌}
+use Rattle.std.specs.Prelude.{◌++◌, length, Option, Some, None, Result, Ok, Err, is_some, if◌then◌else◌}
+use Rattle.std.specs.Prelude.{codes, ℤ, option_map}
 use Rattle.std.specs.List.{list_any}
+use Rattle.std.specs.Option.{option_or as or_else}
 use Rattle.std.specs.Str.Lossy.{utf8_valid_len}
 use Rattle.sm_types.specs.declared.object.Section.{Section}
 use Rattle.sm_types.specs.declared.object.Section.TheVariants.{Text, Data}
 use Rattle.asm_parser.specs.declared.line.LineFault.{LineFault}
 use Rattle.asm_parser.specs.declared.line.LineFault.TheVariants.{BadOperand}
-use Rattle.asm_parser.specs.Statements.{QuadValue, IsNumber, IsAddressOf, TargetSaid, Says, Nothing, IntoText, IntoData, Quads, Words, Bytes, Zeros, Aligns, Globals, Instructs, SourceLine}
+use Rattle.asm_parser.specs.Statements.{QuadValue, IsNumber, IsAddressOf, TargetSaid, Says, Nothing, IntoText}
+use Rattle.asm_parser.specs.Statements.{IntoData, Quads, Words, Bytes, Zeros, Aligns, Globals, Instructs}
+use Rattle.asm_parser.specs.Statements.{SourceLine}
 use Rattle.asm_parser.specs.Lines.{line_of}
 use Rattle.asm_core.specs.declared.fault.AsmFault.{AsmFault}
-use Rattle.asm_core.specs.declared.fault.AsmFault.TheVariants.{TooLong, NotText, Line, Doubled, Undefined, TooFar, TooLarge, NoStart}
+use Rattle.asm_core.specs.declared.fault.AsmFault.TheVariants.{TooLong, NotText, Line, Doubled, Undefined}
+use Rattle.asm_core.specs.declared.fault.AsmFault.TheVariants.{TooFar, TooLarge, NoStart}
 use Rattle.asm_core.specs.Source.{lines_of, said_lines}
 use Rattle.asm_core.specs.declared.place.Place.{Place}
-use Rattle.asm_core.specs.Layout.{first_place, here, place_after, place_past, Label, label_at, if_some, labels_of, label_named, label_address, address_in, address_here}
+use Rattle.asm_core.specs.Layout.{first_place, here, place_after, place_past, Label, label_at, if_some}
+use Rattle.asm_core.specs.Layout.{labels_of, label_named, label_address, address_in, address_here}
 use Rattle.insn_text.specs.declared.item.Item.{Item}
 use Rattle.asm_core.specs.Targets.{distance, word_to}
-
--- the first of two, else the second
-abbrev pub or_else : Option AsmFault → Option AsmFault → Option AsmFault
-or_else None second = second
-or_else (Some first) second = Some first
 
 abbrev pub fault_if : Bool → AsmFault → Option AsmFault
 fault_if true fault = Some fault
@@ -48,21 +51,25 @@ is_doubled labels (Some name) = is_some (label_named labels name)
 
 -- the part that a line goes to has more than 4 MiB with it
 unfoldable pub is_too_large : Place → Says → Bool
-is_too_large p says = nat_lt 4194304 (place_after p says).text_size || nat_lt 4194304 (place_after p says).data_size
+is_too_large p says =
+    nat_lt 4194304 (place_after p says).text_size || nat_lt 4194304 (place_after p says).data_size
 
 -- the fault of line number n, from 1, at a place and after some labels
 unfoldable pub line_fault : ℕ → Place → List Label → Result SourceLine LineFault → Option AsmFault
 line_fault n p labels (Err fault) = Some (Line n fault)
 line_fault n p labels (Ok line) =
     or_else (option_map (λ column. Line n (BadOperand column)) (misplaced line.says (here p)))
-    (or_else (fault_if (is_doubled labels line.label) (Doubled n)) (fault_if (is_too_large p line.says) (TooLarge n)))
+    (or_else (fault_if (is_doubled labels line.label) (Doubled n))
+    (fault_if (is_too_large p line.says) (TooLarge n)))
 
 -- the labels after a line
 abbrev pub labels_after : Place → List Label → SourceLine → List Label
 labels_after p labels line = labels ++ if_some (option_map (label_at p) line.label)
 
 -- what follows a line that is in the grammar, at the place and with the labels after it
-abbrev pub after_line : (Place → List Label → Option AsmFault) → Place → List Label → Result SourceLine LineFault → Option AsmFault
+abbrev pub after_line :
+    (Place → List Label → Option AsmFault) → Place → List Label → Result SourceLine LineFault
+    → Option AsmFault
 after_line rest p labels (Err fault) = None
 after_line rest p labels (Ok line) = rest (place_after p line.says) (labels_after p labels line)
 
@@ -70,7 +77,8 @@ after_line rest p labels (Ok line) = rest (place_after p line.says) (labels_afte
 unfoldable pub lines_fault : ℕ → Place → List Label → List (List ℕ) → Option AsmFault
 lines_fault n p labels [] = None
 lines_fault n p labels (text ∷ texts) =
-    or_else (line_fault n p labels (line_of text)) (after_line (λ next known. lines_fault (n + 1) next known texts) p labels (line_of text))
+    or_else (line_fault n p labels (line_of text)) (after_line
+    (λ next known. lines_fault (n + 1) next known texts) p labels (line_of text))
 
 -- ---- names and distances, with all labels known
 
@@ -90,16 +98,20 @@ distance_fault n i word from target = too_far n (distance i from target) (word_t
 -- the fault of an instruction at an address with the label of its target
 abbrev pub aim_fault : ℕ → ℕ → Item → ℕ → ℕ → Option Label → Option AsmFault
 aim_fault n text_length i word from None = Some (Undefined n)
-aim_fault n text_length i word from (Some label) = distance_fault n i word from (label_address text_length label)
+aim_fault n text_length i word from (Some label) =
+    distance_fault n i word from (label_address text_length label)
 
 abbrev pub instruction_fault : ℕ → ℕ → List Label → ℕ → ℕ → Option TargetSaid → Option AsmFault
 instruction_fault n text_length labels from word None = None
-instruction_fault n text_length labels from word (Some target) = aim_fault n text_length target.operand word from (label_named labels target.name)
+instruction_fault n text_length labels from word (Some target) =
+    aim_fault n text_length target.operand word from (label_named labels target.name)
 
 -- the fault of the names and distances of line number n at a place
 unfoldable pub target_fault : ℕ → ℕ → List Label → Place → Says → Option AsmFault
-target_fault n text_length labels p (Instructs word target column) = instruction_fault n text_length labels (address_here text_length p) word target
-target_fault n text_length labels p (Quads values) = fault_if (list_any (is_undefined labels) values) (Undefined n)
+target_fault n text_length labels p (Instructs word target column) =
+    instruction_fault n text_length labels (address_here text_length p) word target
+target_fault n text_length labels p (Quads values) =
+    fault_if (list_any (is_undefined labels) values) (Undefined n)
 target_fault n text_length labels p Nothing = None
 target_fault n text_length labels p IntoText = None
 target_fault n text_length labels p IntoData = None
@@ -113,12 +125,14 @@ target_fault n text_length labels p (Globals name) = None
 unfoldable pub targets_fault : ℕ → ℕ → List Label → Place → List SourceLine → Option AsmFault
 targets_fault n text_length labels p [] = None
 targets_fault n text_length labels p (line ∷ lines) =
-    or_else (target_fault n text_length labels p line.says) (targets_fault (n + 1) text_length labels (place_after p line.says) lines)
+    or_else (target_fault n text_length labels p line.says) (targets_fault (n + 1) text_length labels
+    (place_after p line.says) lines)
 
 -- ---- the start
 
 abbrev pub start_in : ℕ → Section → ℕ → Option ℕ
-start_in text_length Text offset = if (offset % 4 == 0) && nat_lt offset text_length then Some (address_in text_length Text offset) else None
+start_in text_length Text offset =
+    if (offset % 4 == 0) && nat_lt offset text_length then Some (address_in text_length Text offset) else None
 start_in text_length Data offset = None
 
 abbrev pub start_at : ℕ → Option Label → Option ℕ

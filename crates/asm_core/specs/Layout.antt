@@ -1,14 +1,15 @@
 -- Where the lines of a source put their bytes, and what their labels stand for.
 -- Source: the GNU assembler for sections, labels and alignment; the addresses are this project's own.
-use Rattle.std.specs.Prelude.{ℕ, ◌+◌, ◌-◌, ◌*◌, ◌%◌, ◌^◌, List, [], ◌∷◌, ◌++◌, length, take, Option, Some, None, option_map}
+use Rattle.std.specs.Prelude.{ℕ, ◌+◌, ◌-◌, ◌*◌, ◌%◌, ◌^◌, List, [], ◌∷◌, ◌++◌, length, take, Option, Some}
+use Rattle.std.specs.Prelude.{None, option_map}
 use Rattle.std.specs.List.{find}
 use Rattle.std.specs.Str.{bytes_eq}
-use Rattle.sm_types.specs.declared.object.TheConstants.{TEXT_ADDRESS}
 use Rattle.sm_types.specs.declared.object.Section.{Section}
 use Rattle.sm_types.specs.declared.object.Section.TheVariants.{Text, Data}
-use Rattle.sm_types.specs.Objects.{data_address}
+use Rattle.sm_types.specs.Objects.{text_address, data_address}
 use Rattle.asm_core.specs.declared.place.Place.{Place}
-use Rattle.asm_parser.specs.Statements.{Says, Nothing, IntoText, IntoData, Quads, Words, Bytes, Zeros, Aligns, Globals, Instructs, SourceLine}
+use Rattle.asm_parser.specs.Statements.{Says, Nothing, IntoText, IntoData, Quads, Words, Bytes, Zeros, Aligns}
+use Rattle.asm_parser.specs.Statements.{Globals, Instructs, SourceLine}
 
 -- a source begins in the text
 abbrev pub first_place : Place
@@ -90,7 +91,8 @@ if_some (Some a) = a ∷ []
 -- the labels of lines, the first of which stands at a place
 unfoldable pub labels_from : Place → List SourceLine → List Label
 labels_from p [] = []
-labels_from p (line ∷ lines) = if_some (option_map (label_at p) line.label) ++ labels_from (place_after p line.says) lines
+labels_from p (line ∷ lines) =
+    if_some (option_map (label_at p) line.label) ++ labels_from (place_after p line.says) lines
 
 -- the labels of a source
 abbrev pub labels_of : List SourceLine → List Label
@@ -104,7 +106,7 @@ label_named labels name = find (λ label. bytes_eq label.name name) labels
 
 -- where a part begins, for a text of so many bytes
 abbrev pub base_of : ℕ → Section → ℕ
-base_of text_length Text = TEXT_ADDRESS
+base_of text_length Text = text_address
 base_of text_length Data = data_address text_length
 
 abbrev pub address_in : ℕ → Section → ℕ → ℕ

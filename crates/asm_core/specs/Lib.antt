@@ -8,5 +8,6 @@ pub mod Assembly
 pub mod Known
 pub mod Parts
 pub mod Surveyed
-pub mod Sound
 pub mod Marked
+pub mod Aimed
+pub mod Kept

@@ -1,6 +1,7 @@
 -- What holds of a line that is in the grammar, and of a place that no fault was found before.
 use Rattle.std.specs.Prelude.{◌≤◌}
-use Rattle.asm_parser.specs.Statements.{Says, Nothing, IntoText, IntoData, Quads, Words, Bytes, Zeros, Aligns, Globals, Instructs}
+use Rattle.asm_parser.specs.Statements.{Says, Nothing, IntoText, IntoData, Quads, Words, Bytes, Zeros, Aligns}
+use Rattle.asm_parser.specs.Statements.{Globals, Instructs}
 use Rattle.asm_core.specs.declared.place.Place.{Place}
 
 -- each part has at most 4 MiB

@@ -1,10 +1,9 @@
 -- What the symbols of an object say of its text: which of its bytes begin code.
 -- Source: ELF for the Arm 64-bit Architecture (AArch64), mapping symbols `$x` and `$d`.
 use Rattle.std.specs.Prelude.{◌≡◌, ℕ, ◌+◌, ◌<◌, ◌≤◌, List, length, slice_get, Some}
-use Rattle.sm_types.specs.declared.object.TheConstants.{TEXT_ADDRESS}
 use Rattle.sm_types.specs.declared.object.Object.{Object}
 use Rattle.sm_types.specs.declared.object.Section.TheVariants.{Text}
-use Rattle.sm_types.specs.Objects.{is_text_code, mappings_of}
+use Rattle.sm_types.specs.Objects.{text_address, is_text_code, mappings_of}
 use Rattle.asm_parser.specs.Statements.{SourceLine}
 use Rattle.asm_core.specs.Assembly.{is_instruction}
 use Rattle.asm_core.specs.Layout.{here, place_of, size_of}
@@ -22,8 +21,11 @@ pub record IsPutBy (lines : List SourceLine) (offset : ℕ) (line : SourceLine) 
 pub record IsMarked (lines : List SourceLine) (object : Object) (offset : ℕ) : Type 0 where
   pub line : SourceLine
   pub put : IsPutBy lines offset line
-  pub code : is_text_code (mappings_of object.symbols.items) (TEXT_ADDRESS + offset) ≡ is_instruction line.says
+  pub code :
+      is_text_code (mappings_of object.symbols.items) (text_address + offset) ≡ is_instruction line.says
 
 -- each byte of the text of a source's object is marked so
 abbrev pub MarksCode : List ℕ → Object → Type 0
-MarksCode source object = (offset : ℕ) → offset < length object.text_bytes.items → IsMarked (said_lines (lines_of source)) object offset
+MarksCode source object =
+    (offset : ℕ) → offset < length object.text_bytes.items
+    → IsMarked (said_lines (lines_of source)) object offset

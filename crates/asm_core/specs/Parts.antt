@@ -18,5 +18,7 @@ pub record ArePartsOf (lines : List SourceLine) (parts : Parts) : Type 0 where
   pub text_size : length parts.text_bytes.items ≡ text_length_of lines
   pub data_size : length parts.data_bytes.items ≡ (place_past first_place lines).data_size
   pub puts : (k : ℕ) (line : SourceLine) → slice_get lines k ≡ Some line
-      → Puts (text_length_of lines) (labels_of lines) (bytes_in parts (place_of lines k).part) (place_of lines k) line.says
-  pub symbols : map symbol_said parts.symbols.items ≡ symbols_from (text_length_of lines) first_place None lines
+      → Puts (text_length_of lines) (labels_of lines) (bytes_in parts (place_of lines k).part)
+      (place_of lines k) line.says
+  pub symbols :
+      map symbol_said parts.symbols.items ≡ symbols_from (text_length_of lines) first_place None lines

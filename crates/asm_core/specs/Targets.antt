@@ -1,6 +1,7 @@
 -- The distance from an instruction to its target, and the word that has it.
 -- Source: DDI 0487, C6.2: ADR, ADRP, B, BL, B.cond, CBZ, CBNZ, TBZ, TBNZ, LDR (literal), LDRSW (literal).
-use Rattle.std.specs.Prelude.{ℕ, ◌-◌, ◌*◌, ◌/◌, ◌==◌, true, false, nat_le, Option, ℤ, pos, ◌-ℤ◌, if◌then◌else◌}
+use Rattle.std.specs.Prelude.{ℕ, ◌-◌, ◌*◌, ◌/◌, ◌==◌, true, false, nat_le, Option, ℤ, pos, ◌-ℤ◌}
+use Rattle.std.specs.Prelude.{if◌then◌else◌}
 use Rattle.insn_text.specs.declared.item.Item.{Item}
 use Rattle.asm_operands.specs.Distances.{unit_of, with_distance}
 

@@ -6,7 +6,8 @@ ghost use Rattle.asm_core.specs.Targets as targets;
 use asm_operands::{unit_of, with_distance};
 use insn_text::Item;
 
-/// The start of the page that has the address, where the operand counts pages of 4096 bytes; else the address.
+/// The start of the page that has the address, where the operand counts pages of 4096 bytes; else the
+/// address.
 #[tactic(auto, unfolding(crate::specs::Targets::counted_from))]
 fn counted_from(operand: &Item, address: u64) -> u64
     requires { address < 2 ^ 32 }

@@ -32,7 +32,8 @@ fn misplaced(statement: &Statement<'_>, at: u64) -> Option<u32>
 
 /// Tells whether a label has the name of the line's.
 fn is_doubled(labels: &Labels<'_>, label: Option<&[u8]>) -> bool
-    ensures { (list : List layout.Label) → Knows labels.now list → result ≡ faults.is_doubled list (option_map (λ name. name.now) label.entry) }
+    ensures { (list : List layout.Label) → Knows labels.now list
+        → result ≡ faults.is_doubled list (option_map (λ name. name.now) label.entry) }
 {
     match label {
         Some(name) => labels.find(name).is_some(),
@@ -49,11 +50,15 @@ pub fn check_line(
 ) -> Result<Place, AsmFault>
     requires limits { IsInLimits place.now }
     requires align { HasSmallAlign (says_of line.now.statement) }
-    ensures ok { (list : List layout.Label) → Knows labels.now list → IfOk result (λ after. faults.line_fault number place.now list (Ok (line_said line.now)) ≡ None) }
-    ensures new { (list : List layout.Label) → Knows labels.now list → IfOk result (λ after. faults.is_doubled list (line_said line.now).label ≡ false) }
+    ensures ok { (list : List layout.Label) → Knows labels.now list
+        → IfOk result (λ after. faults.line_fault number place.now list (Ok (line_said line.now)) ≡ None) }
+    ensures new { (list : List layout.Label) → Knows labels.now list
+        → IfOk result (λ after. faults.is_doubled list (line_said line.now).label ≡ false) }
     ensures after { IfOk result (λ after. after ≡ layout.place_after place.now (says_of line.now.statement)) }
     ensures limits { IfOk result IsInLimits }
-    ensures err { (list : List layout.Label) → Knows labels.now list → IfErr result (λ fault. faults.line_fault number place.now list (Ok (line_said line.now)) ≡ Some fault) }
+    ensures err { (list : List layout.Label) → Knows labels.now list
+        → IfErr result (λ fault. faults.line_fault number place.now list (Ok (line_said line.now))
+        ≡ Some fault) }
 {
     if let Some(column) = misplaced(&line.statement, here(place)) {
         return Err(AsmFault::Line {

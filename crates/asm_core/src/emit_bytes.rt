@@ -1,5 +1,6 @@
 //! The bytes that lines put.
-ghost use Rattle.std.specs.Prelude.{◌≡◌, ◌≢◌, ◌≤◌, ◌<◌, ◌^◌, ◌+◌, ◌++◌, List, Some, None, true, false, length, map, replicate, OnOk, IfErr, option_map};
+ghost use Rattle.std.specs.Prelude.{◌≡◌, ◌≢◌, ◌≤◌, ◌<◌, ◌^◌, ◌+◌, ◌++◌, List, Some, None, true, false};
+ghost use Rattle.std.specs.Prelude.{length, map, replicate, OnOk, IfErr, option_map};
 ghost use Rattle.std.specs.List.{list_any};
 ghost use Rattle.byteorder.specs.Endian.{little_bytes};
 ghost use Rattle.asm_parser.specs.Statements.{says_of, target_said, value_of};
@@ -75,9 +76,16 @@ fn put_quads(
     addresses: &Addresses<'_, '_>,
 ) -> Result<(), AsmFault>
     requires near { AreNear addresses.now }
-    ensures ok { (list : List layout.Label) → Knows addresses.now.labels.now list → OnOk result (list_any (is_undefined list) (map value_of values.now) ≡ false) }
-    ensures bytes { (list : List layout.Label) → Knows addresses.now.labels.now list → OnOk result (bytes.new.items ≡ bytes.old.items ++ assembly.numbers_bytes 8 (map (assembly.quad_number addresses.now.text_size list) (map value_of values.now))) }
-    ensures err { (list : List layout.Label) → Knows addresses.now.labels.now list → IfErr result (λ fault. fault ≢ AsmFault.Memory → (list_any (is_undefined list) (map value_of values.now) ≡ true) × (fault ≡ AsmFault.Undefined number)) }
+    ensures ok { (list : List layout.Label) → Knows addresses.now.labels.now list
+        → OnOk result (list_any (is_undefined list) (map value_of values.now) ≡ false) }
+    ensures bytes { (list : List layout.Label) → Knows addresses.now.labels.now list
+        → OnOk result (bytes.new.items
+        ≡ bytes.old.items ++ assembly.numbers_bytes 8 (map
+        (assembly.quad_number addresses.now.text_size list) (map value_of values.now))) }
+    ensures err { (list : List layout.Label) → Knows addresses.now.labels.now list
+        → IfErr result (λ fault. fault ≢ AsmFault.Memory
+        → (list_any (is_undefined list) (map value_of values.now) ≡ true)
+        × (fault ≡ AsmFault.Undefined number)) }
 {
     for value in values {
         let Some(address) = quad_number(value, addresses) else {
@@ -88,7 +96,8 @@ fn put_quads(
     Ok(())
 }
 
-/// Appends the word of the instruction on line number `number` at an address, with the distance to its target.
+/// Appends the word of the instruction on line number `number` at an address, with the distance to its
+/// target.
 fn put_instruction(
     bytes: &mut Bytes,
     number: u32,
@@ -125,9 +134,15 @@ pub fn put_statement(
     requires size { length bytes.old.items ≡ layout.here place.now }
     requires fits { layout.here place.now + layout.size_of (says_of statement.now) (layout.here place.now) ≤ 4194304 }
     requires near { AreNear addresses.now }
-    ensures ok { (list : List layout.Label) → Knows addresses.now.labels.now list → OnOk result (target_fault number addresses.now.text_size list place.now (says_of statement.now) ≡ None) }
-    ensures bytes { (list : List layout.Label) → Knows addresses.now.labels.now list → OnOk result (Adds addresses.now.text_size list place.now (says_of statement.now) bytes.old.items bytes.new.items) }
-    ensures err { (list : List layout.Label) → Knows addresses.now.labels.now list → IfErr result (λ fault. fault ≢ AsmFault.Memory → target_fault number addresses.now.text_size list place.now (says_of statement.now) ≡ Some fault) }
+    ensures ok { (list : List layout.Label) → Knows addresses.now.labels.now list
+        → OnOk result (target_fault number addresses.now.text_size list place.now
+        (says_of statement.now) ≡ None) }
+    ensures bytes { (list : List layout.Label) → Knows addresses.now.labels.now list
+        → OnOk result (Adds addresses.now.text_size list place.now (says_of statement.now)
+        bytes.old.items bytes.new.items) }
+    ensures err { (list : List layout.Label) → Knows addresses.now.labels.now list
+        → IfErr result (λ fault. fault ≢ AsmFault.Memory
+        → target_fault number addresses.now.text_size list place.now (says_of statement.now) ≡ Some fault) }
 {
     match statement {
         Statement::Instruction { word, target, .. } => {

@@ -1,5 +1,6 @@
 //! Names on a line: the addresses that they stand for, and the distances to them.
-ghost use Rattle.std.specs.Prelude.{◌≡◌, ◌≤◌, ◌<◌, ◌^◌, List, Option, Some, None, true, false, IfOk, IfErr, MatchOption, option_map, is_some};
+ghost use Rattle.std.specs.Prelude.{◌≡◌, ◌≤◌, ◌<◌, ◌^◌, List, Option, Some, None, true, false, IfOk, IfErr};
+ghost use Rattle.std.specs.Prelude.{MatchOption, option_map, is_some};
 ghost use Rattle.a64_encode.specs.Either.{instruction_of};
 ghost use Rattle.asm_parser.specs.Statements.{target_said, value_of};
 ghost use Rattle.asm_core.specs.Layout as layout;
@@ -48,7 +49,9 @@ pub fn address_in(part: Section, offset: u64, text_size: u64) -> u64
 /// The address of the label of that name.
 fn find_address(addresses: &Addresses<'_, '_>, name: &[u8]) -> Option<u64>
     requires { AreNear addresses.now }
-    ensures value { (list : List layout.Label) → Knows addresses.now.labels.now list → result ≡ option_map (layout.label_address addresses.now.text_size) (layout.label_named list name.now) }
+    ensures value { (list : List layout.Label) → Knows addresses.now.labels.now list
+        → result ≡ option_map (layout.label_address addresses.now.text_size)
+        (layout.label_named list name.now) }
     ensures small { MatchOption result (Unit {0}) (λ address. address < 2 ^ 32) }
 {
     match addresses.labels.find(name) {
@@ -61,7 +64,10 @@ fn find_address(addresses: &Addresses<'_, '_>, name: &[u8]) -> Option<u64>
 #[tactic(auto, unfolding(crate::specs::Faults::is_undefined, crate::specs::Assembly::quad_number))]
 pub fn quad_number(value: &Value<'_>, addresses: &Addresses<'_, '_>) -> Option<u64>
     requires { AreNear addresses.now }
-    ensures { (list : List layout.Label) → Knows addresses.now.labels.now list → MatchOption result (is_undefined list (value_of value.now) ≡ true) (λ n. (is_undefined list (value_of value.now) ≡ false) × (n ≡ assembly.quad_number addresses.now.text_size list (value_of value.now))) }
+    ensures { (list : List layout.Label) → Knows addresses.now.labels.now list
+        → MatchOption result (is_undefined list (value_of value.now) ≡ true)
+        (λ n. (is_undefined list (value_of value.now) ≡ false)
+        × (n ≡ assembly.quad_number addresses.now.text_size list (value_of value.now))) }
 {
     match value {
         Value::Number(number) => Some(*number),
@@ -93,8 +99,8 @@ fn with_target(
     }
 }
 
-/// The word of an instruction at an address with the distance to its target, where a name says the target; or that there is
-/// no such label, or that it is too far.
+/// The word of an instruction at an address with the distance to its target, where a name says the target;
+/// or that there is no such label, or that it is too far.
 #[tactic(auto, unfolding(crate::specs::Assembly::aimed))]
 pub fn aim(
     number: u32,

@@ -4,8 +4,8 @@ use asm_parser::LineFault;
 
 /// Why a source has no object. Lines are counted from 1.
 ///
-/// `TooLong` and `NotText` come first, then the first line with a fault, of the kinds `Line`, `Doubled`, `TooLarge` in this order, then
-/// the first line with an undefined name or a target too far, then `NoStart`.
+/// `TooLong` and `NotText` come first, then the first line with a fault, of the kinds `Line`, `Doubled`,
+/// `TooLarge` in this order, then the first line with an undefined name or a target too far, then `NoStart`.
 #[derive(Clone, Copy, Debug, PartialEq, Eq)]
 pub enum AsmFault {
     /// More than 67,108,864 bytes.

@@ -39,7 +39,8 @@ impl<'a> Labels<'a> {
 
     /// Adds a label; one of the same name that stands before is forgotten.
     pub fn add(&mut self, name: &'a [u8], place: LabelPlace) -> Result<(), AllocError>
-        ensures { OnOk result ((other : List ℕ) → known self.new other ≡ cond (bytes_eq name.now other) (Some place) (known self.old other)) }
+        ensures { OnOk result ((other : List ℕ)
+            → known self.new other ≡ cond (bytes_eq name.now other) (Some place) (known self.old other)) }
     {
         match self.places.insert(name, place) {
             Ok(_) => Ok(()),

@@ -8,7 +8,9 @@ mod emit_lines;
 mod emit_source;
 mod emit_targets;
 mod fault;
+mod kept;
 mod labels;
+mod laws;
 mod lines;
 mod object;
 mod parts;
@@ -19,4 +21,5 @@ mod symbols;
 mod text;
 
 pub use fault::AsmFault;
+pub use laws::{aimed_law, one_object};
 pub use object::assemble;

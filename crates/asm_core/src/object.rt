@@ -3,7 +3,7 @@ ghost use Rattle.std.specs.Prelude.{◌≡◌, ◌≢◌, Some, IfOk, IfErr};
 ghost use Rattle.asm_core.specs.Faults.{asm_fault};
 ghost use Rattle.asm_core.specs.Assembly.{Assembles};
 ghost use Rattle.asm_core.specs.Marked.{MarksCode};
-ghost use Rattle.asm_core.specs.Sound.{IsSound};
+ghost use Rattle.a64_encode.specs.Writable.{IsWritable};
 
 use crate::emit_source::emit;
 use crate::fault::AsmFault;
@@ -19,7 +19,7 @@ const SOURCE_LIMIT: usize = 67_108_864;
 /// The object of a source, or its first fault; `Memory` is want of memory.
 pub fn assemble(alloc: Global, source: &[u8]) -> Result<Object, AsmFault>
     ensures assembles { IfOk result (λ object. Assembles source.now object) }
-    ensures sound { IfOk result IsSound }
+    ensures sound { IfOk result IsWritable }
     ensures code { IfOk result (λ object. MarksCode source.now object) }
     ensures fault { IfErr result (λ fault. fault ≢ AsmFault.Memory → asm_fault source.now ≡ Some fault) }
 {
@@ -33,7 +33,13 @@ pub fn assemble(alloc: Global, source: &[u8]) -> Result<Object, AsmFault>
         Ok(survey) => survey,
         Err(fault) => return Err(fault),
     };
-    let parts = match emit(alloc, source, &survey.labels, survey.end.text_size) {
+    let parts = match emit(
+        alloc,
+        source,
+        survey.kept.as_slice(),
+        &survey.labels,
+        survey.end.text_size,
+    ) {
         Ok(parts) => parts,
         Err(fault) => return Err(fault),
     };

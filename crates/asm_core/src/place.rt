@@ -94,7 +94,9 @@ pub fn part_after(statement: &Statement<'_>, part: Section) -> Section
 fn grown(place: &Place, size: u128) -> Option<Place>
     requires limits { IsInLimits place.now }
     requires small { size < 2 ^ 70 }
-    ensures { MatchOption result (4194304 < layout.here place.now + size) (λ after. (layout.here place.now + size ≤ 4194304) × (after ≡ layout.grown_in place.now.part place.now size)) }
+    ensures { MatchOption result (4194304 < layout.here place.now + size)
+        (λ after. (layout.here place.now + size ≤ 4194304)
+        × (after ≡ layout.grown_in place.now.part place.now size)) }
 {
     let total = here(place) as u128 + size;
     if total > PART_LIMIT {
@@ -118,7 +120,9 @@ fn grown(place: &Place, size: u128) -> Option<Place>
 pub fn place_after(place: &Place, statement: &Statement<'_>) -> Option<Place>
     requires limits { IsInLimits place.now }
     requires align { HasSmallAlign (says_of statement.now) }
-    ensures { MatchOption result (is_too_large place.now (says_of statement.now) ≡ true) (λ after. (is_too_large place.now (says_of statement.now) ≡ false) × (after ≡ layout.place_after place.now (says_of statement.now)) × IsInLimits after) }
+    ensures { MatchOption result (is_too_large place.now (says_of statement.now) ≡ true)
+        (λ after. (is_too_large place.now (says_of statement.now) ≡ false)
+        × (after ≡ layout.place_after place.now (says_of statement.now)) × IsInLimits after) }
 {
     let after = grown(place, size_of(statement, here(place)))?;
     Some(Place {

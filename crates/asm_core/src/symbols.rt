@@ -1,5 +1,7 @@
-//! The symbols of lines: those of their labels, and the mapping symbols where the text changes between code and data.
-ghost use Rattle.std.specs.Prelude.{◌≡◌, ◌≤◌, ◌++◌, true, false, Some, None, map, is_some, OnOk, IfErr, option_map};
+//! The symbols of lines: those of their labels, and the mapping symbols where the text changes between code
+//! and data.
+ghost use Rattle.std.specs.Prelude.{◌≡◌, ◌≤◌, ◌++◌, true, false, Some, None, map, is_some, OnOk, IfErr};
+ghost use Rattle.std.specs.Prelude.{option_map};
 ghost use Rattle.sm_types.specs.Objects.{name_says};
 ghost use Rattle.asm_parser.specs.Statements.{line_said, says_of};
 ghost use Rattle.asm_core.specs.Layout as layout;
@@ -94,7 +96,8 @@ fn put_symbol(
     address: u64,
     section: Section,
 ) -> Result<(), AsmFault>
-    ensures ok { OnOk result (map assembly.symbol_said symbols.new.items ≡ map assembly.symbol_said symbols.old.items ++ one_symbol name.now address section) }
+    ensures ok { OnOk result (map assembly.symbol_said symbols.new.items
+        ≡ map assembly.symbol_said symbols.old.items ++ one_symbol name.now address section) }
     ensures err { IfErr result (λ fault. fault ≡ AsmFault.Memory) }
 {
     let Ok(name) = Vec::from_slice(alloc, name) else {
@@ -121,7 +124,9 @@ fn put_label(
 ) -> Result<(), AsmFault>
     requires text { text_size ≤ 4194304 }
     requires here { layout.here place.now ≤ 4194304 }
-    ensures ok { OnOk result (map assembly.symbol_said symbols.new.items ≡ map assembly.symbol_said symbols.old.items ++ assembly.label_symbol text_size place.now (option_map (λ name. name.now) label.entry)) }
+    ensures ok { OnOk result (map assembly.symbol_said symbols.new.items
+        ≡ map assembly.symbol_said symbols.old.items
+        ++ assembly.label_symbol text_size place.now (option_map (λ name. name.now) label.entry)) }
     ensures err { IfErr result (λ fault. fault ≡ AsmFault.Memory) }
 {
     let Some(name) = label else {
@@ -134,7 +139,8 @@ fn put_label(
     put_symbol(symbols, alloc, name, address, place.part)
 }
 
-/// Appends the mapping symbol of a statement at a place, where the text changes between code and data with it.
+/// Appends the mapping symbol of a statement at a place, where the text changes between code and data with
+/// it.
 #[tactic(auto, unfolding(crate::specs::Assembly::mapping_symbol))]
 fn put_mapping(
     symbols: &mut Symbols,
@@ -147,7 +153,9 @@ fn put_mapping(
     requires text { text_size ≤ 4194304 }
     requires here { layout.here place.now ≤ 4194304 }
     requires align { HasSmallAlign (says_of statement.now) }
-    ensures ok { OnOk result (map assembly.symbol_said symbols.new.items ≡ map assembly.symbol_said symbols.old.items ++ assembly.mapping_symbol text_size place.now (says_of statement.now) before) }
+    ensures ok { OnOk result (map assembly.symbol_said symbols.new.items
+        ≡ map assembly.symbol_said symbols.old.items
+        ++ assembly.mapping_symbol text_size place.now (says_of statement.now) before) }
     ensures err { IfErr result (λ fault. fault ≡ AsmFault.Memory) }
 {
     let code = is_instruction(statement);
@@ -171,7 +179,9 @@ pub fn put_symbols(
     requires text { text_size ≤ 4194304 }
     requires here { layout.here place.now ≤ 4194304 }
     requires align { HasSmallAlign (says_of line.now.statement) }
-    ensures ok { OnOk result (map assembly.symbol_said symbols.new.items ≡ map assembly.symbol_said symbols.old.items ++ line_symbols text_size place.now before (line_said line.now)) }
+    ensures ok { OnOk result (map assembly.symbol_said symbols.new.items
+        ≡ map assembly.symbol_said symbols.old.items
+        ++ line_symbols text_size place.now before (line_said line.now)) }
     ensures err { IfErr result (λ fault. fault ≡ AsmFault.Memory) }
 {
     put_label(symbols, alloc, place, line.label, text_size)?;

@@ -4,7 +4,9 @@ ghost use Rattle.std.specs.Str.Lossy.{utf8_valid_len};
 
 /// The offset of the first byte that is no UTF-8, where there is one.
 pub fn not_text(source: &[u8]) -> Option<usize>
-    ensures { MatchOption result (nat_lt (utf8_valid_len source.now) (length source.now) ≡ false) (λ at. (nat_lt (utf8_valid_len source.now) (length source.now) ≡ true) × (at ≡ utf8_valid_len source.now)) }
+    ensures { MatchOption result (nat_lt (utf8_valid_len source.now) (length source.now) ≡ false)
+        (λ at. (nat_lt (utf8_valid_len source.now) (length source.now) ≡ true)
+        × (at ≡ utf8_valid_len source.now)) }
 {
     match str::from_utf8(source) {
         Ok(_) => None,

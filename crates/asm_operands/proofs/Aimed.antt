@@ -9,15 +9,16 @@ use Rattle.std.proofs.lemmas.Nat.{or_disjoint, shl-shr}
 use Rattle.std.proofs.lemmas.Nat.Bits.{bit_at_and, bit_at_or, bit_at-lt, bit_at-zero, same_from_bits}
 use Rattle.insn_forms.specs.declared.field.Field.{Field}
 use Rattle.insn_forms.specs.declared.line.Line.{Line}
-use Rattle.insn_forms.specs.Tables.{fits_in, meaning_in, meaning_by, stands_for}
+use Rattle.insn_forms.specs.Tables.{meaning_in, meaning_by, stands_for}
 use Rattle.a64_table.specs.declared.operation.Operation.{Operation}
-use Rattle.a64_table.specs.declared.operation.Operation.TheVariants.{G1, G2, G3, G4, G5, G6, G7, G8, G9, G10, G11, G12, G13, G14, G15, G16, G17, G18, G19, G20, G21, G22, G23}
+use Rattle.a64_table.specs.declared.operation.Operation.TheVariants.{G9, G10, G19}
 use Rattle.a64_table.specs.declared.rows.TheConstants.{SCALAR_LINES}
 use Rattle.a64_table.specs.Conditions.{fits_of}
 use Rattle.a64_table.specs.Table.{scalar, meaning_of}
 use Rattle.sm_types.specs.declared.insn.Insn.{Insn}
 use Rattle.a64_encode.specs.Either.{instruction_of}
 use Rattle.sve_table.specs.Table.{vector, vector_meaning_of}
+use Rattle.insn_forms.specs.Fields as fields
 use Rattle.insn_text.specs.declared.item.Item.{Item}
 use Rattle.insn_text.specs.declared.item.Shape.{Shape}
 use Rattle.insn_text.specs.declared.shapes.TheConstants.{SHAPES, STARTS}
@@ -30,7 +31,8 @@ use Rattle.asm_operands.specs.Operands.{Known, mask_of, placed, with_field, agre
 use Rattle.asm_operands.specs.Distances.{with_distance}
 use Rattle.asm_operands.specs.Sound.{is_sound}
 use Rattle.asm_operands.proofs.Tables.{all-take, all-drop, items_of-sound}
-use Rattle.asm_operands.proofs.WordBits.{and_swap, upper_mask, lower_mask, field_masked}
+use Rattle.insn_forms.proofs.Bits.{field_masked}
+use Rattle.asm_operands.proofs.WordBits.{and_swap, upper_mask, lower_mask}
 
 -- ---- the word of a shape has the bits that the shape fixes
 
@@ -82,7 +84,7 @@ taken_kept (i ∷ is) known (t ∷ ts) w e =
       | Some next ↦ λ is_next h. kept_after i known next t w is_next (taken_kept is next ts w h)
     ] refl e
 
-word_kept : (s : Shape) (ts : List Token) (w : ℕ) → word_in s ts ≡ Some w → bit_and w s.mask ≡ bit_and s.value s.mask
+pub word_kept : (s : Shape) (ts : List Token) (w : ℕ) → word_in s ts ≡ Some w → bit_and w s.mask ≡ bit_and s.value s.mask
 unfolding word_in fixed
 word_kept s ts w e = taken_kept (items_of s) (fixed s) ts w e
 
@@ -112,20 +114,20 @@ part_masked : (x n k : ℕ) → x % 2 ^ n * 2 ^ k ≡ bit_and (x * 2 ^ k) ((2 ^ 
 part_masked x n k = ap (λ y. y % 2 ^ n * 2 ^ k) (sym (shl-shr x k)) ∙ field_masked (x * 2 ^ k) n k
 
 placed_clear : (i : Item) (field mask : ℕ) → bit_and (upper_mask i) (lower_mask i) ≡ 0 → bit_and mask (mask_of i) ≡ 0 → bit_and (placed i field) mask ≡ 0
-unfolding placed mask_of
+unfolding fields.placed fields.mask_of
 placed_clear i field mask apart clear =
-    let a = field / 2 ^ i.width * 2 ^ i.upper_low in
-    let b = field * 2 ^ i.low in
+    let a = field / 2 ^ i.field.width * 2 ^ i.field.upper_low in
+    let b = field * 2 ^ i.field.low in
     let joined : bit_and mask (bit_or (upper_mask i) (lower_mask i)) ≡ 0 = ap (bit_and mask) (or_disjoint (upper_mask i) (lower_mask i) apart) ∙ clear in
     ap (λ n. bit_and n mask)
-    (ap₂ (λ x y. x + y) (part_masked (field / 2 ^ i.width) i.upper_width i.upper_low) (part_masked field i.width i.low)
+    (ap₂ (λ x y. x + y) (part_masked (field / 2 ^ i.field.width) i.field.upper_width i.field.upper_low) (part_masked field i.field.width i.field.low)
     ∙ sym (or_disjoint (bit_and a (upper_mask i)) (bit_and b (lower_mask i)) (and_none a (upper_mask i) b (lower_mask i) apart)))
     ∙ and_clear a (upper_mask i) b (lower_mask i) mask joined
 
 same_bit : (w p m : ℕ) → w < 2 → p < 2 → m < 2 → min p m ≡ 0 → min (max w p) m ≡ min w m
 same_bit w p m wl pl ml e = omega arith
 
-or_clear : (w p m : ℕ) → bit_and p m ≡ 0 → bit_and (bit_or w p) m ≡ bit_and w m
+pub or_clear : (w p m : ℕ) → bit_and p m ≡ 0 → bit_and (bit_or w p) m ≡ bit_and w m
 or_clear w p m e = same_from_bits _ _ (λ i.
     let none : min (bit_at p i) (bit_at m i) ≡ 0 = sym (bit_at_and p m i) ∙ ap (λ n. bit_at n i) e ∙ bit_at-zero i in
     bit_at_and (bit_or w p) m i ∙ ap (λ n. min n (bit_at m i)) (bit_at_or w p i)
@@ -157,7 +159,7 @@ unfoldable pub all_room : Shape → Bool
 all_room s = list_all (has_room s) (items_of s)
 
 shapes_room : list_all all_room SHAPES ≡ true
-unfolding items_of mask_of is_distance is_free leaves_room has_room all_room
+unfolding items_of fields.mask_of is_distance is_free leaves_room has_room all_room
 shapes_room = refl
 
 when_true : (a b : Bool) → a ≡ true → (not a || b) ≡ true → b ≡ true
@@ -287,10 +289,10 @@ of_name name ts w target e f =
 -- ---- what operands say
 
 -- the word is that of a shape and means an instruction
-record IsSaid (name : ℕ) (ts : List Token) (w : ℕ) (target : Option Target) : Type 0 where
-  word : first_word (shapes_of name) ts ≡ Some w
-  named : target_of (shapes_of name) ts ≡ target
-  means : is_some (instruction_of w) ≡ true
+pub record IsSaid (name : ℕ) (ts : List Token) (w : ℕ) (target : Option Target) : Type 0 where
+  pub word : first_word (shapes_of name) ts ≡ Some w
+  pub named : target_of (shapes_of name) ts ≡ target
+  pub means : is_some (instruction_of w) ≡ true
 
 same_said : (v w : ℕ) (s t : Option Target) → ◌≡◌ {A = OperandsSaid} (Says v s) (Says w t) → (v ≡ w) × (s ≡ t)
 same_said v w s t e = (cc, cc)
@@ -307,7 +309,7 @@ unfolding if_meant
 said_by name ts w target None f e = cc
 said_by name ts w target (Some v) f e = said_if name ts v w target (is_some (instruction_of v)) f refl e
 
-is_said : (name : ℕ) (ts : List Token) (w : ℕ) (target : Option Target) → operands_said name ts ≡ Says w target → IsSaid name ts w target
+pub is_said : (name : ℕ) (ts : List Token) (w : ℕ) (target : Option Target) → operands_said name ts ≡ Says w target → IsSaid name ts w target
 unfolding operands_said word_said
 is_said name ts w target e = said_by name ts w target (first_word (shapes_of name) ts) refl e
 

@@ -1,17 +1,17 @@
 -- A shape goes on after as many tokens as it takes: the operands that are left have tokens that it takes.
 use Rattle.std.proofs.Common.{◌≡◌, ℕ, zero, suc, ◌+◌, ◌-◌, ◌*◌, ◌/◌, ◌%◌, ◌^◌, ◌<◌, ◌≤◌, ◌==◌, ◌&&◌, ◌||◌, not, Bool, true, false, nat_lt, nat_le, bit_and, List, [], ◌∷◌, ◌++◌, length, take, drop, Option, Some, None, cond, min, max, refl, sym, ap, ap₂, ◌∙◌, arith, inl, inr, eqb-true, eq-eqb, ltb-true, lt-ltb, leb-true, le-leb, mod-eq_of_lt, lit<}
-use Rattle.std.specs.Prelude.{bit_or, bit_xor, slice_index, option_map, option_and_then}
+use Rattle.std.specs.Prelude.{bit_or, bit_xor, slice_get, slice_index, option_map, option_and_then}
 use Rattle.std.specs.Int.{bit_at}
-use Rattle.std.specs.List.{list_all}
+use Rattle.std.specs.List.{list_all, list_any}
 use Rattle.std.proofs.lemmas.Bool.{and_parts, cases_lt, cond_both}
-use Rattle.std.proofs.lemmas.Nat.{and_assoc, and_comm, and_or_self, and_or_apart, or_comm, or_disjoint, mod_below, pow_pos, shl-shr}
+use Rattle.std.proofs.lemmas.Nat.{and_assoc, and_comm, and_or_self, and_or_apart, or_comm, pow_pos, shl-shr}
 use Rattle.std.proofs.Math.Nat.{zero-mod, zero-div}
-use Rattle.std.proofs.lemmas.Nat.Bits.{bit_at_and, bit_at_or, bit_at-zero, same_from_bits}
-use borrow.Author.Tests.{ne_eqb}
+use Rattle.std.proofs.lemmas.Nat.Bits.{bit_at_and, bit_at_or, same_from_bits}
 use Rattle.bit_ops.specs.Masks.{are_mask_fields}
 use Rattle.insn_forms.specs.Fields.{field_of}
 use Rattle.bit_ops.specs.Bits.{number_of_digits}
 use Rattle.bit_ops.specs.Masks.{highest_one, length_of, is_reserved, bit_mask_of, mask_of as mask_of_fields}
+use Rattle.insn_forms.specs.Fields as fields
 use Rattle.insn_text.specs.declared.item.Kind.{Kind}
 use Rattle.insn_text.specs.declared.item.Kind.TheVariants as kind
 use Rattle.insn_text.specs.declared.item.Rule.{Rule}
@@ -23,12 +23,14 @@ use Rattle.insn_text.specs.declared.shapes.TheConstants.{SHAPES, STARTS}
 use Rattle.insn_text.specs.Texts.{bits_of, items_of, mask_in}
 use Rattle.insn_text.specs.Rules.{meets, is_base_apart}
 use Rattle.asm_tokens.specs.declared.token.Token.{Token}
-use Rattle.asm_tokens.specs.declared.token.Token.TheVariants.{Word, Name, Number, Mark}
-use Rattle.asm_operands.specs.Fields.{is_field_of, on_mark, on_word, on_number, on_target, word_field, register_field, unsigned_field, signed_field, mask_field, immediate_of, shift_left_field, is_halfword_at, halfword_field, inverted_if, field_said}
-use Rattle.asm_operands.specs.Operands.{Known, mask_of, placed, with_field, agrees, known_with, known_after, taken_on, taken, reach_on, reach, fixed, word_in, reach_in, shapes_of, first_of_words, first_word, furthest}
+use Rattle.asm_tokens.specs.declared.token.Token.TheVariants.{Register, Word, Name, Number, Distance, Mark}
+use Rattle.asm_operands.specs.Fields.{is_field_of, on_mark, on_word, on_register, on_number, on_target, word_field, unsigned_field, signed_field, mask_field, immediate_of, shift_left_field, is_halfword_at, halfword_field, inverted_if, field_said}
+use Rattle.asm_operands.specs.Operands.{Known, mask_of, placed, with_field, agrees, known_with, known_after, taken_on, taken, reach_on, reach, fixed, word_in, reach_in, shapes_of, first_of_words, first_word, furthest, is_number_kind, is_number_token, is_number_item, wants_number}
+use Rattle.asm_operands.proofs.Heard.{register-said, last-said}
 use Rattle.asm_operands.proofs.MaskFields.{all_below, all_below-at, mask_field-is}
 use Rattle.asm_operands.proofs.Tables.{all-take, all-drop}
-use Rattle.asm_operands.proofs.WordBits.{field_masked, upper_mask, lower_mask}
+use Rattle.insn_forms.proofs.Bits.{field_masked, placed-within}
+use Rattle.asm_operands.proofs.WordBits.{upper_mask, lower_mask}
 
 -- ---- a token that each kind takes
 pub record IsSaid (k : Kind) (bits : ℕ) : Type 0 where
@@ -39,7 +41,7 @@ pub record IsSaid (k : Kind) (bits : ℕ) : Type 0 where
 unfoldable pub has_word : Kind → Bool
 has_word (kind.Mark c) = true
 has_word (kind.Named first count) = nat_lt 0 count
-has_word (kind.Register first last) = true
+has_word (kind.Register file last) = true
 has_word (kind.Unsigned base scale most) = true
 has_word (kind.Signed scale) = true
 has_word (kind.Distance scale) = true
@@ -113,10 +115,10 @@ halfword_first false true = refl
 halfword_first false false = refl
 
 said : (k : Kind) (bits : ℕ) → has_word k ≡ true → IsSaid k bits
-unfolding has_word field_said on_mark on_word on_number on_target register_field
+unfolding has_word field_said on_mark on_word on_register on_number on_target
 said (kind.Mark c) bits e = record { token = Mark c; field = 0; said = ap (λ b. cond b (Some 0) None) (eq-eqb c c refl) }
 said (kind.Named first count) bits e = record { token = Word first; field = 0; said = word_first first count e }
-said (kind.Register first last) bits e = record { token = Word last; field = 31; said = ap (λ b. cond b (Some 31) (word_field first 31 last)) (eq-eqb last last refl) }
+said (kind.Register file last) bits e = record { token = Word last; field = 31; said = last-said last }
 said (kind.Unsigned base scale most) bits e = record { token = Number false base; field = 0; said = unsigned_first base scale most }
 said (kind.Signed scale) bits e = record { token = Number false 0; field = 0; said = signed_first bits scale }
 said (kind.Distance scale) bits e = record { token = Name; field = 0; said = refl }
@@ -143,37 +145,14 @@ within_both a b c d p q = same_from_bits _ _ (λ k.
     ∙ min_max (bit_at a k) (bit_at b k) (bit_at c k) (bit_at d k) (sym (bit_at_and a b k) ∙ ap (λ n. bit_at n k) p) (sym (bit_at_and c d k) ∙ ap (λ n. bit_at n k) q)
     ∙ sym (bit_at_or a c k))
 
-min_less : (a b c d : ℕ) → min a b ≡ a → min c d ≡ c → min b d ≡ 0 → min a c ≡ 0
-min_less a b c d p q r = omega arith
-
-apart_both : (a b c d : ℕ) → bit_and a b ≡ a → bit_and c d ≡ c → bit_and b d ≡ 0 → bit_and a c ≡ 0
-apart_both a b c d p q r = same_from_bits _ _ (λ k.
-    bit_at_and a c k
-    ∙ min_less (bit_at a k) (bit_at b k) (bit_at c k) (bit_at d k) (sym (bit_at_and a b k) ∙ ap (λ n. bit_at n k) p) (sym (bit_at_and c d k) ∙ ap (λ n. bit_at n k) q)
-    (sym (bit_at_and b d k) ∙ ap (λ n. bit_at n k) r ∙ bit_at-zero k)
-    ∙ sym (bit_at-zero k))
-
-part_within : (x n k : ℕ) → bit_and (x % 2 ^ n * 2 ^ k) ((2 ^ n - 1) * 2 ^ k) ≡ x % 2 ^ n * 2 ^ k
-part_within x n k =
-    sym (field_masked (x % 2 ^ n * 2 ^ k) n k)
-    ∙ ap (λ m. m % 2 ^ n * 2 ^ k) (shl-shr (x % 2 ^ n) k)
-    ∙ ap (λ m. m * 2 ^ k) (mod-eq_of_lt (mod_below x (2 ^ n) (pow_pos n)))
-
 placed_within : (i : Item) (f : ℕ) → bit_and (upper_mask i) (lower_mask i) ≡ 0 → bit_and (placed i f) (mask_of i) ≡ placed i f
-unfolding placed mask_of
-placed_within i f apart =
-    let a = f / 2 ^ i.width % 2 ^ i.upper_width * 2 ^ i.upper_low in
-    let b = f % 2 ^ i.width * 2 ^ i.low in
-    let p = part_within (f / 2 ^ i.width) i.upper_width i.upper_low in
-    let q = part_within f i.width i.low in
-    let sum = or_disjoint a b (apart_both a (upper_mask i) b (lower_mask i) p q apart) in
-    ap₂ bit_and (sym sum) (sym (or_disjoint (upper_mask i) (lower_mask i) apart)) ∙ within_both a (upper_mask i) b (lower_mask i) p q ∙ sum
+placed_within i f apart = placed-within i.field f apart
 
 -- ---- registers
 unfoldable pub is_register : Kind → Bool
 is_register (kind.Mark c) = false
 is_register (kind.Named first count) = false
-is_register (kind.Register first last) = nat_le (first + 31) last
+is_register (kind.Register file last) = true
 is_register (kind.Unsigned base scale most) = false
 is_register (kind.Signed scale) = false
 is_register (kind.Distance scale) = false
@@ -187,21 +166,11 @@ record SaysNumber (k : Kind) (bits number : ℕ) : Type 0 where
   token : Token
   said : field_said k bits token ≡ Some number
 
-low_number : (first last number : ℕ) → first + 31 ≤ last → number < 31 → register_field first last (first + number) ≡ Some number
-unfolding register_field word_field
-low_number first last number le lt =
-    let other : (first + number ≡ last) → ⊥ = λ e. omega arith in
-    let low : first ≤ first + number = omega arith in
-    let high : first + number < first + 31 = omega arith in
-    let back : first + number - first ≡ number = omega arith in
-    ap (λ b. cond b (Some 31) (cond (nat_le first (first + number) && nat_lt (first + number) (first + 31)) (Some (first + number - first)) None)) (ne_eqb (first + number) last other)
-    ∙ ap₂ (λ a b. cond (a && b) (Some (first + number - first)) None) (le-leb first (first + number) low) (lt-ltb (first + number) (first + 31) high) ∙ ap Some back
-
 says_number : (k : Kind) (bits number : ℕ) → is_register k ≡ true → number < 31 → SaysNumber k bits number
-unfolding is_register field_said on_word
+unfolding is_register field_said on_register
 says_number (kind.Mark c) bits number e lt = cc
 says_number (kind.Named first count) bits number e lt = cc
-says_number (kind.Register first last) bits number e lt = record { token = Word (first + number); said = low_number first last number (leb-true (first + 31) last e) lt }
+says_number (kind.Register file last) bits number e lt = record { token = Register file number; said = register-said file number lt }
 says_number (kind.Unsigned base scale most) bits number e lt = cc
 says_number (kind.Signed scale) bits number e lt = cc
 says_number (kind.Distance scale) bits number e lt = cc
@@ -212,10 +181,10 @@ says_number (kind.Opposite first count) bits number e lt = cc
 says_number (kind.Halfword wide inverted) bits number e lt = cc
 
 says_last : (k : Kind) (bits : ℕ) → is_register k ≡ true → SaysNumber k bits 31
-unfolding is_register field_said on_word register_field
+unfolding is_register field_said on_register
 says_last (kind.Mark c) bits e = cc
 says_last (kind.Named first count) bits e = cc
-says_last (kind.Register first last) bits e = record { token = Word last; said = ap (λ b. cond b (Some 31) (word_field first 31 last)) (eq-eqb last last refl) }
+says_last (kind.Register file last) bits e = record { token = Word last; said = last-said last }
 says_last (kind.Unsigned base scale most) bits e = cc
 says_last (kind.Signed scale) bits e = cc
 says_last (kind.Distance scale) bits e = cc
@@ -227,36 +196,36 @@ says_last (kind.Halfword wide inverted) bits e = cc
 
 -- a register of five bits from a place on
 unfoldable pub is_register_at : ℕ → Item → Bool
-is_register_at low i = is_register i.kind && (i.low == low) && (i.width == 5) && (i.upper_width == 0)
+is_register_at low i = is_register i.kind && (i.field.low == low) && (i.field.width == 5) && (i.field.upper_width == 0)
 
 record IsRegisterAt (low : ℕ) (i : Item) : Type 0 where
   register : is_register i.kind ≡ true
-  begins : i.low ≡ low
-  five : i.width ≡ 5
-  alone : i.upper_width ≡ 0
+  begins : i.field.low ≡ low
+  five : i.field.width ≡ 5
+  alone : i.field.upper_width ≡ 0
 
 register_at : (low : ℕ) (i : Item) → is_register_at low i ≡ true → IsRegisterAt low i
 unfolding is_register_at
 register_at low i e =
-    let p = and_parts (is_register i.kind && (i.low == low) && (i.width == 5)) (i.upper_width == 0) e in
-    let q = and_parts (is_register i.kind && (i.low == low)) (i.width == 5) p.0 in
-    let r = and_parts (is_register i.kind) (i.low == low) q.0 in
+    let p = and_parts (is_register i.kind && (i.field.low == low) && (i.field.width == 5)) (i.field.upper_width == 0) e in
+    let q = and_parts (is_register i.kind && (i.field.low == low)) (i.field.width == 5) p.0 in
+    let r = and_parts (is_register i.kind) (i.field.low == low) q.0 in
     record { register = r.0; begins = eqb-true _ _ r.1; five = eqb-true _ _ q.1; alone = eqb-true _ _ p.1 }
 
 placed_number : (low : ℕ) (i : Item) (f : ℕ) → IsRegisterAt low i → f < 32 → placed i f ≡ f * 2 ^ low
-unfolding placed
+unfolding fields.placed
 placed_number low i f r lt =
     let z : f / 2 ^ 5 % 2 ^ 0 ≡ 0 = omega arith in
-    ap₂ (λ w u. f / 2 ^ w % 2 ^ u * 2 ^ i.upper_low + f % 2 ^ w * 2 ^ i.low) r.five r.alone
-    ∙ ap₂ (λ n l. n * 2 ^ i.upper_low + f % 2 ^ 5 * 2 ^ l) z r.begins
-    ∙ ap (λ n. 0 * 2 ^ i.upper_low + n * 2 ^ low) (mod-eq_of_lt lt)
+    ap₂ (λ w u. f / 2 ^ w % 2 ^ u * 2 ^ i.field.upper_low + f % 2 ^ w * 2 ^ i.field.low) r.five r.alone
+    ∙ ap₂ (λ n l. n * 2 ^ i.field.upper_low + f % 2 ^ 5 * 2 ^ l) z r.begins
+    ∙ ap (λ n. 0 * 2 ^ i.field.upper_low + n * 2 ^ low) (mod-eq_of_lt lt)
     ∙ omega arith
 
 mask_number : (low : ℕ) (i : Item) → IsRegisterAt low i → mask_of i ≡ 31 * 2 ^ low
-unfolding mask_of
+unfolding fields.mask_of
 mask_number low i r =
-    ap₂ (λ w u. (2 ^ u - 1) * 2 ^ i.upper_low + (2 ^ w - 1) * 2 ^ i.low) r.five r.alone
-    ∙ ap (λ l. 0 * 2 ^ i.upper_low + 31 * 2 ^ l) r.begins
+    ap₂ (λ w u. (2 ^ u - 1) * 2 ^ i.field.upper_low + (2 ^ w - 1) * 2 ^ i.field.low) r.five r.alone
+    ∙ ap (λ l. 0 * 2 ^ i.field.upper_low + 31 * 2 ^ l) r.begins
     ∙ omega arith
 
 -- ---- an operand's token that agrees with what is known, and meets the rule
@@ -439,7 +408,7 @@ unfoldable pub is_open : Shape → Bool
 is_open s = (bit_and s.value s.mask == s.value) && goes_through (items_of s) s.mask
 
 all_open : list_all is_open SHAPES ≡ true
-unfolding items_of mask_of has_word is_register is_register_at has_choice is_next goes_through is_open
+unfolding items_of fields.mask_of has_word is_register is_register_at has_choice is_next goes_through is_open
 all_open = refl
 
 open_of_name : (name : ℕ) → list_all is_open (shapes_of name) ≡ true
@@ -489,3 +458,102 @@ shapes_go (s ∷ ss) n ts o some_shape h =
 pub goes-on : (name n : ℕ) (ts : List Token) → name < length NAMES → n ≤ furthest (shapes_of name) ts → (rest : List Token) × (word : ℕ) × (first_word (shapes_of name) (take n ts ++ rest) ≡ Some word)
 unfolding has_shape
 goes-on name n ts lt h = shapes_go (shapes_of name) n ts (open_of_name name) (ltb-true 0 (length (shapes_of name)) (all_below-at has_shape (length NAMES) name all_have_shapes lt)) h
+
+-- ---- where a shape wants a number, some number goes on
+record IsNumberSaid (k : Kind) (bits : ℕ) : Type 0 where
+  token : Token
+  number : is_number_token token ≡ true
+  field : ℕ
+  said : field_said k bits token ≡ Some field
+
+number_said : (k : Kind) (bits : ℕ) → is_number_kind k ≡ true → IsNumberSaid k bits
+unfolding is_number_kind is_number_token field_said on_number on_target
+number_said (kind.Unsigned base scale most) bits e = record { token = Number false base; number = refl; field = 0; said = unsigned_first base scale most }
+number_said (kind.Signed scale) bits e = record { token = Number false 0; number = refl; field = 0; said = signed_first bits scale }
+number_said (kind.Distance scale) bits e = record { token = Distance false 0; number = refl; field = 0; said = signed_first bits scale }
+number_said (kind.Mask wide) bits e = record { token = Number false (zero_mask wide); number = refl; field = 0; said = mask_first wide }
+number_said (kind.SignedMask wide) bits e = record { token = Number false (zero_mask wide); number = refl; field = 0; said = ap (option_and_then (mask_field wide)) (immediate_first wide) ∙ mask_first wide }
+number_said (kind.ShiftLeft wide) bits e = record { token = Number false 0; number = refl; field = no_shift wide; said = shift_first wide }
+number_said (kind.Halfword wide inverted) bits e = record { token = Number inverted (no_bits_size inverted); number = refl; field = 0; said = halfword_first wide inverted }
+number_said k bits e = cc
+
+no_register : (k : Kind) → is_register k ≡ true → is_number_kind k ≡ true → ⊥
+unfolding is_register is_number_kind
+no_register (kind.Register first last) e f = cc
+no_register k e f = cc
+
+record IsNumberChosen (i : Item) (rule : Rule) (value : ℕ) : Type 0 where
+  chosen : IsChosen i rule value
+  number : is_number_token chosen.token ≡ true
+
+choose_number : (rule : Rule) (i : Item) (value : ℕ) → has_choice rule i ≡ true → is_number_kind i.kind ≡ true → IsNumberChosen i rule value
+unfolding has_choice meets
+choose_number Free i value e n = let s = number_said i.kind (bits_of i) n in record { chosen = record { token = s.token; field = s.field; said = s.said; meets_rule = refl }; number = s.number }
+choose_number SecondApart i value e n = absurd (no_register i.kind (register_at 10 i e).register n)
+choose_number BaseApart i value e n = absurd (no_register i.kind (register_at 5 i e).register n)
+choose_number BasePairApart i value e n = absurd (no_register i.kind (register_at 5 i e).register n)
+
+record Wants (is : List Item) (known : Known) (before : List Token) : Type 0 where
+  token : Token
+  number : is_number_token token ≡ true
+  rest : List Token
+  word : ℕ
+  taken_so : taken is known (before ++ token ∷ rest) ≡ Some word
+
+abbrev WantsOn : (List Token → Option ℕ) → List Token → Type 0
+WantsOn on before = (t : Token) × (is_number_token t ≡ true) × (rest : List Token) × (word : ℕ) × (on (before ++ t ∷ rest) ≡ Some word)
+
+want_if : (is : List Item) (next : Known) (ts : List Token) (n : ℕ) → (reach is next ts ≡ n → Wants is next (take n ts)) → (b : Bool) → reach_on (λ k. reach is k ts) (cond b (Some next) None) ≡ suc n
+    → WantsOn (λ us. taken_on (λ k. taken is k us) (cond b (Some next) None)) (take n ts)
+want_if is next ts n ih true h = let e = ih (omega arith) in (e.token, e.number, e.rest, e.word, e.taken_so)
+want_if is next ts n ih false h = absurd (omega arith)
+
+want_field : (i : Item) (is : List Item) (known : Known) (ts : List Token) (n : ℕ) → ((field : ℕ) → reach is (with_field i known field) ts ≡ n → Wants is (with_field i known field) (take n ts))
+    → (o : Option ℕ) → reach_on (λ k. reach is k ts) (known_with i known o) ≡ suc n → WantsOn (λ us. taken_on (λ k. taken is k us) (known_with i known o)) (take n ts)
+unfolding known_with
+want_field i is known ts n ih None h = absurd (omega arith)
+want_field i is known ts n ih (Some field) h = want_if is (with_field i known field) ts n (ih field) (agrees i known field) h
+
+want : (is : List Item) (known : Known) (n : ℕ) (ts : List Token) → goes_through is known.mask ≡ true → IsWithin known → reach is known ts ≡ n → is_number_item (slice_get is n) ≡ true → Wants is known (take n ts)
+unfolding reach taken known_after goes_through IsWithin
+want [] known zero ts g w h k = cc
+want (i ∷ is) known zero ts g w h k =
+    let p = and_parts (is_next i known.mask) (goes_through is (bit_or known.mask (mask_of i))) g in
+    let n = next_item i known.mask p.0 in
+    let c = choose_number i.rule i known.value n.choice k in
+    let field = c.chosen.field in
+    let e = complete is (with_field i known field) (next_mask i known field is p.1) (with_within i known field n w) in
+    record { token = c.chosen.token; number = c.number; rest = e.rest; word = e.word; taken_so = ap (taken_on (λ next. taken is next e.rest)) (chosen_after i known n w c.chosen) ∙ e.taken_so }
+want [] known (suc n) ts g w h k = absurd (omega arith)
+want (i ∷ is) known (suc n) [] g w h k = absurd (omega arith)
+want (i ∷ is) known (suc n) (t ∷ ts) g w h k =
+    let p = and_parts (is_next i known.mask) (goes_through is (bit_or known.mask (mask_of i))) g in
+    let it = next_item i known.mask p.0 in
+    let e = want_field i is known ts n (λ field l. want is (with_field i known field) n ts (next_mask i known field is p.1) (with_within i known field it w) l k) (field_said i.kind (bits_of i) t) h in
+    record { token = e.0; number = e.1; rest = e.2; word = e.3; taken_so = e.4 }
+
+shape_wants : (s : Shape) (n : ℕ) (ts : List Token) → is_open s ≡ true → wants_number n ts s ≡ true → WantsOn (word_in s) (take n ts)
+unfolding is_open wants_number reach_in word_in fixed IsWithin
+shape_wants s n ts o h =
+    let p = and_parts (bit_and s.value s.mask == s.value) (goes_through (items_of s) s.mask) o in
+    let q = and_parts (reach_in s ts == n) (is_number_item (slice_get (items_of s) n)) h in
+    let e = want (items_of s) (fixed s) n ts p.1 (eqb-true _ _ p.0) (eqb-true _ _ q.0) q.1 in
+    (e.token, e.number, e.rest, e.word, e.taken_so)
+
+shapes_want : (ss : List Shape) (n : ℕ) (ts : List Token) → list_all is_open ss ≡ true → list_any (wants_number n ts) ss ≡ true → WantsOn (first_word ss) (take n ts)
+unfolding first_word
+shapes_want [] n ts o h = cc
+shapes_want (s ∷ ss) n ts o h =
+    let p = and_parts (is_open s) (list_all is_open ss) o in
+    elim (wants_number n ts s) as (λ b. wants_number n ts s ≡ b → (b || list_any (wants_number n ts) ss) ≡ true → WantsOn (λ us. first_of_words (word_in s us) (first_word ss us)) (take n ts)) [
+      | true ↦ λ is g. let e = shape_wants s n ts p.0 is in (e.0, e.1, e.2, e.3, ap (λ a. first_of_words a (first_word ss (take n ts ++ e.0 ∷ e.2))) e.4)
+      | false ↦ λ is g.
+          let e = shapes_want ss n ts p.1 g in
+          let f = some_first (word_in s (take n ts ++ e.0 ∷ e.2)) (first_word ss (take n ts ++ e.0 ∷ e.2)) e.3 e.4 in
+          (e.0, e.1, e.2, f.0, f.1)
+    ] refl h
+
+-- where a shape of a name that takes so many tokens wants a number, a number goes on
+pub number-goes-on : (name n : ℕ) (ts : List Token) → list_any (wants_number n ts) (shapes_of name) ≡ true
+    → (t : Token) × (is_number_token t ≡ true) × (rest : List Token) × (word : ℕ) × (first_word (shapes_of name) (take n ts ++ t ∷ rest) ≡ Some word)
+number-goes-on name n ts h = shapes_want (shapes_of name) n ts (open_of_name name) h

@@ -6,12 +6,15 @@ use Rattle.std.proofs.Math.Nat.{mul-div_cancel, mul-mod_left}
 use borrow.Author.Tests.{ne_eqb}
 use Rattle.insn_forms.specs.Fields.{field_of}
 use Rattle.bit_ops.specs.Masks.{are_mask_fields}
+use Rattle.insn_text.specs.declared.item.RegisterFile.{RegisterFile}
+use Rattle.insn_text.specs.declared.item.RegisterFile.TheVariants.{X, W}
 use Rattle.insn_text.specs.declared.item.Kind.{Kind}
 use Rattle.insn_text.specs.declared.item.Kind.TheVariants as kind
-use Rattle.insn_text.specs.Texts.{is_positive, size_of, register_place, mask_in}
+use Rattle.insn_text.specs.Texts.{is_positive, size_of, mask_in}
 use Rattle.insn_text.specs.Rules.{is_within}
-use Rattle.asm_operands.specs.Fields.{on_mark, on_word, on_number, on_target, word_field, register_field, unsigned_field, signed_field, mask_field, field_said}
+use Rattle.asm_operands.specs.Fields.{on_mark, on_word, on_register, on_number, on_target, word_field, same_file, register_field, last_field, unsigned_field, signed_field, mask_field, field_said}
 use Rattle.std.specs.Prelude.{if◌then◌else◌}
+use Rattle.asm_tokens.specs.declared.token.Token.TheVariants.{Register, Word}
 use Rattle.asm_operands.specs.Shown.{mask_token, token_said}
 use Rattle.asm_operands.proofs.MaskFields.{mask-given}
 
@@ -19,7 +22,7 @@ use Rattle.asm_operands.proofs.MaskFields.{mask-given}
 unfoldable pub is_printed_kind : Kind → ℕ → Bool
 is_printed_kind (kind.Mark c) bits = bits == 0
 is_printed_kind (kind.Named first count) bits = true
-is_printed_kind (kind.Register first last) bits = (bits == 5) && nat_le (first + 31) last
+is_printed_kind (kind.Register file last) bits = bits == 5
 is_printed_kind (kind.Unsigned base scale most) bits = nat_lt 0 scale
 is_printed_kind (kind.Signed scale) bits = nat_lt 0 scale && nat_lt 0 bits
 is_printed_kind (kind.Distance scale) bits = nat_lt 0 scale && nat_lt 0 bits
@@ -41,20 +44,29 @@ word_back first count field lt =
     let back : first + field - first ≡ field = omega arith in
     ap₂ (λ b n. cond b (Some n) None) (both_true _ _ (le-leb first (first + field) le) (lt-ltb (first + field) (first + count) less)) back
 
-register_back : (first last field : ℕ) → first + 31 ≤ last → field < 32 → register_field first last (register_place first last field) ≡ Some field
-unfolding register_field register_place
-register_back first last field le lt = elim (cases_lt field 31) [
+own_file : (file : RegisterFile) → same_file file file ≡ true
+unfolding same_file
+own_file X = refl
+own_file W = refl
+
+pub register-said : (file : RegisterFile) (number : ℕ) → number < 31 → register_field file file number ≡ Some number
+unfolding register_field
+register-said file number lt = ap (λ b. cond b (Some number) None) (both_true _ _ (own_file file) (lt-ltb number 31 lt))
+
+pub last-said : (last : ℕ) → last_field last last ≡ Some 31
+unfolding last_field
+last-said last = ap (λ b. cond b (Some 31) None) (eq-eqb last last refl)
+
+register_back : (file : RegisterFile) (last field : ℕ) → field < 32
+    → on_register (register_field file) (last_field last) (cond (field == 31) (Word last) (Register file field)) ≡ Some field
+unfolding on_register
+register_back file last field lt = elim (cases_lt field 31) [
   | inl low ↦
-      let other : (first + field ≡ last) → ⊥ = λ e. omega arith in
-      let no31 : (field ≡ 31) → ⊥ = λ e. omega arith in
-      ap (λ b. cond (cond b last (first + field) == last) (Some 31) (word_field first 31 (cond b last (first + field)))) (ne_eqb field 31 no31)
-      ∙ ap (λ b. cond b (Some 31) (word_field first 31 (first + field))) (ne_eqb (first + field) last other)
-      ∙ word_back first 31 field low
+      let other : (field ≡ 31) → ⊥ = λ e. omega arith in
+      ap (λ b. on_register (register_field file) (last_field last) (cond b (Word last) (Register file field))) (ne_eqb field 31 other) ∙ register-said file field low
   | inr high ↦
       let e : field ≡ 31 = omega arith in
-      ap (λ b. cond (cond b last (first + field) == last) (Some 31) (word_field first 31 (cond b last (first + field)))) (eq-eqb field 31 e)
-      ∙ ap (λ b. cond b (Some 31) (word_field first 31 last)) (eq-eqb last last refl)
-      ∙ ap Some (sym e)
+      ap (λ b. on_register (register_field file) (last_field last) (cond b (Word last) (Register file field))) (eq-eqb field 31 e) ∙ last-said last ∙ ap Some (sym e)
 ]
 
 -- ---- numbers
@@ -124,12 +136,11 @@ mark_back c field bits e lt =
     ap (λ b. cond b (Some 0) None) (eq-eqb c c refl) ∙ ap Some z
 
 pub said-heard : (k : Kind) (bits field : ℕ) → is_printed_kind k bits ≡ true → is_within k field ≡ true → field < 2 ^ bits → field_said k bits (token_said k bits field) ≡ Some field
-unfolding is_printed_kind is_within field_said token_said on_mark on_word on_number on_target
+unfolding is_printed_kind is_within field_said token_said on_mark on_word on_register on_number on_target
 said-heard (kind.Mark c) bits field p w lt = mark_back c field bits (eqb-true bits 0 p) lt
 said-heard (kind.Named first count) bits field p w lt = word_back first count field (ltb-true field count w)
-said-heard (kind.Register first last) bits field p w lt =
-    let q = and_parts (bits == 5) (nat_le (first + 31) last) p in
-    register_back first last field (leb-true (first + 31) last q.1) (below_32 bits field (eqb-true bits 5 q.0) lt)
+said-heard (kind.Register file last) bits field p w lt =
+    register_back file last field (below_32 bits field (eqb-true bits 5 p) lt)
 said-heard (kind.Unsigned base scale most) bits field p w lt = unsigned_back base scale most field (ltb-true 0 scale p) (leb-true field most w)
 said-heard (kind.Signed scale) bits field p w lt =
     let q = and_parts (nat_lt 0 scale) (nat_lt 0 bits) p in signed_back scale bits field (ltb-true 0 scale q.0) (ltb-true 0 bits q.1) lt

@@ -1,7 +1,5 @@
-pub mod Places
 pub mod MaskFields
 pub mod Halfwords
-pub mod Placing
 pub mod Way
 pub mod Tables
 pub mod ShapeSteps
@@ -15,3 +13,4 @@ pub mod Stops
 pub mod GoesOn
 pub mod Aimed
 pub mod AliasNumbers
+pub mod Bare

@@ -6,12 +6,12 @@ use Rattle.std.proofs.Math.Nat.{mod-eq_of_lt}
 use Rattle.insn_forms.specs.Fields.{field_of}
 use Rattle.bit_ops.specs.Bits.{digit_at, width_of}
 use Rattle.bit_ops.specs.Sums.{bool_number, word_size}
-use Rattle.bit_ops.specs.Masks.{are_mask_fields, highest_one, length_of, size_of, ones_of, is_reserved, mask_of, bit_mask_of, starts_at, IsFieldsOf}
+use Rattle.bit_ops.specs.Masks.{are_mask_fields, size_of, ones_of, is_reserved, mask_of, bit_mask_of, starts_at, IsFieldsOf}
 use Rattle.bit_ops.proofs.MaskBits.{mask-facts}
 use Rattle.bit_ops.proofs.Fields.{IsPeriodic, start-on, some-start, first-below, turn-is, next-is, none-is, ones-are, fields-wide, fields-narrow, size-known, periodic-of, size-some}
 use Rattle.insn_text.specs.Texts.{mask_in}
 use Rattle.asm_operands.specs.Fields.{is_that, is_field_of, mask_field}
-use Rattle.asm_operands.proofs.Places.{find-first, find-none}
+use Rattle.sm_types.proofs.Places.{find-first, find-none}
 
 -- ---- a test of all numbers below a bound
 unfoldable pub all_below : (ℕ → Bool) → ℕ → Bool

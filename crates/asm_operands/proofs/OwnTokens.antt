@@ -11,7 +11,8 @@ use Rattle.insn_text.specs.Rules.{is_within, meets, is_sayable}
 use Rattle.asm_operands.specs.Fields.{field_said}
 use Rattle.asm_operands.specs.Operands.{Known, mask_of, placed, with_field, agrees, known_with, known_after, taken_on, taken, fixed, word_in}
 use Rattle.asm_operands.specs.Shown.{item_token, tokens_shown}
-use Rattle.asm_operands.proofs.WordBits.{or_of_ands, and_swap, upper_mask, lower_mask, field_in-lt, placed-field, covers, meets-kept}
+use Rattle.insn_forms.proofs.Bits.{or_of_ands, field_in-lt, placed-field}
+use Rattle.asm_operands.proofs.WordBits.{and_swap, upper_mask, lower_mask, covers, meets-kept}
 use Rattle.asm_operands.proofs.Heard.{is_printed_kind, said-heard}
 
 -- the kind is printed, and the two parts of the field have no bit in common
@@ -34,11 +35,11 @@ pub item-heard : (i : Item) (w : ℕ) → is_printed_item i ≡ true → is_saya
 unfolding is_printed_item is_sayable item_token
 item-heard i w p e =
     said-heard i.kind (bits_of i) (field_in i w) (and_parts (is_printed_kind i.kind (bits_of i)) (bit_and (upper_mask i) (lower_mask i) == 0) p).0
-    (and_parts (is_within i.kind (field_in i w)) (meets i.rule w) e).0 (field_in-lt i w)
+    (and_parts (is_within i.kind (field_in i w)) (meets i.rule w) e).0 (field_in-lt i.field w)
 
 placed_back : (i : Item) (w : ℕ) → is_printed_item i ≡ true → placed i (field_in i w) ≡ bit_and w (mask_of i)
 unfolding is_printed_item
-placed_back i w p = placed-field i w (eqb-true _ 0 (and_parts (is_printed_kind i.kind (bits_of i)) (bit_and (upper_mask i) (lower_mask i) == 0) p).1)
+placed_back i w p = placed-field i.field w (eqb-true _ 0 (and_parts (is_printed_kind i.kind (bits_of i)) (bit_and (upper_mask i) (lower_mask i) == 0) p).1)
 
 next_value : (i : Item) (w mask : ℕ) → is_printed_item i ≡ true → bit_or (bit_and w mask) (placed i (field_in i w)) ≡ bit_and w (bit_or mask (mask_of i))
 next_value i w mask p = ap (bit_or (bit_and w mask)) (placed_back i w p) ∙ or_of_ands w mask (mask_of i)

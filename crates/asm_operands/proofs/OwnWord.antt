@@ -5,6 +5,7 @@ use Rattle.std.specs.List.{list_all, find}
 use Rattle.std.proofs.lemmas.Bool.{and_parts}
 use Rattle.sm_types.specs.declared.insn.Insn.{Insn}
 use Rattle.a64_encode.specs.Either.{instruction_of}
+use Rattle.insn_forms.specs.Fields as fields
 use Rattle.insn_text.specs.declared.item.Kind.{Kind}
 use Rattle.insn_text.specs.declared.item.Kind.TheVariants as kind
 use Rattle.insn_text.specs.declared.item.Item.{Item}
@@ -15,13 +16,14 @@ use Rattle.insn_text.specs.Texts.{items_of, prints, printed_shape}
 use Rattle.insn_text.specs.Rules.{is_sayable, IsPrinted}
 use Rattle.asm_tokens.specs.declared.token.Token.{Token}
 use Rattle.asm_operands.specs.declared.operands.Target.{Target}
-use Rattle.asm_operands.specs.Operands.{word_in, shapes_of, first_of_words, first_word, mask_of, is_distance, is_name, names, target_in, target_of, operand_fault, said_or, Says, Fails, if_meant, word_said, operands_said}
+use Rattle.asm_operands.specs.Fields.{same_file}
+use Rattle.asm_operands.specs.Operands.{word_in, shapes_of, first_of_words, first_word, is_distance, is_name, names, target_in, target_of, operand_fault, said_or, Says, Fails, if_meant, word_said, operands_said}
 use Rattle.asm_operands.specs.Shown.{token_said, item_token, tokens_shown}
 use Rattle.asm_operands.proofs.MaskFields.{all_below, all_below-at}
 use Rattle.asm_operands.proofs.WordBits.{has_register, covers}
 use Rattle.asm_operands.proofs.Heard.{is_printed_kind}
 use Rattle.asm_operands.proofs.OwnTokens.{is_printed_item, says_rest, word-shown}
-use Rattle.asm_operands.proofs.Apart.{is_said_by_mark, is_said_by_number, is_said_by_distance, is_apart_from_words, kinds_apart, apart, shapes-apart}
+use Rattle.asm_operands.proofs.Apart.{is_said_by_mark, is_said_by_number, is_said_by_distance, is_said_by_register, is_apart_from_words, kinds_apart, apart, shapes-apart}
 
 -- ---- the table
 unfoldable pub says_word : Shape → Bool
@@ -39,7 +41,7 @@ unfoldable pub name_apart : ℕ → Bool
 name_apart name = are_apart (shapes_of name)
 
 names_apart : all_below name_apart (length NAMES) ≡ true
-unfolding items_of shapes_of mask_of all_below has_register covers is_printed_kind is_printed_item says_rest is_said_by_mark is_said_by_number is_said_by_distance is_apart_from_words kinds_apart apart says_word is_later_apart are_apart name_apart
+unfolding items_of shapes_of fields.mask_of all_below has_register covers is_printed_kind is_printed_item says_rest is_said_by_mark is_said_by_number is_said_by_distance same_file is_said_by_register is_apart_from_words kinds_apart apart says_word is_later_apart are_apart name_apart
 names_apart = refl
 
 -- a shape stands among those of its name
@@ -142,7 +144,7 @@ never_named : (k : Kind) (bits field : ℕ) → (is_distance k && is_name (token
 unfolding is_distance is_name token_said
 never_named (kind.Mark c) bits field = refl
 never_named (kind.Named first count) bits field = refl
-never_named (kind.Register first last) bits field = refl
+never_named (kind.Register file last) bits field = refl
 never_named (kind.Unsigned base scale most) bits field = refl
 never_named (kind.Signed scale) bits field = refl
 never_named (kind.Distance scale) bits field = refl

@@ -2,11 +2,12 @@
 use Rattle.std.proofs.Common.{◌≡◌, ℕ, zero, suc, ◌&&◌, Bool, true, List, [], ◌∷◌, take, drop, refl, ap₂}
 use Rattle.std.specs.List.{list_all}
 use Rattle.std.proofs.lemmas.Bool.{and_parts}
-use Rattle.insn_text.specs.declared.operands.TheConstants.{ITEMS}
+use Rattle.insn_forms.specs.Fields.{mask_of, is_field}
+use Rattle.insn_text.specs.declared.item.Item.{Item}
+use Rattle.insn_text.specs.declared.items.TheConstants.{ITEMS}
 use Rattle.insn_text.specs.declared.item.Shape.{Shape}
-use Rattle.insn_text.specs.Texts.{items_of}
-use Rattle.asm_operands.specs.Operands.{mask_of}
-use Rattle.asm_operands.specs.Sound.{has_factor, is_in_word, is_sound}
+use Rattle.insn_text.specs.Texts.{items_of, bits_of}
+use Rattle.asm_operands.specs.Sound.{has_factor, is_sound}
 
 pub all-take : {A : Type 0} (p : A → Bool) (n : ℕ) (xs : List A) → list_all p xs ≡ true → list_all p (take n xs) ≡ true
 all-take p zero xs e = refl
@@ -19,7 +20,7 @@ all-drop p (suc n) [] e = refl
 all-drop p (suc n) (x ∷ xs) e = all-drop p n xs (and_parts (p x) (list_all p xs) e).1
 
 pub items-sound : list_all is_sound ITEMS ≡ true
-unfolding mask_of has_factor is_in_word is_sound
+unfolding mask_of is_field has_factor is_sound
 items-sound = refl
 
 pub part-sound : (first count : ℕ) → list_all is_sound (take count (drop first ITEMS)) ≡ true
@@ -28,3 +29,7 @@ part-sound first count = all-take is_sound count (drop first ITEMS) (all-drop is
 pub items_of-sound : (s : Shape) → list_all is_sound (items_of s) ≡ true
 unfolding items_of
 items_of-sound s = part-sound s.first s.count
+
+pub in_word : (i : Item) → is_sound i ≡ true → is_field i.field ≡ true
+unfolding is_sound
+in_word i e = (and_parts (has_factor i.kind (bits_of i)) (is_field i.field) e).1

@@ -7,7 +7,8 @@ use Rattle.asm_operands.specs.Fields.{width_of, shift_bits}
 abbrev pub halfword_number : ℕ → ℕ
 halfword_number field = field % 65536 * 2 ^ (16 * (field / 65536))
 
--- immr above imms of `ubfm`: the highest bit that stays and the amount make up the width, and so do the rotation and the amount, or both are 0
+-- immr above imms of `ubfm`: the highest bit that stays and the amount make up the width, and so do the
+-- rotation and the amount, or both are 0
 pub record IsShiftLeft (wide : Bool) (amount field : ℕ) : Type 0 where
   pub imms : field % 2 ^ shift_bits wide + 1 + amount ≡ width_of wide
   pub immr : (field / 2 ^ shift_bits wide + amount) % width_of wide ≡ 0

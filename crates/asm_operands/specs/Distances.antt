@@ -14,6 +14,8 @@ unfoldable pub unit_of : Kind → ℕ
 unit_of (kind.Distance scale) = scale
 unit_of other = 1
 
--- a word whose operand has the distance 0, with the field there that `.+n` or `.-n` says, if the operand holds it
+-- a word whose operand has the distance 0, with the field there that `.+n` or `.-n` says, if the operand
+-- holds it
 unfoldable pub with_distance : Item → ℕ → Bool → ℕ → Option ℕ
-with_distance i word back size = option_map (λ field. bit_or word (placed i field)) (field_said i.kind (bits_of i) (Distance back size))
+with_distance i word back size =
+    option_map (λ field. bit_or word (placed i field)) (field_said i.kind (bits_of i) (Distance back size))

@@ -1,77 +1,79 @@
 -- The number of a field that a token of an operand says.
 -- Source: DDI 0487, C1.2 and C6.2, with the aliases' pages for MOV (immediate), LSL (immediate) and CSET.
-use Rattle.std.specs.Prelude.{ℕ, ◌+◌, ◌-◌, ◌*◌, ◌/◌, ◌%◌, ◌^◌, Bool, false, not, ◌&&◌, ◌==◌, nat_lt, nat_le, Option, Some, None, if◌then◌else◌, option_and_then, option_map, bit_xor}
+use Rattle.std.specs.Prelude.{ℕ, ◌+◌, ◌-◌, ◌*◌, ◌/◌, ◌%◌, ◌^◌, Bool, true, false, not, ◌&&◌, ◌==◌, nat_lt}
+use Rattle.std.specs.Prelude.{nat_le, Option, Some, None, if◌then◌else◌, option_and_then, option_map, bit_xor}
 use Rattle.std.specs.List.{find, range_with_len}
 use Rattle.bit_ops.specs.Masks.{are_mask_fields}
 use Rattle.insn_forms.specs.Fields.{field_of}
+use Rattle.insn_text.specs.declared.item.RegisterFile.{RegisterFile}
+use Rattle.insn_text.specs.declared.item.RegisterFile.TheVariants.{X, W}
 use Rattle.insn_text.specs.declared.item.Kind.{Kind}
 use Rattle.insn_text.specs.declared.item.Kind.TheVariants as kind
 use Rattle.insn_text.specs.Texts.{mask_in}
 use Rattle.asm_tokens.specs.declared.token.Token.{Token}
-use Rattle.asm_tokens.specs.declared.token.Token.TheVariants.{Word, Name, Number, Distance, Bare, Malformed, Mark, Other}
+use Rattle.asm_tokens.specs.declared.token.Token.TheVariants.{Register, Word, Name, Number, Distance, Mark}
 
 -- ---- tokens of each sort
 
 unfoldable pub on_mark : (ℕ → Option ℕ) → Token → Option ℕ
 on_mark says (Mark c) = says c
-on_mark says (Word place) = None
-on_mark says Name = None
-on_mark says (Number negative size) = None
-on_mark says (Distance back size) = None
-on_mark says (Bare size) = None
-on_mark says Malformed = None
-on_mark says Other = None
+on_mark says _ = None
 
 unfoldable pub on_word : (ℕ → Option ℕ) → Token → Option ℕ
-on_word says (Mark c) = None
 on_word says (Word place) = says place
-on_word says Name = None
-on_word says (Number negative size) = None
-on_word says (Distance back size) = None
-on_word says (Bare size) = None
-on_word says Malformed = None
-on_word says Other = None
+on_word says _ = None
 
 unfoldable pub on_number : (Bool → ℕ → Option ℕ) → Token → Option ℕ
-on_number says (Mark c) = None
-on_number says (Word place) = None
-on_number says Name = None
 on_number says (Number negative size) = says negative size
-on_number says (Distance back size) = None
-on_number says (Bare size) = None
-on_number says Malformed = None
-on_number says Other = None
+on_number says _ = None
 
 -- a distance, or any name, which stands for a distance that is not known yet
 unfoldable pub on_target : (Bool → ℕ → Option ℕ) → Token → Option ℕ
-on_target says (Mark c) = None
+on_target says (Register file number) = Some 0
 on_target says (Word place) = Some 0
 on_target says Name = Some 0
-on_target says (Number negative size) = None
 on_target says (Distance back size) = says back size
-on_target says (Bare size) = None
-on_target says Malformed = None
-on_target says Other = None
+on_target says _ = None
+
+-- a register by its file and number, or a word
+unfoldable pub on_register : (RegisterFile → ℕ → Option ℕ) → (ℕ → Option ℕ) → Token → Option ℕ
+on_register numbered says (Register file number) = numbered file number
+on_register numbered says (Word place) = says place
+on_register numbered says _ = None
 
 -- ---- fields
 
 -- one of `count` words from a place on
 unfoldable pub word_field : ℕ → ℕ → ℕ → Option ℕ
-word_field first count place = if nat_le first place && nat_lt place (first + count) then Some (place - first) else None
+word_field first count place =
+    if nat_le first place && nat_lt place (first + count) then Some (place - first) else None
 
-unfoldable pub register_field : ℕ → ℕ → ℕ → Option ℕ
-register_field first last place = if place == last then Some 31 else word_field first 31 place
+unfoldable pub same_file : RegisterFile → RegisterFile → Bool
+same_file X X = true
+same_file X W = false
+same_file W X = false
+same_file W W = true
+
+-- a register of the file, below 31
+unfoldable pub register_field : RegisterFile → RegisterFile → ℕ → Option ℕ
+register_field wanted file number = if same_file wanted file && nat_lt number 31 then Some number else None
+
+-- number 31, whose word stands at a place
+unfoldable pub last_field : ℕ → ℕ → Option ℕ
+last_field last place = if place == last then Some 31 else None
 
 -- n = field * scale + base, with a field up to the greatest
 unfoldable pub unsigned_field : ℕ → ℕ → ℕ → Bool → ℕ → Option ℕ
 unsigned_field base scale most negative size =
-    if not negative && nat_le base size && ((size - base) % scale == 0) && nat_le ((size - base) / scale) most then Some ((size - base) / scale) else None
+    if not negative && nat_le base size && ((size - base) % scale == 0) && nat_le ((size - base) / scale) most
+    then Some ((size - base) / scale) else None
 
 -- n = field * scale, with a field of so many bits in two's complement
 unfoldable pub signed_field : ℕ → ℕ → Bool → ℕ → Option ℕ
 signed_field bits scale negative size =
     if not (size % scale == 0) then None
-    else if negative then (if nat_le (size / scale) (2 ^ (bits - 1)) then Some ((2 ^ bits - size / scale) % 2 ^ bits) else None)
+    else if negative then (if nat_le (size / scale) (2 ^ (bits - 1))
+    then Some ((2 ^ bits - size / scale) % 2 ^ bits) else None)
     else if nat_lt (size / scale) (2 ^ (bits - 1)) then Some (size / scale)
     else None
 
@@ -86,7 +88,8 @@ is_that number (Some mask) = mask == number
 -- the mask has the fields N, immr and imms
 unfoldable pub is_field_of : Bool → ℕ → ℕ → Bool
 is_field_of wide mask field =
-    are_mask_fields (field_of field 12 1 == 1) (field_of field 0 6) (field_of field 6 6) wide && is_that mask (mask_in wide field)
+    are_mask_fields (field_of field 12 1 == 1) (field_of field 0 6) (field_of field 6 6) wide
+    && is_that mask (mask_in wide field)
 
 -- the fields N, immr and imms of a mask
 unfoldable pub mask_field : Bool → ℕ → Option ℕ
@@ -95,7 +98,8 @@ mask_field wide mask = find (is_field_of wide mask) (range_with_len 0 8192)
 -- a number of the width, where a negative one is in two's complement
 unfoldable pub immediate_of : Bool → Bool → ℕ → Option ℕ
 immediate_of wide negative size =
-    if negative then (if nat_le size (2 ^ (width_of wide - 1)) then Some ((2 ^ width_of wide - size) % 2 ^ width_of wide) else None)
+    if negative then (if nat_le size (2 ^ (width_of wide - 1))
+    then Some ((2 ^ width_of wide - size) % 2 ^ width_of wide) else None)
     else if nat_lt size (2 ^ width_of wide) then Some size
     else None
 
@@ -117,7 +121,8 @@ is_halfword_at number place = (number % 2 ^ (16 * place) == 0) && nat_lt (number
 -- the lowest halfword that has all bits of the number, above these bits
 unfoldable pub halfword_field : Bool → ℕ → Option ℕ
 halfword_field wide number =
-    option_map (λ place. place * 65536 + number / 2 ^ (16 * place)) (find (is_halfword_at number) (range_with_len 0 (width_of wide / 16)))
+    option_map (λ place. place * 65536 + number / 2 ^ (16 * place))
+    (find (is_halfword_at number) (range_with_len 0 (width_of wide / 16)))
 
 -- the number, or all its bits inverted
 unfoldable pub inverted_if : Bool → Bool → ℕ → ℕ
@@ -127,13 +132,18 @@ inverted_if wide inverted number = if inverted then 2 ^ width_of wide - 1 - numb
 unfoldable pub field_said : Kind → ℕ → Token → Option ℕ
 field_said (kind.Mark c) bits token = on_mark (λ d. if d == c then Some 0 else None) token
 field_said (kind.Named first count) bits token = on_word (word_field first count) token
-field_said (kind.Register first last) bits token = on_word (register_field first last) token
+field_said (kind.Register file last) bits token = on_register (register_field file) (last_field last) token
 field_said (kind.Unsigned base scale most) bits token = on_number (unsigned_field base scale most) token
 field_said (kind.Signed scale) bits token = on_number (signed_field bits scale) token
 field_said (kind.Distance scale) bits token = on_target (signed_field bits scale) token
-field_said (kind.Mask wide) bits token = on_number (λ negative size. if negative then None else mask_field wide size) token
-field_said (kind.SignedMask wide) bits token = on_number (λ negative size. option_and_then (mask_field wide) (immediate_of wide negative size)) token
+field_said (kind.Mask wide) bits token =
+    on_number (λ negative size. if negative then None else mask_field wide size) token
+field_said (kind.SignedMask wide) bits token =
+    on_number (λ negative size. option_and_then (mask_field wide) (immediate_of wide negative size)) token
 field_said (kind.ShiftLeft wide) bits token = on_number (shift_left_field wide) token
-field_said (kind.Opposite first count) bits token = on_word (λ place. option_map (λ field. bit_xor field 1) (word_field first count place)) token
+field_said (kind.Opposite first count) bits token =
+    on_word (λ place. option_map (λ field. bit_xor field 1) (word_field first count place)) token
 field_said (kind.Halfword wide inverted) bits token =
-    on_number (λ negative size. option_and_then (λ number. halfword_field wide (inverted_if wide inverted number)) (immediate_of wide negative size)) token
+    on_number (λ negative size. option_and_then (λ number. halfword_field wide
+    (inverted_if wide inverted number))
+    (immediate_of wide negative size)) token

@@ -1,8 +1,13 @@
--- The operands of an instruction: which tokens a shape takes, the word that they say, and the first token with which no shape goes on.
--- Source: DDI 0487, C6.2, the assembler symbols of each page; this project's own assembly language for the faults.
-use Rattle.std.specs.Prelude.{ℕ, zero, suc, ◌+◌, ◌-◌, ◌*◌, ◌/◌, ◌%◌, ◌^◌, Bool, true, false, ◌&&◌, ◌==◌, List, [], ◌∷◌, length, take, drop, slice_get, slice_index, Option, Some, None, bit_and, bit_or, max, if◌then◌else◌, option_and_then, option_map, is_some}
+-- The operands of an instruction: which tokens a shape takes, the word that they say, and the first token
+-- with which no shape goes on.
+-- Source: DDI 0487, C6.2, the assembler symbols of each page; this project's own assembly language for the
+-- faults.
+use Rattle.std.specs.Prelude.{ℕ, zero, suc, ◌+◌, ◌-◌, Bool, true, false, ◌&&◌, ◌==◌, List, [], ◌∷◌, length}
+use Rattle.std.specs.Prelude.{take, drop, slice_get, slice_index, Option, Some, None, bit_and, bit_or, max}
+use Rattle.std.specs.Prelude.{if◌then◌else◌, option_and_then, option_map, is_some}
 use Rattle.std.specs.List.{list_any}
 use Rattle.a64_encode.specs.Either.{instruction_of}
+use Rattle.insn_forms.specs.Fields as fields
 use Rattle.insn_text.specs.declared.item.Kind.{Kind}
 use Rattle.insn_text.specs.declared.item.Kind.TheVariants as kind
 use Rattle.insn_text.specs.declared.item.Item.{Item}
@@ -11,7 +16,8 @@ use Rattle.insn_text.specs.declared.item.Shape.{Shape}
 use Rattle.insn_text.specs.Texts.{items_of, bits_of}
 use Rattle.insn_text.specs.Rules.{meets}
 use Rattle.asm_tokens.specs.declared.token.Token.{Token}
-use Rattle.asm_tokens.specs.declared.token.Token.TheVariants.{Word, Name, Number, Distance, Bare, Malformed, Mark, Other}
+use Rattle.asm_tokens.specs.declared.token.Token.TheVariants.{Register, Word, Name, Number, Distance, Bare}
+use Rattle.asm_tokens.specs.declared.token.Token.TheVariants.{Malformed}
 use Rattle.asm_operands.specs.declared.fault.FaultKind.{FaultKind}
 use Rattle.asm_operands.specs.declared.fault.FaultKind.TheVariants.{BadOperand, BadNumber, Extra}
 use Rattle.asm_operands.specs.declared.operands.Target.{Target}
@@ -20,12 +26,12 @@ use Rattle.asm_operands.specs.Fields.{field_said}
 -- ---- one operand
 
 -- the bits of an operand's field in a word
-unfoldable pub mask_of : Item → ℕ
-mask_of i = (2 ^ i.upper_width - 1) * 2 ^ i.upper_low + (2 ^ i.width - 1) * 2 ^ i.low
+abbrev pub mask_of : Item → ℕ
+mask_of i = fields.mask_of i.field
 
 -- the field at its place in a word
-unfoldable pub placed : Item → ℕ → ℕ
-placed i field = field / 2 ^ i.width % 2 ^ i.upper_width * 2 ^ i.upper_low + field % 2 ^ i.width * 2 ^ i.low
+abbrev pub placed : Item → ℕ → ℕ
+placed i field = fields.placed i.field field
 
 -- the known bits of a word, and their values
 pub record Known : Type 0 where
@@ -33,12 +39,14 @@ pub record Known : Type 0 where
   pub value : ℕ
 
 unfoldable pub with_field : Item → Known → ℕ → Known
-with_field i known field = record { mask = bit_or known.mask (mask_of i); value = bit_or known.value (placed i field) }
+with_field i known field =
+    record { mask = bit_or known.mask (mask_of i); value = bit_or known.value (placed i field) }
 
 -- a field agrees with the bits that are known of it, and the registers known then meet the operand's rule
 unfoldable pub agrees : Item → Known → ℕ → Bool
 agrees i known field =
-    (bit_and known.value (mask_of i) == bit_and (placed i field) known.mask) && meets i.rule (with_field i known field).value
+    (bit_and known.value (mask_of i) == bit_and (placed i field) known.mask)
+    && meets i.rule (with_field i known field).value
 
 -- what is known with a field, where it agrees
 unfoldable pub known_with : Item → Known → Option ℕ → Option Known
@@ -87,7 +95,8 @@ reach_in s ts = reach (items_of s) (fixed s) ts
 
 -- the shapes of the name at a place of the table of names
 unfoldable pub shapes_of : ℕ → List Shape
-shapes_of name = take (slice_index STARTS (name + 1) - slice_index STARTS name) (drop (slice_index STARTS name) SHAPES)
+shapes_of name =
+    take (slice_index STARTS (name + 1) - slice_index STARTS name) (drop (slice_index STARTS name) SHAPES)
 
 abbrev pub first_of_words : Option ℕ → Option ℕ → Option ℕ
 first_of_words None second = second
@@ -109,40 +118,22 @@ furthest (s ∷ ss) ts = max (reach_in s ts) (furthest ss ts)
 unfoldable pub is_number_kind : Kind → Bool
 is_number_kind (kind.Mark c) = false
 is_number_kind (kind.Named first count) = false
-is_number_kind (kind.Register first last) = false
-is_number_kind (kind.Unsigned base scale most) = true
-is_number_kind (kind.Signed scale) = true
-is_number_kind (kind.Distance scale) = true
-is_number_kind (kind.Mask wide) = true
-is_number_kind (kind.SignedMask wide) = true
-is_number_kind (kind.ShiftLeft wide) = true
+is_number_kind (kind.Register file last) = false
 is_number_kind (kind.Opposite first count) = false
-is_number_kind (kind.Halfword wide inverted) = true
+is_number_kind other = true
 
 -- the kind is a distance, for which a name may stand
 unfoldable pub is_distance : Kind → Bool
-is_distance (kind.Mark c) = false
-is_distance (kind.Named first count) = false
-is_distance (kind.Register first last) = false
-is_distance (kind.Unsigned base scale most) = false
-is_distance (kind.Signed scale) = false
 is_distance (kind.Distance scale) = true
-is_distance (kind.Mask wide) = false
-is_distance (kind.SignedMask wide) = false
-is_distance (kind.ShiftLeft wide) = false
-is_distance (kind.Opposite first count) = false
-is_distance (kind.Halfword wide inverted) = false
+is_distance other = false
 
 -- the token is a number of any form
 unfoldable pub is_number_token : Token → Bool
-is_number_token (Word place) = false
-is_number_token Name = false
 is_number_token (Number negative size) = true
 is_number_token (Distance back size) = true
 is_number_token (Bare size) = true
 is_number_token Malformed = true
-is_number_token (Mark c) = false
-is_number_token Other = false
+is_number_token _ = false
 
 abbrev pub is_number_item : Option Item → Bool
 is_number_item None = false
@@ -171,7 +162,8 @@ pub record Fault : Type 0 where
 
 -- the first token with which no shape goes on
 unfoldable pub operand_fault : List Shape → List Token → Fault
-operand_fault ss ts = record { place = furthest ss ts; kind = kind_at ss (furthest ss ts) ts (slice_get ts (furthest ss ts)) }
+operand_fault ss ts =
+    record { place = furthest ss ts; kind = kind_at ss (furthest ss ts) ts (slice_get ts (furthest ss ts)) }
 
 -- ---- what a name and its operands say
 
@@ -185,14 +177,10 @@ word_said name ts = option_and_then if_meant (first_word (shapes_of name) ts)
 
 -- a name may stand for a distance
 unfoldable pub is_name : Token → Bool
+is_name (Register file number) = true
 is_name (Word place) = true
 is_name Name = true
-is_name (Number negative size) = false
-is_name (Distance back size) = false
-is_name (Bare size) = false
-is_name Malformed = false
-is_name (Mark c) = false
-is_name Other = false
+is_name _ = false
 
 abbrev pub is_name_token : Option Token → Bool
 is_name_token None = false
@@ -202,7 +190,8 @@ is_name_token (Some t) = is_name t
 abbrev pub names : Option Token → Item → Option Item
 names t i = if is_distance i.kind && is_name_token t then Some i else None
 
--- the last operand with its token, where that is a name in the place of a distance: a distance is the last operand of each shape that has one
+-- the last operand with its token, where that is a name in the place of a distance: a distance is the last
+-- operand of each shape that has one
 unfoldable pub target_in : List Item → List Token → Option Target
 target_in is ts =
     option_map (λ i. record { place = length is - 1; operand = i })
@@ -213,7 +202,8 @@ unfoldable pub target_of : List Shape → List Token → Option Target
 target_of [] ts = None
 target_of (s ∷ ss) ts = if is_some (word_in s ts) then target_in (items_of s) ts else target_of ss ts
 
--- what the operands after a name say: the word, and which of their tokens names its target; or the first fault
+-- what the operands after a name say: the word, and which of their tokens names its target; or the first
+-- fault
 pub data OperandsSaid : Type 0 where
   Says : ℕ → Option Target → OperandsSaid
   Fails : Fault → OperandsSaid
@@ -224,4 +214,5 @@ said_or fault target (Some word) = Says word target
 
 -- what the tokens say after the name at a place of the table of names
 unfoldable pub operands_said : ℕ → List Token → OperandsSaid
-operands_said name ts = said_or (Fails (operand_fault (shapes_of name) ts)) (target_of (shapes_of name) ts) (word_said name ts)
+operands_said name ts =
+    said_or (Fails (operand_fault (shapes_of name) ts)) (target_of (shapes_of name) ts) (word_said name ts)

@@ -1,13 +1,13 @@
 -- The tokens in which the operands of a word are printed.
 -- Source: DDI 0487, C1.2 and C6.2.
-use Rattle.std.specs.Prelude.{ℕ, ◌+◌, ◌*◌, false, not, List, map, Option, Some, None}
+use Rattle.std.specs.Prelude.{ℕ, ◌+◌, ◌*◌, ◌==◌, if◌then◌else◌, false, not, List, map, Option, Some, None}
 use Rattle.insn_text.specs.declared.item.Kind.{Kind}
 use Rattle.insn_text.specs.declared.item.Kind.TheVariants as kind
 use Rattle.insn_text.specs.declared.item.Item.{Item}
 use Rattle.insn_text.specs.declared.item.Shape.{Shape}
-use Rattle.insn_text.specs.Texts.{bits_of, field_in, items_of, is_positive, size_of, register_place, mask_in}
+use Rattle.insn_text.specs.Texts.{bits_of, field_in, items_of, is_positive, size_of, mask_in}
 use Rattle.asm_tokens.specs.declared.token.Token.{Token}
-use Rattle.asm_tokens.specs.declared.token.Token.TheVariants.{Word, Number, Distance, Mark, Other}
+use Rattle.asm_tokens.specs.declared.token.Token.TheVariants.{Register, Word, Number, Distance, Mark, Other}
 
 -- the token of a mask, if the fields have one
 abbrev pub mask_token : Option ℕ → Token
@@ -18,10 +18,11 @@ mask_token (Some mask) = Number false mask
 unfoldable pub token_said : Kind → ℕ → ℕ → Token
 token_said (kind.Mark c) bits field = Mark c
 token_said (kind.Named first count) bits field = Word (first + field)
-token_said (kind.Register first last) bits field = Word (register_place first last field)
+token_said (kind.Register file last) bits field = if field == 31 then Word last else Register file field
 token_said (kind.Unsigned base scale most) bits field = Number false (field * scale + base)
 token_said (kind.Signed scale) bits field = Number (not (is_positive bits field)) (size_of bits field * scale)
-token_said (kind.Distance scale) bits field = Distance (not (is_positive bits field)) (size_of bits field * scale)
+token_said (kind.Distance scale) bits field =
+    Distance (not (is_positive bits field)) (size_of bits field * scale)
 token_said (kind.Mask wide) bits field = mask_token (mask_in wide field)
 token_said (kind.SignedMask wide) bits field = Other
 token_said (kind.ShiftLeft wide) bits field = Other

@@ -4,8 +4,8 @@ ghost use Rattle.asm_operands.specs.Distances as distances;
 ghost use Rattle.asm_operands.specs.Sound.{is_sound};
 
 use crate::fields::field_said;
-use crate::known::placed;
 use asm_tokens::Token;
+use insn_forms::placed;
 use insn_text::{Item, Kind};
 
 /// In units of how many bytes the distance is counted; 1 for an operand that is none.
@@ -19,16 +19,16 @@ pub fn unit_of(kind: Kind) -> u16
     }
 }
 
-/// A word whose operand has the distance 0, with a distance of so many bytes, forward or back; `None` exactly where the operand
-/// does not hold it.
-#[tactic(auto, unfolding(crate::specs::Distances::with_distance, crate::specs::Sound::is_sound, crate::specs::Sound::is_in_word))]
+/// A word whose operand has the distance 0, with a distance of so many bytes, forward or back; `None`
+/// exactly where the operand does not hold it.
+#[tactic(auto, unfolding(crate::specs::Distances::with_distance, crate::specs::Sound::is_sound, insn_forms::specs::Fields::is_field))]
 pub fn with_distance(operand: &Item, word: u32, back: bool, size: u64) -> Option<u32>
     requires { is_sound operand.now ≡ true }
     ensures { result ≡ distances.with_distance operand.now word back size }
 {
-    let bits = u32::from(operand.width) + u32::from(operand.upper_width);
+    let bits = u32::from(operand.field.width) + u32::from(operand.field.upper_width);
     match field_said(operand.kind, bits, Token::Distance { back, size }) {
-        Some(field) => Some(word | placed(operand, field)),
+        Some(field) => Some(word | placed(&operand.field, field)),
         None => None,
     }
 }

@@ -2,7 +2,9 @@
 
 ghost use Rattle.std.specs.Prelude.{◌≡◌, ◌-◌, ◌==◌, ◌&&◌, length, slice_get};
 ghost use Rattle.std.specs.List.{list_any};
-ghost use Rattle.asm_operands.specs.Operands.{reach_in, furthest, is_number_kind, is_distance, is_number_token, is_name, is_number_item, is_name_token, wants_number, is_whole, kind_at, operand_fault};
+ghost use Rattle.asm_operands.specs.Operands.{reach_in, furthest, is_number_kind, is_distance};
+ghost use Rattle.asm_operands.specs.Operands.{is_number_token, is_name, is_number_item, is_name_token};
+ghost use Rattle.asm_operands.specs.Operands.{wants_number, is_whole, kind_at, operand_fault};
 ghost use Rattle.asm_operands.specs.Views.{fault_of};
 
 use crate::fault::FaultKind;
@@ -29,17 +31,8 @@ fn is_number_kind(kind: Kind) -> bool
     ensures { result ≡ is_number_kind kind }
 {
     match kind {
-        Kind::Mark(_) => false,
-        Kind::Named { .. } => false,
-        Kind::Register { .. } => false,
-        Kind::Unsigned { .. } => true,
-        Kind::Signed { .. } => true,
-        Kind::Distance { .. } => true,
-        Kind::Mask { .. } => true,
-        Kind::SignedMask { .. } => true,
-        Kind::ShiftLeft { .. } => true,
-        Kind::Opposite { .. } => false,
-        Kind::Halfword { .. } => true,
+        Kind::Mark(_) | Kind::Named { .. } | Kind::Register { .. } | Kind::Opposite { .. } => false,
+        _ => true,
     }
 }
 
@@ -49,14 +42,8 @@ fn is_number_token(token: Token) -> bool
     ensures { result ≡ is_number_token token }
 {
     match token {
-        Token::Word(_) => false,
-        Token::Name => false,
-        Token::Number { .. } => true,
-        Token::Distance { .. } => true,
-        Token::Bare(_) => true,
-        Token::Malformed => true,
-        Token::Mark(_) => false,
-        Token::Other => false,
+        Token::Number { .. } | Token::Distance { .. } | Token::Bare(_) | Token::Malformed => true,
+        _ => false,
     }
 }
 

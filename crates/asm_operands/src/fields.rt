@@ -1,14 +1,19 @@
 //! The number of a field that a token says.
 
-ghost use Rattle.std.specs.Prelude.{ℕ, ◌≡◌, ◌-◌, ◌*◌, ◌<◌, ◌^◌, ◌==◌, ◌&&◌, ◌≤◌, true, Option, IfSome, IsTrue, bit_xor, option_map, option_and_then, None, if◌then◌else◌};
+ghost use Rattle.std.specs.Prelude.{ℕ, ◌≡◌, ◌-◌, ◌*◌, ◌<◌, ◌^◌, ◌==◌, ◌&&◌, ◌≤◌, true, Option, IfSome};
+ghost use Rattle.std.specs.Prelude.{IsTrue, bit_xor, option_map, option_and_then, None, if◌then◌else◌};
 ghost use Rattle.std.specs.List.{find, range_with_len};
-ghost use Rattle.asm_tokens.specs.declared.token.Token.TheVariants.{Word, Name, Number, Distance, Mark};
-ghost use Rattle.asm_operands.specs.Fields.{word_field, register_field, unsigned_field, signed_field, width_of, mask_field, immediate_of, shift_left_field, is_halfword_at, halfword_field, inverted_if, field_said};
+ghost use Rattle.asm_tokens.specs.declared.token.Token.TheVariants.{Register, Word, Name, Number, Distance};
+ghost use Rattle.asm_tokens.specs.declared.token.Token.TheVariants.{Mark};
+ghost use Rattle.asm_operands.specs.Fields.{word_field, same_file, register_field, last_field};
+ghost use Rattle.asm_operands.specs.Fields.{unsigned_field, signed_field, width_of, mask_field, immediate_of};
+ghost use Rattle.asm_operands.specs.Fields.{shift_left_field, is_halfword_at, halfword_field, inverted_if};
+ghost use Rattle.asm_operands.specs.Fields.{field_said};
 ghost use Rattle.asm_operands.specs.Sound.{has_factor};
 
 use asm_tokens::Token;
 use bit_ops::mask_fields;
-use insn_text::Kind;
+use insn_text::{Kind, RegisterFile};
 
 /// One of `count` words from place `first` on.
 #[inline(always)]
@@ -25,17 +30,40 @@ fn word_field(first: u16, count: u16, place: u16) -> Option<u32>
     }
 }
 
-/// The number of a register whose word stands at the place.
+/// Whether the two are one file.
+#[inline(always)]
+#[tactic(auto, unfolding(crate::specs::Fields::same_file))]
+fn same_file(wanted: RegisterFile, file: RegisterFile) -> bool
+    ensures { result ≡ same_file wanted file }
+{
+    match (wanted, file) {
+        (RegisterFile::X, RegisterFile::X) => true,
+        (RegisterFile::X, RegisterFile::W) => false,
+        (RegisterFile::W, RegisterFile::X) => false,
+        (RegisterFile::W, RegisterFile::W) => true,
+    }
+}
+
+/// The number of a register of the file, below 31.
 #[inline(always)]
 #[tactic(auto, unfolding(crate::specs::Fields::register_field))]
-fn register_field(first: u16, last: u16, place: u16) -> Option<u32>
-    ensures { result ≡ register_field first last place }
+fn register_field(wanted: RegisterFile, file: RegisterFile, number: u8) -> Option<u32>
+    ensures { result ≡ register_field wanted file number }
 {
-    if place == last {
-        Some(31)
+    if same_file(wanted, file) && number < 31 {
+        Some(u32::from(number))
     } else {
-        word_field(first, 31, place)
+        None
     }
+}
+
+/// Number 31, whose word stands at a place.
+#[inline(always)]
+#[tactic(auto, unfolding(crate::specs::Fields::last_field))]
+fn last_field(last: u16, place: u16) -> Option<u32>
+    ensures { result ≡ last_field last place }
+{
+    if place == last { Some(31) } else { None }
 }
 
 /// The field, up to the greatest, that times `scale` and with `base` more is the number.
@@ -208,7 +236,8 @@ fn signed_mask_field(wide: bool, negative: bool, size: u64) -> Option<u32>
 /// The halfword of a number that may be negative, or of its bits inverted.
 #[inline(never)]
 fn signed_halfword_field(wide: bool, inverted: bool, negative: bool, size: u64) -> Option<u32>
-    ensures { result ≡ option_and_then (λ number. halfword_field wide (inverted_if wide inverted number)) (immediate_of wide negative size) }
+    ensures { result ≡ option_and_then (λ number. halfword_field wide (inverted_if wide inverted number))
+        (immediate_of wide negative size) }
 {
     match immediate(wide, negative, size) {
         Some(number) => halfword_field(wide, inverted_if(wide, inverted, number)),
@@ -228,7 +257,7 @@ fn opposite_field(first: u16, count: u16, place: u16) -> Option<u32>
 
 /// The number of a field of so many bits that a number says.
 #[inline(always)]
-#[tactic(auto, unfolding(crate::specs::Fields::field_said, crate::specs::Fields::on_mark, crate::specs::Fields::on_word, crate::specs::Fields::on_number, crate::specs::Fields::on_target, crate::specs::Sound::has_factor))]
+#[tactic(auto, unfolding(crate::specs::Fields::field_said, crate::specs::Fields::on_mark, crate::specs::Fields::on_word, crate::specs::Fields::on_register, crate::specs::Fields::on_number, crate::specs::Fields::on_target, crate::specs::Sound::has_factor))]
 fn number_said(kind: Kind, bits: u32, negative: bool, size: u64) -> Option<u32>
     requires few { bits < 32 }
     requires factor { has_factor kind bits ≡ true }
@@ -251,14 +280,14 @@ fn number_said(kind: Kind, bits: u32, negative: bool, size: u64) -> Option<u32>
 
 /// The number of a field that the word at a place says: any name stands for a distance.
 #[inline(always)]
-#[tactic(auto, unfolding(crate::specs::Fields::field_said, crate::specs::Fields::on_mark, crate::specs::Fields::on_word, crate::specs::Fields::on_number, crate::specs::Fields::on_target))]
+#[tactic(auto, unfolding(crate::specs::Fields::field_said, crate::specs::Fields::on_mark, crate::specs::Fields::on_word, crate::specs::Fields::on_register, crate::specs::Fields::on_number, crate::specs::Fields::on_target))]
 fn word_said(kind: Kind, place: u16) -> Option<u32>
     ensures { (bits : ℕ) → result ≡ field_said kind bits (Word place) }
 {
     match kind {
         Kind::Mark(_) => None,
         Kind::Named { first, count } => word_field(first, count, place),
-        Kind::Register { first, last } => register_field(first, last, place),
+        Kind::Register { last, .. } => last_field(last, place),
         Kind::Unsigned { .. } => None,
         Kind::Signed { .. } => None,
         Kind::Distance { .. } => Some(0),
@@ -270,8 +299,21 @@ fn word_said(kind: Kind, place: u16) -> Option<u32>
     }
 }
 
+/// The number of a field that a register says: any name stands for a distance.
+#[inline(always)]
+#[tactic(auto, unfolding(crate::specs::Fields::field_said, crate::specs::Fields::on_mark, crate::specs::Fields::on_word, crate::specs::Fields::on_register, crate::specs::Fields::on_number, crate::specs::Fields::on_target))]
+fn register_said(kind: Kind, file: RegisterFile, number: u8) -> Option<u32>
+    ensures { (bits : ℕ) → result ≡ field_said kind bits (Register file number) }
+{
+    match kind {
+        Kind::Register { file: wanted, .. } => register_field(wanted, file, number),
+        Kind::Distance { .. } => Some(0),
+        _ => None,
+    }
+}
+
 /// The number of a field that a name says that is no word: any stands for a distance.
-#[tactic(auto, unfolding(crate::specs::Fields::field_said, crate::specs::Fields::on_mark, crate::specs::Fields::on_word, crate::specs::Fields::on_number, crate::specs::Fields::on_target))]
+#[tactic(auto, unfolding(crate::specs::Fields::field_said, crate::specs::Fields::on_mark, crate::specs::Fields::on_word, crate::specs::Fields::on_register, crate::specs::Fields::on_number, crate::specs::Fields::on_target))]
 fn name_said(kind: Kind) -> Option<u32>
     ensures { (bits : ℕ) → result ≡ field_said kind bits Name }
 {
@@ -282,7 +324,7 @@ fn name_said(kind: Kind) -> Option<u32>
 }
 
 /// The number of a field of so many bits that a distance says.
-#[tactic(auto, unfolding(crate::specs::Fields::field_said, crate::specs::Fields::on_mark, crate::specs::Fields::on_word, crate::specs::Fields::on_number, crate::specs::Fields::on_target, crate::specs::Sound::has_factor))]
+#[tactic(auto, unfolding(crate::specs::Fields::field_said, crate::specs::Fields::on_mark, crate::specs::Fields::on_word, crate::specs::Fields::on_register, crate::specs::Fields::on_number, crate::specs::Fields::on_target, crate::specs::Sound::has_factor))]
 fn distance_said(kind: Kind, bits: u32, back: bool, size: u64) -> Option<u32>
     requires few { bits < 32 }
     requires factor { has_factor kind bits ≡ true }
@@ -296,7 +338,7 @@ fn distance_said(kind: Kind, bits: u32, back: bool, size: u64) -> Option<u32>
 
 /// The number of a field that a mark says: 0 where it is the one.
 #[inline(always)]
-#[tactic(auto, unfolding(crate::specs::Fields::field_said, crate::specs::Fields::on_mark, crate::specs::Fields::on_word, crate::specs::Fields::on_number, crate::specs::Fields::on_target))]
+#[tactic(auto, unfolding(crate::specs::Fields::field_said, crate::specs::Fields::on_mark, crate::specs::Fields::on_word, crate::specs::Fields::on_register, crate::specs::Fields::on_number, crate::specs::Fields::on_target))]
 fn mark_said(kind: Kind, mark: u8) -> Option<u32>
     ensures { (bits : ℕ) → result ≡ field_said kind bits (Mark mark) }
 {
@@ -308,13 +350,14 @@ fn mark_said(kind: Kind, mark: u8) -> Option<u32>
 
 /// The number of a field of so many bits that the token says.
 #[inline(always)]
-#[tactic(auto, unfolding(crate::specs::Fields::field_said, crate::specs::Fields::on_mark, crate::specs::Fields::on_word, crate::specs::Fields::on_number, crate::specs::Fields::on_target, crate::specs::Sound::has_factor))]
+#[tactic(auto, unfolding(crate::specs::Fields::field_said, crate::specs::Fields::on_mark, crate::specs::Fields::on_word, crate::specs::Fields::on_register, crate::specs::Fields::on_number, crate::specs::Fields::on_target, crate::specs::Sound::has_factor))]
 pub(crate) fn field_said(kind: Kind, bits: u32, token: Token) -> Option<u32>
     requires few { bits < 32 }
     requires factor { has_factor kind bits ≡ true }
     ensures { result ≡ field_said kind bits token }
 {
     match token {
+        Token::Register { file, number } => register_said(kind, file, number),
         Token::Word(place) => word_said(kind, place),
         Token::Name => name_said(kind),
         Token::Number { negative, size } => number_said(kind, bits, negative, size),

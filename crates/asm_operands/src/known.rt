@@ -2,11 +2,13 @@
 
 ghost use Rattle.std.specs.Prelude.{◌≡◌, ◌-◌, ◌*◌, ◌/◌, ◌%◌, ◌^◌, ◌<◌, true, Some, option_map};
 ghost use Rattle.insn_text.specs.Rules.{meets, is_base_apart};
-ghost use Rattle.asm_operands.specs.Operands.{fixed, mask_of, placed, known_with, known_after};
-ghost use Rattle.asm_operands.specs.Sound.{is_sound, is_in_word};
+ghost use Rattle.insn_forms.specs.Fields.{is_field, mask_of};
+ghost use Rattle.asm_operands.specs.Operands.{fixed, known_with, known_after};
+ghost use Rattle.asm_operands.specs.Sound.{is_bare, is_sound};
 
 use crate::fields::field_said;
 use asm_tokens::Token;
+use insn_forms::{Field, placed};
 use insn_text::{Item, Rule, Shape};
 
 /// The known bits of a word, and their values.
@@ -25,27 +27,15 @@ fn ones(width: u8) -> u32
     (1 << u32::from(width)) - 1
 }
 
-/// The bits of an operand's field in a word.
+/// The bits of a field in a word.
 #[inline(always)]
-#[tactic(auto, unfolding(crate::specs::Operands::mask_of, crate::specs::Sound::is_in_word))]
-fn mask_of(item: &Item) -> u32
-    requires { is_in_word item.now ≡ true }
-    ensures { result ≡ mask_of item.now }
+#[tactic(auto, unfolding(insn_forms::specs::Fields::mask_of, insn_forms::specs::Fields::is_field))]
+fn mask_of(field: &Field) -> u32
+    requires { is_field field.now ≡ true }
+    ensures { result ≡ mask_of field.now }
 {
-    (ones(item.upper_width) << u32::from(item.upper_low))
-        + (ones(item.width) << u32::from(item.low))
-}
-
-/// The field at its place in a word.
-#[inline(always)]
-#[tactic(auto, unfolding(crate::specs::Operands::placed, crate::specs::Sound::is_in_word))]
-pub(crate) fn placed(item: &Item, field: u32) -> u32
-    requires { is_in_word item.now ≡ true }
-    ensures { result ≡ placed item.now field }
-{
-    let upper = field >> u32::from(item.width) & ones(item.upper_width);
-    let lower = field & ones(item.width);
-    (upper << u32::from(item.upper_low)) + (lower << u32::from(item.low))
+    (ones(field.upper_width) << u32::from(field.upper_low))
+        + (ones(field.width) << u32::from(field.low))
 }
 
 /// The number of the register whose five bits begin there.
@@ -81,6 +71,15 @@ fn meets(rule: Rule, word: u32) -> bool
     }
 }
 
+/// Whether the operand holds no field, and has no rule.
+#[inline(always)]
+#[tactic(auto, unfolding(crate::specs::Sound::is_bare))]
+fn is_bare(item: &Item) -> bool
+    ensures { result ≡ is_bare item.now }
+{
+    item.field.width == 0 && item.field.upper_width == 0 && matches!(item.rule, Rule::Free)
+}
+
 impl Known {
     ghost use Rattle.asm_operands.specs.Views.{known_of};
 
@@ -95,15 +94,19 @@ impl Known {
         }
     }
 
-    /// What is known with a field, where it agrees with what is known and meets the operand's rule.
+    /// What is known with a field, where it agrees with what is known and meets the operand's rule: the
+    /// same for an operand that holds none and has no rule, as a mark.
     #[inline(always)]
     #[tactic(auto, unfolding(crate::specs::Operands::known_with, crate::specs::Operands::agrees, crate::specs::Operands::with_field))]
     fn with(self, item: &Item, field: u32) -> Option<Known>
-        requires { is_in_word item.now ≡ true }
+        requires { is_field item.now.field ≡ true }
         ensures { option_map known_of result ≡ known_with item.now (known_of self) (Some field) }
     {
-        let own = mask_of(item);
-        let bits = placed(item, field);
+        if is_bare(item) {
+            return Some(self);
+        }
+        let own = mask_of(&item.field);
+        let bits = placed(&item.field, field);
         let value = self.value | bits;
         if self.value & own == bits & self.mask && meets(item.rule, value) {
             Some(Known {
@@ -122,7 +125,7 @@ impl Known {
         requires { is_sound item.now ≡ true }
         ensures { option_map known_of result ≡ known_after item.now (known_of self) token }
     {
-        let bits = u32::from(item.width) + u32::from(item.upper_width);
+        let bits = u32::from(item.field.width) + u32::from(item.field.upper_width);
         match field_said(item.kind, bits, token) {
             Some(field) => self.with(item, field),
             None => None,

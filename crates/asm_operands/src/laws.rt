@@ -1,6 +1,7 @@
 //! What the faults say, as laws over every name and all tokens.
 
-ghost use Rattle.std.specs.Prelude.{◌≡◌, ◌+◌, ◌-◌, ◌^◌, ◌<◌, ◌≤◌, ℕ, Bool, true, false, List, ◌++◌, Some, None, length, take, is_some};
+ghost use Rattle.std.specs.Prelude.{◌≡◌, ◌+◌, ◌-◌, ◌^◌, ◌<◌, ◌≤◌, ℕ, Bool, true, false, List, ◌++◌, Some};
+ghost use Rattle.std.specs.Prelude.{None, length, take, is_some};
 ghost use Rattle.asm_tokens.specs.declared.token.Token.{Token};
 ghost use Rattle.insn_text.specs.declared.words.TheConstants.{NAMES};
 ghost use Rattle.a64_encode.specs.Either.{instruction_of};
@@ -13,11 +14,13 @@ ghost use Rattle.asm_operands.specs.Distances.{with_distance};
 ghost use Rattle.asm_operands.specs.Fields.{field_said, immediate_of, width_of};
 ghost use Rattle.asm_operands.specs.Operands.{shapes_of, first_word, furthest, operands_said, Says};
 
-/// The fault stands at the first token with which no instruction of the name goes on: with other tokens in place of it and of those
-/// after it some shape takes them all, and with it none does.
+/// The fault stands at the first token with which no instruction of the name goes on: with other tokens in
+/// place of it and of those after it some shape takes them all, and with it none does.
 pub fn first_fault_law()
-    ensures goes_on { (name n : ℕ) (ts : List Token) → name < length NAMES → n ≤ furthest (shapes_of name) ts → (rest : List Token) × (word : ℕ) × (first_word (shapes_of name) (take n ts ++ rest) ≡ Some word) }
-    ensures stops { (name : ℕ) (ts rest : List Token) → furthest (shapes_of name) ts < length ts → first_word (shapes_of name) (take (furthest (shapes_of name) ts + 1) ts ++ rest) ≡ None }
+    ensures goes_on { (name n : ℕ) (ts : List Token) → name < length NAMES → n ≤ furthest (shapes_of name) ts
+        → (rest : List Token) × (word : ℕ) × (first_word (shapes_of name) (take n ts ++ rest) ≡ Some word) }
+    ensures stops { (name : ℕ) (ts rest : List Token) → furthest (shapes_of name) ts < length ts
+        → first_word (shapes_of name) (take (furthest (shapes_of name) ts + 1) ts ++ rest) ≡ None }
 {}
 
 /// A word whose target is named means an instruction with each distance that its operand holds.
@@ -26,8 +29,8 @@ pub fn any_distance_law()
         → with_distance target.operand word back size ≡ Some aimed → is_some (instruction_of aimed) ≡ true }
 {}
 
-/// The fields of an alias with a number stand for that number: of `mov` a halfword at its place, or its bits inverted, or a mask; of
-/// `lsl` the rotation and the highest bit of `ubfm`.
+/// The fields of an alias with a number stand for that number: of `mov` a halfword at its place, or its
+/// bits inverted, or a mask; of `lsl` the rotation and the highest bit of `ubfm`.
 pub fn alias_law()
     ensures halfword { (wide negative : Bool) (bits size number field : ℕ) → immediate_of wide negative size ≡ Some number
         → field_said (Halfword wide false) bits (Number negative size) ≡ Some field → halfword_number field ≡ number }
@@ -35,5 +38,7 @@ pub fn alias_law()
         → field_said (Halfword wide true) bits (Number negative size) ≡ Some field → 2 ^ width_of wide - 1 - halfword_number field ≡ number }
     ensures mask { (wide negative : Bool) (bits size number field : ℕ) → immediate_of wide negative size ≡ Some number
         → field_said (SignedMask wide) bits (Number negative size) ≡ Some field → mask_in wide field ≡ Some number }
-    ensures shift { (wide negative : Bool) (bits size field : ℕ) → field_said (ShiftLeft wide) bits (Number negative size) ≡ Some field → IsShiftLeft wide size field }
+    ensures shift { (wide negative : Bool) (bits size field : ℕ)
+        → field_said (ShiftLeft wide) bits (Number negative size) ≡ Some field
+        → IsShiftLeft wide size field }
 {}

@@ -11,8 +11,6 @@ mod operands;
 mod reading;
 mod shapes;
 mod taking;
-#[cfg(test)]
-mod tests;
 
 pub use distances::{unit_of, with_distance};
 pub use fault::FaultKind;

@@ -3,8 +3,8 @@
 use crate::fault::FaultKind;
 use insn_text::Item;
 
-/// A name in the place of a distance: the place of its token among those of the operands, and the operand whose field is to have the
-/// distance.
+/// A name in the place of a distance: the place of its token among those of the operands, and the operand
+/// whose field is to have the distance.
 #[derive(Clone, Copy)]
 pub struct Target {
     pub place: usize,
@@ -18,7 +18,8 @@ pub struct Operands {
     pub target: Option<Target>,
 }
 
-/// The first token with which no instruction of the name goes on: its place, or that just past the last, and why.
+/// The first token with which no instruction of the name goes on: its place, or that just past the last,
+/// and why.
 #[derive(Clone, Copy)]
 pub struct OperandFault {
     pub place: usize,

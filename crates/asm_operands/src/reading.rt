@@ -1,8 +1,10 @@
 //! What the operands after a name say.
 
-ghost use Rattle.std.specs.Prelude.{◌≡◌, ◌-◌, ◌&&◌, length, slice_get, option_and_then, option_map, is_some, IfSome};
+ghost use Rattle.std.specs.Prelude.{◌≡◌, ◌-◌, ◌&&◌, length, slice_get, option_and_then, option_map, is_some};
+ghost use Rattle.std.specs.Prelude.{IfSome};
 ghost use Rattle.a64_encode.specs.Either.{instruction_of};
-ghost use Rattle.asm_operands.specs.Operands.{first_word, is_distance, is_name, is_name_token, names, target_in, target_of, operands_said};
+ghost use Rattle.asm_operands.specs.Operands.{first_word, is_distance, is_name, is_name_token, names};
+ghost use Rattle.asm_operands.specs.Operands.{target_in, target_of, operands_said};
 ghost use Rattle.asm_operands.specs.Views.{said_by};
 
 use crate::faults::operand_fault;
@@ -18,19 +20,7 @@ use insn_text::{Item, Kind, Shape};
 fn is_distance(kind: Kind) -> bool
     ensures { result ≡ is_distance kind }
 {
-    match kind {
-        Kind::Mark(_) => false,
-        Kind::Named { .. } => false,
-        Kind::Register { .. } => false,
-        Kind::Unsigned { .. } => false,
-        Kind::Signed { .. } => false,
-        Kind::Distance { .. } => true,
-        Kind::Mask { .. } => false,
-        Kind::SignedMask { .. } => false,
-        Kind::ShiftLeft { .. } => false,
-        Kind::Opposite { .. } => false,
-        Kind::Halfword { .. } => false,
-    }
+    matches!(kind, Kind::Distance { .. })
 }
 
 /// Whether the token is a name.
@@ -38,16 +28,7 @@ fn is_distance(kind: Kind) -> bool
 fn is_name(token: Token) -> bool
     ensures { result ≡ is_name token }
 {
-    match token {
-        Token::Word(_) => true,
-        Token::Name => true,
-        Token::Number { .. } => false,
-        Token::Distance { .. } => false,
-        Token::Bare(_) => false,
-        Token::Malformed => false,
-        Token::Mark(_) => false,
-        Token::Other => false,
-    }
+    matches!(token, Token::Register { .. } | Token::Word(_) | Token::Name)
 }
 
 /// Whether there is a token at the place, and a name.
@@ -117,8 +98,8 @@ fn is_instruction(word: u32) -> bool
     decode(word).is_some()
 }
 
-/// What the tokens after a name say: the word, with the token that names its target, or the first fault; `name` is a place of
-/// `insn_text::NAMES`.
+/// What the tokens after a name say: the word, with the token that names its target, or the first fault;
+/// `name` is a place of `insn_text::NAMES`.
 #[tactic(auto, unfolding(crate::specs::Operands::operands_said, crate::specs::Operands::word_said, crate::specs::Operands::if_meant))]
 pub fn read_operands(name: u16, tokens: &[Token]) -> Result<Operands, OperandFault>
     ensures { said_by result ≡ operands_said name tokens.now }

@@ -3,7 +3,7 @@
 ghost use Rattle.std.specs.Prelude.{◌≡◌, ◌+◌, ◌-◌, true, length, take, drop, slice_index};
 ghost use Rattle.std.specs.List.{list_all};
 ghost use Rattle.insn_text.specs.Texts.{items_of};
-ghost use Rattle.insn_text.specs.declared.operands.TheConstants.{ITEMS};
+ghost use Rattle.insn_text.specs.declared.items.TheConstants.{ITEMS};
 ghost use Rattle.insn_text.specs.declared.shapes.TheConstants.{SHAPES, STARTS};
 ghost use Rattle.asm_operands.specs.Operands.{shapes_of};
 ghost use Rattle.asm_operands.specs.Sound.{is_sound};

@@ -8,12 +8,13 @@ use Rattle.asm_tokens.specs.declared.token.Lexeme.{Lexeme}
 use Rattle.asm_tokens.specs.Characters.{is_blank, is_digit, front, back, characters, column_at, before_comment}
 use Rattle.asm_tokens.specs.Tokens.{run}
 use Rattle.asm_operands.specs.declared.fault.FaultKind.{FaultKind}
+use Rattle.asm_operands.specs.declared.fault.FaultKind.TheVariants.{UnknownName, BadNumber, Extra, BadOperand}
 use Rattle.asm_parser.specs.declared.line.LineFault.{LineFault}
 use Rattle.asm_parser.specs.declared.line.LineFault.TheVariants as LineFaults
 use Rattle.asm_parser.specs.declared.stops.Stop.{Stop}
 use Rattle.asm_parser.specs.declared.stops.Stop.TheVariants.{Fault, Memory}
 use Rattle.asm_parser.specs.Statements.{Says, SourceLine}
-use Rattle.asm_parser.specs.Lines.{Answer, Tells, Stops, blanks, label_in, has_label, label_of, label_end, column_of, fault_of_kind, line_answer, line_lexemes, line_of, tokens_say}
+use Rattle.asm_parser.specs.Lines.{Answer, Tells, Stops, blanks, label_in, has_label, label_of, label_end, column_of, fault_of_kind, line_answer, line_lexemes, begin_list, keeps_list, line_of, tokens_say}
 use Rattle.asm_parser.specs.Told.{located, lexemes_from, said_from, column_from, stop_fault, StopsAs, is_label}
 
 module _ (text : List ℕ) (start end : ℕ) (name : List ℕ)
@@ -68,6 +69,12 @@ module _ (line : List ℕ) (label : Option (List ℕ)) (ls : List Lexeme) where
       let same : why ≡ kind = cc in
       ap Err (ap₂ fault_of_kind same (column-is line (slice_get ls place) ∙ ap (column_from line) here))
 
+no_memory : (kind : FaultKind) (column : ℕ) → fault_of_kind kind column ≡ LineFaults.Memory → ⊥
+no_memory UnknownName column e = cc
+no_memory BadNumber column e = cc
+no_memory Extra column e = cc
+no_memory BadOperand column e = cc
+
 module _ (line text : List ℕ) (label : Option (List ℕ)) (end : ℕ) (part : text ≡ before_comment line) (labels : label ≡ label_of text) (ends : end ≡ label_end text) where
   line-is : line_of line ≡ line_answer line label (lexemes_from text end) (tokens_say line (lexemes_from text end))
   unfolding line_of line_lexemes
@@ -84,3 +91,10 @@ module _ (line text : List ℕ) (label : Option (List ℕ)) (end : ℕ) (part : 
   unfolding said_from stop_fault
   line-err Memory fault is e other = absurd (other is)
   line-err (Fault start kind) fault is e other = line-is ∙ answer-err line label (lexemes_from text end) _ start kind e ∙ ap Err (sym is)
+
+  pub line-memory : (stop : Stop) (fault : LineFault) → fault ≡ stop_fault line stop → (stop ≡ Memory → begin_list line (lexemes_from text end) ≡ true) → fault ≡ LineFaults.Memory
+      → keeps_list line ≡ true
+  unfolding stop_fault keeps_list line_lexemes
+  line-memory Memory fault is h e =
+      ap (λ xs. begin_list line (lexemes_from xs (label_end xs))) (sym part) ∙ ap (λ n. begin_list line (lexemes_from text n)) (sym ends) ∙ h refl
+  line-memory (Fault start kind) fault is h e = absurd (no_memory kind (column_from line start) (sym is ∙ e))

@@ -6,3 +6,9 @@ pub mod Printed
 pub mod Reading
 pub mod Round
 pub mod Saying
+pub mod Tied
+pub mod Following
+pub mod Wants
+pub mod Instructing
+pub mod LineGrammar
+pub mod LabelLaw

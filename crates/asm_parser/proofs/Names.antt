@@ -1,20 +1,24 @@
 -- Names of directives and of instructions.
 use Rattle.std.proofs.Common.{◌≡◌, ℕ, ◌+◌, ◌-◌, ◌<◌, ◌≤◌, Bool, true, false, not, ◌&&◌, ◌==◌, nat_lt, List, [], ◌∷◌, Option, Some, None, Ok, Err, length, take, drop, get_or, refl, sym, ap, ap₂, ◌∙◌, arith, length-drop}
+use Rattle.std.specs.Prelude.{Result, IfErr}
 use Rattle.std.proofs.lemmas.Bool.{cond_both, cond-true, cond-false}
 use Rattle.std.proofs.lemmas.List.{drop_more, drop-take, take-take, length-take}
 use Rattle.std.proofs.lemmas.List.Sums.{prefix_len-le-length}
-use Rattle.insn_text.specs.declared.words.TheConstants.{WORDS, NAMES}
+use Rattle.insn_text.specs.declared.words.TheConstants.{NAMES}
+use Rattle.insn_text.specs.declared.item.RegisterFile.{RegisterFile}
 use Rattle.asm_tokens.specs.declared.token.Lexeme.{Lexeme}
+use Rattle.asm_tokens.specs.declared.token.Token.TheVariants.{Register}
 use Rattle.asm_tokens.specs.Characters.{is_blank, is_digit, is_name_character, front, column_at, starts_comment, before_comment}
-use Rattle.asm_tokens.specs.Tokens.{Read, run, begins_name, has_sign, name_token, number_token, distance_token, bare_token, place_in, read_number, read_distance, read_run, read_character, read_token, lexeme_at}
+use Rattle.asm_tokens.specs.Tokens.{Read, run, begins_name, has_sign, name_token, token_or, register_of, register_in, token_of_name, number_token, distance_token, bare_token, place_in, read_number, read_distance, read_run, read_character, read_token, lexeme_at}
 use Rattle.asm_tokens.proofs.Steps.{take_front, front-length}
 use Rattle.asm_tokens.proofs.Following.{lexemes-skip, lexemes-none, lexemes-some}
 use Rattle.asm_tokens.proofs.Naming.{named, first-name}
 use Rattle.asm_operands.specs.declared.fault.FaultKind.TheVariants.{UnknownName, Extra}
 use Rattle.asm_operands.specs.Operands.{is_name}
-use Rattle.asm_parser.specs.declared.stops.Stop.TheVariants.{Fault}
+use Rattle.asm_parser.specs.declared.stops.Stop.{Stop}
+use Rattle.asm_parser.specs.declared.stops.Stop.TheVariants.{Fault, Memory}
 use Rattle.asm_parser.specs.Statements.{Nothing}
-use Rattle.asm_parser.specs.Lines.{Answer, text_of_lexeme, Directive, directive_of, directive_says, instruction_says, named_says, tokens_say}
+use Rattle.asm_parser.specs.Lines.{Answer, text_of_lexeme, Directive, is_of_list, if_of_list, begin_list, directive_of, directive_says, instruction_says, named_says, tokens_say}
 use Rattle.asm_parser.specs.Told.{located, lexemes_from, said_from}
 use Rattle.asm_parser.proofs.Saying.{First, said-empty, said-stops, said-goes}
 
@@ -45,6 +49,17 @@ name_is_name : (o : Option ℕ) → is_name (name_token o) ≡ true
 unfolding is_name name_token
 name_is_name None = refl
 name_is_name (Some place) = refl
+
+register_is_name : (file : Option RegisterFile) (number place : Option ℕ) → is_name (token_or (name_token place) (register_of file number)) ≡ true
+unfolding is_name register_of
+register_is_name None number place = name_is_name place
+register_is_name (Some file) None place = name_is_name place
+register_is_name (Some file) (Some number) place =
+    cond_both (nat_lt number 31) (Some (Register file number)) None (λ t. is_name (token_or (name_token place) t) ≡ true) (λ _. refl) (λ _. name_is_name place)
+
+token_is_name : (cs : List ℕ) → is_name (token_of_name cs) ≡ true
+unfolding token_of_name register_in
+token_is_name cs = register_is_name _ _ _
 
 digit_first : (a d s : Bool) → (a && not d && not s) ≡ false → a ≡ true → s ≡ false → d ≡ true
 digit_first true true s e f g = refl
@@ -117,7 +132,7 @@ module _ (line text : List ℕ) (start : ℕ) (part : text ≡ before_comment li
       → tokens_say line (l ∷ lexemes_from text l.end) ≡ named_says line l (lexemes_from text l.end) d p
   unfolding tokens_say
   says-named d p e f =
-      cond-true _ _ _ (name_is_name (place_in WORDS word))
+      cond-true _ _ _ (token_is_name word)
       ∙ ap (λ ys. named_says line l (lexemes_from text l.end) (directive_of ys) (place_in NAMES ys)) text-is
       ∙ ap₂ (λ x y. named_says line l (lexemes_from text l.end) x y) (sym e) (sym f)
 
@@ -130,8 +145,21 @@ module _ (line text : List ℕ) (start : ℕ) (part : text ≡ before_comment li
   named-instruction place e f =
       said-goes (tokens_say line) (instruction_says line place (column_at line start)) text start l first (says-named None (Some place) e f)
 
+  -- a list follows the directive of the first token
+  pub named-list : (d : Directive) → Some d ≡ directive_of word → is_of_list d ≡ true → begin_list line (lexemes_from text start) ≡ true
+  unfolding begin_list
+  named-list d e list =
+      ap (begin_list line) first
+      ∙ ap₂ (λ a b. a && if_of_list b) (token_is_name word) (ap directive_of text-is ∙ sym e)
+      ∙ list
+
   pub named-unknown : None ≡ directive_of word → None ≡ place_in NAMES word → said_from (tokens_say line) text start ≡ Err (Fault (Some start) UnknownName)
   named-unknown e f = said-stops (tokens_say line) text start l UnknownName first (says-named None None e f)
+
+-- a want of memory that is passed on
+pub only_memory : {R : Type 0} (result : Result R Stop) (P Q : Type 0) → (P → Q) → IfErr result (λ stop. stop ≡ Memory → P) → IfErr result (λ stop. stop ≡ Memory → Q)
+only_memory (Ok r) P Q f h = tt
+only_memory (Err stop) P Q f h = λ e. f (h e)
 
 -- ---- the first token after blanks
 

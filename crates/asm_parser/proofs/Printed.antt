@@ -1,5 +1,6 @@
 -- The text of a printed word is read as the tokens of its operands.
 use Rattle.std.proofs.Common.{◌≡◌, ℕ, ◌+◌, ◌-◌, ◌*◌, ◌^◌, ◌<◌, ◌≤◌, Bool, true, false, not, ◌&&◌, ◌||◌, ◌==◌, nat_lt, nat_le, List, [], ◌∷◌, ◌++◌, Option, Some, None, length, map, cond, refl, sym, ap, ap₂, ◌∙◌, arith, subst, eqb-true, ltb-true, leb-true, lit<, inl, inr}
+use Rattle.std.specs.Prelude.{is_some, decimal}
 use Rattle.std.specs.List.{list_all}
 use Rattle.std.proofs.Math.Nat.{mul-le-mul_right}
 use Rattle.std.proofs.lemmas.Bool.{and_parts, and_from, cond_both, not_from_false, or_cases, or_left, or_right, cases_Bool, eqb-false}
@@ -10,21 +11,23 @@ use Rattle.bit_ops.proofs.Digits.{number-lt}
 use Rattle.insn_forms.specs.Fields.{field_of}
 use Rattle.insn_text.specs.declared.item.Kind.{Kind}
 use Rattle.insn_text.specs.declared.item.Kind.TheVariants as kind
+use Rattle.insn_text.specs.declared.item.RegisterFile.{RegisterFile}
 use Rattle.insn_text.specs.declared.item.Item.{Item}
 use Rattle.insn_text.specs.declared.item.Shape.{Shape}
 use Rattle.insn_text.specs.declared.shapes.TheConstants.{SHAPES}
 use Rattle.insn_text.specs.declared.words.TheConstants.{WORDS, NAMES}
-use Rattle.insn_text.specs.Texts.{text_in, text_at, is_positive, size_of, mask_in, mask_text, signed_text, distance_text, register_place, kind_text, bits_of, field_in, item_text, is_mark, is_comma, gap, items_text, items_of}
+use Rattle.insn_text.specs.Texts.{text_in, text_at, is_positive, size_of, mask_in, mask_text, signed_text, distance_text, file_text, register_text, kind_text, bits_of, field_in, item_text, is_mark, is_comma, gap, items_text, items_of}
 use Rattle.insn_text.specs.Rules.{is_within, meets, is_sayable}
 use Rattle.asm_tokens.specs.declared.token.Token.TheVariants as token
 use Rattle.asm_tokens.specs.Characters.{is_name_character, is_digit, is_blank}
-use Rattle.asm_tokens.specs.Tokens.{place_in, lexemes_from, lexemes_of}
+use Rattle.asm_tokens.specs.Numbers.{decimal_number, is_decimal, digit_of}
+use Rattle.asm_tokens.specs.Tokens.{place_in, file_of, register_of, register_in, lexemes_from, lexemes_of}
 use Rattle.asm_tokens.proofs.Following.{lexemes-blank}
 use Rattle.asm_operands.specs.Shown.{mask_token, token_said, item_token}
 use Rattle.asm_operands.proofs.MaskFields.{all_below, all_below-at, mask-given}
-use Rattle.asm_operands.proofs.WordBits.{field_in-lt}
+use Rattle.insn_forms.proofs.Bits.{field_in-lt}
 use Rattle.asm_parser.proofs.Operands.{tokens_of}
-use Rattle.asm_parser.proofs.Reading.{opens, no_slash, IsRead, lexemes-read, is_plain, word-read, number-is-read, negative-is-read, forward-is-read, back-is-read, mask-is-read, is_clean_mark, clean_mark, mark-is-read}
+use Rattle.asm_parser.proofs.Reading.{opens, no_slash, IsRead, lexemes-read, is_plain, word-read, register-is-read, number-is-read, negative-is-read, forward-is-read, back-is-read, mask-is-read, is_clean_mark, clean_mark, mark-is-read}
 
 -- ---- the tables
 
@@ -39,10 +42,10 @@ finds-true k (Some j) e = ap Some (eqb-true j k e)
 
 -- the word is plain, and stands at its place alone
 unfoldable pub is_good_word : ℕ → Bool
-is_good_word place = is_plain (text_at WORDS place) && finds place (place_in WORDS (text_at WORDS place))
+is_good_word place = (is_plain (text_at WORDS place) && finds place (place_in WORDS (text_at WORDS place))) && not (is_some (register_in (text_at WORDS place)))
 
-words_good : all_below is_good_word 98 ≡ true
-unfolding all_below is_good_word is_plain finds place_in text_in is_name_character is_digit
+words_good : all_below is_good_word 36 ≡ true
+unfolding all_below is_good_word is_plain finds place_in text_in is_name_character is_digit register_in register_of file_of decimal_number is_decimal digit_of
 words_good = refl
 
 unfoldable pub is_good_name : ℕ → Bool
@@ -55,8 +58,8 @@ names_good = refl
 -- the kind is printed as texts that are read
 unfoldable pub is_clean_kind : Kind → ℕ → Bool
 is_clean_kind (kind.Mark c) bits = is_clean_mark c
-is_clean_kind (kind.Named first count) bits = nat_le (first + count) 98
-is_clean_kind (kind.Register first last) bits = (bits == 5) && (nat_le (first + 31) 98 && nat_lt last 98)
+is_clean_kind (kind.Named first count) bits = nat_le (first + count) 36
+is_clean_kind (kind.Register file last) bits = (bits == 5) && nat_lt last 36
 is_clean_kind (kind.Unsigned base scale most) bits = nat_lt (most * scale + base) (2 ^ 64)
 is_clean_kind (kind.Signed scale) bits = nat_lt (2 ^ bits * scale) (2 ^ 64)
 is_clean_kind (kind.Distance scale) bits = nat_lt (2 ^ bits * scale) (2 ^ 64)
@@ -102,18 +105,25 @@ mask_in-lt wide field m e = bit_mask-lt (field_of field 12 1 == 1) (field_of fie
 
 -- ---- kinds
 
+none_of : {A : Type 0} (o : Option A) → not (is_some o) ≡ true → o ≡ None
+none_of None e = refl
+none_of (Some a) e = cc
+
 module _ (rest : List ℕ) (o : opens rest ≡ true) where
-  place-read : (place : ℕ) → place < 98 → IsRead (text_at WORDS place) rest (token.Word place)
+  place-read : (place : ℕ) → place < 36 → IsRead (text_at WORDS place) rest (token.Word place)
   unfolding is_good_word
   place-read place lt =
-      let p = and_parts (is_plain (text_at WORDS place)) (finds place (place_in WORDS (text_at WORDS place))) (all_below-at is_good_word 98 place words_good lt) in
-      word-read (text_at WORDS place) rest place p.0 (finds-true place _ p.1) o
+      let g = and_parts (is_plain (text_at WORDS place) && finds place (place_in WORDS (text_at WORDS place))) (not (is_some (register_in (text_at WORDS place)))) (all_below-at is_good_word 36 place words_good lt) in
+      let p = and_parts (is_plain (text_at WORDS place)) (finds place (place_in WORDS (text_at WORDS place))) g.0 in
+      word-read (text_at WORDS place) rest place p.0 (none_of (register_in (text_at WORDS place)) g.1) (finds-true place _ p.1) o
 
-  register-read : (first last field : ℕ) → first + 31 ≤ 98 → last < 98 → field < 32 → IsRead (text_at WORDS (register_place first last field)) rest (token.Word (register_place first last field))
-  unfolding register_place
-  register-read first last field a b lt =
-      cond_both (field == 31) last (first + field) (λ place. IsRead (text_at WORDS place) rest (token.Word place)) (λ _. place-read last b)
-      (λ other. place-read (first + field) (let ne : field ≡ 31 → ⊥ = eqb-false field 31 other in omega arith))
+  register-read : (file : RegisterFile) (last field : ℕ) → last < 36 → field < 32 → IsRead (register_text file last field) rest (cond (field == 31) (token.Word last) (token.Register file field))
+  unfolding register_text
+  register-read file last field a lt =
+      elim (field == 31) as (λ b. field == 31 ≡ b → IsRead (cond b (text_at WORDS last) (file_text file ++ decimal field)) rest (cond b (token.Word last) (token.Register file field))) [
+        | true ↦ λ e. place-read last a
+        | false ↦ λ e. (let ne : field ≡ 31 → ⊥ = eqb-false field 31 e in register-is-read file field rest (omega arith) o)
+      ] refl
 
   signed-read : (positive : Bool) (n : ℕ) → n < 2 ^ 64 → IsRead (signed_text positive n) rest (token.Number (not positive) n)
   unfolding signed_text
@@ -153,13 +163,12 @@ kind-read : (k : Kind) (bits field : ℕ) (rest : List ℕ) → is_clean_kind k 
 unfolding is_clean_kind is_within is_mark kind_text token_said
 kind-read (kind.Mark c) bits field rest e w lt o = mark-is-read c rest e
 kind-read (kind.Named first count) bits field rest e w lt o =
-    let a = leb-true (first + count) 98 e in
+    let a = leb-true (first + count) 36 e in
     let b = ltb-true field count w in
     place-read rest o (first + field) (omega arith)
-kind-read (kind.Register first last) bits field rest e w lt o =
-    let p = and_parts (bits == 5) (nat_le (first + 31) 98 && nat_lt last 98) e in
-    let q = and_parts (nat_le (first + 31) 98) (nat_lt last 98) p.1 in
-    register-read rest o first last field (leb-true (first + 31) 98 q.0) (ltb-true last 98 q.1) (subst (λ n. field < 2 ^ n) (eqb-true bits 5 p.0) lt)
+kind-read (kind.Register file last) bits field rest e w lt o =
+    let p = and_parts (bits == 5) (nat_lt last 36) e in
+    register-read rest o file last field (ltb-true last 36 p.1) (subst (λ n. field < 2 ^ n) (eqb-true bits 5 p.0) lt)
 kind-read (kind.Unsigned base scale most) bits field rest e w lt o =
     let top = ltb-true (most * scale + base) (2 ^ 64) e in
     let h : field * scale ≤ most * scale = mul-le-mul_right scale (leb-true field most w) in
@@ -176,7 +185,7 @@ item-read : (word : ℕ) (i : Item) (rest : List ℕ) → is_clean_item i ≡ tr
     → IsRead (item_text word i) rest (item_token word i)
 unfolding is_clean_item is_sayable item_text item_token
 item-read word i rest e s o =
-    kind-read i.kind (bits_of i) (field_in i word) rest e (and_parts (is_within i.kind (field_in i word)) (meets i.rule word) s).0 (field_in-lt i word) o
+    kind-read i.kind (bits_of i) (field_in i word) rest e (and_parts (is_within i.kind (field_in i word)) (meets i.rule word) s).0 (field_in-lt i.field word) o
 
 -- ---- operands
 

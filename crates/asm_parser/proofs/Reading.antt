@@ -1,5 +1,5 @@
 -- Texts that are read as tokens, whatever follows them.
-use Rattle.std.proofs.Common.{◌≡◌, ℕ, suc, ◌+◌, ◌^◌, ◌<◌, Bool, true, false, not, ◌&&◌, ◌==◌, nat_lt, List, [], ◌∷◌, ◌++◌, Some, length, drop, get_or, refl, sym, ap, ap₂, ◌∙◌, arith}
+use Rattle.std.proofs.Common.{◌≡◌, ℕ, suc, ◌+◌, ◌^◌, ◌<◌, Bool, true, false, not, ◌&&◌, ◌==◌, nat_lt, List, [], ◌∷◌, ◌++◌, Some, None, cond, lt-ltb, length, drop, get_or, refl, sym, ap, ap₂, ◌∙◌, arith}
 use Rattle.std.specs.Prelude.{decimal}
 use Rattle.std.specs.Fmt.{digits}
 use Rattle.std.specs.List.{list_all}
@@ -8,13 +8,16 @@ use Rattle.std.proofs.lemmas.Bool.Decides.{nat_tests}
 use Rattle.std.proofs.lemmas.Fmt.{decimal_nonempty}
 use Rattle.std.proofs.lemmas.List.{drop_at}
 use Rattle.std.proofs.lemmas.List.Sums.{take_while-cons}
+use Rattle.insn_text.specs.declared.item.RegisterFile.{RegisterFile}
+use Rattle.insn_text.specs.declared.item.RegisterFile.TheVariants.{X, W}
+use Rattle.insn_text.specs.Texts.{file_text}
 use Rattle.insn_text.specs.declared.words.TheConstants.{WORDS}
 use Rattle.asm_tokens.specs.declared.token.Lexeme.{Lexeme}
 use Rattle.asm_tokens.specs.declared.token.Token.{Token}
-use Rattle.asm_tokens.specs.declared.token.Token.TheVariants.{Word, Number, Distance, Mark}
+use Rattle.asm_tokens.specs.declared.token.Token.TheVariants.{Register, Word, Number, Distance, Mark}
 use Rattle.asm_tokens.specs.Characters.{is_name_character, is_blank, is_digit}
 use Rattle.asm_tokens.specs.Numbers.{number_in, decimal_number, begins_hexadecimal}
-use Rattle.asm_tokens.specs.Tokens.{Read, run, has_sign, begins_name, name_token, number_token, distance_token, place_in, read_number, read_distance, read_character, read_token, lexemes_of}
+use Rattle.asm_tokens.specs.Tokens.{Read, run, has_sign, begins_name, name_token, token_or, file_of, register_of, register_in, token_of_name, number_token, distance_token, place_in, read_number, read_distance, read_character, read_token, lexemes_of}
 use Rattle.asm_tokens.proofs.Following.{lexemes-token}
 use Rattle.asm_tokens.proofs.Naming.{read-name, name_no_blank}
 use Rattle.asm_parser.proofs.Numerals.{decimal-read, decimal-names, number-read, no_minus, hexadecimal-read, hexadecimal-names}
@@ -88,10 +91,11 @@ plain-begins (c ∷ cs) rest e =
     let name = (and_parts (is_name_character c) (list_all is_name_character cs) q.0).0 in
     and_from _ _ (and_from (is_name_character c) (not (is_digit c)) name q.1) (not_from_false _ (ap (λ b. b && has_sign (cs ++ rest)) (not-true (c == 46) p.1)))
 
-pub word-read : (xs rest : List ℕ) (place : ℕ) → is_plain xs ≡ true → place_in WORDS xs ≡ Some place → opens rest ≡ true → IsRead xs rest (Word place)
-unfolding is_plain name_token
-word-read [] rest place e found o = cc
-word-read (c ∷ cs) rest place e found o =
+-- a name is read as its token
+pub name-is-read : (xs rest : List ℕ) (t : Token) → is_plain xs ≡ true → token_of_name xs ≡ t → opens rest ≡ true → IsRead xs rest t
+unfolding is_plain
+name-is-read [] rest t e is o = cc
+name-is-read (c ∷ cs) rest t e is o =
     let names = plain-names (c ∷ cs) e in
     record {
       first = c;
@@ -101,9 +105,30 @@ word-read (c ∷ cs) rest place e found o =
       plain = names_no_slash (c ∷ cs) names;
       reads =
           read-name c (cs ++ rest) (plain-begins (c ∷ cs) rest e)
-          ∙ ap (λ ys. make (name_token (place_in WORDS ys)) (length ys)) (run-whole (c ∷ cs) rest names o)
-          ∙ ap (λ v. make (name_token v) (length (c ∷ cs))) found;
+          ∙ ap (λ ys. make (token_of_name ys) (length ys)) (run-whole (c ∷ cs) rest names o)
+          ∙ ap (λ v. make v (length (c ∷ cs))) is;
     }
+
+pub word-read : (xs rest : List ℕ) (place : ℕ) → is_plain xs ≡ true → register_in xs ≡ None → place_in WORDS xs ≡ Some place → opens rest ≡ true → IsRead xs rest (Word place)
+unfolding token_of_name name_token
+word-read xs rest place e other found o = name-is-read xs rest (Word place) e (ap₂ (λ p r. token_or (name_token p) r) found other) o
+
+register-token : (file : RegisterFile) (n : ℕ) → n < 31 → token_of_name (file_text file ++ decimal n) ≡ Register file n
+unfolding token_of_name register_in register_of file_of file_text
+register-token X n lt =
+    let fits : n < 2 ^ 64 = omega arith in
+    ap (λ m. token_or (name_token (place_in WORDS (120 ∷ decimal n))) (register_of (Some X) m)) (decimal-read n fits) ∙ ap (λ b. token_or (name_token (place_in WORDS (120 ∷ decimal n))) (cond b (Some (Register X n)) None)) (lt-ltb n 31 lt)
+register-token W n lt =
+    let fits : n < 2 ^ 64 = omega arith in
+    ap (λ m. token_or (name_token (place_in WORDS (119 ∷ decimal n))) (register_of (Some W) m)) (decimal-read n fits) ∙ ap (λ b. token_or (name_token (place_in WORDS (119 ∷ decimal n))) (cond b (Some (Register W n)) None)) (lt-ltb n 31 lt)
+
+register-plain : (file : RegisterFile) (n : ℕ) → n < 2 ^ 64 → is_plain (file_text file ++ decimal n) ≡ true
+unfolding is_plain file_text is_name_character is_digit
+register-plain X n lt = ap (λ b. b && true && true) (decimal-names n lt)
+register-plain W n lt = ap (λ b. b && true && true) (decimal-names n lt)
+
+pub register-is-read : (file : RegisterFile) (n : ℕ) (rest : List ℕ) → n < 31 → opens rest ≡ true → IsRead (file_text file ++ decimal n) rest (Register file n)
+register-is-read file n rest lt o = name-is-read (file_text file ++ decimal n) rest (Register file n) (register-plain file n (omega arith)) (register-token file n lt) o
 
 -- ---- numbers
 
@@ -111,83 +136,62 @@ first_of : (xs rest : List ℕ) → 0 < length xs → get_or (xs ++ rest) 0 0 �
 first_of [] rest some = absurd (omega arith)
 first_of (x ∷ xs) rest some = refl
 
-pub number-is-read : (n : ℕ) (rest : List ℕ) → n < 2 ^ 64 → opens rest ≡ true → IsRead (35 ∷ decimal n) rest (Number false n)
+-- a number after one character, or after one and a sign
+one_more : (n : ℕ) → 1 + n ≡ suc n
+one_more n = omega arith
+
+two_more : (n : ℕ) → 2 + n ≡ suc (suc n)
+two_more n = omega arith
+
+-- `#` and digits with no sign
+after-mark : (ds rest : List ℕ) (n : ℕ) → list_all is_name_character ds ≡ true → (get_or (ds ++ rest) 0 0 == 45) ≡ false → number_in ds ≡ Some n → opens rest ≡ true
+    → IsRead (35 ∷ ds) rest (Number false n)
 unfolding read_token read_number number_token is_blank
+after-mark ds rest n names plus reads o = record {
+  first = 35;
+  others = ds;
+  whole = refl;
+  no_blank = refl;
+  plain = names_no_slash ds names;
+  reads =
+      cond-false _ _ _ plus
+      ∙ ap (λ ys. make (number_token false (number_in ys)) (1 + length ys)) (run-whole ds rest names o)
+      ∙ ap₂ (λ v k. make (number_token false v) k) reads (one_more (length ds));
+}
+
+pub number-is-read : (n : ℕ) (rest : List ℕ) → n < 2 ^ 64 → opens rest ≡ true → IsRead (35 ∷ decimal n) rest (Number false n)
 number-is-read n rest lt o =
-    let plus : (get_or (decimal n ++ rest) 0 0 == 45) ≡ false = ap (λ c. c == 45) (first_of (decimal n) rest (decimal_nonempty n lt)) ∙ no_minus n lt in
-    let size : 1 + length (decimal n) ≡ suc (length (decimal n)) = omega arith in
+    after-mark (decimal n) rest n (decimal-names n lt) (ap (λ c. c == 45) (first_of (decimal n) rest (decimal_nonempty n lt)) ∙ no_minus n lt) (number-read n lt) o
+
+pub mask-is-read : (n : ℕ) (rest : List ℕ) → n < 2 ^ 64 → opens rest ≡ true → IsRead (35 ∷ 48 ∷ 120 ∷ digits 16 false n) rest (Number false n)
+unfolding number_in begins_hexadecimal is_name_character is_digit
+mask-is-read n rest lt o = after-mark (48 ∷ 120 ∷ digits 16 false n) rest n (hexadecimal-names n lt) refl (hexadecimal-read n lt) o
+
+-- a character, a sign and digits
+after-sign : (first sign : ℕ) (n : ℕ) (rest : List ℕ) (t : Token) (token : List ℕ → Token) → n < 2 ^ 64 → opens rest ≡ true → is_blank first ≡ false → (no_slash first && no_slash sign) ≡ true
+    → ((cs : List ℕ) → read_token first (sign ∷ cs) ≡ make (token (run cs)) (2 + length (run cs))) → token (decimal n) ≡ t → IsRead (first ∷ sign ∷ decimal n) rest t
+after-sign first sign n rest t token lt o blank slash reads is =
+    let p = and_parts (no_slash first) (no_slash sign) slash in
     record {
-      first = 35;
-      others = decimal n;
+      first = first;
+      others = sign ∷ decimal n;
       whole = refl;
-      no_blank = refl;
-      plain = names_no_slash (decimal n) (decimal-names n lt);
-      reads =
-          cond-false _ _ _ plus
-          ∙ ap (λ ys. make (number_token false (number_in ys)) (1 + length ys)) (run-whole (decimal n) rest (decimal-names n lt) o)
-          ∙ ap₂ (λ v k. make (number_token false v) k) (number-read n lt) size;
+      no_blank = blank;
+      plain = and_from (no_slash first) _ p.0 (and_from (no_slash sign) _ p.1 (names_no_slash (decimal n) (decimal-names n lt)));
+      reads = reads (decimal n ++ rest) ∙ ap (λ ys. make (token ys) (2 + length ys)) (run-whole (decimal n) rest (decimal-names n lt) o) ∙ ap₂ (λ v k. make v k) is (two_more (length (decimal n)));
     }
 
 pub negative-is-read : (n : ℕ) (rest : List ℕ) → n < 2 ^ 64 → opens rest ≡ true → IsRead (35 ∷ 45 ∷ decimal n) rest (Number true n)
 unfolding read_token read_number number_token is_blank
-negative-is-read n rest lt o =
-    let size : 2 + length (decimal n) ≡ suc (suc (length (decimal n))) = omega arith in
-    record {
-      first = 35;
-      others = 45 ∷ decimal n;
-      whole = refl;
-      no_blank = refl;
-      plain = names_no_slash (decimal n) (decimal-names n lt);
-      reads =
-          ap (λ ys. make (number_token true (number_in ys)) (2 + length ys)) (run-whole (decimal n) rest (decimal-names n lt) o)
-          ∙ ap₂ (λ v k. make (number_token true v) k) (number-read n lt) size;
-    }
+negative-is-read n rest lt o = after-sign 35 45 n rest (Number true n) (λ ys. number_token true (number_in ys)) lt o refl refl (λ cs. refl) (ap (number_token true) (number-read n lt))
 
 pub forward-is-read : (n : ℕ) (rest : List ℕ) → n < 2 ^ 64 → opens rest ≡ true → IsRead (46 ∷ 43 ∷ decimal n) rest (Distance false n)
 unfolding read_token read_distance distance_token has_sign is_blank
-forward-is-read n rest lt o =
-    let size : 2 + length (decimal n) ≡ suc (suc (length (decimal n))) = omega arith in
-    record {
-      first = 46;
-      others = 43 ∷ decimal n;
-      whole = refl;
-      no_blank = refl;
-      plain = names_no_slash (decimal n) (decimal-names n lt);
-      reads =
-          ap (λ ys. make (distance_token false (decimal_number ys)) (2 + length ys)) (run-whole (decimal n) rest (decimal-names n lt) o)
-          ∙ ap₂ (λ v k. make (distance_token false v) k) (decimal-read n lt) size;
-    }
+forward-is-read n rest lt o = after-sign 46 43 n rest (Distance false n) (λ ys. distance_token false (decimal_number ys)) lt o refl refl (λ cs. refl) (ap (distance_token false) (decimal-read n lt))
 
 pub back-is-read : (n : ℕ) (rest : List ℕ) → n < 2 ^ 64 → opens rest ≡ true → IsRead (46 ∷ 45 ∷ decimal n) rest (Distance true n)
 unfolding read_token read_distance distance_token has_sign is_blank
-back-is-read n rest lt o =
-    let size : 2 + length (decimal n) ≡ suc (suc (length (decimal n))) = omega arith in
-    record {
-      first = 46;
-      others = 45 ∷ decimal n;
-      whole = refl;
-      no_blank = refl;
-      plain = names_no_slash (decimal n) (decimal-names n lt);
-      reads =
-          ap (λ ys. make (distance_token true (decimal_number ys)) (2 + length ys)) (run-whole (decimal n) rest (decimal-names n lt) o)
-          ∙ ap₂ (λ v k. make (distance_token true v) k) (decimal-read n lt) size;
-    }
-
-pub mask-is-read : (n : ℕ) (rest : List ℕ) → n < 2 ^ 64 → opens rest ≡ true → IsRead (35 ∷ 48 ∷ 120 ∷ digits 16 false n) rest (Number false n)
-unfolding read_token read_number number_token number_in begins_hexadecimal is_blank is_name_character is_digit
-mask-is-read n rest lt o =
-    let text = 48 ∷ 120 ∷ digits 16 false n in
-    let size : 1 + length text ≡ suc (length text) = omega arith in
-    record {
-      first = 35;
-      others = text;
-      whole = refl;
-      no_blank = refl;
-      plain = names_no_slash (digits 16 false n) (hexadecimal-names n lt);
-      reads =
-          ap (λ ys. make (number_token false (number_in ys)) (1 + length ys)) (run-whole text rest (hexadecimal-names n lt) o)
-          ∙ ap₂ (λ v k. make (number_token false v) k) (hexadecimal-read n lt) size;
-    }
+back-is-read n rest lt o = after-sign 46 45 n rest (Distance true n) (λ ys. distance_token true (decimal_number ys)) lt o refl refl (λ cs. refl) (ap (distance_token true) (decimal-read n lt))
 
 -- ---- marks
 

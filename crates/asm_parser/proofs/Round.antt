@@ -1,8 +1,7 @@
 -- The text of a word is read as that word.
-use Rattle.std.proofs.Common.{◌≡◌, ℕ, ◌+◌, ◌^◌, ◌<◌, Bool, true, false, not, ◌&&◌, ◌||◌, ◌==◌, List, [], ◌∷◌, ◌++◌, Some, None, Ok, length, drop, get_or, slice_get, cond, refl, sym, ap, ◌∙◌, arith, inl, inr, length-append}
+use Rattle.std.proofs.Common.{◌≡◌, ℕ, ◌+◌, ◌^◌, ◌<◌, Bool, true, false, not, ◌&&◌, ◌||◌, ◌==◌, List, [], ◌∷◌, ◌++◌, Some, None, Ok, length, drop, get_or, cond, refl, sym, ap, ◌∙◌, arith, length-append}
 use Rattle.std.specs.List.{list_all, find}
 use Rattle.std.proofs.lemmas.Bool.{and_parts, and_right, not-true, cond-false}
-use Rattle.std.specs.Option.{option_or}
 use Rattle.std.proofs.lemmas.List.{drop_at, get_or-drop}
 use Rattle.std.proofs.lemmas.List.Sums.{take_while-cons}
 use Rattle.sm_types.specs.declared.insn.Insn.{Insn}

@@ -1,3 +1,4 @@
 pub mod Statements
 pub mod Lines
 pub mod Told
+pub mod Grammar

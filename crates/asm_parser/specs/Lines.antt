@@ -1,13 +1,16 @@
 -- The grammar of a line: an optional label, an optional directive or instruction, and an optional comment.
 -- Source: this project's own assembly language, with the directives of the GNU assembler.
-use Rattle.std.specs.Prelude.{ℕ, ◌+◌, ◌-◌, ◌^◌, Bool, true, false, not, ◌&&◌, ◌==◌, nat_le, List, [], ◌∷◌, length, take, drop, map, slice_get, slice_index, Option, Some, None, Result, Ok, Err, codes, if◌then◌else◌, option_map}
+use Rattle.std.specs.Prelude.{ℕ, ◌+◌, ◌-◌, ◌^◌, Bool, true, false, not, ◌&&◌, ◌==◌, nat_le, List, [], ◌∷◌}
+use Rattle.std.specs.Prelude.{length, take, drop, map, slice_get, slice_index, Option, Some, None, Result, Ok}
+use Rattle.std.specs.Prelude.{Err, codes, if◌then◌else◌, option_map}
 use Rattle.std.specs.Str.{bytes_eq}
 use Rattle.insn_text.specs.declared.item.Item.{Item}
 use Rattle.insn_text.specs.declared.words.TheConstants.{NAMES}
 use Rattle.asm_tokens.specs.declared.token.Token.{Token}
-use Rattle.asm_tokens.specs.declared.token.Token.TheVariants.{Word, Name, Number, Distance, Bare, Malformed, Mark, Other}
+use Rattle.asm_tokens.specs.declared.token.Token.TheVariants.{Bare, Mark}
 use Rattle.asm_tokens.specs.declared.token.Lexeme.{Lexeme}
-use Rattle.asm_tokens.specs.Characters.{is_digit, is_blank, characters, column_at, before_comment, front, back}
+use Rattle.asm_tokens.specs.Characters.{is_digit, is_blank, characters, column_at, before_comment, front}
+use Rattle.asm_tokens.specs.Characters.{back}
 use Rattle.asm_tokens.specs.Tokens.{run, lexemes_of, place_in}
 use Rattle.asm_operands.specs.declared.fault.FaultKind.{FaultKind}
 use Rattle.asm_operands.specs.declared.fault.FaultKind.TheVariants.{UnknownName, BadNumber, Extra, BadOperand}
@@ -16,7 +19,9 @@ use Rattle.asm_operands.specs.declared.operands.Target.{Target}
 use Rattle.asm_operands.specs.Operands as operands
 use Rattle.asm_parser.specs.declared.line.LineFault.{LineFault}
 use Rattle.asm_parser.specs.declared.line.LineFault.TheVariants as fault
-use Rattle.asm_parser.specs.Statements.{QuadValue, IsNumber, IsAddressOf, TargetSaid, Says, Nothing, IntoText, IntoData, Quads, Words, Bytes, Zeros, Aligns, Globals, Instructs, SourceLine}
+use Rattle.asm_parser.specs.Statements.{QuadValue, IsNumber, IsAddressOf, TargetSaid, Says, Nothing, IntoText}
+use Rattle.asm_parser.specs.Statements.{IntoData, Quads, Words, Bytes, Zeros, Aligns, Globals, Instructs}
+use Rattle.asm_parser.specs.Statements.{SourceLine}
 
 -- the bytes of a token of the line
 unfoldable pub text_of_lexeme : List ℕ → Lexeme → List ℕ
@@ -51,13 +56,7 @@ no_number t = Stops 0 (if is_number_token t then BadNumber else BadOperand)
 -- a number without `#`, up to the greatest
 unfoldable pub number_up_to : ℕ → Token → Option ℕ
 number_up_to most (Bare n) = if nat_le n most then Some n else None
-number_up_to most (Word place) = None
-number_up_to most Name = None
-number_up_to most (Number negative size) = None
-number_up_to most (Distance back size) = None
-number_up_to most Malformed = None
-number_up_to most (Mark c) = None
-number_up_to most Other = None
+number_up_to most _ = None
 
 abbrev pub number_then_end : Token → Option ℕ → List Lexeme → Answer ℕ
 number_then_end t None ls = no_number t
@@ -71,7 +70,8 @@ one_number most (l ∷ ls) = number_then_end l.token (number_up_to most l.token)
 -- one name
 unfoldable pub one_name : List ℕ → List Lexeme → Answer (List ℕ)
 one_name line [] = Stops 0 BadOperand
-one_name line (l ∷ ls) = if is_name l.token then further 1 (ends (text_of_lexeme line l) ls) else Stops 0 BadOperand
+one_name line (l ∷ ls) =
+    if is_name l.token then further 1 (ends (text_of_lexeme line l) ls) else Stops 0 BadOperand
 
 abbrev pub cons_answer : {A : Type 0} → A → Answer (List A) → Answer (List A)
 cons_answer a (Tells rest) = Tells (a ∷ rest)
@@ -79,13 +79,7 @@ cons_answer a (Stops place kind) = Stops place kind
 
 abbrev pub is_comma_token : Token → Bool
 is_comma_token (Mark c) = c == 44
-is_comma_token (Word place) = false
-is_comma_token Name = false
-is_comma_token (Number negative size) = false
-is_comma_token (Distance back size) = false
-is_comma_token (Bare size) = false
-is_comma_token Malformed = false
-is_comma_token Other = false
+is_comma_token _ = false
 
 -- one value or more with a comma between each two; `value` tells whether a token is one
 module _ {A : Type 0} (value : Lexeme → Option A) where
@@ -97,18 +91,23 @@ module _ {A : Type 0} (value : Lexeme → Option A) where
   unfoldable pub values_from : Bool → List Lexeme → Answer (List A)
   values_from true [] = Stops 0 BadOperand
   values_from false [] = Tells []
-  values_from true (l ∷ ls) = value_or_fault l.token (λ a. further 1 (cons_answer a (values_from false ls))) (value l)
-  values_from false (l ∷ ls) = if is_comma_token l.token then further 1 (values_from true ls) else Stops 0 Extra
+  values_from true (l ∷ ls) =
+      value_or_fault l.token (λ a. further 1 (cons_answer a (values_from false ls))) (value l)
+  values_from false (l ∷ ls) =
+      if is_comma_token l.token then further 1 (values_from true ls) else Stops 0 Extra
 
 unfoldable pub number_value : ℕ → Lexeme → Option ℕ
 number_value most l = number_up_to most l.token
 
 -- a number of 64 bits, or a name
 unfoldable pub quad_value : List ℕ → Lexeme → Option QuadValue
-quad_value line l = if is_name l.token then Some (IsAddressOf (text_of_lexeme line l)) else option_map IsNumber (number_up_to (2 ^ 64 - 1) l.token)
+quad_value line l =
+    if is_name l.token then Some (IsAddressOf (text_of_lexeme line l)) else option_map IsNumber
+    (number_up_to (2 ^ 64 - 1) l.token)
 
 pub data Directive : Type 0 where
-  TextDirective DataDirective QuadDirective WordDirective ByteDirective ZeroDirective AlignDirective GlobalDirective : Directive
+  TextDirective DataDirective QuadDirective WordDirective ByteDirective ZeroDirective AlignDirective
+      GlobalDirective : Directive
 
 unfoldable pub directive_of : List ℕ → Option Directive
 directive_of name =
@@ -133,6 +132,22 @@ directive_says line ZeroDirective ls = and_then Zeros (one_number (2 ^ 64 - 1) l
 directive_says line AlignDirective ls = and_then Aligns (one_number 12 ls)
 directive_says line GlobalDirective ls = and_then Globals (one_name line ls)
 
+-- a list of values follows the directive
+unfoldable pub is_of_list : Directive → Bool
+is_of_list QuadDirective = true
+is_of_list WordDirective = true
+is_of_list ByteDirective = true
+is_of_list other = false
+
+abbrev pub if_of_list : Option Directive → Bool
+if_of_list None = false
+if_of_list (Some directive) = is_of_list directive
+
+-- the tokens begin with a directive that a list of values follows
+unfoldable pub begin_list : List ℕ → List Lexeme → Bool
+begin_list line [] = false
+begin_list line (l ∷ ls) = is_name l.token && if_of_list (directive_of (text_of_lexeme line l))
+
 -- ---- instructions
 
 -- the target, from the place of its token
@@ -145,12 +160,14 @@ target_at line ls None = None
 target_at line ls (Some target) = target_named line target.operand (slice_get ls target.place)
 
 abbrev pub instruction_or_fault : List ℕ → ℕ → List Lexeme → OperandsSaid → Answer Says
-instruction_or_fault line column ls (operands.Says word target) = Tells (Instructs word (target_at line ls target) column)
+instruction_or_fault line column ls (operands.Says word target) =
+    Tells (Instructs word (target_at line ls target) column)
 instruction_or_fault line column ls (operands.Fails f) = Stops f.place f.kind
 
 -- what an instruction says, whose name stands at that place of the table of names and at that column
 unfoldable pub instruction_says : List ℕ → ℕ → ℕ → List Lexeme → Answer Says
-instruction_says line name column ls = instruction_or_fault line column ls (operands_said name (map (λ l. l.token) ls))
+instruction_says line name column ls =
+    instruction_or_fault line column ls (operands_said name (map (λ l. l.token) ls))
 
 -- ---- a line
 
@@ -163,10 +180,12 @@ named_says line l ls None None = Stops 0 UnknownName
 unfoldable pub tokens_say : List ℕ → List Lexeme → Answer Says
 tokens_say line [] = Tells Nothing
 tokens_say line (l ∷ ls) =
-    if is_name l.token then named_says line l ls (directive_of (text_of_lexeme line l)) (place_in NAMES (text_of_lexeme line l))
+    if is_name l.token then named_says line l ls (directive_of (text_of_lexeme line l))
+    (place_in NAMES (text_of_lexeme line l))
     else Stops 0 Extra
 
--- how many bytes the blanks, the name and the colon of a label at the front have: the colon stands right after the name
+-- how many bytes the blanks, the name and the colon of a label at the front have: the colon stands right
+-- after the name
 unfoldable pub blanks : List ℕ → ℕ
 blanks text = length (front is_blank text)
 
@@ -174,7 +193,9 @@ abbrev pub label_in : List ℕ → List ℕ
 label_in text = run (back is_blank text)
 
 unfoldable pub has_label : List ℕ → Bool
-has_label text = not (length (label_in text) == 0) && not (is_digit (slice_index (label_in text) 0)) && (slice_index (back is_blank text) (length (label_in text)) == 58)
+has_label text =
+    not (length (label_in text) == 0) && not (is_digit (slice_index (label_in text) 0))
+    && (slice_index (back is_blank text) (length (label_in text)) == 58)
 
 unfoldable pub label_of : List ℕ → Option (List ℕ)
 label_of text = if has_label text then Some (label_in text) else None
@@ -200,8 +221,16 @@ line_answer line label ls (Stops place kind) = Err (fault_of_kind kind (column_o
 
 -- the tokens of a line after its label
 unfoldable pub line_lexemes : List ℕ → List Lexeme
-line_lexemes line = lexemes_of (label_end (before_comment line)) (drop (label_end (before_comment line)) (before_comment line))
+line_lexemes line =
+    lexemes_of (label_end (before_comment line)) (drop (label_end (before_comment line))
+    (before_comment line))
+
+-- the directive of the line is `.quad`, `.word` or `.byte`
+unfoldable pub keeps_list : List ℕ → Bool
+keeps_list line = begin_list line (line_lexemes line)
 
 -- what a line says, or its first fault
 unfoldable pub line_of : List ℕ → Result SourceLine LineFault
-line_of line = line_answer line (label_of (before_comment line)) (line_lexemes line) (tokens_say line (line_lexemes line))
+line_of line =
+    line_answer line (label_of (before_comment line)) (line_lexemes line)
+    (tokens_say line (line_lexemes line))

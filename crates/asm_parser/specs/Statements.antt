@@ -35,7 +35,8 @@ pub data Says : Type 0 where
   Aligns : ℕ → Says
   -- a name that is to be seen from outside, which has no effect
   Globals : List ℕ → Says
-  -- an instruction's word, its target where that is a name, the distance in the word being 0 then, and the column of the instruction's name
+  -- an instruction's word, its target where that is a name, the distance in the word being 0 then, and the
+  -- column of the instruction's name
   Instructs : ℕ → Option TargetSaid → ℕ → Says
 
 pub record SourceLine : Type 0 where

@@ -1,6 +1,7 @@
 -- What the code tells of some tokens of a line: a value, or where the line stops.
 -- Source: this project's own assembly language.
-use Rattle.std.specs.Prelude.{◌≡◌, ℕ, List, ◌++◌, Bool, not, ◌&&◌, ◌==◌, length, drop, slice_get, slice_index, Option, Some, None, Result, Ok, Err, option_map}
+use Rattle.std.specs.Prelude.{◌≡◌, ℕ, List, ◌++◌, Bool, not, ◌&&◌, ◌==◌, length, drop, slice_get, slice_index}
+use Rattle.std.specs.Prelude.{Option, Some, None, Result, Ok, Err, option_map}
 use Rattle.asm_tokens.specs.declared.token.Lexeme.{Lexeme}
 use Rattle.asm_tokens.specs.Characters.{is_digit, column_at}
 use Rattle.asm_tokens.specs.Tokens.{lexemes_of}
@@ -13,7 +14,8 @@ use Rattle.asm_parser.specs.declared.directives.Directive.TheVariants as directi
 use Rattle.asm_parser.specs.Lines as lines
 use Rattle.asm_parser.specs.Lines.{Answer, Tells, Stops, fault_of_kind}
 
--- what some tokens say, with a fault where its token begins in the line, or nowhere if it stands past the last token
+-- what some tokens say, with a fault where its token begins in the line, or nowhere if it stands past the
+-- last token
 unfoldable pub located : {A : Type 0} → List Lexeme → Answer A → Result A Stop
 located ls (Tells a) = Ok a
 located ls (Stops place kind) = Err (Fault (option_map (λ l. l.start) (slice_get ls place)) kind)
@@ -64,4 +66,5 @@ directive_said directive.Global = lines.GlobalDirective
 
 -- a name with no digit first is a label where a colon stands after it
 abbrev pub is_label : List ℕ → List ℕ → ℕ → Bool
-is_label text name end = not (length name == 0) && not (is_digit (slice_index name 0)) && (slice_index text end == 58)
+is_label text name end =
+    not (length name == 0) && not (is_digit (slice_index name 0)) && (slice_index text end == 58)

@@ -1,6 +1,6 @@
 //! Directives.
-ghost use Rattle.std.specs.Prelude.{◌≡◌, ◌≤◌, ◌==◌, length, option_map, slice_index};
-ghost use Rattle.asm_parser.specs.Lines.{directive_of, directive_says};
+ghost use Rattle.std.specs.Prelude.{◌≡◌, ◌≤◌, ◌==◌, length, option_map, slice_index, true, IfErr};
+ghost use Rattle.asm_parser.specs.Lines.{directive_of, directive_says, is_of_list};
 ghost use Rattle.asm_parser.specs.Statements.{says_of};
 ghost use Rattle.asm_parser.specs.Told.{said_from, Shows, directive_said};
 
@@ -70,7 +70,7 @@ pub fn directive_of(name: &[u8]) -> Option<Directive>
 }
 
 /// What a directive says with the tokens from a place on.
-#[tactic(auto, unfolding(crate::specs::Lines::directive_says))]
+#[tactic(auto, unfolding(crate::specs::Lines::directive_says, crate::specs::Lines::is_of_list))]
 pub fn directive_says<'a>(
     alloc: Global,
     line: &'a [u8],
@@ -80,7 +80,8 @@ pub fn directive_says<'a>(
 ) -> Result<Statement<'a>, Stop>
     requires within { at ≤ length text.now }
     requires part { length text.now ≤ length line.now }
-    ensures { Shows says_of result (said_from (directive_says line.now (directive_said directive)) text.now at) }
+    ensures said { Shows says_of result (said_from (directive_says line.now (directive_said directive)) text.now at) }
+    ensures memory { IfErr result (λ stop. stop ≡ Stop.Memory → is_of_list (directive_said directive) ≡ true) }
 {
     match directive {
         Directive::Text => {

@@ -9,9 +9,7 @@ mod lists;
 mod parsing;
 mod statements;
 mod stops;
-#[cfg(test)]
-mod tests;
 
-pub use laws::printed_is_read;
+pub use laws::{lines_are_the_grammar, printed_is_read};
 pub use line::{Line, LineFault, Statement, Target, Value};
 pub use parsing::{parse_bytes, parse_line};

@@ -38,8 +38,8 @@ pub enum Statement<'a> {
     Align(u8),
     /// `.global NAME`, which has no effect.
     Global(&'a [u8]),
-    /// An instruction's word, its target where that is a name, the distance in the word being 0 then, and the column of the
-    /// instruction's name.
+    /// An instruction's word, its target where that is a name, the distance in the word being 0 then, and
+    /// the column of the instruction's name.
     Instruction {
         word: u32,
         target: Option<Target<'a>>,
@@ -54,8 +54,9 @@ pub struct Line<'a> {
     pub statement: Statement<'a>,
 }
 
-/// The first token with which no line goes on: its column, from 1 in characters, or that just past the end of the line. Of the kinds
-/// the first that fits is given: `UnknownName`, `BadNumber`, `Extra`, `BadOperand`. `Memory` is want of memory.
+/// The first token with which no line goes on: its column, from 1 in characters, or that just past the end
+/// of the line. Of the kinds the first that fits is given: `UnknownName`, `BadNumber`, `Extra`,
+/// `BadOperand`. `Memory` is want of memory.
 #[derive(Clone, Copy, Debug, PartialEq, Eq)]
 pub enum LineFault {
     /// No instruction and no directive has the name.

@@ -1,8 +1,10 @@
 //! The operands of directives: numbers, names, and lists of values.
-ghost use Rattle.std.specs.Prelude.{◌≡◌, ℕ, ◌+◌, ◌-◌, ◌^◌, ◌<◌, ◌≤◌, List, [], ◌∷◌, Option, true, false, length, map, option_map, IfOk, IfErr, IfSome, Err};
+ghost use Rattle.std.specs.Prelude.{◌≡◌, ◌≢◌, ℕ, ◌+◌, ◌-◌, ◌^◌, ◌<◌, ◌≤◌, List, [], ◌∷◌, Option, true, false};
+ghost use Rattle.std.specs.Prelude.{length, map, option_map, IfOk, IfErr, IfSome, Err};
 ghost use Rattle.asm_tokens.specs.declared.token.Lexeme.{Lexeme};
 ghost use Rattle.asm_parser.specs.Statements.{QuadValue, value_of};
-ghost use Rattle.asm_parser.specs.Lines.{ends, number_up_to, one_number, one_name, values_from, number_value, quad_value};
+ghost use Rattle.asm_parser.specs.Lines.{ends, number_up_to, one_number, one_name, values_from, number_value};
+ghost use Rattle.asm_parser.specs.Lines.{quad_value};
 ghost use Rattle.asm_parser.specs.Told.{said_from, Shows, before};
 
 use crate::line::Value;
@@ -19,20 +21,15 @@ pub fn number_up_to(most: u64, token: Token) -> Option<u64>
 {
     match token {
         Token::Bare(number) => if number <= most { Some(number) } else { None },
-        Token::Word(_) => None,
-        Token::Name => None,
-        Token::Number { .. } => None,
-        Token::Distance { .. } => None,
-        Token::Malformed => None,
-        Token::Mark(_) => None,
-        Token::Other => None,
+        _ => None,
     }
 }
 
 /// Nothing follows.
 pub fn expect_end(text: &[u8], at: usize) -> Result<(), Stop>
     requires { at ≤ length text.now }
-    ensures { Shows (λ _. tt {0}) result (said_from (ends (tt {0})) text.now at) }
+    ensures said { Shows (λ _. tt {0}) result (said_from (ends (tt {0})) text.now at) }
+    ensures memory { IfErr result (λ stop. stop ≢ Stop.Memory) }
 {
     match next_lexeme(text, at) {
         None => Ok(()),
@@ -48,6 +45,7 @@ pub fn one_number(text: &[u8], at: usize, most: u64) -> Result<u64, Stop>
     requires { at ≤ length text.now }
     ensures said { Shows (λ n. n) result (said_from (one_number most) text.now at) }
     ensures small { IfOk result (λ n. n ≤ most) }
+    ensures memory { IfErr result (λ stop. stop ≢ Stop.Memory) }
 {
     match next_lexeme(text, at) {
         None => Err(Stop::Fault {
@@ -68,7 +66,8 @@ pub fn one_number(text: &[u8], at: usize, most: u64) -> Result<u64, Stop>
 pub fn one_name<'a>(line: &'a [u8], text: &[u8], at: usize) -> Result<&'a [u8], Stop>
     requires within { at ≤ length text.now }
     requires part { length text.now ≤ length line.now }
-    ensures { Shows (λ name. name.now) result (said_from (one_name line.now) text.now at) }
+    ensures said { Shows (λ name. name.now) result (said_from (one_name line.now) text.now at) }
+    ensures memory { IfErr result (λ stop. stop ≢ Stop.Memory) }
 {
     match next_lexeme(text, at) {
         None => Err(Stop::Fault {
@@ -158,7 +157,8 @@ impl<'a> Listed<'a> for Value<'a> {
 fn value_at<'a, T: Listed<'a>>(line: &'a [u8], text: &[u8], at: usize) -> Result<(T, usize), Stop>
     requires within { at ≤ length text.now }
     requires part { length text.now ≤ length line.now }
-    ensures ok { IfOk result (λ r. said_from (values_from (T.value_in line.now) true) text.now at ≡ before (T.seen r.0 ∷ []) (said_from (values_from (T.value_in line.now) false) text.now r.1)) }
+    ensures ok { IfOk result (λ r. said_from (values_from (T.value_in line.now) true) text.now at
+        ≡ before (T.seen r.0 ∷ []) (said_from (values_from (T.value_in line.now) false) text.now r.1)) }
     ensures further { IfOk result (λ r. at < r.1) }
     ensures within { IfOk result (λ r. r.1 ≤ length text.now) }
     ensures err { IfErr result (λ stop. said_from (values_from (T.value_in line.now) true) text.now at ≡ Err stop) }
@@ -184,7 +184,8 @@ pub fn values<'a, T: Listed<'a>>(
 ) -> Result<Vec<T>, Stop>
     requires within { at ≤ length text.now }
     requires part { length text.now ≤ length line.now }
-    ensures { Shows (λ values. map T.seen values.items) result (said_from (values_from (T.value_in line.now) true) text.now at) }
+    ensures { Shows (λ values. map T.seen values.items) result (said_from (values_from (T.value_in line.now) true)
+        text.now at) }
 {
     let mut values = Vec::new(alloc);
     let mut from = at;

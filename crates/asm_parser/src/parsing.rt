@@ -1,6 +1,8 @@
 //! A line: its label, and what stands after it.
-ghost use Rattle.std.specs.Prelude.{◌≡◌, ◌≢◌, ◌<◌, ◌≤◌, ◌-◌, ◌^◌, length, Ok, Err, IfOk, IfErr, option_map, IsTrue};
-ghost use Rattle.asm_parser.specs.Lines.{label_of, label_end, line_of};
+ghost use Rattle.std.specs.Prelude.{◌≡◌, ◌≢◌, ◌<◌, ◌≤◌, ◌-◌, ◌^◌, length, Ok, Err, IfOk, IfErr, option_map};
+ghost use Rattle.std.specs.Prelude.{IsTrue, true};
+ghost use Rattle.asm_parser.specs.Grammar.{IsFaultOf, IsLine};
+ghost use Rattle.asm_parser.specs.Lines.{label_of, label_end, keeps_list, line_of};
 ghost use Rattle.asm_parser.specs.Told.{is_label};
 ghost use Rattle.asm_parser.specs.Statements.{line_said};
 
@@ -44,11 +46,12 @@ fn label_of(text: &[u8]) -> Label<'_>
     }
 }
 
-/// What a line says, of text or of any bytes; `alloc` is for the lists of directives alone.
+/// What a line says, of text or of any bytes; `alloc` is for the lists of `.quad`, `.word` and `.byte` alone.
 pub fn parse_bytes(alloc: Global, line: &[u8]) -> Result<Line<'_>, LineFault>
     requires { length line.now < 2 ^ 32 - 1 }
     ensures ok { IfOk result (λ said. line_of line.now ≡ Ok (line_said said)) }
     ensures err { IfErr result (λ fault. fault ≢ LineFault.Memory → line_of line.now ≡ Err fault) }
+    ensures memory { IfErr result (λ fault. fault ≡ LineFault.Memory → keeps_list line.now ≡ true) }
 {
     let text = before_comment(line);
     let label = label_of(text);
@@ -61,11 +64,14 @@ pub fn parse_bytes(alloc: Global, line: &[u8]) -> Result<Line<'_>, LineFault>
     }
 }
 
-/// What a line says; `alloc` is for the lists of directives alone.
+/// What a line says; `alloc` is for the lists of `.quad`, `.word` and `.byte` alone.
 pub fn parse_line(alloc: Global, text: &str) -> Result<Line<'_>, LineFault>
     requires { length text.now < 2 ^ 32 - 1 }
     ensures ok { IfOk result (λ line. line_of text.now ≡ Ok (line_said line)) }
     ensures err { IfErr result (λ fault. fault ≢ LineFault.Memory → line_of text.now ≡ Err fault) }
+    ensures grammar { IfOk result (λ line. IsLine text.now (line_said line)) }
+    ensures first_fault { IfErr result (λ fault. fault ≢ LineFault.Memory → IsFaultOf text.now fault) }
+    ensures memory { IfErr result (λ fault. fault ≡ LineFault.Memory → keeps_list text.now ≡ true) }
 {
     parse_bytes(alloc, text.as_bytes())
 }

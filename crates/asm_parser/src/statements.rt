@@ -1,10 +1,10 @@
 //! What stands on a line after its label.
-ghost use Rattle.std.specs.Prelude.{◌≡◌, ◌<◌, ◌≤◌, ◌-◌, ◌^◌, length, drop, true};
+ghost use Rattle.std.specs.Prelude.{◌≡◌, ◌<◌, ◌≤◌, ◌-◌, ◌^◌, length, drop, true, IfErr};
 ghost use Rattle.asm_tokens.specs.Characters.{before_comment};
 ghost use Rattle.asm_tokens.specs.Tokens.{begins_name};
-ghost use Rattle.asm_parser.specs.Lines.{tokens_say};
+ghost use Rattle.asm_parser.specs.Lines.{begin_list, tokens_say};
 ghost use Rattle.asm_parser.specs.Statements.{says_of};
-ghost use Rattle.asm_parser.specs.Told.{said_from, Shows};
+ghost use Rattle.asm_parser.specs.Told.{lexemes_from, said_from, Shows};
 
 use crate::directives::{directive_of, directive_says};
 use crate::instructions::instruction_says;
@@ -25,7 +25,8 @@ fn named_says<'a>(
     requires within { start < length text.now }
     requires part { text.now ≡ before_comment line.now }
     requires name { begins_name (drop start text.now) ≡ true }
-    ensures { Shows says_of result (said_from (tokens_say line.now) text.now start) }
+    ensures said { Shows says_of result (said_from (tokens_say line.now) text.now start) }
+    ensures memory { IfErr result (λ stop. stop ≡ Stop.Memory → begin_list line.now (lexemes_from text.now start) ≡ true) }
 {
     let name = run_at(text, start);
     let at = start + name.len();
@@ -51,7 +52,8 @@ pub fn tokens_say<'a>(
     requires short { length line.now < 2 ^ 32 - 1 }
     requires within { at ≤ length text.now }
     requires part { text.now ≡ before_comment line.now }
-    ensures { Shows says_of result (said_from (tokens_say line.now) text.now at) }
+    ensures said { Shows says_of result (said_from (tokens_say line.now) text.now at) }
+    ensures memory { IfErr result (λ stop. stop ≡ Stop.Memory → begin_list line.now (lexemes_from text.now at) ≡ true) }
 {
     let start = skip_blanks(text, at);
     if start == text.len() {

@@ -26,14 +26,10 @@ pub fn is_name(token: Token) -> bool
     ensures { result ≡ is_name token }
 {
     match token {
+        Token::Register { .. } => true,
         Token::Word(_) => true,
         Token::Name => true,
-        Token::Number { .. } => false,
-        Token::Distance { .. } => false,
-        Token::Bare(_) => false,
-        Token::Malformed => false,
-        Token::Mark(_) => false,
-        Token::Other => false,
+        _ => false,
     }
 }
 
@@ -43,14 +39,11 @@ pub fn is_number(token: Token) -> bool
     ensures { result ≡ is_number_token token }
 {
     match token {
-        Token::Word(_) => false,
-        Token::Name => false,
         Token::Number { .. } => true,
         Token::Distance { .. } => true,
         Token::Bare(_) => true,
         Token::Malformed => true,
-        Token::Mark(_) => false,
-        Token::Other => false,
+        _ => false,
     }
 }
 
@@ -60,19 +53,14 @@ pub fn is_comma(token: Token) -> bool
 {
     match token {
         Token::Mark(c) => c == 44,
-        Token::Word(_) => false,
-        Token::Name => false,
-        Token::Number { .. } => false,
-        Token::Distance { .. } => false,
-        Token::Bare(_) => false,
-        Token::Malformed => false,
-        Token::Other => false,
+        _ => false,
     }
 }
 
 /// The token is not the number that is to stand there.
 pub fn no_number(lexeme: Lexeme) -> Stop
-    ensures { result ≡ Stop.Fault (Some lexeme.start) (if is_number_token lexeme.token then FaultKind.BadNumber else FaultKind.BadOperand) }
+    ensures { result ≡ Stop.Fault (Some lexeme.start) (if is_number_token lexeme.token then FaultKind.BadNumber
+        else FaultKind.BadOperand) }
 {
     let kind = if is_number(lexeme.token) {
         FaultKind::BadNumber

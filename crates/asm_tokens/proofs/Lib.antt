@@ -3,3 +3,5 @@ pub mod Leading
 pub mod Probing
 pub mod Naming
 pub mod Steps
+pub mod Registers
+pub mod Slashes

@@ -3,9 +3,8 @@ use Rattle.std.proofs.Common.{◌≡◌, ℕ, ◌+◌, ◌<◌, true, false, not
 use Rattle.std.proofs.lemmas.Bool.{and_parts, not-true, cond-true, cond-false}
 use Rattle.std.proofs.lemmas.Bool.Decides.{nat_tests}
 use Rattle.std.proofs.lemmas.List.{drop_more, drop-drop}
-use Rattle.insn_text.specs.declared.words.TheConstants.{WORDS}
 use Rattle.asm_tokens.specs.Characters.{is_digit, is_name_character, is_blank}
-use Rattle.asm_tokens.specs.Tokens.{Read, run, has_sign, begins_name, name_token, place_in, read_run, read_token, lexeme_at, lexemes_of}
+use Rattle.asm_tokens.specs.Tokens.{Read, run, has_sign, begins_name, token_of_name, read_run, read_token, lexeme_at, lexemes_of}
 use Rattle.asm_tokens.proofs.Following.{lexemes-token}
 
 -- a character of names is no blank and no `#`
@@ -19,7 +18,7 @@ name_no_number c e = grind (arith, nat_tests)
 
 -- the token of a name
 abbrev pub named : List ℕ → Read
-named cs = record { token = name_token (place_in WORDS (run cs)); size = length (run cs) }
+named cs = record { token = token_of_name (run cs); size = length (run cs) }
 
 pub read-name : (c : ℕ) (cs : List ℕ) → begins_name (c ∷ cs) ≡ true → read_token c cs ≡ named (c ∷ cs)
 unfolding begins_name read_token read_run

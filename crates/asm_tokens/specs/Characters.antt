@@ -1,6 +1,7 @@
 -- The characters of a source, which is UTF-8, and their columns.
 -- Source: this project's own assembly language.
-use Rattle.std.specs.Prelude.{ℕ, ◌+◌, Bool, false, not, ◌&&◌, ◌||◌, ◌==◌, nat_le, List, [], ◌∷◌, take, drop, if◌then◌else◌, length}
+use Rattle.std.specs.Prelude.{ℕ, ◌+◌, Bool, false, not, ◌&&◌, ◌||◌, ◌==◌, nat_le, List, [], ◌∷◌, take, drop}
+use Rattle.std.specs.Prelude.{if◌then◌else◌, length}
 use Rattle.std.specs.List.{count_by, take_while}
 
 abbrev pub is_between : ℕ → ℕ → ℕ → Bool
@@ -12,7 +13,8 @@ is_digit c = is_between 48 57 c
 
 -- a character of a name: a letter, a digit, `$`, `.` or `_`
 unfoldable pub is_name_character : ℕ → Bool
-is_name_character c = is_between 97 122 c || is_between 65 90 c || is_digit c || (c == 36) || (c == 46) || (c == 95)
+is_name_character c =
+    is_between 97 122 c || is_between 65 90 c || is_digit c || (c == 36) || (c == 46) || (c == 95)
 
 -- a space or a tab
 unfoldable pub is_blank : ℕ → Bool
@@ -40,6 +42,9 @@ column_at line at = characters (take at line) + 1
 abbrev pub starts_comment : ℕ → List ℕ → Bool
 starts_comment c [] = false
 starts_comment c (d ∷ ds) = (c == 47) && (d == 47)
+
+abbrev pub is_slash : ℕ → Bool
+is_slash c = c == 47
 
 -- the line before its comment, which `//` begins
 unfoldable pub before_comment : List ℕ → List ℕ

@@ -1,6 +1,7 @@
 -- Numbers in a source: decimal digits with no leading zero, or `0x` and hexadecimal digits, below 2 ^ 64.
 -- Source: this project's own assembly language.
-use Rattle.std.specs.Prelude.{ℕ, ◌+◌, ◌-◌, ◌*◌, ◌^◌, Bool, not, ◌&&◌, ◌||◌, ◌==◌, nat_lt, nat_le, List, [], ◌∷◌, length, slice_index, drop, Option, Some, None, if◌then◌else◌}
+use Rattle.std.specs.Prelude.{ℕ, ◌+◌, ◌-◌, ◌*◌, ◌^◌, Bool, not, ◌&&◌, ◌||◌, ◌==◌, nat_lt, nat_le, List, []}
+use Rattle.std.specs.Prelude.{◌∷◌, length, slice_index, drop, Option, Some, None, if◌then◌else◌}
 use Rattle.std.specs.List.{list_all}
 use Rattle.asm_tokens.specs.Characters.{is_between, is_digit}
 
@@ -23,7 +24,8 @@ if_fits n = if nat_lt n (2 ^ 64) then Some n else None
 
 -- digits alone, at least one, of which the first is no 0 unless it stands alone
 unfoldable pub is_decimal : List ℕ → Bool
-is_decimal ds = list_all is_digit ds && nat_lt 0 (length ds) && (not (slice_index ds 0 == 48) || (length ds == 1))
+is_decimal ds =
+    list_all is_digit ds && nat_lt 0 (length ds) && (not (slice_index ds 0 == 48) || (length ds == 1))
 
 unfoldable pub decimal_number : List ℕ → Option ℕ
 decimal_number ds = if is_decimal ds then if_fits (number_after 10 0 ds) else None

@@ -1,6 +1,7 @@
 -- Where a text stands in a table, by a hash of its bytes.
 -- Source: this project's own tables.
-use Rattle.std.specs.Prelude.{ℕ, zero, suc, ◌+◌, ◌*◌, ◌%◌, Bool, true, false, ◌&&◌, ◌==◌, nat_lt, List, [], ◌∷◌, length, slice_index, Option, Some, None, if◌then◌else◌}
+use Rattle.std.specs.Prelude.{ℕ, zero, suc, ◌+◌, ◌*◌, ◌%◌, Bool, true, false, ◌&&◌, ◌==◌, nat_lt, List, []}
+use Rattle.std.specs.Prelude.{◌∷◌, length, slice_index, Option, Some, None, if◌then◌else◌}
 use Rattle.std.specs.Str.{bytes_eq}
 use Rattle.insn_text.specs.declared.item.Text.{Text}
 use Rattle.insn_text.specs.Texts.{text_in, text_at}
@@ -12,18 +13,21 @@ hash_after factor size hash (c ∷ cs) = hash_after factor size ((hash * factor 
 
 -- the place, if the text stands there
 unfoldable pub place_if : List Text → ℕ → List ℕ → Option ℕ
-place_if texts place text = if nat_lt place (length texts) && bytes_eq (text_at texts place) text then Some place else None
+place_if texts place text =
+    if nat_lt place (length texts) && bytes_eq (text_at texts place) text then Some place else None
 
 abbrev pub first_of : Option ℕ → Option ℕ → Option ℕ
 first_of None second = second
 first_of (Some place) second = Some place
 
--- the place of the text by so many slots of a table of some size, one after another from this on; a free slot, 65535, is the last
+-- the place of the text by so many slots of a table of some size, one after another from this on; a free
+-- slot, 65535, is the last
 unfoldable pub probed : List Text → List ℕ → ℕ → List ℕ → ℕ → ℕ → Option ℕ
 probed texts slots size text zero at = None
 probed texts slots size text (suc steps) at =
     if slice_index slots at == 65535 then None
-    else first_of (place_if texts (slice_index slots at) text) (probed texts slots size text steps ((at + 1) % size))
+    else first_of (place_if texts (slice_index slots at) text)
+    (probed texts slots size text steps ((at + 1) % size))
 
 -- the place of the text by 16 slots from that of its hash on
 unfoldable pub place_by : List Text → List ℕ → ℕ → ℕ → List ℕ → Option ℕ
@@ -36,4 +40,6 @@ is_place place (Some found) = found == place
 -- each of some texts, which stand in the table from a place on, is found there
 unfoldable pub leads : List Text → List ℕ → ℕ → ℕ → ℕ → List Text → Bool
 leads texts slots factor size place [] = true
-leads texts slots factor size place (t ∷ ts) = is_place place (place_by texts slots factor size (text_in (Some t))) && leads texts slots factor size (place + 1) ts
+leads texts slots factor size place (t ∷ ts) =
+    is_place place (place_by texts slots factor size (text_in (Some t)))
+    && leads texts slots factor size (place + 1) ts

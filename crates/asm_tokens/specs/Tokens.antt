@@ -1,13 +1,17 @@
 -- The tokens of a line: names, numbers and marks, with blanks between them.
 -- Source: this project's own assembly language.
-use Rattle.std.specs.Prelude.{ℕ, zero, suc, ◌+◌, Bool, true, false, not, ◌&&◌, ◌||◌, ◌==◌, nat_lt, List, [], ◌∷◌, length, drop, slice_index, Option, Some, None, if◌then◌else◌}
+use Rattle.std.specs.Prelude.{ℕ, zero, suc, ◌+◌, Bool, true, false, not, ◌&&◌, ◌||◌, ◌==◌, nat_lt, List, []}
+use Rattle.std.specs.Prelude.{◌∷◌, length, drop, slice_index, Option, Some, None, if◌then◌else◌}
 use Rattle.std.specs.List.{position}
 use Rattle.std.specs.Str.{bytes_eq}
+use Rattle.insn_text.specs.declared.item.RegisterFile.{RegisterFile}
+use Rattle.insn_text.specs.declared.item.RegisterFile.TheVariants.{X, W}
 use Rattle.insn_text.specs.declared.item.Text.{Text}
 use Rattle.insn_text.specs.declared.words.TheConstants.{WORDS}
 use Rattle.insn_text.specs.Texts.{text_in}
 use Rattle.asm_tokens.specs.declared.token.Token.{Token}
-use Rattle.asm_tokens.specs.declared.token.Token.TheVariants.{Word, Name, Number, Distance, Bare, Malformed, Mark, Other}
+use Rattle.asm_tokens.specs.declared.token.Token.TheVariants.{Register, Word, Name, Number, Distance, Bare}
+use Rattle.asm_tokens.specs.declared.token.Token.TheVariants.{Malformed, Mark, Other}
 use Rattle.asm_tokens.specs.declared.token.Lexeme.{Lexeme}
 use Rattle.asm_tokens.specs.Characters.{is_digit, is_name_character, is_blank, is_continuation, front, back}
 use Rattle.asm_tokens.specs.Numbers.{number_in, decimal_number}
@@ -20,6 +24,28 @@ place_in texts text = position (λ t. bytes_eq (text_in (Some t)) text) texts
 unfoldable pub name_token : Option ℕ → Token
 name_token None = Name
 name_token (Some place) = Word place
+
+-- the file of a letter
+unfoldable pub file_of : ℕ → Option RegisterFile
+file_of c = if c == 120 then Some X else if c == 119 then Some W else None
+
+-- a register of a file by its number
+unfoldable pub register_of : Option RegisterFile → Option ℕ → Option Token
+register_of None number = None
+register_of (Some file) None = None
+register_of (Some file) (Some number) = if nat_lt number 31 then Some (Register file number) else None
+
+-- the register that a name is: a letter and decimal digits
+unfoldable pub register_in : List ℕ → Option Token
+register_in cs = register_of (file_of (slice_index cs 0)) (decimal_number (drop 1 cs))
+
+abbrev pub token_or : Token → Option Token → Token
+token_or fallback None = fallback
+token_or _ (Some token) = token
+
+-- the token of a name: a register, a word, or another
+unfoldable pub token_of_name : List ℕ → Token
+token_of_name cs = token_or (name_token (place_in WORDS cs)) (register_in cs)
 
 unfoldable pub number_token : Bool → Option ℕ → Token
 number_token negative None = Malformed
@@ -46,23 +72,32 @@ run cs = front is_name_character cs
 unfoldable pub read_number : List ℕ → Read
 read_number cs =
     if slice_index cs 0 == 45
-    then record { token = number_token true (number_in (run (drop 1 cs))); size = 2 + length (run (drop 1 cs)) }
+    then record {
+      token = number_token true (number_in (run (drop 1 cs)));
+      size = 2
+          + length (run (drop 1 cs));
+    }
     else record { token = number_token false (number_in (run cs)); size = 1 + length (run cs) }
 
 -- `.`, `+` or `-`, and a decimal number: the text after the `.`
 unfoldable pub read_distance : List ℕ → Read
-read_distance cs = record { token = distance_token (slice_index cs 0 == 45) (decimal_number (run (drop 1 cs))); size = 2 + length (run (drop 1 cs)) }
+read_distance cs = record {
+  token = distance_token (slice_index cs 0 == 45) (decimal_number (run (drop 1 cs)));
+  size = 2 + length (run (drop 1 cs));
+}
 
 -- a name, or a number without `#`
 unfoldable pub read_run : List ℕ → Read
 read_run cs = record {
-  token = if is_digit (slice_index cs 0) then bare_token (number_in (run cs)) else name_token (place_in WORDS (run cs));
+  token = if is_digit (slice_index cs 0) then bare_token (number_in (run cs)) else token_of_name (run cs);
   size = length (run cs);
 }
 
 -- a character by itself, with the bytes that continue it
 unfoldable pub read_character : ℕ → List ℕ → Read
-read_character c cs = if nat_lt c 128 then record { token = Mark c; size = 1 } else record { token = Other; size = 1 + length (front is_continuation cs) }
+read_character c cs =
+    if nat_lt c 128 then record { token = Mark c; size = 1 }
+    else record { token = Other; size = 1 + length (front is_continuation cs) }
 
 -- `+` or `-` stands first
 unfoldable pub has_sign : List ℕ → Bool
@@ -84,13 +119,15 @@ begins_name (c ∷ cs) = is_name_character c && not (is_digit c) && not ((c == 4
 abbrev pub lexeme_at : ℕ → Read → Lexeme
 lexeme_at at r = record { token = r.token; start = at; end = at + r.size }
 
--- the tokens of a text that stands at a place of the line; each takes a byte at least, and no more than `most` are taken
+-- the tokens of a text that stands at a place of the line; each takes a byte at least, and no more than
+-- `most` are taken
 unfoldable pub lexemes_from : ℕ → ℕ → List ℕ → List Lexeme
 lexemes_from zero at text = []
 lexemes_from (suc most) at [] = []
 lexemes_from (suc most) at (c ∷ cs) =
     if is_blank c then lexemes_from most (at + 1) cs
-    else lexeme_at at (read_token c cs) ∷ lexemes_from most (at + (read_token c cs).size) (drop (read_token c cs).size (c ∷ cs))
+    else lexeme_at at (read_token c cs)
+    ∷ lexemes_from most (at + (read_token c cs).size) (drop (read_token c cs).size (c ∷ cs))
 
 -- the tokens of a text that stands at a place of the line
 abbrev pub lexemes_of : ℕ → List ℕ → List Lexeme

@@ -1,7 +1,9 @@
 //! The characters of a line, their columns, and runs of them.
 ghost use Rattle.std.specs.Prelude.{◌≡◌, ◌+◌, ◌-◌, ◌^◌, ◌<◌, ◌≤◌, length, drop, slice_index};
-ghost use Rattle.std.specs.List.{prefix_len};
-ghost use Rattle.asm_tokens.specs.Characters.{is_digit, is_name_character, is_blank, is_continuation, front, back, characters, column_at, starts_comment, before_comment};
+ghost use Rattle.std.specs.List.{list_any, prefix_len};
+ghost use Rattle.asm_tokens.specs.Characters.{is_digit, is_name_character, is_blank, is_continuation, front};
+ghost use Rattle.asm_tokens.specs.Characters.{back, characters, column_at, starts_comment, is_slash};
+ghost use Rattle.asm_tokens.specs.Characters.{before_comment};
 ghost use Rattle.asm_tokens.specs.Tokens.{run};
 
 /// 0 to 9.
@@ -118,8 +120,15 @@ fn starts_comment(line: &[u8], at: usize) -> bool
     line[at] == 47 && byte_at(line, at + 1) == 47
 }
 
-/// The line before its comment, which `//` begins.
-pub fn before_comment(line: &[u8]) -> &[u8]
+/// Whether the line has a `/`.
+fn has_slash(line: &[u8]) -> bool
+    ensures { result ≡ list_any is_slash line.now }
+{
+    line.iter().any(|c| *c == 47)
+}
+
+/// The line before its comment.
+fn cut_comment(line: &[u8]) -> &[u8]
     ensures { result.now ≡ before_comment line.now }
 {
     for at in 0..line.len() {
@@ -128,4 +137,16 @@ pub fn before_comment(line: &[u8]) -> &[u8]
         }
     }
     line
+}
+
+/// The line before its comment, which `//` begins.
+#[tactic(auto, using(crate::proofs::Slashes::no_comment))]
+pub fn before_comment(line: &[u8]) -> &[u8]
+    ensures { result.now ≡ before_comment line.now }
+{
+    if has_slash(line) {
+        cut_comment(line)
+    } else {
+        line
+    }
 }

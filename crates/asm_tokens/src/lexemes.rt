@@ -1,6 +1,10 @@
 //! The tokens of a text, one after another.
-ghost use Rattle.std.specs.Prelude.{◌≡◌, ◌+◌, ◌<◌, ◌≤◌, [], ◌∷◌, length, drop, slice_index, MatchOption, IfSome, IsTrue};
-ghost use Rattle.asm_tokens.specs.Tokens.{number_token, distance_token, bare_token, name_token, read_number, read_distance, read_run, read_character, read_token, has_sign, begins_name, lexeme_at, lexemes_of};
+ghost use Rattle.std.specs.Prelude.{Some, ◌≡◌, ◌+◌, ◌<◌, ◌≤◌, [], ◌∷◌, length, drop, slice_index};
+ghost use Rattle.std.specs.Prelude.{MatchOption, IfSome, IsTrue};
+ghost use Rattle.asm_tokens.specs.Tokens.{number_token, distance_token, bare_token, name_token, file_of};
+ghost use Rattle.asm_tokens.specs.Tokens.{register_of, register_in, token_of_name, read_number};
+ghost use Rattle.asm_tokens.specs.Tokens.{read_distance, read_run, read_character, read_token, has_sign};
+ghost use Rattle.asm_tokens.specs.Tokens.{begins_name, lexeme_at, lexemes_of};
 
 use crate::characters::{
     byte_at, character_end, is_blank, is_digit, is_name_character, run_at, skip_blanks,
@@ -8,6 +12,7 @@ use crate::characters::{
 use crate::names::word_place;
 use crate::numbers::{decimal_number, number_in};
 use crate::token::{Lexeme, Token};
+use insn_text::RegisterFile;
 
 #[tactic(auto, unfolding(crate::specs::Tokens::number_token))]
 fn number_token(negative: bool, number: Option<u64>) -> Token
@@ -46,6 +51,57 @@ fn name_token(place: Option<u16>) -> Token
     match place {
         Some(place) => Token::Word(place),
         None => Token::Name,
+    }
+}
+
+/// The file of a letter.
+#[tactic(auto, unfolding(crate::specs::Tokens::file_of))]
+fn file_of(letter: u8) -> Option<RegisterFile>
+    ensures { result ≡ file_of letter }
+{
+    match letter {
+        120 => Some(RegisterFile::X),
+        119 => Some(RegisterFile::W),
+        _ => None,
+    }
+}
+
+/// A register of a file by its number.
+#[tactic(auto, unfolding(crate::specs::Tokens::register_of))]
+fn register_of(file: RegisterFile, number: Option<u64>) -> Option<Token>
+    ensures { result ≡ register_of (Some file) number }
+{
+    match number {
+        Some(number) if number < 31 => Some(Token::Register {
+            file,
+            number: number as u8,
+        }),
+        _ => None,
+    }
+}
+
+/// The register that a name is.
+#[tactic(auto, unfolding(crate::specs::Tokens::register_in, crate::specs::Tokens::register_of), using(crate::proofs::Registers::none_empty))]
+fn register_in(name: &[u8]) -> Option<Token>
+    ensures { result ≡ register_in name.now }
+{
+    if name.is_empty() {
+        return None;
+    }
+    match file_of(byte_at(name, 0)) {
+        Some(file) => register_of(file, decimal_number(&name[1..])),
+        None => None,
+    }
+}
+
+/// The token of a name: a register, a word, or another.
+#[tactic(auto, unfolding(crate::specs::Tokens::token_of_name))]
+fn token_of_name(name: &[u8]) -> Token
+    ensures { result ≡ token_of_name name.now }
+{
+    match register_in(name) {
+        Some(token) => token,
+        None => name_token(word_place(name)),
     }
 }
 
@@ -100,7 +156,7 @@ fn read_run(text: &[u8], start: usize) -> Lexeme
     let token = if is_digit(text[start]) {
         bare_token(number_in(run))
     } else {
-        name_token(word_place(run))
+        token_of_name(run)
     };
     Lexeme {
         token,
@@ -162,7 +218,8 @@ fn lexeme_at(text: &[u8], start: usize) -> Lexeme
 /// The first token from a place on, which the others follow.
 pub fn next_lexeme(text: &[u8], at: usize) -> Option<Lexeme>
     requires { at ≤ length text.now }
-    ensures first { MatchOption result (lexemes_of at (drop at text.now) ≡ []) (λ l. lexemes_of at (drop at text.now) ≡ l ∷ lexemes_of l.end (drop l.end text.now)) }
+    ensures first { MatchOption result (lexemes_of at (drop at text.now) ≡ [])
+        (λ l. lexemes_of at (drop at text.now) ≡ l ∷ lexemes_of l.end (drop l.end text.now)) }
     ensures after { IfSome result (λ l. at ≤ l.start) }
     ensures some { IfSome result (λ l. l.start < l.end) }
     ensures within { IfSome result (λ l. l.end ≤ length text.now) }

@@ -1,8 +1,10 @@
 //! The numbers of a line.
-ghost use Rattle.std.specs.Prelude.{◌≡◌, ◌+◌, ◌*◌, ◌^◌, ◌<◌, ◌&&◌, ◌||◌, ◌==◌, not, nat_lt, None, SomeIff, length, slice_index, if◌then◌else◌};
+ghost use Rattle.std.specs.Prelude.{◌≡◌, ◌+◌, ◌*◌, ◌^◌, ◌<◌, ◌&&◌, ◌||◌, ◌==◌, not, nat_lt, None, SomeIff};
+ghost use Rattle.std.specs.Prelude.{length, slice_index, if◌then◌else◌};
 ghost use Rattle.std.specs.List.{list_all};
 ghost use Rattle.asm_tokens.specs.Characters.{is_digit};
-ghost use Rattle.asm_tokens.specs.Numbers.{is_hex_digit, digit_of, number_after, if_fits, decimal_number, hexadecimal_number, number_in};
+ghost use Rattle.asm_tokens.specs.Numbers.{is_hex_digit, digit_of, number_after, if_fits, decimal_number};
+ghost use Rattle.asm_tokens.specs.Numbers.{hexadecimal_number, number_in};
 
 use crate::characters::{byte_at, is_digit};
 
@@ -72,7 +74,8 @@ fn hexadecimal_digits(digits: &[u8]) -> Option<u64>
 
 /// There are digits, of which the first is no 0 unless it stands alone.
 fn has_no_leading_zero(digits: &[u8]) -> bool
-    ensures { result ≡ (nat_lt 0 (length digits.now) && (not (slice_index digits.now 0 == 48) || (length digits.now == 1))) }
+    ensures { result ≡ (nat_lt 0 (length digits.now)
+        && (not (slice_index digits.now 0 == 48) || (length digits.now == 1))) }
 {
     0 < digits.len() && (byte_at(digits, 0) != 48 || digits.len() == 1)
 }

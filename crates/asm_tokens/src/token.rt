@@ -1,8 +1,11 @@
 //! The tokens of a line of a source.
+use insn_text::RegisterFile;
 
 /// A token. A name is a run of letters, digits, `_`, `.` and `$` that begins with no digit.
 #[derive(Clone, Copy, PartialEq, Eq, Default)]
 pub enum Token {
+    /// A name that is the letter of a file and a number, 0 to 30.
+    Register { file: RegisterFile, number: u8 },
     /// A name that is a word of operands: its place in `insn_text::WORDS`.
     Word(u16),
     /// Any other name.

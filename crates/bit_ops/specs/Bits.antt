@@ -1,5 +1,6 @@
 -- Words by their bits and bytes, over unbounded numbers.
--- Bit i and byte i of a number are its digits of worth 2 ^ i and 256 ^ i. Words are of 64 bits where `wide` holds, else of 32.
+-- Bit i and byte i of a number are its digits of worth 2 ^ i and 256 ^ i. Words are of 64 bits where `wide`
+-- holds, else of 32.
 use Rattle.std.specs.Prelude.{ℕ, zero, suc, ◌+◌, ◌*◌, ◌/◌, ◌%◌, ◌^◌, Bool, true, false, if◌then◌else◌}
 
 -- how many bits a word has

@@ -1,6 +1,7 @@
 -- Masks of the logical instructions: equal elements, each a run of ones that is rotated.
 -- Source: DDI 0487, J1.1, DecodeBitMasks. Words are of 64 bits where `wide` holds, else of 32.
-use Rattle.std.specs.Prelude.{◌≡◌, ℕ, zero, suc, ◌+◌, ◌-◌, ◌*◌, ◌%◌, ◌^◌, ◌≤◌, ◌<◌, ◌↔◌, Bool, not, ◌&&◌, ◌||◌, ◌==◌, nat_le, nat_lt, if◌then◌else◌, Option, Some, None}
+use Rattle.std.specs.Prelude.{◌≡◌, ℕ, zero, suc, ◌+◌, ◌-◌, ◌*◌, ◌%◌, ◌^◌, ◌≤◌, ◌<◌, ◌↔◌, Bool, not, ◌&&◌}
+use Rattle.std.specs.Prelude.{◌||◌, ◌==◌, nat_le, nat_lt, if◌then◌else◌, Option, Some, None}
 use Rattle.bit_ops.specs.Sums.{bool_number}
 use Rattle.bit_ops.specs.Bits.{width_of, digit_at, number_of_digits}
 
@@ -37,7 +38,9 @@ are_mask_fields n imms immr wide = not (is_reserved n imms wide) && nat_lt immr 
 
 -- bit i of the mask is bit i + R of the run of S + 1 ones, within elements
 unfoldable pub mask_of : Bool → ℕ → ℕ → Bool → ℕ
-mask_of n imms immr wide = number_of_digits 2 (λ i. bool_number (nat_le ((i + turn_of n imms immr) % size_of n imms) (ones_of n imms))) (width_of wide)
+mask_of n imms immr wide =
+    number_of_digits 2 (λ i. bool_number (nat_le ((i + turn_of n imms immr) % size_of n imms)
+    (ones_of n imms))) (width_of wide)
 
 -- the mask of the fields, if they have one
 unfoldable pub bit_mask_of : Bool → ℕ → ℕ → Bool → Option ℕ
@@ -46,7 +49,9 @@ bit_mask_of n imms immr wide = if is_reserved n imms wide then None else Some (m
 -- the same as facts: each bit of the mask, and none above the word
 pub record IsMask (n : Bool) (imms immr : ℕ) (wide : Bool) (mask : ℕ) : Type 0 where
   pub within : mask < 2 ^ width_of wide
-  pub bits : (i : ℕ) → i < width_of wide → (digit_at 2 mask i ≡ 1) ↔ ((i + turn_of n imms immr) % size_of n imms ≤ ones_of n imms)
+  pub bits :
+      (i : ℕ) → i < width_of wide → (digit_at 2 mask i ≡ 1) ↔
+      ((i + turn_of n imms immr) % size_of n imms ≤ ones_of n imms)
 
 -- the fields in which a mask is written: they give it, and immr is below the size of an element
 pub record IsFieldsOf (n : Bool) (imms immr : ℕ) (wide : Bool) (mask : ℕ) : Type 0 where

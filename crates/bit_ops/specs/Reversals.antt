@@ -1,5 +1,6 @@
 -- The bits of a word, and the bytes of its groups, in reverse.
--- Source: DDI 0487, C6.2, RBIT (BitReverse), REV16, REV32 and REV (Reverse). Words are of 64 bits where `wide` holds, else of 32.
+-- Source: DDI 0487, C6.2, RBIT (BitReverse), REV16, REV32 and REV (Reverse). Words are of 64 bits where
+-- `wide` holds, else of 32.
 use Rattle.std.specs.Prelude.{ℕ, ◌+◌, ◌-◌, ◌*◌, ◌/◌, ◌%◌, Bool}
 use Rattle.bit_ops.specs.Bits.{width_of, digit_at, number_of_digits}
 
@@ -13,4 +14,5 @@ opposite group place = place / group * group + (group - 1 - place % group)
 
 -- each byte of the result is the one that stood opposite to it in its group of so many bytes
 unfoldable pub reversed_bytes : ℕ → Bool → ℕ → ℕ
-reversed_bytes group wide n = number_of_digits 256 (λ p. digit_at 256 n (opposite group p)) (width_of wide / 8)
+reversed_bytes group wide n =
+    number_of_digits 256 (λ p. digit_at 256 n (opposite group p)) (width_of wide / 8)

@@ -1,5 +1,6 @@
 -- Shifts and rotations of a word by less than its width, over unbounded numbers.
--- Source: DDI 0487, J1.1, ShiftReg: LSL, LSR, ASR and ROR. Words are of 64 bits where `wide` holds, else of 32.
+-- Source: DDI 0487, J1.1, ShiftReg: LSL, LSR, ASR and ROR. Words are of 64 bits where `wide` holds, else of
+-- 32.
 use Rattle.std.specs.Prelude.{ℕ, ◌+◌, ◌-◌, ◌*◌, ◌/◌, ◌%◌, ◌^◌, Bool, ℤ, pos, unsigned_abs}
 use Rattle.std.specs.Int.{int_div_euclid, int_rem_euclid}
 use Rattle.bit_ops.specs.Sums.{word_size, signed_word}

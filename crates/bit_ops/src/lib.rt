@@ -1,5 +1,5 @@
-//! Arithmetic on words of 32 and 64 bits, each function equal to a definition over unbounded numbers and bits:
-//! sums with their flags, shifts, reversals, counts, and the masks of the logical instructions.
+//! Arithmetic on words of 32 and 64 bits, each function equal to a definition over unbounded numbers and
+//! bits: sums with their flags, shifts, reversals, counts, and the masks of the logical instructions.
 #![tactic(auto)]
 
 mod counts;

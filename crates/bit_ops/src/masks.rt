@@ -1,8 +1,10 @@
 //! Masks of the logical instructions.
-ghost use Rattle.std.specs.Prelude.{◌≡◌, ◌≢◌, ◌+◌, ◌-◌, ◌*◌, ◌%◌, ◌^◌, ◌<◌, ◌≤◌, ◌↔◌, ℕ, Bool, not, ◌&&◌, ◌||◌, ◌==◌, nat_le, true, false, IsTrue, IfSome, IsNone, Some};
+ghost use Rattle.std.specs.Prelude.{◌≡◌, ◌≢◌, ◌+◌, ◌-◌, ◌*◌, ◌%◌, ◌^◌, ◌<◌, ◌≤◌, ◌↔◌, ℕ, Bool, not, ◌&&◌};
+ghost use Rattle.std.specs.Prelude.{◌||◌, ◌==◌, nat_le, true, false, IsTrue, IfSome, IsNone, Some};
 ghost use Rattle.bit_ops.specs.Sums.{bool_number, word_size};
 ghost use Rattle.bit_ops.specs.Bits.{digit_at};
-ghost use Rattle.bit_ops.specs.Masks.{are_mask_fields, bit_mask_of, is_reserved, length_of, ones_of, size_of, starts_at, IsMask, IsFieldsOf};
+ghost use Rattle.bit_ops.specs.Masks.{are_mask_fields, bit_mask_of, is_reserved, length_of, ones_of, size_of};
+ghost use Rattle.bit_ops.specs.Masks.{starts_at, IsMask, IsFieldsOf};
 
 use crate::words::{low_word, width};
 
@@ -23,8 +25,8 @@ pub fn bit_mask(n: bool, imms: u8, immr: u8, wide: bool) -> Option<u64>
     Some(low_word(mask, wide))
 }
 
-/// Whether the fields N, imms and immr write a mask of 64 bits where `wide`, else of 32: they are not reserved, and `immr` is
-/// below the size of an element.
+/// Whether the fields N, imms and immr write a mask of 64 bits where `wide`, else of 32: they are not
+/// reserved, and `immr` is below the size of an element.
 #[inline(always)]
 #[tactic(auto, unfolding(crate::specs::Masks::are_mask_fields, crate::specs::Masks::is_reserved))]
 pub fn are_mask_fields(n: bool, imms: u8, immr: u8, wide: bool) -> bool
@@ -115,8 +117,10 @@ fn doubled(word: u64, log: u32) -> u64
 /// only ones with `immr` below the size of an element. None where no fields give it.
 pub fn mask_fields(value: u64, wide: bool) -> Option<(bool, u8, u8)>
     ensures some { IfSome result (λ f. IsFieldsOf f.0 f.1 f.2 wide (value % word_size wide)) }
-    ensures only { (n : Bool) (imms immr : ℕ) → IsFieldsOf n imms immr wide (value % word_size wide) → result ≡ Some (n, imms, immr) }
-    ensures none { IsNone result ↔ ((n : Bool) (imms immr : ℕ) → imms < 64 → immr < 64 → bit_mask_of n imms immr wide ≢ Some (value % word_size wide)) }
+    ensures only { (n : Bool) (imms immr : ℕ) → IsFieldsOf n imms immr wide (value % word_size wide)
+        → result ≡ Some (n, imms, immr) }
+    ensures none { IsNone result ↔ ((n : Bool) (imms immr : ℕ) → imms < 64 → immr < 64
+        → bit_mask_of n imms immr wide ≢ Some (value % word_size wide)) }
 {
     fields_of_word(low_word(value, wide), wide)
 }
@@ -161,7 +165,8 @@ fn likely_fields(word: u64, wide: bool) -> Option<(bool, u8, u8)>
 /// The least place from `from` on, in a word of `width` bits, at which a run of ones starts.
 fn next_start(word: u64, from: u32, width: u32) -> Option<u32>
     requires { width ≤ 64 }
-    ensures some { IfSome result (λ p. (from ≤ p) × (p < width) × (starts_at word width p ≡ true) × ((i : ℕ) → from ≤ i → i < p → starts_at word width i ≡ false)) }
+    ensures some { IfSome result (λ p. (from ≤ p) × (p < width) × (starts_at word width p ≡ true)
+        × ((i : ℕ) → from ≤ i → i < p → starts_at word width i ≡ false)) }
     ensures none { IsNone result → (i : ℕ) → from ≤ i → i < width → starts_at word width i ≡ false }
 {
     for place in from..width {
@@ -208,7 +213,9 @@ fn is_one(word: u64, place: u32) -> bool
 /// The fields of elements of `size` bits with so many ones, the first of which starts at a place.
 fn written(size: u32, ones: u32, first: u32) -> Option<(bool, u8, u8)>
     ensures small { IfSome result (λ f. (f.1 < 64) × (f.2 < 64)) }
-    ensures only { (n : Bool) (imms immr : ℕ) → imms < 64 → immr < size → size ≡ size_of n imms → ones ≡ ones_of n imms + 1 → ones < size → first < size → immr ≡ (size - first) % size → result ≡ Some (n, imms, immr) }
+    ensures only { (n : Bool) (imms immr : ℕ) → imms < 64 → immr < size → size ≡ size_of n imms
+        → ones ≡ ones_of n imms + 1 → ones < size → first < size → immr ≡ (size - first) % size
+        → result ≡ Some (n, imms, immr) }
 {
     if ones == 0 || ones >= size || first >= size || size > 64 {
         return None;

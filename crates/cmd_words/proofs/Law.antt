@@ -1,14 +1,18 @@
 -- Words ask for a command exactly where they have no fault.
-use Rattle.std.proofs.Common.{◌≡◌, ℕ, ◌+◌, ◌<◌, ◌≤◌, Bool, true, false, cond, List, [], ◌∷◌, length, Option, Some, None, refl, sym, ◌∙◌, arith}
+use Rattle.std.proofs.Common.{◌≡◌, ℕ, ◌+◌, ◌<◌, ◌≤◌, Bool, true, false, cond, List, length, Option, Some, None, refl, sym, ◌∙◌, arith}
 use Rattle.std.specs.Prelude.{◌↔◌, slice_get, is_some, is_none, IsSome, option_and_then, option_map}
 use Rattle.std.specs.List.{find, range_with_len}
-use Rattle.cmd_words.specs.Words.{Fault, Request, verb_of, command_fault, missing_fault, named_fault, rest_fault, request_for, fault_at, place_fault, usage_fault, command_of}
+use Rattle.cmd_words.specs.Forms.{Form, form_of}
+use Rattle.cmd_words.specs.Words.{Fault, Request, verb_of, form_asked, command_fault, operand_fault, request_for, fault_at, place_fault, usage_fault, command_of}
 use Rattle.cmd_words.specs.declared.command.UsageKind.{UsageKind}
 use Rattle.cmd_words.specs.declared.command.UsageKind.TheVariants.{Unknown}
+use Rattle.cmd_words.specs.declared.form.Operand.{Operand}
+use Rattle.cmd_words.specs.declared.form.Operand.TheVariants.{Name}
 use Rattle.cmd_words.specs.declared.verb.Verb.{Verb}
 use Rattle.cmd_words.specs.declared.verb.Verb.TheVariants.{Run, Dis, Asm, Help, Version}
-use Rattle.cmd_words.proofs.Places.{none-find, find-passes}
-use Rattle.cmd_words.proofs.Reading.{fault_at-name, named_first}
+use Rattle.sm_types.proofs.Places.{none-find, find-passes}
+use Rattle.cmd_words.proofs.Faults.{fault_at-operand}
+use Rattle.cmd_words.proofs.Reading.{asked_of, sound_first}
 
 none_if_not : {A : Type 0} (o : Option A) → is_some o ≡ false → o ≡ None
 none_if_not None e = refl
@@ -37,28 +41,25 @@ command_stands : (word : Option (List ℕ)) → command_fault word ≡ None → 
 command_stands None e = cc
 command_stands (Some word) e = known_verb (verb_of word) e
 
-name_stands : (name : Option (List ℕ)) → missing_fault name ≡ None → IsSome name
-name_stands None e = cc
-name_stands (Some name) e = refl
-
 map_is_some : {A B : Type 0} (f : A → B) (o : Option A) → IsSome o → IsSome (option_map f o)
 map_is_some f None e = cc
 map_is_some f (Some x) e = refl
 
-some_word : (words : List (List ℕ)) (verb : Verb) → option_and_then verb_of (slice_get words 0) ≡ Some verb → 1 ≤ length words
-some_word [] verb e = cc
-some_word (w ∷ ws) verb e = omega arith
+operand_stands : (operand : Operand) (word : Option (List ℕ)) → operand_fault operand word ≡ None → IsSome word
+operand_stands operand None e = cc
+operand_stands operand (Some word) e = refl
 
--- a command that takes a name alone has its name
-name_given : (words : List (List ℕ)) (verb : Verb) → usage_fault words ≡ None → option_and_then verb_of (slice_get words 0) ≡ Some verb → ((place : ℕ) → rest_fault (Some verb) words place ≡ named_fault words place) → IsSome (slice_get words 1)
-name_given words verb none is named =
-    name_stands (slice_get words 1) (sym (named_first words verb is named) ∙ no_place words none 1 (let l : 1 ≤ length words = some_word words verb is in omega arith))
+-- the first operand of a command stands
+first_stands : (words : List (List ℕ)) (form : Form) (operand : Operand) → usage_fault words ≡ None → form_asked words ≡ Some form → slice_get form.operands 0 ≡ Some operand → IsSome (slice_get words 1)
+first_stands words form operand none asked at =
+    let l : 1 ≤ length words = (sound_first words form asked).inside in
+    operand_stands operand (slice_get words 1) (sym (fault_at-operand words form 0 operand asked at) ∙ no_place words none 1 (omega arith))
 
 -- a command that stands asks for something
 requested : (words : List (List ℕ)) (verb : Verb) → usage_fault words ≡ None → option_and_then verb_of (slice_get words 0) ≡ Some verb → IsSome (request_for words verb)
-requested words Run none is = map_is_some _ (slice_get words 1) (name_stands (slice_get words 1) (sym (fault_at-name words is) ∙ no_place words none 1 (let l : 1 ≤ length words = some_word words Run is in omega arith)))
-requested words Dis none is = map_is_some _ (slice_get words 1) (name_given words Dis none is (λ place. refl))
-requested words Asm none is = map_is_some _ (slice_get words 1) (name_given words Asm none is (λ place. refl))
+requested words Run none is = map_is_some _ (slice_get words 1) (first_stands words (form_of Run) Name none (asked_of words Run is) refl)
+requested words Dis none is = map_is_some _ (slice_get words 1) (first_stands words (form_of Dis) Name none (asked_of words Dis is) refl)
+requested words Asm none is = map_is_some _ (slice_get words 1) (first_stands words (form_of Asm) Name none (asked_of words Asm is) refl)
 requested words Help none is = refl
 requested words Version none is = refl
 

@@ -1,5 +1,6 @@
 pub mod Numbers
 pub mod Options
+pub mod Forms
 pub mod Words
 pub mod Command
 pub mod Given

@@ -1,15 +1,21 @@
--- The words of the command line, without the program's name: what they ask for, or which is the first at fault and why.
--- Places count words from 0. Source: this project's own command line.
-use Rattle.std.specs.Prelude.{ℕ, ◌+◌, ◌-◌, ◌%◌, ◌==◌, ◌&&◌, nat_le, Bool, false, List, length, slice_get, Option, Some, None, is_some, is_none, option_map, option_and_then, unwrap_or, codes, if◌then◌else◌}
+-- The words of the command line, without the program's name: what they ask for, or which is the first at
+-- fault and why. Places count words from 0. Source: this project's own command line.
+use Rattle.std.specs.Prelude.{ℕ, ◌+◌, ◌-◌, ◌%◌, ◌==◌, ◌&&◌, nat_le, Bool, false, List, [], ◌∷◌, length}
+use Rattle.std.specs.Prelude.{slice_get, Option, Some, None, is_some, is_none, option_map, option_and_then}
+use Rattle.std.specs.Prelude.{unwrap_or, codes, if◌then◌else◌}
 use Rattle.std.specs.List.{find, range_with_len}
 use Rattle.std.specs.Option.{option_map_or}
 use Rattle.std.specs.Str.{bytes_eq}
 use Rattle.cmd_words.specs.Numbers.{is_number, number_of}
-use Rattle.cmd_words.specs.Options.{Options, word_of, setting_of, takes, default_of}
+use Rattle.cmd_words.specs.Forms.{Form, form_of, options_from}
+use Rattle.cmd_words.specs.Options.{Options, default_options, word_of, setting_in, takes, default_of}
+use Rattle.cmd_words.specs.Options.{with_numbers}
 use Rattle.cmd_words.specs.declared.command.UsageKind.{UsageKind}
-use Rattle.cmd_words.specs.declared.command.UsageKind.TheVariants.{Unknown, Missing, Repeated, BadNumber, OutOfRange, Extra}
+use Rattle.cmd_words.specs.declared.command.UsageKind.TheVariants.{Unknown, Missing, Repeated, BadNumber}
+use Rattle.cmd_words.specs.declared.command.UsageKind.TheVariants.{OutOfRange, Extra}
+use Rattle.cmd_words.specs.declared.form.Operand.{Operand}
+use Rattle.cmd_words.specs.declared.form.Operand.TheVariants.{Name}
 use Rattle.cmd_words.specs.declared.setting.Setting.{Setting}
-use Rattle.cmd_words.specs.declared.setting.Setting.TheVariants.{Vl, Svl, Budget}
 use Rattle.cmd_words.specs.declared.verb.Verb.{Verb}
 use Rattle.cmd_words.specs.declared.verb.Verb.TheVariants.{Run, Dis, Asm, Help, Version}
 
@@ -23,41 +29,51 @@ verb_of word =
     else (if bytes_eq word (codes "--version") then Some Version
     else None))))
 
--- that word stands at the place as an option does: at an even place from 2 on
-abbrev pub stands_at : List (List ℕ) → List ℕ → ℕ → Bool
-stands_at words option place = nat_le 2 place && (place % 2 == 0) && option_map_or (bytes_eq option) (slice_get words place) false
+-- the form of the command that the first word is
+abbrev pub form_asked : List (List ℕ) → Option Form
+form_asked words = option_map form_of (option_and_then verb_of (slice_get words 0))
+
+-- an option is to stand at the place, and not the value of one: at each second place from that of the first
+-- option on
+abbrev pub is_option_place : Form → ℕ → Bool
+is_option_place form place = nat_le (options_from form) place && ((place - options_from form) % 2 == 0)
+
+-- that word stands at the place as an option
+abbrev pub stands_at : Form → List (List ℕ) → List ℕ → ℕ → Bool
+stands_at form words option place =
+    is_option_place form place && option_map_or (bytes_eq option) (slice_get words place) false
 
 -- the places below n, from left to right
 abbrev pub places : ℕ → List ℕ
 places n = range_with_len 0 n
 
 -- the first place below n at which that word stands as an option
-unfoldable pub option_place : List (List ℕ) → List ℕ → ℕ → Option ℕ
-option_place words option n = find (stands_at words option) (places n)
+unfoldable pub option_place : Form → List (List ℕ) → List ℕ → ℕ → Option ℕ
+option_place form words option n = find (stands_at form words option) (places n)
 
 -- ---- what is wrong at a place, with the word that stands there
-
--- any word is to stand
-abbrev pub missing_fault : Option (List ℕ) → Option UsageKind
-missing_fault None = Some Missing
-missing_fault (Some word) = None
-
--- no word is to stand
-abbrev pub extra_fault : Option (List ℕ) → Option UsageKind
-extra_fault None = None
-extra_fault (Some word) = Some Extra
 
 -- a command is to stand
 abbrev pub command_fault : Option (List ℕ) → Option UsageKind
 command_fault None = Some Missing
 command_fault (Some word) = if is_some (verb_of word) then None else Some Unknown
 
+-- an operand is to stand
+abbrev pub operand_fault : Operand → Option (List ℕ) → Option UsageKind
+operand_fault operand None = Some Missing
+operand_fault Name (Some word) = None
+
+-- what a word is that is none of the options: one too many, where the command takes none
+abbrev pub no_option : List Setting → UsageKind
+no_option [] = Extra
+no_option (setting ∷ settings) = Unknown
+
 -- an option may stand that does not stand before
-abbrev pub option_fault : List (List ℕ) → ℕ → Option (List ℕ) → Option UsageKind
-option_fault words place None = None
-option_fault words place (Some word) =
-    if is_none (setting_of word) then Some Unknown
-    else (if is_some (option_place words word place) then Some Repeated
+abbrev pub option_fault : Form → List (List ℕ) → ℕ → Option (List ℕ) → Option UsageKind
+option_fault form words place None = None
+option_fault form words place (Some word) =
+    if is_none (setting_in form.options word) then Some (no_option form.options)
+    else (if is_some (option_place form words word place) then Some Repeated
     else None)
 
 -- a number is to stand that the option takes; where the option is none, the fault is before
@@ -68,31 +84,24 @@ value_fault (Some setting) (Some word) =
     if is_number word then (if takes setting (number_of word) then None else Some OutOfRange)
     else Some BadNumber
 
--- after `run`: the program's name at place 1, options at even places, and after each its value
-unfoldable pub run_fault : List (List ℕ) → ℕ → Option UsageKind
-run_fault words place =
-    if place == 1 then missing_fault (slice_get words 1)
-    else (if place % 2 == 0 then option_fault words place (slice_get words place)
-    else value_fault (option_and_then setting_of (slice_get words (place - 1))) (slice_get words place))
+-- after a command of that form: its operands, then its options, and after each its value
+abbrev pub rest_fault : Form → List (List ℕ) → ℕ → Option Operand → Option UsageKind
+rest_fault form words place (Some operand) = operand_fault operand (slice_get words place)
+rest_fault form words place None =
+    if is_option_place form place then option_fault form words place (slice_get words place)
+    else value_fault (option_and_then (setting_in form.options) (slice_get words (place - 1)))
+    (slice_get words place)
 
--- after a command that takes a name alone: the name at place 1, and nothing more
-unfoldable pub named_fault : List (List ℕ) → ℕ → Option UsageKind
-named_fault words place = if place == 1 then missing_fault (slice_get words 1) else extra_fault (slice_get words place)
-
--- after a command: nothing stands after `--help` and `--version`; after no command the fault is before
-abbrev pub rest_fault : Option Verb → List (List ℕ) → ℕ → Option UsageKind
-rest_fault None words place = None
-rest_fault (Some Run) words place = run_fault words place
-rest_fault (Some Dis) words place = named_fault words place
-rest_fault (Some Asm) words place = named_fault words place
-rest_fault (Some Help) words place = extra_fault (slice_get words place)
-rest_fault (Some Version) words place = extra_fault (slice_get words place)
+-- after no command the fault is before
+abbrev pub form_fault : Option Form → List (List ℕ) → ℕ → Option UsageKind
+form_fault None words place = None
+form_fault (Some form) words place = rest_fault form words place (slice_get form.operands (place - 1))
 
 -- what is wrong at a place
 unfoldable pub fault_at : List (List ℕ) → ℕ → Option UsageKind
 fault_at words place =
     if place == 0 then command_fault (slice_get words 0)
-    else rest_fault (option_and_then verb_of (slice_get words 0)) words place
+    else form_fault (form_asked words) words place
 
 -- ---- the words as a whole
 
@@ -107,26 +116,24 @@ place_fault words place = option_map (λ kind. record { place = place; kind = ki
 
 -- the first fault from left to right; the last place is that just past the last word
 unfoldable pub usage_fault : List (List ℕ) → Option Fault
-usage_fault words = option_and_then (place_fault words) (find (λ place. is_some (fault_at words place)) (places (length words + 1)))
+usage_fault words =
+    option_and_then (place_fault words) (find (λ place. is_some (fault_at words place))
+    (places (length words + 1)))
 
 -- the number of an option that stands below place n: that of the word after it
-unfoldable pub value_below : List (List ℕ) → Setting → ℕ → Option ℕ
-value_below words setting n = option_and_then (λ place. option_map number_of (slice_get words (place + 1))) (option_place words (word_of setting) n)
+unfoldable pub value_below : Form → List (List ℕ) → Setting → ℕ → Option ℕ
+value_below form words setting n =
+    option_and_then (λ place. option_map number_of (slice_get words (place + 1)))
+    (option_place form words (word_of setting) n)
 
 -- the number of an option
-unfoldable pub number_given : List (List ℕ) → Setting → ℕ
-number_given words setting = unwrap_or (value_below words setting (length words)) (default_of setting)
+unfoldable pub number_given : Form → List (List ℕ) → Setting → ℕ
+number_given form words setting =
+    unwrap_or (value_below form words setting (length words)) (default_of setting)
 
--- the numbers of a run's options; those that have no word have one value
-unfoldable pub options_given : List (List ℕ) → Options
-options_given words = record {
-  vl = number_given words Vl;
-  svl = number_given words Svl;
-  slice = 1000;
-  budget = number_given words Budget;
-  threads = 1;
-  cores = 1;
-}
+-- the numbers of the options: of those that the command takes, those that are given
+unfoldable pub options_given : Form → List (List ℕ) → Options
+options_given form words = with_numbers default_options form.options (number_given form words)
 
 -- what words ask for
 pub data Request : Type 0 where
@@ -143,7 +150,8 @@ pub data Request : Type 0 where
 
 -- what a command asks for
 abbrev pub request_for : List (List ℕ) → Verb → Option Request
-request_for words Run = option_map (λ name. AsksRun name (options_given words)) (slice_get words 1)
+request_for words Run =
+    option_map (λ name. AsksRun name (options_given (form_of Run) words)) (slice_get words 1)
 request_for words Dis = option_map AsksListing (slice_get words 1)
 request_for words Asm = option_map AsksAssembly (slice_get words 1)
 request_for words Help = Some AsksHelp
@@ -152,5 +160,6 @@ request_for words Version = Some AsksVersion
 -- what words without a fault ask for
 unfoldable pub command_of : List (List ℕ) → Option Request
 command_of words =
-    if is_none (usage_fault words) then option_and_then (request_for words) (option_and_then verb_of (slice_get words 0))
+    if is_none (usage_fault words) then option_and_then (request_for words)
+    (option_and_then verb_of (slice_get words 0))
     else None

@@ -74,8 +74,13 @@ impl Given {
 
     /// The options of the run.
     pub fn config(&self) -> Config
-        requires { (setting : Setting) → ForSome (given_of self.now setting) (λ number. spec.takes setting number ≡ true) }
-        ensures { spec.options_of result ≡ record { vl = unwrap_or self.now.vl 128; svl = unwrap_or self.now.svl 256; slice = 1000; budget = unwrap_or self.now.budget 10000000; threads = 1; cores = 1 } }
+        requires { (setting : Setting) → ForSome (given_of self.now setting)
+            (λ number. spec.takes setting number ≡ true) }
+        ensures { spec.options_of result ≡ record spec.default_options {
+          vl = unwrap_or self.now.vl (spec.default_of Setting.Vl);
+          svl = unwrap_or self.now.svl (spec.default_of Setting.Svl);
+          budget = unwrap_or self.now.budget (spec.default_of Setting.Budget);
+        } }
     {
         let defaults = Config::defaults();
         Config {

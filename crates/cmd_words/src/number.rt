@@ -20,8 +20,8 @@ fn is_number(word: &str) -> bool
     all_digits(digits) && !digits.is_empty() && (digits[0] != b'0' || digits.len() == 1)
 }
 
-/// The number that a word writes, or the greatest `u64` where it writes one above that; `None` exactly where it is
-/// not a number.
+/// The number that a word writes, or the greatest `u64` where it writes one above that; `None` exactly
+/// where it is not a number.
 #[tactic(auto, unfolding(crate::specs::Numbers::number_of))]
 pub fn number_of(word: &str) -> Option<u64>
     ensures { result ≡ (if spec.is_number word.now then Some (min (spec.number_of word.now) (2 ^ 64 - 1)) else None) }

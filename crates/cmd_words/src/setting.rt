@@ -15,20 +15,27 @@ pub enum Setting {
     Budget,
 }
 
-/// The option of a word.
-#[tactic(auto, unfolding(crate::specs::Options::setting_of))]
-pub fn setting_of(word: &str) -> Option<Setting>
-    ensures { result ≡ spec.setting_of word.now }
+/// The word of an option.
+fn word_of(setting: Setting) -> &'static str
+    ensures { result.now ≡ spec.word_of setting }
 {
-    if word == "--vl" {
-        Some(Setting::Vl)
-    } else if word == "--svl" {
-        Some(Setting::Svl)
-    } else if word == "--budget" {
-        Some(Setting::Budget)
-    } else {
-        None
+    match setting {
+        Setting::Vl => "--vl",
+        Setting::Svl => "--svl",
+        Setting::Budget => "--budget",
     }
+}
+
+/// The option of a word, among some.
+pub fn setting_in(settings: &[Setting], word: &str) -> Option<Setting>
+    ensures { result ≡ spec.setting_in settings.now word.now }
+{
+    for setting in settings {
+        if word == word_of(*setting) {
+            return Some(*setting);
+        }
+    }
+    None
 }
 
 /// Tells whether an option takes the number.

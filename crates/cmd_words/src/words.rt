@@ -1,16 +1,20 @@
 //! The words of a command line, read into a command.
-ghost use Rattle.std.specs.Prelude.{◌≡◌, ◌<◌, ◌≤◌, ◌+◌, true, map, slice_get, length, Option, Some, None, option_map, IfOk, IfErr, OnOk, IsSome, MatchOption};
+ghost use Rattle.std.specs.Prelude.{◌≡◌, ◌<◌, ◌≤◌, ◌+◌, true, map, slice_get, length, Option, Some, None};
+ghost use Rattle.std.specs.Prelude.{option_map, option_and_then, IfOk, IfErr, OnOk, IsSome, MatchOption};
 ghost use Rattle.std.specs.String.{string_bytes};
+ghost use Rattle.cmd_words.specs.Forms as forms;
 ghost use Rattle.cmd_words.specs.Numbers as numbers;
 ghost use Rattle.cmd_words.specs.Options as options;
-ghost use Rattle.cmd_words.specs.Words.{command_of, value_fault};
+ghost use Rattle.cmd_words.specs.Words as spec;
+ghost use Rattle.cmd_words.specs.Words.{command_of, form_asked, value_fault};
 ghost use Rattle.cmd_words.specs.Command.{request_of, IsFirstFault};
-ghost use Rattle.cmd_words.specs.Given.{given_of, IsRun, IsNamed, HasName, IsAlone, IsReadTo};
+ghost use Rattle.cmd_words.specs.Given.{given_of, form_said, IsSoundTo, IsReadTo};
 
 use crate::command::{Command, UsageKind, WordsFault};
+use crate::form::{Form, Operand, form_of};
 use crate::given::Given;
 use crate::number::number_of;
-use crate::setting::{Setting, setting_of, takes};
+use crate::setting::{Setting, setting_in, takes};
 use crate::verb::{Verb, verb_of};
 use std::alloc::Global;
 
@@ -31,13 +35,36 @@ fn usage(place: usize, kind: UsageKind) -> WordsFault
     WordsFault::Usage { place, kind }
 }
 
-/// The option of a word, which has not been given before.
-fn read_setting(word: &str, given: &Given) -> Result<Setting, UsageKind>
-    ensures ok { IfOk result (λ setting. (options.setting_of word.now ≡ Some setting) × (given_of given.now setting ≡ None)) }
-    ensures err { IfErr result (λ kind. MatchOption (options.setting_of word.now) (kind ≡ UsageKind.Unknown) (λ setting. (kind ≡ UsageKind.Repeated) × IsSome (given_of given.now setting))) }
+/// What is wrong where an operand is to stand.
+fn operand_fault(operand: Operand, word: Option<&str>) -> Option<UsageKind>
+    ensures { result ≡ spec.operand_fault operand (option_map (λ word. word.now) word.entry) }
 {
-    let Some(setting) = setting_of(word) else {
-        return Err(UsageKind::Unknown);
+    match (operand, word) {
+        (_, None) => Some(UsageKind::Missing),
+        (Operand::Name, Some(_)) => None,
+    }
+}
+
+/// What a word is that is none of the options.
+fn no_option(options: &[Setting]) -> UsageKind
+    ensures { result ≡ spec.no_option options.now }
+{
+    if options.is_empty() {
+        UsageKind::Extra
+    } else {
+        UsageKind::Unknown
+    }
+}
+
+/// The option of a word, which has not been given before.
+fn read_setting(settings: &[Setting], word: &str, given: &Given) -> Result<Setting, UsageKind>
+    ensures ok { IfOk result (λ setting. (options.setting_in settings.now word.now ≡ Some setting)
+        × (given_of given.now setting ≡ None)) }
+    ensures err { IfErr result (λ kind. MatchOption (options.setting_in settings.now word.now)
+        (kind ≡ spec.no_option settings.now) (λ setting. (kind ≡ UsageKind.Repeated) × IsSome (given_of given.now setting))) }
+{
+    let Some(setting) = setting_in(settings, word) else {
+        return Err(no_option(settings));
     };
     if given.get(setting).is_some() {
         return Err(UsageKind::Repeated);
@@ -47,7 +74,8 @@ fn read_setting(word: &str, given: &Given) -> Result<Setting, UsageKind>
 
 /// The number of a word, which the option takes.
 fn read_value(setting: Setting, word: &str) -> Result<u32, UsageKind>
-    ensures ok { IfOk result (λ number. (numbers.is_number word.now ≡ true) × (number ≡ numbers.number_of word.now) × (options.takes setting number ≡ true)) }
+    ensures ok { IfOk result (λ number. (numbers.is_number word.now ≡ true)
+        × (number ≡ numbers.number_of word.now) × (options.takes setting number ≡ true)) }
     ensures err { IfErr result (λ kind. value_fault (Some setting) (Some word.now) ≡ Some kind) }
 {
     match number_of(word) {
@@ -60,16 +88,17 @@ fn read_value(setting: Setting, word: &str) -> Result<u32, UsageKind>
 /// Reads the option at a place and its value after it.
 fn read_option(
     words: &[String],
+    form: Form,
     place: usize,
     given: &Given,
     word: &str,
 ) -> Result<Given, WordsFault>
-    requires read { IsReadTo (map string_bytes words.now) place given.now }
+    requires read { IsReadTo (map string_bytes words.now) (form_said form) place given.now }
     requires stands { slice_get (map string_bytes words.now) place ≡ Some word.now }
-    ensures ok { IfOk result (λ more. IsReadTo (map string_bytes words.now) (place + 2) more) }
+    ensures ok { IfOk result (IsReadTo (map string_bytes words.now) (form_said form) (place + 2)) }
     ensures err { IfErr result (IsFirstFault (map string_bytes words.now)) }
 {
-    let setting = match read_setting(word, given) {
+    let setting = match read_setting(form.options, word, given) {
         Ok(setting) => setting,
         Err(kind) => return Err(usage(place, kind)),
     };
@@ -83,98 +112,102 @@ fn read_option(
     }
 }
 
-/// Reads the options, which begin at place 2.
-fn read_options(words: &[String]) -> Result<Given, WordsFault>
-    requires run { IsRun (map string_bytes words.now) }
-    requires named { IsSome (slice_get (map string_bytes words.now) 1) }
-    ensures ok { IfOk result (λ given. IsReadTo (map string_bytes words.now) (length words.now) given) }
+/// Reads the operands after a command.
+fn read_operands(words: &[String], form: Form) -> Result<(), WordsFault>
+    requires { form_asked (map string_bytes words.now) ≡ Some (form_said form) }
+    ensures ok { OnOk result (IsSoundTo (map string_bytes words.now) (forms.options_from (form_said form))) }
+    ensures err { IfErr result (IsFirstFault (map string_bytes words.now)) }
+{
+    for k in 0..form.operands.len() {
+        let place = k + 1;
+        if let Some(kind) = operand_fault(form.operands[k], word_at(words, place)) {
+            return Err(usage(place, kind));
+        }
+    }
+    Ok(())
+}
+
+/// Reads the options after the operands.
+fn read_options(words: &[String], form: Form) -> Result<Given, WordsFault>
+    requires asked { form_asked (map string_bytes words.now) ≡ Some (form_said form) }
+    requires sound { IsSoundTo (map string_bytes words.now) (forms.options_from (form_said form)) }
+    ensures ok { IfOk result (IsReadTo (map string_bytes words.now) (form_said form) (length words.now)) }
     ensures err { IfErr result (IsFirstFault (map string_bytes words.now)) }
 {
     let mut given = Given::none();
-    let mut place = 2;
+    let mut place = 1 + form.operands.len();
     while let Some(word) = word_at(words, place) {
-        given = read_option(words, place, &given, word)?;
+        given = read_option(words, form, place, &given, word)?;
         place += 2;
     }
     Ok(given)
 }
 
-/// Reads the words after `run`: the program's name, and options.
-fn read_run(alloc: Global, words: &[String]) -> Result<Command, WordsFault>
-    requires { IsRun (map string_bytes words.now) }
-    ensures command { IfOk result (λ command. command_of (map string_bytes words.now) ≡ Some (request_of command)) }
-    ensures fault { IfErr result (IsFirstFault (map string_bytes words.now)) }
-{
-    let Some(name) = word_at(words, 1) else {
-        return Err(usage(1, UsageKind::Missing));
-    };
-    let given = read_options(words)?;
-    match String::from_str(alloc, name) {
-        Ok(program) => Ok(Command::Run {
-            program,
-            config: given.config(),
-        }),
-        Err(_) => Err(WordsFault::Memory),
-    }
-}
-
-/// Reads the words after a command that takes a name alone: the name, and nothing more.
-fn read_name(alloc: Global, words: &[String]) -> Result<String, WordsFault>
-    requires { IsNamed (map string_bytes words.now) }
-    ensures ok { IfOk result (λ name. HasName (map string_bytes words.now) (string_bytes name)) }
+/// Reads the words after a command: its operands, and its options.
+fn read_form(words: &[String], form: Form) -> Result<Given, WordsFault>
+    requires { form_asked (map string_bytes words.now) ≡ Some (form_said form) }
+    ensures ok { IfOk result (IsReadTo (map string_bytes words.now) (form_said form) (length words.now)) }
     ensures err { IfErr result (IsFirstFault (map string_bytes words.now)) }
 {
-    let Some(name) = word_at(words, 1) else {
-        return Err(usage(1, UsageKind::Missing));
-    };
-    if words.len() > 2 {
-        return Err(usage(2, UsageKind::Extra));
-    }
-    match String::from_str(alloc, name) {
+    read_operands(words, form)?;
+    read_options(words, form)
+}
+
+/// The name at a place.
+fn name_at(alloc: Global, words: &[String], place: usize) -> Result<String, WordsFault>
+    requires { place < length words.now }
+    ensures ok { IfOk result (λ name.
+        slice_get (map string_bytes words.now) place ≡ Some (string_bytes name)) }
+    ensures err { IfErr result (λ fault. fault ≡ WordsFault.Memory) }
+{
+    match String::from_str(alloc, words[place].as_str()) {
         Ok(name) => Ok(name),
         Err(_) => Err(WordsFault::Memory),
     }
 }
 
-/// Tells whether nothing stands after a command that stands alone.
-fn check_alone(words: &[String]) -> Result<(), WordsFault>
-    requires { IsAlone (map string_bytes words.now) }
-    ensures ok { OnOk result (length words.now ≤ 1) }
-    ensures err { IfErr result (IsFirstFault (map string_bytes words.now)) }
+/// The command of words without a fault.
+fn make_command(
+    alloc: Global,
+    words: &[String],
+    verb: Verb,
+    given: &Given,
+) -> Result<Command, WordsFault>
+    requires verb { option_and_then spec.verb_of (slice_get (map string_bytes words.now) 0) ≡ Some verb }
+    requires read { IsReadTo (map string_bytes words.now) (forms.form_of verb) (length words.now) given.now }
+    ensures command { IfOk result (λ command.
+        command_of (map string_bytes words.now) ≡ Some (request_of command)) }
+    ensures fault { IfErr result (λ fault. fault ≡ WordsFault.Memory) }
 {
-    if words.len() > 1 {
-        return Err(usage(1, UsageKind::Extra));
+    match verb {
+        Verb::Run => Ok(Command::Run {
+            program: name_at(alloc, words, 1)?,
+            config: given.config(),
+        }),
+        Verb::Dis => Ok(Command::Dis {
+            program: name_at(alloc, words, 1)?,
+        }),
+        Verb::Asm => Ok(Command::Asm {
+            source: name_at(alloc, words, 1)?,
+        }),
+        Verb::Help => Ok(Command::Help),
+        Verb::Version => Ok(Command::Version),
     }
-    Ok(())
 }
 
-/// Reads the words of a command line, without the program's name: Ok is what they ask for, `Usage` is their first
-/// fault, and `Memory` is want of memory.
+/// Reads the words of a command line, without the program's name: Ok is what they ask for, `Usage` is their
+/// first fault, and `Memory` is want of memory.
 pub fn read_words(alloc: Global, words: &[String]) -> Result<Command, WordsFault>
-    ensures command { IfOk result (λ command. command_of (map string_bytes words.now) ≡ Some (request_of command)) }
+    ensures command { IfOk result (λ command.
+        command_of (map string_bytes words.now) ≡ Some (request_of command)) }
     ensures fault { IfErr result (IsFirstFault (map string_bytes words.now)) }
 {
     let Some(word) = word_at(words, 0) else {
         return Err(usage(0, UsageKind::Missing));
     };
-    match verb_of(word) {
-        Some(Verb::Run) => read_run(alloc, words),
-        Some(Verb::Dis) => {
-            let program = read_name(alloc, words)?;
-            Ok(Command::Dis { program })
-        }
-        Some(Verb::Asm) => {
-            let source = read_name(alloc, words)?;
-            Ok(Command::Asm { source })
-        }
-        Some(Verb::Help) => {
-            check_alone(words)?;
-            Ok(Command::Help)
-        }
-        Some(Verb::Version) => {
-            check_alone(words)?;
-            Ok(Command::Version)
-        }
-        None => Err(usage(0, UsageKind::Unknown)),
-    }
+    let Some(verb) = verb_of(word) else {
+        return Err(usage(0, UsageKind::Unknown));
+    };
+    let given = read_form(words, form_of(verb))?;
+    make_command(alloc, words, verb, &given)
 }

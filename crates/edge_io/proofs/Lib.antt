@@ -1,3 +1,4 @@
 pub mod Appending
 pub mod Failing
+pub mod Gathering
 pub mod Writing

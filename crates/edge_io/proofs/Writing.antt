@@ -5,7 +5,6 @@ use Rattle.std.specs.Prelude.{IsOk}
 use Rattle.std.specs.Result.{IsErr}
 use Rattle.edge_io.specs.Cause.{Rose}
 use Rattle.edge_io.specs.Sink.{SinkView, added, Writes}
-use Rattle.edge_io.specs.Sofar.{SoFar}
 use Rattle.edge_io.specs.declared.sink.PutFault.{PutFault}
 
 added-nil : (told : Option (List ℕ)) → told ≡ added told []
@@ -70,34 +69,6 @@ writes_stop a b (Err x) (Err y) s t e' e h = record {
   accepts = λ fits. let f : false ≡ true = (h.accepts (fits_first s t a.room fits)).0 in cc;
 }
 
--- ---- the same with what can be read off left out
-
-pub and_then : {a b c : SinkView} {r : Result Unit PutFault} {s t : List ℕ} → Writes a b (Ok tt) s → Writes b c r t → Writes a c r (s ++ t)
-and_then h k = writes_then _ _ _ _ _ _ h k
-
-pub and_stop : {a b : SinkView} {e : PutFault} {r : Result Unit PutFault} {s : List ℕ} (t : List ℕ) → Writes a b (Err e) s → IsErr r → Writes a b r (s ++ t)
-and_stop t h e = writes_stop _ _ _ _ _ _ e refl h
-
-pub and_end : {a b : SinkView} {r : Result Unit PutFault} {s : List ℕ} → Writes a b r s → Writes a b r (s ++ [])
-and_end {s = s} h = let e : s ++ [] ≡ s = grind (arith, common_steps) in rw e h
-
 -- the same text, said otherwise
-pub as_text : {a b : SinkView} {r : Result Unit PutFault} {s t : List ℕ} → s ≡ t → Writes a b r s → Writes a b r t
-as_text {a = a} {b = b} {r = r} e h = let P : List ℕ → Type 0 = λ l. Writes a b r l in subst P e h
-
-nothing_left : (s : List ℕ) → s ++ [] ≡ s
-nothing_left s = grind (arith, common_steps)
-
--- ---- a text of which a part is left
-
-pub sofar_start : (a : SinkView) (all : List ℕ) → SoFar a a all all
-sofar_start a all = record { text = []; writes = writes_none a; whole = refl }
-
-pub sofar_more : {a b c : SinkView} {s rest left all : List ℕ} → left ≡ s ++ rest → SoFar a b left all → Writes b c (Ok tt) s → SoFar a c rest all
-sofar_more {s = s} {rest = rest} e h k = record { text = h.text ++ s; writes = and_then h.writes k; whole = append_assoc h.text s rest ∙ ap (λ l. h.text ++ l) (sym e) ∙ h.whole }
-
-pub sofar_stop : {a b c : SinkView} {e : PutFault} {r : Result Unit PutFault} {s left all : List ℕ} (rest : List ℕ) → left ≡ s ++ rest → SoFar a b left all → Writes b c (Err e) s → IsErr r → Writes a c r all
-sofar_stop {s = s} rest e h k is = as_text (ap (λ l. h.text ++ l) (sym e) ∙ h.whole) (writes_then _ _ _ _ _ _ h.writes (and_stop rest k is))
-
-pub sofar_end : {a b : SinkView} {rest all : List ℕ} → rest ≡ [] → SoFar a b rest all → Writes a b (Ok tt) all
-sofar_end {rest = rest} {all = all} e h = as_text (sym (nothing_left h.text) ∙ ap (λ l. h.text ++ l) (sym e) ∙ h.whole) h.writes
+pub writes_as : {a b : SinkView} {r : Result Unit PutFault} {s t : List ℕ} → s ≡ t → Writes a b r s → Writes a b r t
+writes_as {a = a} {b = b} {r = r} e h = let P : List ℕ → Type 0 = λ l. Writes a b r l in subst P e h

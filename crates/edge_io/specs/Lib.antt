@@ -4,6 +4,7 @@ pub mod Failing
 pub mod Files
 pub mod MemFiles
 pub mod MemSink
+pub mod Pieces
 pub mod Sink
 pub mod Sofar
 pub mod WriterSink

@@ -4,7 +4,8 @@ use Rattle.edge_io.specs.Failing.{allowance, is_nil, next_call}
 use Rattle.edge_io.specs.Sink.{SinkView}
 use Rattle.edge_io.specs.declared.mem_sink.MemSink.{MemSink}
 
--- which calls of `put` fail, counted from 1, each with the most bytes that it appends; how many were made; how many failed
+-- which calls of `put` fail, counted from 1, each with the most bytes that it appends; how many were made;
+-- how many failed
 pub record PutLog : Type 0 where
   pub failing : List (ℕ × ℕ)
   pub made : ℕ

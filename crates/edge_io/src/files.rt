@@ -20,8 +20,8 @@ pub trait Files {
     /// What is known of it.
     ghost view: { Self → FilesView };
 
-    /// What one fetch of a name with a limit makes of it. A caller who shows this of the place before and the place
-    /// now has made that one fetch, and no other.
+    /// What one fetch of a name with a limit makes of it. A caller who shows this of the place before and
+    /// the place now has made that one fetch, and no other.
     ghost fetched: { Self → List ℕ → ℕ → Self → Type 0 };
 
     /// The file's first `limit` bytes, or all where it has fewer. `Absent` where no file has the name,

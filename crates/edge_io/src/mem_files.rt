@@ -1,5 +1,6 @@
 //! Files in memory.
-ghost use Rattle.std.specs.Prelude.{◌≡◌, ◌≢◌, ℕ, ◌++◌, Option, Some, None, IsSome, List, [], ◌∷◌, take, Contains, IsTrue, OnOk, OnErr, IfOk, IfErr, Err, ◌↔◌};
+ghost use Rattle.std.specs.Prelude.{◌≡◌, ◌≢◌, ℕ, ◌++◌, Option, Some, None, IsSome, List, [], ◌∷◌, take};
+ghost use Rattle.std.specs.Prelude.{Contains, IsTrue, OnOk, OnErr, IfOk, IfErr, Err, ◌↔◌};
 ghost use Rattle.edge_io.specs.Files.{FetchAnswer};
 
 use crate::files::{FileFault, Files};
@@ -40,7 +41,9 @@ impl MemFiles {
 
     /// Sets the bytes of a name. After want of memory the files are the same.
     pub fn add(&mut self, name: &str, bytes: &[u8]) -> Result<(), Memory>
-        ensures ok { OnOk result ((other : List ℕ) → files_of self.new other ≡ update bytes_eq (files_of self.old) name.now (Some bytes.now) other) }
+        ensures ok { OnOk result ((other : List ℕ)
+            → files_of self.new other
+            ≡ update bytes_eq (files_of self.old) name.now (Some bytes.now) other) }
         ensures err { OnErr result ((other : List ℕ) → files_of self.new other ≡ files_of self.old other) }
         ensures log { log_of self.new ≡ log_of self.old }
     {
@@ -59,7 +62,8 @@ impl MemFiles {
     /// Lets that `fetch`, counted from 1, fail where its file is there. After want of memory the list is the
     /// same.
     pub fn fail(&mut self, call: u64) -> Result<(), Memory>
-        ensures ok { OnOk result (log_of self.new ≡ record (log_of self.old) { failing = (log_of self.old).failing ++ call ∷ [] }) }
+        ensures ok { OnOk result (log_of self.new
+            ≡ record (log_of self.old) { failing = (log_of self.old).failing ++ call ∷ [] }) }
         ensures err { OnErr result (log_of self.new ≡ log_of self.old) }
         ensures files { (name : List ℕ) → files_of self.new name ≡ files_of self.old name }
     {
@@ -101,7 +105,8 @@ impl Files for MemFiles {
         ensures reliable { IsTrue (view_of self.old).reliable → IsTrue (view_of self.new).reliable }
         ensures never_failed { IsTrue (view_of self.old).reliable → result ≢ Err FileFault.Failed }
         ensures fetched { IsAfterFetch self.old name.now limit self.new }
-        ensures failed { (result ≡ Err FileFault.Failed) ↔ (IsSome (files_of self.old name.now) × Contains (log_of self.old).failing (next_call (log_of self.old).made)) }
+        ensures failed { (result ≡ Err FileFault.Failed) ↔ (IsSome (files_of self.old name.now)
+            × Contains (log_of self.old).failing (next_call (log_of self.old).made)) }
     {
         self.made = self.made.saturating_add(1);
         match self.entries.get(name) {

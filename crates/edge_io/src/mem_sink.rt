@@ -1,5 +1,7 @@
 //! A sink in memory.
-ghost use Rattle.std.specs.Prelude.{◌≡◌, ℕ, ◌+◌, ◌-◌, ◌<◌, ◌≤◌, ◌==◌, ◌++◌, ◌⊎◌, ◌↔◌, Some, IsOk, OnOk, OnErr, IfOk, List, [], ◌∷◌, length, take, min, vec_capacity, false, IsTrue};
+ghost use Rattle.std.specs.Prelude.{◌≡◌, ℕ, ◌+◌, ◌-◌, ◌<◌, ◌≤◌, ◌==◌, ◌++◌, ◌⊎◌, ◌↔◌, Some, IsOk, OnOk};
+ghost use Rattle.std.specs.Prelude.{OnErr, IfOk, List, [], ◌∷◌, length, take, min, vec_capacity, false};
+ghost use Rattle.std.specs.Prelude.{IsTrue};
 ghost use Rattle.edge_io.specs.Failing.{allowance, is_listed};
 ghost use Rattle.edge_io.specs.Sink.{Writes};
 ghost use Rattle.edge_io.specs.Cause.{Rose};
@@ -41,10 +43,11 @@ impl MemSink {
         }
     }
 
-    /// Lets that `put`, counted from 1, append at most `after` bytes and fail, if its piece is not empty. After
-    /// want of memory the list is the same.
+    /// Lets that `put`, counted from 1, append at most `after` bytes and fail, if its piece is not empty.
+    /// After want of memory the list is the same.
     pub fn fail(&mut self, call: u64, after: usize) -> Result<(), Memory>
-        ensures ok { OnOk result (log_of self.new ≡ record (log_of self.old) { failing = (log_of self.old).failing ++ (call, after) ∷ [] }) }
+        ensures ok { OnOk result (log_of self.new
+            ≡ record (log_of self.old) { failing = (log_of self.old).failing ++ (call, after) ∷ [] }) }
         ensures err { OnErr result (log_of self.new ≡ log_of self.old) }
         ensures text { text_of self.new ≡ text_of self.old }
         ensures room { room_of self.new ≡ room_of self.old }
@@ -119,7 +122,9 @@ impl Sink for MemSink {
     /// Fails exactly where the piece is not empty, and the call is listed or the piece does not fit.
     fn put(&mut self, bytes: &[u8]) -> Result<(), PutFault>
         ensures writes { Writes (view_of self.old) (view_of self.new) result bytes.now }
-        ensures ok { IsOk result ↔ ((bytes.now ≡ []) ⊎ ((is_listed (log_of self.old).failing (next_call (log_of self.old).made) ≡ false) × (length (text_of self.old) + length bytes.now ≤ room_of self.old))) }
+        ensures ok { IsOk result ↔ ((bytes.now ≡ [])
+            ⊎ ((is_listed (log_of self.old).failing (next_call (log_of self.old).made) ≡ false)
+            × (length (text_of self.old) + length bytes.now ≤ room_of self.old))) }
         ensures text { text_of self.new ≡ text_of self.old ++ take (taken_of self.old) bytes.now }
         ensures room { room_of self.new ≡ room_of self.old }
         ensures list { (log_of self.new).failing ≡ (log_of self.old).failing }

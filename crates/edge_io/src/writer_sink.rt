@@ -1,13 +1,14 @@
 //! A sink that writes to the system.
-ghost use Rattle.std.specs.Prelude.{◌≡◌, ◌↔◌, ℕ, ◌+◌, ◌^◌, ◌<◌, ◌≤◌, ◌++◌, List, [], None, IfOk, IsOk, OnOk, OnErr, take, length};
+ghost use Rattle.std.specs.Prelude.{◌≡◌, ◌↔◌, ℕ, ◌+◌, ◌^◌, ◌<◌, ◌≤◌, ◌++◌, List, [], None, IfOk, IfErr, IsOk};
+ghost use Rattle.std.specs.Prelude.{OnOk, OnErr, take, length};
 ghost use Rattle.std.specs.Io.KnownBytes.{Appends, Keeps};
 ghost use Rattle.edge_io.specs.Sink.{Writes};
 
 use crate::sink::{PutFault, Sink};
 use std::io::{ErrorKind, Stdout, Write};
 
-/// A sink that writes to a file, a pipe or the like, and keeps no text back. It tells no content, since others
-/// may write there too.
+/// A sink that writes to a file, a pipe or the like, and keeps no text back. It tells no content, since
+/// others may write there too.
 #[derive(Drop)]
 pub struct WriterSink<W> {
     writer: W,
@@ -34,13 +35,15 @@ impl<W: Write + Drop> Sink for WriterSink<W> {
 
     ghost view = { view_of };
 
-    /// Fails where the system takes nothing more or reports a fault. What the writer is known to hold grows by
-    /// the piece, or after a fault by a part of it from the front.
+    /// Fails where the system takes nothing more or reports a fault. What the writer is known to hold grows
+    /// by the piece, or after a fault by a part of it from the front.
     fn put(&mut self, bytes: &[u8]) -> Result<(), PutFault>
         ensures writes { Writes (view_of self.old) (view_of self.new) result bytes.now }
         ensures empty { bytes.now ≡ [] → IsOk result }
-        ensures ok { OnOk result (Appends (W.contents (writer_of self.old)) (W.contents (writer_of self.new)) bytes.now) }
-        ensures err { OnErr result ((n : ℕ) × Appends (W.contents (writer_of self.old)) (W.contents (writer_of self.new)) (take n bytes.now)) }
+        ensures ok { OnOk result (Appends (W.contents (writer_of self.old)) (W.contents (writer_of self.new))
+            bytes.now) }
+        ensures err { OnErr result ((n : ℕ) × Appends (W.contents (writer_of self.old))
+            (W.contents (writer_of self.new)) (take n bytes.now)) }
     {
         if bytes.is_empty() {
             return Ok(());
@@ -73,29 +76,31 @@ fn write_whole<W: Write>(writer: &mut W, bytes: &[u8]) -> Result<(), PutFault>
     Err(PutFault::Failed)
 }
 
-/// Writes a part of the bytes from the front, and gives its length: none where the write was interrupted. A
-/// write that takes nothing is a fault.
+/// Writes a part of the bytes from the front, and gives its length: none where the write was interrupted.
 fn write_part<W: Write>(writer: &mut W, bytes: &[u8]) -> Result<usize, PutFault>
     ensures within { IfOk result (λ n. n ≤ length bytes.now) }
     ensures ok { IfOk result (λ n. Appends (W.contents writer.old) (W.contents writer.new) (take n bytes.now)) }
     ensures err { OnErr result (Keeps (W.contents writer.old) (W.contents writer.new)) }
 {
     match writer.write(bytes) {
-        Ok(0) => Err(PutFault::Failed),
-        Ok(n) => Ok(n),
-        Err(error) => part_of_fault(error.kind()),
+        Ok(taken) => part_of(Ok(taken)),
+        Err(error) => part_of(Err(error.kind())),
     }
 }
 
-/// What a write that was not done has written: nothing where it was interrupted, so that it is tried again; else it
-/// is a fault.
-fn part_of_fault(kind: ErrorKind) -> Result<usize, PutFault>
-    ensures interrupted { IsOk result ↔ (kind ≡ ErrorKind.Interrupted) }
-    ensures none { IfOk result (λ n. n ≡ 0) }
+/// How much of a piece that is not empty was written, by the answer to its write: what was taken, or
+/// nothing where the write was interrupted, so that it is tried again. A write that takes nothing is a
+/// fault, as every other error is.
+fn part_of(answer: Result<usize, ErrorKind>) -> Result<usize, PutFault>
+    ensures taken { IfOk answer (λ taken. (IsOk result ↔ (0 < taken)) × IfOk result (λ n. n ≡ taken)) }
+    ensures fault { IfErr answer (λ kind.
+        (IsOk result ↔ (kind ≡ ErrorKind.Interrupted)) × IfOk result (λ n. n ≡ 0)) }
 {
-    match kind {
-        ErrorKind::Interrupted => Ok(0),
-        _ => Err(PutFault::Failed),
+    match answer {
+        Ok(0) => Err(PutFault::Failed),
+        Ok(taken) => Ok(taken),
+        Err(ErrorKind::Interrupted) => Ok(0),
+        Err(_) => Err(PutFault::Failed),
     }
 }
 

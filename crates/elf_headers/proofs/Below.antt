@@ -6,7 +6,7 @@ use Rattle.std.proofs.Math.Bool.{or-true, or-false, and-false}
 use Rattle.std.proofs.lemmas.List.{append-nil}
 use Rattle.std.proofs.lemmas.List.Folds.{list_any-append}
 use Rattle.std.proofs.lemmas.List.Elements.{All-nil, All-append, All-push, Contains-append_left, Contains-push}
-use Rattle.paged_memory.specs.Memory.{or_else}
+use Rattle.std.specs.Option.{option_or}
 use Rattle.elf_headers.specs.Below.{first_below, any_below, all_below, count_below, answers, answers_below}
 
 -- a number below one more is below, or is that number
@@ -19,7 +19,7 @@ pub first_below-zero : {A : Type 0} (answer : ℕ → Option A) → first_below 
 unfolding first_below
 first_below-zero answer = refl
 
-pub first_below-next : {A : Type 0} (answer : ℕ → Option A) (n : ℕ) → first_below answer (n + 1) ≡ or_else (first_below answer n) (answer n)
+pub first_below-next : {A : Type 0} (answer : ℕ → Option A) (n : ℕ) → first_below answer (n + 1) ≡ option_or (first_below answer n) (answer n)
 unfolding first_below
 first_below-next answer n = rw add-one refl
 
@@ -37,7 +37,7 @@ pub first_below-each_none : {A : Type 0} (answer : ℕ → Option A) (n : ℕ) �
 unfolding first_below
 first_below-each_none answer zero h i l = absurd (omega arith)
 first_below-each_none {A = A} answer (suc n) h i l =
-    elim (first_below answer n) as (λ o. first_below answer n ≡ o → or_else o (answer n) ≡ None → answer i ≡ None) [
+    elim (first_below answer n) as (λ o. first_below answer n ≡ o → option_or o (answer n) ≡ None → answer i ≡ None) [
       | None ↦ λ before here. elim (low_or_last i n l) [ inl below ↦ first_below-each_none answer n before i below | inr last ↦ rw (sym last) at here ]
       | Some x ↦ λ before here. cc
     ] refl h
@@ -63,7 +63,7 @@ pub first_below-least : {A : Type 0} (answer : ℕ → Option A) (n : ℕ) (x : 
 unfolding first_below
 first_below-least answer zero x h = cc
 first_below-least {A = A} answer (suc n) x h =
-    elim (first_below answer n) as (λ o. first_below answer n ≡ o → or_else o (answer n) ≡ Some x → (i : ℕ) × (i < suc n) × (answer i ≡ Some x) × ((j : ℕ) → j < i → answer j ≡ None)) [
+    elim (first_below answer n) as (λ o. first_below answer n ≡ o → option_or o (answer n) ≡ Some x → (i : ℕ) × (i < suc n) × (answer i ≡ Some x) × ((j : ℕ) → j < i → answer j ≡ None)) [
       | None ↦ λ before here. (n, omega arith, here, first_below-each_none answer n before)
       | Some y ↦ λ before here.
           let old : (i : ℕ) × (i < n) × (answer i ≡ Some x) × ((j : ℕ) → j < i → answer j ≡ None) = first_below-least answer n x (before ∙ here) in

@@ -5,7 +5,7 @@ use Rattle.std.proofs.lemmas.Bool.Decides.{nat_tests}
 use Rattle.std.proofs.lemmas.Grind.{common_steps}
 use Rattle.std.proofs.lemmas.List.{append-nil, map-append}
 use Rattle.std.proofs.lemmas.List.Elements.{All-head, All-tail, All-map, All-weaker}
-use Rattle.paged_memory.specs.Memory.{or_else}
+use Rattle.std.specs.Option.{option_or}
 use Rattle.paged_memory.specs.Image.{Extent, part_byte, parts_byte}
 use Rattle.paged_memory.specs.Parts.{touched_below, AreApart, IsPlaced, ArePlaced}
 use Rattle.paged_memory.proofs.Count.{placed_by_ends}
@@ -26,14 +26,14 @@ use Rattle.elf_headers.proofs.Checks.{passed_last}
 IsApartFrom : Extent → Extent → Type 0
 IsApartFrom q p = (a : ℕ) → IsSome (part_byte p a) → part_byte q a ≡ None
 
-or_else_assoc : (a b c : Option ℕ) → or_else a (or_else b c) ≡ or_else (or_else a b) c
+or_else_assoc : (a b c : Option ℕ) → option_or a (option_or b c) ≡ option_or (option_or a b) c
 or_else_assoc None b c = refl
 or_else_assoc (Some x) b c = refl
 
-pub parts_byte-append : (ps qs : List Extent) (a : ℕ) → parts_byte (ps ++ qs) a ≡ or_else (parts_byte ps a) (parts_byte qs a)
+pub parts_byte-append : (ps qs : List Extent) (a : ℕ) → parts_byte (ps ++ qs) a ≡ option_or (parts_byte ps a) (parts_byte qs a)
 unfolding parts_byte
 parts_byte-append [] qs a = refl
-parts_byte-append (p ∷ ps) qs a = ap (or_else (part_byte p a)) (parts_byte-append ps qs a) ∙ or_else_assoc (part_byte p a) (parts_byte ps a) (parts_byte qs a)
+parts_byte-append (p ∷ ps) qs a = ap (option_or (part_byte p a)) (parts_byte-append ps qs a) ∙ or_else_assoc (part_byte p a) (parts_byte ps a) (parts_byte qs a)
 
 byte_alone : (q : Extent) (a : ℕ) → part_byte q a ≡ None → parts_byte (q ∷ []) a ≡ None
 unfolding parts_byte

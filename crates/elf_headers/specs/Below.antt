@@ -1,11 +1,12 @@
 -- What holds of the numbers below a limit, in order.
-use Rattle.std.specs.Prelude.{ℕ, zero, suc, ◌+◌, cond, Bool, true, false, ◌&&◌, ◌||◌, List, [], ◌∷◌, ◌++◌, Option, Some, None}
-use Rattle.paged_memory.specs.Memory.{or_else}
+use Rattle.std.specs.Prelude.{ℕ, zero, suc, ◌+◌, cond, Bool, true, false, ◌&&◌, ◌||◌, List, [], ◌∷◌, ◌++◌}
+use Rattle.std.specs.Prelude.{Option, Some, None}
+use Rattle.std.specs.Option.{option_or}
 
 -- what the least number below n with an answer answers
 unfoldable pub first_below : {A : Type 0} → (ℕ → Option A) → ℕ → Option A
 first_below answer zero = None
-first_below answer (suc n) = or_else (first_below answer n) (answer n)
+first_below answer (suc n) = option_or (first_below answer n) (answer n)
 
 -- one of the numbers below n passes the test
 unfoldable pub any_below : (ℕ → Bool) → ℕ → Bool

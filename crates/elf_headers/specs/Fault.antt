@@ -1,6 +1,5 @@
--- The fault of a list of checks is that of the first that fails.
-use Rattle.std.specs.Prelude.{◌≡◌, Bool, true, false, List, [], ◌∷◌, Option, Some, None, Result, Ok, Err}
-use Rattle.paged_memory.specs.Memory.{or_else}
+-- The fault of a check, and what a check tells.
+use Rattle.std.specs.Prelude.{◌≡◌, Bool, true, false, Option, Some, None, Result, Ok, Err}
 use Rattle.elf_headers.specs.declared.fault.LoadFault.{LoadFault}
 
 -- the fault, where the test holds
@@ -12,11 +11,6 @@ fault_when false fault = None
 abbrev pub fault_only : Bool → Option LoadFault → Option LoadFault
 fault_only true check = check
 fault_only false check = None
-
--- the fault of the first check that has one
-abbrev pub first_fault : List (Option LoadFault) → Option LoadFault
-first_fault [] = None
-first_fault (check ∷ checks) = or_else check (first_fault checks)
 
 -- a check's result tells the fault, if there is one
 abbrev pub Tells : {A : Type 0} → Result A LoadFault → Option LoadFault → Type 0

@@ -1,10 +1,13 @@
 -- The file's header, and the checks on it.
 -- Source: ELF-64 Object File Format, the table of Elf64_Ehdr, of which places and widths are in bytes.
-use Rattle.std.specs.Prelude.{ℕ, ◌+◌, ◌*◌, ◌-◌, ◌^◌, ◌≤◌, Bool, List, [], ◌∷◌, length, drop, Option, ◌==◌, ◌&&◌, ◌||◌, not, nat_lt}
+use Rattle.std.specs.Prelude.{ℕ, ◌+◌, ◌*◌, ◌-◌, ◌^◌, ◌≤◌, Bool, List, [], ◌∷◌, length, drop, Option, ◌==◌}
+use Rattle.std.specs.Prelude.{◌&&◌, ◌||◌, not, nat_lt}
 use Rattle.byteorder.specs.Endian.{little_number}
 use Rattle.elf_headers.specs.declared.fault.LoadFault.{LoadFault}
-use Rattle.elf_headers.specs.declared.fault.LoadFault.TheVariants.{TooLong, Truncated, NotElf, NotThisMachine, NotStatic, BadTable}
-use Rattle.elf_headers.specs.Fault.{fault_when, first_fault}
+use Rattle.elf_headers.specs.declared.fault.LoadFault.TheVariants.{TooLong, Truncated, NotElf, NotThisMachine}
+use Rattle.elf_headers.specs.declared.fault.LoadFault.TheVariants.{NotStatic, BadTable}
+use Rattle.sm_types.specs.Checks.{first_fault}
+use Rattle.elf_headers.specs.Fault.{fault_when}
 
 -- the number of n bytes at a place of the file, the low byte first
 unfoldable pub number_at : List ℕ → ℕ → ℕ → ℕ
@@ -36,7 +39,8 @@ segment_count file = number_at file 56 2
 
 -- 7F 45 4C 46, 64 bits, low byte first, version 1
 abbrev pub is_elf : List ℕ → Bool
-is_elf file = (number_at file 0 4 == 0x464C457F) && (number_at file 4 2 == 0x0102) && (number_at file 6 1 == 1)
+is_elf file =
+    (number_at file 0 4 == 0x464C457F) && (number_at file 4 2 == 0x0102) && (number_at file 6 1 == 1)
 
 -- more than 64 MiB, or less than a header
 unfoldable pub length_fault : List ℕ → Option LoadFault
@@ -57,11 +61,15 @@ kind_fault file = first_fault (
 abbrev pub table_end : ℕ → ℕ → ℕ → ℕ
 table_end at size count = at + size * count
 
--- the table of program headers: their size is 56, there are 1 to 65,534, and the table lies below 2 ^ 64 and in the file
+-- the table of program headers: their size is 56, there are 1 to 65,534, and the table lies below 2 ^ 64
+-- and in the file
 unfoldable pub table_fault : List ℕ → Option LoadFault
 table_fault file = first_fault (
-    fault_when (not (segment_size file == 56) || (segment_count file == 0) || (segment_count file == 65535) || nat_lt (2 ^ 64 - 1) (table_end (segments_at file) 56 (segment_count file))) (BadTable (segments_at file))
-    ∷ fault_when (nat_lt (length file) (table_end (segments_at file) 56 (segment_count file))) (Truncated (length file))
+    fault_when (not (segment_size file == 56) || (segment_count file == 0) || (segment_count file == 65535)
+    || nat_lt (2 ^ 64 - 1) (table_end (segments_at file) 56 (segment_count file)))
+    (BadTable (segments_at file))
+    ∷ fault_when (nat_lt (length file) (table_end (segments_at file) 56 (segment_count file)))
+    (Truncated (length file))
     ∷ [])
 
 -- the header and the table of program headers are in the file

@@ -1,13 +1,16 @@
 -- The loads of a file together: what they take into memory, and the checks that compare them.
--- Source: ELF-64 Object File Format, PT_LOAD, p_flags (PF_X 1, PF_W 2, PF_R 4); the limits are this emulator's own.
-use Rattle.std.specs.Prelude.{◌⊎◌, ℕ, ◌+◌, ◌%◌, ◌^◌, ◌<◌, ◌≤◌, Bool, List, [], ◌∷◌, length, take, drop, map, All, Option, Some, None, cond, ◌==◌, ◌&&◌, not, nat_lt, nat_le}
+-- Source: ELF-64 Object File Format, PT_LOAD, p_flags (PF_X 1, PF_W 2, PF_R 4); the limits are this
+-- emulator's own.
+use Rattle.std.specs.Prelude.{◌⊎◌, ℕ, ◌+◌, ◌%◌, ◌^◌, ◌<◌, ◌≤◌, Bool, List, [], ◌∷◌, length, take, drop, map}
+use Rattle.std.specs.Prelude.{All, Option, Some, None, cond, ◌==◌, ◌&&◌, not, nat_lt, nat_le}
 use Rattle.paged_memory.specs.Image.{Extent}
 use Rattle.paged_memory.specs.Parts.{touched_below, AreApart}
 use Rattle.elf_headers.specs.declared.fault.LoadFault.{LoadFault}
 use Rattle.elf_headers.specs.declared.fault.LoadFault.TheVariants.{Overlap, TooManyPages, EntryOutside}
 use Rattle.elf_headers.specs.declared.header.ProgramHeader.{ProgramHeader}
 use Rattle.elf_headers.specs.Below.{first_below, any_below, answers_below}
-use Rattle.elf_headers.specs.Fault.{fault_when, first_fault}
+use Rattle.sm_types.specs.Checks.{first_fault}
+use Rattle.elf_headers.specs.Fault.{fault_when}
 use Rattle.elf_headers.specs.Header.{header_entry, segment_count, length_fault, kind_fault, table_fault}
 use Rattle.elf_headers.specs.Segments.{segment_of, is_load, segments_fault}
 
@@ -21,7 +24,13 @@ loads_of file = answers_below (load_of file) (segment_count file)
 
 -- what a load takes into memory: its bytes of the file, with zeros after them
 unfoldable pub extent_of_load : List ℕ → ProgramHeader → Extent
-extent_of_load file s = record { address = s.address; size = s.memory_size; flags = s.flags % 8; bytes = take s.file_size (drop s.offset file) }
+extent_of_load file s =
+    record {
+      address = s.address;
+      size = s.memory_size;
+      flags = s.flags % 8;
+      bytes = take s.file_size (drop s.offset file);
+    }
 
 -- what the loads take into memory
 abbrev pub extents_of : List ℕ → List Extent
@@ -38,11 +47,13 @@ share s t = nat_lt s.address (t.address + t.memory_size) && nat_lt t.address (s.
 -- program headers number i and j, i the lower, are loads that have an address in common
 unfoldable pub overlap_at : List ℕ → ℕ → ℕ → Option LoadFault
 overlap_at file i j =
-    fault_when (nat_lt i j && is_load (segment_of file i) && is_load (segment_of file j) && share (segment_of file i) (segment_of file j)) (Overlap i j)
+    fault_when (nat_lt i j && is_load (segment_of file i) && is_load (segment_of file j)
+    && share (segment_of file i) (segment_of file j)) (Overlap i j)
 
 -- the least i, and for it the least j
 unfoldable pub overlap_fault : List ℕ → Option LoadFault
-overlap_fault file = first_below (λ i. first_below (overlap_at file i) (segment_count file)) (segment_count file)
+overlap_fault file =
+    first_below (λ i. first_below (overlap_at file i) (segment_count file)) (segment_count file)
 
 -- the pages that the loads touch, and the stack's
 abbrev pub page_sum : List ℕ → ℕ
@@ -62,12 +73,15 @@ is_executable_at file a i = is_load (segment_of file i) && has_executable (segme
 -- the entry is a multiple of 4 in an executable load
 unfoldable pub entry_fault : List ℕ → Option LoadFault
 entry_fault file =
-    fault_when (not ((header_entry file % 4 == 0) && any_below (is_executable_at file (header_entry file)) (segment_count file))) (EntryOutside (header_entry file))
+    fault_when (not ((header_entry file % 4 == 0)
+    && any_below (is_executable_at file (header_entry file)) (segment_count file)))
+    (EntryOutside (header_entry file))
 
 -- the first check on the headers that fails, in this order
 unfoldable pub headers_fault : List ℕ → Option LoadFault
 headers_fault file = first_fault (
-    length_fault file ∷ kind_fault file ∷ table_fault file ∷ segments_fault file ∷ overlap_fault file ∷ pages_fault file ∷ entry_fault file ∷ [])
+    length_fault file ∷ kind_fault file ∷ table_fault file ∷ segments_fault file ∷ overlap_fault file
+    ∷ pages_fault file ∷ entry_fault file ∷ [])
 
 -- what the checks give of a load, in a file of that size
 pub record IsSound (size : ℕ) (s : ProgramHeader) : Type 0 where

@@ -1,11 +1,13 @@
 -- The program headers, and the checks on each by itself.
 -- Source: ELF-64 Object File Format, the table of Elf64_Phdr; the address space is this emulator's own.
-use Rattle.std.specs.Prelude.{ℕ, ◌+◌, ◌*◌, ◌-◌, ◌^◌, Bool, List, [], ◌∷◌, length, Option, ◌==◌, ◌&&◌, ◌||◌, not, nat_lt}
+use Rattle.std.specs.Prelude.{ℕ, ◌+◌, ◌*◌, ◌-◌, ◌^◌, Bool, List, [], ◌∷◌, length, Option, ◌==◌, ◌&&◌, ◌||◌}
+use Rattle.std.specs.Prelude.{not, nat_lt}
 use Rattle.elf_headers.specs.declared.fault.LoadFault.{LoadFault}
 use Rattle.elf_headers.specs.declared.fault.LoadFault.TheVariants.{Truncated, NotStatic, BadTable, InShared}
 use Rattle.elf_headers.specs.declared.header.ProgramHeader.{ProgramHeader}
 use Rattle.elf_headers.specs.Below.{first_below}
-use Rattle.elf_headers.specs.Fault.{fault_when, fault_only, first_fault}
+use Rattle.sm_types.specs.Checks.{first_fault}
+use Rattle.elf_headers.specs.Fault.{fault_when, fault_only}
 use Rattle.elf_headers.specs.Header.{number_at, segments_at, segment_count}
 
 -- the place of program header number i
@@ -39,12 +41,14 @@ is_load s = (s.kind == 1) && not ((s.memory_size == 0) && (s.file_size == 0))
 abbrev pub is_in_shared : ProgramHeader → Bool
 is_in_shared s = nat_lt s.address 0x7F0000001000 && nat_lt 0x7DFFFFFC0000 (s.address + s.memory_size)
 
--- the checks on a load: its bytes in the file are no more than those in memory, it ends at most at 2 ^ 47 and below 2 ^ 64 in the file, its
--- bytes are in the file, and it has no address of the stack, of the shared region or between them
+-- the checks on a load: its bytes in the file are no more than those in memory, it ends at most at 2 ^ 47
+-- and below 2 ^ 64 in the file, its bytes are in the file, and it has no address of the stack, of the
+-- shared region or between them
 unfoldable pub load_fault_of : ℕ → ℕ → ℕ → ProgramHeader → Option LoadFault
 load_fault_of size at i s = first_fault (
     fault_when (nat_lt s.memory_size s.file_size) (BadTable at)
-    ∷ fault_when (nat_lt (2 ^ 47) (s.address + s.memory_size) || nat_lt (2 ^ 64 - 1) (s.offset + s.file_size)) (BadTable at)
+    ∷ fault_when (nat_lt (2 ^ 47) (s.address + s.memory_size)
+    || nat_lt (2 ^ 64 - 1) (s.offset + s.file_size)) (BadTable at)
     ∷ fault_when (nat_lt 0 s.file_size && nat_lt size (s.offset + s.file_size)) (Truncated size)
     ∷ fault_when (is_in_shared s) (InShared i)
     ∷ [])
@@ -53,7 +57,8 @@ load_fault_of size at i s = first_fault (
 unfoldable pub segment_fault : List ℕ → ℕ → Option LoadFault
 segment_fault file i = first_fault (
     fault_when (is_dynamic (segment_of file i)) (NotStatic (segment_of file i).kind)
-    ∷ fault_only (is_load (segment_of file i)) (load_fault_of (length file) (segment_at file i) i (segment_of file i))
+    ∷ fault_only (is_load (segment_of file i)) (load_fault_of (length file) (segment_at file i) i
+    (segment_of file i))
     ∷ [])
 
 -- the first program header that fails a check

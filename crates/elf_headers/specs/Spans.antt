@@ -1,5 +1,6 @@
 -- The addresses of the loads, in the order in which they are compared.
-use Rattle.std.specs.Prelude.{◌≢◌, ℕ, ◌+◌, ◌-◌, ◌/◌, ◌<◌, ◌≤◌, ◌^◌, Bool, List, get_or, length, Option, Some, None, cond, ◌&&◌, nat_le}
+use Rattle.std.specs.Prelude.{◌≢◌, ℕ, ◌+◌, ◌-◌, ◌/◌, ◌<◌, ◌≤◌, ◌^◌, Bool, List, get_or, length, Option, Some}
+use Rattle.std.specs.Prelude.{None, cond, ◌&&◌, nat_le}
 use Rattle.std.specs.List.{list_any}
 use Rattle.elf_headers.specs.declared.spans.Span.{Span}
 use Rattle.elf_headers.specs.Below.{answers_below, count_below}
@@ -9,7 +10,12 @@ use Rattle.elf_headers.specs.Segments.{segment_of, is_load}
 -- the addresses of program header number i, where it is a load
 unfoldable pub span_at : List ℕ → ℕ → Option Span
 span_at file i =
-    cond (is_load (segment_of file i)) (Some (record { address = (segment_of file i).address; end = (segment_of file i).address + (segment_of file i).memory_size; header = i })) None
+    cond (is_load (segment_of file i)) (Some (record {
+      address = (segment_of file i).address;
+      end =
+          (segment_of file i).address + (segment_of file i).memory_size;
+      header = i;
+    })) None
 
 -- the addresses of the loads, in the order of their program headers
 unfoldable pub spans_of : List ℕ → List Span
@@ -23,7 +29,9 @@ pub record IsLow (s : Span) : Type 0 where
 -- no span of a program header below that number has an address in common with another
 abbrev pub IsClearBelow : List Span → ℕ → Type 0
 IsClearBelow spans least =
-    (p q : ℕ) (d : Span) → p < length spans → q < length spans → p ≢ q → (get_or spans q d).address < (get_or spans p d).end → (get_or spans p d).address < (get_or spans q d).end → least ≤ (get_or spans p d).header
+    (p q : ℕ) (d : Span) → p < length spans → q < length spans → p ≢ q
+    → (get_or spans q d).address < (get_or spans p d).end
+    → (get_or spans p d).address < (get_or spans q d).end → least ≤ (get_or spans p d).header
 
 -- the span has a byte in the page of that number
 abbrev pub touches_page : Span → ℕ → Bool

@@ -5,7 +5,8 @@ ghost use Rattle.elf_headers.specs.declared.fault.LoadFault.TheVariants.{Memory}
 use std::alloc::{AllocError, AllocFailed};
 use thiserror::Error;
 
-/// Why a file is refused, or want of memory. Places are in bytes from the file's begin, indices count program headers from 0.
+/// Why a file is refused, or want of memory. Places are in bytes from the file's begin, indices count
+/// program headers from 0.
 #[derive(Clone, Copy, Debug, PartialEq, Eq, Error)]
 pub enum LoadFault {
     /// More than 67,108,864 bytes.
@@ -20,7 +21,8 @@ pub enum LoadFault {
     /// The machine's number, which is not that of AArch64.
     #[error("notthismachine {0}")]
     NotThisMachine(u16),
-    /// The type of the file, which is no executable, or that of a program header for dynamic linking or thread-local storage.
+    /// The type of the file, which is no executable, or that of a program header for dynamic linking or
+    /// thread-local storage.
     #[error("notstatic {0}")]
     NotStatic(u32),
     /// The place of a table or of a header that breaks its rules.

@@ -1,4 +1,5 @@
-//! The headers of a program file: the file's own and its program headers, with all checks on them, and the numbers of a file.
+//! The headers of a program file: the file's own and its program headers, with all checks on them, and the
+//! numbers of a file.
 #![tactic(auto)]
 
 mod fault;

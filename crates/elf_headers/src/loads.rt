@@ -1,5 +1,6 @@
 //! The loads of a file, with all checks on its headers.
-ghost use Rattle.std.specs.Prelude.{◌≡◌, ◌≢◌, ◌%◌, ◌<◌, ◌≤◌, length, ◌==◌, ◌&&◌, not, None, Some, IfOk, IfErr};
+ghost use Rattle.std.specs.Prelude.{◌≡◌, ◌≢◌, ◌%◌, ◌<◌, ◌≤◌, length, ◌==◌, ◌&&◌, not, None, Some, IfOk};
+ghost use Rattle.std.specs.Prelude.{IfErr};
 ghost use Rattle.std.specs.List.{list_any};
 ghost use Rattle.elf_headers.specs.Fault.{Tells, fault_when};
 ghost use Rattle.elf_headers.specs.Header.{segment_count, HasTable};
@@ -49,7 +50,8 @@ fn is_executable(loads: &[ProgramHeader], address: u64) -> bool
 
 /// Checks that the entry is the address of a word of an executable load.
 fn check_entry(entry: u64, loads: &[ProgramHeader]) -> Result<(), LoadFault>
-    ensures { Tells result (fault_when (not ((entry % 4 == 0) && list_any (λ s. has_executable s entry) loads.now)) (LoadFault.EntryOutside entry)) }
+    ensures { Tells result (fault_when (not ((entry % 4 == 0) && list_any (λ s. has_executable s entry)
+        loads.now)) (LoadFault.EntryOutside entry)) }
 {
     if entry % 4 == 0 && is_executable(loads, entry) {
         Ok(())
@@ -58,7 +60,8 @@ fn check_entry(entry: u64, loads: &[ProgramHeader]) -> Result<(), LoadFault>
     }
 }
 
-/// The loads of a program file, or the fault of the first check on its headers that fails; `Memory` is want of memory.
+/// The loads of a program file, or the fault of the first check on its headers that fails; `Memory` is want
+/// of memory.
 #[tactic(auto, unfolding(crate::specs::Loads::headers_fault))]
 pub fn read_headers(alloc: Global, file: &[u8]) -> Result<Vec<ProgramHeader>, LoadFault>
     ensures accepted { IfOk result (λ loads. headers_fault file.now ≡ None) }

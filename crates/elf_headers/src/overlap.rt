@@ -13,11 +13,13 @@ use crate::fault::LoadFault;
 use crate::segments::{count_program_headers, read_program_header};
 use crate::spans::Span;
 
-/// Tells whether a span has an address in common with one before it, where these end at `top`, or with the next.
+/// Tells whether a span has an address in common with one before it, where these end at `top`, or with the
+/// next.
 fn is_overlapping(spans: &[Span], i: usize, top: u64) -> bool
     requires { i < length spans.now }
     ensures before { (d : Span) → (get_or spans.now i d).address < top → result ≡ true }
-    ensures after { (d : Span) → i + 1 < length spans.now → (get_or spans.now (i + 1) d).address < (get_or spans.now i d).end → result ≡ true }
+    ensures after { (d : Span) → i + 1 < length spans.now
+        → (get_or spans.now (i + 1) d).address < (get_or spans.now i d).end → result ≡ true }
 {
     spans[i].address < top || i + 1 < spans.len() && spans[i + 1].address < spans[i].end
 }

@@ -31,11 +31,13 @@ fn count_pages(spans: &[Span]) -> u64
     count
 }
 
-/// Checks that the spans, which are in order of address, and the stack have no more pages than a guest thread may have.
+/// Checks that the spans, which are in order of address, and the stack have no more pages than a guest
+/// thread may have.
 pub fn check_pages(spans: &[Span]) -> Result<(), LoadFault>
     requires sorted { IsNonDecreasingBy (λ s. s.address) spans.now }
     requires low { All IsLow spans.now }
-    ensures { Tells result (fault_when (nat_lt 4096 (pages_below spans.now (2 ^ 35) + 64)) (LoadFault.TooManyPages (pages_below spans.now (2 ^ 35) + 64))) }
+    ensures { Tells result (fault_when (nat_lt 4096 (pages_below spans.now (2 ^ 35) + 64))
+        (LoadFault.TooManyPages (pages_below spans.now (2 ^ 35) + 64))) }
 {
     let pages = count_pages(spans) + STACK_PAGES;
     if pages > MOST_PAGES {

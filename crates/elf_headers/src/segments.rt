@@ -2,7 +2,8 @@
 ghost use Rattle.std.specs.Prelude.{◌≡◌, ◌+◌, ◌*◌, ◌≤◌, ◌<◌, length};
 ghost use Rattle.elf_headers.specs.Fault.{Tells};
 ghost use Rattle.elf_headers.specs.Header.{segment_count, HasTable};
-ghost use Rattle.elf_headers.specs.Segments.{segment_at, segment_of, program_header, load_fault_of, segment_fault, segments_fault};
+ghost use Rattle.elf_headers.specs.Segments.{segment_at, segment_of, program_header, load_fault_of};
+ghost use Rattle.elf_headers.specs.Segments.{segment_fault, segments_fault};
 
 use crate::fault::LoadFault;
 use crate::header::{ProgramHeader, u16_at, u32_at, u64_at};
@@ -58,7 +59,8 @@ pub fn read_program_header(file: &[u8], i: u16) -> ProgramHeader
     program_header_at(file, program_header_place(file, i))
 }
 
-/// Checks a load of a file of that size, whose program header is number `i` and stands at a place of the file.
+/// Checks a load of a file of that size, whose program header is number `i` and stands at a place of the
+/// file.
 #[tactic(auto, unfolding(crate::specs::Segments::load_fault_of))]
 fn check_load(size: u64, at: u64, i: u16, s: &ProgramHeader) -> Result<(), LoadFault>
     ensures { Tells result (load_fault_of size at i s.now) }

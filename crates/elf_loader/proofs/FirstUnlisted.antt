@@ -1,21 +1,21 @@
 -- The first of some code words that means no instruction.
 use Rattle.std.proofs.Common.{◌≡◌, ℕ, suc, ◌+◌, ◌<◌, List, [], ◌∷◌, length, get_or, drop, Some, None, refl, ap, ◌∙◌, add-one, drop-cons}
-use Rattle.paged_memory.specs.Memory.{or_else}
+use Rattle.std.specs.Option.{option_or}
 use Rattle.elf_headers.specs.declared.fault.LoadFault.{LoadFault}
 use Rattle.elf_loader.specs.Loading.{unlisted, words_fault}
 
-fault_cons : (entry : ℕ × ℕ) (rest : List (ℕ × ℕ)) → words_fault (entry ∷ rest) ≡ or_else (unlisted entry) (words_fault rest)
+fault_cons : (entry : ℕ × ℕ) (rest : List (ℕ × ℕ)) → words_fault (entry ∷ rest) ≡ option_or (unlisted entry) (words_fault rest)
 unfolding words_fault
 fault_cons entry rest = refl
 
-fault_at : (code : List (ℕ × ℕ)) (i : ℕ) (d : ℕ × ℕ) → i < length code → words_fault (drop i code) ≡ or_else (unlisted (get_or code i d)) (words_fault (drop (i + 1) code))
+fault_at : (code : List (ℕ × ℕ)) (i : ℕ) (d : ℕ × ℕ) → i < length code → words_fault (drop i code) ≡ option_or (unlisted (get_or code i d)) (words_fault (drop (i + 1) code))
 fault_at code i d l = rw (add-one, drop-cons code i d l) (fault_cons (get_or code i d) (drop (suc i) code))
 
 pub fault_here : (code : List (ℕ × ℕ)) (i : ℕ) (d : ℕ × ℕ) (fault : LoadFault) → i < length code → words_fault code ≡ words_fault (drop i code) → unlisted (get_or code i d) ≡ Some fault → words_fault code ≡ Some fault
-fault_here code i d fault l before here = before ∙ fault_at code i d l ∙ ap (λ o. or_else o (words_fault (drop (i + 1) code))) here
+fault_here code i d fault l before here = before ∙ fault_at code i d l ∙ ap (λ o. option_or o (words_fault (drop (i + 1) code))) here
 
 pub fault_further : (code : List (ℕ × ℕ)) (i : ℕ) (d : ℕ × ℕ) → i < length code → words_fault code ≡ words_fault (drop i code) → unlisted (get_or code i d) ≡ None → words_fault code ≡ words_fault (drop (i + 1) code)
-fault_further code i d l before here = before ∙ fault_at code i d l ∙ ap (λ o. or_else o (words_fault (drop (i + 1) code))) here
+fault_further code i d l before here = before ∙ fault_at code i d l ∙ ap (λ o. option_or o (words_fault (drop (i + 1) code))) here
 
 past_all : (code : List (ℕ × ℕ)) → drop (length code) code ≡ []
 past_all [] = refl

@@ -128,7 +128,7 @@ is_memory parts = record {
   bytes = get-map (image_byte parts) (4096 * bound_of parts) (bytes-above parts);
 }
 
-one_memory : (parts : List Extent) (m n : AddressSpace) → IsMemoryOf parts m → IsMemoryOf parts n → m ≡ n
+pub one_memory : (parts : List Extent) (m n : AddressSpace) → IsMemoryOf parts m → IsMemoryOf parts n → m ≡ n
 one_memory parts m n h k =
     let mem : m.mem ≡ n.mem = same_map nat_cmp_total nat_cmp-IsAntisymmetric _ _ (λ a. h.bytes a ∙ sym (k.bytes a)) in
     let perm : m.perm ≡ n.perm = same_map nat_cmp_total nat_cmp-IsAntisymmetric _ _ (λ a. h.flags a ∙ sym (k.flags a)) in

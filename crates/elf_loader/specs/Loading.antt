@@ -6,7 +6,7 @@ use Rattle.a64_encode.specs.Either.{instruction_of}
 use Rattle.paged_memory.specs.Image.{Program, IsMemoryOf}
 use Rattle.elf_headers.specs.declared.fault.LoadFault.{LoadFault}
 use Rattle.elf_headers.specs.declared.fault.LoadFault.TheVariants.{Unlisted}
-use Rattle.elf_headers.specs.Fault.{first_fault}
+use Rattle.sm_types.specs.Checks.{first_fault}
 use Rattle.elf_headers.specs.Header.{header_entry}
 use Rattle.elf_headers.specs.Loads.{extents_of, headers_fault}
 use Rattle.elf_sections.specs.Sections.{sections_fault}
@@ -25,7 +25,8 @@ unlisted entry = unless_listed entry.0 entry.1 (instruction_of entry.1)
 unfoldable pub words_fault : List (ℕ × ℕ) → Option LoadFault
 words_fault entries = first_fault (map unlisted entries)
 
--- the fault of the first check that fails: those on the headers, those on the sections, and that each code word is listed, from the lowest on
+-- the fault of the first check that fails: those on the headers, those on the sections, and that each code
+-- word is listed, from the lowest on
 unfoldable pub load_fault : List ℕ → Option LoadFault
 load_fault file = first_fault (headers_fault file ∷ sections_fault file ∷ words_fault (code_words file) ∷ [])
 

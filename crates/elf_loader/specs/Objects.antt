@@ -1,22 +1,26 @@
--- The image of an object, and when an object is written as a file.
--- Source: ELF-64 Object File Format, PT_LOAD with p_flags (PF_X 1, PF_W 2, PF_R 4); where the parts stand is this project's own.
-use Rattle.std.specs.Prelude.{◌≡◌, ◌≤◌, ℕ, List, [], ◌∷◌, length, cond, ◌==◌, None}
+-- The image of an object.
+-- Source: ELF-64 Object File Format, PT_LOAD with p_flags (PF_X 1, PF_W 2, PF_R 4); where the parts stand
+-- is this project's own.
+use Rattle.std.specs.Prelude.{◌≡◌, ℕ, List, [], ◌∷◌, length, cond, ◌==◌}
 use Rattle.sm_types.specs.declared.object.Object.{Object}
-use Rattle.sm_types.specs.Objects.{data_address, object_code, IsStartable}
+use Rattle.sm_types.specs.Objects.{text_address, data_address, object_code}
 use Rattle.paged_memory.specs.Image.{Extent, Program, IsMemoryOf}
-use Rattle.elf_loader.specs.Loading.{words_fault, Loads}
-
--- where the text stands
-abbrev pub text_address : ℕ
-text_address = 0x400000
+use Rattle.elf_loader.specs.Loading.{Loads}
 
 -- the text, which can be read and executed
 unfoldable pub text_extent : Object → Extent
-text_extent o = record { address = text_address; size = length o.text_bytes.items; flags = 5; bytes = o.text_bytes.items }
+text_extent o =
+    record { address = text_address; size = length o.text_bytes.items; flags = 5; bytes = o.text_bytes.items }
 
 -- the data, which can be read and written
 unfoldable pub data_extent : Object → Extent
-data_extent o = record { address = data_address (length o.text_bytes.items); size = length o.data_bytes.items; flags = 6; bytes = o.data_bytes.items }
+data_extent o =
+    record {
+      address = data_address (length o.text_bytes.items);
+      size = length o.data_bytes.items;
+      flags = 6;
+      bytes = o.data_bytes.items;
+    }
 
 -- the parts of an object in memory; an empty one is none
 unfoldable pub object_extents : Object → List Extent
@@ -33,10 +37,3 @@ pub record IsFileOf (o : Object) (file : List ℕ) : Type 0 where
   pub program : Program
   pub loads : Loads file program
   pub image : IsObjectImage o program
-
--- the object can be written: it can start, each part has at most 4 MiB, and each of its code words means an instruction
-pub record IsWritable (o : Object) : Type 0 where
-  pub startable : IsStartable o
-  pub text_size : length o.text_bytes.items ≤ 4194304
-  pub data_size : length o.data_bytes.items ≤ 4194304
-  pub listed : words_fault (object_code o) ≡ None

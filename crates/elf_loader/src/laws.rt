@@ -1,9 +1,7 @@
-//! The laws of loading: a file has a fault, or it is loaded as one program; and where the text of an object stands.
+//! The laws of loading: a file has a fault, or it is loaded as one program.
 ghost use Rattle.std.specs.Prelude.{◌≡◌, ℕ, List, None};
 ghost use Rattle.paged_memory.specs.Image.{Program};
 ghost use Rattle.elf_loader.specs.Loading.{load_fault, Loads};
-ghost use Rattle.elf_loader.specs.Objects.{text_address};
-ghost use Rattle.sm_types.specs.declared.object.TheConstants.{TEXT_ADDRESS};
 
 /// A file without a fault is loaded as some program.
 pub fn some_image()
@@ -13,9 +11,4 @@ pub fn some_image()
 /// A file is loaded as at most one program.
 pub fn one_image()
     ensures { (file : List ℕ) (p q : Program) → Loads file p → Loads file q → p ≡ q }
-{}
-
-/// The address of an object's text is the number that the image of an object is defined with.
-pub fn one_text_address()
-    ensures { TEXT_ADDRESS ≡ text_address }
 {}

@@ -1,6 +1,6 @@
 -- The fault of the section table, check by check.
 use Rattle.std.proofs.Common.{◌≡◌, ℕ, ◌^◌, true, false, List, [], Option, Some, None, refl, ◌∙◌}
-use Rattle.paged_memory.specs.Memory.{or_else}
+use Rattle.std.specs.Option.{option_or}
 use Rattle.elf_headers.specs.declared.fault.LoadFault.{LoadFault}
 use Rattle.elf_headers.specs.Below.{first_below, answers_below}
 use Rattle.elf_sections.specs.Sections.{section_count, section_table_fault, section_fault, sections_fault, has_sections}
@@ -18,7 +18,7 @@ pub table_refused : (file : List ℕ) (fault : LoadFault) → has_sections file 
 unfolding sections_fault
 table_refused file fault h t = rw (h, t) refl
 
-or_none : (o : Option LoadFault) → or_else o None ≡ o
+or_none : (o : Option LoadFault) → option_or o None ≡ o
 or_none None = refl
 or_none (Some f) = refl
 

@@ -1,3 +1,4 @@
+pub mod Governing
 pub mod Answers
 pub mod Names
 pub mod Covering

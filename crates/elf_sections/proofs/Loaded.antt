@@ -3,7 +3,7 @@ use Rattle.std.proofs.Common.{◌≡◌, ℕ, zero, suc, ◌+◌, ◌-◌, ◌^�
 use Rattle.std.specs.Prelude.{◌||◌, is_some}
 use Rattle.std.specs.List.Sorted.{IsPermutation}
 use Rattle.std.proofs.lemmas.List.Sorted.{list_any-IsPermutation}
-use Rattle.paged_memory.specs.Memory.{or_else}
+use Rattle.std.specs.Option.{option_or}
 use Rattle.paged_memory.specs.Image.{parts_byte, part_byte, or_zero}
 use Rattle.paged_memory.specs.Parts.{AreApart}
 use Rattle.elf_headers.specs.declared.header.ProgramHeader.{ProgramHeader}
@@ -15,11 +15,11 @@ use Rattle.elf_sections.specs.Cover.{has_load, AreLoads}
 use Rattle.elf_headers.proofs.Below.{all_below-same, all_below-each}
 use Rattle.elf_sections.proofs.Covering.{has_load-contains, has_load-some, has_address-high, HasOne}
 
-there_or : (t : Bool) (b : ℕ) (o : Option ℕ) → is_some (or_else (cond t (Some b) None) o) ≡ (t || is_some o)
+there_or : (t : Bool) (b : ℕ) (o : Option ℕ) → is_some (option_or (cond t (Some b) None) o) ≡ (t || is_some o)
 there_or true b o = refl
 there_or false b o = refl
 
-byte_of_load : (file : List ℕ) (s : ProgramHeader) (a : ℕ) (o : Option ℕ) → is_some (or_else (part_byte (extent_of_load file s) a) o) ≡ (has_address s a || is_some o)
+byte_of_load : (file : List ℕ) (s : ProgramHeader) (a : ℕ) (o : Option ℕ) → is_some (option_or (part_byte (extent_of_load file s) a) o) ≡ (has_address s a || is_some o)
 unfolding extent_of_load
 byte_of_load file s a o = there_or (has_address s a) (or_zero (slice_get (take s.file_size (drop s.offset file)) (a - s.address))) o
 
@@ -49,11 +49,11 @@ part_has : (file : List ℕ) (s : ProgramHeader) (a : ℕ) → is_some (part_byt
 unfolding extent_of_load
 part_has file s a = part_there (has_address s a) (or_zero (slice_get (take s.file_size (drop s.offset file)) (a - s.address)))
 
-or_there : (o b : Option ℕ) → is_some o ≡ true → or_else o b ≡ o
+or_there : (o b : Option ℕ) → is_some o ≡ true → option_or o b ≡ o
 or_there None b h = cc
 or_there (Some x) b h = refl
 
-or_later : (o b : Option ℕ) → (is_some o ≡ true → ⊥) → or_else o b ≡ b
+or_later : (o b : Option ℕ) → (is_some o ≡ true → ⊥) → option_or o b ≡ b
 or_later None b h = refl
 or_later (Some x) b h = absurd (h refl)
 

@@ -4,7 +4,7 @@ use Rattle.std.specs.Prelude.{Contains, is_some}
 use Rattle.std.proofs.lemmas.List.{get_or-take, get_or-drop}
 use Rattle.std.proofs.lemmas.List.Elements.{Contains-get_or}
 use Rattle.std.proofs.lemmas.List.Sorted.{All-permutation, Contains-permutation, IsPermutation-sym}
-use Rattle.paged_memory.specs.Memory.{little_number}
+use Rattle.sm_types.specs.Bytes.{little_number}
 use Rattle.paged_memory.specs.Image.{parts_byte, part_byte, or_zero}
 use Rattle.elf_headers.specs.declared.header.ProgramHeader.{ProgramHeader}
 use Rattle.elf_headers.specs.Header.{number_at}

@@ -4,44 +4,45 @@ use Rattle.std.specs.Prelude.{◌==◌, ◌&&◌, nat_le}
 use Rattle.std.proofs.lemmas.Bool.{cases_Bool}
 use Rattle.std.proofs.lemmas.List.{append-nil}
 use Rattle.std.proofs.lemmas.Bool.Decides.{nat_tests}
-use Rattle.paged_memory.specs.Memory.{or_else}
+use Rattle.std.specs.Option.{option_or}
 use Rattle.elf_sections.specs.declared.marks.Mark.{Mark}
 use Rattle.elf_sections.specs.Sections.{section_of, is_symbol_table}
 use Rattle.elf_sections.specs.Repeats.{repeats_table}
-use Rattle.elf_sections.specs.Marks.{later, governing, says_code, is_code_at, marks_below, table_marks}
+use Rattle.elf_sections.specs.Marks.{is_code_at, marks_below, table_marks}
+use Rattle.elf_sections.proofs.Governing.{later, governing, says_code, code_at}
 use Rattle.elf_sections.specs.MarkOrder.{is_mark_of, last_mark, SayTheSame}
 use Rattle.elf_sections.proofs.Tables.{Repeats, repeats_parts, table_marks-repeats}
 
 -- ---- the first of several
 
-or_else_assoc : (a b c : Option Mark) → or_else a (or_else b c) ≡ or_else (or_else a b) c
+or_else_assoc : (a b c : Option Mark) → option_or a (option_or b c) ≡ option_or (option_or a b) c
 or_else_assoc None b c = refl
 or_else_assoc (Some x) b c = refl
 
-or_else_twice : (a b : Option Mark) → or_else a (or_else a b) ≡ or_else a b
+or_else_twice : (a b : Option Mark) → option_or a (option_or a b) ≡ option_or a b
 or_else_twice None b = refl
 or_else_twice (Some x) b = refl
 
-or_else_none : (a : Option Mark) → or_else a None ≡ a
+or_else_none : (a : Option Mark) → option_or a None ≡ a
 or_else_none None = refl
 or_else_none (Some x) = refl
 
-or_else_some : (a c : Option Mark) (x : Mark) → or_else (or_else a (Some x)) c ≡ or_else a (Some x)
+or_else_some : (a c : Option Mark) (x : Mark) → option_or (option_or a (Some x)) c ≡ option_or a (Some x)
 or_else_some None c x = refl
 or_else_some (Some y) c x = refl
 
 -- ---- the last mark of a value
 
-pub last_mark-append : (s v : ℕ) (xs ys : List Mark) → last_mark s v (xs ++ ys) ≡ or_else (last_mark s v ys) (last_mark s v xs)
+pub last_mark-append : (s v : ℕ) (xs ys : List Mark) → last_mark s v (xs ++ ys) ≡ option_or (last_mark s v ys) (last_mark s v xs)
 unfolding last_mark
 last_mark-append s v [] ys = sym (or_else_none (last_mark s v ys))
 last_mark-append s v (x ∷ xs) ys = rw (last_mark-append s v xs ys) (sym (or_else_assoc (last_mark s v ys) (last_mark s v xs) (cond (is_mark_of s v x) (Some x) None)))
 
 pub same-append : (xs ys zs : List Mark) → SayTheSame xs ys → SayTheSame (xs ++ zs) (ys ++ zs)
-same-append xs ys zs h = λ s v. last_mark-append s v xs zs ∙ ap (or_else (last_mark s v zs)) (h s v) ∙ sym (last_mark-append s v ys zs)
+same-append xs ys zs h = λ s v. last_mark-append s v xs zs ∙ ap (option_or (last_mark s v zs)) (h s v) ∙ sym (last_mark-append s v ys zs)
 
 pub same-twice : (xs ys : List Mark) → SayTheSame ((xs ++ ys) ++ ys) (xs ++ ys)
-same-twice xs ys = λ s v. last_mark-append s v (xs ++ ys) ys ∙ ap (or_else (last_mark s v ys)) (last_mark-append s v xs ys) ∙ or_else_twice (last_mark s v ys) (last_mark s v xs) ∙ sym (last_mark-append s v xs ys)
+same-twice xs ys = λ s v. last_mark-append s v (xs ++ ys) ys ∙ ap (option_or (last_mark s v ys)) (last_mark-append s v xs ys) ∙ or_else_twice (last_mark s v ys) (last_mark s v xs) ∙ sym (last_mark-append s v xs ys)
 
 -- ---- the marks of the first sections
 
@@ -74,7 +75,7 @@ IsBelow a None = Unit
 IsBelow a (Some m) = m.value ≤ a
 
 -- one of the address itself stays until another of that address comes
-governing-top : (s v : ℕ) (b : Mark) (ms : List Mark) → b.value ≡ v → governing s v (Some b) ms ≡ or_else (last_mark s v ms) (Some b)
+governing-top : (s v : ℕ) (b : Mark) (ms : List Mark) → b.value ≡ v → governing s v (Some b) ms ≡ option_or (last_mark s v ms) (Some b)
 unfolding last_mark
 governing-top s v b [] e = refl
 governing-top s v b (m ∷ ms) e =
@@ -85,7 +86,7 @@ governing-top s v b (m ∷ ms) e =
           rw (test, t) (governing-top s v m ms value ∙ sym (or_else_some (last_mark s v ms) (Some b) m))
       | inr f ↦
           let test : ((m.section == s) && nat_le m.value v && nat_le b.value m.value) ≡ false = grind (arith, nat_tests) in
-          rw (test, f) (governing-top s v b ms e ∙ ap (λ o. or_else o (Some b)) (sym (or_else_none (last_mark s v ms))))
+          rw (test, f) (governing-top s v b ms e ∙ ap (λ o. option_or o (Some b)) (sym (or_else_none (last_mark s v ms))))
     ]
 
 governing-zero : (s : ℕ) (ms : List Mark) → governing s 0 None ms ≡ last_mark s 0 ms
@@ -128,7 +129,7 @@ later-below s a (Some b) m h =
     ] refl
 
 -- at the next address up the last mark of that address governs, else what governs one below
-governing-suc : (s a : ℕ) (best : Option Mark) (ms : List Mark) → IsBelow a best → governing s (suc a) best ms ≡ or_else (last_mark s (suc a) ms) (governing s a best ms)
+governing-suc : (s a : ℕ) (best : Option Mark) (ms : List Mark) → IsBelow a best → governing s (suc a) best ms ≡ option_or (last_mark s (suc a) ms) (governing s a best ms)
 unfolding last_mark
 governing-suc s a best [] h = refl
 governing-suc s a best (m ∷ ms) h =
@@ -137,15 +138,14 @@ governing-suc s a best (m ∷ ms) h =
           let value : m.value ≡ suc a = grind (arith, nat_tests) in
           rw (later-takes s a best m h t, later-skips s a best m t, t) (governing-top s (suc a) m ms value ∙ sym (or_else_some (last_mark s (suc a) ms) (governing s a best ms) m))
       | inr f ↦
-          rw (later-same s a best m f, f) (governing-suc s a (later s a best m) ms (later-below s a best m h) ∙ ap (λ o. or_else o (governing s a (later s a best m) ms)) (sym (or_else_none (last_mark s (suc a) ms))))
+          rw (later-same s a best m f, f) (governing-suc s a (later s a best m) ms (later-below s a best m h) ∙ ap (λ o. option_or o (governing s a (later s a best m) ms)) (sym (or_else_none (last_mark s (suc a) ms))))
     ]
 
 governing-same : (xs ys : List Mark) (s a : ℕ) → ((v : ℕ) → last_mark s v xs ≡ last_mark s v ys) → governing s a None xs ≡ governing s a None ys
 governing-same xs ys s zero h = governing-zero s xs ∙ h 0 ∙ sym (governing-zero s ys)
 governing-same xs ys s (suc a) h =
-    governing-suc s a None xs tt ∙ (λ j. or_else (h (suc a) j) (governing-same xs ys s a h j)) ∙ sym (governing-suc s a None ys tt)
+    governing-suc s a None xs tt ∙ (λ j. option_or (h (suc a) j) (governing-same xs ys s a h j)) ∙ sym (governing-suc s a None ys tt)
 
 -- marks that say the same make the same code
 pub is_code_at-same : (xs ys : List Mark) (s a : ℕ) → ((v : ℕ) → last_mark s v xs ≡ last_mark s v ys) → is_code_at xs s a ≡ is_code_at ys s a
-unfolding is_code_at
-is_code_at-same xs ys s a h = ap says_code (governing-same xs ys s a h)
+is_code_at-same xs ys s a h = code_at xs s a ∙ ap says_code (governing-same xs ys s a h) ∙ sym (code_at ys s a)

@@ -8,7 +8,7 @@ use Rattle.std.proofs.lemmas.List.Sorted.{ranks_by, sorted_far}
 use Rattle.std.proofs.lemmas.List.Elements.{filter_agree}
 use Rattle.std.proofs.lemmas.Bool.{cases_Bool}
 use Rattle.std.proofs.lemmas.Bool.Decides.{nat_tests}
-use Rattle.paged_memory.specs.Memory.{or_else}
+use Rattle.std.specs.Option.{option_or}
 use Rattle.elf_sections.specs.declared.marks.Mark.{Mark}
 use Rattle.elf_sections.specs.MarkOrder.{is_mark_of, last_mark, SayTheSame, AreMarksInOrder}
 
@@ -37,9 +37,9 @@ ties_test a b c d = grind (arith, nat_tests)
 -- the last of a list
 abbrev last_of : List Mark → Option Mark
 last_of [] = None
-last_of (m ∷ marks) = or_else (last_of marks) (Some m)
+last_of (m ∷ marks) = option_or (last_of marks) (Some m)
 
-or_none : (o : Option Mark) → or_else o None ≡ o
+or_none : (o : Option Mark) → option_or o None ≡ o
 or_none None = refl
 or_none (Some m) = refl
 
@@ -48,7 +48,7 @@ unfolding last_mark
 last_mark-filter s v [] = refl
 last_mark-filter s v (m ∷ marks) =
     elim (cases_Bool (is_mark_of s v m)) [
-      | inl t ↦ rw t (ap (λ o. or_else o (Some m)) (last_mark-filter s v marks))
+      | inl t ↦ rw t (ap (λ o. option_or o (Some m)) (last_mark-filter s v marks))
       | inr f ↦ rw f (or_none (last_mark s v marks) ∙ last_mark-filter s v marks)
     ]
 

@@ -6,10 +6,11 @@ use Rattle.std.proofs.lemmas.Bool.{cases_lt, ne_eqb, and_left, lt-ltb, le-ltb, l
 use Rattle.std.proofs.lemmas.Bool.Decides.{nat_tests}
 use Rattle.std.proofs.lemmas.List.{get_or-take, get_or-drop, length-take, length-drop, take-append-drop, get_or_default}
 use Rattle.std.proofs.lemmas.List.Folds.{list_any-append}
-use Rattle.paged_memory.specs.Memory.{or_else}
+use Rattle.std.specs.Option.{option_or}
 use Rattle.elf_sections.specs.declared.marks.Mark.{Mark}
 use Rattle.elf_sections.specs.declared.intervals.Span.{Span}
-use Rattle.elf_sections.specs.Marks.{later, governing, says_code, is_code_at}
+use Rattle.elf_sections.specs.Marks.{is_code_at}
+use Rattle.elf_sections.proofs.Governing.{later, governing, says_code, code_at}
 use Rattle.elf_sections.specs.MarkOrder.{is_mark_of, last_mark}
 use Rattle.elf_sections.specs.Intervals.{has_number, is_spanned}
 use Rattle.elf_sections.proofs.Saying.{last_mark-append}
@@ -20,7 +21,7 @@ use Rattle.elf_sections.proofs.Saying.{last_mark-append}
 abbrev pub no_mark : Mark
 no_mark = record { section = 0; value = 0; code = false }
 
-or_none : (o : Option Mark) → or_else o None ≡ o
+or_none : (o : Option Mark) → option_or o None ≡ o
 or_none None = refl
 or_none (Some m) = refl
 
@@ -49,9 +50,9 @@ part_same marks rest i from count v is low high =
     let same : (get_or rest (count + k) d).section ≡ i = rw at at e in
     omega arith) in
     let part : last_mark i v rest ≡ last_mark i v (take count rest) =
-    ap (last_mark i v) (sym (take-append-drop count rest)) ∙ last_mark-append i v (take count rest) (drop count rest) ∙ ap (λ o. or_else o (last_mark i v (take count rest))) after in
+    ap (last_mark i v) (sym (take-append-drop count rest)) ∙ last_mark-append i v (take count rest) (drop count rest) ∙ ap (λ o. option_or o (last_mark i v (take count rest))) after in
     let whole : last_mark i v marks ≡ last_mark i v (drop from marks) =
-    ap (last_mark i v) (sym (take-append-drop from marks)) ∙ last_mark-append i v (take from marks) (drop from marks) ∙ ap (or_else (last_mark i v (drop from marks))) before ∙ or_none (last_mark i v (drop from marks)) in
+    ap (last_mark i v) (sym (take-append-drop from marks)) ∙ last_mark-append i v (take from marks) (drop from marks) ∙ ap (option_or (last_mark i v (drop from marks))) before ∙ or_none (last_mark i v (drop from marks)) in
     sym (whole ∙ ap (last_mark i v) (sym is) ∙ part)
 
 -- ---- spans
@@ -120,8 +121,7 @@ governing-own s a (suc k) best (m ∷ marks) own order under within low high =
 
 pub is_code_at-own : (s a k : ℕ) (marks : List Mark) → All (λ m. m.section ≡ s) marks → IsNonDecreasingBy (λ m. m.value) marks → k ≤ length marks
     → ((j : ℕ) (d : Mark) → j < k → (get_or marks j d).value ≤ a) → ((j : ℕ) (d : Mark) → k ≤ j → j < length marks → a < (get_or marks j d).value) → is_code_at marks s a ≡ code_from None marks k
-unfolding is_code_at
-is_code_at-own s a k marks own order within low high = governing-own s a k None marks own order tt within low high
+is_code_at-own s a k marks own order within low high = code_at marks s a ∙ governing-own s a k None marks own order tt within low high
 
 -- ---- one more mark passed
 

@@ -6,7 +6,7 @@ use Rattle.std.proofs.lemmas.Bool.Decides.{nat_tests}
 use Rattle.elf_headers.specs.declared.fault.LoadFault.{LoadFault}
 use Rattle.elf_headers.specs.declared.fault.LoadFault.TheVariants.{BadTable}
 use Rattle.elf_headers.specs.Fault.{fault_when, fault_only}
-use Rattle.paged_memory.specs.Memory.{or_else}
+use Rattle.std.specs.Option.{option_or}
 use Rattle.elf_headers.specs.Below.{first_below}
 use Rattle.elf_sections.specs.declared.section.SectionHeader.{SectionHeader}
 use Rattle.elf_sections.specs.Sections.{section_of, section_count, section_fault, is_symbol_table, is_code_section, is_all_loaded, is_in_file, is_good_table, has_names, ends_inside, strings_of, symbol_count, symbol_name, section_at}
@@ -71,7 +71,7 @@ table_marks-repeats file i r =
 
 -- ---- what the checks give
 
-both_parts : (t g c l : Bool) (fault : LoadFault) → or_else (fault_only t (fault_when (not g) fault)) (or_else (fault_only c (fault_when (not l) fault)) None) ≡ None → (t ≡ true → g ≡ true) × (c ≡ true → l ≡ true)
+both_parts : (t g c l : Bool) (fault : LoadFault) → option_or (fault_only t (fault_when (not g) fault)) (option_or (fault_only c (fault_when (not l) fault)) None) ≡ None → (t ≡ true → g ≡ true) × (c ≡ true → l ≡ true)
 both_parts true true true true fault h = (λ _. refl, λ _. refl)
 both_parts true true true false fault h = cc
 both_parts true true false l fault h = (λ _. refl, λ e. cc)
@@ -91,7 +91,7 @@ loaded_section file i h t = (both_parts (is_symbol_table (section_of file i)) (i
 no_code : (s : SectionHeader) → is_symbol_table s ≡ true → is_code_section s ≡ false
 no_code s h = grind (arith, nat_tests)
 
-passes : (t g c l : Bool) (fault : LoadFault) → g ≡ true → c ≡ false → or_else (fault_only t (fault_when (not g) fault)) (or_else (fault_only c (fault_when (not l) fault)) None) ≡ None
+passes : (t g c l : Bool) (fault : LoadFault) → g ≡ true → c ≡ false → option_or (fault_only t (fault_when (not g) fault)) (option_or (fault_only c (fault_when (not l) fault)) None) ≡ None
 passes true true false l fault g c = refl
 passes false true false l fault g c = refl
 passes t false c l fault g e = cc

@@ -1,7 +1,9 @@
--- The code words of a file: the words at multiples of 4 that lie wholly in a code section and begin with code.
--- Source: ELF for the Arm 64-bit Architecture (AArch64), mapping symbols; this project for which words are looked at.
+-- The code words of a file: the words at multiples of 4 that lie wholly in a code section and begin with
+-- code.
+-- Source: ELF for the Arm 64-bit Architecture (AArch64), mapping symbols; this project for which words are
+-- looked at.
 use Rattle.std.specs.Prelude.{ℕ, ◌+◌, ◌*◌, ◌^◌, Bool, cond, List, [], ◌∷◌, Option, Some, None, ◌&&◌, nat_le}
-use Rattle.paged_memory.specs.Memory.{little_number}
+use Rattle.sm_types.specs.Bytes.{little_number}
 use Rattle.paged_memory.specs.Image.{or_zero, parts_byte}
 use Rattle.elf_headers.specs.Below.{any_below, answers_below}
 use Rattle.elf_headers.specs.Loads.{extents_of}
@@ -15,7 +17,9 @@ loaded_byte file a = or_zero (parts_byte (extents_of file) a)
 
 -- the word of the four bytes from an address on
 unfoldable pub loaded_word : List ℕ → ℕ → ℕ
-loaded_word file a = little_number (loaded_byte file a ∷ loaded_byte file (a + 1) ∷ loaded_byte file (a + 2) ∷ loaded_byte file (a + 3) ∷ [])
+loaded_word file a =
+    little_number (loaded_byte file a ∷ loaded_byte file (a + 1) ∷ loaded_byte file (a + 2)
+    ∷ loaded_byte file (a + 3) ∷ [])
 
 -- four bytes from an address on lie in the section
 abbrev pub has_word : SectionHeader → ℕ → Bool
@@ -23,7 +27,8 @@ has_word s a = nat_le s.address a && nat_le (a + 4) (s.address + s.size)
 
 -- section number i makes the word at an address code
 abbrev pub is_code_in : List ℕ → ℕ → ℕ → Bool
-is_code_in file a i = is_code_section (section_of file i) && has_word (section_of file i) a && is_code_at (marks_of file) i a
+is_code_in file a i =
+    is_code_section (section_of file i) && has_word (section_of file i) a && is_code_at (marks_of file) i a
 
 -- a section makes the word at an address code
 unfoldable pub is_code_word : List ℕ → ℕ → Bool

@@ -1,5 +1,6 @@
 -- The addresses that loads have.
-use Rattle.std.specs.Prelude.{◌≡◌, ℕ, ◌+◌, ◌^◌, ◌<◌, ◌≤◌, Bool, true, false, List, length, get_or, slice_index, All, Contains}
+use Rattle.std.specs.Prelude.{◌≡◌, ℕ, ◌+◌, ◌^◌, ◌<◌, ◌≤◌, Bool, true, false, List, length, get_or}
+use Rattle.std.specs.Prelude.{slice_index, All, Contains}
 use Rattle.std.specs.List.{list_any}
 use Rattle.std.specs.List.Sorted.{IsNonDecreasingBy, IsPermutation}
 use Rattle.elf_headers.specs.declared.header.ProgramHeader.{ProgramHeader}
@@ -14,7 +15,9 @@ has_load loads a = list_any (λ s. has_address s a) loads
 pub record AreLoads (loads : List ProgramHeader) : Type 0 where
   pub some : All (λ s. 0 < s.memory_size) loads
   pub low : All (λ s. s.address + s.memory_size ≤ 2 ^ 47) loads
-  pub apart : (s t : ProgramHeader) (a : ℕ) → Contains loads s → Contains loads t → has_address s a ≡ true → has_address t a ≡ true → s ≡ t
+  pub apart :
+      (s t : ProgramHeader) (a : ℕ) → Contains loads s → Contains loads t → has_address s a ≡ true
+      → has_address t a ≡ true → s ≡ t
 
 -- the same, in order of address
 pub record AreInOrder (loads : List ProgramHeader) : Type 0 where
@@ -37,4 +40,6 @@ pub record IsEnd (loads : List ProgramHeader) (s : ProgramHeader) (end : ℕ) : 
 pub record IsCover (cover : Cover) : Type 0 where
   pub loads : AreInOrder cover.loads.items
   pub count : length cover.ends.items ≡ length cover.loads.items
-  pub ends : (k : ℕ) (d : ProgramHeader) → k < length cover.loads.items → IsEnd cover.loads.items (get_or cover.loads.items k d) (slice_index cover.ends.items k)
+  pub ends :
+      (k : ℕ) (d : ProgramHeader) → k < length cover.loads.items
+      → IsEnd cover.loads.items (get_or cover.loads.items k d) (slice_index cover.ends.items k)

@@ -1,16 +1,22 @@
 -- Mapping symbols: which bytes of a section are code, and which are data.
 -- Source: ELF for the Arm 64-bit Architecture (AArch64), mapping symbols `$x` and `$d`, by name alone.
-use Rattle.std.specs.Prelude.{◌≡◌, ◌<◌, ◌≤◌, length, ℕ, zero, suc, ◌+◌, Bool, true, false, cond, List, [], ◌∷◌, ◌++◌, Option, Some, None, ◌==◌, ◌&&◌, ◌||◌, nat_le, if◌then◌else◌}
+use Rattle.std.specs.Prelude.{◌≡◌, ◌<◌, ◌≤◌, length, ℕ, zero, suc, ◌+◌, Bool, true, false, cond, List, []}
+use Rattle.std.specs.Prelude.{◌++◌, Option, Some, None, ◌==◌, ◌&&◌, ◌||◌, if◌then◌else◌}
+use Rattle.std.specs.List.{filter_map}
+use Rattle.sm_types.specs.Objects.{dollar, dot, code_letter, data_letter, Mapping, governing_mapping}
+use Rattle.sm_types.specs.Objects.{mapping_says_code}
 use Rattle.elf_headers.specs.Below.{answers_below}
 use Rattle.elf_headers.specs.Header.{number_at}
 use Rattle.elf_sections.specs.declared.section.SectionHeader.{SectionHeader}
 use Rattle.elf_sections.specs.declared.marks.Mark.{Mark}
-use Rattle.elf_sections.specs.Sections.{section_of, section_count, is_symbol_table, symbol_count, symbol_at, strings_of}
+use Rattle.elf_sections.specs.Sections.{section_of, section_count, is_symbol_table, symbol_count, symbol_at}
+use Rattle.elf_sections.specs.Sections.{strings_of}
 
 -- the name that begins at a place of the file is `$` and the letter, or these followed by `.` and a suffix
 unfoldable pub is_mapping_name : List ℕ → ℕ → ℕ → Bool
 is_mapping_name file at letter =
-    (number_at file at 1 == 36) && (number_at file (at + 1) 1 == letter) && ((number_at file (at + 2) 1 == 0) || (number_at file (at + 2) 1 == 46))
+    (number_at file at 1 == dollar) && (number_at file (at + 1) 1 == letter)
+    && ((number_at file (at + 2) 1 == 0) || (number_at file (at + 2) 1 == dot))
 
 -- a zero byte stands at the place or further on in the file
 abbrev pub HasEnd : List ℕ → ℕ → Type 0
@@ -20,13 +26,18 @@ HasEnd file at = (p : ℕ) × (at ≤ p) × (p < length file) × (number_at file
 abbrev pub name_at : List ℕ → SectionHeader → ℕ → ℕ
 name_at file strings at = strings.offset + number_at file at 4
 
--- the mark of the symbol at a place, of its st_shndx and st_value: `$x` begins code, `$d` data, and other names are no marks
+-- the mark of the symbol at a place, of its st_shndx and st_value: `$x` begins code, `$d` data, and other
+-- names are no marks
 unfoldable pub mark_at : List ℕ → SectionHeader → ℕ → Option Mark
 mark_at file strings at =
-    if is_mapping_name file (name_at file strings at) 120
+    if is_mapping_name file (name_at file strings at) code_letter
     then Some (record { section = number_at file (at + 6) 2; value = number_at file (at + 8) 8; code = true })
-    else if is_mapping_name file (name_at file strings at) 100
-    then Some (record { section = number_at file (at + 6) 2; value = number_at file (at + 8) 8; code = false })
+    else if is_mapping_name file (name_at file strings at) data_letter
+    then Some (record {
+      section = number_at file (at + 6) 2;
+      value = number_at file (at + 8) 8;
+      code = false;
+    })
     else None
 
 -- the marks of a symbol table, in the order of its symbols
@@ -46,22 +57,11 @@ marks_below file (suc n) = marks_below file n ++ marks_in file n
 abbrev pub marks_of : List ℕ → List Mark
 marks_of file = marks_below file (section_count file)
 
--- of one mark and a later one, that which says what stands at an address of the section: the one of the greater value not above the
--- address, and of equal values the later
-abbrev pub later : ℕ → ℕ → Option Mark → Mark → Option Mark
-later section a None m = cond ((m.section == section) && nat_le m.value a) (Some m) None
-later section a (Some best) m = cond ((m.section == section) && nat_le m.value a && nat_le best.value m.value) (Some m) (Some best)
-
--- of one mark and a list of later ones, that which says what stands at an address of the section
-abbrev pub governing : ℕ → ℕ → Option Mark → List Mark → Option Mark
-governing section a best [] = best
-governing section a best (m ∷ marks) = governing section a (later section a best m) marks
-
--- code where no mark says otherwise
-abbrev pub says_code : Option Mark → Bool
-says_code None = true
-says_code (Some m) = m.code
+-- what a mark says of the section: code or data from its value on; one of another section says nothing
+abbrev pub mapping_in : ℕ → Mark → Option Mapping
+mapping_in section m = cond (m.section == section) (Some (record { address = m.value; code = m.code })) None
 
 -- by these marks the byte at an address of the section begins code
 unfoldable pub is_code_at : List Mark → ℕ → ℕ → Bool
-is_code_at marks section a = says_code (governing section a None marks)
+is_code_at marks section a =
+    mapping_says_code (governing_mapping a None (filter_map (mapping_in section) marks))

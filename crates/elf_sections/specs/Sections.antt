@@ -1,11 +1,14 @@
 -- The section table, and the checks on it and on each section.
--- Source: ELF-64 Object File Format, the tables of Elf64_Ehdr, Elf64_Shdr and Elf64_Sym, of which places and widths are in bytes.
-use Rattle.std.specs.Prelude.{ℕ, ◌+◌, ◌*◌, ◌-◌, ◌/◌, ◌%◌, ◌^◌, ◌≤◌, Bool, List, [], ◌∷◌, length, Option, ◌==◌, ◌&&◌, ◌||◌, not, nat_lt, nat_le, is_some}
+-- Source: ELF-64 Object File Format, the tables of Elf64_Ehdr, Elf64_Shdr and Elf64_Sym, of which places
+-- and widths are in bytes.
+use Rattle.std.specs.Prelude.{ℕ, ◌+◌, ◌*◌, ◌-◌, ◌/◌, ◌%◌, ◌^◌, ◌≤◌, Bool, List, [], ◌∷◌, length, Option, ◌==◌}
+use Rattle.std.specs.Prelude.{◌&&◌, ◌||◌, not, nat_lt, nat_le, is_some}
 use Rattle.paged_memory.specs.Image.{parts_byte}
 use Rattle.elf_headers.specs.declared.fault.LoadFault.{LoadFault}
 use Rattle.elf_headers.specs.declared.fault.LoadFault.TheVariants.{Truncated, BadTable}
 use Rattle.elf_headers.specs.Below.{first_below, any_below, all_below}
-use Rattle.elf_headers.specs.Fault.{fault_when, fault_only, first_fault}
+use Rattle.sm_types.specs.Checks.{first_fault}
+use Rattle.elf_headers.specs.Fault.{fault_when, fault_only}
 use Rattle.elf_headers.specs.Header.{number_at, table_end}
 use Rattle.elf_headers.specs.Loads.{extents_of}
 use Rattle.elf_sections.specs.declared.section.SectionHeader.{SectionHeader}
@@ -22,12 +25,15 @@ section_size file = number_at file 58 2
 abbrev pub section_count : List ℕ → ℕ
 section_count file = number_at file 60 2
 
--- the table of section headers: their size is 64, there is one at least, and the table lies below 2 ^ 64 and in the file
+-- the table of section headers: their size is 64, there is one at least, and the table lies below 2 ^ 64
+-- and in the file
 unfoldable pub section_table_fault : List ℕ → Option LoadFault
 section_table_fault file = first_fault (
     fault_when (not (section_size file == 64) || (section_count file == 0)
-    || nat_lt (2 ^ 64 - 1) (table_end (sections_at file) 64 (section_count file))) (BadTable (sections_at file))
-    ∷ fault_when (nat_lt (length file) (table_end (sections_at file) 64 (section_count file))) (Truncated (length file))
+    || nat_lt (2 ^ 64 - 1) (table_end (sections_at file) 64 (section_count file)))
+    (BadTable (sections_at file))
+    ∷ fault_when (nat_lt (length file) (table_end (sections_at file) 64 (section_count file)))
+    (Truncated (length file))
     ∷ [])
 
 -- the header and the table of section headers are in the file
@@ -83,16 +89,20 @@ strings_of file s = section_of file s.link
 
 -- a name that begins there ends inside the string table: a zero byte stands there or further on
 unfoldable pub ends_inside : List ℕ → SectionHeader → ℕ → Bool
-ends_inside file strings name = any_below (λ p. nat_le name p && (number_at file (strings.offset + p) 1 == 0)) strings.size
+ends_inside file strings name =
+    any_below (λ p. nat_le name p && (number_at file (strings.offset + p) 1 == 0)) strings.size
 
 -- the names of all symbols end inside the string table
 unfoldable pub has_names : List ℕ → SectionHeader → Bool
-has_names file s = all_below (λ k. ends_inside file (strings_of file s) (symbol_name file s k)) (symbol_count s)
+has_names file s =
+    all_below (λ k. ends_inside file (strings_of file s) (symbol_name file s k)) (symbol_count s)
 
--- a symbol table has entries of 24 bytes, is linked to a section, both have their bytes in the file, and its names end in the linked one
+-- a symbol table has entries of 24 bytes, is linked to a section, both have their bytes in the file, and
+-- its names end in the linked one
 unfoldable pub is_good_table : List ℕ → SectionHeader → Bool
 is_good_table file s =
-    (s.entry_size == 24) && nat_lt s.link (section_count file) && is_in_file file s && is_in_file file (strings_of file s) && has_names file s
+    (s.entry_size == 24) && nat_lt s.link (section_count file) && is_in_file file s
+    && is_in_file file (strings_of file s) && has_names file s
 
 -- ---- code sections
 
@@ -111,8 +121,10 @@ is_all_loaded file s = all_below (λ k. is_loaded file (s.address + k)) s.size
 -- the checks on section number i
 unfoldable pub section_fault : List ℕ → ℕ → Option LoadFault
 section_fault file i = first_fault (
-    fault_only (is_symbol_table (section_of file i)) (fault_when (not (is_good_table file (section_of file i))) (BadTable (section_at file i)))
-    ∷ fault_only (is_code_section (section_of file i)) (fault_when (not (is_all_loaded file (section_of file i))) (BadTable (section_at file i)))
+    fault_only (is_symbol_table (section_of file i)) (fault_when
+    (not (is_good_table file (section_of file i))) (BadTable (section_at file i)))
+    ∷ fault_only (is_code_section (section_of file i)) (fault_when
+    (not (is_all_loaded file (section_of file i))) (BadTable (section_at file i)))
     ∷ [])
 
 -- the file has a section table
@@ -121,4 +133,6 @@ has_sections file = not (sections_at file == 0)
 
 -- the first check on the section table that fails, where there is one
 unfoldable pub sections_fault : List ℕ → Option LoadFault
-sections_fault file = fault_only (has_sections file) (first_fault (section_table_fault file ∷ first_below (section_fault file) (section_count file) ∷ []))
+sections_fault file =
+    fault_only (has_sections file) (first_fault (section_table_fault file
+    ∷ first_below (section_fault file) (section_count file) ∷ []))

@@ -1,5 +1,6 @@
 //! The code words of a program file.
-ghost use Rattle.std.specs.Prelude.{◌≡◌, ◌≢◌, ◌+◌, ◌*◌, ◌≤◌, ◌<◌, ◌^◌, ℕ, length, IfOk, IfErr, OnOk, None, Some, true, max};
+ghost use Rattle.std.specs.Prelude.{◌≡◌, ◌≢◌, ◌+◌, ◌*◌, ◌≤◌, ◌<◌, ◌^◌, ℕ, length, IfOk, IfErr, OnOk, None};
+ghost use Rattle.std.specs.Prelude.{Some, true, max};
 ghost use Rattle.std.specs.List.Sorted.{IsNonDecreasingBy, IsPermutation};
 ghost use Rattle.elf_headers.specs.Below.{first_below, answers_below};
 ghost use Rattle.elf_headers.specs.Loads.{loads_of, AreSound};
@@ -93,8 +94,8 @@ fn code_of(
     list_code(alloc, file, loads, spans.as_slice())
 }
 
-/// The code words of a program file with their addresses, in order of address, or the fault of the first check on its section table that
-/// fails; `Memory` is want of memory. `loads` are the file's loads.
+/// The code words of a program file with their addresses, in order of address, or the fault of the first
+/// check on its section table that fails; `Memory` is want of memory. `loads` are the file's loads.
 pub fn read_code(
     alloc: Global,
     file: &[u8],

@@ -1,5 +1,6 @@
 //! Which addresses the loads have.
-ghost use Rattle.std.specs.Prelude.{◌≡◌, ◌+◌, ◌≤◌, ◌<◌, ℕ, length, get_or, slice_index, IfOk, IfSome, IfNone, true, false};
+ghost use Rattle.std.specs.Prelude.{◌≡◌, ◌+◌, ◌≤◌, ◌<◌, ℕ, length, get_or, slice_index, IfOk, IfSome, IfNone};
+ghost use Rattle.std.specs.Prelude.{true, false};
 ghost use Rattle.std.specs.List.Sorted.{IsPermutation};
 ghost use Rattle.elf_headers.specs.declared.header.ProgramHeader.{ProgramHeader};
 ghost use Rattle.elf_headers.specs.Loads.{has_address};
@@ -42,12 +43,14 @@ pub fn find_load(loads: &[ProgramHeader], a: u64) -> Option<usize>
     }
 }
 
-/// The address up to which the loads have all from the first of load `i` on, where `ends` has that of the next.
+/// The address up to which the loads have all from the first of load `i` on, where `ends` has that of the
+/// next.
 fn end_from(loads: &[ProgramHeader], ends: &[u64], i: usize) -> u64
     requires order { AreInOrder loads.now }
     requires number { i < length loads.now }
     requires count { length ends.now ≡ length loads.now }
-    requires next { (d : ProgramHeader) → i + 1 < length loads.now → IsEnd loads.now (get_or loads.now (i + 1) d) (slice_index ends.now (i + 1)) }
+    requires next { (d : ProgramHeader) → i + 1 < length loads.now
+        → IsEnd loads.now (get_or loads.now (i + 1) d) (slice_index ends.now (i + 1)) }
     ensures { (d : ProgramHeader) → IsEnd loads.now (get_or loads.now i d) result }
 {
     let end = loads[i].address + loads[i].memory_size;
@@ -62,7 +65,8 @@ fn end_from(loads: &[ProgramHeader], ends: &[u64], i: usize) -> u64
 fn ends_of(alloc: Global, loads: &[ProgramHeader]) -> Result<Vec<u64>, AllocError>
     requires { AreInOrder loads.now }
     ensures count { IfOk result (λ ends. length ends.items ≡ length loads.now) }
-    ensures ends { IfOk result (λ ends. (k : ℕ) (d : ProgramHeader) → k < length loads.now → IsEnd loads.now (get_or loads.now k d) (slice_index ends.items k)) }
+    ensures ends { IfOk result (λ ends. (k : ℕ) (d : ProgramHeader) → k < length loads.now
+        → IsEnd loads.now (get_or loads.now k d) (slice_index ends.items k)) }
 {
     let mut ends = vec![in alloc; 0; loads.len()]?;
     let mut left = loads.len();

@@ -1,5 +1,6 @@
 //! The words that sections and their marks make code, as spans of words in a row.
-ghost use Rattle.std.specs.Prelude.{◌≡◌, ◌+◌, ◌*◌, ◌≤◌, ◌<◌, ◌^◌, ◌&&◌, ◌||◌, ℕ, All, IfOk, OnOk, length, get_or, nat_le, nat_lt, true, None};
+ghost use Rattle.std.specs.Prelude.{◌≡◌, ◌+◌, ◌*◌, ◌≤◌, ◌<◌, ◌^◌, ◌&&◌, ◌||◌, ℕ, All, IfOk, OnOk, length};
+ghost use Rattle.std.specs.Prelude.{get_or, nat_le, nat_lt, true, None};
 ghost use Rattle.std.specs.List.Sorted.{IsNonDecreasingBy};
 ghost use Rattle.elf_headers.specs.Below.{any_below, first_below};
 ghost use Rattle.elf_headers.specs.Loads.{loads_of};
@@ -38,7 +39,8 @@ fn words_of(s: &SectionHeader) -> Span
 fn push_code(code: bool, start: u64, end: u64, spans: &mut Vec<Span>) -> Result<(), AllocError>
     requires end { end ≤ 2 ^ 45 }
     requires before { AreSpans spans.old.items }
-    ensures words { OnOk result ((n : ℕ) → is_spanned spans.new.items n ≡ (is_spanned spans.old.items n || (code && nat_le start n && nat_lt n end))) }
+    ensures words { OnOk result ((n : ℕ) → is_spanned spans.new.items n
+        ≡ (is_spanned spans.old.items n || (code && nat_le start n && nat_lt n end))) }
     ensures low { OnOk result (AreSpans spans.new.items) }
 {
     if code && start < end {
@@ -53,7 +55,8 @@ fn add_code(words: Span, number: u32, own: &[Mark], spans: &mut Vec<Span>) -> Re
     requires order { IsNonDecreasingBy (λ m. m.value) own.now }
     requires end { words.end ≤ 2 ^ 45 }
     requires before { AreSpans spans.old.items }
-    ensures words { OnOk result ((n : ℕ) → is_spanned spans.new.items n ≡ (is_spanned spans.old.items n || (has_number words n && is_code_at own.now number (4 * n)))) }
+    ensures words { OnOk result ((n : ℕ) → is_spanned spans.new.items n
+        ≡ (is_spanned spans.old.items n || (has_number words n && is_code_at own.now number (4 * n)))) }
     ensures low { OnOk result (AreSpans spans.new.items) }
 {
     let mut start = words.start;
@@ -98,7 +101,8 @@ fn add_section(file: &[u8], i: u32, marks: &[Mark], spans: &mut Vec<Span>) -> Re
     requires order { AreMarksInOrder marks.now }
     requires same { SayTheSame marks.now (marks_of file.now) }
     requires before { AreSpans spans.old.items }
-    ensures words { OnOk result ((n : ℕ) → is_spanned spans.new.items n ≡ (is_spanned spans.old.items n || is_code_in file.now (4 * n) i)) }
+    ensures words { OnOk result ((n : ℕ) → is_spanned spans.new.items n
+        ≡ (is_spanned spans.old.items n || is_code_in file.now (4 * n) i)) }
     ensures low { OnOk result (AreSpans spans.new.items) }
 {
     let s = read_section(file, i);

@@ -1,4 +1,5 @@
-//! The sections of a program file: the checks on the section table, the symbol tables and the code sections, and the code words.
+//! The sections of a program file: the checks on the section table, the symbol tables and the code
+//! sections, and the code words.
 #![tactic(auto)]
 
 mod checks;

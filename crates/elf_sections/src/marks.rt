@@ -2,8 +2,10 @@
 ghost use Rattle.std.specs.Prelude.{◌≡◌, ◌==◌, ◌+◌, ◌*◌, ◌≤◌, ◌<◌, ◌++◌, ℕ, length, true, None, IfOk, OnOk};
 ghost use Rattle.elf_headers.specs.Below.{first_below, answers};
 ghost use Rattle.elf_headers.specs.Header.{number_at};
-ghost use Rattle.elf_sections.specs.Sections.{section_count, section_fault, is_in_file, ends_inside, is_good_table, HasSectionTable};
-ghost use Rattle.elf_sections.specs.Marks.{is_mapping_name, mark_at, table_marks, marks_below, marks_of, HasEnd};
+ghost use Rattle.elf_sections.specs.Sections.{section_count, section_fault, is_in_file, ends_inside};
+ghost use Rattle.elf_sections.specs.Sections.{is_good_table, HasSectionTable};
+ghost use Rattle.elf_sections.specs.Marks.{is_mapping_name, mark_at, table_marks, marks_below, marks_of};
+ghost use Rattle.elf_sections.specs.Marks.{HasEnd};
 ghost use Rattle.elf_sections.specs.MarkOrder.{AreMarksInOrder, SayTheSame};
 
 use crate::section::{SectionHeader, count_sections, read_section, repeats_before};
@@ -87,7 +89,8 @@ fn add_marks(file: &[u8], s: &SectionHeader, marks: &mut Vec<Mark>) -> Result<()
     Ok(())
 }
 
-/// Adds the marks of section number `i`, where it is a symbol table that is not the same as the section before it.
+/// Adds the marks of section number `i`, where it is a symbol table that is not the same as the section
+/// before it.
 fn add_section(file: &[u8], i: u32, marks: &mut Vec<Mark>) -> Result<(), AllocError>
     requires table { HasSectionTable file.now }
     requires number { i < section_count file.now }
@@ -102,7 +105,8 @@ fn add_section(file: &[u8], i: u32, marks: &mut Vec<Mark>) -> Result<(), AllocEr
     add_marks(file, &s, marks)
 }
 
-/// The marks of all symbol tables, in the order of the tables; of equal tables in a row the first alone is read.
+/// The marks of all symbol tables, in the order of the tables; of equal tables in a row the first alone is
+/// read.
 pub fn gather_marks(alloc: Global, file: &[u8]) -> Result<Vec<Mark>, AllocError>
     requires table { HasSectionTable file.now }
     requires checked { first_below (section_fault file.now) (section_count file.now) ≡ None }

@@ -1,7 +1,9 @@
 //! The section table, its headers, and the checks on it and on each section.
 ghost use Rattle.std.specs.Prelude.{◌≡◌, ◌+◌, ◌*◌, ◌≤◌, ◌<◌, length, OnOk, true};
 ghost use Rattle.elf_headers.specs.Fault.{Tells};
-ghost use Rattle.elf_sections.specs.Sections.{section_header, section_of, section_at, section_count, sections_at, section_table_fault, is_symbol_table, is_code_section, has_sections, HasSectionTable};
+ghost use Rattle.elf_sections.specs.Sections.{section_header, section_of, section_at, section_count};
+ghost use Rattle.elf_sections.specs.Sections.{sections_at, section_table_fault, is_symbol_table};
+ghost use Rattle.elf_sections.specs.Sections.{is_code_section, has_sections, HasSectionTable};
 ghost use Rattle.elf_sections.specs.Repeats.{is_same_table, repeats_table};
 
 use elf_headers::{LoadFault, u16_at, u32_at, u64_at};
@@ -40,7 +42,7 @@ pub struct SectionHeader {
 
 impl SectionHeader {
     /// Tells whether the section is a symbol table.
-    pub fn is_symbol_table(&self) -> bool
+    pub(crate) fn is_symbol_table(&self) -> bool
         ensures { result ≡ is_symbol_table self.now }
     {
         self.kind == SHT_SYMTAB
@@ -57,7 +59,7 @@ impl SectionHeader {
     }
 
     /// Tells whether the section has code.
-    pub fn is_code(&self) -> bool
+    pub(crate) fn is_code(&self) -> bool
         ensures { result ≡ is_code_section self.now }
     {
         self.kind == SHT_PROGBITS && self.flags / SHF_EXECINSTR % 2 == 1

@@ -1,6 +1,7 @@
 //! Symbol tables, and the checks on them.
 ghost use Rattle.std.specs.Prelude.{◌≡◌, ◌+◌, ◌*◌, ◌/◌, ◌≤◌, ◌<◌, ◌-◌, ℕ, length, true, nat_lt, ◌&&◌};
-ghost use Rattle.elf_sections.specs.Sections.{is_in_file, ends_inside, has_names, is_good_table, strings_of, section_count, HasSectionTable};
+ghost use Rattle.elf_sections.specs.Sections.{is_in_file, ends_inside, has_names, is_good_table, strings_of};
+ghost use Rattle.elf_sections.specs.Sections.{section_count, HasSectionTable};
 
 use crate::section::{SectionHeader, count_sections, read_section};
 use elf_headers::{u8_at, u32_at};
@@ -20,7 +21,8 @@ pub fn lies_in_file(file: &[u8], s: &SectionHeader) -> bool
         }
 }
 
-/// One past the last zero byte of a string table, or 0 where it has none: a name that begins below it ends inside the table.
+/// One past the last zero byte of a string table, or 0 where it has none: a name that begins below it ends
+/// inside the table.
 fn names_end(file: &[u8], strings: &SectionHeader) -> u64
     requires { is_in_file file.now strings.now ≡ true }
     ensures { (name : ℕ) → ends_inside file.now strings.now name ≡ nat_lt name result }

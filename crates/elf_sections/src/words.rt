@@ -57,7 +57,8 @@ fn has_file_word(s: &ProgramHeader, a: u64) -> bool
     s.address <= a && a + 4 <= s.address + s.file_size
 }
 
-/// The word of the four bytes from an address on; where load number `near` has them in the file, they are read at once.
+/// The word of the four bytes from an address on; where load number `near` has them in the file, they are
+/// read at once.
 pub fn word_at(file: &[u8], loads: &[ProgramHeader], near: usize, a: u64) -> u32
     requires loads { AreLoadsOf file.now loads.now }
     requires low { a < 2 ^ 47 }

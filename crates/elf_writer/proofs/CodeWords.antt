@@ -4,10 +4,10 @@ use Rattle.std.specs.Prelude.{◌&&◌, ◌||◌, nat_le, slice_get}
 use Rattle.std.specs.List.{filter_map, range_with_len}
 use Rattle.std.proofs.lemmas.Bool.Decides.{nat_tests}
 use Rattle.std.proofs.lemmas.List.Elements.{filter_map-append}
-use Rattle.sm_types.specs.declared.object.TheConstants.{TEXT_ADDRESS}
 use Rattle.sm_types.specs.declared.object.Object.{Object}
-use Rattle.sm_types.specs.Objects.{little, text_word, object_word, object_code}
-use Rattle.paged_memory.specs.Memory.{little_number}
+use Rattle.sm_types.specs.Bytes.{little_number as little}
+use Rattle.sm_types.specs.Objects.{text_address, text_word, object_word, object_code}
+use Rattle.sm_types.specs.Bytes.{little_number}
 use Rattle.paged_memory.specs.Image.{or_zero, parts_byte}
 use Rattle.elf_headers.specs.Below.{answers, answers_below, any_below}
 use Rattle.elf_headers.proofs.Below.{answers_below-zero, answers_below-next, answers_below-same}
@@ -81,17 +81,17 @@ word-is text at h =
     (λ i. little_number (or_zero (get-drop text at 0 i) ∷ or_zero (get-drop text at 1 i) ∷ or_zero (get-drop text at 2 i) ∷ or_zero (get-drop text at 3 i) ∷ []))
     ∙ four (drop at text) (length-past text at 4 h)
 
-byte-is : (file : List ℕ) (l : Layout) (text bytes : List ℕ) (marks : List TextMark) → IsFile file l text bytes marks → (a place : ℕ) → a ≡ TEXT_ADDRESS + place → place < length text → loaded_byte file a ≡ or_zero (slice_get text place)
+byte-is : (file : List ℕ) (l : Layout) (text bytes : List ℕ) (marks : List TextMark) → IsFile file l text bytes marks → (a place : ℕ) → a ≡ text_address + place → place < length text → loaded_byte file a ≡ or_zero (slice_get text place)
 byte-is file l text bytes marks is a place e h =
     let some : 0 < l.text_size = omega (arith, is.from, is.before) in
-    let back : a - TEXT_ADDRESS ≡ place = omega arith in
+    let back : a - text_address ≡ place = omega arith in
     ap (λ es. or_zero (parts_byte es a)) (extents_of-is file l text bytes marks is some) ∙ ap or_zero (byte_of_text text bytes a (omega arith) (omega arith)) ∙ ap (λ p. or_zero (slice_get text p)) back
 
-loaded-is : (file : List ℕ) (l : Layout) (text bytes : List ℕ) (marks : List TextMark) → IsFile file l text bytes marks → (at : ℕ) → at + 4 ≤ length text → loaded_word file (TEXT_ADDRESS + at) ≡ text_word text at
+loaded-is : (file : List ℕ) (l : Layout) (text bytes : List ℕ) (marks : List TextMark) → IsFile file l text bytes marks → (at : ℕ) → at + 4 ≤ length text → loaded_word file (text_address + at) ≡ text_word text at
 unfolding loaded_word
 loaded-is file l text bytes marks is at h =
-    (λ i. little_number (byte-is file l text bytes marks is (TEXT_ADDRESS + at) (at + 0) (omega arith) (omega arith) i ∷ byte-is file l text bytes marks is (TEXT_ADDRESS + at + 1) (at + 1) (omega arith) (omega arith) i
-    ∷ byte-is file l text bytes marks is (TEXT_ADDRESS + at + 2) (at + 2) (omega arith) (omega arith) i ∷ byte-is file l text bytes marks is (TEXT_ADDRESS + at + 3) (at + 3) (omega arith) (omega arith) i ∷ []))
+    (λ i. little_number (byte-is file l text bytes marks is (text_address + at) (at + 0) (omega arith) (omega arith) i ∷ byte-is file l text bytes marks is (text_address + at + 1) (at + 1) (omega arith) (omega arith) i
+    ∷ byte-is file l text bytes marks is (text_address + at + 2) (at + 2) (omega arith) (omega arith) i ∷ byte-is file l text bytes marks is (text_address + at + 3) (at + 3) (omega arith) (omega arith) i ∷ []))
     ∙ word-is text at h
 
 -- ---- which words are code
@@ -107,7 +107,7 @@ six_tests test a c d e f = rw (a, c, d, e, f) (alone (test 1))
 no_code : (file : List ℕ) (a i : ℕ) (s : SectionHeader) → section_of file i ≡ s → is_code_section s ≡ false → is_code_in file a i ≡ false
 no_code file a i s e h = ap (λ (x : SectionHeader). is_code_section x && has_word x a && is_code_at (marks_of file) i a) e ∙ rw h refl
 
-text_code : (file : List ℕ) (l : Layout) (text bytes : List ℕ) (marks : List TextMark) → IsFile file l text bytes marks → (a : ℕ) → code.is_code_word file a ≡ (nat_le TEXT_ADDRESS a && nat_le (a + 4) (TEXT_ADDRESS + l.text_size) && is_code_at (map read_mark marks) 1 a)
+text_code : (file : List ℕ) (l : Layout) (text bytes : List ℕ) (marks : List TextMark) → IsFile file l text bytes marks → (a : ℕ) → code.is_code_word file a ≡ (nat_le text_address a && nat_le (a + 4) (text_address + l.text_size) && is_code_at (map read_mark marks) 1 a)
 unfolding code.is_code_word text_section data_section symbols_section strings_section
 text_code file l text bytes marks is a =
     let r : Reads file l = reads file l text bytes marks is in
@@ -128,12 +128,12 @@ no_word file n h = rw h refl
 
 word-outside : (file : List ℕ) (l : Layout) (text bytes : List ℕ) (marks : List TextMark) → IsFile file l text bytes marks → (n : ℕ) → (n < 1048576) ⊎ (1048576 + l.text_size / 4 ≤ n) → code_word file n ≡ None
 word-outside file l text bytes marks is n (inl h) =
-    let t : nat_le TEXT_ADDRESS (4 * n) ≡ false = grind (arith, nat_tests) in
-    no_word file n (text_code file l text bytes marks is (4 * n) ∙ outside (nat_le TEXT_ADDRESS (4 * n)) (nat_le (4 * n + 4) (TEXT_ADDRESS + l.text_size)) (inl t) (is_code_at (map read_mark marks) 1 (4 * n)))
+    let t : nat_le text_address (4 * n) ≡ false = grind (arith, nat_tests) in
+    no_word file n (text_code file l text bytes marks is (4 * n) ∙ outside (nat_le text_address (4 * n)) (nat_le (4 * n + 4) (text_address + l.text_size)) (inl t) (is_code_at (map read_mark marks) 1 (4 * n)))
 word-outside file l text bytes marks is n (inr h) =
-    let far : TEXT_ADDRESS + l.text_size < 4 * n + 4 = omega arith in
-    let t : nat_le (4 * n + 4) (TEXT_ADDRESS + l.text_size) ≡ false = grind (arith, nat_tests) in
-    no_word file n (text_code file l text bytes marks is (4 * n) ∙ outside (nat_le TEXT_ADDRESS (4 * n)) (nat_le (4 * n + 4) (TEXT_ADDRESS + l.text_size)) (inr t) (is_code_at (map read_mark marks) 1 (4 * n)))
+    let far : text_address + l.text_size < 4 * n + 4 = omega arith in
+    let t : nat_le (4 * n + 4) (text_address + l.text_size) ≡ false = grind (arith, nat_tests) in
+    no_word file n (text_code file l text bytes marks is (4 * n) ∙ outside (nat_le text_address (4 * n)) (nat_le (4 * n + 4) (text_address + l.text_size)) (inr t) (is_code_at (map read_mark marks) 1 (4 * n)))
 
 inside : (x y z : Bool) → x ≡ true → y ≡ true → (x && y && z) ≡ z
 inside x y z a b = rw (a, b) refl
@@ -145,16 +145,16 @@ word-by test read a b word code e t r = rw (e, t, r) refl
 word-inside : (o : Object) (file : List ℕ) (l : Layout) → IsFile file l o.text_bytes.items o.data_bytes.items (text_marks o) → (k : ℕ) → k < length o.text_bytes.items / 4 → code_word file (1048576 + k) ≡ object_word o k
 unfolding code_word object_word is_code_word
 word-inside o file l is k h =
-    let at : 4 * (1048576 + k) ≡ TEXT_ADDRESS + 4 * k = omega arith in
-    let t : nat_le TEXT_ADDRESS (TEXT_ADDRESS + 4 * k) ≡ true = grind (arith, nat_tests) in
-    let ends : TEXT_ADDRESS + 4 * k + 4 ≤ TEXT_ADDRESS + l.text_size = omega (arith, is.text_size) in
-    let u : nat_le (TEXT_ADDRESS + 4 * k + 4) (TEXT_ADDRESS + l.text_size) ≡ true = grind (arith, nat_tests) in
-    let is_code : code.is_code_word file (TEXT_ADDRESS + 4 * k) ≡ is_code_word o k =
-    text_code file l o.text_bytes.items o.data_bytes.items (text_marks o) is (TEXT_ADDRESS + 4 * k)
-    ∙ inside (nat_le TEXT_ADDRESS (TEXT_ADDRESS + 4 * k)) (nat_le (TEXT_ADDRESS + 4 * k + 4) (TEXT_ADDRESS + l.text_size)) (is_code_at (map read_mark (text_marks o)) 1 (TEXT_ADDRESS + 4 * k)) t u
+    let at : 4 * (1048576 + k) ≡ text_address + 4 * k = omega arith in
+    let t : nat_le text_address (text_address + 4 * k) ≡ true = grind (arith, nat_tests) in
+    let ends : text_address + 4 * k + 4 ≤ text_address + l.text_size = omega (arith, is.text_size) in
+    let u : nat_le (text_address + 4 * k + 4) (text_address + l.text_size) ≡ true = grind (arith, nat_tests) in
+    let is_code : code.is_code_word file (text_address + 4 * k) ≡ is_code_word o k =
+    text_code file l o.text_bytes.items o.data_bytes.items (text_marks o) is (text_address + 4 * k)
+    ∙ inside (nat_le text_address (text_address + 4 * k)) (nat_le (text_address + 4 * k + 4) (text_address + l.text_size)) (is_code_at (map read_mark (text_marks o)) 1 (text_address + 4 * k)) t u
     ∙ marks_say o k h in
-    let word : loaded_word file (TEXT_ADDRESS + 4 * k) ≡ text_word o.text_bytes.items (4 * k) = loaded-is file l o.text_bytes.items o.data_bytes.items (text_marks o) is (4 * k) (omega arith) in
-    word-by (code.is_code_word file) (loaded_word file) (4 * (1048576 + k)) (TEXT_ADDRESS + 4 * k) (text_word o.text_bytes.items (4 * k)) (is_code_word o k) at is_code word
+    let word : loaded_word file (text_address + 4 * k) ≡ text_word o.text_bytes.items (4 * k) = loaded-is file l o.text_bytes.items o.data_bytes.items (text_marks o) is (4 * k) (omega arith) in
+    word-by (code.is_code_word file) (loaded_word file) (4 * (1048576 + k)) (text_address + 4 * k) (text_word o.text_bytes.items (4 * k)) (is_code_word o k) at is_code word
 
 has_table : (file : List ℕ) (l : Layout) → Reads file l → has_sections file ≡ true
 has_table file l r = rw (sections_at-is file l r) refl

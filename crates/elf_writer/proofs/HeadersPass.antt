@@ -2,9 +2,8 @@
 use Rattle.std.proofs.Common.{◌≡◌, ℕ, ◌+◌, ◌-◌, ◌*◌, ◌%◌, ◌^◌, ◌<◌, ◌≤◌, ◌⊎◌, inl, inr, Bool, true, false, List, [], ◌∷◌, length, Option, None, refl, ap, sym, subst, ◌∙◌, arith}
 use Rattle.std.specs.Prelude.{◌==◌, ◌&&◌, cond, nat_lt, nat_le}
 use Rattle.std.proofs.lemmas.Bool.Decides.{nat_tests}
-use Rattle.sm_types.specs.declared.object.TheConstants.{TEXT_ADDRESS}
-use Rattle.sm_types.specs.Objects.{data_address}
-use Rattle.paged_memory.specs.Memory.{or_else}
+use Rattle.sm_types.specs.Objects.{text_address, data_address}
+use Rattle.std.specs.Option.{option_or as or_else}
 use Rattle.paged_memory.specs.Parts.{touched_below}
 use Rattle.elf_headers.specs.declared.fault.LoadFault.{LoadFault}
 use Rattle.elf_headers.specs.declared.header.ProgramHeader.{ProgramHeader}
@@ -120,14 +119,14 @@ segments_pass file l m r s =
 
 -- ---- the program headers together
 
-data_past : (l : Layout) → TEXT_ADDRESS + l.text_size ≤ data_address l.text_size
+data_past : (l : Layout) → text_address + l.text_size ≤ data_address l.text_size
 data_past l = omega arith
 
 not_shared : (l : Layout) → share (text_segment l) (full_data_segment l) ≡ false
 unfolding text_segment
 not_shared l =
-    let a : nat_lt (data_address l.text_size) (TEXT_ADDRESS + l.text_size) ≡ false = grind (arith, nat_tests, data_past l) in
-    and_false (nat_lt TEXT_ADDRESS (data_address l.text_size + l.data_size)) (nat_lt (data_address l.text_size) (TEXT_ADDRESS + l.text_size)) a
+    let a : nat_lt (data_address l.text_size) (text_address + l.text_size) ≡ false = grind (arith, nat_tests, data_past l) in
+    and_false (nat_lt text_address (data_address l.text_size + l.data_size)) (nat_lt (data_address l.text_size) (text_address + l.text_size)) a
 
 overlap_none : (file : List ℕ) (i j : ℕ) → (nat_lt i j ≡ false) ⊎ (share (segment_of file i) (segment_of file j) ≡ false) → overlap_at file i j ≡ None
 unfolding overlap_at
@@ -169,11 +168,11 @@ pages_pass file l text bytes marks is some =
 entry_word : (x : ℕ) → x % 4 ≡ 0 → (x % 4 == 0) ≡ true
 entry_word x h = rw h refl
 
-text_executable : (l : Layout) (a : ℕ) → TEXT_ADDRESS ≤ a → a < TEXT_ADDRESS + l.text_size → 0 < l.text_size → (is_load (text_segment l) && has_executable (text_segment l) a) ≡ true
+text_executable : (l : Layout) (a : ℕ) → text_address ≤ a → a < text_address + l.text_size → 0 < l.text_size → (is_load (text_segment l) && has_executable (text_segment l) a) ≡ true
 unfolding text_segment
 text_executable l a from before some =
-    let u : nat_le TEXT_ADDRESS a ≡ true = grind (arith, nat_tests) in
-    let v : nat_lt a (TEXT_ADDRESS + l.text_size) ≡ true = grind (arith, nat_tests) in
+    let u : nat_le text_address a ≡ true = grind (arith, nat_tests) in
+    let v : nat_lt a (text_address + l.text_size) ≡ true = grind (arith, nat_tests) in
     rw (text-is_load l some, u, v) refl
 
 entry_passes : (file : List ℕ) (l : Layout) (text bytes : List ℕ) (marks : List TextMark) → IsFile file l text bytes marks → 0 < l.text_size → entry_fault file ≡ None

@@ -2,8 +2,7 @@
 use Rattle.std.proofs.Common.{◌≡◌, ℕ, ◌<◌, ◌⊎◌, inl, Bool, true, false, List, [], ◌∷◌, length, map, Option, Some, None, refl, ap, sym, ◌∙◌, arith}
 use Rattle.std.specs.Prelude.{◌==◌, cond}
 use Rattle.std.proofs.lemmas.Bool.Decides.{nat_tests}
-use Rattle.sm_types.specs.declared.object.TheConstants.{TEXT_ADDRESS}
-use Rattle.sm_types.specs.Objects.{data_address}
+use Rattle.sm_types.specs.Objects.{text_address, data_address}
 use Rattle.paged_memory.specs.Image.{Extent}
 use Rattle.elf_headers.specs.declared.header.ProgramHeader.{ProgramHeader}
 use Rattle.elf_headers.specs.Below.{answers_below}
@@ -18,7 +17,7 @@ use Rattle.elf_writer.proofs.Headers.{segment_count-is, segment_of-text, segment
 -- ---- the parts in memory
 
 abbrev pub text_image : List ℕ → Extent
-text_image text = record { address = TEXT_ADDRESS; size = length text; flags = 5; bytes = text }
+text_image text = record { address = text_address; size = length text; flags = 5; bytes = text }
 
 abbrev pub data_image : List ℕ → List ℕ → Extent
 data_image text bytes = record { address = data_address (length text); size = length bytes; flags = 6; bytes = bytes }
@@ -77,7 +76,7 @@ loads_of-is file l s r h = ap (answers_below (load_of file)) (segment_count-is f
 
 extent-text : (file : List ℕ) (l : Layout) (text bytes : List ℕ) (marks : List TextMark) → IsFile file l text bytes marks → extent_of_load file (text_segment l) ≡ text_image text
 unfolding extent_of_load text_segment
-extent-text file l text bytes marks is = λ i. record { address = TEXT_ADDRESS; size = sym is.text_size i; flags = 5; bytes = text-bytes file l text bytes marks is i }
+extent-text file l text bytes marks is = λ i. record { address = text_address; size = sym is.text_size i; flags = 5; bytes = text-bytes file l text bytes marks is i }
 
 extent-data : (file : List ℕ) (l : Layout) (text bytes : List ℕ) (marks : List TextMark) → IsFile file l text bytes marks → extent_of_load file (full_data_segment l) ≡ data_image text bytes
 unfolding extent_of_load

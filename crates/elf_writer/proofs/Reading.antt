@@ -1,6 +1,6 @@
 -- What stands at which place of a file that was written.
+use Rattle.sm_types.specs.Objects.{text_address}
 use Rattle.std.proofs.Common.{◌≡◌, ℕ, zero, suc, ◌+◌, ◌-◌, ◌*◌, ◌%◌, ◌^◌, ◌<◌, ◌≤◌, List, [], ◌∷◌, ◌++◌, length, take, drop, replicate, All, refl, ap, sym, ◌∙◌, arith, append_assoc, length-append}
-use Rattle.sm_types.specs.declared.object.TheConstants.{TEXT_ADDRESS}
 use Rattle.byteorder.specs.Endian.{little_bytes}
 use Rattle.byteorder.specs.Numbers.{length-bytes_low_first}
 use Rattle.elf_headers.specs.Header.{number_at}
@@ -19,8 +19,8 @@ pub record IsFile (file : List ℕ) (l : Layout) (text data_bytes : List ℕ) (m
   pub count : l.symbol_count ≡ suc (length marks)
   pub small : IsSmall l
   pub aligned : l.entry % 4 ≡ 0
-  pub from : TEXT_ADDRESS ≤ l.entry
-  pub before : l.entry < TEXT_ADDRESS + l.text_size
+  pub from : text_address ≤ l.entry
+  pub before : l.entry < text_address + l.text_size
   pub addresses : All (λ m. m.address < 2 ^ 64) marks
 
 -- ---- places

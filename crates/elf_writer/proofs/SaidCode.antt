@@ -7,7 +7,8 @@ use Rattle.sm_types.specs.declared.object.Object.{Object}
 use Rattle.elf_headers.specs.Below.{answers, answers_below}
 use Rattle.elf_headers.proofs.Below.{All-answers_below}
 use Rattle.elf_sections.specs.declared.marks.Mark.{Mark}
-use Rattle.elf_sections.specs.Marks.{later, governing, says_code, is_code_at}
+use Rattle.elf_sections.specs.Marks.{is_code_at}
+use Rattle.elf_sections.proofs.Governing.{later, governing, says_code, code_at}
 use Rattle.elf_writer.specs.declared.marks.TextMark.{TextMark}
 use Rattle.elf_writer.specs.TextMarks.{word_address, begins, said_before, mark_at, is_code_word, text_marks}
 use Rattle.elf_writer.proofs.Symbols.{read_mark}
@@ -103,10 +104,11 @@ says_so (Some m) code limit s = s.0
 
 -- the marks of the words below the count say of word n its code
 said_all : (code : ℕ → Bool) (n count : ℕ) → n < count → is_code_at (map read_mark (answers_below (mark_at code) count)) 1 (word_address n) ≡ code n
-unfolding is_code_at found
+unfolding found
 said_all code n count h =
     let e : count ≡ suc n + (count - suc n) = omega arith in
-    ap (λ c. says_code (found code (word_address n) c)) e ∙ ap says_code (found-past code (word_address n) n (count - suc n) (omega arith))
+    code_at (map read_mark (answers_below (mark_at code) count)) 1 (word_address n)
+    ∙ ap (λ c. says_code (found code (word_address n) c)) e ∙ ap says_code (found-past code (word_address n) n (count - suc n) (omega arith))
     ∙ says_so (found code (word_address n) (suc n)) (code n) (word_address n) (said code (word_address n) n (omega arith))
 
 pub marks_say : (o : Object) (n : ℕ) → n < length o.text_bytes.items / 4 → is_code_at (map read_mark (text_marks o)) 1 (word_address n) ≡ is_code_word o n

@@ -1,14 +1,15 @@
 -- The sections of a file that was written pass all checks.
+use Rattle.sm_types.specs.Objects.{text_address}
 use Rattle.std.proofs.Common.{◌≡◌, ℕ, zero, suc, ◌+◌, ◌-◌, ◌*◌, ◌/◌, ◌<◌, ◌≤◌, ◌⊎◌, inl, inr, Bool, true, false, List, [], ◌∷◌, length, get_or, Option, Some, None, refl, ap, ◌∙◌, arith}
 use Rattle.std.specs.Prelude.{◌==◌, ◌&&◌, ◌||◌, not, cond, nat_lt, nat_le, is_some, slice_get}
 use Rattle.std.proofs.lemmas.Bool.Decides.{nat_tests}
-use Rattle.sm_types.specs.declared.object.TheConstants.{TEXT_ADDRESS}
-use Rattle.paged_memory.specs.Memory.{or_else}
+use Rattle.std.specs.Option.{option_or as or_else}
 use Rattle.paged_memory.specs.Image.{or_zero, parts_byte}
 use Rattle.elf_headers.specs.declared.fault.LoadFault.{LoadFault}
 use Rattle.elf_headers.specs.declared.fault.LoadFault.TheVariants.{BadTable}
 use Rattle.elf_headers.specs.Below.{first_below}
-use Rattle.elf_headers.specs.Fault.{fault_when, fault_only, first_fault}
+use Rattle.sm_types.specs.Checks.{first_fault}
+use Rattle.elf_headers.specs.Fault.{fault_when, fault_only}
 use Rattle.elf_headers.specs.Header.{number_at}
 use Rattle.elf_headers.proofs.Below.{any_below-found, all_below-all}
 use Rattle.elf_sections.specs.declared.section.SectionHeader.{SectionHeader}
@@ -32,20 +33,20 @@ table_passes file l r s =
 
 -- ---- a byte of the text
 
-pub byte_of_text : (text bytes : List ℕ) (a : ℕ) → TEXT_ADDRESS ≤ a → a < TEXT_ADDRESS + length text → parts_byte (images text bytes) a ≡ Some (or_zero (slice_get text (a - TEXT_ADDRESS)))
+pub byte_of_text : (text bytes : List ℕ) (a : ℕ) → text_address ≤ a → a < text_address + length text → parts_byte (images text bytes) a ≡ Some (or_zero (slice_get text (a - text_address)))
 unfolding parts_byte
 byte_of_text text bytes a from before =
-    let u : nat_le TEXT_ADDRESS a ≡ true = grind (arith, nat_tests) in
-    let v : nat_lt a (TEXT_ADDRESS + length text) ≡ true = grind (arith, nat_tests) in
+    let u : nat_le text_address a ≡ true = grind (arith, nat_tests) in
+    let v : nat_lt a (text_address + length text) ≡ true = grind (arith, nat_tests) in
     rw (u, v) refl
 
 text_loaded : (file : List ℕ) (l : Layout) (text bytes : List ℕ) (marks : List TextMark) → IsFile file l text bytes marks → is_all_loaded file (text_section l) ≡ true
 unfolding is_all_loaded text_section
 text_loaded file l text bytes marks is =
     let some : 0 < l.text_size = omega (arith, is.from, is.before) in
-    all_below-all (λ k. is_loaded file (TEXT_ADDRESS + k)) l.text_size (λ k h.
-    ap (λ es. is_some (parts_byte es (TEXT_ADDRESS + k))) (extents_of-is file l text bytes marks is some)
-    ∙ ap is_some (byte_of_text text bytes (TEXT_ADDRESS + k) (omega arith) (omega (arith, is.text_size))))
+    all_below-all (λ k. is_loaded file (text_address + k)) l.text_size (λ k h.
+    ap (λ es. is_some (parts_byte es (text_address + k))) (extents_of-is file l text bytes marks is some)
+    ∙ ap is_some (byte_of_text text bytes (text_address + k) (omega arith) (omega (arith, is.text_size))))
 
 -- ---- the symbol table
 
@@ -103,17 +104,17 @@ check_none : (t g c k : Bool) (fault : LoadFault) → (t ≡ false) ⊎ (g ≡ t
 check_none t g c k fault (inl a) (inl b) = rw (a, b) refl
 check_none t g c k fault (inl a) (inr b) = rw (a, b) (whatever c)
   where
-    whatever : (c : Bool) → or_else {A = LoadFault} (fault_only c None) None ≡ None
+    whatever : (c : Bool) → or_else {T = LoadFault} (fault_only c None) None ≡ None
     whatever true = refl
     whatever false = refl
 check_none t g c k fault (inr a) (inl b) = rw (a, b) (whatever t)
   where
-    whatever : (c : Bool) → or_else {A = LoadFault} (fault_only c None) None ≡ None
+    whatever : (c : Bool) → or_else {T = LoadFault} (fault_only c None) None ≡ None
     whatever true = refl
     whatever false = refl
 check_none t g c k fault (inr a) (inr b) = rw (a, b) (whatever t c)
   where
-    whatever : (t c : Bool) → or_else {A = LoadFault} (fault_only t None) (or_else (fault_only c None) None) ≡ None
+    whatever : (t c : Bool) → or_else {T = LoadFault} (fault_only t None) (or_else (fault_only c None) None) ≡ None
     whatever true true = refl
     whatever true false = refl
     whatever false true = refl

@@ -1,5 +1,6 @@
 -- The file of an object.
--- Source: ELF-64 Object File Format, Elf64_Sym; ELF for the Arm 64-bit Architecture (AArch64), mapping symbols; the places are this project's own.
+-- Source: ELF-64 Object File Format, Elf64_Sym; ELF for the Arm 64-bit Architecture (AArch64), mapping
+-- symbols; the places are this project's own.
 use Rattle.std.specs.Prelude.{ℕ, suc, ◌+◌, ◌-◌, cond, List, [], ◌∷◌, ◌++◌, length, replicate, codes}
 use Rattle.sm_types.specs.declared.object.Object.{Object}
 use Rattle.elf_writer.specs.declared.layout.Layout.{Layout}
@@ -13,7 +14,9 @@ symbol_names = 0 ∷ (codes "$x" ++ (0 ∷ (codes "$d" ++ (0 ∷ []))))
 
 -- the names of the sections, each ended by a zero byte, after that of the null section
 abbrev pub section_names : List ℕ
-section_names = 0 ∷ (codes ".text" ++ (0 ∷ (codes ".data" ++ (0 ∷ (codes ".symtab" ++ (0 ∷ (codes ".strtab" ++ (0 ∷ (codes ".shstrtab" ++ (0 ∷ []))))))))))
+section_names =
+    0 ∷ (codes ".text" ++ (0 ∷ (codes ".data"
+    ++ (0 ∷ (codes ".symtab" ++ (0 ∷ (codes ".strtab" ++ (0 ∷ (codes ".shstrtab" ++ (0 ∷ []))))))))))
 
 -- a local symbol of section 1 without a type: `$x` stands at 1 in the string table, `$d` at 4
 unfoldable pub symbol_fields : TextMark → List (ℕ × ℕ)
@@ -42,11 +45,18 @@ data_part l data_bytes = data_bytes ++ replicate (symbols_place l - (data_place 
 
 -- the parts of the file
 unfoldable pub file_bytes : Layout → List ℕ → List ℕ → List TextMark → List ℕ
-file_bytes l text data_bytes marks = front_bytes l ++ (text_part l text ++ (data_part l data_bytes ++ symbols_bytes marks))
+file_bytes l text data_bytes marks =
+    front_bytes l ++ (text_part l text ++ (data_part l data_bytes ++ symbols_bytes marks))
 
 -- the sizes of an object's parts
 unfoldable pub layout_of : Object → List TextMark → Layout
-layout_of o marks = record { entry = o.entry; text_size = length o.text_bytes.items; data_size = length o.data_bytes.items; symbol_count = suc (length marks) }
+layout_of o marks =
+    record {
+      entry = o.entry;
+      text_size = length o.text_bytes.items;
+      data_size = length o.data_bytes.items;
+      symbol_count = suc (length marks);
+    }
 
 -- the file of an object
 unfoldable pub file_of : Object → List ℕ

@@ -1,9 +1,10 @@
 -- The headers of a file that is written: its own, its program headers and its section headers.
--- Source: ELF-64 Object File Format, the tables of Elf64_Ehdr, Elf64_Phdr and Elf64_Shdr; the places are this project's own.
-use Rattle.std.specs.Prelude.{ℕ, ◌+◌, ◌*◌, ◌/◌, ◌≤◌, ◌<◌, ◌^◌, Bool, true, cond, List, [], ◌∷◌, ◌++◌, ◌==◌, ◌&&◌, nat_le}
+-- Source: ELF-64 Object File Format, the tables of Elf64_Ehdr, Elf64_Phdr and Elf64_Shdr; the places are
+-- this project's own.
+use Rattle.std.specs.Prelude.{ℕ, ◌+◌, ◌*◌, ◌/◌, ◌≤◌, ◌<◌, ◌^◌, Bool, true, cond, List, [], ◌∷◌, ◌++◌, ◌==◌}
+use Rattle.std.specs.Prelude.{◌&&◌, nat_le}
 use Rattle.byteorder.specs.Endian.{little_bytes}
-use Rattle.sm_types.specs.declared.object.TheConstants.{TEXT_ADDRESS}
-use Rattle.sm_types.specs.Objects.{data_address, page_after}
+use Rattle.sm_types.specs.Objects.{text_address, data_address, page_after}
 use Rattle.elf_headers.specs.declared.header.ProgramHeader.{ProgramHeader}
 use Rattle.elf_sections.specs.declared.section.SectionHeader.{SectionHeader}
 use Rattle.elf_writer.specs.declared.layout.Layout.{Layout}
@@ -39,7 +40,8 @@ data_place l = page_after (text_place + l.text_size)
 unfoldable pub symbols_place : Layout → ℕ
 symbols_place l = (data_place l + l.data_size + 7) / 8 * 8
 
--- at most 4 MiB of text and as much data; the symbols are at most one for each word of the text, and the null symbol
+-- at most 4 MiB of text and as much data; the symbols are at most one for each word of the text, and the
+-- null symbol
 pub record IsSmall (l : Layout) : Type 0 where
   pub text : l.text_size ≤ 4194304
   pub data_bytes : l.data_size ≤ 4194304
@@ -53,10 +55,26 @@ load_count l = cond (l.data_size == 0) 1 2
 -- ---- the loads
 
 unfoldable pub text_segment : Layout → ProgramHeader
-text_segment l = record { kind = 1; flags = 5; offset = text_place; address = TEXT_ADDRESS; file_size = l.text_size; memory_size = l.text_size }
+text_segment l =
+    record {
+      kind = 1;
+      flags = 5;
+      offset = text_place;
+      address = text_address;
+      file_size = l.text_size;
+      memory_size = l.text_size;
+    }
 
 abbrev pub full_data_segment : Layout → ProgramHeader
-full_data_segment l = record { kind = 1; flags = 6; offset = data_place l; address = data_address l.text_size; file_size = l.data_size; memory_size = l.data_size }
+full_data_segment l =
+    record {
+      kind = 1;
+      flags = 6;
+      offset = data_place l;
+      address = data_address l.text_size;
+      file_size = l.data_size;
+      memory_size = l.data_size;
+    }
 
 abbrev pub no_segment : ProgramHeader
 no_segment = record { kind = 0; flags = 0; offset = 0; address = 0; file_size = 0; memory_size = 0 }
@@ -76,19 +94,48 @@ no_section = record { kind = 0; flags = 0; address = 0; offset = 0; size = 0; li
 
 -- SHT_PROGBITS with SHF_ALLOC and SHF_EXECINSTR
 unfoldable pub text_section : Layout → SectionHeader
-text_section l = record { kind = 1; flags = 6; address = TEXT_ADDRESS; offset = text_place; size = l.text_size; link = 0; entry_size = 0 }
+text_section l =
+    record {
+      kind = 1;
+      flags = 6;
+      address = text_address;
+      offset = text_place;
+      size = l.text_size;
+      link = 0;
+      entry_size = 0;
+    }
 
 -- SHT_PROGBITS with SHF_WRITE and SHF_ALLOC
 unfoldable pub data_section : Layout → SectionHeader
-data_section l = record { kind = 1; flags = 3; address = data_address l.text_size; offset = data_place l; size = l.data_size; link = 0; entry_size = 0 }
+data_section l =
+    record {
+      kind = 1;
+      flags = 3;
+      address = data_address l.text_size;
+      offset = data_place l;
+      size = l.data_size;
+      link = 0;
+      entry_size = 0;
+    }
 
 -- SHT_SYMTAB, with its strings in section number 4
 unfoldable pub symbols_section : Layout → SectionHeader
-symbols_section l = record { kind = 2; flags = 0; address = 0; offset = symbols_place l; size = 24 * l.symbol_count; link = 4; entry_size = 24 }
+symbols_section l =
+    record {
+      kind = 2;
+      flags = 0;
+      address = 0;
+      offset = symbols_place l;
+      size = 24
+          * l.symbol_count;
+      link = 4;
+      entry_size = 24;
+    }
 
 -- SHT_STRTAB
 unfoldable pub strings_section : ℕ → ℕ → SectionHeader
-strings_section place size = record { kind = 3; flags = 0; address = 0; offset = place; size = size; link = 0; entry_size = 0 }
+strings_section place size =
+    record { kind = 3; flags = 0; address = 0; offset = place; size = size; link = 0; entry_size = 0 }
 
 -- ---- the fields
 
@@ -103,13 +150,15 @@ header_fields l =
 -- p_type, p_flags, p_offset, p_vaddr, p_paddr, p_filesz, p_memsz, p_align
 unfoldable pub segment_fields : ProgramHeader → List (ℕ × ℕ)
 segment_fields s =
-    (4, s.kind) ∷ (4, s.flags) ∷ (8, s.offset) ∷ (8, s.address) ∷ (8, s.address) ∷ (8, s.file_size) ∷ (8, s.memory_size) ∷ (8, segment_align s)
+    (4, s.kind) ∷ (4, s.flags) ∷ (8, s.offset) ∷ (8, s.address) ∷ (8, s.address) ∷ (8, s.file_size)
+    ∷ (8, s.memory_size) ∷ (8, segment_align s)
     ∷ []
 
 -- sh_name, sh_type, sh_flags, sh_addr, sh_offset, sh_size, sh_link, sh_info, sh_addralign, sh_entsize
 unfoldable pub section_fields : ℕ → SectionHeader → ℕ → ℕ → List (ℕ × ℕ)
 section_fields name s info align =
-    (4, name) ∷ (4, s.kind) ∷ (8, s.flags) ∷ (8, s.address) ∷ (8, s.offset) ∷ (8, s.size) ∷ (4, s.link) ∷ (4, info) ∷ (8, align) ∷ (8, s.entry_size)
+    (4, name) ∷ (4, s.kind) ∷ (8, s.flags) ∷ (8, s.address) ∷ (8, s.offset) ∷ (8, s.size) ∷ (4, s.link)
+    ∷ (4, info) ∷ (8, align) ∷ (8, s.entry_size)
     ∷ []
 
 -- the program headers
@@ -118,13 +167,16 @@ segments_fields l = segment_fields (text_segment l) ++ segment_fields (data_segm
 
 -- the section headers of the object's parts: none, .text and .data
 unfoldable pub part_sections_fields : Layout → List (ℕ × ℕ)
-part_sections_fields l = section_fields 0 no_section 0 0 ++ (section_fields 1 (text_section l) 0 4 ++ section_fields 7 (data_section l) 0 8)
+part_sections_fields l =
+    section_fields 0 no_section 0 0 ++ (section_fields 1 (text_section l) 0 4
+    ++ section_fields 7 (data_section l) 0 8)
 
 -- the section headers of the tables: .symtab with all its symbols local, .strtab and .shstrtab
 unfoldable pub table_sections_fields : Layout → List (ℕ × ℕ)
 table_sections_fields l =
     section_fields 13 (symbols_section l) l.symbol_count 8
-    ++ (section_fields 21 (strings_section strings_place 7) 0 1 ++ section_fields 29 (strings_section names_place 39) 0 1)
+    ++ (section_fields 21 (strings_section strings_place 7) 0 1
+    ++ section_fields 29 (strings_section names_place 39) 0 1)
 
 -- all header fields
 unfoldable pub all_fields : Layout → List (ℕ × ℕ)

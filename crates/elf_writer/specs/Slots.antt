@@ -1,9 +1,10 @@
--- How the marks of a text are found: each mapping symbol is kept at the first word that it is for, and what a word's own does not say was said before.
+-- How the marks of a text are found: each mapping symbol is kept at the first word that it is for, and what
+-- a word's own does not say was said before.
 -- Source: ELF for the Arm 64-bit Architecture (AArch64), mapping symbols `$x` and `$d`.
-use Rattle.std.specs.Prelude.{◌≡◌, ℕ, zero, suc, ◌+◌, ◌-◌, ◌/◌, ◌<◌, Bool, true, cond, List, [], ◌∷◌, length, get_or, Option, Some, None, ◌==◌, nat_le}
-use Rattle.sm_types.specs.declared.object.TheConstants.{TEXT_ADDRESS}
+use Rattle.std.specs.Prelude.{◌≡◌, ℕ, zero, suc, ◌+◌, ◌-◌, ◌/◌, ◌<◌, Bool, true, cond, List, [], ◌∷◌, length}
+use Rattle.std.specs.Prelude.{get_or, Option, Some, None, ◌==◌, nat_le}
 use Rattle.sm_types.specs.declared.object.Symbol.{Symbol}
-use Rattle.sm_types.specs.Objects.{Mapping, mappings_of}
+use Rattle.sm_types.specs.Objects.{text_address, Mapping, mappings_of}
 use Rattle.elf_writer.specs.declared.marks.TextMark.{TextMark}
 
 -- a mark as a mapping symbol
@@ -16,31 +17,37 @@ mapping_if (Some m) = Some (mapping m)
 
 -- the first word that begins at an address or past it
 abbrev pub word_from : ℕ → ℕ
-word_from address = (address - TEXT_ADDRESS + 3) / 4
+word_from address = (address - text_address + 3) / 4
 
--- of one mapping symbol and a later one for the same word, that which says what stands there: the one of the greater address, and of
--- equal ones the later
+-- of one mapping symbol and a later one for the same word, that which says what stands there: the one of
+-- the greater address, and of equal ones the later
 abbrev pub newer : Option Mapping → Mapping → Mapping
 newer None m = m
 newer (Some best) m = cond (nat_le best.address m.address) m best
 
--- of one mapping symbol and later ones, that which says what stands at word number n, among those past the word before
+-- of one mapping symbol and later ones, that which says what stands at word number n, among those past the
+-- word before
 abbrev pub kept_at : ℕ → Option Mapping → List Mapping → Option Mapping
 kept_at n best [] = best
 kept_at n best (m ∷ ms) = kept_at n (cond (word_from m.address == n) (Some (newer best m)) best) ms
 
 -- each word has the mark that it is the first for, of all mapping symbols but the rest
 abbrev pub AreSlots : List (Option TextMark) → List Mapping → List Mapping → Type 0
-AreSlots slots rest all = (n : ℕ) → n < length slots → kept_at n (mapping_if (get_or slots n None)) rest ≡ kept_at n None all
+AreSlots slots rest all =
+    (n : ℕ) → n < length slots → kept_at n (mapping_if (get_or slots n None)) rest ≡ kept_at n None all
 
 -- the mark is kept at the first word that it is for, unless that has a newer one
 abbrev pub KeepsMark : List (Option TextMark) → List (Option TextMark) → Mapping → Type 0
 KeepsMark old new m =
-    (n : ℕ) → n < length old → mapping_if (get_or new n None) ≡ cond (word_from m.address == n) (Some (newer (mapping_if (get_or old n None)) m)) (mapping_if (get_or old n None))
+    (n : ℕ) → n < length old → mapping_if (get_or new n None)
+    ≡ cond (word_from m.address == n) (Some (newer (mapping_if (get_or old n None)) m))
+    (mapping_if (get_or old n None))
 
 -- the symbol's mark is kept, if it has one: the rest is one symbol less
 abbrev pub KeepsSymbol : List (Option TextMark) → List (Option TextMark) → Symbol → Type 0
-KeepsSymbol old new s = (rest : List Symbol) (all : List Mapping) → AreSlots old (mappings_of (s ∷ rest)) all → AreSlots new (mappings_of rest) all
+KeepsSymbol old new s =
+    (rest : List Symbol) (all : List Mapping) → AreSlots old (mappings_of (s ∷ rest)) all
+    → AreSlots new (mappings_of rest) all
 
 -- what a word's own mark says, else what was said before, else that it is code
 abbrev pub says_word : Option Bool → Option TextMark → Bool

@@ -1,15 +1,15 @@
 -- The mapping symbols that are written of an object's text: as few as say which of its words are code.
 -- Source: ELF for the Arm 64-bit Architecture (AArch64), mapping symbols `$x` and `$d`.
-use Rattle.std.specs.Prelude.{ℕ, zero, suc, ◌+◌, ◌*◌, ◌/◌, Bool, true, cond, not, List, length, Option, Some, None}
-use Rattle.sm_types.specs.declared.object.TheConstants.{TEXT_ADDRESS}
+use Rattle.std.specs.Prelude.{ℕ, zero, suc, ◌+◌, ◌*◌, ◌/◌, Bool, true, cond, not, List, length, Option, Some}
+use Rattle.std.specs.Prelude.{None}
 use Rattle.sm_types.specs.declared.object.Object.{Object}
-use Rattle.sm_types.specs.Objects.{mappings_of, is_text_code}
+use Rattle.sm_types.specs.Objects.{text_address, mappings_of, is_text_code}
 use Rattle.elf_headers.specs.Below.{answers_below}
 use Rattle.elf_writer.specs.declared.marks.TextMark.{TextMark}
 
 -- the address of word number n of the text
 abbrev pub word_address : ℕ → ℕ
-word_address n = TEXT_ADDRESS + 4 * n
+word_address n = text_address + 4 * n
 
 -- word number n of the text begins with code
 unfoldable pub is_code_word : Object → ℕ → Bool
@@ -27,7 +27,9 @@ said_before code (suc n) = Some (code n)
 
 -- the mark of word number n, where one is written
 unfoldable pub mark_at : (ℕ → Bool) → ℕ → Option TextMark
-mark_at code n = cond (begins (said_before code n) (code n)) (Some (record { address = word_address n; code = code n })) None
+mark_at code n =
+    cond (begins (said_before code n) (code n)) (Some (record { address = word_address n; code = code n }))
+    None
 
 -- the marks that are written of an object
 unfoldable pub text_marks : Object → List TextMark

@@ -1,7 +1,8 @@
 //! The file of an object.
 ghost use Rattle.std.specs.Prelude.{◌≡◌, ◌≤◌, ◌++◌, suc, length, replicate, IfOk, OnOk};
 ghost use Rattle.elf_writer.specs.Layout.{fields_bytes, IsSmall};
-ghost use Rattle.elf_writer.specs.File.{symbol_fields, marks_bytes, symbols_bytes, front_bytes, text_part, data_part, file_bytes, file_of};
+ghost use Rattle.elf_writer.specs.File.{symbol_fields, marks_bytes, symbols_bytes, front_bytes, text_part};
+ghost use Rattle.elf_writer.specs.File.{data_part, file_bytes, file_of};
 
 use crate::layout::{Layout, TEXT_PLACE, put_fields, put_headers};
 use crate::marks::{TextMark, text_marks};
@@ -97,7 +98,8 @@ fn put_file(
     marks: &[TextMark],
 ) -> Result<(), AllocError>
     requires { IsSmall layout.now }
-    ensures { OnOk result (out.new.items ≡ out.old.items ++ file_bytes layout.now object.now.text_bytes.items object.now.data_bytes.items marks.now) }
+    ensures { OnOk result (out.new.items ≡ out.old.items
+        ++ file_bytes layout.now object.now.text_bytes.items object.now.data_bytes.items marks.now) }
 {
     put_front(out, layout)?;
     put_text(out, layout, object.text_bytes.as_slice())?;

@@ -2,7 +2,11 @@
 ghost use Rattle.std.specs.Prelude.{◌≡◌, ◌+◌, ◌*◌, ◌≤◌, ◌++◌, true, OnOk};
 ghost use Rattle.byteorder.specs.Endian.{little_bytes};
 ghost use Rattle.sm_types.specs.Objects.{page_after, data_address};
-ghost use Rattle.elf_writer.specs.Layout.{are_narrow, fields_bytes, data_place, symbols_place, load_count, text_segment, data_segment, segment_align, text_section, data_section, symbols_section, strings_section, header_fields, segment_fields, section_fields, segments_fields, part_sections_fields, table_sections_fields, all_fields, IsSmall};
+ghost use Rattle.elf_writer.specs.Layout.{are_narrow, fields_bytes, data_place, symbols_place, load_count};
+ghost use Rattle.elf_writer.specs.Layout.{text_segment, data_segment, segment_align, text_section};
+ghost use Rattle.elf_writer.specs.Layout.{data_section, symbols_section, strings_section, header_fields};
+ghost use Rattle.elf_writer.specs.Layout.{segment_fields, section_fields, segments_fields};
+ghost use Rattle.elf_writer.specs.Layout.{part_sections_fields, table_sections_fields, all_fields, IsSmall};
 
 use elf_headers::ProgramHeader;
 use elf_sections::SectionHeader;
@@ -277,7 +281,8 @@ fn put_section(
     info: u64,
     align: u64,
 ) -> Result<(), AllocError>
-    ensures { OnOk result (out.new.items ≡ out.old.items ++ fields_bytes (section_fields name section.now info align)) }
+    ensures { OnOk result (out.new.items ≡ out.old.items
+        ++ fields_bytes (section_fields name section.now info align)) }
 {
     let fields = [
         (4, name),

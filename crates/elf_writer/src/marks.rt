@@ -3,7 +3,8 @@ ghost use Rattle.std.specs.Prelude.{◌≡◌, ◌≤◌, ◌+◌, ◌*◌, ◌/
 ghost use Rattle.sm_types.specs.Objects.{name_says, symbol_says, mappings_of, mapping_of};
 ghost use Rattle.elf_headers.specs.Below.{answers, answers_below};
 ghost use Rattle.elf_writer.specs.TextMarks.{begins, mark_at, word_address, text_marks};
-ghost use Rattle.elf_writer.specs.Slots.{mapping, mapping_if, newer, word_from, says_word, slots_say, AreSlots, KeepsMark, KeepsSymbol};
+ghost use Rattle.elf_writer.specs.Slots.{mapping, mapping_if, newer, word_from, says_word, slots_say};
+ghost use Rattle.elf_writer.specs.Slots.{AreSlots, KeepsMark, KeepsSymbol};
 
 use sm_types::{Object, Section, Symbol, TEXT_ADDRESS};
 use std::alloc::{AllocError, Global};
@@ -15,7 +16,8 @@ pub struct TextMark {
     pub code: bool,
 }
 
-/// What a name says of the bytes from its address on: `$x` that they are code, `$d` that they are data; both may have `.` and a suffix.
+/// What a name says of the bytes from its address on: `$x` that they are code, `$d` that they are data;
+/// both may have `.` and a suffix.
 fn name_says(name: &[u8]) -> Option<bool>
     ensures { result ≡ name_says name.now }
 {

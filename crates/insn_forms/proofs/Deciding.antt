@@ -1,5 +1,5 @@
 -- What a decoder and an encoder find says what a word means, and which word an instruction has.
-use Rattle.std.proofs.Common.{◌≡◌, ◌≢◌, ◌↔◌, ◌⊎◌, inl, inr, ℕ, ◌<◌, ◌^◌, Bool, true, false, bit_and, sym, ap, ap₂, ◌∙◌, subst, refl, slice_get, Option, Some, None, cond}
+use Rattle.std.proofs.Common.{◌≡◌, ◌≢◌, ◌↔◌, ℕ, ◌<◌, ◌^◌, Bool, true, false, bit_and, sym, ap, ap₂, ◌∙◌, subst, refl, slice_get, Option, Some, None, cond}
 use Rattle.std.proofs.lemmas.Bool.{both_ways}
 use Rattle.insn_forms.specs.declared.line.Line.{Line}
 use Rattle.insn_forms.specs.declared.number.Parts.{Parts}

@@ -4,6 +4,8 @@ pub mod Deciding
 pub mod FirstLine
 pub mod Forms
 pub mod Laws
+pub mod Lines
+pub mod Numbers
 pub mod Sums
 pub mod Tables
 pub mod Walk

@@ -1,6 +1,8 @@
 -- The fields of a word of 32 bits.
--- Source: DDI 0487, C4, the encoding diagrams, whose fields are runs of bits; signed ones are in two's complement.
-use Rattle.std.specs.Prelude.{ℕ, ◌+◌, ◌-◌, ◌*◌, ◌/◌, ◌%◌, ◌^◌, ◌==◌, ◌&&◌, Bool, nat_lt, bit_and, if◌then◌else◌, ℤ, pos, ◌-ℤ◌, List, [], ◌∷◌}
+-- Source: DDI 0487, C4, the encoding diagrams, whose fields are runs of bits; signed ones are in two's
+-- complement.
+use Rattle.std.specs.Prelude.{ℕ, ◌+◌, ◌-◌, ◌*◌, ◌/◌, ◌%◌, ◌^◌, ◌==◌, ◌&&◌, Bool, nat_lt, bit_and}
+use Rattle.std.specs.Prelude.{if◌then◌else◌, ℤ, pos, ◌-ℤ◌, List, [], ◌∷◌}
 use Rattle.insn_forms.specs.declared.field.Field.{Field}
 use Rattle.insn_forms.specs.declared.field.Fields.{Fields}
 
@@ -44,4 +46,6 @@ mask_of f = upper_mask f + lower_mask f
 
 -- the field has fewer than 31 bits, all of them in a word of 32 bits, and each once
 unfoldable pub is_field : Field → Bool
-is_field f = nat_lt (bits_of f) 31 && nat_lt f.low 32 && nat_lt f.upper_low 32 && nat_lt (mask_of f) (2 ^ 32) && (bit_and (upper_mask f) (lower_mask f) == 0)
+is_field f =
+    nat_lt (bits_of f) 31 && nat_lt f.low 32 && nat_lt f.upper_low 32 && nat_lt (mask_of f) (2 ^ 32)
+    && (bit_and (upper_mask f) (lower_mask f) == 0)

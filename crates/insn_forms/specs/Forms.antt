@@ -1,5 +1,8 @@
 -- Words as fixed bits and fields.
-use Rattle.std.specs.Prelude.{ℕ, ◌-◌, ◌%◌, ◌^◌, ◌==◌, ◌&&◌, Bool, true, false, nat_lt, bit_and, bit_or, if◌then◌else◌, ℤ, pos, ◌-ℤ◌, int_le, int_lt, List, [], ◌∷◌, map, Option, Some, None}
+-- Source: DDI 0487, C4: an encoding diagram has each bit of a word once, fixed or in a field.
+use Rattle.std.specs.Prelude.{ℕ, ◌-◌, ◌%◌, ◌^◌, ◌==◌, ◌&&◌, Bool, true, false, nat_lt, bit_and, bit_or}
+use Rattle.std.specs.Prelude.{if◌then◌else◌, ℤ, pos, ◌-ℤ◌, int_le, int_lt, List, [], ◌∷◌, map, Option, Some}
+use Rattle.std.specs.Prelude.{None}
 use Rattle.std.specs.Int.{cast_unsigned, w32}
 use Rattle.std.specs.List.{list_all}
 use Rattle.insn_forms.specs.declared.field.Field.{Field}
@@ -32,7 +35,8 @@ all_bits (f ∷ fs) (n ∷ ns) = bits f n ∷ all_bits fs ns
 
 -- a number of so many bits in two's complement
 unfoldable pub is_signed : ℕ → ℤ → Bool
-is_signed width z = nat_lt 0 width && int_le (pos 0 -ℤ pos (2 ^ (width - 1))) z && int_lt z (pos (2 ^ (width - 1)))
+is_signed width z =
+    nat_lt 0 width && int_le (pos 0 -ℤ pos (2 ^ (width - 1))) z && int_lt z (pos (2 ^ (width - 1)))
 
 -- the number is one that the field can have
 unfoldable pub is_in : Field → Number → Bool
@@ -45,7 +49,8 @@ are_in [] (n ∷ ns) = false
 are_in (f ∷ fs) [] = false
 are_in (f ∷ fs) (n ∷ ns) = is_in f n && are_in fs ns
 
--- the word of the fixed bits and the numbers, each at the place of its field; none where one of them is not in its field
+-- the word of the fixed bits and the numbers, each at the place of its field; none where one of them is not
+-- in its field
 unfoldable pub word_in : ℕ → List Field → List Number → Option ℕ
 word_in word [] [] = Some word
 word_in word [] (n ∷ ns) = None

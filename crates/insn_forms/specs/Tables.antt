@@ -1,11 +1,15 @@
 -- What a word means by a table of lines.
--- Source: DDI 0487, C4: an encoding is the fixed bits of its diagram, its fields by their names, and what its page says of them.
-use Rattle.std.specs.Prelude.{ℕ, ◌<◌, ◌^◌, ◌≡◌, ◌==◌, ◌&&◌, Bool, true, List, [], ◌∷◌, Option, Some, None, slice_get, bit_and, ℤ, if◌then◌else◌}
+-- Source: DDI 0487, C4: an encoding is the fixed bits of its diagram, its fields by their names, and what its
+-- page says of them.
+use Rattle.std.specs.Prelude.{ℕ, ◌<◌, ◌^◌, ◌≡◌, ◌==◌, ◌&&◌, Bool, true, false, List, [], ◌∷◌, Option, Some}
+use Rattle.std.specs.Prelude.{None, slice_get, bit_and, ℤ, if◌then◌else◌}
+use Rattle.std.specs.List.{find}
 use Rattle.insn_forms.specs.declared.field.Field.{Field}
 use Rattle.insn_forms.specs.declared.line.Line.{Line}
 use Rattle.insn_forms.specs.Fields.{bits_of, field_in, signed_value}
 
--- a table: its lines of operations O, and by the numbers of the fields an operation's condition and its instruction
+-- a table: its lines of operations O, and by the numbers of the fields an operation's condition and its
+-- instruction
 pub record Table (O I : Type 0) : Type 0 where
   pub lines : List (Line O)
   pub fits : O → (Field → ℕ) → Bool
@@ -31,7 +35,8 @@ insn_in t o word = t.insn o (numbers_in word) (signed_numbers_in word)
 abbrev pub given : {O I : Type 0} → Table O I → O → ℕ → Option I
 given t o word = if fits_in t o word then Some (insn_in t o word) else None
 
--- a line of the table matches the word, which meets its condition, and the instruction is its operation's with the word's fields
+-- a line of the table matches the word, which meets its condition, and the instruction is its operation's
+-- with the word's fields
 pub record Means {O I : Type 0} (t : Table O I) (word : ℕ) (it : I) : Type 0 where
   pub is_word : word < 2 ^ 32
   pub place : ℕ
@@ -53,7 +58,8 @@ stands_for t line word = (bit_and word line.mask == line.value) && fits_in t lin
 -- the instruction that the first of some lines to stand for the word gives it
 unfoldable pub meaning_in : {O I : Type 0} → Table O I → List (Line O) → ℕ → Option I
 meaning_in t [] word = None
-meaning_in t (line ∷ lines) word = if stands_for t line word then Some (insn_in t line.operation word) else meaning_in t lines word
+meaning_in t (line ∷ lines) word =
+    if stands_for t line word then Some (insn_in t line.operation word) else meaning_in t lines word
 
 -- the instruction that a word of 32 bits means
 unfoldable pub meaning_by : {O I : Type 0} → Table O I → ℕ → Option I
@@ -62,5 +68,19 @@ meaning_by t word = meaning_in t t.lines word
 -- two places of the table whose lines match the word, which meets their conditions, are one
 abbrev pub HasAtMostOneLine : {O I : Type 0} → Table O I → ℕ → Type 0
 HasAtMostOneLine {O = O} t word =
-    (i j : ℕ) (r s : Line O) → slice_get t.lines i ≡ Some r → slice_get t.lines j ≡ Some s → bit_and word r.mask ≡ r.value → bit_and word s.mask ≡ s.value
+    (i j : ℕ) (r s : Line O) → slice_get t.lines i ≡ Some r → slice_get t.lines j ≡ Some s
+    → bit_and word r.mask ≡ r.value → bit_and word s.mask ≡ s.value
     → fits_in t r.operation word ≡ true → fits_in t s.operation word ≡ true → i ≡ j
+
+-- the line has these fixed bits
+abbrev pub has_bits : {O : Type 0} → ℕ → ℕ → Line O → Bool
+has_bits mask value line = (line.mask == mask) && (line.value == value)
+
+-- the word meets the condition of the line, if there is one
+abbrev pub fits_line : {O I : Type 0} → Table O I → ℕ → Option (Line O) → Bool
+fits_line t word None = false
+fits_line t word (Some line) = fits_in t line.operation word
+
+-- the word meets the condition of the line with these fixed bits; none does where no line has them
+unfoldable pub fits_with : {O I : Type 0} → Table O I → ℕ → ℕ → ℕ → Bool
+fits_with t mask value word = fits_line t word (find (has_bits mask value) t.lines)

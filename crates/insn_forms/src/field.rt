@@ -1,8 +1,10 @@
 //! The fields of a word.
 ghost use Rattle.std.specs.Prelude.{◌≡◌, ◌<◌, ◌^◌, ◌-◌, true};
-ghost use Rattle.insn_forms.specs.Fields.{bits_of, field_of, field_in, is_field, list_of, placed, signed_value};
+ghost use Rattle.insn_forms.specs.Fields.{bits_of, field_of, field_in, is_field, list_of, placed};
+ghost use Rattle.insn_forms.specs.Fields.{signed_value};
 
-/// The place of a field: as many bits as `width` from `low` on, and above these as many as `upper_width` from `upper_low` on.
+/// The place of a field: as many bits as `width` from `low` on, and above these as many as `upper_width`
+/// from `upper_low` on.
 #[derive(Clone, Copy)]
 pub struct Field {
     pub low: u8,

@@ -13,7 +13,8 @@ pub enum Number {
     Signed(i32),
 }
 
-/// An instruction's operation, and the numbers of its line's fields in their order, with zeros after the last one.
+/// An instruction's operation, and the numbers of its line's fields in their order, with zeros after the
+/// last one.
 #[derive(Clone, Copy)]
 pub struct Parts<O> {
     pub operation: O,
@@ -72,7 +73,8 @@ fn bits(it: &Field, number: Number) -> u32
     }
 }
 
-/// The word of the fixed bits and the numbers; `None` exactly where a number is not one that its field can have.
+/// The word of the fixed bits and the numbers; `None` exactly where a number is not one that its field can
+/// have.
 pub fn word_in(value: u32, fields: &[Field; 8], numbers: &[Number; 8]) -> Option<u32>
     requires { list_all is_field fields.now ≡ true }
     ensures { result ≡ word_in value fields.now numbers.now }

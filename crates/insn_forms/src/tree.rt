@@ -1,4 +1,5 @@
-//! Trees of tests on bits, which lead a word to the one line that it may match: one tree for each value of a word's top eight bits.
+//! Trees of tests on bits, which lead a word to the one line that it may match: one tree for each value of
+//! a word's top eight bits.
 ghost use Rattle.std.specs.Prelude.{◌≡◌, ◌≢◌, ◌/◌, ◌^◌, length, Some, bit_and, slice_get};
 ghost use Rattle.insn_forms.specs.Tree.{walk, walk_from};
 
@@ -11,7 +12,8 @@ pub enum Node {
     Leaf(u16),
 }
 
-/// The number of the one line that may match the word, by nodes, the roots of the trees and as many steps as the longest way has nodes.
+/// The number of the one line that may match the word, by nodes, the roots of the trees and as many steps
+/// as the longest way has nodes.
 #[inline(always)]
 pub fn line_number(nodes: &[Node], roots: &[u16], depth: u32, word: u32) -> Option<usize>
     requires { length roots.now ≡ 256 }

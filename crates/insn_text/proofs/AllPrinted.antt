@@ -1,5 +1,5 @@
 -- Each word that means an instruction has a text.
-use Rattle.std.proofs.Common.{◌≡◌, ℕ, Bool, true, Some, slice_get, bit_and, refl, sym, ◌∙◌, inl, inr}
+use Rattle.std.proofs.Common.{◌≡◌, ℕ, Bool, true, bit_and, refl, sym, ◌∙◌, inl, inr}
 use Rattle.std.specs.List.{list_all}
 use Rattle.bit_ops.specs.Masks.{highest_one}
 use Rattle.sm_types.specs.declared.insn.Insn.{Insn}

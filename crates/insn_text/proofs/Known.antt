@@ -3,13 +3,14 @@ use Rattle.std.proofs.Common.{◌≡◌, ◌≢◌, ◌⊎◌, inl, inr, ℕ, �
 use Rattle.std.specs.List.{list_all}
 use Rattle.std.proofs.lemmas.Bool.{and_from, and_parts, both_ways, le-leb}
 use Rattle.bit_ops.specs.Masks.{are_mask_fields, is_reserved}
-use Rattle.sm_types.specs.declared.insn.PairOp.TheVariants.{Stp, Ldp}
+use Rattle.sm_types.specs.declared.insn.PairOp.TheVariants.{Ldp}
 use Rattle.sm_types.specs.declared.insn.PairIndex.TheVariants as index
 use Rattle.insn_forms.specs.Fields.{field_of, bit_of}
 use Rattle.insn_forms.specs.Fields.{field_in as number_in}
 use Rattle.insn_forms.specs.Tables.{numbers_in}
+use Rattle.insn_forms.proofs.Bits.{field_in-lt}
 use Rattle.insn_forms.proofs.Sums.{split, field_below, fixed_field, plain}
-use Rattle.a64_table.specs.declared.fields.TheConstants.{HW, IMM3, IMM6, IMMR, IMMS, N, OPC, OPTION, RN, RT, RT2, SF, SHIFT, SIZE}
+use Rattle.a64_table.specs.declared.fields.TheConstants.{HW, IMM3, IMM6, IMMR, IMMS, N, OPTION, RN, RT, RT2, SF, SHIFT}
 use Rattle.a64_table.specs.declared.operation.Operation.{Operation}
 use Rattle.a64_table.specs.declared.operation.Operation.TheVariants.{G2, G3, G4, G5, G6, G7, G8, G18, G20}
 use Rattle.a64_table.specs.declared.operation.AddressForm.{AddressForm}
@@ -24,7 +25,6 @@ use Rattle.insn_text.specs.declared.item.Item.{Item}
 use Rattle.insn_text.specs.declared.item.Shape.{Shape}
 use Rattle.insn_text.specs.Texts.{bits_of, field_in, items_of}
 use Rattle.insn_text.specs.Rules.{is_within, meets, is_sayable}
-use Rattle.insn_text.proofs.Sizes.{join_below}
 
 -- ---- bits of a region
 
@@ -227,7 +227,7 @@ never g word m v r e f = cc
 
 -- the operand's field is these bits
 unfoldable pub is_field : Item → ℕ → ℕ → Bool
-is_field i low width = i.low == low && i.width == width && i.upper_width == 0
+is_field i low width = i.field.low == low && i.field.width == width && i.field.upper_width == 0
 
 -- three of the four shifts have an instruction
 unfoldable pub has_three_shifts : Operation → Bool
@@ -269,7 +269,7 @@ unfoldable pub says_kind : Operation → ℕ → ℕ → Item → Kind → Bool
 says_kind g m v i (Mark c) = true
 says_kind g m v i (Named first count) =
     nat_le (2 ^ bits_of i) count || (count == 3 && ((has_three_shifts g && is_field i 22 2) || (is_field i 13 2 && (fixed m v 13 false || fixed m v 14 false))))
-says_kind g m v i (kind.Register first last) = true
+says_kind g m v i (kind.Register file last) = true
 says_kind g m v i (Unsigned base scale most) = nat_le (2 ^ bits_of i) (most + 1) || (has_amounts g && (is_field i 10 3 && most == 4))
 says_kind g m v i (Signed scale) = true
 says_kind g m v i (Distance scale) = true
@@ -296,17 +296,16 @@ mod_one : (n : ℕ) → n % 1 ≡ 0
 mod_one n = omega arith
 
 field_is : (i : Item) (word low width : ℕ) → is_field i low width ≡ true → field_in i word ≡ field_of word low width
-unfolding is_field field_in field_of
+unfolding is_field number_in field_of
 field_is i word low width e =
-    let parts = and_parts (i.low == low && i.width == width) (i.upper_width == 0) e in
-    let firsts = and_parts (i.low == low) (i.width == width) parts.0 in
-    let none : word / 2 ^ i.upper_low % 2 ^ i.upper_width ≡ 0 = ap (λ n. word / 2 ^ i.upper_low % 2 ^ n) (eqb-true _ _ parts.1) ∙ mod_one (word / 2 ^ i.upper_low) in
-    ap (λ n. n * 2 ^ i.width + word / 2 ^ i.low % 2 ^ i.width) none ∙ ap₂ (λ (a b : ℕ). 0 * 2 ^ b + word / 2 ^ a % 2 ^ b) (eqb-true _ _ firsts.0) (eqb-true _ _ firsts.1)
+    let parts = and_parts (i.field.low == low && i.field.width == width) (i.field.upper_width == 0) e in
+    let firsts = and_parts (i.field.low == low) (i.field.width == width) parts.0 in
+    let none : word / 2 ^ i.field.upper_low % 2 ^ i.field.upper_width ≡ 0 = ap (λ n. word / 2 ^ i.field.upper_low % 2 ^ n) (eqb-true _ _ parts.1) ∙ mod_one (word / 2 ^ i.field.upper_low) in
+    ap (λ n. n * 2 ^ i.field.width + word / 2 ^ i.field.low % 2 ^ i.field.width) none ∙ ap₂ (λ (a b : ℕ). 0 * 2 ^ b + word / 2 ^ a % 2 ^ b) (eqb-true _ _ firsts.0) (eqb-true _ _ firsts.1)
     ∙ (let z : 0 * 2 ^ width + word / 2 ^ low % 2 ^ width ≡ word / 2 ^ low % 2 ^ width = omega arith in z)
 
 field_bound : (i : Item) (word : ℕ) → field_in i word < 2 ^ bits_of i
-unfolding field_in
-field_bound i word = join_below (field_of word i.upper_low i.upper_width) (field_of word i.low i.width) i.upper_width i.width (field_below word i.upper_low i.upper_width) (field_below word i.low i.width)
+field_bound i word = field_in-lt i.field word
 
 three_shifts : (g : Operation) (word : ℕ) → has_three_shifts g ≡ true → fits_of g (numbers_in word) ≡ true → field_of word 22 2 < 3
 unfolding has_three_shifts fits_of
@@ -405,7 +404,7 @@ kind_within : (g : Operation) (word m v : ℕ) (i : Item) (kind : Kind) → bit_
 unfolding says_kind is_within
 kind_within g word m v i (Mark c) r f e = refl
 kind_within g word m v i (Named first count) r f e = lt-ltb (field_in i word) count (named_within g word m v i count r f e)
-kind_within g word m v i (kind.Register first last) r f e = refl
+kind_within g word m v i (kind.Register file last) r f e = refl
 kind_within g word m v i (Unsigned base scale most) r f e = elim (either_true (nat_le (2 ^ bits_of i) (most + 1)) (has_amounts g && (is_field i 10 3 && most == 4)) e) [
   | inl h ↦ (let le = leb-true (2 ^ bits_of i) (most + 1) h in let lt = field_bound i word in le-leb _ _ (omega arith))
   | inr h ↦ (let p = and_parts (has_amounts g) (is_field i 10 3 && most == 4) h in let q = and_parts (is_field i 10 3) (most == 4) p.1 in

@@ -4,7 +4,7 @@ use Rattle.std.specs.List.{find, list_all}
 use Rattle.std.specs.Str.{IsAscii}
 use Rattle.std.specs.Fmt.{digits, digits_onto, digit_glyph}
 use Rattle.std.proofs.lemmas.Fmt.{length-decimal-le}
-use Rattle.std.proofs.lemmas.Nat.{mod_below, pow_pos}
+use Rattle.std.proofs.lemmas.Nat.{mod_below, pow_below}
 use Rattle.std.proofs.lemmas.Bool.{and_parts, cond_both}
 use Rattle.std.proofs.Math.Nat.{mul-le-mul_left, pow-suc}
 use Rattle.bit_ops.specs.Bits.{width_of, number_of_digits}
@@ -13,17 +13,20 @@ use Rattle.bit_ops.specs.Masks.{bit_mask_of, is_reserved, mask_of, turn_of, size
 use Rattle.bit_ops.proofs.Digits.{number-lt}
 use Rattle.bit_ops.proofs.MaskBits.{bool_number-lt}
 use Rattle.insn_forms.specs.Fields.{field_of}
+use Rattle.insn_forms.proofs.Bits.{field_in-lt}
 use Rattle.insn_text.specs.declared.item.Kind.{Kind}
 use Rattle.insn_text.specs.declared.item.Kind.TheVariants.{Mark, Named, Register, Unsigned, Signed, Distance, Mask, SignedMask, ShiftLeft, Opposite, Halfword}
+use Rattle.insn_text.specs.declared.item.RegisterFile.{RegisterFile}
+use Rattle.insn_text.specs.declared.item.RegisterFile.TheVariants.{X, W}
 use Rattle.insn_text.specs.declared.item.Item.{Item}
 use Rattle.insn_text.specs.declared.item.Shape.{Shape}
 use Rattle.insn_text.specs.declared.item.Text.{Text}
 use Rattle.insn_text.specs.declared.words.TheConstants.{WORDS, NAMES}
-use Rattle.insn_text.specs.declared.operands.TheConstants.{ITEMS}
+use Rattle.insn_text.specs.declared.items.TheConstants.{ITEMS}
 use Rattle.insn_text.specs.declared.shapes.TheConstants.{SHAPES}
-use Rattle.insn_text.specs.Texts.{text_in, text_at, is_positive, size_of, hexadecimal, mask_in, mask_text, signed_text, distance_text, register_place, kind_text, bits_of, field_in, item_text, is_mark, is_comma, gap, items_text, items_of, shape_text, prints, printed_shape}
+use Rattle.insn_text.specs.Texts.{text_in, text_at, is_positive, size_of, hexadecimal, mask_in, mask_text, signed_text, distance_text, file_text, register_text, kind_text, bits_of, field_in, item_text, is_mark, is_comma, gap, items_text, items_of, shape_text, prints, printed_shape}
 use Rattle.insn_text.specs.Places.{is_sized}
-use Rattle.insn_text.proofs.Sizes.{sizes, join_small, pow_at_most}
+use Rattle.insn_text.proofs.Sizes.{sizes}
 use Rattle.insn_text.proofs.Tables.{all_take, all_drop, all_get, items_sized}
 
 -- ---- words and names
@@ -63,10 +66,10 @@ product_small a b h k =
     let one : a * b ≤ a * 2 ^ 16 = mul-le-mul_left a (let le : b ≤ 2 ^ 16 = omega arith in le) in
     omega arith
 
-size_small : (bits field : ℕ) → bits < 32 → field < 2 ^ 31 → size_of bits field ≤ 2 ^ 31
+size_small : (bits field : ℕ) → bits < 31 → field < 2 ^ 31 → size_of bits field ≤ 2 ^ 31
 unfolding size_of
 size_small bits field b f =
-    let p = pow_at_most bits b in
+    let p = pow_below bits 31 b in
     cond_both (is_positive bits field) field (2 ^ bits - field) (λ n. n ≤ 2 ^ 31) (λ _. omega arith) (λ _. omega arith)
 
 pub onto_ascii : (k n : ℕ) (acc : List ℕ) → IsAscii acc → IsAscii (digits_onto k 16 false n acc)
@@ -138,7 +141,7 @@ mask_in_small wide field m e =
 unfoldable is_small : Kind → Bool
 is_small (Mark c) = true
 is_small (Named first count) = true
-is_small (Register first last) = true
+is_small (Register file last) = true
 is_small (Unsigned base scale most) = nat_lt base 65536 && nat_lt scale 65536
 is_small (Signed scale) = nat_lt scale 65536
 is_small (Distance scale) = nat_lt scale 65536
@@ -152,7 +155,7 @@ is_small (Halfword wide inverted) = true
 unfoldable room_of : Kind → ℕ
 room_of (Mark c) = 1
 room_of (Named first count) = 10
-room_of (Register first last) = 10
+room_of (Register file last) = 11
 room_of (Unsigned base scale most) = 16
 room_of (Signed scale) = 17
 room_of (Distance scale) = 17
@@ -172,11 +175,25 @@ unfolding distance_text
 distance_length true n le = let lt : n < 2 ^ 49 = omega arith in omega (arith, decimal_short n lt)
 distance_length false n le = let lt : n < 2 ^ 49 = omega arith in omega (arith, decimal_short n lt)
 
-kind_length : (kind : Kind) (bits field : ℕ) → is_small kind ≡ true → bits < 32 → field < 2 ^ 31 → length (kind_text kind bits field) ≤ room_of kind
+file_length : (file : RegisterFile) → length (file_text file) ≡ 1
+unfolding file_text
+file_length X = refl
+file_length W = refl
+
+register_length : (file : RegisterFile) (last number : ℕ) → number < 2 ^ 31 → length (register_text file last number) ≤ 11
+unfolding register_text
+register_length file last number lt =
+    let fits : number < 2 ^ 64 = omega arith in
+    let few : number < 10 ^ 10 = omega arith in
+    cond_both (number == 31) (text_at WORDS last) (file_text file ++ decimal number) (λ (t : List ℕ). length t ≤ 11)
+    (λ _. omega (arith, word_short last))
+    (λ _. omega (arith, length-append (file_text file) (decimal number), file_length file, length-decimal-le 10 number (lit< tt) few fits))
+
+kind_length : (kind : Kind) (bits field : ℕ) → is_small kind ≡ true → bits < 31 → field < 2 ^ 31 → length (kind_text kind bits field) ≤ room_of kind
 unfolding kind_text room_of is_small
 kind_length (Mark c) bits field e b f = omega arith
 kind_length (Named first count) bits field e b f = word_short (first + field)
-kind_length (Register first last) bits field e b f = word_short (register_place first last field)
+kind_length (Register file last) bits field e b f = register_length file last field f
 kind_length (Unsigned base scale most) bits field e b f =
     let p = and_parts (nat_lt base 65536) (nat_lt scale 65536) e in
     let base_small : base < 65536 = ltb-true base 65536 p.0 in
@@ -195,15 +212,14 @@ kind_length (Opposite first count) bits field e b f = omega arith
 kind_length (Halfword wide inverted) bits field e b f = omega arith
 
 field_small : (i : Item) (word : ℕ) → is_sized i ≡ true → field_in i word < 2 ^ 31
-unfolding field_in field_of
 field_small i word e =
-    let z = sizes i e in
-    join_small (word / 2 ^ i.upper_low % 2 ^ i.upper_width) (word / 2 ^ i.low % 2 ^ i.width) i.upper_width i.width
-    (mod_below (word / 2 ^ i.upper_low) (2 ^ i.upper_width) (pow_pos i.upper_width)) (mod_below (word / 2 ^ i.low) (2 ^ i.width) (pow_pos i.width)) z.both
+    let few = (sizes i e).few in
+    let most = pow_below (bits_of i) 31 few in
+    omega (arith, field_in-lt i.field word)
 
 item_length : (i : Item) (word : ℕ) → is_sized i ≡ true → is_small i.kind ≡ true → length (item_text word i) ≤ room_of i.kind
 unfolding item_text
-item_length i word e s = let z = sizes i e in kind_length i.kind (bits_of i) (field_in i word) s z.both (field_small i word e)
+item_length i word e s = let few = (sizes i e).few in kind_length i.kind (bits_of i) (field_in i word) s few (field_small i word e)
 
 gap_length : (before after : Kind) → length (gap before after) ≤ 1
 unfolding gap

@@ -8,3 +8,4 @@ pub mod Known
 pub mod AllPrinted
 pub mod Citing
 pub mod Naming
+pub mod Following

@@ -1,14 +1,13 @@
 -- The name in which a word is printed is that of its operation.
-use Rattle.std.proofs.Common.{◌≡◌, ℕ, zero, suc, ◌==◌, ◌&&◌, ◌||◌, not, Bool, true, false, cond, bit_and, List, [], ◌∷◌, slice_get, Option, Some, None, refl, sym, ap, ap₂, ◌∙◌, subst, eqb-true, eq-eqb}
+use Rattle.std.proofs.Common.{◌≡◌, ℕ, zero, suc, ◌==◌, ◌&&◌, ◌||◌, not, Bool, true, false, cond, bit_and, List, [], ◌∷◌, slice_get, Option, Some, refl, sym, ap, ◌∙◌, subst, eqb-true, eq-eqb}
 use Rattle.std.specs.List.{list_all, find}
-use Rattle.std.specs.Fmt.{digits}
 use Rattle.std.specs.Str.{bytes_eq}
 use Rattle.std.proofs.lemmas.Bool.{and_parts}
 use Rattle.std.proofs.lemmas.Slice.Eq.{bytes_eq-Decides}
 use Rattle.std.proofs.lemmas.Nat.{and_assoc, and_comm}
 use Rattle.insn_forms.specs.declared.field.Field.{Field}
 use Rattle.insn_forms.specs.declared.line.Line.{Line}
-use Rattle.insn_forms.specs.Fields.{field_of, field_in, list_of, upper_mask, lower_mask, mask_of}
+use Rattle.insn_forms.specs.Fields.{field_of, field_in, upper_mask, lower_mask, mask_of}
 use Rattle.insn_forms.specs.Tables.{numbers_in}
 use Rattle.insn_forms.proofs.Bits.{field_in-lt, placed-field, placed-one}
 use Rattle.a64_table.specs.declared.fields.TheConstants.{ACQUIRE, BRANCH_COND, CAS_ACQUIRE, CAS_RELEASE, OPC, RELEASE, SF, SIZE}

@@ -5,11 +5,12 @@ use Rattle.std.specs.Str.{IsAscii}
 use Rattle.std.proofs.lemmas.Bool.{and_from, and_parts}
 use Rattle.std.proofs.lemmas.Str.{IsAscii-take}
 use Rattle.std.proofs.lemmas.Str.Ascii.{IsAscii-nil}
+use Rattle.insn_forms.specs.Fields.{mask_of, is_field}
 use Rattle.insn_text.specs.declared.item.Kind.{Kind}
 use Rattle.insn_text.specs.declared.item.Kind.TheVariants.{Mark}
 use Rattle.insn_text.specs.declared.item.Text.{Text}
 use Rattle.insn_text.specs.declared.words.TheConstants.{WORDS, NAMES}
-use Rattle.insn_text.specs.declared.operands.TheConstants.{ITEMS}
+use Rattle.insn_text.specs.declared.items.TheConstants.{ITEMS}
 use Rattle.insn_text.specs.Texts.{text_in, text_at}
 use Rattle.insn_text.specs.Places.{has_ascii_mark, is_sized}
 
@@ -36,7 +37,7 @@ all_at p (y ∷ ys) (suc i) d e lt = all_at p ys i d (and_parts (p y) (list_all 
 -- ---- operands
 
 pub items_sized : list_all is_sized ITEMS ≡ true
-unfolding is_sized has_ascii_mark
+unfolding mask_of is_field is_sized has_ascii_mark
 items_sized = refl
 
 pub sized_run : (first count : ℕ) → list_all is_sized (take count (drop first ITEMS)) ≡ true

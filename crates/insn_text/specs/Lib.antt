@@ -5,3 +5,4 @@ pub mod Names
 pub mod Operands
 pub mod Aliases
 pub mod Cited
+pub mod Wordings

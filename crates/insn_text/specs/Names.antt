@@ -1,7 +1,9 @@
 -- The names of the operations of the rows.
--- Source: DDI 0487, C6.2, the name of each page; a load, a store and an atomic instruction have letters for the unscaled form, the sign, the
--- order and the size behind theirs, and a conditional branch its condition.
-use Rattle.std.specs.Prelude.{ℕ, ◌==◌, nat_le, Bool, true, false, List, [], ◌∷◌, ◌++◌, Option, Some, None, slice_get, codes, if◌then◌else◌}
+-- Source: DDI 0487, C6.2, the name of each page; a load, a store and an atomic instruction have letters for
+-- the unscaled form, the sign, the order and the size behind theirs, and a conditional branch its
+-- condition.
+use Rattle.std.specs.Prelude.{ℕ, ◌==◌, nat_le, Bool, true, false, List, [], ◌∷◌, ◌++◌, Option, Some, None}
+use Rattle.std.specs.Prelude.{slice_get, codes, if◌then◌else◌}
 use Rattle.sm_types.specs.declared.insn.AddSub.{AddSub}
 use Rattle.sm_types.specs.declared.insn.AddSub.TheVariants as sum
 use Rattle.sm_types.specs.declared.insn.Logical.{Logical}
@@ -31,9 +33,12 @@ use Rattle.sm_types.specs.declared.insn.AtomicOp.TheVariants as atomic
 use Rattle.sm_types.specs.declared.insn.SystemMoveOp.{SystemMoveOp}
 use Rattle.sm_types.specs.declared.insn.SystemMoveOp.TheVariants as system
 use Rattle.insn_forms.specs.declared.field.Field.{Field}
-use Rattle.a64_table.specs.declared.fields.TheConstants.{ACQUIRE, BRANCH_COND, CAS_ACQUIRE, CAS_RELEASE, OPC, RELEASE, SF, SIZE}
+use Rattle.a64_table.specs.declared.fields.TheConstants.{ACQUIRE, BRANCH_COND, CAS_ACQUIRE, CAS_RELEASE, OPC}
+use Rattle.a64_table.specs.declared.fields.TheConstants.{RELEASE, SF, SIZE}
 use Rattle.a64_table.specs.declared.operation.Operation.{Operation}
-use Rattle.a64_table.specs.declared.operation.Operation.TheVariants.{G1, G2, G3, G4, G5, G6, G7, G8, G9, G10, G11, G12, G13, G14, G15, G16, G17, G18, G19, G20, G21, G22, G23}
+use Rattle.a64_table.specs.declared.operation.Operation.TheVariants.{G1, G2, G3, G4, G5, G6, G7, G8, G9, G10}
+use Rattle.a64_table.specs.declared.operation.Operation.TheVariants.{G11, G12, G13, G14, G15, G16, G17, G18}
+use Rattle.a64_table.specs.declared.operation.Operation.TheVariants.{G19, G20, G21, G22, G23}
 use Rattle.a64_table.specs.declared.operation.BranchOp.{BranchOp}
 use Rattle.a64_table.specs.declared.operation.BranchOp.TheVariants as branch
 use Rattle.a64_table.specs.declared.operation.MultiplyOp.{MultiplyOp}
@@ -54,7 +59,10 @@ unfoldable pub nth : List (List ℕ) → ℕ → List ℕ
 nth texts n = text_or_none (slice_get texts n)
 
 unfoldable pub condition_name : ℕ → List ℕ
-condition_name n = nth (codes "eq" ∷ codes "ne" ∷ codes "cs" ∷ codes "cc" ∷ codes "mi" ∷ codes "pl" ∷ codes "vs" ∷ codes "vc" ∷ codes "hi" ∷ codes "ls" ∷ codes "ge" ∷ codes "lt" ∷ codes "gt" ∷ codes "le" ∷ codes "al" ∷ codes "nv" ∷ []) n
+condition_name n =
+    nth (codes "eq" ∷ codes "ne" ∷ codes "cs" ∷ codes "cc" ∷ codes "mi" ∷ codes "pl" ∷ codes "vs" ∷ codes "vc"
+    ∷ codes "hi" ∷ codes "ls" ∷ codes "ge" ∷ codes "lt" ∷ codes "gt" ∷ codes "le" ∷ codes "al" ∷ codes "nv"
+    ∷ []) n
 
 unfoldable pub add_sub_name : AddSub → List ℕ
 add_sub_name sum.Add = codes "add"
@@ -155,7 +163,8 @@ unscaled_letter form = []
 unfoldable pub access_name : AddressForm → ℕ → ℕ → List ℕ
 access_name form size opc =
     (if opc == 0 then codes "st" else codes "ld") ++ unscaled_letter form ++ codes "r"
-    ++ (if nat_le 2 opc then codes "s" ++ nth (codes "b" ∷ codes "h" ∷ codes "w" ∷ []) size else size_letter size)
+    ++ (if nat_le 2 opc then codes "s" ++ nth (codes "b" ∷ codes "h" ∷ codes "w" ∷ []) size
+    else size_letter size)
 
 unfoldable pub literal_name : LoadLiteralOp → List ℕ
 literal_name literal.Word = codes "ldr"
@@ -168,7 +177,8 @@ pair_name pair.Ldp = codes "ldp"
 
 -- the letters of an order, by acquire and release
 unfoldable pub order_letters : ℕ → ℕ → List ℕ
-order_letters acquire release = (if acquire == 1 then codes "a" else []) ++ (if release == 1 then codes "l" else [])
+order_letters acquire release =
+    (if acquire == 1 then codes "a" else []) ++ (if release == 1 then codes "l" else [])
 
 unfoldable pub atomic_name : AtomicOp → List ℕ
 atomic_name atomic.Add = codes "ldadd"

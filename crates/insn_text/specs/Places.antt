@@ -1,11 +1,13 @@
 -- The shapes at places of a list, and the operands that lie within a word.
-use Rattle.std.specs.Prelude.{ℕ, ◌+◌, ◌-◌, Bool, true, ◌&&◌, nat_lt, List, [], ◌∷◌, Option, Some, None, slice_get, slice_index, take, drop, if◌then◌else◌}
+use Rattle.std.specs.Prelude.{ℕ, ◌+◌, ◌-◌, Bool, true, ◌&&◌, nat_lt, List, [], ◌∷◌, Option, Some, None}
+use Rattle.std.specs.Prelude.{slice_get, slice_index, take, drop, if◌then◌else◌}
 use Rattle.std.specs.Option.{option_or}
 use Rattle.insn_text.specs.declared.item.Kind.{Kind}
-use Rattle.insn_text.specs.declared.item.Kind.TheVariants.{Mark, Named, Register, Unsigned, Signed, Distance, Mask, SignedMask, ShiftLeft, Opposite, Halfword}
+use Rattle.insn_text.specs.declared.item.Kind.TheVariants.{Mark}
 use Rattle.insn_text.specs.declared.item.Item.{Item}
 use Rattle.insn_text.specs.declared.item.Shape.{Shape}
-use Rattle.insn_text.specs.Texts.{prints, bits_of}
+use Rattle.insn_forms.specs.Fields.{is_field}
+use Rattle.insn_text.specs.Texts.{prints}
 
 -- the shape, if the word is printed in it
 unfoldable pub if_printed : ℕ → Option Shape → Option Shape
@@ -15,26 +17,19 @@ if_printed word (Some s) = if prints word s then Some s else None
 -- the first of the shapes at these places in which the word is printed
 unfoldable pub first_at : ℕ → List Shape → List ℕ → Option Shape
 first_at word shapes [] = None
-first_at word shapes (place ∷ places) = option_or (if_printed word (slice_get shapes place)) (first_at word shapes places)
+first_at word shapes (place ∷ places) =
+    option_or (if_printed word (slice_get shapes place)) (first_at word shapes places)
 
 -- the places from one start to the next
 unfoldable pub part_of : List ℕ → List ℕ → ℕ → List ℕ
-part_of places starts at = take (slice_index starts (at + 1) - slice_index starts at) (drop (slice_index starts at) places)
+part_of places starts at =
+    take (slice_index starts (at + 1) - slice_index starts at) (drop (slice_index starts at) places)
 
 -- a mark is a character of ASCII
 unfoldable pub has_ascii_mark : Kind → Bool
 has_ascii_mark (Mark c) = nat_lt c 128
-has_ascii_mark (Named first count) = true
-has_ascii_mark (Register first last) = true
-has_ascii_mark (Unsigned base scale most) = true
-has_ascii_mark (Signed scale) = true
-has_ascii_mark (Distance scale) = true
-has_ascii_mark (Mask wide) = true
-has_ascii_mark (SignedMask wide) = true
-has_ascii_mark (ShiftLeft wide) = true
-has_ascii_mark (Opposite first count) = true
-has_ascii_mark (Halfword wide inverted) = true
+has_ascii_mark other = true
 
--- the operand's fields lie within a word, and their number within 31 bits; a mark is one of ASCII
+-- the operand's field lies within a word; a mark is one of ASCII
 unfoldable pub is_sized : Item → Bool
-is_sized i = nat_lt i.low 32 && nat_lt i.upper_low 32 && nat_lt (bits_of i) 32 && has_ascii_mark i.kind
+is_sized i = is_field i.field && has_ascii_mark i.kind

@@ -1,11 +1,12 @@
 -- What the fields of a word are to meet for a text of it to be read, and which words have a text.
--- Source: DDI 0487, C6.2: the ranges of the fields, and the registers that write back to a base or load a pair.
+-- Source: DDI 0487, C6.2: the ranges of the fields, and the registers that write back to a base or load a
+-- pair.
 use Rattle.std.specs.Prelude.{◌≡◌, ℕ, Bool, true, not, ◌&&◌, ◌||◌, ◌==◌, nat_lt, nat_le, Some}
 use Rattle.std.specs.List.{list_all}
 use Rattle.insn_forms.specs.Fields.{field_of}
 use Rattle.bit_ops.specs.Masks.{are_mask_fields}
 use Rattle.insn_text.specs.declared.item.Kind.{Kind}
-use Rattle.insn_text.specs.declared.item.Kind.TheVariants.{Mark, Named, Register, Unsigned, Signed, Distance, Mask, SignedMask, ShiftLeft, Opposite, Halfword}
+use Rattle.insn_text.specs.declared.item.Kind.TheVariants.{Named, Unsigned, Mask}
 use Rattle.insn_text.specs.declared.item.Rule.{Rule}
 use Rattle.insn_text.specs.declared.item.Rule.TheVariants.{Free, SecondApart, BaseApart, BasePairApart}
 use Rattle.insn_text.specs.declared.item.Item.{Item}
@@ -14,17 +15,11 @@ use Rattle.insn_text.specs.Texts.{field_in, items_of, printed_shape}
 
 -- the kind has a text for the number of the field: one of its words, a number up to its greatest, or a mask
 unfoldable pub is_within : Kind → ℕ → Bool
-is_within (Mark c) field = true
 is_within (Named first count) field = nat_lt field count
-is_within (Register first last) field = true
 is_within (Unsigned base scale most) field = nat_le field most
-is_within (Signed scale) field = true
-is_within (Distance scale) field = true
-is_within (Mask wide) field = are_mask_fields (field_of field 12 1 == 1) (field_of field 0 6) (field_of field 6 6) wide
-is_within (SignedMask wide) field = true
-is_within (ShiftLeft wide) field = true
-is_within (Opposite first count) field = true
-is_within (Halfword wide inverted) field = true
+is_within (Mask wide) field =
+    are_mask_fields (field_of field 12 1 == 1) (field_of field 0 6) (field_of field 6 6) wide
+is_within other field = true
 
 -- Rn 9:5 is SP, or not the number
 abbrev pub is_base_apart : ℕ → ℕ → Bool

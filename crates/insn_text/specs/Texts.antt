@@ -1,18 +1,25 @@
--- The text of an instruction: its name, and the numbers of its fields as registers, words, numbers and distances.
--- Source: DDI 0487, C1.2 (assembly language symbols) and the pages of C6.2; which text is printed, and that distances are in bytes from
--- the instruction, is this project's own.
-use Rattle.std.specs.Prelude.{ℕ, ◌+◌, ◌-◌, ◌*◌, ◌^◌, Bool, true, false, not, ◌&&◌, ◌||◌, ◌==◌, nat_lt, List, [], ◌∷◌, ◌++◌, Option, Some, None, bit_and, slice_get, take, drop, if◌then◌else◌, decimal, codes}
+-- The text of an instruction: its name, and the numbers of its fields as registers, words, numbers and
+-- distances.
+-- Source: DDI 0487, C1.2 (assembly language symbols) and the pages of C6.2; which text is printed, and that
+-- distances are in bytes from the instruction, is this project's own.
+use Rattle.std.specs.Prelude.{ℕ, ◌+◌, ◌-◌, ◌*◌, ◌^◌, Bool, true, false, not, ◌&&◌, ◌||◌, ◌==◌, nat_lt, List}
+use Rattle.std.specs.Prelude.{[], ◌∷◌, ◌++◌, Option, Some, None, bit_and, slice_get, take, drop}
+use Rattle.std.specs.Prelude.{if◌then◌else◌, decimal, codes}
 use Rattle.std.specs.List.{find}
 use Rattle.std.specs.Fmt.{digits}
 use Rattle.bit_ops.specs.Masks.{bit_mask_of}
+use Rattle.insn_forms.specs.Fields as fields
 use Rattle.insn_forms.specs.Fields.{field_of}
 use Rattle.insn_text.specs.declared.item.Kind.{Kind}
-use Rattle.insn_text.specs.declared.item.Kind.TheVariants.{Mark, Named, Register, Unsigned, Signed, Distance, Mask, SignedMask, ShiftLeft, Opposite, Halfword}
+use Rattle.insn_text.specs.declared.item.Kind.TheVariants.{Mark, Named, Register, Unsigned, Signed, Distance}
+use Rattle.insn_text.specs.declared.item.Kind.TheVariants.{Mask, SignedMask, ShiftLeft, Opposite, Halfword}
+use Rattle.insn_text.specs.declared.item.RegisterFile.{RegisterFile}
+use Rattle.insn_text.specs.declared.item.RegisterFile.TheVariants.{X, W}
 use Rattle.insn_text.specs.declared.item.Item.{Item}
 use Rattle.insn_text.specs.declared.item.Shape.{Shape}
 use Rattle.insn_text.specs.declared.item.Text.{Text}
 use Rattle.insn_text.specs.declared.words.TheConstants.{WORDS, NAMES}
-use Rattle.insn_text.specs.declared.operands.TheConstants.{ITEMS}
+use Rattle.insn_text.specs.declared.items.TheConstants.{ITEMS}
 use Rattle.insn_text.specs.declared.shapes.TheConstants.{SHAPES}
 
 -- ---- words
@@ -55,15 +62,20 @@ unfoldable pub distance_text : Bool → ℕ → List ℕ
 distance_text true n = codes ".+" ++ decimal n
 distance_text false n = codes ".-" ++ decimal n
 
--- the word of a register
-unfoldable pub register_place : ℕ → ℕ → ℕ → ℕ
-register_place first last number = if number == 31 then last else first + number
+-- the letter of a file of registers
+unfoldable pub file_text : RegisterFile → List ℕ
+file_text X = codes "x"
+file_text W = codes "w"
+
+-- a register: the letter of its file and its number, and for number 31 the word at a place
+unfoldable pub register_text : RegisterFile → ℕ → ℕ → List ℕ
+register_text file last number = if number == 31 then text_at WORDS last else file_text file ++ decimal number
 
 -- the text of a field of so many bits; the kinds of aliases are never printed
 unfoldable pub kind_text : Kind → ℕ → ℕ → List ℕ
 kind_text (Mark c) bits field = c ∷ []
 kind_text (Named first count) bits field = text_at WORDS (first + field)
-kind_text (Register first last) bits field = text_at WORDS (register_place first last field)
+kind_text (Register file last) bits field = register_text file last field
 kind_text (Unsigned base scale most) bits field = codes "#" ++ decimal (field * scale + base)
 kind_text (Signed scale) bits field = signed_text (is_positive bits field) (size_of bits field * scale)
 kind_text (Distance scale) bits field = distance_text (is_positive bits field) (size_of bits field * scale)
@@ -76,40 +88,22 @@ kind_text (Halfword wide inverted) bits field = []
 -- ---- operands
 
 abbrev pub bits_of : Item → ℕ
-bits_of i = i.width + i.upper_width
+bits_of i = fields.bits_of i.field
 
 -- the number of an operand's field in a word
-unfoldable pub field_in : Item → ℕ → ℕ
-field_in i word = field_of word i.upper_low i.upper_width * 2 ^ i.width + field_of word i.low i.width
+abbrev pub field_in : Item → ℕ → ℕ
+field_in i word = fields.field_in i.field word
 
 unfoldable pub item_text : ℕ → Item → List ℕ
 item_text word i = kind_text i.kind (bits_of i) (field_in i word)
 
 unfoldable pub is_mark : Kind → Bool
 is_mark (Mark c) = true
-is_mark (Named first count) = false
-is_mark (Register first last) = false
-is_mark (Unsigned base scale most) = false
-is_mark (Signed scale) = false
-is_mark (Distance scale) = false
-is_mark (Mask wide) = false
-is_mark (SignedMask wide) = false
-is_mark (ShiftLeft wide) = false
-is_mark (Opposite first count) = false
-is_mark (Halfword wide inverted) = false
+is_mark other = false
 
 unfoldable pub is_comma : Kind → Bool
 is_comma (Mark c) = c == 44
-is_comma (Named first count) = false
-is_comma (Register first last) = false
-is_comma (Unsigned base scale most) = false
-is_comma (Signed scale) = false
-is_comma (Distance scale) = false
-is_comma (Mask wide) = false
-is_comma (SignedMask wide) = false
-is_comma (ShiftLeft wide) = false
-is_comma (Opposite first count) = false
-is_comma (Halfword wide inverted) = false
+is_comma other = false
 
 -- a space stands after a comma, and between two operands with no mark between them
 unfoldable pub gap : Kind → Kind → List ℕ

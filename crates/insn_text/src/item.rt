@@ -1,4 +1,15 @@
 //! What the text of an instruction is made of.
+use a64_table::Operation;
+use insn_forms::Field;
+
+/// The files of registers.
+#[derive(Clone, Copy, PartialEq, Eq)]
+pub enum RegisterFile {
+    /// The general registers, 64 bits.
+    X,
+    /// Their low 32 bits.
+    W,
+}
 
 /// How the number of a field is written.
 #[derive(Clone, Copy)]
@@ -7,8 +18,8 @@ pub enum Kind {
     Mark(u8),
     /// One of `count` words of the table from place `first` on, in the order of their numbers.
     Named { first: u16, count: u16 },
-    /// A register: the word at `first` is that of number 0, and number 31 has the word at `last`.
-    Register { first: u16, last: u16 },
+    /// A register of a file: its letter and its number, and for number 31 the word at `last`.
+    Register { file: RegisterFile, last: u16 },
     /// `#n`, n the field times `scale`, and `base` more; the field is at most `most`.
     Unsigned { base: u16, scale: u16, most: u16 },
     /// `#n`, n the signed field times `scale`.
@@ -23,8 +34,8 @@ pub enum Kind {
     ShiftLeft { wide: bool },
     /// Of an alias: one of `count` conditions from place `first` on; the field has its opposite.
     Opposite { first: u16, count: u16 },
-    /// Of an alias: `#n`, a number with one halfword that is not zero, or not all ones where it is inverted; the field has
-    /// the halfword's place above its bits.
+    /// Of an alias: `#n`, a number with one halfword that is not zero, or not all ones where it is
+    /// inverted; the field has the halfword's place above its bits.
     Halfword { wide: bool, inverted: bool },
 }
 
@@ -41,20 +52,16 @@ pub enum Rule {
     BasePairApart,
 }
 
-/// One token of a shape, and the field whose number it writes: `width` bits from `low` on, and above them `upper_width` bits
-/// from `upper_low` on.
+/// One token of a shape, and the field whose number it writes.
 #[derive(Clone, Copy)]
 pub struct Item {
     pub kind: Kind,
-    pub low: u8,
-    pub width: u8,
-    pub upper_low: u8,
-    pub upper_width: u8,
+    pub field: Field,
     pub rule: Rule,
 }
 
-/// One text of an instruction, without optional parts: the bits that it fixes, the place of its name, and its operands, so many
-/// from a place on. An alias is read and never printed.
+/// One text of an instruction, without optional parts: the bits that it fixes, the place of its name, and
+/// its operands, so many from a place on. An alias is read and never printed.
 #[derive(Clone, Copy)]
 pub struct Shape {
     pub mask: u32,
@@ -70,4 +77,22 @@ pub struct Shape {
 pub struct Text {
     pub bytes: [u8; 12],
     pub length: u8,
+}
+
+/// A field that a text sets, and its number.
+#[derive(Clone, Copy)]
+pub struct Setting {
+    pub field: Field,
+    pub number: u32,
+}
+
+/// One text of an operation, as the table of texts has it: whether it is an alias, its name, the fields
+/// that it sets, and the places of its operands in `OPERANDS`, up to the first 0.
+#[derive(Clone, Copy)]
+pub struct Wording {
+    pub alias: bool,
+    pub name: Text,
+    pub operation: Operation,
+    pub set: [Option<Setting>; 4],
+    pub operands: [u8; 10],
 }

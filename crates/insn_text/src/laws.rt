@@ -6,25 +6,38 @@ ghost use Rattle.a64_encode.specs.Either.{MeansEither};
 ghost use Rattle.insn_forms.specs.Tables.{Means, numbers_in};
 ghost use Rattle.a64_table.specs.Table.{scalar};
 ghost use Rattle.insn_text.specs.declared.item.Shape.{Shape};
-ghost use Rattle.insn_text.specs.declared.shapes.TheConstants.{SHAPES};
+ghost use Rattle.insn_text.specs.declared.shapes.TheConstants.{ORDER, SHAPES};
 ghost use Rattle.insn_text.specs.declared.words.TheConstants.{NAMES};
-ghost use Rattle.insn_text.specs.Cited.{is_cited};
+ghost use Rattle.insn_text.specs.Cited.{is_cited, none_is_hidden};
 ghost use Rattle.insn_text.specs.Names.{name_of};
 ghost use Rattle.insn_text.specs.Rules.{IsPrinted};
 ghost use Rattle.insn_text.specs.Texts.{printed_shape, text_at};
+ghost use Rattle.insn_text.specs.Wordings.{are_shapes, have_shapes, stand_in_order, texts};
 
 /// Each word that means an instruction has a text.
 pub fn every_word_is_printed()
     ensures { (word : ℕ) (it : Insn) → MeansEither word it → IsPrinted word }
 {}
 
-/// Each shape is a text of a row of the table: it has the row's fixed bits, its name is that of the row's operation, or an alias of it, and its
-/// operands say the row's fields in their order.
+/// The shapes are the texts of the table, each once, in the order of their names: a shape has its text's
+/// name and operands, and fixes the bits of the row and those that the text sets; each field of the row is
+/// set or said, and no other.
+pub fn shapes_are_texts()
+    ensures each { are_shapes texts ORDER SHAPES ≡ true }
+    ensures order { stand_in_order SHAPES ORDER ≡ true }
+    ensures all { have_shapes texts ORDER ≡ true }
+{}
+
+/// Each shape is a text of a row of the table: it has the row's fixed bits, its name is that of the row's
+/// operation, or an alias of it, and its operands say the row's fields in their order.
 pub fn texts_are_those_of_rows()
-    ensures { list_all is_cited SHAPES ≡ true }
+    ensures cited { list_all is_cited SHAPES ≡ true }
+    ensures order { none_is_hidden SHAPES ≡ true }
 {}
 
 /// The name in which a word is printed is that of its instruction's operation.
 pub fn names_are_those_of_operations()
-    ensures { (word : ℕ) (it : Insn) (means : Means scalar word it) (shape : Shape) → printed_shape word ≡ Some shape → text_at NAMES shape.name ≡ name_of means.line.operation (numbers_in word) }
+    ensures { (word : ℕ) (it : Insn) (means : Means scalar word it) (shape : Shape)
+        → printed_shape word ≡ Some shape
+        → text_at NAMES shape.name ≡ name_of means.line.operation (numbers_in word) }
 {}

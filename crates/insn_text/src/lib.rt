@@ -1,24 +1,28 @@
 //! The text of instructions: `print_insn` writes it, and the tables say it.
 //!
-//! A shape is one text of an instruction, without optional parts. The text of a word is that of the first shape that is
-//! no alias and whose fixed bits the word has.
+//! A shape is one text of an instruction, without optional parts. The text of a word is that of the first
+//! shape that is no alias and whose fixed bits the word has.
 #![tactic(auto)]
 
 mod item;
+mod items;
 mod laws;
+mod names;
 mod operands;
 mod print;
 mod printed;
 mod shape;
 mod shapes;
-#[cfg(test)]
-mod tests;
+mod texts;
 mod words;
 
-pub use item::{Item, Kind, Rule, Shape, Text};
-pub use laws::{every_word_is_printed, names_are_those_of_operations, texts_are_those_of_rows};
-pub use operands::ITEMS;
+pub use item::{Item, Kind, RegisterFile, Rule, Setting, Shape, Text, Wording};
+pub use items::{ITEMS, OPERANDS};
+pub use laws::{
+    every_word_is_printed, names_are_those_of_operations, shapes_are_texts, texts_are_those_of_rows,
+};
 pub use print::{print_insn, print_word};
 pub use printed::{PRINTED, ROOTS};
-pub use shapes::{SHAPES, STARTS};
+pub use shapes::{ORDER, SHAPES, STARTS};
+pub use texts::{ACCESSES, BOTH, EXTENDED, ORDERED, PAIRS, SINGLE, SIZED};
 pub use words::{NAMES, WORDS};

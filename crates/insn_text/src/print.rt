@@ -1,20 +1,24 @@
 //! Printing a word.
-ghost use Rattle.std.specs.Prelude.{◌≡◌, ℕ, ◌+◌, ◌-◌, ◌*◌, ◌^◌, ◌<◌, ◌≤◌, ◌++◌, true, false, length, drop, decimal, codes};
+ghost use Rattle.std.specs.Prelude.{◌≡◌, ℕ, ◌+◌, ◌-◌, ◌*◌, ◌^◌, ◌<◌, ◌≤◌, ◌++◌, true, false, length, drop};
+ghost use Rattle.std.specs.Prelude.{decimal, codes};
 ghost use Rattle.std.specs.Fmt.{digit_glyph};
 ghost use Rattle.std.specs.List.{list_all};
 ghost use Rattle.std.specs.Str.{IsAscii};
 ghost use Rattle.a64_encode.specs.Either.{MeansEither};
 ghost use Rattle.insn_text.specs.declared.item.Kind.TheVariants.{Mark};
 ghost use Rattle.insn_text.specs.Places.{has_ascii_mark, is_sized};
-ghost use Rattle.insn_text.specs.Texts.{bits_of, distance_text, field_in, gap, hexadecimal, is_comma, is_mark, is_positive, item_text, items_text, kind_text, mask_in, mask_text, register_place, shape_text, signed_text, size_of, text_at, text_of};
+ghost use Rattle.insn_text.specs.Texts.{bits_of, distance_text, field_in, gap, hexadecimal, is_comma};
+ghost use Rattle.insn_text.specs.Texts.{is_mark, is_positive, item_text, items_text, kind_text, mask_in};
+ghost use Rattle.insn_text.specs.Texts.{mask_text, register_text, file_text, shape_text, signed_text};
+ghost use Rattle.insn_text.specs.Texts.{size_of, text_at, text_of};
 ghost use Rattle.insn_text.specs.declared.words.TheConstants.{WORDS};
 
-use crate::item::{Item, Kind, Shape};
+use crate::item::{Item, Kind, RegisterFile, Shape};
 use crate::shape::{name_at, operands_of, shape_of, word_at};
 use a64_encode::encode;
 use arrayvec::ArrayString;
 use bit_ops::bit_mask;
-use insn_forms::run_of_bits;
+use insn_forms::{field_in, run_of_bits};
 use sm_types::Insn;
 
 /// Writes the text of a word, and nothing for a word that has none; whatever `out` held is gone.
@@ -100,25 +104,22 @@ fn push_item(out: &mut ArrayString<96>, item: &Item, word: u32)
     requires room { length out.old.bytes + length (item_text word item.now) ≤ 96 }
     ensures { out.new.bytes ≡ out.old.bytes ++ item_text word item.now }
 {
-    let field = field_in(item, word);
     push_kind(
         out,
         item.kind,
-        item.width as u32 + item.upper_width as u32,
-        field,
+        u32::from(item.field.width) + u32::from(item.field.upper_width),
+        number_in(item, word),
     );
 }
 
 /// The number of an operand's field in a word.
-fn field_in(item: &Item, word: u32) -> u64
+fn number_in(item: &Item, word: u32) -> u64
     requires { is_sized item.now ≡ true }
     ensures value { result ≡ field_in item.now word }
     ensures small { result < 2 ^ bits_of item.now }
     ensures below { result < 2 ^ 31 }
 {
-    let upper = run_of_bits(word, item.upper_low as u32, item.upper_width as u32) as u64;
-    let lower = run_of_bits(word, item.low as u32, item.width as u32) as u64;
-    upper * (1 << item.width as u32) + lower
+    u64::from(field_in(&item.field, word))
 }
 
 /// Appends the text of a field of so many bits.
@@ -134,7 +135,7 @@ fn push_kind(out: &mut ArrayString<96>, kind: Kind, bits: u32, field: u64)
     match kind {
         Kind::Mark(mark) => push_bytes(out, &[mark]),
         Kind::Named { first, .. } => push_word(out, first as usize + field as usize),
-        Kind::Register { first, last } => push_word(out, register_place(first, last, field)),
+        Kind::Register { file, last } => push_register(out, file, last, field),
         Kind::Unsigned { base, scale, .. } => push_unsigned(
             out,
             field * scale as u64 + base as u64,
@@ -165,16 +166,29 @@ fn push_word(out: &mut ArrayString<96>, place: usize)
     push_bytes(out, word_at(place));
 }
 
-/// The place of the word of a register.
-#[tactic(auto, unfolding(crate::specs::Texts::register_place))]
-fn register_place(first: u16, last: u16, number: u64) -> usize
-    requires { number < 2 ^ 31 }
-    ensures { result ≡ register_place first last number }
+/// Appends the letter of a file of registers.
+#[tactic(auto, unfolding(crate::specs::Texts::file_text))]
+fn push_file(out: &mut ArrayString<96>, file: RegisterFile)
+    requires { length out.old.bytes + length (file_text file) ≤ 96 }
+    ensures { out.new.bytes ≡ out.old.bytes ++ file_text file }
+{
+    match file {
+        RegisterFile::X => out.push_str("x"),
+        RegisterFile::W => out.push_str("w"),
+    }
+}
+
+/// Appends a register of a file.
+#[tactic(auto, unfolding(crate::specs::Texts::register_text))]
+fn push_register(out: &mut ArrayString<96>, file: RegisterFile, last: u16, number: u64)
+    requires { length out.old.bytes + length (register_text file last number) ≤ 96 }
+    ensures { out.new.bytes ≡ out.old.bytes ++ register_text file last number }
 {
     if number == 31 {
-        last as usize
+        push_word(out, last as usize);
     } else {
-        first as usize + number as usize
+        push_file(out, file);
+        push_number(out, number);
     }
 }
 

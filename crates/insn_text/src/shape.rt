@@ -7,7 +7,7 @@ ghost use Rattle.insn_text.specs.Places.{first_at, if_printed, is_sized, part_of
 ghost use Rattle.insn_text.specs.Texts.{items_of, printed_shape, prints, text_at};
 
 use crate::item::{Item, Shape, Text};
-use crate::operands::ITEMS;
+use crate::items::ITEMS;
 use crate::printed::{PRINTED, ROOTS};
 use crate::shapes::SHAPES;
 use crate::words::{NAMES, WORDS};

@@ -1,4 +1,4 @@
-//! The shapes of the instructions' texts, as `make_table.py` writes them.
+//! The shapes of the instructions' texts, as `make_table.py` writes them from those of texts.rt.
 use crate::item::Shape;
 
 macro_rules! shapes {
@@ -7,66 +7,67 @@ macro_rules! shapes {
     };
 }
 
-/// The shapes, by name: mask, value, the place of the name, of the operands and their number, and whether it is an alias.
-pub static SHAPES: [Shape; 684] = shapes! {
+/// The shapes, by name: mask, value, the place of the name, of the operands and their number, and whether
+/// it is an alias.
+pub static SHAPES: [Shape; 682] = shapes! {
     0xFFE0FC00 0x9A000000 0 0 5 false; // adc
     0xFFE0FC00 0x1A000000 0 5 5 false; // adc
     0xFFE0FC00 0xBA000000 1 0 5 false; // adcs
     0xFFE0FC00 0x3A000000 1 5 5 false; // adcs
     0xFFC00000 0x91000000 2 10 5 false; // add
-    0xFFC00000 0x91400000 2 15 8 false; // add
+    0xFFC00000 0x11000000 2 15 5 false; // add
+    0xFFC00000 0x91400000 2 20 8 false; // add
+    0xFFC00000 0x11400000 2 28 8 false; // add
     0xFFE0FC00 0x8B000000 2 0 5 false; // add
-    0xFF200000 0x8B000000 2 23 8 false; // add
-    0xFFE0FC00 0x8B206000 2 31 7 false; // add
-    0xFFE0E000 0x8B206000 2 38 8 false; // add
-    0xFFE0FC00 0x8B20E000 2 46 7 false; // add
-    0xFFE0E000 0x8B20E000 2 53 8 false; // add
-    0xFFE09C00 0x8B200000 2 61 7 false; // add
-    0xFFE08000 0x8B200000 2 68 8 false; // add
-    0xFFE09C00 0x8B208000 2 76 7 false; // add
-    0xFFE08000 0x8B208000 2 83 8 false; // add
-    0xFFC00000 0x11000000 2 91 5 false; // add
-    0xFFC00000 0x11400000 2 96 8 false; // add
     0xFFE0FC00 0x0B000000 2 5 5 false; // add
-    0xFF208000 0x0B000000 2 104 8 false; // add
+    0xFF200000 0x8B000000 2 36 8 false; // add
+    0xFF208000 0x0B000000 2 44 8 false; // add
+    0xFFE0FC00 0x8B206000 2 52 7 false; // add
+    0xFFE0E000 0x8B206000 2 59 8 false; // add
+    0xFFE0FC00 0x8B20E000 2 67 7 false; // add
+    0xFFE0E000 0x8B20E000 2 74 8 false; // add
+    0xFFE09C00 0x8B200000 2 82 7 false; // add
+    0xFFE08000 0x8B200000 2 89 8 false; // add
+    0xFFE09C00 0x8B208000 2 97 7 false; // add
+    0xFFE08000 0x8B208000 2 104 8 false; // add
     0xFFE01C00 0x0B200000 2 112 7 false; // add
     0xFFE00000 0x0B200000 2 119 8 false; // add
     0xFFC00000 0xB1000000 3 127 5 false; // adds
-    0xFFC00000 0xB1400000 3 132 8 false; // adds
+    0xFFC00000 0x31000000 3 132 5 false; // adds
+    0xFFC00000 0xB1400000 3 137 8 false; // adds
+    0xFFC00000 0x31400000 3 145 8 false; // adds
     0xFFE0FC00 0xAB000000 3 0 5 false; // adds
-    0xFF200000 0xAB000000 3 23 8 false; // adds
-    0xFFE0FC00 0xAB206000 3 140 7 false; // adds
-    0xFFE0E000 0xAB206000 3 147 8 false; // adds
-    0xFFE0FC00 0xAB20E000 3 155 7 false; // adds
-    0xFFE0E000 0xAB20E000 3 162 8 false; // adds
-    0xFFE09C00 0xAB200000 3 170 7 false; // adds
-    0xFFE08000 0xAB200000 3 177 8 false; // adds
-    0xFFE09C00 0xAB208000 3 185 7 false; // adds
-    0xFFE08000 0xAB208000 3 192 8 false; // adds
-    0xFFC00000 0x31000000 3 200 5 false; // adds
-    0xFFC00000 0x31400000 3 205 8 false; // adds
     0xFFE0FC00 0x2B000000 3 5 5 false; // adds
-    0xFF208000 0x2B000000 3 104 8 false; // adds
+    0xFF200000 0xAB000000 3 36 8 false; // adds
+    0xFF208000 0x2B000000 3 44 8 false; // adds
+    0xFFE0FC00 0xAB206000 3 153 7 false; // adds
+    0xFFE0E000 0xAB206000 3 160 8 false; // adds
+    0xFFE0FC00 0xAB20E000 3 168 7 false; // adds
+    0xFFE0E000 0xAB20E000 3 175 8 false; // adds
+    0xFFE09C00 0xAB200000 3 183 7 false; // adds
+    0xFFE08000 0xAB200000 3 190 8 false; // adds
+    0xFFE09C00 0xAB208000 3 198 7 false; // adds
+    0xFFE08000 0xAB208000 3 205 8 false; // adds
     0xFFE01C00 0x2B200000 3 213 7 false; // adds
     0xFFE00000 0x2B200000 3 220 8 false; // adds
     0x9F000000 0x10000000 4 228 3 false; // adr
     0x9F000000 0x90000000 5 231 3 false; // adrp
     0xFFE0FC00 0x8A000000 6 0 5 false; // and
-    0xFF200000 0x8A000000 6 234 8 false; // and
-    0xFF800000 0x92000000 6 242 5 false; // and
     0xFFE0FC00 0x0A000000 6 5 5 false; // and
-    0xFF208000 0x0A000000 6 247 8 false; // and
+    0xFF200000 0x8A000000 6 234 8 false; // and
+    0xFF208000 0x0A000000 6 242 8 false; // and
+    0xFF800000 0x92000000 6 250 5 false; // and
     0xFFC00000 0x12000000 6 255 5 false; // and
     0xFFE0FC00 0xEA000000 7 0 5 false; // ands
-    0xFF200000 0xEA000000 7 234 8 false; // ands
-    0xFF800000 0xF2000000 7 260 5 false; // ands
     0xFFE0FC00 0x6A000000 7 5 5 false; // ands
-    0xFF208000 0x6A000000 7 247 8 false; // ands
+    0xFF200000 0xEA000000 7 234 8 false; // ands
+    0xFF208000 0x6A000000 7 242 8 false; // ands
+    0xFF800000 0xF2000000 7 260 5 false; // ands
     0xFFC00000 0x72000000 7 265 5 false; // ands
-    0xFFC0FC00 0x9340FC00 8 270 5 true; // asr
     0xFFE0FC00 0x9AC02800 8 0 5 true; // asr
-    0xFFE0FC00 0x13007C00 8 275 5 true; // asr
     0xFFE0FC00 0x1AC02800 8 5 5 true; // asr
+    0xFFC0FC00 0x9340FC00 8 270 5 true; // asr
+    0xFFE0FC00 0x13007C00 8 275 5 true; // asr
     0xFFE0FC00 0x9AC02800 9 0 5 false; // asrv
     0xFFE0FC00 0x1AC02800 9 5 5 false; // asrv
     0xFC000000 0x14000000 10 280 1 false; // b
@@ -89,13 +90,13 @@ pub static SHAPES: [Shape; 684] = shapes! {
     0xFFC00000 0xB3400000 27 282 7 false; // bfm
     0xFFE08000 0x33000000 27 289 7 false; // bfm
     0xFFE0FC00 0x8A200000 28 0 5 false; // bic
-    0xFF200000 0x8A200000 28 234 8 false; // bic
     0xFFE0FC00 0x0A200000 28 5 5 false; // bic
-    0xFF208000 0x0A200000 28 247 8 false; // bic
+    0xFF200000 0x8A200000 28 234 8 false; // bic
+    0xFF208000 0x0A200000 28 242 8 false; // bic
     0xFFE0FC00 0xEA200000 29 0 5 false; // bics
-    0xFF200000 0xEA200000 29 234 8 false; // bics
     0xFFE0FC00 0x6A200000 29 5 5 false; // bics
-    0xFF208000 0x6A200000 29 247 8 false; // bics
+    0xFF200000 0xEA200000 29 234 8 false; // bics
+    0xFF208000 0x6A200000 29 242 8 false; // bics
     0xFC000000 0x94000000 30 280 1 false; // bl
     0xFFFFFC1F 0xD63F0000 31 296 1 false; // blr
     0xFFFFFC1F 0xD61F0000 32 296 1 false; // br
@@ -121,51 +122,51 @@ pub static SHAPES: [Shape; 684] = shapes! {
     0xFF000000 0xB4000000 47 312 3 false; // cbz
     0xFF000000 0x34000000 47 315 3 false; // cbz
     0xFFE00C10 0xBA400000 48 318 7 false; // ccmn
-    0xFFE00C10 0xBA400800 48 325 7 false; // ccmn
-    0xFFE00C10 0x3A400000 48 332 7 false; // ccmn
+    0xFFE00C10 0x3A400000 48 325 7 false; // ccmn
+    0xFFE00C10 0xBA400800 48 332 7 false; // ccmn
     0xFFE00C10 0x3A400800 48 339 7 false; // ccmn
     0xFFE00C10 0xFA400000 49 318 7 false; // ccmp
-    0xFFE00C10 0xFA400800 49 325 7 false; // ccmp
-    0xFFE00C10 0x7A400000 49 332 7 false; // ccmp
+    0xFFE00C10 0x7A400000 49 325 7 false; // ccmp
+    0xFFE00C10 0xFA400800 49 332 7 false; // ccmp
     0xFFE00C10 0x7A400800 49 339 7 false; // ccmp
     0xFFFFFC00 0xDAC01400 50 346 3 false; // cls
     0xFFFFFC00 0x5AC01400 50 349 3 false; // cls
     0xFFFFFC00 0xDAC01000 51 346 3 false; // clz
     0xFFFFFC00 0x5AC01000 51 349 3 false; // clz
     0xFFC0001F 0xB100001F 52 352 3 true; // cmn
-    0xFFC0001F 0xB140001F 52 355 6 true; // cmn
-    0xFFE0FC1F 0xAB00001F 52 361 3 true; // cmn
-    0xFF20001F 0xAB00001F 52 364 6 true; // cmn
-    0xFFE0FC1F 0xAB20601F 52 370 5 true; // cmn
-    0xFFE0E01F 0xAB20601F 52 375 6 true; // cmn
-    0xFFE0FC1F 0xAB20E01F 52 381 5 true; // cmn
-    0xFFE0E01F 0xAB20E01F 52 386 6 true; // cmn
-    0xFFE09C1F 0xAB20001F 52 392 5 true; // cmn
-    0xFFE0801F 0xAB20001F 52 397 6 true; // cmn
-    0xFFE09C1F 0xAB20801F 52 403 5 true; // cmn
-    0xFFE0801F 0xAB20801F 52 408 6 true; // cmn
-    0xFFC0001F 0x3100001F 52 414 3 true; // cmn
-    0xFFC0001F 0x3140001F 52 417 6 true; // cmn
-    0xFFE0FC1F 0x2B00001F 52 423 3 true; // cmn
-    0xFF20801F 0x2B00001F 52 426 6 true; // cmn
+    0xFFC0001F 0x3100001F 52 355 3 true; // cmn
+    0xFFC0001F 0xB140001F 52 358 6 true; // cmn
+    0xFFC0001F 0x3140001F 52 364 6 true; // cmn
+    0xFFE0FC1F 0xAB00001F 52 370 3 true; // cmn
+    0xFFE0FC1F 0x2B00001F 52 373 3 true; // cmn
+    0xFF20001F 0xAB00001F 52 376 6 true; // cmn
+    0xFF20801F 0x2B00001F 52 382 6 true; // cmn
+    0xFFE0FC1F 0xAB20601F 52 388 5 true; // cmn
+    0xFFE0E01F 0xAB20601F 52 393 6 true; // cmn
+    0xFFE0FC1F 0xAB20E01F 52 399 5 true; // cmn
+    0xFFE0E01F 0xAB20E01F 52 404 6 true; // cmn
+    0xFFE09C1F 0xAB20001F 52 410 5 true; // cmn
+    0xFFE0801F 0xAB20001F 52 415 6 true; // cmn
+    0xFFE09C1F 0xAB20801F 52 421 5 true; // cmn
+    0xFFE0801F 0xAB20801F 52 426 6 true; // cmn
     0xFFE01C1F 0x2B20001F 52 432 5 true; // cmn
     0xFFE0001F 0x2B20001F 52 437 6 true; // cmn
     0xFFC0001F 0xF100001F 53 352 3 true; // cmp
-    0xFFC0001F 0xF140001F 53 355 6 true; // cmp
-    0xFFE0FC1F 0xEB00001F 53 361 3 true; // cmp
-    0xFF20001F 0xEB00001F 53 364 6 true; // cmp
-    0xFFE0FC1F 0xEB20601F 53 370 5 true; // cmp
-    0xFFE0E01F 0xEB20601F 53 375 6 true; // cmp
-    0xFFE0FC1F 0xEB20E01F 53 381 5 true; // cmp
-    0xFFE0E01F 0xEB20E01F 53 386 6 true; // cmp
-    0xFFE09C1F 0xEB20001F 53 392 5 true; // cmp
-    0xFFE0801F 0xEB20001F 53 397 6 true; // cmp
-    0xFFE09C1F 0xEB20801F 53 403 5 true; // cmp
-    0xFFE0801F 0xEB20801F 53 408 6 true; // cmp
-    0xFFC0001F 0x7100001F 53 414 3 true; // cmp
-    0xFFC0001F 0x7140001F 53 417 6 true; // cmp
-    0xFFE0FC1F 0x6B00001F 53 423 3 true; // cmp
-    0xFF20801F 0x6B00001F 53 426 6 true; // cmp
+    0xFFC0001F 0x7100001F 53 355 3 true; // cmp
+    0xFFC0001F 0xF140001F 53 358 6 true; // cmp
+    0xFFC0001F 0x7140001F 53 364 6 true; // cmp
+    0xFFE0FC1F 0xEB00001F 53 370 3 true; // cmp
+    0xFFE0FC1F 0x6B00001F 53 373 3 true; // cmp
+    0xFF20001F 0xEB00001F 53 376 6 true; // cmp
+    0xFF20801F 0x6B00001F 53 382 6 true; // cmp
+    0xFFE0FC1F 0xEB20601F 53 388 5 true; // cmp
+    0xFFE0E01F 0xEB20601F 53 393 6 true; // cmp
+    0xFFE0FC1F 0xEB20E01F 53 399 5 true; // cmp
+    0xFFE0E01F 0xEB20E01F 53 404 6 true; // cmp
+    0xFFE09C1F 0xEB20001F 53 410 5 true; // cmp
+    0xFFE0801F 0xEB20001F 53 415 6 true; // cmp
+    0xFFE09C1F 0xEB20801F 53 421 5 true; // cmp
+    0xFFE0801F 0xEB20801F 53 426 6 true; // cmp
     0xFFE01C1F 0x6B20001F 53 432 5 true; // cmp
     0xFFE0001F 0x6B20001F 53 437 6 true; // cmp
     0xFFE00C00 0x9A800000 54 443 7 false; // csel
@@ -181,14 +182,14 @@ pub static SHAPES: [Shape; 684] = shapes! {
     0xFFFFF0FF 0xD50330BF 59 463 1 false; // dmb
     0xFFFFF0FF 0xD503309F 60 463 1 false; // dsb
     0xFFE0FC00 0xCA200000 61 0 5 false; // eon
-    0xFF200000 0xCA200000 61 234 8 false; // eon
     0xFFE0FC00 0x4A200000 61 5 5 false; // eon
-    0xFF208000 0x4A200000 61 247 8 false; // eon
+    0xFF200000 0xCA200000 61 234 8 false; // eon
+    0xFF208000 0x4A200000 61 242 8 false; // eon
     0xFFE0FC00 0xCA000000 62 0 5 false; // eor
-    0xFF200000 0xCA000000 62 234 8 false; // eor
-    0xFF800000 0xD2000000 62 242 5 false; // eor
     0xFFE0FC00 0x4A000000 62 5 5 false; // eor
-    0xFF208000 0x4A000000 62 247 8 false; // eor
+    0xFF200000 0xCA000000 62 234 8 false; // eor
+    0xFF208000 0x4A000000 62 242 8 false; // eor
+    0xFF800000 0xD2000000 62 250 5 false; // eor
     0xFFC00000 0x52000000 62 255 5 false; // eor
     0xFFE00000 0x93C00000 63 464 7 false; // extr
     0xFFE08000 0x13800000 63 471 7 false; // extr
@@ -254,6 +255,8 @@ pub static SHAPES: [Shape; 684] = shapes! {
     0xFFC00000 0xA9400000 105 531 9 false; // ldp
     0xFFC00000 0xA8C00000 105 540 9 false; // ldp
     0xFFC00000 0xA9C00000 105 549 10 false; // ldp
+    0xFF000000 0x18000000 106 315 3 false; // ldr
+    0xFF000000 0x58000000 106 312 3 false; // ldr
     0xFFFFFC00 0xB9400000 106 479 5 false; // ldr
     0xFFC00000 0xB9400000 106 559 7 false; // ldr
     0xFFE00C00 0xB8400400 106 566 7 false; // ldr
@@ -278,8 +281,6 @@ pub static SHAPES: [Shape; 684] = shapes! {
     0xFFE0FC00 0xF860D800 106 722 10 false; // ldr
     0xFFE0FC00 0xF860E800 106 732 9 false; // ldr
     0xFFE0FC00 0xF860F800 106 741 10 false; // ldr
-    0xFF000000 0x18000000 106 315 3 false; // ldr
-    0xFF000000 0x58000000 106 312 3 false; // ldr
     0xFFFFFC00 0x39400000 107 479 5 false; // ldrb
     0xFFC00000 0x39400000 107 751 7 false; // ldrb
     0xFFE00C00 0x38400400 107 566 7 false; // ldrb
@@ -352,6 +353,7 @@ pub static SHAPES: [Shape; 684] = shapes! {
     0xFFE0FC00 0x78E0D800 110 825 10 false; // ldrsh
     0xFFE0FC00 0x78E0E800 110 636 9 false; // ldrsh
     0xFFE0FC00 0x78E0F800 110 835 10 false; // ldrsh
+    0xFF000000 0x98000000 111 312 3 false; // ldrsw
     0xFFFFFC00 0xB9800000 111 484 5 false; // ldrsw
     0xFFC00000 0xB9800000 111 939 7 false; // ldrsw
     0xFFE00C00 0xB8800400 111 662 7 false; // ldrsw
@@ -364,7 +366,6 @@ pub static SHAPES: [Shape; 684] = shapes! {
     0xFFE0FC00 0xB8A0D800 111 966 10 false; // ldrsw
     0xFFE0FC00 0xB8A0E800 111 732 9 false; // ldrsw
     0xFFE0FC00 0xB8A0F800 111 976 10 false; // ldrsw
-    0xFF000000 0x98000000 111 312 3 false; // ldrsw
     0xFFE0FC00 0xB8203000 112 298 7 false; // ldset
     0xFFE0FC00 0xF8203000 112 305 7 false; // ldset
     0xFFE0FC00 0xB8A03000 113 298 7 false; // ldseta
@@ -463,83 +464,81 @@ pub static SHAPES: [Shape; 684] = shapes! {
     0xFFE00C00 0x78C00000 176 986 7 false; // ldursh
     0xFFFFFC00 0xB8800000 177 484 5 false; // ldursw
     0xFFE00C00 0xB8800000 177 993 7 false; // ldursw
-    0xFFC00000 0xD3400000 178 1000 5 true; // lsl
     0xFFE0FC00 0x9AC02000 178 0 5 true; // lsl
-    0xFFE08000 0x53000000 178 1005 5 true; // lsl
     0xFFE0FC00 0x1AC02000 178 5 5 true; // lsl
+    0xFFC00000 0xD3400000 178 1000 5 true; // lsl
+    0xFFE08000 0x53000000 178 1005 5 true; // lsl
     0xFFE0FC00 0x9AC02000 179 0 5 false; // lslv
     0xFFE0FC00 0x1AC02000 179 5 5 false; // lslv
-    0xFFC0FC00 0xD340FC00 180 270 5 true; // lsr
     0xFFE0FC00 0x9AC02400 180 0 5 true; // lsr
-    0xFFE0FC00 0x53007C00 180 275 5 true; // lsr
     0xFFE0FC00 0x1AC02400 180 5 5 true; // lsr
+    0xFFC0FC00 0xD340FC00 180 270 5 true; // lsr
+    0xFFE0FC00 0x53007C00 180 275 5 true; // lsr
     0xFFE0FC00 0x9AC02400 181 0 5 false; // lsrv
     0xFFE0FC00 0x1AC02400 181 5 5 false; // lsrv
     0xFFE08000 0x9B000000 182 1010 7 false; // madd
     0xFFE08000 0x1B000000 182 1017 7 false; // madd
     0xFFE0FFE0 0xAA0003E0 183 1024 3 true; // mov
-    0xFFFFFC1F 0x9100001F 183 1027 3 true; // mov
-    0xFFFFFFE0 0x910003E0 183 1030 3 true; // mov
-    0xFF800000 0xD2800000 183 1033 3 true; // mov
-    0xFF800000 0x92800000 183 1036 3 true; // mov
-    0xFF8003E0 0xB20003E0 183 1039 3 true; // mov
-    0xFF8003FF 0xB20003FF 183 1042 3 true; // mov
-    0xFFE0FFE0 0x2A0003E0 183 1045 3 true; // mov
-    0xFFFFFC1F 0x1100001F 183 1048 3 true; // mov
-    0xFFFFFFE0 0x110003E0 183 1051 3 true; // mov
-    0xFFC00000 0x52800000 183 1054 3 true; // mov
-    0xFFC00000 0x12800000 183 1057 3 true; // mov
-    0xFFC003E0 0x320003E0 183 1060 3 true; // mov
-    0xFFC003FF 0x320003FF 183 1063 3 true; // mov
-    0xFFE00000 0xF2800000 184 1066 3 false; // movk
-    0xFF800000 0xF2800000 184 1069 6 false; // movk
-    0xFFE00000 0x72800000 184 1075 3 false; // movk
-    0xFFC00000 0x72800000 184 1078 6 false; // movk
-    0xFFE00000 0x92800000 185 1066 3 false; // movn
-    0xFF800000 0x92800000 185 1069 6 false; // movn
-    0xFFE00000 0x12800000 185 1075 3 false; // movn
-    0xFFC00000 0x12800000 185 1078 6 false; // movn
-    0xFFE00000 0xD2800000 186 1066 3 false; // movz
-    0xFF800000 0xD2800000 186 1069 6 false; // movz
-    0xFFE00000 0x52800000 186 1075 3 false; // movz
-    0xFFC00000 0x52800000 186 1078 6 false; // movz
-    0xFFFFFFE0 0xD53B4200 187 1084 3 false; // mrs
-    0xFFFFFFE0 0xD53BD040 187 1087 3 false; // mrs
-    0xFFFFFFE0 0xD53BD0A0 187 1090 3 false; // mrs
-    0xFFFFFFE0 0xD53B4240 187 1093 3 false; // mrs
-    0xFFFFFFE0 0xD51B4200 188 1096 3 false; // msr
-    0xFFFFFFE0 0xD51BD040 188 1099 3 false; // msr
-    0xFFFFFFE0 0xD51BD0A0 188 1102 3 false; // msr
-    0xFFFFFFE0 0xD51B4240 188 1105 3 false; // msr
+    0xFFE0FFE0 0x2A0003E0 183 1027 3 true; // mov
+    0xFFFFFC1F 0x9100001F 183 1030 3 true; // mov
+    0xFFFFFC1F 0x1100001F 183 1033 3 true; // mov
+    0xFFFFFFE0 0x910003E0 183 1036 3 true; // mov
+    0xFFFFFFE0 0x110003E0 183 1039 3 true; // mov
+    0xFF800000 0xD2800000 183 1042 3 true; // mov
+    0xFFC00000 0x52800000 183 1045 3 true; // mov
+    0xFF800000 0x92800000 183 1048 3 true; // mov
+    0xFFC00000 0x12800000 183 1051 3 true; // mov
+    0xFF8003E0 0xB20003E0 183 1054 3 true; // mov
+    0xFFC003E0 0x320003E0 183 1057 3 true; // mov
+    0xFFE00000 0xF2800000 184 1060 3 false; // movk
+    0xFFE00000 0x72800000 184 1063 3 false; // movk
+    0xFF800000 0xF2800000 184 1066 6 false; // movk
+    0xFFC00000 0x72800000 184 1072 6 false; // movk
+    0xFFE00000 0x92800000 185 1060 3 false; // movn
+    0xFFE00000 0x12800000 185 1063 3 false; // movn
+    0xFF800000 0x92800000 185 1066 6 false; // movn
+    0xFFC00000 0x12800000 185 1072 6 false; // movn
+    0xFFE00000 0xD2800000 186 1060 3 false; // movz
+    0xFFE00000 0x52800000 186 1063 3 false; // movz
+    0xFF800000 0xD2800000 186 1066 6 false; // movz
+    0xFFC00000 0x52800000 186 1072 6 false; // movz
+    0xFFFFFFE0 0xD53B4200 187 1078 3 false; // mrs
+    0xFFFFFFE0 0xD53BD040 187 1081 3 false; // mrs
+    0xFFFFFFE0 0xD53BD0A0 187 1084 3 false; // mrs
+    0xFFFFFFE0 0xD53B4240 187 1087 3 false; // mrs
+    0xFFFFFFE0 0xD51B4200 188 1090 3 false; // msr
+    0xFFFFFFE0 0xD51BD040 188 1093 3 false; // msr
+    0xFFFFFFE0 0xD51BD0A0 188 1096 3 false; // msr
+    0xFFFFFFE0 0xD51B4240 188 1099 3 false; // msr
     0xFFE08000 0x9B008000 189 1010 7 false; // msub
     0xFFE08000 0x1B008000 189 1017 7 false; // msub
     0xFFE0FC00 0x9B007C00 190 0 5 true; // mul
     0xFFE0FC00 0x1B007C00 190 5 5 true; // mul
     0xFFE0FFE0 0xAA2003E0 191 1024 3 true; // mvn
-    0xFF2003E0 0xAA2003E0 191 1108 6 true; // mvn
-    0xFFE0FFE0 0x2A2003E0 191 1045 3 true; // mvn
-    0xFF2083E0 0x2A2003E0 191 1114 6 true; // mvn
+    0xFFE0FFE0 0x2A2003E0 191 1027 3 true; // mvn
+    0xFF2003E0 0xAA2003E0 191 1102 6 true; // mvn
+    0xFF2083E0 0x2A2003E0 191 1108 6 true; // mvn
     0xFFE0FFE0 0xCB0003E0 192 1024 3 true; // neg
-    0xFF2003E0 0xCB0003E0 192 1120 6 true; // neg
-    0xFFE0FFE0 0x4B0003E0 192 1045 3 true; // neg
-    0xFF2083E0 0x4B0003E0 192 1126 6 true; // neg
-    0xFFFFFFFF 0xD503201F 193 1132 0 true; // nop
+    0xFFE0FFE0 0x4B0003E0 192 1027 3 true; // neg
+    0xFF2003E0 0xCB0003E0 192 1114 6 true; // neg
+    0xFF2083E0 0x4B0003E0 192 1120 6 true; // neg
+    0xFFFFFFFF 0xD503201F 193 1126 0 true; // nop
     0xFFE0FC00 0xAA200000 194 0 5 false; // orn
-    0xFF200000 0xAA200000 194 234 8 false; // orn
     0xFFE0FC00 0x2A200000 194 5 5 false; // orn
-    0xFF208000 0x2A200000 194 247 8 false; // orn
+    0xFF200000 0xAA200000 194 234 8 false; // orn
+    0xFF208000 0x2A200000 194 242 8 false; // orn
     0xFFE0FC00 0xAA000000 195 0 5 false; // orr
-    0xFF200000 0xAA000000 195 234 8 false; // orr
-    0xFF800000 0xB2000000 195 242 5 false; // orr
     0xFFE0FC00 0x2A000000 195 5 5 false; // orr
-    0xFF208000 0x2A000000 195 247 8 false; // orr
+    0xFF200000 0xAA000000 195 234 8 false; // orr
+    0xFF208000 0x2A000000 195 242 8 false; // orr
+    0xFF800000 0xB2000000 195 250 5 false; // orr
     0xFFC00000 0x32000000 195 255 5 false; // orr
     0xFFFFFC00 0xDAC00000 196 346 3 false; // rbit
     0xFFFFFC00 0x5AC00000 196 349 3 false; // rbit
     0xFFFFFC1F 0xD65F0000 197 296 1 false; // ret
-    0xFFFFFFFF 0xD65F03C0 197 1132 0 true; // ret
-    0xFFFFFC00 0xDAC00C00 198 346 3 false; // rev
+    0xFFFFFFFF 0xD65F03C0 197 1126 0 true; // ret
     0xFFFFFC00 0x5AC00800 198 349 3 false; // rev
+    0xFFFFFC00 0xDAC00C00 198 346 3 false; // rev
     0xFFFFFC00 0xDAC00400 199 346 3 false; // rev16
     0xFFFFFC00 0x5AC00400 199 349 3 false; // rev16
     0xFFFFFC00 0xDAC00800 200 346 3 false; // rev32
@@ -553,21 +552,21 @@ pub static SHAPES: [Shape; 684] = shapes! {
     0xFFE08000 0x13000000 204 289 7 false; // sbfm
     0xFFE0FC00 0x9AC00C00 205 0 5 false; // sdiv
     0xFFE0FC00 0x1AC00C00 205 5 5 false; // sdiv
-    0xFFE08000 0x9B200000 206 1132 7 false; // smaddl
-    0xFFE08000 0x9B208000 207 1132 7 false; // smsubl
+    0xFFE08000 0x9B200000 206 1126 7 false; // smaddl
+    0xFFE08000 0x9B208000 207 1126 7 false; // smsubl
     0xFFE0FC00 0x9B407C00 208 0 5 false; // smulh
     0xFFFFFC00 0x889FFC00 209 479 5 false; // stlr
     0xFFFFFC00 0xC89FFC00 209 484 5 false; // stlr
     0xFFFFFC00 0x089FFC00 210 479 5 false; // stlrb
     0xFFFFFC00 0x489FFC00 211 479 5 false; // stlrh
-    0xFFFF8000 0x29000000 212 1139 7 false; // stp
-    0xFFC00000 0x29000000 212 1146 9 false; // stp
-    0xFFC00000 0x28800000 212 1155 9 false; // stp
-    0xFFC00000 0x29800000 212 1164 10 false; // stp
-    0xFFFF8000 0xA9000000 212 1174 7 false; // stp
-    0xFFC00000 0xA9000000 212 1181 9 false; // stp
-    0xFFC00000 0xA8800000 212 1190 9 false; // stp
-    0xFFC00000 0xA9800000 212 1199 10 false; // stp
+    0xFFFF8000 0x29000000 212 1133 7 false; // stp
+    0xFFC00000 0x29000000 212 1140 9 false; // stp
+    0xFFC00000 0x28800000 212 1149 9 false; // stp
+    0xFFC00000 0x29800000 212 1158 10 false; // stp
+    0xFFFF8000 0xA9000000 212 1168 7 false; // stp
+    0xFFC00000 0xA9000000 212 1175 9 false; // stp
+    0xFFC00000 0xA8800000 212 1184 9 false; // stp
+    0xFFC00000 0xA9800000 212 1193 10 false; // stp
     0xFFFFFC00 0xB9000000 213 479 5 false; // str
     0xFFC00000 0xB9000000 213 559 7 false; // str
     0xFFE00C00 0xB8000400 213 566 7 false; // str
@@ -625,39 +624,39 @@ pub static SHAPES: [Shape; 684] = shapes! {
     0xFFFFFC00 0x78000000 218 479 5 false; // sturh
     0xFFE00C00 0x78000000 218 986 7 false; // sturh
     0xFFC00000 0xD1000000 219 10 5 false; // sub
-    0xFFC00000 0xD1400000 219 15 8 false; // sub
+    0xFFC00000 0x51000000 219 15 5 false; // sub
+    0xFFC00000 0xD1400000 219 20 8 false; // sub
+    0xFFC00000 0x51400000 219 28 8 false; // sub
     0xFFE0FC00 0xCB000000 219 0 5 false; // sub
-    0xFF200000 0xCB000000 219 23 8 false; // sub
-    0xFFE0FC00 0xCB206000 219 31 7 false; // sub
-    0xFFE0E000 0xCB206000 219 38 8 false; // sub
-    0xFFE0FC00 0xCB20E000 219 46 7 false; // sub
-    0xFFE0E000 0xCB20E000 219 53 8 false; // sub
-    0xFFE09C00 0xCB200000 219 61 7 false; // sub
-    0xFFE08000 0xCB200000 219 68 8 false; // sub
-    0xFFE09C00 0xCB208000 219 76 7 false; // sub
-    0xFFE08000 0xCB208000 219 83 8 false; // sub
-    0xFFC00000 0x51000000 219 91 5 false; // sub
-    0xFFC00000 0x51400000 219 96 8 false; // sub
     0xFFE0FC00 0x4B000000 219 5 5 false; // sub
-    0xFF208000 0x4B000000 219 104 8 false; // sub
+    0xFF200000 0xCB000000 219 36 8 false; // sub
+    0xFF208000 0x4B000000 219 44 8 false; // sub
+    0xFFE0FC00 0xCB206000 219 52 7 false; // sub
+    0xFFE0E000 0xCB206000 219 59 8 false; // sub
+    0xFFE0FC00 0xCB20E000 219 67 7 false; // sub
+    0xFFE0E000 0xCB20E000 219 74 8 false; // sub
+    0xFFE09C00 0xCB200000 219 82 7 false; // sub
+    0xFFE08000 0xCB200000 219 89 8 false; // sub
+    0xFFE09C00 0xCB208000 219 97 7 false; // sub
+    0xFFE08000 0xCB208000 219 104 8 false; // sub
     0xFFE01C00 0x4B200000 219 112 7 false; // sub
     0xFFE00000 0x4B200000 219 119 8 false; // sub
     0xFFC00000 0xF1000000 220 127 5 false; // subs
-    0xFFC00000 0xF1400000 220 132 8 false; // subs
+    0xFFC00000 0x71000000 220 132 5 false; // subs
+    0xFFC00000 0xF1400000 220 137 8 false; // subs
+    0xFFC00000 0x71400000 220 145 8 false; // subs
     0xFFE0FC00 0xEB000000 220 0 5 false; // subs
-    0xFF200000 0xEB000000 220 23 8 false; // subs
-    0xFFE0FC00 0xEB206000 220 140 7 false; // subs
-    0xFFE0E000 0xEB206000 220 147 8 false; // subs
-    0xFFE0FC00 0xEB20E000 220 155 7 false; // subs
-    0xFFE0E000 0xEB20E000 220 162 8 false; // subs
-    0xFFE09C00 0xEB200000 220 170 7 false; // subs
-    0xFFE08000 0xEB200000 220 177 8 false; // subs
-    0xFFE09C00 0xEB208000 220 185 7 false; // subs
-    0xFFE08000 0xEB208000 220 192 8 false; // subs
-    0xFFC00000 0x71000000 220 200 5 false; // subs
-    0xFFC00000 0x71400000 220 205 8 false; // subs
     0xFFE0FC00 0x6B000000 220 5 5 false; // subs
-    0xFF208000 0x6B000000 220 104 8 false; // subs
+    0xFF200000 0xEB000000 220 36 8 false; // subs
+    0xFF208000 0x6B000000 220 44 8 false; // subs
+    0xFFE0FC00 0xEB206000 220 153 7 false; // subs
+    0xFFE0E000 0xEB206000 220 160 8 false; // subs
+    0xFFE0FC00 0xEB20E000 220 168 7 false; // subs
+    0xFFE0E000 0xEB20E000 220 175 8 false; // subs
+    0xFFE09C00 0xEB200000 220 183 7 false; // subs
+    0xFFE08000 0xEB200000 220 190 8 false; // subs
+    0xFFE09C00 0xEB208000 220 198 7 false; // subs
+    0xFFE08000 0xEB208000 220 205 8 false; // subs
     0xFFE01C00 0x6B200000 220 213 7 false; // subs
     0xFFE00000 0x6B200000 220 220 8 false; // subs
     0xFFE0001F 0xD4000001 221 297 1 false; // svc
@@ -677,23 +676,62 @@ pub static SHAPES: [Shape; 684] = shapes! {
     0xFFE0FC00 0xF8608000 231 305 7 false; // swpl
     0xFFE0FC00 0x38608000 232 298 7 false; // swplb
     0xFFE0FC00 0x78608000 233 298 7 false; // swplh
-    0x7F000000 0x37000000 234 1209 5 false; // tbnz
-    0x7F000000 0x36000000 235 1209 5 false; // tbz
-    0xFFE0FC1F 0xEA00001F 236 361 3 true; // tst
-    0xFF20001F 0xEA00001F 236 1214 6 true; // tst
+    0x7F000000 0x37000000 234 1203 5 false; // tbnz
+    0x7F000000 0x36000000 235 1203 5 false; // tbz
+    0xFFE0FC1F 0xEA00001F 236 370 3 true; // tst
+    0xFFE0FC1F 0x6A00001F 236 373 3 true; // tst
+    0xFF20001F 0xEA00001F 236 1208 6 true; // tst
+    0xFF20801F 0x6A00001F 236 1214 6 true; // tst
     0xFF80001F 0xF200001F 236 1220 3 true; // tst
-    0xFFE0FC1F 0x6A00001F 236 423 3 true; // tst
-    0xFF20801F 0x6A00001F 236 1223 6 true; // tst
-    0xFFC0001F 0x7200001F 236 1229 3 true; // tst
+    0xFFC0001F 0x7200001F 236 1223 3 true; // tst
     0xFFC00000 0xD3400000 237 282 7 false; // ubfm
     0xFFE08000 0x53000000 237 289 7 false; // ubfm
-    0xFFFF0000 0x00000000 238 1232 1 false; // udf
+    0xFFFF0000 0x00000000 238 1226 1 false; // udf
     0xFFE0FC00 0x9AC00800 239 0 5 false; // udiv
     0xFFE0FC00 0x1AC00800 239 5 5 false; // udiv
-    0xFFE08000 0x9BA00000 240 1132 7 false; // umaddl
-    0xFFE08000 0x9BA08000 241 1132 7 false; // umsubl
+    0xFFE08000 0x9BA00000 240 1126 7 false; // umaddl
+    0xFFE08000 0x9BA08000 241 1126 7 false; // umsubl
     0xFFE0FC00 0x9BC07C00 242 0 5 false; // umulh
 };
+
+/// The places of their texts, the lists of texts.rt one after another.
+pub static ORDER: [u16; 682] = [
+    130, 131, 132, 133, 0, 1, 2, 3, 24, 25, 26, 27, 272, 273, 274, 275, 276, 277, 278, 279, 280,
+    281, 4, 5, 6, 7, 28, 29, 30, 31, 282, 283, 284, 285, 286, 287, 288, 289, 290, 291, 202, 203,
+    52, 53, 54, 55, 92, 93, 76, 77, 78, 79, 98, 99, 180, 181, 198, 199, 172, 173, 204, 220, 209,
+    208, 206, 216, 218, 214, 219, 215, 217, 210, 207, 221, 211, 213, 212, 190, 191, 56, 57, 58, 59,
+    80, 81, 82, 83, 205, 225, 224, 241, 524, 525, 528, 529, 526, 527, 536, 537, 534, 535, 522, 523,
+    532, 533, 530, 531, 128, 129, 126, 127, 148, 149, 150, 151, 152, 153, 154, 155, 162, 163, 160,
+    161, 16, 17, 18, 19, 40, 41, 42, 43, 312, 313, 314, 315, 316, 317, 318, 319, 320, 321, 20, 21,
+    22, 23, 44, 45, 46, 47, 322, 323, 324, 325, 326, 327, 328, 329, 330, 331, 138, 139, 146, 147,
+    140, 141, 142, 143, 144, 145, 245, 246, 72, 73, 74, 75, 68, 69, 70, 71, 96, 97, 200, 201, 243,
+    247, 540, 541, 544, 545, 542, 543, 552, 553, 550, 551, 538, 539, 548, 549, 546, 547, 516, 517,
+    514, 515, 556, 557, 560, 561, 558, 559, 568, 569, 566, 567, 554, 555, 564, 565, 562, 563, 572,
+    573, 576, 577, 574, 575, 584, 585, 582, 583, 570, 571, 580, 581, 578, 579, 260, 261, 262, 263,
+    268, 269, 270, 271, 237, 238, 458, 459, 462, 463, 464, 465, 466, 467, 468, 469, 470, 471, 500,
+    501, 504, 505, 506, 507, 508, 509, 510, 511, 512, 513, 346, 347, 350, 351, 352, 353, 354, 355,
+    356, 357, 358, 359, 402, 403, 406, 407, 408, 409, 410, 411, 412, 413, 414, 415, 360, 361, 364,
+    365, 366, 367, 368, 369, 370, 371, 372, 373, 374, 375, 378, 379, 380, 381, 382, 383, 384, 385,
+    386, 387, 416, 417, 420, 421, 422, 423, 424, 425, 426, 427, 428, 429, 430, 431, 434, 435, 436,
+    437, 438, 439, 440, 441, 442, 443, 239, 472, 473, 476, 477, 478, 479, 480, 481, 482, 483, 484,
+    485, 588, 589, 592, 593, 590, 591, 600, 601, 598, 599, 586, 587, 596, 597, 594, 595, 604, 605,
+    608, 609, 606, 607, 616, 617, 614, 615, 602, 603, 612, 613, 610, 611, 620, 621, 624, 625, 622,
+    623, 632, 633, 630, 631, 618, 619, 628, 629, 626, 627, 636, 637, 640, 641, 638, 639, 648, 649,
+    646, 647, 634, 635, 644, 645, 642, 643, 652, 653, 656, 657, 654, 655, 664, 665, 662, 663, 650,
+    651, 660, 661, 658, 659, 460, 461, 502, 503, 348, 349, 404, 405, 362, 363, 376, 377, 418, 419,
+    432, 433, 474, 475, 176, 177, 194, 195, 168, 169, 178, 179, 196, 197, 170, 171, 182, 183, 114,
+    115, 116, 117, 118, 119, 120, 121, 122, 123, 124, 125, 110, 111, 112, 113, 102, 103, 104, 105,
+    106, 107, 108, 109, 248, 249, 250, 251, 252, 253, 254, 255, 184, 185, 186, 187, 88, 89, 90, 91,
+    48, 49, 50, 51, 244, 64, 65, 66, 67, 60, 61, 62, 63, 94, 95, 156, 157, 226, 227, 229, 230, 158,
+    159, 228, 174, 175, 134, 135, 136, 137, 188, 189, 166, 167, 231, 232, 235, 520, 521, 518, 519,
+    256, 257, 258, 259, 264, 265, 266, 267, 444, 445, 448, 449, 450, 451, 452, 453, 454, 455, 456,
+    457, 486, 487, 490, 491, 492, 493, 494, 495, 496, 497, 498, 499, 332, 333, 336, 337, 338, 339,
+    340, 341, 342, 343, 344, 345, 388, 389, 392, 393, 394, 395, 396, 397, 398, 399, 400, 401, 446,
+    447, 488, 489, 334, 335, 390, 391, 8, 9, 10, 11, 32, 33, 34, 35, 292, 293, 294, 295, 296, 297,
+    298, 299, 300, 301, 12, 13, 14, 15, 36, 37, 38, 39, 302, 303, 304, 305, 306, 307, 308, 309,
+    310, 311, 240, 668, 669, 672, 673, 670, 671, 680, 681, 678, 679, 666, 667, 676, 677, 674, 675,
+    223, 222, 84, 85, 86, 87, 100, 101, 192, 193, 242, 164, 165, 233, 234, 236,
+];
 
 /// Where the shapes of each name begin, and the end.
 pub static STARTS: [u16; 244] = [
@@ -706,8 +744,8 @@ pub static STARTS: [u16; 244] = [
     370, 371, 372, 374, 376, 377, 378, 380, 381, 382, 383, 384, 386, 387, 388, 390, 392, 393, 394,
     396, 397, 398, 399, 400, 402, 403, 404, 406, 408, 409, 410, 412, 413, 414, 415, 416, 418, 419,
     420, 422, 424, 425, 426, 428, 429, 430, 431, 432, 434, 435, 436, 440, 442, 444, 448, 452, 454,
-    458, 460, 464, 466, 468, 482, 486, 490, 494, 498, 502, 504, 506, 510, 514, 515, 519, 525, 527,
-    529, 531, 533, 534, 536, 538, 540, 542, 544, 545, 546, 547, 549, 550, 551, 559, 583, 595, 607,
-    611, 613, 615, 633, 651, 652, 654, 656, 657, 658, 660, 661, 662, 663, 664, 666, 667, 668, 669,
-    670, 676, 678, 679, 681, 682, 683, 684,
+    458, 460, 464, 466, 468, 480, 484, 488, 492, 496, 500, 502, 504, 508, 512, 513, 517, 523, 525,
+    527, 529, 531, 532, 534, 536, 538, 540, 542, 543, 544, 545, 547, 548, 549, 557, 581, 593, 605,
+    609, 611, 613, 631, 649, 650, 652, 654, 655, 656, 658, 659, 660, 661, 662, 664, 665, 666, 667,
+    668, 674, 676, 677, 679, 680, 681, 682,
 ];

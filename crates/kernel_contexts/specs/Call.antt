@@ -1,6 +1,7 @@
 -- The calls of the kernel, by the number in X8.
 -- Source: the numbers are Linux's for AArch64; the kernel is this emulator's own.
-use Rattle.std.specs.Prelude.{ℕ, ◌+◌, ◌-◌, ◌%◌, ◌^◌, ◌==◌, ◌++◌, ◌||◌, nat_lt, cond, List, Option, Some, None, length, slice_index, slice_set}
+use Rattle.std.specs.Prelude.{ℕ, ◌+◌, ◌-◌, ◌%◌, ◌^◌, ◌==◌, ◌++◌, ◌||◌, nat_lt, cond, List, Option, Some, None}
+use Rattle.std.specs.Prelude.{length, slice_index, slice_set}
 use Rattle.sm_types.specs.declared.config.Config.{Config}
 use Rattle.sm_types.specs.declared.scalars.Scalars.{Scalars}
 use Rattle.sm_types.specs.declared.shared_op.SharedOp.{SharedOp}
@@ -62,7 +63,9 @@ write_of before s = let x : List ℕ = s.core.scalars.x in
 
 -- exit: the low byte of X0 is the status; the call is counted
 unfoldable pub exit_of : State → TurnEnd
-exit_of s = Ends (counted s (record s.core { scalars = past_call s.core.scalars })) (Exited (slice_index s.core.scalars.x 0 % 256))
+exit_of s =
+    Ends (counted s (record s.core { scalars = past_call s.core.scalars }))
+    (Exited (slice_index s.core.scalars.x 0 % 256))
 
 -- the call of the number in X8, of the thread of that number, from a state in which streaming mode has been
 -- left; the state before is that of the call. 64 is write, 93 is exit, and every other number fails.

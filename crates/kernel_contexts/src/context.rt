@@ -27,7 +27,8 @@ pub struct Context {
 
 impl Context {
     ghost use Rattle.kernel_contexts.specs.State.{start_state};
-    ghost use Rattle.kernel_contexts.specs.Context.{state_of, config_of, thread_of, stop_of, machine_of, image_of, TurnsOrStays, IsSameThread};
+    ghost use Rattle.kernel_contexts.specs.Context.{state_of, config_of, thread_of, stop_of, machine_of};
+    ghost use Rattle.kernel_contexts.specs.Context.{image_of, TurnsOrStays, IsSameThread};
 
     /// A thread before its first turn, with its pages taken at once.
     pub fn start(

@@ -21,7 +21,8 @@ pub struct GuestThread {
     pub count: u32,
     pub turns: u64,
     pub stop: Option<Stop>,
-    ghost turns_are_few: { turns ≤ 3 * count },
+    ghost turns_are_few: { turns ≤ 3 * count + 2 },
+    ghost turns_within: { turns ≤ 3 * config.budget },
     ghost within_budget: { count ≤ config.budget },
     ghost output_within: { vec_len output ≤ 1048576 },
 }

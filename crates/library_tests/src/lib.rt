@@ -1,9 +1,11 @@
-//! Tests of the libraries by their public calls: words, memory, the lines of stops, and the object of a
-//! source.
+//! Tests of the libraries by their public calls: words, lines of sources, memory, the lines of
+//! stops, and the object of a source.
 #![tactic(auto)]
 
 #[cfg(test)]
 mod encodings;
+#[cfg(test)]
+mod lines;
 #[cfg(test)]
 mod memory;
 #[cfg(test)]

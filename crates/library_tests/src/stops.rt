@@ -1,10 +1,10 @@
-//! The lines of stops in the block of a thread.
+//! The lines of stops.
 
 use crate::memory::FILE;
-use edge_io::MemSink;
+use edge_io::{MemSink, Piece};
 use elf_loader::load;
 use kernel_contexts::Context;
-use report_text::write_block;
+use report_text::{put_stop_line, write_block};
 use sm_types::{Access, Config, Exception, Stop};
 
 fn raised(exception: Exception) -> Stop {
@@ -85,17 +85,28 @@ fn stops_are_written_with_their_values(rt: HostRuntime) {
         ),
     ];
     let alloc = rt.alloc();
+    for (stop, want) in cases {
+        let mut sink = MemSink::new(alloc, 1000).ok().expect(&rt, "memory");
+        let mut piece = Piece::new();
+        assert_eq!(rt;
+            put_stop_line(&mut piece, &mut sink, Some(stop)),
+            Ok(()),
+            "{want}"
+        );
+        assert_eq!(rt; piece.flush(&mut sink), Ok(()), "{want}");
+        assert_eq!(rt; sink.bytes(), want.as_bytes(), "{want}");
+    }
+}
+
+#[test]
+fn a_thread_that_has_not_stopped(rt: HostRuntime) {
+    let alloc = rt.alloc();
     let image = load(alloc, &FILE).ok().expect(&rt, "an accepted file");
     let context = Context::start(alloc, &image, &Config::defaults(), 0)
         .ok()
         .expect(&rt, "memory");
-    for (stop, want) in cases {
-        let mut sink = MemSink::new(alloc, 1000).ok().expect(&rt, "memory");
-        assert_eq!(rt; write_block(&context, stop, &mut sink), Ok(()), "{want}");
-        let rest = sink
-            .bytes()
-            .strip_prefix(b"thread 0\n".as_slice())
-            .expect(&rt, "the thread");
-        assert!(rt; rest.starts_with(want.as_bytes()), "{want}");
-    }
+    let mut sink = MemSink::new(alloc, 1000).ok().expect(&rt, "memory");
+    assert_eq!(rt; write_block(&context, &mut sink), Ok(()));
+    let begin = b"thread 0\nstop none\ncount 0\nturns 0\npc ".as_slice();
+    assert!(rt; sink.bytes().starts_with(begin));
 }

@@ -1,7 +1,8 @@
 //! A thread from its start to its stop.
 ghost use Rattle.std.specs.Prelude.{◌≡◌, ◌<◌, [], None, Some, IfOk};
-ghost use Rattle.kernel_contexts.specs.Context.{state_of, config_of, thread_of, stop_of, IsSameThread};
-ghost use Rattle.lone_runner.specs.LoneRun.{IsLoneRun, EndsFrom};
+ghost use Rattle.kernel_contexts.specs.Context.{state_of, config_of, thread_of, stop_of, image_of};
+ghost use Rattle.kernel_contexts.specs.Context.{IsSameThread};
+ghost use Rattle.lone_runner.specs.LoneRun.{HasRunAlone, EndsFrom};
 
 use kernel_contexts::{Context, Turn};
 use paged_memory::Image;
@@ -31,14 +32,14 @@ pub fn run_to_stop(
     image: &Image,
     config: &Config,
     thread: u32,
-) -> Result<(Context, Stop), Memory>
+) -> Result<Context, Memory>
     requires { thread < config.now.threads }
-    ensures run { IfOk result (λ end. IsLoneRun image.now config.now thread [] (state_of end.0) end.1) }
-    ensures stop { IfOk result (λ end. stop_of end.0 ≡ Some end.1) }
-    ensures config { IfOk result (λ end. config_of end.0 ≡ config.now) }
-    ensures thread { IfOk result (λ end. thread_of end.0 ≡ thread) }
+    ensures run { IfOk result (HasRunAlone image.now config.now thread) }
+    ensures image { IfOk result (λ context. image_of context ≡ image.now) }
+    ensures config { IfOk result (λ context. config_of context ≡ config.now) }
+    ensures thread { IfOk result (λ context. thread_of context ≡ thread) }
 {
     let mut context = Context::start(alloc, image, config, thread)?;
-    let stop = run(&mut context)?;
-    Ok((context, stop))
+    run(&mut context)?;
+    Ok(context)
 }

@@ -8,7 +8,7 @@ use Rattle.sm_types.specs.declared.stop.Exception.{Exception}
 use Rattle.sm_types.specs.declared.stop.Exception.TheVariants.{Undefined}
 use Rattle.mem_access.specs.Transfer.{is_access, transfer_fault}
 use Rattle.a64_encode.specs.Either.{instruction_of}
-use Rattle.paged_memory.specs.Memory.{or_else}
+use Rattle.std.specs.Option.{option_or}
 use Rattle.scalar_exec.specs.Step.{is_scalar}
 use Rattle.machine_step.specs.ProcessorState.{ProcessorState}
 use Rattle.machine_step.specs.System.{system_move, core_past, moved}
@@ -57,12 +57,12 @@ unfolding system_move
 move_effect word vl x s h = ap (λ b. cond b (next_of vl (insn.SystemMove x) s) (Raises (Undefined word))) h
 
 unless_row : (executed : Bool) (fault : Option Exception) (word vl : ℕ) (it : Insn) (s : ProcessorState) → insn_at s ≡ Some it
-    → unless_fault vl (or_else (or_else (cond executed None (Some (Undefined word))) None) (or_else fault None)) s ≡ cond executed (unless_raised fault (next_of vl it s)) (Raises (Undefined word))
+    → unless_fault vl (option_or (option_or (cond executed None (Some (Undefined word))) None) (option_or fault None)) s ≡ cond executed (unless_raised fault (next_of vl it s)) (Raises (Undefined word))
 unless_row true None word vl it s h = ap (λ k. perform vl k s) h
 unless_row true (Some exception) word vl it s h = refl
 unless_row false fault word vl it s h = refl
 
-first_of : (s : ProcessorState) (word : ℕ) → s.scalars.pc % 4 ≡ 0 → word_of s ≡ Some word → fault_of s ≡ or_else (or_else (row_fault word (instruction_of word)) None) (or_else (data_fault s) None)
+first_of : (s : ProcessorState) (word : ℕ) → s.scalars.pc % 4 ≡ 0 → word_of s ≡ Some word → fault_of s ≡ option_or (option_or (row_fault word (instruction_of word)) None) (option_or (data_fault s) None)
 unfolding fault_of
 first_of s word aligned fetched = rw (aligned, fetched) refl
 
@@ -72,13 +72,13 @@ unfolding effect_of
 effect_at vl s word it aligned fetched is =
     let here : insn_at s ≡ Some it = rw fetched is in
     let data_checks : data_fault s ≡ transfer_fault it s.scalars s.memory = ap (option_and_then (λ k. transfer_fault k s.scalars s.memory)) here in
-    ap (λ k. unless_fault vl k s) (first_of s word aligned fetched ∙ ap (λ k. or_else (or_else (row_fault word k) None) (or_else (data_fault s) None)) is ∙ ap (λ k. or_else (or_else (row_fault word (Some it)) None) (or_else k None)) data_checks)
+    ap (λ k. unless_fault vl k s) (first_of s word aligned fetched ∙ ap (λ k. option_or (option_or (row_fault word k) None) (option_or (data_fault s) None)) is ∙ ap (λ k. option_or (option_or (row_fault word (Some it)) None) (option_or k None)) data_checks)
     ∙ unless_row (is_executed it) (transfer_fault it s.scalars s.memory) word vl it s here
 
 -- the effect at PC is that of the word there
 pub effect_of_word : (vl : ℕ) (s : ProcessorState) (word : ℕ) (meaning : Option Insn) → s.scalars.pc % 4 ≡ 0 → word_of s ≡ Some word → instruction_of word ≡ meaning → effect_of vl s ≡ effect_of_meaning word meaning vl s
 unfolding effect_of
-effect_of_word vl s word None aligned fetched is = ap (λ k. unless_fault vl k s) (first_of s word aligned fetched ∙ ap (λ k. or_else (or_else (row_fault word k) None) (or_else (data_fault s) None)) is)
+effect_of_word vl s word None aligned fetched is = ap (λ k. unless_fault vl k s) (first_of s word aligned fetched ∙ ap (λ k. option_or (option_or (row_fault word k) None) (option_or (data_fault s) None)) is)
 effect_of_word vl s word (Some it) aligned fetched is = effect_at vl s word it aligned fetched is
 
 -- a load, a store or an atomic instruction that no check refuses

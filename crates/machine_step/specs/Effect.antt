@@ -1,6 +1,7 @@
 -- One instruction: its first fault, and what it does where it has none.
 -- Source: DDI 0487, D1.3 (exceptions, in their order), C6.2.
-use Rattle.std.specs.Prelude.{ℕ, ◌%◌, ◌==◌, Bool, true, false, cond, [], ◌∷◌, Option, Some, None, option_and_then}
+use Rattle.std.specs.Prelude.{ℕ, ◌%◌, ◌==◌, Bool, true, false, cond, [], ◌∷◌, Option, Some, None}
+use Rattle.std.specs.Prelude.{option_and_then}
 use Rattle.sm_types.specs.declared.insn.Insn.{Insn}
 use Rattle.sm_types.specs.declared.insn.Insn.TheVariants as insn
 use Rattle.sm_types.specs.declared.insn.System.{System}
@@ -13,7 +14,7 @@ use Rattle.a64_encode.specs.Either.{instruction_of}
 use Rattle.paged_memory.specs.Memory.{word_at}
 use Rattle.scalar_exec.specs.Registers.{past}
 use Rattle.scalar_exec.specs.Step.{scalar_step}
-use Rattle.mem_access.specs.Checks.{first_fault}
+use Rattle.sm_types.specs.Checks.{first_fault}
 use Rattle.mem_access.specs.Transfer.{after_access, transfer_fault}
 use Rattle.machine_step.specs.ProcessorState.{ProcessorState}
 use Rattle.machine_step.specs.System.{system_move, core_past}
@@ -122,7 +123,11 @@ system_effect (Isb imm) s = Becomes (core_past s)
 
 -- the state after a load, a store or an atomic instruction
 abbrev pub accessed : Insn → ProcessorState → ProcessorState
-accessed it s = record s { scalars = past (after_access it s.scalars s.memory).scalars; memory = (after_access it s.scalars s.memory).memory }
+accessed it s =
+    record s {
+      scalars = past (after_access it s.scalars s.memory).scalars;
+      memory = (after_access it s.scalars s.memory).memory;
+    }
 
 -- the state after an instruction that sees the scalar registers alone
 abbrev pub computed : Insn → ProcessorState → ProcessorState

@@ -12,7 +12,16 @@ use Rattle.machine_step.specs.declared.machine.StepEnd.TheVariants.{Next, Call, 
 
 -- the state of a machine and a bank
 abbrev pub core_of : Machine → VectorState → ProcessorState
-core_of m bank = record { scalars = m.scalars; tpidr = m.tpidr; tpidr2 = m.tpidr2; streaming = m.streaming; za_on = m.za_on; memory = m.pages.memory; bank = bank }
+core_of m bank =
+    record {
+      scalars = m.scalars;
+      tpidr = m.tpidr;
+      tpidr2 = m.tpidr2;
+      streaming = m.streaming;
+      za_on = m.za_on;
+      memory = m.pages.memory;
+      bank = bank;
+    }
 
 -- the instruction is executed: it neither raises nor calls
 abbrev pub IsBecomes : Effect → Type 0
@@ -39,4 +48,5 @@ Steps effect old new Memory = (new ≡ old) × IsBecomes effect
 -- an answer of a machine, with every bank and every vector length in bytes
 abbrev pub StepsBy : (ℕ → ProcessorState → Effect) → Machine → Machine → StepEnd → Type 0
 StepsBy effect old new end =
-    (vl : ℕ) (bank : VectorState) → Steps (effect vl (core_of old bank)) (core_of old bank) (core_of new bank) end
+    (vl : ℕ) (bank : VectorState) → Steps (effect vl (core_of old bank)) (core_of old bank)
+    (core_of new bank) end

@@ -1,4 +1,5 @@
--- The system registers of a program. Source: DDI 0487, C5.2 (NZCV, TPIDR_EL0, TPIDR2_EL0), C6.2 MRS and MSR (register).
+-- The system registers of a program. Source: DDI 0487, C5.2 (NZCV, TPIDR_EL0, TPIDR2_EL0), C6.2 MRS and MSR
+-- (register).
 use Rattle.std.specs.Prelude.{ℕ, ◌+◌, ◌*◌, ◌/◌, ◌%◌, ◌^◌, ◌==◌, Bool}
 use Rattle.bit_ops.specs.Sums.{bool_number}
 use Rattle.scalar_exec.specs.Registers.{x_of, with_x, past}
@@ -12,7 +13,8 @@ use Rattle.machine_step.specs.ProcessorState.{ProcessorState}
 
 -- NZCV: N is bit 31, Z 30, C 29, V 28, and the other bits are zero
 unfoldable pub nzcv_of : Scalars → ℕ
-nzcv_of s = bool_number s.n * 2 ^ 31 + bool_number s.z * 2 ^ 30 + bool_number s.c * 2 ^ 29 + bool_number s.v * 2 ^ 28
+nzcv_of s =
+    bool_number s.n * 2 ^ 31 + bool_number s.z * 2 ^ 30 + bool_number s.c * 2 ^ 29 + bool_number s.v * 2 ^ 28
 
 -- the bit of a value at a place
 abbrev pub bit_at : ℕ → ℕ → Bool
@@ -20,7 +22,8 @@ bit_at value place = value / 2 ^ place % 2 == 1
 
 -- the flags of bits 31 to 28 of a value
 unfoldable pub with_nzcv : Scalars → ℕ → Scalars
-with_nzcv s value = record s { n = bit_at value 31; z = bit_at value 30; c = bit_at value 29; v = bit_at value 28 }
+with_nzcv s value =
+    record s { n = bit_at value 31; z = bit_at value 30; c = bit_at value 29; v = bit_at value 28 }
 
 -- SVCR: bit 0 is PSTATE.SM, bit 1 is PSTATE.ZA
 abbrev pub svcr_of : ProcessorState → ℕ

@@ -1,5 +1,5 @@
-//! One instruction of the machine: `Machine::step` answers with the effect of the instruction at PC, and all its
-//! answers but `Next` leave the machine as it was.
+//! One instruction of the machine: `Machine::step` answers with the effect of the instruction at PC, and
+//! all its answers but `Next` leave the machine as it was.
 #![tactic(auto)]
 
 mod machine;

@@ -2,7 +2,8 @@
 use Rattle.std.proofs.Common.{◌≡◌, ℕ, Bool, true, false, refl, ap, sym, ◌∙◌, Option, Some, None, Result, Ok, Err}
 use Rattle.sm_types.specs.declared.scalars.Scalars.{Scalars}
 use Rattle.sm_types.specs.declared.stop.Exception.{Exception}
-use Rattle.paged_memory.specs.Memory.{AddressSpace, or_else}
+use Rattle.std.specs.Option.{option_or}
+use Rattle.paged_memory.specs.Memory.{AddressSpace}
 use Rattle.mem_access.specs.declared.access.MemoryAccess.{MemoryAccess}
 use Rattle.mem_access.specs.DataAccess.{of_run}
 use Rattle.mem_access.specs.declared.stop.AccessStop.{AccessStop}
@@ -10,31 +11,31 @@ use Rattle.mem_access.specs.Checks.{sp_fault, align_fault, check_when}
 use Rattle.mem_access.specs.Transfer.{AfterAccess, Transfers}
 use Rattle.mem_access.specs.Runs.{place_fault, run_shared_fault, run_read_fault, run_write_fault, denied_read, denied_write, denied_update, run_fault}
 
-or_else-none : (o : Option Exception) → or_else o None ≡ o
+or_else-none : (o : Option Exception) → option_or o None ≡ o
 or_else-none None = refl
 or_else-none (Some e) = refl
 
-first_three : (a b c rest : Option Exception) → or_else a (or_else b (or_else c rest)) ≡ or_else (or_else a (or_else b (or_else c None))) rest
+first_three : (a b c rest : Option Exception) → option_or a (option_or b (option_or c rest)) ≡ option_or (option_or a (option_or b (option_or c None))) rest
 first_three None None None rest = refl
 first_three None None (Some e) rest = refl
 first_three None (Some e) c rest = refl
 first_three (Some e) b c rest = refl
 
-place_first : (access : MemoryAccess) (s : Scalars) (m : AddressSpace) → run_fault access s m ≡ or_else (place_fault access s) (or_else (run_read_fault access m) (or_else (run_write_fault access m) None))
+place_first : (access : MemoryAccess) (s : Scalars) (m : AddressSpace) → run_fault access s m ≡ option_or (place_fault access s) (option_or (run_read_fault access m) (option_or (run_write_fault access m) None))
 unfolding run_fault
-place_first access s m = first_three (sp_fault (of_run access) s) (align_fault (of_run access)) (run_shared_fault access) (or_else (run_read_fault access m) (or_else (run_write_fault access m) None))
+place_first access s m = first_three (sp_fault (of_run access) s) (align_fault (of_run access)) (run_shared_fault access) (option_or (run_read_fault access m) (option_or (run_write_fault access m) None))
 
 -- a check that looks at no page fails
 pub fault_raised : (access : MemoryAccess) (s : Scalars) (m : AddressSpace) (e : Exception) → place_fault access s ≡ Some e → run_fault access s m ≡ Some e
-fault_raised access s m e raised = place_first access s m ∙ ap (λ o. or_else o (or_else (run_read_fault access m) (or_else (run_write_fault access m) None))) raised
+fault_raised access s m e raised = place_first access s m ∙ ap (λ o. option_or o (option_or (run_read_fault access m) (option_or (run_write_fault access m) None))) raised
 
 fault_on : (access : MemoryAccess) (s : Scalars) (m : AddressSpace) (reads writes : Bool) → place_fault access s ≡ None → access.reads ≡ reads → access.writes ≡ writes
-    → run_fault access s m ≡ or_else (check_when reads (denied_read m access.address access.size)) (check_when writes (denied_write m access.address access.size))
+    → run_fault access s m ≡ option_or (check_when reads (denied_read m access.address access.size)) (check_when writes (denied_write m access.address access.size))
 fault_on access s m reads writes none r w =
-    place_first access s m ∙ ap (λ o. or_else o (or_else (run_read_fault access m) (or_else (run_write_fault access m) None))) none
-    ∙ ap (λ o. or_else (run_read_fault access m) o) (or_else-none (run_write_fault access m))
-    ∙ ap (λ b. or_else (check_when b (denied_read m access.address access.size)) (run_write_fault access m)) r
-    ∙ ap (λ b. or_else (check_when reads (denied_read m access.address access.size)) (check_when b (denied_write m access.address access.size))) w
+    place_first access s m ∙ ap (λ o. option_or o (option_or (run_read_fault access m) (option_or (run_write_fault access m) None))) none
+    ∙ ap (λ o. option_or (run_read_fault access m) o) (or_else-none (run_write_fault access m))
+    ∙ ap (λ b. option_or (check_when b (denied_read m access.address access.size)) (run_write_fault access m)) r
+    ∙ ap (λ b. option_or (check_when reads (denied_read m access.address access.size)) (check_when b (denied_write m access.address access.size))) w
 
 -- none of them does, and the access reads, writes, or does both
 pub fault_of_read : (access : MemoryAccess) (s : Scalars) (m : AddressSpace) → place_fault access s ≡ None → access.reads ≡ true → access.writes ≡ false → run_fault access s m ≡ denied_read m access.address access.size

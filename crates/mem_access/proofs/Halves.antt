@@ -1,7 +1,8 @@
 -- Bytes in memory in two parts, one after the other.
 use Rattle.std.proofs.Common.{◌≡◌, ℕ, zero, suc, ◌+◌, ◌*◌, ◌/◌, ◌%◌, ◌^◌, ◌<◌, Bool, true, false, List, [], ◌∷◌, take, drop, refl, ap, sym, ◌∙◌, arith, Some}
 use Rattle.std.proofs.Math.Nat.{pow-suc, mul_assoc, mul_left_comm, mul-zero}
-use Rattle.paged_memory.specs.Memory.{AddressSpace, bytes_with, little_number}
+use Rattle.sm_types.specs.Bytes.{little_number}
+use Rattle.paged_memory.specs.Memory.{AddressSpace, bytes_with}
 use Rattle.mem_access.specs.Access.{register_size}
 use Rattle.mem_access.specs.Runs.{number_in}
 use Rattle.mem_access.proofs.InMemory.{number_read}

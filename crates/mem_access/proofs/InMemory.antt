@@ -4,7 +4,8 @@ use Rattle.std.specs.Prelude.{Result, Ok, Err, OnOk}
 use Rattle.std.specs.Int.{w64, to_le_bytes, bytes_low_first}
 use Rattle.sm_types.specs.declared.insn.AccessSize.{AccessSize}
 use Rattle.sm_types.specs.declared.insn.AccessSize.TheVariants.{Byte, Halfword, Word, Doubleword}
-use Rattle.paged_memory.specs.Memory.{AddressSpace, bytes_with, set_bytes, little_number}
+use Rattle.sm_types.specs.Bytes.{little_number}
+use Rattle.paged_memory.specs.Memory.{AddressSpace, bytes_with, set_bytes}
 use Rattle.paged_memory.proofs.Accesses.{first_without-none}
 use Rattle.mem_access.specs.Access.{bytes_in}
 use Rattle.mem_access.specs.Values.{number_or_zero}

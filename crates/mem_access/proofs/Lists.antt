@@ -19,7 +19,8 @@ use Rattle.sm_types.specs.declared.insn.LoadStorePair.{LoadStorePair}
 use Rattle.sm_types.specs.declared.insn.Atomic.{Atomic}
 use Rattle.sm_types.specs.declared.insn.Atomic.TheVariants as atomic
 use Rattle.scalar_exec.specs.Registers.{x_of, with_x}
-use Rattle.paged_memory.specs.Memory.{AddressSpace, or_else, byte_with, bytes_with, and_byte, first_without, unless_there, set_bytes}
+use Rattle.std.specs.Option.{option_or}
+use Rattle.paged_memory.specs.Memory.{AddressSpace, byte_with, bytes_with, and_byte, first_without, unless_there, set_bytes}
 use Rattle.paged_memory.specs.PageTable.{PageTable, IsOwned}
 use Rattle.mem_access.specs.declared.access.MemoryAccess.{MemoryAccess}
 use Rattle.mem_access.specs.Access.{bytes_in, with_base, with_pair_base, register_size, literal_size, load_store_access, load_literal_access, pair_access, atomic_access}
@@ -44,10 +45,10 @@ length-run a (suc n) = ap suc (length-run (a + 1) n)
 
 -- ---- checks
 
-find_last : (test : ℕ → Bool) (xs : List ℕ) (y : ℕ) → find test (xs ++ y ∷ []) ≡ or_else (find test xs) (cond (test y) (Some y) None)
+find_last : (test : ℕ → Bool) (xs : List ℕ) (y : ℕ) → find test (xs ++ y ∷ []) ≡ option_or (find test xs) (cond (test y) (Some y) None)
 find_last test [] y = refl
 find_last test (x ∷ xs) y =
-    elim (test x) as (λ t. cond t (Some x) (find test (xs ++ y ∷ [])) ≡ or_else (cond t (Some x) (find test xs)) (cond (test y) (Some y) None)) [
+    elim (test x) as (λ t. cond t (Some x) (find test (xs ++ y ∷ [])) ≡ option_or (cond t (Some x) (find test xs)) (cond (test y) (Some y) None)) [
       | true ↦ refl
       | false ↦ find_last test xs y
     ]
@@ -55,7 +56,7 @@ find_last test (x ∷ xs) y =
 shared_run : (a n : ℕ) → find is_shared (run_of a n) ≡ first_shared a n
 unfolding run_of first_shared
 shared_run a zero = refl
-shared_run a (suc n) = ap (find is_shared) (run_more a n) ∙ find_last is_shared (run_of a n) ((a + n) % 2 ^ 64) ∙ ap (λ o. or_else o (shared_at ((a + n) % 2 ^ 64))) (shared_run a n)
+shared_run a (suc n) = ap (find is_shared) (run_more a n) ∙ find_last is_shared (run_of a n) ((a + n) % 2 ^ 64) ∙ ap (λ o. option_or o (shared_at ((a + n) % 2 ^ 64))) (shared_run a n)
 
 lacks_is : (y : ℕ) (o : Option ℕ) → cond (not (is_some o)) (Some y) None ≡ unless_there y o
 lacks_is y None = refl
@@ -66,8 +67,8 @@ unfolding run_of first_without
 denied_run need m a zero = refl
 denied_run need m a (suc n) =
     let last : ℕ = (a + n) % 2 ^ 64 in
-    ap (find (lacks need m)) (run_more a n) ∙ find_last (lacks need m) (run_of a n) last ∙ ap (or_else (find (lacks need m) (run_of a n))) (lacks_is last (byte_with need m last))
-    ∙ ap (λ o. or_else o (unless_there last (byte_with need m last))) (denied_run need m a n)
+    ap (find (lacks need m)) (run_more a n) ∙ find_last (lacks need m) (run_of a n) last ∙ ap (option_or (find (lacks need m) (run_of a n))) (lacks_is last (byte_with need m last))
+    ∙ ap (λ o. option_or o (unless_there last (byte_with need m last))) (denied_run need m a n)
 
 fault_run : (run : MemoryAccess) (s : Scalars) (m : AddressSpace) → access_fault None (of_run run) s m ≡ run_fault run s m
 unfolding access_fault run_fault

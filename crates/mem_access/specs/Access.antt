@@ -1,6 +1,6 @@
 -- Which bytes of memory an instruction accesses, and how.
--- Source: DDI 0487, C6.2, the pages of the loads, stores and atomic instructions: address generation, and C1.3.3, addressing modes.
--- Addresses are taken modulo 2 ^ 64.
+-- Source: DDI 0487, C6.2, the pages of the loads, stores and atomic instructions: address generation, and
+-- C1.3.3, addressing modes. Addresses are taken modulo 2 ^ 64.
 use Rattle.std.specs.Prelude.{ℕ, ◌+◌, ◌*◌, ◌%◌, ◌^◌, ◌==◌, Bool, true, false, pos, ◌*ℤ◌}
 use Rattle.sm_types.specs.declared.scalars.Scalars.{Scalars}
 use Rattle.sm_types.specs.declared.insn.AccessSize.{AccessSize}
@@ -47,7 +47,8 @@ address_of (address.Offset imm) n base s = (base + imm * bytes_in n) % 2 ^ 64
 address_of (address.Unscaled offset) n base s = address_at base offset
 address_of (address.PostIndex offset) n base s = base
 address_of (address.PreIndex offset) n base s = address_at base offset
-address_of (address.Register rm extend scaled) n base s = (base + extended extend true (x_of s rm) * scale_of scaled n) % 2 ^ 64
+address_of (address.Register rm extend scaled) n base s =
+    (base + extended extend true (x_of s rm) * scale_of scaled n) % 2 ^ 64
 
 -- the registers with the base as the access leaves it
 unfoldable pub with_base : Address → ℕ → Scalars → Scalars

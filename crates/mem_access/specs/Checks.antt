@@ -1,20 +1,17 @@
 -- The checks of an access, in their order, all before anything changes.
 -- Source: DDI 0487, D1.3 and J1.1, CheckSPAlignment, alignment of ordered and atomic accesses, permission
 -- faults; the region of shared words from 0x7F0000000000 on is this emulator's own.
-use Rattle.std.specs.Prelude.{ℕ, ◌%◌, ◌==◌, ◌&&◌, Bool, true, false, not, nat_lt, nat_le, List, [], ◌∷◌, Option, Some, None, option_map, is_some}
+use Rattle.std.specs.Prelude.{ℕ, ◌%◌, ◌==◌, ◌&&◌, Bool, true, false, not, nat_lt, nat_le, List, [], ◌∷◌}
+use Rattle.std.specs.Prelude.{Option, Some, None, option_map, is_some}
 use Rattle.std.specs.List.{find}
 use Rattle.sm_types.specs.declared.scalars.Scalars.{Scalars}
 use Rattle.sm_types.specs.declared.shared_op.SharedOp.{SharedOp}
 use Rattle.sm_types.specs.declared.stop.Access.TheVariants.{Read, Write}
 use Rattle.sm_types.specs.declared.stop.Exception.{Exception}
 use Rattle.sm_types.specs.declared.stop.Exception.TheVariants.{SpAlign, Align, Shared, Data}
-use Rattle.paged_memory.specs.Memory.{AddressSpace, or_else, byte_with}
+use Rattle.sm_types.specs.Checks.{first_fault}
+use Rattle.paged_memory.specs.Memory.{AddressSpace, byte_with}
 use Rattle.mem_access.specs.DataAccess.{DataAccess}
-
--- the first of a list of checks that fails
-abbrev pub first_fault : List (Option Exception) → Option Exception
-first_fault [] = None
-first_fault (check ∷ checks) = or_else check (first_fault checks)
 
 -- the exception, where the test holds
 abbrev pub raise_when : Bool → Exception → Option Exception
@@ -31,7 +28,8 @@ sp_fault access s = raise_when (access.on_sp && not (s.sp % 16 == 0)) SpAlign
 
 -- the address of an ordered or atomic access is no multiple of its size
 abbrev pub align_fault : DataAccess → Option Exception
-align_fault access = raise_when (access.aligned && not (access.address % access.size == 0)) (Align access.address)
+align_fault access =
+    raise_when (access.aligned && not (access.address % access.size == 0)) (Align access.address)
 
 -- the first of the bytes that is shared
 abbrev pub shared_fault : DataAccess → Option Exception

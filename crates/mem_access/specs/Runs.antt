@@ -1,5 +1,6 @@
 -- Accesses to consecutive bytes, as the code makes them.
-use Rattle.std.specs.Prelude.{◌≡◌, true, ℕ, zero, suc, ◌+◌, ◌*◌, ◌%◌, ◌^◌, ◌==◌, cond, List, [], ◌∷◌, Option, Some, None, IfSome, option_map, option_and_then}
+use Rattle.std.specs.Prelude.{◌≡◌, true, ℕ, zero, suc, ◌+◌, ◌*◌, ◌%◌, ◌^◌, ◌==◌, cond, List, [], ◌∷◌, Option}
+use Rattle.std.specs.Prelude.{Some, None, IfSome, option_map, option_and_then}
 use Rattle.std.specs.Int.{bytes_low_first}
 use Rattle.sm_types.specs.declared.scalars.Scalars.{Scalars}
 use Rattle.sm_types.specs.declared.insn.Insn.{Insn}
@@ -17,12 +18,15 @@ use Rattle.sm_types.specs.declared.stop.Access.TheVariants.{Read, Write}
 use Rattle.sm_types.specs.declared.stop.Exception.{Exception}
 use Rattle.sm_types.specs.declared.stop.Exception.TheVariants.{Shared, Data}
 use Rattle.scalar_exec.specs.Registers.{x_of, with_x}
-use Rattle.paged_memory.specs.Memory.{AddressSpace, or_else, bytes_with, first_without, set_bytes}
+use Rattle.std.specs.Option.{option_or}
+use Rattle.paged_memory.specs.Memory.{AddressSpace, bytes_with, first_without, set_bytes}
 use Rattle.paged_memory.specs.PageTable.{PageTable, AreOwned}
 use Rattle.mem_access.specs.declared.access.MemoryAccess.{MemoryAccess}
 use Rattle.mem_access.specs.DataAccess.{of_run}
-use Rattle.mem_access.specs.Checks.{first_fault, is_shared, sp_fault, align_fault, check_when}
-use Rattle.mem_access.specs.Access.{bytes_in, with_base, with_pair_base, register_size, literal_size, load_store_access, load_literal_access, pair_access, atomic_access}
+use Rattle.sm_types.specs.Checks.{first_fault}
+use Rattle.mem_access.specs.Checks.{is_shared, sp_fault, align_fault, check_when}
+use Rattle.mem_access.specs.Access.{bytes_in, with_base, with_pair_base, register_size, literal_size}
+use Rattle.mem_access.specs.Access.{load_store_access, load_literal_access, pair_access, atomic_access}
 use Rattle.mem_access.specs.Values.{number_or_zero, loaded, literal_loaded, low_bytes, updated}
 use Rattle.mem_access.specs.Transfer.{AfterAccess, pair_after, pair_bytes}
 
@@ -33,7 +37,7 @@ shared_at a = cond (is_shared a) (Some a) None
 -- the first of the n addresses from an address on that is shared
 unfoldable pub first_shared : ℕ → ℕ → Option ℕ
 first_shared a zero = None
-first_shared a (suc n) = or_else (first_shared a n) (shared_at ((a + n) % 2 ^ 64))
+first_shared a (suc n) = option_or (first_shared a n) (shared_at ((a + n) % 2 ^ 64))
 
 -- no byte is shared
 abbrev pub run_shared_fault : MemoryAccess → Option Exception
@@ -54,7 +58,7 @@ denied_write m a n = option_map (λ x. Data x Write) (first_without 2 m a n)
 
 -- the first that cannot be read, else the first that cannot be written
 abbrev pub denied_update : AddressSpace → ℕ → ℕ → Option Exception
-denied_update m a n = or_else (denied_read m a n) (denied_write m a n)
+denied_update m a n = option_or (denied_read m a n) (denied_write m a n)
 
 -- each byte can be read, where the access reads
 abbrev pub run_read_fault : MemoryAccess → AddressSpace → Option Exception
@@ -92,26 +96,42 @@ with_number m a n value = with_bytes m a (bytes_low_first 0 n value)
 
 -- a store writes the low bytes of Xt; a load writes Xt after the base
 unfoldable pub after_load_store : LoadStoreOp → LoadStore → ℕ → Scalars → AddressSpace → AfterAccess
-after_load_store Store x a s m = record { scalars = with_base x.address x.rn s; memory = with_number m a (bytes_in x.size) (x_of s x.rt) }
-after_load_store op x a s m = record { scalars = with_x (with_base x.address x.rn s) x.rt (loaded op (bytes_in x.size) (number_in m a (bytes_in x.size))); memory = m }
+after_load_store Store x a s m =
+    record { scalars = with_base x.address x.rn s; memory = with_number m a (bytes_in x.size) (x_of s x.rt) }
+after_load_store op x a s m =
+    record {
+      scalars = with_x (with_base x.address x.rn s) x.rt
+          (loaded op (bytes_in x.size) (number_in m a (bytes_in x.size)));
+      memory = m;
+    }
 
 -- a load from beside the program counter
 unfoldable pub after_load_literal : LoadLiteral → ℕ → Scalars → AddressSpace → AfterAccess
-after_load_literal x a s m = record { scalars = with_x s x.rt (literal_loaded x.op (number_in m a (literal_size x.op))); memory = m }
+after_load_literal x a s m =
+    record { scalars = with_x s x.rt (literal_loaded x.op (number_in m a (literal_size x.op))); memory = m }
 
 -- two registers, one after the other
 unfoldable pub after_pair : PairOp → LoadStorePair → ℕ → Scalars → AddressSpace → AfterAccess
-after_pair Stp x a s m = record { scalars = with_pair_base x.index x s; memory = with_bytes m a (pair_bytes x.wide (x_of s x.rt) (x_of s x.rt2)) }
-after_pair Ldp x a s m = record { scalars = pair_after Ldp x (number_in m a (2 * register_size x.wide)) s; memory = m }
+after_pair Stp x a s m =
+    record {
+      scalars = with_pair_base x.index x s;
+      memory = with_bytes m a (pair_bytes x.wide (x_of s x.rt) (x_of s x.rt2));
+    }
+after_pair Ldp x a s m =
+    record { scalars = pair_after Ldp x (number_in m a (2 * register_size x.wide)) s; memory = m }
 
 -- LDAR and STLR; CAS writes Rt where memory equals Rs, SWP writes Rs, the operations write their result; the
 -- old number goes to Rs in CAS, else to Rt
 unfoldable pub after_atomic : Atomic → ℕ → Scalars → AddressSpace → AfterAccess
-after_atomic (atomic.Ldar n rn rt) a s m = record { scalars = with_x s rt (number_in m a (bytes_in n)); memory = m }
-after_atomic (atomic.Stlr n rn rt) a s m = record { scalars = s; memory = with_number m a (bytes_in n) (x_of s rt) }
+after_atomic (atomic.Ldar n rn rt) a s m =
+    record { scalars = with_x s rt (number_in m a (bytes_in n)); memory = m }
+after_atomic (atomic.Stlr n rn rt) a s m =
+    record { scalars = s; memory = with_number m a (bytes_in n) (x_of s rt) }
 after_atomic (atomic.Cas n acquire release rs rn rt) a s m = record {
   scalars = with_x s rs (number_in m a (bytes_in n));
-  memory = cond (number_in m a (bytes_in n) == low_bytes (bytes_in n) (x_of s rs)) (with_number m a (bytes_in n) (x_of s rt)) m;
+  memory =
+      cond (number_in m a (bytes_in n) == low_bytes (bytes_in n) (x_of s rs))
+      (with_number m a (bytes_in n) (x_of s rt)) m;
 }
 after_atomic (atomic.Swap n acquire release rs rn rt) a s m = record {
   scalars = with_x s rt (number_in m a (bytes_in n));
@@ -119,7 +139,9 @@ after_atomic (atomic.Swap n acquire release rs rn rt) a s m = record {
 }
 after_atomic (atomic.Update op n acquire release rs rn rt) a s m = record {
   scalars = with_x s rt (number_in m a (bytes_in n));
-  memory = with_number m a (bytes_in n) (updated op (bytes_in n) (number_in m a (bytes_in n)) (low_bytes (bytes_in n) (x_of s rs)));
+  memory =
+      with_number m a (bytes_in n) (updated op (bytes_in n) (number_in m a (bytes_in n))
+      (low_bytes (bytes_in n) (x_of s rs)));
 }
 
 -- the consecutive bytes that an instruction accesses

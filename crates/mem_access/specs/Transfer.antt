@@ -2,7 +2,8 @@
 -- moved by the machine.
 -- Source: DDI 0487, C6.2: LDR, LDRB, LDRH, LDRSB, LDRSH, LDRSW, LDUR.., STR.., STUR.., LDP, STP, LDAR, STLR,
 -- CAS, SWP, LDADD.. and their kin.
-use Rattle.std.specs.Prelude.{◌≡◌, ℕ, ◌*◌, ◌/◌, ◌%◌, ◌^◌, ◌==◌, ◌++◌, Bool, true, false, cond, List, Option, Some, None, Result, Ok, Err, IfSome, IsSome, All, option_and_then}
+use Rattle.std.specs.Prelude.{◌≡◌, ℕ, ◌*◌, ◌/◌, ◌%◌, ◌^◌, ◌==◌, ◌++◌, Bool, true, false, cond, List, Option}
+use Rattle.std.specs.Prelude.{Some, None, Result, Ok, Err, IfSome, IsSome, All, option_and_then}
 use Rattle.std.specs.Int.{bytes_low_first}
 use Rattle.std.specs.FinMap.{get}
 use Rattle.sm_types.specs.declared.scalars.Scalars.{Scalars}
@@ -25,7 +26,8 @@ use Rattle.mem_access.specs.declared.stop.AccessStop.{AccessStop}
 use Rattle.mem_access.specs.declared.stop.AccessStop.TheVariants.{Raise, Memory as WantOfMemory}
 use Rattle.mem_access.specs.DataAccess.{DataAccess, of_run}
 use Rattle.mem_access.specs.Checks.{access_fault}
-use Rattle.mem_access.specs.Access.{bytes_in, with_base, with_pair_base, register_size, load_store_access, load_literal_access, pair_access, atomic_access}
+use Rattle.mem_access.specs.Access.{bytes_in, with_base, with_pair_base, register_size, load_store_access}
+use Rattle.mem_access.specs.Access.{load_literal_access, pair_access, atomic_access}
 use Rattle.mem_access.specs.Values.{number_at, set_each, loaded, literal_loaded, low_bytes, updated}
 
 -- what an access leaves
@@ -108,9 +110,11 @@ atomic_stored (atomic.Cas n acquire release rs rn rt) number s =
 atomic_stored (atomic.Swap n acquire release rs rn rt) number s =
     Some (bytes_low_first 0 (bytes_in n) (x_of s rs))
 atomic_stored (atomic.Update op n acquire release rs rn rt) number s =
-    Some (bytes_low_first 0 (bytes_in n) (updated op (bytes_in n) number (low_bytes (bytes_in n) (x_of s rs))))
+    Some (bytes_low_first 0 (bytes_in n) (updated op (bytes_in n) number
+    (low_bytes (bytes_in n) (x_of s rs))))
 
--- the registers after an access, with the number that was read
+-- the registers after an access, with the number that was read; an instruction that makes no access changes
+-- none here
 abbrev pub registers_after : Insn → ℕ → Scalars → Scalars
 registers_after (insn.LoadStore x) number s = load_store_after x.op x number s
 registers_after (insn.LoadLiteral x) number s = with_x s x.rt (literal_loaded x.op number)
@@ -157,7 +161,8 @@ transfer_fault it s m = option_and_then (λ access. access_fault (touched it s) 
 -- the pages that an access writes are owned, so that it takes no memory; a load writes none
 abbrev pub HasRoom : DataAccess → PageTable → Type 0
 HasRoom access pages =
-    access.writes ≡ true → All (λ a. IsSome (get pages.memory.perm (a / 4096)) → IsOwned pages (a / 4096)) access.bytes
+    access.writes ≡ true → All (λ a. IsSome (get pages.memory.perm (a / 4096)) → IsOwned pages (a / 4096))
+    access.bytes
 
 -- the pages that the access of an instruction writes are owned
 abbrev pub HasRoomFor : Insn → Scalars → PageTable → Type 0
@@ -170,6 +175,7 @@ raised_by WantOfMemory = None
 
 -- the answer of an access that has this fault, if any, and makes this: after Ok it is made, and any other
 -- answer leaves what was
-abbrev pub Transfers : Option Exception → AfterAccess → AfterAccess → AfterAccess → Result (Unit {0}) AccessStop → Type 0
+abbrev pub Transfers :
+    Option Exception → AfterAccess → AfterAccess → AfterAccess → Result (Unit {0}) AccessStop → Type 0
 Transfers fault made old new (Ok done) = (fault ≡ None) × (new ≡ made)
 Transfers fault made old new (Err stop) = (fault ≡ raised_by stop) × (new ≡ old)

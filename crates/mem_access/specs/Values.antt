@@ -1,6 +1,7 @@
--- The values that accesses read and write. Source: DDI 0487, C6.2, the operations of the loads, stores and atomic instructions; bytes in
--- memory are little-endian.
-use Rattle.std.specs.Prelude.{ℕ, ◌+◌, ◌-◌, ◌*◌, ◌%◌, ◌^◌, true, false, cond, List, [], ◌∷◌, Option, Some, None, bit_and, bit_or, bit_xor, ℤ, int_le, max, min}
+-- The values that accesses read and write. Source: DDI 0487, C6.2, the operations of the loads, stores and
+-- atomic instructions; bytes in memory are little-endian.
+use Rattle.std.specs.Prelude.{ℕ, ◌+◌, ◌-◌, ◌*◌, ◌%◌, ◌^◌, true, false, cond, List, [], ◌∷◌, Option, Some}
+use Rattle.std.specs.Prelude.{None, bit_and, bit_or, bit_xor, ℤ, int_le, max, min}
 use Rattle.std.specs.FinMap.{FinMap, insert}
 use Rattle.std.specs.Ordering.{nat_cmp}
 use Rattle.sm_types.specs.declared.insn.LoadStoreOp.{LoadStoreOp}
@@ -11,7 +12,8 @@ use Rattle.sm_types.specs.declared.insn.AtomicOp.{AtomicOp}
 use Rattle.sm_types.specs.declared.insn.AtomicOp.TheVariants.{Add, Clear, Eor, Set, Smax, Smin, Umax, Umin}
 use Rattle.insn_forms.specs.Fields.{signed_value}
 use Rattle.scalar_exec.specs.Operands.{sign_extend}
-use Rattle.paged_memory.specs.Memory.{AddressSpace, byte_with, little_number}
+use Rattle.sm_types.specs.Bytes.{little_number}
+use Rattle.paged_memory.specs.Memory.{AddressSpace, byte_with}
 
 -- a byte before some bytes
 abbrev pub byte_and : Option ℕ → Option (List ℕ) → Option (List ℕ)
@@ -39,7 +41,8 @@ set_each mem [] bytes = mem
 set_each mem (a ∷ addresses) [] = mem
 set_each mem (a ∷ addresses) (b ∷ bytes) = set_each (insert mem a b) addresses bytes
 
--- the register that a load of n bytes gives: extended by zeros, by the sign to 64 bits, or by the sign to 32 bits and then by zeros
+-- the register that a load of n bytes gives: extended by zeros, by the sign to 64 bits, or by the sign to
+-- 32 bits and then by zeros
 unfoldable pub loaded : LoadStoreOp → ℕ → ℕ → ℕ
 loaded Store n value = value
 loaded Load n value = value
@@ -60,8 +63,9 @@ low_bytes n value = value % 2 ^ (8 * n)
 abbrev pub signed_bytes : ℕ → ℕ → ℤ
 signed_bytes n value = signed_value (8 * n) value
 
--- what an atomic operation on n bytes leaves in memory, from the old number and the low bytes of the register: the sum, the old number
--- with the register's bits cleared, inverted or set, or the greater or the lesser of the two, signed or not
+-- what an atomic operation on n bytes leaves in memory, from the old number and the low bytes of the
+-- register: the sum, the old number with the register's bits cleared, inverted or set, or the greater or
+-- the lesser of the two, signed or not
 unfoldable pub updated : AtomicOp → ℕ → ℕ → ℕ → ℕ
 updated Add n old value = (old + value) % 2 ^ (8 * n)
 updated Clear n old value = bit_and old (2 ^ (8 * n) - 1 - value)

@@ -2,7 +2,10 @@
 ghost use Rattle.std.specs.Prelude.{◌≡◌, ◌+◌, ◌*◌, ◌%◌, ◌^◌, ◌<◌, ◌≤◌};
 ghost use Rattle.a64_table.specs.Ranges.{IsAddress, IsLoadStore, IsLoadLiteral, IsLoadStorePair, IsAtomic};
 ghost use Rattle.scalar_exec.specs.Registers.{x_or_sp};
-ghost use Rattle.mem_access.specs.Access.{bytes_in, scale_of, literal_size, register_size, address_of, with_base, offset_base, pair_address, with_pair_base, is_load, is_store, is_ldp, is_stp, load_store_access, load_literal_access, pair_access, atomic_access, at_base};
+ghost use Rattle.mem_access.specs.Access.{bytes_in, scale_of, literal_size, register_size, address_of};
+ghost use Rattle.mem_access.specs.Access.{with_base, offset_base, pair_address, with_pair_base, is_load};
+ghost use Rattle.mem_access.specs.Access.{is_store, is_ldp, is_stp, load_store_access, load_literal_access};
+ghost use Rattle.mem_access.specs.Access.{pair_access, atomic_access, at_base};
 
 use scalar_exec::{address_at, branch_target, extend, read_x, read_x_or_sp, write_x_or_sp};
 use sm_types::{

@@ -6,7 +6,8 @@ ghost use Rattle.paged_memory.specs.PageTable.{AreOwned, KeepsOwned};
 ghost use Rattle.mem_access.specs.Access.{bytes_in, atomic_access};
 ghost use Rattle.mem_access.specs.Transfer.{contents_of, Transfers};
 ghost use Rattle.mem_access.specs.Values.{low_bytes, updated};
-ghost use Rattle.mem_access.specs.Runs.{denied_read, denied_write, denied_update, run_fault, after_atomic, RunHasRoom, number_in, with_number};
+ghost use Rattle.mem_access.specs.Runs.{denied_read, denied_write, denied_update, run_fault, after_atomic};
+ghost use Rattle.mem_access.specs.Runs.{RunHasRoom, number_in, with_number};
 
 use crate::access::atomic_access;
 use crate::checks::place_fault;

@@ -1,5 +1,6 @@
 //! Numbers in memory that are read and then written.
-ghost use Rattle.std.specs.Prelude.{◌≡◌, ◌≢◌, ◌==◌, ◌*◌, ◌^◌, ◌<◌, None, Some, cond, IfOk, IfErr, OnOk, OnErr, Err};
+ghost use Rattle.std.specs.Prelude.{◌≡◌, ◌≢◌, ◌==◌, ◌*◌, ◌^◌, ◌<◌, None, Some, cond, IfOk, IfErr, OnOk};
+ghost use Rattle.std.specs.Prelude.{OnErr, Err};
 ghost use Rattle.paged_memory.specs.PageTable.{AreOwned, KeepsOwned};
 ghost use Rattle.mem_access.specs.Access.{bytes_in};
 ghost use Rattle.mem_access.specs.Transfer.{raised_by};
@@ -62,7 +63,8 @@ pub fn update(
 ) -> Result<u64, AccessStop>
     requires { value < 2 ^ (8 * bytes_in size) }
     ensures value { IfOk result (λ n. n ≡ number_in pages.old.memory address (bytes_in size)) }
-    ensures ok { OnOk result (pages.new.memory ≡ with_number pages.old.memory address (bytes_in size) (updated op (bytes_in size) (number_in pages.old.memory address (bytes_in size)) value)) }
+    ensures ok { OnOk result (pages.new.memory ≡ with_number pages.old.memory address (bytes_in size)
+        (updated op (bytes_in size) (number_in pages.old.memory address (bytes_in size)) value)) }
     ensures allowed { OnOk result (denied_update pages.old.memory address (bytes_in size) ≡ None) }
     ensures stops { IfErr result (λ e. denied_update pages.old.memory address (bytes_in size) ≡ raised_by e) }
     ensures err { OnErr result (pages.new.memory ≡ pages.old.memory) }
@@ -78,7 +80,8 @@ pub fn update(
     }
 }
 
-/// Writes the low bytes of a value in the place of a number, which is the answer, where it is the expected one.
+/// Writes the low bytes of a value in the place of a number, which is the answer, where it is the expected
+/// one.
 pub fn compare_and_swap(
     pages: &mut Pages,
     address: u64,
@@ -87,7 +90,8 @@ pub fn compare_and_swap(
     value: u64,
 ) -> Result<u64, AccessStop>
     ensures value { IfOk result (λ n. n ≡ number_in pages.old.memory address (bytes_in size)) }
-    ensures ok { OnOk result (pages.new.memory ≡ cond (number_in pages.old.memory address (bytes_in size) == expected) (with_number pages.old.memory address (bytes_in size) value) pages.old.memory) }
+    ensures ok { OnOk result (pages.new.memory ≡ cond (number_in pages.old.memory address (bytes_in size)
+        == expected) (with_number pages.old.memory address (bytes_in size) value) pages.old.memory) }
     ensures allowed { OnOk result (denied_update pages.old.memory address (bytes_in size) ≡ None) }
     ensures stops { IfErr result (λ e. denied_update pages.old.memory address (bytes_in size) ≡ raised_by e) }
     ensures err { OnErr result (pages.new.memory ≡ pages.old.memory) }

@@ -1,6 +1,8 @@
 //! Numbers in memory, the low byte first.
-ghost use Rattle.std.specs.Prelude.{◌≡◌, ◌≢◌, ◌+◌, ◌*◌, ◌%◌, ◌^◌, ◌<◌, ◌≤◌, length, take, drop, None, Some, IfOk, IfErr, OnOk, OnErr, Err};
-ghost use Rattle.paged_memory.specs.Memory.{little_number, set_bytes};
+ghost use Rattle.std.specs.Prelude.{◌≡◌, ◌≢◌, ◌+◌, ◌*◌, ◌%◌, ◌^◌, ◌<◌, ◌≤◌, length, take, drop, None, Some};
+ghost use Rattle.std.specs.Prelude.{IfOk, IfErr, OnOk, OnErr, Err};
+ghost use Rattle.sm_types.specs.Bytes.{little_number};
+ghost use Rattle.paged_memory.specs.Memory.{set_bytes};
 ghost use Rattle.paged_memory.specs.PageTable.{AreOwned, KeepsOwned};
 ghost use Rattle.mem_access.specs.Access.{bytes_in, register_size};
 ghost use Rattle.mem_access.specs.Transfer.{raised_by};
@@ -73,7 +75,10 @@ fn read_across(pages: &Pages, address: u64, size: AccessSize) -> Result<u64, Exc
 /// Writes bytes, or says why it does not.
 #[inline]
 pub fn write_bytes(pages: &mut Pages, address: u64, bytes: &[u8]) -> Result<(), AccessStop>
-    ensures ok { OnOk result (pages.new.memory ≡ record pages.old.memory { mem = set_bytes pages.old.memory.mem address bytes.now }) }
+    ensures ok { OnOk result (pages.new.memory ≡ record pages.old.memory {
+      mem = set_bytes pages.old.memory.mem
+          address bytes.now;
+    }) }
     ensures allowed { OnOk result (denied_write pages.old.memory address (length bytes.now) ≡ None) }
     ensures stops { IfErr result (λ e. denied_write pages.old.memory address (length bytes.now) ≡ raised_by e) }
     ensures err { OnErr result (pages.new.memory ≡ pages.old.memory) }

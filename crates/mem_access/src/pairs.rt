@@ -1,7 +1,8 @@
 //! Pairs of registers in memory, the first in the lower bytes.
-ghost use Rattle.std.specs.Prelude.{◌≡◌, ◌≢◌, ◌*◌, ◌/◌, ◌%◌, ◌^◌, ◌<◌, ◌++◌, length, take, drop, None, IfOk, IfErr, OnOk, OnErr, Err};
+ghost use Rattle.std.specs.Prelude.{◌≡◌, ◌≢◌, ◌*◌, ◌/◌, ◌%◌, ◌^◌, ◌<◌, ◌++◌, length, take, drop, None, IfOk};
+ghost use Rattle.std.specs.Prelude.{IfErr, OnOk, OnErr, Err};
 ghost use Rattle.std.specs.Int.{bytes_low_first};
-ghost use Rattle.paged_memory.specs.Memory.{little_number};
+ghost use Rattle.sm_types.specs.Bytes.{little_number};
 ghost use Rattle.paged_memory.specs.PageTable.{AreOwned, KeepsOwned};
 ghost use Rattle.mem_access.specs.Access.{register_size};
 ghost use Rattle.mem_access.specs.Transfer.{raised_by, pair_bytes};

@@ -2,9 +2,13 @@
 ghost use Rattle.std.specs.Prelude.{◌≢◌, ◌*◌, IsTrue, Err};
 ghost use Rattle.a64_table.specs.Ranges.{IsInRow, IsLoadStore, IsLoadLiteral, IsLoadStorePair};
 ghost use Rattle.paged_memory.specs.PageTable.{AreOwned, KeepsOwned};
-ghost use Rattle.mem_access.specs.Access.{bytes_in, literal_size, register_size, is_load, load_store_access, load_literal_access, pair_access};
-ghost use Rattle.mem_access.specs.Transfer.{is_access, contents_of, HasRoomFor, Transfers, after_access, transfer_fault, pair_after, pair_stored};
-ghost use Rattle.mem_access.specs.Runs.{denied_read, denied_write, run_fault, after_load_store, after_load_literal, after_pair, after_run, run_transfer_fault, RunHasRoom, RunHasRoomFor};
+ghost use Rattle.mem_access.specs.Access.{bytes_in, literal_size, register_size, is_load, load_store_access};
+ghost use Rattle.mem_access.specs.Access.{load_literal_access, pair_access};
+ghost use Rattle.mem_access.specs.Transfer.{is_access, contents_of, HasRoomFor, Transfers, after_access};
+ghost use Rattle.mem_access.specs.Transfer.{transfer_fault, pair_after, pair_stored};
+ghost use Rattle.mem_access.specs.Runs.{denied_read, denied_write, run_fault, after_load_store};
+ghost use Rattle.mem_access.specs.Runs.{after_load_literal, after_pair, after_run, run_transfer_fault};
+ghost use Rattle.mem_access.specs.Runs.{RunHasRoom, RunHasRoomFor};
 
 use crate::access::{
     literal_size, load_literal_access, load_store_access, pair_access, write_base, write_pair_base,

@@ -1,5 +1,6 @@
 //! The values that accesses read and write.
-ghost use Rattle.std.specs.Prelude.{◌≡◌, ◌-◌, ◌*◌, ◌^◌, ◌<◌, ◌≤◌, IsTrue, pos, ◌<ℤ◌, ◌≤ℤ◌, ◌+ℤ◌, ◌-ℤ◌, int_lt, int_le, if◌then◌else◌};
+ghost use Rattle.std.specs.Prelude.{◌≡◌, ◌-◌, ◌*◌, ◌^◌, ◌<◌, ◌≤◌, IsTrue, pos, ◌<ℤ◌, ◌≤ℤ◌, ◌+ℤ◌, ◌-ℤ◌};
+ghost use Rattle.std.specs.Prelude.{int_lt, int_le, if◌then◌else◌};
 ghost use Rattle.a64_table.specs.Ranges.{has_size};
 ghost use Rattle.mem_access.specs.Access.{bytes_in};
 ghost use Rattle.mem_access.specs.Values.{loaded, literal_loaded, low_bytes, signed_bytes, updated};

@@ -2,13 +2,14 @@
 use Rattle.std.proofs.Common.{◌⊎◌, inl, inr, ◌≡◌, ℕ, zero, suc, ◌+◌, ◌%◌, ◌^◌, ◌<◌, ◌≤◌, List, [], ◌∷◌, ◌++◌, refl, ap, sym, ◌∙◌, arith, Option, Some, None, add-one, append_assoc}
 use Rattle.std.specs.Prelude.{IsSome}
 use Rattle.std.proofs.lemmas.List.{append-nil}
-use Rattle.paged_memory.specs.Memory.{AddressSpace, byte_with, bytes_with, and_byte, or_else, unless_there, first_without}
+use Rattle.std.specs.Option.{option_or}
+use Rattle.paged_memory.specs.Memory.{AddressSpace, byte_with, bytes_with, and_byte, unless_there, first_without}
 
 pub bytes_with-next : (need : ℕ) (m : AddressSpace) (a i : ℕ) → bytes_with need m a (i + 1) ≡ and_byte (bytes_with need m a i) (byte_with need m ((a + i) % 2 ^ 64))
 unfolding bytes_with
 bytes_with-next need m a i = rw add-one refl
 
-pub first_without-next : (need : ℕ) (m : AddressSpace) (a i : ℕ) → first_without need m a (i + 1) ≡ or_else (first_without need m a i) (unless_there ((a + i) % 2 ^ 64) (byte_with need m ((a + i) % 2 ^ 64)))
+pub first_without-next : (need : ℕ) (m : AddressSpace) (a i : ℕ) → first_without need m a (i + 1) ≡ option_or (first_without need m a i) (unless_there ((a + i) % 2 ^ 64) (byte_with need m ((a + i) % 2 ^ 64)))
 unfolding first_without
 first_without-next need m a i = rw add-one refl
 
@@ -104,16 +105,16 @@ first_without-at need m a d n before gone l = first_without-stays need m a (d + 
 pub first_without-stop : (need : ℕ) (m : AddressSpace) (a d n : ℕ) (bs : List ℕ) → bytes_with need m a d ≡ Some bs → byte_with need m ((a + d) % 2 ^ 64) ≡ None → d < n → first_without need m a n ≡ Some ((a + d) % 2 ^ 64)
 first_without-stop need m a d n bs there gone l = first_without-at need m a d n (first_without-none need m a d (rw there refl)) gone l
 
-or_else-none : (o : Option ℕ) → o ≡ or_else o None
+or_else-none : (o : Option ℕ) → o ≡ option_or o None
 or_else-none None = refl
 or_else-none (Some x) = refl
 
-or_else-assoc : (o p q : Option ℕ) → or_else (or_else o p) q ≡ or_else o (or_else p q)
+or_else-assoc : (o p q : Option ℕ) → option_or (option_or o p) q ≡ option_or o (option_or p q)
 or_else-assoc None p q = refl
 or_else-assoc (Some x) p q = refl
 
 -- the first of two runs, one after the other
-pub first_without-join : (need : ℕ) (m : AddressSpace) (a d n : ℕ) → first_without need m a (d + n) ≡ or_else (first_without need m a d) (first_without need m ((a + d) % 2 ^ 64) n)
+pub first_without-join : (need : ℕ) (m : AddressSpace) (a d n : ℕ) → first_without need m a (d + n) ≡ option_or (first_without need m a d) (first_without need m ((a + d) % 2 ^ 64) n)
 unfolding first_without
 first_without-join need m a d zero = let e : d + 0 ≡ d = omega arith in rw e (or_else-none (first_without need m a d))
 first_without-join need m a d (suc n) =

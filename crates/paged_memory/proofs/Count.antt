@@ -5,7 +5,8 @@ use Rattle.std.proofs.lemmas.Bool.Decides.{nat_tests}
 use Rattle.std.specs.FinMap.{FinMap, get, len, insert, remove, empty, get-insert, get-remove, get-empty, len-empty, len-insert, same_map, nat_cmp-IsAntisymmetric}
 use Rattle.std.specs.Cmp.{nat_cmp_total}
 use Rattle.std.specs.Ordering.{nat_cmp}
-use Rattle.paged_memory.specs.Memory.{or_else}
+use Rattle.std.specs.Option.{option_or}
+use Rattle.paged_memory.specs.Memory.{IsWhole}
 use Rattle.paged_memory.specs.Image.{Extent, Program, union, part_flags, image_flags, part_byte, parts_byte, or_zero, IsMemoryOf, IsImage, IsImagePage}
 use Rattle.paged_memory.specs.Parts.{IsPlaced, ArePlaced, touched_below}
 use Rattle.paged_memory.proofs.Over.{eq_by_cmp-nat}
@@ -136,13 +137,13 @@ not_there : (o : Option ℕ) → (IsSome o → ⊥) → o ≡ None
 not_there None h = refl
 not_there (Some x) h = absurd (h refl)
 
-pub image_made : (parts : List Extent) (p : Program) → ArePlaced parts → IsMemoryOf parts p.memory → IsImage p
-image_made parts p placed is =
+pub image_made : (parts : List Extent) (p : Program) → ArePlaced parts → IsMemoryOf parts p.memory → IsWhole p.memory → IsImage p
+image_made parts p placed is whole =
     let flags : (n : ℕ) → get p.memory.perm n ≡ image_flags parts n = is.flags in
     let places : (n : ℕ) → IsSome (get p.memory.perm n) → IsImagePage n = λ n s. page_of_parts parts n placed.placed (rw (flags n) at s) in
     let past : (q : ℕ) → 2 ^ 35 ≤ q → get p.memory.perm q ≡ None = λ q l. not_there (get p.memory.perm q) (λ s. let low : q < 2 ^ 35 = (places q s).0 in absurd (omega arith)) in
     let count : len p.memory.perm ≡ touched_below parts (2 ^ 35) = len-count_keys (2 ^ 35) p.memory.perm past ∙ count_touched parts p.memory.perm (2 ^ 35) flags in
-    record { few = rw count placed.few; places = places }
+    record { whole = whole; few = rw count placed.few; places = places }
 
 -- ---- one part
 
@@ -168,19 +169,6 @@ touched_by_one p zero = (omega arith, omega arith)
 touched_by_one p (suc n) =
     let before : (touched_below (p ∷ []) n ≤ n - p.address / 4096) × (touched_below (p ∷ []) n ≤ (p.address + p.size - 1) / 4096 + 1 - p.address / 4096) = touched_by_one p n in
     one_more p n (touched_below (p ∷ []) n) before.0 before.1
-
-only : (p : Extent) (k : ℕ) (d : Extent) → IsPlaced p → k < 1 → IsPlaced (get_or (p ∷ []) k d)
-only p zero d placed l = placed
-only p (suc k) d placed l = absurd (omega arith)
-
--- one part that lies where it may and touches few pages makes an image
-pub one_placed : (p : Extent) → IsPlaced p → 0 < p.size → (p.address + p.size - 1) / 4096 - p.address / 4096 < 4032 → ArePlaced (p ∷ [])
-unfolding parts_byte
-one_placed p placed size few = record {
-  placed = λ k d l. only p k d placed l;
-  apart = (λ a h. refl, tt);
-  few = let count : touched_below (p ∷ []) (2 ^ 35) ≤ (p.address + p.size - 1) / 4096 + 1 - p.address / 4096 = (touched_by_one p (2 ^ 35)).1 in omega arith;
-}
 
 -- a part lies where it may if its ends do
 pub placed_by_ends : (p : Extent) → length p.bytes ≤ p.size → p.flags < 8 → p.address + p.size ≤ 2 ^ 47 → (p.address + p.size ≤ 0x7DFFFFFC0000) ⊎ (0x7F0000001000 ≤ p.address) → IsPlaced p
@@ -210,7 +198,7 @@ inside_test p a h =
       | false ↦ λ t s. cc
     ] refl h
 
-not_below : (q : Extent) (a : ℕ) → a < q.address → or_else (part_byte q a) None ≡ None
+not_below : (q : Extent) (a : ℕ) → a < q.address → option_or (part_byte q a) None ≡ None
 not_below q a l = let e : (nat_le q.address a && nat_lt a (q.address + q.size)) ≡ false = grind (arith, nat_tests) in rw e refl
 
 only_two : (p q : Extent) (k : ℕ) (d : Extent) → IsPlaced p → IsPlaced q → k < 2 → IsPlaced (get_or (p ∷ q ∷ []) k d)

@@ -4,7 +4,7 @@ use Rattle.std.specs.Prelude.{◌&&◌, nat_le, nat_lt, IsSome}
 use Rattle.std.proofs.lemmas.Bool.Decides.{nat_tests}
 use Rattle.std.proofs.lemmas.Option.{slice_get-get_or}
 use Rattle.paged_memory.specs.declared.image.Part.{Part}
-use Rattle.paged_memory.specs.Memory.{or_else}
+use Rattle.std.specs.Option.{option_or}
 use Rattle.paged_memory.specs.Image.{Extent, extent_of, union, part_flags, image_flags, part_byte, parts_byte, image_byte, or_zero, zero_in}
 use Rattle.paged_memory.specs.Parts.{IsPlaced, AreApart}
 use Rattle.paged_memory.proofs.Over.{over, low_or, over-below, over-above, over-inside}
@@ -88,7 +88,7 @@ slice_get_past (b ∷ bs) (suc k) h = slice_get_past bs k (omega arith)
 
 -- the bytes of a part put over those of the parts after it
 pub part_put : (p : Extent) (rest : List Extent) (a : ℕ) (z old new : Option ℕ) → length p.bytes ≤ p.size → (IsSome (part_byte p a) → parts_byte rest a ≡ None) → (p.address ≤ a → a < p.address + p.size → z ≡ Some 0)
-    → old ≡ or_else (parts_byte rest a) z → new ≡ over p.address p.bytes a old → new ≡ or_else (or_else (part_byte p a) (parts_byte rest a)) z
+    → old ≡ option_or (parts_byte rest a) z → new ≡ over p.address p.bytes a old → new ≡ option_or (option_or (part_byte p a) (parts_byte rest a)) z
 part_put p rest a z old new fits apart there before is =
     elim (low_or a p.address) [
       | inl l ↦ is ∙ over-below p.address p.bytes a old l ∙ before ∙ sym (rw (part_byte-below p a l) refl)
@@ -117,19 +117,19 @@ zero_of_some : (o : Option ℕ) → IsSome o → zero_in o ≡ Some 0
 zero_of_some None h = cc
 zero_of_some (Some f) h = refl
 
-pub bytes_of_none : (parts : List Part) (a : ℕ) (z old : Option ℕ) → old ≡ z → old ≡ or_else (parts_byte (drop (length parts) (map extent_of parts)) a) z
+pub bytes_of_none : (parts : List Part) (a : ℕ) (z old : Option ℕ) → old ≡ z → old ≡ option_or (parts_byte (drop (length parts) (map extent_of parts)) a) z
 unfolding parts_byte
 bytes_of_none parts a z old h = rw (no_extents parts) h
 
 pub bytes_of_more : (parts : List Part) (i : ℕ) (d : Part) (a : ℕ) (old new : Option ℕ) → AreApart (map extent_of parts) → i < length parts → length (extent_of (get_or parts i d)).bytes ≤ (extent_of (get_or parts i d)).size
-    → old ≡ or_else (parts_byte (drop (i + 1) (map extent_of parts)) a) (zero_in (image_flags (map extent_of parts) (a / 4096))) → new ≡ over (extent_of (get_or parts i d)).address (extent_of (get_or parts i d)).bytes a old
-    → new ≡ or_else (parts_byte (drop i (map extent_of parts)) a) (zero_in (image_flags (map extent_of parts) (a / 4096)))
+    → old ≡ option_or (parts_byte (drop (i + 1) (map extent_of parts)) a) (zero_in (image_flags (map extent_of parts) (a / 4096))) → new ≡ over (extent_of (get_or parts i d)).address (extent_of (get_or parts i d)).bytes a old
+    → new ≡ option_or (parts_byte (drop i (map extent_of parts)) a) (zero_in (image_flags (map extent_of parts) (a / 4096)))
 unfolding parts_byte
 bytes_of_more parts i d a old new h l fits before is =
     rw (extents_from parts i d l) (part_put (extent_of (get_or parts i d)) (drop (i + 1) (map extent_of parts)) a (zero_in (image_flags (map extent_of parts) (a / 4096))) old new fits
     (apart_from parts i d a h l) (λ g m. zero_of_some (image_flags (map extent_of parts) (a / 4096)) (touched_at parts i d a l g m)) before is)
 
-pub bytes_of_all : (parts : List Extent) (a : ℕ) (o : Option ℕ) → o ≡ or_else (parts_byte parts a) (zero_in (image_flags parts (a / 4096))) → o ≡ image_byte parts a
+pub bytes_of_all : (parts : List Extent) (a : ℕ) (o : Option ℕ) → o ≡ option_or (parts_byte parts a) (zero_in (image_flags parts (a / 4096))) → o ≡ image_byte parts a
 unfolding image_byte
 bytes_of_all parts a o h = h
 

@@ -1,7 +1,8 @@
 -- The word of four bytes.
 use Rattle.std.proofs.Common.{◌≡◌, ℕ, List, [], ◌∷◌, length, refl, ap, sym, ◌∙◌, arith, Some, None}
 use Rattle.std.specs.Int.{from_le_bytes, w32}
-use Rattle.paged_memory.specs.Memory.{AddressSpace, bytes_with, little_number, word_at}
+use Rattle.sm_types.specs.Bytes.{little_number}
+use Rattle.paged_memory.specs.Memory.{AddressSpace, bytes_with, word_at}
 
 four_bytes : (bs : List ℕ) → length bs ≡ 4 → little_number bs ≡ from_le_bytes w32 bs
 four_bytes (a ∷ b ∷ c ∷ d ∷ []) h = omega arith

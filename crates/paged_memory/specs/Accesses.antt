@@ -1,4 +1,5 @@
--- Accesses to bytes: the permission that each kind needs, and where one stops. Source: DDI 0487, D8 (permission faults).
+-- Accesses to bytes: the permission that each kind needs, and where one stops. Source: DDI 0487, D8
+-- (permission faults).
 use Rattle.std.specs.Prelude.{◌≡◌, ℕ, Option, Some, None}
 use Rattle.sm_types.specs.declared.stop.Access.{Access}
 use Rattle.sm_types.specs.declared.stop.Access.TheVariants.{Read, Write}

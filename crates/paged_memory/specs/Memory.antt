@@ -1,11 +1,15 @@
 -- The private memory of a guest thread: a byte at each address of its pages, and the permission of each page.
 -- Source: DDI 0487, D8 (translation granule of 4 KiB, permissions to read, write and execute), with addresses
 -- modulo 2 ^ 64.
-use Rattle.std.specs.Prelude.{◌≡◌, ℕ, zero, suc, ◌+◌, ◌*◌, ◌/◌, ◌%◌, ◌^◌, ◌<◌, is_some, Bool, cond, List, [], ◌∷◌, ◌++◌, Option, Some, None, bit_and, ◌==◌, refl, option_map, replicate, unwrap_or}
+use Rattle.std.specs.Prelude.{◌≡◌, ℕ, zero, suc, ◌+◌, ◌*◌, ◌/◌, ◌%◌, ◌^◌, ◌<◌, is_some, Bool, cond, List, []}
+use Rattle.std.specs.Prelude.{◌∷◌, ◌++◌, Option, Some, None, bit_and, ◌==◌, refl, option_map, replicate}
+use Rattle.std.specs.Prelude.{unwrap_or}
 use Rattle.std.specs.FinMap.{FinMap, get, insert, empty}
 use Rattle.std.specs.FinMap as map
+use Rattle.std.specs.Option.{option_or}
 use Rattle.std.specs.Ordering.{nat_cmp}
 use Rattle.std.specs.Coded.{Coded, code_by, coded×, coded_ℕ}
+use Rattle.sm_types.specs.Bytes.{little_number}
 
 pub record AddressSpace : Type 0 where
   -- from address to byte
@@ -17,7 +21,8 @@ pub record AddressSpace : Type 0 where
 -- a memory, seen as a pair of maps
 abbrev pub memory_code : Coded AddressSpace
 memory_code =
-    code_by (FinMap nat_cmp ℕ × FinMap nat_cmp ℕ) (coded× (map.code coded_ℕ coded_ℕ) (map.code coded_ℕ coded_ℕ)) (λ m. (m.mem, m.perm)) (λ p. record { mem = p.0; perm = p.1 }) (λ _. refl)
+    code_by (FinMap nat_cmp ℕ × FinMap nat_cmp ℕ) (coded× (map.code coded_ℕ coded_ℕ)
+    (map.code coded_ℕ coded_ℕ)) (λ m. (m.mem, m.perm)) (λ p. record { mem = p.0; perm = p.1 }) (λ _. refl)
 
 -- no page
 abbrev pub no_memory : AddressSpace
@@ -53,11 +58,6 @@ unfoldable pub bytes_with : ℕ → AddressSpace → ℕ → ℕ → Option (Lis
 bytes_with need m a zero = Some []
 bytes_with need m a (suc n) = and_byte (bytes_with need m a n) (byte_with need m ((a + n) % 2 ^ 64))
 
--- the first of two, else the second
-abbrev pub or_else : {A : Type 0} → Option A → Option A → Option A
-or_else None second = second
-or_else (Some first) second = Some first
-
 -- the address, where it has no byte
 abbrev pub unless_there : ℕ → Option ℕ → Option ℕ
 unless_there a None = Some a
@@ -66,12 +66,9 @@ unless_there a (Some b) = None
 -- the first of the n addresses from an address on that has no byte with the permission
 unfoldable pub first_without : ℕ → AddressSpace → ℕ → ℕ → Option ℕ
 first_without need m a zero = None
-first_without need m a (suc n) = or_else (first_without need m a n) (unless_there ((a + n) % 2 ^ 64) (byte_with need m ((a + n) % 2 ^ 64)))
-
--- the number of some bytes, the low one first
-abbrev pub little_number : List ℕ → ℕ
-little_number [] = 0
-little_number (b ∷ bs) = b + 256 * little_number bs
+first_without need m a (suc n) =
+    option_or (first_without need m a n) (unless_there ((a + n) % 2 ^ 64)
+    (byte_with need m ((a + n) % 2 ^ 64)))
 
 -- the word of the four bytes at an address, where each is in an executable page
 unfoldable pub word_at : AddressSpace → ℕ → Option ℕ
@@ -84,7 +81,8 @@ set_bytes mem a (b ∷ bs) = set_bytes (insert mem (a % 2 ^ 64) b) (a + 1) bs
 
 -- the memory with one more page
 unfoldable pub with_page : AddressSpace → ℕ → ℕ → List ℕ → AddressSpace
-with_page m number flags bytes = record { mem = set_bytes m.mem (4096 * number) bytes; perm = insert m.perm number flags }
+with_page m number flags bytes =
+    record { mem = set_bytes m.mem (4096 * number) bytes; perm = insert m.perm number flags }
 
 -- a page of zeros
 unfoldable pub zero_page : List ℕ
@@ -93,7 +91,8 @@ zero_page = replicate 4096 0
 -- the memory with some more pages of zeros, from a page on
 unfoldable pub with_zero_pages : AddressSpace → ℕ → ℕ → ℕ → AddressSpace
 with_zero_pages m number flags zero = m
-with_zero_pages m number flags (suc n) = with_page (with_zero_pages m number flags n) (number + n) flags zero_page
+with_zero_pages m number flags (suc n) =
+    with_page (with_zero_pages m number flags n) (number + n) flags zero_page
 
 -- the memory with the stack: 64 pages of zeros that can be read and written, the last below 0x7E0000000000
 unfoldable pub with_stack : AddressSpace → AddressSpace

@@ -1,5 +1,6 @@
--- The pages of a guest thread as its callers see them: the memory that they make, and which of them are owned. An owned page is the
--- thread's alone, and a write to it takes no memory. Source: copy on write, as System V's fork has it.
+-- The pages of a guest thread as its callers see them: the memory that they make, and which of them are
+-- owned. An owned page is the thread's alone, and a write to it takes no memory. Source: copy on write, as
+-- System V's fork has it.
 use Rattle.std.specs.Prelude.{◌≡◌, ◌↔◌, ◌⊎◌, ℕ, ◌+◌, ◌/◌, ◌%◌, ◌^◌, ◌<◌, refl, IsSome, IsTrue}
 use Rattle.std.specs.FinMap.{get}
 use Rattle.std.specs.FinSet.{FinSet, contains}
@@ -15,7 +16,9 @@ pub record PageTable : Type 0 where
 
 -- a page table, seen as a pair
 abbrev pub page_table_code : Coded PageTable
-page_table_code = code_by (AddressSpace × FinSet nat_cmp) (coded× memory_code (set.code coded_ℕ)) (λ t. (t.memory, t.owned)) (λ p. record { memory = p.0; owned = p.1 }) (λ _. refl)
+page_table_code =
+    code_by (AddressSpace × FinSet nat_cmp) (coded× memory_code (set.code coded_ℕ))
+    (λ t. (t.memory, t.owned)) (λ p. record { memory = p.0; owned = p.1 }) (λ _. refl)
 
 -- the page of that number is owned
 abbrev pub IsOwned : PageTable → ℕ → Type 0
@@ -35,7 +38,9 @@ OwnsAlso old new address n =
 
 -- the pages of the n bytes from an address on are owned, where there are such pages
 abbrev pub AreOwned : PageTable → ℕ → ℕ → Type 0
-AreOwned t address n = (k : ℕ) → k < n → IsSome (get t.memory.perm ((address + k) % 2 ^ 64 / 4096)) → IsOwned t ((address + k) % 2 ^ 64 / 4096)
+AreOwned t address n =
+    (k : ℕ) → k < n → IsSome (get t.memory.perm ((address + k) % 2 ^ 64 / 4096))
+    → IsOwned t ((address + k) % 2 ^ 64 / 4096)
 
 -- the owned pages stay owned
 abbrev pub KeepsOwned : PageTable → PageTable → Type 0

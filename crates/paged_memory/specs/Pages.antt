@@ -1,6 +1,7 @@
 -- What a list of pages holds, by address and by number of page.
 -- Source: a page is 4096 bytes from its number times 4096 on.
-use Rattle.std.specs.Prelude.{◌≡◌, ℕ, ◌*◌, ◌<◌, ◌^◌, true, cond, List, [], ◌∷◌, Option, Some, None, ◌==◌, length, All, map}
+use Rattle.std.specs.Prelude.{◌≡◌, ℕ, ◌*◌, ◌<◌, ◌^◌, true, cond, List, [], ◌∷◌, Option, Some, None, ◌==◌}
+use Rattle.std.specs.Prelude.{length, All, map}
 use Rattle.std.specs.FinMap.{FinMap, insert, empty, is_sorted}
 use Rattle.std.specs.FinSet.{FinSet}
 use Rattle.std.specs.FinSet as set

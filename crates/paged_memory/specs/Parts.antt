@@ -1,6 +1,7 @@
 -- Which parts an image may have.
 -- Source: the address space of a guest thread, with its stack and the shared region.
-use Rattle.std.specs.Prelude.{◌≡◌, ℕ, zero, suc, ◌+◌, ◌/◌, ◌<◌, ◌≤◌, ◌^◌, cond, List, [], ◌∷◌, None, length, All, IsSome, is_some}
+use Rattle.std.specs.Prelude.{◌≡◌, ℕ, zero, suc, ◌+◌, ◌/◌, ◌<◌, ◌≤◌, ◌^◌, cond, List, [], ◌∷◌, None, length}
+use Rattle.std.specs.Prelude.{All, IsSome, is_some}
 use Rattle.paged_memory.specs.Image.{Extent, image_flags, part_byte, parts_byte, zero_in, IsImagePage}
 use Rattle.paged_memory.specs.Memory.{AddressSpace}
 use Rattle.std.specs.FinMap.{get}

@@ -1,6 +1,8 @@
 //! The image of a program.
-ghost use Rattle.std.specs.Prelude.{◌==◌, cond, All, ◌≡◌, ℕ, ◌+◌, ◌-◌, ◌*◌, ◌/◌, ◌%◌, ◌^◌, ◌<◌, ◌≤◌, length, map, IfOk, OnOk, IsSome, Some, None};
+ghost use Rattle.std.specs.Prelude.{◌==◌, cond, All, ◌≡◌, ℕ, ◌+◌, ◌-◌, ◌*◌, ◌/◌, ◌%◌, ◌^◌, ◌<◌, ◌≤◌, length};
+ghost use Rattle.std.specs.Prelude.{map, IfOk, OnOk, IsSome, Some, None};
 ghost use Rattle.std.specs.FinMap.{get};
+ghost use Rattle.paged_memory.specs.Memory.{IsWhole};
 ghost use Rattle.paged_memory.specs.Image.{IsMemoryOf, IsImage, extent_of, union, part_flags, image_flags};
 ghost use Rattle.paged_memory.specs.Parts.{ArePlaced, IsZero};
 ghost use Rattle.paged_memory.specs.Pages.{perm_of, memory_of, IsFine};
@@ -53,6 +55,7 @@ impl Image {
         ensures memory { IfOk result (λ i. IsMemoryOf (map extent_of parts.now) i.memory) }
         ensures entry { IfOk result (λ i. i.entry ≡ entry) }
         ensures code { IfOk result (λ i. i.code ≡ code.now) }
+        ensures whole { IfOk result (λ i. IsWhole i.memory) }
     {
         match pages_of(alloc, parts) {
             Ok(pages) => match Vec::from_slice(alloc, code) {
@@ -140,7 +143,8 @@ fn touch_part(alloc: Global, pages: &mut Vec<Page>, part: &Part<'_>) -> Result<(
     requires sum { part.now.flags < 8 }
     ensures fine { OnOk result (IsFine pages.new.items) }
     ensures zero { OnOk result (IsZero (memory_of pages.new.items)) }
-    ensures flags { OnOk result ((n : ℕ) → get (perm_of pages.new.items) n ≡ union (part_flags (extent_of part.now) n) (get (perm_of pages.old.items) n)) }
+    ensures flags { OnOk result ((n : ℕ) → get (perm_of pages.new.items) n
+        ≡ union (part_flags (extent_of part.now) n) (get (perm_of pages.old.items) n)) }
 {
     if part.size > 0 {
         let last = (part.address + part.size - 1) / 4096;
@@ -159,7 +163,9 @@ fn touch(alloc: Global, pages: &mut Vec<Page>, number: u64, flags: u8) -> Result
     requires sum { flags < 8 }
     ensures fine { OnOk result (IsFine pages.new.items) }
     ensures zero { OnOk result (IsZero (memory_of pages.new.items)) }
-    ensures flags { OnOk result ((n : ℕ) → get (perm_of pages.new.items) n ≡ cond (number == n) (union (Some flags) (get (perm_of pages.old.items) n)) (get (perm_of pages.old.items) n)) }
+    ensures flags { OnOk result ((n : ℕ) → get (perm_of pages.new.items) n
+        ≡ cond (number == n) (union (Some flags) (get (perm_of pages.old.items) n))
+        (get (perm_of pages.old.items) n)) }
 {
     match search(pages.as_slice(), number) {
         Some(i) => {

@@ -1,5 +1,7 @@
 //! Pages, and lists of them in the order of their numbers.
-ghost use Rattle.std.specs.Prelude.{◌≡◌, ℕ, ◌+◌, ◌*◌, ◌/◌, ◌%◌, ◌^◌, ◌<◌, ◌≤◌, ◌++◌, take, drop, length, get_or, slice_get, MatchOption, IfSome, IfNone, IsSome, OnSome, IfOk, OnOk, OnErr, Some, None, bit_or};
+ghost use Rattle.std.specs.Prelude.{◌≡◌, ℕ, ◌+◌, ◌*◌, ◌/◌, ◌%◌, ◌^◌, ◌<◌, ◌≤◌, ◌++◌, take, drop, length};
+ghost use Rattle.std.specs.Prelude.{get_or, slice_get, MatchOption, IfSome, IfNone, IsSome, OnSome, IfOk};
+ghost use Rattle.std.specs.Prelude.{OnOk, OnErr, Some, None, bit_or};
 ghost use Rattle.std.specs.FinMap.{get};
 ghost use Rattle.paged_memory.specs.declared.page.Page.{Page};
 ghost use Rattle.paged_memory.specs.Memory.{with_page, byte_with, bytes_with, first_without, set_bytes};
@@ -9,7 +11,8 @@ ghost use Rattle.paged_memory.specs.Pages.{page_at, mem_of, perm_of, memory_of, 
 use crate::hints::hinted_place;
 use std::alloc::{AllocError, Global};
 
-/// A page of 4096 bytes: its number is its address over 4096, its flags are a sum of execute 1, write 2 and read 4.
+/// A page of 4096 bytes: its number is its address over 4096, its flags are a sum of execute 1, write 2 and
+/// read 4.
 #[derive(Drop)]
 pub struct Page {
     pub number: u64,
@@ -41,7 +44,8 @@ pub fn count_below(pages: &[Page], number: u64) -> usize
 #[inline]
 pub fn find(pages: &[Page], hints: &[u16], number: u64) -> Option<usize>
     requires { IsFine pages.now }
-    ensures { MatchOption result (page_at pages.now number ≡ None) (λ i. (i < length pages.now) × (page_at pages.now number ≡ slice_get pages.now i)) }
+    ensures { MatchOption result (page_at pages.now number ≡ None)
+        (λ i. (i < length pages.now) × (page_at pages.now number ≡ slice_get pages.now i)) }
 {
     let i = hinted_place(hints, number);
     if i < pages.len() && pages[i].number == number {
@@ -54,7 +58,8 @@ pub fn find(pages: &[Page], hints: &[u16], number: u64) -> Option<usize>
 /// The place of the page of that number, by binary search.
 pub fn search(pages: &[Page], number: u64) -> Option<usize>
     requires { IsFine pages.now }
-    ensures { MatchOption result (page_at pages.now number ≡ None) (λ i. (i < length pages.now) × (page_at pages.now number ≡ slice_get pages.now i)) }
+    ensures { MatchOption result (page_at pages.now number ≡ None)
+        (λ i. (i < length pages.now) × (page_at pages.now number ≡ slice_get pages.now i)) }
 {
     let i = count_below(pages, number);
     if i < pages.len() && pages[i].number == number {
@@ -101,7 +106,8 @@ pub fn add_page(pages: &mut Vec<Page>, page: Page) -> Result<(), AllocError>
     requires low { page.number < 2 ^ 51 }
     requires missing { get (perm_of pages.old.items) page.number ≡ None }
     ensures fine { IsFine pages.new.items }
-    ensures memory { OnOk result (memory_of pages.new.items ≡ with_page (memory_of pages.old.items) page.number page.flags page.bytes.items) }
+    ensures memory { OnOk result (memory_of pages.new.items
+        ≡ with_page (memory_of pages.old.items) page.number page.flags page.bytes.items) }
     ensures count { OnOk result (length pages.new.items ≡ length pages.old.items + 1) }
 {
     let i = count_below(pages.as_slice(), page.number);
@@ -255,7 +261,8 @@ fn put_across(pages: &mut Vec<Page>, hints: &[u16], address: u64, bytes: &[u8]) 
     }
 }
 
-/// Sets bytes from an address on, which goes round at 2^64, or names the first that may not be written; then none is set.
+/// Sets bytes from an address on, which goes round at 2^64, or names the first that may not be written;
+/// then none is set.
 #[inline]
 pub fn put_permitted(
     pages: &mut Vec<Page>,

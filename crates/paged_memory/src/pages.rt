@@ -1,7 +1,9 @@
 //! The pages of a guest thread.
-ghost use Rattle.std.specs.Prelude.{◌≡◌, ◌≢◌, ℕ, ◌+◌, ◌*◌, ◌/◌, ◌%◌, ◌^◌, ◌<◌, ◌≤◌, ◌↔◌, length, slice_get, IsSome, IfSome, IfNone, IfOk, IfErr, OnOk, OnErr, Some, None};
+ghost use Rattle.std.specs.Prelude.{◌≡◌, ◌≢◌, ℕ, ◌+◌, ◌*◌, ◌/◌, ◌%◌, ◌^◌, ◌<◌, ◌≤◌, ◌↔◌, length, slice_get};
+ghost use Rattle.std.specs.Prelude.{IsSome, IfSome, IfNone, IfOk, IfErr, OnOk, OnErr, Some, None};
 ghost use Rattle.std.specs.FinMap.{get, entries, len};
-ghost use Rattle.paged_memory.specs.Memory.{IsWhole, with_stack, with_zero_pages, no_memory, bytes_from, byte_with, bytes_with, first_without, word_at, set_bytes};
+ghost use Rattle.paged_memory.specs.Memory.{IsWhole, with_stack, with_zero_pages, no_memory, bytes_from};
+ghost use Rattle.paged_memory.specs.Memory.{byte_with, bytes_with, first_without, word_at, set_bytes};
 ghost use Rattle.paged_memory.specs.PageTable.{AreOwned, OwnsAlso, KeepsOwned};
 ghost use Rattle.paged_memory.specs.Accesses.{need_of, stopped_at, IsOfWrite};
 ghost use Rattle.paged_memory.specs.Pages.{perm_of, memory_of, IsFine};
@@ -193,7 +195,8 @@ impl Pages {
     /// written where one of them may not be, or where there is no memory for a page that is not owned.
     #[inline]
     pub fn write(&mut self, address: u64, bytes: &[u8]) -> Result<(), WriteStop>
-        ensures ok { OnOk result (self.new.memory ≡ record self.old.memory { mem = set_bytes self.old.memory.mem address bytes.now }) }
+        ensures ok { OnOk result (self.new.memory
+            ≡ record self.old.memory { mem = set_bytes self.old.memory.mem address bytes.now }) }
         ensures allowed { OnOk result (first_without 2 self.old.memory address (length bytes.now) ≡ None) }
         ensures abort { IfErr result (λ e. first_without 2 self.old.memory address (length bytes.now) ≡ stopped_at e) }
         ensures access { IfErr result IsOfWrite }
@@ -224,7 +227,8 @@ impl Pages {
     /// The page at that place in the order of addresses, counted from 0; `None` exactly past the last page.
     pub fn page(&self, index: usize) -> Option<PageView<'_>>
         ensures there { IsSome result ↔ (index < len self.now.memory.perm) }
-        ensures entry { IfSome result (λ v. slice_get (entries self.now.memory.perm) index ≡ Some (v.address / 4096, v.flags)) }
+        ensures entry { IfSome result (λ v. slice_get (entries self.now.memory.perm) index
+            ≡ Some (v.address / 4096, v.flags)) }
         ensures aligned { IfSome result (λ v. v.address % 4096 ≡ 0) }
         ensures whole { IfSome result (λ v. length v.bytes.now ≡ 4096) }
         ensures bytes { IfSome result (λ v. v.bytes.now ≡ bytes_from self.now.memory.mem v.address 4096) }

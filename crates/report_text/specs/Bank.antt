@@ -1,5 +1,6 @@
 -- The lines of vectors, predicates, FFR and ZA, each only where it is not all zero.
-use Rattle.std.specs.Prelude.{ℕ, zero, suc, ◌+◌, ◌*◌, ◌/◌, ◌++◌, ◌∷◌, [], ◌==◌, List, Bool, cond, decimal, codes, take, drop, length}
+use Rattle.std.specs.Prelude.{ℕ, zero, suc, ◌+◌, ◌*◌, ◌/◌, ◌++◌, ◌∷◌, [], ◌==◌, List, Bool, cond, decimal}
+use Rattle.std.specs.Prelude.{codes, take, drop, length}
 use Rattle.std.specs.List.{concat, list_all}
 use Rattle.hex.specs.Hex.{encode_lower}
 use Rattle.machine_step.specs.ProcessorState.{VectorState}
@@ -25,12 +26,14 @@ all_predicate_bytes (p ∷ ps) = predicate_bytes p ∷ all_predicate_bytes ps
 
 -- a name and bytes in hexadecimal, where the bytes are not all zero
 unfoldable pub bytes_line : List ℕ → List ℕ → List ℕ
-bytes_line name bytes = cond (list_all (λ b. b == 0) bytes) [] (concat (name ∷ codes " " ∷ encode_lower bytes ∷ codes "\n" ∷ []))
+bytes_line name bytes =
+    cond (list_all (λ b. b == 0) bytes) [] (concat (name ∷ codes " " ∷ encode_lower bytes ∷ codes "\n" ∷ []))
 
 -- those lines for a list of registers, the first of them number k
 unfoldable pub bytes_lines : List ℕ → ℕ → List (List ℕ) → List ℕ
 bytes_lines name k [] = []
-bytes_lines name k (bytes ∷ rest) = bytes_line (concat (name ∷ codes " " ∷ decimal k ∷ [])) bytes ++ bytes_lines name (k + 1) rest
+bytes_lines name k (bytes ∷ rest) =
+    bytes_line (concat (name ∷ codes " " ∷ decimal k ∷ [])) bytes ++ bytes_lines name (k + 1) rest
 
 -- Z0 to Z31, P0 to P15, FFR, and with PSTATE.ZA the vectors of ZA
 unfoldable pub bank_text : VectorState → Bool → List ℕ

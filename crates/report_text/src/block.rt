@@ -1,48 +1,52 @@
 //! The block of a guest thread in a report.
 ghost use Rattle.std.specs.Prelude.{◌≡◌, [], ℕ};
+ghost use Rattle.edge_io.specs.Pieces.{gathered, Gathers};
 ghost use Rattle.edge_io.specs.Sink.{Writes};
 ghost use Rattle.machine_step.specs.ProcessorState.{VectorState};
 ghost use Rattle.machine_step.specs.Machine.{core_of};
-ghost use Rattle.kernel_contexts.specs.Context.{state_of, thread_of};
-ghost use Rattle.report_text.specs.Block.{head_text, nzcv_line, svcr_of, system_text, register_text, signal_text, kernel_text, block_text};
+ghost use Rattle.kernel_contexts.specs.Context.{state_of, thread_of, stop_of};
+ghost use Rattle.machine_step.specs.System.{svcr_of};
+ghost use Rattle.report_text.specs.Block.{head_text, nzcv_line, system_text, register_text, signal_text};
+ghost use Rattle.report_text.specs.Block.{kernel_text, block_text};
 
 use crate::digest::put_memory_line;
 use crate::journal::put_journal;
-use crate::lines::{
-    flag_digit, put_all, put_flag_line, put_hex_line, put_number_line, put_value_lines,
-};
+use crate::lines::{flag_digit, put_flag_line, put_hex_line, put_number_line, put_value_lines};
 use crate::output::put_output;
 use crate::words::put_stop_line;
-use edge_io::{PutFault, Sink};
+use edge_io::{Piece, PutFault, Sink};
 use kernel_contexts::Context;
 use machine_step::Machine;
-use sm_types::{Scalars, Stop};
+use sm_types::Scalars;
 
-/// The thread, its stop, and how far it came.
-fn put_head<K: Sink>(out: &mut K, context: &Context, stop: Stop) -> Result<(), PutFault>
-    ensures { Writes (K.view out.old) (K.view out.new) result (head_text (thread_of context.now) stop (state_of context.now)) }
+/// The thread, its stop where it has stopped, and how far it came.
+fn put_head<K: Sink>(piece: &mut Piece, out: &mut K, context: &Context) -> Result<(), PutFault>
+    ensures { Gathers (gathered (K.view out.old) piece.old) (gathered (K.view out.new) piece.new) result
+        (head_text (thread_of context.now) (stop_of context.now) (state_of context.now)) }
 {
     let thread = u64::from(context.thread());
     let count = u64::from(context.count());
     let turns = context.turns();
+    let stop = context.stop();
     let machine = context.machine();
-    put_number_line(out, b"thread", thread)?;
-    put_stop_line(out, stop)?;
-    put_number_line(out, b"count", count)?;
-    put_number_line(out, b"turns", turns)?;
-    put_hex_line(out, b"pc", machine.scalars.pc)
+    put_number_line(piece, out, b"thread", thread)?;
+    put_stop_line(piece, out, stop)?;
+    put_number_line(piece, out, b"count", count)?;
+    put_number_line(piece, out, b"turns", turns)?;
+    put_hex_line(piece, out, b"pc", machine.scalars.pc)
 }
 
 /// The flags N, Z, C and V.
 #[tactic(auto, unfolding(crate::specs::Block::nzcv_line))]
-fn put_nzcv_line<K: Sink>(out: &mut K, scalars: &Scalars) -> Result<(), PutFault>
-    ensures { Writes (K.view out.old) (K.view out.new) result (nzcv_line scalars.now) }
+fn put_nzcv_line<K: Sink>(piece: &mut Piece, out: &mut K, scalars: &Scalars) -> Result<(), PutFault>
+    ensures { Gathers (gathered (K.view out.old) piece.old) (gathered (K.view out.new) piece.new) result
+        (nzcv_line scalars.now) }
 {
     let n = flag_digit(scalars.n);
     let z = flag_digit(scalars.z);
     let c = flag_digit(scalars.c);
     let v = flag_digit(scalars.v);
-    put_all(out, &[b"nzcv ", &n, &z, &c, &v, b"\n"])
+    piece.put_all(out, &[b"nzcv ", &n, &z, &c, &v, b"\n"])
 }
 
 /// SVCR: bit 0 is PSTATE.SM, bit 1 is PSTATE.ZA.
@@ -53,52 +57,70 @@ fn svcr(machine: &Machine) -> u64
 }
 
 /// The thread's system registers.
-fn put_system<K: Sink>(out: &mut K, machine: &Machine) -> Result<(), PutFault>
-    ensures { (bank : VectorState) → Writes (K.view out.old) (K.view out.new) result (system_text (core_of machine.now bank)) }
+fn put_system<K: Sink>(piece: &mut Piece, out: &mut K, machine: &Machine) -> Result<(), PutFault>
+    ensures { (bank : VectorState) →
+        Gathers (gathered (K.view out.old) piece.old) (gathered (K.view out.new) piece.new) result
+        (system_text (core_of machine.now bank)) }
 {
     let svcr = svcr(machine);
-    put_hex_line(out, b"tpidr", machine.tpidr)?;
-    put_hex_line(out, b"tpidr2", machine.tpidr2)?;
-    put_number_line(out, b"svcr", svcr)
+    put_hex_line(piece, out, b"tpidr", machine.tpidr)?;
+    put_hex_line(piece, out, b"tpidr2", machine.tpidr2)?;
+    put_number_line(piece, out, b"svcr", svcr)
 }
 
 /// X0 to X30 where they are not zero, SP, the flags and the system registers.
-fn put_registers<K: Sink>(out: &mut K, machine: &Machine) -> Result<(), PutFault>
-    ensures { (bank : VectorState) → Writes (K.view out.old) (K.view out.new) result (register_text (core_of machine.now bank)) }
+fn put_registers<K: Sink>(piece: &mut Piece, out: &mut K, machine: &Machine) -> Result<(), PutFault>
+    ensures { (bank : VectorState) →
+        Gathers (gathered (K.view out.old) piece.old) (gathered (K.view out.new) piece.new) result
+        (register_text (core_of machine.now bank)) }
 {
-    put_value_lines(out, b"x", &machine.scalars.x)?;
-    put_hex_line(out, b"sp", machine.scalars.sp)?;
-    put_nzcv_line(out, &machine.scalars)?;
-    put_system(out, machine)
+    put_value_lines(piece, out, b"x", &machine.scalars.x)?;
+    put_hex_line(piece, out, b"sp", machine.scalars.sp)?;
+    put_nzcv_line(piece, out, &machine.scalars)?;
+    put_system(piece, out, machine)
 }
 
 /// The signals of a thread that holds none back, is in no handler and has none set.
-fn put_signals<K: Sink>(out: &mut K) -> Result<(), PutFault>
-    ensures { (context : Context) → Writes (K.view out.old) (K.view out.new) result (signal_text (state_of context)) }
+fn put_signals<K: Sink>(piece: &mut Piece, out: &mut K) -> Result<(), PutFault>
+    ensures { (context : Context) →
+        Gathers (gathered (K.view out.old) piece.old) (gathered (K.view out.new) piece.new) result
+        (signal_text (state_of context)) }
 {
-    put_hex_line(out, b"held", 0)?;
-    put_flag_line(out, b"inside", false)?;
-    put_flag_line(out, b"polled", false)
+    put_hex_line(piece, out, b"held", 0)?;
+    put_flag_line(piece, out, b"inside", false)?;
+    put_flag_line(piece, out, b"polled", false)
 }
 
 /// What the kernel keeps of the thread.
-fn put_kernel<K: Sink>(out: &mut K, context: &Context) -> Result<(), PutFault>
-    ensures { Writes (K.view out.old) (K.view out.new) result (kernel_text (state_of context.now) []) }
+fn put_kernel<K: Sink>(piece: &mut Piece, out: &mut K, context: &Context) -> Result<(), PutFault>
+    ensures { Gathers (gathered (K.view out.old) piece.old) (gathered (K.view out.new) piece.new) result
+        (kernel_text (state_of context.now) []) }
 {
     let output = context.output();
-    put_signals(out)?;
-    put_output(out, output)?;
-    put_journal(out, &[])
+    put_signals(piece, out)?;
+    put_output(piece, out, output)?;
+    put_journal(piece, out, &[])
 }
 
-/// The block of a thread that stopped so. `Failed` where the sink fails; a part of the block from the front is then
-/// written.
-pub fn write_block<K: Sink>(context: &Context, stop: Stop, out: &mut K) -> Result<(), PutFault>
-    ensures { Writes (K.view out.old) (K.view out.new) result (block_text (thread_of context.now) (state_of context.now) stop []) }
+/// The block of a thread.
+pub fn put_block<K: Sink>(piece: &mut Piece, out: &mut K, context: &Context) -> Result<(), PutFault>
+    ensures { Gathers (gathered (K.view out.old) piece.old) (gathered (K.view out.new) piece.new) result
+        (block_text (thread_of context.now) (state_of context.now) (stop_of context.now) []) }
 {
     let machine = context.machine();
-    put_head(out, context, stop)?;
-    put_registers(out, machine)?;
-    put_memory_line(out, &machine.pages)?;
-    put_kernel(out, context)
+    put_head(piece, out, context)?;
+    put_registers(piece, out, machine)?;
+    put_memory_line(piece, out, &machine.pages)?;
+    put_kernel(piece, out, context)
+}
+
+/// Writes the block of a thread. `Failed` where the sink fails; a part of the block from the front is then
+/// written.
+pub fn write_block<K: Sink>(context: &Context, out: &mut K) -> Result<(), PutFault>
+    ensures { Writes (K.view out.old) (K.view out.new) result
+        (block_text (thread_of context.now) (state_of context.now) (stop_of context.now) []) }
+{
+    let mut piece = Piece::new();
+    put_block(&mut piece, out, context)?;
+    piece.flush(out)
 }

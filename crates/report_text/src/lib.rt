@@ -1,5 +1,5 @@
-//! The text of a report, written piece by piece into a sink, with no memory taken: `write_block` writes the block
-//! of one guest thread, and `write_report` the report of a run with one.
+//! The text of a report, gathered into pieces that are written to a sink, with no memory taken: `write_block`
+//! writes the block of one guest thread, and `write_report` the report of a run with one.
 #![tactic(auto)]
 
 mod block;
@@ -12,5 +12,6 @@ mod report;
 mod words;
 
 pub use block::write_block;
-pub use lines::{hex32_digits, hex64_digits, put_all};
+pub use lines::{hex32_digits, hex64_digits, put_counted};
 pub use report::{Head, write_report};
+pub use words::put_stop_line;

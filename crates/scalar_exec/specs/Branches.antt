@@ -1,4 +1,5 @@
--- Addresses beside the program counter, and branches. Source: DDI 0487, C6.2: ADR, ADRP, B, BL, B.cond, CBZ, CBNZ, TBZ, TBNZ, BR, BLR, RET.
+-- Addresses beside the program counter, and branches. Source: DDI 0487, C6.2: ADR, ADRP, B, BL, B.cond,
+-- CBZ, CBNZ, TBZ, TBNZ, BR, BLR, RET.
 use Rattle.std.specs.Prelude.{ℕ, ◌+◌, ◌*◌, ◌/◌, ◌%◌, ◌^◌, ◌==◌, Bool, not, cond, pos, ◌*ℤ◌, ℤ}
 use Rattle.std.specs.Int.{w64, cast_unsigned}
 use Rattle.sm_types.specs.declared.scalars.Scalars.{Scalars}
@@ -43,7 +44,8 @@ linked s = with_x s 30 (next_address s.pc)
 unfoldable pub branch_if : Bool → ℤ → Scalars → Scalars
 branch_if taken words s = cond taken (at_address s (branch_target s.pc words)) (past s)
 
--- B, BL: always; B.cond: where the condition holds; CBZ, CBNZ: where the register is zero, or is not; TBZ, TBNZ: where its bit is 0, or 1
+-- B, BL: always; B.cond: where the condition holds; CBZ, CBNZ: where the register is zero, or is not; TBZ,
+-- TBNZ: where its bit is 0, or 1
 unfoldable pub branch : Branch → Scalars → Scalars
 branch (Unconditional link words) s = at_address (cond link (linked s) s) (branch_target s.pc words)
 branch (Conditional condition words) s = branch_if (condition_holds condition s) words s

@@ -1,9 +1,10 @@
--- Conditions, and the instructions that select and compare by them. Source: DDI 0487, C1.2.4 (ConditionHolds), C6.2: CSEL, CSINC,
--- CSINV, CSNEG, CCMN and CCMP (immediate, register).
+-- Conditions, and the instructions that select and compare by them. Source: DDI 0487, C1.2.4
+-- (ConditionHolds), C6.2: CSEL, CSINC, CSINV, CSNEG, CCMN and CCMP (immediate, register).
 use Rattle.std.specs.Prelude.{ℕ, ◌+◌, ◌-◌, ◌%◌, ◌==◌, ◌&&◌, Bool, true, not, cond}
 use Rattle.sm_types.specs.declared.scalars.Scalars.{Scalars}
 use Rattle.sm_types.specs.declared.insn.Condition.{Condition}
-use Rattle.sm_types.specs.declared.insn.Condition.TheVariants.{Eq, Ne, Cs, Cc, Mi, Pl, Vs, Vc, Hi, Ls, Ge, Lt, Gt, Le, Al, Nv}
+use Rattle.sm_types.specs.declared.insn.Condition.TheVariants.{Eq, Ne, Cs, Cc, Mi, Pl, Vs, Vc, Hi, Ls, Ge, Lt}
+use Rattle.sm_types.specs.declared.insn.Condition.TheVariants.{Gt, Le, Al, Nv}
 use Rattle.sm_types.specs.declared.insn.SelectOp.{SelectOp}
 use Rattle.sm_types.specs.declared.insn.SelectOp.TheVariants.{Csel, Csinc, Csinv, Csneg}
 use Rattle.sm_types.specs.declared.insn.ConditionalSelect.{ConditionalSelect}
@@ -52,7 +53,8 @@ otherwise Csneg wide m = (word_size wide - m) % word_size wide
 -- conditional select: the first register where the condition holds
 unfoldable pub conditional_select : ConditionalSelect → Scalars → Scalars
 conditional_select x s =
-    with_x s x.rd (cond (condition_holds x.condition s) (register_of x.wide s x.rn) (otherwise x.op x.wide (register_of x.wide s x.rm)))
+    with_x s x.rd (cond (condition_holds x.condition s) (register_of x.wide s x.rn)
+    (otherwise x.op x.wide (register_of x.wide s x.rm)))
 
 -- a register or an immediate
 abbrev pub compared : CompareOperand → Bool → Scalars → ℕ
@@ -66,9 +68,17 @@ compare_flags Ccmp wide a b = sum_flags wide a (inverted wide b) 1
 
 -- N is bit 3, Z bit 2, C bit 1, V bit 0
 unfoldable pub flags_of : ℕ → Nzcv
-flags_of nzcv = record { n = digit_at 2 nzcv 3 == 1; z = digit_at 2 nzcv 2 == 1; c = digit_at 2 nzcv 1 == 1; v = digit_at 2 nzcv 0 == 1 }
+flags_of nzcv =
+    record {
+      n = digit_at 2 nzcv 3 == 1;
+      z = digit_at 2 nzcv 2 == 1;
+      c = digit_at 2 nzcv 1
+          == 1;
+      v = digit_at 2 nzcv 0 == 1;
+    }
 
 -- conditional compare: the flags of the comparison where the condition holds, else those of the instruction
 unfoldable pub conditional_compare : ConditionalCompare → Scalars → Scalars
 conditional_compare x s =
-    with_flags s (cond (condition_holds x.condition s) (compare_flags x.op x.wide (register_of x.wide s x.rn) (compared x.operand x.wide s)) (flags_of x.nzcv))
+    with_flags s (cond (condition_holds x.condition s) (compare_flags x.op x.wide
+    (register_of x.wide s x.rn) (compared x.operand x.wide s)) (flags_of x.nzcv))

@@ -1,4 +1,5 @@
--- Logical operations. Source: DDI 0487, C6.2: AND, ORR, EOR, ANDS (immediate, shifted register), BIC, ORN, EON, BICS.
+-- Logical operations. Source: DDI 0487, C6.2: AND, ORR, EOR, ANDS (immediate, shifted register), BIC, ORN,
+-- EON, BICS.
 use Rattle.std.specs.Prelude.{ℕ, ◌==◌, Bool, false, nat_le, cond, bit_and, bit_or, bit_xor}
 use Rattle.sm_types.specs.declared.scalars.Scalars.{Scalars}
 use Rattle.sm_types.specs.declared.insn.Logical.{Logical}
@@ -20,7 +21,8 @@ combined Ands a b = bit_and a b
 
 -- the flags of a logical result: N and Z are its own, C and V are clear
 unfoldable pub logical_flags : Bool → ℕ → Nzcv
-logical_flags wide result = record { n = nat_le (half_size wide) result; z = result == 0; c = false; v = false }
+logical_flags wide result =
+    record { n = nat_le (half_size wide) result; z = result == 0; c = false; v = false }
 
 -- the result goes to a register, and its flags to PSTATE where the operation sets them
 unfoldable pub logical_to_x : Logical → Bool → ℕ → ℕ → Scalars → Scalars
@@ -38,12 +40,16 @@ logical_to_sp Ands wide d result s = with_flags (with_x s d result) (logical_fla
 
 -- the second operand: shifted, and then inverted where the instruction says so
 abbrev pub logical_operand : LogicalRegister → Scalars → ℕ
-logical_operand x s = cond x.inverted (inverted x.wide (shift_reg x.wide x.operand s)) (shift_reg x.wide x.operand s)
+logical_operand x s =
+    cond x.inverted (inverted x.wide (shift_reg x.wide x.operand s)) (shift_reg x.wide x.operand s)
 
 -- shifted register
 unfoldable pub logical_register : LogicalRegister → Scalars → Scalars
-logical_register x s = logical_to_x x.op x.wide x.rd (combined x.op (register_of x.wide s x.rn) (logical_operand x s)) s
+logical_register x s =
+    logical_to_x x.op x.wide x.rd (combined x.op (register_of x.wide s x.rn) (logical_operand x s)) s
 
 -- immediate: the mask of the fields
 unfoldable pub logical_immediate : LogicalImmediate → Scalars → Scalars
-logical_immediate x s = logical_to_sp x.op x.wide x.rd (combined x.op (register_of x.wide s x.rn) (mask_of x.n x.imms x.immr x.wide)) s
+logical_immediate x s =
+    logical_to_sp x.op x.wide x.rd (combined x.op (register_of x.wide s x.rn)
+    (mask_of x.n x.imms x.immr x.wide)) s

@@ -13,7 +13,8 @@ use Rattle.bit_ops.specs.Bits.{width_of}
 use Rattle.scalar_exec.specs.Registers.{register_of, with_x}
 use Rattle.scalar_exec.specs.Operands.{inverted}
 
--- the old word with `count` bits from place `low` on replaced by the field: what is above, the field, what is below
+-- the old word with `count` bits from place `low` on replaced by the field: what is above, the field, what
+-- is below
 unfoldable pub with_field : ℕ → ℕ → ℕ → ℕ → ℕ
 with_field low count field old = old / 2 ^ (low + count) * 2 ^ (low + count) + field * 2 ^ low + old % 2 ^ low
 
@@ -31,11 +32,13 @@ moved Movk x s = with_field (16 * x.hw) 16 x.imm (register_of x.wide s x.rd)
 unfoldable pub move_wide : MoveWide → Scalars → Scalars
 move_wide x s = with_x s x.rd (moved x.op x s)
 
--- a field of so many bits at a place: over zeros, with its top bit in all places above it and zeros below, or over the old word
+-- a field of so many bits at a place: over zeros, with its top bit in all places above it and zeros below,
+-- or over the old word
 unfoldable pub placed : BitfieldOp → Bool → ℕ → ℕ → ℕ → ℕ → ℕ
 placed Ubfm wide field count place old = field * 2 ^ place
 placed Sbfm wide field count place old =
-    cond (nat_le (2 ^ (count - 1)) field) (word_size wide - 2 ^ (place + count) + field * 2 ^ place) (field * 2 ^ place)
+    cond (nat_le (2 ^ (count - 1)) field) (word_size wide - 2 ^ (place + count) + field * 2 ^ place)
+    (field * 2 ^ place)
 placed Bfm wide field count place old = with_field place count field old
 
 -- bits immr to imms go to bit 0; where imms is below immr, bits 0 to imms go to bit width - immr
@@ -51,4 +54,6 @@ bitfield_move x s = with_x s x.rd (bitfield_of x (register_of x.wide s x.rn) (re
 
 -- the word from bit lsb on of the first register above the second
 unfoldable pub extract : Extract → Scalars → Scalars
-extract x s = with_x s x.rd ((register_of x.wide s x.rn * word_size x.wide + register_of x.wide s x.rm) / 2 ^ x.lsb % word_size x.wide)
+extract x s =
+    with_x s x.rd ((register_of x.wide s x.rn * word_size x.wide + register_of x.wide s x.rm) / 2 ^ x.lsb %
+    word_size x.wide)

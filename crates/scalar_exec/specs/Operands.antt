@@ -27,11 +27,13 @@ shift_of Ror = shift.Ror
 
 -- ShiftReg: the register, shifted
 abbrev pub shift_reg : Bool → ShiftedRegister → Scalars → ℕ
-shift_reg wide operand s = shifted (shift_of operand.shift) wide (register_of wide s operand.rm) operand.amount
+shift_reg wide operand s =
+    shifted (shift_of operand.shift) wide (register_of wide s operand.rm) operand.amount
 
 -- SignExtend: the low `from` bits, with their top bit in the places above them
 unfoldable pub sign_extend : ℕ → Bool → ℕ → ℕ
-sign_extend from wide n = cond (nat_lt (n % 2 ^ from) (2 ^ (from - 1))) (n % 2 ^ from) (word_size wide - 2 ^ from + n % 2 ^ from)
+sign_extend from wide n =
+    cond (nat_lt (n % 2 ^ from) (2 ^ (from - 1))) (n % 2 ^ from) (word_size wide - 2 ^ from + n % 2 ^ from)
 
 -- the low 8, 16 or 32 bits or the word, extended to the word by zeros or by the sign
 unfoldable pub extended : Extend → Bool → ℕ → ℕ
@@ -46,4 +48,5 @@ extended Sxtx wide n = n % word_size wide
 
 -- ExtendReg: the register, extended and then shifted left within the word
 unfoldable pub extend_reg : Bool → ExtendedRegister → Scalars → ℕ
-extend_reg wide operand s = extended operand.extend wide (x_of s operand.rm) * 2 ^ operand.amount % word_size wide
+extend_reg wide operand s =
+    extended operand.extend wide (x_of s operand.rm) * 2 ^ operand.amount % word_size wide

@@ -1,6 +1,7 @@
 -- How instructions name registers, and what a write leaves.
--- Source: DDI 0487, C1.2.5 and J1.1, X[] and SP[]: number 31 is the zero register, or SP where the instruction says so.
--- Registers are of 64 bits where `wide` holds, else W registers: the low 32 bits are read, and a write clears the others.
+-- Source: DDI 0487, C1.2.5 and J1.1, X[] and SP[]: number 31 is the zero register, or SP where the
+-- instruction says so. Registers are of 64 bits where `wide` holds, else W registers: the low 32 bits are
+-- read, and a write clears the others.
 use Rattle.std.specs.Prelude.{ℕ, ◌+◌, ◌%◌, ◌^◌, ◌==◌, Bool, cond, slice_index, slice_set}
 use Rattle.sm_types.specs.declared.scalars.Scalars.{Scalars}
 use Rattle.bit_ops.specs.declared.sums.Nzcv.{Nzcv}

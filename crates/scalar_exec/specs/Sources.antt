@@ -1,6 +1,7 @@
--- Data processing of one, two and three registers. Source: DDI 0487, C6.2: RBIT, REV16, REV32, REV, CLZ, CLS, UDIV, SDIV, LSLV, LSRV,
--- ASRV, RORV, MADD, MSUB, SMADDL, SMSUBL, UMADDL, UMSUBL, SMULH, UMULH.
-use Rattle.std.specs.Prelude.{ℕ, ◌+◌, ◌-◌, ◌*◌, ◌/◌, ◌%◌, ◌^◌, ◌==◌, Bool, true, false, cond, pos, ◌*ℤ◌, int_div}
+-- Data processing of one, two and three registers. Source: DDI 0487, C6.2: RBIT, REV16, REV32, REV, CLZ,
+-- CLS, UDIV, SDIV, LSLV, LSRV, ASRV, RORV, MADD, MSUB, SMADDL, SMSUBL, UMADDL, UMSUBL, SMULH, UMULH.
+use Rattle.std.specs.Prelude.{ℕ, ◌+◌, ◌-◌, ◌*◌, ◌/◌, ◌%◌, ◌^◌, ◌==◌, Bool, true, false, cond, pos, ◌*ℤ◌}
+use Rattle.std.specs.Prelude.{int_div}
 use Rattle.std.specs.Int.{w64, cast_unsigned, int_div_euclid}
 use Rattle.sm_types.specs.declared.scalars.Scalars.{Scalars}
 use Rattle.sm_types.specs.declared.insn.OneSourceOp.{OneSourceOp}
@@ -51,7 +52,8 @@ two_source_value Rorv wide n m = shifted shift.Ror wide n (m % width_of wide)
 
 -- two sources
 unfoldable pub two_source : TwoSource → Scalars → Scalars
-two_source x s = with_x s x.rd (two_source_value x.op x.wide (register_of x.wide s x.rn) (register_of x.wide s x.rm))
+two_source x s =
+    with_x s x.rd (two_source_value x.op x.wide (register_of x.wide s x.rn) (register_of x.wide s x.rm))
 
 -- the accumulator plus or less a product that is a word, within the word
 unfoldable pub accumulated : Bool → Bool → ℕ → ℕ → ℕ
@@ -65,14 +67,17 @@ long_product false n m = n * m
 
 -- the upper 64 bits of the product of two words of 64 bits, signed or not
 unfoldable pub high_product : Bool → ℕ → ℕ → ℕ
-high_product true n m = cast_unsigned w64 (int_div_euclid (signed_word true n *ℤ signed_word true m) (pos (2 ^ 64)))
+high_product true n m =
+    cast_unsigned w64 (int_div_euclid (signed_word true n *ℤ signed_word true m) (pos (2 ^ 64)))
 high_product false n m = n * m / 2 ^ 64
 
 -- three sources
 unfoldable pub multiply : Multiply → Scalars → Scalars
 multiply (Same subtract wide rm ra rn rd) s =
-    with_x s rd (accumulated subtract wide (register_of wide s ra) (register_of wide s rn * register_of wide s rm % word_size wide))
+    with_x s rd (accumulated subtract wide (register_of wide s ra)
+    (register_of wide s rn * register_of wide s rm % word_size wide))
 multiply (Long subtract signed rm ra rn rd) s =
-    with_x s rd (accumulated subtract true (register_of true s ra) (long_product signed (register_of false s rn) (register_of false s rm)))
+    with_x s rd (accumulated subtract true (register_of true s ra)
+    (long_product signed (register_of false s rn) (register_of false s rm)))
 multiply (High signed rm rn rd) s =
     with_x s rd (high_product signed (register_of true s rn) (register_of true s rm))

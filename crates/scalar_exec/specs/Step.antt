@@ -1,4 +1,5 @@
--- The registers after an instruction of the scalar groups that neither access memory nor are system instructions.
+-- The registers after an instruction of the scalar groups that neither access memory nor are system
+-- instructions.
 -- Source: DDI 0487, C6.2; but for a taken branch, PC goes on by 4.
 use Rattle.std.specs.Prelude.{Bool, true, false}
 use Rattle.sm_types.specs.declared.scalars.Scalars.{Scalars}

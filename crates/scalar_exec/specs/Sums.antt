@@ -1,5 +1,6 @@
--- Sums and differences. Source: DDI 0487, C6.2: ADD, ADDS, SUB and SUBS (immediate, shifted register, extended register), ADC, ADCS, SBC, SBCS.
--- A difference is the sum with the inverted operand and a carry of 1, or for SBC with the carry flag.
+-- Sums and differences. Source: DDI 0487, C6.2: ADD, ADDS, SUB and SUBS (immediate, shifted register,
+-- extended register), ADC, ADCS, SBC, SBCS. A difference is the sum with the inverted operand and a carry
+-- of 1, or for SBC with the carry flag.
 use Rattle.std.specs.Prelude.{ℕ, ◌*◌, ◌^◌, Bool, cond}
 use Rattle.sm_types.specs.declared.scalars.Scalars.{Scalars}
 use Rattle.sm_types.specs.declared.insn.AddSub.{AddSub}
@@ -19,12 +20,14 @@ carry_of Adds = 0
 carry_of Sub = 1
 carry_of Subs = 1
 
--- the sum with a carry, or that with the operand inverted, goes to a register, and its flags to PSTATE where the operation sets them
+-- the sum with a carry, or that with the operand inverted, goes to a register, and its flags to PSTATE
+-- where the operation sets them
 unfoldable pub sum_to_x : AddSub → Bool → ℕ → ℕ → ℕ → ℕ → Scalars → Scalars
 sum_to_x Add wide d a b carry s = with_x s d (sum_of wide a b carry)
 sum_to_x Adds wide d a b carry s = with_flags (with_x s d (sum_of wide a b carry)) (sum_flags wide a b carry)
 sum_to_x Sub wide d a b carry s = with_x s d (sum_of wide a (inverted wide b) carry)
-sum_to_x Subs wide d a b carry s = with_flags (with_x s d (sum_of wide a (inverted wide b) carry)) (sum_flags wide a (inverted wide b) carry)
+sum_to_x Subs wide d a b carry s =
+    with_flags (with_x s d (sum_of wide a (inverted wide b) carry)) (sum_flags wide a (inverted wide b) carry)
 
 -- the sum or difference goes to a register, of which number 31 is SP where no flags are set
 unfoldable pub sum_to_sp : AddSub → Bool → ℕ → ℕ → ℕ → Scalars → Scalars
@@ -43,12 +46,15 @@ add_sub_immediate x s = sum_to_sp x.op x.wide x.rd (register_or_sp x.wide s x.rn
 
 -- shifted register
 unfoldable pub add_sub_register : AddSubRegister → Scalars → Scalars
-add_sub_register x s = sum_to_x x.op x.wide x.rd (register_of x.wide s x.rn) (shift_reg x.wide x.operand s) (carry_of x.op) s
+add_sub_register x s =
+    sum_to_x x.op x.wide x.rd (register_of x.wide s x.rn) (shift_reg x.wide x.operand s) (carry_of x.op) s
 
 -- extended register
 unfoldable pub add_sub_extended : AddSubExtended → Scalars → Scalars
-add_sub_extended x s = sum_to_sp x.op x.wide x.rd (register_or_sp x.wide s x.rn) (extend_reg x.wide x.operand s) s
+add_sub_extended x s =
+    sum_to_sp x.op x.wide x.rd (register_or_sp x.wide s x.rn) (extend_reg x.wide x.operand s) s
 
 -- with the carry flag
 unfoldable pub add_sub_carry : AddSubCarry → Scalars → Scalars
-add_sub_carry x s = sum_to_x x.op x.wide x.rd (register_of x.wide s x.rn) (register_of x.wide s x.rm) (bool_number s.c) s
+add_sub_carry x s =
+    sum_to_x x.op x.wide x.rd (register_of x.wide s x.rn) (register_of x.wide s x.rm) (bool_number s.c) s

@@ -1,7 +1,8 @@
 //! Addresses beside the program counter, and branches.
 ghost use Rattle.std.specs.Prelude.{◌≡◌, ◌<◌};
 ghost use Rattle.a64_table.specs.Ranges.{IsPcRelative, IsBranch};
-ghost use Rattle.scalar_exec.specs.Branches.{address_at, relative_address, pc_relative, branch_target, linked, branch, branch_if, branch_register};
+ghost use Rattle.scalar_exec.specs.Branches.{address_at, relative_address, pc_relative, branch_target};
+ghost use Rattle.scalar_exec.specs.Branches.{linked, branch, branch_if, branch_register};
 ghost use Rattle.scalar_exec.specs.Step.{flowed};
 
 use crate::conditional::holds;

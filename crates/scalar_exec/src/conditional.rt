@@ -2,7 +2,8 @@
 ghost use Rattle.std.specs.Prelude.{◌≡◌, ◌<◌, ◌^◌};
 ghost use Rattle.bit_ops.specs.Sums.{word_size};
 ghost use Rattle.a64_table.specs.Ranges.{IsConditionalSelect, IsConditionalCompare, IsCompareOperand};
-ghost use Rattle.scalar_exec.specs.Conditional.{condition_holds, otherwise, conditional_select, compared, compare_flags, flags_of, conditional_compare};
+ghost use Rattle.scalar_exec.specs.Conditional.{condition_holds, otherwise, conditional_select, compared};
+ghost use Rattle.scalar_exec.specs.Conditional.{compare_flags, flags_of, conditional_compare};
 
 use crate::operands::invert;
 use crate::registers::{low_word, register, write_flags, write_x};

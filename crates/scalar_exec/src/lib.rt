@@ -1,5 +1,5 @@
-//! What the scalar instructions do to the scalar registers: the arithmetic, logical, move, branch and conditional
-//! instructions, and those of one, two and three registers.
+//! What the scalar instructions do to the scalar registers: the arithmetic, logical, move, branch and
+//! conditional instructions, and those of one, two and three registers.
 //!
 //! `exec_scalar` changes all registers but PC, and says where PC goes; the caller moves it.
 #![tactic(auto)]

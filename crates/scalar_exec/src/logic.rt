@@ -2,7 +2,8 @@
 ghost use Rattle.std.specs.Prelude.{◌≡◌, ◌<◌};
 ghost use Rattle.bit_ops.specs.Masks.{mask_of};
 ghost use Rattle.a64_table.specs.Ranges.{IsLogicalRegister, IsLogicalImmediate};
-ghost use Rattle.scalar_exec.specs.Logic.{combined, logical_flags, logical_to_x, logical_to_sp, logical_operand, logical_register, logical_immediate};
+ghost use Rattle.scalar_exec.specs.Logic.{combined, logical_flags, logical_to_x, logical_to_sp};
+ghost use Rattle.scalar_exec.specs.Logic.{logical_operand, logical_register, logical_immediate};
 
 use crate::operands::{invert, shifted_operand};
 use crate::registers::{register, write_flags, write_x, write_x_or_sp};

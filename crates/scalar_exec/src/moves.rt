@@ -3,7 +3,8 @@ ghost use Rattle.std.specs.Prelude.{◌≡◌, ◌+◌, ◌*◌, ◌/◌, ◌%�
 ghost use Rattle.bit_ops.specs.Sums.{word_size};
 ghost use Rattle.bit_ops.specs.Bits.{width_of};
 ghost use Rattle.a64_table.specs.Ranges.{IsMoveWide, IsBitfieldMove, IsExtract};
-ghost use Rattle.scalar_exec.specs.Moves.{halfword_of, moved, move_wide, placed, bitfield_of, bitfield_move, extract};
+ghost use Rattle.scalar_exec.specs.Moves.{halfword_of, moved, move_wide, placed, bitfield_of, bitfield_move};
+ghost use Rattle.scalar_exec.specs.Moves.{extract};
 
 use crate::fields::{field_at, insert, ones_above, shifted_field, width};
 use crate::operands::invert;

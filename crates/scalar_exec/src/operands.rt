@@ -2,7 +2,8 @@
 ghost use Rattle.std.specs.Prelude.{◌≡◌, ◌<◌, ◌≤◌};
 ghost use Rattle.bit_ops.specs.Sums.{word_size};
 ghost use Rattle.a64_table.specs.Ranges.{IsShiftedRegister, IsExtendedRegister};
-ghost use Rattle.scalar_exec.specs.Operands.{inverted, shift_of, shift_reg, sign_extend, extended, extend_reg};
+ghost use Rattle.scalar_exec.specs.Operands.{inverted, shift_of, shift_reg, sign_extend, extended};
+ghost use Rattle.scalar_exec.specs.Operands.{extend_reg};
 
 use crate::fields::{low_part, ones_above, power};
 use crate::registers::{low_word, read_x, register};

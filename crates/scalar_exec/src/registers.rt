@@ -1,7 +1,8 @@
 //! Registers by number.
 ghost use Rattle.std.specs.Prelude.{◌≡◌, ◌%◌, ◌<◌};
 ghost use Rattle.bit_ops.specs.Sums.{word_size};
-ghost use Rattle.scalar_exec.specs.Registers.{x_of, x_or_sp, register_of, register_or_sp, with_x, with_x_or_sp, with_flags, next_address};
+ghost use Rattle.scalar_exec.specs.Registers.{x_of, x_or_sp, register_of, register_or_sp, with_x};
+ghost use Rattle.scalar_exec.specs.Registers.{with_x_or_sp, with_flags, next_address};
 
 use bit_ops::Nzcv;
 use sm_types::Scalars;

@@ -5,7 +5,8 @@ ghost use Rattle.bit_ops.specs.Sums.{word_size};
 ghost use Rattle.bit_ops.specs.Bits.{width_of};
 ghost use Rattle.bit_ops.specs.Shifts.{shifted};
 ghost use Rattle.a64_table.specs.Ranges.{IsOneSource, IsTwoSource};
-ghost use Rattle.scalar_exec.specs.Sources.{one_source_value, one_source, quotient, signed_quotient, two_source_value, two_source};
+ghost use Rattle.scalar_exec.specs.Sources.{one_source_value, one_source, quotient, signed_quotient};
+ghost use Rattle.scalar_exec.specs.Sources.{two_source_value, two_source};
 
 use crate::fields::width;
 use crate::registers::{register, write_x};

@@ -1,8 +1,10 @@
 //! Sums and differences.
 ghost use Rattle.std.specs.Prelude.{◌≡◌, ◌<◌, ◌^◌};
 ghost use Rattle.bit_ops.specs.Sums.{word_size, bool_number};
-ghost use Rattle.a64_table.specs.Ranges.{IsAddSubImmediate, IsAddSubRegister, IsAddSubExtended, IsAddSubCarry};
-ghost use Rattle.scalar_exec.specs.Sums.{carry_of, sum_to_x, sum_to_sp, immediate_of, add_sub_immediate, add_sub_register, add_sub_extended, add_sub_carry};
+ghost use Rattle.a64_table.specs.Ranges.{IsAddSubImmediate, IsAddSubRegister, IsAddSubExtended};
+ghost use Rattle.a64_table.specs.Ranges.{IsAddSubCarry};
+ghost use Rattle.scalar_exec.specs.Sums.{carry_of, sum_to_x, sum_to_sp, immediate_of, add_sub_immediate};
+ghost use Rattle.scalar_exec.specs.Sums.{add_sub_register, add_sub_extended, add_sub_carry};
 
 use crate::operands::{extended_operand, invert, shifted_operand};
 use crate::registers::{register, register_or_sp, write_flags, write_x, write_x_or_sp};

@@ -1,4 +1,6 @@
 pub mod Length
 pub mod Options
 pub mod SharedOps
+pub mod Bytes
+pub mod Checks
 pub mod Objects

@@ -1,12 +1,18 @@
 -- Objects: where their parts stand in memory, which of their words are code, and which can start.
--- Source: ELF for the Arm 64-bit Architecture (AArch64), mapping symbols `$x` and `$d`; the addresses are this project's own.
-use Rattle.std.specs.Prelude.{◌≡◌, ℕ, ◌+◌, ◌*◌, ◌/◌, ◌%◌, ◌<◌, ◌≤◌, Bool, true, false, cond, List, [], ◌∷◌, length, take, drop, Option, Some, None, ◌==◌, ◌&&◌, nat_le}
+-- Source: ELF for the Arm 64-bit Architecture (AArch64), mapping symbols `$x` and `$d`; the addresses are
+-- this project's own.
+use Rattle.std.specs.Prelude.{◌≡◌, ℕ, ◌+◌, ◌*◌, ◌/◌, ◌%◌, ◌<◌, ◌≤◌, Bool, true, false, cond, List, [], ◌∷◌}
+use Rattle.std.specs.Prelude.{length, take, drop, Option, Some, None, ◌==◌, ◌&&◌, nat_le}
 use Rattle.std.specs.List.{filter_map, range_with_len}
-use Rattle.sm_types.specs.declared.object.TheConstants.{TEXT_ADDRESS}
+use Rattle.sm_types.specs.Bytes.{little_number}
 use Rattle.sm_types.specs.declared.object.Section.{Section}
 use Rattle.sm_types.specs.declared.object.Section.TheVariants.{Text, Data}
 use Rattle.sm_types.specs.declared.object.Symbol.{Symbol}
 use Rattle.sm_types.specs.declared.object.Object.{Object}
+
+-- where the text stands
+abbrev pub text_address : ℕ
+text_address = 0x400000
 
 -- the first multiple of 4096 that is not below the address
 abbrev pub page_after : ℕ → ℕ
@@ -14,24 +20,39 @@ page_after address = (address + 4095) / 4096 * 4096
 
 -- where the data stands: at the first page after the text
 abbrev pub data_address : ℕ → ℕ
-data_address text_length = page_after (TEXT_ADDRESS + text_length)
+data_address text_length = page_after (text_address + text_length)
 
 -- ---- mapping symbols
+
+-- the characters `$`, `x`, `d` and `.` of their names
+abbrev pub dollar : ℕ
+dollar = 36
+
+abbrev pub code_letter : ℕ
+code_letter = 120
+
+abbrev pub data_letter : ℕ
+data_letter = 100
+
+abbrev pub dot : ℕ
+dot = 46
 
 -- nothing, or `.` and a suffix
 abbrev pub is_suffix : List ℕ → Bool
 is_suffix [] = true
-is_suffix (c ∷ cs) = c == 46
+is_suffix (c ∷ cs) = c == dot
 
--- what a name says of the bytes from its address on, after `$`: `x` that they are code, `d` that they are data
+-- what a name says of the bytes from its address on, after `$`: `x` that they are code, `d` that they are
+-- data
 abbrev pub letter_says : List ℕ → Option Bool
 letter_says [] = None
-letter_says (c ∷ cs) = cond (is_suffix cs) (cond (c == 120) (Some true) (cond (c == 100) (Some false) None)) None
+letter_says (c ∷ cs) =
+    cond (is_suffix cs) (cond (c == code_letter) (Some true) (cond (c == data_letter) (Some false) None)) None
 
 -- what a name says of the bytes from its address on; one that is no mapping symbol's says nothing
 abbrev pub name_says : List ℕ → Option Bool
 name_says [] = None
-name_says (c ∷ cs) = cond (c == 36) (letter_says cs) None
+name_says (c ∷ cs) = cond (c == dollar) (letter_says cs) None
 
 -- what a symbol says of the bytes of the text; one of the data says nothing
 abbrev pub says_in : Section → Option Bool → Option Bool
@@ -57,11 +78,12 @@ mapping_of s = mapping_at s.address (symbol_says s)
 unfoldable pub mappings_of : List Symbol → List Mapping
 mappings_of symbols = filter_map mapping_of symbols
 
--- of one mapping symbol and a later one, that which says what stands at an address: the one of the greater address not above it, and of
--- equal ones the later
+-- of one mapping symbol and a later one, that which says what stands at an address: the one of the greater
+-- address not above it, and of equal ones the later
 abbrev pub later_mapping : ℕ → Option Mapping → Mapping → Option Mapping
 later_mapping a None m = cond (nat_le m.address a) (Some m) None
-later_mapping a (Some best) m = cond (nat_le m.address a && nat_le best.address m.address) (Some m) (Some best)
+later_mapping a (Some best) m =
+    cond (nat_le m.address a && nat_le best.address m.address) (Some m) (Some best)
 
 -- of one mapping symbol and a list of later ones, that which says what stands at an address
 abbrev pub governing_mapping : ℕ → Option Mapping → List Mapping → Option Mapping
@@ -79,18 +101,15 @@ is_text_code mappings a = mapping_says_code (governing_mapping a None mappings)
 
 -- ---- code words
 
--- the number of some bytes, the low one first
-abbrev pub little : List ℕ → ℕ
-little [] = 0
-little (b ∷ bs) = b + 256 * little bs
-
 -- the number of four bytes from a place of the text on, the low byte first
 unfoldable pub text_word : List ℕ → ℕ → ℕ
-text_word text at = little (take 4 (drop at text))
+text_word text at = little_number (take 4 (drop at text))
 
 -- word number n of the text with its address, where its first byte begins code
 unfoldable pub object_word : Object → ℕ → Option (ℕ × ℕ)
-object_word o n = cond (is_text_code (mappings_of o.symbols.items) (TEXT_ADDRESS + 4 * n)) (Some (TEXT_ADDRESS + 4 * n, text_word o.text_bytes.items (4 * n))) None
+object_word o n =
+    cond (is_text_code (mappings_of o.symbols.items) (text_address + 4 * n))
+    (Some (text_address + 4 * n, text_word o.text_bytes.items (4 * n))) None
 
 -- the code words of an object with their addresses, in order of address
 unfoldable pub object_code : Object → List (ℕ × ℕ)
@@ -99,5 +118,5 @@ object_code o = filter_map (object_word o) (range_with_len 0 (length o.text_byte
 -- the object can start: its entry is a multiple of 4 at a byte of its text
 pub record IsStartable (o : Object) : Type 0 where
   pub aligned : o.entry % 4 ≡ 0
-  pub from : TEXT_ADDRESS ≤ o.entry
-  pub before : o.entry < TEXT_ADDRESS + length o.text_bytes.items
+  pub from : text_address ≤ o.entry
+  pub before : o.entry < text_address + length o.text_bytes.items

@@ -1,7 +1,8 @@
 -- When two operations on shared words are the same.
 use Rattle.std.specs.Prelude.{ℕ, Bool, ◌==◌, ◌&&◌}
 use Rattle.sm_types.specs.declared.shared_op.OpKind.{OpKind}
-use Rattle.sm_types.specs.declared.shared_op.OpKind.TheVariants.{Load, Store, Swap, Add, Clear, Eor, Set, Umax, Umin, Cas, Post, Poll}
+use Rattle.sm_types.specs.declared.shared_op.OpKind.TheVariants.{Load, Store, Swap, Add, Clear, Eor, Set}
+use Rattle.sm_types.specs.declared.shared_op.OpKind.TheVariants.{Umax, Umin, Cas, Post, Poll}
 use Rattle.sm_types.specs.declared.shared_op.SharedOp.{SharedOp}
 
 -- the kind's place in its list
@@ -21,4 +22,5 @@ kind_number Poll = 11
 
 -- the same kind, place and values
 unfoldable pub is_same_op : SharedOp → SharedOp → Bool
-is_same_op p q = (kind_number p.kind == kind_number q.kind) && (p.place == q.place) && (p.a == q.a) && (p.b == q.b)
+is_same_op p q =
+    (kind_number p.kind == kind_number q.kind) && (p.place == q.place) && (p.a == q.a) && (p.b == q.b)

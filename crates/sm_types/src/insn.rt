@@ -32,8 +32,8 @@ pub enum ShiftKind {
     Ror,
 }
 
-/// The extensions of a register operand, in the order of their encoding: by zeros or by the sign, from a byte, a halfword, a
-/// word or a doubleword.
+/// The extensions of a register operand, in the order of their encoding: by zeros or by the sign, from a
+/// byte, a halfword, a word or a doubleword.
 #[derive(Clone, Copy, PartialEq, Eq)]
 pub enum Extend {
     Uxtb,
@@ -405,7 +405,8 @@ pub enum AccessSize {
     Doubleword,
 }
 
-/// The loads and stores of one register; a signed load extends by the sign to 64 bits or to 32, any other by zeros.
+/// The loads and stores of one register; a signed load extends by the sign to 64 bits or to 32, any other
+/// by zeros.
 #[derive(Clone, Copy, PartialEq, Eq)]
 pub enum LoadStoreOp {
     Store,
@@ -433,7 +434,8 @@ pub enum Address {
     PreIndex {
         offset: i32,
     },
-    /// `[xn, xm{, lsl #n}]`, `[xn, wm, uxtw{ #n}]`: from a word or a doubleword (`Uxtx` is `lsl`), times the access size if scaled.
+    /// `[xn, xm{, lsl #n}]`, `[xn, wm, uxtw{ #n}]`: from a word or a doubleword (`Uxtx` is `lsl`), times
+    /// the access size if scaled.
     Register {
         rm: u8,
         extend: Extend,
@@ -500,8 +502,8 @@ pub struct LoadStorePair {
     pub rt2: u8,
 }
 
-/// The operations of the atomic instructions that store and load: the sum, the bits cleared, inverted or set, and the greatest
-/// and least number with and without sign.
+/// The operations of the atomic instructions that store and load: the sum, the bits cleared, inverted or
+/// set, and the greatest and least number with and without sign.
 #[derive(Clone, Copy, PartialEq, Eq)]
 pub enum AtomicOp {
     Add,

@@ -6,6 +6,7 @@
 
 mod config;
 mod insn;
+mod laws;
 mod length;
 mod object;
 mod row;
@@ -23,6 +24,7 @@ pub use insn::{
     OneSource, OneSourceOp, PairIndex, PairOp, PcRelative, PcRelativeOp, SelectOp, ShiftKind,
     ShiftedRegister, System, SystemMove, SystemMoveOp, SystemRegister, TwoSource, TwoSourceOp,
 };
+pub use laws::one_text_address;
 pub use length::VecLen;
 pub use object::{Bytes, Object, Section, Symbol, Symbols, TEXT_ADDRESS};
 pub use row::{Group, Row};

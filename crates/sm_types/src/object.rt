@@ -25,7 +25,8 @@ pub struct Symbol {
 /// A list of symbols.
 pub type Symbols = Vec<Symbol>;
 
-/// A program: the bytes of its text and of its data, its symbols, mapping symbols among them, and the address of its first instruction.
+/// A program: the bytes of its text and of its data, its symbols, mapping symbols among them, and the
+/// address of its first instruction.
 #[derive(Drop)]
 pub struct Object {
     pub text_bytes: Bytes,

@@ -1,6 +1,7 @@
 //! The rows of the tables of instructions.
 
-/// The groups of instructions, by what they have in common in the manual (DDI 0487, C4.1 and C8.2; SME's in the supplement to it).
+/// The groups of instructions, by what they have in common in the manual (DDI 0487, C4.1 and C8.2; SME's in
+/// the supplement to it).
 #[derive(Clone, Copy)]
 pub enum Group {
     /// Add and subtract, immediate.

@@ -19,7 +19,8 @@ pub enum OpKind {
 
 /// An operation: its place is a word, 0 to 511, or for `Post` and `Poll` a thread, 0 to 31.
 ///
-/// Of `Cas`, `a` is the expected value and `b` the new one; of `Post`, `a` is the signal's bit. Unused fields are 0.
+/// Of `Cas`, `a` is the expected value and `b` the new one; of `Post`, `a` is the signal's bit. Unused
+/// fields are 0.
 #[derive(Clone, Copy, Debug, PartialEq, Eq)]
 pub struct SharedOp {
     pub kind: OpKind,

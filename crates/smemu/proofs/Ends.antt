@@ -122,6 +122,8 @@ module _ {F : Type 0} (fetched : F → List ℕ → ℕ → F → Type 0) (told 
     rest = [];
     part = ap (reached_of told) (ap files_asked e ∙ one) ∙ reached_one told named;
     all = λ some. elim told as (λ t. IfSome t (λ files. ◌≡◌ {A = List Named} [] [])) [ None ↦ tt | Some files ↦ refl ];
+    first = λ some is. refl;
+    done = λ is. refl;
     each = (new, h, refl);
   }
 
@@ -131,15 +133,34 @@ module _ {F : Type 0} (fetched : F → List ℕ → ℕ → F → Type 0) (told 
     rest = [];
     part = ap (reached_of told) e ∙ reached_none told;
     all = λ some. elim told as (λ t. IfSome t (λ files. ◌≡◌ {A = List Named} [] [])) [ None ↦ tt | Some files ↦ refl ];
+    first = λ some is. refl;
+    done = λ is. refl;
     each = same;
   }
 
 pub fetches_nothing : {F : Type 0} (fetched : F → List ℕ → ℕ → F → Type 0) (told : Told) (old new : F) (names : List Named) → new ≡ old → FetchesReached fetched told names old new OutOfMemory
-fetches_nothing fetched told old new names same = record { front = []; rest = reached_of told names; part = refl; all = λ some. absurd (some refl); each = same }
+fetches_nothing fetched told old new names same = record {
+  front = [];
+  rest = reached_of told names;
+  part = refl;
+  all = λ some. absurd (some refl);
+  first = λ some is. absurd (some refl);
+  done = λ is. cc;
+  each = same;
+}
 
--- the same, where the status is another that is not want of memory
-pub fetches_as : {F : Type 0} (fetched : F → List ℕ → ℕ → F → Type 0) (told : Told) (names : List Named) (old new : F) (s t : Status) → (s ≡ OutOfMemory → ⊥) → FetchesReached fetched told names old new s → FetchesReached fetched told names old new t
-fetches_as fetched told names old new s t some h = record { front = h.front; rest = h.rest; part = h.part; all = λ other. h.all some; each = h.each }
+-- the same, where the status is another that is neither want of memory nor Done
+pub fetches_as : {F : Type 0} (fetched : F → List ℕ → ℕ → F → Type 0) (told : Told) (names : List Named) (old new : F) (s t : Status) → (s ≡ OutOfMemory → ⊥) → (t ≡ Done → ⊥) → FetchesReached fetched told names old new s
+    → FetchesReached fetched told names old new t
+fetches_as fetched told names old new s t some refused h = record {
+  front = h.front;
+  rest = h.rest;
+  part = h.part;
+  all = λ other. h.all some;
+  first = λ other. h.first some;
+  done = λ is. absurd (refused is);
+  each = h.each;
+}
 
 -- ---- the status that is due
 

@@ -1,5 +1,5 @@
 -- Words without a fault of which the one after these is no text.
-use Rattle.std.proofs.Common.{◌≡◌, ℕ, List, length, map, Option, Some, None, refl, ap, ◌∙◌, arith, Global, String}
+use Rattle.std.proofs.Common.{◌≡◌, List, length, map, Option, Some, None, refl, ap, ◌∙◌, arith, Global, String}
 use Rattle.std.proofs.lemmas.Grind.{common_steps}
 use Rattle.std.specs.String.{string_bytes}
 use Rattle.std.specs.Prelude.{IsSome}

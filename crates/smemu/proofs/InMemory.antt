@@ -1,5 +1,5 @@
 -- Where no fetch fails and there is room for the text, nothing but memory can be wanting.
-use Rattle.std.proofs.Common.{◌≡◌, ◌⊎◌, inl, inr, ℕ, List, Option, Some, None, refl, false, true, Err}
+use Rattle.std.proofs.Common.{◌≡◌, ◌⊎◌, inl, inr, ℕ, List, Option, Some, None, refl, false, true}
 use Rattle.std.specs.Prelude.{IfSome, IsTrue}
 use Rattle.smemu.specs.Ends.{Call, IsRefused, IsComplete, MayCome, HasRoom, LacksMemoryAlone}
 use Rattle.smemu.specs.Requests.{due_status}

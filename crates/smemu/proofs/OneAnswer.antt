@@ -1,5 +1,5 @@
 -- Two texts that answer the same request over the same files are equal.
-use Rattle.std.proofs.Common.{◌≡◌, ℕ, zero, suc, ◌≤◌, List, [], ◌∷◌, length, Option, Some, None, refl, sym, ◌∙◌, ap, subst, arith}
+use Rattle.std.proofs.Common.{◌≡◌, ℕ, zero, suc, ◌≤◌, List, [], ◌∷◌, length, cond, Option, Some, None, refl, sym, ◌∙◌, ap, subst, arith}
 use Rattle.std.specs.Prelude.{◌==◌, slice_get, if◌then◌else◌}
 use mathlib.Core.HLevel.{Σ_prop_path}
 use native.Mathlib.Bridge.{le_prop}
@@ -9,16 +9,22 @@ use Rattle.sm_types.specs.declared.length.VecLen.{VecLen}
 use Rattle.sm_types.specs.declared.length.VecLen.TheVariants.{Bits128, Bits256, Bits512, Bits1024, Bits2048}
 use Rattle.sm_types.specs.declared.shared_op.Event.{Event}
 use Rattle.sm_types.specs.Length.{bits_of}
+use Rattle.sm_types.specs.declared.object.Object.{Object}
+use Rattle.sm_types.specs.Objects.{text_address, data_address}
+use Rattle.asm_core.specs.Assembly.{IsSameObject}
+use Rattle.asm_core.proofs.OneObject.{one_object, same_code}
 use Rattle.cmd_words.specs.Options.{Options, options_of}
 use Rattle.cmd_words.specs.Words.{Request, AsksRun, AsksListing, AsksHelp, AsksVersion, AsksAssembly}
 use Rattle.code_listing.specs.Listing.{listing_text}
 use Rattle.elf_sections.specs.Code.{code_words}
-use Rattle.elf_loader.proofs.Images.{one_program}
+use Rattle.elf_loader.specs.Loading.{Loads}
+use Rattle.elf_loader.specs.Objects.{IsObjectImage, object_extents, text_extent, data_extent}
+use Rattle.elf_loader.proofs.Images.{one_memory, one_program}
 use Rattle.lone_runner.specs.LoneRun.{IsLoneRun}
 use Rattle.lone_runner.proofs.Runs.{one_state, one_stop}
-use Rattle.paged_memory.specs.Image.{Program}
+use Rattle.paged_memory.specs.Image.{Extent, IsMemoryOf, Program}
 use Rattle.report_text.specs.Report.{ThreadEnd, report_text, zero_words}
-use Rattle.smemu.specs.Answers.{IsEndOf, IsReportOf, IsReport, IsListing, IsAnswer, IsTextOf}
+use Rattle.smemu.specs.Answers.{IsEndOf, IsReportOf, IsReport, IsListing, IsProgramOf, IsAnswer, AreLoadedAsOne, AreOneAnswer}
 
 -- ---- options
 
@@ -90,15 +96,16 @@ same_list (x ∷ xs) (y ∷ ys) l h =
     let rest : xs ≡ ys = same_list xs ys (omega arith) (λ k. h (suc k)) in
     λ i. first i ∷ rest i
 
-alone : (program : Program) (config : Config) (k : ℕ) (end : ThreadEnd) → IsEndOf program config k end → IsLoneRun program config k [] end.state end.stop
-alone program config k end h = subst (λ (journal : List Event). IsLoneRun program config k journal end.state end.stop) h.journal h.run
+alone : (program : Program) (config : Config) (k : ℕ) (end : ThreadEnd) (h : IsEndOf program config k end) → IsLoneRun program config k [] end.state h.stop
+alone program config k end h = subst (λ (journal : List Event). IsLoneRun program config k journal end.state h.stop) h.journal h.run
 
 one_thread_end : (program : Program) (config : Config) (k : ℕ) (a b : ThreadEnd) → IsEndOf program config k a → IsEndOf program config k b → a ≡ b
 one_thread_end program config k a b h g =
     let number = h.number ∙ sym g.number in
     let journal = h.journal ∙ sym g.journal in
-    let state = one_state program config k [] a.state b.state a.stop b.stop (alone program config k a h) (alone program config k b g) in
-    let stop = one_stop program config k [] a.state b.state a.stop b.stop (alone program config k a h) (alone program config k b g) in
+    let state = one_state program config k [] a.state b.state h.stop g.stop (alone program config k a h) (alone program config k b g) in
+    let same = one_stop program config k [] a.state b.state h.stop g.stop (alone program config k a h) (alone program config k b g) in
+    let stop = h.stopped ∙ ap Some same ∙ sym g.stopped in
     λ i. record { thread = number i; state = state i; stop = stop i; journal = journal i }
 
 -- ---- the texts
@@ -111,17 +118,39 @@ one_report file config text other h g =
     let ends = same_list h.ends g.ends (h.threads ∙ sym g.threads) (λ k a b at there. one_thread_end g.program config k a b (each k a at) (g.each k b there)) in
     h.is_text ∙ ap (λ (es : List ThreadEnd). report_text config (sha256 file) es zero_words) ends ∙ sym g.is_text
 
-pub one_text : (files : List ℕ → Option (List ℕ)) (request : Request) (text other : List ℕ) → IsTextOf request → IsAnswer (Some files) request text → IsAnswer (Some files) request other → text ≡ other
-one_text files (AsksRun name options) text other is h g =
+-- ---- the files of a program
+
+same_extents : (o p : Object) → IsSameObject o p → object_extents o ≡ object_extents p
+unfolding object_extents text_extent data_extent
+same_extents o p h =
+    λ i. record { address = text_address; size = length (h.text_bytes i); flags = 5; bytes = h.text_bytes i }
+    ∷ cond (length (h.data_bytes i) == 0) [] (record { address = data_address (length (h.text_bytes i)); size = length (h.data_bytes i); flags = 6; bytes = h.data_bytes i } ∷ [])
+
+same_image : (o p : Object) (x y : Program) → IsSameObject o p → IsObjectImage o x → IsObjectImage p y → x ≡ y
+same_image o p x y s h g =
+    let memory = one_memory (object_extents p) x.memory y.memory (subst (λ (es : List Extent). IsMemoryOf es x.memory) (same_extents o p s) h.memory) g.memory in
+    let entry : x.entry ≡ y.entry = h.entry_is ∙ s.entry ∙ sym g.entry_is in
+    let code : x.code ≡ y.code = h.code_is ∙ same_code o p s ∙ sym g.code_is in
+    λ i. record { memory = memory i; entry = entry i; code = code i }
+
+one_assembly : (source text other : List ℕ) → IsProgramOf source text → IsProgramOf source other → AreLoadedAsOne text other
+one_assembly source text other h g =
+    let same = same_image h.object g.object h.written.program g.written.program (one_object source h.object g.object h.assembles g.assembles) h.written.image g.written.image in
+    (g.written.program, subst (λ (p : Program). Loads text p) same h.written.loads, g.written.loads)
+
+pub one_text : (files : List ℕ → Option (List ℕ)) (request : Request) (text other : List ℕ) → IsAnswer (Some files) request text → IsAnswer (Some files) request other → AreOneAnswer request text other
+one_text files (AsksRun name options) text other h g =
     let file = same_file (files name) h.file g.file h.is_file g.is_file in
     let config = same_config h.config g.config (h.given ∙ sym g.given) in
     let of_file = subst (λ (f : List ℕ). IsReportOf f h.config text) file h.report in
     let of_config = subst (λ (c : Config). IsReportOf g.file c text) config of_file in
     one_report g.file g.config text other of_config g.report
-one_text files (AsksListing name) text other is h g =
+one_text files (AsksListing name) text other h g =
     let file = same_file (files name) h.file g.file h.is_file g.is_file in
     let code = h.listing.loads.code_is ∙ ap code_words file ∙ sym g.listing.loads.code_is in
     h.listing.is_text ∙ ap listing_text code ∙ sym g.listing.is_text
-one_text files (AsksAssembly name) text other is h g = absurd is
-one_text files AsksHelp text other is h g = h ∙ sym g
-one_text files AsksVersion text other is h g = h ∙ sym g
+one_text files (AsksAssembly name) text other h g =
+    let source = same_file (files name) h.source g.source h.is_file g.is_file in
+    one_assembly g.source text other (subst (λ (f : List ℕ). IsProgramOf f text) source h.program) g.program
+one_text files AsksHelp text other h g = h ∙ sym g
+one_text files AsksVersion text other h g = h ∙ sym g

@@ -47,7 +47,7 @@ module _ {F : Type 0} (fault_of : List ℕ → Option F) (too_long : F) (long_fa
   same_fault f g e = cc
 
   -- a file without a fault is short enough
-  sound_short : (file : List ℕ) → fault_of file ≡ None → length file ≤ 67108864
+  pub sound_short : (file : List ℕ) → fault_of file ≡ None → length file ≤ 67108864
   sound_short file h =
       elim (low_or 67108864 (length file)) [
         | inl long ↦ absurd (faulty_or_not (fault_of file) too_long h (long_fault file long))

@@ -1,21 +1,22 @@
 -- What words ask for.
 use Rattle.std.proofs.Common.{◌≡◌, ℕ, Bool, true, false, cond, List, Option, Some, None, refl, sym, ◌∙◌, ap}
 use Rattle.std.specs.Prelude.{slice_get, is_none, option_and_then, option_map}
+use Rattle.cmd_words.specs.Forms.{form_of}
 use Rattle.cmd_words.specs.Options.{Options}
 use Rattle.cmd_words.specs.Words.{Request, AsksRun, AsksListing, AsksAssembly, verb_of, options_given, request_for, usage_fault, command_of}
 use Rattle.cmd_words.specs.declared.verb.Verb.{Verb}
 use Rattle.cmd_words.specs.declared.verb.Verb.TheVariants.{Run, Dis, Asm, Help, Version}
 
-one_given : (words : List (List ℕ)) → (options_given words).threads ≡ 1
+one_given : (words : List (List ℕ)) → (options_given (form_of Run) words).threads ≡ 1
 unfolding options_given
 one_given words = refl
 
 same_options : (m n : List ℕ) (p q : Options) → ◌≡◌ {A = Option Request} (Some (AsksRun m p)) (Some (AsksRun n q)) → p ≡ q
 same_options m n p q e = cc
 
-one_named : (words : List (List ℕ)) (word : Option (List ℕ)) (name : List ℕ) (options : Options) → option_map (λ n. AsksRun n (options_given words)) word ≡ Some (AsksRun name options) → options.threads ≡ 1
+one_named : (words : List (List ℕ)) (word : Option (List ℕ)) (name : List ℕ) (options : Options) → option_map (λ n. AsksRun n (options_given (form_of Run) words)) word ≡ Some (AsksRun name options) → options.threads ≡ 1
 one_named words None name options e = cc
-one_named words (Some n) name options e = ap (λ (o : Options). o.threads) (sym (same_options n name (options_given words) options e)) ∙ one_given words
+one_named words (Some n) name options e = ap (λ (o : Options). o.threads) (sym (same_options n name (options_given (form_of Run) words) options e)) ∙ one_given words
 
 no_run : (word : Option (List ℕ)) (make : List ℕ → Request) (name : List ℕ) (options : Options) → ((n : List ℕ) → ◌≡◌ {A = Option Request} (Some (make n)) (Some (AsksRun name options)) → ⊥) → option_map make word ≡ Some (AsksRun name options) → ⊥
 no_run None make name options other e = cc

@@ -1,8 +1,10 @@
--- What the command writes for a request: the report of a run, a listing, a program's file, or a text of its own.
+-- What the command writes for a request: the report of a run, a listing, a program's file, or a text of its
+-- own.
 use Rattle.std.specs.Prelude.{◌≡◌, ℕ, [], List, Some, IfSome, length, slice_get}
 use Rattle.sha2.specs.Sha256.{sha256}
 use Rattle.sm_types.specs.declared.config.Config.{Config}
 use Rattle.sm_types.specs.declared.object.Object.{Object}
+use Rattle.sm_types.specs.declared.stop.Stop.{Stop}
 use Rattle.edge_io.specs.Files.{Told}
 use Rattle.cmd_words.specs.Options.{Options, options_of}
 use Rattle.cmd_words.specs.Words.{Request, AsksRun, AsksListing, AsksAssembly, AsksHelp, AsksVersion}
@@ -23,9 +25,12 @@ IsFile told name file = IfSome told (λ files. files name ≡ Some file)
 pub record IsEndOf (program : Program) (config : Config) (k : ℕ) (end : ThreadEnd) : Type 0 where
   pub number : end.thread ≡ k
   pub journal : end.journal ≡ []
-  pub run : IsLoneRun program config k end.journal end.state end.stop
+  pub stop : Stop
+  pub stopped : end.stop ≡ Some stop
+  pub run : IsLoneRun program config k end.journal end.state stop
 
--- the text is the report of the run of a file with these options: the program that it is loaded as, and the end of each guest thread
+-- the text is the report of the run of a file with these options: the program that it is loaded as, and the
+-- end of each guest thread
 pub record IsReportOf (file : List ℕ) (config : Config) (text : List ℕ) : Type 0 where
   pub program : Program
   pub loads : Loads file program
@@ -54,7 +59,8 @@ pub record IsListing (told : Told) (name text : List ℕ) : Type 0 where
   pub is_file : IsFile told name file
   pub listing : IsListingOf file text
 
--- the text is the file of the program that a source is assembled to: it is loaded as the image of the source's object
+-- the text is the file of the program that a source is assembled to: it is loaded as the image of the
+-- source's object
 pub record IsProgramOf (source text : List ℕ) : Type 0 where
   pub object : Object
   pub assembles : Assembles source object
@@ -74,7 +80,11 @@ IsAnswer told (AsksAssembly name) text = IsAssembly told name text
 IsAnswer told AsksHelp text = text ≡ help_text
 IsAnswer told AsksVersion text = text ≡ version_text
 
--- the request is for a text, and not for the file of a program
-abbrev pub IsTextOf : Request → Type 0
-IsTextOf (AsksAssembly name) = ⊥
-IsTextOf other = Unit {0}
+-- two files are loaded as one program
+abbrev pub AreLoadedAsOne : List ℕ → List ℕ → Type 0
+AreLoadedAsOne file other = (program : Program) × Loads file program × Loads other program
+
+-- two texts that answer a request are one; of an assembled program, two files that are loaded as one program
+abbrev pub AreOneAnswer : Request → List ℕ → List ℕ → Type 0
+AreOneAnswer (AsksAssembly name) text other = AreLoadedAsOne text other
+AreOneAnswer request text other = text ≡ other

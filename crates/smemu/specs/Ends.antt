@@ -1,5 +1,6 @@
 -- How a call of the command ends: which text is written with which status, and why.
-use Rattle.std.specs.Prelude.{◌≡◌, ◌≤◌, ◌++◌, ℕ, ◌∷◌, [], IsTrue, List, Option, Some, None, IfSome, IsSome, Result, Ok, Err, codes, length, map, ◌⊎◌}
+use Rattle.std.specs.Prelude.{◌≡◌, ◌≤◌, ◌++◌, ℕ, ◌∷◌, [], IsTrue, List, Option, Some, None, IfSome, IsSome}
+use Rattle.std.specs.Prelude.{Result, Ok, Err, codes, length, map, ◌⊎◌}
 use Rattle.std.specs.List.{concat}
 use Rattle.std.specs.String.{string_bytes}
 use Rattle.std.specs.declared.string.String.{String}
@@ -11,11 +12,13 @@ use Rattle.edge_io.specs.declared.sink.PutFault.TheVariants.{Failed}
 use Rattle.cmd_words.specs.Words.{Fault, Request, usage_fault, command_of}
 use Rattle.smemu.specs.Answers.{IsFile, IsAnswer}
 use Rattle.smemu.specs.FaultLines.{fault_line}
-use Rattle.smemu.specs.Requests.{Named, Rejection, NoProgram, NoSource, files_named, files_asked, limit_of, rejection_of, reached_of, IsReached, due_status}
+use Rattle.smemu.specs.Requests.{Named, Rejection, NoProgram, NoSource, files_named, files_asked, limit_of}
+use Rattle.smemu.specs.Requests.{rejection_of, reached_of, IsReached, due_status}
 use Rattle.smemu.specs.SourceLines.{source_line}
 use Rattle.smemu.specs.Texts.{usage_line}
 use Rattle.smemu.specs.declared.status.Status.{Status}
-use Rattle.smemu.specs.declared.status.Status.TheVariants.{Done, Usage, Absent, ReadFault, WriteFault, BadFile, BadSource, OutOfMemory}
+use Rattle.smemu.specs.declared.status.Status.TheVariants.{Done, Usage, Absent, ReadFault, WriteFault}
+use Rattle.smemu.specs.declared.status.Status.TheVariants.{BadFile, BadSource, OutOfMemory}
 
 -- something before a call and after it
 pub record Change (A : Type 0) : Type 0 where
@@ -33,7 +36,11 @@ change view before after = record { before = view before; after = view after }
 
 abbrev pub call : {F K Z : Type 0} → (F → FilesView) → (K → SinkView) → List (String Z) → F → F → K → K → Call
 call files_view sink_view words files files_after out out_after =
-    record { words = map string_bytes words; files = change files_view files files_after; out = change sink_view out out_after }
+    record {
+      words = map string_bytes words;
+      files = change files_view files files_after;
+      out = change sink_view out out_after;
+    }
 
 -- ---- what stands for a request, with its cause
 
@@ -55,7 +62,8 @@ pub record IsReadFault (files : Change FilesView) (names : List Named) (text : L
   pub is_text : text ≡ concat (codes "read fault: " ∷ named.name ∷ codes "\n" ∷ [])
 
 -- a file that is reached is not accepted, for this sort of fault, whose line the text is
-pub record IsRejection {A : Type 0} (rejected : A → Rejection) (line : A → List ℕ) (told : Told) (names : List Named) (text : List ℕ) : Type 0 where
+pub record IsRejection {A : Type 0} (rejected : A → Rejection) (line : A → List ℕ) (told : Told)
+    (names : List Named) (text : List ℕ) : Type 0 where
   pub named : Named
   pub reached : IsReached told names named
   pub file : List ℕ
@@ -69,8 +77,10 @@ abbrev pub Stands : Request → Change FilesView → Status → List ℕ → Typ
 Stands request files Done text = IsAnswer files.before.told request text
 Stands request files Absent text = IsAbsence files (files_named request) text
 Stands request files ReadFault text = IsReadFault files (files_named request) text
-Stands request files BadFile text = IsRejection NoProgram fault_line files.before.told (files_named request) text
-Stands request files BadSource text = IsRejection NoSource source_line files.before.told (files_named request) text
+Stands request files BadFile text =
+    IsRejection NoProgram fault_line files.before.told (files_named request) text
+Stands request files BadSource text =
+    IsRejection NoSource source_line files.before.told (files_named request) text
 Stands request files Usage text = ⊥
 Stands request files WriteFault text = ⊥
 Stands request files OutOfMemory text = ⊥
@@ -84,7 +94,8 @@ pub record IsUsage (words : List (List ℕ)) (text : List ℕ) : Type 0 where
   pub is_text : text ≡ usage_line fault
 
 -- the text that goes with a status, for what the words ask for
-pub record IsAsked (words : List (List ℕ)) (files : Change FilesView) (status : Status) (text : List ℕ) : Type 0 where
+pub record IsAsked (words : List (List ℕ)) (files : Change FilesView) (status : Status) (text : List ℕ) :
+    Type 0 where
   pub request : Request
   pub asked : command_of words ≡ Some request
   pub stands : Stands request files status text
@@ -107,51 +118,68 @@ abbrev pub IsDone : Call → Status → Type 0
 IsDone c Done = Wrote c Done (Ok tt)
 IsDone c other = Unit {0}
 
--- every other status: its line was written, for its cause; with WriteFault a part of some status's text, and with OutOfMemory nothing
+-- every other status: its line was written, for its cause; with WriteFault a part of some status's text,
+-- and with OutOfMemory nothing
 abbrev pub IsRefused : Call → Status → Type 0
 IsRefused c Done = Unit {0}
 IsRefused c WriteFault = (status : Status) × Wrote c status (Err Failed)
 IsRefused c OutOfMemory = Writes c.out.before c.out.after (Ok tt) []
 IsRefused c other = Wrote c other (Ok tt)
 
--- what may be answered in place of the status that is due: want of memory, a fault of the sink, and a fault of reading a file that is
--- reached and is there
+-- what may be answered in place of the status that is due: want of memory, a fault of the sink, and a fault
+-- of reading a file that is reached and is there
 abbrev pub MayCome : (List ℕ → Option (List ℕ)) → List (List ℕ) → Status → Type 0
 MayCome files words OutOfMemory = Unit {0}
 MayCome files words WriteFault = Unit {0}
-MayCome files words ReadFault = (named : Named) × IsReached (Some files) (files_asked (command_of words)) named × IsSome (files named.name)
+MayCome files words ReadFault =
+    (named : Named) × IsReached (Some files) (files_asked (command_of words)) named
+    × IsSome (files named.name)
 MayCome files words other = ⊥
 
 -- where the files are told, the status that is due is answered, or one that may come in its place
 abbrev pub IsComplete : Call → Status → Type 0
-IsComplete c result = (files : List ℕ → Option (List ℕ)) → c.files.before.told ≡ Some files → (result ≡ due_status files c.words) ⊎ MayCome files c.words result
+IsComplete c result =
+    (files : List ℕ → Option (List ℕ)) → c.files.before.told ≡ Some files
+    → (result ≡ due_status files c.words) ⊎ MayCome files c.words result
 
 -- ---- what is fetched
 
 -- these files were fetched, each once and with its limit, in their order, and nothing else was
 abbrev pub AreFetched : {F : Type 0} → (F → List ℕ → ℕ → F → Type 0) → List Named → F → F → Type 0
 AreFetched fetched [] old new = new ≡ old
-AreFetched {F} fetched (named ∷ rest) old new = (now : F) × fetched old named.name (limit_of named.kind) now × AreFetched fetched rest now new
+AreFetched {F} fetched (named ∷ rest) old new =
+    (now : F) × fetched old named.name (limit_of named.kind) now × AreFetched fetched rest now new
 
--- the files that are reached were fetched; where memory was wanting, perhaps not the last of them
-pub record FetchesReached {F : Type 0} (fetched : F → List ℕ → ℕ → F → Type 0) (told : Told) (names : List Named) (old new : F) (status : Status) : Type 0 where
+-- The files that are reached were fetched; where memory was wanting, perhaps not the last of them. Of files
+-- that tell nothing the first that is named was fetched, but where memory was wanting, and with Done all of
+-- them were.
+pub record FetchesReached {F : Type 0} (fetched : F → List ℕ → ℕ → F → Type 0) (told : Told)
+    (names : List Named) (old new : F) (status : Status) : Type 0 where
   pub front : List Named
   pub rest : List Named
   pub part : reached_of told names ≡ front ++ rest
   pub all : (status ≡ OutOfMemory → ⊥) → IfSome told (λ files. rest ≡ [])
+  pub first : (status ≡ OutOfMemory → ⊥) → front ≡ [] → rest ≡ []
+  pub done : status ≡ Done → rest ≡ []
   pub each : AreFetched fetched front old new
 
 -- the files that are reached for the words were fetched, and nothing else was
-abbrev pub Fetches : {F Z : Type 0} → (F → List ℕ → ℕ → F → Type 0) → (F → FilesView) → List (String Z) → F → F → Status → Type 0
-Fetches fetched view words old new status = FetchesReached fetched (view old).told (files_asked (command_of (map string_bytes words))) old new status
+abbrev pub Fetches :
+    {F Z : Type 0} → (F → List ℕ → ℕ → F → Type 0) → (F → FilesView) → List (String Z) → F → F → Status
+    → Type 0
+Fetches fetched view words old new status =
+    FetchesReached fetched (view old).told (files_asked (command_of (map string_bytes words))) old new status
 
 -- ---- where nothing fails
 
 -- there is room for each text that may be due
 abbrev pub HasRoom : Call → Type 0
-HasRoom c = (status : Status) (text : List ℕ) → Defined c.words c.files status text → length text ≤ c.out.before.room
+HasRoom c =
+    (status : Status) (text : List ℕ) → Defined c.words c.files status text → length text ≤ c.out.before.room
 
--- where the files are told, no fetch fails, and there is room for the text: what is due is answered, or memory was wanting
+-- where the files are told, no fetch fails, and there is room for the text: what is due is answered, or
+-- memory was wanting
 abbrev pub LacksMemoryAlone : Call → Status → Type 0
 LacksMemoryAlone c result =
-    IsTrue c.files.before.reliable → HasRoom c → IfSome c.files.before.told (λ files. (result ≡ due_status files c.words) ⊎ (result ≡ OutOfMemory))
+    IsTrue c.files.before.reliable → HasRoom c
+    → IfSome c.files.before.told (λ files. (result ≡ due_status files c.words) ⊎ (result ≡ OutOfMemory))

@@ -1,7 +1,10 @@
--- The files that a request names: of which kind each is, how much of it is read, why it is not accepted, and how far it is read at all.
-use Rattle.std.specs.Prelude.{◌≡◌, ℕ, List, [], ◌∷◌, Option, Some, None, option_map, is_none, slice_get, if◌then◌else◌}
+-- The files that a request names: of which kind each is, how much of it is read, why it is not accepted,
+-- and how far it is read at all.
+use Rattle.std.specs.Prelude.{◌≡◌, ℕ, List, [], ◌∷◌, Option, Some, None, option_map, is_none, slice_get}
+use Rattle.std.specs.Prelude.{if◌then◌else◌}
 use Rattle.edge_io.specs.Files.{Told}
-use Rattle.cmd_words.specs.Words.{Request, AsksRun, AsksListing, AsksAssembly, AsksHelp, AsksVersion, command_of}
+use Rattle.cmd_words.specs.Words.{Request, AsksRun, AsksListing, AsksAssembly, AsksHelp, AsksVersion}
+use Rattle.cmd_words.specs.Words.{command_of}
 use Rattle.asm_core.specs.Faults.{asm_fault}
 use Rattle.asm_core.specs.declared.fault.AsmFault.{AsmFault}
 use Rattle.elf_headers.specs.declared.fault.LoadFault.{LoadFault}

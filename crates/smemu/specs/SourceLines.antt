@@ -1,9 +1,11 @@
--- The line of the fault for which a source is refused: lines, columns and places in decimal, distances in decimal with their sign.
+-- The line of the fault for which a source is refused: lines, columns and places in decimal, distances in
+-- decimal with their sign.
 use Rattle.std.specs.Prelude.{ℕ, ◌∷◌, [], List, decimal, codes}
 use Rattle.std.specs.Fmt.{signed_decimal}
 use Rattle.std.specs.List.{concat}
 use Rattle.asm_core.specs.declared.fault.AsmFault.{AsmFault}
-use Rattle.asm_core.specs.declared.fault.AsmFault.TheVariants.{TooLong, NotText, Line, Doubled, Undefined, TooFar, TooLarge, NoStart, Memory}
+use Rattle.asm_core.specs.declared.fault.AsmFault.TheVariants.{TooLong, NotText, Line, Doubled, Undefined}
+use Rattle.asm_core.specs.declared.fault.AsmFault.TheVariants.{TooFar, TooLarge, NoStart, Memory}
 use Rattle.asm_parser.specs.declared.line.LineFault.{LineFault}
 use Rattle.asm_parser.specs.declared.line.LineFault.TheVariants as line
 
@@ -41,4 +43,6 @@ line_number Memory = 0
 
 -- the line that is written for a fault
 unfoldable pub source_line : AsmFault → List ℕ
-source_line fault = concat (codes "bad source: line " ∷ decimal (line_number fault) ∷ codes ": " ∷ source_words fault ∷ codes "\n" ∷ [])
+source_line fault =
+    concat (codes "bad source: line " ∷ decimal (line_number fault) ∷ codes ": " ∷ source_words fault
+    ∷ codes "\n" ∷ [])

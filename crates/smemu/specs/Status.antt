@@ -1,7 +1,8 @@
 -- The exit status of each answer.
 use Rattle.std.specs.Prelude.{ℕ}
 use Rattle.smemu.specs.declared.status.Status.{Status}
-use Rattle.smemu.specs.declared.status.Status.TheVariants.{Done, Usage, Absent, ReadFault, WriteFault, BadFile, BadSource, OutOfMemory}
+use Rattle.smemu.specs.declared.status.Status.TheVariants.{Done, Usage, Absent, ReadFault, WriteFault}
+use Rattle.smemu.specs.declared.status.Status.TheVariants.{BadFile, BadSource, OutOfMemory}
 
 abbrev pub code_of : Status → ℕ
 code_of Done = 0

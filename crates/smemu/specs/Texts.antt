@@ -1,9 +1,12 @@
--- The texts that do not depend on a program: the line of a fault of the words, the text of help, and the version.
-use Rattle.std.specs.Prelude.{◌≡◌, ℕ, ◌++◌, ◌∷◌, [], List, decimal, codes}
+-- The texts that do not depend on a program: the line of a fault of the words, the text of help, and the
+-- version.
+use Rattle.std.specs.Prelude.{◌≡◌, ℕ, ◌++◌, ◌==◌, ◌&&◌, ◌||◌, nat_le, ◌∷◌, [], Bool, false, List, decimal, codes}
 use Rattle.std.specs.List.{concat}
+use Rattle.cmd_words.specs.Options.{default_of}
 use Rattle.cmd_words.specs.Words.{Fault}
 use Rattle.cmd_words.specs.declared.command.UsageKind.{UsageKind}
-use Rattle.cmd_words.specs.declared.command.UsageKind.TheVariants.{Unknown, Missing, Repeated, BadNumber, OutOfRange, Extra}
+use Rattle.cmd_words.specs.declared.command.UsageKind.TheVariants.{Unknown, Missing, Repeated, BadNumber}
+use Rattle.cmd_words.specs.declared.command.UsageKind.TheVariants.{OutOfRange, Extra}
 use Rattle.cmd_words.specs.declared.setting.Setting.{Setting}
 use Rattle.cmd_words.specs.declared.setting.Setting.TheVariants.{Vl, Svl, Budget}
 use Rattle.smemu.specs.declared.help.TheConstants.{HELP, VERSION}
@@ -19,13 +22,50 @@ kind_word Extra = codes "extra"
 
 -- the line of a fault of the words: its place and what is wrong there
 unfoldable pub usage_line : Fault → List ℕ
-usage_line fault = concat (codes "usage: word " ∷ decimal fault.place ∷ codes ": " ∷ kind_word fault.kind ∷ codes "\n" ∷ [])
+usage_line fault =
+    concat (codes "usage: word " ∷ decimal fault.place ∷ codes ": " ∷ kind_word fault.kind ∷ codes "\n" ∷ [])
+
+-- the numbers that an option takes, as help says them: each of some, or those from one to another
+pub data Numbers : Type 0 where
+  OneOf : List ℕ → Numbers
+  FromTo : ℕ → ℕ → Numbers
+
+abbrev pub numbers_of : Setting → Numbers
+numbers_of Vl = OneOf (128 ∷ 256 ∷ 512 ∷ 1024 ∷ 2048 ∷ [])
+numbers_of Svl = OneOf (128 ∷ 256 ∷ 512 ∷ 1024 ∷ 2048 ∷ [])
+numbers_of Budget = FromTo 1 4294967295
+
+abbrev pub is_among : ℕ → List ℕ → Bool
+is_among n [] = false
+is_among n (m ∷ ms) = (n == m) || is_among n ms
+
+-- a number is one of them
+abbrev pub has_number : Numbers → ℕ → Bool
+has_number (OneOf ms) n = is_among n ms
+has_number (FromTo least most) n = nat_le least n && nat_le n most
+
+-- some numbers after the first
+abbrev pub listed : List ℕ → List ℕ
+listed [] = []
+listed (n ∷ []) = codes " or " ++ decimal n
+listed (n ∷ m ∷ ms) = codes ", " ++ (decimal n ++ listed (m ∷ ms))
+
+abbrev pub numbers_text : Numbers → List ℕ
+numbers_text (OneOf []) = []
+numbers_text (OneOf (n ∷ ms)) = decimal n ++ listed ms
+numbers_text (FromTo least most) = decimal least ++ (codes " to " ++ decimal most)
+
+-- an option with what it is
+abbrev pub option_word : Setting → List ℕ
+option_word Vl = codes "  --vl BITS     vector length outside streaming mode: "
+option_word Svl = codes "  --svl BITS    vector length in streaming mode: "
+option_word Budget = codes "  --budget N    instructions after which a thread is stopped: "
 
 -- what the text of help says of an option: the numbers that it takes, and the one where it is not given
 abbrev pub option_line : Setting → List ℕ
-option_line Vl = codes "  --vl BITS     vector length outside streaming mode: 128, 256, 512, 1024 or 2048; else 128\n"
-option_line Svl = codes "  --svl BITS    vector length in streaming mode: 128, 256, 512, 1024 or 2048; else 256\n"
-option_line Budget = codes "  --budget N    instructions after which a thread is stopped: 1 to 4294967295; else 10000000\n"
+option_line setting =
+    option_word setting
+    ++ (numbers_text (numbers_of setting) ++ (codes "; else " ++ (decimal (default_of setting) ++ codes "\n")))
 
 -- the text has that part
 abbrev pub HasPart : List ℕ → List ℕ → Type 0

@@ -1,12 +1,13 @@
 -- What the answers and refusals of the code stand for, on the way from the words to the writing.
-use Rattle.std.specs.Prelude.{◌≡◌, ℕ, ◌∷◌, [], List, Some, None, IfSome, IsSome, IsTrue, Result, Ok, Err, codes, option_map, take}
+use Rattle.std.specs.Prelude.{◌≡◌, ℕ, ◌∷◌, [], List, Some, None, IfSome, IsSome, IsTrue, Result, Ok, Err}
+use Rattle.std.specs.Prelude.{codes, option_map, take}
 use Rattle.std.specs.List.{concat}
 use Rattle.std.specs.String.{string_bytes}
 use Rattle.edge_io.specs.Cause.{Rose}
 use Rattle.edge_io.specs.Files.{Told, FilesView}
 use Rattle.cmd_words.specs.Words.{Request}
 use Rattle.code_listing.specs.Listing.{listing_text}
-use Rattle.kernel_contexts.specs.Context.{state_of, thread_of}
+use Rattle.report_text.specs.Ends.{end_of}
 use Rattle.report_text.specs.Report.{report_text, zero_words}
 use Rattle.smemu.specs.Ends.{Change, Stands, Defined}
 use Rattle.smemu.specs.FaultLines.{fault_line}
@@ -24,7 +25,7 @@ use Rattle.smemu.specs.declared.status.Status.TheVariants as status
 
 -- the text of a report
 unfoldable pub run_text : RunReport → List ℕ
-run_text r = report_text r.head.config r.head.image (record { thread = thread_of r.context; state = state_of r.context; stop = r.stop; journal = [] } ∷ []) zero_words
+run_text r = report_text r.head.config r.head.image (end_of r.context ∷ []) zero_words
 
 -- the text of an answer
 abbrev pub answer_text : Answer → List ℕ
@@ -70,9 +71,11 @@ IsFront told name bytes = IfSome told (λ files. option_map (take FETCH_LIMIT) (
 -- why the file of that name was not fetched
 abbrev pub IsUnread : Change FilesView → List ℕ → Refusal → Type 0
 IsUnread files name (refusal.Absent shown) =
-    (string_bytes shown ≡ name) × IfSome files.before.told (λ told. told name ≡ None) × Rose files.before.absences files.after.absences
+    (string_bytes shown ≡ name) × IfSome files.before.told (λ told. told name ≡ None)
+    × Rose files.before.absences files.after.absences
 IsUnread files name (refusal.ReadFault shown) =
-    (string_bytes shown ≡ name) × IfSome files.before.told (λ told. IsSome (told name)) × Rose files.before.faults files.after.faults
+    (string_bytes shown ≡ name) × IfSome files.before.told (λ told. IsSome (told name))
+    × Rose files.before.faults files.after.faults
     × (IsTrue files.before.reliable → ⊥)
 IsUnread files name refusal.Memory = Unit {0}
 IsUnread files name other = ⊥

@@ -9,15 +9,12 @@ use edge_io::{PutFault, Sink};
 use kernel_contexts::Context;
 use paged_memory::Image;
 use report_text::{Head, write_report};
-use sm_types::Stop;
 
 /// A run that has ended.
 #[derive(Drop)]
 pub struct RunReport {
     /// The thread, as it stopped.
     pub context: Context,
-    /// Why it stopped.
-    pub stop: Stop,
     /// What stands before the report's blocks.
     pub head: Head,
 }
@@ -40,7 +37,7 @@ pub enum Answer {
 fn write_run<K: Sink>(out: &mut K, report: &RunReport) -> Result<(), PutFault>
     ensures { Writes (K.view out.old) (K.view out.new) result (run_text report.now) }
 {
-    write_report(&report.context, report.stop, &report.head, out)
+    write_report(&report.context, &report.head, out)
 }
 
 /// Writes the text of help.

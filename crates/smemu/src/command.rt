@@ -2,7 +2,7 @@
 ghost use Rattle.std.specs.Prelude.{◌≡◌, IfOk, IfErr, map};
 ghost use Rattle.std.specs.String.{string_bytes};
 ghost use Rattle.asm_core.specs.Assembly.{Assembles};
-ghost use Rattle.asm_core.specs.Sound.{IsSound};
+ghost use Rattle.a64_encode.specs.Writable.{IsWritable};
 ghost use Rattle.cmd_words.specs.Options.{options_of};
 ghost use Rattle.cmd_words.specs.Words.{AsksRun, AsksListing, AsksAssembly};
 ghost use Rattle.edge_io.specs.Files.{IsKept};
@@ -11,7 +11,8 @@ ghost use Rattle.elf_loader.specs.Loading.{Loads};
 ghost use Rattle.smemu.specs.Answers.{IsReportOf, IsProgramOf};
 ghost use Rattle.smemu.specs.Ends.{change, call, IsDone, IsRefused, IsComplete, Fetches};
 ghost use Rattle.smemu.specs.Requests.{IsProgram, IsSource};
-ghost use Rattle.smemu.specs.Views.{run_text, end_text, end_status, IsFront, IsUnread, IsRejected, EndsRequest, EndsWords};
+ghost use Rattle.smemu.specs.Views.{run_text, end_text, end_status, IsFront, IsUnread, IsRejected};
+ghost use Rattle.smemu.specs.Views.{EndsRequest, EndsWords};
 
 use crate::answer::{Answer, RunReport, write_answer};
 use crate::refusal::{Refusal, status_of, write_refusal};
@@ -68,10 +69,9 @@ fn run_image(
     requires one { config.now.threads ≡ 1 }
     ensures { IfOk result (λ report. IsReportOf file.now config.now (run_text report)) }
 {
-    let (context, stop) = run_to_stop(alloc, image, config, 0)?;
+    let context = run_to_stop(alloc, image, config, 0)?;
     Ok(RunReport {
         context,
-        stop,
         head: Head {
             config: *config,
             image: Sha256::digest(file),
@@ -94,7 +94,7 @@ fn assemble_file(alloc: Global, source: &[u8]) -> Result<Vec<u8>, Refusal>
 /// The program file of the object of a source.
 fn write_object(alloc: Global, source: &[u8], object: &Object) -> Result<Vec<u8>, Refusal>
     requires assembles { Assembles source.now object.now }
-    requires sound { IsSound object.now }
+    requires sound { IsWritable object.now }
     ensures program { IfOk result (λ file. IsProgramOf source.now file.items) }
     ensures rejected { IfErr result (IsRejected IsSource source.now) }
 {
@@ -112,7 +112,8 @@ fn run_program<F: Files>(
     files: &mut F,
 ) -> Result<Answer, Refusal>
     requires { config.now.threads ≡ 1 }
-    ensures ends { EndsRequest (AsksRun (string_bytes program) (options_of config.now)) (change F.view files.old files.new) result }
+    ensures ends { EndsRequest (AsksRun (string_bytes program) (options_of config.now))
+        (change F.view files.old files.new) result }
     ensures kept { IsKept (F.view files.old) (F.view files.new) }
     ensures fetched { F.fetched files.old (string_bytes program) FETCH_LIMIT files.new }
 {
@@ -187,10 +188,11 @@ fn status_of_end(end: &Result<Answer, Refusal>) -> Status
     }
 }
 
-/// Carries out the command of the words, which are the command line without the program's name: `run PROGRAM` with
-/// its options runs the program file of that name and writes the report of its run, `dis PROGRAM` writes its listing,
-/// `asm SOURCE` assembles the source file of that name and writes the program file, `--help` and `--version` write
-/// their texts, and other words are answered by the line of their first fault.
+/// Carries out the command of the words, which are the command line without the program's name: `run
+/// PROGRAM` with its options runs the program file of that name and writes the report of its run, `dis
+/// PROGRAM` writes its listing,
+/// `asm SOURCE` assembles the source file of that name and writes the program file, `--help` and
+/// `--version` write their texts, and other words are answered by the line of their first fault.
 pub fn smemu_main<F: Files, K: Sink>(
     alloc: Global,
     words: &[String],

@@ -31,7 +31,8 @@ fn fault_of(
 ) -> Result<(usize, UsageKind), Memory>
     requires command { IfOk read.now (λ command. command_of (map string_bytes words.now) ≡ Some (request_of command)) }
     requires fault { IfErr read.now (IsFirstFault (map string_bytes words.now)) }
-    ensures { IfOk result (λ fault. foreign_fault (map string_bytes words.now) ≡ record { place = fault.0; kind = fault.1 }) }
+    ensures { IfOk result (λ fault. foreign_fault (map string_bytes words.now)
+        ≡ record { place = fault.0; kind = fault.1 }) }
 {
     match read {
         Ok(_) => Ok((words.len(), UsageKind::Unknown)),
@@ -42,13 +43,15 @@ fn fault_of(
 
 /// The first fault of words of which the one after these is no text.
 fn first_fault(alloc: Global, words: &[String]) -> Result<(usize, UsageKind), Memory>
-    ensures { IfOk result (λ fault. foreign_fault (map string_bytes words.now) ≡ record { place = fault.0; kind = fault.1 }) }
+    ensures { IfOk result (λ fault. foreign_fault (map string_bytes words.now)
+        ≡ record { place = fault.0; kind = fault.1 }) }
 {
     let read = read_words(alloc, words);
     fault_of(words, &read)
 }
 
-/// Answers words of which the one after these is no text: that word is unknown, unless one of these is at fault.
+/// Answers words of which the one after these is no text: that word is unknown, unless one of these is at
+/// fault.
 pub fn refuse_foreign_word<K: Sink>(alloc: Global, words: &[String], out: &mut K) -> Status
     ensures { EndsForeign (K.view out.old) (K.view out.new) (map string_bytes words.now) result }
 {

@@ -1,8 +1,12 @@
 //! The command where nothing of the outside can fail.
+ghost use Rattle.std.specs.Prelude.{◌≤◌, ℕ, List, length};
+ghost use Rattle.cmd_words.specs.Words.{AsksAssembly};
+ghost use Rattle.edge_io.specs.Files.{Told};
 ghost use Rattle.edge_io.specs.MemFiles as mem_files;
 ghost use Rattle.edge_io.specs.MemSink as mem_sink;
 ghost use Rattle.edge_io.specs.Files.{IsKept};
 ghost use Rattle.edge_io.specs.MemFiles.{IsAfterFetch};
+ghost use Rattle.smemu.specs.Answers.{IsAnswer};
 ghost use Rattle.smemu.specs.Ends.{call, IsDone, IsRefused, Fetches, LacksMemoryAlone};
 
 use crate::command::smemu_main;
@@ -10,8 +14,8 @@ use crate::status::Status;
 use edge_io::{MemFiles, MemSink};
 use std::alloc::Global;
 
-/// The command over files and a sink in memory. Where no call of either is listed to fail and there is room for the
-/// text, what is due is answered, or `OutOfMemory`.
+/// The command over files and a sink in memory. Where no call of either is listed to fail and there is room
+/// for the text, what is due is answered, or `OutOfMemory`.
 pub fn smemu_in_memory(
     alloc: Global,
     words: &[String],
@@ -19,10 +23,19 @@ pub fn smemu_in_memory(
     out: &mut MemSink,
 ) -> Status
     ensures done { IsDone (call mem_files.view_of mem_sink.view_of words.now files.old files.new out.old out.new) result }
-    ensures refused { IsRefused (call mem_files.view_of mem_sink.view_of words.now files.old files.new out.old out.new) result }
+    ensures refused { IsRefused (call mem_files.view_of mem_sink.view_of words.now files.old files.new out.old out.new)
+        result }
     ensures kept { IsKept (mem_files.view_of files.old) (mem_files.view_of files.new) }
     ensures fetched { Fetches IsAfterFetch mem_files.view_of words.now files.old files.new result }
-    ensures lacks { LacksMemoryAlone (call mem_files.view_of mem_sink.view_of words.now files.old files.new out.old out.new) result }
+    ensures lacks { LacksMemoryAlone (call mem_files.view_of mem_sink.view_of words.now files.old files.new out.old
+        out.new) result }
 {
     smemu_main(alloc, words, files, out)
 }
+
+/// The law of room: each file that `asm` may write has at most 64 MiB, as it is loaded. So who gives that
+/// much room gives enough, whichever file is written.
+pub fn longest_program()
+    ensures { (told : Told) (source text : List ℕ)
+        → IsAnswer told (AsksAssembly source) text → length text ≤ 67108864 }
+{}

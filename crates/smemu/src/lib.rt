@@ -1,11 +1,11 @@
-//! The emulator's command: `smemu_main` runs a program file with the options of the words and writes the report of
-//! its run, lists its code words, or assembles a source and writes the program file.
+//! The emulator's command: `smemu_main` runs a program file with the options of the words and writes the
+//! report of its run, lists its code words, or assembles a source and writes the program file.
 //!
-//! Its contract says, for every words, files and sink: with `Done` what the words ask for was written, which is the
-//! report of the lone run of the program that the file stands for, its listing, the file of the program that the
-//! source is assembled to, or the text of help or of the version; every other status comes with its line, for its
-//! cause alone; what is due is answered, where the outside does not fail and there is memory; and each file that is
-//! reached was fetched once, and nothing else was.
+//! Its contract says, for every words, files and sink: with `Done` what the words ask for was written,
+//! which is the report of the lone run of the program that the file stands for, its listing, the file of
+//! the program that the source is assembled to, or the text of help or of the version; every other status
+//! comes with its line, for its cause alone; what is due is answered, where the outside does not fail and
+//! there is memory; and each file that is reached was fetched once, and nothing else was.
 #![tactic(auto)]
 
 mod answer;
@@ -21,6 +21,6 @@ mod status;
 
 pub use command::smemu_main;
 pub use foreign::refuse_foreign_word;
-pub use in_memory::smemu_in_memory;
+pub use in_memory::{longest_program, smemu_in_memory};
 pub use laws::{help_is_true, one_answer};
 pub use status::Status;

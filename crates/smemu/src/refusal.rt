@@ -9,9 +9,8 @@ use crate::source_line::write_source_fault;
 use crate::status::Status;
 use asm_core::AsmFault;
 use cmd_words::UsageKind;
-use edge_io::{PutFault, Sink};
+use edge_io::{PutFault, Sink, write_parts};
 use elf_loader::LoadFault;
-use report_text::put_all;
 
 /// Why a command has no answer.
 #[derive(Drop)]
@@ -47,11 +46,12 @@ fn kind_word(kind: UsageKind) -> &'static [u8]
 /// Writes the line of a fault of the words.
 #[tactic(auto, unfolding(crate::specs::Texts::usage_line))]
 pub fn write_usage<K: Sink>(out: &mut K, place: usize, kind: UsageKind) -> Result<(), PutFault>
-    ensures { Writes (K.view out.old) (K.view out.new) result (text.usage_line (record { place = place; kind = kind })) }
+    ensures { Writes (K.view out.old) (K.view out.new) result (text.usage_line
+        (record { place = place; kind = kind })) }
 {
     let mut buffer = itoa::Buffer::new();
     let place_digits = buffer.format(place).as_bytes();
-    put_all(
+    write_parts(
         out,
         &[b"usage: word ", place_digits, b": ", kind_word(kind), b"\n"],
     )
@@ -64,11 +64,11 @@ pub fn write_refusal<K: Sink>(out: &mut K, refusal: &Refusal) -> Result<(), PutF
 {
     match refusal {
         Refusal::Usage { place, kind } => write_usage(out, *place, *kind),
-        Refusal::Absent(name) => put_all(out, &[b"absent: ", name.as_bytes(), b"\n"]),
-        Refusal::ReadFault(name) => put_all(out, &[b"read fault: ", name.as_bytes(), b"\n"]),
+        Refusal::Absent(name) => write_parts(out, &[b"absent: ", name.as_bytes(), b"\n"]),
+        Refusal::ReadFault(name) => write_parts(out, &[b"read fault: ", name.as_bytes(), b"\n"]),
         Refusal::BadFile(fault) => write_fault(out, *fault),
         Refusal::BadSource(fault) => write_source_fault(out, *fault),
-        Refusal::Memory => put_all(out, &[]),
+        Refusal::Memory => write_parts(out, &[]),
     }
 }
 

@@ -1,5 +1,5 @@
-//! The program: it carries out the command of its words with the files and the standard output of the system, and
-//! ends with the command's status.
+//! The program: it carries out the command of its words with the files and the standard output of the
+//! system, and ends with the command's status.
 #![tactic(auto)]
 
 use edge_io::{DiskFiles, StdSink};

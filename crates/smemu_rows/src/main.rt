@@ -1,6 +1,6 @@
-//! Gives the files of a list to the emulator, each in memory, and compares what is written, and the status, with what the
-//! list says. Each line of `rows.txt` has a file's name, a status, a command and its options; the text that is to be
-//! written stands in the file of that name with `.txt` behind it.
+//! Gives the files of a list to the emulator, each in memory, and compares what is written, and the status,
+//! with what the list says. Each line of `rows.txt` has a file's name, a status, a command and its options;
+//! the text that is to be written stands in the file of that name with `.txt` behind it.
 #![tactic(auto)]
 
 use anyhow::{Context, Result};
@@ -10,7 +10,8 @@ use std::alloc::Global;
 use std::fs;
 use std::rt::Files;
 
-/// The status of the command on the bytes with the options, and what it wrote into a sink with room for so many.
+/// The status of the command on the bytes with the options, and what it wrote into a sink with room for so
+/// many.
 fn answer(
     alloc: Global,
     command: &str,

@@ -1,4 +1,5 @@
-//! Tests of the command: where the outside fails, its words, and programs that it assembles, lists and runs; and of the outside itself.
+//! Tests of the command: where the outside fails, its words, and programs that it assembles, lists and
+//! runs; and of the outside itself.
 #![tactic(auto)]
 
 #[cfg(test)]
@@ -288,7 +289,7 @@ mod tests {
         for (call, after, room) in [
             (1u64, 1usize, 1000usize),
             (1, 0, 1000),
-            (3, 2, 1000),
+            (1, 40, 1000),
             (100, 0, 20),
         ] {
             let mut files = answer_file(rt.alloc())?;

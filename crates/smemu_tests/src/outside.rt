@@ -1,6 +1,7 @@
-//! The files and the writers of a system, where clauses cannot see them: what is opened, read, written and flushed.
+//! The files and the writers of a system, where clauses cannot see them: what is opened, read, written and
+//! flushed.
 
-use edge_io::{DiskFiles, FileFault, Files, PutFault, Sink, WriterSink};
+use edge_io::{DiskFiles, FileFault, Files, MemSink, Piece, PutFault, Sink, WriterSink};
 use std::alloc::Allocator;
 use std::cell::Cell;
 use std::fs::{Metadata, OpenFile, OpenOptions};
@@ -8,8 +9,8 @@ use std::io::{ErrorKind, Read, Seek, SeekFrom, Write};
 use std::test::Fail;
 use std::{io, rt};
 
-/// A file of some zeros. Every other read is interrupted, the others give three bytes, and a read past the last
-/// one fails, where a kind is given.
+/// A file of some zeros. Every other read is interrupted, the others give three bytes, and a read past the
+/// last one fails, where a kind is given.
 #[derive(Drop)]
 struct Zeros {
     left: usize,
@@ -69,8 +70,8 @@ impl OpenFile for Zeros {
     }
 }
 
-/// A system with one file of eight zeros, `zeros`, which it opens, and `broken`, which cannot be read past them; it
-/// counts how often it opens one. All other paths fail, in the way that their name says.
+/// A system with one file of eight zeros, `zeros`, which it opens, and `broken`, which cannot be read past
+/// them; it counts how often it opens one. All other paths fail, in the way that their name says.
 #[derive(Drop)]
 struct System {
     opened: Cell<u64>,
@@ -194,4 +195,26 @@ fn what_is_not_taken_or_not_flushed_is_a_fault(rt: HostRuntime) {
         let mut sink = WriterSink::new(Stubborn { takes, loses });
         assert_eq!(rt; sink.put(text), wanted, "{takes} {loses}");
     }
+}
+
+#[test]
+fn a_text_is_written_in_pieces(rt: HostRuntime) -> Result<(), Fail> {
+    let parts: [(u8, usize); 4] = [(b'a', 10_000), (b'b', 10_000), (b'c', 20_000), (b'd', 1)];
+    // the call that fails after five bytes, and how many bytes are written then
+    let cases: [(u64, usize); 5] = [(1, 5), (2, 10_005), (3, 20_005), (4, 40_001), (5, 40_001)];
+    for (call, wanted) in cases {
+        let mut out = MemSink::new(rt.alloc(), 100_000)?;
+        out.fail(call, 5)?;
+        let mut piece = Piece::new();
+        let mut failed = false;
+        for (byte, count) in parts {
+            let bytes = vec![in rt.alloc(); byte; count]?;
+            failed = failed || piece.put(&mut out, bytes.as_slice()).is_err();
+        }
+        failed = failed || piece.flush(&mut out).is_err();
+        assert_eq!(rt; failed, call < 5, "{call}");
+        assert_eq!(rt; out.bytes().len(), wanted, "{call}");
+        assert!(rt; out.bytes().is_sorted(), "{call}");
+    }
+    Ok(())
 }

@@ -57,7 +57,8 @@ fn set_field<'a>(case: &mut Case<'a>, key: &str, value: &'a str) -> Option<()> {
     Some(())
 }
 
-/// The state of a line's third field: a word, and fields `KEY=VALUE`; `None` where a field is none that a scalar instruction sees.
+/// The state of a line's third field: a word, and fields `KEY=VALUE`; `None` where a field is none that a
+/// scalar instruction sees.
 fn read_case(text: &str) -> Option<Case<'_>> {
     let (word, fields) = match text.split_once(' ') {
         Some(parts) => parts,
@@ -85,7 +86,8 @@ fn read_case(text: &str) -> Option<Case<'_>> {
     Some(case)
 }
 
-/// The words of the moves of SVCR among the steps: of x14, x2, x0 and x9 from it, and of x0, xzr, x23 and xzr to it.
+/// The words of the moves of SVCR among the steps: of x14, x2, x0 and x9 from it, and of x0, xzr, x23 and
+/// xzr to it.
 const SVCR_MOVES: [&str; 8] = [
     "d53b424e", "d53b4242", "d53b4240", "d53b4249", "d51b4240", "d51b425f", "d51b4257", "d51b425f",
 ];
@@ -125,7 +127,8 @@ enum Verdict {
     Unread,
 }
 
-/// The third and the fourth of a line's fields, with a tab between two: the state and the outcome, after VL and SVL.
+/// The third and the fourth of a line's fields, with a tab between two: the state and the outcome, after VL
+/// and SVL.
 fn state_and_outcome(line: &str) -> Option<(&str, &str)> {
     let (_, rest) = line.split_once('\t')?;
     let (_, rest) = rest.split_once('\t')?;
@@ -151,7 +154,8 @@ fn check_step(alloc: Global, line: &str) -> Result<Verdict> {
     }
 }
 
-/// Prints each line that cannot be read, each that does not agree, with what was given in its place, and how many agree and are left.
+/// Prints each line that cannot be read, each that does not agree, with what was given in its place, and
+/// how many agree and are left.
 pub fn check_steps<R: Print>(rt: &R, alloc: Global, text: &str) -> Result<()> {
     let mut agree = 0u64;
     let mut left = 0u64;

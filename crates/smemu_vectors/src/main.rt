@@ -1,7 +1,8 @@
-//! Reads files of instruction words, of texts and of single steps, as other tools give them, and tells of each line whether the
-//! emulator agrees: the words of the first file mean instructions, each of which has that word and that text; each text of the
-//! second is read as its word, and is printed exactly where the line says so; the words of the third mean none; and a step of each
-//! line of the fourth gives what the line says. A line that it cannot read is shown as one that differs.
+//! Reads files of instruction words, of texts and of single steps, as other tools give them, and tells of
+//! each line whether the emulator agrees: the words of the first file mean instructions, each of which has
+//! that word and that text; each text of the second is read as its word, and is printed exactly where the
+//! line says so; the words of the third mean none; and a step of each line of the fourth gives what the
+//! line says. A line that it cannot read is shown as one that differs.
 #![tactic(auto)]
 
 mod case;

@@ -10,7 +10,8 @@ const DATA: u64 = 0x10000;
 /// The bytes of a page.
 const PAGE: usize = 4096;
 
-/// The pages of a word, which can be read and executed, and of the data, which can be read and written; zeros follow both.
+/// The pages of a word, which can be read and executed, and of the data, which can be read and written;
+/// zeros follow both.
 pub fn pages_of(alloc: Global, word: u32, bytes: &[u8]) -> Result<Pages> {
     ensure!(bytes.len() <= PAGE, "more bytes than a page has");
     let word = word.to_le_bytes();

@@ -55,12 +55,14 @@ fn is_word_of(alloc: Global, text: &str, word: u32) -> bool {
     }
 }
 
-/// Tells whether the word means an instruction whose word it is, and whether the text is its text, from which the word is read.
+/// Tells whether the word means an instruction whose word it is, and whether the text is its text, from
+/// which the word is read.
 fn is_printed_as(alloc: Global, word: u32, text: &str) -> bool {
     round_trips(word) && is_text_of(word, text) && is_word_of(alloc, text, word)
 }
 
-/// Tells whether the word means an instruction whose word it is, and whether it is read from the text, which is not its text.
+/// Tells whether the word means an instruction whose word it is, and whether it is read from the text,
+/// which is not its text.
 fn has_alias(alloc: Global, word: u32, text: &str) -> bool {
     round_trips(word) && !is_text_of(word, text) && is_word_of(alloc, text, word)
 }
@@ -95,8 +97,8 @@ fn has_no_row(word: u32) -> bool {
     decode_scalar(word).is_none() && decode_vector(word).is_none()
 }
 
-/// Prints each line whose word means no instruction, or one with another word or another text, or whose text is read as another word, and
-/// how many agree.
+/// Prints each line whose word means no instruction, or one with another word or another text, or whose
+/// text is read as another word, and how many agree.
 pub fn check_words<R: Print + AllocGlobal>(rt: &R, text: &str) -> Result<()> {
     let mut agree = 0u64;
     for line in text.lines() {
@@ -110,8 +112,9 @@ pub fn check_words<R: Print + AllocGlobal>(rt: &R, text: &str) -> Result<()> {
     Ok(())
 }
 
-/// Prints each line of a word, `printed` or `alias`, and a text, where the word means no instruction, or one with another word; where the text is
-/// read as another word; and where it is printed and should not be, or the other way round. Prints how many of both sorts agree.
+/// Prints each line of a word, `printed` or `alias`, and a text, where the word means no instruction, or
+/// one with another word; where the text is read as another word; and where it is printed and should not
+/// be, or the other way round. Prints how many of both sorts agree.
 pub fn check_texts<R: Print + AllocGlobal>(rt: &R, text: &str) -> Result<()> {
     let mut printed = 0u64;
     let mut aliases = 0u64;

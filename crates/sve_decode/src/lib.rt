@@ -1,5 +1,5 @@
-//! The decoder of the vector instructions of SVE and SME: a word of 32 bits becomes the instruction that the table's
-//! rows give it.
+//! The decoder of the vector instructions of SVE and SME: a word of 32 bits becomes the instruction that
+//! the table's rows give it.
 #![tactic(auto)]
 
 mod decode;

@@ -1,9 +1,26 @@
 //! The laws of the table.
-ghost use Rattle.std.specs.Prelude.{◌≡◌, ◌<◌, ◌^◌, ◌↔◌, Some, ℕ};
+ghost use Rattle.std.specs.Prelude.{◌≡◌, ◌<◌, ◌^◌, ◌↔◌, Some, ℕ, map, slice_get};
 ghost use Rattle.sm_types.specs.declared.insn.Insn.{Insn};
-ghost use Rattle.insn_forms.specs.Tables.{HasAtMostOneLine, Means};
+ghost use Rattle.insn_forms.specs.declared.line.Line.{Line};
+ghost use Rattle.insn_forms.specs.Tables.{HasAtMostOneLine, HasWord, Means, fits_in};
+ghost use Rattle.sve_table.specs.declared.operation.Operation.{Operation};
+ghost use Rattle.sve_table.specs.declared.rows.TheConstants.{VECTOR_LINES};
+ghost use Rattle.sve_table.specs.Rows.{vector_row_fits, vector_row_of};
 ghost use Rattle.sve_table.specs.Table.{vector, vector_meaning_of};
 ghost use Rattle.sve_table.specs.Ranges.{IsInVectorRow};
+
+use crate::rows::VECTOR_ROWS;
+
+/// The rows are those of the lines.
+pub fn rows_of_lines()
+    ensures { map vector_row_of VECTOR_LINES ≡ VECTOR_ROWS }
+{}
+
+/// The condition that `fits` tests for a row is that of the row's line.
+pub fn fits_of_rows()
+    ensures { (place : ℕ) (line : Line Operation) (word : ℕ) → slice_get VECTOR_LINES place ≡ Some line
+        → vector_row_fits (vector_row_of line) word ≡ fits_in vector line.operation word }
+{}
 
 /// At most one row of the table matches and fits a word.
 pub fn one_row()
@@ -18,6 +35,11 @@ pub fn one_meaning()
 /// The fields of each instruction that a word means are in their ranges.
 pub fn in_range()
     ensures { (word : ℕ) (it : Insn) → Means vector word it → IsInVectorRow it }
+{}
+
+/// An instruction whose fields are in their ranges has a word.
+pub fn has_word()
+    ensures { (it : Insn) → IsInVectorRow it → HasWord vector it }
 {}
 
 /// An instruction has at most one word.

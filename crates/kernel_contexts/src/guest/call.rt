@@ -1,5 +1,6 @@
 //! The calls of the kernel.
-ghost use Rattle.std.specs.Prelude.{◌≡◌, ◌+◌, ◌-◌, ◌<◌, ◌≤◌, ◌^◌, length, vec_len, None, Some, take, drop, true, false};
+ghost use Rattle.std.specs.Prelude.{◌≡◌, ◌+◌, ◌-◌, ◌<◌, ◌≤◌, ◌^◌, length, vec_len, None, Some, take, drop};
+ghost use Rattle.std.specs.Prelude.{true, false};
 ghost use Rattle.paged_memory.specs.Memory.{bytes_with};
 ghost use Rattle.kernel_contexts.specs.Output.{Appends};
 
@@ -33,7 +34,8 @@ pub enum Appended {
 fn read_end(pages: &Pages, address: u64, into: &mut [u8], from: usize) -> bool
     requires { from ≤ length into.old }
     ensures kept { take from into.new ≡ take from into.old }
-    ensures read { result ≡ true → bytes_with 4 pages.now.memory address (length into.old - from) ≡ Some (drop from into.new) }
+    ensures read { result ≡ true → bytes_with 4 pages.now.memory address (length into.old - from)
+        ≡ Some (drop from into.new) }
     ensures refused { result ≡ false → bytes_with 4 pages.now.memory address (length into.old - from) ≡ None }
 {
     match pages.read(address, &mut into[from..]) {

@@ -4,6 +4,8 @@ use Rattle.asm_core.specs.Source.{lines_of, said_lines}
 use Rattle.asm_core.specs.Layout.{first_place, labels_of}
 use Rattle.asm_core.specs.Faults.{lines_fault, targets_fault}
 use Rattle.asm_core.proofs.Accepted.{fine_first, addresses_near}
+use Rattle.asm_core.specs.Kept.{AreKept}
+use Rattle.asm_core.proofs.Keeping.{kept_after, kept_first}
 use Rattle.asm_core.proofs.Emission.{IsAt, at_start, at_next, at_fault, at_end, at_end_fine}
 use Rattle.asm_core.proofs.emit_source.emit.Goals as goal
 
@@ -14,6 +16,7 @@ loop-text-init c = record {
   at =
       let e = c.new_emission-emission.ensures in
       at_start c.args.text_size (labels_of (said_lines (lines_of c.args.source.now))) (lines_of c.args.source.now) c.new_emission-emission.result c.requires.accepted e.text_bytes e.data_bytes e.symbols e.place e.code;
+  kept = c.requires.kept;
 }
 
 pub emit_line-requires-clause-short : goal.emit_line-requires-clause-short
@@ -53,7 +56,12 @@ loop-text-preserved c = record {
       let e = c.in_ok-emit_line.ensures in
       at_next c.args.text_size L ls c.in-Some.text.now (lines_of c.in-Some.after.now) c.loop-text.number c.loop-text.emission c.emit_line.new.emission fine.line fine.says at
       (e.grown L c.requires.knows fine.line fine.says) (e.place fine.line fine.says) (e.code fine.line fine.says) (e.ok L c.requires.knows fine.line fine.says);
+  kept = rw c.after_first-kept_rest.ensures (kept_after c.loop-text.kept_rest.now c.in-Some.text.now (lines_of c.in-Some.after.now) (subst (AreKept c.loop-text.kept_rest.now) c.in-Some.ensures.lines c.loop-text.invariant.kept));
 }
+
+pub emit_line-requires-clause-kept : goal.emit_line-requires-clause-kept
+emit_line-requires-clause-kept c =
+    rw c.first_kept-now.ensures (kept_first c.loop-text.kept_rest.now c.in-Some.text.now (lines_of c.in-Some.after.now) (subst (AreKept c.loop-text.kept_rest.now) c.in-Some.ensures.lines c.loop-text.invariant.kept))
 
 pub returns-clause-parts : goal.returns-clause-parts
 returns-clause-parts c =

@@ -1,33 +1,44 @@
 use Rattle.std.proofs.Common.{◌≤◌, ◌+◌, length, arith}
 use Rattle.asm_core.proofs.Surveying.{surveyed_none, surveyed_more, surveyed_stops, all_accepted, all_known, all_placed}
+use Rattle.asm_core.proofs.Keeping.{kept_all, kept_more}
 use Rattle.asm_core.proofs.survey.survey_source.Goals as goal
 
 pub loop-text-init : goal.loop-text-init
-loop-text-init c = rw c.first_place-place.ensures (surveyed_none c.args.source.now c.new-labels.result c.requires c.new-labels.ensures)
+loop-text-init c = record {
+  surveyed = rw c.first_place-place.ensures (surveyed_none c.args.source.now c.new-labels.result c.requires c.new-labels.ensures);
+  kept = rw c.new-kept.ensures.items (λ more is. is);
+}
 
 pub survey_line-requires-clause-short : goal.survey_line-requires-clause-short
 survey_line-requires-clause-short c =
-    let count : c.loop-text.number + length c.loop-text.rest.now ≤ 67108865 = c.loop-text.invariant.count in
-    let some : 1 ≤ c.loop-text.number = c.loop-text.invariant.numbered in
+    let count : c.loop-text.number + length c.loop-text.rest.now ≤ 67108865 = c.loop-text.invariant.surveyed.count in
+    let some : 1 ≤ c.loop-text.number = c.loop-text.invariant.surveyed.numbered in
     let first : length c.in-Some.text.now ≤ length c.loop-text.rest.now = c.in-Some.ensures.within.0 in
     omega arith
 
 pub returns-in-Err-clause-err : goal.returns-in-Err-clause-err
 returns-in-Err-clause-err c = λ other.
-    let h = c.loop-text.invariant in
+    let h = c.loop-text.invariant.surveyed in
     surveyed_stops c.args.source.now c.loop-text.number c.loop-text.place c.loop-text.labels c.loop-text.rest.now c.in-Some.text.now c.in-Some.after.now c.in-Err.fault h c.in-Some.ensures.lines (c.in-Err.ensures.err h.list h.knows other)
 
 pub loop-text-preserved : goal.loop-text-preserved
 loop-text-preserved c =
-    let h = c.loop-text.invariant in
-    surveyed_more c.args.source.now c.loop-text.number c.loop-text.place c.loop-text.labels c.loop-text.rest.now c.in-Some.text.now c.in-Some.after.now c.in-Ok.next c.survey_line.new.labels h
-    c.in-Some.ensures.lines c.in-Some.ensures.within.1 (c.in-Ok.ensures.ok h.list h.knows)
+    let h = c.loop-text.invariant.surveyed in
+    record {
+      surveyed = surveyed_more c.args.source.now c.loop-text.number c.loop-text.place c.loop-text.labels c.loop-text.rest.now c.in-Some.text.now c.in-Some.after.now c.in-Ok.next c.survey_line.new.labels h
+          c.in-Some.ensures.lines c.in-Some.ensures.within.1 (c.in-Ok.ensures.ok h.list h.knows);
+      kept = kept_more c.args.source.now c.loop-text.kept.items c.survey_line.new.kept.items c.loop-text.rest.now c.in-Some.text.now c.in-Some.after.now c.loop-text.invariant.kept
+          c.in-Some.ensures.lines c.in-Ok.ensures.kept;
+    }
 
 pub returns-clause-accepted : goal.returns-clause-accepted
-returns-clause-accepted c = all_accepted c.args.source.now c.loop-text.number c.loop-text.place c.loop-text.labels c.loop-text.rest.now c.loop-text.invariant c.in_default.ensures.lines
+returns-clause-accepted c = all_accepted c.args.source.now c.loop-text.number c.loop-text.place c.loop-text.labels c.loop-text.rest.now c.loop-text.invariant.surveyed c.in_default.ensures.lines
 
 pub returns-clause-knows : goal.returns-clause-knows
-returns-clause-knows c = all_known c.args.source.now c.loop-text.number c.loop-text.place c.loop-text.labels c.loop-text.rest.now c.loop-text.invariant c.in_default.ensures.lines
+returns-clause-knows c = all_known c.args.source.now c.loop-text.number c.loop-text.place c.loop-text.labels c.loop-text.rest.now c.loop-text.invariant.surveyed c.in_default.ensures.lines
 
 pub returns-clause-end : goal.returns-clause-end
-returns-clause-end c = all_placed c.args.source.now c.loop-text.number c.loop-text.place c.loop-text.labels c.loop-text.rest.now c.loop-text.invariant c.in_default.ensures.lines
+returns-clause-end c = all_placed c.args.source.now c.loop-text.number c.loop-text.place c.loop-text.labels c.loop-text.rest.now c.loop-text.invariant.surveyed c.in_default.ensures.lines
+
+pub returns-clause-kept : goal.returns-clause-kept
+returns-clause-kept c = kept_all c.args.source.now c.loop-text.kept.items c.loop-text.rest.now c.loop-text.invariant.kept

@@ -1,6 +1,6 @@
 use Rattle.std.proofs.Common.{sym, ◌∙◌, ap, None}
 use Rattle.asm_operands.specs.Fields.{is_halfword_at}
-use Rattle.asm_operands.proofs.Places.{find-first, none-find, find-more, or_next}
+use Rattle.sm_types.proofs.Places.{find-first, none-find, find-more, or_next}
 use Rattle.asm_operands.proofs.fields.halfword_place.Goals as goal
 
 pub returns-then-is_halfword_at-clause-value : goal.returns-then-is_halfword_at-clause-value

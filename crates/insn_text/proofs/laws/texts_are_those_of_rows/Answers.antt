@@ -1,5 +1,8 @@
-use Rattle.insn_text.proofs.Citing.{all_cited}
+use Rattle.insn_text.proofs.Citing.{all_cited, all_in_order}
 use Rattle.insn_text.proofs.laws.texts_are_those_of_rows.Goals as goal
 
-pub returns : goal.returns
-returns c = all_cited
+pub returns-clause-cited : goal.returns-clause-cited
+returns-clause-cited c = all_cited
+
+pub returns-clause-order : goal.returns-clause-order
+returns-clause-order c = all_in_order

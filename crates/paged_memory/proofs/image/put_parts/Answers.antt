@@ -1,7 +1,7 @@
 use Rattle.std.proofs.Common.{◌≡◌, ◌+◌, ◌-◌, ◌/◌, drop, map, refl, ap, sym, ◌∙◌, arith}
 use Rattle.std.specs.FinMap.{get}
 use Rattle.std.specs.Prelude.{IsSome}
-use Rattle.paged_memory.specs.Memory.{or_else}
+use Rattle.std.specs.Option.{option_or}
 use Rattle.paged_memory.specs.Image.{extent_of, image_flags, parts_byte, zero_in}
 use Rattle.paged_memory.specs.Parts.{IsPlaced}
 use Rattle.paged_memory.specs.Pages.{mem_of}
@@ -33,7 +33,7 @@ loop-left-preserved c =
       fine = c.put_bytes.ensures.fine;
       flags = c.put_bytes.ensures.flags ∙ c.loop-left.invariant.flags;
       bytes = λ a. bytes_of_more c.args.parts.now (c.loop-left.left - 1) _ a (get (mem_of c.loop-left.pages.items) a) _ c.requires.parts.apart (omega arith) (placed_at IsPlaced c.args.parts.now (c.loop-left.left - 1) _ c.requires.parts.placed (omega arith)).inside
-          (c.loop-left.invariant.bytes a ∙ ap (λ k. or_else (parts_byte (drop k (map extent_of c.args.parts.now)) a) (zero_in (image_flags (map extent_of c.args.parts.now) (a / 4096)))) (sym next))
+          (c.loop-left.invariant.bytes a ∙ ap (λ k. option_or (parts_byte (drop k (map extent_of c.args.parts.now)) a) (zero_in (image_flags (map extent_of c.args.parts.now) (a / 4096)))) (sym next))
           (ap (λ m. get m a) c.put_bytes.ensures.bytes ∙ get-set_bytes-low (mem_of c.loop-left.pages.items) _ _ a (placed_bytes_low _ (placed_at IsPlaced c.args.parts.now (c.loop-left.left - 1) _ c.requires.parts.placed (omega arith))));
     }
 

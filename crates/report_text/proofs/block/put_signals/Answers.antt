@@ -1,5 +1,5 @@
 use Rattle.report_text.proofs.Zero.{handler_lines-none}
-use Rattle.edge_io.proofs.Writing.{and_then, and_stop, and_end}
+use Rattle.edge_io.proofs.Gathering.{and_then, and_stop, and_end}
 use Rattle.report_text.specs.Block.{signal_text}
 use Rattle.report_text.proofs.block.put_signals.Goals as goal
 

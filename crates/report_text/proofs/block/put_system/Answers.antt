@@ -1,4 +1,4 @@
-use Rattle.edge_io.proofs.Writing.{and_then, and_stop, and_end}
+use Rattle.edge_io.proofs.Gathering.{and_then, and_stop, and_end}
 use Rattle.report_text.specs.Block.{system_text}
 use Rattle.report_text.proofs.block.put_system.Goals as goal
 

@@ -1,4 +1,4 @@
-use Rattle.edge_io.proofs.Writing.{and_then, and_stop, and_end}
+use Rattle.edge_io.proofs.Gathering.{and_then, and_stop, and_end}
 use Rattle.report_text.specs.Header.{header_text}
 use Rattle.report_text.proofs.header.put_header.Goals as goal
 

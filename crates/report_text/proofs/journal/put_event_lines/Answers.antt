@@ -1,5 +1,5 @@
 use Rattle.std.proofs.Common.{◌<◌, length, arith}
-use Rattle.edge_io.proofs.Writing.{sofar_more, sofar_stop, sofar_end}
+use Rattle.edge_io.proofs.Gathering.{sofar_more, sofar_stop, sofar_end}
 use Rattle.report_text.proofs.Events.{event_lines-at, event_lines-end}
 use Rattle.report_text.proofs.journal.put_event_lines.Goals as goal
 

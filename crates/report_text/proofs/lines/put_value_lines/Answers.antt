@@ -1,5 +1,5 @@
 use Rattle.std.proofs.Common.{◌<◌, length, arith}
-use Rattle.edge_io.proofs.Writing.{sofar_start, sofar_more, sofar_stop, sofar_end}
+use Rattle.edge_io.proofs.Gathering.{sofar_start, sofar_more, sofar_stop, sofar_end}
 use Rattle.report_text.proofs.Values.{value_lines-at, value_lines-end}
 use Rattle.report_text.proofs.lines.put_value_lines.Goals as goal
 

@@ -1,6 +1,6 @@
 use Rattle.std.proofs.Common.{rules, ◌≡◌, ◌<◌, length, min, arith}
 use Rattle.std.proofs.lemmas.Grind.{common_steps}
-use Rattle.edge_io.proofs.Writing.{sofar_more, sofar_stop, sofar_end}
+use Rattle.edge_io.proofs.Gathering.{sofar_more, sofar_stop, sofar_end}
 use Rattle.report_text.proofs.OutLines.{out_lines-cut, out_lines-end}
 use Rattle.report_text.proofs.output.put_out_lines.Goals as goal
 

@@ -1,5 +1,5 @@
 use Rattle.std.proofs.Common.{sym}
-use Rattle.edge_io.proofs.Writing.{as_text}
+use Rattle.edge_io.proofs.Gathering.{as_text}
 use Rattle.report_text.proofs.Zero.{words_text-zero}
 use Rattle.report_text.proofs.report.put_zero_words.Goals as goal
 

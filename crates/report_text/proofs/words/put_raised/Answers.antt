@@ -1,5 +1,5 @@
 use Rattle.std.proofs.Common.{◌≡◌, ℕ, List, [], ◌++◌, append_assoc, codes}
-use Rattle.edge_io.proofs.Writing.{and_then, and_stop, and_end, as_text}
+use Rattle.edge_io.proofs.Gathering.{and_then, and_stop, and_end, as_text}
 use Rattle.report_text.specs.Lines.{hex64}
 use Rattle.report_text.specs.Words.{exception_name, exception_values, stop_words}
 use Rattle.report_text.proofs.words.put_raised.Goals as goal

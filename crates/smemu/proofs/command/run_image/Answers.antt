@@ -1,5 +1,5 @@
 use Rattle.std.proofs.Common.{sym, refl, ap, [], ◌∷◌}
-use Rattle.kernel_contexts.specs.Context.{state_of, thread_of}
+use Rattle.report_text.specs.Ends.{end_of}
 use Rattle.report_text.specs.Report.{ThreadEnd, report_text, zero_words}
 use Rattle.smemu.specs.Answers.{IsEndOf}
 use Rattle.smemu.specs.Views.{run_text}
@@ -9,8 +9,9 @@ use Rattle.smemu.proofs.command.run_image.Goals as goal
 pub returns : goal.returns
 unfolding run_text
 returns c =
-    let end : ThreadEnd = record { thread = thread_of c.in_ok-context.context; state = state_of c.in_ok-context.context; stop = c.in_ok-context.stop; journal = [] } in
-    let is_end : IsEndOf c.args.image.now c.args.config.now 0 end = record { number = c.in_ok-context.ensures.thread; journal = refl; run = c.in_ok-context.ensures.run } in
+    let end : ThreadEnd = end_of c.in_ok-context.context in
+    let alone = c.in_ok-context.ensures.run in
+    let is_end : IsEndOf c.args.image.now c.args.config.now 0 end = record { number = c.in_ok-context.ensures.thread; journal = refl; stop = alone.stop; stopped = alone.stopped; run = alone.run } in
     record {
       program = c.args.image.now;
       loads = c.requires.loads;

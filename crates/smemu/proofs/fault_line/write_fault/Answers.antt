@@ -1,15 +1,5 @@
-use Rattle.edge_io.proofs.Writing.{and_then, and_stop, and_end}
-use Rattle.smemu.specs.FaultLines.{fault_line}
+use Rattle.edge_io.proofs.Gathering.{flushed}
 use Rattle.smemu.proofs.fault_line.write_fault.Goals as goal
 
-pub returns-in_err-put : goal.returns-in_err-put
-unfolding fault_line
-returns-in_err-put g c = and_stop _ c.in_err-put.ensures c.from_residual.ensures.0
-
-pub returns-in_err-put_fault_words : goal.returns-in_err-put_fault_words
-unfolding fault_line
-returns-in_err-put_fault_words g c = and_then c.in_ok-put.ensures (and_stop _ c.in_err-put_fault_words.ensures c.from_residual-in_err-put_fault_words.ensures.0)
-
 pub returns : goal.returns
-unfolding fault_line
-returns g c = and_then c.in_ok-put.ensures (and_then c.in_ok-put_fault_words.ensures (and_end c.put-2.ensures))
+returns g c = flushed c.new-piece.ensures c.in_ok-put_fault.ensures c.flush.ensures.written

@@ -3,4 +3,4 @@ use Rattle.smemu.proofs.refusal.write_usage.Goals as goal
 
 pub returns : goal.returns
 unfolding usage_line
-returns g c = rw (← c.format.ensures.text, ← c.as_bytes-place_digits.ensures.value, ← c.kind_word.ensures) c.put_all.ensures
+returns g c = rw (← c.format.ensures.text, ← c.as_bytes-place_digits.ensures.value, ← c.kind_word.ensures) c.write_parts.ensures

@@ -1,0 +1,21 @@
+//! The laws of targets and of objects.
+ghost use Rattle.std.specs.Prelude.{◌≡◌, ℕ, List, Some, Ok};
+ghost use Rattle.sm_types.specs.declared.object.Object.{Object};
+ghost use Rattle.asm_parser.specs.Lines.{line_of};
+ghost use Rattle.asm_parser.specs.Statements.{Instructs, SourceLine, TargetSaid};
+ghost use Rattle.asm_core.specs.Aimed.{MeansAimed};
+ghost use Rattle.asm_core.specs.Assembly.{Assembles, IsSameObject};
+ghost use Rattle.asm_core.specs.Targets.{word_to};
+
+/// The word that is put for a line with a named target means the instruction that the line's word means,
+/// with the distance from the line's address to the target's as its immediate, and nothing else changed.
+pub fn aimed_law()
+    ensures { (text : List ℕ) (line : SourceLine) (word column from to aimed : ℕ) (target : TargetSaid) → line_of text ≡ Ok line → line.says ≡ Instructs word (Some target) column
+        → word_to target.operand word from to ≡ Some aimed → MeansAimed word from to aimed }
+{}
+
+/// A source has one object.
+pub fn one_object()
+    ensures { (source : List ℕ) (object other : Object) → Assembles source object → Assembles source other
+        → IsSameObject object other }
+{}

@@ -1,0 +1,26 @@
+-- The forms of the commands: what stands after each of them. Source: this project's own command line.
+use Rattle.std.specs.Prelude.{ℕ, ◌+◌, List, [], ◌∷◌, length}
+use Rattle.cmd_words.specs.declared.form.Operand.{Operand}
+use Rattle.cmd_words.specs.declared.form.Operand.TheVariants.{Name}
+use Rattle.cmd_words.specs.declared.setting.Setting.{Setting}
+use Rattle.cmd_words.specs.declared.setting.Setting.TheVariants.{Vl, Svl, Budget}
+use Rattle.cmd_words.specs.declared.verb.Verb.{Verb}
+use Rattle.cmd_words.specs.declared.verb.Verb.TheVariants.{Run, Dis, Asm, Help, Version}
+
+-- what must stand after a command, in order, and the options that may follow then, each with its value as the
+-- next word
+pub record Form : Type 0 where
+  pub operands : List Operand
+  pub options : List Setting
+
+-- the form of each command
+abbrev pub form_of : Verb → Form
+form_of Run = record { operands = Name ∷ []; options = Vl ∷ Svl ∷ Budget ∷ [] }
+form_of Dis = record { operands = Name ∷ []; options = [] }
+form_of Asm = record { operands = Name ∷ []; options = [] }
+form_of Help = record { operands = []; options = [] }
+form_of Version = record { operands = []; options = [] }
+
+-- the place of the first option, which stands after the command and its operands
+abbrev pub options_from : Form → ℕ
+options_from form = 1 + length form.operands

@@ -1,0 +1,43 @@
+//! The forms of the commands: what stands after each of them.
+ghost use Rattle.std.specs.Prelude.{◌≡◌};
+ghost use Rattle.cmd_words.specs.Forms as spec;
+ghost use Rattle.cmd_words.specs.Given.{form_said};
+
+use crate::setting::Setting;
+use crate::verb::Verb;
+
+/// What must stand at a place.
+#[derive(Clone, Copy)]
+pub enum Operand {
+    /// Any word, as the name of a file.
+    Name,
+}
+
+/// What stands after a command: its operands, and then options, each with its value as the next word.
+#[derive(Clone, Copy)]
+pub struct Form {
+    /// What must stand there, in order.
+    pub operands: &'static [Operand],
+    /// The options that may follow.
+    pub options: &'static [Setting],
+}
+
+/// The form of a command.
+pub fn form_of(verb: Verb) -> Form
+    ensures { form_said result ≡ spec.form_of verb }
+{
+    match verb {
+        Verb::Run => Form {
+            operands: &[Operand::Name],
+            options: &[Setting::Vl, Setting::Svl, Setting::Budget],
+        },
+        Verb::Dis | Verb::Asm => Form {
+            operands: &[Operand::Name],
+            options: &[],
+        },
+        Verb::Help | Verb::Version => Form {
+            operands: &[],
+            options: &[],
+        },
+    }
+}

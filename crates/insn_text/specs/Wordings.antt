@@ -1,0 +1,155 @@
+-- The shapes are the texts of the table: each has the name, the operands and the bits of its text.
+-- Source: DDI 0487, C6.2: the operands of each page, and the fields that its forms fix.
+use Rattle.std.specs.Prelude.{ℕ, ◌+◌, ◌-◌, ◌^◌, ◌==◌, ◌&&◌, ◌||◌, Bool, true, false, not, nat_lt, List, []}
+use Rattle.std.specs.Prelude.{◌∷◌, ◌++◌, length, Option, Some, None, slice_get, bit_and, bit_or}
+use Rattle.std.specs.Prelude.{if◌then◌else◌}
+use Rattle.std.specs.List.{list_all, list_any, filter_map, take_while, range_with_len}
+use Rattle.std.specs.Str.{bytes_eq}
+use Rattle.insn_forms.specs.declared.field.Field.{Field}
+use Rattle.insn_forms.specs.declared.line.Line.{Line}
+use Rattle.insn_forms.specs.Fields.{bits_of, list_of, mask_of, placed}
+use Rattle.a64_table.specs.declared.operation.Operation.{Operation}
+use Rattle.a64_table.specs.declared.rows.TheConstants.{SCALAR_LINES}
+use Rattle.a64_table.specs.Numbers.{number_of}
+use Rattle.insn_text.specs.declared.item.Kind.{Kind}
+use Rattle.insn_text.specs.declared.item.Kind.TheVariants as kind
+use Rattle.insn_text.specs.declared.item.Rule.{Rule}
+use Rattle.insn_text.specs.declared.item.Rule.TheVariants as rule
+use Rattle.insn_text.specs.declared.item.Item.{Item}
+use Rattle.insn_text.specs.declared.item.Setting.{Setting}
+use Rattle.insn_text.specs.declared.item.Shape.{Shape}
+use Rattle.insn_text.specs.declared.item.Wording.{Wording}
+use Rattle.insn_text.specs.declared.items.TheConstants.{OPERANDS}
+use Rattle.insn_text.specs.declared.texts.TheConstants.{BOTH, SINGLE, PAIRS, EXTENDED, ACCESSES, SIZED}
+use Rattle.insn_text.specs.declared.texts.TheConstants.{ORDERED}
+use Rattle.insn_text.specs.declared.words.TheConstants.{NAMES}
+use Rattle.insn_text.specs.Texts.{text_in, text_at, items_of}
+use Rattle.insn_text.specs.Operands.{is, is_long, rule_number, same}
+
+-- the texts, in the order of their file
+unfoldable pub texts : List Wording
+texts = BOTH ++ (SINGLE ++ (PAIRS ++ (EXTENDED ++ (ACCESSES ++ (SIZED ++ ORDERED)))))
+
+-- ---- what a text sets and what its operands hold
+
+-- the operands at the places before the first 0
+unfoldable pub operands_of : Wording → List Item
+operands_of w = filter_map (slice_get OPERANDS) (take_while (nat_lt 0) w.operands)
+
+abbrev same_setting : Option Setting → Option Setting
+same_setting x = x
+
+unfoldable pub settings_of : Wording → List Setting
+settings_of w = filter_map same_setting w.set
+
+-- the bits of the fields of operands
+unfoldable pub held : List Item → ℕ
+held [] = 0
+held (i ∷ is) = bit_or (mask_of i.field) (held is)
+
+-- the numbers that are set, at their places
+unfoldable pub set_bits : List Setting → ℕ
+set_bits [] = 0
+set_bits (x ∷ xs) = bit_or (placed x.field x.number) (set_bits xs)
+
+unfoldable pub has_bits : Field → Bool
+has_bits f = not (mask_of f == 0)
+
+-- the field is among those of the line, and holds the number
+unfoldable pub is_set_of : Line Operation → Setting → Bool
+is_set_of line x = (list_any (is x.field) (list_of line.fields) && nat_lt x.number (2 ^ bits_of x.field))
+
+-- the text sets the field, or an operand holds bits of it
+unfoldable pub is_said : Wording → Field → Bool
+is_said w f =
+    not (has_bits f) || list_any (λ x. is x.field f) (settings_of w)
+    || not (bit_and (mask_of f) (held (operands_of w)) == 0)
+
+-- each field of the line is set or said, and nothing else is; a set number has no bit that an operand holds
+unfoldable pub is_whole : Wording → Line Operation → Bool
+is_whole w line =
+    list_all (is_set_of line) (settings_of w)
+    && list_all (is_said w) (list_of line.fields)
+    && (bit_and (held (operands_of w)) line.mask == 0)
+    && (bit_and (held (operands_of w)) (set_bits (settings_of w)) == 0)
+
+-- ---- a shape and its text
+
+-- the shape fixes each bit that no operand holds: those of the line, and the numbers that are set
+unfoldable pub fixes : Wording → Line Operation → Shape → Bool
+fixes w line s =
+    (s.mask + held (operands_of w) == 2 ^ 32 - 1)
+    && (bit_and s.mask (held (operands_of w)) == 0)
+    && (s.value == bit_or line.value (set_bits (settings_of w)))
+
+unfoldable pub is_of_line : Wording → Shape → Line Operation → Bool
+is_of_line w s line =
+    (number_of line.operation == number_of w.operation) && is_whole w line && fixes w line s
+
+unfoldable pub flag : Bool → ℕ
+flag b = if b then 1 else 0
+
+-- a kind by numbers
+unfoldable pub kind_numbers : Kind → List ℕ
+kind_numbers (kind.Mark c) = 0 ∷ c ∷ []
+kind_numbers (kind.Named first count) = 1 ∷ first ∷ count ∷ []
+kind_numbers (kind.Register file last) = 2 ∷ flag (is_long file) ∷ last ∷ []
+kind_numbers (kind.Unsigned base scale most) = 3 ∷ base ∷ scale ∷ most ∷ []
+kind_numbers (kind.Signed scale) = 4 ∷ scale ∷ []
+kind_numbers (kind.Distance scale) = 5 ∷ scale ∷ []
+kind_numbers (kind.Mask wide) = 6 ∷ flag wide ∷ []
+kind_numbers (kind.SignedMask wide) = 7 ∷ flag wide ∷ []
+kind_numbers (kind.ShiftLeft wide) = 8 ∷ flag wide ∷ []
+kind_numbers (kind.Opposite first count) = 9 ∷ first ∷ count ∷ []
+kind_numbers (kind.Halfword wide inverted) = 10 ∷ flag wide ∷ flag inverted ∷ []
+
+unfoldable pub same_item : Item → Item → Bool
+same_item i j =
+    bytes_eq (kind_numbers i.kind) (kind_numbers j.kind)
+    && is i.field j.field && (rule_number i.rule == rule_number j.rule)
+
+unfoldable pub same_items : List Item → List Item → Bool
+same_items [] [] = true
+same_items [] (j ∷ js) = false
+same_items (i ∷ is) [] = false
+same_items (i ∷ is) (j ∷ js) = same_item i j && same_items is js
+
+-- the shape is that of the text
+unfoldable pub is_shape_of : Wording → Shape → Bool
+is_shape_of w s =
+    bytes_eq (text_at NAMES s.name) (text_in (Some w.name)) && same s.alias w.alias
+    && same_items (items_of s) (operands_of w)
+    && list_any (is_of_line w s) SCALAR_LINES
+
+unfoldable pub is_shape_at : Option Wording → Shape → Bool
+is_shape_at None s = false
+is_shape_at (Some w) s = is_shape_of w s
+
+-- each shape is that of the text at its place
+unfoldable pub are_shapes : List Wording → List ℕ → List Shape → Bool
+are_shapes ws [] [] = true
+are_shapes ws [] (s ∷ ss) = false
+are_shapes ws (p ∷ ps) [] = false
+are_shapes ws (p ∷ ps) (s ∷ ss) = is_shape_at (slice_get ws p) s && are_shapes ws ps ss
+
+-- ---- the order of the shapes
+
+-- they stand in the order of names, and those of a name in that of the texts
+unfoldable pub is_before : Shape → ℕ → Shape → ℕ → Bool
+is_before s p t q = nat_lt s.name t.name || ((s.name == t.name) && nat_lt p q)
+
+unfoldable pub stand_after : Shape → ℕ → List Shape → List ℕ → Bool
+stand_after s p [] [] = true
+stand_after s p [] (q ∷ qs) = false
+stand_after s p (t ∷ ts) [] = false
+stand_after s p (t ∷ ts) (q ∷ qs) = is_before s p t q && stand_after t q ts qs
+
+unfoldable pub stand_in_order : List Shape → List ℕ → Bool
+stand_in_order [] ps = false
+stand_in_order (s ∷ ss) [] = false
+stand_in_order (s ∷ ss) (p ∷ ps) = stand_after s p ss ps
+
+-- each text has a shape
+unfoldable pub have_shapes : List Wording → List ℕ → Bool
+have_shapes ws places =
+    list_all (λ place. list_any (λ p. p == place) places) (range_with_len 0 (length ws))

@@ -1,0 +1,502 @@
+//! The names of instructions and aliases, as `make_table.py` writes them.
+
+// A name by the parts of which a text has it.
+macro_rules! name {
+    (adc) => { Text { bytes: *b"adc\0\0\0\0\0\0\0\0\0", length: 3 } };
+    (adcs) => { Text { bytes: *b"adcs\0\0\0\0\0\0\0\0", length: 4 } };
+    (add) => { Text { bytes: *b"add\0\0\0\0\0\0\0\0\0", length: 3 } };
+    (adds) => { Text { bytes: *b"adds\0\0\0\0\0\0\0\0", length: 4 } };
+    (adr) => { Text { bytes: *b"adr\0\0\0\0\0\0\0\0\0", length: 3 } };
+    (adrp) => { Text { bytes: *b"adrp\0\0\0\0\0\0\0\0", length: 4 } };
+    (and) => { Text { bytes: *b"and\0\0\0\0\0\0\0\0\0", length: 3 } };
+    (ands) => { Text { bytes: *b"ands\0\0\0\0\0\0\0\0", length: 4 } };
+    (asr) => { Text { bytes: *b"asr\0\0\0\0\0\0\0\0\0", length: 3 } };
+    (asrv) => { Text { bytes: *b"asrv\0\0\0\0\0\0\0\0", length: 4 } };
+    (b) => { Text { bytes: *b"b\0\0\0\0\0\0\0\0\0\0\0", length: 1 } };
+    (b.al) => { Text { bytes: *b"b.al\0\0\0\0\0\0\0\0", length: 4 } };
+    (b.cc) => { Text { bytes: *b"b.cc\0\0\0\0\0\0\0\0", length: 4 } };
+    (b.cs) => { Text { bytes: *b"b.cs\0\0\0\0\0\0\0\0", length: 4 } };
+    (b.eq) => { Text { bytes: *b"b.eq\0\0\0\0\0\0\0\0", length: 4 } };
+    (b.ge) => { Text { bytes: *b"b.ge\0\0\0\0\0\0\0\0", length: 4 } };
+    (b.gt) => { Text { bytes: *b"b.gt\0\0\0\0\0\0\0\0", length: 4 } };
+    (b.hi) => { Text { bytes: *b"b.hi\0\0\0\0\0\0\0\0", length: 4 } };
+    (b.le) => { Text { bytes: *b"b.le\0\0\0\0\0\0\0\0", length: 4 } };
+    (b.ls) => { Text { bytes: *b"b.ls\0\0\0\0\0\0\0\0", length: 4 } };
+    (b.lt) => { Text { bytes: *b"b.lt\0\0\0\0\0\0\0\0", length: 4 } };
+    (b.mi) => { Text { bytes: *b"b.mi\0\0\0\0\0\0\0\0", length: 4 } };
+    (b.ne) => { Text { bytes: *b"b.ne\0\0\0\0\0\0\0\0", length: 4 } };
+    (b.nv) => { Text { bytes: *b"b.nv\0\0\0\0\0\0\0\0", length: 4 } };
+    (b.pl) => { Text { bytes: *b"b.pl\0\0\0\0\0\0\0\0", length: 4 } };
+    (b.vc) => { Text { bytes: *b"b.vc\0\0\0\0\0\0\0\0", length: 4 } };
+    (b.vs) => { Text { bytes: *b"b.vs\0\0\0\0\0\0\0\0", length: 4 } };
+    (bfm) => { Text { bytes: *b"bfm\0\0\0\0\0\0\0\0\0", length: 3 } };
+    (bic) => { Text { bytes: *b"bic\0\0\0\0\0\0\0\0\0", length: 3 } };
+    (bics) => { Text { bytes: *b"bics\0\0\0\0\0\0\0\0", length: 4 } };
+    (bl) => { Text { bytes: *b"bl\0\0\0\0\0\0\0\0\0\0", length: 2 } };
+    (blr) => { Text { bytes: *b"blr\0\0\0\0\0\0\0\0\0", length: 3 } };
+    (br) => { Text { bytes: *b"br\0\0\0\0\0\0\0\0\0\0", length: 2 } };
+    (brk) => { Text { bytes: *b"brk\0\0\0\0\0\0\0\0\0", length: 3 } };
+    (cas) => { Text { bytes: *b"cas\0\0\0\0\0\0\0\0\0", length: 3 } };
+    (cas a) => { Text { bytes: *b"casa\0\0\0\0\0\0\0\0", length: 4 } };
+    (cas a b) => { Text { bytes: *b"casab\0\0\0\0\0\0\0", length: 5 } };
+    (cas a h) => { Text { bytes: *b"casah\0\0\0\0\0\0\0", length: 5 } };
+    (cas al) => { Text { bytes: *b"casal\0\0\0\0\0\0\0", length: 5 } };
+    (cas al b) => { Text { bytes: *b"casalb\0\0\0\0\0\0", length: 6 } };
+    (cas al h) => { Text { bytes: *b"casalh\0\0\0\0\0\0", length: 6 } };
+    (cas b) => { Text { bytes: *b"casb\0\0\0\0\0\0\0\0", length: 4 } };
+    (cas h) => { Text { bytes: *b"cash\0\0\0\0\0\0\0\0", length: 4 } };
+    (cas l) => { Text { bytes: *b"casl\0\0\0\0\0\0\0\0", length: 4 } };
+    (cas l b) => { Text { bytes: *b"caslb\0\0\0\0\0\0\0", length: 5 } };
+    (cas l h) => { Text { bytes: *b"caslh\0\0\0\0\0\0\0", length: 5 } };
+    (cbnz) => { Text { bytes: *b"cbnz\0\0\0\0\0\0\0\0", length: 4 } };
+    (cbz) => { Text { bytes: *b"cbz\0\0\0\0\0\0\0\0\0", length: 3 } };
+    (ccmn) => { Text { bytes: *b"ccmn\0\0\0\0\0\0\0\0", length: 4 } };
+    (ccmp) => { Text { bytes: *b"ccmp\0\0\0\0\0\0\0\0", length: 4 } };
+    (cls) => { Text { bytes: *b"cls\0\0\0\0\0\0\0\0\0", length: 3 } };
+    (clz) => { Text { bytes: *b"clz\0\0\0\0\0\0\0\0\0", length: 3 } };
+    (cmn) => { Text { bytes: *b"cmn\0\0\0\0\0\0\0\0\0", length: 3 } };
+    (cmp) => { Text { bytes: *b"cmp\0\0\0\0\0\0\0\0\0", length: 3 } };
+    (csel) => { Text { bytes: *b"csel\0\0\0\0\0\0\0\0", length: 4 } };
+    (cset) => { Text { bytes: *b"cset\0\0\0\0\0\0\0\0", length: 4 } };
+    (csinc) => { Text { bytes: *b"csinc\0\0\0\0\0\0\0", length: 5 } };
+    (csinv) => { Text { bytes: *b"csinv\0\0\0\0\0\0\0", length: 5 } };
+    (csneg) => { Text { bytes: *b"csneg\0\0\0\0\0\0\0", length: 5 } };
+    (dmb) => { Text { bytes: *b"dmb\0\0\0\0\0\0\0\0\0", length: 3 } };
+    (dsb) => { Text { bytes: *b"dsb\0\0\0\0\0\0\0\0\0", length: 3 } };
+    (eon) => { Text { bytes: *b"eon\0\0\0\0\0\0\0\0\0", length: 3 } };
+    (eor) => { Text { bytes: *b"eor\0\0\0\0\0\0\0\0\0", length: 3 } };
+    (extr) => { Text { bytes: *b"extr\0\0\0\0\0\0\0\0", length: 4 } };
+    (hint) => { Text { bytes: *b"hint\0\0\0\0\0\0\0\0", length: 4 } };
+    (isb) => { Text { bytes: *b"isb\0\0\0\0\0\0\0\0\0", length: 3 } };
+    (ldadd) => { Text { bytes: *b"ldadd\0\0\0\0\0\0\0", length: 5 } };
+    (ldadd a) => { Text { bytes: *b"ldadda\0\0\0\0\0\0", length: 6 } };
+    (ldadd a b) => { Text { bytes: *b"ldaddab\0\0\0\0\0", length: 7 } };
+    (ldadd a h) => { Text { bytes: *b"ldaddah\0\0\0\0\0", length: 7 } };
+    (ldadd al) => { Text { bytes: *b"ldaddal\0\0\0\0\0", length: 7 } };
+    (ldadd al b) => { Text { bytes: *b"ldaddalb\0\0\0\0", length: 8 } };
+    (ldadd al h) => { Text { bytes: *b"ldaddalh\0\0\0\0", length: 8 } };
+    (ldadd b) => { Text { bytes: *b"ldaddb\0\0\0\0\0\0", length: 6 } };
+    (ldadd h) => { Text { bytes: *b"ldaddh\0\0\0\0\0\0", length: 6 } };
+    (ldadd l) => { Text { bytes: *b"ldaddl\0\0\0\0\0\0", length: 6 } };
+    (ldadd l b) => { Text { bytes: *b"ldaddlb\0\0\0\0\0", length: 7 } };
+    (ldadd l h) => { Text { bytes: *b"ldaddlh\0\0\0\0\0", length: 7 } };
+    (ldar) => { Text { bytes: *b"ldar\0\0\0\0\0\0\0\0", length: 4 } };
+    (ldar b) => { Text { bytes: *b"ldarb\0\0\0\0\0\0\0", length: 5 } };
+    (ldar h) => { Text { bytes: *b"ldarh\0\0\0\0\0\0\0", length: 5 } };
+    (ldclr) => { Text { bytes: *b"ldclr\0\0\0\0\0\0\0", length: 5 } };
+    (ldclr a) => { Text { bytes: *b"ldclra\0\0\0\0\0\0", length: 6 } };
+    (ldclr a b) => { Text { bytes: *b"ldclrab\0\0\0\0\0", length: 7 } };
+    (ldclr a h) => { Text { bytes: *b"ldclrah\0\0\0\0\0", length: 7 } };
+    (ldclr al) => { Text { bytes: *b"ldclral\0\0\0\0\0", length: 7 } };
+    (ldclr al b) => { Text { bytes: *b"ldclralb\0\0\0\0", length: 8 } };
+    (ldclr al h) => { Text { bytes: *b"ldclralh\0\0\0\0", length: 8 } };
+    (ldclr b) => { Text { bytes: *b"ldclrb\0\0\0\0\0\0", length: 6 } };
+    (ldclr h) => { Text { bytes: *b"ldclrh\0\0\0\0\0\0", length: 6 } };
+    (ldclr l) => { Text { bytes: *b"ldclrl\0\0\0\0\0\0", length: 6 } };
+    (ldclr l b) => { Text { bytes: *b"ldclrlb\0\0\0\0\0", length: 7 } };
+    (ldclr l h) => { Text { bytes: *b"ldclrlh\0\0\0\0\0", length: 7 } };
+    (ldeor) => { Text { bytes: *b"ldeor\0\0\0\0\0\0\0", length: 5 } };
+    (ldeor a) => { Text { bytes: *b"ldeora\0\0\0\0\0\0", length: 6 } };
+    (ldeor a b) => { Text { bytes: *b"ldeorab\0\0\0\0\0", length: 7 } };
+    (ldeor a h) => { Text { bytes: *b"ldeorah\0\0\0\0\0", length: 7 } };
+    (ldeor al) => { Text { bytes: *b"ldeoral\0\0\0\0\0", length: 7 } };
+    (ldeor al b) => { Text { bytes: *b"ldeoralb\0\0\0\0", length: 8 } };
+    (ldeor al h) => { Text { bytes: *b"ldeoralh\0\0\0\0", length: 8 } };
+    (ldeor b) => { Text { bytes: *b"ldeorb\0\0\0\0\0\0", length: 6 } };
+    (ldeor h) => { Text { bytes: *b"ldeorh\0\0\0\0\0\0", length: 6 } };
+    (ldeor l) => { Text { bytes: *b"ldeorl\0\0\0\0\0\0", length: 6 } };
+    (ldeor l b) => { Text { bytes: *b"ldeorlb\0\0\0\0\0", length: 7 } };
+    (ldeor l h) => { Text { bytes: *b"ldeorlh\0\0\0\0\0", length: 7 } };
+    (ldp) => { Text { bytes: *b"ldp\0\0\0\0\0\0\0\0\0", length: 3 } };
+    (ldr) => { Text { bytes: *b"ldr\0\0\0\0\0\0\0\0\0", length: 3 } };
+    (ldrb) => { Text { bytes: *b"ldrb\0\0\0\0\0\0\0\0", length: 4 } };
+    (ldrh) => { Text { bytes: *b"ldrh\0\0\0\0\0\0\0\0", length: 4 } };
+    (ldrsb) => { Text { bytes: *b"ldrsb\0\0\0\0\0\0\0", length: 5 } };
+    (ldrsh) => { Text { bytes: *b"ldrsh\0\0\0\0\0\0\0", length: 5 } };
+    (ldrsw) => { Text { bytes: *b"ldrsw\0\0\0\0\0\0\0", length: 5 } };
+    (ldset) => { Text { bytes: *b"ldset\0\0\0\0\0\0\0", length: 5 } };
+    (ldset a) => { Text { bytes: *b"ldseta\0\0\0\0\0\0", length: 6 } };
+    (ldset a b) => { Text { bytes: *b"ldsetab\0\0\0\0\0", length: 7 } };
+    (ldset a h) => { Text { bytes: *b"ldsetah\0\0\0\0\0", length: 7 } };
+    (ldset al) => { Text { bytes: *b"ldsetal\0\0\0\0\0", length: 7 } };
+    (ldset al b) => { Text { bytes: *b"ldsetalb\0\0\0\0", length: 8 } };
+    (ldset al h) => { Text { bytes: *b"ldsetalh\0\0\0\0", length: 8 } };
+    (ldset b) => { Text { bytes: *b"ldsetb\0\0\0\0\0\0", length: 6 } };
+    (ldset h) => { Text { bytes: *b"ldseth\0\0\0\0\0\0", length: 6 } };
+    (ldset l) => { Text { bytes: *b"ldsetl\0\0\0\0\0\0", length: 6 } };
+    (ldset l b) => { Text { bytes: *b"ldsetlb\0\0\0\0\0", length: 7 } };
+    (ldset l h) => { Text { bytes: *b"ldsetlh\0\0\0\0\0", length: 7 } };
+    (ldsmax) => { Text { bytes: *b"ldsmax\0\0\0\0\0\0", length: 6 } };
+    (ldsmax a) => { Text { bytes: *b"ldsmaxa\0\0\0\0\0", length: 7 } };
+    (ldsmax a b) => { Text { bytes: *b"ldsmaxab\0\0\0\0", length: 8 } };
+    (ldsmax a h) => { Text { bytes: *b"ldsmaxah\0\0\0\0", length: 8 } };
+    (ldsmax al) => { Text { bytes: *b"ldsmaxal\0\0\0\0", length: 8 } };
+    (ldsmax al b) => { Text { bytes: *b"ldsmaxalb\0\0\0", length: 9 } };
+    (ldsmax al h) => { Text { bytes: *b"ldsmaxalh\0\0\0", length: 9 } };
+    (ldsmax b) => { Text { bytes: *b"ldsmaxb\0\0\0\0\0", length: 7 } };
+    (ldsmax h) => { Text { bytes: *b"ldsmaxh\0\0\0\0\0", length: 7 } };
+    (ldsmax l) => { Text { bytes: *b"ldsmaxl\0\0\0\0\0", length: 7 } };
+    (ldsmax l b) => { Text { bytes: *b"ldsmaxlb\0\0\0\0", length: 8 } };
+    (ldsmax l h) => { Text { bytes: *b"ldsmaxlh\0\0\0\0", length: 8 } };
+    (ldsmin) => { Text { bytes: *b"ldsmin\0\0\0\0\0\0", length: 6 } };
+    (ldsmin a) => { Text { bytes: *b"ldsmina\0\0\0\0\0", length: 7 } };
+    (ldsmin a b) => { Text { bytes: *b"ldsminab\0\0\0\0", length: 8 } };
+    (ldsmin a h) => { Text { bytes: *b"ldsminah\0\0\0\0", length: 8 } };
+    (ldsmin al) => { Text { bytes: *b"ldsminal\0\0\0\0", length: 8 } };
+    (ldsmin al b) => { Text { bytes: *b"ldsminalb\0\0\0", length: 9 } };
+    (ldsmin al h) => { Text { bytes: *b"ldsminalh\0\0\0", length: 9 } };
+    (ldsmin b) => { Text { bytes: *b"ldsminb\0\0\0\0\0", length: 7 } };
+    (ldsmin h) => { Text { bytes: *b"ldsminh\0\0\0\0\0", length: 7 } };
+    (ldsmin l) => { Text { bytes: *b"ldsminl\0\0\0\0\0", length: 7 } };
+    (ldsmin l b) => { Text { bytes: *b"ldsminlb\0\0\0\0", length: 8 } };
+    (ldsmin l h) => { Text { bytes: *b"ldsminlh\0\0\0\0", length: 8 } };
+    (ldumax) => { Text { bytes: *b"ldumax\0\0\0\0\0\0", length: 6 } };
+    (ldumax a) => { Text { bytes: *b"ldumaxa\0\0\0\0\0", length: 7 } };
+    (ldumax a b) => { Text { bytes: *b"ldumaxab\0\0\0\0", length: 8 } };
+    (ldumax a h) => { Text { bytes: *b"ldumaxah\0\0\0\0", length: 8 } };
+    (ldumax al) => { Text { bytes: *b"ldumaxal\0\0\0\0", length: 8 } };
+    (ldumax al b) => { Text { bytes: *b"ldumaxalb\0\0\0", length: 9 } };
+    (ldumax al h) => { Text { bytes: *b"ldumaxalh\0\0\0", length: 9 } };
+    (ldumax b) => { Text { bytes: *b"ldumaxb\0\0\0\0\0", length: 7 } };
+    (ldumax h) => { Text { bytes: *b"ldumaxh\0\0\0\0\0", length: 7 } };
+    (ldumax l) => { Text { bytes: *b"ldumaxl\0\0\0\0\0", length: 7 } };
+    (ldumax l b) => { Text { bytes: *b"ldumaxlb\0\0\0\0", length: 8 } };
+    (ldumax l h) => { Text { bytes: *b"ldumaxlh\0\0\0\0", length: 8 } };
+    (ldumin) => { Text { bytes: *b"ldumin\0\0\0\0\0\0", length: 6 } };
+    (ldumin a) => { Text { bytes: *b"ldumina\0\0\0\0\0", length: 7 } };
+    (ldumin a b) => { Text { bytes: *b"lduminab\0\0\0\0", length: 8 } };
+    (ldumin a h) => { Text { bytes: *b"lduminah\0\0\0\0", length: 8 } };
+    (ldumin al) => { Text { bytes: *b"lduminal\0\0\0\0", length: 8 } };
+    (ldumin al b) => { Text { bytes: *b"lduminalb\0\0\0", length: 9 } };
+    (ldumin al h) => { Text { bytes: *b"lduminalh\0\0\0", length: 9 } };
+    (ldumin b) => { Text { bytes: *b"lduminb\0\0\0\0\0", length: 7 } };
+    (ldumin h) => { Text { bytes: *b"lduminh\0\0\0\0\0", length: 7 } };
+    (ldumin l) => { Text { bytes: *b"lduminl\0\0\0\0\0", length: 7 } };
+    (ldumin l b) => { Text { bytes: *b"lduminlb\0\0\0\0", length: 8 } };
+    (ldumin l h) => { Text { bytes: *b"lduminlh\0\0\0\0", length: 8 } };
+    (ldur) => { Text { bytes: *b"ldur\0\0\0\0\0\0\0\0", length: 4 } };
+    (ldurb) => { Text { bytes: *b"ldurb\0\0\0\0\0\0\0", length: 5 } };
+    (ldurh) => { Text { bytes: *b"ldurh\0\0\0\0\0\0\0", length: 5 } };
+    (ldursb) => { Text { bytes: *b"ldursb\0\0\0\0\0\0", length: 6 } };
+    (ldursh) => { Text { bytes: *b"ldursh\0\0\0\0\0\0", length: 6 } };
+    (ldursw) => { Text { bytes: *b"ldursw\0\0\0\0\0\0", length: 6 } };
+    (lsl) => { Text { bytes: *b"lsl\0\0\0\0\0\0\0\0\0", length: 3 } };
+    (lslv) => { Text { bytes: *b"lslv\0\0\0\0\0\0\0\0", length: 4 } };
+    (lsr) => { Text { bytes: *b"lsr\0\0\0\0\0\0\0\0\0", length: 3 } };
+    (lsrv) => { Text { bytes: *b"lsrv\0\0\0\0\0\0\0\0", length: 4 } };
+    (madd) => { Text { bytes: *b"madd\0\0\0\0\0\0\0\0", length: 4 } };
+    (mov) => { Text { bytes: *b"mov\0\0\0\0\0\0\0\0\0", length: 3 } };
+    (movk) => { Text { bytes: *b"movk\0\0\0\0\0\0\0\0", length: 4 } };
+    (movn) => { Text { bytes: *b"movn\0\0\0\0\0\0\0\0", length: 4 } };
+    (movz) => { Text { bytes: *b"movz\0\0\0\0\0\0\0\0", length: 4 } };
+    (mrs) => { Text { bytes: *b"mrs\0\0\0\0\0\0\0\0\0", length: 3 } };
+    (msr) => { Text { bytes: *b"msr\0\0\0\0\0\0\0\0\0", length: 3 } };
+    (msub) => { Text { bytes: *b"msub\0\0\0\0\0\0\0\0", length: 4 } };
+    (mul) => { Text { bytes: *b"mul\0\0\0\0\0\0\0\0\0", length: 3 } };
+    (mvn) => { Text { bytes: *b"mvn\0\0\0\0\0\0\0\0\0", length: 3 } };
+    (neg) => { Text { bytes: *b"neg\0\0\0\0\0\0\0\0\0", length: 3 } };
+    (nop) => { Text { bytes: *b"nop\0\0\0\0\0\0\0\0\0", length: 3 } };
+    (orn) => { Text { bytes: *b"orn\0\0\0\0\0\0\0\0\0", length: 3 } };
+    (orr) => { Text { bytes: *b"orr\0\0\0\0\0\0\0\0\0", length: 3 } };
+    (rbit) => { Text { bytes: *b"rbit\0\0\0\0\0\0\0\0", length: 4 } };
+    (ret) => { Text { bytes: *b"ret\0\0\0\0\0\0\0\0\0", length: 3 } };
+    (rev) => { Text { bytes: *b"rev\0\0\0\0\0\0\0\0\0", length: 3 } };
+    (rev16) => { Text { bytes: *b"rev16\0\0\0\0\0\0\0", length: 5 } };
+    (rev32) => { Text { bytes: *b"rev32\0\0\0\0\0\0\0", length: 5 } };
+    (rorv) => { Text { bytes: *b"rorv\0\0\0\0\0\0\0\0", length: 4 } };
+    (sbc) => { Text { bytes: *b"sbc\0\0\0\0\0\0\0\0\0", length: 3 } };
+    (sbcs) => { Text { bytes: *b"sbcs\0\0\0\0\0\0\0\0", length: 4 } };
+    (sbfm) => { Text { bytes: *b"sbfm\0\0\0\0\0\0\0\0", length: 4 } };
+    (sdiv) => { Text { bytes: *b"sdiv\0\0\0\0\0\0\0\0", length: 4 } };
+    (smaddl) => { Text { bytes: *b"smaddl\0\0\0\0\0\0", length: 6 } };
+    (smsubl) => { Text { bytes: *b"smsubl\0\0\0\0\0\0", length: 6 } };
+    (smulh) => { Text { bytes: *b"smulh\0\0\0\0\0\0\0", length: 5 } };
+    (stlr) => { Text { bytes: *b"stlr\0\0\0\0\0\0\0\0", length: 4 } };
+    (stlr b) => { Text { bytes: *b"stlrb\0\0\0\0\0\0\0", length: 5 } };
+    (stlr h) => { Text { bytes: *b"stlrh\0\0\0\0\0\0\0", length: 5 } };
+    (stp) => { Text { bytes: *b"stp\0\0\0\0\0\0\0\0\0", length: 3 } };
+    (str) => { Text { bytes: *b"str\0\0\0\0\0\0\0\0\0", length: 3 } };
+    (strb) => { Text { bytes: *b"strb\0\0\0\0\0\0\0\0", length: 4 } };
+    (strh) => { Text { bytes: *b"strh\0\0\0\0\0\0\0\0", length: 4 } };
+    (stur) => { Text { bytes: *b"stur\0\0\0\0\0\0\0\0", length: 4 } };
+    (sturb) => { Text { bytes: *b"sturb\0\0\0\0\0\0\0", length: 5 } };
+    (sturh) => { Text { bytes: *b"sturh\0\0\0\0\0\0\0", length: 5 } };
+    (sub) => { Text { bytes: *b"sub\0\0\0\0\0\0\0\0\0", length: 3 } };
+    (subs) => { Text { bytes: *b"subs\0\0\0\0\0\0\0\0", length: 4 } };
+    (svc) => { Text { bytes: *b"svc\0\0\0\0\0\0\0\0\0", length: 3 } };
+    (swp) => { Text { bytes: *b"swp\0\0\0\0\0\0\0\0\0", length: 3 } };
+    (swp a) => { Text { bytes: *b"swpa\0\0\0\0\0\0\0\0", length: 4 } };
+    (swp a b) => { Text { bytes: *b"swpab\0\0\0\0\0\0\0", length: 5 } };
+    (swp a h) => { Text { bytes: *b"swpah\0\0\0\0\0\0\0", length: 5 } };
+    (swp al) => { Text { bytes: *b"swpal\0\0\0\0\0\0\0", length: 5 } };
+    (swp al b) => { Text { bytes: *b"swpalb\0\0\0\0\0\0", length: 6 } };
+    (swp al h) => { Text { bytes: *b"swpalh\0\0\0\0\0\0", length: 6 } };
+    (swp b) => { Text { bytes: *b"swpb\0\0\0\0\0\0\0\0", length: 4 } };
+    (swp h) => { Text { bytes: *b"swph\0\0\0\0\0\0\0\0", length: 4 } };
+    (swp l) => { Text { bytes: *b"swpl\0\0\0\0\0\0\0\0", length: 4 } };
+    (swp l b) => { Text { bytes: *b"swplb\0\0\0\0\0\0\0", length: 5 } };
+    (swp l h) => { Text { bytes: *b"swplh\0\0\0\0\0\0\0", length: 5 } };
+    (tbnz) => { Text { bytes: *b"tbnz\0\0\0\0\0\0\0\0", length: 4 } };
+    (tbz) => { Text { bytes: *b"tbz\0\0\0\0\0\0\0\0\0", length: 3 } };
+    (tst) => { Text { bytes: *b"tst\0\0\0\0\0\0\0\0\0", length: 3 } };
+    (ubfm) => { Text { bytes: *b"ubfm\0\0\0\0\0\0\0\0", length: 4 } };
+    (udf) => { Text { bytes: *b"udf\0\0\0\0\0\0\0\0\0", length: 3 } };
+    (udiv) => { Text { bytes: *b"udiv\0\0\0\0\0\0\0\0", length: 4 } };
+    (umaddl) => { Text { bytes: *b"umaddl\0\0\0\0\0\0", length: 6 } };
+    (umsubl) => { Text { bytes: *b"umsubl\0\0\0\0\0\0", length: 6 } };
+    (umulh) => { Text { bytes: *b"umulh\0\0\0\0\0\0\0", length: 5 } };
+}
+
+// All of them, in order.
+macro_rules! all_names {
+    () => {
+        [
+            name!(adc),
+            name!(adcs),
+            name!(add),
+            name!(adds),
+            name!(adr),
+            name!(adrp),
+            name!(and),
+            name!(ands),
+            name!(asr),
+            name!(asrv),
+            name!(b),
+            name!(b.al),
+            name!(b.cc),
+            name!(b.cs),
+            name!(b.eq),
+            name!(b.ge),
+            name!(b.gt),
+            name!(b.hi),
+            name!(b.le),
+            name!(b.ls),
+            name!(b.lt),
+            name!(b.mi),
+            name!(b.ne),
+            name!(b.nv),
+            name!(b.pl),
+            name!(b.vc),
+            name!(b.vs),
+            name!(bfm),
+            name!(bic),
+            name!(bics),
+            name!(bl),
+            name!(blr),
+            name!(br),
+            name!(brk),
+            name!(cas),
+            name!(cas a),
+            name!(cas a b),
+            name!(cas a h),
+            name!(cas al),
+            name!(cas al b),
+            name!(cas al h),
+            name!(cas b),
+            name!(cas h),
+            name!(cas l),
+            name!(cas l b),
+            name!(cas l h),
+            name!(cbnz),
+            name!(cbz),
+            name!(ccmn),
+            name!(ccmp),
+            name!(cls),
+            name!(clz),
+            name!(cmn),
+            name!(cmp),
+            name!(csel),
+            name!(cset),
+            name!(csinc),
+            name!(csinv),
+            name!(csneg),
+            name!(dmb),
+            name!(dsb),
+            name!(eon),
+            name!(eor),
+            name!(extr),
+            name!(hint),
+            name!(isb),
+            name!(ldadd),
+            name!(ldadd a),
+            name!(ldadd a b),
+            name!(ldadd a h),
+            name!(ldadd al),
+            name!(ldadd al b),
+            name!(ldadd al h),
+            name!(ldadd b),
+            name!(ldadd h),
+            name!(ldadd l),
+            name!(ldadd l b),
+            name!(ldadd l h),
+            name!(ldar),
+            name!(ldar b),
+            name!(ldar h),
+            name!(ldclr),
+            name!(ldclr a),
+            name!(ldclr a b),
+            name!(ldclr a h),
+            name!(ldclr al),
+            name!(ldclr al b),
+            name!(ldclr al h),
+            name!(ldclr b),
+            name!(ldclr h),
+            name!(ldclr l),
+            name!(ldclr l b),
+            name!(ldclr l h),
+            name!(ldeor),
+            name!(ldeor a),
+            name!(ldeor a b),
+            name!(ldeor a h),
+            name!(ldeor al),
+            name!(ldeor al b),
+            name!(ldeor al h),
+            name!(ldeor b),
+            name!(ldeor h),
+            name!(ldeor l),
+            name!(ldeor l b),
+            name!(ldeor l h),
+            name!(ldp),
+            name!(ldr),
+            name!(ldrb),
+            name!(ldrh),
+            name!(ldrsb),
+            name!(ldrsh),
+            name!(ldrsw),
+            name!(ldset),
+            name!(ldset a),
+            name!(ldset a b),
+            name!(ldset a h),
+            name!(ldset al),
+            name!(ldset al b),
+            name!(ldset al h),
+            name!(ldset b),
+            name!(ldset h),
+            name!(ldset l),
+            name!(ldset l b),
+            name!(ldset l h),
+            name!(ldsmax),
+            name!(ldsmax a),
+            name!(ldsmax a b),
+            name!(ldsmax a h),
+            name!(ldsmax al),
+            name!(ldsmax al b),
+            name!(ldsmax al h),
+            name!(ldsmax b),
+            name!(ldsmax h),
+            name!(ldsmax l),
+            name!(ldsmax l b),
+            name!(ldsmax l h),
+            name!(ldsmin),
+            name!(ldsmin a),
+            name!(ldsmin a b),
+            name!(ldsmin a h),
+            name!(ldsmin al),
+            name!(ldsmin al b),
+            name!(ldsmin al h),
+            name!(ldsmin b),
+            name!(ldsmin h),
+            name!(ldsmin l),
+            name!(ldsmin l b),
+            name!(ldsmin l h),
+            name!(ldumax),
+            name!(ldumax a),
+            name!(ldumax a b),
+            name!(ldumax a h),
+            name!(ldumax al),
+            name!(ldumax al b),
+            name!(ldumax al h),
+            name!(ldumax b),
+            name!(ldumax h),
+            name!(ldumax l),
+            name!(ldumax l b),
+            name!(ldumax l h),
+            name!(ldumin),
+            name!(ldumin a),
+            name!(ldumin a b),
+            name!(ldumin a h),
+            name!(ldumin al),
+            name!(ldumin al b),
+            name!(ldumin al h),
+            name!(ldumin b),
+            name!(ldumin h),
+            name!(ldumin l),
+            name!(ldumin l b),
+            name!(ldumin l h),
+            name!(ldur),
+            name!(ldurb),
+            name!(ldurh),
+            name!(ldursb),
+            name!(ldursh),
+            name!(ldursw),
+            name!(lsl),
+            name!(lslv),
+            name!(lsr),
+            name!(lsrv),
+            name!(madd),
+            name!(mov),
+            name!(movk),
+            name!(movn),
+            name!(movz),
+            name!(mrs),
+            name!(msr),
+            name!(msub),
+            name!(mul),
+            name!(mvn),
+            name!(neg),
+            name!(nop),
+            name!(orn),
+            name!(orr),
+            name!(rbit),
+            name!(ret),
+            name!(rev),
+            name!(rev16),
+            name!(rev32),
+            name!(rorv),
+            name!(sbc),
+            name!(sbcs),
+            name!(sbfm),
+            name!(sdiv),
+            name!(smaddl),
+            name!(smsubl),
+            name!(smulh),
+            name!(stlr),
+            name!(stlr b),
+            name!(stlr h),
+            name!(stp),
+            name!(str),
+            name!(strb),
+            name!(strh),
+            name!(stur),
+            name!(sturb),
+            name!(sturh),
+            name!(sub),
+            name!(subs),
+            name!(svc),
+            name!(swp),
+            name!(swp a),
+            name!(swp a b),
+            name!(swp a h),
+            name!(swp al),
+            name!(swp al b),
+            name!(swp al h),
+            name!(swp b),
+            name!(swp h),
+            name!(swp l),
+            name!(swp l b),
+            name!(swp l h),
+            name!(tbnz),
+            name!(tbz),
+            name!(tst),
+            name!(ubfm),
+            name!(udf),
+            name!(udiv),
+            name!(umaddl),
+            name!(umsubl),
+            name!(umulh),
+        ]
+    };
+}
+
+pub(crate) use all_names;
+pub(crate) use name;
