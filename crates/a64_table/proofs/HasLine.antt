@@ -27,7 +27,8 @@ use Rattle.a64_table.specs.declared.operation.Operation.{Operation}
 use Rattle.a64_table.specs.Values.{shift_number, extend_number, access_size_number, load_store_op_number}
 use Rattle.a64_table.specs.Conditions.{fits_of, is_below_width, has_load, is_address_option, is_apart, are_two, is_pair_apart}
 use Rattle.a64_table.specs.Parts.{padded, branch_parts, compare_says, compare_parts, doubleword_parts, one_source_parts, multiply_parts, load_store_says, load_store_parts, atomic_parts, system_parts, parts_of}
-use Rattle.a64_table.specs.Ranges.{IsInRow, IsSigned, width_of, is_address_extend, has_size, IsAddress, writes_base, IsCompareOperand, IsConditionalCompare, IsOneSource, IsLoadStore}
+use Rattle.bit_ops.specs.Bits.{width_of}
+use Rattle.a64_table.specs.Ranges.{IsInRow, IsSigned, is_address_extend, has_size, IsAddress, writes_base, IsCompareOperand, IsConditionalCompare, IsOneSource, IsLoadStore}
 use Rattle.a64_table.specs.Table.{scalar}
 use Rattle.a64_table.proofs.Checks.{has_row, row-format}
 use Rattle.a64_table.proofs.Groups.{format, slots, kept}

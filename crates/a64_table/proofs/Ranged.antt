@@ -20,7 +20,8 @@ use operations.AddressForm.TheVariants as form
 use Rattle.a64_table.specs.Values.{shift_of, shift_number, extend_of, access_size_of, load_store_op_of}
 use Rattle.a64_table.specs.Conditions.{fits_of, is_below_width, has_load, is_address_option, is_apart, are_two, is_pair_apart}
 use Rattle.a64_table.specs.Named.{shifted_register, extended_register, named_branch, compare_operand, is_wide_source, named_multiply, named_address, named_atomic, named_system, named}
-use Rattle.a64_table.specs.Ranges.{IsInRow, IsSigned, width_of, is_address_extend, has_size, IsAddress, writes_base, IsBranch, IsMultiply, IsAtomic, IsSystem, IsCompareOperand}
+use Rattle.bit_ops.specs.Bits.{width_of}
+use Rattle.a64_table.specs.Ranges.{IsInRow, IsSigned, is_address_extend, has_size, IsAddress, writes_base, IsBranch, IsMultiply, IsAtomic, IsSystem, IsCompareOperand}
 use Rattle.a64_table.specs.Table.{scalar}
 use Rattle.a64_table.proofs.Numbers.{shift_back}
 

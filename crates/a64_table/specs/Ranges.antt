@@ -23,17 +23,13 @@ use types.{System.System, Insn.Insn}
 use types.CompareOperand.TheVariants as operand
 use types.Address.TheVariants as address
 use types.Insn.TheVariants as insn
+use Rattle.bit_ops.specs.Bits.{width_of}
 use Rattle.bit_ops.specs.Masks.{are_mask_fields}
 
 -- a number of so many bits in two's complement
 pub record IsSigned (width : ℕ) (number : ℤ) : Type 0 where
   pub low : (pos 0 -ℤ pos (2 ^ (width - 1))) ≤ℤ number
   pub high : number <ℤ pos (2 ^ (width - 1))
-
--- the number of a register's bits
-abbrev pub width_of : Bool → ℕ
-width_of true = 64
-width_of false = 32
 
 -- a shift by less than the width
 pub record IsShiftedRegister (wide : Bool) (it : ShiftedRegister) : Type 0 where

@@ -6,10 +6,10 @@ use Rattle.insn_text.specs.declared.words.TheConstants.{NAMES}
 use Rattle.asm_tokens.specs.declared.token.Token.{Token}
 use Rattle.asm_tokens.specs.declared.token.Lexeme.{Lexeme}
 use Rattle.asm_tokens.specs.Characters.{column_at, before_comment}
-use Rattle.asm_tokens.specs.Tokens.{place_in}
+use Rattle.asm_tokens.specs.Tokens.{place_in, is_name}
 use Rattle.asm_operands.specs.declared.fault.FaultKind.TheVariants.{Extra}
 use Rattle.asm_operands.specs.declared.operands.Target.{Target}
-use Rattle.asm_operands.specs.Operands.{OperandsSaid, operands_said, is_name}
+use Rattle.asm_operands.specs.Operands.{OperandsSaid, operands_said}
 use Rattle.asm_operands.specs.Operands as operands
 use Rattle.asm_operands.proofs.Aimed.{said-means, target-sound, aimed-means}
 use Rattle.asm_parser.specs.declared.line.LineFault.{LineFault}

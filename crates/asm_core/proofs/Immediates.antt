@@ -35,11 +35,12 @@ use Rattle.insn_text.specs.declared.item.Shape.{Shape}
 use Rattle.insn_text.specs.declared.shapes.TheConstants.{SHAPES, STARTS}
 use Rattle.insn_text.specs.Texts.{items_of}
 use Rattle.insn_text.specs.Texts as texts
+use Rattle.asm_tokens.specs.Tokens.{is_name}
 use Rattle.asm_tokens.specs.declared.token.Token.{Token}
 use Rattle.asm_tokens.specs.declared.token.Token.TheVariants.{Word, Distance}
 use Rattle.asm_operands.specs.declared.operands.Target.{Target}
 use Rattle.asm_operands.specs.Fields.{on_target, signed_field, field_said}
-use Rattle.asm_operands.specs.Operands.{Known, with_field, agrees, known_with, known_after, taken_on, taken, fixed, word_in, shapes_of, first_of_words, first_word, is_distance, is_name, is_name_token, names, target_in, target_of, operands_said, Says}
+use Rattle.asm_operands.specs.Operands.{Known, with_field, agrees, known_with, known_after, taken_on, taken, fixed, word_in, shapes_of, first_of_words, first_word, is_distance, is_name_token, names, target_in, target_of, operands_said, Says}
 use Rattle.asm_operands.specs.Operands as operands
 use Rattle.asm_operands.specs.Distances.{unit_of, with_distance}
 use Rattle.asm_operands.specs.Sound.{has_factor, is_sound}

@@ -5,9 +5,9 @@ use Rattle.asm_tokens.specs.declared.token.Token.{Token}
 use Rattle.asm_tokens.specs.declared.token.Token.TheVariants.{Register, Word, Name, Number, Distance, Bare, Malformed, Mark, Other}
 use Rattle.asm_tokens.specs.declared.token.Lexeme.{Lexeme}
 use Rattle.asm_tokens.specs.Characters.{column_at, before_comment}
-use Rattle.asm_tokens.specs.Tokens.{place_in}
+use Rattle.asm_tokens.specs.Tokens.{place_in, is_name, is_number_token}
 use Rattle.asm_operands.specs.declared.fault.FaultKind.TheVariants.{Extra}
-use Rattle.asm_operands.specs.Operands.{OperandsSaid, operands_said, is_name, is_number_token}
+use Rattle.asm_operands.specs.Operands.{OperandsSaid, operands_said}
 use Rattle.asm_operands.specs.Operands as operands
 use Rattle.asm_parser.specs.declared.line.LineFault.{LineFault}
 use Rattle.asm_parser.specs.Statements.{Says, IntoText, IntoData, Quads, Words, Bytes, Zeros, Aligns, Globals, SourceLine}

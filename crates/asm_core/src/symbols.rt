@@ -13,18 +13,14 @@ use crate::emit_targets::address_in;
 use crate::fault::AsmFault;
 use crate::place::{Place, here, size_of};
 use asm_parser::{Line, Statement};
-use sm_types::{Section, Symbol, Symbols};
+use sm_types::{Section, Symbol, Symbols, name_says};
 use std::alloc::Global;
 
 /// Tells whether a name is a mapping symbol's.
 fn is_mapping_name(name: &[u8]) -> bool
     ensures { result ≡ is_some (name_says name.now) }
 {
-    match name {
-        [b'$', b'x'] | [b'$', b'x', b'.', ..] => true,
-        [b'$', b'd'] | [b'$', b'd', b'.', ..] => true,
-        _ => false,
-    }
+    name_says(name).is_some()
 }
 
 /// Tells whether a statement is an instruction.

@@ -4,13 +4,14 @@ use Rattle.std.specs.Prelude.{option_map, option_and_then}
 use Rattle.std.specs.List.{find, range_with_len}
 use Rattle.std.proofs.lemmas.Bool.{and_parts}
 use Rattle.std.proofs.lemmas.Nat.{shr_split, mod_below, pow_pos}
+use Rattle.bit_ops.specs.Bits.{width_of}
 use Rattle.bit_ops.specs.Masks.{are_mask_fields}
 use Rattle.insn_forms.specs.Fields.{field_of}
 use Rattle.insn_text.specs.declared.item.Kind.TheVariants as kind
 use Rattle.insn_text.specs.Texts.{mask_in}
 use Rattle.asm_tokens.specs.declared.token.Token.TheVariants.{Number}
 use Rattle.asm_operands.specs.Aliases.{halfword_number, IsShiftLeft}
-use Rattle.asm_operands.specs.Fields.{on_number, width_of, is_that, is_field_of, mask_field, immediate_of, shift_bits, shift_left_field, is_halfword_at, halfword_field, inverted_if, field_said}
+use Rattle.asm_operands.specs.Fields.{on_number, is_that, is_field_of, mask_field, immediate_of, shift_bits, shift_left_field, is_halfword_at, halfword_field, inverted_if, field_said}
 
 some_is : {A : Type 0} (a b : A) → ◌≡◌ {A = Option A} (Some a) (Some b) → a ≡ b
 some_is a b e = cc

@@ -22,10 +22,11 @@ use Rattle.insn_text.specs.declared.words.TheConstants.{NAMES}
 use Rattle.insn_text.specs.declared.shapes.TheConstants.{SHAPES, STARTS}
 use Rattle.insn_text.specs.Texts.{bits_of, items_of, mask_in}
 use Rattle.insn_text.specs.Rules.{meets, is_base_apart}
+use Rattle.asm_tokens.specs.Tokens.{is_number_token}
 use Rattle.asm_tokens.specs.declared.token.Token.{Token}
 use Rattle.asm_tokens.specs.declared.token.Token.TheVariants.{Register, Word, Name, Number, Distance, Mark}
 use Rattle.asm_operands.specs.Fields.{is_field_of, on_mark, on_word, on_register, on_number, on_target, word_field, unsigned_field, signed_field, mask_field, immediate_of, shift_left_field, is_halfword_at, halfword_field, inverted_if, field_said}
-use Rattle.asm_operands.specs.Operands.{Known, mask_of, placed, with_field, agrees, known_with, known_after, taken_on, taken, reach_on, reach, fixed, word_in, reach_in, shapes_of, first_of_words, first_word, furthest, is_number_kind, is_number_token, is_number_item, wants_number}
+use Rattle.asm_operands.specs.Operands.{Known, mask_of, placed, with_field, agrees, known_with, known_after, taken_on, taken, reach_on, reach, fixed, word_in, reach_in, shapes_of, first_of_words, first_word, furthest, is_number_kind, is_number_item, wants_number}
 use Rattle.asm_operands.proofs.Heard.{register-said, last-said}
 use Rattle.asm_operands.proofs.MaskFields.{all_below, all_below-at, mask_field-is}
 use Rattle.asm_operands.proofs.Tables.{all-take, all-drop}

@@ -14,10 +14,11 @@ use Rattle.insn_text.specs.declared.words.TheConstants.{NAMES}
 use Rattle.insn_text.specs.declared.shapes.TheConstants.{SHAPES, STARTS}
 use Rattle.insn_text.specs.Texts.{items_of, prints, printed_shape}
 use Rattle.insn_text.specs.Rules.{is_sayable, IsPrinted}
+use Rattle.asm_tokens.specs.Tokens.{is_name}
 use Rattle.asm_tokens.specs.declared.token.Token.{Token}
 use Rattle.asm_operands.specs.declared.operands.Target.{Target}
 use Rattle.asm_operands.specs.Fields.{same_file}
-use Rattle.asm_operands.specs.Operands.{word_in, shapes_of, first_of_words, first_word, is_distance, is_name, names, target_in, target_of, operand_fault, said_or, Says, Fails, if_meant, word_said, operands_said}
+use Rattle.asm_operands.specs.Operands.{word_in, shapes_of, first_of_words, first_word, is_distance, names, target_in, target_of, operand_fault, said_or, Says, Fails, if_meant, word_said, operands_said}
 use Rattle.asm_operands.specs.Shown.{token_said, item_token, tokens_shown}
 use Rattle.asm_operands.proofs.MaskFields.{all_below, all_below-at}
 use Rattle.asm_operands.proofs.WordBits.{has_register, covers}

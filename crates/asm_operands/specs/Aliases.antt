@@ -1,7 +1,8 @@
 -- The numbers that the fields of aliases stand for: `mov` by a halfword, `lsl` by a number.
 -- Source: DDI 0487, C6.2: MOV (wide immediate), MOV (inverted wide immediate), LSL (immediate).
 use Rattle.std.specs.Prelude.{◌≡◌, ℕ, ◌+◌, ◌*◌, ◌/◌, ◌%◌, ◌^◌, Bool}
-use Rattle.asm_operands.specs.Fields.{width_of, shift_bits}
+use Rattle.bit_ops.specs.Bits.{width_of}
+use Rattle.asm_operands.specs.Fields.{shift_bits}
 
 -- hw above imm16: the number that has the halfword at its place, and zeros
 abbrev pub halfword_number : ℕ → ℕ

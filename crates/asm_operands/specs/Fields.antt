@@ -3,6 +3,7 @@
 use Rattle.std.specs.Prelude.{ℕ, ◌+◌, ◌-◌, ◌*◌, ◌/◌, ◌%◌, ◌^◌, Bool, true, false, not, ◌&&◌, ◌==◌, nat_lt}
 use Rattle.std.specs.Prelude.{nat_le, Option, Some, None, if◌then◌else◌, option_and_then, option_map, bit_xor}
 use Rattle.std.specs.List.{find, range_with_len}
+use Rattle.bit_ops.specs.Bits.{width_of}
 use Rattle.bit_ops.specs.Masks.{are_mask_fields}
 use Rattle.insn_forms.specs.Fields.{field_of}
 use Rattle.insn_text.specs.declared.item.RegisterFile.{RegisterFile}
@@ -76,9 +77,6 @@ signed_field bits scale negative size =
     then Some ((2 ^ bits - size / scale) % 2 ^ bits) else None)
     else if nat_lt (size / scale) (2 ^ (bits - 1)) then Some (size / scale)
     else None
-
-abbrev pub width_of : Bool → ℕ
-width_of wide = if wide then 64 else 32
 
 -- the mask of some fields is that number
 abbrev pub is_that : ℕ → Option ℕ → Bool

@@ -15,6 +15,7 @@ use Rattle.insn_text.specs.declared.shapes.TheConstants.{SHAPES, STARTS}
 use Rattle.insn_text.specs.declared.item.Shape.{Shape}
 use Rattle.insn_text.specs.Texts.{items_of, bits_of}
 use Rattle.insn_text.specs.Rules.{meets}
+use Rattle.asm_tokens.specs.Tokens.{is_name, is_number_token}
 use Rattle.asm_tokens.specs.declared.token.Token.{Token}
 use Rattle.asm_tokens.specs.declared.token.Token.TheVariants.{Register, Word, Name, Number, Distance, Bare}
 use Rattle.asm_tokens.specs.declared.token.Token.TheVariants.{Malformed}
@@ -127,14 +128,6 @@ unfoldable pub is_distance : Kind → Bool
 is_distance (kind.Distance scale) = true
 is_distance other = false
 
--- the token is a number of any form
-unfoldable pub is_number_token : Token → Bool
-is_number_token (Number negative size) = true
-is_number_token (Distance back size) = true
-is_number_token (Bare size) = true
-is_number_token Malformed = true
-is_number_token _ = false
-
 abbrev pub is_number_item : Option Item → Bool
 is_number_item None = false
 is_number_item (Some i) = is_number_kind i.kind
@@ -176,12 +169,6 @@ unfoldable pub word_said : ℕ → List Token → Option ℕ
 word_said name ts = option_and_then if_meant (first_word (shapes_of name) ts)
 
 -- a name may stand for a distance
-unfoldable pub is_name : Token → Bool
-is_name (Register file number) = true
-is_name (Word place) = true
-is_name Name = true
-is_name _ = false
-
 abbrev pub is_name_token : Option Token → Bool
 is_name_token None = false
 is_name_token (Some t) = is_name t

@@ -3,7 +3,7 @@
 ghost use Rattle.std.specs.Prelude.{◌≡◌, ◌-◌, ◌==◌, ◌&&◌, length, slice_get};
 ghost use Rattle.std.specs.List.{list_any};
 ghost use Rattle.asm_operands.specs.Operands.{reach_in, furthest, is_number_kind, is_distance};
-ghost use Rattle.asm_operands.specs.Operands.{is_number_token, is_name, is_number_item, is_name_token};
+ghost use Rattle.asm_operands.specs.Operands.{is_number_item, is_name_token};
 ghost use Rattle.asm_operands.specs.Operands.{wants_number, is_whole, kind_at, operand_fault};
 ghost use Rattle.asm_operands.specs.Views.{fault_of};
 
@@ -11,7 +11,7 @@ use crate::fault::FaultKind;
 use crate::operands::OperandFault;
 use crate::shapes::items_of;
 use crate::taking::reach_in;
-use asm_tokens::Token;
+use asm_tokens::{Token, is_number};
 use insn_text::{Item, Kind, Shape};
 
 /// The tokens that a shape takes, at most.
@@ -33,17 +33,6 @@ fn is_number_kind(kind: Kind) -> bool
     match kind {
         Kind::Mark(_) | Kind::Named { .. } | Kind::Register { .. } | Kind::Opposite { .. } => false,
         _ => true,
-    }
-}
-
-/// Whether the token is a number of any form.
-#[tactic(auto, unfolding(crate::specs::Operands::is_number_token))]
-fn is_number_token(token: Token) -> bool
-    ensures { result ≡ is_number_token token }
-{
-    match token {
-        Token::Number { .. } | Token::Distance { .. } | Token::Bare(_) | Token::Malformed => true,
-        _ => false,
     }
 }
 
@@ -105,7 +94,7 @@ fn kind_at(shapes: &[Shape], place: usize, tokens: &[Token]) -> FaultKind
 {
     if place >= tokens.len() {
         FaultKind::BadOperand
-    } else if is_number_token(tokens[place]) && some_wants_number(shapes, place, tokens) {
+    } else if is_number(tokens[place]) && some_wants_number(shapes, place, tokens) {
         FaultKind::BadNumber
     } else if some_is_whole(shapes, place, tokens) {
         FaultKind::Extra

@@ -3,10 +3,11 @@
 ghost use Rattle.std.specs.Prelude.{ℕ, ◌≡◌, ◌-◌, ◌*◌, ◌<◌, ◌^◌, ◌==◌, ◌&&◌, ◌≤◌, true, Option, IfSome};
 ghost use Rattle.std.specs.Prelude.{IsTrue, bit_xor, option_map, option_and_then, None, if◌then◌else◌};
 ghost use Rattle.std.specs.List.{find, range_with_len};
+ghost use Rattle.bit_ops.specs.Bits.{width_of};
 ghost use Rattle.asm_tokens.specs.declared.token.Token.TheVariants.{Register, Word, Name, Number, Distance};
 ghost use Rattle.asm_tokens.specs.declared.token.Token.TheVariants.{Mark};
 ghost use Rattle.asm_operands.specs.Fields.{word_field, same_file, register_field, last_field};
-ghost use Rattle.asm_operands.specs.Fields.{unsigned_field, signed_field, width_of, mask_field, immediate_of};
+ghost use Rattle.asm_operands.specs.Fields.{unsigned_field, signed_field, mask_field, immediate_of};
 ghost use Rattle.asm_operands.specs.Fields.{shift_left_field, is_halfword_at, halfword_field, inverted_if};
 ghost use Rattle.asm_operands.specs.Fields.{field_said};
 ghost use Rattle.asm_operands.specs.Sound.{has_factor};

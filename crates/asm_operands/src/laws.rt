@@ -2,6 +2,7 @@
 
 ghost use Rattle.std.specs.Prelude.{◌≡◌, ◌+◌, ◌-◌, ◌^◌, ◌<◌, ◌≤◌, ℕ, Bool, true, false, List, ◌++◌, Some};
 ghost use Rattle.std.specs.Prelude.{None, length, take, is_some};
+ghost use Rattle.bit_ops.specs.Bits.{width_of};
 ghost use Rattle.asm_tokens.specs.declared.token.Token.{Token};
 ghost use Rattle.insn_text.specs.declared.words.TheConstants.{NAMES};
 ghost use Rattle.a64_encode.specs.Either.{instruction_of};
@@ -11,7 +12,7 @@ ghost use Rattle.insn_text.specs.declared.item.Kind.TheVariants.{Halfword, Shift
 ghost use Rattle.insn_text.specs.Texts.{mask_in};
 ghost use Rattle.asm_operands.specs.Aliases.{halfword_number, IsShiftLeft};
 ghost use Rattle.asm_operands.specs.Distances.{with_distance};
-ghost use Rattle.asm_operands.specs.Fields.{field_said, immediate_of, width_of};
+ghost use Rattle.asm_operands.specs.Fields.{field_said, immediate_of};
 ghost use Rattle.asm_operands.specs.Operands.{shapes_of, first_word, furthest, operands_said, Says};
 
 /// The fault stands at the first token with which no instruction of the name goes on: with other tokens in

@@ -3,7 +3,7 @@
 ghost use Rattle.std.specs.Prelude.{◌≡◌, ◌-◌, ◌&&◌, length, slice_get, option_and_then, option_map, is_some};
 ghost use Rattle.std.specs.Prelude.{IfSome};
 ghost use Rattle.a64_encode.specs.Either.{instruction_of};
-ghost use Rattle.asm_operands.specs.Operands.{first_word, is_distance, is_name, is_name_token, names};
+ghost use Rattle.asm_operands.specs.Operands.{first_word, is_distance, is_name_token, names};
 ghost use Rattle.asm_operands.specs.Operands.{target_in, target_of, operands_said};
 ghost use Rattle.asm_operands.specs.Views.{said_by};
 
@@ -11,7 +11,7 @@ use crate::faults::operand_fault;
 use crate::operands::{OperandFault, Operands, Target};
 use crate::shapes::{items_of, shapes_of};
 use crate::taking::word_in;
-use asm_tokens::Token;
+use asm_tokens::{Token, is_name};
 use insn_decode::decode;
 use insn_text::{Item, Kind, Shape};
 
@@ -21,14 +21,6 @@ fn is_distance(kind: Kind) -> bool
     ensures { result ≡ is_distance kind }
 {
     matches!(kind, Kind::Distance { .. })
-}
-
-/// Whether the token is a name.
-#[tactic(auto, unfolding(crate::specs::Operands::is_name))]
-fn is_name(token: Token) -> bool
-    ensures { result ≡ is_name token }
-{
-    matches!(token, Token::Register { .. } | Token::Word(_) | Token::Name)
 }
 
 /// Whether there is a token at the place, and a name.

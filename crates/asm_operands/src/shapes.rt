@@ -3,39 +3,18 @@
 ghost use Rattle.std.specs.Prelude.{◌≡◌, ◌+◌, ◌-◌, true, length, take, drop, slice_index};
 ghost use Rattle.std.specs.List.{list_all};
 ghost use Rattle.insn_text.specs.Texts.{items_of};
-ghost use Rattle.insn_text.specs.declared.items.TheConstants.{ITEMS};
 ghost use Rattle.insn_text.specs.declared.shapes.TheConstants.{SHAPES, STARTS};
 ghost use Rattle.asm_operands.specs.Operands.{shapes_of};
 ghost use Rattle.asm_operands.specs.Sound.{is_sound};
 
-use insn_text::{ITEMS, Item, SHAPES, STARTS, Shape};
-
-/// So many items from a place on.
-fn items_part(items: &[Item], first: usize, count: usize) -> &[Item]
-    ensures { result.now ≡ take count (drop first items.now) }
-{
-    if first > items.len() {
-        &[]
-    } else if count > items.len() - first {
-        &items[first..]
-    } else {
-        &items[first..first + count]
-    }
-}
-
-fn all_items_part(first: usize, count: usize) -> &'static [Item]
-    ensures { result.now ≡ take count (drop first ITEMS) }
-{
-    items_part(&ITEMS, first, count)
-}
+use insn_text::{Item, SHAPES, STARTS, Shape, operands_of};
 
 /// The operands of a shape.
-#[tactic(auto, unfolding(insn_text::specs::Texts::items_of))]
 pub(crate) fn items_of(shape: &Shape) -> &'static [Item]
     ensures value { result.now ≡ items_of shape.now }
     ensures sound { list_all is_sound result.now ≡ true }
 {
-    all_items_part(usize::from(shape.first), usize::from(shape.count))
+    operands_of(shape)
 }
 
 /// So many shapes from a place on.

@@ -14,11 +14,11 @@ use Rattle.insn_text.specs.Texts.{text_in}
 use Rattle.asm_tokens.specs.declared.token.Token.{Token}
 use Rattle.asm_tokens.specs.declared.token.Lexeme.{Lexeme}
 use Rattle.asm_tokens.specs.Characters.{column_at, before_comment}
-use Rattle.asm_tokens.specs.Tokens.{place_in}
+use Rattle.asm_tokens.specs.Tokens.{place_in, is_name, is_number_token}
 use Rattle.asm_operands.specs.declared.fault.FaultKind.{FaultKind}
 use Rattle.asm_operands.specs.declared.fault.FaultKind.TheVariants.{UnknownName, BadNumber, Extra, BadOperand}
 use Rattle.asm_operands.specs.declared.operands.Target.{Target}
-use Rattle.asm_operands.specs.Operands.{first_word, target_of, shapes_of, is_name, is_number_token}
+use Rattle.asm_operands.specs.Operands.{first_word, target_of, shapes_of}
 use Rattle.asm_parser.specs.Statements.{QuadValue, TargetSaid, Says, Nothing, IntoText, IntoData, Quads, Words, Bytes, Zeros, Aligns, Globals, Instructs, SourceLine}
 use Rattle.asm_parser.specs.Lines.{Answer, Tells, Stops, and_then, further, ends, one_number, one_name, values_from, number_value, quad_value, text_of_lexeme, Directive, TextDirective, DataDirective, QuadDirective, WordDirective, ByteDirective, ZeroDirective, AlignDirective, GlobalDirective, directive_of, directive_says, named_says, tokens_say}
 use Rattle.asm_parser.specs.Grammar.{Written, written, IsName, IsNumberTo, IsValue, IsNothing, IsOne, AreListed, Begins, target_written, IsInstruction, IsWritten, IsMeaning, GoesOn, IsWhole, WantsNumber, IsWhy, StopsAt, IsFirstFault, IsLineWhy}

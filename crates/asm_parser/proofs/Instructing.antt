@@ -12,11 +12,11 @@ use Rattle.insn_text.specs.declared.item.Shape.{Shape}
 use Rattle.asm_tokens.specs.declared.token.Token.{Token}
 use Rattle.asm_tokens.specs.declared.token.Lexeme.{Lexeme}
 use Rattle.asm_tokens.specs.Characters.{column_at}
-use Rattle.asm_tokens.specs.Tokens.{place_in}
+use Rattle.asm_tokens.specs.Tokens.{place_in, is_name, is_number_token}
 use Rattle.asm_operands.specs.declared.fault.FaultKind.{FaultKind}
 use Rattle.asm_operands.specs.declared.fault.FaultKind.TheVariants.{UnknownName, BadNumber, Extra, BadOperand}
 use Rattle.asm_operands.specs.declared.operands.Target.{Target}
-use Rattle.asm_operands.specs.Operands.{shapes_of, first_word, furthest, target_of, is_name, is_number_token, wants_number, is_whole, kind_at, operand_fault, OperandsSaid, operands_said}
+use Rattle.asm_operands.specs.Operands.{shapes_of, first_word, furthest, target_of, wants_number, is_whole, kind_at, operand_fault, OperandsSaid, operands_said}
 use Rattle.asm_operands.specs.Operands as operands
 use Rattle.asm_operands.proofs.GoesOn.{goes-on, number-goes-on}
 use Rattle.asm_operands.proofs.Stops.{stops}

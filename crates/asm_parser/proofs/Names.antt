@@ -9,12 +9,11 @@ use Rattle.insn_text.specs.declared.item.RegisterFile.{RegisterFile}
 use Rattle.asm_tokens.specs.declared.token.Lexeme.{Lexeme}
 use Rattle.asm_tokens.specs.declared.token.Token.TheVariants.{Register}
 use Rattle.asm_tokens.specs.Characters.{is_blank, is_digit, is_name_character, front, column_at, starts_comment, before_comment}
-use Rattle.asm_tokens.specs.Tokens.{Read, run, begins_name, has_sign, name_token, token_or, register_of, register_in, token_of_name, number_token, distance_token, bare_token, place_in, read_number, read_distance, read_run, read_character, read_token, lexeme_at}
+use Rattle.asm_tokens.specs.Tokens.{Read, run, begins_name, has_sign, name_token, token_or, register_of, register_in, token_of_name, number_token, distance_token, bare_token, place_in, read_number, read_distance, read_run, read_character, read_token, lexeme_at, is_name}
 use Rattle.asm_tokens.proofs.Steps.{take_front, front-length}
 use Rattle.asm_tokens.proofs.Following.{lexemes-skip, lexemes-none, lexemes-some}
 use Rattle.asm_tokens.proofs.Naming.{named, first-name}
 use Rattle.asm_operands.specs.declared.fault.FaultKind.TheVariants.{UnknownName, Extra}
-use Rattle.asm_operands.specs.Operands.{is_name}
 use Rattle.asm_parser.specs.declared.stops.Stop.{Stop}
 use Rattle.asm_parser.specs.declared.stops.Stop.TheVariants.{Fault, Memory}
 use Rattle.asm_parser.specs.Statements.{Nothing}

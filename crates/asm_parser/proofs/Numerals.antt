@@ -9,7 +9,7 @@ use Rattle.std.proofs.lemmas.Bool.{and_from, and_right, or_left, cases_lt, cond-
 use Rattle.std.proofs.lemmas.Bool.Decides.{nat_tests}
 use Rattle.std.proofs.lemmas.Fmt.{digits_is_IsNumeral, decimal_is_IsNumeral, decimal_digit, first_decimal}
 use Rattle.asm_tokens.specs.Characters.{is_digit, is_name_character}
-use Rattle.asm_tokens.specs.Numbers.{is_hex_digit, digit_of, number_after, if_fits, is_decimal, decimal_number, is_hexadecimal, hexadecimal_number, begins_hexadecimal, number_in}
+use Rattle.asm_tokens.specs.Numbers.{is_hex_digit, digit_of, number_after, if_fits, digits_in, decimal_number, hexadecimal_number, begins_hexadecimal, number_in}
 
 -- ---- digits
 
@@ -65,9 +65,10 @@ module _ (n : ℕ) (lt : n < 2 ^ 64) where
   ]
 
   pub decimal-read : decimal_number (decimal n) ≡ Some n
-  unfolding decimal_number is_decimal
+  unfolding decimal_number digits_in
   decimal-read =
-      cond-true _ _ None (and_from _ _ (and_from _ _ (all_pass 10 is_digit decimal_digit_is (decimal n) numeral.0.1) (lt-ltb 0 (length (decimal n)) numeral.0.0)) no_leading_zero)
+      cond-true _ _ None (and_from _ _ (lt-ltb 0 (length (decimal n)) numeral.0.0) no_leading_zero)
+      ∙ cond-true _ _ None (all_pass 10 is_digit decimal_digit_is (decimal n) numeral.0.1)
       ∙ ap if_fits (number_same 10 (lit≤ tt) 0 (decimal n) numeral.0.1 ∙ numeral.1) ∙ fits n lt
 
   pub decimal-names : list_all is_name_character (decimal n) ≡ true
@@ -88,9 +89,10 @@ module _ (n : ℕ) (lt : n < 2 ^ 64) where
   hex_numeral = digits_is_IsNumeral 16 false (lit≤ tt) (lit≤ tt) n (omega arith)
 
   pub hexadecimal-read : hexadecimal_number (digits 16 false n) ≡ Some n
-  unfolding hexadecimal_number is_hexadecimal
+  unfolding hexadecimal_number digits_in
   hexadecimal-read =
-      cond-true _ _ None (and_from _ _ (all_pass 16 is_hex_digit hex_digit_is (digits 16 false n) hex_numeral.0.1) (lt-ltb 0 (length (digits 16 false n)) hex_numeral.0.0))
+      cond-true _ _ None (lt-ltb 0 (length (digits 16 false n)) hex_numeral.0.0)
+      ∙ cond-true _ _ None (all_pass 16 is_hex_digit hex_digit_is (digits 16 false n) hex_numeral.0.1)
       ∙ ap if_fits (number_same 16 (lit≤ tt) 0 (digits 16 false n) hex_numeral.0.1 ∙ hex_numeral.1) ∙ fits n lt
 
   pub hexadecimal-names : list_all is_name_character (digits 16 false n) ≡ true

@@ -20,7 +20,7 @@ use Rattle.insn_text.specs.Texts.{text_in, text_at, is_positive, size_of, mask_i
 use Rattle.insn_text.specs.Rules.{is_within, meets, is_sayable}
 use Rattle.asm_tokens.specs.declared.token.Token.TheVariants as token
 use Rattle.asm_tokens.specs.Characters.{is_name_character, is_digit, is_blank}
-use Rattle.asm_tokens.specs.Numbers.{decimal_number, is_decimal, digit_of}
+use Rattle.asm_tokens.specs.Numbers.{decimal_number, digits_in, digit_of}
 use Rattle.asm_tokens.specs.Tokens.{place_in, file_of, register_of, register_in, lexemes_from, lexemes_of}
 use Rattle.asm_tokens.proofs.Following.{lexemes-blank}
 use Rattle.asm_operands.specs.Shown.{mask_token, token_said, item_token}
@@ -45,7 +45,7 @@ unfoldable pub is_good_word : ℕ → Bool
 is_good_word place = (is_plain (text_at WORDS place) && finds place (place_in WORDS (text_at WORDS place))) && not (is_some (register_in (text_at WORDS place)))
 
 words_good : all_below is_good_word 36 ≡ true
-unfolding all_below is_good_word is_plain finds place_in text_in is_name_character is_digit register_in register_of file_of decimal_number is_decimal digit_of
+unfolding all_below is_good_word is_plain finds place_in text_in is_name_character is_digit register_in register_of file_of decimal_number digits_in digit_of
 words_good = refl
 
 unfoldable pub is_good_name : ℕ → Bool

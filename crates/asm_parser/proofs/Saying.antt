@@ -4,7 +4,7 @@ use Rattle.std.proofs.lemmas.List.{append-nil, map-append}
 use Rattle.asm_tokens.specs.declared.token.Lexeme.{Lexeme}
 use Rattle.asm_operands.specs.declared.fault.FaultKind.{FaultKind}
 use Rattle.asm_operands.specs.declared.fault.FaultKind.TheVariants.{BadNumber, Extra, BadOperand}
-use Rattle.asm_operands.specs.Operands.{is_name, is_number_token}
+use Rattle.asm_tokens.specs.Tokens.{is_name, is_number_token}
 use Rattle.asm_parser.specs.declared.stops.Stop.{Stop}
 use Rattle.asm_parser.specs.declared.stops.Stop.TheVariants.{Fault, Memory}
 use Rattle.asm_parser.specs.Lines.{Answer, Tells, Stops, and_then, further, ends, no_number, number_up_to, number_then_end, one_number, one_name, text_of_lexeme, cons_answer, is_comma_token, value_or_fault, values_from}

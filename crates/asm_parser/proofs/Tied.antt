@@ -6,7 +6,7 @@ use Rattle.asm_tokens.specs.declared.token.Token.TheVariants.{Word, Name, Number
 use Rattle.asm_tokens.specs.declared.token.Lexeme.{Lexeme}
 use Rattle.asm_operands.specs.declared.fault.FaultKind.{FaultKind}
 use Rattle.asm_operands.specs.declared.fault.FaultKind.TheVariants.{UnknownName, BadNumber, Extra, BadOperand}
-use Rattle.asm_operands.specs.Operands.{is_name, is_number_token}
+use Rattle.asm_tokens.specs.Tokens.{is_name, is_number_token}
 use Rattle.asm_parser.specs.Statements.{QuadValue, IsNumber, IsAddressOf}
 use Rattle.asm_parser.specs.Lines.{Answer, Tells, Stops, and_then, further, ends, no_number, number_up_to, number_then_end, one_number, one_name, text_of_lexeme, cons_answer, is_comma_token, value_or_fault, values_from, number_value, quad_value}
 use Rattle.asm_parser.specs.Grammar.{Written, written, IsName, IsNumberTo, IsValue, IsComma, IsOne, AreMore, AreListed, GoesOn, IsWhole, WantsNumber, IsWhy, StopsAt, IsFirstFault}

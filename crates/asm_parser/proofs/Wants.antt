@@ -11,11 +11,12 @@ use Rattle.insn_text.specs.declared.item.Kind.{Kind}
 use Rattle.insn_text.specs.declared.item.Kind.TheVariants as kind
 use Rattle.insn_text.specs.declared.item.Shape.{Shape}
 use Rattle.insn_text.specs.Texts.{items_of, bits_of}
+use Rattle.asm_tokens.specs.Tokens.{is_number_token}
 use Rattle.asm_tokens.specs.declared.token.Token.{Token}
 use Rattle.asm_tokens.specs.declared.token.Token.TheVariants.{Register, Word, Name, Mark}
 use Rattle.asm_operands.specs.declared.operands.Target.{Target}
 use Rattle.asm_operands.specs.Fields.{on_mark, on_word, on_register, word_field, register_field, field_said}
-use Rattle.asm_operands.specs.Operands.{Known, known_with, known_after, agrees, with_field, taken_on, taken, reach_on, reach, fixed, word_in, reach_in, shapes_of, first_of_words, first_word, furthest, is_number_kind, is_number_token, is_number_item, wants_number, is_whole, OperandsSaid, Says, Fails, Fault, said_or, if_meant, word_said, operand_fault, operands_said, target_of}
+use Rattle.asm_operands.specs.Operands.{Known, known_with, known_after, agrees, with_field, taken_on, taken, reach_on, reach, fixed, word_in, reach_in, shapes_of, first_of_words, first_word, furthest, is_number_kind, is_number_item, wants_number, is_whole, OperandsSaid, Says, Fails, Fault, said_or, if_meant, word_said, operand_fault, operands_said, target_of}
 
 some_is : {A : Type 0} (a b : A) → ◌≡◌ {A = Option A} (Some a) (Some b) → a ≡ b
 some_is a b e = cc

@@ -12,11 +12,11 @@ use Rattle.asm_tokens.specs.declared.token.Token.TheVariants.{Bare, Mark}
 use Rattle.asm_tokens.specs.declared.token.Lexeme.{Lexeme}
 use Rattle.asm_tokens.specs.Characters.{is_blank, is_digit, is_name_character, characters, column_at}
 use Rattle.asm_tokens.specs.Characters.{before_comment}
-use Rattle.asm_tokens.specs.Tokens.{place_in}
+use Rattle.asm_tokens.specs.Tokens.{place_in, is_name, is_number_token}
 use Rattle.asm_operands.specs.declared.fault.FaultKind.{FaultKind}
 use Rattle.asm_operands.specs.declared.fault.FaultKind.TheVariants.{UnknownName, BadNumber, Extra, BadOperand}
 use Rattle.asm_operands.specs.declared.operands.Target.{Target}
-use Rattle.asm_operands.specs.Operands.{first_word, target_of, shapes_of, is_name, is_number_token}
+use Rattle.asm_operands.specs.Operands.{first_word, target_of, shapes_of}
 use Rattle.asm_parser.specs.declared.line.LineFault.{LineFault}
 use Rattle.asm_parser.specs.Statements.{QuadValue, IsNumber, IsAddressOf, TargetSaid, Says, Nothing, IntoText}
 use Rattle.asm_parser.specs.Statements.{IntoData, Quads, Words, Bytes, Zeros, Aligns, Globals, Instructs}

@@ -11,10 +11,10 @@ use Rattle.asm_tokens.specs.declared.token.Token.TheVariants.{Bare, Mark}
 use Rattle.asm_tokens.specs.declared.token.Lexeme.{Lexeme}
 use Rattle.asm_tokens.specs.Characters.{is_digit, is_blank, characters, column_at, before_comment, front}
 use Rattle.asm_tokens.specs.Characters.{back}
-use Rattle.asm_tokens.specs.Tokens.{run, lexemes_of, place_in}
+use Rattle.asm_tokens.specs.Tokens.{run, lexemes_of, place_in, is_name, is_number_token}
 use Rattle.asm_operands.specs.declared.fault.FaultKind.{FaultKind}
 use Rattle.asm_operands.specs.declared.fault.FaultKind.TheVariants.{UnknownName, BadNumber, Extra, BadOperand}
-use Rattle.asm_operands.specs.Operands.{OperandsSaid, operands_said, is_name, is_number_token}
+use Rattle.asm_operands.specs.Operands.{OperandsSaid, operands_said}
 use Rattle.asm_operands.specs.declared.operands.Target.{Target}
 use Rattle.asm_operands.specs.Operands as operands
 use Rattle.asm_parser.specs.declared.line.LineFault.{LineFault}

@@ -8,9 +8,9 @@ ghost use Rattle.asm_parser.specs.Lines.{quad_value};
 ghost use Rattle.asm_parser.specs.Told.{said_from, Shows, before};
 
 use crate::line::Value;
-use crate::stops::{Stop, is_comma, is_name, no_number};
+use crate::stops::{Stop, is_comma, no_number};
 use asm_operands::FaultKind;
-use asm_tokens::{Lexeme, Token, next_lexeme};
+use asm_tokens::{Lexeme, Token, is_name, next_lexeme};
 use std::alloc::Global;
 
 /// A number without `#`, up to the greatest.

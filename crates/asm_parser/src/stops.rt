@@ -1,12 +1,12 @@
 //! Where a line goes no further, and why.
 ghost use Rattle.std.specs.Prelude.{◌≡◌, ◌<◌, ◌^◌, ◌-◌, length, Some, if◌then◌else◌};
-ghost use Rattle.asm_operands.specs.Operands.{is_name, is_number_token};
+ghost use Rattle.asm_tokens.specs.Tokens.{is_number_token};
 ghost use Rattle.asm_parser.specs.Lines.{is_comma_token};
 ghost use Rattle.asm_parser.specs.Told.{stop_fault};
 
 use crate::line::LineFault;
 use asm_operands::FaultKind;
-use asm_tokens::{Lexeme, Token, column_at};
+use asm_tokens::{Lexeme, Token, column_at, is_number};
 
 /// Why a line goes no further.
 #[derive(Clone, Copy)]
@@ -18,33 +18,6 @@ pub enum Stop {
     },
     /// Want of memory.
     Memory,
-}
-
-/// A token is a name.
-#[tactic(auto, unfolding(asm_operands::specs::Operands::is_name))]
-pub fn is_name(token: Token) -> bool
-    ensures { result ≡ is_name token }
-{
-    match token {
-        Token::Register { .. } => true,
-        Token::Word(_) => true,
-        Token::Name => true,
-        _ => false,
-    }
-}
-
-/// A token is a number of any form.
-#[tactic(auto, unfolding(asm_operands::specs::Operands::is_number_token))]
-pub fn is_number(token: Token) -> bool
-    ensures { result ≡ is_number_token token }
-{
-    match token {
-        Token::Number { .. } => true,
-        Token::Distance { .. } => true,
-        Token::Bare(_) => true,
-        Token::Malformed => true,
-        _ => false,
-    }
 }
 
 /// A token is a comma.

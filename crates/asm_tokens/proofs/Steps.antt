@@ -6,8 +6,8 @@ use Rattle.std.proofs.lemmas.List.{append-nil, drop-drop, at_drop_more, at_drop_
 use Rattle.std.proofs.lemmas.List.Sums.{prefix_len-drop_yes, prefix_len-drop_no, prefix_len-drop_all, prefix_len-le-length}
 use Rattle.std.proofs.Math.Nat.{mul-le-mul_left}
 use Rattle.std.proofs.lemmas.Bool.{le-ltb}
-use Rattle.asm_tokens.specs.Characters.{is_digit, front, starts_comment, before_comment}
-use Rattle.asm_tokens.specs.Numbers.{is_hex_digit, digit_of, number_after, if_fits, is_decimal, decimal_number, is_hexadecimal, hexadecimal_number}
+use Rattle.asm_tokens.specs.Characters.{front, starts_comment, before_comment}
+use Rattle.asm_tokens.specs.Numbers.{digit_of, number_after, if_fits}
 use Rattle.asm_tokens.specs.Places.{hash_after}
 
 -- what a text has from a place on, from a place on
@@ -96,23 +96,6 @@ digits-large test base n xs at some lt e large =
 
 pub digits-end : (test : ℕ → Bool) (base n : ℕ) (xs : List ℕ) (at : ℕ) → n < 2 ^ 64 → length xs ≤ at → read_digits test base n (drop at xs) ≡ Some n
 digits-end test base n xs at fits le = at_drop_all (read_digits test base n) xs at le ∙ ap (λ b. cond b (Some n) None) (lt-ltb n (2 ^ 64) fits)
-
-cond_parts : (a b c : Bool) (o : Option ℕ) → cond ((a && b) && c) o None ≡ cond (b && c) (cond a o None) None
-cond_parts true b c o = refl
-cond_parts false true c o = sym (none_both c None refl)
-cond_parts false false c o = refl
-
-cond_swap : (a b : Bool) (o : Option ℕ) → cond (a && b) o None ≡ cond b (cond a o None) None
-cond_swap true b o = refl
-cond_swap false b o = sym (none_both b None refl)
-
-pub decimal_by_digits : (ds : List ℕ) → decimal_number ds ≡ cond (nat_lt 0 (length ds) && (not (get_or ds 0 0 == 48) || (length ds == 1))) (read_digits is_digit 10 0 ds) None
-unfolding decimal_number is_decimal
-decimal_by_digits ds = cond_parts (list_all is_digit ds) (nat_lt 0 (length ds)) _ (if_fits (number_after 10 0 ds))
-
-pub hexadecimal_by_digits : (ds : List ℕ) → hexadecimal_number ds ≡ cond (nat_lt 0 (length ds)) (read_digits is_hex_digit 16 0 ds) None
-unfolding hexadecimal_number is_hexadecimal
-hexadecimal_by_digits ds = cond_swap (list_all is_hex_digit ds) (nat_lt 0 (length ds)) (if_fits (number_after 16 0 ds))
 
 -- ---- hashes
 

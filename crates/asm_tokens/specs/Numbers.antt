@@ -3,6 +3,8 @@
 use Rattle.std.specs.Prelude.{ℕ, ◌+◌, ◌-◌, ◌*◌, ◌^◌, Bool, not, ◌&&◌, ◌||◌, ◌==◌, nat_lt, nat_le, List, []}
 use Rattle.std.specs.Prelude.{◌∷◌, length, slice_index, drop, Option, Some, None, if◌then◌else◌}
 use Rattle.std.specs.List.{list_all}
+use Rattle.asm_tokens.specs.declared.numbers.Base.{Base}
+use Rattle.asm_tokens.specs.declared.numbers.Base.TheVariants.{Ten, Sixteen}
 use Rattle.asm_tokens.specs.Characters.{is_between, is_digit}
 
 -- 0 to 9, a to f, A to F
@@ -22,19 +24,26 @@ number_after base n (d ∷ ds) = number_after base (n * base + digit_of d) ds
 abbrev pub if_fits : ℕ → Option ℕ
 if_fits n = if nat_lt n (2 ^ 64) then Some n else None
 
--- digits alone, at least one, of which the first is no 0 unless it stands alone
-unfoldable pub is_decimal : List ℕ → Bool
-is_decimal ds =
-    list_all is_digit ds && nat_lt 0 (length ds) && (not (slice_index ds 0 == 48) || (length ds == 1))
+abbrev pub radix : Base → ℕ
+radix Ten = 10
+radix Sixteen = 16
 
+abbrev pub is_digit_of : Base → ℕ → Bool
+is_digit_of Ten = is_digit
+is_digit_of Sixteen = is_hex_digit
+
+-- the number that a text is, if it is digits of the base alone
+unfoldable pub digits_in : Base → List ℕ → Option ℕ
+digits_in base ds = if list_all (is_digit_of base) ds then if_fits (number_after (radix base) 0 ds) else None
+
+-- at least one digit, of which the first is no 0 unless it stands alone
 unfoldable pub decimal_number : List ℕ → Option ℕ
-decimal_number ds = if is_decimal ds then if_fits (number_after 10 0 ds) else None
-
-unfoldable pub is_hexadecimal : List ℕ → Bool
-is_hexadecimal ds = list_all is_hex_digit ds && nat_lt 0 (length ds)
+decimal_number ds =
+    if nat_lt 0 (length ds) && (not (slice_index ds 0 == 48) || (length ds == 1)) then digits_in Ten ds
+    else None
 
 unfoldable pub hexadecimal_number : List ℕ → Option ℕ
-hexadecimal_number ds = if is_hexadecimal ds then if_fits (number_after 16 0 ds) else None
+hexadecimal_number ds = if nat_lt 0 (length ds) then digits_in Sixteen ds else None
 
 -- the text begins with `0x`
 unfoldable pub begins_hexadecimal : List ℕ → Bool

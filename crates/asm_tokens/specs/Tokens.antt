@@ -16,6 +16,21 @@ use Rattle.asm_tokens.specs.declared.token.Lexeme.{Lexeme}
 use Rattle.asm_tokens.specs.Characters.{is_digit, is_name_character, is_blank, is_continuation, front, back}
 use Rattle.asm_tokens.specs.Numbers.{number_in, decimal_number}
 
+-- the token is a name
+unfoldable pub is_name : Token → Bool
+is_name (Register file number) = true
+is_name (Word place) = true
+is_name Name = true
+is_name _ = false
+
+-- the token is a number of any form
+unfoldable pub is_number_token : Token → Bool
+is_number_token (Number negative size) = true
+is_number_token (Distance back size) = true
+is_number_token (Bare size) = true
+is_number_token Malformed = true
+is_number_token _ = false
+
 -- the place of a text in a table
 unfoldable pub place_in : List Text → List ℕ → Option ℕ
 place_in texts text = position (λ t. bytes_eq (text_in (Some t)) text) texts

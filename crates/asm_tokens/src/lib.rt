@@ -12,4 +12,4 @@ mod token;
 pub use characters::{before_comment, byte_at, column_at, is_digit, run_at, skip_blanks};
 pub use lexemes::{begins_name, next_lexeme};
 pub use names::name_place;
-pub use token::{Lexeme, Token};
+pub use token::{Lexeme, Token, is_name, is_number};

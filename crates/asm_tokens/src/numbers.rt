@@ -1,10 +1,9 @@
 //! The numbers of a line.
-ghost use Rattle.std.specs.Prelude.{◌≡◌, ◌+◌, ◌*◌, ◌^◌, ◌<◌, ◌&&◌, ◌||◌, ◌==◌, not, nat_lt, None, SomeIff};
-ghost use Rattle.std.specs.Prelude.{length, slice_index, if◌then◌else◌};
-ghost use Rattle.std.specs.List.{list_all};
+ghost use Rattle.std.specs.Prelude.{◌≡◌, ◌+◌, ◌*◌, ◌^◌, ◌<◌, ◌&&◌, ◌||◌, ◌==◌, not, nat_lt, SomeIff};
+ghost use Rattle.std.specs.Prelude.{length, slice_index};
 ghost use Rattle.asm_tokens.specs.Characters.{is_digit};
-ghost use Rattle.asm_tokens.specs.Numbers.{is_hex_digit, digit_of, number_after, if_fits, decimal_number};
-ghost use Rattle.asm_tokens.specs.Numbers.{hexadecimal_number, number_in};
+ghost use Rattle.asm_tokens.specs.Numbers.{is_hex_digit, is_digit_of, digit_of, radix, digits_in};
+ghost use Rattle.asm_tokens.specs.Numbers.{decimal_number, hexadecimal_number, number_in};
 
 use crate::characters::{byte_at, is_digit};
 
@@ -38,33 +37,44 @@ fn with_digit(number: u64, base: u64, digit: u64) -> Option<u64>
     }
 }
 
-fn decimal_digits(digits: &[u8]) -> Option<u64>
-    ensures { result ≡ (if list_all is_digit digits.now then if_fits (number_after 10 0 digits.now) else None) }
-{
-    let mut number = 0;
-    for at in 0..digits.len() {
-        let c = digits[at];
-        if !is_digit(c) {
-            return None;
-        }
-        match with_digit(number, 10, digit_of(c)) {
-            Some(next) => number = next,
-            None => return None,
-        }
-    }
-    Some(number)
+/// The base of a number's digits.
+#[derive(Clone, Copy)]
+enum Base {
+    Ten,
+    Sixteen,
 }
 
-fn hexadecimal_digits(digits: &[u8]) -> Option<u64>
-    ensures { result ≡ (if list_all is_hex_digit digits.now then if_fits (number_after 16 0 digits.now) else None) }
+#[tactic(auto, unfolding(crate::specs::Numbers::radix))]
+fn radix(base: Base) -> u64
+    ensures { result ≡ radix base }
+{
+    match base {
+        Base::Ten => 10,
+        Base::Sixteen => 16,
+    }
+}
+
+#[tactic(auto, unfolding(crate::specs::Numbers::is_digit_of))]
+fn is_digit_of(base: Base, c: u8) -> bool
+    ensures { result ≡ is_digit_of base c }
+{
+    match base {
+        Base::Ten => is_digit(c),
+        Base::Sixteen => is_hex_digit(c),
+    }
+}
+
+/// The number that digits of a base are, if it fits 64 bits.
+fn digits_in(base: Base, digits: &[u8]) -> Option<u64>
+    ensures { result ≡ digits_in base digits.now }
 {
     let mut number = 0;
     for at in 0..digits.len() {
         let c = digits[at];
-        if !is_hex_digit(c) {
+        if !is_digit_of(base, c) {
             return None;
         }
-        match with_digit(number, 16, digit_of(c)) {
+        match with_digit(number, radix(base), digit_of(c)) {
             Some(next) => number = next,
             None => return None,
         }
@@ -81,23 +91,23 @@ fn has_no_leading_zero(digits: &[u8]) -> bool
 }
 
 /// The number that decimal digits are, with no leading zero.
-#[tactic(auto, using(crate::proofs::Steps::decimal_by_digits))]
+#[tactic(auto, unfolding(crate::specs::Numbers::decimal_number))]
 pub fn decimal_number(digits: &[u8]) -> Option<u64>
     ensures { result ≡ decimal_number digits.now }
 {
     if has_no_leading_zero(digits) {
-        decimal_digits(digits)
+        digits_in(Base::Ten, digits)
     } else {
         None
     }
 }
 
-#[tactic(auto, using(crate::proofs::Steps::hexadecimal_by_digits))]
+#[tactic(auto, unfolding(crate::specs::Numbers::hexadecimal_number))]
 fn hexadecimal_number(digits: &[u8]) -> Option<u64>
     ensures { result ≡ hexadecimal_number digits.now }
 {
     if 0 < digits.len() {
-        hexadecimal_digits(digits)
+        digits_in(Base::Sixteen, digits)
     } else {
         None
     }

@@ -1,4 +1,7 @@
 //! The tokens of a line of a source.
+ghost use Rattle.std.specs.Prelude.{◌≡◌};
+ghost use Rattle.asm_tokens.specs.Tokens.{is_name, is_number_token};
+
 use insn_text::RegisterFile;
 
 /// A token. A name is a run of letters, digits, `_`, `.` and `$` that begins with no digit.
@@ -31,4 +34,23 @@ pub struct Lexeme {
     pub token: Token,
     pub start: usize,
     pub end: usize,
+}
+
+/// Whether the token is a name.
+#[tactic(auto, unfolding(crate::specs::Tokens::is_name))]
+pub fn is_name(token: Token) -> bool
+    ensures { result ≡ is_name token }
+{
+    matches!(token, Token::Register { .. } | Token::Word(_) | Token::Name)
+}
+
+/// Whether the token is a number of any form.
+#[tactic(auto, unfolding(crate::specs::Tokens::is_number_token))]
+pub fn is_number(token: Token) -> bool
+    ensures { result ≡ is_number_token token }
+{
+    matches!(
+        token,
+        Token::Number { .. } | Token::Distance { .. } | Token::Bare(_) | Token::Malformed
+    )
 }

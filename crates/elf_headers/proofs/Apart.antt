@@ -7,7 +7,7 @@ use Rattle.std.proofs.lemmas.Bool.Decides.{nat_tests}
 use Rattle.elf_headers.specs.declared.fault.LoadFault.TheVariants.{Overlap}
 use Rattle.elf_headers.specs.declared.spans.Span.{Span}
 use Rattle.elf_headers.specs.Below.{first_below}
-use Rattle.elf_headers.specs.Fault.{fault_when}
+use Rattle.sm_types.specs.Checks.{fault_when}
 use Rattle.elf_headers.specs.Header.{segment_count}
 use Rattle.elf_headers.specs.Segments.{segment_of, is_load}
 use Rattle.elf_headers.specs.Loads.{share, overlap_at}

@@ -2,7 +2,7 @@
 use Rattle.std.proofs.Common.{◌≡◌, Bool, true, false, Option, Some, None, refl}
 use Rattle.std.specs.Option.{option_or}
 use Rattle.elf_headers.specs.declared.fault.LoadFault.{LoadFault}
-use Rattle.elf_headers.specs.Fault.{fault_when, fault_only}
+use Rattle.sm_types.specs.Checks.{fault_when, fault_only}
 
 -- a check that is passed, and those after it
 pub passed : (test : Bool) (fault : LoadFault) (rest : Option LoadFault) → option_or (fault_when test fault) rest ≡ None → (test ≡ false) × (rest ≡ None)

@@ -12,7 +12,7 @@ use Rattle.paged_memory.proofs.Count.{placed_by_ends}
 use Rattle.elf_headers.specs.declared.fault.LoadFault.TheVariants.{Overlap, TooManyPages}
 use Rattle.elf_headers.specs.declared.header.ProgramHeader.{ProgramHeader}
 use Rattle.elf_headers.specs.Below.{first_below, answers, answers_below}
-use Rattle.elf_headers.specs.Fault.{fault_when}
+use Rattle.sm_types.specs.Checks.{fault_when}
 use Rattle.elf_headers.specs.Header.{segment_count}
 use Rattle.elf_headers.specs.Segments.{segment_of, is_load, segments_fault}
 use Rattle.elf_headers.specs.Loads.{load_of, loads_of, extent_of_load, extents_of, share, overlap_at, overlap_fault, pages_fault, IsSound, AreSound}

@@ -11,7 +11,7 @@ use Rattle.elf_headers.specs.declared.fault.LoadFault.TheVariants.{TooManyPages,
 use Rattle.elf_headers.specs.declared.header.ProgramHeader.{ProgramHeader}
 use Rattle.elf_headers.specs.declared.spans.Span.{Span}
 use Rattle.elf_headers.specs.Below.{any_below, count_below}
-use Rattle.elf_headers.specs.Fault.{fault_when}
+use Rattle.sm_types.specs.Checks.{fault_when}
 use Rattle.elf_headers.specs.Header.{header_entry, segment_count}
 use Rattle.elf_headers.specs.Segments.{segment_of, is_load, segments_fault}
 use Rattle.elf_headers.specs.Loads.{load_of, loads_of, extent_of_load, extents_of, pages_fault, has_executable, is_executable_at, entry_fault}

@@ -6,8 +6,7 @@ use Rattle.byteorder.specs.Endian.{little_number}
 use Rattle.elf_headers.specs.declared.fault.LoadFault.{LoadFault}
 use Rattle.elf_headers.specs.declared.fault.LoadFault.TheVariants.{TooLong, Truncated, NotElf, NotThisMachine}
 use Rattle.elf_headers.specs.declared.fault.LoadFault.TheVariants.{NotStatic, BadTable}
-use Rattle.sm_types.specs.Checks.{first_fault}
-use Rattle.elf_headers.specs.Fault.{fault_when}
+use Rattle.sm_types.specs.Checks.{first_fault, fault_when}
 
 -- the number of n bytes at a place of the file, the low byte first
 unfoldable pub number_at : List ℕ → ℕ → ℕ → ℕ

@@ -9,8 +9,7 @@ use Rattle.elf_headers.specs.declared.fault.LoadFault.{LoadFault}
 use Rattle.elf_headers.specs.declared.fault.LoadFault.TheVariants.{Overlap, TooManyPages, EntryOutside}
 use Rattle.elf_headers.specs.declared.header.ProgramHeader.{ProgramHeader}
 use Rattle.elf_headers.specs.Below.{first_below, any_below, answers_below}
-use Rattle.sm_types.specs.Checks.{first_fault}
-use Rattle.elf_headers.specs.Fault.{fault_when}
+use Rattle.sm_types.specs.Checks.{first_fault, fault_when}
 use Rattle.elf_headers.specs.Header.{header_entry, segment_count, length_fault, kind_fault, table_fault}
 use Rattle.elf_headers.specs.Segments.{segment_of, is_load, segments_fault}
 

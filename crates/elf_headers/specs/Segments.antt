@@ -6,8 +6,7 @@ use Rattle.elf_headers.specs.declared.fault.LoadFault.{LoadFault}
 use Rattle.elf_headers.specs.declared.fault.LoadFault.TheVariants.{Truncated, NotStatic, BadTable, InShared}
 use Rattle.elf_headers.specs.declared.header.ProgramHeader.{ProgramHeader}
 use Rattle.elf_headers.specs.Below.{first_below}
-use Rattle.sm_types.specs.Checks.{first_fault}
-use Rattle.elf_headers.specs.Fault.{fault_when, fault_only}
+use Rattle.sm_types.specs.Checks.{first_fault, fault_when, fault_only}
 use Rattle.elf_headers.specs.Header.{number_at, segments_at, segment_count}
 
 -- the place of program header number i

@@ -2,7 +2,8 @@
 ghost use Rattle.std.specs.Prelude.{◌≡◌, ◌≢◌, ◌%◌, ◌<◌, ◌≤◌, length, ◌==◌, ◌&&◌, not, None, Some, IfOk};
 ghost use Rattle.std.specs.Prelude.{IfErr};
 ghost use Rattle.std.specs.List.{list_any};
-ghost use Rattle.elf_headers.specs.Fault.{Tells, fault_when};
+ghost use Rattle.sm_types.specs.Checks.{fault_when};
+ghost use Rattle.elf_headers.specs.Fault.{Tells};
 ghost use Rattle.elf_headers.specs.Header.{segment_count, HasTable};
 ghost use Rattle.elf_headers.specs.Loads.{load_of, loads_of, has_executable, headers_fault, AreSound};
 

@@ -1,7 +1,8 @@
 //! How many pages the loads touch.
 ghost use Rattle.std.specs.Prelude.{◌≡◌, ◌+◌, ◌^◌, ◌≤◌, All, nat_lt};
 ghost use Rattle.std.specs.List.Sorted.{IsNonDecreasingBy};
-ghost use Rattle.elf_headers.specs.Fault.{Tells, fault_when};
+ghost use Rattle.sm_types.specs.Checks.{fault_when};
+ghost use Rattle.elf_headers.specs.Fault.{Tells};
 ghost use Rattle.elf_headers.specs.Spans.{pages_below, IsLow};
 
 use crate::fault::LoadFault;

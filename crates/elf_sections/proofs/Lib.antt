@@ -1,6 +1,7 @@
 pub mod Governing
 pub mod Answers
 pub mod Names
+pub mod MappingNames
 pub mod Covering
 pub mod Loaded
 pub mod Tables

@@ -5,7 +5,7 @@ use Rattle.std.proofs.lemmas.Bool.{and_parts, ltb-true, eqb-true}
 use Rattle.std.proofs.lemmas.Bool.Decides.{nat_tests}
 use Rattle.elf_headers.specs.declared.fault.LoadFault.{LoadFault}
 use Rattle.elf_headers.specs.declared.fault.LoadFault.TheVariants.{BadTable}
-use Rattle.elf_headers.specs.Fault.{fault_when, fault_only}
+use Rattle.sm_types.specs.Checks.{fault_when, fault_only}
 use Rattle.std.specs.Option.{option_or}
 use Rattle.elf_headers.specs.Below.{first_below}
 use Rattle.elf_sections.specs.declared.section.SectionHeader.{SectionHeader}

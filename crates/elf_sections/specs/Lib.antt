@@ -1,5 +1,6 @@
 pub mod Sections
 pub mod Marks
+pub mod FirstBytes
 pub mod Code
 pub mod Cover
 pub mod Repeats

@@ -1,10 +1,9 @@
 -- Mapping symbols: which bytes of a section are code, and which are data.
 -- Source: ELF for the Arm 64-bit Architecture (AArch64), mapping symbols `$x` and `$d`, by name alone.
-use Rattle.std.specs.Prelude.{◌≡◌, ◌<◌, ◌≤◌, length, ℕ, zero, suc, ◌+◌, Bool, true, false, cond, List, []}
-use Rattle.std.specs.Prelude.{◌++◌, Option, Some, None, ◌==◌, ◌&&◌, ◌||◌, if◌then◌else◌}
+use Rattle.std.specs.Prelude.{◌≡◌, ◌<◌, ◌≤◌, length, ℕ, zero, suc, ◌+◌, Bool, true, false, cond, List, [], ◌∷◌}
+use Rattle.std.specs.Prelude.{◌++◌, drop, Option, Some, None, option_map, ◌==◌}
 use Rattle.std.specs.List.{filter_map}
-use Rattle.sm_types.specs.Objects.{dollar, dot, code_letter, data_letter, Mapping, governing_mapping}
-use Rattle.sm_types.specs.Objects.{mapping_says_code}
+use Rattle.sm_types.specs.Objects.{name_says, Mapping, governing_mapping, mapping_says_code}
 use Rattle.elf_headers.specs.Below.{answers_below}
 use Rattle.elf_headers.specs.Header.{number_at}
 use Rattle.elf_sections.specs.declared.section.SectionHeader.{SectionHeader}
@@ -12,11 +11,14 @@ use Rattle.elf_sections.specs.declared.marks.Mark.{Mark}
 use Rattle.elf_sections.specs.Sections.{section_of, section_count, is_symbol_table, symbol_count, symbol_at}
 use Rattle.elf_sections.specs.Sections.{strings_of}
 
--- the name that begins at a place of the file is `$` and the letter, or these followed by `.` and a suffix
-unfoldable pub is_mapping_name : List ℕ → ℕ → ℕ → Bool
-is_mapping_name file at letter =
-    (number_at file at 1 == dollar) && (number_at file (at + 1) 1 == letter)
-    && ((number_at file (at + 2) 1 == 0) || (number_at file (at + 2) 1 == dot))
+-- the bytes before the first zero
+abbrev pub until_zero : List ℕ → List ℕ
+until_zero [] = []
+until_zero (c ∷ cs) = cond (c == 0) [] (c ∷ until_zero cs)
+
+-- the name that begins at a place of the file
+abbrev pub name_in : List ℕ → ℕ → List ℕ
+name_in file at = until_zero (drop at file)
 
 -- a zero byte stands at the place or further on in the file
 abbrev pub HasEnd : List ℕ → ℕ → Type 0
@@ -26,19 +28,15 @@ HasEnd file at = (p : ℕ) × (at ≤ p) × (p < length file) × (number_at file
 abbrev pub name_at : List ℕ → SectionHeader → ℕ → ℕ
 name_at file strings at = strings.offset + number_at file at 4
 
--- the mark of the symbol at a place, of its st_shndx and st_value: `$x` begins code, `$d` data, and other
--- names are no marks
+-- the mark of the symbol at a place, of its st_shndx and st_value, where its name is a mapping symbol's
 unfoldable pub mark_at : List ℕ → SectionHeader → ℕ → Option Mark
 mark_at file strings at =
-    if is_mapping_name file (name_at file strings at) code_letter
-    then Some (record { section = number_at file (at + 6) 2; value = number_at file (at + 8) 8; code = true })
-    else if is_mapping_name file (name_at file strings at) data_letter
-    then Some (record {
+    option_map (λ code. record {
       section = number_at file (at + 6) 2;
       value = number_at file (at + 8) 8;
-      code = false;
+      code = code;
     })
-    else None
+    (name_says (name_in file (name_at file strings at)))
 
 -- the marks of a symbol table, in the order of its symbols
 unfoldable pub table_marks : List ℕ → SectionHeader → List Mark

@@ -7,8 +7,7 @@ use Rattle.paged_memory.specs.Image.{parts_byte}
 use Rattle.elf_headers.specs.declared.fault.LoadFault.{LoadFault}
 use Rattle.elf_headers.specs.declared.fault.LoadFault.TheVariants.{Truncated, BadTable}
 use Rattle.elf_headers.specs.Below.{first_below, any_below, all_below}
-use Rattle.sm_types.specs.Checks.{first_fault}
-use Rattle.elf_headers.specs.Fault.{fault_when, fault_only}
+use Rattle.sm_types.specs.Checks.{first_fault, fault_when, fault_only}
 use Rattle.elf_headers.specs.Header.{number_at, table_end}
 use Rattle.elf_headers.specs.Loads.{extents_of}
 use Rattle.elf_sections.specs.declared.section.SectionHeader.{SectionHeader}

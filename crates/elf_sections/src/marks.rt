@@ -1,12 +1,14 @@
 //! Mapping symbols.
 ghost use Rattle.std.specs.Prelude.{◌≡◌, ◌==◌, ◌+◌, ◌*◌, ◌≤◌, ◌<◌, ◌++◌, ℕ, length, true, None, IfOk, OnOk};
+ghost use Rattle.sm_types.specs.Objects.{name_says};
 ghost use Rattle.elf_headers.specs.Below.{first_below, answers};
 ghost use Rattle.elf_headers.specs.Header.{number_at};
 ghost use Rattle.elf_sections.specs.Sections.{section_count, section_fault, is_in_file, ends_inside};
 ghost use Rattle.elf_sections.specs.Sections.{is_good_table, HasSectionTable};
-ghost use Rattle.elf_sections.specs.Marks.{is_mapping_name, mark_at, table_marks, marks_below, marks_of};
+ghost use Rattle.elf_sections.specs.Marks.{name_in, mark_at, table_marks, marks_below, marks_of};
 ghost use Rattle.elf_sections.specs.Marks.{HasEnd};
 ghost use Rattle.elf_sections.specs.MarkOrder.{AreMarksInOrder, SayTheSame};
+ghost use Rattle.elf_sections.specs.FirstBytes.{is_mapping_name};
 
 use crate::section::{SectionHeader, count_sections, read_section, repeats_before};
 use crate::symbols::SYMBOL_SIZE;
@@ -22,7 +24,7 @@ pub struct Mark {
 }
 
 /// Tells whether the name at a place is `$` and the letter, or these followed by `.` and a suffix.
-#[tactic(auto, unfolding(crate::specs::Marks::is_mapping_name))]
+#[tactic(auto, unfolding(crate::specs::FirstBytes::is_mapping_name))]
 fn names_mapping(file: &[u8], at: usize, letter: u8) -> bool
     requires letter { 0 < letter }
     requires ends { HasEnd file.now at }
@@ -31,6 +33,21 @@ fn names_mapping(file: &[u8], at: usize, letter: u8) -> bool
     u8_at(file, at) == b'$'
         && u8_at(file, at + 1) == letter
         && (u8_at(file, at + 2) == 0 || u8_at(file, at + 2) == b'.')
+}
+
+/// What the name at a place says of the bytes from its symbol's address on.
+#[tactic(auto, using(crate::proofs::MappingNames::name_says_at))]
+fn name_says(file: &[u8], at: usize) -> Option<bool>
+    requires ends { HasEnd file.now at }
+    ensures { result ≡ name_says (name_in file.now at) }
+{
+    if names_mapping(file, at, b'x') {
+        Some(true)
+    } else if names_mapping(file, at, b'd') {
+        Some(false)
+    } else {
+        None
+    }
 }
 
 /// The mark of the symbol at a place.
@@ -42,22 +59,13 @@ fn read_mark(file: &[u8], strings: &SectionHeader, at: usize) -> Option<Mark>
     ensures { result ≡ mark_at file.now strings.now at }
 {
     let name = strings.offset as usize + u32_at(file, at) as usize;
-    let section = u16_at(file, at + 6);
-    let value = u64_at(file, at + 8);
-    if names_mapping(file, name, b'x') {
-        Some(Mark {
-            section,
-            value,
-            code: true,
-        })
-    } else if names_mapping(file, name, b'd') {
-        Some(Mark {
-            section,
-            value,
-            code: false,
-        })
-    } else {
-        None
+    match name_says(file, name) {
+        Some(code) => Some(Mark {
+            section: u16_at(file, at + 6),
+            value: u64_at(file, at + 8),
+            code,
+        }),
+        None => None,
     }
 }
 

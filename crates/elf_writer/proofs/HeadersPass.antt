@@ -8,7 +8,7 @@ use Rattle.paged_memory.specs.Parts.{touched_below}
 use Rattle.elf_headers.specs.declared.fault.LoadFault.{LoadFault}
 use Rattle.elf_headers.specs.declared.header.ProgramHeader.{ProgramHeader}
 use Rattle.elf_headers.specs.Below.{first_below, any_below}
-use Rattle.elf_headers.specs.Fault.{fault_only}
+use Rattle.sm_types.specs.Checks.{fault_only}
 use Rattle.elf_headers.specs.Header.{header_entry, segment_count, length_fault, kind_fault, table_fault}
 use Rattle.elf_headers.specs.Segments.{segment_at, segment_of, is_dynamic, is_load, is_in_shared, load_fault_of, segment_fault, segments_fault}
 use Rattle.elf_headers.specs.Loads.{extents_of, share, has_executable, is_executable_at, overlap_at, overlap_fault, page_sum, pages_fault, entry_fault, headers_fault}

@@ -8,8 +8,7 @@ use Rattle.paged_memory.specs.Image.{or_zero, parts_byte}
 use Rattle.elf_headers.specs.declared.fault.LoadFault.{LoadFault}
 use Rattle.elf_headers.specs.declared.fault.LoadFault.TheVariants.{BadTable}
 use Rattle.elf_headers.specs.Below.{first_below}
-use Rattle.sm_types.specs.Checks.{first_fault}
-use Rattle.elf_headers.specs.Fault.{fault_when, fault_only}
+use Rattle.sm_types.specs.Checks.{first_fault, fault_when, fault_only}
 use Rattle.elf_headers.specs.Header.{number_at}
 use Rattle.elf_headers.proofs.Below.{any_below-found, all_below-all}
 use Rattle.elf_sections.specs.declared.section.SectionHeader.{SectionHeader}

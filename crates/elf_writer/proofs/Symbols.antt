@@ -8,7 +8,10 @@ use Rattle.elf_headers.proofs.Below.{answers_below-zero}
 use Rattle.elf_sections.specs.declared.section.SectionHeader.{SectionHeader}
 use Rattle.elf_sections.specs.declared.marks.Mark.{Mark}
 use Rattle.elf_sections.specs.Sections.{section_of, is_symbol_table}
-use Rattle.elf_sections.specs.Marks.{is_mapping_name, mark_at, table_marks, marks_below, marks_of}
+use Rattle.sm_types.specs.Objects.{name_says}
+use Rattle.elf_sections.specs.Marks.{name_in, mark_at, table_marks, marks_below, marks_of}
+use Rattle.elf_sections.specs.FirstBytes.{is_mapping_name}
+use Rattle.elf_sections.proofs.MappingNames.{name_says_at}
 use Rattle.elf_writer.specs.declared.layout.Layout.{Layout}
 use Rattle.elf_writer.specs.declared.marks.TextMark.{TextMark}
 use Rattle.elf_writer.specs.declared.file.TheConstants.{STRINGS}
@@ -108,37 +111,28 @@ names_read file rest h = record { b0 = h 0; b1 = h 1; b2 = h 2; b3 = h 3; b4 = h
 pub has_names : (file : List ℕ) (l : Layout) (text bytes : List ℕ) (marks : List TextMark) → IsFile file l text bytes marks → HasNames file
 has_names file l text bytes marks is = names_read file (names file l text bytes marks is).0 (names file l text bytes marks is).1
 
-no_name : (file : List ℕ) (letter : ℕ) → HasNames file → is_mapping_name file 560 letter ≡ false
+no_name : (file : List ℕ) → HasNames file → name_says (name_in file 560) ≡ None
 unfolding is_mapping_name
-no_name file letter h = rw h.b0 refl
+no_name file h = name_says_at file 560 ∙ rw h.b0 refl
 
-code_name : (file : List ℕ) → HasNames file → is_mapping_name file 561 120 ≡ true
+code_name : (file : List ℕ) → HasNames file → name_says (name_in file 561) ≡ Some true
 unfolding is_mapping_name
-code_name file h = rw (h.b1, h.b2, h.b3) refl
+code_name file h = name_says_at file 561 ∙ rw (h.b1, h.b2, h.b3) refl
 
-data_not_code : (file : List ℕ) → HasNames file → is_mapping_name file 564 120 ≡ false
+data_name : (file : List ℕ) → HasNames file → name_says (name_in file 564) ≡ Some false
 unfolding is_mapping_name
-data_not_code file h = rw (h.b4, h.b5) refl
-
-data_name : (file : List ℕ) → HasNames file → is_mapping_name file 564 100 ≡ true
-unfolding is_mapping_name
-data_name file h = rw (h.b4, h.b5, h.b6) refl
+data_name file h = name_says_at file 564 ∙ rw (h.b4, h.b5, h.b6) refl
 
 -- ---- the marks that a reader finds
 
 abbrev pub read_mark : TextMark → Mark
 read_mark m = record { section = 1; value = m.address; code = m.code }
 
-mark_by : (x d : Bool) (section value : ℕ) (code : Bool) → x ≡ code → d ≡ true → section ≡ 1 → (v : ℕ) → value ≡ v
-    → (if x then Some (record { section = section; value = value; code = true }) else if d then Some (record { section = section; value = value; code = false }) else None) ≡ Some (let m : Mark = record { section = 1; value = v; code = code } in m)
-mark_by x d section value true ex ed es v ev = rw (ex, es, ev) refl
-mark_by x d section value false ex ed es v ev = rw (ex, ed, es, ev) refl
-
 mark_none : (file : List ℕ) (place at : ℕ) → HasNames file → number_at file at 4 ≡ 0 → mark_at file (strings_section 560 7) at ≡ None
 unfolding mark_at strings_section
 mark_none file place at h n =
     let e : 560 + number_at file at 4 ≡ 560 = omega arith in
-    rw (e, no_name file 120 h, no_name file 100 h) refl
+    rw (e, no_name file h) refl
 
 mark_some : (file : List ℕ) (at : ℕ) (address : ℕ) (code : Bool) → HasNames file → IsSymbol file at (record { address = address; code = code }) → mark_at file (strings_section 560 7) at ≡ Some (read_mark (record { address = address; code = code }))
 unfolding mark_at strings_section
@@ -147,7 +141,7 @@ mark_some file at address true h s =
     rw (e, code_name file h, s.number, s.address) refl
 mark_some file at address false h s =
     let e : 560 + number_at file at 4 ≡ 564 = omega (arith, s.name) in
-    rw (e, data_not_code file h, data_name file h, s.number, s.address) refl
+    rw (e, data_name file h, s.number, s.address) refl
 
 front : {A : Type 0} (f : ℕ → Option A) (n : ℕ) → answers_below f (suc n) ≡ answers (f 0) ++ answers_below (λ k. f (suc k)) n
 unfolding answers_below

@@ -1,12 +1,12 @@
 //! The mapping symbols that are written of an object's text.
 ghost use Rattle.std.specs.Prelude.{◌≡◌, ◌≤◌, ◌+◌, ◌*◌, ◌/◌, ◌++◌, length, cond, IfOk, OnOk, Some, None, []};
-ghost use Rattle.sm_types.specs.Objects.{name_says, symbol_says, mappings_of, mapping_of};
+ghost use Rattle.sm_types.specs.Objects.{symbol_says, mappings_of, mapping_of};
 ghost use Rattle.elf_headers.specs.Below.{answers, answers_below};
 ghost use Rattle.elf_writer.specs.TextMarks.{begins, mark_at, word_address, text_marks};
 ghost use Rattle.elf_writer.specs.Slots.{mapping, mapping_if, newer, word_from, says_word, slots_say};
 ghost use Rattle.elf_writer.specs.Slots.{AreSlots, KeepsMark, KeepsSymbol};
 
-use sm_types::{Object, Section, Symbol, TEXT_ADDRESS};
+use sm_types::{Object, Section, Symbol, TEXT_ADDRESS, name_says};
 use std::alloc::{AllocError, Global};
 
 /// A mapping symbol of the text: code or data begins at the address.
@@ -14,18 +14,6 @@ use std::alloc::{AllocError, Global};
 pub struct TextMark {
     pub address: u64,
     pub code: bool,
-}
-
-/// What a name says of the bytes from its address on: `$x` that they are code, `$d` that they are data;
-/// both may have `.` and a suffix.
-fn name_says(name: &[u8]) -> Option<bool>
-    ensures { result ≡ name_says name.now }
-{
-    match name {
-        [b'$', b'x'] | [b'$', b'x', b'.', ..] => Some(true),
-        [b'$', b'd'] | [b'$', b'd', b'.', ..] => Some(false),
-        _ => None,
-    }
 }
 
 /// What a symbol says of the bytes of the text from its address on.

@@ -23,6 +23,7 @@ pub use laws::{
 };
 pub use print::{print_insn, print_word};
 pub use printed::{PRINTED, ROOTS};
+pub use shape::operands_of;
 pub use shapes::{ORDER, SHAPES, STARTS};
 pub use texts::{ACCESSES, BOTH, EXTENDED, ORDERED, PAIRS, SINGLE, SIZED};
 pub use words::{NAMES, WORDS};

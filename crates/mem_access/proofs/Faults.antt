@@ -3,11 +3,12 @@ use Rattle.std.proofs.Common.{◌≡◌, ℕ, Bool, true, false, refl, ap, sym, 
 use Rattle.sm_types.specs.declared.scalars.Scalars.{Scalars}
 use Rattle.sm_types.specs.declared.stop.Exception.{Exception}
 use Rattle.std.specs.Option.{option_or}
+use Rattle.sm_types.specs.Checks.{fault_only}
 use Rattle.paged_memory.specs.Memory.{AddressSpace}
 use Rattle.mem_access.specs.declared.access.MemoryAccess.{MemoryAccess}
 use Rattle.mem_access.specs.DataAccess.{of_run}
 use Rattle.mem_access.specs.declared.stop.AccessStop.{AccessStop}
-use Rattle.mem_access.specs.Checks.{sp_fault, align_fault, check_when}
+use Rattle.mem_access.specs.Checks.{sp_fault, align_fault}
 use Rattle.mem_access.specs.Transfer.{AfterAccess, Transfers}
 use Rattle.mem_access.specs.Runs.{place_fault, run_shared_fault, run_read_fault, run_write_fault, denied_read, denied_write, denied_update, run_fault}
 
@@ -30,12 +31,12 @@ pub fault_raised : (access : MemoryAccess) (s : Scalars) (m : AddressSpace) (e :
 fault_raised access s m e raised = place_first access s m ∙ ap (λ o. option_or o (option_or (run_read_fault access m) (option_or (run_write_fault access m) None))) raised
 
 fault_on : (access : MemoryAccess) (s : Scalars) (m : AddressSpace) (reads writes : Bool) → place_fault access s ≡ None → access.reads ≡ reads → access.writes ≡ writes
-    → run_fault access s m ≡ option_or (check_when reads (denied_read m access.address access.size)) (check_when writes (denied_write m access.address access.size))
+    → run_fault access s m ≡ option_or (fault_only reads (denied_read m access.address access.size)) (fault_only writes (denied_write m access.address access.size))
 fault_on access s m reads writes none r w =
     place_first access s m ∙ ap (λ o. option_or o (option_or (run_read_fault access m) (option_or (run_write_fault access m) None))) none
     ∙ ap (λ o. option_or (run_read_fault access m) o) (or_else-none (run_write_fault access m))
-    ∙ ap (λ b. option_or (check_when b (denied_read m access.address access.size)) (run_write_fault access m)) r
-    ∙ ap (λ b. option_or (check_when reads (denied_read m access.address access.size)) (check_when b (denied_write m access.address access.size))) w
+    ∙ ap (λ b. option_or (fault_only b (denied_read m access.address access.size)) (run_write_fault access m)) r
+    ∙ ap (λ b. option_or (fault_only reads (denied_read m access.address access.size)) (fault_only b (denied_write m access.address access.size))) w
 
 -- none of them does, and the access reads, writes, or does both
 pub fault_of_read : (access : MemoryAccess) (s : Scalars) (m : AddressSpace) → place_fault access s ≡ None → access.reads ≡ true → access.writes ≡ false → run_fault access s m ≡ denied_read m access.address access.size

@@ -9,14 +9,9 @@ use Rattle.sm_types.specs.declared.shared_op.SharedOp.{SharedOp}
 use Rattle.sm_types.specs.declared.stop.Access.TheVariants.{Read, Write}
 use Rattle.sm_types.specs.declared.stop.Exception.{Exception}
 use Rattle.sm_types.specs.declared.stop.Exception.TheVariants.{SpAlign, Align, Shared, Data}
-use Rattle.sm_types.specs.Checks.{first_fault}
+use Rattle.sm_types.specs.Checks.{first_fault, fault_when, fault_only}
 use Rattle.paged_memory.specs.Memory.{AddressSpace, byte_with}
 use Rattle.mem_access.specs.DataAccess.{DataAccess}
-
--- the exception, where the test holds
-abbrev pub raise_when : Bool → Exception → Option Exception
-raise_when true exception = Some exception
-raise_when false exception = None
 
 -- a byte of the 512 shared words
 abbrev pub is_shared : ℕ → Bool
@@ -24,12 +19,12 @@ is_shared a = nat_le 0x7F0000000000 a && nat_lt a 0x7F0000001000
 
 -- SP is the base, and no multiple of 16
 abbrev pub sp_fault : DataAccess → Scalars → Option Exception
-sp_fault access s = raise_when (access.on_sp && not (s.sp % 16 == 0)) SpAlign
+sp_fault access s = fault_when (access.on_sp && not (s.sp % 16 == 0)) SpAlign
 
 -- the address of an ordered or atomic access is no multiple of its size
 abbrev pub align_fault : DataAccess → Option Exception
 align_fault access =
-    raise_when (access.aligned && not (access.address % access.size == 0)) (Align access.address)
+    fault_when (access.aligned && not (access.address % access.size == 0)) (Align access.address)
 
 -- the first of the bytes that is shared
 abbrev pub shared_fault : DataAccess → Option Exception
@@ -39,20 +34,15 @@ shared_fault access = option_map Shared (find is_shared access.bytes)
 abbrev pub lacks : ℕ → AddressSpace → ℕ → Bool
 lacks need m a = not (is_some (byte_with need m a))
 
--- the check, where the access is of that kind
-abbrev pub check_when : Bool → Option Exception → Option Exception
-check_when true check = check
-check_when false check = None
-
 -- the first of the bytes that cannot be read, where the access reads
 abbrev pub read_fault : DataAccess → AddressSpace → Option Exception
 read_fault access m =
-    check_when access.reads (option_map (λ a. Data a Read) (find (lacks 4 m) access.bytes))
+    fault_only access.reads (option_map (λ a. Data a Read) (find (lacks 4 m) access.bytes))
 
 -- the first of them that cannot be written, where the access writes
 abbrev pub write_fault : DataAccess → AddressSpace → Option Exception
 write_fault access m =
-    check_when access.writes (option_map (λ a. Data a Write) (find (lacks 2 m) access.bytes))
+    fault_only access.writes (option_map (λ a. Data a Write) (find (lacks 2 m) access.bytes))
 
 -- the check of an access to private memory: an operation on a shared word has none
 abbrev pub if_private : Option SharedOp → Option Exception → Option Exception

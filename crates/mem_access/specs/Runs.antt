@@ -23,8 +23,8 @@ use Rattle.paged_memory.specs.Memory.{AddressSpace, bytes_with, first_without, s
 use Rattle.paged_memory.specs.PageTable.{PageTable, AreOwned}
 use Rattle.mem_access.specs.declared.access.MemoryAccess.{MemoryAccess}
 use Rattle.mem_access.specs.DataAccess.{of_run}
-use Rattle.sm_types.specs.Checks.{first_fault}
-use Rattle.mem_access.specs.Checks.{is_shared, sp_fault, align_fault, check_when}
+use Rattle.sm_types.specs.Checks.{first_fault, fault_only}
+use Rattle.mem_access.specs.Checks.{is_shared, sp_fault, align_fault}
 use Rattle.mem_access.specs.Access.{bytes_in, with_base, with_pair_base, register_size, literal_size}
 use Rattle.mem_access.specs.Access.{load_store_access, load_literal_access, pair_access, atomic_access}
 use Rattle.mem_access.specs.Values.{number_or_zero, loaded, literal_loaded, low_bytes, updated}
@@ -62,11 +62,11 @@ denied_update m a n = option_or (denied_read m a n) (denied_write m a n)
 
 -- each byte can be read, where the access reads
 abbrev pub run_read_fault : MemoryAccess → AddressSpace → Option Exception
-run_read_fault run m = check_when run.reads (denied_read m run.address run.size)
+run_read_fault run m = fault_only run.reads (denied_read m run.address run.size)
 
 -- each byte can be written, where the access writes
 abbrev pub run_write_fault : MemoryAccess → AddressSpace → Option Exception
-run_write_fault run m = check_when run.writes (denied_write m run.address run.size)
+run_write_fault run m = fault_only run.writes (denied_write m run.address run.size)
 
 -- the exception of the first check that fails, if any does
 unfoldable pub run_fault : MemoryAccess → Scalars → AddressSpace → Option Exception

@@ -26,7 +26,7 @@ pub use insn::{
 };
 pub use laws::one_text_address;
 pub use length::VecLen;
-pub use object::{Bytes, Object, Section, Symbol, Symbols, TEXT_ADDRESS};
+pub use object::{Bytes, Object, Section, Symbol, Symbols, TEXT_ADDRESS, name_says};
 pub use row::{Group, Row};
 pub use scalars::Scalars;
 pub use shared_op::{Event, OpKind, SharedOp};

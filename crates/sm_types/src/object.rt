@@ -1,4 +1,6 @@
 //! What an assembler makes of a source, before it is written as a file.
+ghost use Rattle.std.specs.Prelude.{◌≡◌};
+ghost use Rattle.sm_types.specs.Objects.{name_says};
 
 /// The address of an object's text. Its data begins at the first page after the text.
 pub const TEXT_ADDRESS: u64 = 0x400000;
@@ -33,4 +35,17 @@ pub struct Object {
     pub data_bytes: Bytes,
     pub symbols: Symbols,
     pub entry: u64,
+}
+
+/// What a symbol's name says of the bytes from its address on, where it is a mapping symbol's: `$x` that
+/// they are code, `$d` that they are data; both may have `.` and a suffix (ELF for the Arm 64-bit
+/// Architecture).
+pub fn name_says(name: &[u8]) -> Option<bool>
+    ensures { result ≡ name_says name.now }
+{
+    match name {
+        [b'$', b'x'] | [b'$', b'x', b'.', ..] => Some(true),
+        [b'$', b'd'] | [b'$', b'd', b'.', ..] => Some(false),
+        _ => None,
+    }
 }

@@ -10,8 +10,5 @@ ends c = rw c.u32_at.ensures (name_ends c.args.file.now c.args.strings.now _ c.r
 pub overflow_add-name : goal.overflow_add-name
 overflow_add-name c = let e = ends (goal.at.overflow_add-name c).After-u32_at in omega (arith, e.1, e.2)
 
-pub names_mapping-requires-clause-ends : goal.names_mapping-requires-clause-ends
-names_mapping-requires-clause-ends c = ends (goal.at.names_mapping-requires-clause-ends c).After-u32_at
-
-pub names_mapping-requires-else-names_mapping-clause-ends : goal.names_mapping-requires-else-names_mapping-clause-ends
-names_mapping-requires-else-names_mapping-clause-ends c = ends (goal.at.names_mapping-requires-else-names_mapping-clause-ends c).After-u32_at
+pub name_says-requires : goal.name_says-requires
+name_says-requires c = record { ends = ends (goal.at.name_says-requires c).After-u32_at }
