@@ -36,7 +36,7 @@ unfoldable pub logical_to_sp : Logical → Bool → ℕ → ℕ → Scalars → 
 logical_to_sp And wide d result s = with_x_or_sp s d result
 logical_to_sp Orr wide d result s = with_x_or_sp s d result
 logical_to_sp Eor wide d result s = with_x_or_sp s d result
-logical_to_sp Ands wide d result s = with_flags (with_x s d result) (logical_flags wide result)
+logical_to_sp Ands wide d result s = logical_to_x Ands wide d result s
 
 -- the second operand: shifted, and then inverted where the instruction says so
 abbrev pub logical_operand : LogicalRegister → Scalars → ℕ

@@ -48,9 +48,7 @@ fn write_result(s: &mut Scalars, op: Logical, wide: bool, d: u8, value: u64)
     ensures place { s.new.pc ≡ s.old.pc }
 {
     match op {
-        Logical::And => write_x(s, d, value),
-        Logical::Orr => write_x(s, d, value),
-        Logical::Eor => write_x(s, d, value),
+        Logical::And | Logical::Orr | Logical::Eor => write_x(s, d, value),
         Logical::Ands => {
             write_x(s, d, value);
             write_flags(s, logical_flags(value, wide));
@@ -67,13 +65,8 @@ fn write_result_or_sp(s: &mut Scalars, op: Logical, wide: bool, d: u8, value: u6
     ensures place { s.new.pc ≡ s.old.pc }
 {
     match op {
-        Logical::And => write_x_or_sp(s, d, value),
-        Logical::Orr => write_x_or_sp(s, d, value),
-        Logical::Eor => write_x_or_sp(s, d, value),
-        Logical::Ands => {
-            write_x(s, d, value);
-            write_flags(s, logical_flags(value, wide));
-        }
+        Logical::And | Logical::Orr | Logical::Eor => write_x_or_sp(s, d, value),
+        Logical::Ands => write_result(s, op, wide, d, value),
     }
 }
 
