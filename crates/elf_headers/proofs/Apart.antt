@@ -1,5 +1,6 @@
 -- Loads that have no address in common.
-use Rattle.std.proofs.Common.{◌≡◌, ◌≢◌, ℕ, zero, suc, ◌+◌, ◌<◌, ◌≤◌, Bool, true, false, List, [], ◌∷◌, length, get_or, Some, None, refl, ap, sym, ◌∙◌, arith}
+use Rattle.std.proofs.Common.{◌≡◌, ◌≢◌, ℕ, zero, suc, ◌+◌, ◌<◌, ◌≤◌, Bool, true, false, List, [], ◌∷◌, length, get_or, Some, None, refl, ap}
+use Rattle.std.proofs.Common.{sym, ◌∙◌, arith}
 use Rattle.std.specs.Prelude.{◌&&◌, nat_lt, Contains}
 use Rattle.std.specs.List.Sorted.{IsPermutation}
 use Rattle.std.proofs.lemmas.List.Sorted.{Contains-permutation}
@@ -18,15 +19,19 @@ use Rattle.elf_headers.proofs.Below.{first_below-all_none, Contains-answers_belo
 
 -- the addresses of a program header
 abbrev span : List ℕ → ℕ → Span
-span file i = record { address = (segment_of file i).address; end = (segment_of file i).address + (segment_of file i).memory_size; header = i }
+span file i =
+    record { address = (segment_of file i).address; end = (segment_of file i).address + (segment_of file i).memory_size; header = i }
 
 span_is : (file : List ℕ) (i : ℕ) → is_load (segment_of file i) ≡ true → span_at file i ≡ Some (span file i)
 unfolding span_at
 span_is file i load = rw load refl
 
-span_there : (file : List ℕ) (spans : List Span) (i : ℕ) → IsPermutation (spans_of file) spans → i < segment_count file → is_load (segment_of file i) ≡ true → Contains spans (span file i)
+span_there : (file : List ℕ) (spans : List Span) (i : ℕ) → IsPermutation (spans_of file) spans → i < segment_count file
+    → is_load (segment_of file i) ≡ true → Contains spans (span file i)
 unfolding spans_of
-span_there file spans i perm below load = Contains-permutation (spans_of file) spans (span file i) perm (Contains-answers_below (span_at file) i (segment_count file) (span file i) (span_is file i load) below)
+span_there file spans i perm below load =
+    Contains-permutation (spans_of file) spans (span file i) perm
+    (Contains-answers_below (span_at file) i (segment_count file) (span file i) (span_is file i load) below)
 
 -- a default changes nothing within a list
 default_any : (spans : List Span) (p : ℕ) (d e : Span) → p < length spans → get_or spans p d ≡ get_or spans p e
@@ -38,26 +43,35 @@ and_split : (a b : Bool) → (a && b) ≡ true → (a ≡ true) × (b ≡ true)
 and_split true b h = (refl, h)
 and_split false b h = cc
 
-pair_apart : (file : List ℕ) (spans : List Span) (least i j : ℕ) → IsPermutation (spans_of file) spans → IsClearBelow spans least → i < least → i < segment_count file → j < segment_count file
-    → i < j → is_load (segment_of file i) ≡ true → is_load (segment_of file j) ≡ true → share (segment_of file i) (segment_of file j) ≡ true → ⊥
+pair_apart : (file : List ℕ) (spans : List Span) (least i j : ℕ) → IsPermutation (spans_of file) spans → IsClearBelow spans least
+    → i < least → i < segment_count file → j < segment_count file
+    → i < j → is_load (segment_of file i) ≡ true → is_load (segment_of file j) ≡ true → share (segment_of file i) (segment_of file j) ≡ true
+    → ⊥
 pair_apart file spans least i j perm clear low li lj order one other shared =
     let near = and_split (nat_lt (segment_of file i).address ((segment_of file j).address + (segment_of file j).memory_size)) _ shared in
     let a = span_there file spans i perm li one in
     let b = span_there file spans j perm lj other in
     let at_i : get_or spans a.0 (span file i) ≡ span file i = a.2 in
     let at_j : get_or spans b.0 (span file i) ≡ span file j = default_any spans b.0 (span file i) (span file j) b.1 ∙ b.2 in
-    let apart : a.0 ≢ b.0 = λ e. let same : i ≡ j = sym (ap (λ s. s.header) at_i) ∙ ap (λ k. (get_or spans k (span file i)).header) e ∙ ap (λ s. s.header) at_j in omega arith in
-    let first : (segment_of file i).address < (segment_of file j).address + (segment_of file j).memory_size = grind (arith, nat_tests, near.0) in
-    let second : (segment_of file j).address < (segment_of file i).address + (segment_of file i).memory_size = grind (arith, nat_tests, near.1) in
-    let place : least ≤ (get_or spans a.0 (span file i)).header = clear a.0 b.0 (span file i) a.1 b.1 apart (rw (at_i, at_j) second) (rw (at_i, at_j) first) in
+    let apart : a.0 ≢ b.0 =
+    λ e. let same : i ≡ j =
+    sym (ap (λ s. s.header) at_i) ∙ ap (λ k. (get_or spans k (span file i)).header) e ∙ ap (λ s. s.header) at_j in omega arith in
+    let first : (segment_of file i).address < (segment_of file j).address + (segment_of file j).memory_size =
+    grind (arith, nat_tests, near.0) in
+    let second : (segment_of file j).address < (segment_of file i).address + (segment_of file i).memory_size =
+    grind (arith, nat_tests, near.1) in
+    let place : least ≤ (get_or spans a.0 (span file i)).header =
+    clear a.0 b.0 (span file i) a.1 b.1 apart (rw (at_i, at_j) second) (rw (at_i, at_j) first) in
     let here : (get_or spans a.0 (span file i)).header ≡ i = ap (λ s. s.header) at_i in
     omega arith
 
-pair_clear : (file : List ℕ) (spans : List Span) (least i j : ℕ) → IsPermutation (spans_of file) spans → IsClearBelow spans least → i < least → i < segment_count file → j < segment_count file → overlap_at file i j ≡ None
+pair_clear : (file : List ℕ) (spans : List Span) (least i j : ℕ) → IsPermutation (spans_of file) spans → IsClearBelow spans least
+    → i < least → i < segment_count file → j < segment_count file → overlap_at file i j ≡ None
 unfolding overlap_at
 pair_clear file spans least i j perm clear low li lj =
     elim (nat_lt i j && is_load (segment_of file i) && is_load (segment_of file j) && share (segment_of file i) (segment_of file j))
-    as (λ t. (nat_lt i j && is_load (segment_of file i) && is_load (segment_of file j) && share (segment_of file i) (segment_of file j)) ≡ t → fault_when t (Overlap i j) ≡ None) [
+    as (λ t. (nat_lt i j && is_load (segment_of file i) && is_load (segment_of file j) && share (segment_of file i) (segment_of file j)) ≡ t
+    → fault_when t (Overlap i j) ≡ None) [
       | false ↦ λ t. refl
       | true ↦ λ t.
           let shared = and_split (nat_lt i j && is_load (segment_of file i) && is_load (segment_of file j)) _ t in
@@ -67,9 +81,11 @@ pair_clear file spans least i j perm clear low li lj =
           absurd (pair_apart file spans least i j perm clear low li lj order one.1 other.1 shared.1)
     ] refl
 
-pub rows_clear : (file : List ℕ) (spans : List Span) (least : ℕ) → IsPermutation (spans_of file) spans → IsClearBelow spans least → least ≤ segment_count file → first_below (λ i. first_below (overlap_at file i) (segment_count file)) least ≡ None
+pub rows_clear : (file : List ℕ) (spans : List Span) (least : ℕ) → IsPermutation (spans_of file) spans → IsClearBelow spans least
+    → least ≤ segment_count file → first_below (λ i. first_below (overlap_at file i) (segment_count file)) least ≡ None
 rows_clear file spans least perm clear within =
-    first_below-all_none _ least (λ i h. first_below-all_none (overlap_at file i) (segment_count file) (λ j k. pair_clear file spans least i j perm clear h (omega arith) k))
+    first_below-all_none _ least (λ i h. first_below-all_none (overlap_at file i) (segment_count file)
+    (λ j k. pair_clear file spans least i j perm clear h (omega arith) k))
 
 -- a program header has no pair with one of a number that is no higher
 order_clear : (file : List ℕ) (i j : ℕ) → j ≤ i → overlap_at file i j ≡ None

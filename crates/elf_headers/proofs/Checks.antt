@@ -5,7 +5,8 @@ use Rattle.elf_headers.specs.declared.fault.LoadFault.{LoadFault}
 use Rattle.sm_types.specs.Checks.{fault_when, fault_only}
 
 -- a check that is passed, and those after it
-pub passed : (test : Bool) (fault : LoadFault) (rest : Option LoadFault) → option_or (fault_when test fault) rest ≡ None → (test ≡ false) × (rest ≡ None)
+pub passed : (test : Bool) (fault : LoadFault) (rest : Option LoadFault) → option_or (fault_when test fault) rest ≡ None → (test ≡ false)
+    × (rest ≡ None)
 passed true fault rest h = cc
 passed false fault rest h = (refl, h)
 

@@ -12,9 +12,11 @@ loop-i-init c = c.new-loads.ensures.items ∙ sym (answers_below-zero _)
 pub loop-i-preserved : goal.loop-i-preserved
 loop-i-preserved c = elim c.match-read_load.branch [
   | in-Some+in_ok-push-in-Some w ↦
-      ap (λ v. v.items) w.loads-is ∙ w.in_ok-push-in-Some.ensures.items ∙ ap (λ (l : List ProgramHeader). l ++ w.in-Some.load ∷ []) c.loop-i.invariant
+      ap (λ v. v.items) w.loads-is ∙ w.in_ok-push-in-Some.ensures.items
+      ∙ ap (λ (l : List ProgramHeader). l ++ w.in-Some.load ∷ []) c.loop-i.invariant
       ∙ sym (answers_below-some (load_of c.args.file.now) c.loop-i.i w.in-Some.load (sym c.read_load.ensures ∙ w.in-Some.is))
-  | in-None w ↦ ap (λ v. v.items) w.loads-is ∙ c.loop-i.invariant ∙ sym (answers_below-none (load_of c.args.file.now) c.loop-i.i (sym c.read_load.ensures ∙ w.in-None.is))
+  | in-None w ↦ ap (λ v. v.items) w.loads-is ∙ c.loop-i.invariant
+      ∙ sym (answers_below-none (load_of c.args.file.now) c.loop-i.i (sym c.read_load.ensures ∙ w.in-None.is))
 ]
 
 pub returns : goal.returns

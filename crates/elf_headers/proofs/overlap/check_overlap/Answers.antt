@@ -13,7 +13,8 @@ pub returns-in_err-check_pairs_of : goal.returns-in_err-check_pairs_of
 unfolding overlap_fault
 returns-in_err-check_pairs_of c =
     let below : c.loop-i.i < segment_count c.args.file.now = omega arith in
-    let found : first_below (λ i. first_below (overlap_at c.args.file.now i) (segment_count c.args.file.now)) (segment_count c.args.file.now) ≡ Some c.in_err-check_pairs_of.field-0.0 =
+    let found : first_below (λ i. first_below (overlap_at c.args.file.now i) (segment_count c.args.file.now))
+    (segment_count c.args.file.now) ≡ Some c.in_err-check_pairs_of.field-0.0 =
     first_below-found _ _ _ _ c.loop-i.invariant c.in_err-check_pairs_of.ensures below in
     search rules
 

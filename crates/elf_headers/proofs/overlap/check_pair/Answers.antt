@@ -9,4 +9,5 @@ shares-requires-clause-own c =
     omega (arith, end_low _ _ _ c.requires.accepted below c.read_program_header-one.ensures (sym c.if-is_load.ensures))
 
 pub shares-requires-clause-others : goal.shares-requires-clause-others
-shares-requires-clause-others c = omega (arith, end_low _ _ _ c.requires.accepted c.requires.below c.read_program_header-other.ensures (sym c.if-is_load-2.ensures))
+shares-requires-clause-others c =
+    omega (arith, end_low _ _ _ c.requires.accepted c.requires.below c.read_program_header-other.ensures (sym c.if-is_load-2.ensures))

@@ -12,7 +12,8 @@ loop-j-init c = row_begins _ _
 pub returns-in_err-check_pair : goal.returns-in_err-check_pair
 returns-in_err-check_pair c =
     let below : c.loop-j.j < segment_count c.args.file.now = omega arith in
-    let found : first_below (overlap_at c.args.file.now c.args.i) (segment_count c.args.file.now) ≡ Some c.in_err-check_pair.field-0.0 = first_below-found _ _ _ _ c.loop-j.invariant c.in_err-check_pair.ensures below in
+    let found : first_below (overlap_at c.args.file.now c.args.i) (segment_count c.args.file.now) ≡ Some c.in_err-check_pair.field-0.0 =
+    first_below-found _ _ _ _ c.loop-j.invariant c.in_err-check_pair.ensures below in
     search rules
 
 pub loop-j-preserved : goal.loop-j-preserved

@@ -12,7 +12,8 @@ pub returns-in_err-check_segment : goal.returns-in_err-check_segment
 unfolding segments_fault
 returns-in_err-check_segment c =
     let below : c.loop-i.i < segment_count c.args.file.now = omega arith in
-    let found : first_below (segment_fault c.args.file.now) (segment_count c.args.file.now) ≡ Some c.in_err-check_segment.field-0.0 = first_below-found _ _ _ _ c.loop-i.invariant c.in_err-check_segment.ensures below in
+    let found : first_below (segment_fault c.args.file.now) (segment_count c.args.file.now) ≡ Some c.in_err-check_segment.field-0.0 =
+    first_below-found _ _ _ _ c.loop-i.invariant c.in_err-check_segment.ensures below in
     search rules
 
 pub loop-i-preserved : goal.loop-i-preserved

@@ -8,4 +8,5 @@ pub returns-clause-sorted : goal.returns-clause-sorted
 returns-clause-sorted c = IsNonDecreasingBy-from_sort_by_key (λ s. s.address) _ c.in_ok-sort_by_key.ensures.sorted (λ a r q k. search rules)
 
 pub returns-clause-low : goal.returns-clause-low
-returns-clause-low c = All-permutation IsLow _ _ c.sort_by_key.ensures.permutation (rw c.in_ok-spans.ensures (spans_low _ c.requires.accepted))
+returns-clause-low c =
+    All-permutation IsLow _ _ c.sort_by_key.ensures.permutation (rw c.in_ok-spans.ensures (spans_low _ c.requires.accepted))

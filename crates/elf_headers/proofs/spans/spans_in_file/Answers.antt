@@ -12,9 +12,11 @@ loop-header-init c = c.new-spans.ensures.items ∙ sym (answers_below-zero _)
 pub loop-header-preserved : goal.loop-header-preserved
 loop-header-preserved c = elim c.match-span_of.branch [
   | in-Some+in_ok-push-in-Some w ↦
-      ap (λ v. v.items) w.spans-is ∙ w.in_ok-push-in-Some.ensures.items ∙ ap (λ (l : List Span). l ++ w.in-Some.span ∷ []) c.loop-header.invariant
+      ap (λ v. v.items) w.spans-is ∙ w.in_ok-push-in-Some.ensures.items
+      ∙ ap (λ (l : List Span). l ++ w.in-Some.span ∷ []) c.loop-header.invariant
       ∙ sym (answers_below-some (span_at c.args.file.now) c.loop-header.header w.in-Some.span (sym c.span_of.ensures ∙ w.in-Some.is))
-  | in-None w ↦ ap (λ v. v.items) w.spans-is ∙ c.loop-header.invariant ∙ sym (answers_below-none (span_at c.args.file.now) c.loop-header.header (sym c.span_of.ensures ∙ w.in-None.is))
+  | in-None w ↦ ap (λ v. v.items) w.spans-is ∙ c.loop-header.invariant
+      ∙ sym (answers_below-none (span_at c.args.file.now) c.loop-header.header (sym c.span_of.ensures ∙ w.in-None.is))
 ]
 
 pub returns : goal.returns
