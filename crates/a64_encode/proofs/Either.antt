@@ -23,14 +23,16 @@ never_both word s = let none = s.listed in cc
 pub at_most_one : (word : ℕ) → HasAtMostOneRowOfBoth word
 at_most_one word = record { scalar_row = one_row word; vector_row = vector_row word; apart = λ r s. never_both word s }
 
-by_either : (word : ℕ) (it : Insn) (first second : Option Insn) → option_or first second ≡ Some it → (first ≡ Some it → MeansEither word it) → (second ≡ Some it → MeansEither word it) → MeansEither word it
+by_either : (word : ℕ) (it : Insn) (first second : Option Insn) → option_or first second ≡ Some it → (first ≡ Some it → MeansEither word it)
+    → (second ≡ Some it → MeansEither word it) → MeansEither word it
 by_either word it None second e f g = g e
 by_either word it (Some other) second e f g = f e
 
 pub either : (word : ℕ) (it : Insn) → word < 2 ^ 32 → (instruction_of word ≡ Some it) ↔ MeansEither word it
 unfolding instruction_of
 either word it lt = (
-  λ e. by_either word it (meaning_of word) (vector_meaning_of word) e (λ h. inl ((scalar_meaning word it lt).0 h)) (λ h. inr ((vector_meaning word it lt).0 h)),
+  λ e. by_either word it (meaning_of word) (vector_meaning_of word) e (λ h. inl ((scalar_meaning word it lt).0 h))
+      (λ h. inr ((vector_meaning word it lt).0 h)),
   λ m. elim m [
     | inl n ↦ ap (λ o. option_or o (vector_meaning_of word)) ((scalar_meaning word it lt).1 n)
     | inr n ↦ absurd (no_meaning word it n)

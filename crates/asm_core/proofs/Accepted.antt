@@ -1,5 +1,6 @@
 -- Lines of which none has a fault by itself: what holds of the first, of the places and of the labels.
-use Rattle.std.proofs.Common.{◌≡◌, ℕ, ◌+◌, ◌≤◌, Bool, true, false, cond, List, [], ◌∷◌, ◌++◌, Option, Some, None, Result, Ok, Err, ◌||◌, nat_lt, refl, sym, ap, ◌∙◌, subst, arith, ltb-false}
+use Rattle.std.proofs.Common.{◌≡◌, ℕ, ◌+◌, ◌≤◌, Bool, true, false, cond, List, [], ◌∷◌, ◌++◌, Option, Some, None, Result, Ok, Err, ◌||◌}
+use Rattle.std.proofs.Common.{nat_lt, refl, sym, ap, ◌∙◌, subst, arith, ltb-false}
 use Rattle.std.specs.Prelude.{option_map}
 use Rattle.std.specs.List.{find}
 use Rattle.std.specs.Str.{bytes_eq}
@@ -15,9 +16,11 @@ use Rattle.asm_core.specs.declared.labels.LabelPlace.{LabelPlace}
 use Rattle.asm_core.specs.Source.{said_lines}
 use Rattle.sm_types.specs.declared.object.Section.{Section}
 use Rattle.sm_types.specs.declared.object.Section.TheVariants.{Text, Data}
-use Rattle.asm_core.specs.Layout.{here, here_in, size_of, grown_in, Label, label_at, if_some, place_after, place_past, labels_from, label_named, labels_of, first_place}
+use Rattle.asm_core.specs.Layout.{here, here_in, size_of, grown_in, Label, label_at, if_some, place_after, place_past, labels_from}
+use Rattle.asm_core.specs.Layout.{label_named, labels_of, first_place}
 use Rattle.std.specs.Option.{option_or as or_else}
-use Rattle.asm_core.specs.Faults.{fault_if, misplaced, is_doubled, is_too_large, line_fault, labels_after, after_line, lines_fault, text_length_of}
+use Rattle.asm_core.specs.Faults.{fault_if, misplaced, is_doubled, is_too_large, line_fault, labels_after, after_line, lines_fault}
+use Rattle.asm_core.specs.Faults.{text_length_of}
 use Rattle.asm_core.specs.Limits.{IsInLimits}
 use Rattle.asm_core.specs.Known.{Knows, label_place}
 use Rattle.asm_core.specs.Emitted.{IsFine, AreNear}
@@ -43,8 +46,10 @@ pub record IsAccepted (n : ℕ) (p : Place) (labels : List Label) (text : List �
   pub fits : is_too_large p line.says ≡ false
   pub rest : lines_fault (n + 1) (place_after p line.says) (labels_after p labels line) texts ≡ None
 
-accepted_by : (n : ℕ) (p : Place) (labels : List Label) (text : List ℕ) (texts : List (List ℕ)) (r : Result SourceLine LineFault) → line_of text ≡ r
-    → or_else (line_fault n p labels r) (after_line (λ next known. lines_fault (n + 1) next known texts) p labels r) ≡ None → IsAccepted n p labels text texts
+accepted_by : (n : ℕ) (p : Place) (labels : List Label) (text : List ℕ) (texts : List (List ℕ)) (r : Result SourceLine LineFault)
+    → line_of text ≡ r
+    → or_else (line_fault n p labels r) (after_line (λ next known. lines_fault (n + 1) next known texts) p labels r) ≡ None
+    → IsAccepted n p labels text texts
 unfolding line_fault
 accepted_by n p labels text texts (Err fault) is e = cc
 accepted_by n p labels text texts (Ok line) is e =
@@ -59,14 +64,18 @@ accepted_by n p labels text texts (Ok line) is e =
       rest = parts.1;
     }
 
-pub accepted_first : (n : ℕ) (p : Place) (labels : List Label) (text : List ℕ) (texts : List (List ℕ)) → lines_fault n p labels (text ∷ texts) ≡ None → IsAccepted n p labels text texts
+pub accepted_first : (n : ℕ) (p : Place) (labels : List Label) (text : List ℕ) (texts : List (List ℕ))
+    → lines_fault n p labels (text ∷ texts) ≡ None → IsAccepted n p labels text texts
 unfolding lines_fault
 accepted_first n p labels text texts e = accepted_by n p labels text texts (line_of text) refl e
 
-pub fine_first : (n : ℕ) (p : Place) (labels : List Label) (text : List ℕ) (texts : List (List ℕ)) → lines_fault n p labels (text ∷ texts) ≡ None → IsFine p text
-fine_first n p labels text texts e = let a = accepted_first n p labels text texts e in record { line = a.line; says = a.says; fits = a.fits }
+pub fine_first : (n : ℕ) (p : Place) (labels : List Label) (text : List ℕ) (texts : List (List ℕ))
+    → lines_fault n p labels (text ∷ texts) ≡ None → IsFine p text
+fine_first n p labels text texts e =
+    let a = accepted_first n p labels text texts e in record { line = a.line; says = a.says; fits = a.fits }
 
-pub said_first : (text : List ℕ) (texts : List (List ℕ)) (line : SourceLine) → line_of text ≡ Ok line → said_lines (text ∷ texts) ≡ line ∷ said_lines texts
+pub said_first : (text : List ℕ) (texts : List (List ℕ)) (line : SourceLine) → line_of text ≡ Ok line → said_lines (text ∷ texts) ≡ line
+    ∷ said_lines texts
 unfolding said_lines
 said_first text texts line e = rw e refl
 
@@ -82,15 +91,18 @@ limits_after p says e =
     let parts = neither_part (nat_lt 4194304 (place_after p says).text_size) (nat_lt 4194304 (place_after p says).data_size) e in
     record { text = ltb-false _ _ parts.0; data_part = ltb-false _ _ parts.1 }
 
-pub limits_past : (n : ℕ) (p : Place) (labels : List Label) (texts : List (List ℕ)) → IsInLimits p → lines_fault n p labels texts ≡ None → IsInLimits (place_past p (said_lines texts))
+pub limits_past : (n : ℕ) (p : Place) (labels : List Label) (texts : List (List ℕ)) → IsInLimits p → lines_fault n p labels texts ≡ None
+    → IsInLimits (place_past p (said_lines texts))
 unfolding place_past said_lines
 limits_past n p labels [] h e = h
 limits_past n p labels (text ∷ texts) h e =
     let a = accepted_first n p labels text texts e in
-    let rest = limits_past (n + 1) (place_after p a.line.says) (labels_after p labels a.line) texts (limits_after p a.line.says a.fits) a.rest in
+    let rest =
+    limits_past (n + 1) (place_after p a.line.says) (labels_after p labels a.line) texts (limits_after p a.line.says a.fits) a.rest in
     rw (said_first text texts a.line a.says) rest
 
-fits_in : (part : Section) (p : Place) (size : ℕ) → (grown_in part p size).text_size ≤ 4194304 → (grown_in part p size).data_size ≤ 4194304 → here_in part p + size ≤ 4194304
+fits_in : (part : Section) (p : Place) (size : ℕ) → (grown_in part p size).text_size ≤ 4194304 → (grown_in part p size).data_size ≤ 4194304
+    → here_in part p + size ≤ 4194304
 fits_in Text p size t d = t
 fits_in Data p size t d = d
 
@@ -107,17 +119,21 @@ one_line text a b e f = same_line a b (sym e ∙ f)
 
 -- a line that is fine, as it was parsed
 pub fine_fits : (p : Place) (text : List ℕ) (line : SourceLine) → IsFine p text → line_of text ≡ Ok line → is_too_large p line.says ≡ false
-fine_fits p text line fine e = subst (λ (l : SourceLine). is_too_large p l.says ≡ false) (one_line text fine.line line fine.says e) fine.fits
+fine_fits p text line fine e =
+    subst (λ (l : SourceLine). is_too_large p l.says ≡ false) (one_line text fine.line line fine.says e) fine.fits
 
 -- ---- labels
 
-near_found : (test : Label → Bool) (l found : Label) (ls : List Label) → l.offset ≤ 4194304 → ((f : Label) → find test ls ≡ Some f → f.offset ≤ 4194304) → find test (l ∷ ls) ≡ Some found → found.offset ≤ 4194304
+near_found : (test : Label → Bool) (l found : Label) (ls : List Label) → l.offset ≤ 4194304
+    → ((f : Label) → find test ls ≡ Some f → f.offset ≤ 4194304) → find test (l ∷ ls) ≡ Some found → found.offset ≤ 4194304
 near_found test l found ls near rest e = elim (test l) as (λ b. cond b (Some l) (find test ls) ≡ Some found → found.offset ≤ 4194304) [
   | true ↦ λ h. let same : l ≡ found = cc in subst (λ (x : Label). x.offset ≤ 4194304) same near
   | false ↦ λ h. rest found h
 ] e
 
-near_labelled : (test : Label → Bool) (p : Place) (label : Option (List ℕ)) (found : Label) (ls : List Label) → here p ≤ 4194304 → ((f : Label) → find test ls ≡ Some f → f.offset ≤ 4194304) → find test (if_some (option_map (label_at p) label) ++ ls) ≡ Some found → found.offset ≤ 4194304
+near_labelled : (test : Label → Bool) (p : Place) (label : Option (List ℕ)) (found : Label) (ls : List Label) → here p ≤ 4194304
+    → ((f : Label) → find test ls ≡ Some f → f.offset ≤ 4194304) → find test (if_some (option_map (label_at p) label) ++ ls) ≡ Some found
+    → found.offset ≤ 4194304
 near_labelled test p None found ls h rest e = rest found e
 near_labelled test p (Some name) found ls h rest e = near_found test (label_at p name) found ls h rest e
 
@@ -128,26 +144,35 @@ here_part Data p h = h.data_part
 pub here_near : (p : Place) → IsInLimits p → here p ≤ 4194304
 here_near p h = here_part p.part p h
 
-labels_near : (test : Label → Bool) (n : ℕ) (p : Place) (labels : List Label) (texts : List (List ℕ)) → IsInLimits p → lines_fault n p labels texts ≡ None → (found : Label) → find test (labels_from p (said_lines texts)) ≡ Some found → found.offset ≤ 4194304
+labels_near : (test : Label → Bool) (n : ℕ) (p : Place) (labels : List Label) (texts : List (List ℕ)) → IsInLimits p
+    → lines_fault n p labels texts ≡ None → (found : Label) → find test (labels_from p (said_lines texts)) ≡ Some found
+    → found.offset ≤ 4194304
 unfolding labels_from said_lines
 labels_near test n p labels [] h e found g = cc
 labels_near test n p labels (text ∷ texts) h e found g =
     let a = accepted_first n p labels text texts e in
     let after = place_after p a.line.says in
     let rest = labels_near test (n + 1) after (labels_after p labels a.line) texts (limits_after p a.line.says a.fits) a.rest in
-    near_labelled test p a.line.label found (labels_from after (said_lines texts)) (here_near p h) rest (sym (ap (λ ls. find test (labels_from p ls)) (said_first text texts a.line a.says)) ∙ g)
+    near_labelled test p a.line.label found (labels_from after (said_lines texts)) (here_near p h) rest
+    (sym (ap (λ ls. find test (labels_from p ls)) (said_first text texts a.line a.says)) ∙ g)
 
-near_place : (o : Option Label) (place : LabelPlace) → ((found : Label) → o ≡ Some found → found.offset ≤ 4194304) → option_map label_place o ≡ Some place → place.offset ≤ 4194304
+near_place : (o : Option Label) (place : LabelPlace) → ((found : Label) → o ≡ Some found → found.offset ≤ 4194304)
+    → option_map label_place o ≡ Some place → place.offset ≤ 4194304
 near_place None place near e = cc
-near_place (Some found) place near e = let same : label_place found ≡ place = cc in subst (λ (l : LabelPlace). l.offset ≤ 4194304) same (near found refl)
+near_place (Some found) place near e =
+    let same : label_place found ≡ place = cc in subst (λ (l : LabelPlace). l.offset ≤ 4194304) same (near found refl)
 
 -- the text of such lines has at most 4 MiB, and so has what stands before their labels
-pub addresses_near : (addresses : Addresses) (texts : List (List ℕ)) → addresses.text_size ≡ text_length_of (said_lines texts) → Knows addresses.labels.now (labels_of (said_lines texts)) → lines_fault 1 first_place [] texts ≡ None → AreNear addresses
+pub addresses_near : (addresses : Addresses) (texts : List (List ℕ)) → addresses.text_size ≡ text_length_of (said_lines texts)
+    → Knows addresses.labels.now (labels_of (said_lines texts)) → lines_fault 1 first_place [] texts ≡ None → AreNear addresses
 unfolding label_named
 addresses_near addresses texts size knows e = record {
-  text = subst (λ n. n ≤ 4194304) (sym size) (limits_past 1 first_place [] texts (record { text = omega arith; data_part = omega arith }) e).text;
+  text =
+      subst (λ n. n ≤ 4194304) (sym size) (limits_past 1 first_place [] texts (record { text = omega arith; data_part = omega arith })
+      e).text;
   labels = λ name place is.
       near_place (label_named (labels_of (said_lines texts)) name) place
-      (λ found named. labels_near (λ label. bytes_eq label.name name) 1 first_place [] texts (record { text = omega arith; data_part = omega arith }) e found named)
+      (λ found named. labels_near (λ label. bytes_eq label.name name) 1 first_place [] texts
+      (record { text = omega arith; data_part = omega arith }) e found named)
       (sym (knows.each name) ∙ is);
 }

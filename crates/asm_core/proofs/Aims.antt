@@ -7,11 +7,14 @@ use Rattle.asm_operands.specs.Distances.{with_distance}
 use Rattle.asm_core.specs.Targets.{counted_from, word_to}
 use Rattle.asm_core.specs.Emitted.{CanHave}
 
-either_means : (i : Item) (word aimed : ℕ) (ahead : Bool) (m n : ℕ) → CanHave i word → cond ahead (with_distance i word false m) (with_distance i word true n) ≡ Some aimed → is_some (instruction_of aimed) ≡ true
+either_means : (i : Item) (word aimed : ℕ) (ahead : Bool) (m n : ℕ) → CanHave i word
+    → cond ahead (with_distance i word false m) (with_distance i word true n) ≡ Some aimed → is_some (instruction_of aimed) ≡ true
 either_means i word aimed true m n h e = h.means false m aimed e
 either_means i word aimed false m n h e = h.means true n aimed e
 
-pub aimed_means : (i : Item) (word from target aimed : ℕ) → CanHave i word → word_to i word from target ≡ Some aimed → is_some (instruction_of aimed) ≡ true
+pub aimed_means : (i : Item) (word from target aimed : ℕ) → CanHave i word → word_to i word from target ≡ Some aimed
+    → is_some (instruction_of aimed) ≡ true
 unfolding word_to
 aimed_means i word from target aimed h e =
-    either_means i word aimed (nat_le (counted_from i from) (counted_from i target)) (counted_from i target - counted_from i from) (counted_from i from - counted_from i target) h e
+    either_means i word aimed (nat_le (counted_from i from) (counted_from i target)) (counted_from i target - counted_from i from)
+    (counted_from i from - counted_from i target) h e

@@ -1,5 +1,6 @@
 -- What the second pass has put after each line, and at the end.
-use Rattle.std.proofs.Common.{◌≡◌, ℕ, zero, suc, ◌+◌, ◌<◌, ◌≤◌, Bool, List, [], ◌∷◌, ◌++◌, length, take, drop, map, slice_get, Option, Some, None, Ok, refl, sym, ap, ap₂, ◌∙◌, subst, arith, length-append, append_assoc, below_more}
+use Rattle.std.proofs.Common.{◌≡◌, ℕ, zero, suc, ◌+◌, ◌<◌, ◌≤◌, Bool, List, [], ◌∷◌, ◌++◌, length, take, drop, map, slice_get, Option, Some}
+use Rattle.std.proofs.Common.{None, Ok, refl, sym, ap, ap₂, ◌∙◌, subst, arith, length-append, append_assoc, below_more}
 use Rattle.std.proofs.lemmas.List.{append-nil, take_all}
 use Rattle.std.proofs.lemmas.Option.{slice_get_within}
 use Rattle.sm_types.specs.declared.object.Section.{Section}
@@ -22,19 +23,22 @@ use Rattle.asm_core.proofs.Accepted.{accepted_first, said_first, limits_after, o
 
 -- ---- lines at a place of a list
 
-pub get_next : (ls : List SourceLine) (k : ℕ) (line : SourceLine) (rest : List SourceLine) → drop k ls ≡ line ∷ rest → slice_get ls k ≡ Some line
+pub get_next : (ls : List SourceLine) (k : ℕ) (line : SourceLine) (rest : List SourceLine) → drop k ls ≡ line ∷ rest
+    → slice_get ls k ≡ Some line
 get_next [] zero line rest e = cc
 get_next [] (suc k) line rest e = cc
 get_next (l ∷ ls) zero line rest e = cc
 get_next (l ∷ ls) (suc k) line rest e = get_next ls k line rest e
 
-pub drop_next : (ls : List SourceLine) (k : ℕ) (line : SourceLine) (rest : List SourceLine) → drop k ls ≡ line ∷ rest → drop (suc k) ls ≡ rest
+pub drop_next : (ls : List SourceLine) (k : ℕ) (line : SourceLine) (rest : List SourceLine) → drop k ls ≡ line ∷ rest
+    → drop (suc k) ls ≡ rest
 drop_next [] zero line rest e = cc
 drop_next [] (suc k) line rest e = cc
 drop_next (l ∷ ls) zero line rest e = cc
 drop_next (l ∷ ls) (suc k) line rest e = drop_next ls k line rest e
 
-place_next : (p : Place) (ls : List SourceLine) (k : ℕ) (line : SourceLine) (rest : List SourceLine) → drop k ls ≡ line ∷ rest → place_past p (take (suc k) ls) ≡ place_after (place_past p (take k ls)) line.says
+place_next : (p : Place) (ls : List SourceLine) (k : ℕ) (line : SourceLine) (rest : List SourceLine) → drop k ls ≡ line ∷ rest
+    → place_past p (take (suc k) ls) ≡ place_after (place_past p (take k ls)) line.says
 unfolding place_past
 place_next p [] zero line rest e = cc
 place_next p [] (suc k) line rest e = cc
@@ -48,15 +52,18 @@ none_left (l ∷ ls) (suc k) e = let le = none_left ls k e in omega arith
 
 -- ---- the parts
 
-size_in : (part : Section) (p : Place) (parts : Parts) → length parts.text_bytes.items ≡ p.text_size → length parts.data_bytes.items ≡ p.data_size → length (bytes_in parts part) ≡ here_in part p
+size_in : (part : Section) (p : Place) (parts : Parts) → length parts.text_bytes.items ≡ p.text_size
+    → length parts.data_bytes.items ≡ p.data_size → length (bytes_in parts part) ≡ here_in part p
 size_in Text p parts t d = t
 size_in Data p parts t d = d
 
-pub size_here : (p : Place) (parts : Parts) → length parts.text_bytes.items ≡ p.text_size → length parts.data_bytes.items ≡ p.data_size → length (bytes_in parts p.part) ≡ here p
+pub size_here : (p : Place) (parts : Parts) → length parts.text_bytes.items ≡ p.text_size → length parts.data_bytes.items ≡ p.data_size
+    → length (bytes_in parts p.part) ≡ here p
 size_here p parts t d = size_in p.part p parts t d
 
 -- a part keeps what it has where another grows
-any_part : (q part : Section) (old new : Parts) (piece : List ℕ) → bytes_in new part ≡ bytes_in old part ++ piece → bytes_in new (other part) ≡ bytes_in old (other part) → (more : List ℕ) × (bytes_in new q ≡ bytes_in old q ++ more)
+any_part : (q part : Section) (old new : Parts) (piece : List ℕ) → bytes_in new part ≡ bytes_in old part ++ piece
+    → bytes_in new (other part) ≡ bytes_in old (other part) → (more : List ℕ) × (bytes_in new q ≡ bytes_in old q ++ more)
 any_part Text Text old new piece a o = (piece, a)
 any_part Text Data old new piece a o = ([], o ∙ sym (append-nil old.text_bytes.items))
 any_part Data Text old new piece a o = ([], o ∙ sym (append-nil old.data_bytes.items))
@@ -66,43 +73,67 @@ pub record HasSizes (p : Place) (parts : Parts) : Type 0 where
   pub text : length parts.text_bytes.items ≡ p.text_size
   pub data_part : length parts.data_bytes.items ≡ p.data_size
 
-grown_length : (old new piece : List ℕ) (from size : ℕ) → new ≡ old ++ piece → length old ≡ from → length piece ≡ size → length new ≡ from + size
+grown_length : (old new piece : List ℕ) (from size : ℕ) → new ≡ old ++ piece → length old ≡ from → length piece ≡ size
+    → length new ≡ from + size
 grown_length old new piece from size a f s = ap length a ∙ length-append old piece ∙ ap₂ (λ m n. m + n) f s
 
-sizes_in : (part : Section) (p : Place) (old new : Parts) (piece : List ℕ) (size : ℕ) → HasSizes p old → bytes_in new part ≡ bytes_in old part ++ piece → bytes_in new (other part) ≡ bytes_in old (other part) → length piece ≡ size → HasSizes (grown_in part p size) new
-sizes_in Text p old new piece size h a o s = record { text = grown_length old.text_bytes.items new.text_bytes.items piece p.text_size size a h.text s; data_part = ap length o ∙ h.data_part }
-sizes_in Data p old new piece size h a o s = record { text = ap length o ∙ h.text; data_part = grown_length old.data_bytes.items new.data_bytes.items piece p.data_size size a h.data_part s }
+sizes_in : (part : Section) (p : Place) (old new : Parts) (piece : List ℕ) (size : ℕ) → HasSizes p old
+    → bytes_in new part ≡ bytes_in old part ++ piece → bytes_in new (other part) ≡ bytes_in old (other part) → length piece ≡ size
+    → HasSizes (grown_in part p size) new
+sizes_in Text p old new piece size h a o s =
+    record {
+      text = grown_length old.text_bytes.items new.text_bytes.items piece p.text_size size a h.text s;
+      data_part = ap length o
+          ∙ h.data_part;
+    }
+sizes_in Data p old new piece size h a o s =
+    record {
+      text = ap length o ∙ h.text;
+      data_part = grown_length old.data_bytes.items new.data_bytes.items piece p.data_size size a
+          h.data_part s;
+    }
 
 module _ (T : ℕ) (L : List Label) where
-  grown_sizes : (p : Place) (code : Option Bool) (line : SourceLine) (old new : Parts) → HasSizes p old → HaveGrown T L p code line old new → HasSizes (place_after p line.says) new
+  grown_sizes : (p : Place) (code : Option Bool) (line : SourceLine) (old new : Parts) → HasSizes p old → HaveGrown T L p code line old new
+      → HasSizes (place_after p line.says) new
   unfolding place_after
-  grown_sizes p code line old new h g = let s = sizes_in p.part p old new g.bytes.piece (size_of line.says (here p)) h g.bytes.added g.others g.bytes.size in record { text = s.text; data_part = s.data_part }
+  grown_sizes p code line old new h g =
+      let s =
+      sizes_in p.part p old new g.bytes.piece (size_of line.says (here p)) h g.bytes.added g.others g.bytes.size in
+      record { text = s.text; data_part = s.data_part }
 
-  put_now : (p : Place) (code : Option Bool) (line : SourceLine) (old new : Parts) → HasSizes p old → HaveGrown T L p code line old new → Puts T L (bytes_in new p.part) p line.says
+  put_now : (p : Place) (code : Option Bool) (line : SourceLine) (old new : Parts) → HasSizes p old → HaveGrown T L p code line old new
+      → Puts T L (bytes_in new p.part) p line.says
   put_now p code line old new h g =
       subst (λ (bytes : List ℕ). Puts T L bytes p line.says) (sym g.bytes.added)
       (piece_puts T L p line.says (bytes_in old p.part) g.bytes.piece (size_here p old h.text h.data_part) g.bytes.piece_is)
 
-  put_before : (p : Place) (code : Option Bool) (line : SourceLine) (old new : Parts) (q : Place) (says : Says) → HaveGrown T L p code line old new → Puts T L (bytes_in old q.part) q says → Puts T L (bytes_in new q.part) q says
+  put_before : (p : Place) (code : Option Bool) (line : SourceLine) (old new : Parts) (q : Place) (says : Says)
+      → HaveGrown T L p code line old new → Puts T L (bytes_in old q.part) q says → Puts T L (bytes_in new q.part) q says
   put_before p code line old new q says g h =
       let more = any_part q.part p.part old new g.bytes.piece g.bytes.added g.others in
       subst (λ (bytes : List ℕ). Puts T L bytes q says) (sym more.1) (puts_kept T L q says (bytes_in old q.part) more.0 h)
 
-  symbols_next : (p : Place) (code : Option Bool) (line : SourceLine) (rest : List SourceLine) (old new : Parts) → HaveGrown T L p code line old new
-      → map symbol_said new.symbols.items ++ symbols_from T (place_after p line.says) (text_is p line.says code) rest ≡ map symbol_said old.symbols.items ++ symbols_from T p code (line ∷ rest)
+  symbols_next : (p : Place) (code : Option Bool) (line : SourceLine) (rest : List SourceLine) (old new : Parts)
+      → HaveGrown T L p code line old new
+      → map symbol_said new.symbols.items ++ symbols_from T (place_after p line.says) (text_is p line.says code) rest
+      ≡ map symbol_said old.symbols.items ++ symbols_from T p code (line ∷ rest)
   unfolding symbols_from line_symbols
   symbols_next p code line rest old new g =
       let label = label_symbol T p line.label in
       let mapping = mapping_symbol T p line.says code in
       let after = symbols_from T (place_after p line.says) (text_is p line.says code) rest in
       let before = map symbol_said old.symbols.items in
-      ap (λ x. x ++ after) g.symbols ∙ append_assoc before (label ++ mapping) after ∙ ap (λ x. before ++ x) (append_assoc label mapping after)
+      ap (λ x. x ++ after) g.symbols ∙ append_assoc before (label ++ mapping) after
+      ∙ ap (λ x. before ++ x) (append_assoc label mapping after)
 
-  targets_next : (n : ℕ) (p : Place) (line : SourceLine) (rest : List SourceLine) → target_fault n T L p line.says ≡ None → targets_fault (n + 1) T L (place_after p line.says) rest ≡ targets_fault n T L p (line ∷ rest)
+  targets_next : (n : ℕ) (p : Place) (line : SourceLine) (rest : List SourceLine) → target_fault n T L p line.says ≡ None
+      → targets_fault (n + 1) T L (place_after p line.says) rest ≡ targets_fault n T L p (line ∷ rest)
   unfolding targets_fault
   targets_next n p line rest e = rw e refl
 
-  targets_stop : (n : ℕ) (p : Place) (line : SourceLine) (rest : List SourceLine) (fault : AsmFault) → target_fault n T L p line.says ≡ Some fault → targets_fault n T L p (line ∷ rest) ≡ Some fault
+  targets_stop : (n : ℕ) (p : Place) (line : SourceLine) (rest : List SourceLine) (fault : AsmFault)
+      → target_fault n T L p line.says ≡ Some fault → targets_fault n T L p (line ∷ rest) ≡ Some fault
   unfolding targets_fault
   targets_stop n p line rest fault e = rw e refl
 
@@ -115,30 +146,40 @@ module _ (T : ℕ) (L : List Label) where
     pub accepted : lines_fault n e.place known texts ≡ None
     pub limits : IsInLimits e.place
     pub sizes : HasSizes e.place e.parts
-    pub puts : (k : ℕ) → k < done → (line : SourceLine) → slice_get ls k ≡ Some line → Puts T L (bytes_in e.parts (place_of ls k).part) (place_of ls k) line.says
-    pub symbols : map symbol_said e.parts.symbols.items ++ symbols_from T e.place e.code (said_lines texts) ≡ symbols_from T first_place None ls
+    pub puts : (k : ℕ) → k < done → (line : SourceLine) → slice_get ls k ≡ Some line
+        → Puts T L (bytes_in e.parts (place_of ls k).part) (place_of ls k) line.says
+    pub symbols : map symbol_said e.parts.symbols.items
+        ++ symbols_from T e.place e.code (said_lines texts) ≡ symbols_from T first_place None ls
     pub targets : targets_fault n T L e.place (said_lines texts) ≡ targets_fault 1 T L first_place ls
 
   -- a line is put
-  pub at_next : (ls : List SourceLine) (text : List ℕ) (texts : List (List ℕ)) (n : ℕ) (old new : Emission) (line : SourceLine) → line_of text ≡ Ok line → IsAt ls (text ∷ texts) n old
-      → HaveGrown T L old.place old.code line old.parts new.parts → new.place ≡ place_after old.place line.says → new.code ≡ text_is old.place line.says old.code
+  pub at_next : (ls : List SourceLine) (text : List ℕ) (texts : List (List ℕ)) (n : ℕ) (old new : Emission) (line : SourceLine)
+      → line_of text ≡ Ok line → IsAt ls (text ∷ texts) n old
+      → HaveGrown T L old.place old.code line old.parts new.parts → new.place ≡ place_after old.place line.says
+      → new.code ≡ text_is old.place line.says old.code
       → target_fault n T L old.place line.says ≡ None → IsAt ls texts (n + 1) new
   at_next ls text texts n old new line says h g place code fine =
       let a = accepted_first n old.place h.known text texts h.accepted in
       let same : a.line ≡ line = one_line text a.line line a.says says in
       let said : said_lines (text ∷ texts) ≡ line ∷ said_lines texts = said_first text texts line says in
       let left : drop h.done ls ≡ line ∷ said_lines texts = h.rest ∙ said in
-      let there : place_of ls (suc h.done) ≡ place_after old.place line.says = place_next first_place ls h.done line (said_lines texts) left ∙ ap (λ (p : Place). place_after p line.says) (sym h.place) in
-      let P : ℕ → Type 0 = λ k. (l : SourceLine) → slice_get ls k ≡ Some l → Puts T L (bytes_in new.parts (place_of ls k).part) (place_of ls k) l.says in
-      let now : Puts T L (bytes_in new.parts old.place.part) old.place line.says = put_now old.place old.code line old.parts new.parts h.sizes g in
+      let there : place_of ls (suc h.done) ≡ place_after old.place line.says =
+      place_next first_place ls h.done line (said_lines texts) left ∙ ap (λ (p : Place). place_after p line.says) (sym h.place) in
+      let P : ℕ → Type 0 =
+      λ k. (l : SourceLine) → slice_get ls k ≡ Some l → Puts T L (bytes_in new.parts (place_of ls k).part) (place_of ls k) l.says in
+      let now : Puts T L (bytes_in new.parts old.place.part) old.place line.says =
+      put_now old.place old.code line old.parts new.parts h.sizes g in
       record {
         done = suc h.done;
         known = labels_after old.place h.known line;
         rest = drop_next ls h.done line (said_lines texts) left;
         place = place ∙ sym there;
         accepted = subst (λ (p : Place). lines_fault (n + 1) p (labels_after old.place h.known line) texts ≡ None) (sym place)
-            (subst (λ (l : SourceLine). lines_fault (n + 1) (place_after old.place l.says) (labels_after old.place h.known l) texts ≡ None) same a.rest);
-        limits = subst IsInLimits (sym place) (subst (λ (l : SourceLine). IsInLimits (place_after old.place l.says)) same (limits_after old.place a.line.says a.fits));
+            (subst (λ (l : SourceLine). lines_fault (n + 1) (place_after old.place l.says) (labels_after old.place h.known l) texts ≡ None)
+            same a.rest);
+        limits =
+            subst IsInLimits (sym place) (subst (λ (l : SourceLine). IsInLimits (place_after old.place l.says)) same
+            (limits_after old.place a.line.says a.fits));
         sizes = subst (λ (p : Place). HasSizes p new.parts) (sym place) (grown_sizes old.place old.code line old.parts new.parts h.sizes g);
         puts = λ k lt. below_more P h.done
             (λ j less l is. put_before old.place old.code line old.parts new.parts (place_of ls j) l.says g (h.puts j less l is))
@@ -147,21 +188,27 @@ module _ (T : ℕ) (L : List Label) where
             subst (λ (x : SourceLine). Puts T L (bytes_in new.parts (place_of ls h.done).part) (place_of ls h.done) x.says) one
             (subst (λ (p : Place). Puts T L (bytes_in new.parts p.part) p line.says) h.place now))
             k (omega arith);
-        symbols = ap₂ (λ (p : Place) (c : Option Bool). map symbol_said new.parts.symbols.items ++ symbols_from T p c (said_lines texts)) place code
+        symbols =
+            ap₂ (λ (p : Place) (c : Option Bool). map symbol_said new.parts.symbols.items ++ symbols_from T p c (said_lines texts)) place code
             ∙ symbols_next old.place old.code line (said_lines texts) old.parts new.parts g
-            ∙ ap (λ (l : List SourceLine). map symbol_said old.parts.symbols.items ++ symbols_from T old.place old.code l) (sym said) ∙ h.symbols;
-        targets = ap (λ (p : Place). targets_fault (n + 1) T L p (said_lines texts)) place ∙ targets_next n old.place line (said_lines texts) fine
+            ∙ ap (λ (l : List SourceLine). map symbol_said old.parts.symbols.items ++ symbols_from T old.place old.code l) (sym said)
+            ∙ h.symbols;
+        targets =
+            ap (λ (p : Place). targets_fault (n + 1) T L p (said_lines texts)) place ∙ targets_next n old.place line (said_lines texts) fine
             ∙ ap (λ (l : List SourceLine). targets_fault n T L old.place l) (sym said) ∙ h.targets;
       }
 
   -- a line has a fault
-  pub at_fault : (ls : List SourceLine) (text : List ℕ) (texts : List (List ℕ)) (n : ℕ) (old : Emission) (line : SourceLine) (fault : AsmFault) → line_of text ≡ Ok line → IsAt ls (text ∷ texts) n old
+  pub at_fault : (ls : List SourceLine) (text : List ℕ) (texts : List (List ℕ)) (n : ℕ) (old : Emission) (line : SourceLine)
+      (fault : AsmFault) → line_of text ≡ Ok line → IsAt ls (text ∷ texts) n old
       → target_fault n T L old.place line.says ≡ Some fault → targets_fault 1 T L first_place ls ≡ Some fault
   at_fault ls text texts n old line fault says h e =
-      sym h.targets ∙ ap (λ (l : List SourceLine). targets_fault n T L old.place l) (said_first text texts line says) ∙ targets_stop n old.place line (said_lines texts) fault e
+      sym h.targets ∙ ap (λ (l : List SourceLine). targets_fault n T L old.place l) (said_first text texts line says)
+      ∙ targets_stop n old.place line (said_lines texts) fault e
 
   -- before the first line
-  pub at_start : (texts : List (List ℕ)) (e : Emission) → lines_fault 1 first_place [] texts ≡ None → e.parts.text_bytes.items ≡ [] → e.parts.data_bytes.items ≡ [] → e.parts.symbols.items ≡ [] → e.place ≡ first_place → e.code ≡ None
+  pub at_start : (texts : List (List ℕ)) (e : Emission) → lines_fault 1 first_place [] texts ≡ None → e.parts.text_bytes.items ≡ []
+      → e.parts.data_bytes.items ≡ [] → e.parts.symbols.items ≡ [] → e.place ≡ first_place → e.code ≡ None
       → IsAt (said_lines texts) texts 1 e
   unfolding place_past
   at_start texts e accepted text data_part symbols place code = record {
@@ -171,14 +218,22 @@ module _ (T : ℕ) (L : List Label) where
     place = place;
     accepted = subst (λ (p : Place). lines_fault 1 p [] texts ≡ None) (sym place) accepted;
     limits = subst IsInLimits (sym place) (record { text = omega arith; data_part = omega arith });
-    sizes = record { text = ap length text ∙ sym (ap (λ (p : Place). p.text_size) place); data_part = ap length data_part ∙ sym (ap (λ (p : Place). p.data_size) place) };
+    sizes =
+        record {
+          text = ap length text ∙ sym (ap (λ (p : Place). p.text_size) place);
+          data_part = ap length data_part
+              ∙ sym (ap (λ (p : Place). p.data_size) place);
+        };
     puts = λ k lt. absurd (omega arith);
-    symbols = ap₂ (λ (x : List SymbolSaid) (y : List SymbolSaid). x ++ y) (ap (map symbol_said) symbols) (ap₂ (λ (p : Place) (c : Option Bool). symbols_from T p c (said_lines texts)) place code);
+    symbols =
+        ap₂ (λ (x : List SymbolSaid) (y : List SymbolSaid). x ++ y) (ap (map symbol_said) symbols)
+        (ap₂ (λ (p : Place) (c : Option Bool). symbols_from T p c (said_lines texts)) place code);
     targets = ap (λ (p : Place). targets_fault 1 T L p (said_lines texts)) place;
   }
 
   -- after the last line
-  pub at_end : (ls : List SourceLine) (n : ℕ) (e : Emission) → T ≡ text_length_of ls → L ≡ labels_of ls → IsAt ls [] n e → ArePartsOf ls e.parts
+  pub at_end : (ls : List SourceLine) (n : ℕ) (e : Emission) → T ≡ text_length_of ls → L ≡ labels_of ls → IsAt ls [] n e
+      → ArePartsOf ls e.parts
   unfolding said_lines symbols_from
   at_end ls n e size labels h =
       let le = none_left ls h.done h.rest in
@@ -191,7 +246,8 @@ module _ (T : ℕ) (L : List Label) where
             subst (λ (l : List Label). Puts (text_length_of ls) l (bytes_in e.parts (place_of ls k).part) (place_of ls k) line.says) labels
             (subst (λ (t : ℕ). Puts t L (bytes_in e.parts (place_of ls k).part) (place_of ls k) line.says) size
             (let within = slice_get_within ls k line is in h.puts k (omega arith) line is));
-        symbols = sym (append-nil (map symbol_said e.parts.symbols.items)) ∙ h.symbols ∙ ap (λ (t : ℕ). symbols_from t first_place None ls) size;
+        symbols =
+            sym (append-nil (map symbol_said e.parts.symbols.items)) ∙ h.symbols ∙ ap (λ (t : ℕ). symbols_from t first_place None ls) size;
       }
 
   -- no line had a fault

@@ -13,8 +13,13 @@ use Rattle.asm_operands.specs.Operands.{OperandsSaid, operands_said}
 use Rattle.asm_operands.specs.Operands as operands
 use Rattle.asm_operands.proofs.Aimed.{said-means, target-sound, aimed-means}
 use Rattle.asm_parser.specs.declared.line.LineFault.{LineFault}
-use Rattle.asm_parser.specs.Statements.{Says, TargetSaid, Instructs, IntoText, IntoData, Quads, Words, Bytes, Zeros, Aligns, Globals, SourceLine}
-use Rattle.asm_parser.specs.Lines.{Answer, Tells, Stops, and_then, further, ends, number_value, one_number, one_name, values_from, quad_value, Directive, TextDirective, DataDirective, QuadDirective, WordDirective, ByteDirective, ZeroDirective, AlignDirective, GlobalDirective, directive_of, directive_says, target_named, target_at, instruction_or_fault, instruction_says, named_says, tokens_say, text_of_lexeme, line_answer, line_lexemes, label_of, line_of}
+use Rattle.asm_parser.specs.Statements.{Says, TargetSaid, Instructs, IntoText, IntoData, Quads, Words, Bytes, Zeros, Aligns, Globals}
+use Rattle.asm_parser.specs.Statements.{SourceLine}
+use Rattle.asm_parser.specs.Lines.{Answer, Tells, Stops, and_then, further, ends, number_value, one_number, one_name, values_from}
+use Rattle.asm_parser.specs.Lines.{quad_value, Directive, TextDirective, DataDirective, QuadDirective, WordDirective, ByteDirective}
+use Rattle.asm_parser.specs.Lines.{ZeroDirective, AlignDirective, GlobalDirective, directive_of, directive_says, target_named, target_at}
+use Rattle.asm_parser.specs.Lines.{instruction_or_fault, instruction_says, named_says, tokens_say, text_of_lexeme, line_answer}
+use Rattle.asm_parser.specs.Lines.{line_lexemes, label_of, line_of}
 use Rattle.asm_core.specs.Aimed.{MeansAimed}
 use Rattle.asm_core.specs.Targets.{word_to}
 use Rattle.asm_core.proofs.Immediates.{named-aims}
@@ -58,23 +63,32 @@ abbrev Means : OperandsSaid → Type 0
 Means (operands.Says word target) = (is_some (instruction_of word) ≡ true) × CanAim word target
 Means (operands.Fails fault) = Unit {0}
 
-can_aim : (name : ℕ) (ts : List Token) (word : ℕ) (target : Option Target) → operands_said name ts ≡ operands.Says word target → CanAim word target
+can_aim : (name : ℕ) (ts : List Token) (word : ℕ) (target : Option Target) → operands_said name ts ≡ operands.Says word target
+    → CanAim word target
 can_aim name ts word None e = tt
-can_aim name ts word (Some target) e = record { sound = target-sound name ts word target e; means = λ back size aimed is. aimed-means name ts word target back size aimed e is; aims = named-aims name ts word target e }
+can_aim name ts word (Some target) e =
+    record {
+      sound = target-sound name ts word target e;
+      means = λ back size aimed is. aimed-means name ts word target back size aimed e is;
+      aims = named-aims name ts word target e;
+    }
 
 operands_mean : (name : ℕ) (ts : List Token) (said : OperandsSaid) → operands_said name ts ≡ said → Means said
 operands_mean name ts (operands.Says word target) e = (said-means name ts word target e, can_aim name ts word target e)
 operands_mean name ts (operands.Fails fault) e = tt
 
-aims_named : (line : List ℕ) (word : ℕ) (target : Target) (o : Option Lexeme) → CanHave target.operand word → CanBeAimed word (target_named line target.operand o)
+aims_named : (line : List ℕ) (word : ℕ) (target : Target) (o : Option Lexeme) → CanHave target.operand word
+    → CanBeAimed word (target_named line target.operand o)
 aims_named line word target None h = tt
 aims_named line word target (Some l) h = h
 
-aims_at : (line : List ℕ) (ls : List Lexeme) (word : ℕ) (target : Option Target) → CanAim word target → CanBeAimed word (target_at line ls target)
+aims_at : (line : List ℕ) (ls : List Lexeme) (word : ℕ) (target : Option Target) → CanAim word target
+    → CanBeAimed word (target_at line ls target)
 aims_at line ls word None h = tt
 aims_at line ls word (Some target) h = aims_named line word target (slice_get ls target.place) h
 
-operands_told : (line : List ℕ) (column : ℕ) (ls : List Lexeme) (said : OperandsSaid) → Means said → Told (instruction_or_fault line column ls said)
+operands_told : (line : List ℕ) (column : ℕ) (ls : List Lexeme) (said : OperandsSaid) → Means said
+    → Told (instruction_or_fault line column ls said)
 operands_told line column ls (operands.Says word target) h = record { means = h.0; aims = aims_at line ls word target h.1 }
 operands_told line column ls (operands.Fails f) h = tt
 
@@ -86,31 +100,40 @@ instruction_told line name column ls =
 
 named_told : (line : List ℕ) (l : Lexeme) (ls : List Lexeme) (d : Option Directive) (name : Option ℕ) → Told (named_says line l ls d name)
 named_told line l ls (Some d) name = further_told 1 (directive_says line d ls) (directive_told line d ls)
-named_told line l ls None (Some name) = further_told 1 (instruction_says line name (column_at line l.start) ls) (instruction_told line name (column_at line l.start) ls)
+named_told line l ls None (Some name) =
+    further_told 1 (instruction_says line name (column_at line l.start) ls) (instruction_told line name (column_at line l.start) ls)
 named_told line l ls None None = tt
 
 tokens_told : (line : List ℕ) (ls : List Lexeme) → Told (tokens_say line ls)
 unfolding tokens_say
 tokens_told line [] = tt
-tokens_told line (l ∷ ls) = elim (is_name l.token) as (λ b. Told (cond b (named_says line l ls (directive_of (text_of_lexeme line l)) (place_in NAMES (text_of_lexeme line l))) (Stops 0 Extra))) [
-  | true ↦ named_told line l ls (directive_of (text_of_lexeme line l)) (place_in NAMES (text_of_lexeme line l))
-  | false ↦ tt
-]
+tokens_told line (l ∷ ls) =
+    elim (is_name l.token) as (λ b. Told (cond b
+    (named_says line l ls (directive_of (text_of_lexeme line l)) (place_in NAMES (text_of_lexeme line l))) (Stops 0 Extra))) [
+      | true ↦ named_told line l ls (directive_of (text_of_lexeme line l)) (place_in NAMES (text_of_lexeme line l))
+      | false ↦ tt
+    ]
 
 same_line : (a b : SourceLine) → ◌≡◌ {A = Result SourceLine LineFault} (Ok a) (Ok b) → a ≡ b
 same_line a b e = cc
 
-answer_told : (text : List ℕ) (label : Option (List ℕ)) (ls : List Lexeme) (a : Answer Says) (line : SourceLine) → Told a → line_answer text label ls a ≡ Ok line → HasWord line.says
+answer_told : (text : List ℕ) (label : Option (List ℕ)) (ls : List Lexeme) (a : Answer Says) (line : SourceLine) → Told a
+    → line_answer text label ls a ≡ Ok line → HasWord line.says
 answer_told text label ls (Tells says) line h e = subst (λ (l : SourceLine). HasWord l.says) (same_line _ line e) h
 answer_told text label ls (Stops place kind) line h e = cc
 
 pub line_word : (text : List ℕ) (line : SourceLine) → line_of text ≡ Ok line → HasWord line.says
 unfolding line_of
-line_word text line e = answer_told text (label_of (before_comment text)) (line_lexemes text) (tokens_say text (line_lexemes text)) line (tokens_told text (line_lexemes text)) e
+line_word text line e =
+    answer_told text (label_of (before_comment text)) (line_lexemes text) (tokens_say text (line_lexemes text)) line
+    (tokens_told text (line_lexemes text)) e
 
-aims_said : (says : Says) (word column : ℕ) (target : TargetSaid) → says ≡ Instructs word (Some target) column → HasWord says → (from to aimed : ℕ) → word_to target.operand word from to ≡ Some aimed → MeansAimed word from to aimed
+aims_said : (says : Says) (word column : ℕ) (target : TargetSaid) → says ≡ Instructs word (Some target) column → HasWord says
+    → (from to aimed : ℕ) → word_to target.operand word from to ≡ Some aimed → MeansAimed word from to aimed
 aims_said says word column target e h = (subst HasWord e h).aims.aims
 
-pub line_aims : (text : List ℕ) (line : SourceLine) (word column from to aimed : ℕ) (target : TargetSaid) → line_of text ≡ Ok line → line.says ≡ Instructs word (Some target) column → word_to target.operand word from to ≡ Some aimed
+pub line_aims : (text : List ℕ) (line : SourceLine) (word column from to aimed : ℕ) (target : TargetSaid) → line_of text ≡ Ok line
+    → line.says ≡ Instructs word (Some target) column → word_to target.operand word from to ≡ Some aimed
     → MeansAimed word from to aimed
-line_aims text line word column from to aimed target e f g = aims_said line.says word column target f (line_word text line e) from to aimed g
+line_aims text line word column from to aimed target e f g =
+    aims_said line.says word column target f (line_word text line e) from to aimed g

@@ -1,5 +1,8 @@
 -- The word of an instruction with the distance to a target means that instruction with the distance as its immediate.
-use Rattle.std.proofs.Common.{◌≡◌, ℕ, zero, suc, ◌+◌, ◌-◌, ◌*◌, ◌/◌, ◌%◌, ◌^◌, ◌<◌, ◌≤◌, ◌==◌, ◌&&◌, ◌||◌, not, Bool, true, false, cond, bit_and, nat_lt, nat_le, List, [], ◌∷◌, length, take, drop, slice_get, Option, Some, None, refl, sym, ap, ap₂, ◌∙◌, subst, arith, eqb-true, eq-eqb, ltb-true, leb-true, leb-false, ℤ, pos, ◌-ℤ◌, ◌*ℤ◌, lit<, mod-eq_of_lt, inl, inr, lt-ltb, le-ltb}
+use Rattle.std.proofs.Common.{◌≡◌, ℕ, zero, suc, ◌+◌, ◌-◌, ◌*◌, ◌/◌, ◌%◌, ◌^◌, ◌<◌, ◌≤◌, ◌==◌, ◌&&◌, ◌||◌, not, Bool, true, false, cond}
+use Rattle.std.proofs.Common.{bit_and, nat_lt, nat_le, List, [], ◌∷◌, length, take, drop, slice_get, Option, Some, None, refl, sym, ap, ap₂}
+use Rattle.std.proofs.Common.{◌∙◌, subst, arith, eqb-true, eq-eqb, ltb-true, leb-true, leb-false, ℤ, pos, ◌-ℤ◌, ◌*ℤ◌, lit<, mod-eq_of_lt}
+use Rattle.std.proofs.Common.{inl, inr, lt-ltb, le-ltb}
 use Rattle.std.specs.Prelude.{bit_or, is_some, option_map, option_and_then, slice_index}
 use Rattle.std.specs.List.{list_all}
 use Rattle.std.proofs.lemmas.Bool.{and_parts, cond-true, cond-false}
@@ -40,7 +43,9 @@ use Rattle.asm_tokens.specs.declared.token.Token.{Token}
 use Rattle.asm_tokens.specs.declared.token.Token.TheVariants.{Word, Distance}
 use Rattle.asm_operands.specs.declared.operands.Target.{Target}
 use Rattle.asm_operands.specs.Fields.{on_target, signed_field, field_said}
-use Rattle.asm_operands.specs.Operands.{Known, with_field, agrees, known_with, known_after, taken_on, taken, fixed, word_in, shapes_of, first_of_words, first_word, is_distance, is_name_token, names, target_in, target_of, operands_said, Says}
+use Rattle.asm_operands.specs.Operands.{Known, with_field, agrees, known_with, known_after, taken_on, taken, fixed, word_in, shapes_of}
+use Rattle.asm_operands.specs.Operands.{first_of_words, first_word, is_distance, is_name_token, names, target_in, target_of, operands_said}
+use Rattle.asm_operands.specs.Operands.{Says}
 use Rattle.asm_operands.specs.Operands as operands
 use Rattle.asm_operands.specs.Distances.{unit_of, with_distance}
 use Rattle.asm_operands.specs.Sound.{has_factor, is_sound}
@@ -111,12 +116,14 @@ record IsFound (ts : List Token) (w : ℕ) (target : Target) : Type 0 where
   named : target_in (items_of shape) ts ≡ Some target
   fit : fit_rows shape ≡ true
 
-found_in : (ss : List Shape) (ts : List Token) (w : ℕ) (target : Target) → list_all fit_rows ss ≡ true → first_word ss ts ≡ Some w → target_of ss ts ≡ Some target → IsFound ts w target
+found_in : (ss : List Shape) (ts : List Token) (w : ℕ) (target : Target) → list_all fit_rows ss ≡ true → first_word ss ts ≡ Some w
+    → target_of ss ts ≡ Some target → IsFound ts w target
 unfolding first_word target_of
 found_in [] ts w target fit e f = cc
 found_in (s ∷ ss) ts w target fit e f =
     let parts = and_parts (fit_rows s) (list_all fit_rows ss) fit in
-    elim (word_in s ts) as (λ o. word_in s ts ≡ o → first_of_words o (first_word ss ts) ≡ Some w → cond (is_some o) (target_in (items_of s) ts) (target_of ss ts) ≡ Some target → IsFound ts w target) [
+    elim (word_in s ts) as (λ o. word_in s ts ≡ o → first_of_words o (first_word ss ts) ≡ Some w
+    → cond (is_some o) (target_in (items_of s) ts) (target_of ss ts) ≡ Some target → IsFound ts w target) [
       | None ↦ λ is g h. found_in ss ts w target parts.1 g h
       | Some v ↦ λ is g h. record { shape = s; said = is ∙ g; named = h; fit = parts.0 }
     ] refl e f
@@ -127,7 +134,8 @@ found name ts w target e =
     let s = is_said name ts w (Some target) e in
     let first = slice_index STARTS name in
     let count = slice_index STARTS (name + 1) - first in
-    found_in (take count (drop first SHAPES)) ts w target (all-take fit_rows count (drop first SHAPES) (all-drop fit_rows first SHAPES shapes_fit)) s.word s.named
+    found_in (take count (drop first SHAPES)) ts w target
+    (all-take fit_rows count (drop first SHAPES) (all-drop fit_rows first SHAPES shapes_fit)) s.word s.named
 
 -- ---- the target is the last operand, and its token a name
 
@@ -140,22 +148,36 @@ record IsLast (is : List Item) (ts : List Token) (i : Item) : Type 0 where
   distance : is_distance i.kind ≡ true
   last : length is ≤ place + 1
 
-last_if : (d n : Bool) (j : Item) (place : ℕ) (target : Target) → option_map (λ (i : Item). record { place = place; operand = i }) (cond (d && n) (Some j) None) ≡ Some target → (j ≡ target.operand) × (d ≡ true) × (n ≡ true)
-last_if true true j place target e = let same : record { place = place; operand = j } ≡ target = some_is _ target e in (ap (λ (x : Target). x.operand) same, refl, refl)
+last_if : (d n : Bool) (j : Item) (place : ℕ) (target : Target)
+    → option_map (λ (i : Item). record { place = place; operand = i }) (cond (d && n) (Some j) None) ≡ Some target → (j ≡ target.operand)
+    × (d ≡ true) × (n ≡ true)
+last_if true true j place target e =
+    let same : record { place = place; operand = j } ≡ target = some_is _ target e in (ap (λ (x : Target). x.operand) same, refl, refl)
 last_if true false j place target e = cc
 last_if false n j place target e = cc
 
-last_by : (is : List Item) (ts : List Token) (place : ℕ) (o : Option Item) (t : Option Token) (target : Target) → length is ≤ place + 1 → slice_get is place ≡ o → slice_get ts place ≡ t
-    → option_map (λ (i : Item). record { place = place; operand = i }) (option_and_then (names t) o) ≡ Some target → IsLast is ts target.operand
+last_by : (is : List Item) (ts : List Token) (place : ℕ) (o : Option Item) (t : Option Token) (target : Target) → length is ≤ place + 1
+    → slice_get is place ≡ o → slice_get ts place ≡ t
+    → option_map (λ (i : Item). record { place = place; operand = i }) (option_and_then (names t) o) ≡ Some target
+    → IsLast is ts target.operand
 last_by is ts place None t target le g h e = cc
 last_by is ts place (Some j) None target le g h e = let n = last_if (is_distance j.kind) false j place target e in let f = n.2 in cc
 last_by is ts place (Some j) (Some k) target le g h e =
     let n = last_if (is_distance j.kind) (is_name k) j place target e in
-    record { place = place; listed = g ∙ ap Some n.0; token = k; read = h; name = n.2; distance = subst (λ (x : Item). is_distance x.kind ≡ true) n.0 n.1; last = le }
+    record {
+      place = place;
+      listed = g ∙ ap Some n.0;
+      token = k;
+      read = h;
+      name = n.2;
+      distance = subst (λ (x : Item). is_distance x.kind ≡ true) n.0 n.1;
+      last = le;
+    }
 
 last_in : (is : List Item) (ts : List Token) (target : Target) → target_in is ts ≡ Some target → IsLast is ts target.operand
 unfolding target_in
-last_in is ts target e = last_by is ts (length is - 1) (slice_get is (length is - 1)) (slice_get ts (length is - 1)) target (omega arith) refl refl e
+last_in is ts target e =
+    last_by is ts (length is - 1) (slice_get is (length is - 1)) (slice_get ts (length is - 1)) target (omega arith) refl refl e
 
 -- ---- a name leaves the field zero
 
@@ -172,7 +194,8 @@ kind_zero k bits t d n = cc
 placed_zero : (i : Item) → operands.placed i 0 ≡ 0
 unfolding placed
 placed_zero i =
-    ap₂ (λ a b. a % 2 ^ i.field.upper_width * 2 ^ i.field.upper_low + b * 2 ^ i.field.low) (zero-div (2 ^ i.field.width)) (zero-mod (2 ^ i.field.width))
+    ap₂ (λ a b. a % 2 ^ i.field.upper_width * 2 ^ i.field.upper_low + b * 2 ^ i.field.low) (zero-div (2 ^ i.field.width))
+    (zero-mod (2 ^ i.field.width))
     ∙ ap (λ a. a * 2 ^ i.field.upper_low + 0 * 2 ^ i.field.low) (zero-mod (2 ^ i.field.upper_width)) ∙ omega arith
 
 none_and : (v : ℕ) → bit_and 0 v ≡ 0
@@ -181,16 +204,22 @@ none_and v = refl
 or_none : (v : ℕ) → bit_or v 0 ≡ v
 or_none v = or_comm v 0
 
-zero_by : (i : Item) (known next : Known) (b : Bool) (w : ℕ) → agrees i known 0 ≡ b → ◌≡◌ {A = Option Known} (cond b (Some (with_field i known 0)) None) (Some next) → Some next.value ≡ Some w → bit_and w (operands.mask_of i) ≡ 0
+zero_by : (i : Item) (known next : Known) (b : Bool) (w : ℕ) → agrees i known 0 ≡ b
+    → ◌≡◌ {A = Option Known} (cond b (Some (with_field i known 0)) None) (Some next) → Some next.value ≡ Some w
+    → bit_and w (operands.mask_of i) ≡ 0
 unfolding agrees with_field
 zero_by i known next false w a e h = cc
 zero_by i known next true w a e h =
     let same = some_is (with_field i known 0) next e in
     let parts = and_parts (bit_and known.value (operands.mask_of i) == bit_and (operands.placed i 0) known.mask) _ a in
-    let value : known.value ≡ w = sym (or_none known.value) ∙ ap (bit_or known.value) (sym (placed_zero i)) ∙ ap (λ (k : Known). k.value) same ∙ some_is next.value w h in
-    ap (λ v. bit_and v (operands.mask_of i)) (sym value) ∙ eqb-true _ _ parts.0 ∙ ap (λ p. bit_and p known.mask) (placed_zero i) ∙ none_and known.mask
+    let value : known.value ≡ w =
+    sym (or_none known.value) ∙ ap (bit_or known.value) (sym (placed_zero i)) ∙ ap (λ (k : Known). k.value) same
+    ∙ some_is next.value w h in
+    ap (λ v. bit_and v (operands.mask_of i)) (sym value) ∙ eqb-true _ _ parts.0 ∙ ap (λ p. bit_and p known.mask) (placed_zero i)
+    ∙ none_and known.mask
 
-zero_end : (i : Item) (is : List Item) (known next : Known) (t : Token) (ts : List Token) (w : ℕ) → length is ≡ 0 → known_after i known t ≡ Some next → taken is next ts ≡ Some w → is_distance i.kind ≡ true → is_name t ≡ true
+zero_end : (i : Item) (is : List Item) (known next : Known) (t : Token) (ts : List Token) (w : ℕ) → length is ≡ 0
+    → known_after i known t ≡ Some next → taken is next ts ≡ Some w → is_distance i.kind ≡ true → is_name t ≡ true
     → bit_and w (operands.mask_of i) ≡ 0
 unfolding known_after known_with taken
 zero_end i [] known next t [] w z k e d n =
@@ -199,7 +228,8 @@ zero_end i [] known next t [] w z k e d n =
 zero_end i [] known next t (u ∷ ts) w z k e d n = cc
 zero_end i (j ∷ is) known next t ts w z k e d n = absurd (omega arith)
 
-zero_last : (is : List Item) (known : Known) (ts : List Token) (w place : ℕ) (i : Item) (t : Token) → taken is known ts ≡ Some w → slice_get is place ≡ Some i → slice_get ts place ≡ Some t → length is ≤ place + 1 → is_distance i.kind ≡ true → is_name t ≡ true
+zero_last : (is : List Item) (known : Known) (ts : List Token) (w place : ℕ) (i : Item) (t : Token) → taken is known ts ≡ Some w
+    → slice_get is place ≡ Some i → slice_get ts place ≡ Some t → length is ≤ place + 1 → is_distance i.kind ≡ true → is_name t ≡ true
     → bit_and w (operands.mask_of i) ≡ 0
 unfolding taken
 zero_last [] known ts w place i t e g h le d n = cc
@@ -207,17 +237,21 @@ zero_last (j ∷ is) known [] w place i t e g h le d n = cc
 zero_last (j ∷ is) known (u ∷ ts) w zero i t e g h le d n =
     let item : j ≡ i = some_is j i g in
     let token : u ≡ t = some_is u t h in
-    elim (known_after j known u) as (λ o. known_after j known u ≡ o → taken_on (λ next. taken is next ts) o ≡ Some w → bit_and w (operands.mask_of i) ≡ 0) [
+    elim (known_after j known u) as (λ o. known_after j known u ≡ o → taken_on (λ next. taken is next ts) o ≡ Some w
+    → bit_and w (operands.mask_of i) ≡ 0) [
       | None ↦ λ is_none f. cc
-      | Some next ↦ λ is_next f. zero_end i is known next t ts w (omega arith) (sym (ap₂ (λ x y. known_after x known y) item token) ∙ is_next) f d n
+      | Some next ↦ λ is_next f. zero_end i is known next t ts w (omega arith)
+          (sym (ap₂ (λ x y. known_after x known y) item token) ∙ is_next) f d n
     ] refl e
 zero_last (j ∷ is) known (u ∷ ts) w (suc place) i t e g h le d n =
-    elim (known_after j known u) as (λ o. known_after j known u ≡ o → taken_on (λ next. taken is next ts) o ≡ Some w → bit_and w (operands.mask_of i) ≡ 0) [
+    elim (known_after j known u) as (λ o. known_after j known u ≡ o → taken_on (λ next. taken is next ts) o ≡ Some w
+    → bit_and w (operands.mask_of i) ≡ 0) [
       | None ↦ λ is_none f. cc
       | Some next ↦ λ is_next f. zero_last is next ts w place i t f g h (omega arith) d n
     ] refl e
 
-zero_said : (s : Shape) (ts : List Token) (w : ℕ) (i : Item) → word_in s ts ≡ Some w → IsLast (items_of s) ts i → bit_and w (operands.mask_of i) ≡ 0
+zero_said : (s : Shape) (ts : List Token) (w : ℕ) (i : Item) → word_in s ts ≡ Some w → IsLast (items_of s) ts i
+    → bit_and w (operands.mask_of i) ≡ 0
 unfolding word_in
 zero_said s ts w i e l = zero_last (items_of s) (fixed s) ts w l.place i l.token e l.listed l.read l.last l.distance l.name
 
@@ -237,14 +271,26 @@ when_true : (a b : Bool) → a ≡ true → (not a || b) ≡ true → b ≡ true
 when_true true b e h = h
 when_true false b e h = cc
 
-row_of : (s : Shape) (i : Item) (ts : List Token) (w : ℕ) (it : Insn) → word_in s ts ≡ Some w → list_all (fits_row i s) SCALAR_LINES ≡ true → Means scalar w it → IsRowOf i w it
+row_of : (s : Shape) (i : Item) (ts : List Token) (w : ℕ) (it : Insn) → word_in s ts ≡ Some w → list_all (fits_row i s) SCALAR_LINES ≡ true
+    → Means scalar w it → IsRowOf i w it
 unfolding fits_row scalar
 row_of s i ts w it said all m =
     let fit = all-get (fits_row i s) SCALAR_LINES m.place m.line all m.listed in
     let common : bit_and m.line.value s.mask ≡ bit_and (bit_and s.value s.mask) m.line.mask =
     ap (λ v. bit_and v s.mask) (sym m.matches) ∙ and_swap w m.line.mask s.mask ∙ ap (λ v. bit_and v m.line.mask) (word_kept s ts w said) in
-    let parts = and_parts (is_immediate i m.line.operation) (bit_and m.line.mask (mask_of (immediate_of m.line.operation)) == 0) (when_true _ _ (eq-eqb _ _ common) fit) in
-    record { place = m.place; row = m.line; listed = m.listed; matches = m.matches; gives = m.gives; immediate = parts.0; clear = eqb-true _ 0 parts.1; is_word = m.is_word }
+    let parts =
+    and_parts (is_immediate i m.line.operation) (bit_and m.line.mask (mask_of (immediate_of m.line.operation)) == 0)
+    (when_true _ _ (eq-eqb _ _ common) fit) in
+    record {
+      place = m.place;
+      row = m.line;
+      listed = m.listed;
+      matches = m.matches;
+      gives = m.gives;
+      immediate = parts.0;
+      clear = eqb-true _ 0 parts.1;
+      is_word = m.is_word;
+    }
 
 -- ---- the fields of a word whose immediate was zero, with another number there
 
@@ -259,7 +305,8 @@ module _ (f : Field) (w number : ℕ) (sound : is_field f ≡ true) (zero_there 
   kept : (g : Field) → bit_and (upper_mask g) (lower_mask g) ≡ 0 → bit_and (mask_of f) (mask_of g) ≡ 0 → field_in g aimed ≡ field_in g w
   kept g own other =
       let clear : bit_and (placed f number) (mask_of g) ≡ 0 =
-      ap (λ p. bit_and p (mask_of g)) (sym (placed-within f number apart)) ∙ and_assoc (mask_of g) (placed f number) (mask_of f) ∙ ap (bit_and (placed f number)) other ∙ and_comm (placed f number) 0 in
+      ap (λ p. bit_and p (mask_of g)) (sym (placed-within f number apart)) ∙ and_assoc (mask_of g) (placed f number) (mask_of f)
+      ∙ ap (bit_and (placed f number)) other ∙ and_comm (placed f number) 0 in
       placed-one g (field_in g aimed) (field_in g w) own (field_in-lt g aimed) (field_in-lt g w)
       (placed-field g aimed own ∙ or_clear w (placed f number) (mask_of g) clear ∙ sym (placed-field g w own))
 
@@ -267,13 +314,15 @@ module _ (f : Field) (w number : ℕ) (sound : is_field f ≡ true) (zero_there 
   there : number < 2 ^ bits_of f → field_in f aimed ≡ number
   there lt =
       placed-one f (field_in f aimed) number apart (field_in-lt f aimed) lt
-      (placed-field f aimed apart ∙ ap (λ n. bit_and n (mask_of f)) (or_comm w (placed f number)) ∙ or_clear (placed f number) w (mask_of f) zero_there ∙ placed-within f number apart)
+      (placed-field f aimed apart ∙ ap (λ n. bit_and n (mask_of f)) (or_comm w (placed f number))
+      ∙ or_clear (placed f number) w (mask_of f) zero_there ∙ placed-within f number apart)
 
   -- the fixed bits are as they were
   fixed_kept : (mask : ℕ) → bit_and mask (mask_of f) ≡ 0 → bit_and aimed mask ≡ bit_and w mask
   fixed_kept mask other =
       or_clear w (placed f number) mask
-      (ap (λ p. bit_and p mask) (sym (placed-within f number apart)) ∙ and_assoc mask (placed f number) (mask_of f) ∙ ap (bit_and (placed f number)) (and_comm (mask_of f) mask ∙ other) ∙ and_comm (placed f number) 0)
+      (ap (λ p. bit_and p mask) (sym (placed-within f number apart)) ∙ and_assoc mask (placed f number) (mask_of f)
+      ∙ ap (bit_and (placed f number)) (and_comm (mask_of f) mask ∙ other) ∙ and_comm (placed f number) 0)
 
   small : w < 2 ^ 32 → aimed < 2 ^ 32
   small lt = or_lt 32 w (placed f number) lt (placed-lt f number sound)
@@ -302,9 +351,11 @@ held_back bits zero some le =
     ap (λ n. cond (nat_lt n (2 ^ (bits - 1))) (pos n) (pos n -ℤ pos (2 ^ bits))) z ∙ cond-true _ _ _ (lt-ltb 0 (2 ^ (bits - 1)) p)
 held_back bits (suc count) some le =
     let d = two_halves bits some in
-    let same : (2 ^ bits - suc count) % 2 ^ bits ≡ 2 ^ bits - suc count = mod-eq_of_lt (let l : 2 ^ bits - suc count < 2 ^ bits = omega (arith, pow_pos (bits - 1)) in l) in
+    let same : (2 ^ bits - suc count) % 2 ^ bits ≡ 2 ^ bits - suc count =
+    mod-eq_of_lt (let l : 2 ^ bits - suc count < 2 ^ bits = omega (arith, pow_pos (bits - 1)) in l) in
     let high : 2 ^ (bits - 1) ≤ 2 ^ bits - suc count = omega arith in
-    ap (λ n. cond (nat_lt n (2 ^ (bits - 1))) (pos n) (pos n -ℤ pos (2 ^ bits))) same ∙ cond-false _ _ _ (le-ltb _ _ high) ∙ omega (arith, ints)
+    ap (λ n. cond (nat_lt n (2 ^ (bits - 1))) (pos n) (pos n -ℤ pos (2 ^ bits))) same ∙ cond-false _ _ _ (le-ltb _ _ high)
+    ∙ omega (arith, ints)
 
 counted : (size scale : ℕ) → (size % scale == 0) ≡ true → size ≡ size / scale * scale
 counted size scale e =
@@ -313,8 +364,10 @@ counted size scale e =
     let turn : scale * (size / scale) ≡ size / scale * scale = omega arith in
     omega (arith, d, z, turn)
 
-held_if : (bits scale size number : ℕ) (exact low_back low_ahead back : Bool) → 0 < bits → (size % scale == 0) ≡ exact → nat_le (size / scale) (2 ^ (bits - 1)) ≡ low_back → nat_lt (size / scale) (2 ^ (bits - 1)) ≡ low_ahead
-    → cond (not exact) None (cond back (cond low_back (Some ((2 ^ bits - size / scale) % 2 ^ bits)) None) (cond low_ahead (Some (size / scale)) None)) ≡ Some number → IsHeld bits scale size number back
+held_if : (bits scale size number : ℕ) (exact low_back low_ahead back : Bool) → 0 < bits → (size % scale == 0) ≡ exact
+    → nat_le (size / scale) (2 ^ (bits - 1)) ≡ low_back → nat_lt (size / scale) (2 ^ (bits - 1)) ≡ low_ahead
+    → cond (not exact) None (cond back (cond low_back (Some ((2 ^ bits - size / scale) % 2 ^ bits)) None)
+    (cond low_ahead (Some (size / scale)) None)) ≡ Some number → IsHeld bits scale size number back
 held_if bits scale size number false low_back low_ahead back some e f g h = cc
 held_if bits scale size number true true low_ahead true some e f g h =
     let same = some_is ((2 ^ bits - size / scale) % 2 ^ bits) number h in
@@ -336,10 +389,12 @@ held_if bits scale size number true low_back true false some e f g h =
     }
 held_if bits scale size number true low_back false false some e f g h = cc
 
-held : (bits scale size number : ℕ) (back : Bool) → 0 < bits → signed_field bits scale back size ≡ Some number → IsHeld bits scale size number back
+held : (bits scale size number : ℕ) (back : Bool) → 0 < bits → signed_field bits scale back size ≡ Some number
+    → IsHeld bits scale size number back
 unfolding signed_field
 held bits scale size number back some e =
-    held_if bits scale size number (size % scale == 0) (nat_le (size / scale) (2 ^ (bits - 1))) (nat_lt (size / scale) (2 ^ (bits - 1))) back some refl refl refl e
+    held_if bits scale size number (size % scale == 0) (nat_le (size / scale) (2 ^ (bits - 1))) (nat_lt (size / scale) (2 ^ (bits - 1)))
+    back some refl refl refl e
 
 -- ---- the instructions
 
@@ -347,15 +402,18 @@ held bits scale size number back some e =
 abbrev IsOwn : Field → Type 0
 IsOwn g = bit_and (upper_mask g) (lower_mask g) ≡ 0
 
-moves : (op : Operation) → has_distance op ≡ true → (n m : Field → ℕ) (s r : Field → ℤ) → ((g : Field) → IsOwn g → bit_and (mask_of (immediate_of op)) (mask_of g) ≡ 0 → m g ≡ n g)
+moves : (op : Operation) → has_distance op ≡ true → (n m : Field → ℕ) (s r : Field → ℤ)
+    → ((g : Field) → IsOwn g → bit_and (mask_of (immediate_of op)) (mask_of g) ≡ 0 → m g ≡ n g)
     → named op m r ≡ with_immediate (named op n s) (r (immediate_of op))
 unfolding has_distance immediate_of mask_of named named_branch
 moves (G9 op) e n m s r k = ap (λ x. insn.PcRelative (record { op = op; imm = r IMM21; rd = byte x })) (k RD refl refl)
 moves (G10 B) e n m s r k = refl
 moves (G10 Bl) e n m s r k = refl
 moves (G10 BCond) e n m s r k = ap (λ x. insn.Branch (branch.Conditional (condition_of x) (r IMM19))) (k BRANCH_COND refl refl)
-moves (G10 Cbz) e n m s r k = ap₂ (λ x y. insn.Branch (branch.Compare false (is_one x) (r IMM19) (byte y))) (k SF refl refl) (k RT refl refl)
-moves (G10 Cbnz) e n m s r k = ap₂ (λ x y. insn.Branch (branch.Compare true (is_one x) (r IMM19) (byte y))) (k SF refl refl) (k RT refl refl)
+moves (G10 Cbz) e n m s r k =
+    ap₂ (λ x y. insn.Branch (branch.Compare false (is_one x) (r IMM19) (byte y))) (k SF refl refl) (k RT refl refl)
+moves (G10 Cbnz) e n m s r k =
+    ap₂ (λ x y. insn.Branch (branch.Compare true (is_one x) (r IMM19) (byte y))) (k SF refl refl) (k RT refl refl)
 moves (G10 Tbz) e n m s r k = ap₂ (λ x y. insn.Branch (branch.TestBit false (byte x) (r IMM14) (byte y))) (k BIT refl refl) (k RT refl refl)
 moves (G10 Tbnz) e n m s r k = ap₂ (λ x y. insn.Branch (branch.TestBit true (byte x) (r IMM14) (byte y))) (k BIT refl refl) (k RT refl refl)
 moves (G19 op) e n m s r k = ap (λ x. insn.LoadLiteral (record { op = op; words = r IMM19; rt = byte x })) (k RT refl refl)
@@ -369,7 +427,8 @@ units (G10 op) e n s = refl
 units (G19 op) e n s = refl
 units op e n s = cc
 
-places : (op : Operation) (u : ℕ) → has_distance op ≡ true → u ≡ unit_by op → (n : Field → ℕ) (s : Field → ℤ) (a : ℕ) → cond (u == 4096) (a / 4096 * 4096) a ≡ place_in (named op n s) a
+places : (op : Operation) (u : ℕ) → has_distance op ≡ true → u ≡ unit_by op → (n : Field → ℕ) (s : Field → ℤ) (a : ℕ)
+    → cond (u == 4096) (a / 4096 * 4096) a ≡ place_in (named op n s) a
 unfolding has_distance unit_by named
 places (G9 Adr) u e h n s a = ap (λ v. cond (v == 4096) (a / 4096 * 4096) a) h
 places (G9 Adrp) u e h n s a = ap (λ v. cond (v == 4096) (a / 4096 * 4096) a) h
@@ -436,7 +495,8 @@ same_mask i f a = λ k. (2 ^ a.upper_width k - 1) * 2 ^ a.upper_low k + (2 ^ a.w
 same_bits : (i : Item) (f : Field) → IsAt i f → texts.bits_of i ≡ bits_of f
 same_bits i f a = λ k. a.width k + a.upper_width k
 
-distance_said : (k : Kind) (bits size : ℕ) (back : Bool) → is_distance k ≡ true → field_said k bits (Distance back size) ≡ signed_field bits (unit_of k) back size
+distance_said : (k : Kind) (bits size : ℕ) (back : Bool) → is_distance k ≡ true
+    → field_said k bits (Distance back size) ≡ signed_field bits (unit_of k) back size
 unfolding is_distance field_said on_target unit_of
 distance_said (kind.Distance scale) bits size back e = refl
 distance_said k bits size back e = cc
@@ -453,17 +513,22 @@ placed_small i n e =
     let le : placed i.field n ≤ mask_of i.field = placed-le i.field n in
     omega (arith, lt, le)
 
-small_by : (i : Item) (known next : Known) (field : ℕ) (b : Bool) → is_sound i ≡ true → known.value < 2 ^ 32 → ◌≡◌ {A = Option Known} (cond b (Some (with_field i known field)) None) (Some next) → next.value < 2 ^ 32
+small_by : (i : Item) (known next : Known) (field : ℕ) (b : Bool) → is_sound i ≡ true → known.value < 2 ^ 32
+    → ◌≡◌ {A = Option Known} (cond b (Some (with_field i known field)) None) (Some next) → next.value < 2 ^ 32
 unfolding with_field
-small_by i known next field true s lt e = subst (λ (k : Known). k.value < 2 ^ 32) (some_is (with_field i known field) next e) (or_lt 32 known.value (operands.placed i field) lt (placed_small i field s))
+small_by i known next field true s lt e =
+    subst (λ (k : Known). k.value < 2 ^ 32) (some_is (with_field i known field) next e)
+    (or_lt 32 known.value (operands.placed i field) lt (placed_small i field s))
 small_by i known next field false s lt e = cc
 
-small_with : (i : Item) (known next : Known) (o : Option ℕ) → is_sound i ≡ true → known.value < 2 ^ 32 → known_with i known o ≡ Some next → next.value < 2 ^ 32
+small_with : (i : Item) (known next : Known) (o : Option ℕ) → is_sound i ≡ true → known.value < 2 ^ 32 → known_with i known o ≡ Some next
+    → next.value < 2 ^ 32
 unfolding known_with
 small_with i known next None s lt e = cc
 small_with i known next (Some field) s lt e = small_by i known next field (agrees i known field) s lt e
 
-taken_small : (is : List Item) (known : Known) (ts : List Token) (w : ℕ) → list_all is_sound is ≡ true → known.value < 2 ^ 32 → taken is known ts ≡ Some w → w < 2 ^ 32
+taken_small : (is : List Item) (known : Known) (ts : List Token) (w : ℕ) → list_all is_sound is ≡ true → known.value < 2 ^ 32
+    → taken is known ts ≡ Some w → w < 2 ^ 32
 unfolding taken known_after
 taken_small [] known [] w s lt e = subst (λ v. v < 2 ^ 32) (some_is known.value w e) lt
 taken_small [] known (t ∷ ts) w s lt e = cc
@@ -472,7 +537,8 @@ taken_small (i ∷ is) known (t ∷ ts) w s lt e =
     let p = and_parts (is_sound i) (list_all is_sound is) s in
     elim (known_after i known t) as (λ o. known_after i known t ≡ o → taken_on (λ next. taken is next ts) o ≡ Some w → w < 2 ^ 32) [
       | None ↦ λ is_none h. cc
-      | Some next ↦ λ is_next h. taken_small is next ts w p.1 (small_with i known next (field_said i.kind (texts.bits_of i) t) p.0 lt is_next) h
+      | Some next ↦ λ is_next h. taken_small is next ts w p.1
+          (small_with i known next (field_said i.kind (texts.bits_of i) t) p.0 lt is_next) h
     ] refl e
 
 -- ---- the word with a distance
@@ -482,11 +548,14 @@ record IsMoved (it : Insn) (size : ℕ) (back : Bool) (w : ℕ) : Type 0 where
   counts : immediate *ℤ pos (unit_in it) ≡ cond back (pos 0 -ℤ pos size) (pos size)
   means : instruction_of w ≡ Some (with_immediate it immediate)
 
-counts_by : (op : Operation) (bits number size : ℕ) (back : Bool) → IsHeld bits (unit_by op) size number back → signed_value bits number *ℤ pos (unit_by op) ≡ cond back (pos 0 -ℤ pos size) (pos size)
-counts_by op bits number size true h = ap (λ z. z *ℤ pos (unit_by op)) h.value ∙ back_by op h.count ∙ ap (λ n. pos 0 -ℤ pos n) (sym h.size_is)
+counts_by : (op : Operation) (bits number size : ℕ) (back : Bool) → IsHeld bits (unit_by op) size number back
+    → signed_value bits number *ℤ pos (unit_by op) ≡ cond back (pos 0 -ℤ pos size) (pos size)
+counts_by op bits number size true h =
+    ap (λ z. z *ℤ pos (unit_by op)) h.value ∙ back_by op h.count ∙ ap (λ n. pos 0 -ℤ pos n) (sym h.size_is)
 counts_by op bits number size false h = ap (λ z. z *ℤ pos (unit_by op)) h.value ∙ ahead_by op h.count ∙ ap pos (sym h.size_is)
 
-module _ (i : Item) (w : ℕ) (it : Insn) (r : IsRowOf i w it) (zero_there : bit_and w (operands.mask_of i) ≡ 0) (is_far : is_distance i.kind ≡ true) where
+module _ (i : Item) (w : ℕ) (it : Insn) (r : IsRowOf i w it) (zero_there : bit_and w (operands.mask_of i) ≡ 0)
+    (is_far : is_distance i.kind ≡ true) where
   abbrev op : Operation
   op = r.row.operation
 
@@ -518,14 +587,16 @@ module _ (i : Item) (w : ℕ) (it : Insn) (r : IsRowOf i w it) (zero_there : bit
   unfolding counted_from
   place_here a = places op (unit_of i.kind) has unit (numbers_in w) (signed_numbers_in w) a ∙ ap (λ x. place_in x a) (sym r.gives)
 
-  moved_word : (number size : ℕ) (back : Bool) → IsHeld (bits_of f) (unit_by op) size number back → IsMoved it size back (bit_or w (placed f number))
+  moved_word : (number size : ℕ) (back : Bool) → IsHeld (bits_of f) (unit_by op) size number back
+      → IsMoved it size back (bit_or w (placed f number))
   unfolding scalar
   moved_word number size back h =
       let v = bit_or w (placed f number) in
       let n = numbers_in v in
       let s = signed_numbers_in v in
       let same : named op n s ≡ with_immediate it (s f) =
-      moves op has (numbers_in w) n (signed_numbers_in w) s (λ g own other. kept f w number sound none g own other) ∙ ap (λ x. with_immediate x (s f)) (sym r.gives) in
+      moves op has (numbers_in w) n (signed_numbers_in w) s (λ g own other. kept f w number sound none g own other)
+      ∙ ap (λ x. with_immediate x (s f)) (sym r.gives) in
       let value : s f ≡ signed_value (bits_of f) number = ap (signed_value (bits_of f)) (there f w number sound none h.lt) in
       let means : Means scalar v (named op n s) = record {
         is_word = small f w number sound none r.is_word;
@@ -542,11 +613,13 @@ module _ (i : Item) (w : ℕ) (it : Insn) (r : IsRowOf i w it) (zero_there : bit
         means = (either v (named op n s) means.is_word).1 (inl means) ∙ ap Some same;
       }
 
-  moved_by : (size : ℕ) (back : Bool) (v : ℕ) (o : Option ℕ) → signed_field (bits_of f) (unit_by op) back size ≡ o → option_map (λ field. bit_or w (operands.placed i field)) o ≡ Some v → IsMoved it size back v
+  moved_by : (size : ℕ) (back : Bool) (v : ℕ) (o : Option ℕ) → signed_field (bits_of f) (unit_by op) back size ≡ o
+      → option_map (λ field. bit_or w (operands.placed i field)) o ≡ Some v → IsMoved it size back v
   moved_by size back v None e g = cc
   moved_by size back v (Some number) e g =
       let h = held (bits_of f) (unit_by op) size number back (sound_field op has).1 e in
-      subst (IsMoved it size back) (ap (bit_or w) (sym (same_placed i f number at)) ∙ some_is (bit_or w (operands.placed i number)) v g) (moved_word number size back h)
+      subst (IsMoved it size back) (ap (bit_or w) (sym (same_placed i f number at)) ∙ some_is (bit_or w (operands.placed i number)) v g)
+      (moved_word number size back h)
 
   moved : (size : ℕ) (back : Bool) (v : ℕ) → with_distance i w back size ≡ Some v → IsMoved it size back v
   unfolding with_distance
@@ -556,29 +629,44 @@ module _ (i : Item) (w : ℕ) (it : Insn) (r : IsRowOf i w it) (zero_there : bit
       moved_by size back v (field_said i.kind (texts.bits_of i) (Distance back size)) (sym said) e
 
   aims_by : (from target v : ℕ) (b : Bool) → nat_le (counted_from i from) (counted_from i target) ≡ b
-      → cond b (with_distance i w false (counted_from i target - counted_from i from)) (with_distance i w true (counted_from i from - counted_from i target)) ≡ Some v
+      → cond b (with_distance i w false (counted_from i target - counted_from i from))
+      (with_distance i w true (counted_from i from - counted_from i target)) ≡ Some v
       → (m : instruction_of w ≡ Some it) → MeansAimed w from target v
   aims_by from target v true le e m =
       let h = moved (counted_from i target - counted_from i from) false v e in
       let l = leb-true (counted_from i from) (counted_from i target) le in
-      let far : pos (counted_from i target - counted_from i from) ≡ pos (counted_from i target) -ℤ pos (counted_from i from) = omega (arith, ints, l) in
+      let far : pos (counted_from i target - counted_from i from) ≡ pos (counted_from i target) -ℤ pos (counted_from i from) =
+      omega (arith, ints, l) in
       record {
         it = it;
         other = with_immediate it h.immediate;
         means = m;
         aimed_means = h.means;
-        aims = record { immediate = h.immediate; is_distance = h.counts ∙ far ∙ ap₂ (λ a b. pos a -ℤ pos b) (place_here target) (place_here from); only = refl };
+        aims =
+            record {
+              immediate = h.immediate;
+              is_distance = h.counts ∙ far
+                  ∙ ap₂ (λ a b. pos a -ℤ pos b) (place_here target) (place_here from);
+              only = refl;
+            };
       }
   aims_by from target v false le e m =
       let h = moved (counted_from i from - counted_from i target) true v e in
       let l = leb-false (counted_from i from) (counted_from i target) le in
-      let far : pos 0 -ℤ pos (counted_from i from - counted_from i target) ≡ pos (counted_from i target) -ℤ pos (counted_from i from) = omega (arith, ints, l) in
+      let far : pos 0 -ℤ pos (counted_from i from - counted_from i target) ≡ pos (counted_from i target) -ℤ pos (counted_from i from) =
+      omega (arith, ints, l) in
       record {
         it = it;
         other = with_immediate it h.immediate;
         means = m;
         aimed_means = h.means;
-        aims = record { immediate = h.immediate; is_distance = h.counts ∙ far ∙ ap₂ (λ a b. pos a -ℤ pos b) (place_here target) (place_here from); only = refl };
+        aims =
+            record {
+              immediate = h.immediate;
+              is_distance = h.counts ∙ far
+                  ∙ ap₂ (λ a b. pos a -ℤ pos b) (place_here target) (place_here from);
+              only = refl;
+            };
       }
 
 -- ---- what operands say
@@ -590,7 +678,8 @@ some_insn (Some it) e = (it, refl)
 by_scalar : (w : ℕ) (it : Insn) → MeansEither w it → Means scalar w it
 by_scalar w it m = elim m [ inl n ↦ n | inr n ↦ absurd (no_meaning w it n) ]
 
-aims_found : (ts : List Token) (w : ℕ) (target : Target) → IsFound ts w target → is_some (instruction_of w) ≡ true → (from to v : ℕ) → word_to target.operand w from to ≡ Some v → MeansAimed w from to v
+aims_found : (ts : List Token) (w : ℕ) (target : Target) → IsFound ts w target → is_some (instruction_of w) ≡ true → (from to v : ℕ)
+    → word_to target.operand w from to ≡ Some v → MeansAimed w from to v
 unfolding word_to fit_rows fits_rows word_in fixed
 aims_found ts w target h meant from to v e =
     let i = target.operand in
@@ -598,9 +687,12 @@ aims_found ts w target h meant from to v e =
     let fit = and_parts (nat_lt h.shape.value (2 ^ 32)) (list_all (fits_rows h.shape) (items_of h.shape)) h.fit in
     let l = last_in (items_of h.shape) ts target h.named in
     let lt = taken_small (items_of h.shape) (fixed h.shape) ts w (items_of-sound h.shape) (ltb-true _ _ fit.0) h.said in
-    let rows = when_true (is_distance i.kind) (list_all (fits_row i h.shape) SCALAR_LINES) l.distance (all-get (fits_rows h.shape) (items_of h.shape) l.place i fit.1 l.listed) in
+    let rows =
+    when_true (is_distance i.kind) (list_all (fits_row i h.shape) SCALAR_LINES) l.distance
+    (all-get (fits_rows h.shape) (items_of h.shape) l.place i fit.1 l.listed) in
     let r = row_of h.shape i ts w m.0 h.said rows (by_scalar w m.0 ((either w m.0 lt).0 m.1)) in
     aims_by i w m.0 r (zero_said h.shape ts w i h.said l) l.distance from to v (nat_le (counted_from i from) (counted_from i to)) refl e m.1
 
-pub named-aims : (name : ℕ) (ts : List Token) (w : ℕ) (target : Target) → operands_said name ts ≡ Says w (Some target) → (from to v : ℕ) → word_to target.operand w from to ≡ Some v → MeansAimed w from to v
+pub named-aims : (name : ℕ) (ts : List Token) (w : ℕ) (target : Target) → operands_said name ts ≡ Says w (Some target) → (from to v : ℕ)
+    → word_to target.operand w from to ≡ Some v → MeansAimed w from to v
 named-aims name ts w target e = aims_found ts w target (found name ts w target e) (is_said name ts w (Some target) e).means

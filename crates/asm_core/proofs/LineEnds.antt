@@ -1,5 +1,6 @@
 -- The first line of a text.
-use Rattle.std.proofs.Common.{◌≡◌, ℕ, suc, ◌+◌, ◌<◌, ◌≤◌, Bool, true, false, not, cond, ◌==◌, List, [], ◌∷◌, length, take, drop, Option, Some, None, nat_lt, refl, sym, ap, ◌∙◌, arith}
+use Rattle.std.proofs.Common.{◌≡◌, ℕ, suc, ◌+◌, ◌<◌, ◌≤◌, Bool, true, false, not, cond, ◌==◌, List, [], ◌∷◌, length, take, drop, Option}
+use Rattle.std.proofs.Common.{Some, None, nat_lt, refl, sym, ap, ◌∙◌, arith}
 use Rattle.std.proofs.lemmas.Bool.Decides.{nat_tests}
 use Rattle.std.specs.List.{prefix_len, position_or_len}
 use Rattle.asm_core.specs.Source.{lines_of, onto_first}
@@ -18,17 +19,22 @@ is_suc : (n : ℕ) → suc n ≡ 1 + n
 is_suc n = omega arith
 
 -- the first line ends before the first line feed, or with the text
-pub first_line : (text : List ℕ) → 0 < length text → lines_of text ≡ take (position_or_len (λ c. c == 10) text) text ∷ lines_of (drop (suc (position_or_len (λ c. c == 10) text)) text)
+pub first_line : (text : List ℕ) → 0 < length text → lines_of text ≡ take (position_or_len (λ c. c == 10) text) text
+    ∷ lines_of (drop (suc (position_or_len (λ c. c == 10) text)) text)
 first_line [] l = absurd (omega arith)
-first_line (c ∷ []) l = line_cons c [] ∙ (elim (c == 10) as (λ b. cond b ([] ∷ lines_of []) (onto_first c (lines_of [])) ≡ take (cond (not b) (1 + 0) 0) (c ∷ []) ∷ lines_of (drop (suc (cond (not b) (1 + 0) 0)) (c ∷ []))) [
-  | true ↦ refl
-  | false ↦ ap (onto_first c) (no_line [] refl) ∙ ap (λ (ls : List (List ℕ)). (c ∷ []) ∷ ls) (sym (no_line [] refl))
-])
+first_line (c ∷ []) l =
+    line_cons c [] ∙ (elim (c == 10) as (λ b. cond b ([] ∷ lines_of []) (onto_first c (lines_of []))
+    ≡ take (cond (not b) (1 + 0) 0) (c ∷ []) ∷ lines_of (drop (suc (cond (not b) (1 + 0) 0)) (c ∷ []))) [
+      | true ↦ refl
+      | false ↦ ap (onto_first c) (no_line [] refl) ∙ ap (λ (ls : List (List ℕ)). (c ∷ []) ∷ ls) (sym (no_line [] refl))
+    ])
 first_line (c ∷ d ∷ cs) l = line_cons c (d ∷ cs) ∙ (
     let k = position_or_len (λ c. c == 10) (d ∷ cs) in
-    elim (c == 10) as (λ b. cond b ([] ∷ lines_of (d ∷ cs)) (onto_first c (lines_of (d ∷ cs))) ≡ take (cond (not b) (1 + k) 0) (c ∷ d ∷ cs) ∷ lines_of (drop (suc (cond (not b) (1 + k) 0)) (c ∷ d ∷ cs))) [
+    elim (c == 10) as (λ b. cond b ([] ∷ lines_of (d ∷ cs)) (onto_first c (lines_of (d ∷ cs))) ≡ take (cond (not b) (1 + k) 0) (c ∷ d ∷ cs)
+    ∷ lines_of (drop (suc (cond (not b) (1 + k) 0)) (c ∷ d ∷ cs))) [
       | true ↦ refl
-      | false ↦ ap (onto_first c) (first_line (d ∷ cs) (omega arith)) ∙ ap (λ n. take n (c ∷ d ∷ cs) ∷ lines_of (drop (suc n) (c ∷ d ∷ cs))) (is_suc k)
+      | false ↦ ap (onto_first c) (first_line (d ∷ cs) (omega arith))
+          ∙ ap (λ n. take n (c ∷ d ∷ cs) ∷ lines_of (drop (suc n) (c ∷ d ∷ cs))) (is_suc k)
     ])
 
 one_more : (n m : ℕ) → n ≤ m → 1 + n ≤ suc m

@@ -8,18 +8,22 @@ use Rattle.asm_core.specs.Layout.{Label, here}
 use Rattle.asm_core.specs.Faults.{misplaced, is_doubled, is_too_large, line_fault}
 
 module _ (n : ℕ) (p : Place) (labels : List Label) (line : SourceLine) where
-  pub misplaced_fault : (column : ℕ) → misplaced line.says (here p) ≡ Some column → line_fault n p labels (Ok line) ≡ Some (Line n (BadOperand column))
+  pub misplaced_fault : (column : ℕ) → misplaced line.says (here p) ≡ Some column
+      → line_fault n p labels (Ok line) ≡ Some (Line n (BadOperand column))
   unfolding line_fault
   misplaced_fault column e = rw e refl
 
-  pub doubled_fault : misplaced line.says (here p) ≡ None → is_doubled labels line.label ≡ true → line_fault n p labels (Ok line) ≡ Some (Doubled n)
+  pub doubled_fault : misplaced line.says (here p) ≡ None → is_doubled labels line.label ≡ true
+      → line_fault n p labels (Ok line) ≡ Some (Doubled n)
   unfolding line_fault
   doubled_fault e f = rw (e, f) refl
 
-  pub large_fault : misplaced line.says (here p) ≡ None → is_doubled labels line.label ≡ false → is_too_large p line.says ≡ true → line_fault n p labels (Ok line) ≡ Some (TooLarge n)
+  pub large_fault : misplaced line.says (here p) ≡ None → is_doubled labels line.label ≡ false → is_too_large p line.says ≡ true
+      → line_fault n p labels (Ok line) ≡ Some (TooLarge n)
   unfolding line_fault
   large_fault e f g = rw (e, f, g) refl
 
-  pub no_fault : misplaced line.says (here p) ≡ None → is_doubled labels line.label ≡ false → is_too_large p line.says ≡ false → line_fault n p labels (Ok line) ≡ None
+  pub no_fault : misplaced line.says (here p) ≡ None → is_doubled labels line.label ≡ false → is_too_large p line.says ≡ false
+      → line_fault n p labels (Ok line) ≡ None
   unfolding line_fault
   no_fault e f g = rw (e, f, g) refl

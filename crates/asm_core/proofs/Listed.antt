@@ -1,5 +1,6 @@
 -- Each code word of a source's object means an instruction, since an instruction put it.
-use Rattle.std.proofs.Common.{◌≡◌, ℕ, zero, suc, ◌+◌, ◌*◌, ◌/◌, ◌%◌, ◌^◌, ◌<◌, ◌≤◌, Bool, true, false, cond, ◌==◌, ◌&&◌, List, [], ◌∷◌, length, take, Option, Some, None, Ok, Err, refl, sym, ap, ◌∙◌, subst, arith}
+use Rattle.std.proofs.Common.{◌≡◌, ℕ, zero, suc, ◌+◌, ◌*◌, ◌/◌, ◌%◌, ◌^◌, ◌<◌, ◌≤◌, Bool, true, false, cond, ◌==◌, ◌&&◌, List, [], ◌∷◌}
+use Rattle.std.proofs.Common.{length, take, Option, Some, None, Ok, Err, refl, sym, ap, ◌∙◌, subst, arith}
 use Rattle.std.specs.Prelude.{slice_get, is_some, option_map}
 use Rattle.std.specs.List.{filter_map, cons_option, range_with_len, list_all}
 use Rattle.std.proofs.lemmas.Bool.Decides.{nat_tests}
@@ -8,10 +9,12 @@ use Rattle.sm_types.specs.declared.object.Object.{Object}
 use Rattle.sm_types.specs.declared.object.Section.{Section}
 use Rattle.sm_types.specs.declared.object.Section.TheVariants.{Text}
 use Rattle.sm_types.specs.Bytes.{little_number as little}
-use Rattle.sm_types.specs.Objects.{text_address, mappings_of, governing_mapping, mapping_says_code, is_text_code, text_word, object_word, object_code}
+use Rattle.sm_types.specs.Objects.{text_address, mappings_of, governing_mapping, mapping_says_code, is_text_code, text_word, object_word}
+use Rattle.sm_types.specs.Objects.{object_code}
 use Rattle.a64_encode.specs.Either.{instruction_of}
 use Rattle.asm_parser.specs.declared.line.LineFault.{LineFault}
-use Rattle.asm_parser.specs.Statements.{Says, Nothing, IntoText, IntoData, Quads, Words, Bytes, Zeros, Aligns, Globals, Instructs, SourceLine}
+use Rattle.asm_parser.specs.Statements.{Says, Nothing, IntoText, IntoData, Quads, Words, Bytes, Zeros, Aligns, Globals, Instructs}
+use Rattle.asm_parser.specs.Statements.{SourceLine}
 use Rattle.asm_parser.specs.Lines.{line_of}
 use Rattle.asm_core.specs.declared.fault.AsmFault.{AsmFault}
 use Rattle.asm_core.specs.declared.place.Place.{Place}
@@ -38,7 +41,8 @@ placed_column : (o : Option ℕ) (f : ℕ → AsmFault) → option_map f o ≡ N
 placed_column None f e = refl
 placed_column (Some c) f e = cc
 
-no_column : (n : ℕ) (p : Place) (labels : List Label) (line : SourceLine) → line_fault n p labels (Ok line) ≡ None → misplaced line.says (here p) ≡ None
+no_column : (n : ℕ) (p : Place) (labels : List Label) (line : SourceLine) → line_fault n p labels (Ok line) ≡ None
+    → misplaced line.says (here p) ≡ None
 unfolding line_fault
 no_column n p labels line e = placed_column (misplaced line.says (here p)) _ (first_none _ _ e)
 
@@ -46,7 +50,8 @@ past_none : (p : Place) → place_past p [] ≡ p
 unfolding place_past
 past_none p = refl
 
-past_cons : (p : Place) (line : SourceLine) (lines : List SourceLine) → place_past p (line ∷ lines) ≡ place_past (place_after p line.says) lines
+past_cons : (p : Place) (line : SourceLine) (lines : List SourceLine)
+    → place_past p (line ∷ lines) ≡ place_past (place_after p line.says) lines
 unfolding place_past
 past_cons p line lines = refl
 
@@ -66,14 +71,18 @@ no_item [] k line h e = cc
 no_item (l ∷ lines) k line h e = cc
 
 aligned_cons : (texts : List (List ℕ)) (n : ℕ) (p : Place) (list : List Label) (first : SourceLine) → line_fault n p list (Ok first) ≡ None
-    → ((j : ℕ) (other : SourceLine) → slice_get (said_lines texts) j ≡ Some other → misplaced other.says (here (place_past (place_after p first.says) (take j (said_lines texts)))) ≡ None)
-    → (k : ℕ) (line : SourceLine) → slice_get (first ∷ said_lines texts) k ≡ Some line → misplaced line.says (here (place_past p (take k (first ∷ said_lines texts)))) ≡ None
+    → ((j : ℕ) (other : SourceLine) → slice_get (said_lines texts) j ≡ Some other
+    → misplaced other.says (here (place_past (place_after p first.says) (take j (said_lines texts)))) ≡ None)
+    → (k : ℕ) (line : SourceLine) → slice_get (first ∷ said_lines texts) k ≡ Some line
+    → misplaced line.says (here (place_past p (take k (first ∷ said_lines texts)))) ≡ None
 aligned_cons texts n p list first sound later zero line at =
-    subst (λ (l : SourceLine). misplaced l.says (here (place_past p [])) ≡ None) (some_line first line at) (subst (λ (q : Place). misplaced first.says (here q) ≡ None) (sym (past_none p)) (no_column n p list first sound))
+    subst (λ (l : SourceLine). misplaced l.says (here (place_past p [])) ≡ None) (some_line first line at)
+    (subst (λ (q : Place). misplaced first.says (here q) ≡ None) (sym (past_none p)) (no_column n p list first sound))
 aligned_cons texts n p list first sound later (suc k) line at =
     subst (λ (q : Place). misplaced line.says (here q) ≡ None) (sym (past_cons p first (take k (said_lines texts)))) (later k line at)
 
-pub aligned_at : (texts : List (List ℕ)) (n : ℕ) (p : Place) (list : List Label) → lines_fault n p list texts ≡ None → (k : ℕ) (line : SourceLine) → slice_get (said_lines texts) k ≡ Some line
+pub aligned_at : (texts : List (List ℕ)) (n : ℕ) (p : Place) (list : List Label) → lines_fault n p list texts ≡ None
+    → (k : ℕ) (line : SourceLine) → slice_get (said_lines texts) k ≡ Some line
     → misplaced line.says (here (place_past p (take k (said_lines texts)))) ≡ None
 aligned_at [] n p list e k line at = absurd (no_item (said_lines []) k line nothing_said at)
 aligned_at (text ∷ texts) n p list e k line at =
@@ -82,10 +91,13 @@ aligned_at (text ∷ texts) n p list e k line at =
       | Err fault ↦ λ is. absurd (faulty n p list fault (sym (ap (line_fault n p list) is) ∙ first_none _ _ split))
       | Ok first ↦ λ is.
           let sound : line_fault n p list (Ok first) ≡ None = sym (ap (line_fault n p list) is) ∙ first_none _ _ split in
-          let rest : lines_fault (n + 1) (place_after p first.says) (labels_after p list first) texts ≡ None = sym (line_passes n p list text texts first is sound) ∙ e in
+          let rest : lines_fault (n + 1) (place_after p first.says) (labels_after p list first) texts ≡ None =
+          sym (line_passes n p list text texts first is sound) ∙ e in
           let said : said_lines (text ∷ texts) ≡ first ∷ said_lines texts = said_cons text texts first is in
           subst (λ (ls : List SourceLine). misplaced line.says (here (place_past p (take k ls))) ≡ None) (sym said)
-          (aligned_cons texts n p list first sound (λ j other there. aligned_at texts (n + 1) (place_after p first.says) (labels_after p list first) rest j other there) k line (sym (ap (λ (ls : List SourceLine). slice_get ls k) said) ∙ at))
+          (aligned_cons texts n p list first sound
+          (λ j other there. aligned_at texts (n + 1) (place_after p first.says) (labels_after p list first) rest j other there) k line
+          (sym (ap (λ (ls : List SourceLine). slice_get ls k) said) ∙ at))
     ] refl
 
 -- ---- the word that an instruction put
@@ -102,19 +114,23 @@ here_text p e = ap (λ part. here_in part p) e
 
 word_there : (word : ℕ) (text : List ℕ) (at : ℕ) → IsAssembled word text at → is_some (instruction_of (text_word text at)) ≡ true
 unfolding text_word
-word_there word text at h = ap (λ bytes. is_some (instruction_of (little bytes))) h.stands ∙ ap (λ w. is_some (instruction_of w)) (bytes_word word h.is_word) ∙ h.means
+word_there word text at h =
+    ap (λ bytes. is_some (instruction_of (little bytes))) h.stands ∙ ap (λ w. is_some (instruction_of w)) (bytes_word word h.is_word)
+    ∙ h.means
 
 same_place : (n at : ℕ) → at % 4 ≡ 0 → at ≤ 4 * n → 4 * n < at + 4 → at ≡ 4 * n
 same_place n at e l m = omega arith
 
 -- an instruction at a place of the text that has byte 4 * n put word n
-put_word : (tl : ℕ) (labels : List Label) (text : List ℕ) (says : Says) (p : Place) (n : ℕ) → is_instruction says ≡ true → p.part ≡ Text → p.text_size ≤ 4 * n → 4 * n < p.text_size + size_of says (here p)
+put_word : (tl : ℕ) (labels : List Label) (text : List ℕ) (says : Says) (p : Place) (n : ℕ) → is_instruction says ≡ true → p.part ≡ Text
+    → p.text_size ≤ 4 * n → 4 * n < p.text_size + size_of says (here p)
     → misplaced says (here p) ≡ None → Puts tl labels text p says → is_some (instruction_of (text_word text (4 * n))) ≡ true
 unfolding is_instruction size_of misplaced Puts
 put_word tl labels text (Instructs word target column) p n isn in_text from to aligned puts =
     let at : here p ≡ p.text_size = here_text p in_text in
     let whole : here p % 4 ≡ 0 = multiple (here p) column (here p % 4 == 0) refl aligned in
-    let same : here p ≡ 4 * n = same_place n (here p) whole (subst (λ m. m ≤ 4 * n) (sym at) from) (subst (λ m. 4 * n < m + 4) (sym at) to) in
+    let same : here p ≡ 4 * n =
+    same_place n (here p) whole (subst (λ m. m ≤ 4 * n) (sym at) from) (subst (λ m. 4 * n < m + 4) (sym at) to) in
     ap (λ m. is_some (instruction_of (text_word text m))) (sym same) ∙ word_there _ text (here p) puts
 put_word tl labels text Nothing p n isn in_text from to aligned puts = cc
 put_word tl labels text IntoText p n isn in_text from to aligned puts = cc
@@ -128,12 +144,14 @@ put_word tl labels text (Globals name) p n isn in_text from to aligned puts = cc
 
 -- ---- all code words
 
-all_listed : (f : ℕ → Option (ℕ × ℕ)) (a m : ℕ) → ((n : ℕ) → a ≤ n → n < a + m → (e : ℕ × ℕ) → f n ≡ Some e → is_listed e ≡ true) → list_all is_listed (filter_map f (range_with_len a m)) ≡ true
+all_listed : (f : ℕ → Option (ℕ × ℕ)) (a m : ℕ) → ((n : ℕ) → a ≤ n → n < a + m → (e : ℕ × ℕ) → f n ≡ Some e → is_listed e ≡ true)
+    → list_all is_listed (filter_map f (range_with_len a m)) ≡ true
 all_listed f a zero h = refl
 all_listed f a (suc m) h =
     elim (f a) as (λ o. f a ≡ o → list_all is_listed (cons_option o (filter_map f (range_with_len (a + 1) m))) ≡ true) [
       | None ↦ λ is. all_listed f (a + 1) m (λ n l u e at. h n (omega arith) (omega arith) e at)
-      | Some e ↦ λ is. (λ i. h a (omega arith) (omega arith) e is i && all_listed f (a + 1) m (λ n l u e at. h n (omega arith) (omega arith) e at) i)
+      | Some e ↦ λ is. (λ i. h a (omega arith) (omega arith) e is i
+          && all_listed f (a + 1) m (λ n l u e at. h n (omega arith) (omega arith) e at) i)
     ] refl
 
 abbrev second_of : Option (ℕ × ℕ) → ℕ
@@ -147,23 +165,32 @@ code_if : (b : Bool) (address word : ℕ) (e : ℕ × ℕ) → cond b (Some (add
 code_if true address word e h = (refl, same_word address word e h)
 code_if false address word e h = cc
 
-module _ (texts : List (List ℕ)) (accepted : lines_fault 1 first_place [] texts ≡ None) (object : Object) (is : IsObjectOf (said_lines texts) object) where
-  code_listed : (n : ℕ) → 4 * n < length object.text_bytes.items → is_text_code (mappings_of object.symbols.items) (text_address + 4 * n) ≡ true → is_some (instruction_of (text_word object.text_bytes.items (4 * n))) ≡ true
+module _ (texts : List (List ℕ)) (accepted : lines_fault 1 first_place [] texts ≡ None) (object : Object)
+    (is : IsObjectOf (said_lines texts) object) where
+  code_listed : (n : ℕ) → 4 * n < length object.text_bytes.items
+      → is_text_code (mappings_of object.symbols.items) (text_address + 4 * n) ≡ true
+      → is_some (instruction_of (text_word object.text_bytes.items (4 * n))) ≡ true
   unfolding is_text_code
   code_listed n l code =
       let lines = said_lines texts in
       let inside : 4 * n < (place_past first_place lines).text_size = subst (λ m. 4 * n < m) is.text_size l in
       let t = told lines first_place None None (4 * n) refl (omega arith) inside in
       let p = place_past first_place (take t.put.k lines) in
-      let marks = mappings_said object.symbols.items ∙ ap (filter_map _) is.symbols ∙ marks_said (text_length_of lines) first_place None lines in
-      let instruction : is_instruction t.put.line.says ≡ true = sym t.kind ∙ sym (ap (λ ms. mapping_says_code (governing_mapping (text_address + 4 * n) None ms)) marks) ∙ code in
+      let marks =
+      mappings_said object.symbols.items ∙ ap (filter_map _) is.symbols ∙ marks_said (text_length_of lines) first_place None lines in
+      let instruction : is_instruction t.put.line.says ≡ true =
+      sym t.kind ∙ sym (ap (λ ms. mapping_says_code (governing_mapping (text_address + 4 * n) None ms)) marks) ∙ code in
       let puts : Puts (text_length_of lines) (labels_of lines) object.text_bytes.items p t.put.line.says =
-      subst (λ (part : Section). Puts (text_length_of lines) (labels_of lines) (part_bytes object part) p t.put.line.says) t.put.in_text (is.puts t.put.k t.put.line t.put.listed) in
-      put_word (text_length_of lines) (labels_of lines) object.text_bytes.items t.put.line.says p n instruction t.put.in_text t.put.from t.put.to (aligned_at texts 1 first_place [] accepted t.put.k t.put.line t.put.listed) puts
+      subst (λ (part : Section). Puts (text_length_of lines) (labels_of lines) (part_bytes object part) p t.put.line.says) t.put.in_text
+      (is.puts t.put.k t.put.line t.put.listed) in
+      put_word (text_length_of lines) (labels_of lines) object.text_bytes.items t.put.line.says p n instruction t.put.in_text t.put.from
+      t.put.to (aligned_at texts 1 first_place [] accepted t.put.k t.put.line t.put.listed) puts
 
   -- each code word means an instruction
   pub object_listed : list_all is_listed (object_code object) ≡ true
   unfolding object_code object_word
   object_listed = all_listed (object_word object) 0 (length object.text_bytes.items / 4) (λ n l u e at.
-      let c = code_if (is_text_code (mappings_of object.symbols.items) (text_address + 4 * n)) (text_address + 4 * n) (text_word object.text_bytes.items (4 * n)) e at in
+      let c =
+      code_if (is_text_code (mappings_of object.symbols.items) (text_address + 4 * n)) (text_address + 4 * n)
+      (text_word object.text_bytes.items (4 * n)) e at in
       ap (λ w. is_some (instruction_of w)) (sym c.1) ∙ code_listed n (omega arith) c.0)

@@ -17,7 +17,8 @@ marked_object source object h = λ offset l.
     let is = h.object_is in
     let inside : offset < (place_past first_place lines).text_size = subst (λ m. offset < m) is.text_size l in
     let t = told lines first_place None None offset refl (omega arith) inside in
-    let marks = mappings_said object.symbols.items ∙ ap (filter_map _) is.symbols ∙ marks_said (text_length_of lines) first_place None lines in
+    let marks =
+    mappings_said object.symbols.items ∙ ap (filter_map _) is.symbols ∙ marks_said (text_length_of lines) first_place None lines in
     record {
       line = t.put.line;
       put = record { number = t.put.k; listed = t.put.listed; in_text = t.put.in_text; from = t.put.from; to = t.put.to };

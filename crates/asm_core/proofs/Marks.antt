@@ -1,16 +1,19 @@
 -- What the mapping symbols of a source's lines say of each byte of its text: whether an instruction put it.
-use Rattle.std.proofs.Common.{◌≡◌, ℕ, suc, ◌+◌, ◌<◌, ◌≤◌, ◌⊎◌, inl, inr, Bool, true, false, not, cond, ◌&&◌, List, [], ◌∷◌, ◌++◌, take, map, Option, Some, None, nat_lt, nat_le, refl, sym, ap, ◌∙◌, subst, arith}
+use Rattle.std.proofs.Common.{◌≡◌, ℕ, suc, ◌+◌, ◌<◌, ◌≤◌, ◌⊎◌, inl, inr, Bool, true, false, not, cond, ◌&&◌, List, [], ◌∷◌, ◌++◌, take, map}
+use Rattle.std.proofs.Common.{Option, Some, None, nat_lt, nat_le, refl, sym, ap, ◌∙◌, subst, arith}
 use Rattle.std.specs.Prelude.{slice_get, is_none}
 use Rattle.std.specs.List.{filter_map, cons_option}
 use Rattle.std.proofs.lemmas.Bool.Decides.{nat_tests}
 use Rattle.sm_types.specs.declared.object.Section.{Section}
 use Rattle.sm_types.specs.declared.object.Section.TheVariants.{Text, Data}
 use Rattle.sm_types.specs.declared.object.Symbol.{Symbol}
-use Rattle.sm_types.specs.Objects.{text_address, Mapping, mapping_at, says_in, name_says, symbol_says, mapping_of, mappings_of, later_mapping, governing_mapping, mapping_says_code}
+use Rattle.sm_types.specs.Objects.{text_address, Mapping, mapping_at, says_in, name_says, symbol_says, mapping_of, mappings_of}
+use Rattle.sm_types.specs.Objects.{later_mapping, governing_mapping, mapping_says_code}
 use Rattle.asm_parser.specs.Statements.{Says, SourceLine}
 use Rattle.asm_core.specs.declared.place.Place.{Place}
 use Rattle.asm_core.specs.Layout.{here_in, here, grown_in, size_of, place_after, place_past, address_in, address_here}
-use Rattle.asm_core.specs.Assembly.{SymbolSaid, symbol_said, label_symbol, is_instruction, fills_in, fills_text, text_is, is_same, mapping_name, mapping_symbol, symbols_from}
+use Rattle.asm_core.specs.Assembly.{SymbolSaid, symbol_said, label_symbol, is_instruction, fills_in, fills_text, text_is, is_same}
+use Rattle.asm_core.specs.Assembly.{mapping_name, mapping_symbol, symbols_from}
 
 -- ---- from symbols to mapping symbols
 
@@ -35,7 +38,9 @@ cons_join (Some m) xs ys = refl
 
 mapped_join : (xs ys : List SymbolSaid) → filter_map mapping_said (xs ++ ys) ≡ filter_map mapping_said xs ++ filter_map mapping_said ys
 mapped_join [] ys = refl
-mapped_join (x ∷ xs) ys = ap (cons_option (mapping_said x)) (mapped_join xs ys) ∙ sym (cons_join (mapping_said x) (filter_map mapping_said xs) (filter_map mapping_said ys))
+mapped_join (x ∷ xs) ys =
+    ap (cons_option (mapping_said x)) (mapped_join xs ys)
+    ∙ sym (cons_join (mapping_said x) (filter_map mapping_said xs) (filter_map mapping_said ys))
 
 -- the mark of a line: where the text changes between code and data with it
 abbrev mark_if : Bool → ℕ → Bool → List Mapping
@@ -43,7 +48,8 @@ mark_if true address code = record { address = address; code = code } ∷ []
 mark_if false address code = []
 
 abbrev mark_of : Place → Says → Option Bool → List Mapping
-mark_of p says before = mark_if (fills_text p says && not (is_same before (is_instruction says))) (text_address + p.text_size) (is_instruction says)
+mark_of p says before =
+    mark_if (fills_text p says && not (is_same before (is_instruction says))) (text_address + p.text_size) (is_instruction says)
 
 -- the marks of lines, the first of which stands at a place
 unfoldable pub marks_from : Place → Option Bool → List SourceLine → List Mapping
@@ -60,34 +66,46 @@ no_label_mark : (tl : ℕ) (p : Place) (label : Option (List ℕ)) → filter_ma
 unfolding label_symbol
 no_label_mark tl p None = refl
 no_label_mark tl p (Some name) =
-    elim (is_none (name_says name)) as (λ b. is_none (name_says name) ≡ b → filter_map mapping_said (cond b (record { name = name; address = address_here tl p; section = p.part } ∷ []) []) ≡ []) [
+    elim (is_none (name_says name)) as (λ b. is_none (name_says name) ≡ b
+    → filter_map mapping_said (cond b (record { name = name; address = address_here tl p; section = p.part } ∷ []) []) ≡ []) [
       | true ↦ λ e. ap (λ o. cons_option o []) (no_mark p.part (address_here tl p) (name_says name) e)
       | false ↦ λ e. refl
     ] refl
 
-named_mark : (address : ℕ) (code : Bool) → mapping_at address (name_says (mapping_name code)) ≡ Some (record { address = address; code = code })
+named_mark : (address : ℕ) (code : Bool)
+    → mapping_at address (name_says (mapping_name code)) ≡ Some (record { address = address; code = code })
 named_mark address true = refl
 named_mark address false = refl
 
-text_mark : (b : Bool) (address : ℕ) (code : Bool) → filter_map mapping_said (cond b (record { name = mapping_name code; address = address; section = Text } ∷ []) []) ≡ mark_if b address code
+text_mark : (b : Bool) (address : ℕ) (code : Bool)
+    → filter_map mapping_said (cond b (record { name = mapping_name code; address = address; section = Text } ∷ []) [])
+    ≡ mark_if b address code
 text_mark true address code = ap (λ o. cons_option o []) (named_mark address code)
 text_mark false address code = refl
 
 symbol_mark_in : (part : Section) (tl : ℕ) (p : Place) (size : ℕ) (c code : Bool)
-    → filter_map mapping_said (cond (fills_in part size && c) (record { name = mapping_name code; address = address_in tl part (here_in part p); section = part } ∷ []) []) ≡ mark_if (fills_in part size && c) (text_address + p.text_size) code
+    → filter_map mapping_said (cond (fills_in part size && c)
+    (record { name = mapping_name code; address = address_in tl part (here_in part p); section = part } ∷ []) [])
+    ≡ mark_if (fills_in part size && c) (text_address + p.text_size) code
 symbol_mark_in Text tl p size c code = text_mark (fills_in Text size && c) (text_address + p.text_size) code
 symbol_mark_in Data tl p size c code = refl
 
-symbol_mark : (tl : ℕ) (p : Place) (says : Says) (before : Option Bool) → filter_map mapping_said (mapping_symbol tl p says before) ≡ mark_of p says before
+symbol_mark : (tl : ℕ) (p : Place) (says : Says) (before : Option Bool)
+    → filter_map mapping_said (mapping_symbol tl p says before) ≡ mark_of p says before
 unfolding mapping_symbol fills_text
-symbol_mark tl p says before = symbol_mark_in p.part tl p (size_of says (here p)) (not (is_same before (is_instruction says))) (is_instruction says)
+symbol_mark tl p says before =
+    symbol_mark_in p.part tl p (size_of says (here p)) (not (is_same before (is_instruction says))) (is_instruction says)
 
 -- the mapping symbols of a source's lines are their marks
-pub marks_said : (tl : ℕ) (p : Place) (before : Option Bool) (lines : List SourceLine) → filter_map mapping_said (symbols_from tl p before lines) ≡ marks_from p before lines
+pub marks_said : (tl : ℕ) (p : Place) (before : Option Bool) (lines : List SourceLine)
+    → filter_map mapping_said (symbols_from tl p before lines) ≡ marks_from p before lines
 unfolding symbols_from marks_from
 marks_said tl p before [] = refl
 marks_said tl p before (line ∷ lines) =
-    mapped_join (label_symbol tl p line.label) _ ∙ ap (λ ms. ms ++ filter_map mapping_said (mapping_symbol tl p line.says before ++ symbols_from tl (place_after p line.says) (text_is p line.says before) lines)) (no_label_mark tl p line.label)
+    mapped_join (label_symbol tl p line.label) _
+    ∙ ap (λ ms. ms ++ filter_map mapping_said
+    (mapping_symbol tl p line.says before ++ symbols_from tl (place_after p line.says) (text_is p line.says before) lines))
+    (no_label_mark tl p line.label)
     ∙ mapped_join (mapping_symbol tl p line.says before) _
     ∙ (λ i. symbol_mark tl p line.says before i ++ marks_said tl (place_after p line.says) (text_is p line.says before) lines i)
 
@@ -122,7 +140,8 @@ filled_in Data p size e = cc
 
 filled : (p : Place) (says : Says) → fills_text p says ≡ true → Fills p says
 unfolding fills_text place_after
-filled p says e = let t = fills_part p.part (size_of says (here p)) e in record { in_text = t; grown = filled_in p.part p (size_of says (here p)) t }
+filled p says e =
+    let t = fills_part p.part (size_of says (here p)) e in record { in_text = t; grown = filled_in p.part p (size_of says (here p)) t }
 
 unfilled_in : (part : Section) (p : Place) (size : ℕ) → fills_in part size ≡ false → (grown_in part p size).text_size ≡ p.text_size
 unfilled_in Text p size e = let z : size ≡ 0 = nothing size e in omega arith
@@ -145,16 +164,20 @@ passed_over : (a : ℕ) (best : Option Mapping) (m : Mapping) → a < m.address 
 passed_over a None m l = rw (above_no m.address a l) refl
 passed_over a (Some b) m l = rw (above_no m.address a l) refl
 
-over_mark : (a : ℕ) (best : Option Mapping) (b : Bool) (address : ℕ) (code : Bool) (rest : List Mapping) → a < address → governing_mapping a best (mark_if b address code ++ rest) ≡ governing_mapping a best rest
-over_mark a best true address code rest l = ap (λ o. governing_mapping a o rest) (passed_over a best (record { address = address; code = code }) l)
+over_mark : (a : ℕ) (best : Option Mapping) (b : Bool) (address : ℕ) (code : Bool) (rest : List Mapping) → a < address
+    → governing_mapping a best (mark_if b address code ++ rest) ≡ governing_mapping a best rest
+over_mark a best true address code rest l =
+    ap (λ o. governing_mapping a o rest) (passed_over a best (record { address = address; code = code }) l)
 over_mark a best false address code rest l = refl
 
 -- the marks of later lines say nothing of an address before them
-later_marks : (lines : List SourceLine) (p : Place) (before : Option Bool) (best : Option Mapping) (a : ℕ) → a < text_address + p.text_size → governing_mapping a best (marks_from p before lines) ≡ best
+later_marks : (lines : List SourceLine) (p : Place) (before : Option Bool) (best : Option Mapping) (a : ℕ) → a < text_address + p.text_size
+    → governing_mapping a best (marks_from p before lines) ≡ best
 unfolding marks_from
 later_marks [] p before best a l = refl
 later_marks (line ∷ lines) p before best a l =
-    over_mark a best (fills_text p line.says && not (is_same before (is_instruction line.says))) (text_address + p.text_size) (is_instruction line.says) (marks_from (place_after p line.says) (text_is p line.says before) lines) l
+    over_mark a best (fills_text p line.says && not (is_same before (is_instruction line.says))) (text_address + p.text_size)
+    (is_instruction line.says) (marks_from (place_after p line.says) (text_is p line.says before) lines) l
     ∙ later_marks lines (place_after p line.says) (text_is p line.says before) best a (let g = text_grows p line.says in omega arith)
 
 -- the mark so far agrees with what the text is so far
@@ -174,9 +197,13 @@ same_code (Some false) true e = cc
 same_code (Some false) false e = refl
 
 -- a mark at an address that is not below those so far governs what follows
-taken_mark : (a address : ℕ) (code : Bool) (before : Option Bool) (best : Option Mapping) → Agrees before best address → address ≤ a → later_mapping a best (record { address = address; code = code }) ≡ Some (record { address = address; code = code })
-taken_mark a address code None best h l = ap (λ o. later_mapping a o (record { address = address; code = code })) h ∙ rw (below_yes address a l) refl
-taken_mark a address code (Some c) best h l = ap (λ o. later_mapping a o (record { address = address; code = code })) h.1 ∙ rw (below_yes address a l, below_yes h.0.address address h.3) refl
+taken_mark : (a address : ℕ) (code : Bool) (before : Option Bool) (best : Option Mapping) → Agrees before best address → address ≤ a
+    → later_mapping a best (record { address = address; code = code }) ≡ Some (record { address = address; code = code })
+taken_mark a address code None best h l =
+    ap (λ o. later_mapping a o (record { address = address; code = code })) h ∙ rw (below_yes address a l) refl
+taken_mark a address code (Some c) best h l =
+    ap (λ o. later_mapping a o (record { address = address; code = code })) h.1
+    ∙ rw (below_yes address a l, below_yes h.0.address address h.3) refl
 
 -- the mark that governs once a line has filled the text agrees with it
 record Marked (a : ℕ) (best : Option Mapping) (marks rest : List Mapping) (code : Bool) (limit : ℕ) : Type 0 where
@@ -184,9 +211,11 @@ record Marked (a : ℕ) (best : Option Mapping) (marks rest : List Mapping) (cod
   agrees : Agrees (Some code) now limit
   governs : governing_mapping a best (marks ++ rest) ≡ governing_mapping a now rest
 
-marked : (a address : ℕ) (code : Bool) (before : Option Bool) (best : Option Mapping) (rest : List Mapping) (same : Bool) → is_same before code ≡ same → Agrees before best address → address ≤ a
+marked : (a address : ℕ) (code : Bool) (before : Option Bool) (best : Option Mapping) (rest : List Mapping) (same : Bool)
+    → is_same before code ≡ same → Agrees before best address → address ≤ a
     → Marked a best (mark_if (not same) address code) rest code address
-marked a address code before best rest true e h l = record { now = best; agrees = subst (λ (o : Option Bool). Agrees o best address) (same_code before code e) h; governs = refl }
+marked a address code before best rest true e h l =
+    record { now = best; agrees = subst (λ (o : Option Bool). Agrees o best address) (same_code before code e) h; governs = refl }
 marked a address code before best rest false e h l = record {
   now = Some (record { address = address; code = code });
   agrees = (record { address = address; code = code }, refl, refl, omega arith);
@@ -208,11 +237,13 @@ past_none : (p : Place) → place_past p [] ≡ p
 unfolding place_past
 past_none p = refl
 
-past_cons : (p : Place) (line : SourceLine) (lines : List SourceLine) → place_past p (line ∷ lines) ≡ place_past (place_after p line.says) lines
+past_cons : (p : Place) (line : SourceLine) (lines : List SourceLine)
+    → place_past p (line ∷ lines) ≡ place_past (place_after p line.says) lines
 unfolding place_past
 past_cons p line lines = refl
 
-first_put : (p : Place) (line : SourceLine) (lines : List SourceLine) (offset : ℕ) → p.part ≡ Text → p.text_size ≤ offset → offset < p.text_size + size_of line.says (here p) → Put p (line ∷ lines) offset
+first_put : (p : Place) (line : SourceLine) (lines : List SourceLine) (offset : ℕ) → p.part ≡ Text → p.text_size ≤ offset
+    → offset < p.text_size + size_of line.says (here p) → Put p (line ∷ lines) offset
 first_put p line lines offset in_text from to = record {
   k = 0;
   line = line;
@@ -222,9 +253,11 @@ first_put p line lines offset in_text from to = record {
   to = subst (λ (q : Place). offset < q.text_size + size_of line.says (here q)) (sym (past_none p)) to;
 }
 
-next_put : (p : Place) (line : SourceLine) (lines : List SourceLine) (offset : ℕ) → Put (place_after p line.says) lines offset → Put p (line ∷ lines) offset
+next_put : (p : Place) (line : SourceLine) (lines : List SourceLine) (offset : ℕ) → Put (place_after p line.says) lines offset
+    → Put p (line ∷ lines) offset
 next_put p line lines offset h =
-    let same : place_past (place_after p line.says) (take h.k lines) ≡ place_past p (line ∷ take h.k lines) = sym (past_cons p line (take h.k lines)) in
+    let same : place_past (place_after p line.says) (take h.k lines) ≡ place_past p (line ∷ take h.k lines) =
+    sym (past_cons p line (take h.k lines)) in
     record {
       k = suc h.k;
       line = h.line;
@@ -242,7 +275,8 @@ pub record Told (p : Place) (before : Option Bool) (best : Option Mapping) (line
 low_or : (a b : ℕ) → (a < b) ⊎ (b ≤ a)
 low_or a b = grind arith
 
-text_is-filled : (p : Place) (says : Says) (before : Option Bool) → fills_text p says ≡ true → text_is p says before ≡ Some (is_instruction says)
+text_is-filled : (p : Place) (says : Says) (before : Option Bool) → fills_text p says ≡ true
+    → text_is p says before ≡ Some (is_instruction says)
 unfolding text_is
 text_is-filled p says before e = rw e refl
 
@@ -251,7 +285,8 @@ unfolding text_is
 text_is-unfilled p says before e = rw e refl
 
 marks_cons : (p : Place) (before : Option Bool) (line : SourceLine) (lines : List SourceLine)
-    → marks_from p before (line ∷ lines) ≡ mark_of p line.says before ++ marks_from (place_after p line.says) (text_is p line.says before) lines
+    → marks_from p before (line ∷ lines) ≡ mark_of p line.says before
+    ++ marks_from (place_after p line.says) (text_is p line.says before) lines
 unfolding marks_from
 marks_cons p before line lines = refl
 
@@ -263,7 +298,8 @@ says_of_agreed : (code : Bool) (now : Option Mapping) (limit : ℕ) → Agrees (
 says_of_agreed code now limit h = ap mapping_says_code h.1 ∙ h.2
 
 -- each byte of the text was put by a line, and the marks say which
-pub told : (lines : List SourceLine) (p : Place) (before : Option Bool) (best : Option Mapping) (offset : ℕ) → Agrees before best (text_address + p.text_size) → p.text_size ≤ offset → offset < (place_past p lines).text_size
+pub told : (lines : List SourceLine) (p : Place) (before : Option Bool) (best : Option Mapping) (offset : ℕ)
+    → Agrees before best (text_address + p.text_size) → p.text_size ≤ offset → offset < (place_past p lines).text_size
     → Told p before best lines offset
 unfolding next_put first_put
 told [] p before best offset h from to = absurd (no_place_left p offset from to)
@@ -278,8 +314,10 @@ told (line ∷ lines) p before best offset h from to =
           let rest = marks_from next (Some code) lines in
           let m = marked a (text_address + p.text_size) code before best rest (is_same before code) refl h (omega arith) in
           let marks : marks_from p before (line ∷ lines) ≡ mark_if (not (is_same before code)) (text_address + p.text_size) code ++ rest =
-          marks_cons p before line lines ∙ (λ i. mark_if (e i && not (is_same before code)) (text_address + p.text_size) code ++ marks_from next (text_is-filled p line.says before e i) lines) in
-          let governs : governing_mapping a best (marks_from p before (line ∷ lines)) ≡ governing_mapping a m.now rest = ap (governing_mapping a best) marks ∙ m.governs in
+          marks_cons p before line lines ∙ (λ i. mark_if (e i && not (is_same before code)) (text_address + p.text_size) code
+          ++ marks_from next (text_is-filled p line.says before e i) lines) in
+          let governs : governing_mapping a best (marks_from p before (line ∷ lines)) ≡ governing_mapping a m.now rest =
+          ap (governing_mapping a best) marks ∙ m.governs in
           elim (low_or offset next.text_size) [
             | inl here_put ↦
                 let over : governing_mapping a m.now rest ≡ m.now = later_marks lines next (Some code) m.now a (omega arith) in
@@ -289,13 +327,23 @@ told (line ∷ lines) p before best offset h from to =
                 }
             | inr past ↦
                 let g = text_grows p line.says in
-                let t = told lines next (Some code) m.now offset (agrees_further (Some code) m.now (text_address + p.text_size) (text_address + next.text_size) (omega arith) m.agrees) past after in
+                let t =
+                told lines next (Some code) m.now offset
+                (agrees_further (Some code) m.now (text_address + p.text_size) (text_address + next.text_size) (omega arith) m.agrees)
+                past after in
                 record { put = next_put p line lines offset t.put; kind = ap mapping_says_code governs ∙ t.kind }
           ]
       | false ↦ λ e.
           let same = unfilled p line.says e in
-          let t = told lines next before best offset (subst (λ n. Agrees before best (text_address + n)) (sym same) h) (subst (λ n. n ≤ offset) (sym same) from) after in
+          let t =
+          told lines next before best offset (subst (λ n. Agrees before best (text_address + n)) (sym same) h)
+          (subst (λ n. n ≤ offset) (sym same) from) after in
           let marks : marks_from p before (line ∷ lines) ≡ marks_from next before lines =
-          marks_cons p before line lines ∙ (λ i. mark_if (e i && not (is_same before (is_instruction line.says))) (text_address + p.text_size) (is_instruction line.says) ++ marks_from next (text_is-unfilled p line.says before e i) lines) in
-          record { put = next_put p line lines offset t.put; kind = ap (λ ms. mapping_says_code (governing_mapping a best ms)) marks ∙ t.kind }
+          marks_cons p before line lines ∙ (λ i. mark_if (e i && not (is_same before (is_instruction line.says)))
+          (text_address + p.text_size) (is_instruction line.says) ++ marks_from next (text_is-unfilled p line.says before e i) lines) in
+          record {
+            put = next_put p line lines offset t.put;
+            kind = ap (λ ms. mapping_says_code (governing_mapping a best ms)) marks
+                ∙ t.kind;
+          }
     ] refl

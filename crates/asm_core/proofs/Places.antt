@@ -25,7 +25,8 @@ or_right false b e = e
 neither : (a b : Bool) → a ≡ false → b ≡ false → (a || b) ≡ false
 neither a b e h = rw (e, h) refl
 
-large_in : (part : Section) (p : Place) (size : ℕ) → 4194304 < here_in part p + size → (nat_lt 4194304 (grown_in part p size).text_size || nat_lt 4194304 (grown_in part p size).data_size) ≡ true
+large_in : (part : Section) (p : Place) (size : ℕ) → 4194304 < here_in part p + size
+    → (nat_lt 4194304 (grown_in part p size).text_size || nat_lt 4194304 (grown_in part p size).data_size) ≡ true
 large_in Text p size l = or_left _ _ (above 4194304 (p.text_size + size) l)
 large_in Data p size l = or_right (nat_lt 4194304 p.text_size) _ (above 4194304 (p.data_size + size) l)
 
@@ -43,10 +44,13 @@ in_limits p says h l = let g = fits_in p.part p (size_of says (here p)) h l in r
 
 pub not_too_large : (p : Place) (says : Says) → IsInLimits (place_after p says) → is_too_large p says ≡ false
 unfolding is_too_large
-not_too_large p says h = neither _ _ (within 4194304 (place_after p says).text_size h.text) (within 4194304 (place_after p says).data_size h.data_part)
+not_too_large p says h =
+    neither _ _ (within 4194304 (place_after p says).text_size h.text) (within 4194304 (place_after p says).data_size h.data_part)
 
 -- a place that has grown by a line's bytes, with the part that the line leaves
-pub grown_place : (p after : Place) (says : Says) (size : ℕ) (part : Section) → size ≡ size_of says (here p) → after ≡ grown_in p.part p size → part ≡ part_after says p.part
+pub grown_place : (p after : Place) (says : Says) (size : ℕ) (part : Section) → size ≡ size_of says (here p)
+    → after ≡ grown_in p.part p size → part ≡ part_after says p.part
     → ◌≡◌ {A = Place} (record { part = part; text_size = after.text_size; data_size = after.data_size }) (place_after p says)
 unfolding place_after
-grown_place p after says size part e f g = let h : after ≡ grown_in p.part p (size_of says (here p)) = f ∙ ap (grown_in p.part p) e in λ i. record (h i) { part = g i }
+grown_place p after says size part e f g =
+    let h : after ≡ grown_in p.part p (size_of says (here p)) = f ∙ ap (grown_in p.part p) e in λ i. record (h i) { part = g i }

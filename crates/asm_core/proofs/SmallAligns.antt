@@ -1,5 +1,6 @@
 -- A line of the grammar aligns to 2 ^ 12 at most.
-use Rattle.std.proofs.Common.{◌≡◌, ℕ, ◌-◌, ◌^◌, ◌≤◌, Bool, true, false, cond, List, [], ◌∷◌, Option, Some, None, Result, Ok, nat_le, refl, subst, leb-true}
+use Rattle.std.proofs.Common.{◌≡◌, ℕ, ◌-◌, ◌^◌, ◌≤◌, Bool, true, false, cond, List, [], ◌∷◌, Option, Some, None, Result, Ok, nat_le, refl}
+use Rattle.std.proofs.Common.{subst, leb-true}
 use Rattle.insn_text.specs.declared.words.TheConstants.{NAMES}
 use Rattle.asm_tokens.specs.declared.token.Token.{Token}
 use Rattle.asm_tokens.specs.declared.token.Token.TheVariants.{Register, Word, Name, Number, Distance, Bare, Malformed, Mark, Other}
@@ -11,7 +12,11 @@ use Rattle.asm_operands.specs.Operands.{OperandsSaid, operands_said}
 use Rattle.asm_operands.specs.Operands as operands
 use Rattle.asm_parser.specs.declared.line.LineFault.{LineFault}
 use Rattle.asm_parser.specs.Statements.{Says, IntoText, IntoData, Quads, Words, Bytes, Zeros, Aligns, Globals, SourceLine}
-use Rattle.asm_parser.specs.Lines.{Answer, Tells, Stops, and_then, further, ends, no_number, number_up_to, number_then_end, one_number, one_name, values_from, quad_value, number_value, Directive, TextDirective, DataDirective, QuadDirective, WordDirective, ByteDirective, ZeroDirective, AlignDirective, GlobalDirective, directive_of, directive_says, instruction_or_fault, instruction_says, named_says, tokens_say, text_of_lexeme, line_answer, line_lexemes, label_of, line_of}
+use Rattle.asm_parser.specs.Lines.{Answer, Tells, Stops, and_then, further, ends, no_number, number_up_to, number_then_end, one_number}
+use Rattle.asm_parser.specs.Lines.{one_name, values_from, quad_value, number_value, Directive, TextDirective, DataDirective, QuadDirective}
+use Rattle.asm_parser.specs.Lines.{WordDirective, ByteDirective, ZeroDirective, AlignDirective, GlobalDirective, directive_of}
+use Rattle.asm_parser.specs.Lines.{directive_says, instruction_or_fault, instruction_says, named_says, tokens_say, text_of_lexeme}
+use Rattle.asm_parser.specs.Lines.{line_answer, line_lexemes, label_of, line_of}
 use Rattle.asm_core.specs.Limits.{HasSmallAlign}
 
 -- what an answer tells has a property
@@ -51,7 +56,8 @@ number_small most Malformed m e = cc
 number_small most (Mark c) m e = cc
 number_small most Other m e = cc
 
-number_told : (most : ℕ) (t : Token) (o : Option ℕ) (ls : List Lexeme) → ((m : ℕ) → o ≡ Some m → m ≤ most) → Told (λ m. m ≤ most) (number_then_end t o ls)
+number_told : (most : ℕ) (t : Token) (o : Option ℕ) (ls : List Lexeme) → ((m : ℕ) → o ≡ Some m → m ≤ most)
+    → Told (λ m. m ≤ most) (number_then_end t o ls)
 unfolding no_number
 number_told most t None ls h = tt
 number_told most t (Some n) ls h = further_told (λ m. m ≤ most) 1 (ends n ls) (ends_told (λ m. m ≤ most) n ls (h n refl))
@@ -76,7 +82,8 @@ directive_told line ZeroDirective ls = made_told Zeros (λ a. tt) (one_number (2
 directive_told line AlignDirective ls = aligns_told (one_number 12 ls) (one_told 12 ls)
 directive_told line GlobalDirective ls = made_told Globals (λ a. tt) (one_name line ls)
 
-operands_told : (line : List ℕ) (column : ℕ) (ls : List Lexeme) (said : OperandsSaid) → Told HasSmallAlign (instruction_or_fault line column ls said)
+operands_told : (line : List ℕ) (column : ℕ) (ls : List Lexeme) (said : OperandsSaid)
+    → Told HasSmallAlign (instruction_or_fault line column ls said)
 operands_told line column ls (operands.Says it target) = tt
 operands_told line column ls (operands.Fails f) = tt
 
@@ -84,26 +91,34 @@ instruction_told : (line : List ℕ) (name column : ℕ) (ls : List Lexeme) → 
 unfolding instruction_says
 instruction_told line name column ls = operands_told line column ls _
 
-named_told : (line : List ℕ) (l : Lexeme) (ls : List Lexeme) (d : Option Directive) (name : Option ℕ) → Told HasSmallAlign (named_says line l ls d name)
+named_told : (line : List ℕ) (l : Lexeme) (ls : List Lexeme) (d : Option Directive) (name : Option ℕ)
+    → Told HasSmallAlign (named_says line l ls d name)
 named_told line l ls (Some d) name = further_told HasSmallAlign 1 (directive_says line d ls) (directive_told line d ls)
-named_told line l ls None (Some name) = further_told HasSmallAlign 1 (instruction_says line name (column_at line l.start) ls) (instruction_told line name (column_at line l.start) ls)
+named_told line l ls None (Some name) =
+    further_told HasSmallAlign 1 (instruction_says line name (column_at line l.start) ls)
+    (instruction_told line name (column_at line l.start) ls)
 named_told line l ls None None = tt
 
 tokens_told : (line : List ℕ) (ls : List Lexeme) → Told HasSmallAlign (tokens_say line ls)
 unfolding tokens_say
 tokens_told line [] = tt
-tokens_told line (l ∷ ls) = elim (is_name l.token) as (λ b. Told HasSmallAlign (cond b (named_says line l ls (directive_of (text_of_lexeme line l)) (place_in NAMES (text_of_lexeme line l))) (Stops 0 Extra))) [
-  | true ↦ named_told line l ls (directive_of (text_of_lexeme line l)) (place_in NAMES (text_of_lexeme line l))
-  | false ↦ tt
-]
+tokens_told line (l ∷ ls) =
+    elim (is_name l.token) as (λ b. Told HasSmallAlign
+    (cond b (named_says line l ls (directive_of (text_of_lexeme line l)) (place_in NAMES (text_of_lexeme line l))) (Stops 0 Extra))) [
+      | true ↦ named_told line l ls (directive_of (text_of_lexeme line l)) (place_in NAMES (text_of_lexeme line l))
+      | false ↦ tt
+    ]
 
 same_line : (a b : SourceLine) → ◌≡◌ {A = Result SourceLine LineFault} (Ok a) (Ok b) → a ≡ b
 same_line a b e = cc
 
-answer_told : (text : List ℕ) (label : Option (List ℕ)) (ls : List Lexeme) (a : Answer Says) (line : SourceLine) → Told HasSmallAlign a → line_answer text label ls a ≡ Ok line → HasSmallAlign line.says
+answer_told : (text : List ℕ) (label : Option (List ℕ)) (ls : List Lexeme) (a : Answer Says) (line : SourceLine) → Told HasSmallAlign a
+    → line_answer text label ls a ≡ Ok line → HasSmallAlign line.says
 answer_told text label ls (Tells says) line h e = subst (λ (l : SourceLine). HasSmallAlign l.says) (same_line _ line e) h
 answer_told text label ls (Stops place kind) line h e = cc
 
 pub small_align : (text : List ℕ) (line : SourceLine) → line_of text ≡ Ok line → HasSmallAlign line.says
 unfolding line_of
-small_align text line e = answer_told text (label_of (before_comment text)) (line_lexemes text) (tokens_say text (line_lexemes text)) line (tokens_told text (line_lexemes text)) e
+small_align text line e =
+    answer_told text (label_of (before_comment text)) (line_lexemes text) (tokens_say text (line_lexemes text)) line
+    (tokens_told text (line_lexemes text)) e

@@ -1,6 +1,7 @@
 -- The object of a source can be written.
 use Rattle.sm_types.specs.Objects.{text_address}
-use Rattle.std.proofs.Common.{◌≡◌, ℕ, ◌+◌, ◌%◌, ◌<◌, ◌≤◌, Bool, true, false, cond, ◌==◌, ◌&&◌, nat_lt, List, [], Option, Some, None, refl, sym, subst, arith}
+use Rattle.std.proofs.Common.{◌≡◌, ℕ, ◌+◌, ◌%◌, ◌<◌, ◌≤◌, Bool, true, false, cond, ◌==◌, ◌&&◌, nat_lt, List, [], Option, Some, None, refl}
+use Rattle.std.proofs.Common.{sym, subst, arith}
 use Rattle.std.proofs.lemmas.Bool.{and_parts}
 use Rattle.std.proofs.lemmas.Bool.Decides.{nat_tests}
 use Rattle.sm_types.specs.declared.object.Object.{Object}
@@ -33,10 +34,12 @@ is_below m n e = grind (arith, nat_tests)
 starts_there : (size offset : ℕ) → offset % 4 ≡ 0 → offset < size → Starts size (text_address + offset)
 starts_there size offset e l = record { aligned = omega arith; from = omega arith; before = omega arith }
 
-starts_if : (size offset entry : ℕ) (b : Bool) → (offset % 4 == 0 && nat_lt offset size) ≡ b → cond b (Some (text_address + offset)) None ≡ Some entry → Starts size entry
+starts_if : (size offset entry : ℕ) (b : Bool) → (offset % 4 == 0 && nat_lt offset size) ≡ b
+    → cond b (Some (text_address + offset)) None ≡ Some entry → Starts size entry
 starts_if size offset entry true is e =
     let p = and_parts (offset % 4 == 0) (nat_lt offset size) is in
-    subst (Starts size) (some_is (text_address + offset) entry e) (starts_there size offset (is_multiple offset p.0) (is_below offset size p.1))
+    subst (Starts size) (some_is (text_address + offset) entry e)
+    (starts_there size offset (is_multiple offset p.0) (is_below offset size p.1))
 starts_if size offset entry false is e = cc
 
 starts_in : (size : ℕ) (part : Section) (offset entry : ℕ) → start_in size part offset ≡ Some entry → Starts size entry
@@ -51,14 +54,16 @@ starts : (size entry : ℕ) (labels : List Label) → start_of size labels ≡ S
 unfolding start_of
 starts size entry labels e = starts_at size entry (label_named labels _) e
 
-pub sound_object : (source : List ℕ) (object : Object) (end : Place) → lines_fault 1 first_place [] (lines_of source) ≡ None → Assembles source object → end ≡ place_past first_place (said_lines (lines_of source)) → IsInLimits end
+pub sound_object : (source : List ℕ) (object : Object) (end : Place) → lines_fault 1 first_place [] (lines_of source) ≡ None
+    → Assembles source object → end ≡ place_past first_place (said_lines (lines_of source)) → IsInLimits end
     → IsWritable object
 sound_object source object end accepted h is limits =
     let o = h.object_is in
     let s = starts (text_length_of (said_lines (lines_of source))) object.entry (labels_of (said_lines (lines_of source))) o.starts in
     let placed = subst IsInLimits is limits in
     record {
-      startable = record { aligned = s.aligned; from = s.from; before = subst (λ n. object.entry < text_address + n) (sym o.text_size) s.before };
+      startable =
+          record { aligned = s.aligned; from = s.from; before = subst (λ n. object.entry < text_address + n) (sym o.text_size) s.before };
       text_size = subst (λ n. n ≤ 4194304) (sym o.text_size) placed.text;
       data_size = subst (λ n. n ≤ 4194304) (sym o.data_size) placed.data_part;
       listed = object_listed (lines_of source) accepted object o;

@@ -1,5 +1,6 @@
 -- The steps of the first pass.
-use Rattle.std.proofs.Common.{◌≡◌, ℕ, ◌+◌, ◌<◌, ◌≤◌, ◌≢◌, Bool, true, false, cond, List, [], ◌∷◌, ◌++◌, length, Option, Some, None, Ok, Err, refl, sym, ap, ◌∙◌, subst, arith}
+use Rattle.std.proofs.Common.{◌≡◌, ℕ, ◌+◌, ◌<◌, ◌≤◌, ◌≢◌, Bool, true, false, cond, List, [], ◌∷◌, ◌++◌, length, Option, Some, None, Ok, Err}
+use Rattle.std.proofs.Common.{refl, sym, ap, ◌∙◌, subst, arith}
 use Rattle.std.specs.Prelude.{option_map, is_some}
 use Rattle.std.specs.Str.{bytes_eq}
 use Rattle.std.proofs.lemmas.List.{append_assoc}
@@ -22,7 +23,8 @@ use Rattle.asm_parser.specs.declared.line.LineFault.TheVariants as line
 
 -- ---- one more label
 
-named_cons : (l : Label) (ls : List Label) (name : List ℕ) → label_named (l ∷ ls) name ≡ cond (bytes_eq l.name name) (Some l) (label_named ls name)
+named_cons : (l : Label) (ls : List Label) (name : List ℕ)
+    → label_named (l ∷ ls) name ≡ cond (bytes_eq l.name name) (Some l) (label_named ls name)
 unfolding label_named
 named_cons l ls name = refl
 
@@ -35,12 +37,15 @@ abbrev or_last : Option Label → Label → List ℕ → Option Label
 or_last None l name = cond (bytes_eq l.name name) (Some l) None
 or_last (Some found) l name = Some found
 
-or_last-cond : (b : Bool) (a l : Label) (o : Option Label) (name : List ℕ) → cond b (Some a) (or_last o l name) ≡ or_last (cond b (Some a) o) l name
+or_last-cond : (b : Bool) (a l : Label) (o : Option Label) (name : List ℕ)
+    → cond b (Some a) (or_last o l name) ≡ or_last (cond b (Some a) o) l name
 or_last-cond true a l o name = refl
 or_last-cond false a l o name = refl
 
 named_last : (ls : List Label) (l : Label) (name : List ℕ) → label_named (ls ++ l ∷ []) name ≡ or_last (label_named ls name) l name
-named_last [] l name = named_cons l [] name ∙ ap (λ o. cond (bytes_eq l.name name) (Some l) o) (named_none name) ∙ ap (λ o. or_last o l name) (sym (named_none name))
+named_last [] l name =
+    named_cons l [] name ∙ ap (λ o. cond (bytes_eq l.name name) (Some l) o) (named_none name)
+    ∙ ap (λ o. or_last o l name) (sym (named_none name))
 named_last (a ∷ ls) l name =
     named_cons a (ls ++ l ∷ []) name ∙ ap (λ o. cond (bytes_eq a.name name) (Some a) o) (named_last ls l name)
     ∙ or_last-cond (bytes_eq a.name name) a l (label_named ls name) name ∙ ap (λ o. or_last o l name) (sym (named_cons a ls name))
@@ -49,7 +54,8 @@ no_some : (o : Option Label) → is_some o ≡ false → o ≡ None
 no_some None e = refl
 no_some (Some l) e = cc
 
-placed_last : (o : Option Label) (l : Label) (name : List ℕ) (b : Bool) → bytes_eq l.name name ≡ b → (b ≡ true → o ≡ None) → option_map label_place (or_last o l name) ≡ cond b (Some (label_place l)) (option_map label_place o)
+placed_last : (o : Option Label) (l : Label) (name : List ℕ) (b : Bool) → bytes_eq l.name name ≡ b → (b ≡ true → o ≡ None)
+    → option_map label_place (or_last o l name) ≡ cond b (Some (label_place l)) (option_map label_place o)
 placed_last None l name true e h = rw e refl
 placed_last None l name false e h = rw e refl
 placed_last (Some found) l name true e h = let n : ◌≡◌ {A = Option Label} (Some found) None = h refl in cc
@@ -57,11 +63,13 @@ placed_last (Some found) l name false e h = refl
 
 -- a table with one more label
 pub knows_more : (table next : Labels) (list : List Label) (l : Label) → Knows table list → label_named list l.name ≡ None
-    → ((other : List ℕ) → known next other ≡ cond (bytes_eq l.name other) (Some (label_place l)) (known table other)) → Knows next (list ++ l ∷ [])
+    → ((other : List ℕ) → known next other ≡ cond (bytes_eq l.name other) (Some (label_place l)) (known table other))
+    → Knows next (list ++ l ∷ [])
 knows_more table next list l h new told = record {
   each = λ name.
       told name ∙ ap (λ o. cond (bytes_eq l.name name) (Some (label_place l)) o) (h.each name)
-      ∙ sym (placed_last (label_named list name) l name (bytes_eq l.name name) refl (λ same. ap (label_named list) (sym ((bytes_eq-Decides l.name name).0 same)) ∙ new))
+      ∙ sym (placed_last (label_named list name) l name (bytes_eq l.name name) refl
+      (λ same. ap (label_named list) (sym ((bytes_eq-Decides l.name name).0 same)) ∙ new))
       ∙ sym (ap (option_map label_place) (named_last list l name));
 }
 
@@ -76,53 +84,71 @@ knows_same table list h = subst (Knows table) (sym (append_none list)) h
 -- ---- one more line
 
 pub lines_cons : (n : ℕ) (p : Place) (list : List Label) (text : List ℕ) (texts : List (List ℕ))
-    → lines_fault n p list (text ∷ texts) ≡ or_else (line_fault n p list (line_of text)) (after_line (λ next known. lines_fault (n + 1) next known texts) p list (line_of text))
+    → lines_fault n p list (text ∷ texts) ≡ or_else (line_fault n p list (line_of text))
+    (after_line (λ next known. lines_fault (n + 1) next known texts) p list (line_of text))
 unfolding lines_fault
 lines_cons n p list text texts = refl
 
-pub line_passes : (n : ℕ) (p : Place) (list : List Label) (text : List ℕ) (texts : List (List ℕ)) (line : SourceLine) → line_of text ≡ Ok line → line_fault n p list (Ok line) ≡ None
+pub line_passes : (n : ℕ) (p : Place) (list : List Label) (text : List ℕ) (texts : List (List ℕ)) (line : SourceLine)
+    → line_of text ≡ Ok line → line_fault n p list (Ok line) ≡ None
     → lines_fault n p list (text ∷ texts) ≡ lines_fault (n + 1) (place_after p line.says) (labels_after p list line) texts
 line_passes n p list text texts line is sound = lines_cons n p list text texts ∙ rw (is, sound) refl
 
-pub line_stops : (n : ℕ) (p : Place) (list : List Label) (text : List ℕ) (texts : List (List ℕ)) (fault : AsmFault) → line_fault n p list (line_of text) ≡ Some fault → lines_fault n p list (text ∷ texts) ≡ Some fault
-line_stops n p list text texts fault e = lines_cons n p list text texts ∙ ap (λ o. or_else o (after_line (λ next known. lines_fault (n + 1) next known texts) p list (line_of text))) e
+pub line_stops : (n : ℕ) (p : Place) (list : List Label) (text : List ℕ) (texts : List (List ℕ)) (fault : AsmFault)
+    → line_fault n p list (line_of text) ≡ Some fault → lines_fault n p list (text ∷ texts) ≡ Some fault
+line_stops n p list text texts fault e =
+    lines_cons n p list text texts ∙ ap (λ o. or_else o
+    (after_line (λ next known. lines_fault (n + 1) next known texts) p list (line_of text))) e
 
-pub said_cons : (text : List ℕ) (texts : List (List ℕ)) (line : SourceLine) → line_of text ≡ Ok line → said_lines (text ∷ texts) ≡ line ∷ said_lines texts
+pub said_cons : (text : List ℕ) (texts : List (List ℕ)) (line : SourceLine) → line_of text ≡ Ok line → said_lines (text ∷ texts) ≡ line
+    ∷ said_lines texts
 unfolding said_lines
 said_cons text texts line e = rw e refl
 
-labels_cons : (p : Place) (line : SourceLine) (lines : List SourceLine) → labels_from p (line ∷ lines) ≡ if_some (option_map (label_at p) line.label) ++ labels_from (place_after p line.says) lines
+labels_cons : (p : Place) (line : SourceLine) (lines : List SourceLine)
+    → labels_from p (line ∷ lines) ≡ if_some (option_map (label_at p) line.label) ++ labels_from (place_after p line.says) lines
 unfolding labels_from
 labels_cons p line lines = refl
 
-place_cons : (p : Place) (line : SourceLine) (lines : List SourceLine) → place_past p (line ∷ lines) ≡ place_past (place_after p line.says) lines
+place_cons : (p : Place) (line : SourceLine) (lines : List SourceLine)
+    → place_past p (line ∷ lines) ≡ place_past (place_after p line.says) lines
 unfolding place_past
 place_cons p line lines = refl
 
 -- the first pass comes past one more line
-pub surveyed_more : (source : List ℕ) (n : ℕ) (p : Place) (table : Labels) (rest text after : List ℕ) (next : Place) (more : Labels) (h : IsSurveyedTo source n p table rest)
-    → lines_of rest ≡ text ∷ lines_of after → length after < length rest → Passes n p h.list text next more → IsSurveyedTo source (n + 1) next more after
+pub surveyed_more : (source : List ℕ) (n : ℕ) (p : Place) (table : Labels) (rest text after : List ℕ) (next : Place) (more : Labels)
+    (h : IsSurveyedTo source n p table rest)
+    → lines_of rest ≡ text ∷ lines_of after → length after < length rest → Passes n p h.list text next more
+    → IsSurveyedTo source (n + 1) next more after
 surveyed_more source n p table rest text after next more h split shorter passes =
     let line = passes.said in
-    let said : said_lines (lines_of rest) ≡ line ∷ said_lines (lines_of after) = ap said_lines split ∙ said_cons text (lines_of after) line passes.says in
+    let said : said_lines (lines_of rest) ≡ line ∷ said_lines (lines_of after) =
+    ap said_lines split ∙ said_cons text (lines_of after) line passes.says in
     record {
       list = labels_after p h.list line;
       knows = passes.knows;
       limits = passes.limits;
       faults = h.faults ∙ ap (lines_fault n p h.list) split ∙ line_passes n p h.list text (lines_of after) line passes.says passes.sound
           ∙ ap (λ (q : Place). lines_fault (n + 1) q (labels_after p h.list line) (lines_of after)) (sym passes.after_is);
-      labels = h.labels ∙ ap (λ (ls : List SourceLine). h.list ++ labels_from p ls) said ∙ ap (λ (ls : List Label). h.list ++ ls) (labels_cons p line (said_lines (lines_of after)))
-          ∙ sym (append_assoc h.list (if_some (option_map (label_at p) line.label)) (labels_from (place_after p line.says) (said_lines (lines_of after))))
+      labels =
+          h.labels ∙ ap (λ (ls : List SourceLine). h.list ++ labels_from p ls) said
+          ∙ ap (λ (ls : List Label). h.list ++ ls) (labels_cons p line (said_lines (lines_of after)))
+          ∙ sym (append_assoc h.list (if_some (option_map (label_at p) line.label))
+          (labels_from (place_after p line.says) (said_lines (lines_of after))))
           ∙ ap (λ (q : Place). labels_after p h.list line ++ labels_from q (said_lines (lines_of after))) (sym passes.after_is);
-      place = h.place ∙ ap (place_past p) said ∙ place_cons p line (said_lines (lines_of after)) ∙ ap (λ (q : Place). place_past q (said_lines (lines_of after))) (sym passes.after_is);
+      place =
+          h.place ∙ ap (place_past p) said ∙ place_cons p line (said_lines (lines_of after))
+          ∙ ap (λ (q : Place). place_past q (said_lines (lines_of after))) (sym passes.after_is);
       numbered = omega arith;
       count = let c : n + length rest ≤ 67108865 = h.count in omega arith;
     }
 
 -- a line's fault is the source's
-pub surveyed_stops : (source : List ℕ) (n : ℕ) (p : Place) (table : Labels) (rest text after : List ℕ) (fault : AsmFault) (h : IsSurveyedTo source n p table rest) → lines_of rest ≡ text ∷ lines_of after
+pub surveyed_stops : (source : List ℕ) (n : ℕ) (p : Place) (table : Labels) (rest text after : List ℕ) (fault : AsmFault)
+    (h : IsSurveyedTo source n p table rest) → lines_of rest ≡ text ∷ lines_of after
     → line_fault n p h.list (line_of text) ≡ Some fault → lines_fault 1 first_place [] (lines_of source) ≡ Some fault
-surveyed_stops source n p table rest text after fault h split e = h.faults ∙ ap (lines_fault n p h.list) split ∙ line_stops n p h.list text (lines_of after) fault e
+surveyed_stops source n p table rest text after fault h split e =
+    h.faults ∙ ap (lines_fault n p h.list) split ∙ line_stops n p h.list text (lines_of after) fault e
 
 no_lines_fault : (n : ℕ) (p : Place) (list : List Label) → lines_fault n p list [] ≡ None
 unfolding lines_fault
@@ -141,7 +167,8 @@ unfolding said_lines
 nothing_said = refl
 
 -- nothing is passed yet
-pub surveyed_none : (source : List ℕ) (table : Labels) → length source ≤ 67108864 → ((name : List ℕ) → known table name ≡ None) → IsSurveyedTo source 1 first_place table source
+pub surveyed_none : (source : List ℕ) (table : Labels) → length source ≤ 67108864 → ((name : List ℕ) → known table name ≡ None)
+    → IsSurveyedTo source 1 first_place table source
 surveyed_none source table short empty = record {
   list = [];
   knows = record { each = λ name. empty name ∙ sym (ap (option_map label_place) (named_none name)) };
@@ -154,7 +181,8 @@ surveyed_none source table short empty = record {
 }
 
 -- all lines are passed
-module _ (source : List ℕ) (n : ℕ) (p : Place) (table : Labels) (rest : List ℕ) (h : IsSurveyedTo source n p table rest) (over : lines_of rest ≡ []) where
+module _ (source : List ℕ) (n : ℕ) (p : Place) (table : Labels) (rest : List ℕ) (h : IsSurveyedTo source n p table rest)
+    (over : lines_of rest ≡ []) where
   pub all_accepted : lines_fault 1 first_place [] (lines_of source) ≡ None
   all_accepted = h.faults ∙ ap (lines_fault n p h.list) over ∙ no_lines_fault n p h.list
 
@@ -162,18 +190,22 @@ module _ (source : List ℕ) (n : ℕ) (p : Place) (table : Labels) (rest : List
   nothing_left = ap said_lines over ∙ nothing_said
 
   pub all_known : Knows table (labels_of (said_lines (lines_of source)))
-  all_known = subst (Knows table) (sym (h.labels ∙ ap (λ (ls : List SourceLine). h.list ++ labels_from p ls) nothing_left ∙ ap (λ (ls : List Label). h.list ++ ls) (no_labels p) ∙ append_none h.list)) h.knows
+  all_known =
+      subst (Knows table) (sym (h.labels ∙ ap (λ (ls : List SourceLine). h.list ++ labels_from p ls) nothing_left
+      ∙ ap (λ (ls : List Label). h.list ++ ls) (no_labels p) ∙ append_none h.list)) h.knows
 
   pub all_placed : p ≡ place_past first_place (said_lines (lines_of source))
   all_placed = sym (h.place ∙ ap (place_past p) nothing_left ∙ no_place p)
 
 -- a line that is not in the grammar
-pub unread : (n : ℕ) (p : Place) (list : List Label) (text : List ℕ) (fault : LineFault) → line_of text ≡ Err fault → line_fault n p list (line_of text) ≡ Some (Line n fault)
+pub unread : (n : ℕ) (p : Place) (list : List Label) (text : List ℕ) (fault : LineFault) → line_of text ≡ Err fault
+    → line_fault n p list (line_of text) ≡ Some (Line n fault)
 unfolding line_fault
 unread n p list text fault e = rw e refl
 
 -- the fault that its parsing gave is the line's
-pub read_fault : (n : ℕ) (p : Place) (list : List Label) (text : List ℕ) (f : LineFault) → (f ≢ line.Memory → line_of text ≡ Err f) → fault_at n f ≢ fault.Memory → line_fault n p list (line_of text) ≡ Some (fault_at n f)
+pub read_fault : (n : ℕ) (p : Place) (list : List Label) (text : List ℕ) (f : LineFault) → (f ≢ line.Memory → line_of text ≡ Err f)
+    → fault_at n f ≢ fault.Memory → line_fault n p list (line_of text) ≡ Some (fault_at n f)
 read_fault n p list text line.Memory h ne = absurd (ne refl)
 read_fault n p list text (line.UnknownName column) h ne = unread n p list text (line.UnknownName column) (h (λ e. cc))
 read_fault n p list text (line.BadOperand column) h ne = unread n p list text (line.BadOperand column) (h (λ e. cc))

@@ -1,5 +1,7 @@
 -- A word whose target is named means an instruction with each distance that its operand can hold.
-use Rattle.std.proofs.Common.{◌≡◌, ℕ, zero, suc, ◌+◌, ◌-◌, ◌*◌, ◌/◌, ◌%◌, ◌^◌, ◌<◌, ◌==◌, ◌&&◌, ◌||◌, not, Bool, true, false, cond, bit_and, min, max, List, [], ◌∷◌, length, take, drop, slice_get, Option, Some, None, refl, sym, ap, ap₂, ◌∙◌, subst, arith, eqb-true, eq-eqb, inl, inr}
+use Rattle.std.proofs.Common.{◌≡◌, ℕ, zero, suc, ◌+◌, ◌-◌, ◌*◌, ◌/◌, ◌%◌, ◌^◌, ◌<◌, ◌==◌, ◌&&◌, ◌||◌, not, Bool, true, false, cond, bit_and}
+use Rattle.std.proofs.Common.{min, max, List, [], ◌∷◌, length, take, drop, slice_get, Option, Some, None, refl, sym, ap, ap₂, ◌∙◌, subst}
+use Rattle.std.proofs.Common.{arith, eqb-true, eq-eqb, inl, inr}
 use Rattle.std.specs.Prelude.{bit_or, is_some, option_map, option_and_then, slice_index}
 use Rattle.std.specs.Option.{option_or}
 use Rattle.std.specs.Int.{bit_at}
@@ -27,7 +29,9 @@ use Rattle.asm_tokens.specs.declared.token.Token.{Token}
 use Rattle.asm_tokens.specs.declared.token.Token.TheVariants.{Distance}
 use Rattle.asm_operands.specs.Fields.{field_said}
 use Rattle.asm_operands.specs.declared.operands.Target.{Target}
-use Rattle.asm_operands.specs.Operands.{Known, mask_of, placed, with_field, agrees, known_with, known_after, taken_on, taken, fixed, word_in, shapes_of, first_of_words, first_word, is_distance, names, is_name_token, target_in, target_of, if_meant, word_said, operand_fault, OperandsSaid, Says, Fails, said_or, operands_said}
+use Rattle.asm_operands.specs.Operands.{Known, mask_of, placed, with_field, agrees, known_with, known_after, taken_on, taken, fixed}
+use Rattle.asm_operands.specs.Operands.{word_in, shapes_of, first_of_words, first_word, is_distance, names, is_name_token, target_in}
+use Rattle.asm_operands.specs.Operands.{target_of, if_meant, word_said, operand_fault, OperandsSaid, Says, Fails, said_or, operands_said}
 use Rattle.asm_operands.specs.Distances.{with_distance}
 use Rattle.asm_operands.specs.Sound.{is_sound}
 use Rattle.asm_operands.proofs.Tables.{all-take, all-drop, items_of-sound}
@@ -39,24 +43,29 @@ use Rattle.asm_operands.proofs.WordBits.{and_swap, upper_mask, lower_mask}
 some_is : {A : Type 0} (a b : A) → ◌≡◌ {A = Option A} (Some a) (Some b) → a ≡ b
 some_is a b e = cc
 
-kept_bit : (w a k p o : ℕ) → w < 2 → a < 2 → k < 2 → p < 2 → o < 2 → min a o ≡ min p k → min w (max k o) ≡ min (max a p) (max k o) → min w k ≡ min a k
+kept_bit : (w a k p o : ℕ) → w < 2 → a < 2 → k < 2 → p < 2 → o < 2 → min a o ≡ min p k → min w (max k o) ≡ min (max a p) (max k o)
+    → min w k ≡ min a k
 kept_bit w a k p o wl al kl pl ol e f = omega arith
 
-bits_kept : (w a k p o : ℕ) → bit_and a o ≡ bit_and p k → bit_and w (bit_or k o) ≡ bit_and (bit_or a p) (bit_or k o) → bit_and w k ≡ bit_and a k
+bits_kept : (w a k p o : ℕ) → bit_and a o ≡ bit_and p k → bit_and w (bit_or k o) ≡ bit_and (bit_or a p) (bit_or k o)
+    → bit_and w k ≡ bit_and a k
 bits_kept w a k p o e f = same_from_bits _ _ (λ i.
-    let agreed : min (bit_at a i) (bit_at o i) ≡ min (bit_at p i) (bit_at k i) = sym (bit_at_and a o i) ∙ ap (λ n. bit_at n i) e ∙ bit_at_and p k i in
+    let agreed : min (bit_at a i) (bit_at o i) ≡ min (bit_at p i) (bit_at k i) =
+    sym (bit_at_and a o i) ∙ ap (λ n. bit_at n i) e ∙ bit_at_and p k i in
     let after : min (bit_at w i) (max (bit_at k i) (bit_at o i)) ≡ min (max (bit_at a i) (bit_at p i)) (max (bit_at k i) (bit_at o i)) =
     sym (bit_at_and w (bit_or k o) i ∙ ap (min (bit_at w i)) (bit_at_or k o i)) ∙ ap (λ n. bit_at n i) f
     ∙ bit_at_and (bit_or a p) (bit_or k o) i ∙ ap₂ min (bit_at_or a p i) (bit_at_or k o i) in
     bit_at_and w k i
-    ∙ kept_bit (bit_at w i) (bit_at a i) (bit_at k i) (bit_at p i) (bit_at o i) (bit_at-lt w i) (bit_at-lt a i) (bit_at-lt k i) (bit_at-lt p i) (bit_at-lt o i) agreed after
+    ∙ kept_bit (bit_at w i) (bit_at a i) (bit_at k i) (bit_at p i) (bit_at o i) (bit_at-lt w i) (bit_at-lt a i) (bit_at-lt k i)
+    (bit_at-lt p i) (bit_at-lt o i) agreed after
     ∙ sym (bit_at_and a k i))
 
 -- the word has the bits that are known
 abbrev Keeps : ℕ → Known → Type 0
 Keeps w known = bit_and w known.mask ≡ bit_and known.value known.mask
 
-kept_by : (i : Item) (known next : Known) (field w : ℕ) (b : Bool) → agrees i known field ≡ b → ◌≡◌ {A = Option Known} (cond b (Some (with_field i known field)) None) (Some next) → Keeps w next → Keeps w known
+kept_by : (i : Item) (known next : Known) (field w : ℕ) (b : Bool) → agrees i known field ≡ b
+    → ◌≡◌ {A = Option Known} (cond b (Some (with_field i known field)) None) (Some next) → Keeps w next → Keeps w known
 unfolding agrees with_field
 kept_by i known next field w true a e h =
     let same = some_is (with_field i known field) next e in
@@ -97,30 +106,36 @@ and_none : (a u b l : ℕ) → bit_and u l ≡ 0 → bit_and (bit_and a u) (bit_
 and_none a u b l e = same_from_bits _ _ (λ i.
     let none : min (bit_at u i) (bit_at l i) ≡ 0 = sym (bit_at_and u l i) ∙ ap (λ n. bit_at n i) e ∙ bit_at-zero i in
     bit_at_and (bit_and a u) (bit_and b l) i ∙ ap₂ min (bit_at_and a u i) (bit_at_and b l i)
-    ∙ no_bit (bit_at a i) (bit_at u i) (bit_at b i) (bit_at l i) (bit_at-lt a i) (bit_at-lt u i) (bit_at-lt b i) (bit_at-lt l i) none ∙ sym (bit_at-zero i))
+    ∙ no_bit (bit_at a i) (bit_at u i) (bit_at b i) (bit_at l i) (bit_at-lt a i) (bit_at-lt u i) (bit_at-lt b i) (bit_at-lt l i) none
+    ∙ sym (bit_at-zero i))
 
 clear_bit : (a u b l m : ℕ) → a < 2 → u < 2 → b < 2 → l < 2 → m < 2 → min m (max u l) ≡ 0 → min (max (min a u) (min b l)) m ≡ 0
 clear_bit a u b l m al ul bl ll ml e = omega arith
 
 and_clear : (a u b l m : ℕ) → bit_and m (bit_or u l) ≡ 0 → bit_and (bit_or (bit_and a u) (bit_and b l)) m ≡ 0
 and_clear a u b l m e = same_from_bits _ _ (λ i.
-    let none : min (bit_at m i) (max (bit_at u i) (bit_at l i)) ≡ 0 = sym (bit_at_and m (bit_or u l) i ∙ ap (min (bit_at m i)) (bit_at_or u l i)) ∙ ap (λ n. bit_at n i) e ∙ bit_at-zero i in
+    let none : min (bit_at m i) (max (bit_at u i) (bit_at l i)) ≡ 0 =
+    sym (bit_at_and m (bit_or u l) i ∙ ap (min (bit_at m i)) (bit_at_or u l i)) ∙ ap (λ n. bit_at n i) e ∙ bit_at-zero i in
     bit_at_and (bit_or (bit_and a u) (bit_and b l)) m i
     ∙ ap (λ n. min n (bit_at m i)) (bit_at_or (bit_and a u) (bit_and b l) i ∙ ap₂ max (bit_at_and a u i) (bit_at_and b l i))
-    ∙ clear_bit (bit_at a i) (bit_at u i) (bit_at b i) (bit_at l i) (bit_at m i) (bit_at-lt a i) (bit_at-lt u i) (bit_at-lt b i) (bit_at-lt l i) (bit_at-lt m i) none
+    ∙ clear_bit (bit_at a i) (bit_at u i) (bit_at b i) (bit_at l i) (bit_at m i) (bit_at-lt a i) (bit_at-lt u i) (bit_at-lt b i)
+    (bit_at-lt l i) (bit_at-lt m i) none
     ∙ sym (bit_at-zero i))
 
 part_masked : (x n k : ℕ) → x % 2 ^ n * 2 ^ k ≡ bit_and (x * 2 ^ k) ((2 ^ n - 1) * 2 ^ k)
 part_masked x n k = ap (λ y. y % 2 ^ n * 2 ^ k) (sym (shl-shr x k)) ∙ field_masked (x * 2 ^ k) n k
 
-placed_clear : (i : Item) (field mask : ℕ) → bit_and (upper_mask i) (lower_mask i) ≡ 0 → bit_and mask (mask_of i) ≡ 0 → bit_and (placed i field) mask ≡ 0
+placed_clear : (i : Item) (field mask : ℕ) → bit_and (upper_mask i) (lower_mask i) ≡ 0 → bit_and mask (mask_of i) ≡ 0
+    → bit_and (placed i field) mask ≡ 0
 unfolding fields.placed fields.mask_of
 placed_clear i field mask apart clear =
     let a = field / 2 ^ i.field.width * 2 ^ i.field.upper_low in
     let b = field * 2 ^ i.field.low in
-    let joined : bit_and mask (bit_or (upper_mask i) (lower_mask i)) ≡ 0 = ap (bit_and mask) (or_disjoint (upper_mask i) (lower_mask i) apart) ∙ clear in
+    let joined : bit_and mask (bit_or (upper_mask i) (lower_mask i)) ≡ 0 =
+    ap (bit_and mask) (or_disjoint (upper_mask i) (lower_mask i) apart) ∙ clear in
     ap (λ n. bit_and n mask)
-    (ap₂ (λ x y. x + y) (part_masked (field / 2 ^ i.field.width) i.field.upper_width i.field.upper_low) (part_masked field i.field.width i.field.low)
+    (ap₂ (λ x y. x + y) (part_masked (field / 2 ^ i.field.width) i.field.upper_width i.field.upper_low)
+    (part_masked field i.field.width i.field.low)
     ∙ sym (or_disjoint (bit_and a (upper_mask i)) (bit_and b (lower_mask i)) (and_none a (upper_mask i) b (lower_mask i) apart)))
     ∙ and_clear a (upper_mask i) b (lower_mask i) mask joined
 
@@ -150,7 +165,9 @@ free_fits operation e n = cc
 
 -- no word of the row is one of the shape, or the row has no bit of the field, and no condition
 unfoldable pub leaves_room : Item → Shape → Line Operation → Bool
-leaves_room i s row = not (bit_and row.value s.mask == bit_and (bit_and s.value s.mask) row.mask) || ((bit_and row.mask (mask_of i) == 0) && is_free row.operation)
+leaves_room i s row =
+    not (bit_and row.value s.mask == bit_and (bit_and s.value s.mask) row.mask)
+    || ((bit_and row.mask (mask_of i) == 0) && is_free row.operation)
 
 unfoldable pub has_room : Shape → Item → Bool
 has_room s i = not (is_distance i.kind) || ((bit_and (upper_mask i) (lower_mask i) == 0) && list_all (leaves_room i s) SCALAR_LINES)
@@ -169,7 +186,8 @@ when_true false b e h = cc
 both_true : (a b : Bool) → a ≡ true → b ≡ true → (a && b) ≡ true
 both_true a b p q = ap₂ (λ x y. x && y) p q
 
-module _ (i : Item) (s : Shape) (ts : List Token) (w field : ℕ) (said : word_in s ts ≡ Some w) (apart : bit_and (upper_mask i) (lower_mask i) ≡ 0) where
+module _ (i : Item) (s : Shape) (ts : List Token) (w field : ℕ) (said : word_in s ts ≡ Some w)
+    (apart : bit_and (upper_mask i) (lower_mask i) ≡ 0) where
   abbrev aimed : ℕ
   aimed = bit_or w (placed i field)
 
@@ -195,7 +213,8 @@ module _ (i : Item) (s : Shape) (ts : List Token) (w field : ℕ) (said : word_i
   some_other true it rest e h = cc
   some_other false it rest e h = h
 
-  still_meant : (rows : List (Line Operation)) → list_all (leaves_room i s) rows ≡ true → is_some (meaning_in scalar rows w) ≡ true → is_some (meaning_in scalar rows aimed) ≡ true
+  still_meant : (rows : List (Line Operation)) → list_all (leaves_room i s) rows ≡ true → is_some (meaning_in scalar rows w) ≡ true
+      → is_some (meaning_in scalar rows aimed) ≡ true
   unfolding meaning_in
   still_meant [] room e = cc
   still_meant (row ∷ rows) room e =
@@ -205,7 +224,8 @@ module _ (i : Item) (s : Shape) (ts : List Token) (w field : ℕ) (said : word_i
         | inr h ↦ some_of (stands_for scalar row aimed) _ _ (still_meant rows parts.1 (some_other (stands_for scalar row w) _ _ h e))
       ]
 
-  some_either : (a b c d : Option Insn) → (is_some a ≡ true → is_some c ≡ true) → (is_some b ≡ true → is_some d ≡ true) → is_some (option_or a b) ≡ true → is_some (option_or c d) ≡ true
+  some_either : (a b c d : Option Insn) → (is_some a ≡ true → is_some c ≡ true) → (is_some b ≡ true → is_some d ≡ true)
+      → is_some (option_or a b) ≡ true → is_some (option_or c d) ≡ true
   some_either (Some x) b (Some y) d f g e = refl
   some_either (Some x) b None d f g e = let clash : false ≡ true = f refl in cc
   some_either None b (Some y) d f g e = refl
@@ -221,7 +241,8 @@ module _ (i : Item) (s : Shape) (ts : List Token) (w field : ℕ) (said : word_i
 
   either_meant : list_all (leaves_room i s) SCALAR_LINES ≡ true → is_some (instruction_of w) ≡ true → is_some (instruction_of aimed) ≡ true
   unfolding instruction_of
-  either_meant room e = some_either (meaning_of w) (vector_meaning_of w) (meaning_of aimed) (vector_meaning_of aimed) (scalar_meant room) (no_vector aimed) e
+  either_meant room e =
+      some_either (meaning_of w) (vector_meaning_of w) (meaning_of aimed) (vector_meaning_of aimed) (scalar_meant room) (no_vector aimed) e
 
 -- ---- the shape of a word whose target is named
 
@@ -242,12 +263,17 @@ record IsNamed (is : List Item) (i : Item) : Type 0 where
   listed : slice_get is place ≡ Some i
   distance : is_distance i.kind ≡ true
 
-named_if : (b : Bool) (t : Bool) (j : Item) (place : ℕ) (target : Target) → is_distance j.kind ≡ b → option_map (λ (i : Item). record { place = place; operand = i }) (cond (b && t) (Some j) None) ≡ Some target → (j ≡ target.operand) × (is_distance j.kind ≡ true)
-named_if true true j place target d e = let same : record { place = place; operand = j } ≡ target = some_is _ target e in (ap (λ (x : Target). x.operand) same, d)
+named_if : (b : Bool) (t : Bool) (j : Item) (place : ℕ) (target : Target) → is_distance j.kind ≡ b
+    → option_map (λ (i : Item). record { place = place; operand = i }) (cond (b && t) (Some j) None) ≡ Some target → (j ≡ target.operand)
+    × (is_distance j.kind ≡ true)
+named_if true true j place target d e =
+    let same : record { place = place; operand = j } ≡ target = some_is _ target e in (ap (λ (x : Target). x.operand) same, d)
 named_if true false j place target d e = cc
 named_if false t j place target d e = cc
 
-named_by : (is : List Item) (t : Option Token) (place : ℕ) (o : Option Item) (target : Target) → slice_get is place ≡ o → option_map (λ (i : Item). record { place = place; operand = i }) (option_and_then (names t) o) ≡ Some target → IsNamed is target.operand
+named_by : (is : List Item) (t : Option Token) (place : ℕ) (o : Option Item) (target : Target) → slice_get is place ≡ o
+    → option_map (λ (i : Item). record { place = place; operand = i }) (option_and_then (names t) o) ≡ Some target
+    → IsNamed is target.operand
 named_by is t place None target g e = cc
 named_by is t place (Some j) target g e =
     let n = named_if (is_distance j.kind) (is_name_token t) j place target refl e in
@@ -257,7 +283,8 @@ named_in : (is : List Item) (ts : List Token) (target : Target) → target_in is
 unfolding target_in
 named_in is ts target e = named_by is (slice_get ts (length is - 1)) (length is - 1) (slice_get is (length is - 1)) target refl e
 
-of_shape : (s : Shape) (ts : List Token) (w : ℕ) (target : Target) → all_room s ≡ true → word_in s ts ≡ Some w → target_in (items_of s) ts ≡ Some target → IsNamedIn ts w target.operand
+of_shape : (s : Shape) (ts : List Token) (w : ℕ) (target : Target) → all_room s ≡ true → word_in s ts ≡ Some w
+    → target_in (items_of s) ts ≡ Some target → IsNamedIn ts w target.operand
 unfolding all_room
 of_shape s ts w target room said e =
     let n = named_in (items_of s) ts target e in
@@ -269,22 +296,26 @@ of_shape s ts w target room said e =
       distance = n.distance;
     }
 
-of_shapes : (ss : List Shape) (ts : List Token) (w : ℕ) (target : Target) → list_all all_room ss ≡ true → first_word ss ts ≡ Some w → target_of ss ts ≡ Some target → IsNamedIn ts w target.operand
+of_shapes : (ss : List Shape) (ts : List Token) (w : ℕ) (target : Target) → list_all all_room ss ≡ true → first_word ss ts ≡ Some w
+    → target_of ss ts ≡ Some target → IsNamedIn ts w target.operand
 unfolding first_word target_of
 of_shapes [] ts w target room e f = cc
 of_shapes (s ∷ ss) ts w target room e f =
     let parts = and_parts (all_room s) (list_all all_room ss) room in
-    elim (word_in s ts) as (λ o. word_in s ts ≡ o → first_of_words o (first_word ss ts) ≡ Some w → cond (is_some o) (target_in (items_of s) ts) (target_of ss ts) ≡ Some target → IsNamedIn ts w target.operand) [
+    elim (word_in s ts) as (λ o. word_in s ts ≡ o → first_of_words o (first_word ss ts) ≡ Some w
+    → cond (is_some o) (target_in (items_of s) ts) (target_of ss ts) ≡ Some target → IsNamedIn ts w target.operand) [
       | None ↦ λ is g h. of_shapes ss ts w target parts.1 g h
       | Some v ↦ λ is g h. of_shape s ts w target parts.0 (is ∙ g) h
     ] refl e f
 
-of_name : (name : ℕ) (ts : List Token) (w : ℕ) (target : Target) → first_word (shapes_of name) ts ≡ Some w → target_of (shapes_of name) ts ≡ Some target → IsNamedIn ts w target.operand
+of_name : (name : ℕ) (ts : List Token) (w : ℕ) (target : Target) → first_word (shapes_of name) ts ≡ Some w
+    → target_of (shapes_of name) ts ≡ Some target → IsNamedIn ts w target.operand
 unfolding shapes_of
 of_name name ts w target e f =
     let first = slice_index STARTS name in
     let count = slice_index STARTS (name + 1) - first in
-    of_shapes (take count (drop first SHAPES)) ts w target (all-take all_room count (drop first SHAPES) (all-drop all_room first SHAPES shapes_room)) e f
+    of_shapes (take count (drop first SHAPES)) ts w target
+    (all-take all_room count (drop first SHAPES) (all-drop all_room first SHAPES shapes_room)) e f
 
 -- ---- what operands say
 
@@ -297,34 +328,42 @@ pub record IsSaid (name : ℕ) (ts : List Token) (w : ℕ) (target : Option Targ
 same_said : (v w : ℕ) (s t : Option Target) → ◌≡◌ {A = OperandsSaid} (Says v s) (Says w t) → (v ≡ w) × (s ≡ t)
 same_said v w s t e = (cc, cc)
 
-said_if : (name : ℕ) (ts : List Token) (v w : ℕ) (target : Option Target) (b : Bool) → first_word (shapes_of name) ts ≡ Some v → is_some (instruction_of v) ≡ b
-    → said_or (Fails (operand_fault (shapes_of name) ts)) (target_of (shapes_of name) ts) (cond b (Some v) None) ≡ Says w target → IsSaid name ts w target
+said_if : (name : ℕ) (ts : List Token) (v w : ℕ) (target : Option Target) (b : Bool) → first_word (shapes_of name) ts ≡ Some v
+    → is_some (instruction_of v) ≡ b
+    → said_or (Fails (operand_fault (shapes_of name) ts)) (target_of (shapes_of name) ts) (cond b (Some v) None) ≡ Says w target
+    → IsSaid name ts w target
 said_if name ts v w target true f m e = let same = same_said v w (target_of (shapes_of name) ts) target e in
     record { word = f ∙ ap Some same.0; named = same.1; means = subst (λ n. is_some (instruction_of n) ≡ true) same.0 m }
 said_if name ts v w target false f m e = cc
 
 said_by : (name : ℕ) (ts : List Token) (w : ℕ) (target : Option Target) (o : Option ℕ) → first_word (shapes_of name) ts ≡ o
-    → said_or (Fails (operand_fault (shapes_of name) ts)) (target_of (shapes_of name) ts) (option_and_then if_meant o) ≡ Says w target → IsSaid name ts w target
+    → said_or (Fails (operand_fault (shapes_of name) ts)) (target_of (shapes_of name) ts) (option_and_then if_meant o) ≡ Says w target
+    → IsSaid name ts w target
 unfolding if_meant
 said_by name ts w target None f e = cc
 said_by name ts w target (Some v) f e = said_if name ts v w target (is_some (instruction_of v)) f refl e
 
-pub is_said : (name : ℕ) (ts : List Token) (w : ℕ) (target : Option Target) → operands_said name ts ≡ Says w target → IsSaid name ts w target
+pub is_said : (name : ℕ) (ts : List Token) (w : ℕ) (target : Option Target) → operands_said name ts ≡ Says w target
+    → IsSaid name ts w target
 unfolding operands_said word_said
 is_said name ts w target e = said_by name ts w target (first_word (shapes_of name) ts) refl e
 
 -- what operands say means an instruction
-pub said-means : (name : ℕ) (ts : List Token) (w : ℕ) (target : Option Target) → operands_said name ts ≡ Says w target → is_some (instruction_of w) ≡ true
+pub said-means : (name : ℕ) (ts : List Token) (w : ℕ) (target : Option Target) → operands_said name ts ≡ Says w target
+    → is_some (instruction_of w) ≡ true
 said-means name ts w target e = (is_said name ts w target e).means
 
-named_said : (name : ℕ) (ts : List Token) (w : ℕ) (target : Target) → operands_said name ts ≡ Says w (Some target) → IsNamedIn ts w target.operand
+named_said : (name : ℕ) (ts : List Token) (w : ℕ) (target : Target) → operands_said name ts ≡ Says w (Some target)
+    → IsNamedIn ts w target.operand
 named_said name ts w target e = let s = is_said name ts w (Some target) e in of_name name ts w target s.word s.named
 
 -- the operand of a target can be said
-pub target-sound : (name : ℕ) (ts : List Token) (w : ℕ) (target : Target) → operands_said name ts ≡ Says w (Some target) → is_sound target.operand ≡ true
+pub target-sound : (name : ℕ) (ts : List Token) (w : ℕ) (target : Target) → operands_said name ts ≡ Says w (Some target)
+    → is_sound target.operand ≡ true
 target-sound name ts w target e = (named_said name ts w target e).sound
 
-aimed_by : (i : Item) (ts : List Token) (w aimed : ℕ) (o : Option ℕ) → IsNamedIn ts w i → is_some (instruction_of w) ≡ true → option_map (λ field. bit_or w (placed i field)) o ≡ Some aimed → is_some (instruction_of aimed) ≡ true
+aimed_by : (i : Item) (ts : List Token) (w aimed : ℕ) (o : Option ℕ) → IsNamedIn ts w i → is_some (instruction_of w) ≡ true
+    → option_map (λ field. bit_or w (placed i field)) o ≡ Some aimed → is_some (instruction_of aimed) ≡ true
 unfolding has_room
 aimed_by i ts w aimed None n m e = cc
 aimed_by i ts w aimed (Some field) n m e =
@@ -333,9 +372,11 @@ aimed_by i ts w aimed (Some field) n m e =
     (either_meant i n.shape ts w field n.said (eqb-true _ 0 parts.0) parts.1 m)
 
 -- with each distance it means one too
-pub aimed-means : (name : ℕ) (ts : List Token) (w : ℕ) (target : Target) (back : Bool) (size aimed : ℕ) → operands_said name ts ≡ Says w (Some target)
+pub aimed-means : (name : ℕ) (ts : List Token) (w : ℕ) (target : Target) (back : Bool) (size aimed : ℕ)
+    → operands_said name ts ≡ Says w (Some target)
     → with_distance target.operand w back size ≡ Some aimed → is_some (instruction_of aimed) ≡ true
 unfolding with_distance
 aimed-means name ts w target back size aimed e f =
     let i = target.operand in
-    aimed_by i ts w aimed (field_said i.kind (bits_of i) (Distance back size)) (named_said name ts w target e) (said-means name ts w (Some target) e) f
+    aimed_by i ts w aimed (field_said i.kind (bits_of i) (Distance back size)) (named_said name ts w target e)
+    (said-means name ts w (Some target) e) f

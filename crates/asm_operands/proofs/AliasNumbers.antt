@@ -1,5 +1,6 @@
 -- What an alias says is the number that it is written with.
-use Rattle.std.proofs.Common.{◌≡◌, ℕ, ◌+◌, ◌-◌, ◌*◌, ◌/◌, ◌%◌, ◌^◌, ◌<◌, ◌==◌, Bool, true, false, nat_lt, nat_le, cond, List, [], ◌∷◌, Option, Some, None, refl, sym, ap, ap₂, ◌∙◌, subst, arith, eqb-true, ltb-true}
+use Rattle.std.proofs.Common.{◌≡◌, ℕ, ◌+◌, ◌-◌, ◌*◌, ◌/◌, ◌%◌, ◌^◌, ◌<◌, ◌==◌, Bool, true, false, nat_lt, nat_le, cond, List, [], ◌∷◌}
+use Rattle.std.proofs.Common.{Option, Some, None, refl, sym, ap, ap₂, ◌∙◌, subst, arith, eqb-true, ltb-true}
 use Rattle.std.specs.Prelude.{option_map, option_and_then}
 use Rattle.std.specs.List.{find, range_with_len}
 use Rattle.std.proofs.lemmas.Bool.{and_parts}
@@ -11,7 +12,8 @@ use Rattle.insn_text.specs.declared.item.Kind.TheVariants as kind
 use Rattle.insn_text.specs.Texts.{mask_in}
 use Rattle.asm_tokens.specs.declared.token.Token.TheVariants.{Number}
 use Rattle.asm_operands.specs.Aliases.{halfword_number, IsShiftLeft}
-use Rattle.asm_operands.specs.Fields.{on_number, is_that, is_field_of, mask_field, immediate_of, shift_bits, shift_left_field, is_halfword_at, halfword_field, inverted_if, field_said}
+use Rattle.asm_operands.specs.Fields.{on_number, is_that, is_field_of, mask_field, immediate_of, shift_bits, shift_left_field}
+use Rattle.asm_operands.specs.Fields.{is_halfword_at, halfword_field, inverted_if, field_said}
 
 some_is : {A : Type 0} (a b : A) → ◌≡◌ {A = Option A} (Some a) (Some b) → a ≡ b
 some_is a b e = cc
@@ -39,16 +41,19 @@ at_place n place field e f =
     ∙ ap₂ (λ a b. a * 2 ^ (16 * b)) parts.1 parts.0
     ∙ (let same : n / 2 ^ (16 * place) * 2 ^ (16 * place) ≡ n = omega (arith, whole, none) in same)
 
-found_at : (n field : ℕ) (o : Option ℕ) → ((place : ℕ) → o ≡ Some place → is_halfword_at n place ≡ true) → option_map (λ place. place * 65536 + n / 2 ^ (16 * place)) o ≡ Some field → halfword_number field ≡ n
+found_at : (n field : ℕ) (o : Option ℕ) → ((place : ℕ) → o ≡ Some place → is_halfword_at n place ≡ true)
+    → option_map (λ place. place * 65536 + n / 2 ^ (16 * place)) o ≡ Some field → halfword_number field ≡ n
 found_at n field None h e = cc
 found_at n field (Some place) h e = at_place n place field (h place refl) (some_is _ field e)
 
 halfword-is : (wide : Bool) (n field : ℕ) → halfword_field wide n ≡ Some field → halfword_number field ≡ n
 unfolding halfword_field
 halfword-is wide n field e =
-    found_at n field (find (is_halfword_at n) (range_with_len 0 (width_of wide / 16))) (λ place f. passes (is_halfword_at n) (range_with_len 0 (width_of wide / 16)) place f) e
+    found_at n field (find (is_halfword_at n) (range_with_len 0 (width_of wide / 16)))
+    (λ place f. passes (is_halfword_at n) (range_with_len 0 (width_of wide / 16)) place f) e
 
-pub halfword : (wide negative : Bool) (bits size number field : ℕ) → immediate_of wide negative size ≡ Some number → field_said (kind.Halfword wide false) bits (Number negative size) ≡ Some field → halfword_number field ≡ number
+pub halfword : (wide negative : Bool) (bits size number field : ℕ) → immediate_of wide negative size ≡ Some number
+    → field_said (kind.Halfword wide false) bits (Number negative size) ≡ Some field → halfword_number field ≡ number
 unfolding field_said on_number inverted_if
 halfword wide negative bits size number field e f =
     halfword-is wide number field (sym (ap (option_and_then (λ n. halfword_field wide n)) e) ∙ f)
@@ -56,23 +61,31 @@ halfword wide negative bits size number field e f =
 -- a number of the width is less than its greatest and one
 below : (wide negative : Bool) (size number : ℕ) → immediate_of wide negative size ≡ Some number → number < 2 ^ width_of wide
 unfolding immediate_of
-below wide true size number e = elim (nat_le size (2 ^ (width_of wide - 1))) as (λ b. cond b (Some ((2 ^ width_of wide - size) % 2 ^ width_of wide)) None ≡ Some number → number < 2 ^ width_of wide) [
-  | true ↦ λ h. subst (λ n. n < 2 ^ width_of wide) (some_is _ number h) (mod_below (2 ^ width_of wide - size) (2 ^ width_of wide) (pow_pos (width_of wide)))
-  | false ↦ λ h. cc
-] e
-below wide false size number e = elim (nat_lt size (2 ^ width_of wide)) as (λ b. nat_lt size (2 ^ width_of wide) ≡ b → cond b (Some size) None ≡ Some number → number < 2 ^ width_of wide) [
-  | true ↦ λ is h. subst (λ n. n < 2 ^ width_of wide) (some_is size number h) (ltb-true _ _ is)
-  | false ↦ λ is h. cc
-] refl e
+below wide true size number e =
+    elim (nat_le size (2 ^ (width_of wide - 1))) as (λ b. cond b (Some ((2 ^ width_of wide - size) % 2 ^ width_of wide)) None ≡ Some number
+    → number < 2 ^ width_of wide) [
+      | true ↦ λ h. subst (λ n. n < 2 ^ width_of wide) (some_is _ number h)
+          (mod_below (2 ^ width_of wide - size) (2 ^ width_of wide) (pow_pos (width_of wide)))
+      | false ↦ λ h. cc
+    ] e
+below wide false size number e =
+    elim (nat_lt size (2 ^ width_of wide)) as (λ b. nat_lt size (2 ^ width_of wide) ≡ b → cond b (Some size) None ≡ Some number
+    → number < 2 ^ width_of wide) [
+      | true ↦ λ is h. subst (λ n. n < 2 ^ width_of wide) (some_is size number h) (ltb-true _ _ is)
+      | false ↦ λ is h. cc
+    ] refl e
 
 back : (all n : ℕ) → n < all → all - 1 - (all - 1 - n) ≡ n
 back all n lt = omega arith
 
-pub inverted : (wide negative : Bool) (bits size number field : ℕ) → immediate_of wide negative size ≡ Some number → field_said (kind.Halfword wide true) bits (Number negative size) ≡ Some field
+pub inverted : (wide negative : Bool) (bits size number field : ℕ) → immediate_of wide negative size ≡ Some number
+    → field_said (kind.Halfword wide true) bits (Number negative size) ≡ Some field
     → 2 ^ width_of wide - 1 - halfword_number field ≡ number
 unfolding field_said on_number inverted_if
 inverted wide negative bits size number field e f =
-    let is = halfword-is wide (2 ^ width_of wide - 1 - number) field (sym (ap (option_and_then (λ n. halfword_field wide (2 ^ width_of wide - 1 - n))) e) ∙ f) in
+    let is =
+    halfword-is wide (2 ^ width_of wide - 1 - number) field
+    (sym (ap (option_and_then (λ n. halfword_field wide (2 ^ width_of wide - 1 - n))) e) ∙ f) in
     ap (λ n. 2 ^ width_of wide - 1 - n) is ∙ back (2 ^ width_of wide) number (below wide negative size number e)
 
 -- ---- masks
@@ -81,11 +94,13 @@ that : (number : ℕ) (o : Option ℕ) → is_that number o ≡ true → o ≡ S
 that number None e = cc
 that number (Some mask) e = ap Some (eqb-true mask number e)
 
-pub mask : (wide negative : Bool) (bits size number field : ℕ) → immediate_of wide negative size ≡ Some number → field_said (kind.SignedMask wide) bits (Number negative size) ≡ Some field → mask_in wide field ≡ Some number
+pub mask : (wide negative : Bool) (bits size number field : ℕ) → immediate_of wide negative size ≡ Some number
+    → field_said (kind.SignedMask wide) bits (Number negative size) ≡ Some field → mask_in wide field ≡ Some number
 unfolding field_said on_number mask_field is_field_of
 mask wide negative bits size number field e f =
     let found = sym (ap (option_and_then (mask_field wide)) e) ∙ f in
-    that number (mask_in wide field) (and_parts (are_mask_fields (field_of field 12 1 == 1) (field_of field 0 6) (field_of field 6 6) wide) _ (passes (is_field_of wide number) (range_with_len 0 8192) field found)).1
+    that number (mask_in wide field) (and_parts (are_mask_fields (field_of field 12 1 == 1) (field_of field 0 6) (field_of field 6 6) wide)
+    _ (passes (is_field_of wide number) (range_with_len 0 8192) field found)).1
 
 -- ---- shifts
 
@@ -96,12 +111,14 @@ narrow_shift : (size field : ℕ) → size < 32 → (32 - size) % 32 * 32 + (31 
 narrow_shift size field lt e = record { imms = omega arith; immr = omega arith }
 
 shift_if : (wide b : Bool) (size field : ℕ) → nat_lt size (width_of wide) ≡ b
-    → cond b (Some ((width_of wide - size) % width_of wide * 2 ^ shift_bits wide + (width_of wide - 1 - size))) None ≡ Some field → IsShiftLeft wide size field
+    → cond b (Some ((width_of wide - size) % width_of wide * 2 ^ shift_bits wide + (width_of wide - 1 - size))) None ≡ Some field
+    → IsShiftLeft wide size field
 shift_if wide false size field is e = cc
 shift_if true true size field is e = wide_shift size field (ltb-true _ _ is) (some_is _ field e)
 shift_if false true size field is e = narrow_shift size field (ltb-true _ _ is) (some_is _ field e)
 
-pub shift : (wide negative : Bool) (bits size field : ℕ) → field_said (kind.ShiftLeft wide) bits (Number negative size) ≡ Some field → IsShiftLeft wide size field
+pub shift : (wide negative : Bool) (bits size field : ℕ) → field_said (kind.ShiftLeft wide) bits (Number negative size) ≡ Some field
+    → IsShiftLeft wide size field
 unfolding field_said on_number shift_left_field
 shift wide true bits size field e = cc
 shift wide false bits size field e = shift_if wide (nat_lt size (width_of wide)) size field refl e

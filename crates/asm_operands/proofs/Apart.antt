@@ -1,5 +1,6 @@
 -- Shapes that no tokens of another shape are taken by.
-use Rattle.std.proofs.Common.{◌≡◌, ℕ, ◌+◌, ◌-◌, ◌*◌, ◌^◌, ◌<◌, ◌≤◌, ◌==◌, ◌&&◌, ◌||◌, not, Bool, true, false, nat_lt, nat_le, bit_and, List, [], ◌∷◌, map, Option, Some, None, cond, refl, ap, ◌∙◌, arith, inl, inr, ltb-true, leb-true}
+use Rattle.std.proofs.Common.{◌≡◌, ℕ, ◌+◌, ◌-◌, ◌*◌, ◌^◌, ◌<◌, ◌≤◌, ◌==◌, ◌&&◌, ◌||◌, not, Bool, true, false, nat_lt, nat_le, bit_and, List}
+use Rattle.std.proofs.Common.{[], ◌∷◌, map, Option, Some, None, cond, refl, ap, ◌∙◌, arith, inl, inr, ltb-true, leb-true}
 use Rattle.std.specs.Prelude.{bit_or, option_map, bit_xor}
 use Rattle.std.specs.List.{list_all}
 use Rattle.std.proofs.lemmas.Bool.{and_parts, or_cases, cond_both, le-ltb, lt-leb}
@@ -12,7 +13,8 @@ use Rattle.insn_text.specs.declared.item.Shape.{Shape}
 use Rattle.insn_text.specs.Texts.{bits_of, field_in, items_of, mask_in, is_positive, size_of}
 use Rattle.insn_text.specs.Rules.{is_within, meets, is_sayable}
 use Rattle.asm_tokens.specs.declared.token.Token.TheVariants.{Register, Word, Number, Distance, Mark, Other}
-use Rattle.asm_operands.specs.Fields.{on_mark, on_word, on_register, on_number, on_target, word_field, same_file, register_field, last_field, field_said}
+use Rattle.asm_operands.specs.Fields.{on_mark, on_word, on_register, on_number, on_target, word_field, same_file, register_field}
+use Rattle.asm_operands.specs.Fields.{last_field, field_said}
 use Rattle.asm_operands.specs.Operands.{Known, known_with, known_after, taken_on, taken, fixed, word_in, mask_of}
 use Rattle.asm_operands.specs.Shown.{mask_token, token_said, item_token, tokens_shown}
 use Rattle.insn_forms.proofs.Bits.{field_in-lt}
@@ -99,7 +101,8 @@ and_false : (b : Bool) → (b && false) ≡ false
 and_false true = refl
 and_false false = refl
 
-word-none : (first count low high place : ℕ) → (nat_le high first || nat_le (first + count) low) ≡ true → low ≤ place → place < high → word_field first count place ≡ None
+word-none : (first count low high place : ℕ) → (nat_le high first || nat_le (first + count) low) ≡ true → low ≤ place → place < high
+    → word_field first count place ≡ None
 unfolding word_field
 word-none first count low high place e le lt = elim (or_cases (nat_le high first) (nat_le (first + count) low) e) [
   | inl above ↦
@@ -113,7 +116,8 @@ word-none first count low high place e le lt = elim (or_cases (nat_le high first
       ∙ ap (λ b. cond b (Some (place - first)) None) (and_false (nat_le first place))
 ]
 
-last-none : (last low high place : ℕ) → (nat_le high last || nat_lt last low) ≡ true → low ≤ place → place < high → last_field last place ≡ None
+last-none : (last low high place : ℕ) → (nat_le high last || nat_lt last low) ≡ true → low ≤ place → place < high
+    → last_field last place ≡ None
 unfolding last_field
 last-none last low high place e le lt =
     let other : (place ≡ last) → ⊥ = elim (or_cases (nat_le high last) (nat_lt last low) e) [
@@ -122,18 +126,21 @@ last-none last low high place e le lt =
     ] in
     ap (λ b. cond b (Some 31) None) (ne_eqb place last other)
 
-deaf-register : (l : Kind) (bits number : ℕ) (file : RegisterFile) → is_said_by_register file l ≡ false → field_said l bits (Register file number) ≡ None
+deaf-register : (l : Kind) (bits number : ℕ) (file : RegisterFile) → is_said_by_register file l ≡ false
+    → field_said l bits (Register file number) ≡ None
 unfolding is_said_by_register field_said on_mark on_word on_register on_number on_target register_field
 deaf-register (kind.Register wanted last) bits number file e = ap (λ b. cond (b && nat_lt number 31) (Some number) None) e
 deaf-register (kind.Distance scale) bits number file e = cc
 deaf-register other bits number file e = refl
 
-deaf-word : (l : Kind) (bits low high place : ℕ) → is_apart_from_words low high l ≡ true → low ≤ place → place < high → field_said l bits (Word place) ≡ None
+deaf-word : (l : Kind) (bits low high place : ℕ) → is_apart_from_words low high l ≡ true → low ≤ place → place < high
+    → field_said l bits (Word place) ≡ None
 unfolding is_apart_from_words field_said on_mark on_word on_register on_number on_target
 deaf-word (kind.Named first count) bits low high place e le lt = word-none first count low high place e le lt
 deaf-word (kind.Register file last) bits low high place e le lt = last-none last low high place e le lt
 deaf-word (kind.Distance scale) bits low high place e le lt = cc
-deaf-word (kind.Opposite first count) bits low high place e le lt = ap (option_map (λ field. bit_xor field 1)) (word-none first count low high place e le lt)
+deaf-word (kind.Opposite first count) bits low high place e le lt =
+    ap (option_map (λ field. bit_xor field 1)) (word-none first count low high place e le lt)
 deaf-word other bits low high place e le lt = refl
 
 -- ---- two kinds
@@ -141,7 +148,8 @@ deaf-mask : (l : Kind) (bits : ℕ) (o : Option ℕ) → is_said_by_number l ≡
 deaf-mask l bits None e = deaf-other l bits
 deaf-mask l bits (Some mask) e = deaf-number l bits mask false e
 
-pub kinds-apart : (k l : Kind) (bits other field : ℕ) → is_printed_kind k bits ≡ true → is_within k field ≡ true → field < 2 ^ bits → kinds_apart k l ≡ true → field_said l other (token_said k bits field) ≡ None
+pub kinds-apart : (k l : Kind) (bits other field : ℕ) → is_printed_kind k bits ≡ true → is_within k field ≡ true → field < 2 ^ bits
+    → kinds_apart k l ≡ true → field_said l other (token_said k bits field) ≡ None
 unfolding is_printed_kind is_within kinds_apart token_said
 kinds-apart (kind.Mark c) l bits other field p w lt e = deaf-mark l other c (not_true (is_said_by_mark l c) e)
 kinds-apart (kind.Named first count) l bits other field p w lt e =
@@ -151,9 +159,12 @@ kinds-apart (kind.Register file last) l bits other field p w lt e =
     cond_both (field == 31) (Word last) (Register file field) (λ t. field_said l other t ≡ None)
     (λ _. deaf-word l other last (last + 1) last q.0 (omega arith) (omega arith))
     (λ _. deaf-register l other field file (not_true _ q.1))
-kinds-apart (kind.Unsigned base scale most) l bits other field p w lt e = deaf-number l other (field * scale + base) false (not_true (is_said_by_number l) e)
-kinds-apart (kind.Signed scale) l bits other field p w lt e = deaf-number l other (size_of bits field * scale) (not (is_positive bits field)) (not_true (is_said_by_number l) e)
-kinds-apart (kind.Distance scale) l bits other field p w lt e = deaf-distance l other (size_of bits field * scale) (not (is_positive bits field)) (not_true (is_said_by_distance l) e)
+kinds-apart (kind.Unsigned base scale most) l bits other field p w lt e =
+    deaf-number l other (field * scale + base) false (not_true (is_said_by_number l) e)
+kinds-apart (kind.Signed scale) l bits other field p w lt e =
+    deaf-number l other (size_of bits field * scale) (not (is_positive bits field)) (not_true (is_said_by_number l) e)
+kinds-apart (kind.Distance scale) l bits other field p w lt e =
+    deaf-distance l other (size_of bits field * scale) (not (is_positive bits field)) (not_true (is_said_by_distance l) e)
 kinds-apart (kind.Mask wide) l bits other field p w lt e = deaf-mask l other (mask_in wide field) (not_true (is_said_by_number l) e)
 kinds-apart (kind.SignedMask wide) l bits other field p w lt e = deaf-other l other
 kinds-apart (kind.ShiftLeft wide) l bits other field p w lt e = deaf-other l other
@@ -167,7 +178,8 @@ apart [] (j ∷ js) = true
 apart (i ∷ is) [] = true
 apart (i ∷ is) (j ∷ js) = kinds_apart i.kind j.kind || apart is js
 
-after-none : (i j : Item) (w : ℕ) (known : Known) → is_printed_item i ≡ true → is_sayable w i ≡ true → kinds_apart i.kind j.kind ≡ true → known_after j known (item_token w i) ≡ None
+after-none : (i j : Item) (w : ℕ) (known : Known) → is_printed_item i ≡ true → is_sayable w i ≡ true → kinds_apart i.kind j.kind ≡ true
+    → known_after j known (item_token w i) ≡ None
 unfolding known_after known_with item_token is_printed_item is_sayable
 after-none i j w known p e a =
     ap (known_with j known) (kinds-apart i.kind j.kind (bits_of i) (bits_of j) (field_in i w)
@@ -178,7 +190,8 @@ nothing_after : (on : Known → Option ℕ) (o : Option Known) → ((k : Known) 
 nothing_after on None f = refl
 nothing_after on (Some k) f = f k
 
-pub apart-none : (is js : List Item) (mask w : ℕ) (known : Known) → apart is js ≡ true → says_rest is mask ≡ true → list_all (is_sayable w) is ≡ true → taken js known (map (item_token w) is) ≡ None
+pub apart-none : (is js : List Item) (mask w : ℕ) (known : Known) → apart is js ≡ true → says_rest is mask ≡ true
+    → list_all (is_sayable w) is ≡ true → taken js known (map (item_token w) is) ≡ None
 unfolding apart taken says_rest
 apart-none [] [] mask w known a s e = cc
 apart-none [] (j ∷ js) mask w known a s e = refl
@@ -189,9 +202,11 @@ apart-none (i ∷ is) (j ∷ js) mask w known a s e =
     let r = and_parts (is_sayable w i) (list_all (is_sayable w) is) e in
     elim (or_cases (kinds_apart i.kind j.kind) (apart is js) a) [
       | inl here ↦ ap (taken_on (λ next. taken js next (map (item_token w) is))) (after-none i j w known p.0 r.0 here)
-      | inr later ↦ nothing_after (λ next. taken js next (map (item_token w) is)) (known_after j known (item_token w i)) (λ k. apart-none is js (bit_or mask (mask_of i)) w k later q.1 r.1)
+      | inr later ↦ nothing_after (λ next. taken js next (map (item_token w) is)) (known_after j known (item_token w i))
+          (λ k. apart-none is js (bit_or mask (mask_of i)) w k later q.1 r.1)
     ]
 
-pub shapes-apart : (s r : Shape) (w : ℕ) → apart (items_of s) (items_of r) ≡ true → says_rest (items_of s) s.mask ≡ true → list_all (is_sayable w) (items_of s) ≡ true → word_in r (tokens_shown s w) ≡ None
+pub shapes-apart : (s r : Shape) (w : ℕ) → apart (items_of s) (items_of r) ≡ true → says_rest (items_of s) s.mask ≡ true
+    → list_all (is_sayable w) (items_of s) ≡ true → word_in r (tokens_shown s w) ≡ None
 unfolding word_in tokens_shown
 shapes-apart s r w a p e = apart-none (items_of s) (items_of r) s.mask w (fixed r) a p e

@@ -1,5 +1,6 @@
 -- No shape has more than 23 operands, so 24 tokens say all that there is to say.
-use Rattle.std.proofs.Common.{◌≡◌, ℕ, zero, suc, ◌+◌, ◌-◌, ◌<◌, ◌≤◌, ◌==◌, ◌&&◌, ◌||◌, Bool, true, nat_lt, List, [], ◌∷◌, Option, Some, None, length, take, drop, slice_get, max, refl, ap, ap₂, ◌∙◌, arith, ltb-true, lit<}
+use Rattle.std.proofs.Common.{◌≡◌, ℕ, zero, suc, ◌+◌, ◌-◌, ◌<◌, ◌≤◌, ◌==◌, ◌&&◌, ◌||◌, Bool, true, nat_lt, List, [], ◌∷◌, Option, Some}
+use Rattle.std.proofs.Common.{None, length, take, drop, slice_get, max, refl, ap, ap₂, ◌∙◌, arith, ltb-true, lit<}
 use Rattle.std.specs.List.{list_all, list_any}
 use Rattle.std.specs.Prelude.{is_some, slice_index, if◌then◌else◌, option_and_then, option_map}
 use Rattle.std.proofs.lemmas.Bool.{and_parts}
@@ -8,7 +9,9 @@ use Rattle.insn_text.specs.declared.item.Item.{Item}
 use Rattle.insn_text.specs.declared.item.Shape.{Shape}
 use Rattle.insn_text.specs.Texts.{items_of}
 use Rattle.asm_tokens.specs.declared.token.Token.{Token}
-use Rattle.asm_operands.specs.Operands.{Known, known_after, taken_on, taken, reach_on, reach, fixed, word_in, reach_in, shapes_of, first_of_words, first_word, furthest, is_number_item, wants_number, is_whole, kind_at, Fault, operand_fault, names, target_in, target_of, if_meant, word_said, said_or, Fails, operands_said}
+use Rattle.asm_operands.specs.Operands.{Known, known_after, taken_on, taken, reach_on, reach, fixed, word_in, reach_in, shapes_of}
+use Rattle.asm_operands.specs.Operands.{first_of_words, first_word, furthest, is_number_item, wants_number, is_whole, kind_at, Fault}
+use Rattle.asm_operands.specs.Operands.{operand_fault, names, target_in, target_of, if_meant, word_said, said_or, Fails, operands_said}
 use Rattle.asm_operands.proofs.Tables.{all-take, all-drop}
 
 -- ---- one shape
@@ -36,7 +39,8 @@ reach-few [] (suc n) [] known lt = refl
 reach-few [] (suc n) (t ∷ ts) known lt = refl
 reach-few (i ∷ is) (suc n) [] known lt = refl
 reach-few (i ∷ is) (suc n) (t ∷ ts) known lt =
-    same_reach_on (λ next. reach is next (take n ts)) (λ next. reach is next ts) (λ k. reach-few is n ts k (omega arith)) (known_after i known t)
+    same_reach_on (λ next. reach is next (take n ts)) (λ next. reach is next ts) (λ k. reach-few is n ts k (omega arith))
+    (known_after i known t)
 
 reach_on-le : (on : Known → ℕ) (n : ℕ) → ((k : Known) → on k ≤ n) → (o : Option Known) → reach_on on o ≤ suc n
 reach_on-le on n le None = omega arith
@@ -88,7 +92,8 @@ shape-le s ts e = let lt = few-lt s e in let le = reach-le (items_of s) ts (fixe
 first-few : (ss : List Shape) (ts : List Token) → list_all has_few ss ≡ true → first_word ss (take 24 ts) ≡ first_word ss ts
 unfolding first_word
 first-few [] ts e = refl
-first-few (s ∷ ss) ts e = let p = and_parts (has_few s) (list_all has_few ss) e in ap₂ first_of_words (word-few s ts p.0) (first-few ss ts p.1)
+first-few (s ∷ ss) ts e =
+    let p = and_parts (has_few s) (list_all has_few ss) e in ap₂ first_of_words (word-few s ts p.0) (first-few ss ts p.1)
 
 furthest-few : (ss : List Shape) (ts : List Token) → list_all has_few ss ≡ true → furthest ss (take 24 ts) ≡ furthest ss ts
 unfolding furthest
@@ -104,21 +109,24 @@ furthest-lt (s ∷ ss) ts e =
     let b = furthest-lt ss ts p.1 in
     omega arith
 
-wants-few : (ss : List Shape) (count : ℕ) (ts : List Token) → list_all has_few ss ≡ true → list_any (wants_number count (take 24 ts)) ss ≡ list_any (wants_number count ts) ss
+wants-few : (ss : List Shape) (count : ℕ) (ts : List Token) → list_all has_few ss ≡ true
+    → list_any (wants_number count (take 24 ts)) ss ≡ list_any (wants_number count ts) ss
 unfolding wants_number
 wants-few [] count ts e = refl
 wants-few (s ∷ ss) count ts e =
     let p = and_parts (has_few s) (list_all has_few ss) e in
     ap₂ (λ n b. ((n == count) && is_number_item (slice_get (items_of s) count)) || b) (shape-few s ts p.0) (wants-few ss count ts p.1)
 
-whole-few : (ss : List Shape) (count : ℕ) (ts : List Token) → list_all has_few ss ≡ true → list_any (is_whole count (take 24 ts)) ss ≡ list_any (is_whole count ts) ss
+whole-few : (ss : List Shape) (count : ℕ) (ts : List Token) → list_all has_few ss ≡ true
+    → list_any (is_whole count (take 24 ts)) ss ≡ list_any (is_whole count ts) ss
 unfolding is_whole
 whole-few [] count ts e = refl
 whole-few (s ∷ ss) count ts e =
     let p = and_parts (has_few s) (list_all has_few ss) e in
     ap₂ (λ n b. ((n == count) && (length (items_of s) == count)) || b) (shape-few s ts p.0) (whole-few ss count ts p.1)
 
-kind-few : (ss : List Shape) (count : ℕ) (ts : List Token) (o : Option Token) → list_all has_few ss ≡ true → kind_at ss count (take 24 ts) o ≡ kind_at ss count ts o
+kind-few : (ss : List Shape) (count : ℕ) (ts : List Token) (o : Option Token) → list_all has_few ss ≡ true
+    → kind_at ss count (take 24 ts) o ≡ kind_at ss count ts o
 unfolding kind_at
 kind-few ss count ts None e = refl
 kind-few ss count ts (Some t) e = rw (wants-few ss count ts e, whole-few ss count ts e) refl
@@ -137,7 +145,8 @@ target_in-few : (is : List Item) (ts : List Token) → length is < 24 → target
 unfolding target_in
 target_in-few is ts lt =
     let less : length is - 1 < 24 = omega arith in
-    ap (λ o. option_map (λ (i : Item). record { place = length is - 1; operand = i }) (option_and_then (names o) (slice_get is (length is - 1)))) (get-few 24 (length is - 1) ts less)
+    ap (λ o. option_map (λ (i : Item). record { place = length is - 1; operand = i })
+    (option_and_then (names o) (slice_get is (length is - 1)))) (get-few 24 (length is - 1) ts less)
 
 target-few : (ss : List Shape) (ts : List Token) → list_all has_few ss ≡ true → target_of ss (take 24 ts) ≡ target_of ss ts
 unfolding target_of

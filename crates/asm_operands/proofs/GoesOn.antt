@@ -1,5 +1,7 @@
 -- A shape goes on after as many tokens as it takes: the operands that are left have tokens that it takes.
-use Rattle.std.proofs.Common.{◌≡◌, ℕ, zero, suc, ◌+◌, ◌-◌, ◌*◌, ◌/◌, ◌%◌, ◌^◌, ◌<◌, ◌≤◌, ◌==◌, ◌&&◌, ◌||◌, not, Bool, true, false, nat_lt, nat_le, bit_and, List, [], ◌∷◌, ◌++◌, length, take, drop, Option, Some, None, cond, min, max, refl, sym, ap, ap₂, ◌∙◌, arith, inl, inr, eqb-true, eq-eqb, ltb-true, lt-ltb, leb-true, le-leb, mod-eq_of_lt, lit<}
+use Rattle.std.proofs.Common.{◌≡◌, ℕ, zero, suc, ◌+◌, ◌-◌, ◌*◌, ◌/◌, ◌%◌, ◌^◌, ◌<◌, ◌≤◌, ◌==◌, ◌&&◌, ◌||◌, not, Bool, true, false, nat_lt}
+use Rattle.std.proofs.Common.{nat_le, bit_and, List, [], ◌∷◌, ◌++◌, length, take, drop, Option, Some, None, cond, min, max, refl, sym, ap}
+use Rattle.std.proofs.Common.{ap₂, ◌∙◌, arith, inl, inr, eqb-true, eq-eqb, ltb-true, lt-ltb, leb-true, le-leb, mod-eq_of_lt, lit<}
 use Rattle.std.specs.Prelude.{bit_or, bit_xor, slice_get, slice_index, option_map, option_and_then}
 use Rattle.std.specs.Int.{bit_at}
 use Rattle.std.specs.List.{list_all, list_any}
@@ -25,8 +27,12 @@ use Rattle.insn_text.specs.Rules.{meets, is_base_apart}
 use Rattle.asm_tokens.specs.Tokens.{is_number_token}
 use Rattle.asm_tokens.specs.declared.token.Token.{Token}
 use Rattle.asm_tokens.specs.declared.token.Token.TheVariants.{Register, Word, Name, Number, Distance, Mark}
-use Rattle.asm_operands.specs.Fields.{is_field_of, on_mark, on_word, on_register, on_number, on_target, word_field, unsigned_field, signed_field, mask_field, immediate_of, shift_left_field, is_halfword_at, halfword_field, inverted_if, field_said}
-use Rattle.asm_operands.specs.Operands.{Known, mask_of, placed, with_field, agrees, known_with, known_after, taken_on, taken, reach_on, reach, fixed, word_in, reach_in, shapes_of, first_of_words, first_word, furthest, is_number_kind, is_number_item, wants_number}
+use Rattle.asm_operands.specs.Fields.{is_field_of, on_mark, on_word, on_register, on_number, on_target, word_field, unsigned_field}
+use Rattle.asm_operands.specs.Fields.{signed_field, mask_field, immediate_of, shift_left_field, is_halfword_at, halfword_field, inverted_if}
+use Rattle.asm_operands.specs.Fields.{field_said}
+use Rattle.asm_operands.specs.Operands.{Known, mask_of, placed, with_field, agrees, known_with, known_after, taken_on, taken, reach_on}
+use Rattle.asm_operands.specs.Operands.{reach, fixed, word_in, reach_in, shapes_of, first_of_words, first_word, furthest, is_number_kind}
+use Rattle.asm_operands.specs.Operands.{is_number_item, wants_number}
 use Rattle.asm_operands.proofs.Heard.{register-said, last-said}
 use Rattle.asm_operands.proofs.MaskFields.{all_below, all_below-at, mask_field-is}
 use Rattle.asm_operands.proofs.Tables.{all-take, all-drop}
@@ -108,7 +114,8 @@ shift_first false = refl
 no_bits_size : Bool → ℕ
 no_bits_size inverted = cond inverted 1 0
 
-halfword_first : (wide inverted : Bool) → option_and_then (λ number. halfword_field wide (inverted_if wide inverted number)) (immediate_of wide inverted (no_bits_size inverted)) ≡ Some 0
+halfword_first : (wide inverted : Bool) → option_and_then (λ number. halfword_field wide (inverted_if wide inverted number))
+    (immediate_of wide inverted (no_bits_size inverted)) ≡ Some 0
 unfolding no_bits_size halfword_field is_halfword_at inverted_if immediate_of
 halfword_first true true = refl
 halfword_first true false = refl
@@ -124,10 +131,18 @@ said (kind.Unsigned base scale most) bits e = record { token = Number false base
 said (kind.Signed scale) bits e = record { token = Number false 0; field = 0; said = signed_first bits scale }
 said (kind.Distance scale) bits e = record { token = Name; field = 0; said = refl }
 said (kind.Mask wide) bits e = record { token = Number false (zero_mask wide); field = 0; said = mask_first wide }
-said (kind.SignedMask wide) bits e = record { token = Number false (zero_mask wide); field = 0; said = ap (option_and_then (mask_field wide)) (immediate_first wide) ∙ mask_first wide }
+said (kind.SignedMask wide) bits e =
+    record {
+      token = Number false (zero_mask wide);
+      field = 0;
+      said = ap (option_and_then (mask_field wide)) (immediate_first wide)
+          ∙ mask_first wide;
+    }
 said (kind.ShiftLeft wide) bits e = record { token = Number false 0; field = no_shift wide; said = shift_first wide }
-said (kind.Opposite first count) bits e = record { token = Word first; field = 1; said = ap (option_map (λ field. bit_xor field 1)) (word_first first count e) }
-said (kind.Halfword wide inverted) bits e = record { token = Number inverted (no_bits_size inverted); field = 0; said = halfword_first wide inverted }
+said (kind.Opposite first count) bits e =
+    record { token = Word first; field = 1; said = ap (option_map (λ field. bit_xor field 1)) (word_first first count e) }
+said (kind.Halfword wide inverted) bits e =
+    record { token = Number inverted (no_bits_size inverted); field = 0; said = halfword_first wide inverted }
 
 -- ---- bits
 nothing_and : (v : ℕ) → bit_and v 0 ≡ 0
@@ -143,7 +158,8 @@ min_max a b c d p q = omega arith
 within_both : (a b c d : ℕ) → bit_and a b ≡ a → bit_and c d ≡ c → bit_and (bit_or a c) (bit_or b d) ≡ bit_or a c
 within_both a b c d p q = same_from_bits _ _ (λ k.
     bit_at_and (bit_or a c) (bit_or b d) k ∙ ap₂ min (bit_at_or a c k) (bit_at_or b d k)
-    ∙ min_max (bit_at a k) (bit_at b k) (bit_at c k) (bit_at d k) (sym (bit_at_and a b k) ∙ ap (λ n. bit_at n k) p) (sym (bit_at_and c d k) ∙ ap (λ n. bit_at n k) q)
+    ∙ min_max (bit_at a k) (bit_at b k) (bit_at c k) (bit_at d k) (sym (bit_at_and a b k) ∙ ap (λ n. bit_at n k) p)
+    (sym (bit_at_and c d k) ∙ ap (λ n. bit_at n k) q)
     ∙ sym (bit_at_or a c k))
 
 placed_within : (i : Item) (f : ℕ) → bit_and (upper_mask i) (lower_mask i) ≡ 0 → bit_and (placed i f) (mask_of i) ≡ placed i f
@@ -237,17 +253,20 @@ record IsChosen (i : Item) (rule : Rule) (value : ℕ) : Type 0 where
   meets_rule : meets rule (bit_or value (placed i field)) ≡ true
 
 -- the number of a register of a word with some more bits
-register_is : (low value bits number : ℕ) → bit_and (bit_or value bits) ((2 ^ 5 - 1) * 2 ^ low) ≡ number * 2 ^ low → field_of (bit_or value bits) low 5 ≡ number
+register_is : (low value bits number : ℕ) → bit_and (bit_or value bits) ((2 ^ 5 - 1) * 2 ^ low) ≡ number * 2 ^ low
+    → field_of (bit_or value bits) low 5 ≡ number
 unfolding field_of
 register_is low value bits number e =
-    sym (shl-shr (bit_or value bits / 2 ^ low % 2 ^ 5) low) ∙ ap (λ n. n / 2 ^ low) (field_masked (bit_or value bits) 5 low ∙ e) ∙ shl-shr number low
+    sym (shl-shr (bit_or value bits / 2 ^ low % 2 ^ 5) low) ∙ ap (λ n. n / 2 ^ low) (field_masked (bit_or value bits) 5 low ∙ e)
+    ∙ shl-shr number low
 
 base_is : (value : ℕ) → field_of (bit_or value (31 * 2 ^ 5)) 5 5 ≡ 31
 base_is value = register_is 5 value (31 * 2 ^ 5) 31 (and_or_self (31 * 2 ^ 5) value)
 
 base_apart : (i : Item) (value number : ℕ) → IsRegisterAt 5 i → is_base_apart (bit_or value (placed i 31)) number ≡ true
 base_apart i value number r =
-    let at : field_of (bit_or value (placed i 31)) 5 5 ≡ 31 = ap (λ p. field_of (bit_or value p) 5 5) (placed_number 5 i 31 r (lit< tt)) ∙ base_is value in
+    let at : field_of (bit_or value (placed i 31)) 5 5 ≡ 31 =
+    ap (λ p. field_of (bit_or value p) 5 5) (placed_number 5 i 31 r (lit< tt)) ∙ base_is value in
     ap (λ n. (n == 31) || not (n == number)) at
 
 -- another number than the first register's
@@ -270,18 +289,25 @@ other_kept : (number value : ℕ) → field_of (bit_or value (other_number numbe
 unfolding field_of other_number
 other_kept number value =
     let p = cond (number == 0) 1 0 * 2 ^ 10 in
-    let none_low : bit_and p ((2 ^ 5 - 1) * 2 ^ 0) ≡ 0 = cond_both (number == 0) 1 0 (λ n. bit_and (n * 2 ^ 10) 31 ≡ 0) (λ _. refl) (λ _. refl) in
-    let same : bit_and (bit_or value p) ((2 ^ 5 - 1) * 2 ^ 0) ≡ bit_and value ((2 ^ 5 - 1) * 2 ^ 0) = and_or_apart ((2 ^ 5 - 1) * 2 ^ 0) value p none_low in
-    sym (shl-shr (bit_or value p / 2 ^ 0 % 2 ^ 5) 0) ∙ ap (λ n. n / 2 ^ 0) (field_masked (bit_or value p) 5 0 ∙ same ∙ sym (field_masked value 5 0)) ∙ shl-shr (value / 2 ^ 0 % 2 ^ 5) 0
+    let none_low : bit_and p ((2 ^ 5 - 1) * 2 ^ 0) ≡ 0 =
+    cond_both (number == 0) 1 0 (λ n. bit_and (n * 2 ^ 10) 31 ≡ 0) (λ _. refl) (λ _. refl) in
+    let same : bit_and (bit_or value p) ((2 ^ 5 - 1) * 2 ^ 0) ≡ bit_and value ((2 ^ 5 - 1) * 2 ^ 0) =
+    and_or_apart ((2 ^ 5 - 1) * 2 ^ 0) value p none_low in
+    sym (shl-shr (bit_or value p / 2 ^ 0 % 2 ^ 5) 0)
+    ∙ ap (λ n. n / 2 ^ 0) (field_masked (bit_or value p) 5 0 ∙ same ∙ sym (field_masked value 5 0)) ∙ shl-shr (value / 2 ^ 0 % 2 ^ 5) 0
 
-other_there : (number value : ℕ) → bit_and value (31 * 2 ^ 10) ≡ 0 → field_of (bit_or value (other_number number * 2 ^ 10)) 10 5 ≡ other_number number
+other_there : (number value : ℕ) → bit_and value (31 * 2 ^ 10) ≡ 0
+    → field_of (bit_or value (other_number number * 2 ^ 10)) 10 5 ≡ other_number number
 unfolding other_number
 other_there number value free =
     let p = cond (number == 0) 1 0 * 2 ^ 10 in
-    let kept : bit_and p (31 * 2 ^ 10) ≡ p = cond_both (number == 0) 1 0 (λ n. bit_and (n * 2 ^ 10) (31 * 2 ^ 10) ≡ n * 2 ^ 10) (λ _. refl) (λ _. refl) in
-    register_is 10 value p (cond (number == 0) 1 0) (ap (λ n. bit_and n (31 * 2 ^ 10)) (or_comm value p) ∙ and_or_apart (31 * 2 ^ 10) p value free ∙ kept)
+    let kept : bit_and p (31 * 2 ^ 10) ≡ p =
+    cond_both (number == 0) 1 0 (λ n. bit_and (n * 2 ^ 10) (31 * 2 ^ 10) ≡ n * 2 ^ 10) (λ _. refl) (λ _. refl) in
+    register_is 10 value p (cond (number == 0) 1 0)
+    (ap (λ n. bit_and n (31 * 2 ^ 10)) (or_comm value p) ∙ and_or_apart (31 * 2 ^ 10) p value free ∙ kept)
 
-second_apart : (i : Item) (value : ℕ) → IsRegisterAt 10 i → bit_and value (mask_of i) ≡ 0 → meets SecondApart (bit_or value (placed i (other_number (field_of value 0 5)))) ≡ true
+second_apart : (i : Item) (value : ℕ) → IsRegisterAt 10 i → bit_and value (mask_of i) ≡ 0
+    → meets SecondApart (bit_or value (placed i (other_number (field_of value 0 5)))) ≡ true
 unfolding meets
 second_apart i value r free =
     let number = field_of value 0 5 in
@@ -303,7 +329,8 @@ both_true a b p q = ap₂ (λ x y. x && y) p q
 
 choose : (rule : Rule) (i : Item) (value : ℕ) → has_choice rule i ≡ true → bit_and value (mask_of i) ≡ 0 → IsChosen i rule value
 unfolding has_choice meets
-choose Free i value e free = let s = said i.kind (bits_of i) e in record { token = s.token; field = s.field; said = s.said; meets_rule = refl }
+choose Free i value e free =
+    let s = said i.kind (bits_of i) e in record { token = s.token; field = s.field; said = s.said; meets_rule = refl }
 choose SecondApart i value e free =
     let r = register_at 10 i e in
     let s = says_number i.kind (bits_of i) (other_number (field_of value 0 5)) r.register (other_small (field_of value 0 5)) in
@@ -319,7 +346,9 @@ choose BasePairApart i value e free =
       token = s.token;
       field = 31;
       said = s.said;
-      meets_rule = both_true _ _ (base_apart i value (field_of (bit_or value (placed i 31)) 0 5) r) (base_apart i value (field_of (bit_or value (placed i 31)) 10 5) r);
+      meets_rule =
+          both_true _ _ (base_apart i value (field_of (bit_or value (placed i 31)) 0 5) r)
+          (base_apart i value (field_of (bit_or value (placed i 31)) 10 5) r);
     }
 
 -- ---- the operands of a shape
@@ -351,12 +380,14 @@ with_within : (i : Item) (known : Known) (field : ℕ) → IsNext i known.mask �
 unfolding IsWithin with_field
 with_within i known field n w = within_both known.value known.mask (placed i field) (mask_of i) w (placed_within i field n.parts_apart)
 
-chosen_after : (i : Item) (known : Known) → IsNext i known.mask → IsWithin known → (c : IsChosen i i.rule known.value) → known_after i known c.token ≡ Some (with_field i known c.field)
+chosen_after : (i : Item) (known : Known) → IsNext i known.mask → IsWithin known → (c : IsChosen i i.rule known.value)
+    → known_after i known c.token ≡ Some (with_field i known c.field)
 unfolding IsWithin known_after known_with agrees with_field
 chosen_after i known n w c =
     let before : bit_and known.value (mask_of i) ≡ 0 = outside known.value known.mask (mask_of i) w n.unknown in
     let own = placed_within i c.field n.parts_apart in
-    let here : bit_and (placed i c.field) known.mask ≡ 0 = outside (placed i c.field) (mask_of i) known.mask own (and_comm (mask_of i) known.mask ∙ n.unknown) in
+    let here : bit_and (placed i c.field) known.mask ≡ 0 =
+    outside (placed i c.field) (mask_of i) known.mask own (and_comm (mask_of i) known.mask ∙ n.unknown) in
     ap (known_with i known) c.said
     ∙ ap (λ b. cond b (Some (with_field i known c.field)) None) (both_true _ _ (ap₂ (λ a b. a == b) before here) c.meets_rule)
 
@@ -365,7 +396,8 @@ record Ends (is : List Item) (known : Known) (before : List Token) : Type 0 wher
   word : ℕ
   taken_so : taken is known (before ++ rest) ≡ Some word
 
-next_mask : (i : Item) (known : Known) (field : ℕ) (is : List Item) → goes_through is (bit_or known.mask (mask_of i)) ≡ true → goes_through is (with_field i known field).mask ≡ true
+next_mask : (i : Item) (known : Known) (field : ℕ) (is : List Item) → goes_through is (bit_or known.mask (mask_of i)) ≡ true
+    → goes_through is (with_field i known field).mask ≡ true
 unfolding with_field
 next_mask i known field is g = g
 
@@ -377,22 +409,30 @@ complete (i ∷ is) known g w =
     let n = next_item i known.mask p.0 in
     let c = choose i.rule i known.value n.choice (outside known.value known.mask (mask_of i) w n.unknown) in
     let e = complete is (with_field i known c.field) (next_mask i known c.field is p.1) (with_within i known c.field n w) in
-    record { rest = c.token ∷ e.rest; word = e.word; taken_so = ap (taken_on (λ next. taken is next e.rest)) (chosen_after i known n w c) ∙ e.taken_so }
+    record {
+      rest = c.token ∷ e.rest;
+      word = e.word;
+      taken_so = ap (taken_on (λ next. taken is next e.rest)) (chosen_after i known n w c)
+          ∙ e.taken_so;
+    }
 
 -- as many tokens as the operands take, and then others
-go_if : (is : List Item) (next : Known) (ts : List Token) (n : ℕ) → (n ≤ reach is next ts → Ends is next (take n ts)) → (b : Bool) → suc n ≤ reach_on (λ k. reach is k ts) (cond b (Some next) None)
+go_if : (is : List Item) (next : Known) (ts : List Token) (n : ℕ) → (n ≤ reach is next ts → Ends is next (take n ts)) → (b : Bool)
+    → suc n ≤ reach_on (λ k. reach is k ts) (cond b (Some next) None)
     → (rest : List Token) × (word : ℕ) × (taken_on (λ k. taken is k (take n ts ++ rest)) (cond b (Some next) None) ≡ Some word)
 go_if is next ts n ih true h = let e = ih (omega arith) in (e.rest, e.word, e.taken_so)
 go_if is next ts n ih false h = absurd (omega arith)
 
-go_field : (i : Item) (is : List Item) (known : Known) (ts : List Token) (n : ℕ) → ((field : ℕ) → n ≤ reach is (with_field i known field) ts → Ends is (with_field i known field) (take n ts))
+go_field : (i : Item) (is : List Item) (known : Known) (ts : List Token) (n : ℕ)
+    → ((field : ℕ) → n ≤ reach is (with_field i known field) ts → Ends is (with_field i known field) (take n ts))
     → (o : Option ℕ) → suc n ≤ reach_on (λ k. reach is k ts) (known_with i known o)
     → (rest : List Token) × (word : ℕ) × (taken_on (λ k. taken is k (take n ts ++ rest)) (known_with i known o) ≡ Some word)
 unfolding known_with
 go_field i is known ts n ih None h = absurd (omega arith)
 go_field i is known ts n ih (Some field) h = go_if is (with_field i known field) ts n (ih field) (agrees i known field) h
 
-go : (is : List Item) (known : Known) (n : ℕ) (ts : List Token) → goes_through is known.mask ≡ true → IsWithin known → n ≤ reach is known ts → Ends is known (take n ts)
+go : (is : List Item) (known : Known) (n : ℕ) (ts : List Token) → goes_through is known.mask ≡ true → IsWithin known → n ≤ reach is known ts
+    → Ends is known (take n ts)
 unfolding reach taken known_after goes_through
 go is known zero ts g w h = complete is known g w
 go [] known (suc n) ts g w h = absurd (omega arith)
@@ -400,7 +440,9 @@ go (i ∷ is) known (suc n) [] g w h = absurd (omega arith)
 go (i ∷ is) known (suc n) (t ∷ ts) g w h =
     let p = and_parts (is_next i known.mask) (goes_through is (bit_or known.mask (mask_of i))) g in
     let it = next_item i known.mask p.0 in
-    let e = go_field i is known ts n (λ field l. go is (with_field i known field) n ts (next_mask i known field is p.1) (with_within i known field it w) l) (field_said i.kind (bits_of i) t) h in
+    let e =
+    go_field i is known ts n (λ field l. go is (with_field i known field) n ts (next_mask i known field is p.1)
+    (with_within i known field it w) l) (field_said i.kind (bits_of i) t) h in
     record { rest = e.0; word = e.1; taken_so = e.2 }
 
 -- ---- the shapes of a name
@@ -425,7 +467,8 @@ all_have_shapes : all_below has_shape (length NAMES) ≡ true
 unfolding shapes_of all_below has_shape
 all_have_shapes = refl
 
-shape_goes : (s : Shape) (n : ℕ) (ts : List Token) → is_open s ≡ true → n ≤ reach_in s ts → (rest : List Token) × (word : ℕ) × (word_in s (take n ts ++ rest) ≡ Some word)
+shape_goes : (s : Shape) (n : ℕ) (ts : List Token) → is_open s ≡ true → n ≤ reach_in s ts → (rest : List Token) × (word : ℕ)
+    × (word_in s (take n ts ++ rest) ≡ Some word)
 unfolding is_open reach_in word_in fixed IsWithin
 shape_goes s n ts o h =
     let p = and_parts (bit_and s.value s.mask == s.value) (goes_through (items_of s) s.mask) o in
@@ -441,7 +484,8 @@ unfolding furthest
 furthest_some [] ts n h le = absurd (omega arith)
 furthest_some (s ∷ ss) ts n h le = omega arith
 
-shapes_go : (ss : List Shape) (n : ℕ) (ts : List Token) → list_all is_open ss ≡ true → 0 < length ss → n ≤ furthest ss ts → (rest : List Token) × (word : ℕ) × (first_word ss (take n ts ++ rest) ≡ Some word)
+shapes_go : (ss : List Shape) (n : ℕ) (ts : List Token) → list_all is_open ss ≡ true → 0 < length ss → n ≤ furthest ss ts
+    → (rest : List Token) × (word : ℕ) × (first_word ss (take n ts ++ rest) ≡ Some word)
 unfolding furthest first_word
 shapes_go [] n ts o some_shape h = absurd (omega arith)
 shapes_go (s ∷ ss) n ts o some_shape h =
@@ -456,9 +500,12 @@ shapes_go (s ∷ ss) n ts o some_shape h =
           (e.0, f.0, f.1)
     ]
 
-pub goes-on : (name n : ℕ) (ts : List Token) → name < length NAMES → n ≤ furthest (shapes_of name) ts → (rest : List Token) × (word : ℕ) × (first_word (shapes_of name) (take n ts ++ rest) ≡ Some word)
+pub goes-on : (name n : ℕ) (ts : List Token) → name < length NAMES → n ≤ furthest (shapes_of name) ts → (rest : List Token) × (word : ℕ)
+    × (first_word (shapes_of name) (take n ts ++ rest) ≡ Some word)
 unfolding has_shape
-goes-on name n ts lt h = shapes_go (shapes_of name) n ts (open_of_name name) (ltb-true 0 (length (shapes_of name)) (all_below-at has_shape (length NAMES) name all_have_shapes lt)) h
+goes-on name n ts lt h =
+    shapes_go (shapes_of name) n ts (open_of_name name)
+    (ltb-true 0 (length (shapes_of name)) (all_below-at has_shape (length NAMES) name all_have_shapes lt)) h
 
 -- ---- where a shape wants a number, some number goes on
 record IsNumberSaid (k : Kind) (bits : ℕ) : Type 0 where
@@ -469,13 +516,21 @@ record IsNumberSaid (k : Kind) (bits : ℕ) : Type 0 where
 
 number_said : (k : Kind) (bits : ℕ) → is_number_kind k ≡ true → IsNumberSaid k bits
 unfolding is_number_kind is_number_token field_said on_number on_target
-number_said (kind.Unsigned base scale most) bits e = record { token = Number false base; number = refl; field = 0; said = unsigned_first base scale most }
+number_said (kind.Unsigned base scale most) bits e =
+    record { token = Number false base; number = refl; field = 0; said = unsigned_first base scale most }
 number_said (kind.Signed scale) bits e = record { token = Number false 0; number = refl; field = 0; said = signed_first bits scale }
 number_said (kind.Distance scale) bits e = record { token = Distance false 0; number = refl; field = 0; said = signed_first bits scale }
 number_said (kind.Mask wide) bits e = record { token = Number false (zero_mask wide); number = refl; field = 0; said = mask_first wide }
-number_said (kind.SignedMask wide) bits e = record { token = Number false (zero_mask wide); number = refl; field = 0; said = ap (option_and_then (mask_field wide)) (immediate_first wide) ∙ mask_first wide }
+number_said (kind.SignedMask wide) bits e =
+    record {
+      token = Number false (zero_mask wide);
+      number = refl;
+      field = 0;
+      said = ap (option_and_then (mask_field wide)) (immediate_first wide) ∙ mask_first wide;
+    }
 number_said (kind.ShiftLeft wide) bits e = record { token = Number false 0; number = refl; field = no_shift wide; said = shift_first wide }
-number_said (kind.Halfword wide inverted) bits e = record { token = Number inverted (no_bits_size inverted); number = refl; field = 0; said = halfword_first wide inverted }
+number_said (kind.Halfword wide inverted) bits e =
+    record { token = Number inverted (no_bits_size inverted); number = refl; field = 0; said = halfword_first wide inverted }
 number_said k bits e = cc
 
 no_register : (k : Kind) → is_register k ≡ true → is_number_kind k ≡ true → ⊥
@@ -489,7 +544,10 @@ record IsNumberChosen (i : Item) (rule : Rule) (value : ℕ) : Type 0 where
 
 choose_number : (rule : Rule) (i : Item) (value : ℕ) → has_choice rule i ≡ true → is_number_kind i.kind ≡ true → IsNumberChosen i rule value
 unfolding has_choice meets
-choose_number Free i value e n = let s = number_said i.kind (bits_of i) n in record { chosen = record { token = s.token; field = s.field; said = s.said; meets_rule = refl }; number = s.number }
+choose_number Free i value e n =
+    let s =
+    number_said i.kind (bits_of i) n in
+    record { chosen = record { token = s.token; field = s.field; said = s.said; meets_rule = refl }; number = s.number }
 choose_number SecondApart i value e n = absurd (no_register i.kind (register_at 10 i e).register n)
 choose_number BaseApart i value e n = absurd (no_register i.kind (register_at 5 i e).register n)
 choose_number BasePairApart i value e n = absurd (no_register i.kind (register_at 5 i e).register n)
@@ -504,18 +562,22 @@ record Wants (is : List Item) (known : Known) (before : List Token) : Type 0 whe
 abbrev WantsOn : (List Token → Option ℕ) → List Token → Type 0
 WantsOn on before = (t : Token) × (is_number_token t ≡ true) × (rest : List Token) × (word : ℕ) × (on (before ++ t ∷ rest) ≡ Some word)
 
-want_if : (is : List Item) (next : Known) (ts : List Token) (n : ℕ) → (reach is next ts ≡ n → Wants is next (take n ts)) → (b : Bool) → reach_on (λ k. reach is k ts) (cond b (Some next) None) ≡ suc n
+want_if : (is : List Item) (next : Known) (ts : List Token) (n : ℕ) → (reach is next ts ≡ n → Wants is next (take n ts)) → (b : Bool)
+    → reach_on (λ k. reach is k ts) (cond b (Some next) None) ≡ suc n
     → WantsOn (λ us. taken_on (λ k. taken is k us) (cond b (Some next) None)) (take n ts)
 want_if is next ts n ih true h = let e = ih (omega arith) in (e.token, e.number, e.rest, e.word, e.taken_so)
 want_if is next ts n ih false h = absurd (omega arith)
 
-want_field : (i : Item) (is : List Item) (known : Known) (ts : List Token) (n : ℕ) → ((field : ℕ) → reach is (with_field i known field) ts ≡ n → Wants is (with_field i known field) (take n ts))
-    → (o : Option ℕ) → reach_on (λ k. reach is k ts) (known_with i known o) ≡ suc n → WantsOn (λ us. taken_on (λ k. taken is k us) (known_with i known o)) (take n ts)
+want_field : (i : Item) (is : List Item) (known : Known) (ts : List Token) (n : ℕ)
+    → ((field : ℕ) → reach is (with_field i known field) ts ≡ n → Wants is (with_field i known field) (take n ts))
+    → (o : Option ℕ) → reach_on (λ k. reach is k ts) (known_with i known o) ≡ suc n
+    → WantsOn (λ us. taken_on (λ k. taken is k us) (known_with i known o)) (take n ts)
 unfolding known_with
 want_field i is known ts n ih None h = absurd (omega arith)
 want_field i is known ts n ih (Some field) h = want_if is (with_field i known field) ts n (ih field) (agrees i known field) h
 
-want : (is : List Item) (known : Known) (n : ℕ) (ts : List Token) → goes_through is known.mask ≡ true → IsWithin known → reach is known ts ≡ n → is_number_item (slice_get is n) ≡ true → Wants is known (take n ts)
+want : (is : List Item) (known : Known) (n : ℕ) (ts : List Token) → goes_through is known.mask ≡ true → IsWithin known
+    → reach is known ts ≡ n → is_number_item (slice_get is n) ≡ true → Wants is known (take n ts)
 unfolding reach taken known_after goes_through IsWithin
 want [] known zero ts g w h k = cc
 want (i ∷ is) known zero ts g w h k =
@@ -524,13 +586,21 @@ want (i ∷ is) known zero ts g w h k =
     let c = choose_number i.rule i known.value n.choice k in
     let field = c.chosen.field in
     let e = complete is (with_field i known field) (next_mask i known field is p.1) (with_within i known field n w) in
-    record { token = c.chosen.token; number = c.number; rest = e.rest; word = e.word; taken_so = ap (taken_on (λ next. taken is next e.rest)) (chosen_after i known n w c.chosen) ∙ e.taken_so }
+    record {
+      token = c.chosen.token;
+      number = c.number;
+      rest = e.rest;
+      word = e.word;
+      taken_so = ap (taken_on (λ next. taken is next e.rest)) (chosen_after i known n w c.chosen) ∙ e.taken_so;
+    }
 want [] known (suc n) ts g w h k = absurd (omega arith)
 want (i ∷ is) known (suc n) [] g w h k = absurd (omega arith)
 want (i ∷ is) known (suc n) (t ∷ ts) g w h k =
     let p = and_parts (is_next i known.mask) (goes_through is (bit_or known.mask (mask_of i))) g in
     let it = next_item i known.mask p.0 in
-    let e = want_field i is known ts n (λ field l. want is (with_field i known field) n ts (next_mask i known field is p.1) (with_within i known field it w) l k) (field_said i.kind (bits_of i) t) h in
+    let e =
+    want_field i is known ts n (λ field l. want is (with_field i known field) n ts (next_mask i known field is p.1)
+    (with_within i known field it w) l k) (field_said i.kind (bits_of i) t) h in
     record { token = e.0; number = e.1; rest = e.2; word = e.3; taken_so = e.4 }
 
 shape_wants : (s : Shape) (n : ℕ) (ts : List Token) → is_open s ≡ true → wants_number n ts s ≡ true → WantsOn (word_in s) (take n ts)
@@ -541,13 +611,16 @@ shape_wants s n ts o h =
     let e = want (items_of s) (fixed s) n ts p.1 (eqb-true _ _ p.0) (eqb-true _ _ q.0) q.1 in
     (e.token, e.number, e.rest, e.word, e.taken_so)
 
-shapes_want : (ss : List Shape) (n : ℕ) (ts : List Token) → list_all is_open ss ≡ true → list_any (wants_number n ts) ss ≡ true → WantsOn (first_word ss) (take n ts)
+shapes_want : (ss : List Shape) (n : ℕ) (ts : List Token) → list_all is_open ss ≡ true → list_any (wants_number n ts) ss ≡ true
+    → WantsOn (first_word ss) (take n ts)
 unfolding first_word
 shapes_want [] n ts o h = cc
 shapes_want (s ∷ ss) n ts o h =
     let p = and_parts (is_open s) (list_all is_open ss) o in
-    elim (wants_number n ts s) as (λ b. wants_number n ts s ≡ b → (b || list_any (wants_number n ts) ss) ≡ true → WantsOn (λ us. first_of_words (word_in s us) (first_word ss us)) (take n ts)) [
-      | true ↦ λ is g. let e = shape_wants s n ts p.0 is in (e.0, e.1, e.2, e.3, ap (λ a. first_of_words a (first_word ss (take n ts ++ e.0 ∷ e.2))) e.4)
+    elim (wants_number n ts s) as (λ b. wants_number n ts s ≡ b → (b || list_any (wants_number n ts) ss) ≡ true
+    → WantsOn (λ us. first_of_words (word_in s us) (first_word ss us)) (take n ts)) [
+      | true ↦ λ is g. let e =
+          shape_wants s n ts p.0 is in (e.0, e.1, e.2, e.3, ap (λ a. first_of_words a (first_word ss (take n ts ++ e.0 ∷ e.2))) e.4)
       | false ↦ λ is g.
           let e = shapes_want ss n ts p.1 g in
           let f = some_first (word_in s (take n ts ++ e.0 ∷ e.2)) (first_word ss (take n ts ++ e.0 ∷ e.2)) e.3 e.4 in
@@ -556,5 +629,6 @@ shapes_want (s ∷ ss) n ts o h =
 
 -- where a shape of a name that takes so many tokens wants a number, a number goes on
 pub number-goes-on : (name n : ℕ) (ts : List Token) → list_any (wants_number n ts) (shapes_of name) ≡ true
-    → (t : Token) × (is_number_token t ≡ true) × (rest : List Token) × (word : ℕ) × (first_word (shapes_of name) (take n ts ++ t ∷ rest) ≡ Some word)
+    → (t : Token) × (is_number_token t ≡ true) × (rest : List Token) × (word : ℕ)
+    × (first_word (shapes_of name) (take n ts ++ t ∷ rest) ≡ Some word)
 number-goes-on name n ts h = shapes_want (shapes_of name) n ts (open_of_name name) h

@@ -1,5 +1,7 @@
 -- A token that is printed says the field that it is printed for.
-use Rattle.std.proofs.Common.{◌≡◌, ℕ, zero, suc, ◌+◌, ◌-◌, ◌*◌, ◌/◌, ◌%◌, ◌^◌, ◌<◌, ◌≤◌, ◌==◌, ◌&&◌, not, Bool, true, false, nat_lt, nat_le, Some, None, cond, refl, sym, ap, ap₂, ◌∙◌, subst, arith, inl, inr, eqb-true, eq-eqb, lt-ltb, ltb-true, le-leb, leb-true, mod-eq_of_lt}
+use Rattle.std.proofs.Common.{◌≡◌, ℕ, zero, suc, ◌+◌, ◌-◌, ◌*◌, ◌/◌, ◌%◌, ◌^◌, ◌<◌, ◌≤◌, ◌==◌, ◌&&◌, not, Bool, true, false, nat_lt, nat_le}
+use Rattle.std.proofs.Common.{Some, None, cond, refl, sym, ap, ap₂, ◌∙◌, subst, arith, inl, inr, eqb-true, eq-eqb, lt-ltb, ltb-true, le-leb}
+use Rattle.std.proofs.Common.{leb-true, mod-eq_of_lt}
 use Rattle.std.proofs.lemmas.Bool.{and_parts, cases_lt, le-ltb}
 use Rattle.std.proofs.lemmas.Nat.{pow-add, pow_pos}
 use Rattle.std.proofs.Math.Nat.{mul-div_cancel, mul-mod_left}
@@ -12,7 +14,8 @@ use Rattle.insn_text.specs.declared.item.Kind.{Kind}
 use Rattle.insn_text.specs.declared.item.Kind.TheVariants as kind
 use Rattle.insn_text.specs.Texts.{is_positive, size_of, mask_in}
 use Rattle.insn_text.specs.Rules.{is_within}
-use Rattle.asm_operands.specs.Fields.{on_mark, on_word, on_register, on_number, on_target, word_field, same_file, register_field, last_field, unsigned_field, signed_field, mask_field, field_said}
+use Rattle.asm_operands.specs.Fields.{on_mark, on_word, on_register, on_number, on_target, word_field, same_file, register_field}
+use Rattle.asm_operands.specs.Fields.{last_field, unsigned_field, signed_field, mask_field, field_said}
 use Rattle.std.specs.Prelude.{if◌then◌else◌}
 use Rattle.asm_tokens.specs.declared.token.Token.TheVariants.{Register, Word}
 use Rattle.asm_operands.specs.Shown.{mask_token, token_said}
@@ -63,10 +66,12 @@ unfolding on_register
 register_back file last field lt = elim (cases_lt field 31) [
   | inl low ↦
       let other : (field ≡ 31) → ⊥ = λ e. omega arith in
-      ap (λ b. on_register (register_field file) (last_field last) (cond b (Word last) (Register file field))) (ne_eqb field 31 other) ∙ register-said file field low
+      ap (λ b. on_register (register_field file) (last_field last) (cond b (Word last) (Register file field))) (ne_eqb field 31 other)
+      ∙ register-said file field low
   | inr high ↦
       let e : field ≡ 31 = omega arith in
-      ap (λ b. on_register (register_field file) (last_field last) (cond b (Word last) (Register file field))) (eq-eqb field 31 e) ∙ last-said last ∙ ap Some (sym e)
+      ap (λ b. on_register (register_field file) (last_field last) (cond b (Word last) (Register file field))) (eq-eqb field 31 e)
+      ∙ last-said last ∙ ap Some (sym e)
 ]
 
 -- ---- numbers
@@ -85,7 +90,9 @@ unsigned_back base scale most f positive le =
 
 half_twice : (n : ℕ) → 0 < n → 2 ^ n ≡ 2 ^ (n - 1) + 2 ^ (n - 1)
 half_twice zero h = absurd (omega arith)
-half_twice (suc n) h = let e : suc n - 1 ≡ n = omega arith in let d : 2 ^ suc n ≡ 2 ^ n + 2 ^ n = omega (arith, pow-add 2 n 1) in d ∙ sym (ap (λ m. 2 ^ m + 2 ^ m) e)
+half_twice (suc n) h =
+    let e : suc n - 1 ≡ n =
+    omega arith in let d : 2 ^ suc n ≡ 2 ^ n + 2 ^ n = omega (arith, pow-add 2 n 1) in d ∙ sym (ap (λ m. 2 ^ m + 2 ^ m) e)
 
 signed_back : (scale n f : ℕ) → 0 < scale → 0 < n → f < 2 ^ n → signed_field n scale (not (is_positive n f)) (size_of n f * scale) ≡ Some f
 unfolding signed_field size_of is_positive
@@ -107,7 +114,8 @@ signed_back scale n f positive signed lt =
     ]
 
 -- ---- masks
-mask_back : (wide : Bool) (bits field : ℕ) → field < 8192 → are_mask_fields (field_of field 12 1 == 1) (field_of field 0 6) (field_of field 6 6) wide ≡ true
+mask_back : (wide : Bool) (bits field : ℕ) → field < 8192
+    → are_mask_fields (field_of field 12 1 == 1) (field_of field 0 6) (field_of field 6 6) wide ≡ true
     → on_number (λ negative size. if negative then None else mask_field wide size) (mask_token (mask_in wide field)) ≡ Some field
 unfolding on_number
 mask_back wide bits field lt e =
@@ -135,13 +143,15 @@ mark_back c field bits e lt =
     let z : 0 ≡ field = omega arith in
     ap (λ b. cond b (Some 0) None) (eq-eqb c c refl) ∙ ap Some z
 
-pub said-heard : (k : Kind) (bits field : ℕ) → is_printed_kind k bits ≡ true → is_within k field ≡ true → field < 2 ^ bits → field_said k bits (token_said k bits field) ≡ Some field
+pub said-heard : (k : Kind) (bits field : ℕ) → is_printed_kind k bits ≡ true → is_within k field ≡ true → field < 2 ^ bits
+    → field_said k bits (token_said k bits field) ≡ Some field
 unfolding is_printed_kind is_within field_said token_said on_mark on_word on_register on_number on_target
 said-heard (kind.Mark c) bits field p w lt = mark_back c field bits (eqb-true bits 0 p) lt
 said-heard (kind.Named first count) bits field p w lt = word_back first count field (ltb-true field count w)
 said-heard (kind.Register file last) bits field p w lt =
     register_back file last field (below_32 bits field (eqb-true bits 5 p) lt)
-said-heard (kind.Unsigned base scale most) bits field p w lt = unsigned_back base scale most field (ltb-true 0 scale p) (leb-true field most w)
+said-heard (kind.Unsigned base scale most) bits field p w lt =
+    unsigned_back base scale most field (ltb-true 0 scale p) (leb-true field most w)
 said-heard (kind.Signed scale) bits field p w lt =
     let q = and_parts (nat_lt 0 scale) (nat_lt 0 bits) p in signed_back scale bits field (ltb-true 0 scale q.0) (ltb-true 0 bits q.1) lt
 said-heard (kind.Distance scale) bits field p w lt =

@@ -1,5 +1,7 @@
 -- The fields of a mask: those of the table are the ones that bit_ops finds, and a mask has no others.
-use Rattle.std.proofs.Common.{◌≡◌, ℕ, zero, suc, ◌+◌, ◌-◌, ◌*◌, ◌%◌, ◌/◌, ◌^◌, ◌<◌, ◌≤◌, ◌==◌, ◌&&◌, ◌⊎◌, not, Bool, true, false, nat_lt, refl, sym, ap, ap₂, ◌∙◌, subst, arith, inl, inr, lit<, Option, Some, None, cond, eqb-true, eq-eqb, lt-ltb, ltb-true}
+use Rattle.std.proofs.Common.{◌≡◌, ℕ, zero, suc, ◌+◌, ◌-◌, ◌*◌, ◌%◌, ◌/◌, ◌^◌, ◌<◌, ◌≤◌, ◌==◌, ◌&&◌, ◌⊎◌, not, Bool, true, false, nat_lt}
+use Rattle.std.proofs.Common.{refl, sym, ap, ap₂, ◌∙◌, subst, arith, inl, inr, lit<, Option, Some, None, cond, eqb-true, eq-eqb, lt-ltb}
+use Rattle.std.proofs.Common.{ltb-true}
 use Rattle.std.proofs.lemmas.Bool.{and_parts, cases_lt}
 use Rattle.std.proofs.lemmas.Nat.{mod_below}
 use Rattle.std.proofs.Math.Nat.{mod-eq_of_lt}
@@ -8,7 +10,8 @@ use Rattle.bit_ops.specs.Bits.{digit_at, width_of}
 use Rattle.bit_ops.specs.Sums.{bool_number, word_size}
 use Rattle.bit_ops.specs.Masks.{are_mask_fields, size_of, ones_of, is_reserved, mask_of, bit_mask_of, starts_at, IsFieldsOf}
 use Rattle.bit_ops.proofs.MaskBits.{mask-facts}
-use Rattle.bit_ops.proofs.Fields.{IsPeriodic, start-on, some-start, first-below, turn-is, next-is, none-is, ones-are, fields-wide, fields-narrow, size-known, periodic-of, size-some}
+use Rattle.bit_ops.proofs.Fields.{IsPeriodic, start-on, some-start, first-below, turn-is, next-is, none-is, ones-are, fields-wide}
+use Rattle.bit_ops.proofs.Fields.{fields-narrow, size-known, periodic-of, size-some}
 use Rattle.insn_text.specs.Texts.{mask_in}
 use Rattle.asm_operands.specs.Fields.{is_that, is_field_of, mask_field}
 use Rattle.sm_types.proofs.Places.{find-first, find-none}
@@ -37,12 +40,17 @@ not_true : (b : Bool) → not b ≡ true → b ≡ false
 not_true true e = cc
 not_true false e = refl
 
-pub fields-of : (wide : Bool) (mask field : ℕ) → is_field_of wide mask field ≡ true → IsFieldsOf (field_of field 12 1 == 1) (field_of field 0 6) (field_of field 6 6) wide mask
+pub fields-of : (wide : Bool) (mask field : ℕ) → is_field_of wide mask field ≡ true
+    → IsFieldsOf (field_of field 12 1 == 1) (field_of field 0 6) (field_of field 6 6) wide mask
 unfolding is_field_of mask_in are_mask_fields field_of
 fields-of wide mask field e =
-    let parts = and_parts (are_mask_fields (field_of field 12 1 == 1) (field_of field 0 6) (field_of field 6 6) wide) (is_that mask (mask_in wide field)) e in
+    let parts =
+    and_parts (are_mask_fields (field_of field 12 1 == 1) (field_of field 0 6) (field_of field 6 6) wide)
+    (is_that mask (mask_in wide field)) e in
     let imms : field / 2 ^ 0 % 2 ^ 6 < 64 = mod_below (field / 2 ^ 0) (2 ^ 6) (lit< tt) in
-    let one = and_parts (not (is_reserved (field_of field 12 1 == 1) (field_of field 0 6) wide)) (nat_lt (field_of field 6 6) (size_of (field_of field 12 1 == 1) (field_of field 0 6))) parts.0 in
+    let one =
+    and_parts (not (is_reserved (field_of field 12 1 == 1) (field_of field 0 6) wide))
+    (nat_lt (field_of field 6 6) (size_of (field_of field 12 1 == 1) (field_of field 0 6))) parts.0 in
     record { imms_in_range = imms; immr_in_range = ltb-true _ _ one.1; given = that_mask mask (mask_in wide field) parts.1 }
 
 bit_back : (n : Bool) (immr imms : ℕ) → immr < 64 → imms < 64 → (joined n immr imms / 2 ^ 12 % 2 ^ 1 == 1) ≡ n
@@ -100,7 +108,8 @@ of-fields n wide imms immr mask f =
     let lt = f.imms_in_range in
     let small = immr-lt n wide imms immr mask f in
     let test : are_mask_fields n imms immr wide ≡ true =
-    both_true (not (is_reserved n imms wide)) (nat_lt immr (size_of n imms)) (not_reserved n wide imms immr mask f.given) (lt-ltb _ _ f.immr_in_range) in
+    both_true (not (is_reserved n imms wide)) (nat_lt immr (size_of n imms)) (not_reserved n wide imms immr mask f.given)
+    (lt-ltb _ _ f.immr_in_range) in
     let b = bit_back n immr imms small lt in
     let r = immr_back n immr imms small lt in
     let s = imms_back n immr imms small lt in
@@ -113,12 +122,14 @@ record IsLeast (p : ℕ → Bool) (from n place : ℕ) : Type 0 where
   passes : p place ≡ true
   before : (k : ℕ) → from ≤ k → k < place → p k ≡ false
 
-at_end : (p : ℕ → Bool) (from n : ℕ) → ((k : ℕ) → from ≤ k → k < n → p k ≡ false) → (b : Bool) → p n ≡ b → ((place : ℕ) × IsLeast p from (suc n) place) ⊎ ((k : ℕ) → from ≤ k → k < suc n → p k ≡ false)
+at_end : (p : ℕ → Bool) (from n : ℕ) → ((k : ℕ) → from ≤ k → k < n → p k ≡ false) → (b : Bool) → p n ≡ b
+    → ((place : ℕ) × IsLeast p from (suc n) place) ⊎ ((k : ℕ) → from ≤ k → k < suc n → p k ≡ false)
 at_end p from n never true e = elim (cases_lt n from) [
   | inl under ↦ inr (λ k le lt. absurd (omega arith))
   | inr over ↦ inl (n, record { above = over; below = omega arith; passes = e; before = never })
 ]
-at_end p from n never false e = inr (λ k le lt. elim (cases_lt k n) [ inl under ↦ never k le under | inr over ↦ (let s : k ≡ n = omega arith in ap p s ∙ e) ])
+at_end p from n never false e =
+    inr (λ k le lt. elim (cases_lt k n) [ inl under ↦ never k le under | inr over ↦ (let s : k ≡ n = omega arith in ap p s ∙ e) ])
 
 least : (p : ℕ → Bool) (from n : ℕ) → ((place : ℕ) × IsLeast p from n place) ⊎ ((k : ℕ) → from ≤ k → k < n → p k ≡ false)
 least p from zero = inr (λ k le lt. absurd (omega arith))
@@ -136,27 +147,34 @@ not_zero word k e =
     ]
 
 -- the ones of an element are as many as follow the first start
-ones-same : (word width size size' turn turn' ones ones' first : ℕ) → IsPeriodic word width size turn ones → IsPeriodic word width size' turn' ones' → (first + turn) % size ≡ 0 → (first + turn') % size' ≡ 0 → ones ≡ ones'
-ones-same word width size size' turn turn' ones ones' first p q z z' = elim (least (λ k. digit_at 2 word ((first + k) % width) == 0) 0 width) [
-  | inl f ↦
-      let within = f.1.below in
-      let on : (k : ℕ) → k < f.0 → digit_at 2 word ((first + k) % width) ≡ 1 = λ k lt. not_zero word ((first + k) % width) (f.1.before k (omega arith) lt) in
-      let off : f.0 < width → digit_at 2 word ((first + f.0) % width) ≡ 0 = λ lt. eqb-true _ _ f.1.passes in
-      let a = ones-are word width size turn ones first f.0 p z (omega arith) on off in
-      let b = ones-are word width size' turn' ones' first f.0 q z' (omega arith) on off in
-      omega arith
-  | inr never ↦
-      let on : (k : ℕ) → k < width → digit_at 2 word ((first + k) % width) ≡ 1 = λ k lt. not_zero word ((first + k) % width) (never k (omega arith) lt) in
-      let off : width < width → digit_at 2 word ((first + width) % width) ≡ 0 = λ lt. absurd (omega arith) in
-      let a = ones-are word width size turn ones first width p z (omega arith) on off in
-      let b = ones-are word width size' turn' ones' first width q z' (omega arith) on off in
-      omega arith
-]
+ones-same : (word width size size' turn turn' ones ones' first : ℕ) → IsPeriodic word width size turn ones
+    → IsPeriodic word width size' turn' ones' → (first + turn) % size ≡ 0 → (first + turn') % size' ≡ 0 → ones ≡ ones'
+ones-same word width size size' turn turn' ones ones' first p q z z' =
+    elim (least (λ k. digit_at 2 word ((first + k) % width) == 0) 0 width) [
+      | inl f ↦
+          let within = f.1.below in
+          let on : (k : ℕ) → k < f.0 → digit_at 2 word ((first + k) % width) ≡ 1 =
+          λ k lt. not_zero word ((first + k) % width) (f.1.before k (omega arith) lt) in
+          let off : f.0 < width → digit_at 2 word ((first + f.0) % width) ≡ 0 = λ lt. eqb-true _ _ f.1.passes in
+          let a = ones-are word width size turn ones first f.0 p z (omega arith) on off in
+          let b = ones-are word width size' turn' ones' first f.0 q z' (omega arith) on off in
+          omega arith
+      | inr never ↦
+          let on : (k : ℕ) → k < width → digit_at 2 word ((first + k) % width) ≡ 1 =
+          λ k lt. not_zero word ((first + k) % width) (never k (omega arith) lt) in
+          let off : width < width → digit_at 2 word ((first + width) % width) ≡ 0 = λ lt. absurd (omega arith) in
+          let a = ones-are word width size turn ones first width p z (omega arith) on off in
+          let b = ones-are word width size' turn' ones' first width q z' (omega arith) on off in
+          omega arith
+    ]
 
-size-same : (word width size size' turn turn' ones ones' first : ℕ) → IsPeriodic word width size turn ones → IsPeriodic word width size' turn' ones' → (first + turn) % size ≡ 0 → (first + turn') % size' ≡ 0 → first < size → first < size' → size ≡ size'
+size-same : (word width size size' turn turn' ones ones' first : ℕ) → IsPeriodic word width size turn ones
+    → IsPeriodic word width size' turn' ones' → (first + turn) % size ≡ 0 → (first + turn') % size' ≡ 0 → first < size → first < size'
+    → size ≡ size'
 size-same word width size size' turn turn' ones ones' first p q z z' less less' = elim (least (starts_at word width) (first + 1) width) [
   | inl f ↦
-      sym (next-is word width size turn ones first f.0 p z f.1.above f.1.below f.1.passes f.1.before) ∙ next-is word width size' turn' ones' first f.0 q z' f.1.above f.1.below f.1.passes f.1.before
+      sym (next-is word width size turn ones first f.0 p z f.1.above f.1.below f.1.passes f.1.before)
+      ∙ next-is word width size' turn' ones' first f.0 q z' f.1.above f.1.below f.1.passes f.1.before
   | inr never ↦ sym (none-is word width size turn ones first p less z never) ∙ none-is word width size' turn' ones' first q less' z' never
 ]
 
@@ -165,7 +183,8 @@ record AreSame (size size' turn turn' ones ones' : ℕ) : Type 0 where
   turn_is : turn ≡ turn'
   ones_is : ones ≡ ones'
 
-all-same : (word width size size' turn turn' ones ones' : ℕ) → IsPeriodic word width size turn ones → IsPeriodic word width size' turn' ones' → AreSame size size' turn turn' ones ones'
+all-same : (word width size size' turn turn' ones ones' : ℕ) → IsPeriodic word width size turn ones
+    → IsPeriodic word width size' turn' ones' → AreSame size size' turn turn' ones ones'
 all-same word width size size' turn turn' ones ones' p q = elim (least (starts_at word width) 0 width) [
   | inl f ↦
       let z = start-on word width size turn ones f.0 p f.1.below f.1.passes in
@@ -175,13 +194,16 @@ all-same word width size size' turn turn' ones ones' p q = elim (least (starts_a
       let same = size-same word width size size' turn turn' ones ones' f.0 p q z z' less less' in
       record {
         size_is = same;
-        turn_is = turn-is size turn f.0 p.turn_in_range less z ∙ ap (λ s. (s - f.0) % s) same ∙ sym (turn-is size' turn' f.0 q.turn_in_range less' z');
+        turn_is =
+            turn-is size turn f.0 p.turn_in_range less z ∙ ap (λ s. (s - f.0) % s) same
+            ∙ sym (turn-is size' turn' f.0 q.turn_in_range less' z');
         ones_is = ones-same word width size size' turn turn' ones ones' f.0 p q z z';
       }
   | inr never ↦ absurd (some-start word width size turn ones p never)
 ]
 
-same_parts : (n n' : Bool) (imms imms' : ℕ) → imms < 64 → imms' < 64 → 2 ≤ size_of n imms → size_of n imms ≡ size_of n' imms' → ones_of n imms ≡ ones_of n' imms' → (n ≡ n') × (imms ≡ imms')
+same_parts : (n n' : Bool) (imms imms' : ℕ) → imms < 64 → imms' < 64 → 2 ≤ size_of n imms → size_of n imms ≡ size_of n' imms'
+    → ones_of n imms ≡ ones_of n' imms' → (n ≡ n') × (imms ≡ imms')
 same_parts n n' imms imms' lt lt' two size ones = elim (size-known n imms) [
   | inl all ↦
       let a = fields-wide n imms lt all in
@@ -193,17 +215,22 @@ same_parts n n' imms imms' lt lt' two size ones = elim (size-known n imms) [
       (a.0 ∙ sym b.0, a.1 ∙ ap₂ (λ s o. 64 - 2 * s + o) size ones ∙ sym b.1)
 ]
 
-pub unique-fields : (wide n n' : Bool) (imms imms' immr immr' mask : ℕ) → IsFieldsOf n imms immr wide mask → IsFieldsOf n' imms' immr' wide mask → joined n immr imms ≡ joined n' immr' imms'
+pub unique-fields : (wide n n' : Bool) (imms imms' immr immr' mask : ℕ) → IsFieldsOf n imms immr wide mask
+    → IsFieldsOf n' imms' immr' wide mask → joined n immr imms ≡ joined n' immr' imms'
 unique-fields wide n n' imms imms' immr immr' mask f g =
-    let same = all-same mask (width_of wide) (size_of n imms) (size_of n' imms') immr immr' (ones_of n imms) (ones_of n' imms') (periodic-of n wide imms immr mask f) (periodic-of n' wide imms' immr' mask g) in
+    let same =
+    all-same mask (width_of wide) (size_of n imms) (size_of n' imms') immr immr' (ones_of n imms) (ones_of n' imms')
+    (periodic-of n wide imms immr mask f) (periodic-of n' wide imms' immr' mask g) in
     let parts = same_parts n n' imms imms' f.imms_in_range g.imms_in_range (size-some n wide imms immr mask f) same.size_is same.ones_is in
     ap₂ (λ b i. joined b immr i) parts.0 parts.1 ∙ ap (λ r. joined n' r imms') same.turn_is
 
 -- ---- the fields that are found
-pub unique-field : (wide : Bool) (mask a b : ℕ) → a < 8192 → b < 8192 → is_field_of wide mask a ≡ true → is_field_of wide mask b ≡ true → a ≡ b
+pub unique-field : (wide : Bool) (mask a b : ℕ) → a < 8192 → b < 8192 → is_field_of wide mask a ≡ true → is_field_of wide mask b ≡ true
+    → a ≡ b
 unique-field wide mask a b lt lt' e f =
     sym (joined-back a lt)
-    ∙ unique-fields wide (field_of a 12 1 == 1) (field_of b 12 1 == 1) (field_of a 0 6) (field_of b 0 6) (field_of a 6 6) (field_of b 6 6) mask (fields-of wide mask a e) (fields-of wide mask b f)
+    ∙ unique-fields wide (field_of a 12 1 == 1) (field_of b 12 1 == 1) (field_of a 0 6) (field_of b 0 6) (field_of a 6 6) (field_of b 6 6)
+    mask (fields-of wide mask a e) (fields-of wide mask b f)
     ∙ joined-back b lt'
 
 false_of : (b : Bool) → (b ≡ true → ⊥) → b ≡ false
@@ -214,16 +241,22 @@ pub mask_field-is : (wide : Bool) (mask field : ℕ) → field < 8192 → is_fie
 unfolding mask_field
 mask_field-is wide mask field lt e =
     find-first (is_field_of wide mask) 8192 field lt e
-    (λ q low. false_of (is_field_of wide mask q) (λ t. let within : q < 8192 = omega arith in let s = unique-field wide mask q field within lt t e in omega arith))
+    (λ q low. false_of (is_field_of wide mask q)
+    (λ t. let within : q < 8192 = omega arith in let s = unique-field wide mask q field within lt t e in omega arith))
 
-pub mask_field-none : (wide : Bool) (mask : ℕ) → ((n : Bool) (imms immr : ℕ) → IsFieldsOf n imms immr wide mask → ⊥) → mask_field wide mask ≡ None
+pub mask_field-none : (wide : Bool) (mask : ℕ) → ((n : Bool) (imms immr : ℕ) → IsFieldsOf n imms immr wide mask → ⊥)
+    → mask_field wide mask ≡ None
 unfolding mask_field
-mask_field-none wide mask never = find-none (is_field_of wide mask) 8192 (λ q lt. false_of (is_field_of wide mask q) (λ t. never (field_of q 12 1 == 1) (field_of q 0 6) (field_of q 6 6) (fields-of wide mask q t)))
+mask_field-none wide mask never =
+    find-none (is_field_of wide mask) 8192 (λ q lt. false_of (is_field_of wide mask q)
+    (λ t. never (field_of q 12 1 == 1) (field_of q 0 6) (field_of q 6 6) (fields-of wide mask q t)))
 
 -- ---- numbers of the code
-pub mask_field-some : (wide n : Bool) (imms immr mask : ℕ) → IsFieldsOf n imms immr wide mask → mask_field wide mask ≡ Some (joined n immr imms)
+pub mask_field-some : (wide n : Bool) (imms immr mask : ℕ) → IsFieldsOf n imms immr wide mask
+    → mask_field wide mask ≡ Some (joined n immr imms)
 mask_field-some wide n imms immr mask f =
-    mask_field-is wide mask (joined n immr imms) (joined-lt n immr imms (immr-lt n wide imms immr mask f) f.imms_in_range) (of-fields n wide imms immr mask f)
+    mask_field-is wide mask (joined n immr imms) (joined-lt n immr imms (immr-lt n wide imms immr mask f) f.imms_in_range)
+    (of-fields n wide imms immr mask f)
 
 given_some : (b : Bool) (m mask : ℕ) → cond b None (Some m) ≡ Some mask → m ≡ mask
 given_some true m mask e = cc
@@ -245,11 +278,15 @@ in_width false mask lt (inl e) = cc
 in_width false mask lt (inr small) = mod-eq_of_lt small
 
 -- what `mask_fields` gives
-pub found-some : (wide n : Bool) (imms immr mask low : ℕ) → low ≡ mask → IsFieldsOf n imms immr wide low → mask_field wide mask ≡ Some (joined n immr imms)
+pub found-some : (wide n : Bool) (imms immr mask low : ℕ) → low ≡ mask → IsFieldsOf n imms immr wide low
+    → mask_field wide mask ≡ Some (joined n immr imms)
 found-some wide n imms immr mask low e f = mask_field-some wide n imms immr mask (subst (λ m. IsFieldsOf n imms immr wide m) e f)
 
-pub found-none : (wide : Bool) (mask low : ℕ) → low ≡ mask → ((n : Bool) (imms immr : ℕ) → imms < 64 → immr < 64 → bit_mask_of n imms immr wide ≡ Some low → ⊥) → mask_field wide mask ≡ None
-found-none wide mask low e never = mask_field-none wide mask (λ n imms immr f. never n imms immr f.imms_in_range (immr-lt n wide imms immr mask f) (f.given ∙ ap Some (sym e)))
+pub found-none : (wide : Bool) (mask low : ℕ) → low ≡ mask
+    → ((n : Bool) (imms immr : ℕ) → imms < 64 → immr < 64 → bit_mask_of n imms immr wide ≡ Some low → ⊥) → mask_field wide mask ≡ None
+found-none wide mask low e never =
+    mask_field-none wide mask (λ n imms immr f. never n imms immr f.imms_in_range (immr-lt n wide imms immr mask f)
+    (f.given ∙ ap Some (sym e)))
 
 -- ---- the mask of some fields
 pub record IsGiven (wide : Bool) (field : ℕ) : Type 0 where
@@ -261,11 +298,13 @@ given_of : (b : Bool) (m : ℕ) → not b ≡ true → cond b None (Some m) ≡ 
 given_of true m e = cc
 given_of false m e = refl
 
-mask_given : (n wide : Bool) (imms immr : ℕ) → not (is_reserved n imms wide) ≡ true → bit_mask_of n imms immr wide ≡ Some (mask_of n imms immr wide)
+mask_given : (n wide : Bool) (imms immr : ℕ) → not (is_reserved n imms wide) ≡ true
+    → bit_mask_of n imms immr wide ≡ Some (mask_of n imms immr wide)
 unfolding bit_mask_of
 mask_given n wide imms immr e = given_of (is_reserved n imms wide) (mask_of n imms immr wide) e
 
-pub mask-given : (wide : Bool) (field : ℕ) → field < 8192 → are_mask_fields (field_of field 12 1 == 1) (field_of field 0 6) (field_of field 6 6) wide ≡ true → IsGiven wide field
+pub mask-given : (wide : Bool) (field : ℕ) → field < 8192
+    → are_mask_fields (field_of field 12 1 == 1) (field_of field 0 6) (field_of field 6 6) wide ≡ true → IsGiven wide field
 unfolding is_field_of mask_in are_mask_fields field_of
 mask-given wide field lt e =
     let n = field_of field 12 1 == 1 in
@@ -274,4 +313,9 @@ mask-given wide field lt e =
     let parts = and_parts (not (is_reserved n imms wide)) (nat_lt immr (size_of n imms)) e in
     let m = mask_of n imms immr wide in
     let given : mask_in wide field ≡ Some m = mask_given n wide imms immr parts.0 in
-    record { mask = m; given = given; back = mask_field-is wide m field lt (both_true (are_mask_fields n imms immr wide) (is_that m (mask_in wide field)) e (is_that-same m (mask_in wide field) given)) }
+    record {
+      mask = m;
+      given = given;
+      back = mask_field-is wide m field lt
+          (both_true (are_mask_fields n imms immr wide) (is_that m (mask_in wide field)) e (is_that-same m (mask_in wide field) given));
+    }

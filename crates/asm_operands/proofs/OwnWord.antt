@@ -1,5 +1,7 @@
 -- The tokens of a word that is printed say the word, and no target: the shapes of a name are told apart by any operand's tokens.
-use Rattle.std.proofs.Common.{◌≡◌, ℕ, zero, suc, ◌+◌, ◌-◌, ◌^◌, ◌<◌, ◌≤◌, ◌==◌, ◌&&◌, ◌||◌, not, Bool, true, false, nat_lt, nat_le, bit_and, List, [], ◌∷◌, map, take, drop, length, slice_get, Option, Some, None, cond, refl, sym, ap, ap₂, ◌∙◌, arith, eqb-true, ltb-true, leb-true}
+use Rattle.std.proofs.Common.{◌≡◌, ℕ, zero, suc, ◌+◌, ◌-◌, ◌^◌, ◌<◌, ◌≤◌, ◌==◌, ◌&&◌, ◌||◌, not, Bool, true, false, nat_lt, nat_le, bit_and}
+use Rattle.std.proofs.Common.{List, [], ◌∷◌, map, take, drop, length, slice_get, Option, Some, None, cond, refl, sym, ap, ap₂, ◌∙◌, arith}
+use Rattle.std.proofs.Common.{eqb-true, ltb-true, leb-true}
 use Rattle.std.specs.Prelude.{slice_index, is_some, if◌then◌else◌, option_map, option_and_then}
 use Rattle.std.specs.List.{list_all, find}
 use Rattle.std.proofs.lemmas.Bool.{and_parts}
@@ -18,13 +20,15 @@ use Rattle.asm_tokens.specs.Tokens.{is_name}
 use Rattle.asm_tokens.specs.declared.token.Token.{Token}
 use Rattle.asm_operands.specs.declared.operands.Target.{Target}
 use Rattle.asm_operands.specs.Fields.{same_file}
-use Rattle.asm_operands.specs.Operands.{word_in, shapes_of, first_of_words, first_word, is_distance, names, target_in, target_of, operand_fault, said_or, Says, Fails, if_meant, word_said, operands_said}
+use Rattle.asm_operands.specs.Operands.{word_in, shapes_of, first_of_words, first_word, is_distance, names, target_in, target_of}
+use Rattle.asm_operands.specs.Operands.{operand_fault, said_or, Says, Fails, if_meant, word_said, operands_said}
 use Rattle.asm_operands.specs.Shown.{token_said, item_token, tokens_shown}
 use Rattle.asm_operands.proofs.MaskFields.{all_below, all_below-at}
 use Rattle.asm_operands.proofs.WordBits.{has_register, covers}
 use Rattle.asm_operands.proofs.Heard.{is_printed_kind}
 use Rattle.asm_operands.proofs.OwnTokens.{is_printed_item, says_rest, word-shown}
-use Rattle.asm_operands.proofs.Apart.{is_said_by_mark, is_said_by_number, is_said_by_distance, is_said_by_register, is_apart_from_words, kinds_apart, apart, shapes-apart}
+use Rattle.asm_operands.proofs.Apart.{is_said_by_mark, is_said_by_number, is_said_by_distance, is_said_by_register, is_apart_from_words}
+use Rattle.asm_operands.proofs.Apart.{kinds_apart, apart, shapes-apart}
 
 -- ---- the table
 unfoldable pub says_word : Shape → Bool
@@ -47,7 +51,8 @@ names_apart = refl
 
 -- a shape stands among those of its name
 unfoldable pub is_at_name : ℕ → ℕ → Bool
-is_at_name place name = (nat_le (slice_index STARTS name) place && nat_lt place (slice_index STARTS (name + 1))) && nat_lt name (length NAMES)
+is_at_name place name =
+    (nat_le (slice_index STARTS name) place && nat_lt place (slice_index STARTS (name + 1))) && nat_lt name (length NAMES)
 
 unfoldable pub are_at_names : ℕ → List Shape → Bool
 are_at_names place [] = true
@@ -57,22 +62,26 @@ all_at_names : are_at_names 0 SHAPES ≡ true
 unfolding is_at_name are_at_names
 all_at_names = refl
 
-at_names-get : (place k : ℕ) (ss : List Shape) (s : Shape) → are_at_names place ss ≡ true → slice_get ss k ≡ Some s → is_at_name (place + k) s.name ≡ true
+at_names-get : (place k : ℕ) (ss : List Shape) (s : Shape) → are_at_names place ss ≡ true → slice_get ss k ≡ Some s
+    → is_at_name (place + k) s.name ≡ true
 unfolding are_at_names
 at_names-get place k [] s e g = cc
 at_names-get place zero (r ∷ ss) s e g =
     let same : r ≡ s = cc in
     let z : place + zero ≡ place = omega arith in
-    ap (λ m. is_at_name m s.name) z ∙ ap (λ (x : Shape). is_at_name place x.name) (sym same) ∙ (and_parts (is_at_name place r.name) (are_at_names (suc place) ss) e).0
+    ap (λ m. is_at_name m s.name) z ∙ ap (λ (x : Shape). is_at_name place x.name) (sym same)
+    ∙ (and_parts (is_at_name place r.name) (are_at_names (suc place) ss) e).0
 at_names-get place (suc k) (r ∷ ss) s e g =
     let z : place + suc k ≡ suc place + k = omega arith in
-    ap (λ m. is_at_name m s.name) z ∙ at_names-get (suc place) k ss s (and_parts (is_at_name place r.name) (are_at_names (suc place) ss) e).1 g
+    ap (λ m. is_at_name m s.name) z ∙ at_names-get (suc place) k ss s
+    (and_parts (is_at_name place r.name) (are_at_names (suc place) ss) e).1 g
 
 get-drop : (a k : ℕ) (ss : List Shape) → a ≤ k → slice_get (drop a ss) (k - a) ≡ slice_get ss k
 get-drop zero k ss h = let e : k - zero ≡ k = omega arith in ap (slice_get ss) e
 get-drop (suc a) zero ss h = absurd (omega arith)
 get-drop (suc a) (suc k) [] h = refl
-get-drop (suc a) (suc k) (s ∷ ss) h = let e : suc k - suc a ≡ k - a = omega arith in let l : a ≤ k = omega arith in ap (slice_get (drop a ss)) e ∙ get-drop a k ss l
+get-drop (suc a) (suc k) (s ∷ ss) h =
+    let e : suc k - suc a ≡ k - a = omega arith in let l : a ≤ k = omega arith in ap (slice_get (drop a ss)) e ∙ get-drop a k ss l
 
 get-take : (n k : ℕ) (ss : List Shape) → k < n → slice_get (take n ss) k ≡ slice_get ss k
 get-take zero k ss h = absurd (omega arith)
@@ -97,7 +106,11 @@ of_name k s g =
     let low : a ≤ k = leb-true a k q.0 in
     let high : k < b = ltb-true k b q.1 in
     let within : k - a < b - a = omega arith in
-    record { place = k - a; listed = get-take (b - a) (k - a) (drop a SHAPES) within ∙ get-drop a k SHAPES low ∙ g; named = ltb-true s.name (length NAMES) p.1 }
+    record {
+      place = k - a;
+      listed = get-take (b - a) (k - a) (drop a SHAPES) within ∙ get-drop a k SHAPES low ∙ g;
+      named = ltb-true s.name (length NAMES) p.1;
+    }
 
 -- what is found is listed, and passes
 record IsFound (p : Shape → Bool) (ss : List Shape) (s : Shape) : Type 0 where
@@ -181,21 +194,29 @@ record SaysOwn (ss : List Shape) (s : Shape) (w : ℕ) : Type 0 where
 when_printed : (s : Shape) (b : Bool) → s.alias ≡ false → (s.alias || b) ≡ true → b ≡ true
 when_printed s b e h = sym (ap (λ a. a || b) e) ∙ h
 
-later-get : (earlier : List Item) (ss : List Shape) (k : ℕ) (s : Shape) → list_all (is_later_apart earlier) ss ≡ true → slice_get ss k ≡ Some s → is_later_apart earlier s ≡ true
+later-get : (earlier : List Item) (ss : List Shape) (k : ℕ) (s : Shape) → list_all (is_later_apart earlier) ss ≡ true
+    → slice_get ss k ≡ Some s → is_later_apart earlier s ≡ true
 later-get earlier [] k s e g = cc
 later-get earlier (r ∷ ss) zero s e g =
-    let same = same_shape r s g in ap (is_later_apart earlier) (sym same) ∙ (and_parts (is_later_apart earlier r) (list_all (is_later_apart earlier) ss) e).0
-later-get earlier (r ∷ ss) (suc k) s e g = later-get earlier ss k s (and_parts (is_later_apart earlier r) (list_all (is_later_apart earlier) ss) e).1 g
+    let same =
+    same_shape r s g in
+    ap (is_later_apart earlier) (sym same) ∙ (and_parts (is_later_apart earlier r) (list_all (is_later_apart earlier) ss) e).0
+later-get earlier (r ∷ ss) (suc k) s e g =
+    later-get earlier ss k s (and_parts (is_later_apart earlier r) (list_all (is_later_apart earlier) ss) e).1 g
 
 says_word-get : (ss : List Shape) (k : ℕ) (s : Shape) → are_apart ss ≡ true → slice_get ss k ≡ Some s → says_word s ≡ true
 unfolding are_apart
 says_word-get [] k s e g = cc
 says_word-get (r ∷ ss) zero s e g =
-    let same = same_shape r s g in ap says_word (sym same) ∙ (and_parts (says_word r) (list_all (is_later_apart (items_of r)) ss && are_apart ss) e).0
+    let same =
+    same_shape r s g in
+    ap says_word (sym same) ∙ (and_parts (says_word r) (list_all (is_later_apart (items_of r)) ss && are_apart ss) e).0
 says_word-get (r ∷ ss) (suc k) s e g =
-    says_word-get ss k s (and_parts (list_all (is_later_apart (items_of r)) ss) (are_apart ss) (and_parts (says_word r) (list_all (is_later_apart (items_of r)) ss && are_apart ss) e).1).1 g
+    says_word-get ss k s (and_parts (list_all (is_later_apart (items_of r)) ss) (are_apart ss)
+    (and_parts (says_word r) (list_all (is_later_apart (items_of r)) ss && are_apart ss) e).1).1 g
 
-says-own : (ss : List Shape) (k : ℕ) (s : Shape) (w : ℕ) → are_apart ss ≡ true → slice_get ss k ≡ Some s → s.alias ≡ false → says_rest (items_of s) s.mask ≡ true
+says-own : (ss : List Shape) (k : ℕ) (s : Shape) (w : ℕ) → are_apart ss ≡ true → slice_get ss k ≡ Some s → s.alias ≡ false
+    → says_rest (items_of s) s.mask ≡ true
     → word_in s (tokens_shown s w) ≡ Some w → list_all (is_sayable w) (items_of s) ≡ true → SaysOwn ss s w
 unfolding are_apart is_later_apart first_word target_of
 says-own [] k s w e g printed all says sayable = cc
@@ -212,7 +233,9 @@ says-own (r ∷ ss) zero s w e g printed all says sayable =
     }
 says-own (r ∷ ss) (suc k) s w e g printed all says sayable =
     let ts = tokens_shown s w in
-    let p = and_parts (list_all (is_later_apart (items_of r)) ss) (are_apart ss) (and_parts (says_word r) (list_all (is_later_apart (items_of r)) ss && are_apart ss) e).1 in
+    let p =
+    and_parts (list_all (is_later_apart (items_of r)) ss) (are_apart ss)
+    (and_parts (says_word r) (list_all (is_later_apart (items_of r)) ss && are_apart ss) e).1 in
     let distinct = when_printed s (apart (items_of s) (items_of r)) printed (later-get (items_of r) ss k s p.0 g) in
     let missed : word_in r ts ≡ None = shapes-apart s r w distinct all sayable in
     let rest = says-own ss k s w p.1 g printed all says sayable in
@@ -246,7 +269,8 @@ pub own-name : (w : ℕ) (p : IsPrinted w) → p.shape.name < length NAMES
 own-name w p = (own w p.shape p.found).of_its_name.named
 
 -- the tokens say the word, where it means an instruction
-pub own-said : (w : ℕ) (it : Insn) → w < 2 ^ 32 → (p : IsPrinted w) → instruction_of w ≡ Some it → operands_said p.shape.name (tokens_shown p.shape w) ≡ Says w None
+pub own-said : (w : ℕ) (it : Insn) → w < 2 ^ 32 → (p : IsPrinted w) → instruction_of w ≡ Some it
+    → operands_said p.shape.name (tokens_shown p.shape w) ≡ Says w None
 unfolding operands_said word_said if_meant
 own-said w it lt p e =
     let ss = shapes_of p.shape.name in

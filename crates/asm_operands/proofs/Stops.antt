@@ -1,30 +1,37 @@
 -- No shape goes on with the token where the fault stands.
-use Rattle.std.proofs.Common.{◌≡◌, ℕ, zero, suc, ◌+◌, ◌<◌, ◌≤◌, List, [], ◌∷◌, ◌++◌, Option, Some, None, length, take, refl, ap, ap₂, ◌∙◌, arith, add-one}
+use Rattle.std.proofs.Common.{◌≡◌, ℕ, zero, suc, ◌+◌, ◌<◌, ◌≤◌, List, [], ◌∷◌, ◌++◌, Option, Some, None, length, take, refl, ap, ap₂, ◌∙◌}
+use Rattle.std.proofs.Common.{arith, add-one}
 use Rattle.asm_tokens.specs.declared.token.Token.{Token}
 use Rattle.insn_text.specs.declared.item.Item.{Item}
 use Rattle.insn_text.specs.declared.item.Shape.{Shape}
 use Rattle.insn_text.specs.Texts.{items_of}
-use Rattle.asm_operands.specs.Operands.{Known, known_after, taken_on, taken, reach_on, reach, fixed, word_in, reach_in, shapes_of, first_of_words, first_word, furthest}
+use Rattle.asm_operands.specs.Operands.{Known, known_after, taken_on, taken, reach_on, reach, fixed, word_in, reach_in, shapes_of}
+use Rattle.asm_operands.specs.Operands.{first_of_words, first_word, furthest}
 
-stop_on : (is : List Item) (ts rest : List Token) (m : ℕ) → ((known : Known) (n : ℕ) → reach is known ts ≤ n → n < length ts → taken is known (take (suc n) ts ++ rest) ≡ None)
-    → (o : Option Known) → reach_on (λ next. reach is next ts) o ≤ m → m < suc (length ts) → taken_on (λ next. taken is next (take m ts ++ rest)) o ≡ None
+stop_on : (is : List Item) (ts rest : List Token) (m : ℕ)
+    → ((known : Known) (n : ℕ) → reach is known ts ≤ n → n < length ts → taken is known (take (suc n) ts ++ rest) ≡ None)
+    → (o : Option Known) → reach_on (λ next. reach is next ts) o ≤ m → m < suc (length ts)
+    → taken_on (λ next. taken is next (take m ts ++ rest)) o ≡ None
 stop_on is ts rest m ih None le lt = refl
 stop_on is ts rest zero ih (Some next) le lt = absurd (omega arith)
 stop_on is ts rest (suc m) ih (Some next) le lt = ih next m (omega arith) (omega arith)
 
-stop : (is : List Item) (known : Known) (ts rest : List Token) (m : ℕ) → reach is known ts ≤ m → m < length ts → taken is known (take (suc m) ts ++ rest) ≡ None
+stop : (is : List Item) (known : Known) (ts rest : List Token) (m : ℕ) → reach is known ts ≤ m → m < length ts
+    → taken is known (take (suc m) ts ++ rest) ≡ None
 unfolding reach taken
 stop is known [] rest m le lt = absurd (omega arith)
 stop [] known (t ∷ ts) rest m le lt = refl
 stop (i ∷ is) known (t ∷ ts) rest m le lt = stop_on is ts rest m (λ k n l h. stop is k ts rest n l h) (known_after i known t) le lt
 
-stop_shapes : (ss : List Shape) (ts rest : List Token) (m : ℕ) → furthest ss ts ≤ m → m < length ts → first_word ss (take (suc m) ts ++ rest) ≡ None
+stop_shapes : (ss : List Shape) (ts rest : List Token) (m : ℕ) → furthest ss ts ≤ m → m < length ts
+    → first_word ss (take (suc m) ts ++ rest) ≡ None
 unfolding furthest first_word reach_in word_in
 stop_shapes [] ts rest m le lt = refl
 stop_shapes (s ∷ ss) ts rest m le lt =
     ap₂ first_of_words (stop (items_of s) (fixed s) ts rest m (omega arith) lt) (stop_shapes ss ts rest m (omega arith) lt)
 
-pub stops : (name : ℕ) (ts rest : List Token) → furthest (shapes_of name) ts < length ts → first_word (shapes_of name) (take (furthest (shapes_of name) ts + 1) ts ++ rest) ≡ None
+pub stops : (name : ℕ) (ts rest : List Token) → furthest (shapes_of name) ts < length ts
+    → first_word (shapes_of name) (take (furthest (shapes_of name) ts + 1) ts ++ rest) ≡ None
 stops name ts rest lt =
     ap (λ n. first_word (shapes_of name) (take n ts ++ rest)) (add-one (furthest (shapes_of name) ts))
     ∙ stop_shapes (shapes_of name) ts rest (furthest (shapes_of name) ts) (omega arith) lt

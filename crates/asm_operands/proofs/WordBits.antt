@@ -37,7 +37,8 @@ unfolding field_of has_register
 register-kept low w mask e =
     let kept : bit_and mask (31 * 2 ^ low) ≡ 31 * 2 ^ low = eqb-true (bit_and mask (31 * 2 ^ low)) (31 * 2 ^ low) e in
     let same : bit_and (bit_and w mask) (31 * 2 ^ low) ≡ bit_and w (31 * 2 ^ low) = and_assoc (31 * 2 ^ low) w mask ∙ ap (bit_and w) kept in
-    let shifted : bit_and w mask / 2 ^ low % 2 ^ 5 * 2 ^ low ≡ w / 2 ^ low % 2 ^ 5 * 2 ^ low = field_masked (bit_and w mask) 5 low ∙ same ∙ sym (field_masked w 5 low) in
+    let shifted : bit_and w mask / 2 ^ low % 2 ^ 5 * 2 ^ low ≡ w / 2 ^ low % 2 ^ 5 * 2 ^ low =
+    field_masked (bit_and w mask) 5 low ∙ same ∙ sym (field_masked w 5 low) in
     sym (shl-shr (bit_and w mask / 2 ^ low % 2 ^ 5) low) ∙ ap (λ n. n / 2 ^ low) shifted ∙ shl-shr (w / 2 ^ low % 2 ^ 5) low
 
 pub meets-kept : (r : Rule) (w mask : ℕ) → covers r mask ≡ true → meets r (bit_and w mask) ≡ meets r w
@@ -52,5 +53,7 @@ meets-kept BaseApart w mask e =
 meets-kept BasePairApart w mask e =
     let p = and_parts (has_register 5 mask && has_register 0 mask) (has_register 10 mask) e in
     let q = and_parts (has_register 5 mask) (has_register 0 mask) p.0 in
-    ap₂ (λ a b. ((a == 31) || not (a == b)) && ((a == 31) || not (a == field_of (bit_and w mask) 10 5))) (register-kept 5 w mask q.0) (register-kept 0 w mask q.1)
-    ∙ ap (λ b. ((field_of w 5 5 == 31) || not (field_of w 5 5 == field_of w 0 5)) && ((field_of w 5 5 == 31) || not (field_of w 5 5 == b))) (register-kept 10 w mask p.1)
+    ap₂ (λ a b. ((a == 31) || not (a == b)) && ((a == 31) || not (a == field_of (bit_and w mask) 10 5))) (register-kept 5 w mask q.0)
+    (register-kept 0 w mask q.1)
+    ∙ ap (λ b. ((field_of w 5 5 == 31) || not (field_of w 5 5 == field_of w 0 5)) && ((field_of w 5 5 == 31) || not (field_of w 5 5 == b)))
+    (register-kept 10 w mask p.1)

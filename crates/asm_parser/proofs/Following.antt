@@ -1,5 +1,7 @@
 -- What the tokens of a line say is what the grammar has: directives, instructions and whole lines.
-use Rattle.std.proofs.Common.{◌≡◌, ℕ, suc, ◌+◌, ◌-◌, ◌^◌, ◌<◌, ◌≤◌, ◌==◌, ◌&&◌, not, Bool, true, false, List, [], ◌∷◌, ◌++◌, Option, Some, None, Result, Ok, Err, length, take, drop, map, slice_get, get_or, cond, refl, sym, ap, ap₂, ◌∙◌, subst, arith}
+use Rattle.std.proofs.Common.{◌≡◌, ℕ, suc, ◌+◌, ◌-◌, ◌^◌, ◌<◌, ◌≤◌, ◌==◌, ◌&&◌, not, Bool, true, false, List, [], ◌∷◌, ◌++◌, Option, Some}
+use Rattle.std.proofs.Common.{None, Result, Ok, Err, length, take, drop, map, slice_get, get_or, cond, refl, sym, ap, ap₂, ◌∙◌, subst}
+use Rattle.std.proofs.Common.{arith}
 use Rattle.std.specs.Prelude.{option_map, codes}
 use Rattle.std.specs.List.{list_all, position}
 use Rattle.std.proofs.lemmas.Slice.Eq.{bytes_eq-Decides}
@@ -19,11 +21,18 @@ use Rattle.asm_operands.specs.declared.fault.FaultKind.{FaultKind}
 use Rattle.asm_operands.specs.declared.fault.FaultKind.TheVariants.{UnknownName, BadNumber, Extra, BadOperand}
 use Rattle.asm_operands.specs.declared.operands.Target.{Target}
 use Rattle.asm_operands.specs.Operands.{first_word, target_of, shapes_of}
-use Rattle.asm_parser.specs.Statements.{QuadValue, TargetSaid, Says, Nothing, IntoText, IntoData, Quads, Words, Bytes, Zeros, Aligns, Globals, Instructs, SourceLine}
-use Rattle.asm_parser.specs.Lines.{Answer, Tells, Stops, and_then, further, ends, one_number, one_name, values_from, number_value, quad_value, text_of_lexeme, Directive, TextDirective, DataDirective, QuadDirective, WordDirective, ByteDirective, ZeroDirective, AlignDirective, GlobalDirective, directive_of, directive_says, named_says, tokens_say}
-use Rattle.asm_parser.specs.Grammar.{Written, written, IsName, IsNumberTo, IsValue, IsNothing, IsOne, AreListed, Begins, target_written, IsInstruction, IsWritten, IsMeaning, GoesOn, IsWhole, WantsNumber, IsWhy, StopsAt, IsFirstFault, IsLineWhy}
+use Rattle.asm_parser.specs.Statements.{QuadValue, TargetSaid, Says, Nothing, IntoText, IntoData, Quads, Words, Bytes, Zeros, Aligns}
+use Rattle.asm_parser.specs.Statements.{Globals, Instructs, SourceLine}
+use Rattle.asm_parser.specs.Lines.{Answer, Tells, Stops, and_then, further, ends, one_number, one_name, values_from, number_value}
+use Rattle.asm_parser.specs.Lines.{quad_value, text_of_lexeme, Directive, TextDirective, DataDirective, QuadDirective, WordDirective}
+use Rattle.asm_parser.specs.Lines.{ByteDirective, ZeroDirective, AlignDirective, GlobalDirective, directive_of, directive_says, named_says}
+use Rattle.asm_parser.specs.Lines.{tokens_say}
+use Rattle.asm_parser.specs.Grammar.{Written, written, IsName, IsNumberTo, IsValue, IsNothing, IsOne, AreListed, Begins, target_written}
+use Rattle.asm_parser.specs.Grammar.{IsInstruction, IsWritten, IsMeaning, GoesOn, IsWhole, WantsNumber, IsWhy, StopsAt, IsFirstFault}
+use Rattle.asm_parser.specs.Grammar.{IsLineWhy}
 use Rattle.asm_parser.proofs.Names.{undotted}
-use Rattle.asm_parser.proofs.Tied.{Always, Tied, IsStep, tied_step, extra_fault, ends_tied, IsThen, no_number_name, number_tied, numbers_tied, name_tied, values_tied}
+use Rattle.asm_parser.proofs.Tied.{Always, Tied, IsStep, tied_step, extra_fault, ends_tied, IsThen, no_number_name, number_tied}
+use Rattle.asm_parser.proofs.Tied.{numbers_tied, name_tied, values_tied}
 
 some_is : {A : Type 0} (a b : A) → ◌≡◌ {A = Option A} (Some a) (Some b) → a ≡ b
 some_is a b e = cc
@@ -40,7 +49,8 @@ all_undotted = refl
 same_text : (a b : List ℕ) → bytes_eq a b ≡ true → a ≡ b
 same_text a b e = (bytes_eq-Decides a b).0 e
 
-place_facts : (xs : List Text) (text : List ℕ) (n : ℕ) → list_all is_undotted xs ≡ true → position (λ t. bytes_eq (text_in (Some t)) text) xs ≡ Some n → (n < length xs) × ((get_or text 0 0 == 46) ≡ false)
+place_facts : (xs : List Text) (text : List ℕ) (n : ℕ) → list_all is_undotted xs ≡ true
+    → position (λ t. bytes_eq (text_in (Some t)) text) xs ≡ Some n → (n < length xs) × ((get_or text 0 0 == 46) ≡ false)
 unfolding is_undotted
 place_facts [] text n a e = cc
 place_facts (x ∷ xs) text n a e =
@@ -67,13 +77,18 @@ said_directive (Aligns power) = Some AlignDirective
 said_directive (Globals name) = Some GlobalDirective
 said_directive (Instructs word target column) = None
 
-begins_text : (name : List ℕ) (Follows : List Written → Type 0) (t : Written) (xs : List Written) → Begins name Follows (t ∷ xs) → (t.text ≡ name) × (is_name t.token ≡ true) × Follows xs
+begins_text : (name : List ℕ) (Follows : List Written → Type 0) (t : Written) (xs : List Written) → Begins name Follows (t ∷ xs)
+    → (t.text ≡ name) × (is_name t.token ≡ true) × Follows xs
 begins_text name Follows t xs b =
     let same : b.first ≡ t = (let e = b.all in cc) in
-    let rest : b.rest ≡ xs = (let e = b.all in cc) in
-    (ap (λ (u : Written). u.text) (sym same) ∙ b.named.1, ap (λ (u : Written). is_name u.token) (sym same) ∙ b.named.0, subst Follows rest b.follows)
+    let rest : b.rest ≡ xs = (let e = b.all in cc) in (
+      ap (λ (u : Written). u.text) (sym same) ∙ b.named.1,
+      ap (λ (u : Written). is_name u.token) (sym same) ∙ b.named.0,
+      subst Follows rest b.follows,
+    )
 
-instruction_text : (word : ℕ) (target : Option TargetSaid) (column : ℕ) (t : Written) (xs : List Written) → IsInstruction word target column (t ∷ xs) → directive_of t.text ≡ None
+instruction_text : (word : ℕ) (target : Option TargetSaid) (column : ℕ) (t : Written) (xs : List Written)
+    → IsInstruction word target column (t ∷ xs) → directive_of t.text ≡ None
 instruction_text word target column t xs h =
     let same : h.first ≡ t = (let e = h.all in cc) in
     ap (λ (u : Written). directive_of u.text) (sym same) ∙ (listed_name h.first.text h.name h.listed).1
@@ -103,7 +118,8 @@ leads_name (Bytes numbers) t xs h = (begins_text (codes ".byte") (AreListed (IsN
 leads_name (Zeros count) t xs h = (begins_text (codes ".zero") (IsOne (IsNumberTo (2 ^ 64 - 1)) count) t xs h).1
 leads_name (Aligns power) t xs h = (begins_text (codes ".align") (IsOne (IsNumberTo 12) power) t xs h).1
 leads_name (Globals name) t xs h = (begins_text (codes ".global") (IsOne IsName name) t xs h).1
-leads_name (Instructs word target column) t xs h = let same : h.first ≡ t = (let e = h.all in cc) in ap (λ (u : Written). is_name u.token) (sym same) ∙ h.named
+leads_name (Instructs word target column) t xs h =
+    let same : h.first ≡ t = (let e = h.all in cc) in ap (λ (u : Written). is_name u.token) (sym same) ∙ h.named
 
 -- ---- directives
 
@@ -118,7 +134,8 @@ spelled ZeroDirective = codes ".zero"
 spelled AlignDirective = codes ".align"
 spelled GlobalDirective = codes ".global"
 
-by_test : {A : Type 0} (name text : List ℕ) (a d : A) (rest : Option A) → (P : A → Type 0) → (name ≡ text → P a) → (rest ≡ Some d → P d) → cond (bytes_eq name text) (Some a) rest ≡ Some d → P d
+by_test : {A : Type 0} (name text : List ℕ) (a d : A) (rest : Option A) → (P : A → Type 0) → (name ≡ text → P a) → (rest ≡ Some d → P d)
+    → cond (bytes_eq name text) (Some a) rest ≡ Some d → P d
 by_test name text a d rest P f g e =
     elim (bytes_eq name text) as (λ b. bytes_eq name text ≡ b → cond b (Some a) rest ≡ Some d → P d) [
       | true ↦ λ is h. subst P (some_is a d h) (f (same_text name text is))
@@ -141,13 +158,16 @@ directive_spelled name d =
 -- what follows the name of a directive, of the value that it makes a statement of
 record IsMade {A : Type 0} (d : Directive) (make : A → Says) (Follows : A → List Written → Type 0) : Type 0 where
   up : (t : Written) (xs : List Written) (a : A) → is_name t.token ≡ true → t.text ≡ spelled d → Follows a xs → IsWritten (make a) (t ∷ xs)
-  down : (says : Says) (t : Written) (xs : List Written) → said_directive says ≡ Some d → IsWritten says (t ∷ xs) → (a : A) × Follows a xs × (make a ≡ says)
+  down : (says : Says) (t : Written) (xs : List Written) → said_directive says ≡ Some d → IsWritten says (t ∷ xs) → (a : A) × Follows a xs
+      × (make a ≡ says)
   meaning : (a : A) → IsMeaning (make a)
 
-begin : (name : List ℕ) (Follows : List Written → Type 0) (t : Written) (xs : List Written) → is_name t.token ≡ true → t.text ≡ name → Follows xs → Begins name Follows (t ∷ xs)
+begin : (name : List ℕ) (Follows : List Written → Type 0) (t : Written) (xs : List Written) → is_name t.token ≡ true → t.text ≡ name
+    → Follows xs → Begins name Follows (t ∷ xs)
 begin name Follows t xs n s f = record { first = t; rest = xs; all = refl; named = (n, s); follows = f }
 
-text_down : (says : Says) (t : Written) (xs : List Written) → said_directive says ≡ Some TextDirective → IsWritten says (t ∷ xs) → (a : Unit {0}) × IsThen (tt {0}) a xs × (IntoText ≡ says)
+text_down : (says : Says) (t : Written) (xs : List Written) → said_directive says ≡ Some TextDirective → IsWritten says (t ∷ xs)
+    → (a : Unit {0}) × IsThen (tt {0}) a xs × (IntoText ≡ says)
 unfolding IsWritten said_directive
 text_down IntoText t xs e h = (tt, (refl, (begins_text (codes ".text") IsNothing t xs h).2), refl)
 text_down says t xs e h = cc
@@ -156,7 +176,8 @@ text_made : IsMade TextDirective (λ u. IntoText) (IsThen (tt {0}))
 unfolding IsWritten spelled
 text_made = record { up = λ t xs a n s f. begin (codes ".text") IsNothing t xs n s f.1; down = text_down; meaning = λ a. tt }
 
-data_down : (says : Says) (t : Written) (xs : List Written) → said_directive says ≡ Some DataDirective → IsWritten says (t ∷ xs) → (a : Unit {0}) × IsThen (tt {0}) a xs × (IntoData ≡ says)
+data_down : (says : Says) (t : Written) (xs : List Written) → said_directive says ≡ Some DataDirective → IsWritten says (t ∷ xs)
+    → (a : Unit {0}) × IsThen (tt {0}) a xs × (IntoData ≡ says)
 unfolding IsWritten said_directive
 data_down IntoData t xs e h = (tt, (refl, (begins_text (codes ".data") IsNothing t xs h).2), refl)
 data_down says t xs e h = cc
@@ -165,7 +186,8 @@ data_made : IsMade DataDirective (λ u. IntoData) (IsThen (tt {0}))
 unfolding IsWritten spelled
 data_made = record { up = λ t xs a n s f. begin (codes ".data") IsNothing t xs n s f.1; down = data_down; meaning = λ a. tt }
 
-quad_down : (says : Says) (t : Written) (xs : List Written) → said_directive says ≡ Some QuadDirective → IsWritten says (t ∷ xs) → (a : List QuadValue) × AreListed IsValue a xs × (Quads a ≡ says)
+quad_down : (says : Says) (t : Written) (xs : List Written) → said_directive says ≡ Some QuadDirective → IsWritten says (t ∷ xs)
+    → (a : List QuadValue) × AreListed IsValue a xs × (Quads a ≡ says)
 unfolding IsWritten said_directive
 quad_down (Quads values) t xs e h = (values, (begins_text (codes ".quad") (AreListed IsValue values) t xs h).2, refl)
 quad_down says t xs e h = cc
@@ -174,43 +196,60 @@ quad_made : IsMade QuadDirective Quads (AreListed IsValue)
 unfolding IsWritten spelled
 quad_made = record { up = λ t xs a n s f. begin (codes ".quad") (AreListed IsValue a) t xs n s f; down = quad_down; meaning = λ a. tt }
 
-word_down : (says : Says) (t : Written) (xs : List Written) → said_directive says ≡ Some WordDirective → IsWritten says (t ∷ xs) → (a : List ℕ) × AreListed (IsNumberTo (2 ^ 32 - 1)) a xs × (Words a ≡ says)
+word_down : (says : Says) (t : Written) (xs : List Written) → said_directive says ≡ Some WordDirective → IsWritten says (t ∷ xs)
+    → (a : List ℕ) × AreListed (IsNumberTo (2 ^ 32 - 1)) a xs × (Words a ≡ says)
 unfolding IsWritten said_directive
 word_down (Words numbers) t xs e h = (numbers, (begins_text (codes ".word") (AreListed (IsNumberTo (2 ^ 32 - 1)) numbers) t xs h).2, refl)
 word_down says t xs e h = cc
 
 word_made : IsMade WordDirective Words (AreListed (IsNumberTo (2 ^ 32 - 1)))
 unfolding IsWritten spelled
-word_made = record { up = λ t xs a n s f. begin (codes ".word") (AreListed (IsNumberTo (2 ^ 32 - 1)) a) t xs n s f; down = word_down; meaning = λ a. tt }
+word_made =
+    record {
+      up = λ t xs a n s f. begin (codes ".word") (AreListed (IsNumberTo (2 ^ 32 - 1)) a) t xs n s f;
+      down = word_down;
+      meaning = λ a. tt;
+    }
 
-byte_down : (says : Says) (t : Written) (xs : List Written) → said_directive says ≡ Some ByteDirective → IsWritten says (t ∷ xs) → (a : List ℕ) × AreListed (IsNumberTo 255) a xs × (Bytes a ≡ says)
+byte_down : (says : Says) (t : Written) (xs : List Written) → said_directive says ≡ Some ByteDirective → IsWritten says (t ∷ xs)
+    → (a : List ℕ) × AreListed (IsNumberTo 255) a xs × (Bytes a ≡ says)
 unfolding IsWritten said_directive
 byte_down (Bytes numbers) t xs e h = (numbers, (begins_text (codes ".byte") (AreListed (IsNumberTo 255) numbers) t xs h).2, refl)
 byte_down says t xs e h = cc
 
 byte_made : IsMade ByteDirective Bytes (AreListed (IsNumberTo 255))
 unfolding IsWritten spelled
-byte_made = record { up = λ t xs a n s f. begin (codes ".byte") (AreListed (IsNumberTo 255) a) t xs n s f; down = byte_down; meaning = λ a. tt }
+byte_made =
+    record { up = λ t xs a n s f. begin (codes ".byte") (AreListed (IsNumberTo 255) a) t xs n s f; down = byte_down; meaning = λ a. tt }
 
-zero_down : (says : Says) (t : Written) (xs : List Written) → said_directive says ≡ Some ZeroDirective → IsWritten says (t ∷ xs) → (a : ℕ) × IsOne (IsNumberTo (2 ^ 64 - 1)) a xs × (Zeros a ≡ says)
+zero_down : (says : Says) (t : Written) (xs : List Written) → said_directive says ≡ Some ZeroDirective → IsWritten says (t ∷ xs) → (a : ℕ)
+    × IsOne (IsNumberTo (2 ^ 64 - 1)) a xs × (Zeros a ≡ says)
 unfolding IsWritten said_directive
 zero_down (Zeros count) t xs e h = (count, (begins_text (codes ".zero") (IsOne (IsNumberTo (2 ^ 64 - 1)) count) t xs h).2, refl)
 zero_down says t xs e h = cc
 
 zero_made : IsMade ZeroDirective Zeros (IsOne (IsNumberTo (2 ^ 64 - 1)))
 unfolding IsWritten spelled
-zero_made = record { up = λ t xs a n s f. begin (codes ".zero") (IsOne (IsNumberTo (2 ^ 64 - 1)) a) t xs n s f; down = zero_down; meaning = λ a. tt }
+zero_made =
+    record {
+      up = λ t xs a n s f. begin (codes ".zero") (IsOne (IsNumberTo (2 ^ 64 - 1)) a) t xs n s f;
+      down = zero_down;
+      meaning = λ a. tt;
+    }
 
-align_down : (says : Says) (t : Written) (xs : List Written) → said_directive says ≡ Some AlignDirective → IsWritten says (t ∷ xs) → (a : ℕ) × IsOne (IsNumberTo 12) a xs × (Aligns a ≡ says)
+align_down : (says : Says) (t : Written) (xs : List Written) → said_directive says ≡ Some AlignDirective → IsWritten says (t ∷ xs) → (a : ℕ)
+    × IsOne (IsNumberTo 12) a xs × (Aligns a ≡ says)
 unfolding IsWritten said_directive
 align_down (Aligns power) t xs e h = (power, (begins_text (codes ".align") (IsOne (IsNumberTo 12) power) t xs h).2, refl)
 align_down says t xs e h = cc
 
 align_made : IsMade AlignDirective Aligns (IsOne (IsNumberTo 12))
 unfolding IsWritten spelled
-align_made = record { up = λ t xs a n s f. begin (codes ".align") (IsOne (IsNumberTo 12) a) t xs n s f; down = align_down; meaning = λ a. tt }
+align_made =
+    record { up = λ t xs a n s f. begin (codes ".align") (IsOne (IsNumberTo 12) a) t xs n s f; down = align_down; meaning = λ a. tt }
 
-global_down : (says : Says) (t : Written) (xs : List Written) → said_directive says ≡ Some GlobalDirective → IsWritten says (t ∷ xs) → (a : List ℕ) × IsOne IsName a xs × (Globals a ≡ says)
+global_down : (says : Says) (t : Written) (xs : List Written) → said_directive says ≡ Some GlobalDirective → IsWritten says (t ∷ xs)
+    → (a : List ℕ) × IsOne IsName a xs × (Globals a ≡ says)
 unfolding IsWritten said_directive
 global_down (Globals name) t xs e h = (name, (begins_text (codes ".global") (IsOne IsName name) t xs h).2, refl)
 global_down says t xs e h = cc
@@ -227,15 +266,18 @@ IsTold (Tells says) ts = IsWritten says ts × IsMeaning says × ((other : Says) 
 IsTold (Stops place kind) ts = IsFirstFault IsWritten IsMeaning IsLineWhy ts place kind
 
 -- past the first token no name leads a line
-pub told_further : (answer : Answer Says) (t : Written) (xs : List Written) → Tied IsWritten IsMeaning (further 1 answer) (t ∷ xs) → IsTold (further 1 answer) (t ∷ xs)
+pub told_further : (answer : Answer Says) (t : Written) (xs : List Written) → Tied IsWritten IsMeaning (further 1 answer) (t ∷ xs)
+    → IsTold (further 1 answer) (t ∷ xs)
 told_further (Tells says) t xs h = h
 told_further (Stops place kind) t xs h =
     let e : 1 + place ≡ suc place = omega arith in
     let f = subst (λ n. IsFirstFault IsWritten IsMeaning (IsWhy IsWritten) (t ∷ xs) n kind) e h in
-    let g : IsFirstFault IsWritten IsMeaning IsLineWhy (t ∷ xs) (suc place) kind = record { goes_on = f.goes_on; stops = f.stops; why = f.why } in
+    let g : IsFirstFault IsWritten IsMeaning IsLineWhy (t ∷ xs) (suc place) kind =
+    record { goes_on = f.goes_on; stops = f.stops; why = f.why } in
     subst (λ n. IsFirstFault IsWritten IsMeaning IsLineWhy (t ∷ xs) n kind) (sym e) g
 
-module _ {A : Type 0} (d : Directive) (make : A → Says) (Follows : A → List Written → Type 0) (m : IsMade d make Follows) (t : Written) (named : is_name t.token ≡ true) (is : directive_of t.text ≡ Some d) where
+module _ {A : Type 0} (d : Directive) (make : A → Says) (Follows : A → List Written → Type 0) (m : IsMade d make Follows) (t : Written)
+    (named : is_name t.token ≡ true) (is : directive_of t.text ≡ Some d) where
   made_step : IsStep Follows Always IsWritten IsMeaning t make
   made_step = record {
     up = λ xs a f. m.up t xs a named (directive_spelled t.text d is) f;
@@ -245,31 +287,41 @@ module _ {A : Type 0} (d : Directive) (make : A → Says) (Follows : A → List 
   }
 
   made_told : (answer : Answer A) (xs : List Written) → Tied Follows Always answer xs → IsTold (further 1 (and_then make answer)) (t ∷ xs)
-  made_told answer xs h = told_further (and_then make answer) t xs (tied_step Follows Always IsWritten IsMeaning t make made_step answer xs h)
+  made_told answer xs h =
+      told_further (and_then make answer) t xs (tied_step Follows Always IsWritten IsMeaning t make made_step answer xs h)
 
 ends_made : (says : Says) (ls : List Lexeme) → and_then (λ (u : Unit {0}). says) (ends (tt {0}) ls) ≡ ends says ls
 unfolding ends
 ends_made says [] = refl
 ends_made says (l ∷ ls) = refl
 
-pub directive_told : (line : List ℕ) (l : Lexeme) (ls : List Lexeme) (d : Directive) → is_name l.token ≡ true → directive_of (text_of_lexeme line l) ≡ Some d
+pub directive_told : (line : List ℕ) (l : Lexeme) (ls : List Lexeme) (d : Directive) → is_name l.token ≡ true
+    → directive_of (text_of_lexeme line l) ≡ Some d
     → IsTold (further 1 (directive_says line d ls)) (map (written line) (l ∷ ls))
 unfolding directive_says
 directive_told line l ls TextDirective n e =
     subst (λ a. IsTold (further 1 a) (written line l ∷ map (written line) ls)) (ends_made IntoText ls)
-    (made_told TextDirective (λ u. IntoText) (IsThen (tt {0})) text_made (written line l) n e (ends (tt {0}) ls) (map (written line) ls) (ends_tied (tt {0}) line ls))
+    (made_told TextDirective (λ u. IntoText) (IsThen (tt {0})) text_made (written line l) n e (ends (tt {0}) ls) (map (written line) ls)
+    (ends_tied (tt {0}) line ls))
 directive_told line l ls DataDirective n e =
     subst (λ a. IsTold (further 1 a) (written line l ∷ map (written line) ls)) (ends_made IntoData ls)
-    (made_told DataDirective (λ u. IntoData) (IsThen (tt {0})) data_made (written line l) n e (ends (tt {0}) ls) (map (written line) ls) (ends_tied (tt {0}) line ls))
+    (made_told DataDirective (λ u. IntoData) (IsThen (tt {0})) data_made (written line l) n e (ends (tt {0}) ls) (map (written line) ls)
+    (ends_tied (tt {0}) line ls))
 directive_told line l ls QuadDirective n e =
-    made_told QuadDirective Quads (AreListed IsValue) quad_made (written line l) n e (values_from (quad_value line) true ls) (map (written line) ls) (values_tied line ls)
+    made_told QuadDirective Quads (AreListed IsValue) quad_made (written line l) n e (values_from (quad_value line) true ls)
+    (map (written line) ls) (values_tied line ls)
 directive_told line l ls WordDirective n e =
-    made_told WordDirective Words (AreListed (IsNumberTo (2 ^ 32 - 1))) word_made (written line l) n e (values_from (number_value (2 ^ 32 - 1)) true ls) (map (written line) ls) (numbers_tied (2 ^ 32 - 1) line ls)
+    made_told WordDirective Words (AreListed (IsNumberTo (2 ^ 32 - 1))) word_made (written line l) n e
+    (values_from (number_value (2 ^ 32 - 1)) true ls) (map (written line) ls) (numbers_tied (2 ^ 32 - 1) line ls)
 directive_told line l ls ByteDirective n e =
-    made_told ByteDirective Bytes (AreListed (IsNumberTo 255)) byte_made (written line l) n e (values_from (number_value 255) true ls) (map (written line) ls) (numbers_tied 255 line ls)
+    made_told ByteDirective Bytes (AreListed (IsNumberTo 255)) byte_made (written line l) n e (values_from (number_value 255) true ls)
+    (map (written line) ls) (numbers_tied 255 line ls)
 directive_told line l ls ZeroDirective n e =
-    made_told ZeroDirective Zeros (IsOne (IsNumberTo (2 ^ 64 - 1))) zero_made (written line l) n e (one_number (2 ^ 64 - 1) ls) (map (written line) ls) (number_tied (2 ^ 64 - 1) line ls)
+    made_told ZeroDirective Zeros (IsOne (IsNumberTo (2 ^ 64 - 1))) zero_made (written line l) n e (one_number (2 ^ 64 - 1) ls)
+    (map (written line) ls) (number_tied (2 ^ 64 - 1) line ls)
 directive_told line l ls AlignDirective n e =
-    made_told AlignDirective Aligns (IsOne (IsNumberTo 12)) align_made (written line l) n e (one_number 12 ls) (map (written line) ls) (number_tied 12 line ls)
+    made_told AlignDirective Aligns (IsOne (IsNumberTo 12)) align_made (written line l) n e (one_number 12 ls) (map (written line) ls)
+    (number_tied 12 line ls)
 directive_told line l ls GlobalDirective n e =
-    made_told GlobalDirective Globals (IsOne IsName) global_made (written line l) n e (one_name line ls) (map (written line) ls) (name_tied line ls)
+    made_told GlobalDirective Globals (IsOne IsName) global_made (written line l) n e (one_name line ls) (map (written line) ls)
+    (name_tied line ls)

@@ -1,5 +1,6 @@
 -- What the operands of an instruction say is what the grammar has.
-use Rattle.std.proofs.Common.{◌≡◌, ℕ, suc, ◌+◌, ◌<◌, ◌≤◌, ◌&&◌, Bool, true, false, cond, List, [], ◌∷◌, ◌++◌, Option, Some, None, length, take, map, slice_get, refl, sym, ap, ap₂, ◌∙◌, subst, arith, add-one}
+use Rattle.std.proofs.Common.{◌≡◌, ℕ, suc, ◌+◌, ◌<◌, ◌≤◌, ◌&&◌, Bool, true, false, cond, List, [], ◌∷◌, ◌++◌, Option, Some, None, length}
+use Rattle.std.proofs.Common.{take, map, slice_get, refl, sym, ap, ap₂, ◌∙◌, subst, arith, add-one}
 use Rattle.std.specs.Prelude.{option_map, is_some}
 use Rattle.std.specs.List.{list_any}
 use Rattle.std.proofs.lemmas.Bool.{cond_both}
@@ -16,14 +17,16 @@ use Rattle.asm_tokens.specs.Tokens.{place_in, is_name, is_number_token}
 use Rattle.asm_operands.specs.declared.fault.FaultKind.{FaultKind}
 use Rattle.asm_operands.specs.declared.fault.FaultKind.TheVariants.{UnknownName, BadNumber, Extra, BadOperand}
 use Rattle.asm_operands.specs.declared.operands.Target.{Target}
-use Rattle.asm_operands.specs.Operands.{shapes_of, first_word, furthest, target_of, wants_number, is_whole, kind_at, operand_fault, OperandsSaid, operands_said}
+use Rattle.asm_operands.specs.Operands.{shapes_of, first_word, furthest, target_of, wants_number, is_whole, kind_at, operand_fault}
+use Rattle.asm_operands.specs.Operands.{OperandsSaid, operands_said}
 use Rattle.asm_operands.specs.Operands as operands
 use Rattle.asm_operands.proofs.GoesOn.{goes-on, number-goes-on}
 use Rattle.asm_operands.proofs.Stops.{stops}
 use Rattle.asm_operands.proofs.Aimed.{IsSaid, is_said}
 use Rattle.asm_parser.specs.Statements.{TargetSaid, Says, Nothing, Instructs}
 use Rattle.asm_parser.specs.Lines.{Answer, Tells, Stops, further, target_named, target_at, instruction_or_fault, instruction_says}
-use Rattle.asm_parser.specs.Grammar.{Written, written, target_written, IsInstruction, IsWritten, IsMeaning, GoesOn, IsWhole, WantsNumber, IsWhy, StopsAt, IsFirstFault}
+use Rattle.asm_parser.specs.Grammar.{Written, written, target_written, IsInstruction, IsWritten, IsMeaning, GoesOn, IsWhole, WantsNumber}
+use Rattle.asm_parser.specs.Grammar.{IsWhy, StopsAt, IsFirstFault}
 use Rattle.asm_parser.proofs.Tied.{Always, Tied, IsStep, tied_same}
 use Rattle.asm_parser.proofs.Following.{said_directive, directive_is, listed_name, IsTold, told_further}
 use Rattle.asm_parser.proofs.Wants.{get_none, get_some, furthest_le, wants_by, whole_by, whole_from, IsRefused, refused}
@@ -64,14 +67,17 @@ module _ (t : Written) (name : ℕ) (named : is_name t.token ≡ true) (listed :
 
   up : (xs : List Written) (word : ℕ) → first_word (shapes_of name) (toks xs) ≡ Some word → After (said word xs) xs
   unfolding After IsWritten
-  up xs word e = record { first = t; operands = xs; all = refl; named = named; name = name; listed = listed; takes = e; aims = refl; column_is = refl }
+  up xs word e =
+      record { first = t; operands = xs; all = refl; named = named; name = name; listed = listed; takes = e; aims = refl; column_is = refl }
 
-  down_instruction : (word column : ℕ) (target : Option TargetSaid) (xs : List Written) → IsInstruction word target column (t ∷ xs) → (v : ℕ) × (first_word (shapes_of name) (toks xs) ≡ Some v) × (said v xs ≡ Instructs word target column)
+  down_instruction : (word column : ℕ) (target : Option TargetSaid) (xs : List Written) → IsInstruction word target column (t ∷ xs)
+      → (v : ℕ) × (first_word (shapes_of name) (toks xs) ≡ Some v) × (said v xs ≡ Instructs word target column)
   down_instruction word column target xs j =
       let same : t ≡ j.first = (let e = j.all in cc) in
       let rest : xs ≡ j.operands = (let e = j.all in cc) in
       let name_is : name ≡ j.name = some_is name j.name (sym listed ∙ ap (λ (u : Written). place_in NAMES u.text) same ∙ j.listed) in
-      let aims : target_written xs (target_of (shapes_of name) (toks xs)) ≡ target = ap₂ (λ n ys. target_written ys (target_of (shapes_of n) (toks ys))) name_is rest ∙ sym j.aims in
+      let aims : target_written xs (target_of (shapes_of name) (toks xs)) ≡ target =
+      ap₂ (λ n ys. target_written ys (target_of (shapes_of n) (toks ys))) name_is rest ∙ sym j.aims in
       let column_is : t.column ≡ column = ap (λ (u : Written). u.column) same ∙ sym j.column_is in
       (word, ap₂ (λ n ys. first_word (shapes_of n) (toks ys)) name_is rest ∙ j.takes, ap₂ (λ a c. Instructs word a c) aims column_is)
 
@@ -105,11 +111,13 @@ module _ (t : Written) (name : ℕ) (named : is_name t.token ≡ true) (listed :
     stopped lt g =
         let d = down g.1 (take (suc k) xs ++ g.0) g.2 in
         let less : k < length ts = omega (arith, length-map xs (λ (t : Written). t.token)) in
-        let none : first_word ss (take (suc k) ts ++ toks g.0) ≡ None = ap (λ n. first_word ss (take n ts ++ toks g.0)) (sym (add-one k)) ∙ stops name ts (toks g.0) less in
+        let none : first_word ss (take (suc k) ts ++ toks g.0) ≡ None =
+        ap (λ n. first_word ss (take n ts ++ toks g.0)) (sym (add-one k)) ∙ stops name ts (toks g.0) less in
         let clash : None ≡ Some d.0 = sym none ∙ ap (first_word ss) (sym (toks-more (suc k) xs g.0)) ∙ d.1 in
         cc
 
-    stops_here : (o : Option Written) → slice_get xs k ≡ o → ((w : ℕ) → first_word ss ts ≡ Some w → is_some (instruction_of w) ≡ true → ⊥) → StopsAt After IsMeaning xs k o
+    stops_here : (o : Option Written) → slice_get xs k ≡ o → ((w : ℕ) → first_word ss ts ≡ Some w → is_some (instruction_of w) ≡ true → ⊥)
+        → StopsAt After IsMeaning xs k o
     stops_here (Some u) is none = stopped (get_some xs k u is)
     stops_here None is none = (
       omega (arith, small, get_none xs k is),
@@ -122,7 +130,8 @@ module _ (t : Written) (name : ℕ) (named : is_name t.token ≡ true) (listed :
     wants_back : (u : Written) → is_number_token u.token ≡ true → WantsNumber After (take k xs) → list_any (wants_number k ts) ss ≡ true
     wants_back u n w =
         let d = down w.2.1 ((take k xs ++ w.0 ∷ []) ++ w.2.0) w.2.2 in
-        let e : toks ((take k xs ++ w.0 ∷ []) ++ w.2.0) ≡ take k ts ++ w.0.token ∷ toks w.2.0 = ap toks (append_assoc (take k xs) (w.0 ∷ []) w.2.0) ∙ toks-more k xs (w.0 ∷ w.2.0) in
+        let e : toks ((take k xs ++ w.0 ∷ []) ++ w.2.0) ≡ take k ts ++ w.0.token ∷ toks w.2.0 =
+        ap toks (append_assoc (take k xs) (w.0 ∷ []) w.2.0) ∙ toks-more k xs (w.0 ∷ w.2.0) in
         wants_by ss ts w.0.token (toks w.2.0) d.0 w.1 (ap (first_word ss) (sym e) ∙ d.1)
 
     whole_back : IsWhole After (take k xs) → list_any (is_whole k ts) ss ≡ true
@@ -141,17 +150,23 @@ module _ (t : Written) (name : ℕ) (named : is_name t.token ≡ true) (listed :
     wants_on e =
         let g = number-goes-on name k ts e in
         let us : List Written = take k xs ++ bare g.0 ∷ [] in
-        let after : toks (us ++ map bare g.2) ≡ take k ts ++ g.0 ∷ g.2 = ap toks (append_assoc (take k xs) (bare g.0 ∷ []) (map bare g.2)) ∙ toks-front k xs (g.0 ∷ g.2) in
+        let after : toks (us ++ map bare g.2) ≡ take k ts ++ g.0 ∷ g.2 =
+        ap toks (append_assoc (take k xs) (bare g.0 ∷ []) (map bare g.2)) ∙ toks-front k xs (g.0 ∷ g.2) in
         let f : first_word ss (toks (us ++ map bare g.2)) ≡ Some g.3 = ap (first_word ss) after ∙ g.4 in
         (bare g.0, g.1, (map bare g.2, said g.3 (us ++ map bare g.2), up (us ++ map bare g.2) g.3 f))
 
-    why_by : (u : Written) (number wants whole : Bool) → is_number_token u.token ≡ number → list_any (wants_number k ts) ss ≡ wants → list_any (is_whole k ts) ss ≡ whole
+    why_by : (u : Written) (number wants whole : Bool) → is_number_token u.token ≡ number → list_any (wants_number k ts) ss ≡ wants
+        → list_any (is_whole k ts) ss ≡ whole
         → IsWhy After (take k xs) (Some u) (cond (number && wants) BadNumber (cond whole Extra BadOperand))
     why_by u true true whole n w h = (n, wants_on w)
     why_by u true false true n w h = ((λ f v. let g = wants_back u f v in let clash : false ≡ true = sym w ∙ g in cc), whole_on h)
-    why_by u true false false n w h = ((λ f v. let g = wants_back u f v in let clash : false ≡ true = sym w ∙ g in cc), (λ v. let g = whole_back v in let clash : false ≡ true = sym h ∙ g in cc))
+    why_by u true false false n w h = (
+      (λ f v. let g = wants_back u f v in let clash : false ≡ true = sym w ∙ g in cc),
+      (λ v. let g = whole_back v in let clash : false ≡ true = sym h ∙ g in cc),
+    )
     why_by u false wants true n w h = ((λ f v. let clash : false ≡ true = sym n ∙ f in cc), whole_on h)
-    why_by u false wants false n w h = ((λ f v. let clash : false ≡ true = sym n ∙ f in cc), (λ v. let g = whole_back v in let clash : false ≡ true = sym h ∙ g in cc))
+    why_by u false wants false n w h =
+        ((λ f v. let clash : false ≡ true = sym n ∙ f in cc), (λ v. let g = whole_back v in let clash : false ≡ true = sym h ∙ g in cc))
 
     why_here : (o : Option Written) → IsWhy After (take k xs) o (kind_at ss k ts (option_map (λ (u : Written). u.token) o))
     unfolding kind_at
@@ -164,7 +179,9 @@ module _ (t : Written) (name : ℕ) (named : is_name t.token ≡ true) (listed :
         let fault : IsFirstFault After IsMeaning (IsWhy After) xs k (kind_at ss k ts (slice_get ts k)) = record {
           goes_on = goes;
           stops = stops_here (slice_get xs k) refl r.none_meant;
-          why = subst (λ o. IsWhy After (take k xs) (slice_get xs k) (kind_at ss k ts o)) (sym (slice_get-map (λ (u : Written). u.token) xs k)) (why_here (slice_get xs k));
+          why =
+              subst (λ o. IsWhy After (take k xs) (slice_get xs k) (kind_at ss k ts o)) (sym (slice_get-map (λ (u : Written). u.token) xs k))
+              (why_here (slice_get xs k));
         } in
         subst (λ (g : operands.Fault). IsFirstFault After IsMeaning (IsWhy After) xs g.place g.kind) (sym r.fault_is) fault
 
@@ -174,15 +191,20 @@ toks-written : (line : List ℕ) (ls : List Lexeme) → toks (map (written line)
 toks-written line [] = refl
 toks-written line (l ∷ ls) = ap (λ ks. l.token ∷ ks) (toks-written line ls)
 
-target_is : (line : List ℕ) (ls : List Lexeme) (target : Option Target) → target_at line ls target ≡ target_written (map (written line) ls) target
+target_is : (line : List ℕ) (ls : List Lexeme) (target : Option Target)
+    → target_at line ls target ≡ target_written (map (written line) ls) target
 target_is line ls None = refl
-target_is line ls (Some target) = by_place (slice_get ls target.place) ∙ ap (option_map (λ (t : Written). record { name = t.text; operand = target.operand })) (sym (slice_get-map (written line) ls target.place))
+target_is line ls (Some target) =
+    by_place (slice_get ls target.place) ∙ ap (option_map (λ (t : Written). record { name = t.text; operand = target.operand }))
+    (sym (slice_get-map (written line) ls target.place))
   where
-    by_place : (o : Option Lexeme) → target_named line target.operand o ≡ option_map (λ (t : Written). record { name = t.text; operand = target.operand }) (option_map (written line) o)
+    by_place : (o : Option Lexeme) → target_named line target.operand o
+        ≡ option_map (λ (t : Written). record { name = t.text; operand = target.operand }) (option_map (written line) o)
     by_place None = refl
     by_place (Some l) = refl
 
-module _ (line : List ℕ) (l : Lexeme) (ls : List Lexeme) (name : ℕ) (named : is_name l.token ≡ true) (listed : place_in NAMES (written line l).text ≡ Some name) where
+module _ (line : List ℕ) (l : Lexeme) (ls : List Lexeme) (name : ℕ) (named : is_name l.token ≡ true)
+    (listed : place_in NAMES (written line l).text ≡ Some name) where
   abbrev xs : List Written
   xs = map (written line) ls
 
@@ -192,10 +214,12 @@ module _ (line : List ℕ) (l : Lexeme) (ls : List Lexeme) (name : ℕ) (named :
   abbrev column : ℕ
   column = column_at line l.start
 
-  only : (w : ℕ) (target : Option Target) → first_word (shapes_of name) (toks xs) ≡ Some w → target_of (shapes_of name) (toks xs) ≡ target → Instructs w (target_at line ls target) column ≡ said (written line l) name named listed w xs
+  only : (w : ℕ) (target : Option Target) → first_word (shapes_of name) (toks xs) ≡ Some w → target_of (shapes_of name) (toks xs) ≡ target
+      → Instructs w (target_at line ls target) column ≡ said (written line l) name named listed w xs
   only w target e f = ap (λ o. Instructs w o column) (target_is line ls target ∙ ap (target_written xs) (sym f))
 
-  said_tied : (w : ℕ) (target : Option Target) → IsSaid name (toks xs) w target → Tied Here IsMeaning (Tells (Instructs w (target_at line ls target) column)) xs
+  said_tied : (w : ℕ) (target : Option Target) → IsSaid name (toks xs) w target
+      → Tied Here IsMeaning (Tells (Instructs w (target_at line ls target) column)) xs
   said_tied w target s =
       let same = only w target s.word s.named in (
         subst (λ says. Here says xs) (sym same) (up (written line l) name named listed xs w s.word),
@@ -206,7 +230,8 @@ module _ (line : List ℕ) (l : Lexeme) (ls : List Lexeme) (name : ℕ) (named :
             same ∙ ap (λ v. said (written line l) name named listed v xs) word ∙ d.2,
       )
 
-  answer_tied : (answer : OperandsSaid) → operands_said name (toks xs) ≡ answer → Tied Here IsMeaning (instruction_or_fault line column ls answer) xs
+  answer_tied : (answer : OperandsSaid) → operands_said name (toks xs) ≡ answer
+      → Tied Here IsMeaning (instruction_or_fault line column ls answer) xs
   answer_tied (operands.Says w target) e = said_tied w target (is_said name (toks xs) w target e)
   answer_tied (operands.Fails f) e = refused_fault (written line l) name named listed xs f (refused name (toks xs) f e)
 
@@ -221,4 +246,5 @@ module _ (line : List ℕ) (l : Lexeme) (ls : List Lexeme) (name : ℕ) (named :
   pub instruction_told : IsTold (further 1 (instruction_says line name column ls)) (map (written line) (l ∷ ls))
   instruction_told =
       told_further (instruction_says line name column ls) (written line l) xs
-      (tied_same Here IsMeaning IsWritten IsMeaning (written line l) instruction_step (instruction_says line name column ls) xs instruction_tied)
+      (tied_same Here IsMeaning IsWritten IsMeaning (written line l) instruction_step (instruction_says line name column ls) xs
+      instruction_tied)

@@ -1,5 +1,6 @@
 -- A line is what the grammar says, and its fault stands where the grammar goes no further.
-use Rattle.std.proofs.Common.{◌≡◌, ℕ, suc, ◌+◌, ◌-◌, ◌<◌, ◌≤◌, inl, inr, append_assoc, Bool, true, false, cond, List, [], ◌∷◌, ◌++◌, Option, Some, None, Result, Ok, Err, length, take, drop, map, slice_get, refl, sym, ap, ap₂, ◌∙◌, subst, arith}
+use Rattle.std.proofs.Common.{◌≡◌, ℕ, suc, ◌+◌, ◌-◌, ◌<◌, ◌≤◌, inl, inr, append_assoc, Bool, true, false, cond, List, [], ◌∷◌, ◌++◌, Option}
+use Rattle.std.proofs.Common.{Some, None, Result, Ok, Err, length, take, drop, map, slice_get, refl, sym, ap, ap₂, ◌∙◌, subst, arith}
 use Rattle.std.specs.Prelude.{◌≢◌, IfOk, IfErr, option_map}
 use Rattle.std.proofs.lemmas.List.{take-append-drop}
 use Rattle.std.proofs.lemmas.Bool.{cases_lt}
@@ -14,9 +15,12 @@ use Rattle.asm_operands.specs.declared.fault.FaultKind.TheVariants.{UnknownName,
 use Rattle.asm_parser.specs.declared.line.Line.{Line}
 use Rattle.asm_parser.specs.declared.line.LineFault.{LineFault}
 use Rattle.asm_parser.specs.declared.line.LineFault.TheVariants.{Memory}
-use Rattle.asm_parser.specs.Statements.{Says, Nothing, IntoText, IntoData, Quads, Words, Bytes, Zeros, Aligns, Globals, Instructs, SourceLine, line_said}
-use Rattle.asm_parser.specs.Lines.{Answer, Tells, Stops, further, text_of_lexeme, Directive, directive_of, directive_says, instruction_says, named_says, tokens_say, column_of, fault_of_kind, line_answer, line_lexemes, label_of, line_of}
-use Rattle.asm_parser.specs.Grammar.{Written, written, written_of, IsWritten, IsMeaning, IsLine, GoesOn, IsWhole, WantsNumber, IsWhy, StopsAt, IsFirstFault, IsLineWhy, IsReason, is_leading_name, column_of_written, IsFaultOf}
+use Rattle.asm_parser.specs.Statements.{Says, Nothing, IntoText, IntoData, Quads, Words, Bytes, Zeros, Aligns, Globals, Instructs}
+use Rattle.asm_parser.specs.Statements.{SourceLine, line_said}
+use Rattle.asm_parser.specs.Lines.{Answer, Tells, Stops, further, text_of_lexeme, Directive, directive_of, directive_says, instruction_says}
+use Rattle.asm_parser.specs.Lines.{named_says, tokens_say, column_of, fault_of_kind, line_answer, line_lexemes, label_of, line_of}
+use Rattle.asm_parser.specs.Grammar.{Written, written, written_of, IsWritten, IsMeaning, IsLine, GoesOn, IsWhole, WantsNumber, IsWhy}
+use Rattle.asm_parser.specs.Grammar.{StopsAt, IsFirstFault, IsLineWhy, IsReason, is_leading_name, column_of_written, IsFaultOf}
 use Rattle.asm_parser.proofs.Tied.{no_number_name}
 use Rattle.asm_parser.proofs.Following.{said_directive, directive_is, leads_name, IsTold, directive_told}
 use Rattle.asm_parser.proofs.Wants.{get_some}
@@ -50,7 +54,8 @@ unknown_why : (t : Written) (b : Bool) → b ≡ true → IsReason b [] (Some t)
 unknown_why t true e = refl
 unknown_why t false e = cc
 
-no_statement : (says : Says) (t : Written) (xs : List Written) → directive_of t.text ≡ None → place_in NAMES t.text ≡ None → IsWritten says (t ∷ xs) → ⊥
+no_statement : (says : Says) (t : Written) (xs : List Written) → directive_of t.text ≡ None → place_in NAMES t.text ≡ None
+    → IsWritten says (t ∷ xs) → ⊥
 unfolding said_directive IsWritten
 no_statement Nothing t xs d p h = cc
 no_statement (Instructs word target column) t xs d p h =
@@ -59,7 +64,8 @@ no_statement (Instructs word target column) t xs d p h =
     cc
 no_statement says t xs d p h = let e = directive_is says t xs h in cc
 
-unknown_told : (t : Written) (xs : List Written) → is_name t.token ≡ true → directive_of t.text ≡ None → place_in NAMES t.text ≡ None → IsTold (Stops 0 UnknownName) (t ∷ xs)
+unknown_told : (t : Written) (xs : List Written) → is_name t.token ≡ true → directive_of t.text ≡ None → place_in NAMES t.text ≡ None
+    → IsTold (Stops 0 UnknownName) (t ∷ xs)
 unfolding IsWritten
 unknown_told t xs n d p = record {
   goes_on = ([], Nothing, refl);
@@ -67,15 +73,18 @@ unknown_told t xs n d p = record {
   why = unknown_why t (is_name t.token) n;
 }
 
-named_told : (line : List ℕ) (l : Lexeme) (ls : List Lexeme) (d : Option Directive) (p : Option ℕ) → is_name l.token ≡ true → directive_of (text_of_lexeme line l) ≡ d → place_in NAMES (text_of_lexeme line l) ≡ p
+named_told : (line : List ℕ) (l : Lexeme) (ls : List Lexeme) (d : Option Directive) (p : Option ℕ) → is_name l.token ≡ true
+    → directive_of (text_of_lexeme line l) ≡ d → place_in NAMES (text_of_lexeme line l) ≡ p
     → IsTold (named_says line l ls d p) (map (written line) (l ∷ ls))
 named_told line l ls (Some d) p n e f = directive_told line l ls d n e
 named_told line l ls None (Some name) n e f = instruction_told line l ls name n f
 named_told line l ls None None n e f = unknown_told (written line l) (map (written line) ls) n e f
 
 name_told : (line : List ℕ) (l : Lexeme) (ls : List Lexeme) (b : Bool) → is_name l.token ≡ b
-    → IsTold (cond b (named_says line l ls (directive_of (text_of_lexeme line l)) (place_in NAMES (text_of_lexeme line l))) (Stops 0 Extra)) (map (written line) (l ∷ ls))
-name_told line l ls true e = named_told line l ls (directive_of (text_of_lexeme line l)) (place_in NAMES (text_of_lexeme line l)) e refl refl
+    → IsTold (cond b (named_says line l ls (directive_of (text_of_lexeme line l)) (place_in NAMES (text_of_lexeme line l))) (Stops 0 Extra))
+    (map (written line) (l ∷ ls))
+name_told line l ls true e =
+    named_told line l ls (directive_of (text_of_lexeme line l)) (place_in NAMES (text_of_lexeme line l)) e refl refl
 name_told line l ls false e = other_told (written line l) (map (written line) ls) e
 
 tokens_told : (line : List ℕ) (ls : List Lexeme) → IsTold (tokens_say line ls) (map (written line) ls)
@@ -85,8 +94,10 @@ tokens_told line (l ∷ ls) = name_told line l ls (is_name l.token) refl
 
 -- ---- lines
 
-no_line : (ts : List Written) (place : ℕ) (kind : FaultKind) (says : Says) (o : Option Written) → slice_get ts place ≡ o → StopsAt IsWritten IsMeaning ts place o → IsWritten says ts → IsMeaning says → ⊥
-no_line ts place kind says (Some t) e s h m = s (drop (suc place) ts, says, subst (IsWritten says) (sym (take-append-drop (suc place) ts)) h)
+no_line : (ts : List Written) (place : ℕ) (kind : FaultKind) (says : Says) (o : Option Written) → slice_get ts place ≡ o
+    → StopsAt IsWritten IsMeaning ts place o → IsWritten says ts → IsMeaning says → ⊥
+no_line ts place kind says (Some t) e s h m =
+    s (drop (suc place) ts, says, subst (IsWritten says) (sym (take-append-drop (suc place) ts)) h)
 no_line ts place kind says None e s h m = s.1 says h m
 
 column_is : (line : List ℕ) (o : Option Lexeme) → column_of line o ≡ column_of_written line (option_map (written line) o)
@@ -110,7 +121,8 @@ module _ (line : List ℕ) where
   unfolding written_of
   told = tokens_told line ls
 
-  answer_line : (answer : Answer Says) (said : SourceLine) → IsTold answer (written_of line) → line_answer line label ls answer ≡ Ok said → IsLine line said
+  answer_line : (answer : Answer Says) (said : SourceLine) → IsTold answer (written_of line) → line_answer line label ls answer ≡ Ok said
+      → IsLine line said
   answer_line (Tells says) said h e =
       let same = same_ok (record { label = label; says = says }) said e in
       subst (IsLine line) same (record { label = refl; tokens = h.0; meaning = h.1 })
@@ -120,24 +132,29 @@ module _ (line : List ℕ) where
   unfolding line_of
   line_says said e = answer_line (tokens_say line ls) said told e
 
-  answer_only : (answer : Answer Says) (said : SourceLine) → IsTold answer (written_of line) → IsLine line said → line_answer line label ls answer ≡ Ok said
+  answer_only : (answer : Answer Says) (said : SourceLine) → IsTold answer (written_of line) → IsLine line said
+      → line_answer line label ls answer ≡ Ok said
   answer_only (Tells says) said h l =
       let same = h.2 said.says l.tokens in
       λ i. Ok (record { label = sym l.label i; says = same i })
-  answer_only (Stops place kind) said h l = absurd (no_line (written_of line) place kind said.says (slice_get (written_of line) place) refl h.stops l.tokens l.meaning)
+  answer_only (Stops place kind) said h l =
+      absurd (no_line (written_of line) place kind said.says (slice_get (written_of line) place) refl h.stops l.tokens l.meaning)
 
   pub line_only : (said : SourceLine) → IsLine line said → line_of line ≡ Ok said
   unfolding line_of
   line_only said l = answer_only (tokens_say line ls) said told l
 
-  answer_fault : (answer : Answer Says) (fault : LineFault) → IsTold answer (written_of line) → line_answer line label ls answer ≡ Err fault → IsFaultOf line fault
+  answer_fault : (answer : Answer Says) (fault : LineFault) → IsTold answer (written_of line) → line_answer line label ls answer ≡ Err fault
+      → IsFaultOf line fault
   unfolding written_of
   answer_fault (Tells says) fault h e = cc
   answer_fault (Stops place kind) fault h e = record {
     place = place;
     kind = kind;
     first = h;
-    fault_is = sym (same_err _ fault e) ∙ ap (fault_of_kind kind) (column_is line (slice_get ls place) ∙ ap (column_of_written line) (sym (slice_get-map (written line) ls place)));
+    fault_is =
+        sym (same_err _ fault e) ∙ ap (fault_of_kind kind)
+        (column_is line (slice_get ls place) ∙ ap (column_of_written line) (sym (slice_get-map (written line) ls place)));
   }
 
   pub line_fault : (fault : LineFault) → line_of line ≡ Err fault → IsFaultOf line fault
@@ -175,12 +192,15 @@ Fails ts place kind = IsFirstFault IsWritten IsMeaning IsLineWhy ts place kind
 
 front_goes : (ts : List Written) (m n : ℕ) → m ≤ n → GoesOn IsWritten (take n ts) → GoesOn IsWritten (take m ts)
 front_goes ts m n le g =
-    let parts : take n ts ≡ take m ts ++ take (n - m) (drop m ts) = ap (λ k. take k ts) (let e : n ≡ m + (n - m) = omega arith in e) ∙ take-add m (n - m) ts in
-    let joined : take n ts ++ g.0 ≡ take m ts ++ (take (n - m) (drop m ts) ++ g.0) = ap (λ us. us ++ g.0) parts ∙ append_assoc (take m ts) (take (n - m) (drop m ts)) g.0 in
+    let parts : take n ts ≡ take m ts ++ take (n - m) (drop m ts) =
+    ap (λ k. take k ts) (let e : n ≡ m + (n - m) = omega arith in e) ∙ take-add m (n - m) ts in
+    let joined : take n ts ++ g.0 ≡ take m ts ++ (take (n - m) (drop m ts) ++ g.0) =
+    ap (λ us. us ++ g.0) parts ∙ append_assoc (take m ts) (take (n - m) (drop m ts)) g.0 in
     (take (n - m) (drop m ts) ++ g.0, g.1, subst (IsWritten g.1) joined g.2)
 
 -- a fault stands at no place past another's
-fault_low : (ts : List Written) (m n : ℕ) (p q : FaultKind) (o r : Option Written) → slice_get ts m ≡ o → slice_get ts n ≡ r → StopsAt IsWritten IsMeaning ts m o → StopsAt IsWritten IsMeaning ts n r → GoesOn IsWritten (take n ts) → m < n → ⊥
+fault_low : (ts : List Written) (m n : ℕ) (p q : FaultKind) (o r : Option Written) → slice_get ts m ≡ o → slice_get ts n ≡ r
+    → StopsAt IsWritten IsMeaning ts m o → StopsAt IsWritten IsMeaning ts n r → GoesOn IsWritten (take n ts) → m < n → ⊥
 fault_low ts m n p q (Some t) r e f s u g lt = s (front_goes ts (suc m) n (omega arith) g)
 fault_low ts m n p q None (Some t) e f s u g lt = let a = get_some ts n t f in let b = s.0 in omega arith
 fault_low ts m n p q None None e f s u g lt = let a = u.0 in let b = s.0 in omega arith
@@ -199,14 +219,17 @@ one_kind ts m n p q e h g =
     let f = subst (λ k. Fails ts k p) e h in
     reasons_one (is_leading_name (take n ts) (slice_get ts n)) (take n ts) (slice_get ts n) p q f.why g.why
 
-fault_only_by : (line : List ℕ) (answer : Answer Says) (fault : LineFault) → IsTold answer (written_of line) → IsFaultOf line fault → line_answer line (label line) (ls line) answer ≡ Err fault
+fault_only_by : (line : List ℕ) (answer : Answer Says) (fault : LineFault) → IsTold answer (written_of line) → IsFaultOf line fault
+    → line_answer line (label line) (ls line) answer ≡ Err fault
 unfolding written_of
-fault_only_by line (Tells says) fault h f = absurd (no_line (written_of line) f.place f.kind says (slice_get (written_of line) f.place) refl f.first.stops h.0 h.1)
+fault_only_by line (Tells says) fault h f =
+    absurd (no_line (written_of line) f.place f.kind says (slice_get (written_of line) f.place) refl f.first.stops h.0 h.1)
 fault_only_by line (Stops place kind) fault h f =
     let place_is = one_place (written_of line) place f.place kind f.kind h f.first in
     let kind_is = one_kind (written_of line) place f.place kind f.kind place_is h f.first in
     let column : column_of line (slice_get (ls line) place) ≡ column_of_written line (slice_get (written_of line) f.place) =
-    column_is line (slice_get (ls line) place) ∙ ap (column_of_written line) (sym (slice_get-map (written line) (ls line) place) ∙ ap (slice_get (written_of line)) place_is) in
+    column_is line (slice_get (ls line) place)
+    ∙ ap (column_of_written line) (sym (slice_get-map (written line) (ls line) place) ∙ ap (slice_get (written_of line)) place_is) in
     ap Err (ap₂ fault_of_kind kind_is column ∙ sym f.fault_is)
 
 pub fault_only : (line : List ℕ) (fault : LineFault) → IsFaultOf line fault → line_of line ≡ Err fault
@@ -215,10 +238,12 @@ fault_only line fault f = fault_only_by line (tokens_say line (ls line)) fault (
 
 -- ---- a parsed line
 
-pub parsed_line : (bytes text : List ℕ) (result : Result Line LineFault) → bytes ≡ text → IfOk result (λ l. line_of bytes ≡ Ok (line_said l)) → IfOk result (λ l. IsLine text (line_said l))
+pub parsed_line : (bytes text : List ℕ) (result : Result Line LineFault) → bytes ≡ text
+    → IfOk result (λ l. line_of bytes ≡ Ok (line_said l)) → IfOk result (λ l. IsLine text (line_said l))
 parsed_line bytes text (Ok l) e h = line_says text (line_said l) (ap line_of (sym e) ∙ h)
 parsed_line bytes text (Err fault) e h = tt
 
-pub parsed_fault : (bytes text : List ℕ) (result : Result Line LineFault) → bytes ≡ text → IfErr result (λ fault. fault ≢ Memory → line_of bytes ≡ Err fault) → IfErr result (λ fault. fault ≢ Memory → IsFaultOf text fault)
+pub parsed_fault : (bytes text : List ℕ) (result : Result Line LineFault) → bytes ≡ text
+    → IfErr result (λ fault. fault ≢ Memory → line_of bytes ≡ Err fault) → IfErr result (λ fault. fault ≢ Memory → IsFaultOf text fault)
 parsed_fault bytes text (Ok l) e h = tt
 parsed_fault bytes text (Err fault) e h = λ other. line_fault text fault (ap line_of (sym e) ∙ h other)

@@ -1,5 +1,6 @@
 -- Names of directives and of instructions.
-use Rattle.std.proofs.Common.{◌≡◌, ℕ, ◌+◌, ◌-◌, ◌<◌, ◌≤◌, Bool, true, false, not, ◌&&◌, ◌==◌, nat_lt, List, [], ◌∷◌, Option, Some, None, Ok, Err, length, take, drop, get_or, refl, sym, ap, ap₂, ◌∙◌, arith, length-drop}
+use Rattle.std.proofs.Common.{◌≡◌, ℕ, ◌+◌, ◌-◌, ◌<◌, ◌≤◌, Bool, true, false, not, ◌&&◌, ◌==◌, nat_lt, List, [], ◌∷◌, Option, Some, None, Ok}
+use Rattle.std.proofs.Common.{Err, length, take, drop, get_or, refl, sym, ap, ap₂, ◌∙◌, arith, length-drop}
 use Rattle.std.specs.Prelude.{Result, IfErr}
 use Rattle.std.proofs.lemmas.Bool.{cond_both, cond-true, cond-false}
 use Rattle.std.proofs.lemmas.List.{drop_more, drop-take, take-take, length-take}
@@ -9,7 +10,9 @@ use Rattle.insn_text.specs.declared.item.RegisterFile.{RegisterFile}
 use Rattle.asm_tokens.specs.declared.token.Lexeme.{Lexeme}
 use Rattle.asm_tokens.specs.declared.token.Token.TheVariants.{Register}
 use Rattle.asm_tokens.specs.Characters.{is_blank, is_digit, is_name_character, front, column_at, starts_comment, before_comment}
-use Rattle.asm_tokens.specs.Tokens.{Read, run, begins_name, has_sign, name_token, token_or, register_of, register_in, token_of_name, number_token, distance_token, bare_token, place_in, read_number, read_distance, read_run, read_character, read_token, lexeme_at, is_name}
+use Rattle.asm_tokens.specs.Tokens.{Read, run, begins_name, has_sign, name_token, token_or, register_of, register_in, token_of_name}
+use Rattle.asm_tokens.specs.Tokens.{number_token, distance_token, bare_token, place_in, read_number, read_distance, read_run}
+use Rattle.asm_tokens.specs.Tokens.{read_character, read_token, lexeme_at, is_name}
 use Rattle.asm_tokens.proofs.Steps.{take_front, front-length}
 use Rattle.asm_tokens.proofs.Following.{lexemes-skip, lexemes-none, lexemes-some}
 use Rattle.asm_tokens.proofs.Naming.{named, first-name}
@@ -17,7 +20,8 @@ use Rattle.asm_operands.specs.declared.fault.FaultKind.TheVariants.{UnknownName,
 use Rattle.asm_parser.specs.declared.stops.Stop.{Stop}
 use Rattle.asm_parser.specs.declared.stops.Stop.TheVariants.{Fault, Memory}
 use Rattle.asm_parser.specs.Statements.{Nothing}
-use Rattle.asm_parser.specs.Lines.{Answer, text_of_lexeme, Directive, is_of_list, if_of_list, begin_list, directive_of, directive_says, instruction_says, named_says, tokens_say}
+use Rattle.asm_parser.specs.Lines.{Answer, text_of_lexeme, Directive, is_of_list, if_of_list, begin_list, directive_of, directive_says}
+use Rattle.asm_parser.specs.Lines.{instruction_says, named_says, tokens_say}
 use Rattle.asm_parser.specs.Told.{located, lexemes_from, said_from}
 use Rattle.asm_parser.proofs.Saying.{First, said-empty, said-stops, said-goes}
 
@@ -49,12 +53,14 @@ unfolding is_name name_token
 name_is_name None = refl
 name_is_name (Some place) = refl
 
-register_is_name : (file : Option RegisterFile) (number place : Option ℕ) → is_name (token_or (name_token place) (register_of file number)) ≡ true
+register_is_name : (file : Option RegisterFile) (number place : Option ℕ)
+    → is_name (token_or (name_token place) (register_of file number)) ≡ true
 unfolding is_name register_of
 register_is_name None number place = name_is_name place
 register_is_name (Some file) None place = name_is_name place
 register_is_name (Some file) (Some number) place =
-    cond_both (nat_lt number 31) (Some (Register file number)) None (λ t. is_name (token_or (name_token place) t) ≡ true) (λ _. refl) (λ _. name_is_name place)
+    cond_both (nat_lt number 31) (Some (Register file number)) None (λ t. is_name (token_or (name_token place) t) ≡ true) (λ _. refl)
+    (λ _. name_is_name place)
 
 token_is_name : (cs : List ℕ) → is_name (token_of_name cs) ≡ true
 unfolding token_of_name register_in
@@ -87,7 +93,8 @@ unfolding begins_name read_token read_distance
 no_name c cs e =
     cond_both (c == 35) _ _ NoName (λ _. number_no_name cs)
     (λ _. cond_both ((c == 46) && has_sign cs) _ _ NoName (λ _. no_distance_name _ _)
-    (λ plain. cond_both (is_name_character c) _ _ NoName (λ name. run_no_name c cs (digit_first _ (is_digit c) _ e name plain)) (λ _. character_no_name c cs)))
+    (λ plain. cond_both (is_name_character c) _ _ NoName (λ name. run_no_name c cs (digit_first _ (is_digit c) _ e name plain))
+    (λ _. character_no_name c cs)))
 
 -- ---- the text before the comment is the first part of the line
 
@@ -95,7 +102,8 @@ comment-cut : (line : List ℕ) → before_comment line ≡ take (length (before
 unfolding before_comment
 comment-cut [] = refl
 comment-cut (c ∷ cs) =
-    cond_both (starts_comment c cs) [] (c ∷ before_comment cs) (λ ys. ys ≡ take (length ys) (c ∷ cs)) (λ _. refl) (λ _. ap (λ ys. c ∷ ys) (comment-cut cs))
+    cond_both (starts_comment c cs) [] (c ∷ before_comment cs) (λ ys. ys ≡ take (length ys) (c ∷ cs)) (λ _. refl)
+    (λ _. ap (λ ys. c ∷ ys) (comment-cut cs))
 
 pub comment_le : (line : List ℕ) → length (before_comment line) ≤ length line
 comment_le line = omega (arith, ap length (comment-cut line), length-take (length (before_comment line)) line)
@@ -109,7 +117,8 @@ part-same line start count le =
     ap (λ ys. take count (drop start ys)) (comment-cut line) ∙ ap (λ m. take count (drop start (take m line))) (sym room)
     ∙ ap (λ ys. take count ys) (drop-take start (n - start) line) ∙ take-take count (n - start) (drop start line) (omega arith)
 
-module _ (line text : List ℕ) (start : ℕ) (part : text ≡ before_comment line) (lt : start < length text) (name : begins_name (drop start text) ≡ true) where
+module _ (line text : List ℕ) (start : ℕ) (part : text ≡ before_comment line) (lt : start < length text)
+    (name : begins_name (drop start text) ≡ true) where
   abbrev word : List ℕ
   word = run (drop start text)
 
@@ -123,7 +132,14 @@ module _ (line text : List ℕ) (start : ℕ) (part : text ≡ before_comment li
   unfolding text_of_lexeme
   text-is =
       let size : start + length word - start ≡ length word = omega arith in
-      let within : start + length word ≤ length (before_comment line) = omega (arith, ap length part, front-length is_name_character (drop start text), prefix_len-le-length is_name_character (drop start text), length-drop start text) in
+      let within : start + length word ≤ length (before_comment line) =
+      omega (
+        arith,
+        ap length part,
+        front-length is_name_character (drop start text),
+        prefix_len-le-length is_name_character (drop start text),
+        length-drop start text,
+      ) in
       ap (λ n. take n (drop start line)) size ∙ sym (part-same line start (length word) within)
       ∙ ap (λ ys. take (length word) (drop start ys)) (sym part) ∙ take_front is_name_character (drop start text)
 
@@ -135,7 +151,8 @@ module _ (line text : List ℕ) (start : ℕ) (part : text ≡ before_comment li
       ∙ ap (λ ys. named_says line l (lexemes_from text l.end) (directive_of ys) (place_in NAMES ys)) text-is
       ∙ ap₂ (λ x y. named_says line l (lexemes_from text l.end) x y) (sym e) (sym f)
 
-  pub named-directive : (d : Directive) → Some d ≡ directive_of word → said_from (tokens_say line) text start ≡ said_from (directive_says line d) text (start + length word)
+  pub named-directive : (d : Directive) → Some d ≡ directive_of word
+      → said_from (tokens_say line) text start ≡ said_from (directive_says line d) text (start + length word)
   named-directive d e =
       said-goes (tokens_say line) (directive_says line d) text start l first (says-named (Some d) (place_in NAMES word) e refl)
 
@@ -152,11 +169,13 @@ module _ (line text : List ℕ) (start : ℕ) (part : text ≡ before_comment li
       ∙ ap₂ (λ a b. a && if_of_list b) (token_is_name word) (ap directive_of text-is ∙ sym e)
       ∙ list
 
-  pub named-unknown : None ≡ directive_of word → None ≡ place_in NAMES word → said_from (tokens_say line) text start ≡ Err (Fault (Some start) UnknownName)
+  pub named-unknown : None ≡ directive_of word → None ≡ place_in NAMES word
+      → said_from (tokens_say line) text start ≡ Err (Fault (Some start) UnknownName)
   named-unknown e f = said-stops (tokens_say line) text start l UnknownName first (says-named None None e f)
 
 -- a want of memory that is passed on
-pub only_memory : {R : Type 0} (result : Result R Stop) (P Q : Type 0) → (P → Q) → IfErr result (λ stop. stop ≡ Memory → P) → IfErr result (λ stop. stop ≡ Memory → Q)
+pub only_memory : {R : Type 0} (result : Result R Stop) (P Q : Type 0) → (P → Q) → IfErr result (λ stop. stop ≡ Memory → P)
+    → IfErr result (λ stop. stop ≡ Memory → Q)
 only_memory (Ok r) P Q f h = tt
 only_memory (Err stop) P Q f h = λ e. f (h e)
 
@@ -171,7 +190,8 @@ module _ (text : List ℕ) (at start : ℕ) (skips : start ≡ at + length (fron
   unfolding tokens_say located
   said-nothing line le = said-empty (tokens_say line) text at (lexemes-none text at start skips le)
 
-  pub said-other : (line : List ℕ) → start < length text → begins_name (drop start text) ≡ false → said_from (tokens_say line) text at ≡ Err (Fault (Some start) Extra)
+  pub said-other : (line : List ℕ) → start < length text → begins_name (drop start text) ≡ false
+      → said_from (tokens_say line) text at ≡ Err (Fault (Some start) Extra)
   unfolding tokens_say
   said-other line lt other =
       let c = get_or text start 0 in

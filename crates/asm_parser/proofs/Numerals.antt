@@ -1,5 +1,6 @@
 -- Numbers are read as they are printed.
-use Rattle.std.proofs.Common.{◌≡◌, ℕ, ◌+◌, ◌*◌, ◌^◌, ◌<◌, ◌≤◌, Bool, true, false, not, ◌||◌, ◌==◌, nat_lt, List, [], ◌∷◌, Some, None, length, get_or, refl, ap, ◌∙◌, arith, subst, lt-ltb, lit<, lit≤, inl, inr}
+use Rattle.std.proofs.Common.{◌≡◌, ℕ, ◌+◌, ◌*◌, ◌^◌, ◌<◌, ◌≤◌, Bool, true, false, not, ◌||◌, ◌==◌, nat_lt, List, [], ◌∷◌, Some, None}
+use Rattle.std.proofs.Common.{length, get_or, refl, ap, ◌∙◌, arith, subst, lt-ltb, lit<, lit≤, inl, inr}
 use Rattle.std.specs.Prelude.{decimal}
 use Rattle.std.specs.Char.{digit_value}
 use Rattle.std.specs.Fmt.{digits}
@@ -9,7 +10,8 @@ use Rattle.std.proofs.lemmas.Bool.{and_from, and_right, or_left, cases_lt, cond-
 use Rattle.std.proofs.lemmas.Bool.Decides.{nat_tests}
 use Rattle.std.proofs.lemmas.Fmt.{digits_is_IsNumeral, decimal_is_IsNumeral, decimal_digit, first_decimal}
 use Rattle.asm_tokens.specs.Characters.{is_digit, is_name_character}
-use Rattle.asm_tokens.specs.Numbers.{is_hex_digit, digit_of, number_after, if_fits, digits_in, decimal_number, hexadecimal_number, begins_hexadecimal, number_in}
+use Rattle.asm_tokens.specs.Numbers.{is_hex_digit, digit_of, number_after, if_fits, digits_in, decimal_number, hexadecimal_number}
+use Rattle.asm_tokens.specs.Numbers.{begins_hexadecimal, number_in}
 
 -- ---- digits
 
@@ -61,7 +63,9 @@ module _ (n : ℕ) (lt : n < 2 ^ 64) where
   no_leading_zero : (not (get_or (decimal n) 0 0 == 48) || (length (decimal n) == 1)) ≡ true
   no_leading_zero = elim (cases_lt 0 n) [
     | inl g ↦ (let first = first_decimal n g lt in or_left _ _ (not_from_false _ (ne_eqb (get_or (decimal n) 0 0) 48 (λ e. omega arith))))
-    | inr z ↦ (let e : n ≡ 0 = omega arith in ap (λ m. not (get_or (decimal m) 0 0 == 48) || (length (decimal m) == 1)) e ∙ ap (λ ds. not (get_or ds 0 0 == 48) || (length ds == 1)) (decimal_digit 0 (lit< tt)))
+    | inr z ↦ (let e : n ≡ 0 = omega arith in
+        ap (λ m. not (get_or (decimal m) 0 0 == 48) || (length (decimal m) == 1)) e
+        ∙ ap (λ ds. not (get_or ds 0 0 == 48) || (length ds == 1)) (decimal_digit 0 (lit< tt)))
   ]
 
   pub decimal-read : decimal_number (decimal n) ≡ Some n

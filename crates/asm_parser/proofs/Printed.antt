@@ -1,5 +1,7 @@
 -- The text of a printed word is read as the tokens of its operands.
-use Rattle.std.proofs.Common.{◌≡◌, ℕ, ◌+◌, ◌-◌, ◌*◌, ◌^◌, ◌<◌, ◌≤◌, Bool, true, false, not, ◌&&◌, ◌||◌, ◌==◌, nat_lt, nat_le, List, [], ◌∷◌, ◌++◌, Option, Some, None, length, map, cond, refl, sym, ap, ap₂, ◌∙◌, arith, subst, eqb-true, ltb-true, leb-true, lit<, inl, inr}
+use Rattle.std.proofs.Common.{◌≡◌, ℕ, ◌+◌, ◌-◌, ◌*◌, ◌^◌, ◌<◌, ◌≤◌, Bool, true, false, not, ◌&&◌, ◌||◌, ◌==◌, nat_lt, nat_le, List, [], ◌∷◌}
+use Rattle.std.proofs.Common.{◌++◌, Option, Some, None, length, map, cond, refl, sym, ap, ap₂, ◌∙◌, arith, subst, eqb-true, ltb-true}
+use Rattle.std.proofs.Common.{leb-true, lit<, inl, inr}
 use Rattle.std.specs.Prelude.{is_some, decimal}
 use Rattle.std.specs.List.{list_all}
 use Rattle.std.proofs.Math.Nat.{mul-le-mul_right}
@@ -16,7 +18,8 @@ use Rattle.insn_text.specs.declared.item.Item.{Item}
 use Rattle.insn_text.specs.declared.item.Shape.{Shape}
 use Rattle.insn_text.specs.declared.shapes.TheConstants.{SHAPES}
 use Rattle.insn_text.specs.declared.words.TheConstants.{WORDS, NAMES}
-use Rattle.insn_text.specs.Texts.{text_in, text_at, is_positive, size_of, mask_in, mask_text, signed_text, distance_text, file_text, register_text, kind_text, bits_of, field_in, item_text, is_mark, is_comma, gap, items_text, items_of}
+use Rattle.insn_text.specs.Texts.{text_in, text_at, is_positive, size_of, mask_in, mask_text, signed_text, distance_text, file_text}
+use Rattle.insn_text.specs.Texts.{register_text, kind_text, bits_of, field_in, item_text, is_mark, is_comma, gap, items_text, items_of}
 use Rattle.insn_text.specs.Rules.{is_within, meets, is_sayable}
 use Rattle.asm_tokens.specs.declared.token.Token.TheVariants as token
 use Rattle.asm_tokens.specs.Characters.{is_name_character, is_digit, is_blank}
@@ -27,7 +30,9 @@ use Rattle.asm_operands.specs.Shown.{mask_token, token_said, item_token}
 use Rattle.asm_operands.proofs.MaskFields.{all_below, all_below-at, mask-given}
 use Rattle.insn_forms.proofs.Bits.{field_in-lt}
 use Rattle.asm_parser.proofs.Operands.{tokens_of}
-use Rattle.asm_parser.proofs.Reading.{opens, no_slash, IsRead, lexemes-read, is_plain, word-read, register-is-read, number-is-read, negative-is-read, forward-is-read, back-is-read, mask-is-read, is_clean_mark, clean_mark, mark-is-read}
+use Rattle.asm_parser.proofs.Reading.{opens, no_slash, IsRead, lexemes-read, is_plain, word-read, register-is-read, number-is-read}
+use Rattle.asm_parser.proofs.Reading.{negative-is-read, forward-is-read, back-is-read, mask-is-read, is_clean_mark, clean_mark}
+use Rattle.asm_parser.proofs.Reading.{mark-is-read}
 
 -- ---- the tables
 
@@ -42,7 +47,9 @@ finds-true k (Some j) e = ap Some (eqb-true j k e)
 
 -- the word is plain, and stands at its place alone
 unfoldable pub is_good_word : ℕ → Bool
-is_good_word place = (is_plain (text_at WORDS place) && finds place (place_in WORDS (text_at WORDS place))) && not (is_some (register_in (text_at WORDS place)))
+is_good_word place =
+    (is_plain (text_at WORDS place) && finds place (place_in WORDS (text_at WORDS place)))
+    && not (is_some (register_in (text_at WORDS place)))
 
 words_good : all_below is_good_word 36 ≡ true
 unfolding all_below is_good_word is_plain finds place_in text_in is_name_character is_digit register_in register_of file_of decimal_number digits_in digit_of
@@ -113,14 +120,19 @@ module _ (rest : List ℕ) (o : opens rest ≡ true) where
   place-read : (place : ℕ) → place < 36 → IsRead (text_at WORDS place) rest (token.Word place)
   unfolding is_good_word
   place-read place lt =
-      let g = and_parts (is_plain (text_at WORDS place) && finds place (place_in WORDS (text_at WORDS place))) (not (is_some (register_in (text_at WORDS place)))) (all_below-at is_good_word 36 place words_good lt) in
+      let g =
+      and_parts (is_plain (text_at WORDS place) && finds place (place_in WORDS (text_at WORDS place)))
+      (not (is_some (register_in (text_at WORDS place)))) (all_below-at is_good_word 36 place words_good lt) in
       let p = and_parts (is_plain (text_at WORDS place)) (finds place (place_in WORDS (text_at WORDS place))) g.0 in
       word-read (text_at WORDS place) rest place p.0 (none_of (register_in (text_at WORDS place)) g.1) (finds-true place _ p.1) o
 
-  register-read : (file : RegisterFile) (last field : ℕ) → last < 36 → field < 32 → IsRead (register_text file last field) rest (cond (field == 31) (token.Word last) (token.Register file field))
+  register-read : (file : RegisterFile) (last field : ℕ) → last < 36 → field < 32
+      → IsRead (register_text file last field) rest (cond (field == 31) (token.Word last) (token.Register file field))
   unfolding register_text
   register-read file last field a lt =
-      elim (field == 31) as (λ b. field == 31 ≡ b → IsRead (cond b (text_at WORDS last) (file_text file ++ decimal field)) rest (cond b (token.Word last) (token.Register file field))) [
+      elim (field == 31) as (λ b. field == 31 ≡ b
+      → IsRead (cond b (text_at WORDS last) (file_text file ++ decimal field)) rest
+      (cond b (token.Word last) (token.Register file field))) [
         | true ↦ λ e. place-read last a
         | false ↦ λ e. (let ne : field ≡ 31 → ⊥ = eqb-false field 31 e in register-is-read file field rest (omega arith) o)
       ] refl
@@ -135,11 +147,13 @@ module _ (rest : List ℕ) (o : opens rest ≡ true) where
   distance-read true n lt = forward-is-read n rest lt o
   distance-read false n lt = back-is-read n rest lt o
 
-  mask-read : (wide : Bool) (field : ℕ) → field < 8192 → is_within (kind.Mask wide) field ≡ true → IsRead (mask_text (mask_in wide field)) rest (mask_token (mask_in wide field))
+  mask-read : (wide : Bool) (field : ℕ) → field < 8192 → is_within (kind.Mask wide) field ≡ true
+      → IsRead (mask_text (mask_in wide field)) rest (mask_token (mask_in wide field))
   unfolding is_within mask_text
   mask-read wide field lt e =
       let g = mask-given wide field lt e in
-      subst (λ m. IsRead (mask_text m) rest (mask_token m)) (sym g.given) (mask-is-read g.mask rest (mask_in-lt wide field g.mask g.given) o)
+      subst (λ m. IsRead (mask_text m) rest (mask_token m)) (sym g.given)
+      (mask-is-read g.mask rest (mask_in-lt wide field g.mask g.given) o)
 
 size-small : (bits scale field : ℕ) → nat_lt (2 ^ bits * scale) (2 ^ 64) ≡ true → field < 2 ^ bits → size_of bits field * scale < 2 ^ 64
 unfolding size_of
@@ -158,7 +172,8 @@ few_bits bits field e lt =
       | inr h ↦ (let small : field < 2 ^ 12 = subst (λ n. field < 2 ^ n) (eqb-true bits 12 h) lt in omega arith)
     ]
 
-kind-read : (k : Kind) (bits field : ℕ) (rest : List ℕ) → is_clean_kind k bits ≡ true → is_within k field ≡ true → field < 2 ^ bits → (is_mark k || opens rest) ≡ true
+kind-read : (k : Kind) (bits field : ℕ) (rest : List ℕ) → is_clean_kind k bits ≡ true → is_within k field ≡ true → field < 2 ^ bits
+    → (is_mark k || opens rest) ≡ true
     → IsRead (kind_text k bits field) rest (token_said k bits field)
 unfolding is_clean_kind is_within is_mark kind_text token_said
 kind-read (kind.Mark c) bits field rest e w lt o = mark-is-read c rest e
@@ -173,19 +188,23 @@ kind-read (kind.Unsigned base scale most) bits field rest e w lt o =
     let top = ltb-true (most * scale + base) (2 ^ 64) e in
     let h : field * scale ≤ most * scale = mul-le-mul_right scale (leb-true field most w) in
     number-is-read (field * scale + base) rest (omega arith) o
-kind-read (kind.Signed scale) bits field rest e w lt o = signed-read rest o (is_positive bits field) (size_of bits field * scale) (size-small bits scale field e lt)
-kind-read (kind.Distance scale) bits field rest e w lt o = distance-read rest o (is_positive bits field) (size_of bits field * scale) (size-small bits scale field e lt)
+kind-read (kind.Signed scale) bits field rest e w lt o =
+    signed-read rest o (is_positive bits field) (size_of bits field * scale) (size-small bits scale field e lt)
+kind-read (kind.Distance scale) bits field rest e w lt o =
+    distance-read rest o (is_positive bits field) (size_of bits field * scale) (size-small bits scale field e lt)
 kind-read (kind.Mask wide) bits field rest e w lt o = mask-read rest o wide field (few_bits bits field e lt) w
 kind-read (kind.SignedMask wide) bits field rest e w lt o = cc
 kind-read (kind.ShiftLeft wide) bits field rest e w lt o = cc
 kind-read (kind.Opposite first count) bits field rest e w lt o = cc
 kind-read (kind.Halfword wide inverted) bits field rest e w lt o = cc
 
-item-read : (word : ℕ) (i : Item) (rest : List ℕ) → is_clean_item i ≡ true → is_sayable word i ≡ true → (is_mark i.kind || opens rest) ≡ true
+item-read : (word : ℕ) (i : Item) (rest : List ℕ) → is_clean_item i ≡ true → is_sayable word i ≡ true
+    → (is_mark i.kind || opens rest) ≡ true
     → IsRead (item_text word i) rest (item_token word i)
 unfolding is_clean_item is_sayable item_text item_token
 item-read word i rest e s o =
-    kind-read i.kind (bits_of i) (field_in i word) rest e (and_parts (is_within i.kind (field_in i word)) (meets i.rule word) s).0 (field_in-lt i.field word) o
+    kind-read i.kind (bits_of i) (field_in i word) rest e (and_parts (is_within i.kind (field_in i word)) (meets i.rule word) s).0
+    (field_in-lt i.field word) o
 
 -- ---- operands
 
@@ -198,7 +217,8 @@ no_comma k e = refl
 abbrev after_gap : Kind → List ℕ → List ℕ
 after_gap j ys = cond (not (is_mark j)) (32 ∷ []) [] ++ ys
 
-opens-gap : (j : Kind) (bits field : ℕ) (ys : List ℕ) → is_clean_kind j bits ≡ true → opens (after_gap j (kind_text j bits field ++ ys)) ≡ true
+opens-gap : (j : Kind) (bits field : ℕ) (ys : List ℕ) → is_clean_kind j bits ≡ true
+    → opens (after_gap j (kind_text j bits field ++ ys)) ≡ true
 unfolding is_clean_kind is_mark kind_text opens is_name_character is_digit
 opens-gap (kind.Mark c) bits field ys e = not_from_false _ (clean_mark c e).no_name
 opens-gap j bits field ys e = refl
@@ -207,12 +227,14 @@ gap-no_mark : (k j : Kind) → is_mark k ≡ false → gap k j ≡ cond (not (is
 unfolding gap
 gap-no_mark k j e = ap₂ (λ a b. cond (a || (not b && not (is_mark j))) (32 ∷ []) []) (no_comma k e) e
 
-opens-items : (word : ℕ) (k : Kind) (is : List Item) → is_mark k ≡ false → list_all is_clean_item is ≡ true → opens (items_text word k is) ≡ true
+opens-items : (word : ℕ) (k : Kind) (is : List Item) → is_mark k ≡ false → list_all is_clean_item is ≡ true
+    → opens (items_text word k is) ≡ true
 unfolding items_text opens is_clean_item item_text
 opens-items word k [] e a = refl
 opens-items word k (j ∷ js) e a =
     ap (λ g. opens (g ++ (item_text word j ++ items_text word j.kind js))) (gap-no_mark k j.kind e)
-    ∙ opens-gap j.kind (bits_of j) (field_in j word) (items_text word j.kind js) (and_parts (is_clean_item j) (list_all is_clean_item js) a).0
+    ∙ opens-gap j.kind (bits_of j) (field_in j word) (items_text word j.kind js)
+    (and_parts (is_clean_item j) (list_all is_clean_item js) a).0
 
 opens-after : (word : ℕ) (k : Kind) (is : List Item) → list_all is_clean_item is ≡ true → (is_mark k || opens (items_text word k is)) ≡ true
 opens-after word k is a =
@@ -225,7 +247,8 @@ opens-after word k is a =
 gap-skipped : (at : ℕ) (k j : Kind) (ys : List ℕ) → lexemes_of at (gap k j ++ ys) ≡ lexemes_of (at + length (gap k j)) ys
 unfolding gap is_blank
 gap-skipped at k j ys =
-    cond_both (is_comma k || (not (is_mark k) && not (is_mark j))) (32 ∷ []) [] (λ g. lexemes_of at (g ++ ys) ≡ lexemes_of (at + length g) ys)
+    cond_both (is_comma k || (not (is_mark k) && not (is_mark j))) (32 ∷ []) []
+    (λ g. lexemes_of at (g ++ ys) ≡ lexemes_of (at + length g) ys)
     (λ _. lexemes-blank at 32 ys refl) (λ _. ap (λ n. lexemes_of n ys) (omega arith))
 
 gap-plain : (k j : Kind) (ys : List ℕ) → list_all no_slash ys ≡ true → list_all no_slash (gap k j ++ ys) ≡ true
@@ -255,7 +278,8 @@ module _ (word : ℕ) where
       ∙ ap tokens_of (lexemes-read text rest (item_token word i) from (item-read word i rest p.0 q.0 (opens-after word i.kind is p.1)))
       ∙ ap (λ ts. item_token word i ∷ ts) (items-read is i.kind (from + length text) p.1 q.1)
 
-  pub items-plain : (is : List Item) (k : Kind) → list_all is_clean_item is ≡ true → list_all (is_sayable word) is ≡ true → list_all no_slash (items_text word k is) ≡ true
+  pub items-plain : (is : List Item) (k : Kind) → list_all is_clean_item is ≡ true → list_all (is_sayable word) is ≡ true
+      → list_all no_slash (items_text word k is) ≡ true
   unfolding items_text
   items-plain [] k a s = refl
   items-plain (i ∷ is) k a s =

@@ -1,5 +1,6 @@
 -- Texts that are read as tokens, whatever follows them.
-use Rattle.std.proofs.Common.{◌≡◌, ℕ, suc, ◌+◌, ◌^◌, ◌<◌, Bool, true, false, not, ◌&&◌, ◌==◌, nat_lt, List, [], ◌∷◌, ◌++◌, Some, None, cond, lt-ltb, length, drop, get_or, refl, sym, ap, ap₂, ◌∙◌, arith}
+use Rattle.std.proofs.Common.{◌≡◌, ℕ, suc, ◌+◌, ◌^◌, ◌<◌, Bool, true, false, not, ◌&&◌, ◌==◌, nat_lt, List, [], ◌∷◌, ◌++◌, Some, None, cond}
+use Rattle.std.proofs.Common.{lt-ltb, length, drop, get_or, refl, sym, ap, ap₂, ◌∙◌, arith}
 use Rattle.std.specs.Prelude.{decimal}
 use Rattle.std.specs.Fmt.{digits}
 use Rattle.std.specs.List.{list_all}
@@ -17,7 +18,9 @@ use Rattle.asm_tokens.specs.declared.token.Token.{Token}
 use Rattle.asm_tokens.specs.declared.token.Token.TheVariants.{Register, Word, Number, Distance, Mark}
 use Rattle.asm_tokens.specs.Characters.{is_name_character, is_blank, is_digit}
 use Rattle.asm_tokens.specs.Numbers.{number_in, decimal_number, begins_hexadecimal}
-use Rattle.asm_tokens.specs.Tokens.{Read, run, has_sign, begins_name, name_token, token_or, file_of, register_of, register_in, token_of_name, number_token, distance_token, place_in, read_number, read_distance, read_character, read_token, lexemes_of}
+use Rattle.asm_tokens.specs.Tokens.{Read, run, has_sign, begins_name, name_token, token_or, file_of, register_of, register_in}
+use Rattle.asm_tokens.specs.Tokens.{token_of_name, number_token, distance_token, place_in, read_number, read_distance, read_character}
+use Rattle.asm_tokens.specs.Tokens.{read_token, lexemes_of}
 use Rattle.asm_tokens.proofs.Following.{lexemes-token}
 use Rattle.asm_tokens.proofs.Naming.{read-name, name_no_blank}
 use Rattle.asm_parser.proofs.Numerals.{decimal-read, decimal-names, number-read, no_minus, hexadecimal-read, hexadecimal-names}
@@ -64,7 +67,9 @@ pub record IsRead (xs rest : List ℕ) (t : Token) : Type 0 where
 pub lexemes-read : (xs rest : List ℕ) (t : Token) (at : ℕ) → IsRead xs rest t
     → lexemes_of at (xs ++ rest) ≡ record { token = t; start = at; end = at + length xs } ∷ lexemes_of (at + length xs) rest
 lexemes-read xs rest t at r =
-    let next : Read → List Lexeme = λ q. record { token = q.token; start = at; end = at + q.size } ∷ lexemes_of (at + q.size) (drop q.size (r.first ∷ (r.others ++ rest))) in
+    let next : Read → List Lexeme =
+    λ q. record { token = q.token; start = at; end = at + q.size }
+    ∷ lexemes_of (at + q.size) (drop q.size (r.first ∷ (r.others ++ rest))) in
     let l : Lexeme = record { token = t; start = at; end = at + length xs } in
     ap (λ ys. lexemes_of at (ys ++ rest)) r.whole ∙ lexemes-token at r.first (r.others ++ rest) r.no_blank ∙ ap next r.reads
     ∙ ap (λ ys. l ∷ lexemes_of (at + length xs) (drop (length xs) (ys ++ rest))) (sym r.whole)
@@ -89,7 +94,8 @@ plain-begins (c ∷ cs) rest e =
     let p = and_parts (list_all is_name_character (c ∷ cs) && not (is_digit c)) (not (c == 46)) e in
     let q = and_parts (list_all is_name_character (c ∷ cs)) (not (is_digit c)) p.0 in
     let name = (and_parts (is_name_character c) (list_all is_name_character cs) q.0).0 in
-    and_from _ _ (and_from (is_name_character c) (not (is_digit c)) name q.1) (not_from_false _ (ap (λ b. b && has_sign (cs ++ rest)) (not-true (c == 46) p.1)))
+    and_from _ _ (and_from (is_name_character c) (not (is_digit c)) name q.1)
+    (not_from_false _ (ap (λ b. b && has_sign (cs ++ rest)) (not-true (c == 46) p.1)))
 
 -- a name is read as its token
 pub name-is-read : (xs rest : List ℕ) (t : Token) → is_plain xs ≡ true → token_of_name xs ≡ t → opens rest ≡ true → IsRead xs rest t
@@ -109,7 +115,8 @@ name-is-read (c ∷ cs) rest t e is o =
           ∙ ap (λ v. make v (length (c ∷ cs))) is;
     }
 
-pub word-read : (xs rest : List ℕ) (place : ℕ) → is_plain xs ≡ true → register_in xs ≡ None → place_in WORDS xs ≡ Some place → opens rest ≡ true → IsRead xs rest (Word place)
+pub word-read : (xs rest : List ℕ) (place : ℕ) → is_plain xs ≡ true → register_in xs ≡ None → place_in WORDS xs ≡ Some place
+    → opens rest ≡ true → IsRead xs rest (Word place)
 unfolding token_of_name name_token
 word-read xs rest place e other found o = name-is-read xs rest (Word place) e (ap₂ (λ p r. token_or (name_token p) r) found other) o
 
@@ -117,18 +124,22 @@ register-token : (file : RegisterFile) (n : ℕ) → n < 31 → token_of_name (f
 unfolding token_of_name register_in register_of file_of file_text
 register-token X n lt =
     let fits : n < 2 ^ 64 = omega arith in
-    ap (λ m. token_or (name_token (place_in WORDS (120 ∷ decimal n))) (register_of (Some X) m)) (decimal-read n fits) ∙ ap (λ b. token_or (name_token (place_in WORDS (120 ∷ decimal n))) (cond b (Some (Register X n)) None)) (lt-ltb n 31 lt)
+    ap (λ m. token_or (name_token (place_in WORDS (120 ∷ decimal n))) (register_of (Some X) m)) (decimal-read n fits)
+    ∙ ap (λ b. token_or (name_token (place_in WORDS (120 ∷ decimal n))) (cond b (Some (Register X n)) None)) (lt-ltb n 31 lt)
 register-token W n lt =
     let fits : n < 2 ^ 64 = omega arith in
-    ap (λ m. token_or (name_token (place_in WORDS (119 ∷ decimal n))) (register_of (Some W) m)) (decimal-read n fits) ∙ ap (λ b. token_or (name_token (place_in WORDS (119 ∷ decimal n))) (cond b (Some (Register W n)) None)) (lt-ltb n 31 lt)
+    ap (λ m. token_or (name_token (place_in WORDS (119 ∷ decimal n))) (register_of (Some W) m)) (decimal-read n fits)
+    ∙ ap (λ b. token_or (name_token (place_in WORDS (119 ∷ decimal n))) (cond b (Some (Register W n)) None)) (lt-ltb n 31 lt)
 
 register-plain : (file : RegisterFile) (n : ℕ) → n < 2 ^ 64 → is_plain (file_text file ++ decimal n) ≡ true
 unfolding is_plain file_text is_name_character is_digit
 register-plain X n lt = ap (λ b. b && true && true) (decimal-names n lt)
 register-plain W n lt = ap (λ b. b && true && true) (decimal-names n lt)
 
-pub register-is-read : (file : RegisterFile) (n : ℕ) (rest : List ℕ) → n < 31 → opens rest ≡ true → IsRead (file_text file ++ decimal n) rest (Register file n)
-register-is-read file n rest lt o = name-is-read (file_text file ++ decimal n) rest (Register file n) (register-plain file n (omega arith)) (register-token file n lt) o
+pub register-is-read : (file : RegisterFile) (n : ℕ) (rest : List ℕ) → n < 31 → opens rest ≡ true
+    → IsRead (file_text file ++ decimal n) rest (Register file n)
+register-is-read file n rest lt o =
+    name-is-read (file_text file ++ decimal n) rest (Register file n) (register-plain file n (omega arith)) (register-token file n lt) o
 
 -- ---- numbers
 
@@ -144,7 +155,8 @@ two_more : (n : ℕ) → 2 + n ≡ suc (suc n)
 two_more n = omega arith
 
 -- `#` and digits with no sign
-after-mark : (ds rest : List ℕ) (n : ℕ) → list_all is_name_character ds ≡ true → (get_or (ds ++ rest) 0 0 == 45) ≡ false → number_in ds ≡ Some n → opens rest ≡ true
+after-mark : (ds rest : List ℕ) (n : ℕ) → list_all is_name_character ds ≡ true → (get_or (ds ++ rest) 0 0 == 45) ≡ false
+    → number_in ds ≡ Some n → opens rest ≡ true
     → IsRead (35 ∷ ds) rest (Number false n)
 unfolding read_token read_number number_token is_blank
 after-mark ds rest n names plus reads o = record {
@@ -161,15 +173,19 @@ after-mark ds rest n names plus reads o = record {
 
 pub number-is-read : (n : ℕ) (rest : List ℕ) → n < 2 ^ 64 → opens rest ≡ true → IsRead (35 ∷ decimal n) rest (Number false n)
 number-is-read n rest lt o =
-    after-mark (decimal n) rest n (decimal-names n lt) (ap (λ c. c == 45) (first_of (decimal n) rest (decimal_nonempty n lt)) ∙ no_minus n lt) (number-read n lt) o
+    after-mark (decimal n) rest n (decimal-names n lt)
+    (ap (λ c. c == 45) (first_of (decimal n) rest (decimal_nonempty n lt)) ∙ no_minus n lt) (number-read n lt) o
 
-pub mask-is-read : (n : ℕ) (rest : List ℕ) → n < 2 ^ 64 → opens rest ≡ true → IsRead (35 ∷ 48 ∷ 120 ∷ digits 16 false n) rest (Number false n)
+pub mask-is-read : (n : ℕ) (rest : List ℕ) → n < 2 ^ 64 → opens rest ≡ true
+    → IsRead (35 ∷ 48 ∷ 120 ∷ digits 16 false n) rest (Number false n)
 unfolding number_in begins_hexadecimal is_name_character is_digit
 mask-is-read n rest lt o = after-mark (48 ∷ 120 ∷ digits 16 false n) rest n (hexadecimal-names n lt) refl (hexadecimal-read n lt) o
 
 -- a character, a sign and digits
-after-sign : (first sign : ℕ) (n : ℕ) (rest : List ℕ) (t : Token) (token : List ℕ → Token) → n < 2 ^ 64 → opens rest ≡ true → is_blank first ≡ false → (no_slash first && no_slash sign) ≡ true
-    → ((cs : List ℕ) → read_token first (sign ∷ cs) ≡ make (token (run cs)) (2 + length (run cs))) → token (decimal n) ≡ t → IsRead (first ∷ sign ∷ decimal n) rest t
+after-sign : (first sign : ℕ) (n : ℕ) (rest : List ℕ) (t : Token) (token : List ℕ → Token) → n < 2 ^ 64 → opens rest ≡ true
+    → is_blank first ≡ false → (no_slash first && no_slash sign) ≡ true
+    → ((cs : List ℕ) → read_token first (sign ∷ cs) ≡ make (token (run cs)) (2 + length (run cs))) → token (decimal n) ≡ t
+    → IsRead (first ∷ sign ∷ decimal n) rest t
 after-sign first sign n rest t token lt o blank slash reads is =
     let p = and_parts (no_slash first) (no_slash sign) slash in
     record {
@@ -178,20 +194,28 @@ after-sign first sign n rest t token lt o blank slash reads is =
       whole = refl;
       no_blank = blank;
       plain = and_from (no_slash first) _ p.0 (and_from (no_slash sign) _ p.1 (names_no_slash (decimal n) (decimal-names n lt)));
-      reads = reads (decimal n ++ rest) ∙ ap (λ ys. make (token ys) (2 + length ys)) (run-whole (decimal n) rest (decimal-names n lt) o) ∙ ap₂ (λ v k. make v k) is (two_more (length (decimal n)));
+      reads =
+          reads (decimal n ++ rest) ∙ ap (λ ys. make (token ys) (2 + length ys)) (run-whole (decimal n) rest (decimal-names n lt) o)
+          ∙ ap₂ (λ v k. make v k) is (two_more (length (decimal n)));
     }
 
 pub negative-is-read : (n : ℕ) (rest : List ℕ) → n < 2 ^ 64 → opens rest ≡ true → IsRead (35 ∷ 45 ∷ decimal n) rest (Number true n)
 unfolding read_token read_number number_token is_blank
-negative-is-read n rest lt o = after-sign 35 45 n rest (Number true n) (λ ys. number_token true (number_in ys)) lt o refl refl (λ cs. refl) (ap (number_token true) (number-read n lt))
+negative-is-read n rest lt o =
+    after-sign 35 45 n rest (Number true n) (λ ys. number_token true (number_in ys)) lt o refl refl (λ cs. refl)
+    (ap (number_token true) (number-read n lt))
 
 pub forward-is-read : (n : ℕ) (rest : List ℕ) → n < 2 ^ 64 → opens rest ≡ true → IsRead (46 ∷ 43 ∷ decimal n) rest (Distance false n)
 unfolding read_token read_distance distance_token has_sign is_blank
-forward-is-read n rest lt o = after-sign 46 43 n rest (Distance false n) (λ ys. distance_token false (decimal_number ys)) lt o refl refl (λ cs. refl) (ap (distance_token false) (decimal-read n lt))
+forward-is-read n rest lt o =
+    after-sign 46 43 n rest (Distance false n) (λ ys. distance_token false (decimal_number ys)) lt o refl refl (λ cs. refl)
+    (ap (distance_token false) (decimal-read n lt))
 
 pub back-is-read : (n : ℕ) (rest : List ℕ) → n < 2 ^ 64 → opens rest ≡ true → IsRead (46 ∷ 45 ∷ decimal n) rest (Distance true n)
 unfolding read_token read_distance distance_token has_sign is_blank
-back-is-read n rest lt o = after-sign 46 45 n rest (Distance true n) (λ ys. distance_token true (decimal_number ys)) lt o refl refl (λ cs. refl) (ap (distance_token true) (decimal-read n lt))
+back-is-read n rest lt o =
+    after-sign 46 45 n rest (Distance true n) (λ ys. distance_token true (decimal_number ys)) lt o refl refl (λ cs. refl)
+    (ap (distance_token true) (decimal-read n lt))
 
 -- ---- marks
 
@@ -214,7 +238,14 @@ clean_mark c e =
     let r = and_parts (not (is_blank c)) _ q.1 in
     let s = and_parts (not (c == 35)) _ r.1 in
     let t = and_parts (not (c == 46)) (not (c == 47)) s.1 in
-    record { ascii = p.0; no_name = not-true _ q.0; no_blank = not-true _ r.0; no_number = not-true _ s.0; no_dot = not-true _ t.0; no_slash = not-true _ t.1 }
+    record {
+      ascii = p.0;
+      no_name = not-true _ q.0;
+      no_blank = not-true _ r.0;
+      no_number = not-true _ s.0;
+      no_dot = not-true _ t.0;
+      no_slash = not-true _ t.1;
+    }
 
 pub mark-is-read : (c : ℕ) (rest : List ℕ) → is_clean_mark c ≡ true → IsRead (c ∷ []) rest (Mark c)
 unfolding read_token read_character

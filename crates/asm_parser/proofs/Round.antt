@@ -1,5 +1,6 @@
 -- The text of a word is read as that word.
-use Rattle.std.proofs.Common.{◌≡◌, ℕ, ◌+◌, ◌^◌, ◌<◌, Bool, true, false, not, ◌&&◌, ◌||◌, ◌==◌, List, [], ◌∷◌, ◌++◌, Some, None, Ok, length, drop, get_or, cond, refl, sym, ap, ◌∙◌, arith, length-append}
+use Rattle.std.proofs.Common.{◌≡◌, ℕ, ◌+◌, ◌^◌, ◌<◌, Bool, true, false, not, ◌&&◌, ◌||◌, ◌==◌, List, [], ◌∷◌, ◌++◌, Some, None, Ok, length}
+use Rattle.std.proofs.Common.{drop, get_or, cond, refl, sym, ap, ◌∙◌, arith, length-append}
 use Rattle.std.specs.List.{list_all, find}
 use Rattle.std.proofs.lemmas.Bool.{and_parts, and_right, not-true, cond-false}
 use Rattle.std.proofs.lemmas.List.{drop_at, get_or-drop}
@@ -30,7 +31,8 @@ use Rattle.asm_parser.proofs.Labels.{label-none, line-ok}
 use Rattle.asm_parser.proofs.Names.{undotted, named-instruction}
 use Rattle.asm_parser.proofs.Operands.{tokens_of, all-ok}
 use Rattle.asm_parser.proofs.Reading.{opens, no_slash, names_no_slash, run-whole, is_plain, plain-names, plain-begins}
-use Rattle.asm_parser.proofs.Printed.{finds, finds-true, is_good_name, names_good, is_clean_item, is_clean_shape, shapes_clean, items-read, items-plain, all_append}
+use Rattle.asm_parser.proofs.Printed.{finds, finds-true, is_good_name, names_good, is_clean_item, is_clean_shape, shapes_clean, items-read}
+use Rattle.asm_parser.proofs.Printed.{items-plain, all_append}
 
 -- ---- the shape
 
@@ -99,7 +101,8 @@ module _ (name rest : List ℕ) (plain : is_plain name ≡ true) (o : opens rest
   no-label e =
       let n = length name in
       let sum : n ≡ n + 0 = omega arith in
-      let after : get_or text n 0 ≡ get_or rest 0 0 = ap (λ k. get_or text k 0) sum ∙ sym (get_or-drop n text 0 0) ∙ ap (λ ys. get_or ys 0 0) (drop_at name rest n refl) in
+      let after : get_or text n 0 ≡ get_or rest 0 0 =
+      ap (λ k. get_or text k 0) sum ∙ sym (get_or-drop n text 0 0) ∙ ap (λ ys. get_or ys 0 0) (drop_at name rest n refl) in
       label-none text 0 n name no_blanks (sym run-name) (omega arith) (and_right _ _ (ap (λ k. k == 58) after ∙ e))
 
 -- ---- the text of a word
@@ -139,7 +142,8 @@ module _ (word : ℕ) (it : Insn) (lt : word < 2 ^ 32) (p : IsPrinted word) (mea
   good : (is_plain name ≡ true) × (place_in NAMES name ≡ Some place)
   unfolding is_good_name
   good =
-      let q = and_parts (is_plain name) (finds place (place_in NAMES name)) (all_below-at is_good_name 243 place names_good (own-name word p)) in
+      let q =
+      and_parts (is_plain name) (finds place (place_in NAMES name)) (all_below-at is_good_name 243 place names_good (own-name word p)) in
       (q.0, finds-true place _ q.1)
 
   opens-rest : opens rest ≡ true
@@ -152,7 +156,9 @@ module _ (word : ℕ) (it : Insn) (lt : word < 2 ^ 32) (p : IsPrinted word) (mea
       ∙ items-read word is (kind.Mark 44) (length name) clean p.sayable
 
   whole : line ≡ before_comment line
-  whole = sym (no_comment line (all_append name rest (names_no_slash name (plain-names name good.0)) (items-plain word is (kind.Mark 44) clean p.sayable)))
+  whole =
+      sym (no_comment line (all_append name rest (names_no_slash name (plain-names name good.0))
+      (items-plain word is (kind.Mark 44) clean p.sayable)))
 
   first-word : run (drop 0 line) ≡ name
   first-word = run-name name rest good.0 opens-rest
@@ -164,7 +170,8 @@ module _ (word : ℕ) (it : Insn) (lt : word < 2 ^ 32) (p : IsPrinted word) (mea
       named-instruction line line 0 whole (text-some name rest good.0 opens-rest) (plain-begins name rest good.0) place
       (sym (ap directive_of first-word ∙ undotted name (plain_undotted name good.0))) (sym (ap (place_in NAMES) first-word ∙ good.1))
       ∙ ap (λ n. said_from (instruction_says line place (column_at line 0)) line n) size
-      ∙ all-ok line line (length name) place (column_at line 0) word None (sym (own-said word it lt p means) ∙ ap (operands_said place) (sym tokens-shown))
+      ∙ all-ok line line (length name) place (column_at line 0) word None
+      (sym (own-said word it lt p means) ∙ ap (operands_said place) (sym tokens-shown))
 
   line-said : line_of line ≡ Ok (record { label = None; says = Instructs word None 1 })
   line-said =
@@ -172,7 +179,8 @@ module _ (word : ℕ) (it : Insn) (lt : word < 2 ^ 32) (p : IsPrinted word) (mea
       line-ok line line None 0 whole labels.0 labels.1 (Instructs word None 1) said
 
 -- the word of an instruction is read from the text in which it is printed
-pub round : (word : ℕ) (it : Insn) → MeansEither word it → line_of (text_of word) ≡ Ok (record { label = None; says = Instructs word None 1 })
+pub round : (word : ℕ) (it : Insn) → MeansEither word it
+    → line_of (text_of word) ≡ Ok (record { label = None; says = Instructs word None 1 })
 unfolding text_of text_of_shape shape_text
 round word it m =
     let w = instruction_is word it m in

@@ -1,5 +1,6 @@
 -- What the tokens of a text say, one token after another.
-use Rattle.std.proofs.Common.{◌≡◌, ℕ, suc, ◌+◌, true, false, List, [], ◌∷◌, ◌++◌, Option, Some, None, Ok, Err, Result, map, cond, refl, sym, ap, ◌∙◌, arith, append_assoc}
+use Rattle.std.proofs.Common.{◌≡◌, ℕ, suc, ◌+◌, true, false, List, [], ◌∷◌, ◌++◌, Option, Some, None, Ok, Err, Result, map, cond, refl, sym}
+use Rattle.std.proofs.Common.{ap, ◌∙◌, arith, append_assoc}
 use Rattle.std.proofs.lemmas.List.{append-nil, map-append}
 use Rattle.asm_tokens.specs.declared.token.Lexeme.{Lexeme}
 use Rattle.asm_operands.specs.declared.fault.FaultKind.{FaultKind}
@@ -7,7 +8,8 @@ use Rattle.asm_operands.specs.declared.fault.FaultKind.TheVariants.{BadNumber, E
 use Rattle.asm_tokens.specs.Tokens.{is_name, is_number_token}
 use Rattle.asm_parser.specs.declared.stops.Stop.{Stop}
 use Rattle.asm_parser.specs.declared.stops.Stop.TheVariants.{Fault, Memory}
-use Rattle.asm_parser.specs.Lines.{Answer, Tells, Stops, and_then, further, ends, no_number, number_up_to, number_then_end, one_number, one_name, text_of_lexeme, cons_answer, is_comma_token, value_or_fault, values_from}
+use Rattle.asm_parser.specs.Lines.{Answer, Tells, Stops, and_then, further, ends, no_number, number_up_to, number_then_end, one_number}
+use Rattle.asm_parser.specs.Lines.{one_name, text_of_lexeme, cons_answer, is_comma_token, value_or_fault, values_from}
 use Rattle.asm_parser.specs.Told.{located, lexemes_from, said_from, StopsAs, before}
 
 -- the tokens from a place on are this one and those from its end on
@@ -22,7 +24,8 @@ module _ {A : Type 0} where
       let e : 1 + place ≡ suc place = omega arith in
       ap (λ n. located {A = A} (l ∷ ls) (Stops n kind)) e
 
-  pub said-empty : (says : List Lexeme → Answer A) (text : List ℕ) (at : ℕ) → lexemes_from text at ≡ [] → said_from says text at ≡ located [] (says [])
+  pub said-empty : (says : List Lexeme → Answer A) (text : List ℕ) (at : ℕ) → lexemes_from text at ≡ []
+      → said_from says text at ≡ located [] (says [])
   unfolding said_from
   said-empty says text at e = ap (λ ls. located ls (says ls)) e
 
@@ -37,7 +40,8 @@ module _ {A : Type 0} where
       → says (l ∷ lexemes_from text l.end) ≡ further 1 (next (lexemes_from text l.end)) → said_from says text at ≡ said_from next text l.end
   unfolding said_from
   said-goes says next text at l e s =
-      ap (λ ls. located ls (says ls)) e ∙ ap (λ answer. located (l ∷ lexemes_from text l.end) answer) s ∙ further-located l (lexemes_from text l.end) (next (lexemes_from text l.end))
+      ap (λ ls. located ls (says ls)) e ∙ ap (λ answer. located (l ∷ lexemes_from text l.end) answer) s
+      ∙ further-located l (lexemes_from text l.end) (next (lexemes_from text l.end))
 
   -- ---- nothing follows
 
@@ -45,14 +49,16 @@ module _ {A : Type 0} where
   unfolding ends located
   ends-none a text at e = said-empty (ends a) text at e
 
-  pub ends-some : (a : A) (text : List ℕ) (at : ℕ) (l : Lexeme) → First text at l → said_from (ends a) text at ≡ Err (Fault (Some l.start) Extra)
+  pub ends-some : (a : A) (text : List ℕ) (at : ℕ) (l : Lexeme) → First text at l
+      → said_from (ends a) text at ≡ Err (Fault (Some l.start) Extra)
   unfolding ends
   ends-some a text at l e = said-stops (ends a) text at l Extra e refl
 
 -- ---- values
 
 module _ {A : Type 0} (value : Lexeme → Option A) where
-  pub values-empty : (text : List ℕ) (at : ℕ) → lexemes_from text at ≡ [] → said_from (values_from value true) text at ≡ Err (Fault None BadOperand)
+  pub values-empty : (text : List ℕ) (at : ℕ) → lexemes_from text at ≡ []
+      → said_from (values_from value true) text at ≡ Err (Fault None BadOperand)
   unfolding values_from located
   values-empty text at e = said-empty (values_from value true) text at e
 
@@ -61,9 +67,11 @@ module _ {A : Type 0} (value : Lexeme → Option A) where
   unfolding values_from no_number
   values-bad text at l e none =
       said-stops (values_from value true) text at l _ e
-      (ap (λ o. value_or_fault value l.token (λ b. further 1 (cons_answer b (values_from value false (lexemes_from text l.end)))) o) (sym none))
+      (ap (λ o. value_or_fault value l.token (λ b. further 1 (cons_answer b (values_from value false (lexemes_from text l.end)))) o)
+      (sym none))
 
-  located-cons : (a : A) (ls : List Lexeme) (answer : Answer (List A)) → located ls (cons_answer a answer) ≡ before (a ∷ []) (located ls answer)
+  located-cons : (a : A) (ls : List Lexeme) (answer : Answer (List A))
+      → located ls (cons_answer a answer) ≡ before (a ∷ []) (located ls answer)
   unfolding located
   located-cons a ls (Tells rest) = refl
   located-cons a ls (Stops place kind) = refl
@@ -73,7 +81,8 @@ module _ {A : Type 0} (value : Lexeme → Option A) where
   unfolding values_from said_from
   values-some text at l a e some =
       said-goes (values_from value true) (λ ls. cons_answer a (values_from value false ls)) text at l e
-      (ap (λ o. value_or_fault value l.token (λ b. further 1 (cons_answer b (values_from value false (lexemes_from text l.end)))) o) (sym some))
+      (ap (λ o. value_or_fault value l.token (λ b. further 1 (cons_answer b (values_from value false (lexemes_from text l.end)))) o)
+      (sym some))
       ∙ located-cons a (lexemes_from text l.end) (values_from value false (lexemes_from text l.end))
 
   pub values-end : (text : List ℕ) (at : ℕ) → lexemes_from text at ≡ [] → said_from (values_from value false) text at ≡ Ok []
@@ -101,13 +110,15 @@ module _ {A : Type 0} where
   before-none (Ok others) = refl
   before-none (Err stop) = refl
 
-  pub before-more : (values : List A) (a : A) (said : Result (List A) Stop) → before values (before (a ∷ []) said) ≡ before (values ++ (a ∷ [])) said
+  pub before-more : (values : List A) (a : A) (said : Result (List A) Stop)
+      → before values (before (a ∷ []) said) ≡ before (values ++ (a ∷ [])) said
   before-more values a (Ok others) = ap Ok (sym (append_assoc values (a ∷ []) others))
   before-more values a (Err stop) = refl
 
 -- ---- one number and one name
 
-pub number-empty : (most : ℕ) (text : List ℕ) (at : ℕ) → lexemes_from text at ≡ [] → said_from (one_number most) text at ≡ Err (Fault None BadOperand)
+pub number-empty : (most : ℕ) (text : List ℕ) (at : ℕ) → lexemes_from text at ≡ []
+    → said_from (one_number most) text at ≡ Err (Fault None BadOperand)
 unfolding one_number located
 number-empty most text at e = said-empty (one_number most) text at e
 
@@ -131,7 +142,8 @@ pub name-bad : (line text : List ℕ) (at : ℕ) (l : Lexeme) → First text at 
     → said_from (one_name line) text at ≡ Err (Fault (Some l.start) BadOperand)
 unfolding one_name
 name-bad line text at l e other =
-    said-stops (one_name line) text at l BadOperand e (ap (λ b. cond b (further 1 (ends (text_of_lexeme line l) (lexemes_from text l.end))) (Stops 0 BadOperand)) (sym other))
+    said-stops (one_name line) text at l BadOperand e
+    (ap (λ b. cond b (further 1 (ends (text_of_lexeme line l) (lexemes_from text l.end))) (Stops 0 BadOperand)) (sym other))
 
 pub name-some : (line text : List ℕ) (at : ℕ) (l : Lexeme) → First text at l → true ≡ is_name l.token
     → said_from (one_name line) text at ≡ said_from (ends (text_of_lexeme line l)) text l.end
@@ -169,7 +181,8 @@ module _ {A B : Type 0} (make : A → B) where
   made_ok ls (Tells b) a e = let same : b ≡ a = cc in ap (λ x. Ok (make x)) same
   made_ok ls (Stops place kind) a e = cc
 
-  made_err : (ls : List Lexeme) (answer : Answer A) (stop : Stop) → located ls answer ≡ Err stop → located ls (and_then make answer) ≡ Err stop
+  made_err : (ls : List Lexeme) (answer : Answer A) (stop : Stop) → located ls answer ≡ Err stop
+      → located ls (and_then make answer) ≡ Err stop
   unfolding located
   made_err ls (Tells b) stop e = cc
   made_err ls (Stops place kind) stop e = cc
@@ -185,7 +198,8 @@ module _ {A B : Type 0} (make : A → B) where
   made-err says text at stop e = made_err (lexemes_from text at) (says (lexemes_from text at)) stop e
 
 -- a fault that is passed on
-pub passes_on : {A B : Type 0} (said : Result A Stop) (other : Result B Stop) (stop : Stop) → ((s : Stop) → said ≡ Err s → other ≡ Err s) → StopsAs stop said → StopsAs stop other
+pub passes_on : {A B : Type 0} (said : Result A Stop) (other : Result B Stop) (stop : Stop) → ((s : Stop) → said ≡ Err s → other ≡ Err s)
+    → StopsAs stop said → StopsAs stop other
 passes_on said other Memory same e = tt
 passes_on said other (Fault start kind) same e = same (Fault start kind) e
 
@@ -205,7 +219,8 @@ module _ {T A : Type 0} (seen : T → A) (value : Lexeme → Option A) where
 
   -- the list ends
   pub listed-end : (text : List ℕ) (end : ℕ) (items : List T) (whole : Result (List A) Stop)
-      → before (map seen items) (said_from (values_from value false) text end) ≡ whole → lexemes_from text end ≡ [] → whole ≡ Ok (map seen items)
+      → before (map seen items) (said_from (values_from value false) text end) ≡ whole → lexemes_from text end ≡ []
+      → whole ≡ Ok (map seen items)
   listed-end text end items whole so_far none =
       sym so_far ∙ ap (λ said. before (map seen items) said) (values-end value text end none) ∙ ap Ok (append-nil (map seen items))
 

@@ -1,5 +1,6 @@
 -- What the shapes of a name want after some tokens, and which tokens they take as a whole.
-use Rattle.std.proofs.Common.{◌≡◌, ℕ, zero, suc, ◌+◌, ◌-◌, ◌<◌, ◌≤◌, ◌==◌, ◌&&◌, ◌||◌, Bool, true, false, cond, List, [], ◌∷◌, ◌++◌, Option, Some, None, length, take, map, max, slice_get, refl, sym, ap, ap₂, ◌∙◌, subst, arith, eqb-true, eq-eqb}
+use Rattle.std.proofs.Common.{◌≡◌, ℕ, zero, suc, ◌+◌, ◌-◌, ◌<◌, ◌≤◌, ◌==◌, ◌&&◌, ◌||◌, Bool, true, false, cond, List, [], ◌∷◌, ◌++◌, Option}
+use Rattle.std.proofs.Common.{Some, None, length, take, map, max, slice_get, refl, sym, ap, ap₂, ◌∙◌, subst, arith, eqb-true, eq-eqb}
 use Rattle.std.specs.Prelude.{option_map, option_and_then, is_some}
 use Rattle.std.specs.List.{list_any}
 use Rattle.std.proofs.lemmas.Bool.{and_parts}
@@ -16,7 +17,10 @@ use Rattle.asm_tokens.specs.declared.token.Token.{Token}
 use Rattle.asm_tokens.specs.declared.token.Token.TheVariants.{Register, Word, Name, Mark}
 use Rattle.asm_operands.specs.declared.operands.Target.{Target}
 use Rattle.asm_operands.specs.Fields.{on_mark, on_word, on_register, word_field, register_field, field_said}
-use Rattle.asm_operands.specs.Operands.{Known, known_with, known_after, agrees, with_field, taken_on, taken, reach_on, reach, fixed, word_in, reach_in, shapes_of, first_of_words, first_word, furthest, is_number_kind, is_number_item, wants_number, is_whole, OperandsSaid, Says, Fails, Fault, said_or, if_meant, word_said, operand_fault, operands_said, target_of}
+use Rattle.asm_operands.specs.Operands.{Known, known_with, known_after, agrees, with_field, taken_on, taken, reach_on, reach, fixed}
+use Rattle.asm_operands.specs.Operands.{word_in, reach_in, shapes_of, first_of_words, first_word, furthest, is_number_kind, is_number_item}
+use Rattle.asm_operands.specs.Operands.{wants_number, is_whole, OperandsSaid, Says, Fails, Fault, said_or, if_meant, word_said}
+use Rattle.asm_operands.specs.Operands.{operand_fault, operands_said, target_of}
 
 some_is : {A : Type 0} (a b : A) → ◌≡◌ {A = Option A} (Some a) (Some b) → a ≡ b
 some_is a b e = cc
@@ -35,7 +39,8 @@ get_some (y ∷ xs) (suc k) x e = let lt = get_some xs k x e in omega arith
 
 -- ---- how far shapes reach
 
-reach_on_le : (is : List Item) (ts : List Token) → ((next : Known) → reach is next ts ≤ length ts) → (o : Option Known) → reach_on (λ next. reach is next ts) o ≤ suc (length ts)
+reach_on_le : (is : List Item) (ts : List Token) → ((next : Known) → reach is next ts ≤ length ts) → (o : Option Known)
+    → reach_on (λ next. reach is next ts) o ≤ suc (length ts)
 reach_on_le is ts ih None = omega arith
 reach_on_le is ts ih (Some next) = let le = ih next in omega arith
 
@@ -51,13 +56,15 @@ furthest_le [] ts = omega arith
 furthest_le (s ∷ ss) ts = let a = reach_le (items_of s) (fixed s) ts in let b = furthest_le ss ts in omega arith
 
 -- operands that take the first tokens and others reach as far
-taken_reach : (is : List Item) (known : Known) (n : ℕ) (ts rest : List Token) (w : ℕ) → n ≤ length ts → taken is known (take n ts ++ rest) ≡ Some w → n ≤ reach is known ts
+taken_reach : (is : List Item) (known : Known) (n : ℕ) (ts rest : List Token) (w : ℕ) → n ≤ length ts
+    → taken is known (take n ts ++ rest) ≡ Some w → n ≤ reach is known ts
 unfolding taken reach
 taken_reach is known zero ts rest w le e = omega arith
 taken_reach is known (suc n) [] rest w le e = absurd (omega arith)
 taken_reach [] known (suc n) (t ∷ ts) rest w le e = cc
 taken_reach (i ∷ is) known (suc n) (t ∷ ts) rest w le e =
-    elim (known_after i known t) as (λ o. taken_on (λ next. taken is next (take n ts ++ rest)) o ≡ Some w → suc n ≤ reach_on (λ next. reach is next ts) o) [
+    elim (known_after i known t) as (λ o. taken_on (λ next. taken is next (take n ts ++ rest)) o ≡ Some w
+    → suc n ≤ reach_on (λ next. reach is next ts) o) [
       | None ↦ λ h. cc
       | Some next ↦ λ h. let less : n ≤ length ts = omega arith in let r = taken_reach is next n ts rest w less h in omega arith
     ] e
@@ -75,14 +82,16 @@ taken_length (i ∷ is) known (t ∷ ts) w e =
     ] e
 
 -- and where they reach as far as they are many, they take these
-reach_taken : (is : List Item) (known : Known) (n : ℕ) (ts : List Token) → reach is known ts ≡ n → length is ≡ n → (w : ℕ) × (taken is known (take n ts) ≡ Some w)
+reach_taken : (is : List Item) (known : Known) (n : ℕ) (ts : List Token) → reach is known ts ≡ n → length is ≡ n → (w : ℕ)
+    × (taken is known (take n ts) ≡ Some w)
 unfolding taken reach
 reach_taken [] known zero ts r l = (known.value, refl)
 reach_taken [] known (suc n) ts r l = absurd (omega arith)
 reach_taken (i ∷ is) known zero ts r l = absurd (omega arith)
 reach_taken (i ∷ is) known (suc n) [] r l = absurd (omega arith)
 reach_taken (i ∷ is) known (suc n) (t ∷ ts) r l =
-    elim (known_after i known t) as (λ o. reach_on (λ next. reach is next ts) o ≡ suc n → (w : ℕ) × (taken_on (λ next. taken is next (take n ts)) o ≡ Some w)) [
+    elim (known_after i known t) as (λ o. reach_on (λ next. reach is next ts) o ≡ suc n → (w : ℕ)
+    × (taken_on (λ next. taken is next (take n ts)) o ≡ Some w)) [
       | None ↦ λ h. absurd (omega arith)
       | Some next ↦ λ h. reach_taken is next n ts (omega arith) (omega arith)
     ] r
@@ -99,7 +108,8 @@ unfolding is_number_token on_word
 word_number says (Word place) f n e = cc
 word_number says t f n e = cc
 
-register_number : (numbered : RegisterFile → ℕ → Option ℕ) (says : ℕ → Option ℕ) (t : Token) (f : ℕ) → is_number_token t ≡ true → on_register numbered says t ≡ Some f → ⊥
+register_number : (numbered : RegisterFile → ℕ → Option ℕ) (says : ℕ → Option ℕ) (t : Token) (f : ℕ) → is_number_token t ≡ true
+    → on_register numbered says t ≡ Some f → ⊥
 unfolding is_number_token on_register
 register_number numbered says (Register file number) f n e = cc
 register_number numbered says (Word place) f n e = cc
@@ -119,19 +129,23 @@ known_field i known next None e = cc
 known_field i known next (Some f) e = (f, refl)
 
 -- the operand of a number
-taken_number : (is : List Item) (known : Known) (n : ℕ) (ts : List Token) (t : Token) (rest : List Token) (w : ℕ) → n ≤ length ts → is_number_token t ≡ true → taken is known (take n ts ++ t ∷ rest) ≡ Some w
+taken_number : (is : List Item) (known : Known) (n : ℕ) (ts : List Token) (t : Token) (rest : List Token) (w : ℕ) → n ≤ length ts
+    → is_number_token t ≡ true → taken is known (take n ts ++ t ∷ rest) ≡ Some w
     → is_number_item (slice_get is n) ≡ true
 unfolding taken known_after
 taken_number [] known zero ts t rest w le k e = cc
 taken_number (i ∷ is) known zero ts t rest w le k e =
-    elim (known_with i known (field_said i.kind (bits_of i) t)) as (λ o. known_with i known (field_said i.kind (bits_of i) t) ≡ o → taken_on (λ next. taken is next rest) o ≡ Some w → is_number_kind i.kind ≡ true) [
+    elim (known_with i known (field_said i.kind (bits_of i) t)) as (λ o. known_with i known (field_said i.kind (bits_of i) t) ≡ o
+    → taken_on (λ next. taken is next rest) o ≡ Some w → is_number_kind i.kind ≡ true) [
       | None ↦ λ is_none h. cc
-      | Some next ↦ λ is_next h. let f = known_field i known next (field_said i.kind (bits_of i) t) is_next in number_kind i.kind (bits_of i) t f.0 k f.1
+      | Some next ↦ λ is_next h. let f =
+          known_field i known next (field_said i.kind (bits_of i) t) is_next in number_kind i.kind (bits_of i) t f.0 k f.1
     ] refl e
 taken_number is known (suc n) [] t rest w le k e = absurd (omega arith)
 taken_number [] known (suc n) (u ∷ ts) t rest w le k e = cc
 taken_number (i ∷ is) known (suc n) (u ∷ ts) t rest w le k e =
-    elim (known_with i known (field_said i.kind (bits_of i) u)) as (λ o. taken_on (λ next. taken is next (take n ts ++ t ∷ rest)) o ≡ Some w → is_number_item (slice_get is n) ≡ true) [
+    elim (known_with i known (field_said i.kind (bits_of i) u)) as (λ o. taken_on (λ next. taken is next (take n ts ++ t ∷ rest)) o ≡ Some w
+    → is_number_item (slice_get is n) ≡ true) [
       | None ↦ λ h. cc
       | Some next ↦ λ h. let less : n ≤ length ts = omega arith in taken_number is next n ts t rest w less k h
     ] e
@@ -152,18 +166,42 @@ first_shape : (ss : List Shape) (ts : List Token) (w : ℕ) → first_word ss ts
 unfolding first_word furthest
 first_shape [] ts w e = cc
 first_shape (s ∷ ss) ts w e =
-    elim (word_in s ts) as (λ o. word_in s ts ≡ o → first_of_words o (first_word ss ts) ≡ Some w → HasShape (s ∷ ss) (λ s. word_in s ts ≡ Some w)) [
-      | None ↦ λ is h. let r = first_shape ss ts w h in record { shape = r.shape; among = λ test t. any_or (test s) (list_any test ss) (r.among test t); reaches = (λ us. let le = r.reaches us in omega arith); holds = r.holds }
-      | Some v ↦ λ is h. record { shape = s; among = λ test t. ap (λ b. b || list_any test ss) t; reaches = (λ us. omega arith); holds = is ∙ h }
+    elim (word_in s ts) as (λ o. word_in s ts ≡ o → first_of_words o (first_word ss ts) ≡ Some w
+    → HasShape (s ∷ ss) (λ s. word_in s ts ≡ Some w)) [
+      | None ↦ λ is h. let r =
+          first_shape ss ts w h in
+          record {
+            shape = r.shape;
+            among = λ test t. any_or (test s) (list_any test ss) (r.among test t);
+            reaches = (λ us. let le = r.reaches us in omega arith);
+            holds = r.holds;
+          }
+      | Some v ↦ λ is h. record {
+        shape = s;
+        among = λ test t. ap (λ b. b || list_any test ss) t;
+        reaches = (λ us. omega arith);
+        holds = is
+            ∙ h;
+      }
     ] refl e
 
-some_shape : (test : Shape → Bool) (ss : List Shape) → list_any test ss ≡ true → (s : Shape) × (test s ≡ true) × ((ts : List Token) (w : ℕ) → word_in s ts ≡ Some w → (v : ℕ) × (first_word ss ts ≡ Some v)) × ((ts : List Token) → reach_in s ts ≤ furthest ss ts)
+some_shape : (test : Shape → Bool) (ss : List Shape) → list_any test ss ≡ true → (s : Shape) × (test s ≡ true)
+    × ((ts : List Token) (w : ℕ) → word_in s ts ≡ Some w → (v : ℕ) × (first_word ss ts ≡ Some v))
+    × ((ts : List Token) → reach_in s ts ≤ furthest ss ts)
 unfolding first_word furthest
 some_shape test [] e = cc
 some_shape test (s ∷ ss) e =
-    elim (test s) as (λ b. test s ≡ b → (b || list_any test ss) ≡ true → (s' : Shape) × (test s' ≡ true) × ((ts : List Token) (w : ℕ) → word_in s' ts ≡ Some w → (v : ℕ) × (first_of_words (word_in s ts) (first_word ss ts) ≡ Some v)) × ((ts : List Token) → reach_in s' ts ≤ max (reach_in s ts) (furthest ss ts))) [
+    elim (test s) as (λ b. test s ≡ b → (b || list_any test ss) ≡ true → (s' : Shape) × (test s' ≡ true)
+    × ((ts : List Token) (w : ℕ) → word_in s' ts ≡ Some w → (v : ℕ) × (first_of_words (word_in s ts) (first_word ss ts) ≡ Some v))
+    × ((ts : List Token) → reach_in s' ts ≤ max (reach_in s ts) (furthest ss ts))) [
       | true ↦ λ is h. (s, is, (λ ts w g. (w, ap (λ o. first_of_words o (first_word ss ts)) g)), (λ ts. omega arith))
-      | false ↦ λ is h. let r = some_shape test ss h in (r.0, r.1, (λ ts w g. let v = r.2 ts w g in either_word (word_in s ts) (first_word ss ts) v.0 v.1), (λ ts. let le = r.3 ts in omega arith))
+      | false ↦ λ is h. let r =
+          some_shape test ss h in (
+            r.0,
+            r.1,
+            (λ ts w g. let v = r.2 ts w g in either_word (word_in s ts) (first_word ss ts) v.0 v.1),
+            (λ ts. let le = r.3 ts in omega arith),
+          )
     ] refl e
   where
     either_word : (a b : Option ℕ) (v : ℕ) → b ≡ Some v → (u : ℕ) × (first_of_words a b ≡ Some u)
@@ -178,7 +216,8 @@ module _ (ss : List Shape) (ts : List Token) where
   k = furthest ss ts
 
   -- a shape that takes the tokens before the first that none takes, and others, reaches as far
-  reach_here : (rest : List Token) (w : ℕ) (h : HasShape ss (λ s. word_in s (take k ts ++ rest) ≡ Some w)) → (reach_in h.shape ts == k) ≡ true
+  reach_here : (rest : List Token) (w : ℕ) (h : HasShape ss (λ s. word_in s (take k ts ++ rest) ≡ Some w))
+      → (reach_in h.shape ts == k) ≡ true
   unfolding word_in reach_in
   reach_here rest w h =
       let low = taken_reach (items_of h.shape) (fixed h.shape) k ts rest w (furthest_le ss ts) h.holds in
@@ -186,11 +225,13 @@ module _ (ss : List Shape) (ts : List Token) where
       eq-eqb _ _ (omega (arith, low, high))
 
   -- a number goes on: some shape wants one
-  pub wants_by : (t : Token) (rest : List Token) (w : ℕ) → is_number_token t ≡ true → first_word ss (take k ts ++ t ∷ rest) ≡ Some w → list_any (wants_number k ts) ss ≡ true
+  pub wants_by : (t : Token) (rest : List Token) (w : ℕ) → is_number_token t ≡ true → first_word ss (take k ts ++ t ∷ rest) ≡ Some w
+      → list_any (wants_number k ts) ss ≡ true
   unfolding wants_number word_in
   wants_by t rest w n e =
       let h = first_shape ss (take k ts ++ t ∷ rest) w e in
-      h.among (wants_number k ts) (both_true _ _ (reach_here (t ∷ rest) w h) (taken_number (items_of h.shape) (fixed h.shape) k ts t rest w (furthest_le ss ts) n h.holds))
+      h.among (wants_number k ts) (both_true _ _ (reach_here (t ∷ rest) w h)
+      (taken_number (items_of h.shape) (fixed h.shape) k ts t rest w (furthest_le ss ts) n h.holds))
 
   -- the tokens are whole: some shape is
   pub whole_by : (w : ℕ) → first_word ss (take k ts) ≡ Some w → list_any (is_whole k ts) ss ≡ true
@@ -199,7 +240,8 @@ module _ (ss : List Shape) (ts : List Token) where
       let f : first_word ss (take k ts ++ []) ≡ Some w = ap (first_word ss) (append-nil (take k ts)) ∙ e in
       let h = first_shape ss (take k ts ++ []) w f in
       let size : length (take k ts ++ []) ≡ k = ap length (append-nil (take k ts)) ∙ omega (arith, length-take k ts, furthest_le ss ts) in
-      h.among (is_whole k ts) (both_true _ _ (reach_here [] w h) (eq-eqb _ _ (taken_length (items_of h.shape) (fixed h.shape) (take k ts ++ []) w h.holds ∙ size)))
+      h.among (is_whole k ts) (both_true _ _ (reach_here [] w h)
+      (eq-eqb _ _ (taken_length (items_of h.shape) (fixed h.shape) (take k ts ++ []) w h.holds ∙ size)))
 
   pub whole_from : list_any (is_whole k ts) ss ≡ true → (w : ℕ) × (first_word ss (take k ts) ≡ Some w)
   unfolding is_whole word_in reach_in
@@ -218,18 +260,24 @@ pub record IsRefused (name : ℕ) (ts : List Token) (f : Fault) : Type 0 where
 same_fault : (f g : Fault) → ◌≡◌ {A = OperandsSaid} (Fails f) (Fails g) → f ≡ g
 same_fault f g e = cc
 
-refused_if : (name : ℕ) (ts : List Token) (f : Fault) (v : ℕ) (b : Bool) → first_word (shapes_of name) ts ≡ Some v → is_some (instruction_of v) ≡ b
-    → said_or (Fails (operand_fault (shapes_of name) ts)) (target_of (shapes_of name) ts) (cond b (Some v) None) ≡ Fails f → IsRefused name ts f
+refused_if : (name : ℕ) (ts : List Token) (f : Fault) (v : ℕ) (b : Bool) → first_word (shapes_of name) ts ≡ Some v
+    → is_some (instruction_of v) ≡ b
+    → said_or (Fails (operand_fault (shapes_of name) ts)) (target_of (shapes_of name) ts) (cond b (Some v) None) ≡ Fails f
+    → IsRefused name ts f
 refused_if name ts f v true is m e = cc
 refused_if name ts f v false is m e = record {
   fault_is = sym (same_fault _ f e);
-  none_meant = λ w g h. let same : v ≡ w = some_is v w (sym is ∙ g) in let clash : false ≡ true = sym m ∙ ap (λ x. is_some (instruction_of x)) same ∙ h in cc;
+  none_meant =
+      λ w g h. let same : v ≡ w =
+      some_is v w (sym is ∙ g) in let clash : false ≡ true = sym m ∙ ap (λ x. is_some (instruction_of x)) same ∙ h in cc;
 }
 
 refused_by : (name : ℕ) (ts : List Token) (f : Fault) (o : Option ℕ) → first_word (shapes_of name) ts ≡ o
-    → said_or (Fails (operand_fault (shapes_of name) ts)) (target_of (shapes_of name) ts) (option_and_then if_meant o) ≡ Fails f → IsRefused name ts f
+    → said_or (Fails (operand_fault (shapes_of name) ts)) (target_of (shapes_of name) ts) (option_and_then if_meant o) ≡ Fails f
+    → IsRefused name ts f
 unfolding if_meant
-refused_by name ts f None is e = record { fault_is = sym (same_fault _ f e); none_meant = λ w g h. let clash : None ≡ Some w = sym is ∙ g in cc }
+refused_by name ts f None is e =
+    record { fault_is = sym (same_fault _ f e); none_meant = λ w g h. let clash : None ≡ Some w = sym is ∙ g in cc }
 refused_by name ts f (Some v) is e = refused_if name ts f v (is_some (instruction_of v)) is refl e
 
 pub refused : (name : ℕ) (ts : List Token) (f : Fault) → operands_said name ts ≡ Fails f → IsRefused name ts f

@@ -1,12 +1,14 @@
 -- The first token of a text, and those that follow it.
-use Rattle.std.proofs.Common.{◌≡◌, ℕ, zero, suc, ◌+◌, ◌<◌, ◌≤◌, true, false, ◌&&◌, ◌==◌, nat_lt, List, [], ◌∷◌, length, drop, get_or, cond, refl, sym, ap, ap₂, ◌∙◌, arith, length-drop, inl, inr}
+use Rattle.std.proofs.Common.{◌≡◌, ℕ, zero, suc, ◌+◌, ◌<◌, ◌≤◌, true, false, ◌&&◌, ◌==◌, nat_lt, List, [], ◌∷◌, length, drop, get_or, cond}
+use Rattle.std.proofs.Common.{refl, sym, ap, ap₂, ◌∙◌, arith, length-drop, inl, inr}
 use Rattle.std.specs.List.{prefix_len}
 use Rattle.std.proofs.lemmas.Bool.{cases_Bool, cond-true, cond-false, cond_both}
 use Rattle.std.proofs.lemmas.List.{drop-drop, drop_more, drop_all, get_or-drop}
 use Rattle.std.proofs.lemmas.List.Sums.{prefix_len_stops, take_while-cons}
 use Rattle.asm_tokens.specs.declared.token.Lexeme.{Lexeme}
 use Rattle.asm_tokens.specs.Characters.{is_name_character, is_blank, front}
-use Rattle.asm_tokens.specs.Tokens.{Read, run, has_sign, read_number, read_distance, read_run, read_character, read_token, lexeme_at, lexemes_from, lexemes_of}
+use Rattle.asm_tokens.specs.Tokens.{Read, run, has_sign, read_number, read_distance, read_run, read_character, read_token, lexeme_at}
+use Rattle.asm_tokens.specs.Tokens.{lexemes_from, lexemes_of}
 use Rattle.asm_tokens.proofs.Steps.{front-length}
 
 -- ---- sizes
@@ -54,14 +56,16 @@ unfolding lexemes_from
 lexemes-blank at c cs e = cond-true (is_blank c) _ _ e
 
 pub lexemes-token : (at c : ℕ) (cs : List ℕ) → is_blank c ≡ false
-    → lexemes_of at (c ∷ cs) ≡ lexeme_at at (read_token c cs) ∷ lexemes_of (at + (read_token c cs).size) (drop (read_token c cs).size (c ∷ cs))
+    → lexemes_of at (c ∷ cs) ≡ lexeme_at at (read_token c cs)
+    ∷ lexemes_of (at + (read_token c cs).size) (drop (read_token c cs).size (c ∷ cs))
 unfolding lexemes_from
 lexemes-token at c cs e =
     let r = read_token c cs in
     let some : 1 ≤ r.size = size-some c cs in
     let less : length (drop r.size (c ∷ cs)) ≤ length cs = omega (arith, length-drop r.size (c ∷ cs)) in
     cond-false (is_blank c) _ _ e
-    ∙ ap (λ (ys : List Lexeme). lexeme_at at r ∷ ys) (enough (length cs) (length (drop r.size (c ∷ cs))) (at + r.size) (drop r.size (c ∷ cs)) less (omega arith))
+    ∙ ap (λ (ys : List Lexeme). lexeme_at at r ∷ ys)
+    (enough (length cs) (length (drop r.size (c ∷ cs))) (at + r.size) (drop r.size (c ∷ cs)) less (omega arith))
 
 prefix-yes : (c : ℕ) (cs : List ℕ) → is_blank c ≡ true → prefix_len is_blank (c ∷ cs) ≡ 1 + prefix_len is_blank cs
 prefix-yes c cs e = cond-true (is_blank c) (1 + prefix_len is_blank cs) 0 e
@@ -86,36 +90,43 @@ lexemes-blanks : (at : ℕ) (xs : List ℕ) → lexemes_of at xs ≡ after at xs
 lexemes-blanks at [] = after-zero at []
 lexemes-blanks at (c ∷ cs) =
     elim (cases_Bool (is_blank c)) [
-      | inl e ↦ lexemes-blank at c cs e ∙ lexemes-blanks (at + 1) cs ∙ after-suc at c (prefix_len is_blank cs) cs ∙ ap (λ n. after at (c ∷ cs) n) (sym (prefix-yes c cs e))
+      | inl e ↦ lexemes-blank at c cs e ∙ lexemes-blanks (at + 1) cs ∙ after-suc at c (prefix_len is_blank cs) cs
+          ∙ ap (λ n. after at (c ∷ cs) n) (sym (prefix-yes c cs e))
       | inr e ↦ after-zero at (c ∷ cs) ∙ ap (λ n. after at (c ∷ cs) n) (sym (prefix-no c cs e))
     ]
 
 -- blanks say nothing
-pub lexemes-skip : (xs : List ℕ) (at start : ℕ) → start ≡ at + length (front is_blank (drop at xs)) → lexemes_of at (drop at xs) ≡ lexemes_of start (drop start xs)
+pub lexemes-skip : (xs : List ℕ) (at start : ℕ) → start ≡ at + length (front is_blank (drop at xs))
+    → lexemes_of at (drop at xs) ≡ lexemes_of start (drop start xs)
 lexemes-skip xs at start is =
     let n = prefix_len is_blank (drop at xs) in
     let e : at + n ≡ start = omega (arith, front-length is_blank (drop at xs)) in
     lexemes-blanks at (drop at xs) ∙ ap (λ ys. lexemes_of (at + n) ys) (drop-drop n at xs) ∙ ap (λ k. lexemes_of k (drop k xs)) e
 
 -- nothing but blanks stands there
-pub lexemes-none : (xs : List ℕ) (at start : ℕ) → start ≡ at + length (front is_blank (drop at xs)) → length xs ≤ start → lexemes_of at (drop at xs) ≡ []
+pub lexemes-none : (xs : List ℕ) (at start : ℕ) → start ≡ at + length (front is_blank (drop at xs)) → length xs ≤ start
+    → lexemes_of at (drop at xs) ≡ []
 unfolding lexemes_from
 lexemes-none xs at start is le = lexemes-skip xs at start is ∙ ap (λ ys. lexemes_of start ys) (drop_all start xs le)
 
-no_blank : (xs : List ℕ) (at start : ℕ) → start ≡ at + length (front is_blank (drop at xs)) → start < length xs → is_blank (get_or xs start 0) ≡ false
+no_blank : (xs : List ℕ) (at start : ℕ) → start ≡ at + length (front is_blank (drop at xs)) → start < length xs
+    → is_blank (get_or xs start 0) ≡ false
 no_blank xs at start is lt =
     let n = prefix_len is_blank (drop at xs) in
     let e : at + n ≡ start = omega (arith, front-length is_blank (drop at xs)) in
-    ap (λ k. is_blank (get_or xs k 0)) (sym e) ∙ ap is_blank (sym (get_or-drop at xs n 0)) ∙ prefix_len_stops is_blank (drop at xs) 0 (omega (arith, length-drop at xs))
+    ap (λ k. is_blank (get_or xs k 0)) (sym e) ∙ ap is_blank (sym (get_or-drop at xs n 0))
+    ∙ prefix_len_stops is_blank (drop at xs) 0 (omega (arith, length-drop at xs))
 
 -- the first token and the others
 pub lexemes-some : (xs : List ℕ) (at start : ℕ) → start ≡ at + length (front is_blank (drop at xs)) → start < length xs
     → lexemes_of at (drop at xs) ≡ lexeme_at start (read_token (get_or xs start 0) (drop (start + 1) xs))
-    ∷ lexemes_of (start + (read_token (get_or xs start 0) (drop (start + 1) xs)).size) (drop (start + (read_token (get_or xs start 0) (drop (start + 1) xs)).size) xs)
+    ∷ lexemes_of (start + (read_token (get_or xs start 0) (drop (start + 1) xs)).size)
+    (drop (start + (read_token (get_or xs start 0) (drop (start + 1) xs)).size) xs)
 lexemes-some xs at start is lt =
     let c = get_or xs start 0 in
     let cs = drop (start + 1) xs in
     let r = read_token c cs in
-    lexemes-skip xs at start is ∙ ap (λ ys. lexemes_of start ys) (drop_more xs start 0 lt) ∙ lexemes-token start c cs (no_blank xs at start is lt)
+    lexemes-skip xs at start is ∙ ap (λ ys. lexemes_of start ys) (drop_more xs start 0 lt)
+    ∙ lexemes-token start c cs (no_blank xs at start is lt)
     ∙ ap (λ ys. lexeme_at start r ∷ lexemes_of (start + r.size) (drop r.size ys)) (sym (drop_more xs start 0 lt))
     ∙ ap (λ ys. lexeme_at start r ∷ lexemes_of (start + r.size) ys) (drop-drop r.size start xs)

@@ -1,5 +1,6 @@
 -- The slots from that of its hash on lead a text to the place at which it stands.
-use Rattle.std.proofs.Common.{◌≡◌, ℕ, zero, suc, ◌+◌, ◌<◌, ◌≤◌, Bool, true, false, ◌==◌, ◌%◌, cond, nat_lt, List, [], ◌∷◌, Option, Some, None, length, get_or, refl, sym, ap, ◌∙◌, arith, eqb-true, lt-ltb, ltb-true, inl, inr}
+use Rattle.std.proofs.Common.{◌≡◌, ℕ, zero, suc, ◌+◌, ◌<◌, ◌≤◌, Bool, true, false, ◌==◌, ◌%◌, cond, nat_lt, List, [], ◌∷◌, Option, Some}
+use Rattle.std.proofs.Common.{None, length, get_or, refl, sym, ap, ◌∙◌, arith, eqb-true, lt-ltb, ltb-true, inl, inr}
 use Rattle.std.specs.Prelude.{slice_index}
 use Rattle.std.specs.List.{position_or_len}
 use Rattle.std.specs.Str.{bytes_eq}
@@ -48,7 +49,8 @@ module _ (texts : List Text) (slots : List ℕ) (factor size : ℕ) where
     text-at : (k : ℕ) → k < length texts → text_at texts k ≡ text_in (Some (get_or texts k none))
     text-at k lt = ap text_in (slice_get-get_or texts k none lt)
 
-    stands : (n : ℕ) → leads texts slots factor size 0 texts ≡ true → n < length texts → is_that (get_or texts n none) ≡ true → place_by texts slots factor size text ≡ Some n
+    stands : (n : ℕ) → leads texts slots factor size 0 texts ≡ true → n < length texts → is_that (get_or texts n none) ≡ true
+        → place_by texts slots factor size text ≡ Some n
     stands n lead lt here =
         let same : text_in (Some (get_or texts n none)) ≡ text = (bytes_eq-Decides _ text).0 here in
         ap (place_by texts slots factor size) (sym same) ∙ leads-at 0 texts n none lead lt ∙ ap Some (omega arith)
@@ -58,7 +60,8 @@ module _ (texts : List Text) (slots : List ℕ) (factor size : ℕ) where
     not_at le k = cond-false _ (Some k) None (false_from_ne_true _ (λ e.
         let p = and_parts (nat_lt k (length texts)) (bytes_eq (text_at texts k) text) e in
         let lt : k < length texts = ltb-true k (length texts) p.0 in
-        both_ways (is_that (get_or texts k none)) (fails_before_first is_that texts k none (omega arith)) (ap (λ ys. bytes_eq ys text) (sym (text-at k lt)) ∙ p.1)))
+        both_ways (is_that (get_or texts k none)) (fails_before_first is_that texts k none (omega arith))
+        (ap (λ ys. bytes_eq ys text) (sym (text-at k lt)) ∙ p.1)))
 
     none_either : (b : Bool) (first second : Option ℕ) → first ≡ None → second ≡ None → cond b None (first_of first second) ≡ None
     none_either true first second e f = refl
@@ -68,7 +71,8 @@ module _ (texts : List Text) (slots : List ℕ) (factor size : ℕ) where
     nowhere : length texts ≤ position_or_len is_that texts → (steps at : ℕ) → probed texts slots size text steps at ≡ None
     unfolding probed
     nowhere le zero at = refl
-    nowhere le (suc steps) at = none_either (slice_index slots at == 65535) _ _ (not_at le (slice_index slots at)) (nowhere le steps ((at + 1) % size))
+    nowhere le (suc steps) at =
+        none_either (slice_index slots at == 65535) _ _ (not_at le (slice_index slots at)) (nowhere le steps ((at + 1) % size))
 
     place_by-place_in : leads texts slots factor size 0 texts ≡ true → place_by texts slots factor size text ≡ place_in texts text
     unfolding place_in place_by

@@ -25,25 +25,32 @@ unfolding begins_name read_token read_run
 read-name c cs e =
     let p = and_parts (is_name_character c && not (is_digit c)) (not ((c == 46) && has_sign cs)) e in
     let q = and_parts (is_name_character c) (not (is_digit c)) p.0 in
-    cond-false (c == 35) _ _ (name_no_number c q.0) ∙ cond-false ((c == 46) && has_sign cs) _ _ (not-true _ p.1) ∙ cond-true (is_name_character c) _ _ q.0
+    cond-false (c == 35) _ _ (name_no_number c q.0) ∙ cond-false ((c == 46) && has_sign cs) _ _ (not-true _ p.1)
+    ∙ cond-true (is_name_character c) _ _ q.0
     ∙ ap (λ t. let r : Read = record { token = t; size = length (run (c ∷ cs)) } in r) (cond-false (is_digit c) _ _ (not-true _ q.1))
 
 begins_no_blank : (c : ℕ) (cs : List ℕ) → begins_name (c ∷ cs) ≡ true → is_blank c ≡ false
 unfolding begins_name
-begins_no_blank c cs e = name_no_blank c (and_parts (is_name_character c) (not (is_digit c)) (and_parts _ (not ((c == 46) && has_sign cs)) e).0).0
+begins_no_blank c cs e =
+    name_no_blank c (and_parts (is_name_character c) (not (is_digit c)) (and_parts _ (not ((c == 46) && has_sign cs)) e).0).0
 
 lexemes-named : (at c : ℕ) (cs : List ℕ) → begins_name (c ∷ cs) ≡ true
-    → lexemes_of at (c ∷ cs) ≡ lexeme_at at (named (c ∷ cs)) ∷ lexemes_of (at + length (run (c ∷ cs))) (drop (length (run (c ∷ cs))) (c ∷ cs))
+    → lexemes_of at (c ∷ cs) ≡ lexeme_at at (named (c ∷ cs))
+    ∷ lexemes_of (at + length (run (c ∷ cs))) (drop (length (run (c ∷ cs))) (c ∷ cs))
 lexemes-named at c cs e =
-    lexemes-token at c cs (begins_no_blank c cs e) ∙ ap (λ (r : Read). lexeme_at at r ∷ lexemes_of (at + r.size) (drop r.size (c ∷ cs))) (read-name c cs e)
+    lexemes-token at c cs (begins_no_blank c cs e)
+    ∙ ap (λ (r : Read). lexeme_at at r ∷ lexemes_of (at + r.size) (drop r.size (c ∷ cs))) (read-name c cs e)
 
 -- the first token is the name, and the others follow it
 pub first-name : (xs : List ℕ) (start : ℕ) → start < length xs → begins_name (drop start xs) ≡ true
-    → lexemes_of start (drop start xs) ≡ lexeme_at start (named (drop start xs)) ∷ lexemes_of (start + length (run (drop start xs))) (drop (start + length (run (drop start xs))) xs)
+    → lexemes_of start (drop start xs) ≡ lexeme_at start (named (drop start xs))
+    ∷ lexemes_of (start + length (run (drop start xs))) (drop (start + length (run (drop start xs))) xs)
 first-name xs start lt e =
     let c = get_or xs start 0 in
     let cs = drop (start + 1) xs in
     let same : drop start xs ≡ c ∷ cs = drop_more xs start 0 lt in
-    let P : List ℕ → Type 0 = λ ys. lexemes_of start ys ≡ lexeme_at start (named ys) ∷ lexemes_of (start + length (run ys)) (drop (length (run ys)) ys) in
+    let P : List ℕ → Type 0 =
+    λ ys. lexemes_of start ys ≡ lexeme_at start (named ys) ∷ lexemes_of (start + length (run ys)) (drop (length (run ys)) ys) in
     subst P (sym same) (lexemes-named start c cs (ap begins_name (sym same) ∙ e))
-    ∙ ap (λ ys. lexeme_at start (named (drop start xs)) ∷ lexemes_of (start + length (run (drop start xs))) ys) (drop-drop (length (run (drop start xs))) start xs)
+    ∙ ap (λ ys. lexeme_at start (named (drop start xs)) ∷ lexemes_of (start + length (run (drop start xs))) ys)
+    (drop-drop (length (run (drop start xs))) start xs)

@@ -1,5 +1,6 @@
 -- A text is looked for slot by slot.
-use Rattle.std.proofs.Common.{◌≡◌, ℕ, suc, ◌+◌, ◌-◌, ◌%◌, ◌<◌, ◌≤◌, ◌==◌, Bool, true, false, cond, List, Option, Some, None, refl, sym, ap, ◌∙◌, arith, eqb-true, eq-eqb}
+use Rattle.std.proofs.Common.{◌≡◌, ℕ, suc, ◌+◌, ◌-◌, ◌%◌, ◌<◌, ◌≤◌, ◌==◌, Bool, true, false, cond, List, Option, Some, None, refl, sym, ap}
+use Rattle.std.proofs.Common.{◌∙◌, arith, eqb-true, eq-eqb}
 use Rattle.std.specs.Prelude.{slice_index}
 use Rattle.std.proofs.lemmas.Bool.{false_from_ne_true}
 use Rattle.insn_text.specs.declared.item.Text.{Text}
@@ -24,7 +25,8 @@ module _ (texts : List Text) (slots : List ℕ) (size : ℕ) (text : List ℕ) w
   is_free true first second e = refl
   is_free false first second e = cc
 
-  pub ends-free : (step at slot : ℕ) → step < 16 → slot ≡ slice_index slots at → slot ≡ 65535 → probed texts slots size text (16 - step) at ≡ None
+  pub ends-free : (step at slot : ℕ) → step < 16 → slot ≡ slice_index slots at → slot ≡ 65535
+      → probed texts slots size text (16 - step) at ≡ None
   unfolding probed
   ends-free step at slot lt is free =
       ap (λ n. probed texts slots size text n at) (steps_left step lt)
@@ -33,12 +35,14 @@ module _ (texts : List Text) (slots : List ℕ) (size : ℕ) (text : List ℕ) w
   taken : (slot : ℕ) → (slot ≡ 65535 → ⊥) → (slot == 65535) ≡ false
   taken slot other = false_from_ne_true _ (λ e. other (eqb-true slot 65535 e))
 
-  pub finds : (step at slot place : ℕ) → step < 16 → slot ≡ slice_index slots at → (slot ≡ 65535 → ⊥) → Some place ≡ place_if texts slot text → probed texts slots size text (16 - step) at ≡ Some place
+  pub finds : (step at slot place : ℕ) → step < 16 → slot ≡ slice_index slots at → (slot ≡ 65535 → ⊥)
+      → Some place ≡ place_if texts slot text → probed texts slots size text (16 - step) at ≡ Some place
   unfolding probed
   finds step at slot place lt is other found =
       ap (λ n. probed texts slots size text n at) (steps_left step lt)
       ∙ not_free (slice_index slots at == 65535) (found_at at) (found_after step at) (ap (λ n. n == 65535) (sym is) ∙ taken slot other)
-      ∙ ap (λ o. first_of o (probed texts slots size text (16 - (step + 1)) ((at + 1) % size))) (ap (λ k. place_if texts k text) (sym is) ∙ sym found)
+      ∙ ap (λ o. first_of o (probed texts slots size text (16 - (step + 1)) ((at + 1) % size)))
+      (ap (λ k. place_if texts k text) (sym is) ∙ sym found)
 
   pub goes-on : (step at slot : ℕ) → step < 16 → slot ≡ slice_index slots at → (slot ≡ 65535 → ⊥) → None ≡ place_if texts slot text
       → probed texts slots size text (16 - step) at ≡ probed texts slots size text (16 - (step + 1)) ((at + 1) % size)
@@ -46,7 +50,8 @@ module _ (texts : List Text) (slots : List ℕ) (size : ℕ) (text : List ℕ) w
   goes-on step at slot lt is other none =
       ap (λ n. probed texts slots size text n at) (steps_left step lt)
       ∙ not_free (slice_index slots at == 65535) (found_at at) (found_after step at) (ap (λ n. n == 65535) (sym is) ∙ taken slot other)
-      ∙ ap (λ o. first_of o (probed texts slots size text (16 - (step + 1)) ((at + 1) % size))) (ap (λ k. place_if texts k text) (sym is) ∙ sym none)
+      ∙ ap (λ o. first_of o (probed texts slots size text (16 - (step + 1)) ((at + 1) % size)))
+      (ap (λ k. place_if texts k text) (sym is) ∙ sym none)
 
   pub ends : (step at : ℕ) → 16 ≤ step → probed texts slots size text (16 - step) at ≡ None
   unfolding probed

@@ -1,5 +1,7 @@
 -- The steps of loops over a text.
-use Rattle.std.proofs.Common.{◌≡◌, ℕ, ◌+◌, ◌*◌, ◌%◌, ◌^◌, ◌<◌, ◌≤◌, Bool, true, false, not, ◌&&◌, ◌||◌, ◌==◌, List, [], ◌∷◌, ◌++◌, Option, Some, None, length, take, drop, get_or, cond, refl, sym, ap, ◌∙◌, arith, append_assoc, add-one, lt-ltb, nat_lt}
+use Rattle.std.proofs.Common.{◌≡◌, ℕ, ◌+◌, ◌*◌, ◌%◌, ◌^◌, ◌<◌, ◌≤◌, Bool, true, false, not, ◌&&◌, ◌||◌, ◌==◌, List, [], ◌∷◌, ◌++◌, Option}
+use Rattle.std.proofs.Common.{Some, None, length, take, drop, get_or, cond, refl, sym, ap, ◌∙◌, arith, append_assoc, add-one, lt-ltb}
+use Rattle.std.proofs.Common.{nat_lt}
 use Rattle.std.specs.List.{prefix_len, list_all}
 use Rattle.std.proofs.Math.Seq.{take-suc}
 use Rattle.std.proofs.lemmas.List.{append-nil, drop-drop, at_drop_more, at_drop_all, length-take}
@@ -24,7 +26,8 @@ take_front p xs = ap (λ n. take n xs) (front-length p xs)
 
 pub front-more : (p : ℕ → Bool) (xs : List ℕ) (at whole : ℕ) → at < length xs → true ≡ p (get_or xs at 0)
     → at + length (front p (drop at xs)) ≡ whole → at + 1 + length (front p (drop (at + 1) xs)) ≡ whole
-front-more p xs at whole lt e h = omega (arith, front-length p (drop at xs), front-length p (drop (at + 1) xs), prefix_len-drop_yes p xs at 0 lt (sym e))
+front-more p xs at whole lt e h =
+    omega (arith, front-length p (drop at xs), front-length p (drop (at + 1) xs), prefix_len-drop_yes p xs at 0 lt (sym e))
 
 pub front-stop : (p : ℕ → Bool) (xs : List ℕ) (at whole : ℕ) → at < length xs → false ≡ p (get_or xs at 0)
     → at + length (front p (drop at xs)) ≡ whole → at ≡ whole
@@ -42,7 +45,8 @@ pub comment-more : (xs whole : List ℕ) (at : ℕ) → at < length xs → false
     → take at xs ++ before_comment (drop at xs) ≡ whole → take (at + 1) xs ++ before_comment (drop (at + 1) xs) ≡ whole
 unfolding before_comment
 comment-more xs whole at lt e h =
-    ap (λ (ys : List ℕ). ys ++ before_comment (drop (at + 1) xs)) (take-at xs at lt) ∙ append_assoc (take at xs) (get_or xs at 0 ∷ []) (before_comment (drop (at + 1) xs))
+    ap (λ (ys : List ℕ). ys ++ before_comment (drop (at + 1) xs)) (take-at xs at lt)
+    ∙ append_assoc (take at xs) (get_or xs at 0 ∷ []) (before_comment (drop (at + 1) xs))
     ∙ ap (λ b. take at xs ++ cond b [] (get_or xs at 0 ∷ before_comment (drop (at + 1) xs))) e
     ∙ ap (λ (ys : List ℕ). take at xs ++ ys) (sym (at_drop_more before_comment xs at 0 lt)) ∙ h
 
@@ -73,13 +77,15 @@ pub digits-more : (test : ℕ → Bool) (base n : ℕ) (xs : List ℕ) (at : ℕ
     → read_digits test base n (drop at xs) ≡ read_digits test base (n * base + digit_of (get_or xs at 0)) (drop (at + 1) xs)
 digits-more test base n xs at lt e =
     at_drop_more (read_digits test base n) xs at 0 lt
-    ∙ ap (λ b. cond (b && list_all test (drop (at + 1) xs)) (if_fits (number_after base (n * base + digit_of (get_or xs at 0)) (drop (at + 1) xs))) None) (sym e)
+    ∙ ap (λ b. cond (b && list_all test (drop (at + 1) xs))
+    (if_fits (number_after base (n * base + digit_of (get_or xs at 0)) (drop (at + 1) xs))) None) (sym e)
 
 pub digits-stop : (test : ℕ → Bool) (base n : ℕ) (xs : List ℕ) (at : ℕ) → at < length xs → false ≡ test (get_or xs at 0)
     → read_digits test base n (drop at xs) ≡ None
 digits-stop test base n xs at lt e =
     at_drop_more (read_digits test base n) xs at 0 lt
-    ∙ ap (λ b. cond (b && list_all test (drop (at + 1) xs)) (if_fits (number_after base (n * base + digit_of (get_or xs at 0)) (drop (at + 1) xs))) None) (sym e)
+    ∙ ap (λ b. cond (b && list_all test (drop (at + 1) xs))
+    (if_fits (number_after base (n * base + digit_of (get_or xs at 0)) (drop (at + 1) xs))) None) (sym e)
 
 if_fits-large : (n : ℕ) → 2 ^ 64 ≤ n → if_fits n ≡ None
 if_fits-large n le = ap (λ b. cond b (Some n) None) (le-ltb n (2 ^ 64) le)
@@ -92,10 +98,13 @@ pub digits-large : (test : ℕ → Bool) (base n : ℕ) (xs : List ℕ) (at : �
     → 2 ^ 64 ≤ n * base + digit_of (get_or xs at 0) → read_digits test base n (drop at xs) ≡ None
 digits-large test base n xs at some lt e large =
     digits-more test base n xs at lt e
-    ∙ none_both (list_all test (drop (at + 1) xs)) _ (if_fits-large _ (omega (arith, number_after-ge base (n * base + digit_of (get_or xs at 0)) (drop (at + 1) xs) some)))
+    ∙ none_both (list_all test (drop (at + 1) xs)) _
+    (if_fits-large _ (omega (arith, number_after-ge base (n * base + digit_of (get_or xs at 0)) (drop (at + 1) xs) some)))
 
-pub digits-end : (test : ℕ → Bool) (base n : ℕ) (xs : List ℕ) (at : ℕ) → n < 2 ^ 64 → length xs ≤ at → read_digits test base n (drop at xs) ≡ Some n
-digits-end test base n xs at fits le = at_drop_all (read_digits test base n) xs at le ∙ ap (λ b. cond b (Some n) None) (lt-ltb n (2 ^ 64) fits)
+pub digits-end : (test : ℕ → Bool) (base n : ℕ) (xs : List ℕ) (at : ℕ) → n < 2 ^ 64 → length xs ≤ at
+    → read_digits test base n (drop at xs) ≡ Some n
+digits-end test base n xs at fits le =
+    at_drop_all (read_digits test base n) xs at le ∙ ap (λ b. cond b (Some n) None) (lt-ltb n (2 ^ 64) fits)
 
 -- ---- hashes
 

@@ -30,7 +30,8 @@ four_bytes : (f : ℕ → ℕ) → f 0 < 256 → f 1 < 256 → f 2 < 256 → f 3
 unfolding number_of_digits
 four_bytes f a b c d = omega arith
 
-eight_bytes : (f : ℕ → ℕ) → f 0 < 256 → f 1 < 256 → f 2 < 256 → f 3 < 256 → f 4 < 256 → f 5 < 256 → f 6 < 256 → f 7 < 256 → number_of_digits 256 f 8 < 2 ^ 64
+eight_bytes : (f : ℕ → ℕ) → f 0 < 256 → f 1 < 256 → f 2 < 256 → f 3 < 256 → f 4 < 256 → f 5 < 256 → f 6 < 256 → f 7 < 256
+    → number_of_digits 256 f 8 < 2 ^ 64
 unfolding number_of_digits
 eight_bytes f a b c d e g h i = omega arith
 

@@ -6,7 +6,8 @@ use Rattle.std.proofs.lemmas.Nat.Bits.{bit_at_cat_low, bit_at_cat_high, same_fro
 use Rattle.bit_ops.specs.Bits.{digit_at, number_of_digits}
 
 -- the same digits make the same number
-pub number-same : (base : ℕ) (f g : ℕ → ℕ) (count : ℕ) → ((i : ℕ) → i < count → f i ≡ g i) → number_of_digits base f count ≡ number_of_digits base g count
+pub number-same : (base : ℕ) (f g : ℕ → ℕ) (count : ℕ) → ((i : ℕ) → i < count → f i ≡ g i)
+    → number_of_digits base f count ≡ number_of_digits base g count
 unfolding number_of_digits
 number-same base f g zero same = refl
 number-same base f g (suc k) same =
@@ -33,7 +34,8 @@ one_bit : (d : ℕ) → d < 2 → digit_at 2 d 0 ≡ d
 one_bit d lt = omega arith
 
 -- its bits are those that it is made of
-pub bit_of_number : (f : ℕ → ℕ) (count : ℕ) → ((i : ℕ) → i < count → f i < 2) → (i : ℕ) → i < count → digit_at 2 (number_of_digits 2 f count) i ≡ f i
+pub bit_of_number : (f : ℕ → ℕ) (count : ℕ) → ((i : ℕ) → i < count → f i < 2) → (i : ℕ) → i < count
+    → digit_at 2 (number_of_digits 2 f count) i ≡ f i
 unfolding number_of_digits
 bit_of_number f zero small i lt = absurd (omega arith)
 bit_of_number f (suc k) small i lt =
@@ -44,10 +46,13 @@ bit_of_number f (suc k) small i lt =
       | inr over ↦
           let at : k ≡ i = omega arith in
           subst (λ j. digit_at 2 (f k * 2 ^ k + number_of_digits 2 f k) j ≡ f j) at
-          (bit_at_cat_high (f k) k (number_of_digits 2 f k) k below (omega arith) ∙ (let z : k - k ≡ 0 = omega arith in ap (digit_at 2 (f k)) z) ∙ one_bit (f k) (small k (omega arith)))
+          (bit_at_cat_high (f k) k (number_of_digits 2 f k) k below (omega arith)
+          ∙ (let z : k - k ≡ 0 = omega arith in ap (digit_at 2 (f k)) z) ∙ one_bit (f k) (small k (omega arith)))
     ]
 
 -- a number that has these bits and no others is the number of them
-pub number-is : (f : ℕ → ℕ) (count m : ℕ) → m < 2 ^ count → ((i : ℕ) → i < count → f i < 2) → ((i : ℕ) → i < count → digit_at 2 m i ≡ f i) → m ≡ number_of_digits 2 f count
+pub number-is : (f : ℕ → ℕ) (count m : ℕ) → m < 2 ^ count → ((i : ℕ) → i < count → f i < 2) → ((i : ℕ) → i < count → digit_at 2 m i ≡ f i)
+    → m ≡ number_of_digits 2 f count
 number-is f count m lt small same =
-    same_from_bits_below count m (number_of_digits 2 f count) lt (number-lt f count small) (λ i l. same i l ∙ sym (bit_of_number f count small i l))
+    same_from_bits_below count m (number_of_digits 2 f count) lt (number-lt f count small)
+    (λ i l. same i l ∙ sym (bit_of_number f count small i l))

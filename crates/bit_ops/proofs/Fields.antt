@@ -1,5 +1,7 @@
 -- The fields of a mask, read off where its runs of ones start and how long they are.
-use Rattle.std.proofs.Common.{◌≡◌, ◌≢◌, ◌↔◌, ◌⊎◌, ℕ, zero, suc, ◌+◌, ◌-◌, ◌*◌, ◌/◌, ◌%◌, ◌^◌, ◌<◌, ◌≤◌, ◌==◌, ◌||◌, ◌&&◌, not, refl, sym, ap, ap₂, ◌∙◌, subst, arith, inl, inr, lit<, Bool, true, false, nat_le, Option, Some, None, IfSome, IsNone, if◌then◌else◌, mod-eq_of_lt, eqb-true, mul-le-mul_right}
+use Rattle.std.proofs.Common.{◌≡◌, ◌≢◌, ◌↔◌, ◌⊎◌, ℕ, zero, suc, ◌+◌, ◌-◌, ◌*◌, ◌/◌, ◌%◌, ◌^◌, ◌<◌, ◌≤◌, ◌==◌, ◌||◌, ◌&&◌, not, refl, sym}
+use Rattle.std.proofs.Common.{ap, ap₂, ◌∙◌, subst, arith, inl, inr, lit<, Bool, true, false, nat_le, Option, Some, None, IfSome, IsNone}
+use Rattle.std.proofs.Common.{if◌then◌else◌, mod-eq_of_lt, eqb-true, mul-le-mul_right}
 use Rattle.std.proofs.Math.Nat.{add-mul-mod_self_right, add-mod-mod, mod-mod, pow-suc}
 use Rattle.std.proofs.lemmas.Bool.{cases_lt, cases_order, both_ways, cases_Bool}
 use Rattle.std.proofs.lemmas.Bool.Decides.{nat_tests}
@@ -7,7 +9,8 @@ use Rattle.std.proofs.lemmas.Nat.{pow_pos, pow-add, mod_below, div-add-mod'}
 use Rattle.std.proofs.lemmas.Nat.Bits.{bit_at-lt}
 use Rattle.bit_ops.specs.Bits.{digit_at, number_of_digits, width_of}
 use Rattle.bit_ops.specs.Sums.{bool_number}
-use Rattle.bit_ops.specs.Masks.{highest_one, length_of, size_of, ones_of, turn_of, mask_of, is_reserved, bit_mask_of, starts_at, IsMask, IsFieldsOf}
+use Rattle.bit_ops.specs.Masks.{highest_one, length_of, size_of, ones_of, turn_of, mask_of, is_reserved, bit_mask_of, starts_at, IsMask}
+use Rattle.bit_ops.specs.Masks.{IsFieldsOf}
 use Rattle.bit_ops.proofs.MaskBits.{below_power, le_true, le_false, size_half, size_small, bool_number-lt, none-of, some-of, mask-facts}
 
 -- a word of equal elements of `size` bits, each of which has ones + 1 ones, rotated right by `turn`
@@ -28,13 +31,15 @@ wrap width times size turn x e =
     sym (add-mul-mod_self_right (x % width + turn) (x / width * times) size) ∙ ap (λ k. k % size) sum
 
 -- the place before, in the element
-before : (width times size turn i : ℕ) → width ≡ times * size → 0 < width → 0 < size → ((i + (width - 1)) % width + turn) % size ≡ ((i + turn) % size + (size - 1)) % size
+before : (width times size turn i : ℕ) → width ≡ times * size → 0 < width → 0 < size
+    → ((i + (width - 1)) % width + turn) % size ≡ ((i + turn) % size + (size - 1)) % size
 before width zero size turn i e some full = absurd (omega arith)
 before width (suc t) size turn i e some full =
     let more : (suc t) * size ≡ t * size + size = grind arith in
     let sum : i + (width - 1) + turn ≡ (size - 1) + (i + turn) + t * size = omega arith in
     wrap width (suc t) size turn (i + (width - 1)) e ∙ ap (λ k. k % size) sum ∙ add-mul-mod_self_right ((size - 1) + (i + turn)) t size
-    ∙ sym (add-mod-mod (size - 1) (i + turn) size) ∙ ap (λ k. k % size) (let swap : size - 1 + (i + turn) % size ≡ (i + turn) % size + (size - 1) = omega arith in swap)
+    ∙ sym (add-mod-mod (size - 1) (i + turn) size)
+    ∙ ap (λ k. k % size) (let swap : size - 1 + (i + turn) % size ≡ (i + turn) % size + (size - 1) = omega arith in swap)
 
 bit_is_one : (b : Bool) → (bool_number b == 1) ≡ b
 bit_is_one true = refl
@@ -55,18 +60,21 @@ edge : (size ones t : ℕ) → ones + 1 < size → t < size → (nat_le t ones &
 edge size ones t room lt = elim (cases_lt 0 t) [
   | inr none ↦
       let z : t ≡ 0 = omega arith in
-      let last : (t + (size - 1)) % size ≡ size - 1 = ap (λ k. k % size) (let s : t + (size - 1) ≡ size - 1 = omega arith in s) ∙ mod-eq_of_lt (omega arith) in
+      let last : (t + (size - 1)) % size ≡ size - 1 =
+      ap (λ k. k % size) (let s : t + (size - 1) ≡ size - 1 = omega arith in s) ∙ mod-eq_of_lt (omega arith) in
       rw (le_true t ones (omega arith), le_false ((t + (size - 1)) % size) ones (omega arith), eq_true t 0 z) refl
   | inl some ↦
       let one : t + (size - 1) ≡ t - 1 + 1 * size = omega arith in
-      let back : (t + (size - 1)) % size ≡ t - 1 = ap (λ k. k % size) one ∙ add-mul-mod_self_right (t - 1) 1 size ∙ mod-eq_of_lt (omega arith) in
+      let back : (t + (size - 1)) % size ≡ t - 1 =
+      ap (λ k. k % size) one ∙ add-mul-mod_self_right (t - 1) 1 size ∙ mod-eq_of_lt (omega arith) in
       elim (cases_lt ones t) [
         | inl above ↦ rw (le_false t ones above, eq_false t 0 (omega arith)) refl
         | inr within ↦ rw (le_true t ones within, le_true ((t + (size - 1)) % size) ones (omega arith), eq_false t 0 (omega arith)) refl
       ]
 ]
 
-pub start-is : (word width size turn ones i : ℕ) → IsPeriodic word width size turn ones → i < width → starts_at word width i ≡ ((i + turn) % size == 0)
+pub start-is : (word width size turn ones i : ℕ) → IsPeriodic word width size turn ones → i < width
+    → starts_at word width i ≡ ((i + turn) % size == 0)
 unfolding starts_at
 start-is word width size turn ones i p lt =
     let full = p.room in
@@ -75,14 +83,17 @@ start-is word width size turn ones i p lt =
     let below = p.bits ((i + (width - 1)) % width) (mod_below (i + (width - 1)) width p.some) in
     let place = before width p.times size turn i p.whole p.some (omega arith) in
     ap₂ (λ a b. (a == 1) && (b == 0)) at (below ∙ ap (λ k. bool_number (nat_le k ones)) place)
-    ∙ ap₂ (λ a b. a && b) (bit_is_one (nat_le ((i + turn) % size) ones)) (bit_is_zero (nat_le (((i + turn) % size + (size - 1)) % size) ones))
+    ∙ ap₂ (λ a b. a && b) (bit_is_one (nat_le ((i + turn) % size) ones))
+    (bit_is_zero (nat_le (((i + turn) % size + (size - 1)) % size) ones))
     ∙ edge size ones ((i + turn) % size) p.room (mod_below (i + turn) size (omega arith))
 
 -- where a run starts, the element does, and the other way round
-pub start-on : (word width size turn ones i : ℕ) → IsPeriodic word width size turn ones → i < width → starts_at word width i ≡ true → (i + turn) % size ≡ 0
+pub start-on : (word width size turn ones i : ℕ) → IsPeriodic word width size turn ones → i < width → starts_at word width i ≡ true
+    → (i + turn) % size ≡ 0
 start-on word width size turn ones i p lt e = eqb-true _ _ (sym (start-is word width size turn ones i p lt) ∙ e)
 
-pub start-off : (word width size turn ones i : ℕ) → IsPeriodic word width size turn ones → i < width → starts_at word width i ≡ false → (i + turn) % size ≡ 0 → ⊥
+pub start-off : (word width size turn ones i : ℕ) → IsPeriodic word width size turn ones → i < width → starts_at word width i ≡ false
+    → (i + turn) % size ≡ 0 → ⊥
 start-off word width size turn ones i p lt e z = both_ways _ (sym (start-is word width size turn ones i p lt) ∙ e) (eq_true _ _ z)
 
 -- ---- the first start
@@ -112,20 +123,24 @@ size_le word width size turn ones p = elim (cases_lt 0 p.times) [
       absurd (omega arith)
 ]
 
-pub some-start : (word width size turn ones : ℕ) → IsPeriodic word width size turn ones → ((i : ℕ) → 0 ≤ i → i < width → starts_at word width i ≡ false) → ⊥
+pub some-start : (word width size turn ones : ℕ) → IsPeriodic word width size turn ones
+    → ((i : ℕ) → 0 ≤ i → i < width → starts_at word width i ≡ false) → ⊥
 some-start word width size turn ones p none =
     let turn' = p.turn_in_range in
     let le = size_le word width size turn ones p in
     let small = mod_below (size - turn) size (omega arith) in
-    start-off word width size turn ones ((size - turn) % size) p (omega arith) (none ((size - turn) % size) (omega arith) (omega arith)) (origin size turn p.turn_in_range)
+    start-off word width size turn ones ((size - turn) % size) p (omega arith) (none ((size - turn) % size) (omega arith) (omega arith))
+    (origin size turn p.turn_in_range)
 
-pub first-below : (word width size turn ones first : ℕ) → IsPeriodic word width size turn ones → ((i : ℕ) → 0 ≤ i → i < first → starts_at word width i ≡ false) → first < size
+pub first-below : (word width size turn ones first : ℕ) → IsPeriodic word width size turn ones
+    → ((i : ℕ) → 0 ≤ i → i < first → starts_at word width i ≡ false) → first < size
 first-below word width size turn ones first p none =
     let turn' = p.turn_in_range in
     let le = size_le word width size turn ones p in
     let small = mod_below (size - turn) size (omega arith) in
     elim (cases_lt ((size - turn) % size) first) [
-      | inl less ↦ absurd (start-off word width size turn ones ((size - turn) % size) p (omega arith) (none ((size - turn) % size) (omega arith) less) (origin size turn p.turn_in_range))
+      | inl less ↦ absurd (start-off word width size turn ones ((size - turn) % size) p (omega arith)
+          (none ((size - turn) % size) (omega arith) less) (origin size turn p.turn_in_range))
       | inr more ↦ let h : first < size = omega arith in h
     ]
 
@@ -139,7 +154,8 @@ turn-is size turn first lt less z = elim (cases_lt (first + turn) size) [
       t ∙ sym none
   | inr over ↦
       let split : first + turn ≡ first + turn - size + 1 * size = omega arith in
-      let e : first + turn - size ≡ 0 = sym (ap (λ k. k % size) split ∙ add-mul-mod_self_right (first + turn - size) 1 size ∙ mod-eq_of_lt (omega arith)) ∙ z in
+      let e : first + turn - size ≡ 0 =
+      sym (ap (λ k. k % size) split ∙ add-mul-mod_self_right (first + turn - size) 1 size ∙ mod-eq_of_lt (omega arith)) ∙ z in
       let some : 0 < first = omega arith in
       let small : (size - first) % size ≡ size - first = mod-eq_of_lt (omega arith) in
       let t : turn ≡ size - first = omega arith in
@@ -151,12 +167,15 @@ turn-is size turn first lt less z = elim (cases_lt (first + turn) size) [
 after : (size turn first d : ℕ) → (first + turn) % size ≡ 0 → (first + d + turn) % size ≡ d % size
 after size turn first d z =
     let swap : first + d + turn ≡ d + (first + turn) = omega arith in
-    ap (λ k. k % size) swap ∙ sym (add-mod-mod d (first + turn) size) ∙ ap (λ k. (d + k) % size) z ∙ ap (λ k. k % size) (let s : d + 0 ≡ d = omega arith in s)
+    ap (λ k. k % size) swap ∙ sym (add-mod-mod d (first + turn) size) ∙ ap (λ k. (d + k) % size) z
+    ∙ ap (λ k. k % size) (let s : d + 0 ≡ d = omega arith in s)
 
 self : (size : ℕ) → 0 < size → size % size ≡ 0
 self size some = ap (λ k. k % size) (let s : size ≡ 0 + 1 * size = omega arith in s) ∙ add-mul-mod_self_right 0 1 size ∙ mod-eq_of_lt some
 
-pub next-is : (word width size turn ones first next : ℕ) → IsPeriodic word width size turn ones → (first + turn) % size ≡ 0 → first + 1 ≤ next → next < width → starts_at word width next ≡ true → ((i : ℕ) → first + 1 ≤ i → i < next → starts_at word width i ≡ false) → next - first ≡ size
+pub next-is : (word width size turn ones first next : ℕ) → IsPeriodic word width size turn ones → (first + turn) % size ≡ 0
+    → first + 1 ≤ next → next < width → starts_at word width next ≡ true
+    → ((i : ℕ) → first + 1 ≤ i → i < next → starts_at word width i ≡ false) → next - first ≡ size
 next-is word width size turn ones first next p z le lt on off =
     let full = p.room in
     let at = start-on word width size turn ones next p lt on in
@@ -166,16 +185,19 @@ next-is word width size turn ones first next p z le lt on off =
       | inl same ↦ same
       | inr (inl less) ↦ absurd (let e : next - first ≡ 0 = sym (mod-eq_of_lt less) ∙ none in omega arith)
       | inr (inr more) ↦
-          absurd (start-off word width size turn ones (first + size) p (omega arith) (off (first + size) (omega arith) (omega arith)) (after size turn first size z ∙ self size (omega arith)))
+          absurd (start-off word width size turn ones (first + size) p (omega arith) (off (first + size) (omega arith) (omega arith))
+          (after size turn first size z ∙ self size (omega arith)))
     ]
 
-pub none-is : (word width size turn ones first : ℕ) → IsPeriodic word width size turn ones → first < size → (first + turn) % size ≡ 0 → ((i : ℕ) → first + 1 ≤ i → i < width → starts_at word width i ≡ false) → width ≡ size
+pub none-is : (word width size turn ones first : ℕ) → IsPeriodic word width size turn ones → first < size → (first + turn) % size ≡ 0
+    → ((i : ℕ) → first + 1 ≤ i → i < width → starts_at word width i ≡ false) → width ≡ size
 none-is word width size turn ones first p less z off =
     let full = p.room in
     let le = size_le word width size turn ones p in
     elim (cases_lt (first + size) width) [
       | inl within ↦
-          absurd (start-off word width size turn ones (first + size) p within (off (first + size) (omega arith) within) (after size turn first size z ∙ self size (omega arith)))
+          absurd (start-off word width size turn ones (first + size) p within (off (first + size) (omega arith) within)
+          (after size turn first size z ∙ self size (omega arith)))
       | inr beyond ↦ elim (cases_lt p.times 2) [
         | inl one ↦
             let once : p.times * size ≤ 1 * size = mul-le-mul_right size (omega arith) in
@@ -190,12 +212,15 @@ none-is word width size turn ones first p less z off =
 
 -- ---- the length of a run
 
-run_bit : (word width size turn ones first k : ℕ) → IsPeriodic word width size turn ones → (first + turn) % size ≡ 0 → digit_at 2 word ((first + k) % width) ≡ bool_number (nat_le (k % size) ones)
+run_bit : (word width size turn ones first k : ℕ) → IsPeriodic word width size turn ones → (first + turn) % size ≡ 0
+    → digit_at 2 word ((first + k) % width) ≡ bool_number (nat_le (k % size) ones)
 run_bit word width size turn ones first k p z =
     p.bits ((first + k) % width) (mod_below (first + k) width p.some)
     ∙ ap (λ t. bool_number (nat_le t ones)) (wrap width p.times size turn (first + k) p.whole ∙ after size turn first k z)
 
-pub ones-are : (word width size turn ones first count : ℕ) → IsPeriodic word width size turn ones → (first + turn) % size ≡ 0 → count ≤ width → ((i : ℕ) → i < count → digit_at 2 word ((first + i) % width) ≡ 1) → (count < width → digit_at 2 word ((first + count) % width) ≡ 0) → count ≡ ones + 1
+pub ones-are : (word width size turn ones first count : ℕ) → IsPeriodic word width size turn ones → (first + turn) % size ≡ 0
+    → count ≤ width → ((i : ℕ) → i < count → digit_at 2 word ((first + i) % width) ≡ 1)
+    → (count < width → digit_at 2 word ((first + count) % width) ≡ 0) → count ≡ ones + 1
 ones-are word width size turn ones first count p z le on off =
     let full = p.room in
     let all = size_le word width size turn ones p in
@@ -250,7 +275,8 @@ pub length-lt : (n : Bool) (imms : ℕ) → length_of n imms < 7
 unfolding length_of
 length-lt n imms = highest-lt 6 (bool_number n * 64 + (63 - imms % 64))
 
-length-spec : (n : Bool) (imms : ℕ) → 2 ≤ size_of n imms → (size_of n imms ≤ bool_number n * 64 + (63 - imms % 64)) × (bool_number n * 64 + (63 - imms % 64) < size_of n imms * 2)
+length-spec : (n : Bool) (imms : ℕ) → 2 ≤ size_of n imms → (size_of n imms ≤ bool_number n * 64 + (63 - imms % 64))
+    × (bool_number n * 64 + (63 - imms % 64) < size_of n imms * 2)
 unfolding length_of
 length-spec n imms some =
     let bits = bool_number n * 64 + (63 - imms % 64) in
@@ -281,15 +307,18 @@ six_lengths P a b c d e f (suc (suc (suc (suc (suc (suc k)))))) lt = absurd (ome
 -- above the ones, imms has the inverse of the length's bit, below ones
 imms_of : (l imms : ℕ) → l < 6 → 2 ^ l ≤ 63 - imms → 63 - imms < 2 ^ l * 2 → imms < 64 → imms ≡ 64 - 2 * 2 ^ l + imms % 2 ^ l
 imms_of l imms lt = six_lengths (λ l. 2 ^ l ≤ 63 - imms → 63 - imms < 2 ^ l * 2 → imms < 64 → imms ≡ 64 - 2 * 2 ^ l + imms % 2 ^ l)
-    (λ a b c. omega arith) (λ a b c. omega arith) (λ a b c. omega arith) (λ a b c. omega arith) (λ a b c. omega arith) (λ a b c. omega arith) l lt
+    (λ a b c. omega arith) (λ a b c. omega arith) (λ a b c. omega arith) (λ a b c. omega arith) (λ a b c. omega arith)
+    (λ a b c. omega arith) l lt
 
-pub fields-narrow : (n : Bool) (imms : ℕ) → imms < 64 → 2 ≤ size_of n imms → size_of n imms ≤ 32 → (n ≡ false) × (imms ≡ 64 - 2 * size_of n imms + ones_of n imms)
+pub fields-narrow : (n : Bool) (imms : ℕ) → imms < 64 → 2 ≤ size_of n imms → size_of n imms ≤ 32 → (n ≡ false)
+    × (imms ≡ 64 - 2 * size_of n imms + ones_of n imms)
 fields-narrow true imms lt some le = let spec = length-spec true imms some in absurd (let l = spec.1 in omega arith)
 fields-narrow false imms lt some le =
     let spec = length-spec false imms some in
     let low = spec.0 in
     let high = spec.1 in
-    let short : length_of false imms < 6 = below_power (length_of false imms) 6 (size_of false imms) (omega arith) (let h : size_of false imms < 64 = omega arith in h) in
+    let short : length_of false imms < 6 =
+    below_power (length_of false imms) 6 (size_of false imms) (omega arith) (let h : size_of false imms < 64 = omega arith in h) in
     (refl, imms_of (length_of false imms) imms short (omega arith) (omega arith) lt)
 
 pub size-known : (n : Bool) (imms : ℕ) → (size_of n imms ≡ 64) ⊎ (size_of n imms ≤ 32)
@@ -304,7 +333,8 @@ width_log false = 5
 
 -- ---- what the fields of a word say of it
 
-some-mask : (n wide : Bool) (imms immr word : ℕ) → bit_mask_of n imms immr wide ≡ Some word → (is_reserved n imms wide ≡ false) × (mask_of n imms immr wide ≡ word)
+some-mask : (n wide : Bool) (imms immr word : ℕ) → bit_mask_of n imms immr wide ≡ Some word → (is_reserved n imms wide ≡ false)
+    × (mask_of n imms immr wide ≡ word)
 some-mask n wide imms immr word e = elim (cases_Bool (is_reserved n imms wide)) [
   | inl taken ↦ let f = none-of n wide imms immr taken in cc
   | inr left ↦ let f = some-of n wide imms immr left in (left, cc)
@@ -321,7 +351,8 @@ narrow_one true true e f = refl
 narrow_one true false e f = cc
 narrow_one false wide e f = cc
 
-free-parts : (n wide : Bool) (imms : ℕ) → is_reserved n imms wide ≡ false → (n ≡ true → wide ≡ true) × (length_of n imms ≢ 0) × (ones_of n imms ≢ size_of n imms - 1)
+free-parts : (n wide : Bool) (imms : ℕ) → is_reserved n imms wide ≡ false → (n ≡ true → wide ≡ true) × (length_of n imms ≢ 0)
+    × (ones_of n imms ≢ size_of n imms - 1)
 unfolding is_reserved
 free-parts n wide imms e =
     let parts = or_parts (n && not wide) (length_of n imms == 0) (ones_of n imms == size_of n imms - 1) e in
@@ -339,7 +370,8 @@ width-some true = lit< tt
 width-some false = lit< tt
 
 -- elements of 64 bits are of words of 64
-short : (n wide : Bool) (imms immr mask : ℕ) → IsFieldsOf n imms immr wide mask → is_reserved n imms wide ≡ false → wide ≡ false → length_of n imms < 6
+short : (n wide : Bool) (imms immr mask : ℕ) → IsFieldsOf n imms immr wide mask → is_reserved n imms wide ≡ false → wide ≡ false
+    → length_of n imms < 6
 short n true imms immr mask f free e = cc
 short n false imms immr mask f free e =
     let parts = free-parts n false imms free in
@@ -361,7 +393,8 @@ bit_from d a b lt iff = elim (cases_lt b a) [
   | inr more ↦ iff.1 more ∙ ap bool_number (sym (le_true a b more))
 ]
 
-pub periodic-of : (n wide : Bool) (imms immr word : ℕ) → IsFieldsOf n imms immr wide word → IsPeriodic word (width_of wide) (size_of n imms) immr (ones_of n imms)
+pub periodic-of : (n wide : Bool) (imms immr word : ℕ) → IsFieldsOf n imms immr wide word
+    → IsPeriodic word (width_of wide) (size_of n imms) immr (ones_of n imms)
 periodic-of n wide imms immr word f =
     let given = some-mask n wide imms immr word f.given in
     let parts = free-parts n wide imms given.0 in
@@ -384,7 +417,8 @@ periodic-of n wide imms immr word f =
 pub size-some : (n wide : Bool) (imms immr word : ℕ) → IsFieldsOf n imms immr wide word → 2 ≤ size_of n imms
 size-some n wide imms immr word f = let p = periodic-of n wide imms immr word f in let room = p.room in omega arith
 
-pub triple : (a n : Bool) (b c imms immr : ℕ) → a ≡ n → b ≡ imms → c ≡ immr → ◌≡◌ {A = Option (Bool × ℕ × ℕ)} (Some (a, b, c)) (Some (n, imms, immr))
+pub triple : (a n : Bool) (b c imms immr : ℕ) → a ≡ n → b ≡ imms → c ≡ immr
+    → ◌≡◌ {A = Option (Bool × ℕ × ℕ)} (Some (a, b, c)) (Some (n, imms, immr))
 triple a n b c imms immr e f g = cc
 
 -- ---- the other fields of a mask
@@ -392,10 +426,12 @@ triple a n b c imms immr e f g = cc
 turn_again : (n wide : Bool) (imms immr : ℕ) → bit_mask_of n imms (immr % size_of n imms) wide ≡ bit_mask_of n imms immr wide
 unfolding bit_mask_of mask_of
 turn_again n wide imms immr =
-    ap (λ t. if is_reserved n imms wide then None else Some (number_of_digits 2 (λ i. bool_number (nat_le ((i + t) % size_of n imms) (ones_of n imms))) (width_of wide)))
+    ap (λ t. if is_reserved n imms wide then None else Some
+    (number_of_digits 2 (λ i. bool_number (nat_le ((i + t) % size_of n imms) (ones_of n imms))) (width_of wide)))
     (mod-mod immr (size_of n imms))
 
-fields-again : (n wide : Bool) (imms immr word : ℕ) → imms < 64 → bit_mask_of n imms immr wide ≡ Some word → IsFieldsOf n imms (immr % size_of n imms) wide word
+fields-again : (n wide : Bool) (imms immr word : ℕ) → imms < 64 → bit_mask_of n imms immr wide ≡ Some word
+    → IsFieldsOf n imms (immr % size_of n imms) wide word
 fields-again n wide imms immr word lt e = record {
   imms_in_range = lt;
   immr_in_range = mod_below immr (size_of n imms) (pow_pos (length_of n imms));
@@ -403,10 +439,13 @@ fields-again n wide imms immr word lt e = record {
 }
 
 -- no fields are found only where there are none
-pub none-exactly : (wide : Bool) (word : ℕ) (r : Option (Bool × ℕ × ℕ)) → IfSome r (λ f. IsFieldsOf f.0 f.1 f.2 wide word) → ((n : Bool) (imms immr : ℕ) → IsFieldsOf n imms immr wide word → r ≡ Some (n, imms, immr)) → IsNone r ↔ ((n : Bool) (imms immr : ℕ) → imms < 64 → immr < 64 → bit_mask_of n imms immr wide ≢ Some word)
+pub none-exactly : (wide : Bool) (word : ℕ) (r : Option (Bool × ℕ × ℕ)) → IfSome r (λ f. IsFieldsOf f.0 f.1 f.2 wide word)
+    → ((n : Bool) (imms immr : ℕ) → IsFieldsOf n imms immr wide word → r ≡ Some (n, imms, immr)) → IsNone r
+    ↔ ((n : Bool) (imms immr : ℕ) → imms < 64 → immr < 64 → bit_mask_of n imms immr wide ≢ Some word)
 none-exactly wide word None some only =
     ((λ _ n imms immr l m e. let found = only n imms (immr % size_of n imms) (fields-again n wide imms immr word l e) in cc), (λ _. refl))
 none-exactly wide word (Some f) some only = (
   (λ e. absurd (both_ways true e refl)),
-  (λ all. absurd (let lt = some.immr_in_range in let le = size_small (length_of f.0 f.1) (length-lt f.0 f.1) in all f.0 f.1 f.2 some.imms_in_range (omega arith) some.given)),
+  (λ all. absurd (let lt = some.immr_in_range in let le = size_small (length_of f.0 f.1) (length-lt f.0 f.1) in
+      all f.0 f.1 f.2 some.imms_in_range (omega arith) some.given)),
 )

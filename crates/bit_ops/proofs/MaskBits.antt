@@ -1,10 +1,12 @@
 -- The bits of a mask: a run of ones, repeated by doubling and then rotated.
-use Rattle.std.proofs.Common.{◌≡◌, ◌↔◌, ℕ, zero, suc, ◌+◌, ◌-◌, ◌*◌, ◌/◌, ◌%◌, ◌^◌, ◌<◌, ◌≤◌, ◌==◌, ◌||◌, ◌&&◌, not, refl, sym, ap, ap₂, ◌∙◌, subst, arith, inl, inr, lit<, lit≤, Bool, true, false, nat_le, Some, None, mod-eq_of_lt}
+use Rattle.std.proofs.Common.{◌≡◌, ◌↔◌, ℕ, zero, suc, ◌+◌, ◌-◌, ◌*◌, ◌/◌, ◌%◌, ◌^◌, ◌<◌, ◌≤◌, ◌==◌, ◌||◌, ◌&&◌, not, refl, sym, ap, ap₂}
+use Rattle.std.proofs.Common.{◌∙◌, subst, arith, inl, inr, lit<, lit≤, Bool, true, false, nat_le, Some, None, mod-eq_of_lt}
 use Rattle.std.proofs.Math.Nat.{pow-le-pow_right, add-mul-mod_self_right}
 use Rattle.std.proofs.Math.Pow.{mod-mod-pow}
 use Rattle.std.proofs.lemmas.Bool.{cases_lt}
 use Rattle.std.proofs.lemmas.Bool.Decides.{nat_tests}
-use Rattle.std.proofs.lemmas.Nat.{pow_below, pow_pos, pow-add, shr-shr, shr_split, shr_below, mod_below, mul-add-lt, or_lt, shr_le, leading_top}
+use Rattle.std.proofs.lemmas.Nat.{pow_below, pow_pos, pow-add, shr-shr, shr_split, shr_below, mod_below, mul-add-lt, or_lt, shr_le}
+use Rattle.std.proofs.lemmas.Nat.{leading_top}
 use Rattle.std.proofs.lemmas.Nat.Bits.{bit_at_cat_low, bit_at_cat_high, bit_at_ones, bit_at_ones_above}
 use Rattle.std.specs.Int.{rotate_right, leading_zeros, w32, w64}
 use Rattle.bit_ops.specs.Bits.{digit_at, width_of}
@@ -43,7 +45,8 @@ pub length_none : (n : Bool) (imms bits : ℕ) → bits ≡ bool_number n * 64 +
 unfolding length_of highest_one
 length_none n imms bits e z = sym (ap (highest_one 7) (sym e ∙ z))
 
-pub length_some : (n : Bool) (imms bits : ℕ) → bits ≡ bool_number n * 64 + (63 - imms % 64) → 0 < bits → bits < 2 ^ 7 → (31 - leading_zeros w32 bits ≡ length_of n imms) × (31 - leading_zeros w32 bits < 7)
+pub length_some : (n : Bool) (imms bits : ℕ) → bits ≡ bool_number n * 64 + (63 - imms % 64) → 0 < bits → bits < 2 ^ 7
+    → (31 - leading_zeros w32 bits ≡ length_of n imms) × (31 - leading_zeros w32 bits < 7)
 unfolding length_of
 length_some n imms bits e some lt =
     let top = leading_top 32 bits some (omega arith) in
@@ -90,7 +93,8 @@ moved length log i le over =
 twice : (log : ℕ) → 2 ^ (log + 1) ≡ 2 ^ log + 2 ^ log
 twice log = pow-add 2 log 1 ∙ omega arith
 
-pub next_run : (length ones log mask : ℕ) → length ≤ log → IsRun length ones log mask → IsRun length ones (log + 1) (mask * 2 ^ (2 ^ log) + mask)
+pub next_run : (length ones log mask : ℕ) → length ≤ log → IsRun length ones log mask
+    → IsRun length ones (log + 1) (mask * 2 ^ (2 ^ log) + mask)
 next_run length ones log mask le run =
     let double = twice log in
     let below = run.within in
@@ -101,7 +105,8 @@ next_run length ones log mask le run =
       bits = λ i l. elim (cases_lt i (2 ^ log)) [
         | inl under ↦ bit_at_cat_low mask (2 ^ log) mask i under ∙ run.bits i under
         | inr over ↦
-            bit_at_cat_high mask (2 ^ log) mask i below over ∙ run.bits (i - 2 ^ log) (omega arith) ∙ ap (λ k. bool_number (nat_le k ones)) (moved length log i le over)
+            bit_at_cat_high mask (2 ^ log) mask i below over ∙ run.bits (i - 2 ^ log) (omega arith)
+            ∙ ap (λ k. bool_number (nat_le k ones)) (moved length log i le over)
       ];
     }
 
@@ -125,7 +130,8 @@ bit_of_rotated k n r i small turn lt =
       | inr over ↦
           let inside : i - (k - r) < r = omega arith in
           let back : i + r ≡ i - (k - r) + 1 * k = omega arith in
-          let place : i - (k - r) ≡ (i + r) % k = sym (ap (λ m. m % k) back ∙ add-mul-mod_self_right (i - (k - r)) 1 k ∙ mod-eq_of_lt (omega arith)) in
+          let place : i - (k - r) ≡ (i + r) % k =
+          sym (ap (λ m. m % k) back ∙ add-mul-mod_self_right (i - (k - r)) 1 k ∙ mod-eq_of_lt (omega arith)) in
           bit_at_cat_high (n % 2 ^ r) (k - r) (n / 2 ^ r) i high over ∙ bit_of_low n r (i - (k - r)) inside ∙ ap (digit_at 2 n) place
     ]
 
@@ -150,23 +156,29 @@ pub bool_number-lt : (b : Bool) → bool_number b < 2
 bool_number-lt true = lit< tt
 bool_number-lt false = lit< tt
 
-mask_bits : (wide : Bool) (length ones r n i : ℕ) → length < 7 → r < 64 → n < 2 ^ 64 → ((i : ℕ) → i < 64 → digit_at 2 n i ≡ bool_number (nat_le (i % 2 ^ length) ones)) → i < width_of wide → digit_at 2 (rotate_right w64 n r % word_size wide) i ≡ bool_number (nat_le ((i + r) % 2 ^ length) ones)
+mask_bits : (wide : Bool) (length ones r n i : ℕ) → length < 7 → r < 64 → n < 2 ^ 64
+    → ((i : ℕ) → i < 64 → digit_at 2 n i ≡ bool_number (nat_le (i % 2 ^ length) ones)) → i < width_of wide
+    → digit_at 2 (rotate_right w64 n r % word_size wide) i ≡ bool_number (nat_le ((i + r) % 2 ^ length) ones)
 mask_bits wide length ones r n i short turn small bits lt =
     let all = width_le wide in
     let same = rotated 64 n r small turn in
     let left = n * 2 ^ ((64 - r % 64) % 64) in
-    let whole : rotate_right w64 n r < 2 ^ 64 = or_lt 64 (n / 2 ^ (r % 64)) (left % 2 ^ 64) (let le = shr_le n (r % 64) in omega arith) (mod_below left (2 ^ 64) (lit< tt)) in
+    let whole : rotate_right w64 n r < 2 ^ 64 =
+    or_lt 64 (n / 2 ^ (r % 64)) (left % 2 ^ 64) (let le = shr_le n (r % 64) in omega arith) (mod_below left (2 ^ 64) (lit< tt)) in
     bit_of_word wide (rotate_right w64 n r) i whole lt ∙ ap (λ m. digit_at 2 m i) same ∙ bit_of_rotated 64 n r i small turn (omega arith)
     ∙ bits ((i + r) % 64) (mod_below (i + r) 64 (lit< tt)) ∙ ap (λ k. bool_number (nat_le k ones)) (element_of length (i + r) short)
 
-pub mask-is : (n wide : Bool) (imms immr length ones r word : ℕ) → length < 7 → length ≡ length_of n imms → ones ≡ imms % 2 ^ length → r ≡ immr % 2 ^ length → r < 64 → word < 2 ^ 64 → ((i : ℕ) → i < 64 → digit_at 2 word i ≡ bool_number (nat_le (i % 2 ^ length) ones)) → rotate_right w64 word r % word_size wide ≡ mask_of n imms immr wide
+pub mask-is : (n wide : Bool) (imms immr length ones r word : ℕ) → length < 7 → length ≡ length_of n imms → ones ≡ imms % 2 ^ length
+    → r ≡ immr % 2 ^ length → r < 64 → word < 2 ^ 64 → ((i : ℕ) → i < 64 → digit_at 2 word i ≡ bool_number (nat_le (i % 2 ^ length) ones))
+    → rotate_right w64 word r % word_size wide ≡ mask_of n imms immr wide
 unfolding mask_of
 mask-is n wide imms immr length ones r word short e f g turn small bits =
     let mask = rotate_right w64 word r % word_size wide in
     let size : 2 ^ length ≡ size_of n imms = ap (λ k. 2 ^ k) e in
     let ones' : ones ≡ ones_of n imms = f ∙ ap (λ k. imms % k) size in
     let turn' : r ≡ turn_of n imms immr = g ∙ ap (λ k. immr % k) size in
-    number-is (λ i. bool_number (nat_le ((i + turn_of n imms immr) % size_of n imms) (ones_of n imms))) (width_of wide) mask (word-lt wide (rotate_right w64 word r))
+    number-is (λ i. bool_number (nat_le ((i + turn_of n imms immr) % size_of n imms) (ones_of n imms))) (width_of wide) mask
+    (word-lt wide (rotate_right w64 word r))
     (λ i l. bool_number-lt (nat_le ((i + turn_of n imms immr) % size_of n imms) (ones_of n imms)))
     (λ i l. mask_bits wide length ones r word i short turn small bits l
     ∙ ap₂ (λ k o. bool_number (nat_le k o)) (ap₂ (λ t s. (i + t) % s) turn' size) ones')
@@ -175,7 +187,8 @@ mask-is n wide imms immr length ones r word short e f g turn small bits =
 
 one_iff : (a b : ℕ) → (bool_number (nat_le a b) ≡ 1) ↔ (a ≤ b)
 one_iff a b = elim (cases_lt b a) [
-  | inl less ↦ let e = le_false a b less in (λ o. absurd (let z : bool_number (nat_le a b) ≡ 0 = ap bool_number e in omega arith), λ le. absurd (omega arith))
+  | inl less ↦ let e =
+      le_false a b less in (λ o. absurd (let z : bool_number (nat_le a b) ≡ 0 = ap bool_number e in omega arith), λ le. absurd (omega arith))
   | inr more ↦ (λ o. more, λ le. ap bool_number (le_true a b more))
 ]
 
@@ -183,15 +196,19 @@ pub mask-facts : (n wide : Bool) (imms immr : ℕ) → IsMask n imms immr wide (
 unfolding mask_of
 mask-facts n wide imms immr =
     let f : ℕ → ℕ = λ i. bool_number (nat_le ((i + turn_of n imms immr) % size_of n imms) (ones_of n imms)) in
-    let small : (i : ℕ) → i < width_of wide → f i < 2 = λ i l. bool_number-lt (nat_le ((i + turn_of n imms immr) % size_of n imms) (ones_of n imms)) in
+    let small : (i : ℕ) → i < width_of wide → f i < 2 =
+    λ i l. bool_number-lt (nat_le ((i + turn_of n imms immr) % size_of n imms) (ones_of n imms)) in
     record {
       within = number-lt f (width_of wide) small;
-      bits = λ i l. subst (λ d. (d ≡ 1) ↔ ((i + turn_of n imms immr) % size_of n imms ≤ ones_of n imms)) (sym (bit_of_number f (width_of wide) small i l)) (one_iff ((i + turn_of n imms immr) % size_of n imms) (ones_of n imms));
+      bits =
+          λ i l. subst (λ d. (d ≡ 1) ↔ ((i + turn_of n imms immr) % size_of n imms ≤ ones_of n imms))
+          (sym (bit_of_number f (width_of wide) small i l)) (one_iff ((i + turn_of n imms immr) % size_of n imms) (ones_of n imms));
     }
 
 -- ---- reserved fields
 
-pub reserved-is : (n wide : Bool) (imms length ones : ℕ) → length ≡ length_of n imms → ones ≡ imms % 2 ^ length → ((n && not wide) || (length == 0) || (ones == 2 ^ length - 1)) ≡ is_reserved n imms wide
+pub reserved-is : (n wide : Bool) (imms length ones : ℕ) → length ≡ length_of n imms → ones ≡ imms % 2 ^ length
+    → ((n && not wide) || (length == 0) || (ones == 2 ^ length - 1)) ≡ is_reserved n imms wide
 unfolding is_reserved
 reserved-is n wide imms length ones e f =
     let size : 2 ^ length ≡ size_of n imms = ap (λ k. 2 ^ k) e in
@@ -202,6 +219,7 @@ pub none-of : (n wide : Bool) (imms immr : ℕ) → is_reserved n imms wide ≡ 
 unfolding bit_mask_of
 none-of n wide imms immr e = rw e refl
 
-pub some-of : (n wide : Bool) (imms immr : ℕ) → is_reserved n imms wide ≡ false → bit_mask_of n imms immr wide ≡ Some (mask_of n imms immr wide)
+pub some-of : (n wide : Bool) (imms immr : ℕ) → is_reserved n imms wide ≡ false
+    → bit_mask_of n imms immr wide ≡ Some (mask_of n imms immr wide)
 unfolding bit_mask_of
 some-of n wide imms immr e = rw e refl

@@ -22,7 +22,8 @@ reversed_onto (suc k) n a =
     let z : suc k - 1 - k ≡ 0 = omega arith in
     let low : digit_at 2 n (suc k - 1 - k) ≡ n % 2 = ap (digit_at 2 n) z ∙ bit_at_lowest n in
     let power = pow-suc 2 k in
-    rest ∙ ap (λ m. (a * 2 + n % 2) * 2 ^ k + m) same ∙ regroup a (n % 2) (2 ^ k) (2 ^ suc k) _ power ∙ ap (λ b. a * 2 ^ suc k + (number_of_digits 2 (λ i. digit_at 2 n (suc k - 1 - i)) k + b * 2 ^ k)) (sym low)
+    rest ∙ ap (λ m. (a * 2 + n % 2) * 2 ^ k + m) same ∙ regroup a (n % 2) (2 ^ k) (2 ^ suc k) _ power
+    ∙ ap (λ b. a * 2 ^ suc k + (number_of_digits 2 (λ i. digit_at 2 n (suc k - 1 - i)) k + b * 2 ^ k)) (sym low)
 
 onto_zero : (k n : ℕ) → reverse_bits_onto k n 0 ≡ number_of_digits 2 (λ i. digit_at 2 n (k - 1 - i)) k
 onto_zero k n = reversed_onto k n 0 ∙ omega arith

@@ -37,7 +37,8 @@ self_mod : (k : ℕ) → 0 < k → (k - 0) % k ≡ 0
 self_mod k some = ap (λ m. m % k) (let e : k - 0 ≡ 1 * k = omega arith in e) ∙ mul-mod_left 1 k
 
 -- `rotate_right` by less than the width
-pub rotated : (k n r : ℕ) → n < 2 ^ k → r < k → bit_or (n / 2 ^ (r % k)) (n * 2 ^ ((k - r % k) % k) % 2 ^ k) ≡ n / 2 ^ r + n % 2 ^ r * 2 ^ (k - r)
+pub rotated : (k n r : ℕ) → n < 2 ^ k → r < k
+    → bit_or (n / 2 ^ (r % k)) (n * 2 ^ ((k - r % k) % k) % 2 ^ k) ≡ n / 2 ^ r + n % 2 ^ r * 2 ^ (k - r)
 rotated k n r lt below =
     let e : r % k ≡ r = mod-eq_of_lt below in
     ap (λ i. bit_or (n / 2 ^ i) (n * 2 ^ ((k - i) % k) % 2 ^ k)) e ∙ elim (cases_lt 0 r) [

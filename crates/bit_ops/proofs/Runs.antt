@@ -9,12 +9,14 @@ use Rattle.std.specs.Int.{leading_zeros, w32, w64}
 use Rattle.bit_ops.specs.Counts.{leading_zeros_of}
 
 -- the run ends at the first number that fails
-pub run-is : (test : ℕ → Bool) (limit count : ℕ) → count ≤ limit → ((i : ℕ) → i < count → test i ≡ true) → (count < limit → test count ≡ false) → run_length test limit ≡ count
+pub run-is : (test : ℕ → Bool) (limit count : ℕ) → count ≤ limit → ((i : ℕ) → i < count → test i ≡ true)
+    → (count < limit → test count ≡ false) → run_length test limit ≡ count
 unfolding run_length
 run-is test zero count le on off = omega arith
 run-is test (suc limit) zero le on off = rw (off (omega arith)) refl
 run-is test (suc limit) (suc count) le on off =
-    rw (on 0 (omega arith)) (ap suc (run-is (λ i. test (suc i)) limit count (omega arith) (λ i lt. on (suc i) (omega arith)) (λ lt. off (omega arith))))
+    rw (on 0 (omega arith)) (ap suc (run-is (λ i. test (suc i)) limit count (omega arith) (λ i lt. on (suc i) (omega arith))
+    (λ lt. off (omega arith))))
 
 pub is_zero : (a : ℕ) → a ≡ 0 → (a == 0) ≡ true
 is_zero a e = grind (arith, nat_tests)
@@ -47,7 +49,8 @@ leading_run k (suc m) lt =
     let at = top.1 in
     run-is (λ i. digit_at 2 (suc m) (k - 1 - i) == 0) k (count_leading_zeros k (suc m)) (omega arith)
     (λ i l. is_zero _ (bit_at_above (suc m) (suc top.0) (k - 1 - i) top.3 (omega arith)))
-    (λ l. is_not_zero _ (let e : top.0 ≡ k - 1 - count_leading_zeros k (suc m) = omega arith in subst (λ p. digit_at 2 (suc m) p ≡ 1) e (top_bit top.0 (suc m) top.2 top.3)))
+    (λ l. is_not_zero _ (let e : top.0 ≡ k - 1 - count_leading_zeros k (suc m) = omega arith in
+    subst (λ p. digit_at 2 (suc m) p ≡ 1) e (top_bit top.0 (suc m) top.2 top.3)))
 
 -- std's `leading_zeros`
 pub zeros_wide : (n : ℕ) → n < 2 ^ 64 → leading_zeros w64 n ≡ leading_zeros_of true n

@@ -3,7 +3,8 @@ use Rattle.std.proofs.Common.{◌≡◌, ℕ, ◌+◌, ◌<◌, ◌≤◌, Bool,
 use Rattle.std.specs.Prelude.{◌↔◌, slice_get, is_some, is_none, IsSome, option_and_then, option_map}
 use Rattle.std.specs.List.{find, range_with_len}
 use Rattle.cmd_words.specs.Forms.{Form, form_of}
-use Rattle.cmd_words.specs.Words.{Fault, Request, verb_of, form_asked, command_fault, operand_fault, request_for, fault_at, place_fault, usage_fault, command_of}
+use Rattle.cmd_words.specs.Words.{Fault, Request, verb_of, form_asked, command_fault, operand_fault, request_for, fault_at, place_fault}
+use Rattle.cmd_words.specs.Words.{usage_fault, command_of}
 use Rattle.cmd_words.specs.declared.command.UsageKind.{UsageKind}
 use Rattle.cmd_words.specs.declared.command.UsageKind.TheVariants.{Unknown}
 use Rattle.cmd_words.specs.declared.form.Operand.{Operand}
@@ -27,9 +28,11 @@ no_place : (words : List (List ℕ)) → usage_fault words ≡ None → (q : ℕ
 unfolding usage_fault
 no_place words e q l =
     let test : ℕ → Bool = λ place. is_some (fault_at words place) in
-    elim (find test (range_with_len 0 (length words + 1))) as (λ o. find test (range_with_len 0 (length words + 1)) ≡ o → option_and_then (place_fault words) o ≡ None → fault_at words q ≡ None) [
+    elim (find test (range_with_len 0 (length words + 1))) as (λ o. find test (range_with_len 0 (length words + 1)) ≡ o
+    → option_and_then (place_fault words) o ≡ None → fault_at words q ≡ None) [
       | None ↦ λ is n. none_if_not (fault_at words q) (none-find test (length words + 1) q is l)
-      | Some p ↦ λ is n. absurd (map_some (λ (kind : UsageKind). let f : Fault = record { place = p; kind = kind } in f) (fault_at words p) (find-passes test (range_with_len 0 (length words + 1)) p is) n)
+      | Some p ↦ λ is n. absurd (map_some (λ (kind : UsageKind). let f : Fault = record { place = p; kind = kind } in f) (fault_at words p)
+          (find-passes test (range_with_len 0 (length words + 1)) p is) n)
     ] refl e
 
 known_verb : (verb : Option Verb) → ◌≡◌ {A = Option UsageKind} (cond (is_some verb) None (Some Unknown)) None → IsSome verb
@@ -50,13 +53,15 @@ operand_stands operand None e = cc
 operand_stands operand (Some word) e = refl
 
 -- the first operand of a command stands
-first_stands : (words : List (List ℕ)) (form : Form) (operand : Operand) → usage_fault words ≡ None → form_asked words ≡ Some form → slice_get form.operands 0 ≡ Some operand → IsSome (slice_get words 1)
+first_stands : (words : List (List ℕ)) (form : Form) (operand : Operand) → usage_fault words ≡ None → form_asked words ≡ Some form
+    → slice_get form.operands 0 ≡ Some operand → IsSome (slice_get words 1)
 first_stands words form operand none asked at =
     let l : 1 ≤ length words = (sound_first words form asked).inside in
     operand_stands operand (slice_get words 1) (sym (fault_at-operand words form 0 operand asked at) ∙ no_place words none 1 (omega arith))
 
 -- a command that stands asks for something
-requested : (words : List (List ℕ)) (verb : Verb) → usage_fault words ≡ None → option_and_then verb_of (slice_get words 0) ≡ Some verb → IsSome (request_for words verb)
+requested : (words : List (List ℕ)) (verb : Verb) → usage_fault words ≡ None → option_and_then verb_of (slice_get words 0) ≡ Some verb
+    → IsSome (request_for words verb)
 requested words Run none is = map_is_some _ (slice_get words 1) (first_stands words (form_of Run) Name none (asked_of words Run is) refl)
 requested words Dis none is = map_is_some _ (slice_get words 1) (first_stands words (form_of Dis) Name none (asked_of words Dis is) refl)
 requested words Asm none is = map_is_some _ (slice_get words 1) (first_stands words (form_of Asm) Name none (asked_of words Asm is) refl)
@@ -66,8 +71,10 @@ requested words Version none is = refl
 asks : (words : List (List ℕ)) → usage_fault words ≡ None → IsSome (command_of words)
 unfolding command_of fault_at
 asks words none =
-    let stands : IsSome (option_and_then verb_of (slice_get words 0)) = command_stands (slice_get words 0) (no_place words none 0 (omega arith)) in
-    rw none (elim (option_and_then verb_of (slice_get words 0)) as (λ o. option_and_then verb_of (slice_get words 0) ≡ o → IsSome o → IsSome (option_and_then (request_for words) o)) [
+    let stands : IsSome (option_and_then verb_of (slice_get words 0)) =
+    command_stands (slice_get words 0) (no_place words none 0 (omega arith)) in
+    rw none (elim (option_and_then verb_of (slice_get words 0)) as (λ o. option_and_then verb_of (slice_get words 0) ≡ o → IsSome o
+    → IsSome (option_and_then (request_for words) o)) [
       | None ↦ λ is e. cc
       | Some verb ↦ λ is e. requested words verb none is
     ] refl stands)

@@ -1,5 +1,6 @@
 -- The words of a command line, read operand by operand and option by option.
-use Rattle.std.proofs.Common.{◌≡◌, ◌≢◌, ℕ, zero, suc, ◌+◌, ◌-◌, ◌%◌, ◌<◌, ◌≤◌, ◌⊎◌, inl, inr, Bool, true, false, cond, List, [], ◌∷◌, length, Option, Some, None, refl, sym, ◌∙◌, ap, subst, arith, drop, get_or, add-one, drop-cons}
+use Rattle.std.proofs.Common.{◌≡◌, ◌≢◌, ℕ, zero, suc, ◌+◌, ◌-◌, ◌%◌, ◌<◌, ◌≤◌, ◌⊎◌, inl, inr, Bool, true, false, cond, List, [], ◌∷◌}
+use Rattle.std.proofs.Common.{length, Option, Some, None, refl, sym, ◌∙◌, ap, subst, arith, drop, get_or, add-one, drop-cons}
 use Rattle.std.proofs.Math.ListN.{drop_of_length-le}
 use Rattle.std.specs.Prelude.{slice_get, is_some, IsSome, option_and_then, option_map, unwrap_or, nat_le}
 use Rattle.std.proofs.lemmas.Bool.Decides.{nat_tests}
@@ -10,7 +11,9 @@ use Rattle.std.proofs.lemmas.Slice.Eq.{bytes_eq-Decides}
 use Rattle.cmd_words.specs.Forms.{Form, form_of, options_from}
 use Rattle.cmd_words.specs.Numbers.{is_number, number_of}
 use Rattle.cmd_words.specs.Options.{Options, default_options, word_of, setting_in, takes, default_of}
-use Rattle.cmd_words.specs.Words.{Request, AsksRun, verb_of, form_asked, command_fault, operand_fault, no_option, request_for, stands_at, option_place, option_fault, value_fault, fault_at, usage_fault, value_below, number_given, options_given, command_of}
+use Rattle.cmd_words.specs.Words.{Request, AsksRun, verb_of, form_asked, command_fault, operand_fault, no_option, request_for, stands_at}
+use Rattle.cmd_words.specs.Words.{option_place, option_fault, value_fault, fault_at, usage_fault, value_below, number_given, options_given}
+use Rattle.cmd_words.specs.Words.{command_of}
 use Rattle.cmd_words.specs.Given.{given_of, IsSoundTo, IsReadTo}
 use Rattle.cmd_words.specs.declared.command.UsageKind.{UsageKind}
 use Rattle.cmd_words.specs.declared.command.UsageKind.TheVariants.{Unknown, Repeated}
@@ -38,14 +41,17 @@ none_some n e = cc
 setting_word : (settings : List Setting) (word : List ℕ) (s : Setting) → setting_in settings word ≡ Some s → word ≡ word_of s
 unfolding setting_in
 setting_word [] word s e = cc
-setting_word (first ∷ settings) word s e = elim (bytes_eq word (word_of first)) as (λ b. bytes_eq word (word_of first) ≡ b → cond b (Some first) (setting_in settings word) ≡ Some s → word ≡ word_of s) [
-  | true ↦ λ is h. (bytes_eq-Decides word (word_of first)).0 is ∙ ap word_of (same_setting first s h)
-  | false ↦ λ is h. setting_word settings word s h
-] refl e
+setting_word (first ∷ settings) word s e =
+    elim (bytes_eq word (word_of first)) as (λ b. bytes_eq word (word_of first) ≡ b
+    → cond b (Some first) (setting_in settings word) ≡ Some s → word ≡ word_of s) [
+      | true ↦ λ is h. (bytes_eq-Decides word (word_of first)).0 is ∙ ap word_of (same_setting first s h)
+      | false ↦ λ is h. setting_word settings word s h
+    ] refl e
 
 -- the first of the options that are left, or one of the others
 pub setting_at : (settings : List Setting) (word : List ℕ) (i : ℕ) (d : Setting) → i < length settings
-    → setting_in (drop i settings) word ≡ cond (bytes_eq word (word_of (get_or settings i d))) (Some (get_or settings i d)) (setting_in (drop (i + 1) settings) word)
+    → setting_in (drop i settings) word ≡ cond (bytes_eq word (word_of (get_or settings i d))) (Some (get_or settings i d))
+    (setting_in (drop (i + 1) settings) word)
 unfolding setting_in
 setting_at settings word i d l = rw (add-one, drop-cons settings i d l) refl
 
@@ -81,7 +87,8 @@ words_apart s t d = elim (bytes_eq (word_of t) (word_of s)) as (λ b. bytes_eq (
 ] refl
 
 -- a number that is given is in the option's range, and so is the number where none is given
-pub number_in_range : (s : Setting) (given : Option ℕ) → ForSome given (λ n. takes s n ≡ true) → takes s (unwrap_or given (default_of s)) ≡ true
+pub number_in_range : (s : Setting) (given : Option ℕ) → ForSome given (λ n. takes s n ≡ true)
+    → takes s (unwrap_or given (default_of s)) ≡ true
 number_in_range s (Some n) h = h n refl
 number_in_range Vl None h = refl
 number_in_range Svl None h = refl
@@ -109,10 +116,12 @@ too_low : (m q : ℕ) → q < m → nat_le m q ≡ false
 too_low m q l = grind (arith, nat_tests)
 
 module _ (words : List (List ℕ)) (form : Form) where
-  stands-here : (option word : List ℕ) (p : ℕ) → options_from form ≤ p → (p - options_from form) % 2 ≡ 0 → slice_get words p ≡ Some word → stands_at form words option p ≡ bytes_eq option word
+  stands-here : (option word : List ℕ) (p : ℕ) → options_from form ≤ p → (p - options_from form) % 2 ≡ 0 → slice_get words p ≡ Some word
+      → stands_at form words option p ≡ bytes_eq option word
   stands-here option word p l even at = rw (at_option form p l even, at) refl
 
-  stands-value : (option : List ℕ) (p : ℕ) → options_from form ≤ p → (p - options_from form) % 2 ≡ 0 → stands_at form words option (p + 1) ≡ false
+  stands-value : (option : List ℕ) (p : ℕ) → options_from form ≤ p → (p - options_from form) % 2 ≡ 0
+      → stands_at form words option (p + 1) ≡ false
   stands-value option p l even = rw (at_value form p l even) refl
 
   -- before the first option none stands
@@ -129,11 +138,13 @@ module _ (words : List (List ℕ)) (form : Form) where
   option_place-more option p l even =
       let two : p + 2 ≡ p + 1 + 1 = omega arith in
       rw two (find-more (stands_at form words option) (p + 1)
-      ∙ or_next-false (find (stands_at form words option) (range_with_len 0 (p + 1))) (stands_at form words option (p + 1)) (p + 1) (stands-value option p l even)
+      ∙ or_next-false (find (stands_at form words option) (range_with_len 0 (p + 1))) (stands_at form words option (p + 1)) (p + 1)
+      (stands-value option p l even)
       ∙ find-more (stands_at form words option) p)
 
   -- the option that stands at a place for the first time
-  place_here : (word : List ℕ) (s : Setting) (p : ℕ) → options_from form ≤ p → (p - options_from form) % 2 ≡ 0 → slice_get words p ≡ Some word → word ≡ word_of s
+  place_here : (word : List ℕ) (s : Setting) (p : ℕ) → options_from form ≤ p → (p - options_from form) % 2 ≡ 0
+      → slice_get words p ≡ Some word → word ≡ word_of s
       → option_place form words (word_of s) p ≡ None → option_place form words (word_of s) (p + 2) ≡ Some p
   place_here word s p l even at is before =
       option_place-more (word_of s) p l even
@@ -141,15 +152,18 @@ module _ (words : List (List ℕ)) (form : Form) where
       ∙ ap (λ b. cond b (Some p) None) (stands-here (word_of s) word p l even at ∙ (bytes_eq-Decides (word_of s) word).1 (sym is))
 
   -- the other options stand where they stood
-  place_other : (word : List ℕ) (s t : Setting) (p : ℕ) → options_from form ≤ p → (p - options_from form) % 2 ≡ 0 → slice_get words p ≡ Some word → word ≡ word_of s
+  place_other : (word : List ℕ) (s t : Setting) (p : ℕ) → options_from form ≤ p → (p - options_from form) % 2 ≡ 0
+      → slice_get words p ≡ Some word → word ≡ word_of s
       → t ≢ s → option_place form words (word_of t) (p + 2) ≡ option_place form words (word_of t) p
   place_other word s t p l even at is d =
       option_place-more (word_of t) p l even
-      ∙ or_next-false (option_place form words (word_of t) p) (stands_at form words (word_of t) p) p (stands-here (word_of t) word p l even at ∙ ap (bytes_eq (word_of t)) is ∙ words_apart s t d)
+      ∙ or_next-false (option_place form words (word_of t) p) (stands_at form words (word_of t) p) p
+      (stands-here (word_of t) word p l even at ∙ ap (bytes_eq (word_of t)) is ∙ words_apart s t d)
 
 -- ---- the faults of an option's word
 
-module _ (words : List (List ℕ)) (form : Form) (p : ℕ) (given : Given) (word : List ℕ) (h : IsReadTo words form p given) (at : slice_get words p ≡ Some word) where
+module _ (words : List (List ℕ)) (form : Form) (p : ℕ) (given : Given) (word : List ℕ) (h : IsReadTo words form p given)
+    (at : slice_get words p ≡ Some word) where
   option_here : fault_at words p ≡ option_fault form words p (Some word)
   option_here = fault_at-option words form p h.asked h.past h.even ∙ ap (option_fault form words p) at
 
@@ -157,7 +171,8 @@ module _ (words : List (List ℕ)) (form : Form) (p : ℕ) (given : Given) (word
   unknown_here e = option_here ∙ rw e refl
 
   -- an option stands before where it is given
-  placed_word : (s : Setting) → setting_in form.options word ≡ Some s → is_some (option_place form words word p) ≡ is_some (given_of given s)
+  placed_word : (s : Setting) → setting_in form.options word ≡ Some s
+      → is_some (option_place form words word p) ≡ is_some (given_of given s)
   placed_word s e = ap (λ o. is_some (option_place form words o p)) (setting_word form.options word s e) ∙ sym (h.placed s)
 
   pub repeated_here : (s : Setting) → setting_in form.options word ≡ Some s → IsSome (given_of given s) → fault_at words p ≡ Some Repeated
@@ -167,32 +182,41 @@ module _ (words : List (List ℕ)) (form : Form) (p : ℕ) (given : Given) (word
   new_here s e none = option_here ∙ rw (e, placed_word s e, none) refl
 
   -- the places up to that of the value have no fault
-  pub sound_to_value : (s : Setting) → setting_in form.options word ≡ Some s → given_of given s ≡ None → (q : ℕ) → q < p + 1 → fault_at words q ≡ None
+  pub sound_to_value : (s : Setting) → setting_in form.options word ≡ Some s → given_of given s ≡ None → (q : ℕ) → q < p + 1
+      → fault_at words q ≡ None
   sound_to_value s e none q l = elim (same_or_low q p l) [
     | inl same ↦ subst (λ n. fault_at words n ≡ None) (sym same) (new_here s e none)
     | inr low ↦ h.sound q low
   ]
 
-  pub value_here : (s : Setting) → setting_in form.options word ≡ Some s → fault_at words (p + 1) ≡ value_fault (Some s) (slice_get words (p + 1))
+  pub value_here : (s : Setting) → setting_in form.options word ≡ Some s
+      → fault_at words (p + 1) ≡ value_fault (Some s) (slice_get words (p + 1))
   value_here s e = fault_at-value words form p h.asked h.past h.even ∙ rw (at, e) refl
 
   -- the first fault of the words is that of the option's word
-  pub setting_fault : (kind : UsageKind) → MatchOption (setting_in form.options word) (kind ≡ no_option form.options) (λ s. (kind ≡ Repeated) × IsSome (given_of given s)) → usage_fault words ≡ Some (record { place = p; kind = kind })
-  setting_fault kind why = usage_at words p kind h.inside (elim (setting_in form.options word) as (λ o. setting_in form.options word ≡ o → MatchOption o (kind ≡ no_option form.options) (λ s. (kind ≡ Repeated) × IsSome (given_of given s)) → fault_at words p ≡ Some kind) [
-    | None ↦ λ is w. unknown_here is ∙ ap Some (sym w)
-    | Some s ↦ λ is w. repeated_here s is w.1 ∙ ap Some (sym w.0)
-  ] refl why) h.sound
+  pub setting_fault : (kind : UsageKind) → MatchOption (setting_in form.options word) (kind ≡ no_option form.options)
+      (λ s. (kind ≡ Repeated) × IsSome (given_of given s)) → usage_fault words ≡ Some (record { place = p; kind = kind })
+  setting_fault kind why =
+      usage_at words p kind h.inside (elim (setting_in form.options word) as (λ o. setting_in form.options word ≡ o
+      → MatchOption o (kind ≡ no_option form.options) (λ s. (kind ≡ Repeated) × IsSome (given_of given s)) → fault_at words p ≡ Some kind) [
+        | None ↦ λ is w. unknown_here is ∙ ap Some (sym w)
+        | Some s ↦ λ is w. repeated_here s is w.1 ∙ ap Some (sym w.0)
+      ] refl why) h.sound
 
   -- the first fault of the words is that of the option's value
-  pub value_usage : (s : Setting) (kind : UsageKind) (value : Option (List ℕ)) → setting_in form.options word ≡ Some s → given_of given s ≡ None → value ≡ slice_get words (p + 1) → value_fault (Some s) value ≡ Some kind
+  pub value_usage : (s : Setting) (kind : UsageKind) (value : Option (List ℕ)) → setting_in form.options word ≡ Some s
+      → given_of given s ≡ None → value ≡ slice_get words (p + 1) → value_fault (Some s) value ≡ Some kind
       → usage_fault words ≡ Some (record { place = p + 1; kind = kind })
   value_usage s kind value is none after why =
-      usage_at words (p + 1) kind (let l : p < length words = get_inside words p word at in omega arith) (value_here s is ∙ ap (value_fault (Some s)) (sym after) ∙ why) (sound_to_value s is none)
+      usage_at words (p + 1) kind (let l : p < length words = get_inside words p word at in omega arith)
+      (value_here s is ∙ ap (value_fault (Some s)) (sym after) ∙ why) (sound_to_value s is none)
 
   -- ---- one more option is read
 
-  module _ (s : Setting) (value : List ℕ) (number : ℕ) (more : Given) (is : setting_in form.options word ≡ Some s) (none : given_of given s ≡ None)
-      (after : slice_get words (p + 1) ≡ Some value) (digits : is_number value ≡ true) (reads : number ≡ number_of value) (in_range : takes s number ≡ true)
+  module _ (s : Setting) (value : List ℕ) (number : ℕ) (more : Given) (is : setting_in form.options word ≡ Some s)
+      (none : given_of given s ≡ None)
+      (after : slice_get words (p + 1) ≡ Some value) (digits : is_number value ≡ true) (reads : number ≡ number_of value)
+      (in_range : takes s number ≡ true)
       (set : given_of more s ≡ Some number) (others : (t : Setting) → t ≢ s → given_of more t ≡ given_of given t) where
     value_sound : fault_at words (p + 1) ≡ None
     value_sound = value_here s is ∙ ap (value_fault (Some s)) after ∙ rw (digits, ← reads, in_range) refl
@@ -211,17 +235,23 @@ module _ (words : List (List ℕ)) (form : Form) (p : ℕ) (given : Given) (word
 
     placed_more : (t : Setting) → is_some (given_of more t) ≡ is_some (option_place form words (word_of t) (p + 2))
     placed_more t = elim (same_or s t) [
-      | inl same ↦ subst (λ (u : Setting). is_some (given_of more u) ≡ is_some (option_place form words (word_of u) (p + 2))) (sym same) (ap is_some set ∙ sym (ap is_some now_here))
-      | inr d ↦ ap is_some (others t d) ∙ h.placed t ∙ sym (ap is_some (place_other words form word s t p h.past h.even at (setting_word form.options word s is) d))
+      | inl same ↦ subst (λ (u : Setting). is_some (given_of more u) ≡ is_some (option_place form words (word_of u) (p + 2))) (sym same)
+          (ap is_some set ∙ sym (ap is_some now_here))
+      | inr d ↦ ap is_some (others t d) ∙ h.placed t
+          ∙ sym (ap is_some (place_other words form word s t p h.past h.even at (setting_word form.options word s is) d))
     ]
 
     value_now : value_below form words s (p + 2) ≡ Some number
     unfolding value_below
-    value_now = ap (option_and_then (λ place. option_map number_of (slice_get words (place + 1)))) now_here ∙ ap (option_map number_of) after ∙ ap Some (sym reads)
+    value_now =
+        ap (option_and_then (λ place. option_map number_of (slice_get words (place + 1)))) now_here ∙ ap (option_map number_of) after
+        ∙ ap Some (sym reads)
 
     value_still : (t : Setting) → t ≢ s → value_below form words t (p + 2) ≡ value_below form words t p
     unfolding value_below
-    value_still t d = ap (option_and_then (λ place. option_map number_of (slice_get words (place + 1)))) (place_other words form word s t p h.past h.even at (setting_word form.options word s is) d)
+    value_still t d =
+        ap (option_and_then (λ place. option_map number_of (slice_get words (place + 1))))
+        (place_other words form word s t p h.past h.even at (setting_word form.options word s is) d)
 
     valued_more : (t : Setting) → given_of more t ≡ value_below form words t (p + 2)
     valued_more t = elim (same_or s t) [
@@ -231,7 +261,8 @@ module _ (words : List (List ℕ)) (form : Form) (p : ℕ) (given : Given) (word
 
     range_more : (t : Setting) → ForSome (given_of more t) (λ n. takes t n ≡ true)
     range_more t = elim (same_or s t) [
-      | inl same ↦ subst (λ (u : Setting). ForSome (given_of more u) (λ n. takes u n ≡ true)) (sym same) (λ n e. subst (λ m. takes s m ≡ true) (same_number number n (sym set ∙ e)) in_range)
+      | inl same ↦ subst (λ (u : Setting). ForSome (given_of more u) (λ n. takes u n ≡ true)) (sym same)
+          (λ n e. subst (λ m. takes s m ≡ true) (same_number number n (sym set ∙ e)) in_range)
       | inr d ↦ subst (λ (o : Option ℕ). ForSome o (λ n. takes t n ≡ true)) (sym (others t d)) (h.in_range t)
     ]
 
@@ -263,7 +294,8 @@ form_there None form e = cc
 form_there (Some v) form e = (v, refl)
 
 -- the form of the command that stands
-pub asked_of : (words : List (List ℕ)) (verb : Verb) → option_and_then verb_of (slice_get words 0) ≡ Some verb → form_asked words ≡ Some (form_of verb)
+pub asked_of : (words : List (List ℕ)) (verb : Verb) → option_and_then verb_of (slice_get words 0) ≡ Some verb
+    → form_asked words ≡ Some (form_of verb)
 asked_of words verb e = ap (option_map form_of) e
 
 -- where a command stands, its place has no fault
@@ -271,7 +303,8 @@ command_sound : (words : List (List ℕ)) (verb : Verb) → option_and_then verb
 unfolding fault_at
 command_sound words verb e = command_there (slice_get words 0) verb e
 
-below_one : (words : List (List ℕ)) (verb : Verb) → option_and_then verb_of (slice_get words 0) ≡ Some verb → (q : ℕ) → q < 1 → fault_at words q ≡ None
+below_one : (words : List (List ℕ)) (verb : Verb) → option_and_then verb_of (slice_get words 0) ≡ Some verb → (q : ℕ) → q < 1
+    → fault_at words q ≡ None
 below_one words verb e zero l = command_sound words verb e
 below_one words verb e (suc q) l = absurd (omega arith)
 
@@ -281,7 +314,8 @@ sound_first words form asked =
     record { inside = verb_inside words verb.0 verb.1; sound = below_one words verb.0 verb.1 }
 
 -- there is no word, or none that is a command
-pub first_fault : (words : List (List ℕ)) (kind : UsageKind) → command_fault (slice_get words 0) ≡ Some kind → usage_fault words ≡ Some (record { place = 0; kind = kind })
+pub first_fault : (words : List (List ℕ)) (kind : UsageKind) → command_fault (slice_get words 0) ≡ Some kind
+    → usage_fault words ≡ Some (record { place = 0; kind = kind })
 unfolding fault_at
 first_fault words kind e = usage_at words 0 kind (omega arith) e (λ q l. absurd (omega arith))
 
@@ -305,9 +339,11 @@ some_inside [] i e = cc
 some_inside (w ∷ ws) zero e = omega arith
 some_inside (w ∷ ws) (suc i) e = let l : i < length ws = some_inside ws i e in omega arith
 
-module _ (words : List (List ℕ)) (form : Form) (k : ℕ) (operand : Operand) (asked : form_asked words ≡ Some form) (at : slice_get form.operands k ≡ Some operand) (h : IsSoundTo words (k + 1)) where
+module _ (words : List (List ℕ)) (form : Form) (k : ℕ) (operand : Operand) (asked : form_asked words ≡ Some form)
+    (at : slice_get form.operands k ≡ Some operand) (h : IsSoundTo words (k + 1)) where
   -- the first fault of the words is that of the operand
-  pub operand_usage : (kind : UsageKind) → operand_fault operand (slice_get words (k + 1)) ≡ Some kind → usage_fault words ≡ Some (record { place = k + 1; kind = kind })
+  pub operand_usage : (kind : UsageKind) → operand_fault operand (slice_get words (k + 1)) ≡ Some kind
+      → usage_fault words ≡ Some (record { place = k + 1; kind = kind })
   operand_usage kind why = usage_at words (k + 1) kind h.inside (fault_at-operand words form k operand asked at ∙ why) h.sound
 
   operand_sound : operand_fault operand (slice_get words (k + 1)) ≡ None → (q : ℕ) → q < k + 1 + 1 → fault_at words q ≡ None
@@ -326,7 +362,8 @@ module _ (words : List (List ℕ)) (form : Form) (k : ℕ) (operand : Operand) (
 -- ---- the options
 
 -- no option is read yet
-pub read_start : (words : List (List ℕ)) (form : Form) (given : Given) → form_asked words ≡ Some form → IsSoundTo words (options_from form) → ((s : Setting) → given_of given s ≡ None) → IsReadTo words form (options_from form) given
+pub read_start : (words : List (List ℕ)) (form : Form) (given : Given) → form_asked words ≡ Some form → IsSoundTo words (options_from form)
+    → ((s : Setting) → given_of given s ≡ None) → IsReadTo words form (options_from form) given
 unfolding value_below
 read_start words form given asked h none = record {
   asked = asked;
@@ -335,13 +372,17 @@ read_start words form given asked h none = record {
   inside = h.inside;
   sound = h.sound;
   placed = λ s. ap is_some (none s) ∙ sym (ap is_some (no_place words form (word_of s)));
-  valued = λ s. none s ∙ sym (ap (option_and_then (λ place. option_map number_of (slice_get words (place + 1)))) (no_place words form (word_of s)));
+  valued =
+      λ s. none s ∙ sym (ap (option_and_then (λ place. option_map number_of (slice_get words (place + 1))))
+      (no_place words form (word_of s)));
   in_range = λ s n e. absurd (none_some n (sym (none s) ∙ e));
 }
 
 module _ (words : List (List ℕ)) (form : Form) (given : Given) (h : IsReadTo words form (length words) given) where
   sound_last : fault_at words (length words) ≡ None
-  sound_last = fault_at-option words form (length words) h.asked h.past h.even ∙ ap (option_fault form words (length words)) (get_past words (length words) (omega arith))
+  sound_last =
+      fault_at-option words form (length words) h.asked h.past h.even
+      ∙ ap (option_fault form words (length words)) (get_past words (length words) (omega arith))
 
   sound_all : (q : ℕ) → q < length words + 1 → fault_at words q ≡ None
   sound_all q l = elim (same_or_low q (length words) l) [
@@ -350,7 +391,8 @@ module _ (words : List (List ℕ)) (form : Form) (given : Given) (h : IsReadTo w
   ]
 
   -- words that are read to their end ask for what their command does
-  pub read_end : (verb : Verb) (request : Option Request) → option_and_then verb_of (slice_get words 0) ≡ Some verb → request_for words verb ≡ request → command_of words ≡ request
+  pub read_end : (verb : Verb) (request : Option Request) → option_and_then verb_of (slice_get words 0) ≡ Some verb
+      → request_for words verb ≡ request → command_of words ≡ request
   unfolding command_of
   read_end verb request is e = rw (usage_none words sound_all, is) e
 
@@ -360,24 +402,41 @@ module _ (words : List (List ℕ)) (form : Form) (given : Given) (h : IsReadTo w
 
 -- the numbers of the options that are given, and of the others
 abbrev pub options_read : Given → Options
-options_read given = record default_options { vl = unwrap_or given.vl (default_of Vl); svl = unwrap_or given.svl (default_of Svl); budget = unwrap_or given.budget (default_of Budget) }
+options_read given =
+    record default_options {
+      vl = unwrap_or given.vl (default_of Vl);
+      svl = unwrap_or given.svl (default_of Svl);
+      budget = unwrap_or given.budget (default_of Budget);
+    }
 
 -- the options of a run
-pub given_options : (words : List (List ℕ)) (given : Given) → IsReadTo words (form_of Run) (length words) given → options_given (form_of Run) words ≡ options_read given
+pub given_options : (words : List (List ℕ)) (given : Given) → IsReadTo words (form_of Run) (length words) given
+    → options_given (form_of Run) words ≡ options_read given
 unfolding options_given
-given_options words given h = rw (given_number words (form_of Run) given h Vl, given_number words (form_of Run) given h Svl, given_number words (form_of Run) given h Budget) refl
+given_options words given h =
+    rw (
+      given_number words (form_of Run) given h Vl,
+      given_number words (form_of Run) given h Svl,
+      given_number words (form_of Run) given h Budget,
+    ) refl
 
-pub to_end : (words : List (List ℕ)) (form : Form) (given : Given) (n : ℕ) → n ≡ length words → IsReadTo words form n given → IsReadTo words form (length words) given
+pub to_end : (words : List (List ℕ)) (form : Form) (given : Given) (n : ℕ) → n ≡ length words → IsReadTo words form n given
+    → IsReadTo words form (length words) given
 to_end words form given n e h = subst (λ (m : ℕ). IsReadTo words form m given) e h
 
 -- the run that is asked for
-pub run_asked : (words : List (List ℕ)) (given : Given) (name : List ℕ) (n : ℕ) → n ≡ length words → IsReadTo words (form_of Run) n given → option_and_then verb_of (slice_get words 0) ≡ Some Run → slice_get words 1 ≡ Some name
+pub run_asked : (words : List (List ℕ)) (given : Given) (name : List ℕ) (n : ℕ) → n ≡ length words → IsReadTo words (form_of Run) n given
+    → option_and_then verb_of (slice_get words 0) ≡ Some Run → slice_get words 1 ≡ Some name
     → command_of words ≡ Some (AsksRun name (options_read given))
 run_asked words given name n e h is at =
     let read = to_end words (form_of Run) given n e h in
-    read_end words (form_of Run) given read Run _ is (ap (option_map (λ m. AsksRun m (options_given (form_of Run) words))) at ∙ ap (λ (o : Options). Some (AsksRun name o)) (given_options words given read))
+    read_end words (form_of Run) given read Run _ is
+    (ap (option_map (λ m. AsksRun m (options_given (form_of Run) words))) at
+    ∙ ap (λ (o : Options). Some (AsksRun name o)) (given_options words given read))
 
 -- what another command asks for
-pub asked_for : (words : List (List ℕ)) (given : Given) (verb : Verb) (request : Option Request) (n : ℕ) → n ≡ length words → IsReadTo words (form_of verb) n given → option_and_then verb_of (slice_get words 0) ≡ Some verb
+pub asked_for : (words : List (List ℕ)) (given : Given) (verb : Verb) (request : Option Request) (n : ℕ) → n ≡ length words
+    → IsReadTo words (form_of verb) n given → option_and_then verb_of (slice_get words 0) ≡ Some verb
     → request_for words verb ≡ request → command_of words ≡ request
-asked_for words given verb request n e h is asks = read_end words (form_of verb) given (to_end words (form_of verb) given n e h) verb request is asks
+asked_for words given verb request n e h is asks =
+    read_end words (form_of verb) given (to_end words (form_of verb) given n e h) verb request is asks

@@ -12,7 +12,8 @@ unfolding listing_text
 listing_none = refl
 
 -- the line at a place is the first of those that are left
-pub listing_at : (entries : List (ℕ × ℕ)) (i : ℕ) (d : ℕ × ℕ) → i < length entries → listing_text (drop i entries) ≡ listing_line (get_or entries i d) ++ listing_text (drop (i + 1) entries)
+pub listing_at : (entries : List (ℕ × ℕ)) (i : ℕ) (d : ℕ × ℕ) → i < length entries
+    → listing_text (drop i entries) ≡ listing_line (get_or entries i d) ++ listing_text (drop (i + 1) entries)
 listing_at entries i d l = rw (add-one, drop-cons entries i d) (listing_cons (get_or entries i d) _)
 
 -- past the last place none is left

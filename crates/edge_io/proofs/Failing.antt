@@ -16,4 +16,5 @@ pub allowance_le : (failing : List (ℕ × ℕ)) (call room : ℕ) → allowance
 allowance_le failing call room = fold-min-le (map (λ entry. entry.1) (filter (λ entry. entry.0 == call) failing)) room
 
 pub allowance_unlisted : (failing : List (ℕ × ℕ)) (call room : ℕ) → is_listed failing call ≡ false → allowance failing call room ≡ room
-allowance_unlisted failing call room h = ap (λ entries. fold min room (map (λ entry. entry.1) entries)) (filter-none (λ entry. entry.0 == call) failing h)
+allowance_unlisted failing call room h =
+    ap (λ entries. fold min room (map (λ entry. entry.1) entries)) (filter-none (λ entry. entry.0 == call) failing h)

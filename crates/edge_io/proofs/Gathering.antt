@@ -1,5 +1,6 @@
 -- Texts gathered one after another.
-use Rattle.std.proofs.Common.{◌≡◌, ℕ, ◌+◌, ◌<◌, ◌≤◌, ◌++◌, List, [], length, take, drop, get_or, refl, ap, sym, ◌∙◌, arith, subst, append_assoc, Result, Ok, Err}
+use Rattle.std.proofs.Common.{◌≡◌, ℕ, ◌+◌, ◌<◌, ◌≤◌, ◌++◌, List, [], length, take, drop, get_or, refl, ap, sym, ◌∙◌, arith, subst}
+use Rattle.std.proofs.Common.{append_assoc, Result, Ok, Err}
 use Rattle.std.proofs.lemmas.Grind.{common_steps, flat_map-append}
 use Rattle.std.proofs.lemmas.List.{take-append-drop, take_more}
 use Rattle.std.specs.List.{flat_map}
@@ -31,7 +32,8 @@ room_second w b a s t e fits =
     let size : length (w ++ b) ≡ length (a ++ s) = ap length e in
     omega (arith, length-both w b, length-both a s, length-both s t)
 
-gathers_then : (a b c : Gathered) (r : Result Unit PutFault) (s t : List ℕ) → Gathers a b (Ok tt) s → Gathers b c r t → Gathers a c r (s ++ t)
+gathers_then : (a b c : Gathered) (r : Result Unit PutFault) (s t : List ℕ) → Gathers a b (Ok tt) s → Gathers b c r t
+    → Gathers a c r (s ++ t)
 gathers_then a b c (Ok tt) s t h k = record {
   ok = (h.ok.0 ++ k.ok.0, writes_then _ _ _ _ _ _ h.ok.1 k.ok.1, regroup h.ok.0 k.ok.0 c.held b.held t a.held s h.ok.2 k.ok.2);
   failed = tt;
@@ -43,7 +45,8 @@ gathers_then a b c (Err e) s t h k = record {
   spared = λ fits. k.spared (room_second h.ok.0 b.held a.held s t h.ok.2 fits) ∙ h.spared (room_first a.held s t fits);
 }
 
-gathers_stop : (a b : Gathered) (r r' : Result Unit PutFault) (s t : List ℕ) → IsErr r' → IsErr r → Gathers a b r s → Gathers a b r' (s ++ t)
+gathers_stop : (a b : Gathered) (r r' : Result Unit PutFault) (s t : List ℕ) → IsErr r' → IsErr r → Gathers a b r s
+    → Gathers a b r' (s ++ t)
 gathers_stop a b (Ok u) r' s t e' e h = cc
 gathers_stop a b (Err x) (Ok u) s t e' e h = cc
 gathers_stop a b (Err x) (Err y) s t e' e h = record {
@@ -56,10 +59,12 @@ gathers_stop a b (Err x) (Err y) s t e' e h = record {
 pub as_text : {a b : Gathered} {r : Result Unit PutFault} {s t : List ℕ} → s ≡ t → Gathers a b r s → Gathers a b r t
 as_text {a = a} {b = b} {r = r} e h = let P : List ℕ → Type 0 = λ l. Gathers a b r l in subst P e h
 
-pub and_then : {a b c : Gathered} {r : Result Unit PutFault} {s t : List ℕ} → Gathers a b (Ok tt) s → Gathers b c r t → Gathers a c r (s ++ t)
+pub and_then : {a b c : Gathered} {r : Result Unit PutFault} {s t : List ℕ} → Gathers a b (Ok tt) s → Gathers b c r t
+    → Gathers a c r (s ++ t)
 and_then h k = gathers_then _ _ _ _ _ _ h k
 
-pub and_stop : {a b : Gathered} {e : PutFault} {r : Result Unit PutFault} {s : List ℕ} (t : List ℕ) → Gathers a b (Err e) s → IsErr r → Gathers a b r (s ++ t)
+pub and_stop : {a b : Gathered} {e : PutFault} {r : Result Unit PutFault} {s : List ℕ} (t : List ℕ) → Gathers a b (Err e) s → IsErr r
+    → Gathers a b r (s ++ t)
 and_stop t h e = gathers_stop _ _ _ _ _ _ e refl h
 
 pub and_end : {a b : Gathered} {r : Result Unit PutFault} {s : List ℕ} → Gathers a b r s → Gathers a b r (s ++ [])
@@ -80,7 +85,8 @@ too_long : (h t : List ℕ) → piece_size < length h + length t → length h + 
 too_long h t l fits = absurd (omega arith)
 
 -- bytes for which there is no room: what is held is written, and they are gathered
-pub gathers_after : (a b c : Gathered) (text : List ℕ) → piece_size < length a.held + length text → Writes a.sink b.sink (Ok tt) a.held → b.held ≡ [] → c.sink ≡ b.sink → c.held ≡ b.held ++ text → Gathers a c (Ok tt) text
+pub gathers_after : (a b c : Gathered) (text : List ℕ) → piece_size < length a.held + length text → Writes a.sink b.sink (Ok tt) a.held
+    → b.held ≡ [] → c.sink ≡ b.sink → c.held ≡ b.held ++ text → Gathers a c (Ok tt) text
 gathers_after a b c text long w none_held same e = record {
   ok = (a.held, subst (λ v. Writes a.sink v (Ok tt) a.held) (sym same) w, ap (λ l. a.held ++ l) (e ∙ ap (λ l. l ++ text) none_held));
   failed = tt;
@@ -88,56 +94,77 @@ gathers_after a b c text long w none_held same e = record {
 }
 
 -- or they are written, too
-pub gathers_past : (a b c : Gathered) (r : Result Unit PutFault) (text : List ℕ) → piece_size < length a.held + length text → Writes a.sink b.sink (Ok tt) a.held → c.held ≡ [] → Writes b.sink c.sink r text → Gathers a c r text
+pub gathers_past : (a b c : Gathered) (r : Result Unit PutFault) (text : List ℕ) → piece_size < length a.held + length text
+    → Writes a.sink b.sink (Ok tt) a.held → c.held ≡ [] → Writes b.sink c.sink r text → Gathers a c r text
 gathers_past a b c (Ok tt) text long w none_left k = record {
   ok = (a.held ++ text, writes_then _ _ _ _ _ _ w k, ap (λ l. (a.held ++ text) ++ l) none_left ∙ nothing_left (a.held ++ text));
   failed = tt;
   spared = λ fits. absurd (too_long a.held text long fits);
 }
-gathers_past a b c (Err e) text long w none_left k = record { ok = tt; failed = writes_then _ _ _ _ _ _ w k; spared = λ fits. absurd (too_long a.held text long fits) }
+gathers_past a b c (Err e) text long w none_left k =
+    record { ok = tt; failed = writes_then _ _ _ _ _ _ w k; spared = λ fits. absurd (too_long a.held text long fits) }
 
 -- or not all that is held is written
-pub gathers_not : (a b : Gathered) (e : PutFault) (r : Result Unit PutFault) (text : List ℕ) → piece_size < length a.held + length text → Writes a.sink b.sink (Err e) a.held → IsErr r → Gathers a b r text
+pub gathers_not : (a b : Gathered) (e : PutFault) (r : Result Unit PutFault) (text : List ℕ) → piece_size < length a.held + length text
+    → Writes a.sink b.sink (Err e) a.held → IsErr r → Gathers a b r text
 gathers_not a b e (Ok u) text long w is = cc
-gathers_not a b e (Err f) text long w is = record { ok = tt; failed = writes_stop _ _ _ _ _ text refl refl w; spared = λ fits. absurd (too_long a.held text long fits) }
+gathers_not a b e (Err f) text long w is =
+    record { ok = tt; failed = writes_stop _ _ _ _ _ text refl refl w; spared = λ fits. absurd (too_long a.held text long fits) }
 
 written_held : (w held text before : List ℕ) → before ≡ [] → w ++ held ≡ before ++ text → w ++ held ≡ text
 written_held w held text before e k = k ∙ ap (λ l. l ++ text) e
 
 -- a text that was gathered from its start, and of which the rest was written then
-pub flushed : {a b : Gathered} {s : SinkView} {r : Result Unit PutFault} {text : List ℕ} → a.held ≡ [] → Gathers a b (Ok tt) text → Writes b.sink s r b.held → Writes a.sink s r text
-flushed {a = a} {b = b} {text = text} none_held h k = writes_as (written_held h.ok.0 b.held text a.held none_held h.ok.2) (writes_then _ _ _ _ _ _ h.ok.1 k)
+pub flushed : {a b : Gathered} {s : SinkView} {r : Result Unit PutFault} {text : List ℕ} → a.held ≡ [] → Gathers a b (Ok tt) text
+    → Writes b.sink s r b.held → Writes a.sink s r text
+flushed {a = a} {b = b} {text = text} none_held h k =
+    writes_as (written_held h.ok.0 b.held text a.held none_held h.ok.2) (writes_then _ _ _ _ _ _ h.ok.1 k)
 
 -- from a piece that has gathered the same
-pub gathers_from : {s : SinkView} {h k : List ℕ} {b : Gathered} {r : Result Unit PutFault} {text : List ℕ} → h ≡ k → Gathers (record { sink = s; held = h }) b r text → Gathers (record { sink = s; held = k }) b r text
-gathers_from {s = s} {b = b} {r = r} {text = text} e g = let P : List ℕ → Type 0 = λ l. Gathers (record { sink = s; held = l }) b r text in subst P e g
+pub gathers_from : {s : SinkView} {h k : List ℕ} {b : Gathered} {r : Result Unit PutFault} {text : List ℕ} → h ≡ k
+    → Gathers (record { sink = s; held = h }) b r text → Gathers (record { sink = s; held = k }) b r text
+gathers_from {s = s} {b = b} {r = r} {text = text} e g =
+    let P : List ℕ → Type 0 = λ l. Gathers (record { sink = s; held = l }) b r text in subst P e g
 
 -- ---- a text of which a part is left
 
 pub sofar_start : (a : Gathered) (all : List ℕ) → SoFar a a all all
 sofar_start a all = record { text = []; gathers = gathers_none a; whole = refl }
 
-pub sofar_more : {a b c : Gathered} {s rest left all : List ℕ} → left ≡ s ++ rest → SoFar a b left all → Gathers b c (Ok tt) s → SoFar a c rest all
-sofar_more {s = s} {rest = rest} e h k = record { text = h.text ++ s; gathers = and_then h.gathers k; whole = append_assoc h.text s rest ∙ ap (λ l. h.text ++ l) (sym e) ∙ h.whole }
+pub sofar_more : {a b c : Gathered} {s rest left all : List ℕ} → left ≡ s ++ rest → SoFar a b left all → Gathers b c (Ok tt) s
+    → SoFar a c rest all
+sofar_more {s = s} {rest = rest} e h k =
+    record {
+      text = h.text ++ s;
+      gathers = and_then h.gathers k;
+      whole = append_assoc h.text s rest ∙ ap (λ l. h.text ++ l) (sym e)
+          ∙ h.whole;
+    }
 
-pub sofar_stop : {a b c : Gathered} {e : PutFault} {r : Result Unit PutFault} {s left all : List ℕ} (rest : List ℕ) → left ≡ s ++ rest → SoFar a b left all → Gathers b c (Err e) s → IsErr r → Gathers a c r all
-sofar_stop {s = s} rest e h k is = as_text (ap (λ l. h.text ++ l) (sym e) ∙ h.whole) (gathers_then _ _ _ _ _ _ h.gathers (and_stop rest k is))
+pub sofar_stop : {a b c : Gathered} {e : PutFault} {r : Result Unit PutFault} {s left all : List ℕ} (rest : List ℕ) → left ≡ s ++ rest
+    → SoFar a b left all → Gathers b c (Err e) s → IsErr r → Gathers a c r all
+sofar_stop {s = s} rest e h k is =
+    as_text (ap (λ l. h.text ++ l) (sym e) ∙ h.whole) (gathers_then _ _ _ _ _ _ h.gathers (and_stop rest k is))
 
 pub sofar_end : {a b : Gathered} {rest all : List ℕ} → rest ≡ [] → SoFar a b rest all → Gathers a b (Ok tt) all
 sofar_end {rest = rest} {all = all} e h = as_text (sym (nothing_left h.text) ∙ ap (λ l. h.text ++ l) (sym e) ∙ h.whole) h.gathers
 
 -- ---- parts one after another
 
-cut_at : {X : Type 0} (f : X → List ℕ) (xs : List X) (i : ℕ) (d : X) → i < length xs → flat_map f xs ≡ (flat_map f (take i xs) ++ f (get_or xs i d)) ++ flat_map f (drop (i + 1) xs)
+cut_at : {X : Type 0} (f : X → List ℕ) (xs : List X) (i : ℕ) (d : X) → i < length xs
+    → flat_map f xs ≡ (flat_map f (take i xs) ++ f (get_or xs i d)) ++ flat_map f (drop (i + 1) xs)
 cut_at f xs i d h =
     let whole : flat_map f (take (i + 1) xs ++ drop (i + 1) xs) ≡ flat_map f xs = ap (flat_map f) (take-append-drop (i + 1) xs) in
-    let more : flat_map f (take (i + 1) xs) ≡ flat_map f (take i xs) ++ f (get_or xs i d) = rw (take_more xs i d h, flat_map-append) (grind (arith, common_steps)) in
+    let more : flat_map f (take (i + 1) xs) ≡ flat_map f (take i xs) ++ f (get_or xs i d) =
+    rw (take_more xs i d h, flat_map-append) (grind (arith, common_steps)) in
     sym whole ∙ flat_map-append f (take (i + 1) xs) (drop (i + 1) xs) ∙ ap (λ l. l ++ flat_map f (drop (i + 1) xs)) more
 
 pub parts_more : {X : Type 0} (f : X → List ℕ) (a b c : Gathered) (xs : List X) (i : ℕ) (d : X) → i < length xs
-    → Gathers a b (Ok tt) (flat_map f (take i xs)) → Gathers b c (Ok tt) (f (get_or xs i d)) → Gathers a c (Ok tt) (flat_map f (take (i + 1) xs))
+    → Gathers a b (Ok tt) (flat_map f (take i xs)) → Gathers b c (Ok tt) (f (get_or xs i d))
+    → Gathers a c (Ok tt) (flat_map f (take (i + 1) xs))
 parts_more f a b c xs i d l h k =
-    let more : flat_map f (take i xs) ++ f (get_or xs i d) ≡ flat_map f (take (i + 1) xs) = sym (rw (take_more xs i d l, flat_map-append) (grind (arith, common_steps))) in
+    let more : flat_map f (take i xs) ++ f (get_or xs i d) ≡ flat_map f (take (i + 1) xs) =
+    sym (rw (take_more xs i d l, flat_map-append) (grind (arith, common_steps))) in
     as_text more (and_then h k)
 
 pub parts_cut : {X : Type 0} (f : X → List ℕ) (a b c : Gathered) (r r' : Result Unit PutFault) (xs : List X) (i : ℕ) (d : X) → i < length xs

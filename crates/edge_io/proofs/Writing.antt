@@ -1,5 +1,6 @@
 -- Texts written one after another.
-use Rattle.std.proofs.Common.{true, false, ◌≡◌, ℕ, suc, ◌+◌, ◌≤◌, ◌++◌, List, [], ◌∷◌, length, take, min, refl, ap, sym, ◌∙◌, arith, subst, append_assoc, Option, Some, None, Result, Ok, Err}
+use Rattle.std.proofs.Common.{true, false, ◌≡◌, ℕ, suc, ◌+◌, ◌≤◌, ◌++◌, List, [], ◌∷◌, length, take, min, refl, ap, sym, ◌∙◌, arith, subst}
+use Rattle.std.proofs.Common.{append_assoc, Option, Some, None, Result, Ok, Err}
 use Rattle.std.proofs.lemmas.Grind.{common_steps}
 use Rattle.std.specs.Prelude.{IsOk}
 use Rattle.std.specs.Result.{IsErr}
@@ -36,7 +37,8 @@ fits_second s t room left fits h = omega (arith, length-both s t)
 fits_left : (s t : List ℕ) (room left last : ℕ) → room ≤ length s + left → left ≤ length t + last → room ≤ length (s ++ t) + last
 fits_left s t room left last h k = omega (arith, length-both s t)
 
-fits_both : (a b c : SinkView) (r : Result Unit PutFault) (s t : List ℕ) → Writes a b (Ok tt) s → Writes b c r t → length (s ++ t) ≤ a.room → IsOk r × (a.room ≤ length (s ++ t) + c.room)
+fits_both : (a b c : SinkView) (r : Result Unit PutFault) (s t : List ℕ) → Writes a b (Ok tt) s → Writes b c r t → length (s ++ t) ≤ a.room
+    → IsOk r × (a.room ≤ length (s ++ t) + c.room)
 fits_both a b c r s t h k fits =
     let first = h.accepts (fits_first s t a.room fits) in
     let second = k.accepts (fits_second s t a.room b.room fits first.1) in
@@ -45,7 +47,8 @@ fits_both a b c r s t h k fits =
 pub writes_none : (a : SinkView) → Writes a a (Ok tt) []
 writes_none a = record { ok = (added-nil a.held, refl); failed = tt; cause = tt; accepts = λ fits. (refl, omega arith) }
 
-pub writes_then : (a b c : SinkView) (r : Result Unit PutFault) (s t : List ℕ) → Writes a b (Ok tt) s → Writes b c r t → Writes a c r (s ++ t)
+pub writes_then : (a b c : SinkView) (r : Result Unit PutFault) (s t : List ℕ) → Writes a b (Ok tt) s → Writes b c r t
+    → Writes a c r (s ++ t)
 writes_then a b c (Ok tt) s t h k = record {
   ok = (k.ok.0 ∙ ap (λ x. added x t) h.ok.0 ∙ added-append a.held s t, k.ok.1 ∙ h.ok.1);
   failed = tt;
@@ -54,12 +57,17 @@ writes_then a b c (Ok tt) s t h k = record {
 }
 writes_then a b c (Err e) s t h k = record {
   ok = tt;
-  failed = (length s + k.failed.0, k.failed.1 ∙ ap (λ x. added x (take k.failed.0 t)) h.ok.0 ∙ added-append a.held s (take k.failed.0 t) ∙ ap (added a.held) (sym (take-both s t k.failed.0)));
+  failed = (
+    length s + k.failed.0,
+    k.failed.1 ∙ ap (λ x. added x (take k.failed.0 t)) h.ok.0 ∙ added-append a.held s (take k.failed.0 t)
+        ∙ ap (added a.held) (sym (take-both s t k.failed.0)),
+  );
   cause = subst (λ n. Rose n c.faults × (n ≤ c.faults)) h.ok.1 k.cause;
   accepts = λ fits. fits_both a b c (Err e) s t h k fits;
 }
 
-pub writes_stop : (a b : SinkView) (r r' : Result Unit PutFault) (s t : List ℕ) → IsErr r' → IsErr r → Writes a b r s → Writes a b r' (s ++ t)
+pub writes_stop : (a b : SinkView) (r r' : Result Unit PutFault) (s t : List ℕ) → IsErr r' → IsErr r → Writes a b r s
+    → Writes a b r' (s ++ t)
 writes_stop a b (Ok u) r' s t e' e h = cc
 writes_stop a b (Err x) (Ok u) s t e' e h = cc
 writes_stop a b (Err x) (Err y) s t e' e h = record {

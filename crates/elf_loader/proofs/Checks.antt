@@ -16,21 +16,26 @@ pub headers_refused : (file : List ℕ) (fault : LoadFault) → headers_fault fi
 unfolding load_fault
 headers_refused file fault h = rw h refl
 
-pub sections_refused : (file : List ℕ) (fault : LoadFault) → headers_fault file ≡ None → sections_fault file ≡ Some fault → load_fault file ≡ Some fault
+pub sections_refused : (file : List ℕ) (fault : LoadFault) → headers_fault file ≡ None → sections_fault file ≡ Some fault
+    → load_fault file ≡ Some fault
 unfolding load_fault
 sections_refused file fault h s = rw (h, s) refl
 
-pub words_refused : (file : List ℕ) (fault : LoadFault) → headers_fault file ≡ None → sections_fault file ≡ None → words_fault (code_words file) ≡ Some fault → load_fault file ≡ Some fault
+pub words_refused : (file : List ℕ) (fault : LoadFault) → headers_fault file ≡ None → sections_fault file ≡ None
+    → words_fault (code_words file) ≡ Some fault → load_fault file ≡ Some fault
 unfolding load_fault
 words_refused file fault h s w = rw (h, s, w) refl
 
-pub all_accepted : (file : List ℕ) → headers_fault file ≡ None → sections_fault file ≡ None → words_fault (code_words file) ≡ None → load_fault file ≡ None
+pub all_accepted : (file : List ℕ) → headers_fault file ≡ None → sections_fault file ≡ None → words_fault (code_words file) ≡ None
+    → load_fault file ≡ None
 unfolding load_fault
 all_accepted file h s w = rw (h, s, w) refl
 
 -- the image that was made is what the file stands for
-pub loaded : (file : List ℕ) (loads : List ProgramHeader) (entry : ℕ) (code : List (ℕ × ℕ)) (r : Result Program LoadFault) → load_fault file ≡ None → loads ≡ loads_of file → entry ≡ header_entry file → code ≡ code_words file
-    → IfOk r (λ image. IsMemoryOf (map (extent_of_load file) loads) image.memory) → IfOk r (λ image. image.entry ≡ entry) → IfOk r (λ image. image.code ≡ code) → IfOk r (λ image. Loads file image)
+pub loaded : (file : List ℕ) (loads : List ProgramHeader) (entry : ℕ) (code : List (ℕ × ℕ)) (r : Result Program LoadFault)
+    → load_fault file ≡ None → loads ≡ loads_of file → entry ≡ header_entry file → code ≡ code_words file
+    → IfOk r (λ image. IsMemoryOf (map (extent_of_load file) loads) image.memory) → IfOk r (λ image. image.entry ≡ entry)
+    → IfOk r (λ image. image.code ≡ code) → IfOk r (λ image. Loads file image)
 loaded file loads entry code (Ok image) a l e c memory entry_is code_is = record {
   accepted = a;
   memory = subst (λ (ls : List ProgramHeader). IsMemoryOf (map (extent_of_load file) ls) image.memory) l memory;

@@ -1,5 +1,6 @@
 -- A file without a fault is loaded as one program: some memory has the pages and bytes of any parts, and no other does.
-use Rattle.std.proofs.Common.{◌≡◌, ℕ, zero, suc, ◌+◌, ◌-◌, ◌*◌, ◌/◌, ◌<◌, ◌≤◌, ◌⊎◌, inl, inr, Bool, true, false, cond, List, [], ◌∷◌, Option, Some, None, refl, sym, ◌∙◌, ap, arith}
+use Rattle.std.proofs.Common.{◌≡◌, ℕ, zero, suc, ◌+◌, ◌-◌, ◌*◌, ◌/◌, ◌<◌, ◌≤◌, ◌⊎◌, inl, inr, Bool, true, false, cond, List, [], ◌∷◌}
+use Rattle.std.proofs.Common.{Option, Some, None, refl, sym, ◌∙◌, ap, arith}
 use Rattle.std.specs.Prelude.{◌&&◌, ◌==◌, nat_lt, nat_le}
 use Rattle.std.specs.FinMap.{FinMap, get, insert, empty, get-insert, get-empty, same_map, nat_cmp-IsAntisymmetric}
 use Rattle.std.specs.Cmp.{nat_cmp_total}
@@ -35,7 +36,8 @@ get-with_value m n (Some v) e = get-insert nat_cmp_total m n v n ∙ ap (λ b. c
 get-with_other : (m : FinMap nat_cmp ℕ) (n q : ℕ) (o : Option ℕ) → (n ≡ q → ⊥) → get (with_value m n o) q ≡ get m q
 unfolding with_value
 get-with_other m n q None e = refl
-get-with_other m n q (Some v) e = get-insert nat_cmp_total m n v q ∙ ap (λ b. cond b (Some v) (get m q)) (eq_by_cmp-nat q n ∙ other_key n q e)
+get-with_other m n q (Some v) e =
+    get-insert nat_cmp_total m n v q ∙ ap (λ b. cond b (Some v) (get m q)) (eq_by_cmp-nat q n ∙ other_key n q e)
 
 map_below : (ℕ → Option ℕ) → ℕ → FinMap nat_cmp ℕ
 map_below f zero = empty
@@ -54,7 +56,8 @@ unfolding map_below
 get-below f zero q l = absurd (omega arith)
 get-below f (suc n) q l =
     elim (last_or_before q n l) [
-      | inl e ↦ ap (get (with_value (map_below f n) n (f n))) (sym e) ∙ get-with_value (map_below f n) n (f n) (get-above f n n (omega arith)) ∙ ap f e
+      | inl e ↦ ap (get (with_value (map_below f n) n (f n))) (sym e)
+          ∙ get-with_value (map_below f n) n (f n) (get-above f n n (omega arith)) ∙ ap f e
       | inr before ↦ get-with_other (map_below f n) n q (f n) (λ e. omega arith) ∙ get-below f n q before
     ]
 
@@ -119,7 +122,8 @@ bytes-above parts a l = rw (parts-above parts a (omega arith), flags-above parts
 -- ---- the memory of parts
 
 memory_of : List Extent → AddressSpace
-memory_of parts = record { mem = map_below (image_byte parts) (4096 * bound_of parts); perm = map_below (image_flags parts) (bound_of parts) }
+memory_of parts =
+    record { mem = map_below (image_byte parts) (4096 * bound_of parts); perm = map_below (image_flags parts) (bound_of parts) }
 
 is_memory : (parts : List Extent) → IsMemoryOf parts (memory_of parts)
 unfolding memory_of

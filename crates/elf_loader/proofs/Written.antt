@@ -37,7 +37,9 @@ listed_words (entry ∷ rest) e =
     rw (listed_word entry.0 entry.1 (instruction_of entry.1) parts.0) (listed_words rest parts.1)
 
 accepted-written : (o : Object) → IsWritable o → load_fault (file_of o) ≡ None
-accepted-written o w = all_accepted (file_of o) (headers-written o (small o w)) (sections-written o (small o w)) (ap words_fault (code-written o (small o w)) ∙ listed_words (object_code o) w.listed)
+accepted-written o w =
+    all_accepted (file_of o) (headers-written o (small o w)) (sections-written o (small o w))
+    (ap words_fault (code-written o (small o w)) ∙ listed_words (object_code o) w.listed)
 
 image-written : (o : Object) (program : Program) → IsWritable o → Loads (file_of o) program → IsObjectImage o program
 image-written o program w l = record {

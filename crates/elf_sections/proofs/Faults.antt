@@ -14,7 +14,8 @@ pub no_code : (file : List ℕ) → has_sections file ≡ false → [] ≡ code_
 unfolding code_words
 no_code file h = rw (h) refl
 
-pub table_refused : (file : List ℕ) (fault : LoadFault) → has_sections file ≡ true → section_table_fault file ≡ Some fault → sections_fault file ≡ Some fault
+pub table_refused : (file : List ℕ) (fault : LoadFault) → has_sections file ≡ true → section_table_fault file ≡ Some fault
+    → sections_fault file ≡ Some fault
 unfolding sections_fault
 table_refused file fault h t = rw (h, t) refl
 
@@ -23,7 +24,8 @@ or_none None = refl
 or_none (Some f) = refl
 
 -- where the table passes, the fault is that of the first section that fails
-pub section_refused : (file : List ℕ) (o : Option LoadFault) → has_sections file ≡ true → section_table_fault file ≡ None → first_below (section_fault file) (section_count file) ≡ o → sections_fault file ≡ o
+pub section_refused : (file : List ℕ) (o : Option LoadFault) → has_sections file ≡ true → section_table_fault file ≡ None
+    → first_below (section_fault file) (section_count file) ≡ o → sections_fault file ≡ o
 unfolding sections_fault
 section_refused file o h t f = rw (h, t) (or_none (first_below (section_fault file) (section_count file)) ∙ f)
 

@@ -31,7 +31,8 @@ if_mark true m o = refl
 if_mark false m o = refl
 
 -- of the section, a mark is a later mapping symbol
-of_section : (s a : ℕ) (best : Option Mark) (m : Mark) → (m.section == s) ≡ true → later_mapping a (mapping_if best) (mapping_of m) ≡ mapping_if (later s a best m)
+of_section : (s a : ℕ) (best : Option Mark) (m : Mark) → (m.section == s) ≡ true
+    → later_mapping a (mapping_if best) (mapping_of m) ≡ mapping_if (later s a best m)
 of_section s a None m e = if_mark (nat_le m.value a) m None ∙ ap (λ b. mapping_if (cond (b && nat_le m.value a) (Some m) None)) (sym e)
 of_section s a (Some best) m e =
     if_mark (nat_le m.value a && nat_le best.value m.value) m (Some best)
@@ -41,13 +42,15 @@ of_other : (s a : ℕ) (best : Option Mark) (m : Mark) → (m.section == s) ≡ 
 of_other s a None m e = ap (λ b. cond (b && nat_le m.value a) (Some m) None) e
 of_other s a (Some best) m e = ap (λ b. cond (b && nat_le m.value a && nat_le best.value m.value) (Some m) (Some best)) e
 
-governs : (s a : ℕ) (best : Option Mark) (ms : List Mark) → governing_mapping a (mapping_if best) (filter_map (mapping_in s) ms) ≡ mapping_if (governing s a best ms)
+governs : (s a : ℕ) (best : Option Mark) (ms : List Mark)
+    → governing_mapping a (mapping_if best) (filter_map (mapping_in s) ms) ≡ mapping_if (governing s a best ms)
 governs s a best [] = refl
 governs s a best (m ∷ ms) = go (m.section == s) refl (λ o. governs s a o ms)
   where
     go : (b : Bool) → (m.section == s) ≡ b
         → ((o : Option Mark) → governing_mapping a (mapping_if o) (filter_map (mapping_in s) ms) ≡ mapping_if (governing s a o ms))
-        → governing_mapping a (mapping_if best) (cons_option (cond b (Some (mapping_of m)) None) (filter_map (mapping_in s) ms)) ≡ mapping_if (governing s a (later s a best m) ms)
+        → governing_mapping a (mapping_if best) (cons_option (cond b (Some (mapping_of m)) None) (filter_map (mapping_in s) ms))
+        ≡ mapping_if (governing s a (later s a best m) ms)
     go true e rest = ap (λ o. governing_mapping a o (filter_map (mapping_in s) ms)) (of_section s a best m e) ∙ rest (later s a best m)
     go false e rest = rest best ∙ ap (λ o. mapping_if (governing s a o ms)) (sym (of_other s a best m e))
 

@@ -1,5 +1,6 @@
 -- What marks say of a section: the last mark of each value decides.
-use Rattle.std.proofs.Common.{inl, inr, ◌≡◌, ℕ, zero, suc, ◌+◌, ◌-◌, ◌≤◌, true, false, cond, List, [], ◌∷◌, ◌++◌, Option, Some, None, refl, ap, sym, ◌∙◌, arith, add-one}
+use Rattle.std.proofs.Common.{inl, inr, ◌≡◌, ℕ, zero, suc, ◌+◌, ◌-◌, ◌≤◌, true, false, cond, List, [], ◌∷◌, ◌++◌, Option, Some, None, refl}
+use Rattle.std.proofs.Common.{ap, sym, ◌∙◌, arith, add-one}
 use Rattle.std.specs.Prelude.{◌==◌, ◌&&◌, nat_le}
 use Rattle.std.proofs.lemmas.Bool.{cases_Bool}
 use Rattle.std.proofs.lemmas.List.{append-nil}
@@ -36,13 +37,16 @@ or_else_some (Some y) c x = refl
 pub last_mark-append : (s v : ℕ) (xs ys : List Mark) → last_mark s v (xs ++ ys) ≡ option_or (last_mark s v ys) (last_mark s v xs)
 unfolding last_mark
 last_mark-append s v [] ys = sym (or_else_none (last_mark s v ys))
-last_mark-append s v (x ∷ xs) ys = rw (last_mark-append s v xs ys) (sym (or_else_assoc (last_mark s v ys) (last_mark s v xs) (cond (is_mark_of s v x) (Some x) None)))
+last_mark-append s v (x ∷ xs) ys =
+    rw (last_mark-append s v xs ys) (sym (or_else_assoc (last_mark s v ys) (last_mark s v xs) (cond (is_mark_of s v x) (Some x) None)))
 
 pub same-append : (xs ys zs : List Mark) → SayTheSame xs ys → SayTheSame (xs ++ zs) (ys ++ zs)
 same-append xs ys zs h = λ s v. last_mark-append s v xs zs ∙ ap (option_or (last_mark s v zs)) (h s v) ∙ sym (last_mark-append s v ys zs)
 
 pub same-twice : (xs ys : List Mark) → SayTheSame ((xs ++ ys) ++ ys) (xs ++ ys)
-same-twice xs ys = λ s v. last_mark-append s v (xs ++ ys) ys ∙ ap (option_or (last_mark s v ys)) (last_mark-append s v xs ys) ∙ or_else_twice (last_mark s v ys) (last_mark s v xs) ∙ sym (last_mark-append s v xs ys)
+same-twice xs ys =
+    λ s v. last_mark-append s v (xs ++ ys) ys ∙ ap (option_or (last_mark s v ys)) (last_mark-append s v xs ys)
+    ∙ or_else_twice (last_mark s v ys) (last_mark s v xs) ∙ sym (last_mark-append s v xs ys)
 
 -- ---- the marks of the first sections
 
@@ -50,11 +54,13 @@ pub marks_below-zero : (file : List ℕ) → marks_below file 0 ≡ []
 unfolding marks_below
 marks_below-zero file = refl
 
-pub marks_below-next : (file : List ℕ) (i : ℕ) → is_symbol_table (section_of file i) ≡ true → marks_below file (i + 1) ≡ marks_below file i ++ table_marks file (section_of file i)
+pub marks_below-next : (file : List ℕ) (i : ℕ) → is_symbol_table (section_of file i) ≡ true → marks_below file (i + 1) ≡ marks_below file i
+    ++ table_marks file (section_of file i)
 unfolding marks_below
 marks_below-next file i h = rw (add-one, h) refl
 
-pub marks_below-other : (file : List ℕ) (i : ℕ) → is_symbol_table (section_of file i) ≡ false → marks_below file (i + 1) ≡ marks_below file i
+pub marks_below-other : (file : List ℕ) (i : ℕ) → is_symbol_table (section_of file i) ≡ false
+    → marks_below file (i + 1) ≡ marks_below file i
 unfolding marks_below
 marks_below-other file i h = rw (add-one, h) (append-nil (marks_below file i))
 
@@ -63,10 +69,13 @@ pub marks_below-repeats : (file : List ℕ) (i : ℕ) → repeats_table file i �
 marks_below-repeats file i h =
     let r : Repeats file i = repeats_parts file i h in
     let e : i - 1 + 1 ≡ i = omega (arith, r.later) in
-    let before : marks_below file i ≡ marks_below file (i - 1) ++ table_marks file (section_of file (i - 1)) = rw e at (marks_below-next file (i - 1) r.before) in
-    let here : marks_below file (i + 1) ≡ (marks_below file (i - 1) ++ table_marks file (section_of file (i - 1))) ++ table_marks file (section_of file (i - 1)) =
+    let before : marks_below file i ≡ marks_below file (i - 1) ++ table_marks file (section_of file (i - 1)) =
+    rw e at (marks_below-next file (i - 1) r.before) in
+    let here : marks_below file (i + 1) ≡ (marks_below file (i - 1) ++ table_marks file (section_of file (i - 1)))
+    ++ table_marks file (section_of file (i - 1)) =
     marks_below-next file i r.table ∙ (λ j. before j ++ table_marks-repeats file i r j) in
-    λ s v. ap (last_mark s v) here ∙ same-twice (marks_below file (i - 1)) (table_marks file (section_of file (i - 1))) s v ∙ ap (last_mark s v) (sym before)
+    λ s v. ap (last_mark s v) here ∙ same-twice (marks_below file (i - 1)) (table_marks file (section_of file (i - 1))) s v
+    ∙ ap (last_mark s v) (sym before)
 
 -- ---- what governs an address
 
@@ -106,15 +115,21 @@ governing-zero s (m ∷ ms) =
 -- a mark of the next address up governs it at once
 later-takes : (s a : ℕ) (best : Option Mark) (m : Mark) → IsBelow a best → is_mark_of s (suc a) m ≡ true → later s (suc a) best m ≡ Some m
 later-takes s a None m h t = let test : ((m.section == s) && nat_le m.value (suc a)) ≡ true = grind (arith, nat_tests) in rw test refl
-later-takes s a (Some b) m h t = let test : ((m.section == s) && nat_le m.value (suc a) && nat_le b.value m.value) ≡ true = grind (arith, nat_tests) in rw test refl
+later-takes s a (Some b) m h t =
+    let test : ((m.section == s) && nat_le m.value (suc a) && nat_le b.value m.value) ≡ true = grind (arith, nat_tests) in rw test refl
 
 later-skips : (s a : ℕ) (best : Option Mark) (m : Mark) → is_mark_of s (suc a) m ≡ true → later s a best m ≡ best
 later-skips s a None m t = let test : ((m.section == s) && nat_le m.value a) ≡ false = grind (arith, nat_tests) in rw test refl
-later-skips s a (Some b) m t = let test : ((m.section == s) && nat_le m.value a && nat_le b.value m.value) ≡ false = grind (arith, nat_tests) in rw test refl
+later-skips s a (Some b) m t =
+    let test : ((m.section == s) && nat_le m.value a && nat_le b.value m.value) ≡ false = grind (arith, nat_tests) in rw test refl
 
 later-same : (s a : ℕ) (best : Option Mark) (m : Mark) → is_mark_of s (suc a) m ≡ false → later s (suc a) best m ≡ later s a best m
-later-same s a None m f = let test : ((m.section == s) && nat_le m.value (suc a)) ≡ ((m.section == s) && nat_le m.value a) = grind (arith, nat_tests) in rw test refl
-later-same s a (Some b) m f = let test : ((m.section == s) && nat_le m.value (suc a) && nat_le b.value m.value) ≡ ((m.section == s) && nat_le m.value a && nat_le b.value m.value) = grind (arith, nat_tests) in rw test refl
+later-same s a None m f =
+    let test : ((m.section == s) && nat_le m.value (suc a)) ≡ ((m.section == s) && nat_le m.value a) =
+    grind (arith, nat_tests) in rw test refl
+later-same s a (Some b) m f =
+    let test : ((m.section == s) && nat_le m.value (suc a) && nat_le b.value m.value)
+    ≡ ((m.section == s) && nat_le m.value a && nat_le b.value m.value) = grind (arith, nat_tests) in rw test refl
 
 later-below : (s a : ℕ) (best : Option Mark) (m : Mark) → IsBelow a best → IsBelow a (later s a best m)
 later-below s a None m h =
@@ -123,29 +138,36 @@ later-below s a None m h =
       | false ↦ λ t. tt
     ] refl
 later-below s a (Some b) m h =
-    elim ((m.section == s) && nat_le m.value a && nat_le b.value m.value) as (λ t. ((m.section == s) && nat_le m.value a && nat_le b.value m.value) ≡ t → IsBelow a (cond t (Some m) (Some b))) [
+    elim ((m.section == s) && nat_le m.value a
+    && nat_le b.value m.value) as (λ t. ((m.section == s) && nat_le m.value a && nat_le b.value m.value) ≡ t
+    → IsBelow a (cond t (Some m) (Some b))) [
       | true ↦ λ t. grind (arith, nat_tests)
       | false ↦ λ t. h
     ] refl
 
 -- at the next address up the last mark of that address governs, else what governs one below
-governing-suc : (s a : ℕ) (best : Option Mark) (ms : List Mark) → IsBelow a best → governing s (suc a) best ms ≡ option_or (last_mark s (suc a) ms) (governing s a best ms)
+governing-suc : (s a : ℕ) (best : Option Mark) (ms : List Mark) → IsBelow a best
+    → governing s (suc a) best ms ≡ option_or (last_mark s (suc a) ms) (governing s a best ms)
 unfolding last_mark
 governing-suc s a best [] h = refl
 governing-suc s a best (m ∷ ms) h =
     elim (cases_Bool (is_mark_of s (suc a) m)) [
       | inl t ↦
           let value : m.value ≡ suc a = grind (arith, nat_tests) in
-          rw (later-takes s a best m h t, later-skips s a best m t, t) (governing-top s (suc a) m ms value ∙ sym (or_else_some (last_mark s (suc a) ms) (governing s a best ms) m))
+          rw (later-takes s a best m h t, later-skips s a best m t, t)
+          (governing-top s (suc a) m ms value ∙ sym (or_else_some (last_mark s (suc a) ms) (governing s a best ms) m))
       | inr f ↦
-          rw (later-same s a best m f, f) (governing-suc s a (later s a best m) ms (later-below s a best m h) ∙ ap (λ o. option_or o (governing s a (later s a best m) ms)) (sym (or_else_none (last_mark s (suc a) ms))))
+          rw (later-same s a best m f, f) (governing-suc s a (later s a best m) ms (later-below s a best m h)
+          ∙ ap (λ o. option_or o (governing s a (later s a best m) ms)) (sym (or_else_none (last_mark s (suc a) ms))))
     ]
 
-governing-same : (xs ys : List Mark) (s a : ℕ) → ((v : ℕ) → last_mark s v xs ≡ last_mark s v ys) → governing s a None xs ≡ governing s a None ys
+governing-same : (xs ys : List Mark) (s a : ℕ) → ((v : ℕ) → last_mark s v xs ≡ last_mark s v ys)
+    → governing s a None xs ≡ governing s a None ys
 governing-same xs ys s zero h = governing-zero s xs ∙ h 0 ∙ sym (governing-zero s ys)
 governing-same xs ys s (suc a) h =
     governing-suc s a None xs tt ∙ (λ j. option_or (h (suc a) j) (governing-same xs ys s a h j)) ∙ sym (governing-suc s a None ys tt)
 
 -- marks that say the same make the same code
-pub is_code_at-same : (xs ys : List Mark) (s a : ℕ) → ((v : ℕ) → last_mark s v xs ≡ last_mark s v ys) → is_code_at xs s a ≡ is_code_at ys s a
+pub is_code_at-same : (xs ys : List Mark) (s a : ℕ) → ((v : ℕ) → last_mark s v xs ≡ last_mark s v ys)
+    → is_code_at xs s a ≡ is_code_at ys s a
 is_code_at-same xs ys s a h = code_at xs s a ∙ ap says_code (governing-same xs ys s a h) ∙ sym (code_at ys s a)

@@ -9,7 +9,9 @@ use Rattle.sm_types.specs.Checks.{fault_when, fault_only}
 use Rattle.std.specs.Option.{option_or}
 use Rattle.elf_headers.specs.Below.{first_below}
 use Rattle.elf_sections.specs.declared.section.SectionHeader.{SectionHeader}
-use Rattle.elf_sections.specs.Sections.{section_of, section_count, section_fault, is_symbol_table, is_code_section, is_all_loaded, is_in_file, is_good_table, has_names, ends_inside, strings_of, symbol_count, symbol_name, section_at}
+use Rattle.elf_sections.specs.Sections.{section_of, section_count, section_fault, is_symbol_table, is_code_section, is_all_loaded}
+use Rattle.elf_sections.specs.Sections.{is_in_file, is_good_table, has_names, ends_inside, strings_of, symbol_count, symbol_name}
+use Rattle.elf_sections.specs.Sections.{section_at}
 use Rattle.elf_sections.specs.Repeats.{is_same_table, repeats_table}
 use Rattle.elf_sections.specs.Marks.{table_marks}
 use Rattle.elf_headers.proofs.Below.{first_below-each_none, all_below-each}
@@ -48,30 +50,42 @@ repeats_parts file i h =
 
 -- a header that has these fields, and no others
 abbrev table_header : ℕ → ℕ → ℕ → ℕ → SectionHeader
-table_header offset size link entry_size = record { kind = 0; flags = 0; address = 0; offset = offset; size = size; link = link; entry_size = entry_size }
+table_header offset size link entry_size =
+    record { kind = 0; flags = 0; address = 0; offset = offset; size = size; link = link; entry_size = entry_size }
 
-is_good_table-fields : (file : List ℕ) (s : SectionHeader) → is_good_table file s ≡ is_good_table file (table_header s.offset s.size s.link s.entry_size)
+is_good_table-fields : (file : List ℕ) (s : SectionHeader)
+    → is_good_table file s ≡ is_good_table file (table_header s.offset s.size s.link s.entry_size)
 unfolding is_good_table has_names
 is_good_table-fields file s = refl
 
-table_marks-fields : (file : List ℕ) (s : SectionHeader) → table_marks file s ≡ table_marks file (table_header s.offset s.size s.link s.entry_size)
+table_marks-fields : (file : List ℕ) (s : SectionHeader)
+    → table_marks file s ≡ table_marks file (table_header s.offset s.size s.link s.entry_size)
 unfolding table_marks
 table_marks-fields file s = refl
 
-same_header : (s t : SectionHeader) → s.offset ≡ t.offset → s.size ≡ t.size → s.link ≡ t.link → s.entry_size ≡ t.entry_size → table_header s.offset s.size s.link s.entry_size ≡ table_header t.offset t.size t.link t.entry_size
+same_header : (s t : SectionHeader) → s.offset ≡ t.offset → s.size ≡ t.size → s.link ≡ t.link → s.entry_size ≡ t.entry_size
+    → table_header s.offset s.size s.link s.entry_size ≡ table_header t.offset t.size t.link t.entry_size
 same_header s t o z l e = λ i. table_header (o i) (z i) (l i) (e i)
 
-pub is_good_table-repeats : (file : List ℕ) (i : ℕ) → Repeats file i → is_good_table file (section_of file i) ≡ is_good_table file (section_of file (i - 1))
+pub is_good_table-repeats : (file : List ℕ) (i : ℕ) → Repeats file i
+    → is_good_table file (section_of file i) ≡ is_good_table file (section_of file (i - 1))
 is_good_table-repeats file i r =
-    is_good_table-fields file (section_of file i) ∙ ap (is_good_table file) (same_header (section_of file i) (section_of file (i - 1)) r.offset r.size r.link r.entry_size) ∙ sym (is_good_table-fields file (section_of file (i - 1)))
+    is_good_table-fields file (section_of file i)
+    ∙ ap (is_good_table file) (same_header (section_of file i) (section_of file (i - 1)) r.offset r.size r.link r.entry_size)
+    ∙ sym (is_good_table-fields file (section_of file (i - 1)))
 
-pub table_marks-repeats : (file : List ℕ) (i : ℕ) → Repeats file i → table_marks file (section_of file i) ≡ table_marks file (section_of file (i - 1))
+pub table_marks-repeats : (file : List ℕ) (i : ℕ) → Repeats file i
+    → table_marks file (section_of file i) ≡ table_marks file (section_of file (i - 1))
 table_marks-repeats file i r =
-    table_marks-fields file (section_of file i) ∙ ap (table_marks file) (same_header (section_of file i) (section_of file (i - 1)) r.offset r.size r.link r.entry_size) ∙ sym (table_marks-fields file (section_of file (i - 1)))
+    table_marks-fields file (section_of file i)
+    ∙ ap (table_marks file) (same_header (section_of file i) (section_of file (i - 1)) r.offset r.size r.link r.entry_size)
+    ∙ sym (table_marks-fields file (section_of file (i - 1)))
 
 -- ---- what the checks give
 
-both_parts : (t g c l : Bool) (fault : LoadFault) → option_or (fault_only t (fault_when (not g) fault)) (option_or (fault_only c (fault_when (not l) fault)) None) ≡ None → (t ≡ true → g ≡ true) × (c ≡ true → l ≡ true)
+both_parts : (t g c l : Bool) (fault : LoadFault)
+    → option_or (fault_only t (fault_when (not g) fault)) (option_or (fault_only c (fault_when (not l) fault)) None) ≡ None
+    → (t ≡ true → g ≡ true) × (c ≡ true → l ≡ true)
 both_parts true true true true fault h = (λ _. refl, λ _. refl)
 both_parts true true true false fault h = cc
 both_parts true true false l fault h = (λ _. refl, λ e. cc)
@@ -80,30 +94,40 @@ both_parts false g true true fault h = (λ e. cc, λ _. refl)
 both_parts false g true false fault h = cc
 both_parts false g false l fault h = (λ e. cc, λ e. cc)
 
-pub good_table : (file : List ℕ) (i : ℕ) → section_fault file i ≡ None → is_symbol_table (section_of file i) ≡ true → is_good_table file (section_of file i) ≡ true
+pub good_table : (file : List ℕ) (i : ℕ) → section_fault file i ≡ None → is_symbol_table (section_of file i) ≡ true
+    → is_good_table file (section_of file i) ≡ true
 unfolding section_fault
-good_table file i h t = (both_parts (is_symbol_table (section_of file i)) (is_good_table file (section_of file i)) (is_code_section (section_of file i)) (is_all_loaded file (section_of file i)) (BadTable (section_at file i)) h).0 t
+good_table file i h t =
+    (both_parts (is_symbol_table (section_of file i)) (is_good_table file (section_of file i)) (is_code_section (section_of file i))
+    (is_all_loaded file (section_of file i)) (BadTable (section_at file i)) h).0 t
 
-pub loaded_section : (file : List ℕ) (i : ℕ) → section_fault file i ≡ None → is_code_section (section_of file i) ≡ true → is_all_loaded file (section_of file i) ≡ true
+pub loaded_section : (file : List ℕ) (i : ℕ) → section_fault file i ≡ None → is_code_section (section_of file i) ≡ true
+    → is_all_loaded file (section_of file i) ≡ true
 unfolding section_fault
-loaded_section file i h t = (both_parts (is_symbol_table (section_of file i)) (is_good_table file (section_of file i)) (is_code_section (section_of file i)) (is_all_loaded file (section_of file i)) (BadTable (section_at file i)) h).1 t
+loaded_section file i h t =
+    (both_parts (is_symbol_table (section_of file i)) (is_good_table file (section_of file i)) (is_code_section (section_of file i))
+    (is_all_loaded file (section_of file i)) (BadTable (section_at file i)) h).1 t
 
 no_code : (s : SectionHeader) → is_symbol_table s ≡ true → is_code_section s ≡ false
 no_code s h = grind (arith, nat_tests)
 
-passes : (t g c l : Bool) (fault : LoadFault) → g ≡ true → c ≡ false → option_or (fault_only t (fault_when (not g) fault)) (option_or (fault_only c (fault_when (not l) fault)) None) ≡ None
+passes : (t g c l : Bool) (fault : LoadFault) → g ≡ true → c ≡ false
+    → option_or (fault_only t (fault_when (not g) fault)) (option_or (fault_only c (fault_when (not l) fault)) None) ≡ None
 passes true true false l fault g c = refl
 passes false true false l fault g c = refl
 passes t false c l fault g e = cc
 passes t g true l fault h e = cc
 
 -- a symbol table that comes again passes, as it did before
-pub section_fault-repeats : (file : List ℕ) (i : ℕ) → repeats_table file i ≡ true → first_below (section_fault file) i ≡ None → section_fault file i ≡ None
+pub section_fault-repeats : (file : List ℕ) (i : ℕ) → repeats_table file i ≡ true → first_below (section_fault file) i ≡ None
+    → section_fault file i ≡ None
 unfolding section_fault
 section_fault-repeats file i h before =
     let r : Repeats file i = repeats_parts file i h in
-    let good : is_good_table file (section_of file (i - 1)) ≡ true = good_table file (i - 1) (first_below-each_none (section_fault file) i before (i - 1) (omega (arith, r.later))) r.before in
-    passes (is_symbol_table (section_of file i)) (is_good_table file (section_of file i)) (is_code_section (section_of file i)) (is_all_loaded file (section_of file i)) (BadTable (section_at file i))
+    let good : is_good_table file (section_of file (i - 1)) ≡ true =
+    good_table file (i - 1) (first_below-each_none (section_fault file) i before (i - 1) (omega (arith, r.later))) r.before in
+    passes (is_symbol_table (section_of file i)) (is_good_table file (section_of file i)) (is_code_section (section_of file i))
+    (is_all_loaded file (section_of file i)) (BadTable (section_at file i))
     (is_good_table-repeats file i r ∙ good) (no_code (section_of file i) r.table)
 
 -- ---- what a good table has
@@ -123,9 +147,11 @@ table_parts file s h =
     let d = and_parts (s.entry_size == 24) (nat_lt s.link (section_count file)) c.0 in
     record { linked = ltb-true _ _ d.1; symbols = c.1; strings = b.1; names = a.1 }
 
-pub name_inside : (file : List ℕ) (s : SectionHeader) (k : ℕ) → has_names file s ≡ true → k < symbol_count s → ends_inside file (strings_of file s) (symbol_name file s k) ≡ true
+pub name_inside : (file : List ℕ) (s : SectionHeader) (k : ℕ) → has_names file s ≡ true → k < symbol_count s
+    → ends_inside file (strings_of file s) (symbol_name file s k) ≡ true
 unfolding has_names
 name_inside file s k h l = all_below-each _ (symbol_count s) h k l
 
-pub symbol_inside : (file : List ℕ) (s : SectionHeader) (k : ℕ) → is_in_file file s ≡ true → k < symbol_count s → s.offset + 24 * k + 24 ≤ length file
+pub symbol_inside : (file : List ℕ) (s : SectionHeader) (k : ℕ) → is_in_file file s ≡ true → k < symbol_count s
+    → s.offset + 24 * k + 24 ≤ length file
 symbol_inside file s k h l = let within : s.offset + s.size ≤ length file = in_file file s h (omega arith) in omega arith

@@ -6,14 +6,16 @@ use Rattle.elf_writer.proofs.Fields.{fields_bytes-append}
 pub appended : (new mid start xs ys : List ℕ) → mid ≡ start ++ xs → new ≡ mid ++ ys → new ≡ start ++ (xs ++ ys)
 appended new mid start xs ys a b = b ∙ ap (λ m. m ++ ys) a ∙ append_assoc start xs ys
 
-pub appended_last : {T E : Type 0} (r : Result T E) (new mid start xs ys zs : List ℕ) → mid ≡ start ++ xs → zs ≡ xs ++ ys → OnOk r (new ≡ mid ++ ys) → OnOk r (new ≡ start ++ zs)
+pub appended_last : {T E : Type 0} (r : Result T E) (new mid start xs ys zs : List ℕ) → mid ≡ start ++ xs → zs ≡ xs ++ ys
+    → OnOk r (new ≡ mid ++ ys) → OnOk r (new ≡ start ++ zs)
 appended_last (Ok x) new mid start xs ys zs a e b = appended new mid start xs ys a b ∙ ap (λ z. start ++ z) (sym e)
 appended_last (Err x) new mid start xs ys zs a e b = tt
 
 pub fields_three : (a b c : List (ℕ × ℕ)) → fields_bytes (a ++ (b ++ c)) ≡ (fields_bytes a ++ fields_bytes b) ++ fields_bytes c
 fields_three a b c = simp (fields_bytes-append, append_assoc)
 
-pub fields_four : (a b c d : List (ℕ × ℕ)) → fields_bytes (a ++ (b ++ (c ++ d))) ≡ ((fields_bytes a ++ fields_bytes b) ++ fields_bytes c) ++ fields_bytes d
+pub fields_four : (a b c d : List (ℕ × ℕ)) → fields_bytes (a ++ (b ++ (c ++ d))) ≡ ((fields_bytes a ++ fields_bytes b) ++ fields_bytes c)
+    ++ fields_bytes d
 fields_four a b c d = simp (fields_bytes-append, append_assoc)
 
 pub file_joined : (a b c d : List ℕ) → a ++ (b ++ (c ++ d)) ≡ ((a ++ b) ++ c) ++ d

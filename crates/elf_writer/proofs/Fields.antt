@@ -1,5 +1,6 @@
 -- What is read from fields that were written.
-use Rattle.std.proofs.Common.{◌≡◌, ℕ, zero, suc, ◌+◌, ◌/◌, ◌%◌, ◌^◌, ◌<◌, ◌≤◌, Bool, true, false, List, [], ◌∷◌, ◌++◌, length, get_or, drop, refl, ap, sym, ◌∙◌, arith, append_assoc}
+use Rattle.std.proofs.Common.{◌≡◌, ℕ, zero, suc, ◌+◌, ◌/◌, ◌%◌, ◌^◌, ◌<◌, ◌≤◌, Bool, true, false, List, [], ◌∷◌, ◌++◌, length, get_or, drop}
+use Rattle.std.proofs.Common.{refl, ap, sym, ◌∙◌, arith, append_assoc}
 use Rattle.std.proofs.lemmas.Bool.Decides.{nat_tests}
 use Rattle.std.specs.Prelude.{◌&&◌, nat_le}
 use Rattle.byteorder.specs.Endian.{little_number, little_bytes}
@@ -36,14 +37,17 @@ div_one : (x : ℕ) → x / 256 ^ 0 ≡ x
 div_one x = let e : x / 1 ≡ x = omega arith in e
 
 -- field k is read where it was written
-pub read_field : (fs : List (ℕ × ℕ)) (k : ℕ) (rest : List ℕ) → number_at (fields_bytes fs ++ rest) (place fs k) (width fs k) ≡ value fs k % 256 ^ width fs k
+pub read_field : (fs : List (ℕ × ℕ)) (k : ℕ) (rest : List ℕ)
+    → number_at (fields_bytes fs ++ rest) (place fs k) (width fs k) ≡ value fs k % 256 ^ width fs k
 unfolding number_at
 read_field [] k rest = refl
 read_field (f ∷ fs) zero rest =
     rw append_assoc (little_from-bytes f.0 0 f.1 (fields_bytes fs ++ rest) ∙ ap (λ x. x % 256 ^ f.0) (div_one f.1))
 read_field (f ∷ fs) (suc k) rest =
-    let all : drop (length (little_bytes f.0 f.1) + place fs k) (little_bytes f.0 f.1 ++ (fields_bytes fs ++ rest)) ≡ drop (place fs k) (fields_bytes fs ++ rest) = drop-past (little_bytes f.0 f.1) (fields_bytes fs ++ rest) (place fs k) in
-    let here : drop (f.0 + place fs k) (little_bytes f.0 f.1 ++ fields_bytes fs ++ rest) ≡ drop (place fs k) (fields_bytes fs ++ rest) = rw (append_assoc) (rw (length-bytes_low_first 0 f.0 f.1) at all) in
+    let all : drop (length (little_bytes f.0 f.1) + place fs k) (little_bytes f.0 f.1 ++ (fields_bytes fs ++ rest))
+    ≡ drop (place fs k) (fields_bytes fs ++ rest) = drop-past (little_bytes f.0 f.1) (fields_bytes fs ++ rest) (place fs k) in
+    let here : drop (f.0 + place fs k) (little_bytes f.0 f.1 ++ fields_bytes fs ++ rest) ≡ drop (place fs k) (fields_bytes fs ++ rest) =
+    rw (append_assoc) (rw (length-bytes_low_first 0 f.0 f.1) at all) in
     ap (little_number (width fs k)) here ∙ read_field fs k rest
 
 and_split : (a b : Bool) → (a && b) ≡ true → (a ≡ true) × (b ≡ true)
@@ -59,4 +63,6 @@ narrow_at (f ∷ fs) (suc i) d h l = narrow_at fs i d (and_split (nat_le f.0 8) 
 -- fields one after another
 pub fields_bytes-append : (fs gs : List (ℕ × ℕ)) → fields_bytes (fs ++ gs) ≡ fields_bytes fs ++ fields_bytes gs
 fields_bytes-append [] gs = refl
-fields_bytes-append (f ∷ fs) gs = ap (λ x. little_bytes f.0 f.1 ++ x) (fields_bytes-append fs gs) ∙ sym (append_assoc (little_bytes f.0 f.1) (fields_bytes fs) (fields_bytes gs))
+fields_bytes-append (f ∷ fs) gs =
+    ap (λ x. little_bytes f.0 f.1 ++ x) (fields_bytes-append fs gs)
+    ∙ sym (append_assoc (little_bytes f.0 f.1) (fields_bytes fs) (fields_bytes gs))

@@ -1,5 +1,6 @@
 -- The mark that governs a word is its own, or that of the word before.
-use Rattle.std.proofs.Common.{◌≡◌, ℕ, zero, suc, ◌/◌, ◌<◌, ◌≤◌, ◌⊎◌, inl, inr, Bool, true, false, cond, List, [], ◌∷◌, length, get_or, Option, Some, None, refl, ap, sym, ◌∙◌, arith, add-one, length-append}
+use Rattle.std.proofs.Common.{◌≡◌, ℕ, zero, suc, ◌/◌, ◌<◌, ◌≤◌, ◌⊎◌, inl, inr, Bool, true, false, cond, List, [], ◌∷◌, length, get_or}
+use Rattle.std.proofs.Common.{Option, Some, None, refl, ap, sym, ◌∙◌, arith, add-one, length-append}
 use Rattle.std.specs.Prelude.{◌==◌, ◌&&◌, nat_le}
 use Rattle.std.proofs.lemmas.Bool.Decides.{nat_tests}
 use Rattle.std.specs.Option.{option_or as or_else}
@@ -30,14 +31,24 @@ at_most x a h = grind (arith, nat_tests)
 above : (x a : ℕ) → a < x → nat_le x a ≡ false
 above x a h = grind (arith, nat_tests)
 
-step_low : (a b : ℕ) (s g : Option Mapping) (m : Mapping) → a ≤ b → IsPast a s → m.address ≤ a → later_mapping b (or_else s g) m ≡ or_else s (later_mapping a g m)
-step_low a b None None m l p h = let t : nat_le m.address a ≡ true = at_most m.address a h in let u : nat_le m.address b ≡ true = at_most m.address b (omega arith) in rw (t, u) refl
-step_low a b None (Some y) m l p h = let t : nat_le m.address a ≡ true = at_most m.address a h in let u : nat_le m.address b ≡ true = at_most m.address b (omega arith) in rw (t, u) refl
-step_low a b (Some x) g m l p h = let t : nat_le x.address m.address ≡ false = above x.address m.address (omega arith) in let u : nat_le m.address b ≡ true = at_most m.address b (omega arith) in rw (t, u) refl
+step_low : (a b : ℕ) (s g : Option Mapping) (m : Mapping) → a ≤ b → IsPast a s → m.address ≤ a
+    → later_mapping b (or_else s g) m ≡ or_else s (later_mapping a g m)
+step_low a b None None m l p h =
+    let t : nat_le m.address a ≡ true =
+    at_most m.address a h in let u : nat_le m.address b ≡ true = at_most m.address b (omega arith) in rw (t, u) refl
+step_low a b None (Some y) m l p h =
+    let t : nat_le m.address a ≡ true =
+    at_most m.address a h in let u : nat_le m.address b ≡ true = at_most m.address b (omega arith) in rw (t, u) refl
+step_low a b (Some x) g m l p h =
+    let t : nat_le x.address m.address ≡ false =
+    above x.address m.address (omega arith) in let u : nat_le m.address b ≡ true = at_most m.address b (omega arith) in rw (t, u) refl
 
-step_here : (a b : ℕ) (s g : Option Mapping) (m : Mapping) → IsUnder a g → a < m.address → m.address ≤ b → later_mapping b (or_else s g) m ≡ Some (newer s m)
+step_here : (a b : ℕ) (s g : Option Mapping) (m : Mapping) → IsUnder a g → a < m.address → m.address ≤ b
+    → later_mapping b (or_else s g) m ≡ Some (newer s m)
 step_here a b None None m p h k = let u : nat_le m.address b ≡ true = at_most m.address b k in rw u refl
-step_here a b None (Some y) m p h k = let t : nat_le y.address m.address ≡ true = at_most y.address m.address (omega arith) in let u : nat_le m.address b ≡ true = at_most m.address b k in rw (t, u) refl
+step_here a b None (Some y) m p h k =
+    let t : nat_le y.address m.address ≡ true =
+    at_most y.address m.address (omega arith) in let u : nat_le m.address b ≡ true = at_most m.address b k in rw (t, u) refl
 step_here a b (Some x) g m p h k = let u : nat_le m.address b ≡ true = at_most m.address b k in rw u (pick (nat_le x.address m.address) m x)
   where
     pick : (t : Bool) (m x : Mapping) → cond t (Some m) (Some x) ≡ Some (cond t m x)
@@ -59,7 +70,8 @@ newer_past : (a : ℕ) (s : Option Mapping) (m : Mapping) → IsPast a s → a <
 newer_past a None m p h = h
 newer_past a (Some x) m p h = elim (nat_le x.address m.address) as (λ t. a < (cond t m x).address) [ true ↦ h | false ↦ p ]
 
-past_more : (a b : ℕ) (here : Bool) (s : Option Mapping) (m : Mapping) → IsPast a s → Stands a b here m.address → IsPast a (cond here (Some (newer s m)) s)
+past_more : (a b : ℕ) (here : Bool) (s : Option Mapping) (m : Mapping) → IsPast a s → Stands a b here m.address
+    → IsPast a (cond here (Some (newer s m)) s)
 past_more a b here s m p (inl (low, e)) = rw e p
 past_more a b here s m p (inr (inl (past, upto, e))) = rw e (newer_past a s m p past)
 past_more a b here s m p (inr (inr (far, e))) = rw e p
@@ -67,7 +79,8 @@ past_more a b here s m p (inr (inr (far, e))) = rw e p
 under_more : (a : ℕ) (g : Option Mapping) (m : Mapping) → IsUnder a g → IsUnder a (later_mapping a g m)
 under_more a None m u = either_under a (nat_le m.address a) None m refl tt
   where
-    either_under : (a : ℕ) (t : Bool) (g : Option Mapping) (m : Mapping) → nat_le m.address a ≡ t → IsUnder a g → IsUnder a (cond t (Some m) g)
+    either_under : (a : ℕ) (t : Bool) (g : Option Mapping) (m : Mapping) → nat_le m.address a ≡ t → IsUnder a g
+        → IsUnder a (cond t (Some m) g)
     either_under a true g m e u = grind (arith, nat_tests)
     either_under a false g m e u = u
 under_more a (Some x) m u = both_under a (nat_le m.address a) (nat_le x.address m.address) x m refl u
@@ -100,9 +113,11 @@ governing_more : (n : ℕ) (s g : Option Mapping) (ms : List Mapping) → IsPast
     → governing_mapping (word_address (suc n)) (or_else s g) ms ≡ or_else (kept_at (suc n) s ms) (governing_mapping (word_address n) g ms)
 governing_more n s g [] p u = refl
 governing_more n s g (m ∷ ms) p u =
-    ap (λ o. governing_mapping (word_address (suc n)) o ms) (step (word_address n) (word_address (suc n)) (word_from m.address == suc n) s g m (omega arith) p u (stands n m.address))
+    ap (λ o. governing_mapping (word_address (suc n)) o ms)
+    (step (word_address n) (word_address (suc n)) (word_from m.address == suc n) s g m (omega arith) p u (stands n m.address))
     ∙ governing_more n (cond (word_from m.address == suc n) (Some (newer s m)) s) (later_mapping (word_address n) g m) ms
-    (past_more (word_address n) (word_address (suc n)) (word_from m.address == suc n) s m p (stands n m.address)) (under_more (word_address n) g m u)
+    (past_more (word_address n) (word_address (suc n)) (word_from m.address == suc n) s m p (stands n m.address))
+    (under_more (word_address n) g m u)
 
 same_test : (x : ℕ) → nat_le x (word_address 0) ≡ (word_from x == 0)
 same_test x = elim (low_or_past x (word_address 0)) [
@@ -110,9 +125,11 @@ same_test x = elim (low_or_past x (word_address 0)) [
   | inr past ↦ above x (word_address 0) past ∙ sym (not_eq (word_from x) 0 (λ e. omega arith))
 ]
 
-step_zero : (t : Bool) (b : ℕ) (g : Option Mapping) (m : Mapping) → nat_le m.address b ≡ t → later_mapping b g m ≡ cond t (Some (newer g m)) g
+step_zero : (t : Bool) (b : ℕ) (g : Option Mapping) (m : Mapping) → nat_le m.address b ≡ t
+    → later_mapping b g m ≡ cond t (Some (newer g m)) g
 step_zero t b None m e = rw e refl
-step_zero true b (Some x) m e = rw e (elim (nat_le x.address m.address) as (λ k. cond k (Some m) (Some x) ≡ Some (cond k m x)) [ true ↦ refl | false ↦ refl ])
+step_zero true b (Some x) m e =
+    rw e (elim (nat_le x.address m.address) as (λ k. cond k (Some m) (Some x) ≡ Some (cond k m x)) [ true ↦ refl | false ↦ refl ])
 step_zero false b (Some x) m e = rw e refl
 
 governing_zero : (g : Option Mapping) (ms : List Mapping) → governing_mapping (word_address 0) g ms ≡ kept_at 0 g ms
@@ -127,7 +144,8 @@ says_first : (slot : Option TextMark) → says_word None slot ≡ mapping_says_c
 says_first None = refl
 says_first (Some m) = refl
 
-says_next : (code : Bool) (slot : Option TextMark) (g : Option Mapping) → code ≡ mapping_says_code g → says_word (Some code) slot ≡ mapping_says_code (or_else (mapping_if slot) g)
+says_next : (code : Bool) (slot : Option TextMark) (g : Option Mapping) → code ≡ mapping_says_code g
+    → says_word (Some code) slot ≡ mapping_says_code (or_else (mapping_if slot) g)
 says_next code None g e = e
 says_next code (Some m) g e = refl
 
@@ -135,19 +153,23 @@ slots_say-first : (slots : List (Option TextMark)) → slots_say slots 0 ≡ say
 unfolding slots_say
 slots_say-first slots = refl
 
-slots_say-next : (slots : List (Option TextMark)) (n : ℕ) → slots_say slots (suc n) ≡ says_word (Some (slots_say slots n)) (get_or slots (suc n) None)
+slots_say-next : (slots : List (Option TextMark)) (n : ℕ)
+    → slots_say slots (suc n) ≡ says_word (Some (slots_say slots n)) (get_or slots (suc n) None)
 unfolding slots_say
 slots_say-next slots n = refl
 
-slots_govern : (slots : List (Option TextMark)) (all : List Mapping) (n : ℕ) → AreSlots slots [] all → n < length slots → slots_say slots n ≡ mapping_says_code (governing_mapping (word_address n) None all)
+slots_govern : (slots : List (Option TextMark)) (all : List Mapping) (n : ℕ) → AreSlots slots [] all → n < length slots
+    → slots_say slots n ≡ mapping_says_code (governing_mapping (word_address n) None all)
 slots_govern slots all zero are l =
     slots_say-first slots ∙ says_first (get_or slots 0 None) ∙ ap mapping_says_code (are 0 l ∙ sym (governing_zero None all))
 slots_govern slots all (suc n) are l =
-    slots_say-next slots n ∙ says_next (slots_say slots n) (get_or slots (suc n) None) (governing_mapping (word_address n) None all) (slots_govern slots all n are (omega arith))
+    slots_say-next slots n ∙ says_next (slots_say slots n) (get_or slots (suc n) None) (governing_mapping (word_address n) None all)
+    (slots_govern slots all n are (omega arith))
     ∙ ap (λ o. mapping_says_code (or_else o (governing_mapping (word_address n) None all))) (are (suc n) l)
     ∙ ap mapping_says_code (sym (governing_more n None None all tt tt))
 
-slots_code : (o : Object) (slots : List (Option TextMark)) (n : ℕ) → AreSlots slots [] (mappings_of o.symbols.items) → n < length slots → slots_say slots n ≡ is_code_word o n
+slots_code : (o : Object) (slots : List (Option TextMark)) (n : ℕ) → AreSlots slots [] (mappings_of o.symbols.items) → n < length slots
+    → slots_say slots n ≡ is_code_word o n
 unfolding is_code_word is_text_code
 slots_code o slots n are l = slots_govern slots (mappings_of o.symbols.items) n are l
 
@@ -155,12 +177,15 @@ mark_at-same : (one two : ℕ → Bool) (count n : ℕ) → ((k : ℕ) → k < c
 unfolding mark_at
 mark_at-same one two count zero h l = ap (λ c. cond (begins None c) (Some (record { address = word_address 0; code = c })) None) (h 0 l)
 mark_at-same one two count (suc n) h l =
-    λ i. cond (begins (Some (h n (omega arith) i)) (h (suc n) l i)) (Some (record { address = word_address (suc n); code = h (suc n) l i })) None
+    λ i. cond (begins (Some (h n (omega arith) i)) (h (suc n) l i)) (Some (record { address = word_address (suc n); code = h (suc n) l i }))
+    None
 
-pub marks_listed : (o : Object) (slots : List (Option TextMark)) → length slots ≡ length o.text_bytes.items / 4 → AreSlots slots [] (mappings_of o.symbols.items) → answers_below (mark_at (slots_say slots)) (length slots) ≡ text_marks o
+pub marks_listed : (o : Object) (slots : List (Option TextMark)) → length slots ≡ length o.text_bytes.items / 4
+    → AreSlots slots [] (mappings_of o.symbols.items) → answers_below (mark_at (slots_say slots)) (length slots) ≡ text_marks o
 unfolding text_marks
 marks_listed o slots e are =
-    answers_below-same (mark_at (slots_say slots)) (mark_at (is_code_word o)) (length slots) (λ n b. mark_at-same (slots_say slots) (is_code_word o) (length slots) n (λ k l. slots_code o slots k are l) b)
+    answers_below-same (mark_at (slots_say slots)) (mark_at (is_code_word o)) (length slots)
+    (λ n b. mark_at-same (slots_say slots) (is_code_word o) (length slots) n (λ k l. slots_code o slots k are l) b)
     ∙ ap (answers_below (mark_at (is_code_word o))) e
 
 one_answer : {A : Type 0} (o : Option A) → length (answers o) ≤ 1
@@ -170,7 +195,8 @@ one_answer (Some x) = omega arith
 answers_few : {A : Type 0} (answer : ℕ → Option A) (n : ℕ) → length (answers_below answer n) ≤ n
 answers_few answer zero = rw (answers_below-zero answer) (omega arith)
 answers_few answer (suc n) =
-    rw (← add-one, answers_below-next answer n, length-append (answers_below answer n) (answers (answer n))) (omega (arith, answers_few answer n, one_answer (answer n)))
+    rw (← add-one, answers_below-next answer n, length-append (answers_below answer n) (answers (answer n)))
+    (omega (arith, answers_few answer n, one_answer (answer n)))
 
 pub few_marks : (o : Object) → length (text_marks o) ≤ length o.text_bytes.items / 4
 unfolding text_marks

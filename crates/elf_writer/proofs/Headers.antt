@@ -8,7 +8,10 @@ use Rattle.elf_headers.specs.Segments.{program_header, segment_of}
 use Rattle.elf_sections.specs.declared.section.SectionHeader.{SectionHeader}
 use Rattle.elf_sections.specs.Sections.{section_header, section_of, sections_at, section_size, section_count}
 use Rattle.elf_writer.specs.declared.layout.Layout.{Layout}
-use Rattle.elf_writer.specs.Layout.{all_fields, header_fields, segments_fields, segment_fields, part_sections_fields, table_sections_fields, section_fields, no_section, text_segment, data_segment, full_data_segment, text_section, data_section, symbols_section, strings_section, strings_place, names_place, data_place, symbols_place, load_count, IsSmall}
+use Rattle.elf_writer.specs.Layout.{all_fields, header_fields, segments_fields, segment_fields, part_sections_fields, table_sections_fields}
+use Rattle.elf_writer.specs.Layout.{section_fields, no_section, text_segment, data_segment, full_data_segment, text_section, data_section}
+use Rattle.elf_writer.specs.Layout.{symbols_section, strings_section, strings_place, names_place, data_place, symbols_place, load_count}
+use Rattle.elf_writer.specs.Layout.{IsSmall}
 use Rattle.elf_writer.proofs.Reading.{Reads, data_place-near, symbols_place-near}
 
 low8 : (x : ℕ) → x < 2 ^ 64 → x % 256 ^ 8 ≡ x
@@ -70,17 +73,28 @@ section_count-is file l r = r 16
 
 -- ---- the program headers
 
-segment_from : (file : List ℕ) (at : ℕ) (s : ProgramHeader) → number_at file at 4 ≡ s.kind → number_at file (at + 4) 4 ≡ s.flags → number_at file (at + 8) 8 ≡ s.offset → number_at file (at + 16) 8 ≡ s.address
+segment_from : (file : List ℕ) (at : ℕ) (s : ProgramHeader) → number_at file at 4 ≡ s.kind → number_at file (at + 4) 4 ≡ s.flags
+    → number_at file (at + 8) 8 ≡ s.offset → number_at file (at + 16) 8 ≡ s.address
     → number_at file (at + 32) 8 ≡ s.file_size → number_at file (at + 40) 8 ≡ s.memory_size → program_header file at ≡ s
 unfolding program_header
-segment_from file at s kind flags offset address file_size memory_size = λ i. record { kind = kind i; flags = flags i; offset = offset i; address = address i; file_size = file_size i; memory_size = memory_size i }
+segment_from file at s kind flags offset address file_size memory_size =
+    λ i. record {
+      kind = kind i;
+      flags = flags i;
+      offset = offset i;
+      address = address i;
+      file_size = file_size i;
+      memory_size = memory_size i;
+    }
 
 text_header : (file : List ℕ) (l : Layout) → IsSmall l → Reads file l → program_header file 64 ≡ text_segment l
 unfolding all_fields header_fields segments_fields segment_fields text_segment
 text_header file l s r =
-    segment_from file 64 (text_segment l) (r 18) (r 19) (r 20) (r 21) (r 23 ∙ low8 l.text_size (omega (arith, s.text))) (r 24 ∙ low8 l.text_size (omega (arith, s.text)))
+    segment_from file 64 (text_segment l) (r 18) (r 19) (r 20) (r 21) (r 23 ∙ low8 l.text_size (omega (arith, s.text)))
+    (r 24 ∙ low8 l.text_size (omega (arith, s.text)))
 
-data_header : (file : List ℕ) (l : Layout) → IsSmall l → Reads file l → (l.data_size == 0) ≡ false → program_header file 120 ≡ full_data_segment l
+data_header : (file : List ℕ) (l : Layout) → IsSmall l → Reads file l → (l.data_size == 0) ≡ false
+    → program_header file 120 ≡ full_data_segment l
 unfolding all_fields header_fields segments_fields segment_fields data_segment
 data_header file l s r e =
     let d : data_segment l ≡ full_data_segment l = rw e refl in
@@ -93,17 +107,32 @@ data_header file l s r e =
     (r 32 ∙ ap (λ (h : ProgramHeader). h.memory_size % 256 ^ 8) d ∙ low8 l.data_size (omega (arith, s.data_bytes)))
 
 pub segment_of-text : (file : List ℕ) (l : Layout) → IsSmall l → Reads file l → segment_of file 0 ≡ text_segment l
-segment_of-text file l s r = let at : segments_at file + 56 * 0 ≡ 64 = omega (arith, segments_at-is file l r) in ap (program_header file) at ∙ text_header file l s r
+segment_of-text file l s r =
+    let at : segments_at file + 56 * 0 ≡ 64 = omega (arith, segments_at-is file l r) in ap (program_header file) at ∙ text_header file l s r
 
-pub segment_of-data : (file : List ℕ) (l : Layout) → IsSmall l → Reads file l → (l.data_size == 0) ≡ false → segment_of file 1 ≡ full_data_segment l
-segment_of-data file l s r e = let at : segments_at file + 56 * 1 ≡ 120 = omega (arith, segments_at-is file l r) in ap (program_header file) at ∙ data_header file l s r e
+pub segment_of-data : (file : List ℕ) (l : Layout) → IsSmall l → Reads file l → (l.data_size == 0) ≡ false
+    → segment_of file 1 ≡ full_data_segment l
+segment_of-data file l s r e =
+    let at : segments_at file + 56 * 1 ≡ 120 =
+    omega (arith, segments_at-is file l r) in ap (program_header file) at ∙ data_header file l s r e
 
 -- ---- the section headers
 
-section_from : (file : List ℕ) (at : ℕ) (s : SectionHeader) → number_at file (at + 4) 4 ≡ s.kind → number_at file (at + 8) 8 ≡ s.flags → number_at file (at + 16) 8 ≡ s.address → number_at file (at + 24) 8 ≡ s.offset
-    → number_at file (at + 32) 8 ≡ s.size → number_at file (at + 40) 4 ≡ s.link → number_at file (at + 56) 8 ≡ s.entry_size → section_header file at ≡ s
+section_from : (file : List ℕ) (at : ℕ) (s : SectionHeader) → number_at file (at + 4) 4 ≡ s.kind → number_at file (at + 8) 8 ≡ s.flags
+    → number_at file (at + 16) 8 ≡ s.address → number_at file (at + 24) 8 ≡ s.offset
+    → number_at file (at + 32) 8 ≡ s.size → number_at file (at + 40) 4 ≡ s.link → number_at file (at + 56) 8 ≡ s.entry_size
+    → section_header file at ≡ s
 unfolding section_header
-section_from file at s kind flags address offset size link entry_size = λ i. record { kind = kind i; flags = flags i; address = address i; offset = offset i; size = size i; link = link i; entry_size = entry_size i }
+section_from file at s kind flags address offset size link entry_size =
+    λ i. record {
+      kind = kind i;
+      flags = flags i;
+      address = address i;
+      offset = offset i;
+      size = size i;
+      link = link i;
+      entry_size = entry_size i;
+    }
 
 header_0 : (file : List ℕ) (l : Layout) → Reads file l → section_header file 176 ≡ no_section
 unfolding all_fields header_fields segments_fields segment_fields part_sections_fields section_fields
@@ -111,18 +140,21 @@ header_0 file l r = section_from file 176 no_section (r 35) (r 36) (r 37) (r 38)
 
 header_1 : (file : List ℕ) (l : Layout) → IsSmall l → Reads file l → section_header file 240 ≡ text_section l
 unfolding all_fields header_fields segments_fields segment_fields part_sections_fields section_fields text_section
-header_1 file l s r = section_from file 240 (text_section l) (r 45) (r 46) (r 47) (r 48) (r 49 ∙ low8 l.text_size (omega (arith, s.text))) (r 50) (r 53)
+header_1 file l s r =
+    section_from file 240 (text_section l) (r 45) (r 46) (r 47) (r 48) (r 49 ∙ low8 l.text_size (omega (arith, s.text))) (r 50) (r 53)
 
 header_2 : (file : List ℕ) (l : Layout) → IsSmall l → Reads file l → section_header file 304 ≡ data_section l
 unfolding all_fields header_fields segments_fields segment_fields part_sections_fields section_fields data_section
 header_2 file l s r =
-    section_from file 304 (data_section l) (r 55) (r 56) (r 57 ∙ low8 (data_address l.text_size) (omega (arith, s.text))) (r 58 ∙ low8 (data_place l) (omega (arith, s.text, data_place-near l)))
+    section_from file 304 (data_section l) (r 55) (r 56) (r 57 ∙ low8 (data_address l.text_size) (omega (arith, s.text)))
+    (r 58 ∙ low8 (data_place l) (omega (arith, s.text, data_place-near l)))
     (r 59 ∙ low8 l.data_size (omega (arith, s.data_bytes))) (r 60) (r 63)
 
 header_3 : (file : List ℕ) (l : Layout) → IsSmall l → Reads file l → section_header file 368 ≡ symbols_section l
 unfolding all_fields header_fields segments_fields segment_fields part_sections_fields table_sections_fields section_fields symbols_section
 header_3 file l s r =
-    section_from file 368 (symbols_section l) (r 65) (r 66) (r 67) (r 68 ∙ low8 (symbols_place l) (omega (arith, s.text, s.data_bytes, data_place-near l, symbols_place-near l)))
+    section_from file 368 (symbols_section l) (r 65) (r 66) (r 67)
+    (r 68 ∙ low8 (symbols_place l) (omega (arith, s.text, s.data_bytes, data_place-near l, symbols_place-near l)))
     (r 69 ∙ low8 (24 * l.symbol_count) (omega (arith, s.symbols))) (r 70) (r 73)
 
 header_4 : (file : List ℕ) (l : Layout) → Reads file l → section_header file 432 ≡ strings_section strings_place 7

@@ -1,5 +1,6 @@
 -- The loads of a file that was written are the object's parts.
-use Rattle.std.proofs.Common.{◌≡◌, ℕ, ◌<◌, ◌⊎◌, inl, Bool, true, false, List, [], ◌∷◌, length, map, Option, Some, None, refl, ap, sym, ◌∙◌, arith}
+use Rattle.std.proofs.Common.{◌≡◌, ℕ, ◌<◌, ◌⊎◌, inl, Bool, true, false, List, [], ◌∷◌, length, map, Option, Some, None, refl, ap, sym, ◌∙◌}
+use Rattle.std.proofs.Common.{arith}
 use Rattle.std.specs.Prelude.{◌==◌, cond}
 use Rattle.std.proofs.lemmas.Bool.Decides.{nat_tests}
 use Rattle.sm_types.specs.Objects.{text_address, data_address}
@@ -62,31 +63,45 @@ listed_two : {A : Type 0} (f : ℕ → Option A) (x y : A) → f 0 ≡ Some x �
 unfolding answers_below
 listed_two f x y h k = rw (h, k) refl
 
-loads_by : (file : List ℕ) (l : Layout) (b : Bool) → (l.data_size == 0) ≡ b → IsSmall l → Reads file l → 0 < l.text_size → answers_below (load_of file) (cond b 1 2) ≡ text_segment l ∷ cond b [] (full_data_segment l ∷ [])
-loads_by file l true e s r h = listed_one (load_of file) (text_segment l) (load_at file 0 (text_segment l) (segment_of-text file l s r) (text-is_load l h))
+loads_by : (file : List ℕ) (l : Layout) (b : Bool) → (l.data_size == 0) ≡ b → IsSmall l → Reads file l → 0 < l.text_size
+    → answers_below (load_of file) (cond b 1 2) ≡ text_segment l ∷ cond b [] (full_data_segment l ∷ [])
+loads_by file l true e s r h =
+    listed_one (load_of file) (text_segment l) (load_at file 0 (text_segment l) (segment_of-text file l s r) (text-is_load l h))
 loads_by file l false e s r h =
-    listed_two (load_of file) (text_segment l) (full_data_segment l) (load_at file 0 (text_segment l) (segment_of-text file l s r) (text-is_load l h))
+    listed_two (load_of file) (text_segment l) (full_data_segment l)
+    (load_at file 0 (text_segment l) (segment_of-text file l s r) (text-is_load l h))
     (load_at file 1 (full_data_segment l) (segment_of-data file l s r e) (data-is_load l e))
 
-pub loads_of-is : (file : List ℕ) (l : Layout) → IsSmall l → Reads file l → 0 < l.text_size → loads_of file ≡ text_segment l ∷ cond (l.data_size == 0) [] (full_data_segment l ∷ [])
+pub loads_of-is : (file : List ℕ) (l : Layout) → IsSmall l → Reads file l → 0 < l.text_size → loads_of file ≡ text_segment l
+    ∷ cond (l.data_size == 0) [] (full_data_segment l ∷ [])
 unfolding loads_of
 loads_of-is file l s r h = ap (answers_below (load_of file)) (segment_count-is file l r) ∙ loads_by file l (l.data_size == 0) refl s r h
 
 -- ---- and what they take into memory
 
-extent-text : (file : List ℕ) (l : Layout) (text bytes : List ℕ) (marks : List TextMark) → IsFile file l text bytes marks → extent_of_load file (text_segment l) ≡ text_image text
+extent-text : (file : List ℕ) (l : Layout) (text bytes : List ℕ) (marks : List TextMark) → IsFile file l text bytes marks
+    → extent_of_load file (text_segment l) ≡ text_image text
 unfolding extent_of_load text_segment
-extent-text file l text bytes marks is = λ i. record { address = text_address; size = sym is.text_size i; flags = 5; bytes = text-bytes file l text bytes marks is i }
+extent-text file l text bytes marks is =
+    λ i. record { address = text_address; size = sym is.text_size i; flags = 5; bytes = text-bytes file l text bytes marks is i }
 
-extent-data : (file : List ℕ) (l : Layout) (text bytes : List ℕ) (marks : List TextMark) → IsFile file l text bytes marks → extent_of_load file (full_data_segment l) ≡ data_image text bytes
+extent-data : (file : List ℕ) (l : Layout) (text bytes : List ℕ) (marks : List TextMark) → IsFile file l text bytes marks
+    → extent_of_load file (full_data_segment l) ≡ data_image text bytes
 unfolding extent_of_load
-extent-data file l text bytes marks is = λ i. record { address = data_address (sym is.text_size i); size = sym is.data_size i; flags = 6; bytes = data-bytes file l text bytes marks is i }
+extent-data file l text bytes marks is =
+    λ i. record {
+      address = data_address (sym is.text_size i);
+      size = sym is.data_size i;
+      flags = 6;
+      bytes = data-bytes file l text bytes marks is i;
+    }
 
 map_cond : (f : ProgramHeader → Extent) (b : Bool) (s : ProgramHeader) → map f (cond b [] (s ∷ [])) ≡ cond b [] (f s ∷ [])
 map_cond f true s = refl
 map_cond f false s = refl
 
-pub extents_of-is : (file : List ℕ) (l : Layout) (text bytes : List ℕ) (marks : List TextMark) → IsFile file l text bytes marks → 0 < l.text_size → extents_of file ≡ images text bytes
+pub extents_of-is : (file : List ℕ) (l : Layout) (text bytes : List ℕ) (marks : List TextMark) → IsFile file l text bytes marks
+    → 0 < l.text_size → extents_of file ≡ images text bytes
 extents_of-is file l text bytes marks is h =
     ap (map (extent_of_load file)) (loads_of-is file l is.small (reads file l text bytes marks is) h)
     ∙ ap (λ es. extent_of_load file (text_segment l) ∷ es) (map_cond (extent_of_load file) (l.data_size == 0) (full_data_segment l))

@@ -23,14 +23,21 @@ pub record IsSmallObject (o : Object) : Type 0 where
   pub text_size : length o.text_bytes.items ≤ 4194304
   pub data_size : length o.data_bytes.items ≤ 4194304
 
-is_file : (o : Object) → IsSmallObject o → IsFile (file_of o) (layout_of o (text_marks o)) o.text_bytes.items o.data_bytes.items (text_marks o)
+is_file : (o : Object) → IsSmallObject o
+    → IsFile (file_of o) (layout_of o (text_marks o)) o.text_bytes.items o.data_bytes.items (text_marks o)
 unfolding file_of layout_of
 is_file o s = record {
   whole = refl;
   text_size = refl;
   data_size = refl;
   count = refl;
-  small = record { text = s.text_size; data_bytes = s.data_size; symbols = omega (arith, few_marks o, s.text_size); entry = omega (arith, s.startable.before, s.text_size) };
+  small =
+      record {
+        text = s.text_size;
+        data_bytes = s.data_size;
+        symbols = omega (arith, few_marks o, s.text_size);
+        entry = omega (arith, s.startable.before, s.text_size);
+      };
   aligned = s.startable.aligned;
   from = s.startable.from;
   before = s.startable.before;
@@ -38,20 +45,24 @@ is_file o s = record {
 }
 
 pub headers-written : (o : Object) → IsSmallObject o → headers_fault (file_of o) ≡ None
-headers-written o s = headers_pass (file_of o) (layout_of o (text_marks o)) o.text_bytes.items o.data_bytes.items (text_marks o) (is_file o s)
+headers-written o s =
+    headers_pass (file_of o) (layout_of o (text_marks o)) o.text_bytes.items o.data_bytes.items (text_marks o) (is_file o s)
 
 pub sections-written : (o : Object) → IsSmallObject o → sections_fault (file_of o) ≡ None
-sections-written o s = sections_pass (file_of o) (layout_of o (text_marks o)) o.text_bytes.items o.data_bytes.items (text_marks o) (is_file o s)
+sections-written o s =
+    sections_pass (file_of o) (layout_of o (text_marks o)) o.text_bytes.items o.data_bytes.items (text_marks o) (is_file o s)
 
 pub entry-written : (o : Object) → IsSmallObject o → header_entry (file_of o) ≡ o.entry
 unfolding layout_of
 entry-written o s =
-    entry-is (file_of o) (layout_of o (text_marks o)) (is_file o s).small (reads (file_of o) (layout_of o (text_marks o)) o.text_bytes.items o.data_bytes.items (text_marks o) (is_file o s))
+    entry-is (file_of o) (layout_of o (text_marks o)) (is_file o s).small
+    (reads (file_of o) (layout_of o (text_marks o)) o.text_bytes.items o.data_bytes.items (text_marks o) (is_file o s))
 
 pub extents-written : (o : Object) → IsSmallObject o → extents_of (file_of o) ≡ images o.text_bytes.items o.data_bytes.items
 unfolding layout_of
 extents-written o s =
-    extents_of-is (file_of o) (layout_of o (text_marks o)) o.text_bytes.items o.data_bytes.items (text_marks o) (is_file o s) (omega (arith, s.startable.from, s.startable.before))
+    extents_of-is (file_of o) (layout_of o (text_marks o)) o.text_bytes.items o.data_bytes.items (text_marks o) (is_file o s)
+    (omega (arith, s.startable.from, s.startable.before))
 
 pub code-written : (o : Object) → IsSmallObject o → code_words (file_of o) ≡ object_code o
 code-written o s = code_words-are o (file_of o) (layout_of o (text_marks o)) (is_file o s)

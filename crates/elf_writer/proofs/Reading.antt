@@ -1,13 +1,15 @@
 -- What stands at which place of a file that was written.
 use Rattle.sm_types.specs.Objects.{text_address}
-use Rattle.std.proofs.Common.{◌≡◌, ℕ, zero, suc, ◌+◌, ◌-◌, ◌*◌, ◌%◌, ◌^◌, ◌<◌, ◌≤◌, List, [], ◌∷◌, ◌++◌, length, take, drop, replicate, All, refl, ap, sym, ◌∙◌, arith, append_assoc, length-append}
+use Rattle.std.proofs.Common.{◌≡◌, ℕ, zero, suc, ◌+◌, ◌-◌, ◌*◌, ◌%◌, ◌^◌, ◌<◌, ◌≤◌, List, [], ◌∷◌, ◌++◌, length, take, drop, replicate, All}
+use Rattle.std.proofs.Common.{refl, ap, sym, ◌∙◌, arith, append_assoc, length-append}
 use Rattle.byteorder.specs.Endian.{little_bytes}
 use Rattle.byteorder.specs.Numbers.{length-bytes_low_first}
 use Rattle.elf_headers.specs.Header.{number_at}
 use Rattle.elf_writer.specs.declared.layout.Layout.{Layout}
 use Rattle.elf_writer.specs.declared.marks.TextMark.{TextMark}
 use Rattle.elf_writer.specs.declared.file.TheConstants.{STRINGS, SECTION_NAMES}
-use Rattle.elf_writer.specs.Layout.{fields_bytes, all_fields, header_fields, segments_fields, segment_fields, part_sections_fields, table_sections_fields, section_fields, data_place, symbols_place, IsSmall}
+use Rattle.elf_writer.specs.Layout.{fields_bytes, all_fields, header_fields, segments_fields, segment_fields, part_sections_fields}
+use Rattle.elf_writer.specs.Layout.{table_sections_fields, section_fields, data_place, symbols_place, IsSmall}
 use Rattle.elf_writer.specs.File.{symbol_fields, marks_bytes, symbols_bytes, front_bytes, text_part, data_part, file_bytes}
 use Rattle.elf_writer.proofs.Fields.{drop-past, number_at-past, place, width, value, read_field}
 
@@ -49,7 +51,8 @@ widths (f ∷ fs) = f.0 + widths fs
 
 length-fields : (fs : List (ℕ × ℕ)) → length (fields_bytes fs) ≡ widths fs
 length-fields [] = refl
-length-fields (f ∷ fs) = length-append (little_bytes f.0 f.1) (fields_bytes fs) ∙ (λ i. length-bytes_low_first 0 f.0 f.1 i + length-fields fs i)
+length-fields (f ∷ fs) =
+    length-append (little_bytes f.0 f.1) (fields_bytes fs) ∙ (λ i. length-bytes_low_first 0 f.0 f.1 i + length-fields fs i)
 
 length-headers : (l : Layout) → length (fields_bytes (all_fields l)) ≡ 560
 unfolding all_fields header_fields segments_fields segment_fields part_sections_fields table_sections_fields section_fields
@@ -57,7 +60,9 @@ length-headers l = length-fields (all_fields l)
 
 length-front : (l : Layout) → length (front_bytes l) ≡ 4096
 unfolding front_bytes
-length-front l = length-append (fields_bytes (all_fields l)) (STRINGS.now ++ (0 ∷ (SECTION_NAMES.now ++ replicate 3489 0))) ∙ ap (λ n. n + 3536) (length-headers l)
+length-front l =
+    length-append (fields_bytes (all_fields l)) (STRINGS.now ++ (0 ∷ (SECTION_NAMES.now ++ replicate 3489 0)))
+    ∙ ap (λ n. n + 3536) (length-headers l)
 
 length-mark : (m : TextMark) → length (fields_bytes (symbol_fields m)) ≡ 24
 unfolding symbol_fields
@@ -65,7 +70,8 @@ length-mark m = length-fields (symbol_fields m)
 
 pub length-marks : (marks : List TextMark) → length (marks_bytes marks) ≡ 24 * length marks
 length-marks [] = refl
-length-marks (m ∷ marks) = length-append (fields_bytes (symbol_fields m)) (marks_bytes marks) ∙ (λ i. length-mark m i + length-marks marks i) ∙ omega arith
+length-marks (m ∷ marks) =
+    length-append (fields_bytes (symbol_fields m)) (marks_bytes marks) ∙ (λ i. length-mark m i + length-marks marks i) ∙ omega arith
 
 length-symbols : (marks : List TextMark) → length (symbols_bytes marks) ≡ 24 * suc (length marks)
 unfolding symbols_bytes
@@ -79,14 +85,17 @@ length-text_part : (l : Layout) (text : List ℕ) → length text ≡ l.text_siz
 unfolding text_part
 length-text_part l text e =
     let n : length (text ++ replicate (data_place l - (4096 + l.text_size)) 0) ≡ length text + (data_place l - (4096 + l.text_size)) =
-    length-append text (replicate (data_place l - (4096 + l.text_size)) 0) ∙ ap (λ k. length text + k) (length-zeros (data_place l - (4096 + l.text_size))) in
+    length-append text (replicate (data_place l - (4096 + l.text_size)) 0)
+    ∙ ap (λ k. length text + k) (length-zeros (data_place l - (4096 + l.text_size))) in
     omega (arith, n, data_place-after l)
 
 length-data_part : (l : Layout) (bytes : List ℕ) → length bytes ≡ l.data_size → data_place l + length (data_part l bytes) ≡ symbols_place l
 unfolding data_part
 length-data_part l bytes e =
-    let n : length (bytes ++ replicate (symbols_place l - (data_place l + l.data_size)) 0) ≡ length bytes + (symbols_place l - (data_place l + l.data_size)) =
-    length-append bytes (replicate (symbols_place l - (data_place l + l.data_size)) 0) ∙ ap (λ k. length bytes + k) (length-zeros (symbols_place l - (data_place l + l.data_size))) in
+    let n : length (bytes ++ replicate (symbols_place l - (data_place l + l.data_size)) 0) ≡ length bytes
+    + (symbols_place l - (data_place l + l.data_size)) =
+    length-append bytes (replicate (symbols_place l - (data_place l + l.data_size)) 0)
+    ∙ ap (λ k. length bytes + k) (length-zeros (symbols_place l - (data_place l + l.data_size))) in
     omega (arith, n, symbols_place-after l)
 
 -- ---- parts
@@ -110,59 +119,93 @@ drop-more k [] (suc j) = nothing (suc j + k) ∙ sym (nothing k)
     nothing (suc n) = refl
 drop-more k (x ∷ xs) (suc j) = let e : suc j + k ≡ suc (j + k) = omega arith in rw e (drop-more k xs j)
 
-pub file-length : (file : List ℕ) (l : Layout) (text bytes : List ℕ) (marks : List TextMark) → IsFile file l text bytes marks → length file ≡ symbols_place l + 24 * l.symbol_count
+pub file-length : (file : List ℕ) (l : Layout) (text bytes : List ℕ) (marks : List TextMark) → IsFile file l text bytes marks
+    → length file ≡ symbols_place l + 24 * l.symbol_count
 unfolding file_bytes
 file-length file l text bytes marks is =
     ap length is.whole ∙ length-append (front_bytes l) (text_part l text ++ (data_part l bytes ++ symbols_bytes marks))
-    ∙ (let a : length (text_part l text ++ (data_part l bytes ++ symbols_bytes marks)) ≡ length (text_part l text) + length (data_part l bytes ++ symbols_bytes marks) = length-append (text_part l text) (data_part l bytes ++ symbols_bytes marks) in
-    let b : length (data_part l bytes ++ symbols_bytes marks) ≡ length (data_part l bytes) + length (symbols_bytes marks) = length-append (data_part l bytes) (symbols_bytes marks) in
+    ∙ (let a : length (text_part l text ++ (data_part l bytes ++ symbols_bytes marks)) ≡ length (text_part l text)
+    + length (data_part l bytes ++ symbols_bytes marks) = length-append (text_part l text) (data_part l bytes ++ symbols_bytes marks) in
+    let b : length (data_part l bytes ++ symbols_bytes marks) ≡ length (data_part l bytes) + length (symbols_bytes marks) =
+    length-append (data_part l bytes) (symbols_bytes marks) in
     let s : 24 * l.symbol_count ≡ 24 * suc (length marks) = ap (λ n. 24 * n) is.count in
-    omega (arith, a, b, s, length-front l, length-text_part l text is.text_size, length-data_part l bytes is.data_size, length-symbols marks))
+    omega (
+      arith,
+      a,
+      b,
+      s,
+      length-front l,
+      length-text_part l text is.text_size,
+      length-data_part l bytes is.data_size,
+      length-symbols marks,
+    ))
 
-past-front : (file : List ℕ) (l : Layout) (text bytes : List ℕ) (marks : List TextMark) → IsFile file l text bytes marks → drop 4096 file ≡ text_part l text ++ (data_part l bytes ++ symbols_bytes marks)
+past-front : (file : List ℕ) (l : Layout) (text bytes : List ℕ) (marks : List TextMark) → IsFile file l text bytes marks
+    → drop 4096 file ≡ text_part l text ++ (data_part l bytes ++ symbols_bytes marks)
 unfolding file_bytes
 past-front file l text bytes marks is =
-    ap (drop 4096) is.whole ∙ drop-all (front_bytes l) (text_part l text ++ (data_part l bytes ++ symbols_bytes marks)) 4096 (length-front l)
+    ap (drop 4096) is.whole ∙ drop-all (front_bytes l) (text_part l text ++ (data_part l bytes ++ symbols_bytes marks)) 4096
+    (length-front l)
 
-past-text : (file : List ℕ) (l : Layout) (text bytes : List ℕ) (marks : List TextMark) → IsFile file l text bytes marks → drop (data_place l) file ≡ data_part l bytes ++ symbols_bytes marks
+past-text : (file : List ℕ) (l : Layout) (text bytes : List ℕ) (marks : List TextMark) → IsFile file l text bytes marks
+    → drop (data_place l) file ≡ data_part l bytes ++ symbols_bytes marks
 past-text file l text bytes marks is =
-    ap (λ n. drop n file) (sym (length-text_part l text is.text_size)) ∙ drop-more (length (text_part l text)) file 4096 ∙ ap (drop (length (text_part l text))) (past-front file l text bytes marks is)
+    ap (λ n. drop n file) (sym (length-text_part l text is.text_size)) ∙ drop-more (length (text_part l text)) file 4096
+    ∙ ap (drop (length (text_part l text))) (past-front file l text bytes marks is)
     ∙ drop-all (text_part l text) (data_part l bytes ++ symbols_bytes marks) (length (text_part l text)) refl
 
-pub past-data : (file : List ℕ) (l : Layout) (text bytes : List ℕ) (marks : List TextMark) → IsFile file l text bytes marks → drop (symbols_place l) file ≡ symbols_bytes marks
+pub past-data : (file : List ℕ) (l : Layout) (text bytes : List ℕ) (marks : List TextMark) → IsFile file l text bytes marks
+    → drop (symbols_place l) file ≡ symbols_bytes marks
 past-data file l text bytes marks is =
-    ap (λ n. drop n file) (sym (length-data_part l bytes is.data_size)) ∙ drop-more (length (data_part l bytes)) file (data_place l) ∙ ap (drop (length (data_part l bytes))) (past-text file l text bytes marks is)
+    ap (λ n. drop n file) (sym (length-data_part l bytes is.data_size)) ∙ drop-more (length (data_part l bytes)) file (data_place l)
+    ∙ ap (drop (length (data_part l bytes))) (past-text file l text bytes marks is)
     ∙ drop-all (data_part l bytes) (symbols_bytes marks) (length (data_part l bytes)) refl
 
-pub text-bytes : (file : List ℕ) (l : Layout) (text bytes : List ℕ) (marks : List TextMark) → IsFile file l text bytes marks → take l.text_size (drop 4096 file) ≡ text
+pub text-bytes : (file : List ℕ) (l : Layout) (text bytes : List ℕ) (marks : List TextMark) → IsFile file l text bytes marks
+    → take l.text_size (drop 4096 file) ≡ text
 unfolding text_part
 text-bytes file l text bytes marks is =
-    ap (take l.text_size) (past-front file l text bytes marks is ∙ append_assoc text (replicate (data_place l - (4096 + l.text_size)) 0) (data_part l bytes ++ symbols_bytes marks))
-    ∙ take-front text (replicate (data_place l - (4096 + l.text_size)) 0 ++ (data_part l bytes ++ symbols_bytes marks)) l.text_size is.text_size
+    ap (take l.text_size) (past-front file l text bytes marks is
+    ∙ append_assoc text (replicate (data_place l - (4096 + l.text_size)) 0) (data_part l bytes ++ symbols_bytes marks))
+    ∙ take-front text (replicate (data_place l - (4096 + l.text_size)) 0 ++ (data_part l bytes ++ symbols_bytes marks)) l.text_size
+    is.text_size
 
-pub data-bytes : (file : List ℕ) (l : Layout) (text bytes : List ℕ) (marks : List TextMark) → IsFile file l text bytes marks → take l.data_size (drop (data_place l) file) ≡ bytes
+pub data-bytes : (file : List ℕ) (l : Layout) (text bytes : List ℕ) (marks : List TextMark) → IsFile file l text bytes marks
+    → take l.data_size (drop (data_place l) file) ≡ bytes
 unfolding data_part
 data-bytes file l text bytes marks is =
-    ap (take l.data_size) (past-text file l text bytes marks is ∙ append_assoc bytes (replicate (symbols_place l - (data_place l + l.data_size)) 0) (symbols_bytes marks))
+    ap (take l.data_size) (past-text file l text bytes marks is
+    ∙ append_assoc bytes (replicate (symbols_place l - (data_place l + l.data_size)) 0) (symbols_bytes marks))
     ∙ take-front bytes (replicate (symbols_place l - (data_place l + l.data_size)) 0 ++ symbols_bytes marks) l.data_size is.data_size
 
 -- ---- header fields and names
 
 abbrev pub Reads : List ℕ → Layout → Type 0
-Reads file l = (k : ℕ) → number_at file (place (all_fields l) k) (width (all_fields l) k) ≡ value (all_fields l) k % 256 ^ width (all_fields l) k
+Reads file l =
+    (k : ℕ) → number_at file (place (all_fields l) k) (width (all_fields l) k) ≡ value (all_fields l) k % 256 ^ width (all_fields l) k
 
 pub reads : (file : List ℕ) (l : Layout) (text bytes : List ℕ) (marks : List TextMark) → IsFile file l text bytes marks → Reads file l
 unfolding file_bytes front_bytes
 reads file l text bytes marks is k =
-    ap (λ f. number_at f (place (all_fields l) k) (width (all_fields l) k)) (is.whole ∙ append_assoc (fields_bytes (all_fields l)) (STRINGS.now ++ (0 ∷ (SECTION_NAMES.now ++ replicate 3489 0))) (text_part l text ++ (data_part l bytes ++ symbols_bytes marks)))
-    ∙ read_field (all_fields l) k ((STRINGS.now ++ (0 ∷ (SECTION_NAMES.now ++ replicate 3489 0))) ++ (text_part l text ++ (data_part l bytes ++ symbols_bytes marks)))
+    ap (λ f. number_at f (place (all_fields l) k) (width (all_fields l) k))
+    (is.whole ∙ append_assoc (fields_bytes (all_fields l)) (STRINGS.now ++ (0 ∷ (SECTION_NAMES.now ++ replicate 3489 0)))
+    (text_part l text ++ (data_part l bytes ++ symbols_bytes marks)))
+    ∙ read_field (all_fields l) k ((STRINGS.now ++ (0 ∷ (SECTION_NAMES.now ++ replicate 3489 0)))
+    ++ (text_part l text ++ (data_part l bytes ++ symbols_bytes marks)))
 
 -- the names of symbols, and whatever follows them
-pub names : (file : List ℕ) (l : Layout) (text bytes : List ℕ) (marks : List TextMark) → IsFile file l text bytes marks → (rest : List ℕ) × ((k : ℕ) → number_at file (560 + k) 1 ≡ number_at (STRINGS.now ++ rest) k 1)
+pub names : (file : List ℕ) (l : Layout) (text bytes : List ℕ) (marks : List TextMark) → IsFile file l text bytes marks → (rest : List ℕ)
+    × ((k : ℕ) → number_at file (560 + k) 1 ≡ number_at (STRINGS.now ++ rest) k 1)
 unfolding file_bytes front_bytes
 names file l text bytes marks is = (
   (0 ∷ (SECTION_NAMES.now ++ replicate 3489 0)) ++ (text_part l text ++ (data_part l bytes ++ symbols_bytes marks)),
-  λ k. ap (λ f. number_at f (560 + k) 1) (is.whole ∙ append_assoc (fields_bytes (all_fields l)) (STRINGS.now ++ (0 ∷ (SECTION_NAMES.now ++ replicate 3489 0))) (text_part l text ++ (data_part l bytes ++ symbols_bytes marks)))
-      ∙ ap (λ n. number_at (fields_bytes (all_fields l) ++ (STRINGS.now ++ ((0 ∷ (SECTION_NAMES.now ++ replicate 3489 0)) ++ (text_part l text ++ (data_part l bytes ++ symbols_bytes marks))))) (n + k) 1) (sym (length-headers l))
-      ∙ number_at-past (fields_bytes (all_fields l)) (STRINGS.now ++ ((0 ∷ (SECTION_NAMES.now ++ replicate 3489 0)) ++ (text_part l text ++ (data_part l bytes ++ symbols_bytes marks)))) k 1,
+  λ k. ap (λ f. number_at f (560 + k) 1) (is.whole
+      ∙ append_assoc (fields_bytes (all_fields l)) (STRINGS.now ++ (0 ∷ (SECTION_NAMES.now ++ replicate 3489 0)))
+      (text_part l text ++ (data_part l bytes ++ symbols_bytes marks)))
+      ∙ ap (λ n. number_at (fields_bytes (all_fields l)
+      ++ (STRINGS.now ++ ((0 ∷ (SECTION_NAMES.now ++ replicate 3489 0))
+      ++ (text_part l text ++ (data_part l bytes ++ symbols_bytes marks))))) (n + k) 1) (sym (length-headers l))
+      ∙ number_at-past (fields_bytes (all_fields l))
+      (STRINGS.now ++ ((0 ∷ (SECTION_NAMES.now ++ replicate 3489 0)) ++ (text_part l text ++ (data_part l bytes ++ symbols_bytes marks)))) k
+      1,
 )

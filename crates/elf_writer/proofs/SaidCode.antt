@@ -1,5 +1,6 @@
 -- The marks that are written say of each word what was said of it.
-use Rattle.std.proofs.Common.{◌≡◌, ℕ, zero, suc, ◌+◌, ◌-◌, ◌/◌, ◌^◌, ◌<◌, ◌≤◌, ◌⊎◌, inl, inr, Bool, true, false, cond, List, [], ◌∷◌, ◌++◌, length, map, All, IfSome, Option, Some, None, refl, ap, sym, ◌∙◌, arith}
+use Rattle.std.proofs.Common.{◌≡◌, ℕ, zero, suc, ◌+◌, ◌-◌, ◌/◌, ◌^◌, ◌<◌, ◌≤◌, ◌⊎◌, inl, inr, Bool, true, false, cond, List, [], ◌∷◌, ◌++◌}
+use Rattle.std.proofs.Common.{length, map, All, IfSome, Option, Some, None, refl, ap, sym, ◌∙◌, arith}
 use Rattle.std.specs.Prelude.{not, nat_le}
 use Rattle.std.proofs.lemmas.Bool.Decides.{nat_tests}
 use Rattle.std.proofs.lemmas.List.{map-append}
@@ -18,7 +19,8 @@ abbrev Says : Option Mark → Bool → ℕ → Type 0
 Says None code limit = ⊥
 Says (Some m) code limit = (m.code ≡ code) × (m.value ≤ limit)
 
-governing-append : (s a : ℕ) (best : Option Mark) (xs ys : List Mark) → governing s a best (xs ++ ys) ≡ governing s a (governing s a best xs) ys
+governing-append : (s a : ℕ) (best : Option Mark) (xs ys : List Mark)
+    → governing s a best (xs ++ ys) ≡ governing s a (governing s a best xs) ys
 governing-append s a best [] ys = refl
 governing-append s a best (x ∷ xs) ys = governing-append s a (later s a best x) xs ys
 
@@ -47,7 +49,8 @@ above : (x a : ℕ) → a < x → nat_le x a ≡ false
 above x a h = grind (arith, nat_tests)
 
 -- a mark in front of the address governs it
-more_takes : (a v : ℕ) (best : Option Mark) (code : Bool) (limit : ℕ) → v ≤ a → (best ≡ None) ⊎ (Says best code limit × (limit ≤ v)) → (now : Bool) → Says (more a best (Some (record { address = v; code = now }))) now v
+more_takes : (a v : ℕ) (best : Option Mark) (code : Bool) (limit : ℕ) → v ≤ a → (best ≡ None) ⊎ (Says best code limit × (limit ≤ v))
+    → (now : Bool) → Says (more a best (Some (record { address = v; code = now }))) now v
 more_takes a v None code limit h s now = rw (at_most v a h) (refl, omega arith)
 more_takes a v (Some m) code limit h (inl e) now = cc
 more_takes a v (Some m) code limit h (inr s) now = rw (at_most v a h, at_most m.value v (omega (arith, s.0.1, s.1))) (refl, omega arith)
@@ -64,7 +67,8 @@ said_still true false h = cc
 said_still false true h = cc
 said_still false false h = refl
 
-step_by : (t : Bool) (a v : ℕ) (best : Option Mark) (before now : Bool) (limit : ℕ) → cond before (not now) now ≡ t → v ≤ a → Says best before limit → limit ≤ v → Says (more a best (cond t (Some (record { address = v; code = now })) None)) now v
+step_by : (t : Bool) (a v : ℕ) (best : Option Mark) (before now : Bool) (limit : ℕ) → cond before (not now) now ≡ t → v ≤ a
+    → Says best before limit → limit ≤ v → Says (more a best (cond t (Some (record { address = v; code = now })) None)) now v
 step_by true a v best before now limit e h s l = more_takes a v best before limit h (inr (s, l)) now
 step_by false a v None before now limit e h s l = absurd s
 step_by false a v (Some m) before now limit e h s l = (s.0 ∙ said_still before now e, omega (arith, s.1))
@@ -73,7 +77,8 @@ mark-first : (code : ℕ → Bool) → mark_at code 0 ≡ Some (record { address
 unfolding mark_at
 mark-first code = refl
 
-mark-next : (code : ℕ → Bool) (w : ℕ) → mark_at code (suc w) ≡ cond (cond (code w) (not (code (suc w))) (code (suc w))) (Some (record { address = word_address (suc w); code = code (suc w) })) None
+mark-next : (code : ℕ → Bool) (w : ℕ) → mark_at code (suc w)
+    ≡ cond (cond (code w) (not (code (suc w))) (code (suc w))) (Some (record { address = word_address (suc w); code = code (suc w) })) None
 unfolding mark_at
 mark-next code w = refl
 
@@ -83,9 +88,11 @@ said code a zero h =
     rw (found-next code a 0, found-none code a, mark-first code) (more_takes a (word_address 0) None true 0 h (inl refl) (code 0))
 said code a (suc w) h =
     rw (found-next code a (suc w), mark-next code w)
-    (step_by (cond (code w) (not (code (suc w))) (code (suc w))) a (word_address (suc w)) (found code a (suc w)) (code w) (code (suc w)) (word_address w) refl h (said code a w (omega arith)) (omega arith))
+    (step_by (cond (code w) (not (code (suc w))) (code (suc w))) a (word_address (suc w)) (found code a (suc w)) (code w) (code (suc w))
+    (word_address w) refl h (said code a w (omega arith)) (omega arith))
 
-past_by : (t : Bool) (a v : ℕ) (best : Option Mark) (now : Bool) → a < v → more a best (cond t (Some (record { address = v; code = now })) None) ≡ best
+past_by : (t : Bool) (a v : ℕ) (best : Option Mark) (now : Bool) → a < v
+    → more a best (cond t (Some (record { address = v; code = now })) None) ≡ best
 past_by true a v best now h = more_skips a v best now h
 past_by false a v best now h = refl
 
@@ -95,7 +102,8 @@ found-past code a w (suc k) h =
     let e : suc w + suc k ≡ suc (suc (w + k)) = omega arith in
     let f : suc w + k ≡ suc (w + k) = omega arith in
     ap (found code a) e ∙ found-next code a (suc (w + k)) ∙ ap (more a (found code a (suc (w + k)))) (mark-next code (w + k))
-    ∙ past_by (cond (code (w + k)) (not (code (suc (w + k)))) (code (suc (w + k)))) a (word_address (suc (w + k))) (found code a (suc (w + k))) (code (suc (w + k))) (omega arith)
+    ∙ past_by (cond (code (w + k)) (not (code (suc (w + k)))) (code (suc (w + k)))) a (word_address (suc (w + k)))
+    (found code a (suc (w + k))) (code (suc (w + k))) (omega arith)
     ∙ ap (found code a) (sym f) ∙ found-past code a w k h
 
 says_so : (o : Option Mark) (code : Bool) (limit : ℕ) → Says o code limit → says_code o ≡ code
@@ -103,21 +111,25 @@ says_so None code limit s = absurd s
 says_so (Some m) code limit s = s.0
 
 -- the marks of the words below the count say of word n its code
-said_all : (code : ℕ → Bool) (n count : ℕ) → n < count → is_code_at (map read_mark (answers_below (mark_at code) count)) 1 (word_address n) ≡ code n
+said_all : (code : ℕ → Bool) (n count : ℕ) → n < count
+    → is_code_at (map read_mark (answers_below (mark_at code) count)) 1 (word_address n) ≡ code n
 unfolding found
 said_all code n count h =
     let e : count ≡ suc n + (count - suc n) = omega arith in
     code_at (map read_mark (answers_below (mark_at code) count)) 1 (word_address n)
-    ∙ ap (λ c. says_code (found code (word_address n) c)) e ∙ ap says_code (found-past code (word_address n) n (count - suc n) (omega arith))
+    ∙ ap (λ c. says_code (found code (word_address n) c)) e
+    ∙ ap says_code (found-past code (word_address n) n (count - suc n) (omega arith))
     ∙ says_so (found code (word_address n) (suc n)) (code n) (word_address n) (said code (word_address n) n (omega arith))
 
-pub marks_say : (o : Object) (n : ℕ) → n < length o.text_bytes.items / 4 → is_code_at (map read_mark (text_marks o)) 1 (word_address n) ≡ is_code_word o n
+pub marks_say : (o : Object) (n : ℕ) → n < length o.text_bytes.items / 4
+    → is_code_at (map read_mark (text_marks o)) 1 (word_address n) ≡ is_code_word o n
 unfolding text_marks
 marks_say o n h = said_all (is_code_word o) n (length o.text_bytes.items / 4) h
 
 -- ---- the addresses of the marks
 
-low_mark : (t : Bool) (v : ℕ) (code : Bool) → v < 2 ^ 64 → IfSome (cond t (Some (let m : TextMark = record { address = v; code = code } in m)) None) (λ m. m.address < 2 ^ 64)
+low_mark : (t : Bool) (v : ℕ) (code : Bool) → v < 2 ^ 64
+    → IfSome (cond t (Some (let m : TextMark = record { address = v; code = code } in m)) None) (λ m. m.address < 2 ^ 64)
 low_mark true v code h = h
 low_mark false v code h = tt
 
@@ -127,4 +139,6 @@ mark-low code n h = low_mark (begins (said_before code n) (code n)) (word_addres
 
 pub low_marks : (o : Object) → length o.text_bytes.items ≤ 4194304 → All (λ m. m.address < 2 ^ 64) (text_marks o)
 unfolding text_marks
-low_marks o h = All-answers_below (λ m. m.address < 2 ^ 64) (mark_at (is_code_word o)) (length o.text_bytes.items / 4) (λ n l. mark-low (is_code_word o) n (omega arith))
+low_marks o h =
+    All-answers_below (λ m. m.address < 2 ^ 64) (mark_at (is_code_word o)) (length o.text_bytes.items / 4)
+    (λ n l. mark-low (is_code_word o) n (omega arith))

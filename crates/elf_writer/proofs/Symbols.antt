@@ -1,5 +1,6 @@
 -- The symbols of a file that was written are the marks.
-use Rattle.std.proofs.Common.{◌≡◌, ℕ, zero, suc, ◌+◌, ◌*◌, ◌/◌, ◌%◌, ◌^◌, ◌<◌, Bool, true, false, List, [], ◌∷◌, ◌++◌, length, get_or, drop, map, replicate, Option, Some, None, refl, ap, ◌∙◌, arith, append_assoc}
+use Rattle.std.proofs.Common.{◌≡◌, ℕ, zero, suc, ◌+◌, ◌*◌, ◌/◌, ◌%◌, ◌^◌, ◌<◌, Bool, true, false, List, [], ◌∷◌, ◌++◌, length, get_or, drop}
+use Rattle.std.proofs.Common.{map, replicate, Option, Some, None, refl, ap, ◌∙◌, arith, append_assoc}
 use Rattle.std.specs.Prelude.{cond, if◌then◌else◌}
 use Rattle.byteorder.specs.Endian.{little_number}
 use Rattle.elf_headers.specs.Below.{answers, answers_below}
@@ -19,7 +20,8 @@ use Rattle.elf_writer.specs.Layout.{fields_bytes, text_section, data_section, sy
 use Rattle.elf_writer.specs.File.{symbol_fields, marks_bytes, symbols_bytes}
 use Rattle.elf_writer.proofs.Fields.{drop-past, place, value, read_field}
 use Rattle.elf_writer.proofs.Reading.{IsFile, Reads, reads, names, past-data, drop-more}
-use Rattle.elf_writer.proofs.Headers.{section_count-is, section_of-0, section_of-text, section_of-data, section_of-symbols, section_of-strings, section_of-names}
+use Rattle.elf_writer.proofs.Headers.{section_count-is, section_of-0, section_of-text, section_of-data, section_of-symbols}
+use Rattle.elf_writer.proofs.Headers.{section_of-strings, section_of-names}
 
 -- ---- where a symbol stands
 
@@ -32,24 +34,31 @@ unfolding symbol_fields
 length-mark m = refl
 
 -- the symbols from number k on
-symbols_from : (marks : List TextMark) (k : ℕ) (d : TextMark) → k < length marks → drop (24 * k) (marks_bytes marks) ≡ fields_bytes (symbol_fields (get_or marks k d)) ++ marks_bytes (drop (suc k) marks)
+symbols_from : (marks : List TextMark) (k : ℕ) (d : TextMark) → k < length marks
+    → drop (24 * k) (marks_bytes marks) ≡ fields_bytes (symbol_fields (get_or marks k d)) ++ marks_bytes (drop (suc k) marks)
 symbols_from [] k d h = absurd (omega arith)
 symbols_from (m ∷ marks) zero d h = refl
 symbols_from (m ∷ marks) (suc k) d h =
     let e : 24 * suc k ≡ length (fields_bytes (symbol_fields m)) + 24 * k = omega (arith, length-mark m) in
-    ap (λ n. drop n (fields_bytes (symbol_fields m) ++ marks_bytes marks)) e ∙ drop-past (fields_bytes (symbol_fields m)) (marks_bytes marks) (24 * k) ∙ symbols_from marks k d (omega arith)
+    ap (λ n. drop n (fields_bytes (symbol_fields m) ++ marks_bytes marks)) e
+    ∙ drop-past (fields_bytes (symbol_fields m)) (marks_bytes marks) (24 * k) ∙ symbols_from marks k d (omega arith)
 
-symbol_from : (marks : List TextMark) (k : ℕ) (d : TextMark) → k < length marks → drop (24 * suc k) (symbols_bytes marks) ≡ fields_bytes (symbol_fields (get_or marks k d)) ++ marks_bytes (drop (suc k) marks)
+symbol_from : (marks : List TextMark) (k : ℕ) (d : TextMark) → k < length marks
+    → drop (24 * suc k) (symbols_bytes marks) ≡ fields_bytes (symbol_fields (get_or marks k d)) ++ marks_bytes (drop (suc k) marks)
 unfolding symbols_bytes
 symbol_from marks k d h =
     let e : 24 * suc k ≡ length {A = ℕ} (replicate 24 0) + 24 * k = omega arith in
-    ap (λ n. drop n (replicate 24 0 ++ marks_bytes marks)) e ∙ drop-past (replicate 24 0) (marks_bytes marks) (24 * k) ∙ symbols_from marks k d h
+    ap (λ n. drop n (replicate 24 0 ++ marks_bytes marks)) e ∙ drop-past (replicate 24 0) (marks_bytes marks) (24 * k)
+    ∙ symbols_from marks k d h
 
-symbol_read : (file : List ℕ) (l : Layout) (text bytes : List ℕ) (marks : List TextMark) → IsFile file l text bytes marks → (k : ℕ) (d : TextMark) (q n : ℕ) → k < length marks
-    → number_at file (symbols_place l + 24 * suc k + q) n ≡ number_at (fields_bytes (symbol_fields (get_or marks k d)) ++ marks_bytes (drop (suc k) marks)) q n
+symbol_read : (file : List ℕ) (l : Layout) (text bytes : List ℕ) (marks : List TextMark) → IsFile file l text bytes marks
+    → (k : ℕ) (d : TextMark) (q n : ℕ) → k < length marks
+    → number_at file (symbols_place l + 24 * suc k + q) n
+    ≡ number_at (fields_bytes (symbol_fields (get_or marks k d)) ++ marks_bytes (drop (suc k) marks)) q n
 symbol_read file l text bytes marks is k d q n h =
     number_at-drop file (symbols_place l + 24 * suc k) q n
-    ∙ ap (λ f. number_at f q n) (drop-more (24 * suc k) file (symbols_place l) ∙ ap (drop (24 * suc k)) (past-data file l text bytes marks is) ∙ symbol_from marks k d h)
+    ∙ ap (λ f. number_at f q n) (drop-more (24 * suc k) file (symbols_place l)
+    ∙ ap (drop (24 * suc k)) (past-data file l text bytes marks is) ∙ symbol_from marks k d h)
 
 name_by : (b : Bool) → cond b 1 4 % 256 ^ 4 ≡ cond b 1 4
 name_by true = refl
@@ -76,20 +85,26 @@ pub record IsSymbol (file : List ℕ) (at : ℕ) (m : TextMark) : Type 0 where
   pub number : number_at file (at + 6) 2 ≡ 1
   pub address : number_at file (at + 8) 8 ≡ m.address
 
-pub symbol_is : (file : List ℕ) (l : Layout) (text bytes : List ℕ) (marks : List TextMark) → IsFile file l text bytes marks → (k : ℕ) (d : TextMark) → k < length marks → IsSymbol file (symbols_place l + 24 * suc k) (get_or marks k d)
+pub symbol_is : (file : List ℕ) (l : Layout) (text bytes : List ℕ) (marks : List TextMark) → IsFile file l text bytes marks
+    → (k : ℕ) (d : TextMark) → k < length marks → IsSymbol file (symbols_place l + 24 * suc k) (get_or marks k d)
 symbol_is file l text bytes marks is k d h =
     let e : symbols_place l + 24 * suc k ≡ symbols_place l + 24 * suc k + 0 = omega arith in
     record {
-      name = ap (λ p. number_at file p 4) e ∙ symbol_read file l text bytes marks is k d 0 4 h ∙ name_of (get_or marks k d) (marks_bytes (drop (suc k) marks));
+      name =
+          ap (λ p. number_at file p 4) e ∙ symbol_read file l text bytes marks is k d 0 4 h
+          ∙ name_of (get_or marks k d) (marks_bytes (drop (suc k) marks));
       number = symbol_read file l text bytes marks is k d 6 2 h ∙ section_number_of (get_or marks k d) (marks_bytes (drop (suc k) marks));
-      address = symbol_read file l text bytes marks is k d 8 8 h ∙ address_of (get_or marks k d) (marks_bytes (drop (suc k) marks)) (is.addresses k d h);
+      address =
+          symbol_read file l text bytes marks is k d 8 8 h
+          ∙ address_of (get_or marks k d) (marks_bytes (drop (suc k) marks)) (is.addresses k d h);
     }
 
 null_name : (marks : List TextMark) → number_at (symbols_bytes marks) 0 4 ≡ 0
 unfolding symbols_bytes number_at
 null_name marks = refl
 
-pub null_is : (file : List ℕ) (l : Layout) (text bytes : List ℕ) (marks : List TextMark) → IsFile file l text bytes marks → number_at file (symbols_place l + 24 * 0) 4 ≡ 0
+pub null_is : (file : List ℕ) (l : Layout) (text bytes : List ℕ) (marks : List TextMark) → IsFile file l text bytes marks
+    → number_at file (symbols_place l + 24 * 0) 4 ≡ 0
 null_is file l text bytes marks is =
     number_at-drop file (symbols_place l) 0 4 ∙ ap (λ f. number_at f 0 4) (past-data file l text bytes marks is) ∙ null_name marks
 
@@ -134,7 +149,9 @@ mark_none file place at h n =
     let e : 560 + number_at file at 4 ≡ 560 = omega arith in
     rw (e, no_name file h) refl
 
-mark_some : (file : List ℕ) (at : ℕ) (address : ℕ) (code : Bool) → HasNames file → IsSymbol file at (record { address = address; code = code }) → mark_at file (strings_section 560 7) at ≡ Some (read_mark (record { address = address; code = code }))
+mark_some : (file : List ℕ) (at : ℕ) (address : ℕ) (code : Bool) → HasNames file
+    → IsSymbol file at (record { address = address; code = code })
+    → mark_at file (strings_section 560 7) at ≡ Some (read_mark (record { address = address; code = code }))
 unfolding mark_at strings_section
 mark_some file at address true h s =
     let e : 560 + number_at file at 4 ≡ 561 = omega (arith, s.name) in
@@ -150,14 +167,17 @@ front f zero = nil_end (answers (f 0))
     nil_end : {A : Type 0} (xs : List A) → xs ≡ xs ++ []
     nil_end [] = refl
     nil_end (x ∷ xs) = ap (λ ys. x ∷ ys) (nil_end xs)
-front f (suc n) = ap (λ xs. xs ++ answers (f (suc n))) (front f n) ∙ append_assoc (answers (f 0)) (answers_below (λ k. f (suc k)) n) (answers (f (suc n)))
+front f (suc n) =
+    ap (λ xs. xs ++ answers (f (suc n))) (front f n) ∙ append_assoc (answers (f 0)) (answers_below (λ k. f (suc k)) n) (answers (f (suc n)))
 
-listed : {A B : Type 0} (f : ℕ → Option B) (g : A → B) (xs : List A) → ((k : ℕ) (d : A) → k < length xs → f k ≡ Some (g (get_or xs k d))) → answers_below f (length xs) ≡ map g xs
+listed : {A B : Type 0} (f : ℕ → Option B) (g : A → B) (xs : List A) → ((k : ℕ) (d : A) → k < length xs → f k ≡ Some (g (get_or xs k d)))
+    → answers_below f (length xs) ≡ map g xs
 listed f g [] h = answers_below-zero f
 listed f g (x ∷ xs) h =
     front f (length xs) ∙ (λ i. answers (h 0 x (omega arith) i) ++ listed (λ k. f (suc k)) g xs (λ k d l. h (suc k) d (omega arith)) i)
 
-table_marks-is : (file : List ℕ) (l : Layout) (text bytes : List ℕ) (marks : List TextMark) → IsFile file l text bytes marks → table_marks file (symbols_section l) ≡ map read_mark marks
+table_marks-is : (file : List ℕ) (l : Layout) (text bytes : List ℕ) (marks : List TextMark) → IsFile file l text bytes marks
+    → table_marks file (symbols_section l) ≡ map read_mark marks
 unfolding table_marks symbols_section
 table_marks-is file l text bytes marks is =
     let r : Reads file l = reads file l text bytes marks is in
@@ -167,10 +187,14 @@ table_marks-is file l text bytes marks is =
     ap (λ (s : SectionHeader). answers_below (λ k. mark_at file s (symbols_place l + 24 * k)) (24 * l.symbol_count / 24)) strings
     ∙ ap (answers_below (λ k. mark_at file (strings_section 560 7) (symbols_place l + 24 * k))) count
     ∙ front (λ k. mark_at file (strings_section 560 7) (symbols_place l + 24 * k)) (length marks)
-    ∙ ap (λ o. answers o ++ answers_below (λ k. mark_at file (strings_section 560 7) (symbols_place l + 24 * suc k)) (length marks)) (mark_none file 0 (symbols_place l + 24 * 0) h (null_is file l text bytes marks is))
-    ∙ listed (λ k. mark_at file (strings_section 560 7) (symbols_place l + 24 * suc k)) read_mark marks (λ k d b. mark_some file (symbols_place l + 24 * suc k) (get_or marks k d).address (get_or marks k d).code h (symbol_is file l text bytes marks is k d b))
+    ∙ ap (λ o. answers o ++ answers_below (λ k. mark_at file (strings_section 560 7) (symbols_place l + 24 * suc k)) (length marks))
+    (mark_none file 0 (symbols_place l + 24 * 0) h (null_is file l text bytes marks is))
+    ∙ listed (λ k. mark_at file (strings_section 560 7) (symbols_place l + 24 * suc k)) read_mark marks
+    (λ k d b. mark_some file (symbols_place l + 24 * suc k) (get_or marks k d).address (get_or marks k d).code h
+    (symbol_is file l text bytes marks is k d b))
 
-marks_six : (file : List ℕ) (s : SectionHeader) → is_symbol_table (section_of file 0) ≡ false → is_symbol_table (section_of file 1) ≡ false → is_symbol_table (section_of file 2) ≡ false → section_of file 3 ≡ s → is_symbol_table s ≡ true
+marks_six : (file : List ℕ) (s : SectionHeader) → is_symbol_table (section_of file 0) ≡ false → is_symbol_table (section_of file 1) ≡ false
+    → is_symbol_table (section_of file 2) ≡ false → section_of file 3 ≡ s → is_symbol_table s ≡ true
     → is_symbol_table (section_of file 4) ≡ false → is_symbol_table (section_of file 5) ≡ false → marks_below file 6 ≡ table_marks file s
 unfolding marks_below
 marks_six file s a b c d t e f = rw (a, b, c, d, t, e, f) (no_more (table_marks file s))
@@ -179,12 +203,14 @@ marks_six file s a b c d t e f = rw (a, b, c, d, t, e, f) (no_more (table_marks 
     no_more [] = refl
     no_more (x ∷ xs) = ap (λ ys. x ∷ ys) (no_more xs)
 
-pub marks_of-is : (file : List ℕ) (l : Layout) (text bytes : List ℕ) (marks : List TextMark) → IsFile file l text bytes marks → marks_of file ≡ map read_mark marks
+pub marks_of-is : (file : List ℕ) (l : Layout) (text bytes : List ℕ) (marks : List TextMark) → IsFile file l text bytes marks
+    → marks_of file ≡ map read_mark marks
 unfolding text_section data_section symbols_section strings_section
 marks_of-is file l text bytes marks is =
     let r : Reads file l = reads file l text bytes marks is in
     let kind : SectionHeader → Bool = λ s. is_symbol_table s in
     ap (marks_below file) (section_count-is file l r)
-    ∙ marks_six file (symbols_section l) (ap kind (section_of-0 file l r)) (ap kind (section_of-text file l is.small r)) (ap kind (section_of-data file l is.small r)) (section_of-symbols file l is.small r) refl
+    ∙ marks_six file (symbols_section l) (ap kind (section_of-0 file l r)) (ap kind (section_of-text file l is.small r))
+    (ap kind (section_of-data file l is.small r)) (section_of-symbols file l is.small r) refl
     (ap kind (section_of-strings file l r)) (ap kind (section_of-names file l r))
     ∙ table_marks-is file l text bytes marks is

@@ -1,5 +1,7 @@
 -- A test that the way through the tree ends at each row that matches.
-use Rattle.std.proofs.Common.{◌≡◌, ℕ, zero, suc, ◌+◌, length, List, [], ◌∷◌, Option, Some, None, slice_get, bit_and, Bool, true, false, not, ◌==◌, ◌&&◌, cond, ◌*◌, ◌/◌, ◌^◌, ◌<◌, lit≤, refl, sym, ap, ap₂, ◌∙◌, arith, eqb-true, subst, add-zero, zero-add}
+use Rattle.std.proofs.Common.{◌≡◌, ℕ, zero, suc, ◌+◌, length, List, [], ◌∷◌, Option, Some, None, slice_get, bit_and, Bool, true, false, not}
+use Rattle.std.proofs.Common.{◌==◌, ◌&&◌, cond, ◌*◌, ◌/◌, ◌^◌, ◌<◌, lit≤, refl, sym, ap, ap₂, ◌∙◌, arith, eqb-true, subst, add-zero}
+use Rattle.std.proofs.Common.{zero-add}
 use Rattle.std.specs.List.{list_all}
 use Rattle.std.proofs.lemmas.Nat.{and_assoc, and_comm}
 use Rattle.std.proofs.lemmas.Nat.Bits.{and_high_mask}
@@ -70,7 +72,8 @@ and_zero n = refl
 
 fixed_there : (mask word : ℕ) (r : Bits) → Matches r word → bit_and r.value mask ≡ bit_and (bit_and word mask) r.mask
 fixed_there mask word r m =
-    ap (λ n. bit_and n mask) (sym m) ∙ and_assoc mask word r.mask ∙ ap (bit_and word) (and_comm r.mask mask) ∙ sym (and_assoc r.mask word mask)
+    ap (λ n. bit_and n mask) (sym m) ∙ and_assoc mask word r.mask ∙ ap (bit_and word) (and_comm r.mask mask)
+    ∙ sym (and_assoc r.mask word mask)
 
 -- a row that matches a word with the bits clear has them clear
 clear_kept : (mask word : ℕ) (p : Placed) → Matches p.1 word → bit_and word mask ≡ 0 → may_be_clear mask p ≡ true
@@ -91,14 +94,17 @@ not_both false b h = refl
 set_kept : (mask word : ℕ) (p : Placed) → Matches p.1 word → (bit_and word mask == 0) ≡ false → may_be_set mask p ≡ true
 unfolding may_be_set
 set_kept mask word p m z =
-    not_both _ _ (λ f v. both_ways (bit_and word mask == 0) z (ap (λ n. n == 0) (all_clear mask word p.1 m (eqb-true _ _ f) (eqb-true _ _ v))))
+    not_both _ _ (λ f v. both_ways (bit_and word mask == 0) z
+    (ap (λ n. n == 0) (all_clear mask word p.1 m (eqb-true _ _ f) (eqb-true _ _ v))))
 
 all_at : (place : ℕ) (p : Placed) (left : List Placed) → list_all (λ p. p.0 == place) left ≡ true → Holds p left → p.0 ≡ place
 all_at place p [] e h = elim h [ ]
 all_at place p (x ∷ xs) e (here) = eqb-true _ _ (and_parts _ _ e).0
 all_at place p (x ∷ xs) e (later h) = all_at place p xs (and_parts _ _ e).1 h
 
-covers_at-step : (on : ℕ → List Placed → Bool) (way : ℕ → Option ℕ) (word : ℕ) (p : Placed) → Matches p.1 word → ((next : ℕ) (rest : List Placed) → on next rest ≡ true → Holds p rest → way next ≡ Some p.0) → (node : Option Node) (left : List Placed) → covers_at on node left ≡ true → Holds p left → step way node word ≡ Some p.0
+covers_at-step : (on : ℕ → List Placed → Bool) (way : ℕ → Option ℕ) (word : ℕ) (p : Placed) → Matches p.1 word
+    → ((next : ℕ) (rest : List Placed) → on next rest ≡ true → Holds p rest → way next ≡ Some p.0)
+    → (node : Option Node) (left : List Placed) → covers_at on node left ≡ true → Holds p left → step way node word ≡ Some p.0
 unfolding covers_at step
 covers_at-step on way word p m rec None left e h = cc
 covers_at-step on way word p m rec (Some (Leaf place)) left e h = ap Some (sym (all_at place p left e h))
@@ -108,7 +114,8 @@ covers_at-step on way word p m rec (Some (Test mask clear set)) left e h =
     (λ z. rec clear _ parts.0 (Holds-kept (may_be_clear mask) p left (clear_kept mask word p m (eqb-true _ _ z)) h))
     (λ z. rec set _ parts.1 (Holds-kept (may_be_set mask) p left (set_kept mask word p m z) h))
 
-pub covers-walk : (steps : ℕ) (nodes : List Node) (at : ℕ) (left : List Placed) (word : ℕ) (p : Placed) → Matches p.1 word → covers steps nodes at left ≡ true → Holds p left → walk steps nodes at word ≡ Some p.0
+pub covers-walk : (steps : ℕ) (nodes : List Node) (at : ℕ) (left : List Placed) (word : ℕ) (p : Placed) → Matches p.1 word
+    → covers steps nodes at left ≡ true → Holds p left → walk steps nodes at word ≡ Some p.0
 unfolding covers walk
 covers-walk zero nodes at left word p m e h = cc
 covers-walk (suc steps) nodes at left word p m e h =
@@ -127,7 +134,8 @@ may_begin top p = bit_and p.1.value top_bits == bit_and (top * 2 ^ 24) p.1.mask
 -- the ways from the roots, of which the first is that of these top bits, end at each of the rows that match
 unfoldable pub covers_from : ℕ → List Node → List Placed → ℕ → List ℕ → Bool
 covers_from steps nodes rows top [] = true
-covers_from steps nodes rows top (root ∷ roots) = covers steps nodes root (kept (may_begin top) rows) && covers_from steps nodes rows (suc top) roots
+covers_from steps nodes rows top (root ∷ roots) =
+    covers steps nodes root (kept (may_begin top) rows) && covers_from steps nodes rows (suc top) roots
 
 eqb-refl-at : {a b : ℕ} → a ≡ b → (a == b) ≡ true
 eqb-refl-at e = grind (arith, nat_tests)
@@ -139,7 +147,8 @@ begins : (word : ℕ) (p : Placed) → word < 2 ^ 32 → Matches p.1 word → ma
 unfolding may_begin
 begins word p lt m = eqb-refl-at (fixed_there top_bits word p.1 m ∙ ap (λ n. bit_and n p.1.mask) (top_of word lt))
 
-covered_root : (steps : ℕ) (nodes : List Node) (rows : List Placed) (top i root : ℕ) (roots : List ℕ) → covers_from steps nodes rows top roots ≡ true → slice_get roots i ≡ Some root
+covered_root : (steps : ℕ) (nodes : List Node) (rows : List Placed) (top i root : ℕ) (roots : List ℕ)
+    → covers_from steps nodes rows top roots ≡ true → slice_get roots i ≡ Some root
     → covers steps nodes root (kept (may_begin (top + i)) rows) ≡ true
 unfolding covers_from
 covered_root steps nodes rows top i root [] e g = cc
@@ -149,17 +158,21 @@ covered_root steps nodes rows top zero root (r ∷ roots) e g =
     (subst (λ (k : ℕ). covers steps nodes k (kept (may_begin top) rows) ≡ true) same (and_parts _ _ e).0)
 covered_root steps nodes rows top (suc i) root (r ∷ roots) e g =
     let same : suc top + i ≡ top + suc i = omega arith in
-    subst (λ (k : ℕ). covers steps nodes root (kept (may_begin k) rows) ≡ true) same (covered_root steps nodes rows (suc top) i root roots (and_parts _ _ e).1 g)
+    subst (λ (k : ℕ). covers steps nodes root (kept (may_begin k) rows) ≡ true) same
+    (covered_root steps nodes rows (suc top) i root roots (and_parts _ _ e).1 g)
 
 -- the way from a word's root ends at the row that matches
-pub roots-walk : (steps : ℕ) (nodes : List Node) (roots : List ℕ) (rows : List Placed) (word root : ℕ) (p : Placed) → word < 2 ^ 32 → Matches p.1 word → covers_from steps nodes rows 0 roots ≡ true
+pub roots-walk : (steps : ℕ) (nodes : List Node) (roots : List ℕ) (rows : List Placed) (word root : ℕ) (p : Placed) → word < 2 ^ 32
+    → Matches p.1 word → covers_from steps nodes rows 0 roots ≡ true
     → slice_get roots (word / 2 ^ 24) ≡ Some root → Holds p rows → walk steps nodes root word ≡ Some p.0
 roots-walk steps nodes roots rows word root p lt m e g h =
     covers-walk steps nodes root (kept (may_begin (word / 2 ^ 24)) rows) word p m
-    (subst (λ (k : ℕ). covers steps nodes root (kept (may_begin k) rows) ≡ true) (zero-add (word / 2 ^ 24)) (covered_root steps nodes rows 0 (word / 2 ^ 24) root roots e g))
+    (subst (λ (k : ℕ). covers steps nodes root (kept (may_begin k) rows) ≡ true) (zero-add (word / 2 ^ 24))
+    (covered_root steps nodes rows 0 (word / 2 ^ 24) root roots e g))
     (Holds-kept (may_begin (word / 2 ^ 24)) p rows (begins word p lt m) h)
 
-pub Holds-numbered : {O : Type 0} (n i : ℕ) (lines : List (Line O)) (r : Line O) → slice_get lines i ≡ Some r → Holds (n + i, record { mask = r.mask; value = r.value }) (numbered n lines)
+pub Holds-numbered : {O : Type 0} (n i : ℕ) (lines : List (Line O)) (r : Line O) → slice_get lines i ≡ Some r
+    → Holds (n + i, record { mask = r.mask; value = r.value }) (numbered n lines)
 unfolding numbered
 Holds-numbered n i [] r e = cc
 Holds-numbered {O = O} n zero (x ∷ xs) r e =
@@ -172,8 +185,10 @@ Holds-numbered n (suc i) (x ∷ xs) r e =
     (ap (λ (m : ℕ). let q : Placed = (m, record { mask = r.mask; value = r.value }) in q) same) (later (Holds-numbered (suc n) i xs r e))
 
 -- the way from the roots ends at the line that matches the word
-pub leads : {O : Type 0} (steps : ℕ) (nodes : List Node) (roots : List ℕ) (lines : List (Line O)) → covers_from steps nodes (numbered 0 lines) 0 roots ≡ true → length roots ≡ 256
-    → (word : ℕ) → word < 2 ^ 32 → (i : ℕ) (r : Line O) → slice_get lines i ≡ Some r → bit_and word r.mask ≡ r.value → walk_from steps nodes roots word ≡ Some i
+pub leads : {O : Type 0} (steps : ℕ) (nodes : List Node) (roots : List ℕ) (lines : List (Line O))
+    → covers_from steps nodes (numbered 0 lines) 0 roots ≡ true → length roots ≡ 256
+    → (word : ℕ) → word < 2 ^ 32 → (i : ℕ) (r : Line O) → slice_get lines i ≡ Some r → bit_and word r.mask ≡ r.value
+    → walk_from steps nodes roots word ≡ Some i
 unfolding walk_from walk_at
 leads steps nodes roots lines e many word lt i r g m = at_root (slice_get roots (word / 2 ^ 24)) refl
   where
@@ -187,4 +202,5 @@ leads steps nodes roots lines e many word lt i r g m = at_root (slice_get roots 
     at_root (Some root) h =
         let p : Placed = (i, record { mask = r.mask; value = r.value }) in
         roots-walk steps nodes roots (numbered 0 lines) word root p lt m e h
-        (subst (λ (k : ℕ). Holds (k, record { mask = r.mask; value = r.value }) (numbered 0 lines)) (zero-add i) (Holds-numbered 0 i lines r g))
+        (subst (λ (k : ℕ). Holds (k, record { mask = r.mask; value = r.value }) (numbered 0 lines)) (zero-add i)
+        (Holds-numbered 0 i lines r g))

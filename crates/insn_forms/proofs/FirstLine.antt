@@ -1,5 +1,6 @@
 -- The meaning by the first line of a list, and by any line of it.
-use Rattle.std.proofs.Common.{◌≡◌, ◌↔◌, ◌⊎◌, inl, inr, ℕ, zero, suc, ◌<◌, ◌^◌, List, [], ◌∷◌, Option, Some, None, slice_get, Bool, true, false, cond, ◌&&◌, bit_and, refl, sym, ap, ap₂, ◌∙◌, subst, eq-eqb, eqb-true, arith}
+use Rattle.std.proofs.Common.{◌≡◌, ◌↔◌, ◌⊎◌, inl, inr, ℕ, zero, suc, ◌<◌, ◌^◌, List, [], ◌∷◌, Option, Some, None, slice_get, Bool, true}
+use Rattle.std.proofs.Common.{false, cond, ◌&&◌, bit_and, refl, sym, ap, ap₂, ◌∙◌, subst, eq-eqb, eqb-true, arith}
 use Rattle.std.proofs.lemmas.Bool.{and_parts, cases_Bool, cond-true, cond-false}
 use Rattle.insn_forms.specs.declared.line.Line.{Line}
 use Rattle.insn_forms.specs.Tables.{Table, Means, HasAtMostOneLine, fits_in, insn_in, meaning_in, meaning_by, stands_for}
@@ -38,14 +39,22 @@ module _ {O I : Type 0} (t : Table O I) (word : ℕ) where
   first_stands [] it e = absurd (none_some e)
   first_stands (r ∷ lines) it e =
       elim (chosen (stands_for t r word) _ _ _ e) [
-        | inl h ↦ record { place = zero; line = r; listed = refl; matches = (stands r h.0).0; fits = (stands r h.0).1; gives = sym (some_is h.1) }
+        | inl h ↦ record {
+          place = zero;
+          line = r;
+          listed = refl;
+          matches = (stands r h.0).0;
+          fits = (stands r h.0).1;
+          gives = sym (some_is h.1);
+        }
         | inr h ↦ let m = first_stands lines it h.1 in
             record { place = suc m.place; line = m.line; listed = m.listed; matches = m.matches; fits = m.fits; gives = m.gives }
       ]
 
   AtMostOne : List (Line O) → Type 0
   AtMostOne lines =
-      (i j : ℕ) (r s : Line O) → slice_get lines i ≡ Some r → slice_get lines j ≡ Some s → bit_and word r.mask ≡ r.value → bit_and word s.mask ≡ s.value
+      (i j : ℕ) (r s : Line O) → slice_get lines i ≡ Some r → slice_get lines j ≡ Some s → bit_and word r.mask ≡ r.value
+      → bit_and word s.mask ≡ s.value
       → fits_in t r.operation word ≡ true → fits_in t s.operation word ≡ true → i ≡ j
 
   rest_one : (r : Line O) (lines : List (Line O)) → AtMostOne (r ∷ lines) → AtMostOne lines
@@ -55,7 +64,9 @@ module _ {O I : Type 0} (t : Table O I) (word : ℕ) where
       omega arith
 
   -- where at most one line stands for the word, the first one that does is it
-  line_first : (lines : List (Line O)) → AtMostOne lines → (place : ℕ) (line : Line O) → slice_get lines place ≡ Some line → bit_and word line.mask ≡ line.value → fits_in t line.operation word ≡ true → meaning_in t lines word ≡ Some (insn_in t line.operation word)
+  line_first : (lines : List (Line O)) → AtMostOne lines → (place : ℕ) (line : Line O) → slice_get lines place ≡ Some line
+      → bit_and word line.mask ≡ line.value → fits_in t line.operation word ≡ true
+      → meaning_in t lines word ≡ Some (insn_in t line.operation word)
   unfolding meaning_in AtMostOne
   line_first [] one place line e m f = cc
   line_first (r ∷ lines) one zero line e m f =
@@ -64,7 +75,8 @@ module _ {O I : Type 0} (t : Table O I) (word : ℕ) where
       ∙ ap (λ (y : Line O). Some (insn_in t y.operation word)) (sym same)
   line_first (r ∷ lines) one (suc place) line e m f =
       elim (cases_Bool (stands_for t r word)) [
-        | inl h ↦ let clash : zero ≡ suc place = one zero (suc place) r line refl e (stands r h).0 m (stands r h).1 f in absurd (omega arith)
+        | inl h ↦ let clash : zero ≡ suc place =
+            one zero (suc place) r line refl e (stands r h).0 m (stands r h).1 f in absurd (omega arith)
         | inr h ↦ cond-false (stands_for t r word) _ _ h ∙ line_first lines (rest_one r lines one) place line e m f
       ]
 
@@ -77,6 +89,8 @@ module _ {O I : Type 0} (t : Table O I) (word : ℕ) where
   )
 
   -- what gives exactly the instructions that a word means is its meaning
-  pub by_meaning : HasAtMostOneLine t word → word < 2 ^ 32 → (result : Option I) → ((it : I) → (result ≡ Some it) ↔ Means t word it) → result ≡ meaning_by t word
+  pub by_meaning : HasAtMostOneLine t word → word < 2 ^ 32 → (result : Option I) → ((it : I) → (result ≡ Some it) ↔ Means t word it)
+      → result ≡ meaning_by t word
   by_meaning one lt result h =
-      same_option result (meaning_by t word) (λ it e. (one_meaning one lt it).1 ((h it).0 e)) (λ it e. (h it).1 ((one_meaning one lt it).0 e))
+      same_option result (meaning_by t word) (λ it e. (one_meaning one lt it).1 ((h it).0 e))
+      (λ it e. (h it).1 ((one_meaning one lt it).0 e))

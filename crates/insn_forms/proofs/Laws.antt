@@ -1,5 +1,7 @@
 -- Words and instructions by a table: what holds of every table that meets a few finite checks.
-use Rattle.std.proofs.Common.{◌≡◌, ℕ, zero, suc, ◌+◌, ◌-◌, ◌*◌, ◌%◌, ◌^◌, ◌<◌, ◌≤◌, ◌&&◌, Bool, true, false, nat_lt, nat_le, refl, sym, ap, ap₂, ◌∙◌, subst, arith, ltb-true, ltb-false, lt-ltb, le-ltb, leb-true, mul-le-mul_right, mod-eq_of_lt, List, [], ◌∷◌, slice_get, Some, cond, ℤ, pos, negsuc, ◌-ℤ◌}
+use Rattle.std.proofs.Common.{◌≡◌, ℕ, zero, suc, ◌+◌, ◌-◌, ◌*◌, ◌%◌, ◌^◌, ◌<◌, ◌≤◌, ◌&&◌, Bool, true, false, nat_lt, nat_le, refl, sym, ap}
+use Rattle.std.proofs.Common.{ap₂, ◌∙◌, subst, arith, ltb-true, ltb-false, lt-ltb, le-ltb, leb-true, mul-le-mul_right, mod-eq_of_lt, List}
+use Rattle.std.proofs.Common.{[], ◌∷◌, slice_get, Some, cond, ℤ, pos, negsuc, ◌-ℤ◌}
 use Rattle.std.specs.Prelude.{int_le, int_lt}
 use Rattle.std.specs.Int.{cast_unsigned, w32}
 use Rattle.std.specs.List.{list_all}
@@ -69,7 +71,8 @@ signed_back n f few lt =
     let top = pow_below n 31 few in
     cond_both (nat_lt f (2 ^ (n - 1))) (pos f) (pos f -ℤ pos (2 ^ n)) (λ z. cast_unsigned w32 z % 2 ^ n ≡ f)
     (λ h. let e : cast_unsigned w32 (pos f) ≡ f = omega (arith, ints) in ap (λ m. m % 2 ^ n) e ∙ mod-eq_of_lt lt)
-    (λ h. let e : cast_unsigned w32 (pos f -ℤ pos (2 ^ n)) ≡ 2 ^ 32 - 2 ^ n + f = omega (arith, ints) in ap (λ m. m % 2 ^ n) e ∙ negative_bits n f few lt)
+    (λ h. let e : cast_unsigned w32 (pos f -ℤ pos (2 ^ n)) ≡ 2 ^ 32 - 2 ^ n + f = omega (arith, ints) in
+    ap (λ m. m % 2 ^ n) e ∙ negative_bits n f few lt)
 
 -- a number that so many bits can hold, by its sign
 within : ℕ → ℤ → Bool
@@ -104,7 +107,9 @@ in_halves half whole f e small false g h =
 pub signed_inside : (n f : ℕ) → 0 < n → f < 2 ^ n → is_signed n (signed_value n f) ≡ true
 unfolding is_signed signed_value
 signed_inside n f some lt =
-    let h = by_sign (2 ^ (n - 1)) (signed_value n f) (pow_pos (n - 1)) ∙ in_halves (2 ^ (n - 1)) (2 ^ n) f (doubled n some) lt (nat_lt f (2 ^ (n - 1))) (ltb-true _ _) (ltb-false _ _) in
+    let h =
+    by_sign (2 ^ (n - 1)) (signed_value n f) (pow_pos (n - 1))
+    ∙ in_halves (2 ^ (n - 1)) (2 ^ n) f (doubled n some) lt (nat_lt f (2 ^ (n - 1))) (ltb-true _ _) (ltb-false _ _) in
     let p = and_parts (int_le (pos 0 -ℤ pos (2 ^ (n - 1))) (signed_value n f)) (int_lt (signed_value n f) (pos (2 ^ (n - 1)))) h in
     ap₂ (λ a b. a && b) (ap₂ (λ a b. a && b) (lt-ltb 0 n some) p.0) p.1
 
@@ -125,7 +130,8 @@ forth_in n (negsuc m) some few e =
     let lt : f < 2 ^ n = omega arith in
     let c : cast_unsigned w32 (negsuc m) ≡ 2 ^ 32 - 2 ^ n + f = omega (arith, ints) in
     let over : nat_lt f (2 ^ (n - 1)) ≡ false = le-ltb f (2 ^ (n - 1)) (omega arith) in
-    ap (λ k. signed_value n (k % 2 ^ n)) c ∙ ap (signed_value n) (negative_bits n f few lt) ∙ ap (λ b. cond b (pos f) (pos f -ℤ pos (2 ^ n))) over
+    ap (λ k. signed_value n (k % 2 ^ n)) c ∙ ap (signed_value n) (negative_bits n f few lt)
+    ∙ ap (λ b. cond b (pos f) (pos f -ℤ pos (2 ^ n))) over
     ∙ minus f (2 ^ n) lt ∙ ap negsuc (let k : 2 ^ n - f - 1 ≡ m = omega arith in k)
 
 pub signed_forth : (n : ℕ) (z : ℤ) → n < 31 → is_signed n z ≡ true → signed_value n (cast_unsigned w32 z % 2 ^ n) ≡ z
@@ -157,36 +163,47 @@ fields-small (sign ∷ ts) (f ∷ fs) w e = (tt, fields-small ts fs w (and_parts
 few_bits : (f : Field) → is_field f ≡ true → bits_of f < 31
 few_bits f e = (a_field f e).few
 
-pub taken-bits : (ts : List Take) (fs : List Field) (w : ℕ) → suits ts fs ≡ true → list_all is_field fs ≡ true → all_bits fs (taken ts fs (numbers_in w) (signed_numbers_in w)) ≡ fields_in fs w
+pub taken-bits : (ts : List Take) (fs : List Field) (w : ℕ) → suits ts fs ≡ true → list_all is_field fs ≡ true
+    → all_bits fs (taken ts fs (numbers_in w) (signed_numbers_in w)) ≡ fields_in fs w
 unfolding suits taken all_bits bits
 taken-bits [] [] w e a = refl
 taken-bits [] (f ∷ fs) w e a = cc
 taken-bits (t ∷ ts) [] w e a = cc
-taken-bits (most n ∷ ts) (f ∷ fs) w e a = ap (λ x. field_in f w ∷ x) (taken-bits ts fs w (and_parts (nat_le (bits_of f) n) (suits ts fs) e).1 (and_parts (is_field f) (list_all is_field fs) a).1)
+taken-bits (most n ∷ ts) (f ∷ fs) w e a =
+    ap (λ x. field_in f w ∷ x) (taken-bits ts fs w (and_parts (nat_le (bits_of f) n) (suits ts fs) e).1
+    (and_parts (is_field f) (list_all is_field fs) a).1)
 taken-bits (sign ∷ ts) (f ∷ fs) w e a =
     let q = and_parts (is_field f) (list_all is_field fs) a in
-    ap₂ (λ x y. x ∷ y) (signed_back (bits_of f) (field_in f w) (few_bits f q.0) (field_in-lt f w)) (taken-bits ts fs w (and_parts (nat_lt 0 (bits_of f)) (suits ts fs) e).1 q.1)
+    ap₂ (λ x y. x ∷ y) (signed_back (bits_of f) (field_in f w) (few_bits f q.0) (field_in-lt f w))
+    (taken-bits ts fs w (and_parts (nat_lt 0 (bits_of f)) (suits ts fs) e).1 q.1)
 
-pub taken-in : (ts : List Take) (fs : List Field) (w : ℕ) → suits ts fs ≡ true → list_all is_field fs ≡ true → are_in fs (taken ts fs (numbers_in w) (signed_numbers_in w)) ≡ true
+pub taken-in : (ts : List Take) (fs : List Field) (w : ℕ) → suits ts fs ≡ true → list_all is_field fs ≡ true
+    → are_in fs (taken ts fs (numbers_in w) (signed_numbers_in w)) ≡ true
 unfolding suits taken are_in is_in
 taken-in [] [] w e a = refl
 taken-in [] (f ∷ fs) w e a = cc
 taken-in (t ∷ ts) [] w e a = cc
 taken-in (most n ∷ ts) (f ∷ fs) w e a =
-    ap₂ (λ x y. x && y) (lt-ltb (field_in f w) (2 ^ bits_of f) (field_in-lt f w)) (taken-in ts fs w (and_parts (nat_le (bits_of f) n) (suits ts fs) e).1 (and_parts (is_field f) (list_all is_field fs) a).1)
+    ap₂ (λ x y. x && y) (lt-ltb (field_in f w) (2 ^ bits_of f) (field_in-lt f w))
+    (taken-in ts fs w (and_parts (nat_le (bits_of f) n) (suits ts fs) e).1 (and_parts (is_field f) (list_all is_field fs) a).1)
 taken-in (sign ∷ ts) (f ∷ fs) w e a =
     let p = and_parts (nat_lt 0 (bits_of f)) (suits ts fs) e in
-    ap₂ (λ x y. x && y) (signed_inside (bits_of f) (field_in f w) (ltb-true 0 (bits_of f) p.0) (field_in-lt f w)) (taken-in ts fs w p.1 (and_parts (is_field f) (list_all is_field fs) a).1)
+    ap₂ (λ x y. x && y) (signed_inside (bits_of f) (field_in f w) (ltb-true 0 (bits_of f) p.0) (field_in-lt f w))
+    (taken-in ts fs w p.1 (and_parts (is_field f) (list_all is_field fs) a).1)
 
 -- a word whose fields have the numbers' bits has the numbers
-pub bits-agree : (fs : List Field) (ns : List Number) (w : ℕ) → are_in fs ns ≡ true → list_all is_field fs ≡ true → fields_in fs w ≡ all_bits fs ns → agrees fs ns (numbers_in w) (signed_numbers_in w)
+pub bits-agree : (fs : List Field) (ns : List Number) (w : ℕ) → are_in fs ns ≡ true → list_all is_field fs ≡ true
+    → fields_in fs w ≡ all_bits fs ns → agrees fs ns (numbers_in w) (signed_numbers_in w)
 unfolding are_in is_in agrees all_bits bits
 bits-agree [] ns w e a b = tt
 bits-agree (f ∷ fs) [] w e a b = tt
 bits-agree (f ∷ fs) (Unsigned n ∷ ns) w e a b =
     let here : field_in f w ≡ n = cc in
-    let rest : fields_in fs w ≡ all_bits fs ns = cc in
-    (here, bits-agree fs ns w (and_parts (is_in f (Unsigned n)) (are_in fs ns) e).1 (and_parts (is_field f) (list_all is_field fs) a).1 rest)
+    let rest : fields_in fs w ≡ all_bits fs ns = cc in (
+      here,
+      bits-agree fs ns w (and_parts (is_in f (Unsigned n)) (are_in fs ns) e).1 (and_parts (is_field f) (list_all is_field fs) a).1
+          rest,
+    )
 bits-agree (f ∷ fs) (Signed z ∷ ns) w e a b =
     let here : field_in f w ≡ cast_unsigned w32 z % 2 ^ bits_of f = cc in
     let rest : fields_in fs w ≡ all_bits fs ns = cc in
@@ -205,15 +222,19 @@ all-get p (x ∷ rs) zero r e g = let same : x ≡ r = cc in ap p (sym same) ∙
 all-get p (x ∷ rs) (suc i) r e g = all-get p rs i r (and_parts (p x) (list_all p rs) e).1 g
 
 -- where a test of each two keeps them apart, those that are not apart have one place
-pub one_place : {R : Type 0} (p : R → R → Bool) (Q : R → Type 0) → ((r s : R) → p r s ≡ true → Q r → Q s → ⊥) → (rs : List R) → pairwise p rs ≡ true
+pub one_place : {R : Type 0} (p : R → R → Bool) (Q : R → Type 0) → ((r s : R) → p r s ≡ true → Q r → Q s → ⊥) → (rs : List R)
+    → pairwise p rs ≡ true
     → (i j : ℕ) (r s : R) → slice_get rs i ≡ Some r → slice_get rs j ≡ Some s → Q r → Q s → i ≡ j
 unfolding pairwise
 one_place p Q never [] e i j r s f g q h = cc
 one_place p Q never (x ∷ rs) e zero zero r s f g q h = refl
 one_place {R = R} p Q never (x ∷ rs) e zero (suc j) r s f g q h =
     let same : x ≡ r = cc in
-    absurd (never r s (subst (λ (y : R). p y s ≡ true) same (all-get (p x) rs j s (and_parts (list_all (p x) rs) (pairwise p rs) e).0 g)) q h)
+    absurd (never r s (subst (λ (y : R). p y s ≡ true) same (all-get (p x) rs j s (and_parts (list_all (p x) rs) (pairwise p rs) e).0 g)) q
+    h)
 one_place {R = R} p Q never (x ∷ rs) e (suc i) zero r s f g q h =
     let same : x ≡ s = cc in
-    absurd (never s r (subst (λ (y : R). p y r ≡ true) same (all-get (p x) rs i r (and_parts (list_all (p x) rs) (pairwise p rs) e).0 f)) h q)
-one_place p Q never (x ∷ rs) e (suc i) (suc j) r s f g q h = ap suc (one_place p Q never rs (and_parts (list_all (p x) rs) (pairwise p rs) e).1 i j r s f g q h)
+    absurd (never s r (subst (λ (y : R). p y r ≡ true) same (all-get (p x) rs i r (and_parts (list_all (p x) rs) (pairwise p rs) e).0 f)) h
+    q)
+one_place p Q never (x ∷ rs) e (suc i) (suc j) r s f g q h =
+    ap suc (one_place p Q never rs (and_parts (list_all (p x) rs) (pairwise p rs) e).1 i j r s f g q h)

@@ -1,5 +1,6 @@
 -- Lines that have the same fields, and lines that have the same fixed bits.
-use Rattle.std.proofs.Common.{◌≡◌, ℕ, zero, suc, ◌==◌, ◌&&◌, not, Bool, true, false, cond, refl, ap, ap₂, ◌∙◌, eqb-true, eq-eqb, List, [], ◌∷◌, slice_get, Some}
+use Rattle.std.proofs.Common.{◌≡◌, ℕ, zero, suc, ◌==◌, ◌&&◌, not, Bool, true, false, cond, refl, ap, ap₂, ◌∙◌, eqb-true, eq-eqb, List, []}
+use Rattle.std.proofs.Common.{◌∷◌, slice_get, Some}
 use Rattle.std.specs.List.{list_all, find}
 use Rattle.std.proofs.lemmas.Bool.{and_parts}
 use Rattle.insn_forms.specs.declared.field.Field.{Field}
@@ -23,7 +24,12 @@ one_field f g e =
     let p = and_parts ((f.low == g.low) && (f.width == g.width) && (f.upper_low == g.upper_low)) (f.upper_width == g.upper_width) e in
     let q = and_parts ((f.low == g.low) && (f.width == g.width)) (f.upper_low == g.upper_low) p.0 in
     let r = and_parts (f.low == g.low) (f.width == g.width) q.0 in
-    λ i. record { low = eqb-true f.low g.low r.0 i; width = eqb-true f.width g.width r.1 i; upper_low = eqb-true f.upper_low g.upper_low q.1 i; upper_width = eqb-true f.upper_width g.upper_width p.1 i }
+    λ i. record {
+      low = eqb-true f.low g.low r.0 i;
+      width = eqb-true f.width g.width r.1 i;
+      upper_low = eqb-true f.upper_low g.upper_low q.1 i;
+      upper_width = eqb-true f.upper_width g.upper_width p.1 i;
+    }
 
 pub one_list : (fs gs : List Field) → same_fields fs gs ≡ true → fs ≡ gs
 unfolding same_fields
@@ -53,11 +59,13 @@ line-with {O = O} (x ∷ xs) e zero line g =
     ∙ ap (λ b. cond b (Some line) (find (has_bits line.mask line.value) xs)) (has_its_bits line)
 line-with (x ∷ xs) e (suc i) line g =
     let p = and_parts (list_all (unequal x) xs) (pairwise unequal xs) e in
-    ap (λ b. cond b (Some x) (find (has_bits line.mask line.value) xs)) (not_true (has_bits line.mask line.value x) (all-get (unequal x) xs i line p.0 g))
+    ap (λ b. cond b (Some x) (find (has_bits line.mask line.value) xs))
+    (not_true (has_bits line.mask line.value x) (all-get (unequal x) xs i line p.0 g))
     ∙ line-with xs p.1 i line g
 
 -- the condition that is found by a line's fixed bits is the line's
-pub fits-with : {O I : Type 0} (t : Table O I) → pairwise unequal t.lines ≡ true → (i : ℕ) (line : Line O) (word : ℕ) → slice_get t.lines i ≡ Some line
+pub fits-with : {O I : Type 0} (t : Table O I) → pairwise unequal t.lines ≡ true → (i : ℕ) (line : Line O) (word : ℕ)
+    → slice_get t.lines i ≡ Some line
     → fits_with t line.mask line.value word ≡ fits_in t line.operation word
 unfolding fits_with
 fits-with t e i line word g = ap (fits_line t word) (line-with t.lines e i line g)

@@ -1,5 +1,6 @@
 -- The numbers that fields can have, for the tables that say their ranges.
-use Rattle.std.proofs.Common.{◌≡◌, ℕ, zero, suc, ◌-◌, ◌+◌, ◌%◌, ◌<◌, ◌≤◌, ◌^◌, ◌==◌, ◌&&◌, Bool, true, false, cond, nat_lt, refl, ap, ap₂, ◌∙◌, arith, eqb-true, mod-eq_of_lt, ℤ, pos, ◌-ℤ◌, ◌≤ℤ◌, ◌<ℤ◌}
+use Rattle.std.proofs.Common.{◌≡◌, ℕ, zero, suc, ◌-◌, ◌+◌, ◌%◌, ◌<◌, ◌≤◌, ◌^◌, ◌==◌, ◌&&◌, Bool, true, false, cond, nat_lt, refl, ap, ap₂}
+use Rattle.std.proofs.Common.{◌∙◌, arith, eqb-true, mod-eq_of_lt, ℤ, pos, ◌-ℤ◌, ◌≤ℤ◌, ◌<ℤ◌}
 use Rattle.std.specs.Prelude.{length, int_le, int_lt}
 use denote.Enum.Declared.{Declared, variants, tag_of}
 use denote.Enum.Enum.{tag_below}
@@ -72,8 +73,10 @@ in_halves half whole bits e small true f g = let h = f refl in (omega (arith, in
 in_halves half whole bits e small false f g = let h = g refl in (omega (arith, ints), omega (arith, ints))
 
 pub signed_small : (f : Field) (w : ℕ) → 0 < bits_of f
-    → ((pos 0 -ℤ pos (2 ^ (bits_of f - 1))) ≤ℤ signed_value (bits_of f) (field_in f w)) × (signed_value (bits_of f) (field_in f w) <ℤ pos (2 ^ (bits_of f - 1)))
+    → ((pos 0 -ℤ pos (2 ^ (bits_of f - 1))) ≤ℤ signed_value (bits_of f) (field_in f w))
+    × (signed_value (bits_of f) (field_in f w) <ℤ pos (2 ^ (bits_of f - 1)))
 unfolding signed_value
 signed_small f w some =
     let n = field_in f w in
-    in_halves (2 ^ (bits_of f - 1)) (2 ^ bits_of f) n (doubled (bits_of f) some) (field_in-lt f w) (nat_lt n (2 ^ (bits_of f - 1))) (ltb-true _ _) (ltb-false _ _)
+    in_halves (2 ^ (bits_of f - 1)) (2 ^ bits_of f) n (doubled (bits_of f) some) (field_in-lt f w) (nat_lt n (2 ^ (bits_of f - 1)))
+    (ltb-true _ _) (ltb-false _ _)

@@ -13,7 +13,8 @@ unfolding field_of
 field_below w low n = mod_below (w / 2 ^ low) (2 ^ n) (pow_pos n)
 
 -- a field that the mask fixes whole
-pub fixed_field : (w mask value low n : ℕ) → bit_and w mask ≡ value → field_of mask low n ≡ 2 ^ n - 1 → field_of w low n ≡ field_of value low n
+pub fixed_field : (w mask value low n : ℕ) → bit_and w mask ≡ value → field_of mask low n ≡ 2 ^ n - 1
+    → field_of w low n ≡ field_of value low n
 unfolding field_of
 fixed_field w mask value low n m whole =
     let f = w / 2 ^ low % 2 ^ n in

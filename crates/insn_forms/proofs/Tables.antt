@@ -1,5 +1,6 @@
 -- Words and instructions by a table: what holds of every table that meets a few finite checks.
-use Rattle.std.proofs.Common.{◌≡◌, ℕ, ◌==◌, ◌&&◌, not, Bool, true, bit_and, refl, sym, ap, ap₂, ◌∙◌, subst, eq-eqb, eqb-true, List, [], ◌∷◌, slice_get, Option, Some, None, cond, ℤ}
+use Rattle.std.proofs.Common.{◌≡◌, ℕ, ◌==◌, ◌&&◌, not, Bool, true, bit_and, refl, sym, ap, ap₂, ◌∙◌, subst, eq-eqb, eqb-true, List, [], ◌∷◌}
+use Rattle.std.proofs.Common.{slice_get, Option, Some, None, cond, ℤ}
 use Rattle.std.specs.List.{list_all}
 use Rattle.std.proofs.lemmas.Bool.{and_parts, both_ways}
 use Rattle.std.proofs.lemmas.Nat.{and_assoc, and_comm}
@@ -24,8 +25,10 @@ pub record IsTable {O I : Type 0} (t : Table O I) (parts : I → Option (Parts O
   pub suit : list_all (λ (r : Line O). suits (takes r.operation) (list_of r.fields)) t.lines ≡ true
   pub own : (i j : ℕ) (r s : Line O) → slice_get t.lines i ≡ Some r → slice_get t.lines j ≡ Some s → r.operation ≡ s.operation → i ≡ j
   -- per group: an instruction tells what it was made of, and is made of what it tells
-  pub back : (o : O) (u : Field → ℕ) (s : Field → ℤ) → are_small (takes o) (format o) u → parts (t.insn o u s) ≡ Some (record { operation = o; numbers = taken (takes o) (format o) u s })
-  pub forth : (it : I) (p : Parts O) → parts it ≡ Some p → (u : Field → ℕ) (s : Field → ℤ) → agrees (format p.operation) p.numbers u s → are_small (takes p.operation) (format p.operation) u → t.insn p.operation u s ≡ it
+  pub back : (o : O) (u : Field → ℕ) (s : Field → ℤ) → are_small (takes o) (format o) u
+      → parts (t.insn o u s) ≡ Some (record { operation = o; numbers = taken (takes o) (format o) u s })
+  pub forth : (it : I) (p : Parts O) → parts it ≡ Some p → (u : Field → ℕ) (s : Field → ℤ) → agrees (format p.operation) p.numbers u s
+      → are_small (takes p.operation) (format p.operation) u → t.insn p.operation u s ≡ it
 
 -- the word that an instruction's operation and numbers say, and its line
 pub record IsWordOf {O I : Type 0} (t : Table O I) (parts : I → Option (Parts O)) (it : I) (word : ℕ) : Type 0 where
@@ -77,7 +80,8 @@ same_number a b e = cc
 
 module _ {O I : Type 0} (t : Table O I) (parts : I → Option (Parts O)) (h : IsTable t parts) where
   form_of : (i : ℕ) (r : Line O) → slice_get t.lines i ≡ Some r → IsForm r.mask r.value (list_of r.fields)
-  form_of i r g = a_form r.mask r.value (list_of r.fields) (all-get (λ (r : Line O). is_form r.mask r.value (list_of r.fields)) t.lines i r h.forms g)
+  form_of i r g =
+      a_form r.mask r.value (list_of r.fields) (all-get (λ (r : Line O). is_form r.mask r.value (list_of r.fields)) t.lines i r h.forms g)
 
   suit_of : (i : ℕ) (r : Line O) → slice_get t.lines i ≡ Some r → suits (h.takes r.operation) (list_of r.fields) ≡ true
   suit_of i r g = all-get (λ (r : Line O). suits (h.takes r.operation) (list_of r.fields)) t.lines i r h.suit g
@@ -87,8 +91,11 @@ module _ {O I : Type 0} (t : Table O I) (parts : I → Option (Parts O)) (h : Is
   line-fields i r g = (form_of i r g).all
 
   -- the numbers of a line's fields in a word are as small as the operation takes them
-  pub line-small : (i : ℕ) (r : Line O) (w : ℕ) → slice_get t.lines i ≡ Some r → are_small (h.takes r.operation) (h.format r.operation) (numbers_in w)
-  line-small i r w g = subst (λ (fs : List Field). are_small (h.takes r.operation) fs (numbers_in w)) (h.formats i r g) (fields-small (h.takes r.operation) (list_of r.fields) w (suit_of i r g))
+  pub line-small : (i : ℕ) (r : Line O) (w : ℕ) → slice_get t.lines i ≡ Some r
+      → are_small (h.takes r.operation) (h.format r.operation) (numbers_in w)
+  line-small i r w g =
+      subst (λ (fs : List Field). are_small (h.takes r.operation) fs (numbers_in w)) (h.formats i r g)
+      (fields-small (h.takes r.operation) (list_of r.fields) w (suit_of i r g))
 
   pub means-word : (w : ℕ) (it : I) → Means t w it → IsWordOf t parts it w
   means-word w it m =
@@ -135,7 +142,8 @@ module _ {O I : Type 0} (t : Table O I) (parts : I → Option (Parts O)) (h : Is
         matches = p.kept;
         fits = e.fits;
         gives =
-            sym (h.forth it e.told e.has u z (subst (λ (fs : List Field). agrees fs e.told.numbers u z) same a) (subst (λ (o : O). are_small (h.takes o) (h.format o) u) e.same (line-small e.place r w e.listed)))
+            sym (h.forth it e.told e.has u z (subst (λ (fs : List Field). agrees fs e.told.numbers u z) same a)
+            (subst (λ (o : O). are_small (h.takes o) (h.format o) u) e.same (line-small e.place r w e.listed)))
             ∙ ap (λ o. t.insn o u z) (sym e.same);
       }
 
@@ -180,7 +188,8 @@ differ mask value mask' value' = not (bit_and value mask' == bit_and value' mask
 
 agree : (word m v m' v' : ℕ) → bit_and word m ≡ v → bit_and word m' ≡ v' → bit_and v m' ≡ bit_and v' m
 agree word m v m' v' e f =
-    ap (λ x. bit_and x m') (sym e) ∙ and_assoc m' word m ∙ ap (bit_and word) (and_comm m m') ∙ sym (and_assoc m word m') ∙ ap (λ x. bit_and x m) f
+    ap (λ x. bit_and x m') (sym e) ∙ and_assoc m' word m ∙ ap (bit_and word) (and_comm m m') ∙ sym (and_assoc m word m')
+    ∙ ap (λ x. bit_and x m) f
 
 pub not_alike : (word m v m' v' : ℕ) → differ m v m' v' ≡ true → bit_and word m ≡ v → bit_and word m' ≡ v' → ⊥
 unfolding differ

@@ -1,5 +1,6 @@
 -- The ways in which an instruction keeps the numbers of its fields, and that nothing is lost by them.
-use Rattle.std.proofs.Common.{◌≡◌, ℕ, zero, suc, ◌%◌, ◌^◌, ◌<◌, ◌==◌, Bool, true, false, refl, ap, ◌∙◌, arith, mod-eq_of_lt, List, [], ◌∷◌, map, ℤ}
+use Rattle.std.proofs.Common.{◌≡◌, ℕ, zero, suc, ◌%◌, ◌^◌, ◌<◌, ◌==◌, Bool, true, false, refl, ap, ◌∙◌, arith, mod-eq_of_lt, List, [], ◌∷◌}
+use Rattle.std.proofs.Common.{map, ℤ}
 use Rattle.insn_forms.specs.declared.field.Field.{Field}
 use Rattle.insn_forms.specs.declared.number.Number.{Number}
 use Rattle.insn_forms.specs.declared.number.Number.TheVariants.{Unsigned, Signed}
@@ -55,7 +56,8 @@ is_bit (suc zero) h = refl
 is_bit (suc (suc n)) h = absurd (omega arith)
 
 -- nothing is lost
-pub passed : (xs : List Slot) (u : Field → ℕ) (s : Field → ℤ) → are_small (takes_of xs) (fields_of xs) u → pass xs u s ≡ taken (takes_of xs) (fields_of xs) u s
+pub passed : (xs : List Slot) (u : Field → ℕ) (s : Field → ℤ) → are_small (takes_of xs) (fields_of xs) u
+    → pass xs u s ≡ taken (takes_of xs) (fields_of xs) u s
 unfolding take_of field_of_slot are_small pass taken
 passed [] u s h = refl
 passed (flag f ∷ xs) u s h = λ i. Unsigned (is_bit (u f) h.0 i) ∷ passed xs u s h.1 i

@@ -17,7 +17,8 @@ use Rattle.insn_text.specs.Texts.{items_of, printed_shape}
 use Rattle.insn_text.specs.Rules.{IsPrinted}
 use Rattle.insn_text.proofs.Tables.{all_get}
 use Rattle.insn_text.proofs.Regions.{is_apart, is_inside, free_bit, covers_at, covers, keep_unless, kept, find-kept, covers-printed}
-use Rattle.insn_text.proofs.Known.{same, fixed, ends, never, is_field, has_three_shifts, has_amounts, has_masks, accesses_one, loads_two, writes_two, sizes, is_mask_field, says_kind, says_rule, says_item, says, said}
+use Rattle.insn_text.proofs.Known.{same, fixed, ends, never, is_field, has_three_shifts, has_amounts, has_masks, accesses_one, loads_two}
+use Rattle.insn_text.proofs.Known.{writes_two, sizes, is_mask_field, says_kind, says_rule, says_item, says, said}
 
 -- each word that matches the row and meets its condition is printed
 unfoldable pub row_printed : Line Operation → Bool
@@ -27,13 +28,17 @@ rows_printed : list_all row_printed SCALAR_LINES ≡ true
 unfolding row_printed highest_one field_of bit_of items_of is_apart is_inside free_bit covers_at covers keep_unless kept same fixed ends is_field has_three_shifts has_amounts has_masks accesses_one loads_two writes_two sizes is_mask_field says_kind says_rule says_item says
 rows_printed = refl
 
-row-printed : (word : ℕ) (r : Line Operation) → bit_and word r.mask ≡ r.value → fits_of r.operation (numbers_in word) ≡ true → row_printed r ≡ true → IsPrinted word
+row-printed : (word : ℕ) (r : Line Operation) → bit_and word r.mask ≡ r.value → fits_of r.operation (numbers_in word) ≡ true
+    → row_printed r ≡ true → IsPrinted word
 unfolding row_printed printed_shape
 row-printed word r m f e =
-    let p = covers-printed word (says r.operation) (λ n v s q h. said r.operation word n v s q f h) (ends r.operation) (λ n v q h. never r.operation word n v q h f) 1000 r.mask r.value (kept r.mask r.value SHAPES) e m in
+    let p =
+    covers-printed word (says r.operation) (λ n v s q h. said r.operation word n v s q f h) (ends r.operation)
+    (λ n v q h. never r.operation word n v q h f) 1000 r.mask r.value (kept r.mask r.value SHAPES) e m in
     record { shape = p.shape; found = sym (find-kept word r.mask r.value SHAPES m) ∙ p.found; sayable = p.sayable }
 
 pub all_printed : (word : ℕ) (it : Insn) → MeansEither word it → IsPrinted word
 unfolding scalar
-all_printed word it (inl m) = row-printed word m.line m.matches m.fits (all_get row_printed SCALAR_LINES m.place m.line rows_printed m.listed)
+all_printed word it (inl m) =
+    row-printed word m.line m.matches m.fits (all_get row_printed SCALAR_LINES m.place m.line rows_printed m.listed)
 all_printed word it (inr m) = absurd (no_meaning word it m)

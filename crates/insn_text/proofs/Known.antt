@@ -1,5 +1,7 @@
 -- What a region and a group's condition say of the operands of a shape, and which regions have no word of the group.
-use Rattle.std.proofs.Common.{◌≡◌, ◌≢◌, ◌⊎◌, inl, inr, ℕ, ◌+◌, ◌*◌, ◌/◌, ◌%◌, ◌^◌, ◌<◌, ◌≤◌, Bool, true, false, not, ◌&&◌, ◌||◌, ◌==◌, nat_lt, nat_le, cond, List, [], ◌∷◌, bit_and, refl, sym, ap, ap₂, ◌∙◌, arith, eqb-true, eq-eqb, lt-ltb, ltb-true, leb-true}
+use Rattle.std.proofs.Common.{◌≡◌, ◌≢◌, ◌⊎◌, inl, inr, ℕ, ◌+◌, ◌*◌, ◌/◌, ◌%◌, ◌^◌, ◌<◌, ◌≤◌, Bool, true, false, not, ◌&&◌, ◌||◌, ◌==◌}
+use Rattle.std.proofs.Common.{nat_lt, nat_le, cond, List, [], ◌∷◌, bit_and, refl, sym, ap, ap₂, ◌∙◌, arith, eqb-true, eq-eqb, lt-ltb}
+use Rattle.std.proofs.Common.{ltb-true, leb-true}
 use Rattle.std.specs.List.{list_all}
 use Rattle.std.proofs.lemmas.Bool.{and_from, and_parts, both_ways, le-leb}
 use Rattle.bit_ops.specs.Masks.{are_mask_fields, is_reserved}
@@ -18,7 +20,8 @@ use Rattle.a64_table.specs.declared.operation.AddressForm.TheVariants.{Offset, U
 use Rattle.a64_table.specs.Conditions.{is_below_width, has_load, is_address_option, is_apart, are_two, is_pair_apart, fits_of}
 use Rattle.insn_text.specs.declared.item.Kind.{Kind}
 use Rattle.insn_text.specs.declared.item.Kind.TheVariants as kind
-use Rattle.insn_text.specs.declared.item.Kind.TheVariants.{Mark, Named, Unsigned, Signed, Distance, Mask, SignedMask, ShiftLeft, Opposite, Halfword}
+use Rattle.insn_text.specs.declared.item.Kind.TheVariants.{Mark, Named, Unsigned, Signed, Distance, Mask, SignedMask, ShiftLeft, Opposite}
+use Rattle.insn_text.specs.declared.item.Kind.TheVariants.{Halfword}
 use Rattle.insn_text.specs.declared.item.Rule.{Rule}
 use Rattle.insn_text.specs.declared.item.Rule.TheVariants.{Free, SecondApart, BaseApart, BasePairApart}
 use Rattle.insn_text.specs.declared.item.Item.{Item}
@@ -71,7 +74,9 @@ either_true false b e = inr e
 
 -- no load or store of the size with the sign
 unfoldable pub sizes : ℕ → ℕ → Bool
-sizes m v = ((fixed m v 31 true && fixed m v 30 true) && fixed m v 23 true) || ((fixed m v 31 true && fixed m v 30 false) && (fixed m v 23 true && fixed m v 22 true))
+sizes m v =
+    ((fixed m v 31 true && fixed m v 30 true) && fixed m v 23 true)
+    || ((fixed m v 31 true && fixed m v 30 false) && (fixed m v 23 true && fixed m v 22 true))
 
 unfoldable pub ends : Operation → ℕ → ℕ → Bool
 ends (G2 op) m v = fixed m v 31 false && fixed m v 15 true
@@ -107,7 +112,8 @@ immr_top word e = omega (arith, one_at word 21 e, split word 16 5, split word 21
 no_narrow_amount : (word : ℕ) → Two word 31 false 15 true → is_below_width (number_in SF word == 1) (number_in IMM6 word) ≡ true → ⊥
 unfolding bit_of
 no_narrow_amount word t e =
-    let a = narrow word (field_of word 10 6) t.first (sym (ap₂ (λ x n. is_below_width (x == 1) n) (plain 31 1 word) (plain 10 6 word)) ∙ e) in
+    let a =
+    narrow word (field_of word 10 6) t.first (sym (ap₂ (λ x n. is_below_width (x == 1) n) (plain 31 1 word) (plain 10 6 word)) ∙ e) in
     let b = amount_top word t.second in
     omega arith
 
@@ -127,10 +133,12 @@ no_narrow_n true false imms immr a b e = cc
 no_narrow_n true true imms immr a b e = cc
 no_narrow_n false wide imms immr a b e = cc
 
-no_mask : (word imms immr : ℕ) → Two word 31 false 22 true → are_mask_fields (number_in N word == 1) imms immr (number_in SF word == 1) ≡ true → ⊥
+no_mask : (word imms immr : ℕ) → Two word 31 false 22 true
+    → are_mask_fields (number_in N word == 1) imms immr (number_in SF word == 1) ≡ true → ⊥
 unfolding bit_of
 no_mask word imms immr t e =
-    no_narrow_n (field_of word 22 1 == 1) (field_of word 31 1 == 1) imms immr t.first t.second (sym (ap₂ (λ x y. are_mask_fields (x == 1) imms immr (y == 1)) (plain 22 1 word) (plain 31 1 word)) ∙ e)
+    no_narrow_n (field_of word 22 1 == 1) (field_of word 31 1 == 1) imms immr t.first t.second
+    (sym (ap₂ (λ x y. are_mask_fields (x == 1) imms immr (y == 1)) (plain 22 1 word) (plain 31 1 word)) ∙ e)
 
 no_halfword : (word : ℕ) → Two word 31 false 22 true → (number_in SF word == 1 || nat_lt (number_in HW word) 2) ≡ true → ⊥
 unfolding bit_of
@@ -138,7 +146,8 @@ no_halfword word t f =
     let e = sym (ap₂ (λ x n. (x == 1) || nat_lt n 2) (plain 31 1 word) (plain 21 2 word)) ∙ f in
     elim (either_true (field_of word 31 1 == 1) (nat_lt (field_of word 21 2) 2) e) [
       | inl h ↦ both_ways _ t.first h
-      | inr h ↦ let lt = ltb-true (field_of word 21 2) 2 h in omega (arith, one_at word 22 t.second, split word 21 1, split word 22 1, split word 21 2)
+      | inr h ↦ let lt =
+          ltb-true (field_of word 21 2) 2 h in omega (arith, one_at word 22 t.second, split word 21 1, split word 22 1, split word 21 2)
     ]
 
 no_and : (a b : Bool) → not (a && b) ≡ true → a ≡ true → b ≡ true → ⊥
@@ -146,31 +155,68 @@ no_and true true x y z = cc
 no_and true false x y z = cc
 no_and false b x y z = cc
 
-no_long_signed_load : (word : ℕ) → Two word 31 true 30 true → bit_of word 23 ≡ true → has_load (field_of word 30 2) (field_of word 22 2) ≡ true → ⊥
+no_long_signed_load : (word : ℕ) → Two word 31 true 30 true → bit_of word 23 ≡ true
+    → has_load (field_of word 30 2) (field_of word 22 2) ≡ true → ⊥
 unfolding has_load
 no_long_signed_load word t b e =
-    let size : field_of word 30 2 ≡ 3 = omega (arith, one_at word 31 t.first, one_at word 30 t.second, split word 30 1, split word 31 1, split word 30 2) in
+    let size : field_of word 30 2 ≡ 3 =
+    omega (arith, one_at word 31 t.first, one_at word 30 t.second, split word 30 1, split word 31 1, split word 30 2) in
     let opc : 2 ≤ field_of word 22 2 = omega (arith, one_at word 23 b, split word 22 1, split word 23 1, split word 22 2) in
     no_and (field_of word 30 2 == 3) (nat_le 2 (field_of word 22 2)) (and_parts _ _ e).0 (eq-eqb _ _ size) (le-leb _ _ opc)
 
-no_narrow_signed_word : (word : ℕ) → Two word 31 true 30 false → Two word 23 true 22 true → has_load (field_of word 30 2) (field_of word 22 2) ≡ true → ⊥
+no_narrow_signed_word : (word : ℕ) → Two word 31 true 30 false → Two word 23 true 22 true
+    → has_load (field_of word 30 2) (field_of word 22 2) ≡ true → ⊥
 unfolding has_load
 no_narrow_signed_word word t u e =
-    let size : field_of word 30 2 ≡ 2 = omega (arith, one_at word 31 t.first, zero_at word 30 t.second, split word 30 1, split word 31 1, split word 30 2) in
-    let opc : field_of word 22 2 ≡ 3 = omega (arith, one_at word 23 u.first, one_at word 22 u.second, split word 22 1, split word 23 1, split word 22 2) in
-    no_and (field_of word 30 2 == 2) (field_of word 22 2 == 3) (and_parts (not (field_of word 30 2 == 3 && nat_le 2 (field_of word 22 2))) _ e).1 (eq-eqb _ _ size) (eq-eqb _ _ opc)
+    let size : field_of word 30 2 ≡ 2 =
+    omega (arith, one_at word 31 t.first, zero_at word 30 t.second, split word 30 1, split word 31 1, split word 30 2) in
+    let opc : field_of word 22 2 ≡ 3 =
+    omega (arith, one_at word 23 u.first, one_at word 22 u.second, split word 22 1, split word 23 1, split word 22 2) in
+    no_and (field_of word 30 2 == 2) (field_of word 22 2 == 3)
+    (and_parts (not (field_of word 30 2 == 3 && nat_le 2 (field_of word 22 2))) _ e).1 (eq-eqb _ _ size) (eq-eqb _ _ opc)
 
 no_option : (word : ℕ) → field_of word 14 1 ≡ 0 → is_address_option (field_of word 13 3) ≡ true → ⊥
 unfolding is_address_option
 no_option word z e =
     let option = field_of word 13 3 in
     elim (either_true (option == 2 || option == 3 || option == 6) (option == 7) e) [
-      | inr h ↦ (let n : option ≡ 7 = eqb-true _ _ h in omega (arith, z, split word 13 1, split word 14 1, split word 15 1, split word 13 3, field_below word 13 1, field_below word 15 1))
+      | inr h ↦ (let n : option ≡ 7 = eqb-true _ _ h in
+          omega (arith, z, split word 13 1, split word 14 1, split word 15 1, split word 13 3, field_below word 13 1, field_below word 15 1))
       | inl f ↦ elim (either_true (option == 2 || option == 3) (option == 6) f) [
-        | inr h ↦ (let n : option ≡ 6 = eqb-true _ _ h in omega (arith, z, split word 13 1, split word 14 1, split word 15 1, split word 13 3, field_below word 13 1, field_below word 15 1))
+        | inr h ↦ (let n : option ≡ 6 = eqb-true _ _ h in
+            omega (
+              arith,
+              z,
+              split word 13 1,
+              split word 14 1,
+              split word 15 1,
+              split word 13 3,
+              field_below word 13 1,
+              field_below word 15 1,
+            ))
         | inl g ↦ elim (either_true (option == 2) (option == 3) g) [
-          | inr h ↦ (let n : option ≡ 3 = eqb-true _ _ h in omega (arith, z, split word 13 1, split word 14 1, split word 15 1, split word 13 3, field_below word 13 1, field_below word 15 1))
-          | inl h ↦ (let n : option ≡ 2 = eqb-true _ _ h in omega (arith, z, split word 13 1, split word 14 1, split word 15 1, split word 13 3, field_below word 13 1, field_below word 15 1))
+          | inr h ↦ (let n : option ≡ 3 = eqb-true _ _ h in
+              omega (
+                arith,
+                z,
+                split word 13 1,
+                split word 14 1,
+                split word 15 1,
+                split word 13 3,
+                field_below word 13 1,
+                field_below word 15 1,
+              ))
+          | inl h ↦ (let n : option ≡ 2 = eqb-true _ _ h in
+              omega (
+                arith,
+                z,
+                split word 13 1,
+                split word 14 1,
+                split word 15 1,
+                split word 13 3,
+                field_below word 13 1,
+                field_below word 15 1,
+              ))
         ]
       ]
     ]
@@ -191,14 +237,18 @@ no_size word m v r e l =
     let short = fixed m v 31 true && fixed m v 30 false in
     let both_set = fixed m v 23 true && fixed m v 22 true in
     elim (either_true (long && fixed m v 23 true) (short && both_set) e) [
-      | inl h ↦ (let p = and_parts long (fixed m v 23 true) h in no_long_signed_load word (two word m v 31 true 30 true r p.0) (fixed_bit word m v 23 true r p.1) l)
-      | inr h ↦ (let p = and_parts short both_set h in no_narrow_signed_word word (two word m v 31 true 30 false r p.0) (two word m v 23 true 22 true r p.1) l)
+      | inl h ↦ (let p = and_parts long (fixed m v 23 true) h in
+          no_long_signed_load word (two word m v 31 true 30 true r p.0) (fixed_bit word m v 23 true r p.1) l)
+      | inr h ↦ (let p = and_parts short both_set h in
+          no_narrow_signed_word word (two word m v 31 true 30 false r p.0) (two word m v 23 true 22 true r p.1) l)
     ]
 
 no_extension : (word m v : ℕ) → bit_and word m ≡ v → fixed m v 14 false ≡ true → is_address_option (number_in OPTION word) ≡ true → ⊥
-no_extension word m v r h e = no_option word (zero_at word 14 (fixed_bit word m v 14 false r h)) (sym (ap is_address_option (plain 13 3 word)) ∙ e)
+no_extension word m v r h e =
+    no_option word (zero_at word 14 (fixed_bit word m v 14 false r h)) (sym (ap is_address_option (plain 13 3 word)) ∙ e)
 
-never-register : (word m v : ℕ) → bit_and word m ≡ v → (sizes m v || fixed m v 14 false) ≡ true → fits_of (G18 Register) (numbers_in word) ≡ true → ⊥
+never-register : (word m v : ℕ) → bit_and word m ≡ v → (sizes m v || fixed m v 14 false) ≡ true
+    → fits_of (G18 Register) (numbers_in word) ≡ true → ⊥
 unfolding fits_of
 never-register word m v r e f = elim (either_true (sizes m v) (fixed m v 14 false) e) [
   | inl h ↦ no_size word m v r h (loads Register word f)
@@ -268,7 +318,8 @@ is_mask_field false m v i = is_field i 10 12 && (fixed m v 31 false && fixed m v
 unfoldable pub says_kind : Operation → ℕ → ℕ → Item → Kind → Bool
 says_kind g m v i (Mark c) = true
 says_kind g m v i (Named first count) =
-    nat_le (2 ^ bits_of i) count || (count == 3 && ((has_three_shifts g && is_field i 22 2) || (is_field i 13 2 && (fixed m v 13 false || fixed m v 14 false))))
+    nat_le (2 ^ bits_of i) count || (count == 3
+    && ((has_three_shifts g && is_field i 22 2) || (is_field i 13 2 && (fixed m v 13 false || fixed m v 14 false))))
 says_kind g m v i (kind.Register file last) = true
 says_kind g m v i (Unsigned base scale most) = nat_le (2 ^ bits_of i) (most + 1) || (has_amounts g && (is_field i 10 3 && most == 4))
 says_kind g m v i (Signed scale) = true
@@ -300,8 +351,10 @@ unfolding is_field number_in field_of
 field_is i word low width e =
     let parts = and_parts (i.field.low == low && i.field.width == width) (i.field.upper_width == 0) e in
     let firsts = and_parts (i.field.low == low) (i.field.width == width) parts.0 in
-    let none : word / 2 ^ i.field.upper_low % 2 ^ i.field.upper_width ≡ 0 = ap (λ n. word / 2 ^ i.field.upper_low % 2 ^ n) (eqb-true _ _ parts.1) ∙ mod_one (word / 2 ^ i.field.upper_low) in
-    ap (λ n. n * 2 ^ i.field.width + word / 2 ^ i.field.low % 2 ^ i.field.width) none ∙ ap₂ (λ (a b : ℕ). 0 * 2 ^ b + word / 2 ^ a % 2 ^ b) (eqb-true _ _ firsts.0) (eqb-true _ _ firsts.1)
+    let none : word / 2 ^ i.field.upper_low % 2 ^ i.field.upper_width ≡ 0 =
+    ap (λ n. word / 2 ^ i.field.upper_low % 2 ^ n) (eqb-true _ _ parts.1) ∙ mod_one (word / 2 ^ i.field.upper_low) in
+    ap (λ n. n * 2 ^ i.field.width + word / 2 ^ i.field.low % 2 ^ i.field.width) none
+    ∙ ap₂ (λ (a b : ℕ). 0 * 2 ^ b + word / 2 ^ a % 2 ^ b) (eqb-true _ _ firsts.0) (eqb-true _ _ firsts.1)
     ∙ (let z : 0 * 2 ^ width + word / 2 ^ low % 2 ^ width ≡ word / 2 ^ low % 2 ^ width = omega arith in z)
 
 field_bound : (i : Item) (word : ℕ) → field_in i word < 2 ^ bits_of i
@@ -319,29 +372,34 @@ unfolding has_amounts fits_of
 amounts (G4 op) word h f = let lt = ltb-true (number_in IMM3 word) 5 f in omega (arith, plain 10 3 word)
 amounts g word h f = cc
 
-masks : (g : Operation) (word : ℕ) → has_masks g ≡ true → fits_of g (numbers_in word) ≡ true → are_mask_fields (bit_of word 22) (field_of word 10 6) (field_of word 16 6) (bit_of word 31) ≡ true
+masks : (g : Operation) (word : ℕ) → has_masks g ≡ true → fits_of g (numbers_in word) ≡ true
+    → are_mask_fields (bit_of word 22) (field_of word 10 6) (field_of word 16 6) (bit_of word 31) ≡ true
 unfolding has_masks fits_of bit_of
 masks (G5 op) word h f =
     sym (ap₂ (λ x y. are_mask_fields (x == 1) y (number_in IMMR word) (number_in SF word == 1)) (plain 22 1 word) (plain 10 6 word)
     ∙ ap₂ (λ x y. are_mask_fields (field_of word 22 1 == 1) (field_of word 10 6) x (y == 1)) (plain 16 6 word) (plain 31 1 word)) ∙ f
 masks g word h f = cc
 
-one_access : (g : Operation) (word : ℕ) → accesses_one g ≡ true → fits_of g (numbers_in word) ≡ true → (not (field_of word 5 5 == field_of word 0 5) || field_of word 5 5 == 31) ≡ true
+one_access : (g : Operation) (word : ℕ) → accesses_one g ≡ true → fits_of g (numbers_in word) ≡ true
+    → (not (field_of word 5 5 == field_of word 0 5) || field_of word 5 5 == 31) ≡ true
 unfolding accesses_one fits_of is_apart
 one_access (G18 PostIndex) word h f = sym (ap₂ is_apart (plain 5 5 word) (plain 0 5 word)) ∙ (and_parts _ _ f).1
 one_access (G18 PreIndex) word h f = sym (ap₂ is_apart (plain 5 5 word) (plain 0 5 word)) ∙ (and_parts _ _ f).1
 one_access g word h f = cc
 
-two_loaded : (g : Operation) (word : ℕ) → loads_two g ≡ true → fits_of g (numbers_in word) ≡ true → not (field_of word 0 5 == field_of word 10 5) ≡ true
+two_loaded : (g : Operation) (word : ℕ) → loads_two g ≡ true → fits_of g (numbers_in word) ≡ true
+    → not (field_of word 0 5 == field_of word 10 5) ≡ true
 unfolding loads_two fits_of are_two
 two_loaded (G20 Ldp wide index) word h f = sym (ap₂ (λ a b. not (a == b)) (plain 0 5 word) (plain 10 5 word)) ∙ (and_parts _ _ f).0
 two_loaded g word h f = cc
 
-pair_base : (word : ℕ) → (number_in RN word == 31 || (not (number_in RN word == number_in RT word) && not (number_in RN word == number_in RT2 word))) ≡ true
+pair_base : (word : ℕ) → (number_in RN word == 31
+    || (not (number_in RN word == number_in RT word) && not (number_in RN word == number_in RT2 word))) ≡ true
     → (field_of word 5 5 == 31 || (not (field_of word 5 5 == field_of word 0 5) && not (field_of word 5 5 == field_of word 10 5))) ≡ true
 pair_base word f =
     sym (ap (λ a. a == 31 || (not (a == number_in RT word) && not (a == number_in RT2 word))) (plain 5 5 word)
-    ∙ ap₂ (λ b c. field_of word 5 5 == 31 || (not (field_of word 5 5 == b) && not (field_of word 5 5 == c))) (plain 0 5 word) (plain 10 5 word)) ∙ f
+    ∙ ap₂ (λ b c. field_of word 5 5 == 31 || (not (field_of word 5 5 == b) && not (field_of word 5 5 == c))) (plain 0 5 word)
+    (plain 10 5 word)) ∙ f
 
 two_written : (g : Operation) (word : ℕ) → writes_two g ≡ true → fits_of g (numbers_in word) ≡ true
     → (field_of word 5 5 == 31 || (not (field_of word 5 5 == field_of word 0 5) && not (field_of word 5 5 == field_of word 10 5))) ≡ true
@@ -351,26 +409,34 @@ two_written (G20 op wide index.PreIndex) word h f = pair_base word (and_parts _ 
 two_written g word h f = cc
 
 named_within : (g : Operation) (word m v : ℕ) (i : Item) (count : ℕ) → bit_and word m ≡ v → fits_of g (numbers_in word) ≡ true
-    → (nat_le (2 ^ bits_of i) count || (count == 3 && ((has_three_shifts g && is_field i 22 2) || (is_field i 13 2 && (fixed m v 13 false || fixed m v 14 false))))) ≡ true → field_in i word < count
+    → (nat_le (2 ^ bits_of i) count || (count == 3
+    && ((has_three_shifts g && is_field i 22 2) || (is_field i 13 2 && (fixed m v 13 false || fixed m v 14 false))))) ≡ true
+    → field_in i word < count
 named_within g word m v i count r f e = elim (either_true (nat_le (2 ^ bits_of i) count) _ e) [
   | inl h ↦ (let le = leb-true (2 ^ bits_of i) count h in let lt = field_bound i word in omega arith)
   | inr h ↦ (let three : count ≡ 3 = eqb-true _ _ (and_parts (count == 3) _ h).0 in
       elim (either_true (has_three_shifts g && is_field i 22 2) _ (and_parts (count == 3) _ h).1) [
-        | inl k ↦ (let p = and_parts (has_three_shifts g) (is_field i 22 2) k in let same_field = field_is i word 22 2 p.1 in let lt = three_shifts g word p.0 f in omega arith)
+        | inl k ↦ (let p = and_parts (has_three_shifts g) (is_field i 22 2) k in let same_field = field_is i word 22 2 p.1 in
+            let lt = three_shifts g word p.0 f in omega arith)
         | inr k ↦ (let p = and_parts (is_field i 13 2) (fixed m v 13 false || fixed m v 14 false) k in
             let same_field = field_is i word 13 2 p.0 in
             elim (either_true (fixed m v 13 false) (fixed m v 14 false) p.1) [
-              | inl x ↦ (let z = zero_at word 13 (fixed_bit word m v 13 false r x) in omega (arith, z, same_field, three, split word 13 1, split word 14 1, split word 13 2, field_below word 14 1))
-              | inr x ↦ (let z = zero_at word 14 (fixed_bit word m v 14 false r x) in omega (arith, z, same_field, three, split word 13 1, split word 14 1, split word 13 2, field_below word 13 1))
+              | inl x ↦ (let z = zero_at word 13 (fixed_bit word m v 13 false r x) in
+                  omega (arith, z, same_field, three, split word 13 1, split word 14 1, split word 13 2, field_below word 14 1))
+              | inr x ↦ (let z = zero_at word 14 (fixed_bit word m v 14 false r x) in
+                  omega (arith, z, same_field, three, split word 13 1, split word 14 1, split word 13 2, field_below word 13 1))
             ])
       ])
 ]
 
-mask_same : (w w' n n' : Bool) (r r' s s' : ℕ) → w ≡ w' → n ≡ n' → r ≡ r' → s ≡ s' → are_mask_fields n s r w ≡ true → are_mask_fields n' s' r' w' ≡ true
+mask_same : (w w' n n' : Bool) (r r' s s' : ℕ) → w ≡ w' → n ≡ n' → r ≡ r' → s ≡ s' → are_mask_fields n s r w ≡ true
+    → are_mask_fields n' s' r' w' ≡ true
 mask_same w w' n n' r r' s s' a b c d h =
-    sym (ap (are_mask_fields n s r) a ∙ ap (λ x. are_mask_fields x s r w') b ∙ ap (λ x. are_mask_fields n' s x w') c ∙ ap (λ x. are_mask_fields n' x r' w') d) ∙ h
+    sym (ap (are_mask_fields n s r) a ∙ ap (λ x. are_mask_fields x s r w') b ∙ ap (λ x. are_mask_fields n' s x w') c
+    ∙ ap (λ x. are_mask_fields n' x r' w') d) ∙ h
 
-mask_within : (wide : Bool) (word m v : ℕ) (i : Item) → bit_and word m ≡ v → are_mask_fields (bit_of word 22) (field_of word 10 6) (field_of word 16 6) (bit_of word 31) ≡ true → is_mask_field wide m v i ≡ true
+mask_within : (wide : Bool) (word m v : ℕ) (i : Item) → bit_and word m ≡ v
+    → are_mask_fields (bit_of word 22) (field_of word 10 6) (field_of word 16 6) (bit_of word 31) ≡ true → is_mask_field wide m v i ≡ true
     → are_mask_fields (field_of (field_in i word) 12 1 == 1) (field_of (field_in i word) 0 6) (field_of (field_in i word) 6 6) wide ≡ true
 unfolding is_mask_field bit_of
 mask_within true word m v i r h e =
@@ -379,12 +445,52 @@ mask_within true word m v i r h e =
     let is_13 : f ≡ field_of word 10 13 = field_is i word 10 13 p.0 in
     let small = field_below word 10 13 in
     let n : field_of word 22 1 ≡ field_of f 12 1 =
-    omega (arith, split word 10 13, split word 10 6, split word 16 6, split word 22 1, split f 0 6, split f 6 6, split f 12 1, field_below word 10 6, field_below word 16 6, field_below f 0 6, field_below f 6 6) in
+    omega (
+      arith,
+      split word 10 13,
+      split word 10 6,
+      split word 16 6,
+      split word 22 1,
+      split f 0 6,
+      split f 6 6,
+      split f 12 1,
+      field_below word 10 6,
+      field_below word 16 6,
+      field_below f 0 6,
+      field_below f 6 6,
+    ) in
     let immr : field_of word 16 6 ≡ field_of f 6 6 =
-    omega (arith, split word 10 13, split word 10 6, split word 16 6, split word 22 1, split f 0 6, split f 6 6, split f 12 1, field_below word 10 6, field_below word 16 6, field_below f 0 6, field_below f 6 6) in
+    omega (
+      arith,
+      split word 10 13,
+      split word 10 6,
+      split word 16 6,
+      split word 22 1,
+      split f 0 6,
+      split f 6 6,
+      split f 12 1,
+      field_below word 10 6,
+      field_below word 16 6,
+      field_below f 0 6,
+      field_below f 6 6,
+    ) in
     let imms : field_of word 10 6 ≡ field_of f 0 6 =
-    omega (arith, split word 10 13, split word 10 6, split word 16 6, split word 22 1, split f 0 6, split f 6 6, split f 12 1, field_below word 10 6, field_below word 16 6, field_below f 0 6, field_below f 6 6) in
-    mask_same (field_of word 31 1 == 1) true (field_of word 22 1 == 1) (field_of f 12 1 == 1) (field_of word 16 6) (field_of f 6 6) (field_of word 10 6) (field_of f 0 6)
+    omega (
+      arith,
+      split word 10 13,
+      split word 10 6,
+      split word 16 6,
+      split word 22 1,
+      split f 0 6,
+      split f 6 6,
+      split f 12 1,
+      field_below word 10 6,
+      field_below word 16 6,
+      field_below f 0 6,
+      field_below f 6 6,
+    ) in
+    mask_same (field_of word 31 1 == 1) true (field_of word 22 1 == 1) (field_of f 12 1 == 1) (field_of word 16 6) (field_of f 6 6)
+    (field_of word 10 6) (field_of f 0 6)
     (fixed_bit word m v 31 true r p.1) (ap (λ x. x == 1) n) immr imms h
 mask_within false word m v i r h e =
     let p = and_parts (is_field i 10 12) (fixed m v 31 false && fixed m v 22 false) e in
@@ -394,25 +500,54 @@ mask_within false word m v i r h e =
     let small = field_below word 10 12 in
     let n : 0 ≡ field_of f 12 1 = omega (arith, split f 12 1) in
     let immr : field_of word 16 6 ≡ field_of f 6 6 =
-    omega (arith, split word 10 12, split word 10 6, split word 16 6, split f 0 6, split f 6 6, split f 12 1, field_below word 10 6, field_below word 16 6, field_below f 0 6, field_below f 6 6) in
+    omega (
+      arith,
+      split word 10 12,
+      split word 10 6,
+      split word 16 6,
+      split f 0 6,
+      split f 6 6,
+      split f 12 1,
+      field_below word 10 6,
+      field_below word 16 6,
+      field_below f 0 6,
+      field_below f 6 6,
+    ) in
     let imms : field_of word 10 6 ≡ field_of f 0 6 =
-    omega (arith, split word 10 12, split word 10 6, split word 16 6, split f 0 6, split f 6 6, split f 12 1, field_below word 10 6, field_below word 16 6, field_below f 0 6, field_below f 6 6) in
-    mask_same (field_of word 31 1 == 1) false (field_of word 22 1 == 1) (field_of f 12 1 == 1) (field_of word 16 6) (field_of f 6 6) (field_of word 10 6) (field_of f 0 6)
+    omega (
+      arith,
+      split word 10 12,
+      split word 10 6,
+      split word 16 6,
+      split f 0 6,
+      split f 6 6,
+      split f 12 1,
+      field_below word 10 6,
+      field_below word 16 6,
+      field_below f 0 6,
+      field_below f 6 6,
+    ) in
+    mask_same (field_of word 31 1 == 1) false (field_of word 22 1 == 1) (field_of f 12 1 == 1) (field_of word 16 6) (field_of f 6 6)
+    (field_of word 10 6) (field_of f 0 6)
     t.first (t.second ∙ ap (λ x. x == 1) n) immr imms h
 
-kind_within : (g : Operation) (word m v : ℕ) (i : Item) (kind : Kind) → bit_and word m ≡ v → fits_of g (numbers_in word) ≡ true → says_kind g m v i kind ≡ true → is_within kind (field_in i word) ≡ true
+kind_within : (g : Operation) (word m v : ℕ) (i : Item) (kind : Kind) → bit_and word m ≡ v → fits_of g (numbers_in word) ≡ true
+    → says_kind g m v i kind ≡ true → is_within kind (field_in i word) ≡ true
 unfolding says_kind is_within
 kind_within g word m v i (Mark c) r f e = refl
 kind_within g word m v i (Named first count) r f e = lt-ltb (field_in i word) count (named_within g word m v i count r f e)
 kind_within g word m v i (kind.Register file last) r f e = refl
-kind_within g word m v i (Unsigned base scale most) r f e = elim (either_true (nat_le (2 ^ bits_of i) (most + 1)) (has_amounts g && (is_field i 10 3 && most == 4)) e) [
-  | inl h ↦ (let le = leb-true (2 ^ bits_of i) (most + 1) h in let lt = field_bound i word in le-leb _ _ (omega arith))
-  | inr h ↦ (let p = and_parts (has_amounts g) (is_field i 10 3 && most == 4) h in let q = and_parts (is_field i 10 3) (most == 4) p.1 in
-      let same_field = field_is i word 10 3 q.0 in let lt = amounts g word p.0 f in let four : most ≡ 4 = eqb-true _ _ q.1 in le-leb _ _ (omega arith))
-]
+kind_within g word m v i (Unsigned base scale most) r f e =
+    elim (either_true (nat_le (2 ^ bits_of i) (most + 1)) (has_amounts g && (is_field i 10 3 && most == 4)) e) [
+      | inl h ↦ (let le = leb-true (2 ^ bits_of i) (most + 1) h in let lt = field_bound i word in le-leb _ _ (omega arith))
+      | inr h ↦ (let p = and_parts (has_amounts g) (is_field i 10 3 && most == 4) h in let q = and_parts (is_field i 10 3) (most == 4) p.1 in
+          let same_field =
+          field_is i word 10 3 q.0 in let lt = amounts g word p.0 f in let four : most ≡ 4 = eqb-true _ _ q.1 in le-leb _ _ (omega arith))
+    ]
 kind_within g word m v i (Signed scale) r f e = refl
 kind_within g word m v i (Distance scale) r f e = refl
-kind_within g word m v i (Mask wide) r f e = let p = and_parts (has_masks g) (is_mask_field wide m v i) e in mask_within wide word m v i r (masks g word p.0 f) p.1
+kind_within g word m v i (Mask wide) r f e =
+    let p = and_parts (has_masks g) (is_mask_field wide m v i) e in mask_within wide word m v i r (masks g word p.0 f) p.1
 kind_within g word m v i (SignedMask wide) r f e = refl
 kind_within g word m v i (ShiftLeft wide) r f e = refl
 kind_within g word m v i (Opposite first count) r f e = refl
@@ -430,25 +565,31 @@ pair_rule : (sp one other : Bool) → (sp || (not one && not other)) ≡ true �
 pair_rule true one other h = refl
 pair_rule false one other h = h
 
-rule_met : (g : Operation) (word m v : ℕ) (rule : Rule) → bit_and word m ≡ v → fits_of g (numbers_in word) ≡ true → says_rule g m v rule ≡ true → meets rule word ≡ true
+rule_met : (g : Operation) (word m v : ℕ) (rule : Rule) → bit_and word m ≡ v → fits_of g (numbers_in word) ≡ true
+    → says_rule g m v rule ≡ true → meets rule word ≡ true
 unfolding says_rule meets
 rule_met g word m v Free r f e = refl
 rule_met g word m v SecondApart r f e = two_loaded g word e f
 rule_met g word m v BaseApart r f e = base_rule (field_of word 5 5 == field_of word 0 5) (field_of word 5 5 == 31) (one_access g word e f)
-rule_met g word m v BasePairApart r f e = pair_rule (field_of word 5 5 == 31) (field_of word 5 5 == field_of word 0 5) (field_of word 5 5 == field_of word 10 5) (two_written g word e f)
+rule_met g word m v BasePairApart r f e =
+    pair_rule (field_of word 5 5 == 31) (field_of word 5 5 == field_of word 0 5) (field_of word 5 5 == field_of word 10 5)
+    (two_written g word e f)
 
-item_said : (g : Operation) (word m v : ℕ) (i : Item) → bit_and word m ≡ v → fits_of g (numbers_in word) ≡ true → says_item g m v i ≡ true → is_sayable word i ≡ true
+item_said : (g : Operation) (word m v : ℕ) (i : Item) → bit_and word m ≡ v → fits_of g (numbers_in word) ≡ true → says_item g m v i ≡ true
+    → is_sayable word i ≡ true
 unfolding says_item is_sayable
 item_said g word m v i r f e =
     let p = and_parts (says_kind g m v i i.kind) (says_rule g m v i.rule) e in
     and_from _ _ (kind_within g word m v i i.kind r f p.0) (rule_met g word m v i.rule r f p.1)
 
-all_said : (g : Operation) (word m v : ℕ) (is : List Item) → bit_and word m ≡ v → fits_of g (numbers_in word) ≡ true → list_all (says_item g m v) is ≡ true → list_all (is_sayable word) is ≡ true
+all_said : (g : Operation) (word m v : ℕ) (is : List Item) → bit_and word m ≡ v → fits_of g (numbers_in word) ≡ true
+    → list_all (says_item g m v) is ≡ true → list_all (is_sayable word) is ≡ true
 all_said g word m v [] r f e = refl
 all_said g word m v (i ∷ is) r f e =
     let p = and_parts (says_item g m v i) (list_all (says_item g m v) is) e in
     and_from _ _ (item_said g word m v i r f p.0) (all_said g word m v is r f p.1)
 
-pub said : (g : Operation) (word m v : ℕ) (s : Shape) → bit_and word m ≡ v → fits_of g (numbers_in word) ≡ true → says g m v s ≡ true → list_all (is_sayable word) (items_of s) ≡ true
+pub said : (g : Operation) (word m v : ℕ) (s : Shape) → bit_and word m ≡ v → fits_of g (numbers_in word) ≡ true → says g m v s ≡ true
+    → list_all (is_sayable word) (items_of s) ≡ true
 unfolding says
 said g word m v s r f e = all_said g word m v (items_of s) r f e

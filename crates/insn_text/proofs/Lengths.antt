@@ -1,5 +1,7 @@
 -- No text passes 95 bytes.
-use Rattle.std.proofs.Common.{◌≡◌, ℕ, zero, suc, ◌+◌, ◌-◌, ◌*◌, ◌/◌, ◌%◌, ◌^◌, ◌<◌, ◌≤◌, Bool, true, false, not, ◌&&◌, ◌||◌, ◌==◌, nat_lt, nat_le, cond, List, [], ◌∷◌, ◌++◌, Option, Some, None, slice_get, length, take, drop, decimal, refl, sym, ap, ◌∙◌, arith, subst, lit<, ltb-true, leb-true, eq-eqb, length-append}
+use Rattle.std.proofs.Common.{◌≡◌, ℕ, zero, suc, ◌+◌, ◌-◌, ◌*◌, ◌/◌, ◌%◌, ◌^◌, ◌<◌, ◌≤◌, Bool, true, false, not, ◌&&◌, ◌||◌, ◌==◌, nat_lt}
+use Rattle.std.proofs.Common.{nat_le, cond, List, [], ◌∷◌, ◌++◌, Option, Some, None, slice_get, length, take, drop, decimal, refl, sym, ap}
+use Rattle.std.proofs.Common.{◌∙◌, arith, subst, lit<, ltb-true, leb-true, eq-eqb, length-append}
 use Rattle.std.specs.List.{find, list_all}
 use Rattle.std.specs.Str.{IsAscii}
 use Rattle.std.specs.Fmt.{digits, digits_onto, digit_glyph}
@@ -15,7 +17,8 @@ use Rattle.bit_ops.proofs.MaskBits.{bool_number-lt}
 use Rattle.insn_forms.specs.Fields.{field_of}
 use Rattle.insn_forms.proofs.Bits.{field_in-lt}
 use Rattle.insn_text.specs.declared.item.Kind.{Kind}
-use Rattle.insn_text.specs.declared.item.Kind.TheVariants.{Mark, Named, Register, Unsigned, Signed, Distance, Mask, SignedMask, ShiftLeft, Opposite, Halfword}
+use Rattle.insn_text.specs.declared.item.Kind.TheVariants.{Mark, Named, Register, Unsigned, Signed, Distance, Mask, SignedMask, ShiftLeft}
+use Rattle.insn_text.specs.declared.item.Kind.TheVariants.{Opposite, Halfword}
 use Rattle.insn_text.specs.declared.item.RegisterFile.{RegisterFile}
 use Rattle.insn_text.specs.declared.item.RegisterFile.TheVariants.{X, W}
 use Rattle.insn_text.specs.declared.item.Item.{Item}
@@ -24,7 +27,9 @@ use Rattle.insn_text.specs.declared.item.Text.{Text}
 use Rattle.insn_text.specs.declared.words.TheConstants.{WORDS, NAMES}
 use Rattle.insn_text.specs.declared.items.TheConstants.{ITEMS}
 use Rattle.insn_text.specs.declared.shapes.TheConstants.{SHAPES}
-use Rattle.insn_text.specs.Texts.{text_in, text_at, is_positive, size_of, hexadecimal, mask_in, mask_text, signed_text, distance_text, file_text, register_text, kind_text, bits_of, field_in, item_text, is_mark, is_comma, gap, items_text, items_of, shape_text, prints, printed_shape}
+use Rattle.insn_text.specs.Texts.{text_in, text_at, is_positive, size_of, hexadecimal, mask_in, mask_text, signed_text, distance_text}
+use Rattle.insn_text.specs.Texts.{file_text, register_text, kind_text, bits_of, field_in, item_text, is_mark, is_comma, gap, items_text}
+use Rattle.insn_text.specs.Texts.{items_of, shape_text, prints, printed_shape}
 use Rattle.insn_text.specs.Places.{is_sized}
 use Rattle.insn_text.proofs.Sizes.{sizes}
 use Rattle.insn_text.proofs.Tables.{all_take, all_drop, all_get, items_sized}
@@ -42,7 +47,8 @@ names_short : list_all is_short_text NAMES ≡ true
 unfolding is_short_text
 names_short = refl
 
-short_in : (texts : List Text) (place : ℕ) (o : Option Text) → slice_get texts place ≡ o → list_all is_short_text texts ≡ true → length (text_in o) ≤ 10
+short_in : (texts : List Text) (place : ℕ) (o : Option Text) → slice_get texts place ≡ o → list_all is_short_text texts ≡ true
+    → length (text_in o) ≤ 10
 unfolding text_in is_short_text
 short_in texts place None g e = omega arith
 short_in texts place (Some t) g e = leb-true (length (take t.length t.bytes)) 10 (all_get is_short_text texts place t e g)
@@ -96,19 +102,23 @@ onto_length k zero n acc lt = omega arith
 onto_length zero (suc j) n acc lt =
     let none_left : n / 16 ≡ 0 = omega arith in
     let test = eq-eqb (n / 16) 0 none_left in
-    let e = ap (λ b. length (cond b (digit_glyph false (n % 16) ∷ acc) (digits_onto j 16 false (n / 16) (digit_glyph false (n % 16) ∷ acc)))) test in
+    let e =
+    ap (λ b. length (cond b (digit_glyph false (n % 16) ∷ acc) (digits_onto j 16 false (n / 16) (digit_glyph false (n % 16) ∷ acc))))
+    test in
     omega (arith, e)
 onto_length (suc k) (suc j) n acc lt =
     let more : n < 16 ^ suc k * 16 = subst (λ (m : ℕ). n < m) (pow-suc 16 (suc k)) lt in
     let fewer : n / 16 < 16 ^ suc k = omega arith in
     let rest = onto_length k j (n / 16) (digit_glyph false (n % 16) ∷ acc) fewer in
-    cond_both (n / 16 == 0) (digit_glyph false (n % 16) ∷ acc) (digits_onto j 16 false (n / 16) (digit_glyph false (n % 16) ∷ acc)) (λ (ds : List ℕ). length ds ≤ suc (suc k) + length acc)
+    cond_both (n / 16 == 0) (digit_glyph false (n % 16) ∷ acc) (digits_onto j 16 false (n / 16) (digit_glyph false (n % 16) ∷ acc))
+    (λ (ds : List ℕ). length ds ≤ suc (suc k) + length acc)
     (λ _. omega arith) (λ _. omega (arith, rest))
 
 mask_small : (n : Bool) (imms immr : ℕ) (wide : Bool) → mask_of n imms immr wide < 2 ^ 64
 unfolding mask_of
 mask_small n imms immr wide =
-    within wide (λ i. bool_number (nat_le ((i + turn_of n imms immr) % element_size n imms) (ones_of n imms))) (λ i. bool_number-lt (nat_le ((i + turn_of n imms immr) % element_size n imms) (ones_of n imms)))
+    within wide (λ i. bool_number (nat_le ((i + turn_of n imms immr) % element_size n imms) (ones_of n imms)))
+    (λ i. bool_number-lt (nat_le ((i + turn_of n imms immr) % element_size n imms) (ones_of n imms)))
   where
     within : (w : Bool) (f : ℕ → ℕ) → ((i : ℕ) → f i < 2) → number_of_digits 2 f (width_of w) < 2 ^ 64
     within true f h = number-lt f 64 (λ i _. h i)
@@ -189,7 +199,8 @@ register_length file last number lt =
     (λ _. omega (arith, word_short last))
     (λ _. omega (arith, length-append (file_text file) (decimal number), file_length file, length-decimal-le 10 number (lit< tt) few fits))
 
-kind_length : (kind : Kind) (bits field : ℕ) → is_small kind ≡ true → bits < 31 → field < 2 ^ 31 → length (kind_text kind bits field) ≤ room_of kind
+kind_length : (kind : Kind) (bits field : ℕ) → is_small kind ≡ true → bits < 31 → field < 2 ^ 31
+    → length (kind_text kind bits field) ≤ room_of kind
 unfolding kind_text room_of is_small
 kind_length (Mark c) bits field e b f = omega arith
 kind_length (Named first count) bits field e b f = word_short (first + field)
@@ -202,9 +213,11 @@ kind_length (Unsigned base scale most) bits field e b f =
     let lt : field * scale + base < 2 ^ 49 = omega arith in
     omega (arith, decimal_short (field * scale + base) lt)
 kind_length (Signed scale) bits field e b f =
-    signed_length (is_positive bits field) (size_of bits field * scale) (product_small (size_of bits field) scale (size_small bits field b f) (ltb-true scale 65536 e))
+    signed_length (is_positive bits field) (size_of bits field * scale)
+    (product_small (size_of bits field) scale (size_small bits field b f) (ltb-true scale 65536 e))
 kind_length (Distance scale) bits field e b f =
-    distance_length (is_positive bits field) (size_of bits field * scale) (product_small (size_of bits field) scale (size_small bits field b f) (ltb-true scale 65536 e))
+    distance_length (is_positive bits field) (size_of bits field * scale)
+    (product_small (size_of bits field) scale (size_small bits field b f) (ltb-true scale 65536 e))
 kind_length (Mask wide) bits field e b f = mask_length (mask_in wide field) (mask_in_small wide field)
 kind_length (SignedMask wide) bits field e b f = omega arith
 kind_length (ShiftLeft wide) bits field e b f = omega arith
@@ -224,20 +237,29 @@ item_length i word e s = let few = (sizes i e).few in kind_length i.kind (bits_o
 gap_length : (before after : Kind) → length (gap before after) ≤ 1
 unfolding gap
 gap_length before after =
-    cond_both (is_comma before || (not (is_mark before) && not (is_mark after))) (32 ∷ []) [] (λ (xs : List ℕ). length xs ≤ 1) (λ _. omega arith) (λ _. omega arith)
+    cond_both (is_comma before || (not (is_mark before) && not (is_mark after))) (32 ∷ []) [] (λ (xs : List ℕ). length xs ≤ 1)
+    (λ _. omega arith) (λ _. omega arith)
 
 -- the most bytes of operands, each with a space before it
 unfoldable items_room : List Item → ℕ
 items_room [] = 0
 items_room (i ∷ is) = 1 + room_of i.kind + items_room is
 
-items_length : (word : ℕ) (before : Kind) (is : List Item) → list_all is_sized is ≡ true → list_all (λ i. is_small i.kind) is ≡ true → length (items_text word before is) ≤ items_room is
+items_length : (word : ℕ) (before : Kind) (is : List Item) → list_all is_sized is ≡ true → list_all (λ i. is_small i.kind) is ≡ true
+    → length (items_text word before is) ≤ items_room is
 unfolding items_text items_room
 items_length word before [] e s = omega arith
 items_length word before (i ∷ is) e s =
     let p = and_parts (is_sized i) (list_all is_sized is) e in
     let q = and_parts (is_small i.kind) (list_all (λ j. is_small j.kind) is) s in
-    omega (arith, gap_length before i.kind, item_length i word p.0 q.0, items_length word i.kind is p.1 q.1, length-append (gap before i.kind) (item_text word i ++ items_text word i.kind is), length-append (item_text word i) (items_text word i.kind is))
+    omega (
+      arith,
+      gap_length before i.kind,
+      item_length i word p.0 q.0,
+      items_length word i.kind is p.1 q.1,
+      length-append (gap before i.kind) (item_text word i ++ items_text word i.kind is),
+      length-append (item_text word i) (items_text word i.kind is),
+    )
 
 -- ---- shapes
 

@@ -1,5 +1,7 @@
 -- The shapes that the table lists for a word's top byte are those that it may be printed in.
-use Rattle.std.proofs.Common.{◌≡◌, ℕ, zero, suc, ◌*◌, ◌/◌, ◌^◌, ◌<◌, Bool, true, false, not, ◌&&◌, ◌==◌, cond, List, [], ◌∷◌, ◌++◌, Option, Some, None, slice_get, bit_and, length, refl, sym, ap, ap₂, ◌∙◌, arith, lit≤, eqb-true, eq-eqb, append_assoc, length-append, add-one, ltb-true, nat_lt, subst}
+use Rattle.std.proofs.Common.{◌≡◌, ℕ, zero, suc, ◌*◌, ◌/◌, ◌^◌, ◌<◌, Bool, true, false, not, ◌&&◌, ◌==◌, cond, List, [], ◌∷◌, ◌++◌, Option}
+use Rattle.std.proofs.Common.{Some, None, slice_get, bit_and, length, refl, sym, ap, ap₂, ◌∙◌, arith, lit≤, eqb-true, eq-eqb, append_assoc}
+use Rattle.std.proofs.Common.{length-append, add-one, ltb-true, nat_lt, subst}
 use Rattle.std.specs.List.{find}
 use Rattle.std.specs.Option.{option_or}
 use Rattle.std.proofs.lemmas.Nat.{and_assoc, and_comm}
@@ -44,15 +46,18 @@ unfolding same_places
 places-same [] [] e = refl
 places-same [] (y ∷ ys) e = cc
 places-same (x ∷ xs) [] e = cc
-places-same (x ∷ xs) (y ∷ ys) e = let p = and_parts (x == y) (same_places xs ys) e in ap₂ (λ (a : ℕ) (rest : List ℕ). a ∷ rest) (eqb-true x y p.0) (places-same xs ys p.1)
+places-same (x ∷ xs) (y ∷ ys) e =
+    let p = and_parts (x == y) (same_places xs ys) e in ap₂ (λ (a : ℕ) (rest : List ℕ). a ∷ rest) (eqb-true x y p.0) (places-same xs ys p.1)
 
 listed_at : (limit top : ℕ) → lists_all limit ≡ true → top < limit → part_of PRINTED ROOTS top ≡ candidates top 0 SHAPES
 unfolding lists_all
 listed_at zero top e lt = absurd (omega arith)
 listed_at (suc limit) top e lt =
-    by_test (λ below. listed_at limit top (and_parts (same_places (part_of PRINTED ROOTS limit) (candidates limit 0 SHAPES)) (lists_all limit) e).1 below) (nat_lt top limit) refl
+    by_test (λ below. listed_at limit top (and_parts (same_places (part_of PRINTED ROOTS limit) (candidates limit 0 SHAPES))
+    (lists_all limit) e).1 below) (nat_lt top limit) refl
   where
-    by_test : (top < limit → part_of PRINTED ROOTS top ≡ candidates top 0 SHAPES) → (b : Bool) → nat_lt top limit ≡ b → part_of PRINTED ROOTS top ≡ candidates top 0 SHAPES
+    by_test : (top < limit → part_of PRINTED ROOTS top ≡ candidates top 0 SHAPES) → (b : Bool) → nat_lt top limit ≡ b
+        → part_of PRINTED ROOTS top ≡ candidates top 0 SHAPES
     by_test earlier true b = earlier (ltb-true top limit b)
     by_test earlier false b =
         let le = ltb-false top limit b in
@@ -64,7 +69,8 @@ listed_at (suc limit) top e lt =
 
 fixed_there : (bits word : ℕ) (s : Shape) → bit_and word s.mask ≡ s.value → bit_and s.value bits ≡ bit_and (bit_and word bits) s.mask
 fixed_there bits word s m =
-    ap (λ n. bit_and n bits) (sym m) ∙ and_assoc bits word s.mask ∙ ap (bit_and word) (and_comm s.mask bits) ∙ sym (and_assoc s.mask word bits)
+    ap (λ n. bit_and n bits) (sym m) ∙ and_assoc bits word s.mask ∙ ap (bit_and word) (and_comm s.mask bits)
+    ∙ sym (and_assoc s.mask word bits)
 
 top_of : (word : ℕ) → word < 2 ^ 32 → bit_and word top_bits ≡ word / 2 ^ 24 * 2 ^ 24
 top_of word lt = and_high_mask 32 24 (lit≤ tt) word lt
@@ -87,18 +93,22 @@ at_shape : (word : ℕ) (o r : Option Shape) (s : Shape) → o ≡ Some s → op
 unfolding if_printed
 at_shape word o r s e = ap (λ (x : Option Shape). option_or (if_printed word x) r) e ∙ choice (prints word s) s r
 
-first-candidates : (word : ℕ) (before after : List Shape) → word < 2 ^ 32 → first_at word (before ++ after) (candidates (word / 2 ^ 24) (length before) after) ≡ find (prints word) after
+first-candidates : (word : ℕ) (before after : List Shape) → word < 2 ^ 32
+    → first_at word (before ++ after) (candidates (word / 2 ^ 24) (length before) after) ≡ find (prints word) after
 unfolding first_at candidates
 first-candidates word before [] lt = refl
 first-candidates word before (s ∷ after) lt =
     let all : before ++ (s ∷ after) ≡ (before ++ (s ∷ [])) ++ after = sym (append_assoc before (s ∷ []) after) in
     let longer : suc (length before) ≡ length (before ++ (s ∷ [])) = sym (length-append before (s ∷ []) ∙ add-one (length before)) in
     let rest : first_at word (before ++ (s ∷ after)) (candidates (word / 2 ^ 24) (suc (length before)) after) ≡ find (prints word) after =
-    ap₂ (λ (x : List Shape) (n : ℕ). first_at word x (candidates (word / 2 ^ 24) n after)) all longer ∙ first-candidates word (before ++ (s ∷ [])) after lt in
+    ap₂ (λ (x : List Shape) (n : ℕ). first_at word x (candidates (word / 2 ^ 24) n after)) all longer
+    ∙ first-candidates word (before ++ (s ∷ [])) after lt in
     let more = candidates (word / 2 ^ 24) (suc (length before)) after in
-    cond_both (may_begin (word / 2 ^ 24) s) (length before ∷ more) more (λ ps. first_at word (before ++ (s ∷ after)) ps ≡ cond (prints word s) (Some s) (find (prints word) after))
+    cond_both (may_begin (word / 2 ^ 24) s) (length before ∷ more) more
+    (λ ps. first_at word (before ++ (s ∷ after)) ps ≡ cond (prints word s) (Some s) (find (prints word) after))
     (λ _. at_shape word _ _ s (get_after before after s) ∙ ap (cond (prints word s) (Some s)) rest)
-    (λ no_. rest ∙ sym (ap (λ b. cond b (Some s) (find (prints word) after)) (false_from_ne_true (prints word s) (λ e. both_ways _ no_ (begins word s lt e)))))
+    (λ no_. rest ∙ sym (ap (λ b. cond b (Some s) (find (prints word) after))
+    (false_from_ne_true (prints word s) (λ e. both_ways _ no_ (begins word s lt e)))))
 
 -- the first of the listed shapes in which a word is printed is the first of all
 pub first_printed : (word : ℕ) → word < 2 ^ 32 → first_at word SHAPES (part_of PRINTED ROOTS (word / 2 ^ 24)) ≡ printed_shape word

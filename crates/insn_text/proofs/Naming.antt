@@ -1,5 +1,6 @@
 -- The name in which a word is printed is that of its operation.
-use Rattle.std.proofs.Common.{◌≡◌, ℕ, zero, suc, ◌==◌, ◌&&◌, ◌||◌, not, Bool, true, false, cond, bit_and, List, [], ◌∷◌, slice_get, Option, Some, refl, sym, ap, ◌∙◌, subst, eqb-true, eq-eqb}
+use Rattle.std.proofs.Common.{◌≡◌, ℕ, zero, suc, ◌==◌, ◌&&◌, ◌||◌, not, Bool, true, false, cond, bit_and, List, [], ◌∷◌, slice_get, Option}
+use Rattle.std.proofs.Common.{Some, refl, sym, ap, ◌∙◌, subst, eqb-true, eq-eqb}
 use Rattle.std.specs.List.{list_all, find}
 use Rattle.std.specs.Str.{bytes_eq}
 use Rattle.std.proofs.lemmas.Bool.{and_parts}
@@ -12,7 +13,8 @@ use Rattle.insn_forms.specs.Tables.{numbers_in}
 use Rattle.insn_forms.proofs.Bits.{field_in-lt, placed-field, placed-one}
 use Rattle.a64_table.specs.declared.fields.TheConstants.{ACQUIRE, BRANCH_COND, CAS_ACQUIRE, CAS_RELEASE, OPC, RELEASE, SF, SIZE}
 use Rattle.a64_table.specs.declared.operation.Operation.{Operation}
-use Rattle.a64_table.specs.declared.operation.Operation.TheVariants.{G1, G2, G3, G4, G5, G6, G7, G8, G9, G10, G11, G12, G13, G14, G15, G16, G17, G18, G19, G20, G21, G22, G23}
+use Rattle.a64_table.specs.declared.operation.Operation.TheVariants.{G1, G2, G3, G4, G5, G6, G7, G8, G9, G10, G11, G12, G13, G14, G15, G16}
+use Rattle.a64_table.specs.declared.operation.Operation.TheVariants.{G17, G18, G19, G20, G21, G22, G23}
 use Rattle.a64_table.specs.declared.operation.BranchOp.TheVariants as branch
 use Rattle.a64_table.specs.declared.operation.AtomicForm.{AtomicForm}
 use Rattle.a64_table.specs.declared.operation.AtomicForm.TheVariants as form
@@ -21,7 +23,10 @@ use Rattle.insn_text.specs.declared.item.Shape.{Shape}
 use Rattle.insn_text.specs.declared.shapes.TheConstants.{SHAPES}
 use Rattle.insn_text.specs.declared.words.TheConstants.{NAMES}
 use Rattle.insn_text.specs.Texts.{text_in, text_at, prints, printed_shape}
-use Rattle.insn_text.specs.Names.{text_or_none, nth, condition_name, add_sub_name, carry_name, logical_name, move_name, bitfield_name, relative_name, branch_name, jump_name, select_name, compare_name, one_source_name, two_source_name, multiply_name, size_letter, unscaled_letter, access_name, literal_name, pair_name, order_letters, atomic_name, form_name, call_name, system_name, name_of}
+use Rattle.insn_text.specs.Names.{text_or_none, nth, condition_name, add_sub_name, carry_name, logical_name, move_name, bitfield_name}
+use Rattle.insn_text.specs.Names.{relative_name, branch_name, jump_name, select_name, compare_name, one_source_name, two_source_name}
+use Rattle.insn_text.specs.Names.{multiply_name, size_letter, unscaled_letter, access_name, literal_name, pair_name, order_letters}
+use Rattle.insn_text.specs.Names.{atomic_name, form_name, call_name, system_name, name_of}
 use Rattle.insn_text.specs.Cited.{is_set}
 
 -- ---- the fields that a name looks at
@@ -91,17 +96,20 @@ name-same (G23 op register) n m e = refl
 unfoldable pub is_set_whole : ℕ → Field → Bool
 is_set_whole mask f = is_set mask f && (bit_and (upper_mask f) (lower_mask f) == 0)
 
-number-same : (s : Shape) (w : ℕ) (f : Field) → bit_and w s.mask ≡ s.value → is_set_whole s.mask f ≡ true → field_in f s.value ≡ field_in f w
+number-same : (s : Shape) (w : ℕ) (f : Field) → bit_and w s.mask ≡ s.value → is_set_whole s.mask f ≡ true
+    → field_in f s.value ≡ field_in f w
 unfolding is_set_whole is_set
 number-same s w f matches e =
     let parts = and_parts (bit_and s.mask (mask_of f) == mask_of f) (bit_and (upper_mask f) (lower_mask f) == 0) e in
     let all : bit_and s.mask (mask_of f) ≡ mask_of f = eqb-true _ _ parts.0 in
     let apart : bit_and (upper_mask f) (lower_mask f) ≡ 0 = eqb-true _ _ parts.1 in
-    let same : bit_and s.value (mask_of f) ≡ bit_and w (mask_of f) = ap (λ v. bit_and v (mask_of f)) (sym matches) ∙ and_assoc (mask_of f) w s.mask ∙ ap (bit_and w) all in
+    let same : bit_and s.value (mask_of f) ≡ bit_and w (mask_of f) =
+    ap (λ v. bit_and v (mask_of f)) (sym matches) ∙ and_assoc (mask_of f) w s.mask ∙ ap (bit_and w) all in
     placed-one f (field_in f s.value) (field_in f w) apart (field_in-lt f s.value) (field_in-lt f w)
     (placed-field f s.value apart ∙ same ∙ sym (placed-field f w apart))
 
-numbers-same : (s : Shape) (w : ℕ) (fs : List Field) → bit_and w s.mask ≡ s.value → list_all (is_set_whole s.mask) fs ≡ true → Same (numbers_in s.value) (numbers_in w) fs
+numbers-same : (s : Shape) (w : ℕ) (fs : List Field) → bit_and w s.mask ≡ s.value → list_all (is_set_whole s.mask) fs ≡ true
+    → Same (numbers_in s.value) (numbers_in w) fs
 numbers-same s w [] matches e = tt
 numbers-same s w (f ∷ fs) matches e =
     let parts = and_parts (is_set_whole s.mask f) (list_all (is_set_whole s.mask) fs) e in
@@ -112,7 +120,8 @@ numbers-same s w (f ∷ fs) matches e =
 unfoldable pub is_named_by : Shape → Line Operation → Bool
 is_named_by s line =
     not (bit_and line.value s.mask == bit_and s.value line.mask)
-    || (bytes_eq (text_at NAMES s.name) (name_of line.operation (numbers_in s.value)) && list_all (is_set_whole s.mask) (naming_fields line.operation))
+    || (bytes_eq (text_at NAMES s.name) (name_of line.operation (numbers_in s.value))
+    && list_all (is_set_whole s.mask) (naming_fields line.operation))
 
 unfoldable pub is_named : Shape → Bool
 is_named s = s.alias || list_all (is_named_by s) SCALAR_LINES
@@ -149,16 +158,21 @@ unless false b e h = h
 swap : (w m n : ℕ) → bit_and (bit_and w m) n ≡ bit_and (bit_and w n) m
 swap w m n = and_assoc n w m ∙ ap (bit_and w) (and_comm m n) ∙ sym (and_assoc m w n)
 
-named_by : (s : Shape) (w : ℕ) (line : Line Operation) → bit_and w s.mask ≡ s.value → bit_and w line.mask ≡ line.value → is_named_by s line ≡ true → text_at NAMES s.name ≡ name_of line.operation (numbers_in w)
+named_by : (s : Shape) (w : ℕ) (line : Line Operation) → bit_and w s.mask ≡ s.value → bit_and w line.mask ≡ line.value
+    → is_named_by s line ≡ true → text_at NAMES s.name ≡ name_of line.operation (numbers_in w)
 unfolding is_named_by
 named_by s w line ms ml e =
-    let common : bit_and line.value s.mask ≡ bit_and s.value line.mask = ap (λ v. bit_and v s.mask) (sym ml) ∙ swap w line.mask s.mask ∙ ap (λ v. bit_and v line.mask) ms in
-    let parts = and_parts (bytes_eq (text_at NAMES s.name) (name_of line.operation (numbers_in s.value))) (list_all (is_set_whole s.mask) (naming_fields line.operation)) (when _ _ (eq-eqb _ _ common) e) in
+    let common : bit_and line.value s.mask ≡ bit_and s.value line.mask =
+    ap (λ v. bit_and v s.mask) (sym ml) ∙ swap w line.mask s.mask ∙ ap (λ v. bit_and v line.mask) ms in
+    let parts =
+    and_parts (bytes_eq (text_at NAMES s.name) (name_of line.operation (numbers_in s.value)))
+    (list_all (is_set_whole s.mask) (naming_fields line.operation)) (when _ _ (eq-eqb _ _ common) e) in
     (bytes_eq-Decides (text_at NAMES s.name) (name_of line.operation (numbers_in s.value))).0 parts.0
     ∙ name-same line.operation (numbers_in s.value) (numbers_in w) (numbers-same s w (naming_fields line.operation) ms parts.1)
 
 -- the name of the shape in which a word is printed is that of the operation of each line that the word matches
-pub named : (w place : ℕ) (line : Line Operation) (s : Shape) → slice_get SCALAR_LINES place ≡ Some line → bit_and w line.mask ≡ line.value → printed_shape w ≡ Some s → text_at NAMES s.name ≡ name_of line.operation (numbers_in w)
+pub named : (w place : ℕ) (line : Line Operation) (s : Shape) → slice_get SCALAR_LINES place ≡ Some line → bit_and w line.mask ≡ line.value
+    → printed_shape w ≡ Some s → text_at NAMES s.name ≡ name_of line.operation (numbers_in w)
 unfolding printed_shape prints is_named
 named w place line s listed matches e =
     let f = found (λ x. not x.alias && (bit_and w x.mask == x.value)) is_named SHAPES s all_named e in

@@ -1,5 +1,6 @@
 -- What holds of the tables' texts and operands.
-use Rattle.std.proofs.Common.{◌≡◌, ℕ, zero, suc, ◌<◌, Bool, true, ◌&&◌, nat_lt, ltb-true, List, [], ◌∷◌, Option, Some, None, slice_get, get_or, take, drop, length, refl, sym, ap, ◌∙◌, arith}
+use Rattle.std.proofs.Common.{◌≡◌, ℕ, zero, suc, ◌<◌, Bool, true, ◌&&◌, nat_lt, ltb-true, List, [], ◌∷◌, Option, Some, None, slice_get}
+use Rattle.std.proofs.Common.{get_or, take, drop, length, refl, sym, ap, ◌∙◌, arith}
 use Rattle.std.specs.List.{list_all}
 use Rattle.std.specs.Str.{IsAscii}
 use Rattle.std.proofs.lemmas.Bool.{and_from, and_parts}
@@ -17,7 +18,8 @@ use Rattle.insn_text.specs.Places.{has_ascii_mark, is_sized}
 pub all_take : {X : Type 0} (p : X → Bool) (n : ℕ) (xs : List X) → list_all p xs ≡ true → list_all p (take n xs) ≡ true
 all_take p zero xs e = refl
 all_take p (suc n) [] e = refl
-all_take p (suc n) (x ∷ xs) e = let h = and_parts (p x) (list_all p xs) e in and_from (p x) (list_all p (take n xs)) h.0 (all_take p n xs h.1)
+all_take p (suc n) (x ∷ xs) e =
+    let h = and_parts (p x) (list_all p xs) e in and_from (p x) (list_all p (take n xs)) h.0 (all_take p n xs h.1)
 
 pub all_drop : {X : Type 0} (p : X → Bool) (n : ℕ) (xs : List X) → list_all p xs ≡ true → list_all p (drop n xs) ≡ true
 all_drop p zero xs e = e
@@ -61,7 +63,8 @@ bytes_ascii [] e i = IsAscii-nil i
 bytes_ascii (b ∷ bs) e zero = ltb-true b 128 (and_parts (nat_lt b 128) (list_all (λ c. nat_lt c 128) bs) e).0
 bytes_ascii (b ∷ bs) e (suc i) = bytes_ascii bs (and_parts (nat_lt b 128) (list_all (λ c. nat_lt c 128) bs) e).1 i
 
-ascii_in : (texts : List Text) (place : ℕ) (o : Option Text) → slice_get texts place ≡ o → list_all is_ascii_text texts ≡ true → IsAscii (text_in o)
+ascii_in : (texts : List Text) (place : ℕ) (o : Option Text) → slice_get texts place ≡ o → list_all is_ascii_text texts ≡ true
+    → IsAscii (text_in o)
 unfolding text_in is_ascii_text
 ascii_in texts place None g e = IsAscii-nil
 ascii_in texts place (Some t) g e = IsAscii-take t.bytes t.length (bytes_ascii t.bytes (all_get is_ascii_text texts place t e g))

@@ -1,5 +1,6 @@
 -- What one turn is, case by case, and that a turn after which the thread goes on counts one instruction and one turn.
-use Rattle.std.proofs.Common.{◌⊎◌, inl, inr, ◌≡◌, ℕ, ◌+◌, true, false, List, Option, Some, None, refl, ap, sym, ◌∙◌, arith, subst, slice_index, length}
+use Rattle.std.proofs.Common.{◌⊎◌, inl, inr, ◌≡◌, ℕ, ◌+◌, true, false, List, Option, Some, None, refl, ap, sym, ◌∙◌, arith, subst}
+use Rattle.std.proofs.Common.{slice_index, length}
 use Rattle.std.proofs.lemmas.Bool.{cond_both}
 use Rattle.std.proofs.lemmas.Bool.Decides.{nat_tests}
 use Rattle.std.specs.Prelude.{◌==◌, ◌||◌, nat_lt}
@@ -12,23 +13,33 @@ use Rattle.kernel_contexts.specs.State.{State}
 use Rattle.kernel_contexts.specs.Call.{TurnEnd, Goes, Yields, Asks, Ends, counted, written, call_of, write_of, exit_of, output_limit}
 use Rattle.kernel_contexts.specs.Turn.{turn_of, after_effect}
 
-pub turn_spent : (config : Config) (thread events : ℕ) (s : State) → s.count ≡ config.budget → turn_of config thread events s ≡ Ends s Budget
+pub turn_spent : (config : Config) (thread events : ℕ) (s : State) → s.count ≡ config.budget
+    → turn_of config thread events s ≡ Ends s Budget
 unfolding turn_of
 turn_spent config thread events s e = let test : (s.count == config.budget) ≡ true = grind (arith, nat_tests) in rw test refl
 
-turn_on : (config : Config) (thread events : ℕ) (s : State) → (s.count ≡ config.budget → ⊥) → turn_of config thread events s ≡ after_effect config thread s (effect_of (vector_bytes config.vl) s.core)
+turn_on : (config : Config) (thread events : ℕ) (s : State) → (s.count ≡ config.budget → ⊥)
+    → turn_of config thread events s ≡ after_effect config thread s (effect_of (vector_bytes config.vl) s.core)
 unfolding turn_of
 turn_on config thread events s e = let test : (s.count == config.budget) ≡ false = grind (arith, nat_tests) in rw test refl
 
-pub turn_becomes : (config : Config) (thread events : ℕ) (s : State) (core : ProcessorState) → (s.count ≡ config.budget → ⊥) → effect_of (vector_bytes config.vl) s.core ≡ Becomes core → turn_of config thread events s ≡ Goes (counted s core)
+pub turn_becomes : (config : Config) (thread events : ℕ) (s : State) (core : ProcessorState) → (s.count ≡ config.budget → ⊥)
+    → effect_of (vector_bytes config.vl) s.core ≡ Becomes core → turn_of config thread events s ≡ Goes (counted s core)
 turn_becomes config thread events s core e is = turn_on config thread events s e ∙ ap (after_effect config thread s) is
 
-pub turn_calls : (config : Config) (thread events : ℕ) (s : State) (core : ProcessorState) (number : ℕ) → (s.count ≡ config.budget → ⊥) → effect_of (vector_bytes config.vl) s.core ≡ Calls number → core ≡ s.core → turn_of config thread events s ≡ call_of config thread (record s { core = core }) (record s { core = core })
-turn_calls config thread events s core number e is same = turn_on config thread events s e ∙ ap (after_effect config thread s) is ∙ ap (λ core. call_of config thread (record s { core = core }) (record s { core = core })) (sym same)
+pub turn_calls : (config : Config) (thread events : ℕ) (s : State) (core : ProcessorState) (number : ℕ) → (s.count ≡ config.budget → ⊥)
+    → effect_of (vector_bytes config.vl) s.core ≡ Calls number → core ≡ s.core
+    → turn_of config thread events s ≡ call_of config thread (record s { core = core }) (record s { core = core })
+turn_calls config thread events s core number e is same =
+    turn_on config thread events s e ∙ ap (after_effect config thread s) is
+    ∙ ap (λ core. call_of config thread (record s { core = core }) (record s { core = core })) (sym same)
 
-pub turn_raises : (config : Config) (thread events : ℕ) (s : State) (core : ProcessorState) (exception : Exception) → (s.count ≡ config.budget → ⊥) → effect_of (vector_bytes config.vl) s.core ≡ Raises exception → core ≡ s.core
+pub turn_raises : (config : Config) (thread events : ℕ) (s : State) (core : ProcessorState) (exception : Exception)
+    → (s.count ≡ config.budget → ⊥) → effect_of (vector_bytes config.vl) s.core ≡ Raises exception → core ≡ s.core
     → turn_of config thread events s ≡ Ends (record s { core = core }) (Raised exception core.scalars.pc)
-turn_raises config thread events s core exception e is same = turn_on config thread events s e ∙ ap (after_effect config thread s) is ∙ ap (λ core. Ends (record s { core = core }) (Raised exception core.scalars.pc)) (sym same)
+turn_raises config thread events s core exception e is same =
+    turn_on config thread events s e ∙ ap (after_effect config thread s) is
+    ∙ ap (λ core. Ends (record s { core = core }) (Raised exception core.scalars.pc)) (sym same)
 
 -- one instruction more is counted, and one turn
 pub record IsOneMore (s t : State) : Type 0 where
@@ -52,7 +63,8 @@ written_counts s (Some bytes) length = record { count = refl; turns = refl }
 write_counts : (s : State) → CountsOne s (write_of s s)
 unfolding write_of
 write_counts s = cond_both ((slice_index s.core.scalars.x 0 == 1) || (slice_index s.core.scalars.x 0 == 2)) _ _ (CountsOne s)
-    (λ _. cond_both (nat_lt output_limit (length s.output + slice_index s.core.scalars.x 2)) _ _ (CountsOne s) (λ _. inl refl) (λ _. written_counts s _ _))
+    (λ _. cond_both (nat_lt output_limit (length s.output + slice_index s.core.scalars.x 2)) _ _ (CountsOne s) (λ _. inl refl)
+    (λ _. written_counts s _ _))
     (λ _. one_more s _)
 
 call_counts : (config : Config) (thread : ℕ) (s : State) → CountsOne s (call_of config thread s s)
@@ -67,7 +79,9 @@ effect_counts config thread s (Becomes core) = one_more s core
 
 pub turn_counts : (config : Config) (thread events : ℕ) (s : State) → CountsOne s (turn_of config thread events s)
 unfolding turn_of
-turn_counts config thread events s = cond_both (s.count == config.budget) _ _ (CountsOne s) (λ _. inl refl) (λ _. effect_counts config thread s (effect_of (vector_bytes config.vl) s.core))
+turn_counts config thread events s =
+    cond_both (s.count == config.budget) _ _ (CountsOne s) (λ _. inl refl)
+    (λ _. effect_counts config thread s (effect_of (vector_bytes config.vl) s.core))
 
 pub goes_turned : (config : Config) (thread events : ℕ) (s t : State) → turn_of config thread events s ≡ Goes t → t.turns ≡ s.turns + 1
 goes_turned config thread events s t e = let more : IsOneMore s t = subst (CountsOne s) e (turn_counts config thread events s) in more.turns

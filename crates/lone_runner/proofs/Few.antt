@@ -20,15 +20,18 @@ IsCounted budget turns (At s done events) = (s.count ≡ turns) × (s.turns ≡ 
 IsCounted budget turns (Ended s stop done events) = s.turns ≤ budget
 IsCounted budget turns (Strays s done events) = Unit {0}
 
-on : (budget turns : ℕ) (s t : State) (done : ℕ) (events : List Event) → s.count ≡ turns → s.turns ≡ turns → turns < budget → IsOneMore s t → IsCounted budget (suc turns) (At t done events)
+on : (budget turns : ℕ) (s t : State) (done : ℕ) (events : List Event) → s.count ≡ turns → s.turns ≡ turns → turns < budget → IsOneMore s t
+    → IsCounted budget (suc turns) (At t done events)
 on budget turns s t done events count made under more = (omega (arith, more.count), omega (arith, more.turns), omega arith)
 
-after : (budget turns : ℕ) (s : State) (done : ℕ) (events : List Event) (end : TurnEnd) → s.count ≡ turns → s.turns ≡ turns → turns < budget → CountsOne s end → IsCounted budget (suc turns) (after_turn s done events end)
+after : (budget turns : ℕ) (s : State) (done : ℕ) (events : List Event) (end : TurnEnd) → s.count ≡ turns → s.turns ≡ turns → turns < budget
+    → CountsOne s end → IsCounted budget (suc turns) (after_turn s done events end)
 after budget turns s done events (Goes t) count made under more = on budget turns s t done events count made under more
 after budget turns s done events (Yields t) count made under more = on budget turns s t done events count made under more
 after budget turns s done [] (Asks op next) count made under more = tt
 after budget turns s done (event ∷ events) (Asks op next) count made under more =
-    cond_both (is_same_op op event.op) _ _ (IsCounted budget (suc turns)) (λ _. on budget turns s (next event.answer) (done + 1) events count made under (more event.answer)) (λ _. tt)
+    cond_both (is_same_op op event.op) _ _ (IsCounted budget (suc turns))
+    (λ _. on budget turns s (next event.answer) (done + 1) events count made under (more event.answer)) (λ _. tt)
 after budget turns s done events (Ends t stop) count made under more = elim more [
   | inl same ↦ let last : t.turns ≤ budget = omega arith in last
   | inr one ↦ let last : t.turns ≤ budget = omega (arith, one.turns) in last
@@ -41,11 +44,13 @@ same : (a b : ℕ) → (a == b) ≡ true → a ≡ b
 same a b e = grind (arith, nat_tests)
 
 -- one turn more
-counted_on : (config : Config) (thread turns : ℕ) (reached : Reached) → IsCounted config.budget turns reached → IsCounted config.budget (suc turns) (turned config thread reached)
+counted_on : (config : Config) (thread turns : ℕ) (reached : Reached) → IsCounted config.budget turns reached
+    → IsCounted config.budget (suc turns) (turned config thread reached)
 counted_on config thread turns (At s done events) h = elim (cases_Bool (s.count == config.budget)) [
   | inl spent ↦
       let within : s.turns ≤ config.budget = omega (arith, h.1, h.2) in
-      subst (λ end. IsCounted config.budget (suc turns) (after_turn s done events end)) (sym (turn_spent config thread done s (same s.count config.budget spent))) within
+      subst (λ end. IsCounted config.budget (suc turns) (after_turn s done events end))
+      (sym (turn_spent config thread done s (same s.count config.budget spent))) within
   | inr left ↦
       let within : s.count ≤ config.budget = omega (arith, h.0, h.2) in
       let under : s.count < config.budget = apart s.count config.budget left within in
@@ -54,23 +59,33 @@ counted_on config thread turns (At s done events) h = elim (cases_Bool (s.count 
 counted_on config thread turns (Ended s stop done events) h = h
 counted_on config thread turns (Strays s done events) h = tt
 
-counted_from : (config : Config) (thread : ℕ) (from : State) (journal : List Event) (turns : ℕ) → from.count ≡ 0 → from.turns ≡ 0 → IsCounted config.budget turns (reach_from config thread from 0 journal turns)
+counted_from : (config : Config) (thread : ℕ) (from : State) (journal : List Event) (turns : ℕ) → from.count ≡ 0 → from.turns ≡ 0
+    → IsCounted config.budget turns (reach_from config thread from 0 journal turns)
 unfolding reach_from
 counted_from config thread from journal zero count made = (count, made, omega arith)
-counted_from config thread from journal (suc turns) count made = counted_on config thread turns (reach_from config thread from 0 journal turns) (counted_from config thread from journal turns count made)
+counted_from config thread from journal (suc turns) count made =
+    counted_on config thread turns (reach_from config thread from 0 journal turns)
+    (counted_from config thread from journal turns count made)
 
-counted : (program : Program) (config : Config) (thread : ℕ) (journal : List Event) (turns : ℕ) → IsCounted config.budget turns (reach program config thread journal turns)
+counted : (program : Program) (config : Config) (thread : ℕ) (journal : List Event) (turns : ℕ)
+    → IsCounted config.budget turns (reach program config thread journal turns)
 unfolding reach start_state
 counted program config thread journal turns = counted_from config thread (start_state program config thread) journal turns refl refl
 
-pub turns_told : (program : Program) (config : Config) (thread : ℕ) (journal : List Event) (turns : ℕ) (s : State) (done : ℕ) (left : List Event) → reach program config thread journal turns ≡ At s done left → s.turns ≡ turns
+pub turns_told : (program : Program) (config : Config) (thread : ℕ) (journal : List Event) (turns : ℕ) (s : State) (done : ℕ)
+    (left : List Event) → reach program config thread journal turns ≡ At s done left → s.turns ≡ turns
 turns_told program config thread journal turns s done left e =
-    let h : IsCounted config.budget turns (At s done left) = subst (IsCounted config.budget turns) e (counted program config thread journal turns) in h.1
+    let h : IsCounted config.budget turns (At s done left) =
+    subst (IsCounted config.budget turns) e (counted program config thread journal turns) in h.1
 
-pub few_under_way : (program : Program) (config : Config) (thread : ℕ) (journal : List Event) (turns : ℕ) (s : State) (done : ℕ) (left : List Event) → reach program config thread journal turns ≡ At s done left → turns ≤ 3 * config.budget
+pub few_under_way : (program : Program) (config : Config) (thread : ℕ) (journal : List Event) (turns : ℕ) (s : State) (done : ℕ)
+    (left : List Event) → reach program config thread journal turns ≡ At s done left → turns ≤ 3 * config.budget
 few_under_way program config thread journal turns s done left e =
-    let h : IsCounted config.budget turns (At s done left) = subst (IsCounted config.budget turns) e (counted program config thread journal turns) in omega (arith, h.2)
+    let h : IsCounted config.budget turns (At s done left) =
+    subst (IsCounted config.budget turns) e (counted program config thread journal turns) in omega (arith, h.2)
 
-pub few_at_end : (program : Program) (config : Config) (thread : ℕ) (journal : List Event) (turns : ℕ) (s : State) (stop : Stop) (done : ℕ) (left : List Event) → reach program config thread journal turns ≡ Ended s stop done left → s.turns ≤ 3 * config.budget
+pub few_at_end : (program : Program) (config : Config) (thread : ℕ) (journal : List Event) (turns : ℕ) (s : State) (stop : Stop) (done : ℕ)
+    (left : List Event) → reach program config thread journal turns ≡ Ended s stop done left → s.turns ≤ 3 * config.budget
 few_at_end program config thread journal turns s stop done left e =
-    let h : IsCounted config.budget turns (Ended s stop done left) = subst (IsCounted config.budget turns) e (counted program config thread journal turns) in omega (arith, h)
+    let h : IsCounted config.budget turns (Ended s stop done left) =
+    subst (IsCounted config.budget turns) e (counted program config thread journal turns) in omega (arith, h)

@@ -12,21 +12,24 @@ use Rattle.std.specs.Option.{option_or}
 use Rattle.scalar_exec.specs.Step.{is_scalar}
 use Rattle.machine_step.specs.ProcessorState.{ProcessorState}
 use Rattle.machine_step.specs.System.{system_move, core_past, moved}
-use Rattle.machine_step.specs.Effect.{Effect, Raises, Becomes, word_of, insn_at, is_executed, is_executed_register, next_of, unless_fault, fault_of, effect_of, perform, row_fault, data_fault, accessed, computed}
+use Rattle.machine_step.specs.Effect.{Effect, Raises, Becomes, word_of, insn_at, is_executed, is_executed_register, next_of, unless_fault}
+use Rattle.machine_step.specs.Effect.{fault_of, effect_of, perform, row_fault, data_fault, accessed, computed}
 use Rattle.machine_step.specs.Execution.{effect_of_insn, effect_of_meaning, unless_raised}
 use Rattle.machine_step.specs.Machine.{Steps}
 use Rattle.machine_step.specs.declared.machine.StepEnd.{StepEnd}
 use Rattle.machine_step.specs.declared.machine.StepEnd.TheVariants.{Next, Call, Raise, Memory}
 
 -- the state after an instruction that is executed
-pub steps_on : (effect : Effect) (old new made : ProcessorState) (end : StepEnd) → effect ≡ Becomes made → new ≡ made → end ≡ Next → Steps effect old new end
+pub steps_on : (effect : Effect) (old new made : ProcessorState) (end : StepEnd) → effect ≡ Becomes made → new ≡ made → end ≡ Next
+    → Steps effect old new end
 steps_on effect old new made Next is same e = is ∙ ap Becomes (sym same)
 steps_on effect old new made (Call number) is same e = cc
 steps_on effect old new made (Raise exception) is same e = cc
 steps_on effect old new made Memory is same e = cc
 
 -- an instruction of the scalar registers alone
-pub scalar_effect : (word vl : ℕ) (it : Insn) (s : ProcessorState) → IsTrue (is_scalar it) → effect_of_insn word it vl s ≡ Becomes (computed it s)
+pub scalar_effect : (word vl : ℕ) (it : Insn) (s : ProcessorState) → IsTrue (is_scalar it)
+    → effect_of_insn word it vl s ≡ Becomes (computed it s)
 scalar_effect word vl (insn.AddSubImmediate x) s h = refl
 scalar_effect word vl (insn.AddSubRegister x) s h = refl
 scalar_effect word vl (insn.LogicalRegister x) s h = refl
@@ -52,37 +55,48 @@ scalar_effect word vl (insn.System x) s h = cc
 scalar_effect word vl (insn.SystemMove x) s h = cc
 
 -- a move of a system register that is executed
-pub move_effect : (word vl : ℕ) (x : SystemMove) (s : ProcessorState) → is_executed_register x.register ≡ true → effect_of_insn word (insn.SystemMove x) vl s ≡ Becomes (core_past (moved x.op x s))
+pub move_effect : (word vl : ℕ) (x : SystemMove) (s : ProcessorState) → is_executed_register x.register ≡ true
+    → effect_of_insn word (insn.SystemMove x) vl s ≡ Becomes (core_past (moved x.op x s))
 unfolding system_move
 move_effect word vl x s h = ap (λ b. cond b (next_of vl (insn.SystemMove x) s) (Raises (Undefined word))) h
 
 unless_row : (executed : Bool) (fault : Option Exception) (word vl : ℕ) (it : Insn) (s : ProcessorState) → insn_at s ≡ Some it
-    → unless_fault vl (option_or (option_or (cond executed None (Some (Undefined word))) None) (option_or fault None)) s ≡ cond executed (unless_raised fault (next_of vl it s)) (Raises (Undefined word))
+    → unless_fault vl (option_or (option_or (cond executed None (Some (Undefined word))) None) (option_or fault None)) s
+    ≡ cond executed (unless_raised fault (next_of vl it s)) (Raises (Undefined word))
 unless_row true None word vl it s h = ap (λ k. perform vl k s) h
 unless_row true (Some exception) word vl it s h = refl
 unless_row false fault word vl it s h = refl
 
-first_of : (s : ProcessorState) (word : ℕ) → s.scalars.pc % 4 ≡ 0 → word_of s ≡ Some word → fault_of s ≡ option_or (option_or (row_fault word (instruction_of word)) None) (option_or (data_fault s) None)
+first_of : (s : ProcessorState) (word : ℕ) → s.scalars.pc % 4 ≡ 0 → word_of s ≡ Some word
+    → fault_of s ≡ option_or (option_or (row_fault word (instruction_of word)) None) (option_or (data_fault s) None)
 unfolding fault_of
 first_of s word aligned fetched = rw (aligned, fetched) refl
 
 -- the effect at PC is that of the instruction there
-pub effect_at : (vl : ℕ) (s : ProcessorState) (word : ℕ) (it : Insn) → s.scalars.pc % 4 ≡ 0 → word_of s ≡ Some word → instruction_of word ≡ Some it → effect_of vl s ≡ effect_of_insn word it vl s
+pub effect_at : (vl : ℕ) (s : ProcessorState) (word : ℕ) (it : Insn) → s.scalars.pc % 4 ≡ 0 → word_of s ≡ Some word
+    → instruction_of word ≡ Some it → effect_of vl s ≡ effect_of_insn word it vl s
 unfolding effect_of
 effect_at vl s word it aligned fetched is =
     let here : insn_at s ≡ Some it = rw fetched is in
-    let data_checks : data_fault s ≡ transfer_fault it s.scalars s.memory = ap (option_and_then (λ k. transfer_fault k s.scalars s.memory)) here in
-    ap (λ k. unless_fault vl k s) (first_of s word aligned fetched ∙ ap (λ k. option_or (option_or (row_fault word k) None) (option_or (data_fault s) None)) is ∙ ap (λ k. option_or (option_or (row_fault word (Some it)) None) (option_or k None)) data_checks)
+    let data_checks : data_fault s ≡ transfer_fault it s.scalars s.memory =
+    ap (option_and_then (λ k. transfer_fault k s.scalars s.memory)) here in
+    ap (λ k. unless_fault vl k s) (first_of s word aligned fetched
+    ∙ ap (λ k. option_or (option_or (row_fault word k) None) (option_or (data_fault s) None)) is
+    ∙ ap (λ k. option_or (option_or (row_fault word (Some it)) None) (option_or k None)) data_checks)
     ∙ unless_row (is_executed it) (transfer_fault it s.scalars s.memory) word vl it s here
 
 -- the effect at PC is that of the word there
-pub effect_of_word : (vl : ℕ) (s : ProcessorState) (word : ℕ) (meaning : Option Insn) → s.scalars.pc % 4 ≡ 0 → word_of s ≡ Some word → instruction_of word ≡ meaning → effect_of vl s ≡ effect_of_meaning word meaning vl s
+pub effect_of_word : (vl : ℕ) (s : ProcessorState) (word : ℕ) (meaning : Option Insn) → s.scalars.pc % 4 ≡ 0 → word_of s ≡ Some word
+    → instruction_of word ≡ meaning → effect_of vl s ≡ effect_of_meaning word meaning vl s
 unfolding effect_of
-effect_of_word vl s word None aligned fetched is = ap (λ k. unless_fault vl k s) (first_of s word aligned fetched ∙ ap (λ k. option_or (option_or (row_fault word k) None) (option_or (data_fault s) None)) is)
+effect_of_word vl s word None aligned fetched is =
+    ap (λ k. unless_fault vl k s) (first_of s word aligned fetched
+    ∙ ap (λ k. option_or (option_or (row_fault word k) None) (option_or (data_fault s) None)) is)
 effect_of_word vl s word (Some it) aligned fetched is = effect_at vl s word it aligned fetched is
 
 -- a load, a store or an atomic instruction that no check refuses
-pub access_effect : (word vl : ℕ) (it : Insn) (s : ProcessorState) → IsTrue (is_access it) → transfer_fault it s.scalars s.memory ≡ None → effect_of_insn word it vl s ≡ Becomes (accessed it s)
+pub access_effect : (word vl : ℕ) (it : Insn) (s : ProcessorState) → IsTrue (is_access it) → transfer_fault it s.scalars s.memory ≡ None
+    → effect_of_insn word it vl s ≡ Becomes (accessed it s)
 access_effect word vl (insn.LoadStore x) s h none = ap (λ f. unless_raised f (next_of vl (insn.LoadStore x) s)) none
 access_effect word vl (insn.LoadLiteral x) s h none = ap (λ f. unless_raised f (next_of vl (insn.LoadLiteral x) s)) none
 access_effect word vl (insn.LoadStorePair x) s h none = ap (λ f. unless_raised f (next_of vl (insn.LoadStorePair x) s)) none

@@ -19,23 +19,39 @@ pub record IsOfKind (x y : Atomic) (at : MemoryAccess) (s : Scalars) (n : ℕ) (
   pub writes : (atomic_access y s).writes ≡ write
   pub size : (atomic_access y s).size ≡ n
 
-after_kind : (x y : Atomic) (s : Scalars) (m : AddressSpace) (made : ℕ → AfterAccess) → x ≡ y → ((a : ℕ) → after_atomic y a s m ≡ made a) → (a : ℕ) → after_atomic x a s m ≡ made a
+after_kind : (x y : Atomic) (s : Scalars) (m : AddressSpace) (made : ℕ → AfterAccess) → x ≡ y → ((a : ℕ) → after_atomic y a s m ≡ made a)
+    → (a : ℕ) → after_atomic x a s m ≡ made a
 after_kind x y s m made is h a = ap (λ k. after_atomic k a s m) is ∙ h a
 
-pub atomic_read : (x y : Atomic) (access : MemoryAccess) (s : Scalars) (m : AddressSpace) (n : ℕ) (made : ℕ → AfterAccess) (old new : AfterAccess) (r : Result (Unit {0}) AccessStop) → IsOfKind x y access s n true false → ((a : ℕ) → after_atomic y a s m ≡ made a)
-    → Transfers (denied_read m access.address n) (made access.address) old new r → Transfers (run_fault (atomic_access x s) s m) (after_atomic x (atomic_access x s).address s m) old new r
+pub atomic_read : (x y : Atomic) (access : MemoryAccess) (s : Scalars) (m : AddressSpace) (n : ℕ) (made : ℕ → AfterAccess)
+    (old new : AfterAccess) (r : Result (Unit {0}) AccessStop) → IsOfKind x y access s n true false
+    → ((a : ℕ) → after_atomic y a s m ≡ made a)
+    → Transfers (denied_read m access.address n) (made access.address) old new r
+    → Transfers (run_fault (atomic_access x s) s m) (after_atomic x (atomic_access x s).address s m) old new r
 atomic_read x y access s m n made old new r is after h =
     made_as _ _ _ old new r (after_kind x y s m made is.kind after (atomic_access x s).address)
-    (made_reading (atomic_access x s) access s m n made old new r is.access is.placed (ap (λ k. (atomic_access k s).reads) is.kind ∙ is.reads) (ap (λ k. (atomic_access k s).writes) is.kind ∙ is.writes) (ap (λ k. (atomic_access k s).size) is.kind ∙ is.size) h)
+    (made_reading (atomic_access x s) access s m n made old new r is.access is.placed
+    (ap (λ k. (atomic_access k s).reads) is.kind ∙ is.reads) (ap (λ k. (atomic_access k s).writes) is.kind ∙ is.writes)
+    (ap (λ k. (atomic_access k s).size) is.kind ∙ is.size) h)
 
-pub atomic_written : (x y : Atomic) (access : MemoryAccess) (s : Scalars) (m : AddressSpace) (n : ℕ) (made : ℕ → AfterAccess) (old new : AfterAccess) (r : Result (Unit {0}) AccessStop) → IsOfKind x y access s n false true → ((a : ℕ) → after_atomic y a s m ≡ made a)
-    → Transfers (denied_write m access.address n) (made access.address) old new r → Transfers (run_fault (atomic_access x s) s m) (after_atomic x (atomic_access x s).address s m) old new r
+pub atomic_written : (x y : Atomic) (access : MemoryAccess) (s : Scalars) (m : AddressSpace) (n : ℕ) (made : ℕ → AfterAccess)
+    (old new : AfterAccess) (r : Result (Unit {0}) AccessStop) → IsOfKind x y access s n false true
+    → ((a : ℕ) → after_atomic y a s m ≡ made a)
+    → Transfers (denied_write m access.address n) (made access.address) old new r
+    → Transfers (run_fault (atomic_access x s) s m) (after_atomic x (atomic_access x s).address s m) old new r
 atomic_written x y access s m n made old new r is after h =
     made_as _ _ _ old new r (after_kind x y s m made is.kind after (atomic_access x s).address)
-    (made_writing (atomic_access x s) access s m n made old new r is.access is.placed (ap (λ k. (atomic_access k s).reads) is.kind ∙ is.reads) (ap (λ k. (atomic_access k s).writes) is.kind ∙ is.writes) (ap (λ k. (atomic_access k s).size) is.kind ∙ is.size) h)
+    (made_writing (atomic_access x s) access s m n made old new r is.access is.placed
+    (ap (λ k. (atomic_access k s).reads) is.kind ∙ is.reads) (ap (λ k. (atomic_access k s).writes) is.kind ∙ is.writes)
+    (ap (λ k. (atomic_access k s).size) is.kind ∙ is.size) h)
 
-pub atomic_updated : (x y : Atomic) (access : MemoryAccess) (s : Scalars) (m : AddressSpace) (n : ℕ) (made : ℕ → AfterAccess) (old new : AfterAccess) (r : Result (Unit {0}) AccessStop) → IsOfKind x y access s n true true → ((a : ℕ) → after_atomic y a s m ≡ made a)
-    → Transfers (denied_update m access.address n) (made access.address) old new r → Transfers (run_fault (atomic_access x s) s m) (after_atomic x (atomic_access x s).address s m) old new r
+pub atomic_updated : (x y : Atomic) (access : MemoryAccess) (s : Scalars) (m : AddressSpace) (n : ℕ) (made : ℕ → AfterAccess)
+    (old new : AfterAccess) (r : Result (Unit {0}) AccessStop) → IsOfKind x y access s n true true
+    → ((a : ℕ) → after_atomic y a s m ≡ made a)
+    → Transfers (denied_update m access.address n) (made access.address) old new r
+    → Transfers (run_fault (atomic_access x s) s m) (after_atomic x (atomic_access x s).address s m) old new r
 atomic_updated x y access s m n made old new r is after h =
     made_as _ _ _ old new r (after_kind x y s m made is.kind after (atomic_access x s).address)
-    (made_updating (atomic_access x s) access s m n made old new r is.access is.placed (ap (λ k. (atomic_access k s).reads) is.kind ∙ is.reads) (ap (λ k. (atomic_access k s).writes) is.kind ∙ is.writes) (ap (λ k. (atomic_access k s).size) is.kind ∙ is.size) h)
+    (made_updating (atomic_access x s) access s m n made old new r is.access is.placed
+    (ap (λ k. (atomic_access k s).reads) is.kind ∙ is.reads) (ap (λ k. (atomic_access k s).writes) is.kind ∙ is.writes)
+    (ap (λ k. (atomic_access k s).size) is.kind ∙ is.size) h)

@@ -12,7 +12,8 @@ use Rattle.mem_access.specs.Values.{number_or_zero}
 use Rattle.mem_access.specs.Runs.{denied_read, number_in, with_number}
 
 -- bytes that were read, as many as were wanted
-pub number_read : (m : AddressSpace) (a k n v : ℕ) (bs : List ℕ) → bytes_with 4 m a k ≡ Some bs → k ≡ n → v ≡ little_number bs → v ≡ number_in m a n
+pub number_read : (m : AddressSpace) (a k n v : ℕ) (bs : List ℕ) → bytes_with 4 m a k ≡ Some bs → k ≡ n → v ≡ little_number bs
+    → v ≡ number_in m a n
 unfolding number_in
 number_read m a k n v bs there count is = is ∙ sym (rw (← count) (ap number_or_zero there))
 
@@ -27,9 +28,11 @@ low_bytes_of Word v = refl
 low_bytes_of Doubleword v = refl
 
 -- bytes that were written, as many as were wanted
-pub number_written : (m new : AddressSpace) (a k v : ℕ) (size : AccessSize) (bs : List ℕ) → new ≡ record m { mem = set_bytes m.mem a bs } → bs ≡ take k (to_le_bytes w64 v) → k ≡ bytes_in size → new ≡ with_number m a (bytes_in size) v
+pub number_written : (m new : AddressSpace) (a k v : ℕ) (size : AccessSize) (bs : List ℕ) → new ≡ record m { mem = set_bytes m.mem a bs }
+    → bs ≡ take k (to_le_bytes w64 v) → k ≡ bytes_in size → new ≡ with_number m a (bytes_in size) v
 unfolding with_number
-number_written m new a k v size bs is low count = is ∙ ap (λ xs. record m { mem = set_bytes m.mem a xs }) (low ∙ rw count (low_bytes_of size v))
+number_written m new a k v size bs is low count =
+    is ∙ ap (λ xs. record m { mem = set_bytes m.mem a xs }) (low ∙ rw count (low_bytes_of size v))
 
 -- what follows of an Ok
 pub on_ok : {T E P Q : Type 0} (r : Result T E) → (P → Q) → OnOk r P → OnOk r Q

@@ -5,5 +5,7 @@ use Rattle.mem_access.specs.declared.access.MemoryAccess.{MemoryAccess}
 use Rattle.mem_access.specs.Runs.{RunHasRoom}
 
 -- the bytes of an access that writes and has room are in owned pages
-pub owned_bytes : (access made : MemoryAccess) (pages : PageTable) (n : ℕ) → made ≡ access → access.writes ≡ true → access.size ≡ n → RunHasRoom access pages → AreOwned pages made.address n
-owned_bytes access made pages n is writes size room = subst (λ a. AreOwned pages a n) (ap (λ x. x.address) (sym is)) (subst (AreOwned pages access.address) size (room writes))
+pub owned_bytes : (access made : MemoryAccess) (pages : PageTable) (n : ℕ) → made ≡ access → access.writes ≡ true → access.size ≡ n
+    → RunHasRoom access pages → AreOwned pages made.address n
+owned_bytes access made pages n is writes size room =
+    subst (λ a. AreOwned pages a n) (ap (λ x. x.address) (sym is)) (subst (AreOwned pages access.address) size (room writes))

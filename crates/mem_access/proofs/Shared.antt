@@ -21,7 +21,8 @@ first_shared-none a (suc n) h = rw (first_shared-none a n (λ k l. h k (omega ar
 last_or : (d n : ℕ) → d < suc n → (d ≡ n) ⊎ (d < n)
 last_or d n l = grind arith
 
-pub first_shared-at : (a n d : ℕ) → ((k : ℕ) → k < d → is_shared ((a + k) % 2 ^ 64) ≡ false) → is_shared ((a + d) % 2 ^ 64) ≡ true → d < n → first_shared a n ≡ Some ((a + d) % 2 ^ 64)
+pub first_shared-at : (a n d : ℕ) → ((k : ℕ) → k < d → is_shared ((a + k) % 2 ^ 64) ≡ false) → is_shared ((a + d) % 2 ^ 64) ≡ true → d < n
+    → first_shared a n ≡ Some ((a + d) % 2 ^ 64)
 unfolding first_shared
 first_shared-at a zero d before here l = absurd (omega arith)
 first_shared-at a (suc n) d before here l =
@@ -51,7 +52,8 @@ none_above a n low h short = first_shared-none a n (λ k l.
 pub first_of_them : (a n : ℕ) → a < 0x7F0000000000 → 0x7F0000000000 < a + n → first_shared a n ≡ Some 0x7F0000000000
 first_of_them a n low reach =
     let at : (a + (0x7F0000000000 - a)) % 2 ^ 64 ≡ 0x7F0000000000 = omega arith in
-    first_shared-at a n (0x7F0000000000 - a) (λ k l. shared-below ((a + k) % 2 ^ 64) (omega arith)) (ap is_shared at ∙ shared-inside 0x7F0000000000 (omega arith) (omega arith)) (omega arith) ∙ ap Some at
+    first_shared-at a n (0x7F0000000000 - a) (λ k l. shared-below ((a + k) % 2 ^ 64) (omega arith))
+    (ap is_shared at ∙ shared-inside 0x7F0000000000 (omega arith) (omega arith)) (omega arith) ∙ ap Some at
 
 -- bytes that begin among them
 pub first_itself : (a n : ℕ) → 0x7F0000000000 ≤ a → a < 0x7F0000001000 → 1 ≤ n → first_shared a n ≡ Some a

@@ -1,15 +1,19 @@
 -- Accesses to some bytes, one after another.
-use Rattle.std.proofs.Common.{◌⊎◌, inl, inr, ◌≡◌, ℕ, zero, suc, ◌+◌, ◌%◌, ◌^◌, ◌<◌, ◌≤◌, List, [], ◌∷◌, ◌++◌, refl, ap, sym, ◌∙◌, arith, Option, Some, None, add-one, append_assoc}
+use Rattle.std.proofs.Common.{◌⊎◌, inl, inr, ◌≡◌, ℕ, zero, suc, ◌+◌, ◌%◌, ◌^◌, ◌<◌, ◌≤◌, List, [], ◌∷◌, ◌++◌, refl, ap, sym, ◌∙◌, arith}
+use Rattle.std.proofs.Common.{Option, Some, None, add-one, append_assoc}
 use Rattle.std.specs.Prelude.{IsSome}
 use Rattle.std.proofs.lemmas.List.{append-nil}
 use Rattle.std.specs.Option.{option_or}
 use Rattle.paged_memory.specs.Memory.{AddressSpace, byte_with, bytes_with, and_byte, unless_there, first_without}
 
-pub bytes_with-next : (need : ℕ) (m : AddressSpace) (a i : ℕ) → bytes_with need m a (i + 1) ≡ and_byte (bytes_with need m a i) (byte_with need m ((a + i) % 2 ^ 64))
+pub bytes_with-next : (need : ℕ) (m : AddressSpace) (a i : ℕ)
+    → bytes_with need m a (i + 1) ≡ and_byte (bytes_with need m a i) (byte_with need m ((a + i) % 2 ^ 64))
 unfolding bytes_with
 bytes_with-next need m a i = rw add-one refl
 
-pub first_without-next : (need : ℕ) (m : AddressSpace) (a i : ℕ) → first_without need m a (i + 1) ≡ option_or (first_without need m a i) (unless_there ((a + i) % 2 ^ 64) (byte_with need m ((a + i) % 2 ^ 64)))
+pub first_without-next : (need : ℕ) (m : AddressSpace) (a i : ℕ)
+    → first_without need m a (i + 1) ≡ option_or (first_without need m a i)
+    (unless_there ((a + i) % 2 ^ 64) (byte_with need m ((a + i) % 2 ^ 64)))
 unfolding first_without
 first_without-next need m a i = rw add-one refl
 
@@ -25,7 +29,8 @@ bytes_with-stays need m a i (suc n) e l =
       | inr b ↦ rw (bytes_with-stays need m a i n e b) refl
     ]
 
-pub first_without-stays : (need : ℕ) (m : AddressSpace) (a i n x : ℕ) → first_without need m a i ≡ Some x → i ≤ n → first_without need m a n ≡ Some x
+pub first_without-stays : (need : ℕ) (m : AddressSpace) (a i n x : ℕ) → first_without need m a i ≡ Some x → i ≤ n
+    → first_without need m a n ≡ Some x
 unfolding first_without
 first_without-stays need m a i zero x e l = let z : i ≡ zero = omega arith in rw z at e
 first_without-stays need m a i (suc n) x e l =
@@ -61,12 +66,14 @@ joined-and_byte (Some bs) (Some cs) (Some b) = ap Some (append_assoc bs cs (b �
 round_twice : (a d n : ℕ) → ((a + d) % 2 ^ 64 + n) % 2 ^ 64 ≡ (a + (d + n)) % 2 ^ 64
 round_twice a d n = omega arith
 
-pub bytes_with-join : (need : ℕ) (m : AddressSpace) (a d n : ℕ) → bytes_with need m a (d + n) ≡ joined (bytes_with need m a d) (bytes_with need m ((a + d) % 2 ^ 64) n)
+pub bytes_with-join : (need : ℕ) (m : AddressSpace) (a d n : ℕ)
+    → bytes_with need m a (d + n) ≡ joined (bytes_with need m a d) (bytes_with need m ((a + d) % 2 ^ 64) n)
 unfolding bytes_with
 bytes_with-join need m a d zero = let e : d + 0 ≡ d = omega arith in rw e (joined-nil (bytes_with need m a d))
 bytes_with-join need m a d (suc n) =
     let e : d + suc n ≡ suc (d + n) = omega arith in
-    rw (e, bytes_with-join need m a d n, round_twice a d n) (joined-and_byte (bytes_with need m a d) (bytes_with need m ((a + d) % 2 ^ 64) n) (byte_with need m ((a + (d + n)) % 2 ^ 64)))
+    rw (e, bytes_with-join need m a d n, round_twice a d n)
+    (joined-and_byte (bytes_with need m a d) (bytes_with need m ((a + d) % 2 ^ 64) n) (byte_with need m ((a + (d + n)) % 2 ^ 64)))
 
 some_first : (o : Option (List ℕ)) (b : Option ℕ) → IsSome (and_byte o b) → IsSome o
 some_first None b h = h
@@ -95,14 +102,19 @@ no_more None = refl
 no_more (Some bs) = refl
 
 -- the bytes up to one that is not there
-pub bytes_with-stop : (need : ℕ) (m : AddressSpace) (a d n : ℕ) → byte_with need m ((a + d) % 2 ^ 64) ≡ None → d < n → bytes_with need m a n ≡ None
-bytes_with-stop need m a d n gone l = bytes_with-stays need m a (d + 1) n (bytes_with-next need m a d ∙ rw gone (no_more (bytes_with need m a d))) (omega arith)
+pub bytes_with-stop : (need : ℕ) (m : AddressSpace) (a d n : ℕ) → byte_with need m ((a + d) % 2 ^ 64) ≡ None → d < n
+    → bytes_with need m a n ≡ None
+bytes_with-stop need m a d n gone l =
+    bytes_with-stays need m a (d + 1) n (bytes_with-next need m a d ∙ rw gone (no_more (bytes_with need m a d))) (omega arith)
 
 -- none before it, and it is not there
-pub first_without-at : (need : ℕ) (m : AddressSpace) (a d n : ℕ) → first_without need m a d ≡ None → byte_with need m ((a + d) % 2 ^ 64) ≡ None → d < n → first_without need m a n ≡ Some ((a + d) % 2 ^ 64)
-first_without-at need m a d n before gone l = first_without-stays need m a (d + 1) n _ (first_without-next need m a d ∙ rw (before, gone) refl) (omega arith)
+pub first_without-at : (need : ℕ) (m : AddressSpace) (a d n : ℕ) → first_without need m a d ≡ None
+    → byte_with need m ((a + d) % 2 ^ 64) ≡ None → d < n → first_without need m a n ≡ Some ((a + d) % 2 ^ 64)
+first_without-at need m a d n before gone l =
+    first_without-stays need m a (d + 1) n _ (first_without-next need m a d ∙ rw (before, gone) refl) (omega arith)
 
-pub first_without-stop : (need : ℕ) (m : AddressSpace) (a d n : ℕ) (bs : List ℕ) → bytes_with need m a d ≡ Some bs → byte_with need m ((a + d) % 2 ^ 64) ≡ None → d < n → first_without need m a n ≡ Some ((a + d) % 2 ^ 64)
+pub first_without-stop : (need : ℕ) (m : AddressSpace) (a d n : ℕ) (bs : List ℕ) → bytes_with need m a d ≡ Some bs
+    → byte_with need m ((a + d) % 2 ^ 64) ≡ None → d < n → first_without need m a n ≡ Some ((a + d) % 2 ^ 64)
 first_without-stop need m a d n bs there gone l = first_without-at need m a d n (first_without-none need m a d (rw there refl)) gone l
 
 or_else-none : (o : Option ℕ) → o ≡ option_or o None
@@ -114,26 +126,32 @@ or_else-assoc None p q = refl
 or_else-assoc (Some x) p q = refl
 
 -- the first of two runs, one after the other
-pub first_without-join : (need : ℕ) (m : AddressSpace) (a d n : ℕ) → first_without need m a (d + n) ≡ option_or (first_without need m a d) (first_without need m ((a + d) % 2 ^ 64) n)
+pub first_without-join : (need : ℕ) (m : AddressSpace) (a d n : ℕ)
+    → first_without need m a (d + n) ≡ option_or (first_without need m a d) (first_without need m ((a + d) % 2 ^ 64) n)
 unfolding first_without
 first_without-join need m a d zero = let e : d + 0 ≡ d = omega arith in rw e (or_else-none (first_without need m a d))
 first_without-join need m a d (suc n) =
     let e : d + suc n ≡ suc (d + n) = omega arith in
-    rw (e, first_without-join need m a d n, round_twice a d n) (or_else-assoc (first_without need m a d) (first_without need m ((a + d) % 2 ^ 64) n) (unless_there ((a + (d + n)) % 2 ^ 64) (byte_with need m ((a + (d + n)) % 2 ^ 64))))
+    rw (e, first_without-join need m a d n, round_twice a d n)
+    (or_else-assoc (first_without need m a d) (first_without need m ((a + d) % 2 ^ 64) n)
+    (unless_there ((a + (d + n)) % 2 ^ 64) (byte_with need m ((a + (d + n)) % 2 ^ 64))))
 
 -- a run that is there after others that are
-pub first_without-run : (need : ℕ) (m : AddressSpace) (a d n : ℕ) (bs : List ℕ) → first_without need m a d ≡ None → bytes_with need m ((a + d) % 2 ^ 64) n ≡ Some bs → first_without need m a (d + n) ≡ None
+pub first_without-run : (need : ℕ) (m : AddressSpace) (a d n : ℕ) (bs : List ℕ) → first_without need m a d ≡ None
+    → bytes_with need m ((a + d) % 2 ^ 64) n ≡ Some bs → first_without need m a (d + n) ≡ None
 first_without-run need m a d n bs before there =
     let run : first_without need m ((a + d) % 2 ^ 64) n ≡ None = first_without-none need m ((a + d) % 2 ^ 64) n (rw there refl) in
     first_without-join need m a d n ∙ rw (before, run) refl
 
 -- the byte at the address itself is not there
-pub first_without-first : (need : ℕ) (m : AddressSpace) (a n : ℕ) → a < 2 ^ 64 → byte_with need m a ≡ None → 0 < n → first_without need m a n ≡ Some a
+pub first_without-first : (need : ℕ) (m : AddressSpace) (a n : ℕ) → a < 2 ^ 64 → byte_with need m a ≡ None → 0 < n
+    → first_without need m a n ≡ Some a
 first_without-first need m a n low gone l =
     let same : (a + 0) % 2 ^ 64 ≡ a = omega arith in
     first_without-at need m a 0 n (first_without-zero need m a) (ap (byte_with need m) same ∙ gone) l ∙ ap Some same
 
-pub bytes_with-first : (need : ℕ) (m : AddressSpace) (a n : ℕ) → a < 2 ^ 64 → byte_with need m a ≡ None → 0 < n → bytes_with need m a n ≡ None
+pub bytes_with-first : (need : ℕ) (m : AddressSpace) (a n : ℕ) → a < 2 ^ 64 → byte_with need m a ≡ None → 0 < n
+    → bytes_with need m a n ≡ None
 bytes_with-first need m a n low gone l =
     let same : (a + 0) % 2 ^ 64 ≡ a = omega arith in
     bytes_with-stop need m a 0 n (ap (byte_with need m) same ∙ gone) l

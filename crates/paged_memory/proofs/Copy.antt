@@ -1,5 +1,6 @@
 -- Pages one after another, in order.
-use Rattle.std.proofs.Common.{◌≡◌, ◌≢◌, ℕ, zero, suc, ◌+◌, ◌^◌, ◌<◌, true, List, [], ◌∷◌, ◌++◌, length, get_or, take, refl, ap, sym, ◌∙◌, arith, None, option_map}
+use Rattle.std.proofs.Common.{◌≡◌, ◌≢◌, ℕ, zero, suc, ◌+◌, ◌^◌, ◌<◌, true, List, [], ◌∷◌, ◌++◌, length, get_or, take, refl, ap, sym, ◌∙◌}
+use Rattle.std.proofs.Common.{arith, None, option_map}
 use Rattle.std.specs.Prelude.{map}
 use Rattle.std.specs.List.{insert}
 use Rattle.std.specs.FinMap.{get}
@@ -15,12 +16,14 @@ use Rattle.paged_memory.proofs.Bytes.{get-perm_of}
 use Rattle.paged_memory.proofs.Order.{and_first, and_second, and_both, page_at-none, numbers_rise}
 use Rattle.paged_memory.proofs.Insert.{memory_of-insert}
 
-below_all-take : (k : ℕ) (ps : List Page) (i : ℕ) → below_all nat_cmp k (map page_entry ps) ≡ true → below_all nat_cmp k (map page_entry (take i ps)) ≡ true
+below_all-take : (k : ℕ) (ps : List Page) (i : ℕ) → below_all nat_cmp k (map page_entry ps) ≡ true
+    → below_all nat_cmp k (map page_entry (take i ps)) ≡ true
 below_all-take k ps zero h = refl
 below_all-take k [] (suc i) h = refl
 below_all-take k (p ∷ ps) (suc i) h = and_both _ _ (and_first _ _ h) (below_all-take k ps i (and_second _ _ h))
 
-sorted-take : (ps : List Page) (i : ℕ) → is_sorted nat_cmp (map page_entry ps) ≡ true → is_sorted nat_cmp (map page_entry (take i ps)) ≡ true
+sorted-take : (ps : List Page) (i : ℕ) → is_sorted nat_cmp (map page_entry ps) ≡ true
+    → is_sorted nat_cmp (map page_entry (take i ps)) ≡ true
 sorted-take ps zero h = refl
 sorted-take [] (suc i) h = refl
 sorted-take (p ∷ ps) (suc i) h = and_both _ _ (below_all-take p.number ps i (and_first _ _ h)) (sorted-take ps i (and_second _ _ h))
@@ -37,7 +40,8 @@ rises_apart : (m n : ℕ) → m < n → m ≢ n
 rises_apart m n l = grind arith
 
 -- none of the pages before one has its number
-pub missing_before : (ps : List Page) (i : ℕ) (p : Page) → IsFine ps → i < length ps → p ≡ get_or ps i p → get (perm_of (take i ps)) p.number ≡ None
+pub missing_before : (ps : List Page) (i : ℕ) (p : Page) → IsFine ps → i < length ps → p ≡ get_or ps i p
+    → get (perm_of (take i ps)) p.number ≡ None
 missing_before ps i p fine l is =
     let long : length (take i ps) ≡ i = length-take-le i ps (omega arith) in
     let none : page_at (take i ps) p.number ≡ None = page_at-none (take i ps) p.number (λ k d m.
@@ -49,9 +53,11 @@ missing_before ps i p fine l is =
     get-perm_of (take i ps) p.number ∙ ap (option_map (λ x. x.flags)) none
 
 -- one more of them
-pub memory_of-more : (ps : List Page) (i : ℕ) (p : Page) → IsFine ps → i < length ps → p ≡ get_or ps i p → memory_of (take (i + 1) ps) ≡ with_page (memory_of (take i ps)) p.number p.flags p.bytes.items
+pub memory_of-more : (ps : List Page) (i : ℕ) (p : Page) → IsFine ps → i < length ps → p ≡ get_or ps i p
+    → memory_of (take (i + 1) ps) ≡ with_page (memory_of (take i ps)) p.number p.flags p.bytes.items
 memory_of-more ps i p fine l is =
-    let more : take (i + 1) ps ≡ insert (take i ps) (length (take i ps)) p = take_more ps i p l ∙ ap (λ x. take i ps ++ x ∷ []) (sym is) ∙ sym (insert_end (take i ps) p) in
+    let more : take (i + 1) ps ≡ insert (take i ps) (length (take i ps)) p =
+    take_more ps i p l ∙ ap (λ x. take i ps ++ x ∷ []) (sym is) ∙ sym (insert_end (take i ps) p) in
     let fine' : IsFine (insert (take i ps) (length (take i ps)) p) = rw more at (fine_take ps (i + 1) fine) in
     let whole : length p.bytes.items ≡ 4096 = ap (λ x. length x.bytes.items) is ∙ fine.full i p l in
     let low : p.number < 2 ^ 51 = rw is (fine.low i p l) in

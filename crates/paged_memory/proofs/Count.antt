@@ -1,13 +1,16 @@
 -- How many pages parts touch.
-use Rattle.std.proofs.Common.{◌⊎◌, inl, inr, ◌≡◌, ◌≢◌, ℕ, zero, suc, ◌+◌, ◌-◌, ◌*◌, ◌/◌, ◌^◌, ◌<◌, ◌≤◌, true, false, cond, List, [], ◌∷◌, length, get_or, refl, ap, sym, ◌∙◌, arith, Option, Some, None, slice_get, All}
+use Rattle.std.proofs.Common.{◌⊎◌, inl, inr, ◌≡◌, ◌≢◌, ℕ, zero, suc, ◌+◌, ◌-◌, ◌*◌, ◌/◌, ◌^◌, ◌<◌, ◌≤◌, true, false, cond, List, [], ◌∷◌}
+use Rattle.std.proofs.Common.{length, get_or, refl, ap, sym, ◌∙◌, arith, Option, Some, None, slice_get, All}
 use Rattle.std.specs.Prelude.{◌==◌, ◌&&◌, nat_le, nat_lt, IsSome, is_some}
 use Rattle.std.proofs.lemmas.Bool.Decides.{nat_tests}
-use Rattle.std.specs.FinMap.{FinMap, get, len, insert, remove, empty, get-insert, get-remove, get-empty, len-empty, len-insert, same_map, nat_cmp-IsAntisymmetric}
+use Rattle.std.specs.FinMap.{FinMap, get, len, insert, remove, empty, get-insert, get-remove, get-empty, len-empty, len-insert, same_map}
+use Rattle.std.specs.FinMap.{nat_cmp-IsAntisymmetric}
 use Rattle.std.specs.Cmp.{nat_cmp_total}
 use Rattle.std.specs.Ordering.{nat_cmp}
 use Rattle.std.specs.Option.{option_or}
 use Rattle.paged_memory.specs.Memory.{IsWhole}
-use Rattle.paged_memory.specs.Image.{Extent, Program, union, part_flags, image_flags, part_byte, parts_byte, or_zero, IsMemoryOf, IsImage, IsImagePage}
+use Rattle.paged_memory.specs.Image.{Extent, Program, union, part_flags, image_flags, part_byte, parts_byte, or_zero, IsMemoryOf, IsImage}
+use Rattle.paged_memory.specs.Image.{IsImagePage}
 use Rattle.paged_memory.specs.Parts.{IsPlaced, ArePlaced, touched_below}
 use Rattle.paged_memory.proofs.Over.{eq_by_cmp-nat}
 
@@ -54,7 +57,8 @@ without_none m n gone = same_map nat_cmp_total nat_cmp-IsAntisymmetric _ _ (λ q
 
 with_again : (m : FinMap nat_cmp ℕ) (n v : ℕ) → get m n ≡ Some v → m ≡ insert (remove m n) n v
 with_again m n v there = same_map nat_cmp_total nat_cmp-IsAntisymmetric _ _ (λ q.
-    let both : get (insert (remove m n) n v) q ≡ cond (n == q) (Some v) (cond (n == q) None (get m q)) = rw (get-insert nat_cmp_total, eq_by_cmp-nat, without_key m n q) refl in
+    let both : get (insert (remove m n) n v) q ≡ cond (n == q) (Some v) (cond (n == q) None (get m q)) =
+    rw (get-insert nat_cmp_total, eq_by_cmp-nat, without_key m n q) refl in
     sym (both ∙ elim (n == q) as (λ t. (n == q) ≡ t → cond t (Some v) (cond t None (get m q)) ≡ get m q) [
       | true ↦ λ t. let here : get m q ≡ Some v = rw (same_test n q t) at there in sym here
       | false ↦ λ t. refl
@@ -74,10 +78,12 @@ len-count_keys : (n : ℕ) (m : FinMap nat_cmp ℕ) → ((q : ℕ) → n ≤ q �
 unfolding count_keys
 len-count_keys zero m h = no_keys m h
 len-count_keys (suc n) m h =
-    let rest : len (remove m n) ≡ count_keys m n = len-count_keys n (remove m n) (none_from_without m n h) ∙ count_without m n n (omega arith) in
+    let rest : len (remove m n) ≡ count_keys m n =
+    len-count_keys n (remove m n) (none_from_without m n h) ∙ count_without m n n (omega arith) in
     len_step m n (get m n) refl ∙ ap (λ k. k + cond (is_some (get m n)) 1 0) rest
 
-count_touched : (parts : List Extent) (m : FinMap nat_cmp ℕ) (n : ℕ) → ((q : ℕ) → get m q ≡ image_flags parts q) → count_keys m n ≡ touched_below parts n
+count_touched : (parts : List Extent) (m : FinMap nat_cmp ℕ) (n : ℕ) → ((q : ℕ) → get m q ≡ image_flags parts q)
+    → count_keys m n ≡ touched_below parts n
 unfolding count_keys touched_below
 count_touched parts m zero h = refl
 count_touched parts m (suc n) h = rw (count_touched parts m n h, h n) refl
@@ -87,9 +93,11 @@ count_touched parts m (suc n) h = rw (count_touched parts m n h, h n) refl
 no_flags : (p : Extent) (n : ℕ) → part_flags p n ≡ None → IsSome (part_flags p n) → ⊥
 no_flags p n e h = cc
 
-touch_test : (p : Extent) (n : ℕ) → IsSome (part_flags p n) → (nat_lt 0 p.size && nat_le (p.address / 4096) n && nat_le n ((p.address + p.size - 1) / 4096)) ≡ true
+touch_test : (p : Extent) (n : ℕ) → IsSome (part_flags p n)
+    → (nat_lt 0 p.size && nat_le (p.address / 4096) n && nat_le n ((p.address + p.size - 1) / 4096)) ≡ true
 touch_test p n h =
-    elim (nat_lt 0 p.size && nat_le (p.address / 4096) n && nat_le n ((p.address + p.size - 1) / 4096)) as (λ t. IsSome (cond t (Some p.flags) None) → t ≡ true) [
+    elim (nat_lt 0 p.size && nat_le (p.address / 4096) n
+    && nat_le n ((p.address + p.size - 1) / 4096)) as (λ t. IsSome (cond t (Some p.flags) None) → t ≡ true) [
       | true ↦ λ s. refl
       | false ↦ λ s. cc
     ] h
@@ -103,12 +111,15 @@ pub record TouchesAt (p : Extent) (n a : ℕ) : Type 0 where
   pub to : a < p.address + p.size
   pub page : a / 4096 ≡ n
 
-touches_at : (p : Extent) (n : ℕ) → 0 < p.size → p.address / 4096 ≤ n → n ≤ (p.address + p.size - 1) / 4096 → TouchesAt p n (address_in p.address n)
+touches_at : (p : Extent) (n : ℕ) → 0 < p.size → p.address / 4096 ≤ n → n ≤ (p.address + p.size - 1) / 4096
+    → TouchesAt p n (address_in p.address n)
 unfolding address_in
 touches_at p n size from to =
     elim (nat_lt (p.address / 4096) n) as (λ t. nat_lt (p.address / 4096) n ≡ t → TouchesAt p n (cond t (4096 * n) p.address)) [
-      | true ↦ λ t. let l : p.address / 4096 < n = grind (arith, nat_tests) in record { from = omega arith; to = omega arith; page = omega arith }
-      | false ↦ λ t. let l : n ≤ p.address / 4096 = grind (arith, nat_tests) in record { from = omega arith; to = omega arith; page = omega arith }
+      | true ↦ λ t. let l : p.address / 4096 < n =
+          grind (arith, nat_tests) in record { from = omega arith; to = omega arith; page = omega arith }
+      | false ↦ λ t. let l : n ≤ p.address / 4096 =
+          grind (arith, nat_tests) in record { from = omega arith; to = omega arith; page = omega arith }
     ] refl
 
 page_of_part : (p : Extent) (n : ℕ) → IsPlaced p → IsSome (part_flags p n) → IsImagePage n
@@ -141,8 +152,10 @@ pub image_made : (parts : List Extent) (p : Program) → ArePlaced parts → IsM
 image_made parts p placed is whole =
     let flags : (n : ℕ) → get p.memory.perm n ≡ image_flags parts n = is.flags in
     let places : (n : ℕ) → IsSome (get p.memory.perm n) → IsImagePage n = λ n s. page_of_parts parts n placed.placed (rw (flags n) at s) in
-    let past : (q : ℕ) → 2 ^ 35 ≤ q → get p.memory.perm q ≡ None = λ q l. not_there (get p.memory.perm q) (λ s. let low : q < 2 ^ 35 = (places q s).0 in absurd (omega arith)) in
-    let count : len p.memory.perm ≡ touched_below parts (2 ^ 35) = len-count_keys (2 ^ 35) p.memory.perm past ∙ count_touched parts p.memory.perm (2 ^ 35) flags in
+    let past : (q : ℕ) → 2 ^ 35 ≤ q → get p.memory.perm q ≡ None =
+    λ q l. not_there (get p.memory.perm q) (λ s. let low : q < 2 ^ 35 = (places q s).0 in absurd (omega arith)) in
+    let count : len p.memory.perm ≡ touched_below parts (2 ^ 35) =
+    len-count_keys (2 ^ 35) p.memory.perm past ∙ count_touched parts p.memory.perm (2 ^ 35) flags in
     record { whole = whole; few = rw count placed.few; places = places }
 
 -- ---- one part
@@ -152,10 +165,13 @@ union_none None = refl
 union_none (Some f) = refl
 
 one_more : (p : Extent) (n count : ℕ) → count ≤ n - p.address / 4096 → count ≤ (p.address + p.size - 1) / 4096 + 1 - p.address / 4096
-    → (count + cond (is_some (union (part_flags p n) None)) 1 0 ≤ suc n - p.address / 4096) × (count + cond (is_some (union (part_flags p n) None)) 1 0 ≤ (p.address + p.size - 1) / 4096 + 1 - p.address / 4096)
+    → (count + cond (is_some (union (part_flags p n) None)) 1 0 ≤ suc n - p.address / 4096)
+    × (count + cond (is_some (union (part_flags p n) None)) 1 0 ≤ (p.address + p.size - 1) / 4096 + 1 - p.address / 4096)
 one_more p n count h l =
     rw (union_none (part_flags p n)) (elim (nat_lt 0 p.size && nat_le (p.address / 4096) n && nat_le n ((p.address + p.size - 1) / 4096)) as
-    (λ t. (nat_lt 0 p.size && nat_le (p.address / 4096) n && nat_le n ((p.address + p.size - 1) / 4096)) ≡ t → (count + cond (is_some (cond t (Some p.flags) None)) 1 0 ≤ suc n - p.address / 4096) × (count + cond (is_some (cond t (Some p.flags) None)) 1 0 ≤ (p.address + p.size - 1) / 4096 + 1 - p.address / 4096)) [
+    (λ t. (nat_lt 0 p.size && nat_le (p.address / 4096) n && nat_le n ((p.address + p.size - 1) / 4096)) ≡ t
+    → (count + cond (is_some (cond t (Some p.flags) None)) 1 0 ≤ suc n - p.address / 4096)
+    × (count + cond (is_some (cond t (Some p.flags) None)) 1 0 ≤ (p.address + p.size - 1) / 4096 + 1 - p.address / 4096)) [
       | true ↦ λ t.
           let from : p.address / 4096 ≤ n = grind (arith, nat_tests) in
           let to : n ≤ (p.address + p.size - 1) / 4096 = grind (arith, nat_tests) in
@@ -163,15 +179,18 @@ one_more p n count h l =
       | false ↦ λ t. (omega arith, omega arith)
     ] refl)
 
-touched_by_one : (p : Extent) (n : ℕ) → (touched_below (p ∷ []) n ≤ n - p.address / 4096) × (touched_below (p ∷ []) n ≤ (p.address + p.size - 1) / 4096 + 1 - p.address / 4096)
+touched_by_one : (p : Extent) (n : ℕ) → (touched_below (p ∷ []) n ≤ n - p.address / 4096)
+    × (touched_below (p ∷ []) n ≤ (p.address + p.size - 1) / 4096 + 1 - p.address / 4096)
 unfolding touched_below image_flags
 touched_by_one p zero = (omega arith, omega arith)
 touched_by_one p (suc n) =
-    let before : (touched_below (p ∷ []) n ≤ n - p.address / 4096) × (touched_below (p ∷ []) n ≤ (p.address + p.size - 1) / 4096 + 1 - p.address / 4096) = touched_by_one p n in
+    let before : (touched_below (p ∷ []) n ≤ n - p.address / 4096)
+    × (touched_below (p ∷ []) n ≤ (p.address + p.size - 1) / 4096 + 1 - p.address / 4096) = touched_by_one p n in
     one_more p n (touched_below (p ∷ []) n) before.0 before.1
 
 -- a part lies where it may if its ends do
-pub placed_by_ends : (p : Extent) → length p.bytes ≤ p.size → p.flags < 8 → p.address + p.size ≤ 2 ^ 47 → (p.address + p.size ≤ 0x7DFFFFFC0000) ⊎ (0x7F0000001000 ≤ p.address) → IsPlaced p
+pub placed_by_ends : (p : Extent) → length p.bytes ≤ p.size → p.flags < 8 → p.address + p.size ≤ 2 ^ 47
+    → (p.address + p.size ≤ 0x7DFFFFFC0000) ⊎ (0x7F0000001000 ≤ p.address) → IsPlaced p
 placed_by_ends p inside sum low apart = record {
   inside = inside;
   flags = sum;
@@ -180,20 +199,25 @@ placed_by_ends p inside sum low apart = record {
 
 -- ---- two parts
 
-either_counts : (f r : Option ℕ) (a b c : ℕ) → a ≤ b + c → a + cond (is_some (union f r)) 1 0 ≤ (b + cond (is_some (union f None)) 1 0) + (c + cond (is_some r) 1 0)
+either_counts : (f r : Option ℕ) (a b c : ℕ) → a ≤ b + c
+    → a + cond (is_some (union f r)) 1 0 ≤ (b + cond (is_some (union f None)) 1 0) + (c + cond (is_some r) 1 0)
 either_counts None None a b c h = omega arith
 either_counts None (Some g) a b c h = omega arith
 either_counts (Some e) None a b c h = omega arith
 either_counts (Some e) (Some g) a b c h = omega arith
 
-touched_by_both : (p : Extent) (parts : List Extent) (n : ℕ) → touched_below (p ∷ parts) n ≤ touched_below (p ∷ []) n + touched_below parts n
+touched_by_both : (p : Extent) (parts : List Extent) (n : ℕ)
+    → touched_below (p ∷ parts) n ≤ touched_below (p ∷ []) n + touched_below parts n
 unfolding touched_below image_flags
 touched_by_both p parts zero = omega arith
-touched_by_both p parts (suc n) = either_counts (part_flags p n) (image_flags parts n) (touched_below (p ∷ parts) n) (touched_below (p ∷ []) n) (touched_below parts n) (touched_by_both p parts n)
+touched_by_both p parts (suc n) =
+    either_counts (part_flags p n) (image_flags parts n) (touched_below (p ∷ parts) n) (touched_below (p ∷ []) n) (touched_below parts n)
+    (touched_by_both p parts n)
 
 inside_test : (p : Extent) (a : ℕ) → IsSome (part_byte p a) → a < p.address + p.size
 inside_test p a h =
-    elim (nat_le p.address a && nat_lt a (p.address + p.size)) as (λ t. (nat_le p.address a && nat_lt a (p.address + p.size)) ≡ t → IsSome (cond t (Some (or_zero (slice_get p.bytes (a - p.address)))) None) → a < p.address + p.size) [
+    elim (nat_le p.address a && nat_lt a (p.address + p.size)) as (λ t. (nat_le p.address a && nat_lt a (p.address + p.size)) ≡ t
+    → IsSome (cond t (Some (or_zero (slice_get p.bytes (a - p.address)))) None) → a < p.address + p.size) [
       | true ↦ λ t s. grind (arith, nat_tests)
       | false ↦ λ t s. cc
     ] refl h
@@ -207,14 +231,18 @@ only_two p q (suc zero) d first second l = second
 only_two p q (suc (suc k)) d first second l = absurd (omega arith)
 
 -- two parts that lie where they may, one after the other, and touch few pages make an image
-pub two_placed : (p q : Extent) → IsPlaced p → IsPlaced q → p.address + p.size ≤ q.address → ((p.address + p.size - 1) / 4096 + 1 - p.address / 4096) + ((q.address + q.size - 1) / 4096 + 1 - q.address / 4096) ≤ 4032 → ArePlaced (p ∷ q ∷ [])
+pub two_placed : (p q : Extent) → IsPlaced p → IsPlaced q → p.address + p.size ≤ q.address
+    → ((p.address + p.size - 1) / 4096 + 1 - p.address / 4096) + ((q.address + q.size - 1) / 4096 + 1 - q.address / 4096) ≤ 4032
+    → ArePlaced (p ∷ q ∷ [])
 unfolding parts_byte
 two_placed p q first second order few = record {
   placed = λ k d l. only_two p q k d first second l;
   apart = (λ a h. let below : a < p.address + p.size = inside_test p a h in not_below q a (omega arith), (λ a h. refl, tt));
   few =
-      let both : touched_below (p ∷ q ∷ []) (2 ^ 35) ≤ touched_below (p ∷ []) (2 ^ 35) + touched_below (q ∷ []) (2 ^ 35) = touched_by_both p (q ∷ []) (2 ^ 35) in
+      let both : touched_below (p ∷ q ∷ []) (2 ^ 35) ≤ touched_below (p ∷ []) (2 ^ 35) + touched_below (q ∷ []) (2 ^ 35) =
+      touched_by_both p (q ∷ []) (2 ^ 35) in
       let one : touched_below (p ∷ []) (2 ^ 35) ≤ (p.address + p.size - 1) / 4096 + 1 - p.address / 4096 = (touched_by_one p (2 ^ 35)).1 in
-      let other : touched_below (q ∷ []) (2 ^ 35) ≤ (q.address + q.size - 1) / 4096 + 1 - q.address / 4096 = (touched_by_one q (2 ^ 35)).1 in
+      let other : touched_below (q ∷ []) (2 ^ 35) ≤ (q.address + q.size - 1) / 4096 + 1 - q.address / 4096 =
+      (touched_by_one q (2 ^ 35)).1 in
       omega arith;
 }

@@ -1,5 +1,6 @@
 -- One more page, at its place.
-use Rattle.std.proofs.Common.{◌≡◌, ℕ, zero, suc, ◌*◌, ◌/◌, ◌%◌, ◌^◌, ◌<◌, ◌≤◌, true, false, cond, List, [], ◌∷◌, length, get_or, take, drop, refl, ap, sym, ◌∙◌, arith, Option, Some, None, slice_get, option_map, All}
+use Rattle.std.proofs.Common.{◌≡◌, ℕ, zero, suc, ◌*◌, ◌/◌, ◌%◌, ◌^◌, ◌<◌, ◌≤◌, true, false, cond, List, [], ◌∷◌, length, get_or, take, drop}
+use Rattle.std.proofs.Common.{refl, ap, sym, ◌∙◌, arith, Option, Some, None, slice_get, option_map, All}
 use Rattle.std.specs.Prelude.{◌==◌, map}
 use Rattle.std.specs.List.{insert}
 use Rattle.std.specs.FinMap.{get, get-insert, same_map, nat_cmp-IsAntisymmetric}
@@ -29,22 +30,26 @@ first_apart e ps n h =
       | false ↦ λ x. refl
     ] h
 
-pub page_at-insert : (ps : List Page) (i : ℕ) (p : Page) (n : ℕ) → page_at ps p.number ≡ None → page_at (insert ps i p) n ≡ cond (p.number == n) (Some p) (page_at ps n)
+pub page_at-insert : (ps : List Page) (i : ℕ) (p : Page) (n : ℕ) → page_at ps p.number ≡ None
+    → page_at (insert ps i p) n ≡ cond (p.number == n) (Some p) (page_at ps n)
 page_at-insert [] zero p n h = refl
 page_at-insert [] (suc i) p n h = refl
 page_at-insert (e ∷ ps) zero p n h = refl
 page_at-insert (e ∷ ps) (suc i) p n h =
     let apart : (e.number == p.number) ≡ false = first_apart e ps p.number h in
     let rest : page_at ps p.number ≡ None = rw apart at h in
-    rw (page_at-insert ps i p n rest) (elim (e.number == n) as (λ t. (e.number == n) ≡ t → cond t (Some e) (cond (p.number == n) (Some p) (page_at ps n)) ≡ cond (p.number == n) (Some p) (cond t (Some e) (page_at ps n))) [
+    rw (page_at-insert ps i p n rest) (elim (e.number == n) as (λ t. (e.number == n) ≡ t
+    → cond t (Some e) (cond (p.number == n) (Some p) (page_at ps n)) ≡ cond (p.number == n) (Some p) (cond t (Some e) (page_at ps n))) [
       | true ↦ λ t. let u : (p.number == n) ≡ false = grind (arith, nat_tests) in rw u refl
       | false ↦ λ t. refl
     ] refl)
 
 All-insert : (P : Page → Type 0) (ps : List Page) (i : ℕ) (p : Page) → All P ps → P p → All P (insert ps i p)
-All-insert P ps i p all here = All-append P (take i ps) (p ∷ drop i ps) (All-take P i ps all) (All-cons P p (drop i ps) here (All-drop P i ps all))
+All-insert P ps i p all here =
+    All-append P (take i ps) (p ∷ drop i ps) (All-take P i ps all) (All-cons P p (drop i ps) here (All-drop P i ps all))
 
-below_all-insert : (k : ℕ) (ps : List Page) (i : ℕ) (p : Page) → below_all nat_cmp k (map page_entry ps) ≡ true → is_lt (nat_cmp k p.number) ≡ true → below_all nat_cmp k (map page_entry (insert ps i p)) ≡ true
+below_all-insert : (k : ℕ) (ps : List Page) (i : ℕ) (p : Page) → below_all nat_cmp k (map page_entry ps) ≡ true
+    → is_lt (nat_cmp k p.number) ≡ true → below_all nat_cmp k (map page_entry (insert ps i p)) ≡ true
 below_all-insert k [] zero p h l = and_both _ _ l refl
 below_all-insert k [] (suc i) p h l = and_both _ _ l refl
 below_all-insert k (e ∷ ps) zero p h l = and_both _ _ l h
@@ -53,17 +58,22 @@ below_all-insert k (e ∷ ps) (suc i) p h l = and_both _ _ (and_first _ _ h) (be
 number_less : (k n : ℕ) → k < n → is_lt (nat_cmp k n) ≡ true
 number_less k n h = grind (arith, nat_tests)
 
-below_all-pages : (k : ℕ) (ps : List Page) → ((j : ℕ) (d : Page) → j < length ps → k < (get_or ps j d).number) → below_all nat_cmp k (map page_entry ps) ≡ true
+below_all-pages : (k : ℕ) (ps : List Page) → ((j : ℕ) (d : Page) → j < length ps → k < (get_or ps j d).number)
+    → below_all nat_cmp k (map page_entry ps) ≡ true
 below_all-pages k [] h = refl
-below_all-pages k (p ∷ ps) h = and_both _ _ (number_less k p.number (h 0 p (omega arith))) (below_all-pages k ps (λ j d l. h (suc j) d (omega arith)))
+below_all-pages k (p ∷ ps) h =
+    and_both _ _ (number_less k p.number (h 0 p (omega arith))) (below_all-pages k ps (λ j d l. h (suc j) d (omega arith)))
 
-sorted-insert : (ps : List Page) (i : ℕ) (p : Page) → is_sorted nat_cmp (map page_entry ps) ≡ true → i ≤ length ps → ((k : ℕ) (d : Page) → k < i → (get_or ps k d).number < p.number)
-    → ((k : ℕ) (d : Page) → i ≤ k → k < length ps → p.number < (get_or ps k d).number) → is_sorted nat_cmp (map page_entry (insert ps i p)) ≡ true
+sorted-insert : (ps : List Page) (i : ℕ) (p : Page) → is_sorted nat_cmp (map page_entry ps) ≡ true → i ≤ length ps
+    → ((k : ℕ) (d : Page) → k < i → (get_or ps k d).number < p.number)
+    → ((k : ℕ) (d : Page) → i ≤ k → k < length ps → p.number < (get_or ps k d).number)
+    → is_sorted nat_cmp (map page_entry (insert ps i p)) ≡ true
 sorted-insert ps zero p h l below above = and_both _ _ (below_all-pages p.number ps (λ j d m. above j d (omega arith) m)) h
 sorted-insert [] (suc i) p h l below above = absurd (omega arith)
 sorted-insert (e ∷ ps) (suc i) p h l below above =
     and_both _ _ (below_all-insert e.number ps i p (and_first _ _ h) (number_less e.number p.number (below 0 e (omega arith))))
-    (sorted-insert ps i p (and_second _ _ h) (omega arith) (λ k d m. below (suc k) d (omega arith)) (λ k d m n. above (suc k) d (omega arith) (omega arith)))
+    (sorted-insert ps i p (and_second _ _ h) (omega arith) (λ k d m. below (suc k) d (omega arith))
+    (λ k d m n. above (suc k) d (omega arith) (omega arith)))
 
 -- a page with the number is found, so where none is, each has another
 page_at-there : (ps : List Page) (k : ℕ) (d : Page) (n : ℕ) → k < length ps → page_at ps n ≡ None → (get_or ps k d).number ≡ n → ⊥
@@ -77,21 +87,27 @@ page_at-there (p ∷ ps) (suc k) d n l h e =
 not_same : (n m : ℕ) → n ≤ m → (m ≡ n → ⊥) → n < m
 not_same n m l h = grind arith
 
-pub fine_insert : (ps : List Page) (i : ℕ) (p : Page) → IsFine ps → i ≤ length ps → ((k : ℕ) (d : Page) → k < i → (get_or ps k d).number < p.number)
-    → ((k : ℕ) (d : Page) → i ≤ k → k < length ps → p.number ≤ (get_or ps k d).number) → length p.bytes.items ≡ 4096 → p.flags < 8 → p.number < 2 ^ 51 → get (perm_of ps) p.number ≡ None → IsFine (insert ps i p)
+pub fine_insert : (ps : List Page) (i : ℕ) (p : Page) → IsFine ps → i ≤ length ps
+    → ((k : ℕ) (d : Page) → k < i → (get_or ps k d).number < p.number)
+    → ((k : ℕ) (d : Page) → i ≤ k → k < length ps → p.number ≤ (get_or ps k d).number) → length p.bytes.items ≡ 4096 → p.flags < 8
+    → p.number < 2 ^ 51 → get (perm_of ps) p.number ≡ None → IsFine (insert ps i p)
 fine_insert ps i p fine l below rest whole sum low missing = record {
   full = All-insert (λ x. length x.bytes.items ≡ 4096) ps i p fine.full whole;
   flags = All-insert (λ x. x.flags < 8) ps i p fine.flags sum;
   low = All-insert (λ x. x.number < 2 ^ 51) ps i p fine.low low;
-  sorted = sorted-insert ps i p fine.sorted l below (λ k d m n. not_same p.number _ (rest k d m n) (page_at-there ps k d p.number n (page_absent ps p.number missing)));
+  sorted =
+      sorted-insert ps i p fine.sorted l below
+      (λ k d m n. not_same p.number _ (rest k d m n) (page_at-there ps k d p.number n (page_absent ps p.number missing)));
 }
 
 -- what a memory with one more page has at an address and at a number
-pub mem-with_page : (m : AddressSpace) (n flags : ℕ) (bs : List ℕ) (a : ℕ) → length bs ≡ 4096 → n < 2 ^ 51 → get (with_page m n flags bs).mem a ≡ over (4096 * n) bs a (get m.mem a)
+pub mem-with_page : (m : AddressSpace) (n flags : ℕ) (bs : List ℕ) (a : ℕ) → length bs ≡ 4096 → n < 2 ^ 51
+    → get (with_page m n flags bs).mem a ≡ over (4096 * n) bs a (get m.mem a)
 unfolding with_page
 mem-with_page m n flags bs a full low = get-set_bytes m.mem (4096 * n) bs a (rw full (omega arith))
 
-pub perm-with_page : (m : AddressSpace) (n flags : ℕ) (bs : List ℕ) (q : ℕ) → get (with_page m n flags bs).perm q ≡ cond (n == q) (Some flags) (get m.perm q)
+pub perm-with_page : (m : AddressSpace) (n flags : ℕ) (bs : List ℕ) (q : ℕ)
+    → get (with_page m n flags bs).perm q ≡ cond (n == q) (Some flags) (get m.perm q)
 unfolding with_page
 perm-with_page m n flags bs q = rw (get-insert nat_cmp_total, eq_by_cmp-nat) refl
 
@@ -101,15 +117,21 @@ same_memory m n bytes flags =
     let perm : m.perm ≡ n.perm = same_map nat_cmp_total nat_cmp-IsAntisymmetric _ _ flags in
     λ i. record { mem = mem i; perm = perm i }
 
-pub memory_of-insert : (ps : List Page) (i : ℕ) (p : Page) → IsFine ps → IsFine (insert ps i p) → length p.bytes.items ≡ 4096 → p.number < 2 ^ 51 → get (perm_of ps) p.number ≡ None
+pub memory_of-insert : (ps : List Page) (i : ℕ) (p : Page) → IsFine ps → IsFine (insert ps i p) → length p.bytes.items ≡ 4096
+    → p.number < 2 ^ 51 → get (perm_of ps) p.number ≡ None
     → memory_of (insert ps i p) ≡ with_page (memory_of ps) p.number p.flags p.bytes.items
 memory_of-insert ps i p fine fine' whole low missing =
     let none : page_at ps p.number ≡ None = page_absent ps p.number missing in
     same_memory _ _
     (λ a.
-    get-mem_of (insert ps i p) a (recursion_from_All (λ x. length x.bytes.items ≡ 4096) _ fine'.full) (recursion_from_All (λ x. x.number < 2 ^ 51) _ fine'.low)
+    get-mem_of (insert ps i p) a (recursion_from_All (λ x. length x.bytes.items ≡ 4096) _ fine'.full)
+    (recursion_from_All (λ x. x.number < 2 ^ 51) _ fine'.low)
     ∙ ap (λ o. bind o (λ x. slice_get x.bytes.items (a % 4096))) (page_at-insert ps i p (a / 4096) none)
-    ∙ sym (mem-with_page (memory_of ps) p.number p.flags p.bytes.items a whole low ∙ get_mem_step p (page_at ps (a / 4096)) a _ whole (get-mem_of ps a (recursion_from_All (λ x. length x.bytes.items ≡ 4096) ps fine.full) (recursion_from_All (λ x. x.number < 2 ^ 51) ps fine.low))))
+    ∙ sym (mem-with_page (memory_of ps) p.number p.flags p.bytes.items a whole low
+    ∙ get_mem_step p (page_at ps (a / 4096)) a _ whole
+    (get-mem_of ps a (recursion_from_All (λ x. length x.bytes.items ≡ 4096) ps fine.full)
+    (recursion_from_All (λ x. x.number < 2 ^ 51) ps fine.low))))
     (λ q.
-    get-perm_of (insert ps i p) q ∙ ap (option_map (λ x. x.flags)) (page_at-insert ps i p q none) ∙ sym (get_perm_step (p.number == q) p (page_at ps q))
+    get-perm_of (insert ps i p) q ∙ ap (option_map (λ x. x.flags)) (page_at-insert ps i p q none)
+    ∙ sym (get_perm_step (p.number == q) p (page_at ps q))
     ∙ sym (perm-with_page (memory_of ps) p.number p.flags p.bytes.items q ∙ ap (cond (p.number == q) (Some p.flags)) (get-perm_of ps q)))

@@ -1,5 +1,6 @@
 -- The order of pages by their numbers.
-use Rattle.std.proofs.Common.{◌⊎◌, inl, inr, ◌≡◌, ◌≢◌, ℕ, zero, suc, ◌+◌, ◌<◌, ◌≤◌, Bool, true, false, List, [], ◌∷◌, length, get_or, refl, ap, sym, ◌∙◌, arith, Some, None, slice_get}
+use Rattle.std.proofs.Common.{◌⊎◌, inl, inr, ◌≡◌, ◌≢◌, ℕ, zero, suc, ◌+◌, ◌<◌, ◌≤◌, Bool, true, false, List, [], ◌∷◌, length, get_or, refl}
+use Rattle.std.proofs.Common.{ap, sym, ◌∙◌, arith, Some, None, slice_get}
 use Rattle.std.specs.Prelude.{◌==◌, ◌&&◌, map}
 use Rattle.std.proofs.lemmas.Bool.Decides.{nat_tests}
 use Rattle.std.proofs.lemmas.List.{get_or_default}
@@ -26,7 +27,8 @@ pub and_both : (a b : Bool) → a ≡ true → b ≡ true → (a && b) ≡ true
 and_both true b h k = k
 and_both false b h k = cc
 
-put_less : (k v : ℕ) (e : ℕ × ℕ) (es : List (ℕ × ℕ)) (o : Ordering) → is_lt o ≡ true → by_order o ((k, v) ∷ e ∷ es) ((e.0, v) ∷ es) (e ∷ put nat_cmp k v es) ≡ (k, v) ∷ e ∷ es
+put_less : (k v : ℕ) (e : ℕ × ℕ) (es : List (ℕ × ℕ)) (o : Ordering) → is_lt o ≡ true
+    → by_order o ((k, v) ∷ e ∷ es) ((e.0, v) ∷ es) (e ∷ put nat_cmp k v es) ≡ (k, v) ∷ e ∷ es
 put_less k v e es Less h = refl
 put_less k v e es Equal h = cc
 put_less k v e es Greater h = cc
@@ -46,20 +48,25 @@ pub entries-perm_of : (ps : List Page) → is_sorted nat_cmp (map page_entry ps)
 unfolding perm_of
 entries-perm_of [] h = none_of_length (entries empty) (sym (len-entries empty) ∙ len-empty nat_cmp ℕ)
 entries-perm_of (p ∷ ps) h =
-    entries-insert nat_cmp_total (perm_of ps) p.number p.flags ∙ ap (put nat_cmp p.number p.flags) (entries-perm_of ps (and_second _ _ h)) ∙ put-first p.number p.flags (map page_entry ps) (and_first _ _ h)
+    entries-insert nat_cmp_total (perm_of ps) p.number p.flags ∙ ap (put nat_cmp p.number p.flags) (entries-perm_of ps (and_second _ _ h))
+    ∙ put-first p.number p.flags (map page_entry ps) (and_first _ _ h)
 
 -- a page is found by its number
-pub later_apart : (k : ℕ) (ps : List Page) (i : ℕ) (d : Page) → below_all nat_cmp k (map page_entry ps) ≡ true → i < length ps → (k == (get_or ps i d).number) ≡ false
+pub later_apart : (k : ℕ) (ps : List Page) (i : ℕ) (d : Page) → below_all nat_cmp k (map page_entry ps) ≡ true → i < length ps
+    → (k == (get_or ps i d).number) ≡ false
 later_apart k [] i d h l = absurd (omega arith)
 later_apart k (p ∷ ps) zero d h l = less_apart k p.number (and_first _ _ h)
 later_apart k (p ∷ ps) (suc i) d h l = later_apart k ps i d (and_second _ _ h) (omega arith)
 
-pub page_at-index : (ps : List Page) (i : ℕ) (d : Page) → is_sorted nat_cmp (map page_entry ps) ≡ true → i < length ps → page_at ps (get_or ps i d).number ≡ Some (get_or ps i d)
+pub page_at-index : (ps : List Page) (i : ℕ) (d : Page) → is_sorted nat_cmp (map page_entry ps) ≡ true → i < length ps
+    → page_at ps (get_or ps i d).number ≡ Some (get_or ps i d)
 page_at-index [] i d h l = absurd (omega arith)
 page_at-index (p ∷ ps) zero d h l = let e : (p.number == p.number) ≡ true = grind (arith, nat_tests) in rw e refl
-page_at-index (p ∷ ps) (suc i) d h l = rw (later_apart p.number ps i d (and_first _ _ h) (omega arith)) (page_at-index ps i d (and_second _ _ h) (omega arith))
+page_at-index (p ∷ ps) (suc i) d h l =
+    rw (later_apart p.number ps i d (and_first _ _ h) (omega arith)) (page_at-index ps i d (and_second _ _ h) (omega arith))
 
-pub slice_get-entry : (ps : List Page) (i : ℕ) (d : Page) → i < length ps → slice_get (map page_entry ps) i ≡ Some (page_entry (get_or ps i d))
+pub slice_get-entry : (ps : List Page) (i : ℕ) (d : Page) → i < length ps
+    → slice_get (map page_entry ps) i ≡ Some (page_entry (get_or ps i d))
 slice_get-entry [] i d h = absurd (omega arith)
 slice_get-entry (p ∷ ps) zero d h = refl
 slice_get-entry (p ∷ ps) (suc i) d h = slice_get-entry ps i d (omega arith)
@@ -79,12 +86,14 @@ less_number : (k n : ℕ) → is_lt (nat_cmp k n) ≡ true → k < n
 less_number k n h = grind (arith, nat_tests)
 
 -- the numbers rise
-later_above : (k : ℕ) (ps : List Page) (i : ℕ) (d : Page) → below_all nat_cmp k (map page_entry ps) ≡ true → i < length ps → k < (get_or ps i d).number
+later_above : (k : ℕ) (ps : List Page) (i : ℕ) (d : Page) → below_all nat_cmp k (map page_entry ps) ≡ true → i < length ps
+    → k < (get_or ps i d).number
 later_above k [] i d h l = absurd (omega arith)
 later_above k (p ∷ ps) zero d h l = less_number k p.number (and_first _ _ h)
 later_above k (p ∷ ps) (suc i) d h l = later_above k ps i d (and_second _ _ h) (omega arith)
 
-pub numbers_rise : (ps : List Page) (i j : ℕ) (d e : Page) → is_sorted nat_cmp (map page_entry ps) ≡ true → i < j → j < length ps → (get_or ps i d).number < (get_or ps j e).number
+pub numbers_rise : (ps : List Page) (i j : ℕ) (d e : Page) → is_sorted nat_cmp (map page_entry ps) ≡ true → i < j → j < length ps
+    → (get_or ps i d).number < (get_or ps j e).number
 numbers_rise [] i j d e h l m = absurd (omega arith)
 numbers_rise (p ∷ ps) zero zero d e h l m = absurd (omega arith)
 numbers_rise (p ∷ ps) zero (suc j) d e h l m = later_above p.number ps j e (and_first _ _ h) (omega arith)
@@ -98,7 +107,8 @@ same_or_above : (k m : ℕ) → m ≤ k → (k ≡ m) ⊎ (m < k)
 same_or_above k m h = grind arith
 
 -- up to a page that lies below a number, all do
-pub below_upto : (ps : List Page) (m n : ℕ) (p : Page) → IsFine ps → m < length ps → (get_or ps m p).number < n → (k : ℕ) (d : Page) → k < m + 1 → (get_or ps k d).number < n
+pub below_upto : (ps : List Page) (m n : ℕ) (p : Page) → IsFine ps → m < length ps → (get_or ps m p).number < n → (k : ℕ) (d : Page)
+    → k < m + 1 → (get_or ps k d).number < n
 below_upto ps m n p fine l at k d b =
     elim (same_or_below k m b) [
       | inl e ↦ rw (e, get_or_default ps m d p l) at
@@ -106,7 +116,8 @@ below_upto ps m n p fine l at k d b =
     ]
 
 -- from a page on that does not lie below a number, none does
-pub none_below_from : (ps : List Page) (m n : ℕ) (p : Page) → IsFine ps → m < length ps → n ≤ (get_or ps m p).number → (k : ℕ) (d : Page) → m ≤ k → k < length ps → n ≤ (get_or ps k d).number
+pub none_below_from : (ps : List Page) (m n : ℕ) (p : Page) → IsFine ps → m < length ps → n ≤ (get_or ps m p).number → (k : ℕ) (d : Page)
+    → m ≤ k → k < length ps → n ≤ (get_or ps k d).number
 none_below_from ps m n p fine l at k d b c =
     elim (same_or_above k m b) [
       | inl e ↦ rw (e, get_or_default ps m d p l) at
@@ -131,12 +142,14 @@ number_above_apart : (m n : ℕ) → n < m → m ≢ n
 number_above_apart m n l = grind arith
 
 -- the page that stands there is the one of its number
-pub found_at : (ps : List Page) (i n : ℕ) (p : Page) → IsFine ps → i < length ps → (get_or ps i p).number ≡ n → page_at ps n ≡ slice_get ps i
+pub found_at : (ps : List Page) (i n : ℕ) (p : Page) → IsFine ps → i < length ps → (get_or ps i p).number ≡ n
+    → page_at ps n ≡ slice_get ps i
 found_at ps i n p fine l number =
     ap (page_at ps) (sym number) ∙ page_at-index ps i p fine.sorted l ∙ sym (slice_get-get_or ps i p l)
 
 -- no page has a number that parts those below it from the others, where the first of these has another
-pub not_found : (ps : List Page) (i n : ℕ) → IsFine ps → ((k : ℕ) (d : Page) → k < i → (get_or ps k d).number < n) → ((k : ℕ) (d : Page) → i ≤ k → k < length ps → n ≤ (get_or ps k d).number)
+pub not_found : (ps : List Page) (i n : ℕ) → IsFine ps → ((k : ℕ) (d : Page) → k < i → (get_or ps k d).number < n)
+    → ((k : ℕ) (d : Page) → i ≤ k → k < length ps → n ≤ (get_or ps k d).number)
     → ((d : Page) → i < length ps → (get_or ps i d).number ≢ n) → page_at ps n ≡ None
 not_found ps i n fine below rest here = page_at-none ps n (λ k d l.
     elim (place_of k i) [

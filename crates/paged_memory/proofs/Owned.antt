@@ -1,5 +1,6 @@
 -- Which pages are owned, where all are.
-use Rattle.std.proofs.Common.{inl, inr, ◌≡◌, ℕ, ◌+◌, ◌/◌, ◌%◌, ◌^◌, Bool, true, false, cond, List, [], ◌∷◌, refl, ap, sym, ◌∙◌, subst, Option, Some}
+use Rattle.std.proofs.Common.{inl, inr, ◌≡◌, ℕ, ◌+◌, ◌/◌, ◌%◌, ◌^◌, Bool, true, false, cond, List, [], ◌∷◌, refl, ap, sym, ◌∙◌, subst}
+use Rattle.std.proofs.Common.{Option, Some}
 use Rattle.std.specs.Prelude.{◌||◌, is_some, OnOk, Result, Ok, Err}
 use Rattle.std.specs.FinMap.{get, get-insert, get-empty}
 use Rattle.std.specs.FinSet.{contains, contains-insert, contains-empty}
@@ -18,7 +19,8 @@ unfolding numbers_of perm_of
 contains-numbers_of [] n = contains-empty nat_cmp n ∙ sym (ap is_some (get-empty nat_cmp n))
 contains-numbers_of (p ∷ ps) n =
     contains-insert nat_cmp_total (numbers_of ps) p.number n ∙ ap (λ b. eq_by_cmp nat_cmp n p.number || b) (contains-numbers_of ps n)
-    ∙ sym (ap is_some (get-insert nat_cmp_total (perm_of ps) p.number p.flags n) ∙ some_or (eq_by_cmp nat_cmp n p.number) p.flags (get (perm_of ps) n))
+    ∙ sym (ap is_some (get-insert nat_cmp_total (perm_of ps) p.number p.flags n)
+    ∙ some_or (eq_by_cmp nat_cmp n p.number) p.flags (get (perm_of ps) n))
 
 -- all pages are owned before and after, so those of any bytes are
 owned_as_before : (ps qs : List Page) (address n : ℕ) → perm_of qs ≡ perm_of ps → OwnsAlso (table_of ps) (table_of qs) address n
@@ -31,20 +33,24 @@ owned_as_before ps qs address n e number =
       ],
     )
 
-pub owns_also : (ps qs : List Page) (t : PageTable) (address n : ℕ) → table_of ps ≡ t → perm_of qs ≡ perm_of ps → OwnsAlso t (table_of qs) address n
+pub owns_also : (ps qs : List Page) (t : PageTable) (address n : ℕ) → table_of ps ≡ t → perm_of qs ≡ perm_of ps
+    → OwnsAlso t (table_of qs) address n
 owns_also ps qs t address n is e = subst (λ t. OwnsAlso t (table_of qs) address n) is (owned_as_before ps qs address n e)
 
 pub owns_all : (ps : List Page) (t : PageTable) (address n : ℕ) → table_of ps ≡ t → OwnsAlso t t address n
 owns_all ps t address n is = subst (λ t. OwnsAlso t t address n) is (owned_as_before ps ps address n refl)
 
 -- where bytes are in owned pages besides those that were, all of theirs are owned
-pub also_owned : (old new : PageTable) (address n : ℕ) → OwnsAlso old new address n → new.memory.perm ≡ old.memory.perm → AreOwned new address n
+pub also_owned : (old new : PageTable) (address n : ℕ) → OwnsAlso old new address n → new.memory.perm ≡ old.memory.perm
+    → AreOwned new address n
 also_owned old new address n h same k l there =
     (h ((address + k) % 2 ^ 64 / 4096)).1 (inr (record { mapped = rw (← same) there; place = k; within = l; there = refl }))
 
 -- pages of the same numbers
 pub same_owned : (ps qs : List Page) (t : PageTable) → table_of ps ≡ t → perm_of qs ≡ perm_of ps → KeepsOwned t (table_of qs)
-same_owned ps qs t is e = subst (λ t. KeepsOwned t (table_of qs)) is (λ n h. contains-numbers_of qs n ∙ ap (λ m. is_some (get m n)) e ∙ sym (contains-numbers_of ps n) ∙ h)
+same_owned ps qs t is e =
+    subst (λ t. KeepsOwned t (table_of qs)) is
+    (λ n h. contains-numbers_of qs n ∙ ap (λ m. is_some (get m n)) e ∙ sym (contains-numbers_of ps n) ∙ h)
 
 -- what holds in any case holds of an Ok
 pub on_ok : {T E P : Type 0} (r : Result T E) → P → OnOk r P

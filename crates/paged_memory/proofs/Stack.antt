@@ -7,14 +7,17 @@ use Rattle.paged_memory.specs.Memory.{AddressSpace, with_page, with_zero_pages, 
 use Rattle.paged_memory.proofs.Insert.{perm-with_page}
 
 -- pages past some are as they were
-pub perm-with_zero_pages : (m : AddressSpace) (first flags k q : ℕ) → first + k ≤ q → get (with_zero_pages m first flags k).perm q ≡ get m.perm q
+pub perm-with_zero_pages : (m : AddressSpace) (first flags k q : ℕ) → first + k ≤ q
+    → get (with_zero_pages m first flags k).perm q ≡ get m.perm q
 unfolding with_zero_pages
 perm-with_zero_pages m first flags zero q h = refl
 perm-with_zero_pages m first flags (suc k) q h =
     let apart : (first + k == q) ≡ false = let e : first + k ≢ q = grind arith in grind (arith, nat_tests) in
-    perm-with_page (with_zero_pages m first flags k) (first + k) flags zero_page q ∙ rw apart (perm-with_zero_pages m first flags k q (omega arith))
+    perm-with_page (with_zero_pages m first flags k) (first + k) flags zero_page q
+    ∙ rw apart (perm-with_zero_pages m first flags k q (omega arith))
 
-pub zero_page_added : (m : AddressSpace) (first flags k : ℕ) (bs : List ℕ) → bs ≡ replicate 4096 0 → with_page (with_zero_pages m first flags k) (first + k) flags bs ≡ with_zero_pages m first flags (k + 1)
+pub zero_page_added : (m : AddressSpace) (first flags k : ℕ) (bs : List ℕ) → bs ≡ replicate 4096 0
+    → with_page (with_zero_pages m first flags k) (first + k) flags bs ≡ with_zero_pages m first flags (k + 1)
 unfolding with_zero_pages zero_page
 zero_page_added m first flags k bs e = rw (add-one, e) refl
 

@@ -1,5 +1,6 @@
 -- The memory of some pages has exactly the addresses of these pages.
-use Rattle.std.proofs.Common.{◌≡◌, ℕ, zero, suc, ◌/◌, ◌%◌, ◌<◌, true, false, cond, List, [], ◌∷◌, length, refl, ap, sym, ◌∙◌, subst, arith, Some, slice_get, option_map}
+use Rattle.std.proofs.Common.{◌≡◌, ℕ, zero, suc, ◌/◌, ◌%◌, ◌<◌, true, false, cond, List, [], ◌∷◌, length, refl, ap, sym, ◌∙◌, subst, arith}
+use Rattle.std.proofs.Common.{Some, slice_get, option_map}
 use Rattle.std.specs.Prelude.{◌==◌, is_some}
 use Rattle.std.specs.List.{AllByRecursion}
 use Rattle.std.proofs.lemmas.List.Elements.{recursion_from_All}
@@ -15,16 +16,19 @@ within (b ∷ bs) zero l = refl
 within (b ∷ bs) (suc k) l = within bs k (omega arith)
 
 -- a page has a byte at each of its places
-there : (ps : List Page) (n k : ℕ) → AllByRecursion (λ p. length p.bytes.items ≡ 4096) ps → k < 4096 → is_some (bind (page_at ps n) (λ p. slice_get p.bytes.items k)) ≡ is_some (option_map (λ p. p.flags) (page_at ps n))
+there : (ps : List Page) (n k : ℕ) → AllByRecursion (λ p. length p.bytes.items ≡ 4096) ps → k < 4096
+    → is_some (bind (page_at ps n) (λ p. slice_get p.bytes.items k)) ≡ is_some (option_map (λ p. p.flags) (page_at ps n))
 there [] n k full l = refl
 there (p ∷ ps) n k full l =
-    elim (p.number == n) as (λ t. is_some (bind (cond t (Some p) (page_at ps n)) (λ p. slice_get p.bytes.items k)) ≡ is_some (option_map (λ p. p.flags) (cond t (Some p) (page_at ps n)))) [
+    elim (p.number == n) as (λ t. is_some (bind (cond t (Some p) (page_at ps n)) (λ p. slice_get p.bytes.items k))
+    ≡ is_some (option_map (λ p. p.flags) (cond t (Some p) (page_at ps n)))) [
       | true ↦ within p.bytes.items k (rw full.0 l)
       | false ↦ there ps n k full.1 l
     ]
 
 -- the flags of a page that is found
-found : (ps : List Page) (n flags : ℕ) → AllByRecursion (λ p. p.flags < 8) ps → option_map (λ p. p.flags) (page_at ps n) ≡ Some flags → flags < 8
+found : (ps : List Page) (n flags : ℕ) → AllByRecursion (λ p. p.flags < 8) ps → option_map (λ p. p.flags) (page_at ps n) ≡ Some flags
+    → flags < 8
 found [] n flags all e = cc
 found (p ∷ ps) n flags all e =
     elim (p.number == n) as (λ t. option_map (λ p. p.flags) (cond t (Some p) (page_at ps n)) ≡ Some flags → flags < 8) [

@@ -12,7 +12,8 @@ four_bytes (a ∷ b ∷ []) h = absurd (omega arith)
 four_bytes (a ∷ []) h = absurd (omega arith)
 four_bytes [] h = absurd (omega arith)
 
-pub word_read : (m now : AddressSpace) (pc n : ℕ) (bs : List ℕ) → m ≡ now → bytes_with 1 m pc 4 ≡ Some bs → length bs ≡ 4 → n ≡ from_le_bytes w32 bs → Some n ≡ word_at now pc
+pub word_read : (m now : AddressSpace) (pc n : ℕ) (bs : List ℕ) → m ≡ now → bytes_with 1 m pc 4 ≡ Some bs → length bs ≡ 4
+    → n ≡ from_le_bytes w32 bs → Some n ≡ word_at now pc
 unfolding word_at
 word_read m now pc n bs e there four is = rw (← e, there) (ap Some (is ∙ sym (four_bytes bs four)))
 

@@ -1,5 +1,6 @@
 -- Lines of values that are all zero, which are none.
-use Rattle.std.proofs.Common.{◌≡◌, ℕ, zero, suc, ◌+◌, ◌-◌, ◌*◌, ◌∷◌, [], List, Bool, true, false, codes, take, refl, ap, sym, ◌∙◌, arith, ◌==◌}
+use Rattle.std.proofs.Common.{◌≡◌, ℕ, zero, suc, ◌+◌, ◌-◌, ◌*◌, ◌∷◌, [], List, Bool, true, false, codes, take, refl, ap, sym, ◌∙◌, arith}
+use Rattle.std.proofs.Common.{◌==◌}
 use Rattle.std.proofs.Common.{length, replicate}
 use Rattle.std.specs.List.{list_all}
 use Rattle.std.proofs.lemmas.List.{drop-replicate}
@@ -57,8 +58,15 @@ ffr_line-zero name n = rw (bytes_of_bits-zero _ n) (bytes_line-zero name _)
 -- no vector and no predicate has a line
 pub bank_text-zero : (vl svl : VecLen) (za_on : Bool) → bank_text (zero_bank vl svl) za_on ≡ []
 unfolding bank_text zero_bank
-bank_text-zero vl svl true = rw (bytes_lines-zero (codes "z") 0 32 _, predicate_lines-zero (codes "p") 0 16 _, ffr_line-zero (codes "ffr") _, bytes_lines-zero (codes "za") 0 _ _) refl
-bank_text-zero vl svl false = rw (bytes_lines-zero (codes "z") 0 32 _, predicate_lines-zero (codes "p") 0 16 _, ffr_line-zero (codes "ffr") _) refl
+bank_text-zero vl svl true =
+    rw (
+      bytes_lines-zero (codes "z") 0 32 _,
+      predicate_lines-zero (codes "p") 0 16 _,
+      ffr_line-zero (codes "ffr") _,
+      bytes_lines-zero (codes "za") 0 _ _,
+    ) refl
+bank_text-zero vl svl false =
+    rw (bytes_lines-zero (codes "z") 0 32 _, predicate_lines-zero (codes "p") 0 16 _, ffr_line-zero (codes "ffr") _) refl
 
 none_of-length : (l : List (ℕ × ℕ)) → length l ≡ 0 → l ≡ []
 none_of-length [] e = refl
@@ -68,5 +76,6 @@ none_of-length (x ∷ l) e = absurd (omega arith)
 pub handler_lines-none : handler_lines (entries (empty {X = ℕ} {R = nat_cmp})) ≡ []
 unfolding handler_lines
 handler_lines-none =
-    let none : entries (empty {X = ℕ} {R = nat_cmp}) ≡ [] = none_of-length _ (sym (len-entries (empty {X = ℕ} {R = nat_cmp})) ∙ len-empty nat_cmp ℕ) in
+    let none : entries (empty {X = ℕ} {R = nat_cmp}) ≡ [] =
+    none_of-length _ (sym (len-entries (empty {X = ℕ} {R = nat_cmp})) ∙ len-empty nat_cmp ℕ) in
     rw none refl

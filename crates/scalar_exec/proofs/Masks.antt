@@ -8,6 +8,7 @@ not_true true e = cc
 not_true false e = cc
 
 -- the value of the mask
-pub mask-is : (wide n : Bool) (imms immr : ℕ) → are_mask_fields n imms immr wide ≡ true → bit_mask_of n imms immr wide ≡ Some (mask_of n imms immr wide)
+pub mask-is : (wide n : Bool) (imms immr : ℕ) → are_mask_fields n imms immr wide ≡ true
+    → bit_mask_of n imms immr wide ≡ Some (mask_of n imms immr wide)
 unfolding bit_mask_of are_mask_fields
 mask-is wide n imms immr it = let free = not_true (is_reserved n imms wide) (and_parts _ _ it).0 in rw free refl

@@ -11,8 +11,10 @@ use Rattle.smemu.specs.Foreign.{earlier_fault, foreign_fault}
 some_request : (o : Option Request) (request : Request) → o ≡ Some request → IsSome o
 some_request o request e = rw e refl
 
-pub sound_words : (words : List (String Global)) (request : Request) → command_of (map string_bytes words) ≡ Some request → foreign_fault (map string_bytes words) ≡ record { place = length words; kind = Unknown }
+pub sound_words : (words : List (String Global)) (request : Request) → command_of (map string_bytes words) ≡ Some request
+    → foreign_fault (map string_bytes words) ≡ record { place = length words; kind = Unknown }
 sound_words words request e =
-    let none : usage_fault (map string_bytes words) ≡ None = (reading (map string_bytes words)).0 (some_request (command_of (map string_bytes words)) request e) in
+    let none : usage_fault (map string_bytes words) ≡ None =
+    (reading (map string_bytes words)).0 (some_request (command_of (map string_bytes words)) request e) in
     let size : length (map string_bytes words) ≡ length words = grind (arith, common_steps) in
     ap (λ (fault : Option Fault). earlier_fault fault (length (map string_bytes words))) none ∙ ap (earlier_fault None) size

@@ -17,7 +17,8 @@ module _ (c : Call) (reliable : IsTrue c.files.before.reliable) (room : HasRoom 
   only_memory BadFile h m = absurd m
   only_memory BadSource h m = absurd m
 
-  due_or_memory : (s : Status) → IsRefused c s → (s ≡ due_status files c.words) ⊎ MayCome files c.words s → (s ≡ due_status files c.words) ⊎ (s ≡ OutOfMemory)
+  due_or_memory : (s : Status) → IsRefused c s → (s ≡ due_status files c.words) ⊎ MayCome files c.words s
+      → (s ≡ due_status files c.words) ⊎ (s ≡ OutOfMemory)
   due_or_memory s h e = elim e [
     | inl due ↦ inl due
     | inr other ↦ inr (only_memory s h other)
@@ -25,7 +26,8 @@ module _ (c : Call) (reliable : IsTrue c.files.before.reliable) (room : HasRoom 
 
 pub lacks_memory_alone : (c : Call) (s : Status) → IsRefused c s → IsComplete c s → LacksMemoryAlone c s
 lacks_memory_alone c s h complete = λ reliable room.
-    elim c.files.before.told as (λ told. c.files.before.told ≡ told → IfSome told (λ files. (s ≡ due_status files c.words) ⊎ (s ≡ OutOfMemory))) [
+    elim c.files.before.told as (λ told. c.files.before.told ≡ told
+    → IfSome told (λ files. (s ≡ due_status files c.words) ⊎ (s ≡ OutOfMemory))) [
       | None ↦ λ e. tt
       | Some files ↦ λ e. due_or_memory c reliable room files s h (complete files e)
     ] refl

@@ -58,7 +58,9 @@ numbers_of c = (c.vl, c.svl, c.slice, c.budget, c.threads, c.cores)
 
 same_numbers : (a b : Config) → numbers_of a ≡ numbers_of b → a ≡ b
 same_numbers a b e =
-    let pairs : ◌≡◌ {A = (n : Numbers) × InRange n} (numbers_of a, (a.slice_in_range, (a.budget_in_range, (a.threads_in_range, a.cores_in_range)))) (numbers_of b, (b.slice_in_range, (b.budget_in_range, (b.threads_in_range, b.cores_in_range)))) =
+    let pairs : ◌≡◌ {A = (n : Numbers) × InRange n}
+    (numbers_of a, (a.slice_in_range, (a.budget_in_range, (a.threads_in_range, a.cores_in_range))))
+    (numbers_of b, (b.slice_in_range, (b.budget_in_range, (b.threads_in_range, b.cores_in_range)))) =
     Σ_prop_path in_range_prop e in
     λ i. record {
       vl = (pairs i).0.0;
@@ -87,7 +89,8 @@ same_file o file other e h = cc
 
 -- ---- the ends of threads
 
-same_list : {A : Type 0} (xs ys : List A) → length xs ≡ length ys → ((k : ℕ) (x y : A) → slice_get xs k ≡ Some x → slice_get ys k ≡ Some y → x ≡ y) → xs ≡ ys
+same_list : {A : Type 0} (xs ys : List A) → length xs ≡ length ys
+    → ((k : ℕ) (x y : A) → slice_get xs k ≡ Some x → slice_get ys k ≡ Some y → x ≡ y) → xs ≡ ys
 same_list [] [] l h = refl
 same_list [] (y ∷ ys) l h = absurd (omega arith)
 same_list (x ∷ xs) [] l h = absurd (omega arith)
@@ -96,10 +99,12 @@ same_list (x ∷ xs) (y ∷ ys) l h =
     let rest : xs ≡ ys = same_list xs ys (omega arith) (λ k. h (suc k)) in
     λ i. first i ∷ rest i
 
-alone : (program : Program) (config : Config) (k : ℕ) (end : ThreadEnd) (h : IsEndOf program config k end) → IsLoneRun program config k [] end.state h.stop
+alone : (program : Program) (config : Config) (k : ℕ) (end : ThreadEnd) (h : IsEndOf program config k end)
+    → IsLoneRun program config k [] end.state h.stop
 alone program config k end h = subst (λ (journal : List Event). IsLoneRun program config k journal end.state h.stop) h.journal h.run
 
-one_thread_end : (program : Program) (config : Config) (k : ℕ) (a b : ThreadEnd) → IsEndOf program config k a → IsEndOf program config k b → a ≡ b
+one_thread_end : (program : Program) (config : Config) (k : ℕ) (a b : ThreadEnd) → IsEndOf program config k a → IsEndOf program config k b
+    → a ≡ b
 one_thread_end program config k a b h g =
     let number = h.number ∙ sym g.number in
     let journal = h.journal ∙ sym g.journal in
@@ -110,12 +115,15 @@ one_thread_end program config k a b h g =
 
 -- ---- the texts
 
-one_report : (file : List ℕ) (config : Config) (text other : List ℕ) → IsReportOf file config text → IsReportOf file config other → text ≡ other
+one_report : (file : List ℕ) (config : Config) (text other : List ℕ) → IsReportOf file config text → IsReportOf file config other
+    → text ≡ other
 one_report file config text other h g =
     let program = one_program file h.program g.program h.loads g.loads in
     let each : (k : ℕ) (end : ThreadEnd) → slice_get h.ends k ≡ Some end → IsEndOf g.program config k end =
     λ k end at. subst (λ (p : Program). IsEndOf p config k end) program (h.each k end at) in
-    let ends = same_list h.ends g.ends (h.threads ∙ sym g.threads) (λ k a b at there. one_thread_end g.program config k a b (each k a at) (g.each k b there)) in
+    let ends =
+    same_list h.ends g.ends (h.threads ∙ sym g.threads)
+    (λ k a b at there. one_thread_end g.program config k a b (each k a at) (g.each k b there)) in
     h.is_text ∙ ap (λ (es : List ThreadEnd). report_text config (sha256 file) es zero_words) ends ∙ sym g.is_text
 
 -- ---- the files of a program
@@ -124,21 +132,27 @@ same_extents : (o p : Object) → IsSameObject o p → object_extents o ≡ obje
 unfolding object_extents text_extent data_extent
 same_extents o p h =
     λ i. record { address = text_address; size = length (h.text_bytes i); flags = 5; bytes = h.text_bytes i }
-    ∷ cond (length (h.data_bytes i) == 0) [] (record { address = data_address (length (h.text_bytes i)); size = length (h.data_bytes i); flags = 6; bytes = h.data_bytes i } ∷ [])
+    ∷ cond (length (h.data_bytes i) == 0) []
+    (record { address = data_address (length (h.text_bytes i)); size = length (h.data_bytes i); flags = 6; bytes = h.data_bytes i } ∷ [])
 
 same_image : (o p : Object) (x y : Program) → IsSameObject o p → IsObjectImage o x → IsObjectImage p y → x ≡ y
 same_image o p x y s h g =
-    let memory = one_memory (object_extents p) x.memory y.memory (subst (λ (es : List Extent). IsMemoryOf es x.memory) (same_extents o p s) h.memory) g.memory in
+    let memory =
+    one_memory (object_extents p) x.memory y.memory (subst (λ (es : List Extent). IsMemoryOf es x.memory) (same_extents o p s) h.memory)
+    g.memory in
     let entry : x.entry ≡ y.entry = h.entry_is ∙ s.entry ∙ sym g.entry_is in
     let code : x.code ≡ y.code = h.code_is ∙ same_code o p s ∙ sym g.code_is in
     λ i. record { memory = memory i; entry = entry i; code = code i }
 
 one_assembly : (source text other : List ℕ) → IsProgramOf source text → IsProgramOf source other → AreLoadedAsOne text other
 one_assembly source text other h g =
-    let same = same_image h.object g.object h.written.program g.written.program (one_object source h.object g.object h.assembles g.assembles) h.written.image g.written.image in
+    let same =
+    same_image h.object g.object h.written.program g.written.program (one_object source h.object g.object h.assembles g.assembles)
+    h.written.image g.written.image in
     (g.written.program, subst (λ (p : Program). Loads text p) same h.written.loads, g.written.loads)
 
-pub one_text : (files : List ℕ → Option (List ℕ)) (request : Request) (text other : List ℕ) → IsAnswer (Some files) request text → IsAnswer (Some files) request other → AreOneAnswer request text other
+pub one_text : (files : List ℕ → Option (List ℕ)) (request : Request) (text other : List ℕ) → IsAnswer (Some files) request text
+    → IsAnswer (Some files) request other → AreOneAnswer request text other
 one_text files (AsksRun name options) text other h g =
     let file = same_file (files name) h.file g.file h.is_file g.is_file in
     let config = same_config h.config g.config (h.given ∙ sym g.given) in

@@ -39,7 +39,8 @@ pub record IsFaulty {F : Type 0} (fault_of : List ℕ → Option F) (told : Told
 
 -- ---- files of a kind, of which those that are too long have a fault of their own
 
-module _ {F : Type 0} (fault_of : List ℕ → Option F) (too_long : F) (long_fault : (file : List ℕ) → 67108864 < length file → fault_of file ≡ Some too_long) where
+module _ {F : Type 0} (fault_of : List ℕ → Option F) (too_long : F)
+    (long_fault : (file : List ℕ) → 67108864 < length file → fault_of file ≡ Some too_long) where
   faulty_or_not : (o : Option F) (f : F) → o ≡ None → o ≡ Some f → ⊥
   faulty_or_not o f e h = cc
 
@@ -54,7 +55,8 @@ module _ {F : Type 0} (fault_of : List ℕ → Option F) (too_long : F) (long_fa
         | inr short ↦ short
       ]
 
-  faulty_whole : (n : ℕ) (file fetched : List ℕ) (fault : F) → 67108864 < n → take n file ≡ fetched → fault_of fetched ≡ Some fault → fault_of file ≡ Some fault
+  faulty_whole : (n : ℕ) (file fetched : List ℕ) (fault : F) → 67108864 < n → take n file ≡ fetched → fault_of fetched ≡ Some fault
+      → fault_of file ≡ Some fault
   faulty_whole n file fetched fault l e h =
       elim (low_or (length file) n) [
         | inl short ↦ ap fault_of (sym (take_short n file (omega arith)) ∙ e) ∙ h
@@ -65,21 +67,29 @@ module _ {F : Type 0} (fault_of : List ℕ → Option F) (too_long : F) (long_fa
       ]
 
   -- the file of the name, where what was fetched has no fault
-  sound_file : (told : Told) (n : ℕ) (name fetched : List ℕ) → 67108864 < n → IfSome told (λ files. option_map (take n) (files name) ≡ Some fetched) → fault_of fetched ≡ None → IsFile told name fetched
+  sound_file : (told : Told) (n : ℕ) (name fetched : List ℕ) → 67108864 < n
+      → IfSome told (λ files. option_map (take n) (files name) ≡ Some fetched) → fault_of fetched ≡ None → IsFile told name fetched
   sound_file None n name fetched l e h = tt
   sound_file (Some files) n name fetched l e h =
       elim (files name) as (λ o. option_map (take n) o ≡ Some fetched → o ≡ Some fetched) [
         | None ↦ λ x. cc
-        | Some file ↦ λ x. ap Some (whole_file n file fetched (some_is (take n file) fetched x) (let s = sound_short fetched h in omega arith))
+        | Some file ↦ λ x. ap Some (whole_file n file fetched (some_is (take n file) fetched x)
+            (let s = sound_short fetched h in omega arith))
       ] e
 
   -- the file of the name, where what was fetched has a fault
-  faulty_file : (told : Told) (n : ℕ) (name fetched : List ℕ) (fault : F) → 67108864 < n → IfSome told (λ files. option_map (take n) (files name) ≡ Some fetched) → fault_of fetched ≡ Some fault → IsFaulty fault_of told name fault
+  faulty_file : (told : Told) (n : ℕ) (name fetched : List ℕ) (fault : F) → 67108864 < n
+      → IfSome told (λ files. option_map (take n) (files name) ≡ Some fetched) → fault_of fetched ≡ Some fault
+      → IsFaulty fault_of told name fault
   faulty_file None n name fetched fault l e h = record { file = fetched; is_file = tt; faulty = h }
   faulty_file (Some files) n name fetched fault l e h =
       elim (files name) as (λ o. files name ≡ o → option_map (take n) o ≡ Some fetched → IsFaulty fault_of (Some files) name fault) [
         | None ↦ λ is x. cc
-        | Some file ↦ λ is x. record { file = file; is_file = is; faulty = faulty_whole n file fetched fault l (some_is (take n file) fetched x) h }
+        | Some file ↦ λ is x. record {
+          file = file;
+          is_file = is;
+          faulty = faulty_whole n file fetched fault l (some_is (take n file) fetched x) h;
+        }
       ] refl e
 
 -- ---- program files, and sources
@@ -102,9 +112,12 @@ long_rejected IsProgram file h = ap (option_map NoProgram) (long_refused file h)
 long_rejected IsSource file h = ap (option_map NoSource) (long_source file h)
 
 -- what was fetched is the file, where it is accepted
-pub accepted_file : (kind : Kind) (told : Told) (n : ℕ) (name fetched : List ℕ) → 67108864 < n → IfSome told (λ files. option_map (take n) (files name) ≡ Some fetched) → rejection_of kind fetched ≡ None → IsFile told name fetched
+pub accepted_file : (kind : Kind) (told : Told) (n : ℕ) (name fetched : List ℕ) → 67108864 < n
+    → IfSome told (λ files. option_map (take n) (files name) ≡ Some fetched) → rejection_of kind fetched ≡ None → IsFile told name fetched
 accepted_file kind = sound_file (rejection_of kind) (too_long kind) (long_rejected kind)
 
 -- the file is not accepted, where what was fetched is not
-pub rejected_file : (kind : Kind) (told : Told) (n : ℕ) (name fetched : List ℕ) (fault : Rejection) → 67108864 < n → IfSome told (λ files. option_map (take n) (files name) ≡ Some fetched) → rejection_of kind fetched ≡ Some fault → IsFaulty (rejection_of kind) told name fault
+pub rejected_file : (kind : Kind) (told : Told) (n : ℕ) (name fetched : List ℕ) (fault : Rejection) → 67108864 < n
+    → IfSome told (λ files. option_map (take n) (files name) ≡ Some fetched) → rejection_of kind fetched ≡ Some fault
+    → IsFaulty (rejection_of kind) told name fault
 rejected_file kind = faulty_file (rejection_of kind) (too_long kind) (long_rejected kind)

@@ -15,9 +15,11 @@ returns-in_default-line_at c it = no_line scalar c.args.word c.in-Some.number c.
 pub returns-then-matches : goal.returns-then-matches
 unfolding scalar
 returns-then-matches c it =
-    match scalar c.args.word c.in-Some.number c.in-Some.ensures (omega arith) c.in-Some-line_at.line.now c.in-Some-line_at.ensures (c.matches.ensures.0 c.if-matches.true) c.insn_given.result c.insn_given.ensures it
+    match scalar c.args.word c.in-Some.number c.in-Some.ensures (omega arith) c.in-Some-line_at.line.now c.in-Some-line_at.ensures
+    (c.matches.ensures.0 c.if-matches.true) c.insn_given.result c.insn_given.ensures it
 
 pub returns-else-matches : goal.returns-else-matches
 unfolding scalar
 returns-else-matches c it =
-    no_match scalar c.args.word c.in-Some.number c.in-Some.ensures c.in-Some-line_at.line.now c.in-Some-line_at.ensures (λ m. both_ways _ c.if-matches.false (c.matches.ensures.1 m)) it
+    no_match scalar c.args.word c.in-Some.number c.in-Some.ensures c.in-Some-line_at.line.now c.in-Some-line_at.ensures
+    (λ m. both_ways _ c.if-matches.false (c.matches.ensures.1 m)) it

@@ -12,7 +12,9 @@ pub returns : goal.returns
 returns c it = (
   λ h. elim h.means [ inl m ↦ inl (ranged h.word it m) | inr m ↦ absurd (no_meaning h.word it m) ],
   λ r. elim r [
-    | inl i ↦ let x = in_line-word scalar parts_of is_table it (in_line it i) in record { word = x.0; means = inl (word-means scalar parts_of is_table x.0 it x.1) }
+    | inl i ↦ let x =
+        in_line-word scalar parts_of is_table it (in_line it i) in
+        record { word = x.0; means = inl (word-means scalar parts_of is_table x.0 it x.1) }
     | inr i ↦ absurd i
   ],
 )

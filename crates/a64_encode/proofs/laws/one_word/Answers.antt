@@ -8,6 +8,10 @@ use Rattle.a64_encode.proofs.laws.one_word.Goals as goal
 
 pub returns : goal.returns
 returns c w v it m n = elim m [
-  | inl a ↦ elim n [ inl b ↦ one_word scalar parts_of is_table w v it (means-word scalar parts_of is_table w it a) (means-word scalar parts_of is_table v it b) | inr b ↦ absurd (no_meaning v it b) ]
+  | inl a ↦ elim n [
+    | inl b ↦ one_word scalar parts_of is_table w v it (means-word scalar parts_of is_table w it a)
+        (means-word scalar parts_of is_table v it b)
+    | inr b ↦ absurd (no_meaning v it b)
+  ]
   | inr a ↦ absurd (no_meaning w it a)
 ]

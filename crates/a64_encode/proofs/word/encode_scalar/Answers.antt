@@ -16,7 +16,9 @@ returns-in_default c = no_parts scalar parts_of is_table c.args.insn.now c.in_de
 
 pub returns-in_default-line_of : goal.returns-in_default-line_of
 unfolding scalar
-returns-in_default-line_of c = no_line_of scalar parts_of is_table c.args.insn.now c.in-Some.parts c.in-Some.ensures (λ i r g e. c.in_default-line_of.ensures i r g (ap number_of e ∙ sym c.number_of.ensures))
+returns-in_default-line_of c =
+    no_line_of scalar parts_of is_table c.args.insn.now c.in-Some.parts c.in-Some.ensures
+    (λ i r g e. c.in_default-line_of.ensures i r g (ap number_of e ∙ sym c.number_of.ensures))
 
 pub word_in-requires : goal.word_in-requires
 unfolding scalar
@@ -28,19 +30,24 @@ pub returns-in_default-word_in : goal.returns-in_default-word_in
 unfolding scalar
 returns-in_default-word_in c =
     let h = c.in-Some-line_of.ensures in
-    no_word scalar parts_of is_table c.args.insn.now c.in-Some.parts c.in-Some.ensures h.place c.in-Some-line_of.line.now h.listed (same_operation _ _ (h.same ∙ c.number_of.ensures))
+    no_word scalar parts_of is_table c.args.insn.now c.in-Some.parts c.in-Some.ensures h.place c.in-Some-line_of.line.now h.listed
+    (same_operation _ _ (h.same ∙ c.number_of.ensures))
     (c.in_default-word_in.ensures ∙ ap (λ fs. word_in c.in-Some-line_of.line.now.value fs c.in-Some.parts.numbers) c.fields_of.ensures)
 
 pub returns-then-condition : goal.returns-then-condition
 unfolding scalar
 returns-then-condition c =
     let h = c.in-Some-line_of.ensures in
-    word scalar parts_of is_table c.args.insn.now c.in-Some.parts c.in-Some.ensures h.place c.in-Some-line_of.line.now h.listed (same_operation _ _ (h.same ∙ c.number_of.ensures)) _
-    (c.in-Some-word_in.ensures ∙ ap (λ fs. word_in c.in-Some-line_of.line.now.value fs c.in-Some.parts.numbers) c.fields_of.ensures) (sym c.condition.ensures ∙ c.if-condition.true)
+    word scalar parts_of is_table c.args.insn.now c.in-Some.parts c.in-Some.ensures h.place c.in-Some-line_of.line.now h.listed
+    (same_operation _ _ (h.same ∙ c.number_of.ensures)) _
+    (c.in-Some-word_in.ensures ∙ ap (λ fs. word_in c.in-Some-line_of.line.now.value fs c.in-Some.parts.numbers) c.fields_of.ensures)
+    (sym c.condition.ensures ∙ c.if-condition.true)
 
 pub returns-else-condition : goal.returns-else-condition
 unfolding scalar
 returns-else-condition c =
     let h = c.in-Some-line_of.ensures in
-    no_fit scalar parts_of is_table c.args.insn.now c.in-Some.parts c.in-Some.ensures h.place c.in-Some-line_of.line.now h.listed (same_operation _ _ (h.same ∙ c.number_of.ensures)) _
-    (c.in-Some-word_in.ensures ∙ ap (λ fs. word_in c.in-Some-line_of.line.now.value fs c.in-Some.parts.numbers) c.fields_of.ensures) (sym c.condition.ensures ∙ c.if-condition.false)
+    no_fit scalar parts_of is_table c.args.insn.now c.in-Some.parts c.in-Some.ensures h.place c.in-Some-line_of.line.now h.listed
+    (same_operation _ _ (h.same ∙ c.number_of.ensures)) _
+    (c.in-Some-word_in.ensures ∙ ap (λ fs. word_in c.in-Some-line_of.line.now.value fs c.in-Some.parts.numbers) c.fields_of.ensures)
+    (sym c.condition.ensures ∙ c.if-condition.false)

@@ -8,8 +8,11 @@ use Rattle.asm_core.proofs.Pieces.{numbers_more, none_more, mapped_more, mapped_
 use Rattle.asm_core.proofs.emit_bytes.put_quads.Goals as goal
 
 pub returns-in_default-clause-err : goal.returns-in_default-clause-err
-returns-in_default-clause-err c = λ list knows differs.
-    (mapped_at (is_undefined list) value_of c.args.values.now c.loop-value.value-index (value.Number 0) c.loop-value-test.true (c.in_default.ensures list knows), refl)
+returns-in_default-clause-err c = λ list knows differs. (
+  mapped_at (is_undefined list) value_of c.args.values.now c.loop-value.value-index (value.Number 0) c.loop-value-test.true
+      (c.in_default.ensures list knows),
+  refl,
+)
 
 pub loop-value-preserved : goal.loop-value-preserved
 loop-value-preserved c = λ list knows.
@@ -21,9 +24,14 @@ loop-value-preserved c = λ list knows.
     let grown : take (i + 1) values ≡ take i values ++ x ∷ [] = take_more values i (value.Number 0) c.loop-value-test.true in
     let said = mapped_more value_of (take i values) (take (i + 1) values) x grown in
     record {
-      defined = none_more (is_undefined list) (map value_of (take i values)) (map value_of (take (i + 1) values)) (value_of x) before.defined read.0 said;
+      defined =
+          none_more (is_undefined list) (map value_of (take i values)) (map value_of (take (i + 1) values)) (value_of x) before.defined read.0
+          said;
       bytes =
-          numbers_more 8 c.args.bytes.now.items c.loop-value.bytes.items c.put_quad.new.bytes.items (map (quad_number c.args.addresses.now.text_size list) (map value_of (take i values)))
-          (map (quad_number c.args.addresses.now.text_size list) (map value_of (take (i + 1) values))) c.in-Some.address before.bytes c.in_ok-put_quad.ensures.ok
-          (rw read.1 (mapped_more (quad_number c.args.addresses.now.text_size list) (map value_of (take i values)) (map value_of (take (i + 1) values)) (value_of x) said));
+          numbers_more 8 c.args.bytes.now.items c.loop-value.bytes.items c.put_quad.new.bytes.items
+          (map (quad_number c.args.addresses.now.text_size list) (map value_of (take i values)))
+          (map (quad_number c.args.addresses.now.text_size list) (map value_of (take (i + 1) values))) c.in-Some.address before.bytes
+          c.in_ok-put_quad.ensures.ok
+          (rw read.1 (mapped_more (quad_number c.args.addresses.now.text_size list) (map value_of (take i values))
+          (map value_of (take (i + 1) values)) (value_of x) said));
     }

@@ -10,5 +10,6 @@ use Rattle.asm_core.proofs.emit_bytes.put_quads.Given as goal
 abbrev pub invariant-loop-value : goal.invariant-loop-value
 invariant-loop-value l = (list : List Label) → Knows l.addresses.labels.now list → record {
   defined : list_any (is_undefined list) (map value_of (take l.value-index l.values)) ≡ false;
-  bytes : l.bytes.items ≡ l.initial.bytes.items ++ numbers_bytes 8 (map (quad_number l.addresses.text_size list) (map value_of (take l.value-index l.values)));
+  bytes : l.bytes.items ≡ l.initial.bytes.items
+      ++ numbers_bytes 8 (map (quad_number l.addresses.text_size list) (map value_of (take l.value-index l.values)));
 }

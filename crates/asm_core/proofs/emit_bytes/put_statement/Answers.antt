@@ -21,7 +21,8 @@ returns-in-Instruction-clause-bytes c = λ list knows.
     let p = c.args.place.now in
     let word = c.in-Instruction.word in
     let target = option_map target_said c.in-Instruction.target in
-    let from : c.address_in-from.result ≡ address_in T p.part (here p) = c.address_in-from.ensures.value ∙ ap (address_in T p.part) c.here.ensures in
+    let from : c.address_in-from.result ≡ address_in T p.part (here p) =
+    c.address_in-from.ensures.value ∙ ap (address_in T p.part) c.here.ensures in
     rw c.in-Instruction.is
     (on_ok_weaker c.put_instruction.result
     (λ (h : IsWordAfter (aimed T list c.address_in-from.result word target) c.args.bytes.now.items c.put_instruction.new.bytes.items).
@@ -48,7 +49,8 @@ returns-in-Word-clause-bytes c = λ list knows.
     rw c.in-Word.is
     (on_ok_weaker c.put_words.result
     (λ (e : new ≡ old ++ numbers_bytes 4 c.deref-in-Word.result.now).
-    adds_words c.args.addresses.now.text_size list c.args.place.now c.in-Word.numbers.items old new (e ∙ ap (λ x. old ++ numbers_bytes 4 x) c.deref-in-Word.ensures.value))
+    adds_words c.args.addresses.now.text_size list c.args.place.now c.in-Word.numbers.items old new
+    (e ∙ ap (λ x. old ++ numbers_bytes 4 x) c.deref-in-Word.ensures.value))
     c.put_words.ensures.ok)
 
 pub returns-in-Byte-clause-bytes : goal.returns-in-Byte-clause-bytes
@@ -58,7 +60,8 @@ returns-in-Byte-clause-bytes c = λ list knows.
     rw c.in-Byte.is
     (on_ok_weaker c.put_all.result
     (λ (e : new ≡ old ++ c.deref-in-Byte.result.now).
-    adds_bytes c.args.addresses.now.text_size list c.args.place.now c.in-Byte.numbers.items old new (e ∙ ap (λ x. old ++ x) c.deref-in-Byte.ensures.value))
+    adds_bytes c.args.addresses.now.text_size list c.args.place.now c.in-Byte.numbers.items old new
+    (e ∙ ap (λ x. old ++ x) c.deref-in-Byte.ensures.value))
     c.put_all.ensures.ok)
 
 pub returns-in-Zero-clause-bytes : goal.returns-in-Zero-clause-bytes
@@ -66,31 +69,42 @@ returns-in-Zero-clause-bytes c = λ list knows.
     let old = c.args.bytes.now.items in
     let new = c.put_zeros.new.bytes.items in
     rw c.in-Zero.is
-    (on_ok_weaker c.put_zeros.result (λ (e : new ≡ old ++ replicate c.in-Zero.count 0). adds_zeros c.args.addresses.now.text_size list c.args.place.now c.in-Zero.count old new e) c.put_zeros.ensures.ok)
+    (on_ok_weaker c.put_zeros.result (λ (e : new ≡ old ++ replicate c.in-Zero.count 0). adds_zeros c.args.addresses.now.text_size list
+    c.args.place.now c.in-Zero.count old new e) c.put_zeros.ensures.ok)
 
 pub returns-in-Align-clause-bytes : goal.returns-in-Align-clause-bytes
 returns-in-Align-clause-bytes c = λ list knows.
     let old = c.args.bytes.now.items in
     let new = c.put_zeros-in-Align.new.bytes.items in
     let p = c.args.place.now in
-    let size : c.size_of.result ≡ size_of (Aligns c.in-Align.field-0) (here p) = rw (c.in-Align.is, c.here-in-Align.ensures) at c.size_of.ensures.value in
+    let size : c.size_of.result ≡ size_of (Aligns c.in-Align.field-0) (here p) =
+    rw (c.in-Align.is, c.here-in-Align.ensures) at c.size_of.ensures.value in
     rw c.in-Align.is
     (on_ok_weaker c.put_zeros-in-Align.result
-    (λ (e : new ≡ old ++ replicate c.size_of.result 0). adds_padding c.args.addresses.now.text_size list p c.in-Align.field-0 c.size_of.result old new size e)
+    (λ (e : new ≡ old ++ replicate c.size_of.result 0). adds_padding c.args.addresses.now.text_size list p c.in-Align.field-0
+    c.size_of.result old new size e)
     c.put_zeros-in-Align.ensures.ok)
 
 pub returns-in-Empty-clause-bytes : goal.returns-in-Empty-clause-bytes
 unfolding size_of IsPiece
-returns-in-Empty-clause-bytes c = λ list knows. rw c.in-Empty.is (adds_nothing c.args.addresses.now.text_size list c.args.place.now c.args.bytes.now.items Nothing refl tt)
+returns-in-Empty-clause-bytes c =
+    λ list knows. rw c.in-Empty.is (adds_nothing c.args.addresses.now.text_size list c.args.place.now c.args.bytes.now.items Nothing refl
+    tt)
 
 pub returns-in-Text-clause-bytes : goal.returns-in-Text-clause-bytes
 unfolding size_of IsPiece
-returns-in-Text-clause-bytes c = λ list knows. rw c.in-Text.is (adds_nothing c.args.addresses.now.text_size list c.args.place.now c.args.bytes.now.items IntoText refl tt)
+returns-in-Text-clause-bytes c =
+    λ list knows. rw c.in-Text.is (adds_nothing c.args.addresses.now.text_size list c.args.place.now c.args.bytes.now.items IntoText refl
+    tt)
 
 pub returns-in-Data-clause-bytes : goal.returns-in-Data-clause-bytes
 unfolding size_of IsPiece
-returns-in-Data-clause-bytes c = λ list knows. rw c.in-Data.is (adds_nothing c.args.addresses.now.text_size list c.args.place.now c.args.bytes.now.items IntoData refl tt)
+returns-in-Data-clause-bytes c =
+    λ list knows. rw c.in-Data.is (adds_nothing c.args.addresses.now.text_size list c.args.place.now c.args.bytes.now.items IntoData refl
+    tt)
 
 pub returns-in-Global-clause-bytes : goal.returns-in-Global-clause-bytes
 unfolding size_of IsPiece
-returns-in-Global-clause-bytes c = λ list knows. rw c.in-Global.is (adds_nothing c.args.addresses.now.text_size list c.args.place.now c.args.bytes.now.items (Globals c.in-Global.field-0.now) refl tt)
+returns-in-Global-clause-bytes c =
+    λ list knows. rw c.in-Global.is (adds_nothing c.args.addresses.now.text_size list c.args.place.now c.args.bytes.now.items
+    (Globals c.in-Global.field-0.now) refl tt)

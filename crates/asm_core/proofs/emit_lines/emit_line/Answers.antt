@@ -15,7 +15,8 @@ put_line-requires-clause-has_word c = line_word c.args.text.now (line_said c.in-
 
 pub put_line-requires-clause-fits : goal.put_line-requires-clause-fits
 put_line-requires-clause-fits c =
-    fits_here c.args.emission.now.place (line_said c.in-Ok.line).says (fine_fits c.args.emission.now.place c.args.text.now (line_said c.in-Ok.line) c.requires.fine c.in-Ok.ensures.ok)
+    fits_here c.args.emission.now.place (line_said c.in-Ok.line).says
+    (fine_fits c.args.emission.now.place c.args.text.now (line_said c.in-Ok.line) c.requires.fine c.in-Ok.ensures.ok)
 
 pub text_is-emission-requires : goal.text_is-emission-requires
 text_is-emission-requires c = small_align c.args.text.now (line_said c.in-Ok.line) c.in-Ok.ensures.ok

@@ -28,7 +28,8 @@ returns-in-Err-clause-fault c = λ other.
 pub returns-in-Err-emit-clause-fault : goal.returns-in-Err-emit-clause-fault
 returns-in-Err-emit-clause-fault c = λ other.
     let short : nat_lt 67108864 (length c.args.source.now) ≡ false = grind (arith, nat_tests) in
-    target_fault_is c.args.source.now short c.in_default.ensures c.in-Ok.ensures.accepted c.in-Err-emit.fault (c.in-Err-emit.ensures.err other)
+    target_fault_is c.args.source.now short c.in_default.ensures c.in-Ok.ensures.accepted c.in-Err-emit.fault
+    (c.in-Err-emit.ensures.err other)
 
 pub returns-in-Some-start_of-clause-assembles : goal.returns-in-Some-start_of-clause-assembles
 returns-in-Some-start_of-clause-assembles c =
@@ -36,12 +37,16 @@ returns-in-Some-start_of-clause-assembles c =
     let lines = said_lines (lines_of source) in
     let short : nat_lt 67108864 (length source) ≡ false = grind (arith, nat_tests) in
     let size : c.in-Ok.survey.end.text_size ≡ text_length_of lines = ap (λ (p : Place). p.text_size) c.in-Ok.ensures.end in
-    let starts : start_of (text_length_of lines) (labels_of lines) ≡ Some c.in-Some-start_of.entry = ap (λ n. start_of n (labels_of lines)) (sym size) ∙ sym (c.in-Some-start_of.ensures (labels_of lines) c.in-Ok.ensures.knows) in
-    assembled source c.in-Ok-emit.parts c.in-Some-start_of.entry (no_fault_is source short c.in_default.ensures c.in-Ok.ensures.accepted c.in-Some-start_of.entry c.in-Ok-emit.ensures.ok starts) c.in-Ok-emit.ensures.parts starts
+    let starts : start_of (text_length_of lines) (labels_of lines) ≡ Some c.in-Some-start_of.entry =
+    ap (λ n. start_of n (labels_of lines)) (sym size) ∙ sym (c.in-Some-start_of.ensures (labels_of lines) c.in-Ok.ensures.knows) in
+    assembled source c.in-Ok-emit.parts c.in-Some-start_of.entry
+    (no_fault_is source short c.in_default.ensures c.in-Ok.ensures.accepted c.in-Some-start_of.entry c.in-Ok-emit.ensures.ok starts)
+    c.in-Ok-emit.ensures.parts starts
 
 pub returns-in-Some-start_of-clause-sound : goal.returns-in-Some-start_of-clause-sound
 returns-in-Some-start_of-clause-sound c =
-    sound_object c.args.source.now _ c.in-Ok.survey.end c.in-Ok.ensures.accepted (returns-in-Some-start_of-clause-assembles c) c.in-Ok.ensures.end c.in-Ok.ensures.limits
+    sound_object c.args.source.now _ c.in-Ok.survey.end c.in-Ok.ensures.accepted (returns-in-Some-start_of-clause-assembles c)
+    c.in-Ok.ensures.end c.in-Ok.ensures.limits
 
 pub returns-in-Some-start_of-clause-code : goal.returns-in-Some-start_of-clause-code
 returns-in-Some-start_of-clause-code c = marked_object c.args.source.now _ (returns-in-Some-start_of-clause-assembles c)
@@ -52,4 +57,5 @@ returns-clause-fault c = λ other.
     let lines = said_lines (lines_of source) in
     let short : nat_lt 67108864 (length source) ≡ false = grind (arith, nat_tests) in
     let size : c.in-Ok.survey.end.text_size ≡ text_length_of lines = ap (λ (p : Place). p.text_size) c.in-Ok.ensures.end in
-    no_start_is source short c.in_default.ensures c.in-Ok.ensures.accepted c.in-Ok-emit.ensures.ok (ap (λ n. start_of n (labels_of lines)) (sym size) ∙ sym (c.in-None.ensures (labels_of lines) c.in-Ok.ensures.knows))
+    no_start_is source short c.in_default.ensures c.in-Ok.ensures.accepted c.in-Ok-emit.ensures.ok
+    (ap (λ n. start_of n (labels_of lines)) (sym size) ∙ sym (c.in-None.ensures (labels_of lines) c.in-Ok.ensures.knows))

@@ -19,26 +19,37 @@ survey_line-requires-clause-short c =
 pub returns-in-Err-clause-err : goal.returns-in-Err-clause-err
 returns-in-Err-clause-err c = λ other.
     let h = c.loop-text.invariant.surveyed in
-    surveyed_stops c.args.source.now c.loop-text.number c.loop-text.place c.loop-text.labels c.loop-text.rest.now c.in-Some.text.now c.in-Some.after.now c.in-Err.fault h c.in-Some.ensures.lines (c.in-Err.ensures.err h.list h.knows other)
+    surveyed_stops c.args.source.now c.loop-text.number c.loop-text.place c.loop-text.labels c.loop-text.rest.now c.in-Some.text.now
+    c.in-Some.after.now c.in-Err.fault h c.in-Some.ensures.lines (c.in-Err.ensures.err h.list h.knows other)
 
 pub loop-text-preserved : goal.loop-text-preserved
 loop-text-preserved c =
     let h = c.loop-text.invariant.surveyed in
     record {
-      surveyed = surveyed_more c.args.source.now c.loop-text.number c.loop-text.place c.loop-text.labels c.loop-text.rest.now c.in-Some.text.now c.in-Some.after.now c.in-Ok.next c.survey_line.new.labels h
+      surveyed =
+          surveyed_more c.args.source.now c.loop-text.number c.loop-text.place c.loop-text.labels c.loop-text.rest.now c.in-Some.text.now
+          c.in-Some.after.now c.in-Ok.next c.survey_line.new.labels h
           c.in-Some.ensures.lines c.in-Some.ensures.within.1 (c.in-Ok.ensures.ok h.list h.knows);
-      kept = kept_more c.args.source.now c.loop-text.kept.items c.survey_line.new.kept.items c.loop-text.rest.now c.in-Some.text.now c.in-Some.after.now c.loop-text.invariant.kept
+      kept =
+          kept_more c.args.source.now c.loop-text.kept.items c.survey_line.new.kept.items c.loop-text.rest.now c.in-Some.text.now
+          c.in-Some.after.now c.loop-text.invariant.kept
           c.in-Some.ensures.lines c.in-Ok.ensures.kept;
     }
 
 pub returns-clause-accepted : goal.returns-clause-accepted
-returns-clause-accepted c = all_accepted c.args.source.now c.loop-text.number c.loop-text.place c.loop-text.labels c.loop-text.rest.now c.loop-text.invariant.surveyed c.in_default.ensures.lines
+returns-clause-accepted c =
+    all_accepted c.args.source.now c.loop-text.number c.loop-text.place c.loop-text.labels c.loop-text.rest.now
+    c.loop-text.invariant.surveyed c.in_default.ensures.lines
 
 pub returns-clause-knows : goal.returns-clause-knows
-returns-clause-knows c = all_known c.args.source.now c.loop-text.number c.loop-text.place c.loop-text.labels c.loop-text.rest.now c.loop-text.invariant.surveyed c.in_default.ensures.lines
+returns-clause-knows c =
+    all_known c.args.source.now c.loop-text.number c.loop-text.place c.loop-text.labels c.loop-text.rest.now c.loop-text.invariant.surveyed
+    c.in_default.ensures.lines
 
 pub returns-clause-end : goal.returns-clause-end
-returns-clause-end c = all_placed c.args.source.now c.loop-text.number c.loop-text.place c.loop-text.labels c.loop-text.rest.now c.loop-text.invariant.surveyed c.in_default.ensures.lines
+returns-clause-end c =
+    all_placed c.args.source.now c.loop-text.number c.loop-text.place c.loop-text.labels c.loop-text.rest.now c.loop-text.invariant.surveyed
+    c.in_default.ensures.lines
 
 pub returns-clause-kept : goal.returns-clause-kept
 returns-clause-kept c = kept_all c.args.source.now c.loop-text.kept.items c.loop-text.rest.now c.loop-text.invariant.kept

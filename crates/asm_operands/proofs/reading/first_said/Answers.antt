@@ -17,8 +17,11 @@ pub loop-shape-preserved : goal.loop-shape-preserved
 loop-shape-preserved c =
     let e = c.in-None.ensures in
     record {
-      words = first-none c.args.shapes.now c.args.tokens.now c.loop-shape.shape-index _ c.loop-shape-test.true e ∙ c.loop-shape.invariant.words;
-      targets = target-none c.args.shapes.now c.args.tokens.now c.loop-shape.shape-index _ c.loop-shape-test.true e ∙ c.loop-shape.invariant.targets;
+      words =
+          first-none c.args.shapes.now c.args.tokens.now c.loop-shape.shape-index _ c.loop-shape-test.true e ∙ c.loop-shape.invariant.words;
+      targets =
+          target-none c.args.shapes.now c.args.tokens.now c.loop-shape.shape-index _ c.loop-shape-test.true e
+          ∙ c.loop-shape.invariant.targets;
     }
 
 pub returns-clause-word : goal.returns-clause-word

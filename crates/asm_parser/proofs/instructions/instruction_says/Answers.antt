@@ -13,4 +13,5 @@ pub returns-in-Err-clause-said : goal.returns-in-Err-clause-said
 returns-in-Err-clause-said c =
     rw c.stop_at.ensures
     (instruction-err c.args.line.now c.args.text.now c.args.at c.args.name (column_at c.args.line.now c.args.start) c.as_slice.result.now
-    (record { place = c.in-Err.fault.place; kind = c.in-Err.fault.kind }) (c.as_slice.ensures.value ∙ c.first_tokens-tokens.ensures) c.in-Err.ensures)
+    (record { place = c.in-Err.fault.place; kind = c.in-Err.fault.kind }) (c.as_slice.ensures.value ∙ c.first_tokens-tokens.ensures)
+    c.in-Err.ensures)

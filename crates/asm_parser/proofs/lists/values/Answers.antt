@@ -9,7 +9,8 @@ returns-in-None g c =
     let value = g.T.Listed.value_in c.args.line.now in
     let text = c.args.text.now in
     listed-end g.T.Listed.seen value text c.in_ok-value.end c.push.new.self.items (said_from (values_from value true) text c.args.at)
-    (listed-more g.T.Listed.seen value text c.loop-values.from c.in_ok-value.end c.loop-values.values.items c.push.new.self.items c.in_ok-value.value (said_from (values_from value true) text c.args.at)
+    (listed-more g.T.Listed.seen value text c.loop-values.from c.in_ok-value.end c.loop-values.values.items c.push.new.self.items
+    c.in_ok-value.value (said_from (values_from value true) text c.args.at)
     c.loop-values.invariant.so_far c.in_ok-value.ensures.ok c.in-Ok.ensures.items)
     c.in-None.ensures.first
 
@@ -17,8 +18,10 @@ pub returns-then-not-is_comma : goal.returns-then-not-is_comma
 returns-then-not-is_comma g c =
     let value = g.T.Listed.value_in c.args.line.now in
     let text = c.args.text.now in
-    listed-extra g.T.Listed.seen value text c.in_ok-value.end c.push.new.self.items (said_from (values_from value true) text c.args.at) c.in-Some.comma
-    (listed-more g.T.Listed.seen value text c.loop-values.from c.in_ok-value.end c.loop-values.values.items c.push.new.self.items c.in_ok-value.value (said_from (values_from value true) text c.args.at)
+    listed-extra g.T.Listed.seen value text c.in_ok-value.end c.push.new.self.items (said_from (values_from value true) text c.args.at)
+    c.in-Some.comma
+    (listed-more g.T.Listed.seen value text c.loop-values.from c.in_ok-value.end c.loop-values.values.items c.push.new.self.items
+    c.in_ok-value.value (said_from (values_from value true) text c.args.at)
     c.loop-values.invariant.so_far c.in_ok-value.ensures.ok c.in-Ok.ensures.items)
     c.in-Some.ensures.first c.if-not-is_comma.ensures
 
@@ -28,8 +31,10 @@ loop-values-preserved g c =
     let text = c.args.text.now in
     record {
       so_far =
-          listed-comma g.T.Listed.seen value text c.in_ok-value.end c.push.new.self.items (said_from (values_from value true) text c.args.at) c.in-Some.comma
-          (listed-more g.T.Listed.seen value text c.loop-values.from c.in_ok-value.end c.loop-values.values.items c.push.new.self.items c.in_ok-value.value (said_from (values_from value true) text c.args.at)
+          listed-comma g.T.Listed.seen value text c.in_ok-value.end c.push.new.self.items
+          (said_from (values_from value true) text c.args.at) c.in-Some.comma
+          (listed-more g.T.Listed.seen value text c.loop-values.from c.in_ok-value.end c.loop-values.values.items c.push.new.self.items
+          c.in_ok-value.value (said_from (values_from value true) text c.args.at)
           c.loop-values.invariant.so_far c.in_ok-value.ensures.ok c.in-Ok.ensures.items)
           c.in-Some.ensures.first c.if-not-is_comma.ensures;
       within = c.in-Some.ensures.within;

@@ -5,7 +5,8 @@ use Rattle.asm_parser.proofs.lists.values.Given as goal
 
 abbrev pub invariant-loop-values : goal.invariant-loop-values
 invariant-loop-values g l = record {
-  so_far : before (map g.T.Listed.seen l.values.items) (said_from (values_from (g.T.Listed.value_in l.line) true) l.text l.from) ≡ said_from (values_from (g.T.Listed.value_in l.line) true) l.text l.fn.at;
+  so_far : before (map g.T.Listed.seen l.values.items) (said_from (values_from (g.T.Listed.value_in l.line) true) l.text l.from)
+      ≡ said_from (values_from (g.T.Listed.value_in l.line) true) l.text l.fn.at;
   within : l.from ≤ length l.text;
 }
 

@@ -23,7 +23,8 @@ returns-in-Some-clause-said c =
     let text = c.args.text.now in
     subst P
     (ap (λ (name : List ℕ). said_from says text (c.args.start + length name)) c.run_at-name.ensures.value
-    ∙ sym (named-directive c.args.line.now text c.args.start c.requires.part c.requires.within c.requires.name (directive_said c.in-Some.directive) (c.in-Some.ensures ∙ ap directive_of c.run_at-name.ensures.value)))
+    ∙ sym (named-directive c.args.line.now text c.args.start c.requires.part c.requires.within c.requires.name
+    (directive_said c.in-Some.directive) (c.in-Some.ensures ∙ ap directive_of c.run_at-name.ensures.value)))
     c.directive_says.ensures.said
 
 pub returns-in-Some-name_place-clause-said : goal.returns-in-Some-name_place-clause-said
@@ -34,17 +35,20 @@ returns-in-Some-name_place-clause-said c =
     subst P
     (ap (λ (name : List ℕ). said_from says text (c.args.start + length name)) c.run_at-name.ensures.value
     ∙ sym (named-instruction c.args.line.now text c.args.start c.requires.part c.requires.within c.requires.name c.in-Some-name_place.place
-    (c.in-None.ensures ∙ ap directive_of c.run_at-name.ensures.value) (c.in-Some-name_place.ensures ∙ ap (place_in NAMES) c.run_at-name.ensures.value)))
+    (c.in-None.ensures ∙ ap directive_of c.run_at-name.ensures.value)
+    (c.in-Some-name_place.ensures ∙ ap (place_in NAMES) c.run_at-name.ensures.value)))
     c.instruction_says.ensures.said
 
 pub returns-in-None-name_place-clause-said : goal.returns-in-None-name_place-clause-said
 returns-in-None-name_place-clause-said c =
     named-unknown c.args.line.now c.args.text.now c.args.start c.requires.part c.requires.within c.requires.name
-    (c.in-None.ensures ∙ ap directive_of c.run_at-name.ensures.value) (c.in-None-name_place.ensures ∙ ap (place_in NAMES) c.run_at-name.ensures.value)
+    (c.in-None.ensures ∙ ap directive_of c.run_at-name.ensures.value)
+    (c.in-None-name_place.ensures ∙ ap (place_in NAMES) c.run_at-name.ensures.value)
 
 pub returns-in-Some-clause-memory : goal.returns-in-Some-clause-memory
 returns-in-Some-clause-memory c =
     let d = directive_said c.in-Some.directive in
     let lists : is_of_list d ≡ true → begin_list c.args.line.now (lexemes_from c.args.text.now c.args.start) ≡ true =
-    named-list c.args.line.now c.args.text.now c.args.start c.requires.part c.requires.within c.requires.name d (c.in-Some.ensures ∙ ap directive_of c.run_at-name.ensures.value) in
+    named-list c.args.line.now c.args.text.now c.args.start c.requires.part c.requires.within c.requires.name d
+    (c.in-Some.ensures ∙ ap directive_of c.run_at-name.ensures.value) in
     only_memory c.directive_says.result _ _ lists c.directive_says.ensures.memory

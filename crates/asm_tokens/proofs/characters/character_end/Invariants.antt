@@ -3,4 +3,5 @@ use Rattle.asm_tokens.specs.Characters.{front, is_continuation}
 use Rattle.asm_tokens.proofs.characters.character_end.Given as goal
 
 abbrev pub invariant-loop-end : goal.invariant-loop-end
-invariant-loop-end l = l.end + length (front is_continuation (drop l.end l.text)) ≡ l.fn.at + length (front is_continuation (drop l.fn.at l.text))
+invariant-loop-end l =
+    l.end + length (front is_continuation (drop l.end l.text)) ≡ l.fn.at + length (front is_continuation (drop l.fn.at l.text))

@@ -7,9 +7,11 @@ pub loop-at-preserved : goal.loop-at-preserved
 loop-at-preserved c = comment-more c.args.line.now _ c.loop-at.at c.loop-at-test.true c.if-starts_comment.ensures c.loop-at.invariant
 
 pub returns-then-starts_comment : goal.returns-then-starts_comment
-returns-then-starts_comment c = comment-here c.args.line.now _ c.loop-at.at c.loop-at-test.true c.if-starts_comment.ensures c.loop-at.invariant
+returns-then-starts_comment c =
+    comment-here c.args.line.now _ c.loop-at.at c.loop-at-test.true c.if-starts_comment.ensures c.loop-at.invariant
 
 pub returns : goal.returns
 returns c =
     let e : c.loop-at.at ≡ length c.args.line.now = omega arith in
-    sym (take-length c.args.line.now) ∙ ap (λ (n : ℕ). take n c.args.line.now) (sym e) ∙ comment-end c.args.line.now _ c.loop-at.at (omega arith) c.loop-at.invariant
+    sym (take-length c.args.line.now) ∙ ap (λ (n : ℕ). take n c.args.line.now) (sym e)
+    ∙ comment-end c.args.line.now _ c.loop-at.at (omega arith) c.loop-at.invariant

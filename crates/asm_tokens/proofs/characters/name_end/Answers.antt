@@ -4,10 +4,16 @@ use Rattle.asm_tokens.proofs.Steps.{front-more, front-stop, front-end}
 use Rattle.asm_tokens.proofs.characters.name_end.Goals as goal
 
 pub loop-end-preserved : goal.loop-end-preserved
-loop-end-preserved c = front-more is_name_character c.args.text.now c.loop-end.end _ c.loop-end-test.true c.if-not-is_name_character.ensures c.loop-end.invariant
+loop-end-preserved c =
+    front-more is_name_character c.args.text.now c.loop-end.end _ c.loop-end-test.true c.if-not-is_name_character.ensures
+    c.loop-end.invariant
 
 pub returns-then-not-is_name_character-clause-value : goal.returns-then-not-is_name_character-clause-value
-returns-then-not-is_name_character-clause-value c = front-stop is_name_character c.args.text.now c.loop-end.end _ c.loop-end-test.true c.if-not-is_name_character.ensures c.loop-end.invariant
+returns-then-not-is_name_character-clause-value c =
+    front-stop is_name_character c.args.text.now c.loop-end.end _ c.loop-end-test.true c.if-not-is_name_character.ensures
+    c.loop-end.invariant
 
 pub returns-clause-value : goal.returns-clause-value
-returns-clause-value c = let e : length c.args.text.now ≡ c.loop-end.end = omega arith in e ∙ front-end is_name_character c.args.text.now c.loop-end.end _ (omega arith) c.loop-end.invariant
+returns-clause-value c =
+    let e : length c.args.text.now ≡ c.loop-end.end =
+    omega arith in e ∙ front-end is_name_character c.args.text.now c.loop-end.end _ (omega arith) c.loop-end.invariant

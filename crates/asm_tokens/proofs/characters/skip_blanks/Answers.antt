@@ -4,10 +4,14 @@ use Rattle.asm_tokens.proofs.Steps.{front-more, front-stop, front-end}
 use Rattle.asm_tokens.proofs.characters.skip_blanks.Goals as goal
 
 pub loop-end-preserved : goal.loop-end-preserved
-loop-end-preserved c = front-more is_blank c.args.text.now c.loop-end.end _ c.loop-end-test.true c.if-not-is_blank.ensures c.loop-end.invariant
+loop-end-preserved c =
+    front-more is_blank c.args.text.now c.loop-end.end _ c.loop-end-test.true c.if-not-is_blank.ensures c.loop-end.invariant
 
 pub returns-then-not-is_blank-clause-value : goal.returns-then-not-is_blank-clause-value
-returns-then-not-is_blank-clause-value c = front-stop is_blank c.args.text.now c.loop-end.end _ c.loop-end-test.true c.if-not-is_blank.ensures c.loop-end.invariant
+returns-then-not-is_blank-clause-value c =
+    front-stop is_blank c.args.text.now c.loop-end.end _ c.loop-end-test.true c.if-not-is_blank.ensures c.loop-end.invariant
 
 pub returns-clause-value : goal.returns-clause-value
-returns-clause-value c = let e : length c.args.text.now ≡ c.loop-end.end = omega arith in e ∙ front-end is_blank c.args.text.now c.loop-end.end _ (omega arith) c.loop-end.invariant
+returns-clause-value c =
+    let e : length c.args.text.now ≡ c.loop-end.end =
+    omega arith in e ∙ front-end is_blank c.args.text.now c.loop-end.end _ (omega arith) c.loop-end.invariant

@@ -6,8 +6,10 @@ use Rattle.bit_ops.proofs.masks.likely_fields.Goals.{in-Some, in-None}
 use Rattle.bit_ops.proofs.masks.likely_fields.Goals as goal
 
 -- at the width that the code has
-periodic : (n wide : Bool) (imms immr word width : ℕ) → width ≡ width_of wide → IsFieldsOf n imms immr wide word → IsPeriodic word width (size_of n imms) immr (ones_of n imms)
-periodic n wide imms immr word width e f = subst (λ w. IsPeriodic word w (size_of n imms) immr (ones_of n imms)) (sym e) (periodic-of n wide imms immr word f)
+periodic : (n wide : Bool) (imms immr word width : ℕ) → width ≡ width_of wide → IsFieldsOf n imms immr wide word
+    → IsPeriodic word width (size_of n imms) immr (ones_of n imms)
+periodic n wide imms immr word width e f =
+    subst (λ w. IsPeriodic word w (size_of n imms) immr (ones_of n imms)) (sym e) (periodic-of n wide imms immr word f)
 
 pub returns-in_err-first-clause-only : goal.returns-in_err-first-clause-only
 returns-in_err-first-clause-only c n imms immr f =
@@ -32,7 +34,10 @@ returns-clause-only c n imms immr f =
           w.size-is ∙ next-is word width size immr ones first w.in-Some.next p origin next.0 next.1 next.2 next.3
       | in-None w ↦ w.size-is ∙ none-is word width size immr ones first p below origin (w.in-None.ensures.none refl)
     ] in
-    let count = ones-are word width size immr ones first c.run_of_ones.result p origin c.run_of_ones.ensures.small c.run_of_ones.ensures.ones c.run_of_ones.ensures.end in
+    let count =
+    ones-are word width size immr ones first c.run_of_ones.result p origin c.run_of_ones.ensures.small c.run_of_ones.ensures.ones
+    c.run_of_ones.ensures.end in
     let turn = turn-is size immr first f.immr_in_range below origin in
     let in_range = f.immr_in_range in
-    c.written.ensures.only n imms immr f.imms_in_range (omega arith) same count (omega arith) (omega arith) (turn ∙ ap (λ s. (s - first) % s) (sym same))
+    c.written.ensures.only n imms immr f.imms_in_range (omega arith) same count (omega arith) (omega arith)
+    (turn ∙ ap (λ s. (s - first) % s) (sym same))

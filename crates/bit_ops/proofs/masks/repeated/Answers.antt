@@ -6,7 +6,9 @@ pub first_ones-mask-requires : goal.first_ones-mask-requires
 first_ones-mask-requires c = let small = size_small c.args.length c.requires.length in omega arith
 
 pub loop-log-init : goal.loop-log-init
-loop-log-init c = subst (IsRun c.args.length c.args.ones c.args.length) (sym c.first_ones-mask.ensures) (first_run c.args.length c.args.ones c.requires.ones)
+loop-log-init c =
+    subst (IsRun c.args.length c.args.ones c.args.length) (sym c.first_ones-mask.ensures)
+    (first_run c.args.length c.args.ones c.requires.ones)
 
 pub loop-log-preserved : goal.loop-log-preserved
 loop-log-preserved c =

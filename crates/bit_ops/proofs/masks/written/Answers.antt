@@ -1,7 +1,9 @@
 use Rattle.std.proofs.Common.{◌≡◌, ◌∙◌, ℕ, ◌<◌, ◌≤◌, sym, arith, inl, inr, Bool}
 use Rattle.bit_ops.specs.Masks.{size_of}
 use Rattle.bit_ops.proofs.Fields.{fields-wide, fields-narrow, size-known, triple}
-use Rattle.bit_ops.proofs.masks.written.Goals.{then-ones-eq0-via-then-ones-eq0, then-ones-eq0-via-else-ones-eq0+then-ones-size, then-ones-eq0-via-else-ones-eq0+else-ones-size+then-first-size, then-ones-eq0-via-else-ones-eq0+else-ones-size+else-first-size+then-size-gt64}
+use Rattle.bit_ops.proofs.masks.written.Goals.{then-ones-eq0-via-then-ones-eq0, then-ones-eq0-via-else-ones-eq0+then-ones-size}
+use Rattle.bit_ops.proofs.masks.written.Goals.{then-ones-eq0-via-else-ones-eq0+else-ones-size+then-first-size}
+use Rattle.bit_ops.proofs.masks.written.Goals.{then-ones-eq0-via-else-ones-eq0+else-ones-size+else-first-size+then-size-gt64}
 use Rattle.bit_ops.proofs.masks.written.Goals as goal
 
 not_long : (n : Bool) (imms size : ℕ) → size ≡ size_of n imms → size ≤ 64

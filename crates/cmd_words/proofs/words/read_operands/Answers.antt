@@ -14,12 +14,16 @@ pub returns-in-Some-clause-err : goal.returns-in-Some-clause-err
 returns-in-Some-clause-err c =
     let words = map string_bytes c.args.words.now in
     let operand = get_or c.args.form.operands.now c.loop-k.k Name in
-    let fault : operand_fault operand (slice_get words (c.loop-k.k + 1)) ≡ Some c.in-Some.kind = ap (operand_fault operand) (sym c.word_at.ensures) ∙ sym c.operand_fault.ensures ∙ c.in-Some.is in
-    rw c.usage.ensures (operand_usage words (form_said c.args.form) c.loop-k.k operand c.requires (operand_at c.args.form.operands.now c.loop-k.k Name c.loop-k-test.true) c.loop-k.invariant c.in-Some.kind fault)
+    let fault : operand_fault operand (slice_get words (c.loop-k.k + 1)) ≡ Some c.in-Some.kind =
+    ap (operand_fault operand) (sym c.word_at.ensures) ∙ sym c.operand_fault.ensures ∙ c.in-Some.is in
+    rw c.usage.ensures (operand_usage words (form_said c.args.form) c.loop-k.k operand c.requires
+    (operand_at c.args.form.operands.now c.loop-k.k Name c.loop-k-test.true) c.loop-k.invariant c.in-Some.kind fault)
 
 pub loop-k-preserved : goal.loop-k-preserved
 loop-k-preserved c =
     let words = map string_bytes c.args.words.now in
     let operand = get_or c.args.form.operands.now c.loop-k.k Name in
-    let none : operand_fault operand (slice_get words (c.loop-k.k + 1)) ≡ None = ap (operand_fault operand) (sym c.word_at.ensures) ∙ sym c.operand_fault.ensures ∙ c.in_default.is in
-    operand_more words (form_said c.args.form) c.loop-k.k operand c.requires (operand_at c.args.form.operands.now c.loop-k.k Name c.loop-k-test.true) c.loop-k.invariant none
+    let none : operand_fault operand (slice_get words (c.loop-k.k + 1)) ≡ None =
+    ap (operand_fault operand) (sym c.word_at.ensures) ∙ sym c.operand_fault.ensures ∙ c.in_default.is in
+    operand_more words (form_said c.args.form) c.loop-k.k operand c.requires
+    (operand_at c.args.form.operands.now c.loop-k.k Name c.loop-k-test.true) c.loop-k.invariant none

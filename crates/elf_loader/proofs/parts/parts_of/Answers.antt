@@ -9,7 +9,9 @@ loop-load-init c = ap (map extent_of) c.in-Ok.ensures.items
 pub loop-load-preserved : goal.loop-load-preserved
 loop-load-preserved c =
     ap (map extent_of) c.in-Ok-push.ensures.items
-    ∙ parts_more c.args.file.now c.loop-load.parts.items c.part_of.result c.args.loads.now c.loop-load.load-index _ c.loop-load-test.true c.loop-load.invariant c.part_of.ensures
+    ∙ parts_more c.args.file.now c.loop-load.parts.items c.part_of.result c.args.loads.now c.loop-load.load-index _ c.loop-load-test.true
+    c.loop-load.invariant c.part_of.ensures
 
 pub returns-clause-ok : goal.returns-clause-ok
-returns-clause-ok c = parts_all c.args.file.now c.loop-load.parts.items c.args.loads.now c.loop-load.load-index (omega arith) c.loop-load.invariant
+returns-clause-ok c =
+    parts_all c.args.file.now c.loop-load.parts.items c.args.loads.now c.loop-load.load-index (omega arith) c.loop-load.invariant

@@ -9,7 +9,8 @@ loop-entry-init c = refl
 pub returns-in_err-check_word : goal.returns-in_err-check_word
 returns-in_err-check_word c =
     let found : words_fault c.args.code.now ≡ Some c.in_err-check_word.field-0.0 =
-    fault_here c.args.code.now c.loop-entry.entry-index (0, 0) c.in_err-check_word.field-0.0 c.loop-entry-test.true c.loop-entry.invariant c.in_err-check_word.ensures in
+    fault_here c.args.code.now c.loop-entry.entry-index (0, 0) c.in_err-check_word.field-0.0 c.loop-entry-test.true c.loop-entry.invariant
+    c.in_err-check_word.ensures in
     search rules
 
 pub loop-entry-preserved : goal.loop-entry-preserved

@@ -10,7 +10,8 @@ loop-i-init c = first_below-zero _
 pub returns-in_err-check_section : goal.returns-in_err-check_section
 returns-in_err-check_section c =
     let count : c.loop-i.i < section_count c.args.file.now = omega (arith, c.count_sections-i-end.ensures) in
-    let found : first_below (section_fault c.args.file.now) (section_count c.args.file.now) ≡ Some c.in_err-check_section.field-0.0 = first_below-found _ _ _ _ c.loop-i.invariant c.in_err-check_section.ensures count in
+    let found : first_below (section_fault c.args.file.now) (section_count c.args.file.now) ≡ Some c.in_err-check_section.field-0.0 =
+    first_below-found _ _ _ _ c.loop-i.invariant c.in_err-check_section.ensures count in
     search rules
 
 pub loop-i-preserved : goal.loop-i-preserved

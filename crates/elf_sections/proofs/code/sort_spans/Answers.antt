@@ -5,10 +5,14 @@ use Rattle.elf_sections.proofs.Listing.{spanned-permutation}
 use Rattle.elf_sections.proofs.code.sort_spans.Goals as goal
 
 pub returns-clause-words : goal.returns-clause-words
-returns-clause-words c = λ n. sym (spanned-permutation c.in_ok-spans.spans.items c.sort_by_key.new.self.items n c.sort_by_key.ensures.permutation) ∙ c.in_ok-spans.ensures.words n
+returns-clause-words c =
+    λ n. sym (spanned-permutation c.in_ok-spans.spans.items c.sort_by_key.new.self.items n c.sort_by_key.ensures.permutation)
+    ∙ c.in_ok-spans.ensures.words n
 
 pub returns-clause-low : goal.returns-clause-low
-returns-clause-low c = All-permutation (λ (s : Span). (s.start < s.end) × (s.end ≤ 2 ^ 45)) c.in_ok-spans.spans.items c.sort_by_key.new.self.items c.sort_by_key.ensures.permutation c.in_ok-spans.ensures.low
+returns-clause-low c =
+    All-permutation (λ (s : Span). (s.start < s.end) × (s.end ≤ 2 ^ 45)) c.in_ok-spans.spans.items c.sort_by_key.new.self.items
+    c.sort_by_key.ensures.permutation c.in_ok-spans.ensures.low
 
 pub returns-clause-order : goal.returns-clause-order
 returns-clause-order c = IsNonDecreasingBy-from_sort_by_key (λ s. s.start) _ c.in_ok-sort_by_key.ensures.sorted (λ a r q k. search rules)

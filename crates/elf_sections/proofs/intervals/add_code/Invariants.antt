@@ -8,7 +8,8 @@ use Rattle.elf_sections.proofs.intervals.add_code.Given as goal
 
 abbrev pub invariant-loop-mark : goal.invariant-loop-mark
 invariant-loop-mark l = record {
-  words : (n : ℕ) → is_spanned l.spans.items n ≡ (is_spanned l.initial.spans.items n || (has_number l.words n && (nat_lt n l.start && is_code_at l.own l.number (4 * n))));
+  words : (n : ℕ) → is_spanned l.spans.items n
+      ≡ (is_spanned l.initial.spans.items n || (has_number l.words n && (nat_lt n l.start && is_code_at l.own l.number (4 * n))));
   low : AreSpans l.spans.items;
   from : l.words.start ≤ l.start;
   passed : (j : ℕ) (d : Mark) → j < l.mark-index → (get_or l.own j d).value ≤ 4 * l.start;

@@ -15,8 +15,10 @@ positive {n = n} h = grind arith
 
 pub words_of-requires : goal.words_of-requires
 words_of-requires c =
-    let code : is_code_section (section_of c.args.file.now c.args.i) ≡ true = rw c.read_section-s.ensures at (sym c.is_code.ensures ∙ c.if-not-is_code.false) in
-    let all : is_all_loaded c.args.file.now (section_of c.args.file.now c.args.i) ≡ true = loaded_section c.args.file.now c.args.i c.requires.checked code in
+    let code : is_code_section (section_of c.args.file.now c.args.i) ≡ true =
+    rw c.read_section-s.ensures at (sym c.is_code.ensures ∙ c.if-not-is_code.false) in
+    let all : is_all_loaded c.args.file.now (section_of c.args.file.now c.args.i) ≡ true =
+    loaded_section c.args.file.now c.args.i c.requires.checked code in
     let some : 0 < (section_of c.args.file.now c.args.i).size = rw c.read_section-s.ensures at (positive c.if-s-eq0.false) in
     rw c.read_section-s.ensures (section_low c.args.file.now (section_of c.args.file.now c.args.i) c.requires.loads all some)
 
@@ -25,8 +27,16 @@ all_three old a b c w x e f g = rw (e, f, g) refl
 
 pub returns-clause-words : goal.returns-clause-words
 returns-clause-words c =
-    let code : is_code_section (section_of c.args.file.now c.args.i) ≡ true = rw c.read_section-s.ensures at (sym c.is_code.ensures ∙ c.if-not-is_code.false) in
-    let word : (n : ℕ) → has_number c.words_of.result n ≡ has_word (section_of c.args.file.now c.args.i) (4 * n) = λ n. rw c.read_section-s.ensures at (c.words_of.ensures.words n) in
-    let says : (n : ℕ) → is_code_at c.marks_of_section.result.now c.args.i (4 * n) ≡ is_code_at (marks_of c.args.file.now) c.args.i (4 * n) = λ n.
-    is_code_at-same c.marks_of_section.result.now (marks_of c.args.file.now) c.args.i (4 * n) (λ v. c.marks_of_section.ensures.same v ∙ c.requires.same c.args.i v) in
-    on_ok_weaker c.add_code.result (λ new n. new n ∙ all_three (is_spanned c.args.spans.now.items n) (has_number c.words_of.result n) (is_code_at c.marks_of_section.result.now c.args.i (4 * n)) (is_code_section (section_of c.args.file.now c.args.i)) (has_word (section_of c.args.file.now c.args.i) (4 * n)) (is_code_at (marks_of c.args.file.now) c.args.i (4 * n)) code (word n) (says n)) c.add_code.ensures.words
+    let code : is_code_section (section_of c.args.file.now c.args.i) ≡ true =
+    rw c.read_section-s.ensures at (sym c.is_code.ensures ∙ c.if-not-is_code.false) in
+    let word : (n : ℕ) → has_number c.words_of.result n ≡ has_word (section_of c.args.file.now c.args.i) (4 * n) =
+    λ n. rw c.read_section-s.ensures at (c.words_of.ensures.words n) in
+    let says : (n : ℕ) → is_code_at c.marks_of_section.result.now c.args.i (4 * n)
+    ≡ is_code_at (marks_of c.args.file.now) c.args.i (4 * n) = λ n.
+    is_code_at-same c.marks_of_section.result.now (marks_of c.args.file.now) c.args.i (4 * n)
+    (λ v. c.marks_of_section.ensures.same v ∙ c.requires.same c.args.i v) in
+    on_ok_weaker c.add_code.result (λ new n. new n
+    ∙ all_three (is_spanned c.args.spans.now.items n) (has_number c.words_of.result n)
+    (is_code_at c.marks_of_section.result.now c.args.i (4 * n)) (is_code_section (section_of c.args.file.now c.args.i))
+    (has_word (section_of c.args.file.now c.args.i) (4 * n)) (is_code_at (marks_of c.args.file.now) c.args.i (4 * n)) code (word n)
+    (says n)) c.add_code.ensures.words

@@ -10,16 +10,21 @@ use Rattle.elf_sections.proofs.intervals.gather_spans.Goals as goal
 
 pub loop-i-init : goal.loop-i-init
 loop-i-init c = record {
-  words = λ n. ap (λ l. is_spanned l n) c.new-spans.ensures.items ∙ spanned-none n ∙ sym (any_below-zero (is_code_in c.args.file.now (4 * n)));
+  words =
+      λ n. ap (λ l. is_spanned l n) c.new-spans.ensures.items ∙ spanned-none n ∙ sym (any_below-zero (is_code_in c.args.file.now (4 * n)));
   low = λ k d l. absurd (omega (arith, c.new-spans.ensures.len));
 }
 
 pub add_section-requires-clause-checked : goal.add_section-requires-clause-checked
-add_section-requires-clause-checked c = first_below-each_none (section_fault c.args.file.now) (section_count c.args.file.now) c.requires.checked c.loop-i.i (omega (arith, c.count_sections-i-end.ensures))
+add_section-requires-clause-checked c =
+    first_below-each_none (section_fault c.args.file.now) (section_count c.args.file.now) c.requires.checked c.loop-i.i
+    (omega (arith, c.count_sections-i-end.ensures))
 
 pub loop-i-preserved : goal.loop-i-preserved
 loop-i-preserved c = record {
-  words = λ n. c.in_ok-add_section.ensures.words n ∙ ap (λ b. b || is_code_in c.args.file.now (4 * n) c.loop-i.i) (c.loop-i.invariant.words n) ∙ sym (any_below-next (is_code_in c.args.file.now (4 * n)) c.loop-i.i);
+  words =
+      λ n. c.in_ok-add_section.ensures.words n ∙ ap (λ b. b || is_code_in c.args.file.now (4 * n) c.loop-i.i) (c.loop-i.invariant.words n)
+      ∙ sym (any_below-next (is_code_in c.args.file.now (4 * n)) c.loop-i.i);
   low = c.in_ok-add_section.ensures.low;
 }
 

@@ -7,8 +7,11 @@ use Rattle.elf_sections.proofs.intervals.marks_below_section.Goals as goal
 use Rattle.elf_sections.proofs.intervals.marks_below_section.Goals.{After-partition_point}
 
 -- the place of the search
-point : (c : After-partition_point) → IsPartitionPoint (λ (m : Mark). ltb m.section c.args.i ≡ true) (λ (m : Mark). ltb m.section c.args.i ≡ false) c.args.marks.now c.partition_point.result
-point c = IsPartitionPoint-from_clause (λ (m : Mark). ltb m.section c.args.i) c.args.marks.now c.partition_point.result c.partition_point.ensures.partitioned
+point : (c : After-partition_point) → IsPartitionPoint (λ (m : Mark). ltb m.section c.args.i ≡ true)
+    (λ (m : Mark). ltb m.section c.args.i ≡ false) c.args.marks.now c.partition_point.result
+point c =
+    IsPartitionPoint-from_clause (λ (m : Mark). ltb m.section c.args.i) c.args.marks.now c.partition_point.result
+    c.partition_point.ensures.partitioned
     (IsPartitionedBy-ltb (λ (m : Mark). m.section) c.args.marks.now c.args.i c.requires) (λ a r q k. search rules)
 
 pub returns-clause-below : goal.returns-clause-below

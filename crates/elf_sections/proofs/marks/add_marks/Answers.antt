@@ -9,21 +9,33 @@ pub read_section-strings-requires-clause-number : goal.read_section-strings-requ
 read_section-strings-requires-clause-number c = (table_parts c.args.file.now c.args.s.now c.requires.good).linked
 
 pub loop-k-init : goal.loop-k-init
-loop-k-init c = answered_none (λ k. mark_at c.args.file.now (strings_of c.args.file.now c.args.s.now) (symbol_at c.args.s.now k)) c.args.marks.now.items
+loop-k-init c =
+    answered_none (λ k. mark_at c.args.file.now (strings_of c.args.file.now c.args.s.now) (symbol_at c.args.s.now k)) c.args.marks.now.items
 
 pub overflow_add-s : goal.overflow_add-s
-overflow_add-s c = omega (arith, symbol_inside c.args.file.now c.args.s.now c.loop-k.k (table_parts c.args.file.now c.args.s.now c.requires.good).symbols c.loop-k-test.true)
+overflow_add-s c =
+    omega (
+      arith,
+      symbol_inside c.args.file.now c.args.s.now c.loop-k.k (table_parts c.args.file.now c.args.s.now c.requires.good).symbols
+          c.loop-k-test.true,
+    )
 
 pub read_mark-requires-clause-inside : goal.read_mark-requires-clause-inside
-read_mark-requires-clause-inside c = symbol_inside c.args.file.now c.args.s.now c.loop-k.k (table_parts c.args.file.now c.args.s.now c.requires.good).symbols c.loop-k-test.true
+read_mark-requires-clause-inside c =
+    symbol_inside c.args.file.now c.args.s.now c.loop-k.k (table_parts c.args.file.now c.args.s.now c.requires.good).symbols
+    c.loop-k-test.true
 
 pub read_mark-requires-clause-strings : goal.read_mark-requires-clause-strings
 read_mark-requires-clause-strings c = rw c.read_section-strings.ensures (table_parts c.args.file.now c.args.s.now c.requires.good).strings
 
 pub read_mark-requires-clause-ends : goal.read_mark-requires-clause-ends
-read_mark-requires-clause-ends c = rw c.read_section-strings.ensures (name_inside c.args.file.now c.args.s.now c.loop-k.k (table_parts c.args.file.now c.args.s.now c.requires.good).names c.loop-k-test.true)
+read_mark-requires-clause-ends c =
+    rw c.read_section-strings.ensures (name_inside c.args.file.now c.args.s.now c.loop-k.k
+    (table_parts c.args.file.now c.args.s.now c.requires.good).names c.loop-k-test.true)
 
 pub loop-k-preserved : goal.loop-k-preserved
 loop-k-preserved c =
-    answered_more (λ k. mark_at c.args.file.now (strings_of c.args.file.now c.args.s.now) (symbol_at c.args.s.now k)) c.args.marks.now.items c.loop-k.marks.items c.push_mark.new.marks.items c.loop-k.k c.read_mark.result
-    c.loop-k.invariant c.in_ok-push_mark.ensures (c.read_mark.ensures ∙ ap (λ t. mark_at c.args.file.now t (symbol_at c.args.s.now c.loop-k.k)) c.read_section-strings.ensures)
+    answered_more (λ k. mark_at c.args.file.now (strings_of c.args.file.now c.args.s.now) (symbol_at c.args.s.now k)) c.args.marks.now.items
+    c.loop-k.marks.items c.push_mark.new.marks.items c.loop-k.k c.read_mark.result
+    c.loop-k.invariant c.in_ok-push_mark.ensures
+    (c.read_mark.ensures ∙ ap (λ t. mark_at c.args.file.now t (symbol_at c.args.s.now c.loop-k.k)) c.read_section-strings.ensures)

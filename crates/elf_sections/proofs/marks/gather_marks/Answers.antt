@@ -9,4 +9,6 @@ pub loop-i-init : goal.loop-i-init
 loop-i-init c = λ s v. ap (last_mark s v) (c.new-marks.ensures.items ∙ sym (marks_below-zero c.args.file.now))
 
 pub add_section-requires-clause-checked : goal.add_section-requires-clause-checked
-add_section-requires-clause-checked c = first_below-each_none (section_fault c.args.file.now) (section_count c.args.file.now) c.requires.checked c.loop-i.i (omega (arith, c.count_sections-i-end.ensures))
+add_section-requires-clause-checked c =
+    first_below-each_none (section_fault c.args.file.now) (section_count c.args.file.now) c.requires.checked c.loop-i.i
+    (omega (arith, c.count_sections-i-end.ensures))

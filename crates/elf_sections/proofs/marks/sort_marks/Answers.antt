@@ -5,7 +5,11 @@ use Rattle.elf_sections.proofs.Sorting.{in_order, same-sorted}
 use Rattle.elf_sections.proofs.marks.sort_marks.Goals as goal
 
 pub returns-clause-order : goal.returns-clause-order
-returns-clause-order c = in_order c.sort_by_key.new.self.items (c.in_ok-sort_by_key.ensures.sorted (λ (m : Mark). (m.section, m.value)) (answers_always _ _ _ (λ f a r g h. search rules)))
+returns-clause-order c =
+    in_order c.sort_by_key.new.self.items (c.in_ok-sort_by_key.ensures.sorted (λ (m : Mark). (m.section, m.value))
+    (answers_always _ _ _ (λ f a r g h. search rules)))
 
 pub returns-clause-same : goal.returns-clause-same
-returns-clause-same c = same-sorted c.args.marks.now.items c.sort_by_key.new.self.items (c.sort_by_key.ensures.stable (λ (m : Mark). (m.section, m.value)) (answers_always _ _ _ (λ f a r g h. search rules)))
+returns-clause-same c =
+    same-sorted c.args.marks.now.items c.sort_by_key.new.self.items
+    (c.sort_by_key.ensures.stable (λ (m : Mark). (m.section, m.value)) (answers_always _ _ _ (λ f a r g h. search rules)))

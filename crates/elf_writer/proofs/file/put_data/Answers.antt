@@ -8,4 +8,5 @@ unfolding data_part
 returns c =
     appended_last c.put_zeros.result c.put_zeros.new.out.items c.extend_from_slice.new.self.items c.args.out.now.items c.args.bytes.now
     (replicate (c.symbols_place.result - (c.data_place.result + c.args.layout.now.data_size)) 0)
-    (data_part c.args.layout.now c.args.bytes.now) c.in_ok-extend_from_slice.ensures.items (rw (c.symbols_place.ensures.place, c.data_place.ensures.place) refl) c.put_zeros.ensures
+    (data_part c.args.layout.now c.args.bytes.now) c.in_ok-extend_from_slice.ensures.items
+    (rw (c.symbols_place.ensures.place, c.data_place.ensures.place) refl) c.put_zeros.ensures

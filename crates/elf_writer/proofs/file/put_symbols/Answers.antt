@@ -6,5 +6,6 @@ use Rattle.elf_writer.proofs.file.put_symbols.Goals as goal
 pub returns : goal.returns
 unfolding symbols_bytes
 returns c =
-    appended_last c.put_marks.result c.put_marks.new.out.items c.put_zeros.new.out.items c.args.out.now.items (replicate 24 0) (marks_bytes c.args.marks.now) (symbols_bytes c.args.marks.now)
+    appended_last c.put_marks.result c.put_marks.new.out.items c.put_zeros.new.out.items c.args.out.now.items (replicate 24 0)
+    (marks_bytes c.args.marks.now) (symbols_bytes c.args.marks.now)
     c.in_ok-put_zeros.ensures refl c.put_marks.ensures

@@ -7,4 +7,6 @@ pub returns-in_default-clause-keeps : goal.returns-in_default-clause-keeps
 returns-in_default-clause-keeps c = slots_skip c.args.slots.now.items c.args.symbol.now (sym c.in_default.ensures)
 
 pub returns-clause-keeps : goal.returns-clause-keeps
-returns-clause-keeps c = slots_keep c.args.slots.now.items c.keep_mark.new.slots.items c.args.symbol.now (mapping c.in-Some.mark) (sym c.in-Some.ensures) c.keep_mark.ensures.count c.keep_mark.ensures.keeps
+returns-clause-keeps c =
+    slots_keep c.args.slots.now.items c.keep_mark.new.slots.items c.args.symbol.now (mapping c.in-Some.mark) (sym c.in-Some.ensures)
+    c.keep_mark.ensures.count c.keep_mark.ensures.keeps

@@ -7,16 +7,23 @@ use Rattle.elf_writer.proofs.Slots.{slots_say-at}
 use Rattle.elf_writer.proofs.marks.list_marks.Goals as goal
 
 pub loop-n-init : goal.loop-n-init
-loop-n-init c = record { before = refl; marks = c.new-marks.ensures.items ∙ sym (answers_below-zero (mark_at (slots_say c.args.slots.now))) }
+loop-n-init c =
+    record { before = refl; marks = c.new-marks.ensures.items ∙ sym (answers_below-zero (mark_at (slots_say c.args.slots.now))) }
 
-mark_at-is : (code : ℕ → Bool) (n : ℕ) (before : Option Bool) (now : Bool) → before ≡ said_before code n → now ≡ code n → cond (begins before now) (Some (record { address = word_address n; code = now })) None ≡ mark_at code n
+mark_at-is : (code : ℕ → Bool) (n : ℕ) (before : Option Bool) (now : Bool) → before ≡ said_before code n → now ≡ code n
+    → cond (begins before now) (Some (record { address = word_address n; code = now })) None ≡ mark_at code n
 unfolding mark_at
 mark_at-is code n before now b e = λ i. cond (begins (b i) (e i)) (Some (record { address = word_address n; code = e i })) None
 
 pub loop-n-preserved : goal.loop-n-preserved
 loop-n-preserved c =
-    let now : c.says_word-code.result ≡ slots_say c.args.slots.now c.loop-n.n = c.says_word-code.ensures ∙ (λ i. says_word (c.loop-n.invariant.before i) (get_or c.args.slots.now c.loop-n.n None)) ∙ sym (slots_say-at c.args.slots.now c.loop-n.n) in
+    let now : c.says_word-code.result ≡ slots_say c.args.slots.now c.loop-n.n =
+    c.says_word-code.ensures ∙ (λ i. says_word (c.loop-n.invariant.before i) (get_or c.args.slots.now c.loop-n.n None))
+    ∙ sym (slots_say-at c.args.slots.now c.loop-n.n) in
     record {
       before = rw add-one (ap Some now);
-      marks = c.in_ok-push_mark.ensures ∙ (λ i. c.loop-n.invariant.marks i ++ answers ((c.mark_where.ensures ∙ mark_at-is (slots_say c.args.slots.now) c.loop-n.n c.loop-n.before c.says_word-code.result c.loop-n.invariant.before now) i)) ∙ sym (answers_below-next (mark_at (slots_say c.args.slots.now)) c.loop-n.n);
+      marks =
+          c.in_ok-push_mark.ensures ∙ (λ i. c.loop-n.invariant.marks i
+          ++ answers ((c.mark_where.ensures ∙ mark_at-is (slots_say c.args.slots.now) c.loop-n.n c.loop-n.before c.says_word-code.result
+          c.loop-n.invariant.before now) i)) ∙ sym (answers_below-next (mark_at (slots_say c.args.slots.now)) c.loop-n.n);
     }

@@ -4,4 +4,8 @@ use Rattle.elf_writer.specs.Slots.{AreSlots}
 use Rattle.elf_writer.proofs.marks.place_marks.Given as goal
 
 abbrev pub invariant-loop-symbol : goal.invariant-loop-symbol
-invariant-loop-symbol l = record { count : length l.slots.items ≡ l.count; slots : AreSlots l.slots.items (mappings_of (drop l.symbol-index l.symbols)) (mappings_of l.symbols) }
+invariant-loop-symbol l =
+    record {
+      count : length l.slots.items ≡ l.count;
+      slots : AreSlots l.slots.items (mappings_of (drop l.symbol-index l.symbols)) (mappings_of l.symbols);
+    }

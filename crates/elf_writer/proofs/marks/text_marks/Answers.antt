@@ -11,11 +11,15 @@ use Rattle.elf_writer.proofs.marks.text_marks.Goals as goal
 pub returns-clause-marks : goal.returns-clause-marks
 returns-clause-marks c =
     let size : vec_len c.args.object.now.text_bytes ≡ length c.args.object.now.text_bytes.items = omega arith in
-    let count : length c.in_ok-slots.slots.items ≡ length c.args.object.now.text_bytes.items / 4 = c.in_ok-slots.ensures.count ∙ ap (λ n. n / 4) (c.len-count.ensures ∙ size) in
-    let slots : AreSlots c.in_ok-slots.slots.items [] (mappings_of c.args.object.now.symbols.items) = rw c.as_slice.ensures.value at c.in_ok-slots.ensures.slots in
+    let count : length c.in_ok-slots.slots.items ≡ length c.args.object.now.text_bytes.items / 4 =
+    c.in_ok-slots.ensures.count ∙ ap (λ n. n / 4) (c.len-count.ensures ∙ size) in
+    let slots : AreSlots c.in_ok-slots.slots.items [] (mappings_of c.args.object.now.symbols.items) =
+    rw c.as_slice.ensures.value at c.in_ok-slots.ensures.slots in
     let all : answers_below (mark_at (slots_say c.as_slice-2.result.now)) (length c.as_slice-2.result.now) ≡ text_marks c.args.object.now =
-    ap (λ (s : List (Option TextMark)). answers_below (mark_at (slots_say s)) (length s)) c.as_slice-2.ensures.value ∙ marks_listed c.args.object.now c.in_ok-slots.slots.items count slots in
+    ap (λ (s : List (Option TextMark)). answers_below (mark_at (slots_say s)) (length s)) c.as_slice-2.ensures.value
+    ∙ marks_listed c.args.object.now c.in_ok-slots.slots.items count slots in
     if_ok-more _ _ c.list_marks.result (λ v h. h ∙ all) c.list_marks.ensures
 
 pub returns-clause-few : goal.returns-clause-few
-returns-clause-few c = if_ok-more _ _ c.list_marks.result (λ v h. rw h (omega (arith, few_marks c.args.object.now, c.requires))) (returns-clause-marks c)
+returns-clause-few c =
+    if_ok-more _ _ c.list_marks.result (λ v h. rw h (omega (arith, few_marks c.args.object.now, c.requires))) (returns-clause-marks c)

@@ -7,7 +7,8 @@ use Rattle.a64_encode.specs.Either.{MeansEither, instruction_of}
 use Rattle.a64_encode.proofs.Either.{either}
 use Rattle.insn_decode.proofs.either.decode.Goals as goal
 
-by_rows : (word : ℕ) (result : Option Insn) → word < 2 ^ 32 → result ≡ instruction_of word → (it : Insn) → (result ≡ Some it) ↔ MeansEither word it
+by_rows : (word : ℕ) (result : Option Insn) → word < 2 ^ 32 → result ≡ instruction_of word → (it : Insn) → (result ≡ Some it)
+    ↔ MeansEither word it
 by_rows word result lt e it = (λ h. (either word it lt).0 (sym e ∙ h), λ m. e ∙ (either word it lt).1 m)
 
 by_scalar : (word : ℕ) (insn : Insn) → Some insn ≡ meaning_of word → Some insn ≡ instruction_of word
@@ -28,4 +29,5 @@ pub returns-in-None-clause-value : goal.returns-in-None-clause-value
 returns-in-None-clause-value c = by_vector c.args.word _ c.in-None.ensures.value c.decode_vector.ensures.value
 
 pub returns-in-None-clause-rows : goal.returns-in-None-clause-rows
-returns-in-None-clause-rows c = by_rows c.args.word _ (omega arith) (by_vector c.args.word _ c.in-None.ensures.value c.decode_vector.ensures.value)
+returns-in-None-clause-rows c =
+    by_rows c.args.word _ (omega arith) (by_vector c.args.word _ c.in-None.ensures.value c.decode_vector.ensures.value)

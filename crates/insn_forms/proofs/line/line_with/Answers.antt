@@ -1,4 +1,5 @@
-use Rattle.std.proofs.Common.{◌≡◌, ◌<◌, ◌+◌, ℕ, suc, Bool, cond, List, [], ◌∷◌, length, get_or, drop, drop-cons, add-one, Some, None, refl, sym, ap, ◌∙◌, arith}
+use Rattle.std.proofs.Common.{◌≡◌, ◌<◌, ◌+◌, ℕ, suc, Bool, cond, List, [], ◌∷◌, length, get_or, drop, drop-cons, add-one, Some, None, refl}
+use Rattle.std.proofs.Common.{sym, ap, ◌∙◌, arith}
 use Rattle.std.specs.List.{find}
 use Rattle.insn_forms.specs.Tables.{has_bits}
 use Rattle.insn_forms.proofs.line.line_with.Goals as goal
@@ -19,17 +20,20 @@ pub returns-then-has_bits : goal.returns-then-has_bits
 returns-then-has_bits g c =
     let rest = find (has_bits c.args.mask c.args.value) (drop (c.loop-line.line-index + 1) c.args.lines.now) in
     ap (λ b. cond b (Some c.line-item.result) rest) (sym c.if-has_bits.true ∙ c.has_bits.ensures)
-    ∙ sym (step (has_bits c.args.mask c.args.value) c.args.lines.now c.loop-line.line-index c.line-item.result c.loop-line-test.true c.line-item.is)
+    ∙ sym (step (has_bits c.args.mask c.args.value) c.args.lines.now c.loop-line.line-index c.line-item.result c.loop-line-test.true
+    c.line-item.is)
     ∙ c.loop-line.invariant
 
 pub loop-line-preserved : goal.loop-line-preserved
 loop-line-preserved g c =
     let rest = find (has_bits c.args.mask c.args.value) (drop (c.loop-line.line-index + 1) c.args.lines.now) in
     ap (λ b. cond b (Some c.line-item.result) rest) (sym c.if-has_bits.false ∙ c.has_bits.ensures)
-    ∙ sym (step (has_bits c.args.mask c.args.value) c.args.lines.now c.loop-line.line-index c.line-item.result c.loop-line-test.true c.line-item.is)
+    ∙ sym (step (has_bits c.args.mask c.args.value) c.args.lines.now c.loop-line.line-index c.line-item.result c.loop-line-test.true
+    c.line-item.is)
     ∙ c.loop-line.invariant
 
 pub returns : goal.returns
 returns g c =
     let e : c.loop-line.line-index ≡ length c.args.lines.now = omega arith in
-    sym (none_left (has_bits c.args.mask c.args.value) c.args.lines.now) ∙ ap (λ k. find (has_bits c.args.mask c.args.value) (drop k c.args.lines.now)) (sym e) ∙ c.loop-line.invariant
+    sym (none_left (has_bits c.args.mask c.args.value) c.args.lines.now)
+    ∙ ap (λ k. find (has_bits c.args.mask c.args.value) (drop k c.args.lines.now)) (sym e) ∙ c.loop-line.invariant

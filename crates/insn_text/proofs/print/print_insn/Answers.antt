@@ -3,7 +3,8 @@ use Rattle.insn_text.specs.Texts.{text_of}
 use Rattle.insn_text.proofs.print.print_insn.Goals as goal
 
 pub unreachable-requires : goal.unreachable-requires
-unreachable-requires c = let (word, means) = c.requires in let none_is : ◌≡◌ {A = Option ℕ} None (Some word) = (c.in-None.ensures word).1 means in cc
+unreachable-requires c =
+    let (word, means) = c.requires in let none_is : ◌≡◌ {A = Option ℕ} None (Some word) = (c.in-None.ensures word).1 means in cc
 
 pub returns-clause-text : goal.returns-clause-text
 returns-clause-text c = λ word means.

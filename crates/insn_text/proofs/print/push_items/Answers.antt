@@ -11,12 +11,14 @@ room start text h = omega (arith, length-append start text)
 
 pub push_gap-requires : goal.push_gap-requires
 push_gap-requires c =
-    room-gap c.args.word c.args.items.now c.loop-item.item-index _ c.loop-item.before c.loop-item.out.bytes _ c.loop-item-test.true c.loop-item.invariant
+    room-gap c.args.word c.args.items.now c.loop-item.item-index _ c.loop-item.before c.loop-item.out.bytes _ c.loop-item-test.true
+    c.loop-item.invariant
     (room c.args.out.now.bytes (items_text c.args.word (Mark 44) c.args.items.now) c.requires.room)
 
 pub push_item-requires-clause-room : goal.push_item-requires-clause-room
 push_item-requires-clause-room c =
-    room-item c.args.word c.args.items.now c.loop-item.item-index _ c.loop-item.before c.loop-item.out.bytes c.push_gap.new.out.bytes _ c.loop-item-test.true c.loop-item.invariant
+    room-item c.args.word c.args.items.now c.loop-item.item-index _ c.loop-item.before c.loop-item.out.bytes c.push_gap.new.out.bytes _
+    c.loop-item-test.true c.loop-item.invariant
     (room c.args.out.now.bytes (items_text c.args.word (Mark 44) c.args.items.now) c.requires.room) c.push_gap.ensures
 
 pub push_item-requires-clause-sized : goal.push_item-requires-clause-sized
@@ -24,7 +26,8 @@ push_item-requires-clause-sized c = all_at is_sized c.args.items.now c.loop-item
 
 pub loop-item-preserved : goal.loop-item-preserved
 loop-item-preserved c =
-    push-next c.args.word c.args.items.now c.loop-item.item-index _ c.loop-item.before c.loop-item.out.bytes c.push_gap.new.out.bytes c.push_item.new.out.bytes _
+    push-next c.args.word c.args.items.now c.loop-item.item-index _ c.loop-item.before c.loop-item.out.bytes c.push_gap.new.out.bytes
+    c.push_item.new.out.bytes _
     c.loop-item-test.true c.loop-item.invariant c.push_gap.ensures c.push_item.ensures
 
 pub returns : goal.returns

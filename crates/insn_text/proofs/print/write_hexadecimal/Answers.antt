@@ -18,10 +18,13 @@ loop-done-preserved c =
     record {
       left = less-left c.loop-done.rest c.loop-done.done c.loop-done-test.true c.loop-done.invariant.left;
       some_left = λ _. more;
-      digits = hex-next c.loop-done.buffer c.loop-done.done c.loop-done.rest c.digit.result _ c.loop-done-test.true len c.digit.ensures.value more c.loop-done.invariant.digits;
+      digits =
+          hex-next c.loop-done.buffer c.loop-done.done c.loop-done.rest c.digit.result _ c.loop-done-test.true len c.digit.ensures.value more
+          c.loop-done.invariant.digits;
     }
 
 pub returns-then-rest-eq0-clause-digits : goal.returns-then-rest-eq0-clause-digits
 returns-then-rest-eq0-clause-digits c =
     let len : length c.loop-done.buffer ≡ 16 = search rules in
-    hex-whole c.loop-done.buffer c.loop-done.done c.loop-done.rest c.digit.result _ c.loop-done-test.true len c.digit.ensures.value c.if-rest-eq0.true c.loop-done.invariant.digits
+    hex-whole c.loop-done.buffer c.loop-done.done c.loop-done.rest c.digit.result _ c.loop-done-test.true len c.digit.ensures.value
+    c.if-rest-eq0.true c.loop-done.invariant.digits

@@ -6,4 +6,6 @@ use Rattle.insn_text.proofs.Tables.{sized_run}
 use Rattle.insn_text.proofs.shape.operands_of.Goals as goal
 
 pub returns-clause-sized : goal.returns-clause-sized
-returns-clause-sized c = subst (λ (is : List Item). list_all is_sized is ≡ true) (sym c.run_of_items.ensures) (sized_run c.args.shape.now.first c.args.shape.now.count)
+returns-clause-sized c =
+    subst (λ (is : List Item). list_all is_sized is ≡ true) (sym c.run_of_items.ensures)
+    (sized_run c.args.shape.now.first c.args.shape.now.count)

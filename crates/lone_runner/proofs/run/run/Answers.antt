@@ -7,7 +7,9 @@ turns-init c = record { under_way = under_way_start _ _ _; runs = c.requires; sa
 
 pub turns-preserved : goal.turns-preserved
 turns-preserved c = let h = c.turns.invariant in record {
-  under_way = under_way_on _ _ _ _ _ h.under_way (ran _ _ c.turns.context c.advance.new.self _ h.runs h.same.config h.same.thread c.in-Ran.ensures.turn);
+  under_way =
+      under_way_on _ _ _ _ _ h.under_way (ran _ _ c.turns.context c.advance.new.self _ h.runs h.same.config h.same.thread
+      c.in-Ran.ensures.turn);
   runs = runs_on c.turns.context c.advance.new.self _ h.runs c.in-Ran.ensures.turn;
   same = record {
     config = c.in-Ran.ensures.same.config ∙ h.same.config;
@@ -18,4 +20,5 @@ turns-preserved c = let h = c.turns.invariant in record {
 
 pub returns-in-Stopped-clause-ends : goal.returns-in-Stopped-clause-ends
 returns-in-Stopped-clause-ends c = let h = c.turns.invariant in
-    under_way_ends _ _ _ _ _ _ h.under_way (stopped _ _ c.turns.context c.advance.new.self _ _ h.runs h.same.config h.same.thread c.in-Stopped.ensures.turn)
+    under_way_ends _ _ _ _ _ _ h.under_way (stopped _ _ c.turns.context c.advance.new.self _ _ h.runs h.same.config h.same.thread
+    c.in-Stopped.ensures.turn)

@@ -5,5 +5,7 @@ pub returns-clause-run : goal.returns-clause-run
 returns-clause-run c = record {
   stop = c.in_ok-run.field-0;
   stopped = c.in_ok-run.ensures.stop;
-  run = lone_run c.args.image.now c.args.config.now c.args.thread _ _ _ _ _ c.in_ok-context.ensures.config c.in_ok-context.ensures.thread c.in_ok-context.ensures.state c.in_ok-run.ensures.ends;
+  run =
+      lone_run c.args.image.now c.args.config.now c.args.thread _ _ _ _ _ c.in_ok-context.ensures.config c.in_ok-context.ensures.thread
+      c.in_ok-context.ensures.state c.in_ok-run.ensures.ends;
 }

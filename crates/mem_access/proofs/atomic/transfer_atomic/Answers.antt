@@ -10,7 +10,11 @@ use Rattle.mem_access.proofs.Room.{owned_bytes}
 use Rattle.mem_access.proofs.atomic.transfer_atomic.Goals as goal
 
 pub returns-in-Some-clause-made : goal.returns-in-Some-clause-made
-returns-in-Some-clause-made c = (raised (atomic_access c.args.x.now c.args.s.now) _ c.args.s.now c.args.pages.now.memory _ c.atomic_access-access.ensures.value c.in-Some.ensures, refl)
+returns-in-Some-clause-made c = (
+  raised (atomic_access c.args.x.now c.args.s.now) _ c.args.s.now c.args.pages.now.memory _ c.atomic_access-access.ensures.value
+      c.in-Some.ensures,
+  refl,
+)
 
 pub returns-in-Ldar-clause-made : goal.returns-in-Ldar-clause-made
 unfolding atomic_access after_atomic
@@ -19,7 +23,15 @@ returns-in-Ldar-clause-made c =
     let m = c.args.pages.now.memory in
     let n = bytes_in c.in-Ldar.size in
     let made : ℕ → AfterAccess = λ a. record { scalars = with_x s c.in-Ldar.rt (number_in m a n); memory = m } in
-    atomic_read c.args.x.now _ _ s m n made _ _ c.load_ordered.result (record { kind = c.in-Ldar.is; access = c.atomic_access-access.ensures.value; placed = c.in-None.ensures; reads = refl; writes = refl; size = refl }) (λ a. refl) c.load_ordered.ensures.made
+    atomic_read c.args.x.now _ _ s m n made _ _ c.load_ordered.result
+    (record {
+      kind = c.in-Ldar.is;
+      access = c.atomic_access-access.ensures.value;
+      placed = c.in-None.ensures;
+      reads = refl;
+      writes = refl;
+      size = refl;
+    }) (λ a. refl) c.load_ordered.ensures.made
 
 pub returns-in-Stlr-clause-made : goal.returns-in-Stlr-clause-made
 unfolding atomic_access after_atomic
@@ -28,7 +40,15 @@ returns-in-Stlr-clause-made c =
     let m = c.args.pages.now.memory in
     let n = bytes_in c.in-Stlr.size in
     let made : ℕ → AfterAccess = λ a. record { scalars = s; memory = with_number m a n (x_of s c.in-Stlr.rt) } in
-    atomic_written c.args.x.now _ _ s m n made _ _ c.store_ordered.result (record { kind = c.in-Stlr.is; access = c.atomic_access-access.ensures.value; placed = c.in-None.ensures; reads = refl; writes = refl; size = refl }) (λ a. refl) c.store_ordered.ensures.made
+    atomic_written c.args.x.now _ _ s m n made _ _ c.store_ordered.result
+    (record {
+      kind = c.in-Stlr.is;
+      access = c.atomic_access-access.ensures.value;
+      placed = c.in-None.ensures;
+      reads = refl;
+      writes = refl;
+      size = refl;
+    }) (λ a. refl) c.store_ordered.ensures.made
 
 pub returns-in-Cas-clause-made : goal.returns-in-Cas-clause-made
 unfolding atomic_access after_atomic
@@ -36,8 +56,20 @@ returns-in-Cas-clause-made c =
     let s = c.args.s.now in
     let m = c.args.pages.now.memory in
     let n = bytes_in c.in-Cas.size in
-    let made : ℕ → AfterAccess = λ a. record { scalars = with_x s c.in-Cas.rs (number_in m a n); memory = cond (number_in m a n == low_bytes n (x_of s c.in-Cas.rs)) (with_number m a n (x_of s c.in-Cas.rt)) m } in
-    atomic_updated c.args.x.now _ _ s m n made _ _ c.swap_where_equal.result (record { kind = c.in-Cas.is; access = c.atomic_access-access.ensures.value; placed = c.in-None.ensures; reads = refl; writes = refl; size = refl }) (λ a. refl) c.swap_where_equal.ensures.made
+    let made : ℕ → AfterAccess =
+    λ a. record {
+      scalars = with_x s c.in-Cas.rs (number_in m a n);
+      memory = cond (number_in m a n == low_bytes n (x_of s c.in-Cas.rs)) (with_number m a n (x_of s c.in-Cas.rt)) m;
+    } in
+    atomic_updated c.args.x.now _ _ s m n made _ _ c.swap_where_equal.result
+    (record {
+      kind = c.in-Cas.is;
+      access = c.atomic_access-access.ensures.value;
+      placed = c.in-None.ensures;
+      reads = refl;
+      writes = refl;
+      size = refl;
+    }) (λ a. refl) c.swap_where_equal.ensures.made
 
 pub returns-in-Swap-clause-made : goal.returns-in-Swap-clause-made
 unfolding atomic_access after_atomic
@@ -45,8 +77,17 @@ returns-in-Swap-clause-made c =
     let s = c.args.s.now in
     let m = c.args.pages.now.memory in
     let n = bytes_in c.in-Swap.size in
-    let made : ℕ → AfterAccess = λ a. record { scalars = with_x s c.in-Swap.rt (number_in m a n); memory = with_number m a n (x_of s c.in-Swap.rs) } in
-    atomic_updated c.args.x.now _ _ s m n made _ _ c.swap_register.result (record { kind = c.in-Swap.is; access = c.atomic_access-access.ensures.value; placed = c.in-None.ensures; reads = refl; writes = refl; size = refl }) (λ a. refl) c.swap_register.ensures.made
+    let made : ℕ → AfterAccess =
+    λ a. record { scalars = with_x s c.in-Swap.rt (number_in m a n); memory = with_number m a n (x_of s c.in-Swap.rs) } in
+    atomic_updated c.args.x.now _ _ s m n made _ _ c.swap_register.result
+    (record {
+      kind = c.in-Swap.is;
+      access = c.atomic_access-access.ensures.value;
+      placed = c.in-None.ensures;
+      reads = refl;
+      writes = refl;
+      size = refl;
+    }) (λ a. refl) c.swap_register.ensures.made
 
 pub returns-in-Update-clause-made : goal.returns-in-Update-clause-made
 unfolding atomic_access after_atomic
@@ -54,29 +95,49 @@ returns-in-Update-clause-made c =
     let s = c.args.s.now in
     let m = c.args.pages.now.memory in
     let n = bytes_in c.in-Update.size in
-    let made : ℕ → AfterAccess = λ a. record { scalars = with_x s c.in-Update.rt (number_in m a n); memory = with_number m a n (updated c.in-Update.op n (number_in m a n) (low_bytes n (x_of s c.in-Update.rs))) } in
-    atomic_updated c.args.x.now _ _ s m n made _ _ c.update_by_register.result (record { kind = c.in-Update.is; access = c.atomic_access-access.ensures.value; placed = c.in-None.ensures; reads = refl; writes = refl; size = refl }) (λ a. refl) c.update_by_register.ensures.made
+    let made : ℕ → AfterAccess =
+    λ a. record {
+      scalars = with_x s c.in-Update.rt (number_in m a n);
+      memory = with_number m a n (updated c.in-Update.op n (number_in m a n) (low_bytes n (x_of s c.in-Update.rs)));
+    } in
+    atomic_updated c.args.x.now _ _ s m n made _ _ c.update_by_register.result
+    (record {
+      kind = c.in-Update.is;
+      access = c.atomic_access-access.ensures.value;
+      placed = c.in-None.ensures;
+      reads = refl;
+      writes = refl;
+      size = refl;
+    }) (λ a. refl) c.update_by_register.ensures.made
 
 pub returns-in-Stlr-clause-room : goal.returns-in-Stlr-clause-room
 unfolding atomic_access
 returns-in-Stlr-clause-room c room =
     let s = c.args.s.now in
-    c.store_ordered.ensures.room (owned_bytes (atomic_access c.args.x.now s) _ c.args.pages.now (bytes_in c.in-Stlr.size) c.atomic_access-access.ensures.value (ap (λ x. (atomic_access x s).writes) c.in-Stlr.is) (ap (λ x. (atomic_access x s).size) c.in-Stlr.is) room)
+    c.store_ordered.ensures.room (owned_bytes (atomic_access c.args.x.now s) _ c.args.pages.now (bytes_in c.in-Stlr.size)
+    c.atomic_access-access.ensures.value (ap (λ x. (atomic_access x s).writes) c.in-Stlr.is)
+    (ap (λ x. (atomic_access x s).size) c.in-Stlr.is) room)
 
 pub returns-in-Cas-clause-room : goal.returns-in-Cas-clause-room
 unfolding atomic_access
 returns-in-Cas-clause-room c room =
     let s = c.args.s.now in
-    c.swap_where_equal.ensures.room (owned_bytes (atomic_access c.args.x.now s) _ c.args.pages.now (bytes_in c.in-Cas.size) c.atomic_access-access.ensures.value (ap (λ x. (atomic_access x s).writes) c.in-Cas.is) (ap (λ x. (atomic_access x s).size) c.in-Cas.is) room)
+    c.swap_where_equal.ensures.room (owned_bytes (atomic_access c.args.x.now s) _ c.args.pages.now (bytes_in c.in-Cas.size)
+    c.atomic_access-access.ensures.value (ap (λ x. (atomic_access x s).writes) c.in-Cas.is)
+    (ap (λ x. (atomic_access x s).size) c.in-Cas.is) room)
 
 pub returns-in-Swap-clause-room : goal.returns-in-Swap-clause-room
 unfolding atomic_access
 returns-in-Swap-clause-room c room =
     let s = c.args.s.now in
-    c.swap_register.ensures.room (owned_bytes (atomic_access c.args.x.now s) _ c.args.pages.now (bytes_in c.in-Swap.size) c.atomic_access-access.ensures.value (ap (λ x. (atomic_access x s).writes) c.in-Swap.is) (ap (λ x. (atomic_access x s).size) c.in-Swap.is) room)
+    c.swap_register.ensures.room (owned_bytes (atomic_access c.args.x.now s) _ c.args.pages.now (bytes_in c.in-Swap.size)
+    c.atomic_access-access.ensures.value (ap (λ x. (atomic_access x s).writes) c.in-Swap.is)
+    (ap (λ x. (atomic_access x s).size) c.in-Swap.is) room)
 
 pub returns-in-Update-clause-room : goal.returns-in-Update-clause-room
 unfolding atomic_access
 returns-in-Update-clause-room c room =
     let s = c.args.s.now in
-    c.update_by_register.ensures.room (owned_bytes (atomic_access c.args.x.now s) _ c.args.pages.now (bytes_in c.in-Update.size) c.atomic_access-access.ensures.value (ap (λ x. (atomic_access x s).writes) c.in-Update.is) (ap (λ x. (atomic_access x s).size) c.in-Update.is) room)
+    c.update_by_register.ensures.room (owned_bytes (atomic_access c.args.x.now s) _ c.args.pages.now (bytes_in c.in-Update.size)
+    c.atomic_access-access.ensures.value (ap (λ x. (atomic_access x s).writes) c.in-Update.is)
+    (ap (λ x. (atomic_access x s).size) c.in-Update.is) room)

@@ -18,11 +18,13 @@ loop-left-init c = record {
 }
 
 pub put_bytes-requires-clause-low : goal.put_bytes-requires-clause-low
-put_bytes-requires-clause-low c = placed_bytes_low _ (placed_at IsPlaced c.args.parts.now (c.loop-left.left - 1) _ c.requires.parts.placed (omega arith))
+put_bytes-requires-clause-low c =
+    placed_bytes_low _ (placed_at IsPlaced c.args.parts.now (c.loop-left.left - 1) _ c.requires.parts.placed (omega arith))
 
 pub put_bytes-requires-clause-there : goal.put_bytes-requires-clause-there
 put_bytes-requires-clause-there c a g m =
-    let touched : IsSome (image_flags (map extent_of c.args.parts.now) (a / 4096)) = bytes_touched c.args.parts.now (c.loop-left.left - 1) _ a c.requires.parts.placed (omega arith) g m in
+    let touched : IsSome (image_flags (map extent_of c.args.parts.now) (a / 4096)) =
+    bytes_touched c.args.parts.now (c.loop-left.left - 1) _ a c.requires.parts.placed (omega arith) g m in
     rw (c.loop-left.invariant.flags, c.requires.flags (a / 4096)) touched
 
 pub loop-left-preserved : goal.loop-left-preserved
@@ -32,9 +34,14 @@ loop-left-preserved c =
       bound = omega arith;
       fine = c.put_bytes.ensures.fine;
       flags = c.put_bytes.ensures.flags ∙ c.loop-left.invariant.flags;
-      bytes = λ a. bytes_of_more c.args.parts.now (c.loop-left.left - 1) _ a (get (mem_of c.loop-left.pages.items) a) _ c.requires.parts.apart (omega arith) (placed_at IsPlaced c.args.parts.now (c.loop-left.left - 1) _ c.requires.parts.placed (omega arith)).inside
-          (c.loop-left.invariant.bytes a ∙ ap (λ k. option_or (parts_byte (drop k (map extent_of c.args.parts.now)) a) (zero_in (image_flags (map extent_of c.args.parts.now) (a / 4096)))) (sym next))
-          (ap (λ m. get m a) c.put_bytes.ensures.bytes ∙ get-set_bytes-low (mem_of c.loop-left.pages.items) _ _ a (placed_bytes_low _ (placed_at IsPlaced c.args.parts.now (c.loop-left.left - 1) _ c.requires.parts.placed (omega arith))));
+      bytes =
+          λ a. bytes_of_more c.args.parts.now (c.loop-left.left - 1) _ a (get (mem_of c.loop-left.pages.items) a) _ c.requires.parts.apart
+          (omega arith) (placed_at IsPlaced c.args.parts.now (c.loop-left.left - 1) _ c.requires.parts.placed (omega arith)).inside
+          (c.loop-left.invariant.bytes a ∙ ap (λ k. option_or (parts_byte (drop k (map extent_of c.args.parts.now)) a)
+          (zero_in (image_flags (map extent_of c.args.parts.now) (a / 4096)))) (sym next))
+          (ap (λ m. get m a) c.put_bytes.ensures.bytes
+          ∙ get-set_bytes-low (mem_of c.loop-left.pages.items) _ _ a
+          (placed_bytes_low _ (placed_at IsPlaced c.args.parts.now (c.loop-left.left - 1) _ c.requires.parts.placed (omega arith))));
     }
 
 pub returns-clause-memory : goal.returns-clause-memory
@@ -42,5 +49,7 @@ returns-clause-memory c =
     let done : c.loop-left.left ≡ 0 = omega arith in
     record {
       flags = λ n. ap (λ m. get m n) c.loop-left.invariant.flags ∙ c.requires.flags n;
-      bytes = λ a. bytes_of_all (map extent_of c.args.parts.now) a (get (mem_of c.loop-left.pages.items) a) (rw done at (c.loop-left.invariant.bytes a));
+      bytes =
+          λ a. bytes_of_all (map extent_of c.args.parts.now) a (get (mem_of c.loop-left.pages.items) a)
+          (rw done at (c.loop-left.invariant.bytes a));
     }

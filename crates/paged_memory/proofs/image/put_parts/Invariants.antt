@@ -10,7 +10,8 @@ invariant-loop-left l = record {
   bound : l.left ≤ length l.parts;
   fine : IsFine l.pages.items;
   flags : perm_of l.pages.items ≡ perm_of l.initial.pages.items;
-  bytes : (a : ℕ) → get (mem_of l.pages.items) a ≡ option_or (parts_byte (drop l.left (map extent_of l.parts)) a) (zero_in (image_flags (map extent_of l.parts) (a / 4096)));
+  bytes : (a : ℕ) → get (mem_of l.pages.items) a
+      ≡ option_or (parts_byte (drop l.left (map extent_of l.parts)) a) (zero_in (image_flags (map extent_of l.parts) (a / 4096)));
 }
 
 abbrev pub decreases-loop-left : goal.decreases-loop-left

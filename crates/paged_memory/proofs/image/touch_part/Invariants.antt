@@ -10,5 +10,6 @@ abbrev pub invariant-loop-n : goal.invariant-loop-n
 invariant-loop-n l = record {
   fine : IsFine l.pages.items;
   zero : IsZero (memory_of l.pages.items);
-  flags : (q : ℕ) → get (perm_of l.pages.items) q ≡ union (cond (nat_le (l.part.address / 4096) q && nat_lt q l.n) (Some l.part.flags) None) (get (perm_of l.initial.pages.items) q);
+  flags : (q : ℕ) → get (perm_of l.pages.items) q
+      ≡ union (cond (nat_le (l.part.address / 4096) q && nat_lt q l.n) (Some l.part.flags) None) (get (perm_of l.initial.pages.items) q);
 }

@@ -13,7 +13,8 @@ loop-left-init c = record {
 }
 
 pub touch_part-requires-clause-low : goal.touch_part-requires-clause-low
-touch_part-requires-clause-low c = placed_at (λ e. 0 < e.size → e.address + e.size ≤ 2 ^ 62) c.args.parts.now (c.loop-left.left - 1) _ c.requires.low (omega arith)
+touch_part-requires-clause-low c =
+    placed_at (λ e. 0 < e.size → e.address + e.size ≤ 2 ^ 62) c.args.parts.now (c.loop-left.left - 1) _ c.requires.low (omega arith)
 
 pub touch_part-requires-clause-sum : goal.touch_part-requires-clause-sum
 touch_part-requires-clause-sum c = placed_at (λ e. e.flags < 8) c.args.parts.now (c.loop-left.left - 1) _ c.requires.sums (omega arith)
@@ -25,5 +26,8 @@ loop-left-preserved c =
       bound = omega arith;
       fine = c.in_ok-touch_part.ensures.fine;
       zero = c.in_ok-touch_part.ensures.zero;
-      flags = λ n. flags_of_more c.args.parts.now (c.loop-left.left - 1) _ n _ _ (omega arith) (c.loop-left.invariant.flags n ∙ ap (λ k. image_flags (drop k (map extent_of c.args.parts.now)) n) (sym next)) (c.in_ok-touch_part.ensures.flags n);
+      flags =
+          λ n. flags_of_more c.args.parts.now (c.loop-left.left - 1) _ n _ _ (omega arith)
+          (c.loop-left.invariant.flags n ∙ ap (λ k. image_flags (drop k (map extent_of c.args.parts.now)) n) (sym next))
+          (c.in_ok-touch_part.ensures.flags n);
     }

@@ -9,8 +9,12 @@ loop-done-init c = record { inside = omega arith; without = first_without-zero _
 pub loop-done-preserved : goal.loop-done-preserved
 loop-done-preserved c = record {
   inside = omega arith;
-  without = first_without-run c.args.need (memory_of c.args.pages.now) c.args.address c.loop-done.done c.min-count.result _ c.loop-done.invariant.without c.in-Some.ensures.there;
+  without =
+      first_without-run c.args.need (memory_of c.args.pages.now) c.args.address c.loop-done.done c.min-count.result _
+      c.loop-done.invariant.without c.in-Some.ensures.there;
 }
 
 pub returns-in-None : goal.returns-in-None
-returns-in-None c = sym (first_without-at c.args.need (memory_of c.args.pages.now) c.args.address c.loop-done.done c.args.length c.loop-done.invariant.without c.in-None.ensures.gone c.loop-done-test.true)
+returns-in-None c =
+    sym (first_without-at c.args.need (memory_of c.args.pages.now) c.args.address c.loop-done.done c.args.length
+    c.loop-done.invariant.without c.in-None.ensures.gone c.loop-done-test.true)

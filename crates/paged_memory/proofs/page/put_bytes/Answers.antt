@@ -10,6 +10,8 @@ pub loop-done-preserved : goal.loop-done-preserved
 loop-done-preserved c = record {
   inside = omega arith;
   fine = c.put_run.ensures.fine;
-  bytes = set_bytes-more (mem_of c.args.pages.now.items) (mem_of c.loop-done.pages.items) (mem_of c.put_run.new.pages.items) c.args.address c.loop-done.done c.min-count.result c.args.bytes.now c.loop-done.invariant.inside c.loop-done.invariant.bytes c.put_run.ensures.bytes;
+  bytes =
+      set_bytes-more (mem_of c.args.pages.now.items) (mem_of c.loop-done.pages.items) (mem_of c.put_run.new.pages.items) c.args.address
+      c.loop-done.done c.min-count.result c.args.bytes.now c.loop-done.invariant.inside c.loop-done.invariant.bytes c.put_run.ensures.bytes;
   flags = c.put_run.ensures.flags ∙ c.loop-done.invariant.flags;
 }

@@ -18,14 +18,19 @@ returns-then-is_empty-clause-bytes c =
 
 pub returns-then-index-eq2-clause-denied : goal.returns-then-index-eq2-clause-denied
 returns-then-index-eq2-clause-denied c =
-    sym (run_permitted c.args.pages.now.items 2 c.args.address (length c.args.bytes.now) c.in-Some.i c.index.result.now c.requires.fine (rw c.as_slice.ensures.value at c.in-Some.ensures.1) (rw c.as_slice.ensures.value at c.in-Some.ensures.0) c.index.ensures c.if-index-eq2.true (omega arith) c.requires.fits)
+    sym (run_permitted c.args.pages.now.items 2 c.args.address (length c.args.bytes.now) c.in-Some.i c.index.result.now c.requires.fine
+    (rw c.as_slice.ensures.value at c.in-Some.ensures.1) (rw c.as_slice.ensures.value at c.in-Some.ensures.0) c.index.ensures
+    c.if-index-eq2.true (omega arith) c.requires.fits)
 
 pub returns-else-index-eq2-clause-denied : goal.returns-else-index-eq2-clause-denied
 returns-else-index-eq2-clause-denied c =
     let some : 0 < length c.args.bytes.now = grind (arith, nat_tests) in
-    sym (run_denied c.args.pages.now.items 2 c.args.address (length c.args.bytes.now) c.in-Some.i c.index.result.now c.requires.fine (rw c.as_slice.ensures.value at c.in-Some.ensures.1) (rw c.as_slice.ensures.value at c.in-Some.ensures.0) c.index.ensures c.if-index-eq2.false (omega arith) some)
+    sym (run_denied c.args.pages.now.items 2 c.args.address (length c.args.bytes.now) c.in-Some.i c.index.result.now c.requires.fine
+    (rw c.as_slice.ensures.value at c.in-Some.ensures.1) (rw c.as_slice.ensures.value at c.in-Some.ensures.0) c.index.ensures
+    c.if-index-eq2.false (omega arith) some)
 
 pub returns-in-None-clause-denied : goal.returns-in-None-clause-denied
 returns-in-None-clause-denied c =
     let some : 0 < length c.args.bytes.now = grind (arith, nat_tests) in
-    sym (run_gone c.args.pages.now.items 2 c.args.address (length c.args.bytes.now) c.requires.fine (rw c.as_slice.ensures.value at c.in-None.ensures) (omega arith) some)
+    sym (run_gone c.args.pages.now.items 2 c.args.address (length c.args.bytes.now) c.requires.fine
+    (rw c.as_slice.ensures.value at c.in-None.ensures) (omega arith) some)

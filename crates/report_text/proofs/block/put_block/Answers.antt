@@ -10,12 +10,24 @@ returns-in_err-put_head g c = rw (bank_text-zero _ _ _) (and_stop _ c.in_err-put
 
 pub returns-in_err-put_registers : goal.returns-in_err-put_registers
 unfolding block_text
-returns-in_err-put_registers g c = rw (bank_text-zero _ _ _) (and_then c.in_ok-put_head.ensures (and_stop _ (rw c.machine-machine.ensures at (c.in_err-put_registers.ensures (zero_bank c.args.context.now.guest.config.vl c.args.context.now.guest.config.svl))) c.from_residual-in_err-put_registers.ensures.0))
+returns-in_err-put_registers g c =
+    rw (bank_text-zero _ _ _) (and_then c.in_ok-put_head.ensures
+    (and_stop _ (rw c.machine-machine.ensures at
+    (c.in_err-put_registers.ensures (zero_bank c.args.context.now.guest.config.vl c.args.context.now.guest.config.svl)))
+    c.from_residual-in_err-put_registers.ensures.0))
 
 pub returns-in_err-put_memory_line : goal.returns-in_err-put_memory_line
 unfolding block_text
-returns-in_err-put_memory_line g c = rw (bank_text-zero _ _ _) (and_then c.in_ok-put_head.ensures (and_then (rw c.machine-machine.ensures at (c.in_ok-put_registers.ensures (zero_bank c.args.context.now.guest.config.vl c.args.context.now.guest.config.svl))) (and_stop _ (rw c.machine-machine.ensures at c.in_err-put_memory_line.ensures) c.from_residual-in_err-put_memory_line.ensures.0)))
+returns-in_err-put_memory_line g c =
+    rw (bank_text-zero _ _ _) (and_then c.in_ok-put_head.ensures
+    (and_then (rw c.machine-machine.ensures at
+    (c.in_ok-put_registers.ensures (zero_bank c.args.context.now.guest.config.vl c.args.context.now.guest.config.svl)))
+    (and_stop _ (rw c.machine-machine.ensures at c.in_err-put_memory_line.ensures) c.from_residual-in_err-put_memory_line.ensures.0)))
 
 pub returns : goal.returns
 unfolding block_text
-returns g c = rw (bank_text-zero _ _ _) (and_then c.in_ok-put_head.ensures (and_then (rw c.machine-machine.ensures at (c.in_ok-put_registers.ensures (zero_bank c.args.context.now.guest.config.vl c.args.context.now.guest.config.svl))) (and_then (rw c.machine-machine.ensures at c.in_ok-put_memory_line.ensures) (and_end c.put_kernel.ensures))))
+returns g c =
+    rw (bank_text-zero _ _ _) (and_then c.in_ok-put_head.ensures
+    (and_then (rw c.machine-machine.ensures at
+    (c.in_ok-put_registers.ensures (zero_bank c.args.context.now.guest.config.vl c.args.context.now.guest.config.svl)))
+    (and_then (rw c.machine-machine.ensures at c.in_ok-put_memory_line.ensures) (and_end c.put_kernel.ensures))))

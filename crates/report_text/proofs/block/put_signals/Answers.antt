@@ -9,8 +9,12 @@ returns-in_err-put_hex_line g c context = rw handler_lines-none (and_stop _ c.in
 
 pub returns-in_err-put_flag_line : goal.returns-in_err-put_flag_line
 unfolding signal_text
-returns-in_err-put_flag_line g c context = rw handler_lines-none (and_then c.in_ok-put_hex_line.ensures (and_stop _ c.in_err-put_flag_line.ensures c.from_residual-in_err-put_flag_line.ensures.0))
+returns-in_err-put_flag_line g c context =
+    rw handler_lines-none (and_then c.in_ok-put_hex_line.ensures
+    (and_stop _ c.in_err-put_flag_line.ensures c.from_residual-in_err-put_flag_line.ensures.0))
 
 pub returns : goal.returns
 unfolding signal_text
-returns g c context = rw handler_lines-none (and_then c.in_ok-put_hex_line.ensures (and_then c.in_ok-put_flag_line.ensures (and_end c.put_flag_line-2.ensures)))
+returns g c context =
+    rw handler_lines-none (and_then c.in_ok-put_hex_line.ensures
+    (and_then c.in_ok-put_flag_line.ensures (and_end c.put_flag_line-2.ensures)))

@@ -8,8 +8,12 @@ returns-in_err-put_hex_line g c bank = rw (← c.svcr-svcr.ensures bank) (and_st
 
 pub returns-in_err-put_hex_line-2 : goal.returns-in_err-put_hex_line-2
 unfolding system_text
-returns-in_err-put_hex_line-2 g c bank = rw (← c.svcr-svcr.ensures bank) (and_then c.in_ok-put_hex_line.ensures (and_stop _ c.in_err-put_hex_line-2.ensures c.from_residual-in_err-put_hex_line-2.ensures.0))
+returns-in_err-put_hex_line-2 g c bank =
+    rw (← c.svcr-svcr.ensures bank) (and_then c.in_ok-put_hex_line.ensures
+    (and_stop _ c.in_err-put_hex_line-2.ensures c.from_residual-in_err-put_hex_line-2.ensures.0))
 
 pub returns : goal.returns
 unfolding system_text
-returns g c bank = rw (← c.svcr-svcr.ensures bank) (and_then c.in_ok-put_hex_line.ensures (and_then c.in_ok-put_hex_line-2.ensures (and_end c.put_number_line.ensures)))
+returns g c bank =
+    rw (← c.svcr-svcr.ensures bank) (and_then c.in_ok-put_hex_line.ensures
+    (and_then c.in_ok-put_hex_line-2.ensures (and_end c.put_number_line.ensures)))

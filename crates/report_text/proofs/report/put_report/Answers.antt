@@ -8,7 +8,8 @@ returns-in_err-put_header g c = and_stop _ c.in_err-put_header.ensures c.from_re
 
 pub returns-in_err-put_block : goal.returns-in_err-put_block
 unfolding report_text blocks_text
-returns-in_err-put_block g c = and_then c.in_ok-put_header.ensures (and_stop _ (and_end c.in_err-put_block.ensures) c.from_residual-in_err-put_block.ensures.0)
+returns-in_err-put_block g c =
+    and_then c.in_ok-put_header.ensures (and_stop _ (and_end c.in_err-put_block.ensures) c.from_residual-in_err-put_block.ensures.0)
 
 pub returns : goal.returns
 unfolding report_text blocks_text

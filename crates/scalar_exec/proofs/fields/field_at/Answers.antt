@@ -8,4 +8,5 @@ returns-clause-value c = masked (c.args.value / 2 ^ c.args.low) c.args.count c.r
 
 pub returns-clause-small : goal.returns-clause-small
 returns-clause-small c =
-    subst (λ n. n < 2 ^ c.args.count) (sym (masked (c.args.value / 2 ^ c.args.low) c.args.count c.requires.count)) (mod_below _ _ (pow_pos c.args.count))
+    subst (λ n. n < 2 ^ c.args.count) (sym (masked (c.args.value / 2 ^ c.args.low) c.args.count c.requires.count))
+    (mod_below _ _ (pow_pos c.args.count))

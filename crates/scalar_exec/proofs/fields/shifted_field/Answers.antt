@@ -7,4 +7,6 @@ returns-clause-value c = whole c.args.field c.args.count c.args.place c.requires
 
 pub returns-clause-small : goal.returns-clause-small
 returns-clause-small c =
-    subst (λ n. n + 2 ^ c.args.place ≤ 2 ^ (c.args.place + c.args.count)) (sym (whole c.args.field c.args.count c.args.place c.requires.field c.requires.room)) (room c.args.field c.args.count c.args.place c.requires.field)
+    subst (λ n. n + 2 ^ c.args.place ≤ 2 ^ (c.args.place + c.args.count))
+    (sym (whole c.args.field c.args.count c.args.place c.requires.field c.requires.room))
+    (room c.args.field c.args.count c.args.place c.requires.field)

@@ -5,4 +5,5 @@ use Rattle.scalar_exec.proofs.logic.mask.Goals as goal
 
 pub returns : goal.returns
 returns c =
-    c.unwrap_or.ensures ∙ ap (λ o. unwrap_or o 0) (c.bit_mask.ensures.value ∙ mask-is c.args.x.now.wide c.args.x.now.n c.args.x.now.imms c.args.x.now.immr c.requires.mask)
+    c.unwrap_or.ensures ∙ ap (λ o. unwrap_or o 0)
+    (c.bit_mask.ensures.value ∙ mask-is c.args.x.now.wide c.args.x.now.n c.args.x.now.imms c.args.x.now.immr c.requires.mask)

@@ -12,14 +12,17 @@ pub returns-in_err-file-clause-ends : goal.returns-in_err-file-clause-ends
 returns-in_err-file-clause-ends g c =
     let files = change g.F.Files.view c.args.files.now c.fetch_file.new.files in
     let ends : EndsRequest (AsksListing (string_bytes c.args.program)) files (Err c.in_err-file.field-0.0) =
-    unread_ends (AsksListing (string_bytes c.args.program)) (record { name = string_bytes c.args.program; kind = IsProgram }) files c.in_err-file.field-0.0 refl c.in_err-file.ensures.unread in
+    unread_ends (AsksListing (string_bytes c.args.program)) (record { name = string_bytes c.args.program; kind = IsProgram }) files
+    c.in_err-file.field-0.0 refl c.in_err-file.ensures.unread in
     search rules
 
 pub returns-in_err-image-clause-ends : goal.returns-in_err-image-clause-ends
 returns-in_err-image-clause-ends g c =
     let files = change g.F.Files.view c.args.files.now c.fetch_file.new.files in
     let ends : EndsRequest (AsksListing (string_bytes c.args.program)) files (Err c.in_err-image.field-0.0) =
-    rejected_ends (AsksListing (string_bytes c.args.program)) (record { name = string_bytes c.args.program; kind = IsProgram }) files FETCH_LIMIT c.in_ok-file.file.items c.in_err-image.field-0.0 refl (lit< tt) c.in_ok-file.ensures.front (rw c.as_slice.ensures.value at c.in_err-image.ensures.rejected) in
+    rejected_ends (AsksListing (string_bytes c.args.program)) (record { name = string_bytes c.args.program; kind = IsProgram }) files
+    FETCH_LIMIT c.in_ok-file.file.items c.in_err-image.field-0.0 refl (lit< tt) c.in_ok-file.ensures.front
+    (rw c.as_slice.ensures.value at c.in_err-image.ensures.rejected) in
     search rules
 
 pub returns-clause-ends : goal.returns-clause-ends
@@ -27,6 +30,8 @@ returns-clause-ends g c =
     let loads = rw c.as_slice.ensures.value at c.in_ok-image.ensures.loads in
     record {
       file = c.in_ok-file.file.items;
-      is_file = program_file (g.F.Files.view c.args.files.now).told FETCH_LIMIT (string_bytes c.args.program) c.in_ok-file.file.items (lit< tt) c.in_ok-file.ensures.front loads.accepted;
+      is_file =
+          program_file (g.F.Files.view c.args.files.now).told FETCH_LIMIT (string_bytes c.args.program) c.in_ok-file.file.items (lit< tt)
+          c.in_ok-file.ensures.front loads.accepted;
       listing = record { program = c.in_ok-image.image; loads = loads; is_text = refl };
     }

@@ -11,7 +11,8 @@ unfolding run_text
 returns c =
     let end : ThreadEnd = end_of c.in_ok-context.context in
     let alone = c.in_ok-context.ensures.run in
-    let is_end : IsEndOf c.args.image.now c.args.config.now 0 end = record { number = c.in_ok-context.ensures.thread; journal = refl; stop = alone.stop; stopped = alone.stopped; run = alone.run } in
+    let is_end : IsEndOf c.args.image.now c.args.config.now 0 end =
+    record { number = c.in_ok-context.ensures.thread; journal = refl; stop = alone.stop; stopped = alone.stopped; run = alone.run } in
     record {
       program = c.args.image.now;
       loads = c.requires.loads;

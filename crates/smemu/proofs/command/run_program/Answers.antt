@@ -13,14 +13,17 @@ pub returns-in_err-file-clause-ends : goal.returns-in_err-file-clause-ends
 returns-in_err-file-clause-ends g c =
     let files = change g.F.Files.view c.args.files.now c.fetch_file.new.files in
     let ends : EndsRequest (AsksRun (string_bytes c.args.program) (options_of c.args.config.now)) files (Err c.in_err-file.field-0.0) =
-    unread_ends (AsksRun (string_bytes c.args.program) (options_of c.args.config.now)) (record { name = string_bytes c.args.program; kind = IsProgram }) files c.in_err-file.field-0.0 refl c.in_err-file.ensures.unread in
+    unread_ends (AsksRun (string_bytes c.args.program) (options_of c.args.config.now))
+    (record { name = string_bytes c.args.program; kind = IsProgram }) files c.in_err-file.field-0.0 refl c.in_err-file.ensures.unread in
     search rules
 
 pub returns-in_err-image-clause-ends : goal.returns-in_err-image-clause-ends
 returns-in_err-image-clause-ends g c =
     let files = change g.F.Files.view c.args.files.now c.fetch_file.new.files in
     let ends : EndsRequest (AsksRun (string_bytes c.args.program) (options_of c.args.config.now)) files (Err c.in_err-image.field-0.0) =
-    rejected_ends (AsksRun (string_bytes c.args.program) (options_of c.args.config.now)) (record { name = string_bytes c.args.program; kind = IsProgram }) files FETCH_LIMIT c.in_ok-file.file.items c.in_err-image.field-0.0 refl (lit< tt) c.in_ok-file.ensures.front (rw c.as_slice.ensures.value at c.in_err-image.ensures.rejected) in
+    rejected_ends (AsksRun (string_bytes c.args.program) (options_of c.args.config.now))
+    (record { name = string_bytes c.args.program; kind = IsProgram }) files FETCH_LIMIT c.in_ok-file.file.items c.in_err-image.field-0.0
+    refl (lit< tt) c.in_ok-file.ensures.front (rw c.as_slice.ensures.value at c.in_err-image.ensures.rejected) in
     search rules
 
 pub returns-in-Ok-clause-ends : goal.returns-in-Ok-clause-ends
@@ -29,7 +32,9 @@ returns-in-Ok-clause-ends g c =
     record {
       file = c.in_ok-file.file.items;
       config = c.args.config.now;
-      is_file = program_file (g.F.Files.view c.args.files.now).told FETCH_LIMIT (string_bytes c.args.program) c.in_ok-file.file.items (lit< tt) c.in_ok-file.ensures.front loads.accepted;
+      is_file =
+          program_file (g.F.Files.view c.args.files.now).told FETCH_LIMIT (string_bytes c.args.program) c.in_ok-file.file.items (lit< tt)
+          c.in_ok-file.ensures.front loads.accepted;
       given = refl;
       report = rw c.as_slice-2.ensures.value at c.in-Ok.ensures;
     }

@@ -8,7 +8,8 @@ returns-in_err-put g c = and_stop _ c.in_err-put.ensures c.from_residual.ensures
 
 pub returns-in_err-put_fault_words : goal.returns-in_err-put_fault_words
 unfolding fault_line
-returns-in_err-put_fault_words g c = and_then c.in_ok-put.ensures (and_stop _ c.in_err-put_fault_words.ensures c.from_residual-in_err-put_fault_words.ensures.0)
+returns-in_err-put_fault_words g c =
+    and_then c.in_ok-put.ensures (and_stop _ c.in_err-put_fault_words.ensures c.from_residual-in_err-put_fault_words.ensures.0)
 
 pub returns : goal.returns
 unfolding fault_line

@@ -3,4 +3,5 @@ use Rattle.std.proofs.lemmas.Map.Text.{hash_map_updates_str}
 use Rattle.asm_core.proofs.labels.Labels.add.Goals as goal
 
 pub returns-in-Ok : goal.returns-in-Ok
-returns-in-Ok c = λ other. hash_map_updates_str c.args.name.now c.args.self.now.places c.insert.new.self (Some c.args.place) c.in-Ok.ensures.updates other
+returns-in-Ok c =
+    λ other. hash_map_updates_str c.args.name.now c.args.self.now.places c.insert.new.self (Some c.args.place) c.in-Ok.ensures.updates other

@@ -14,4 +14,6 @@ length_of-requires-2 c = rw c.number-2.ensures (number_in_range Svl (given_of c.
 pub invariant_of-result-clause-budget_in_range : goal.invariant_of-result-clause-budget_in_range
 invariant_of-result-clause-budget_in_range c =
     let in_range = number_in_range Budget (given_of c.args.self.now Budget) (c.requires Budget) in
-    rw c.number-3.ensures (leb-true 1 (unwrap_or (given_of c.args.self.now Budget) 10000000) (and_parts (nat_le 1 (unwrap_or (given_of c.args.self.now Budget) 10000000)) (nat_le (unwrap_or (given_of c.args.self.now Budget) 10000000) 4294967295) in_range).0)
+    rw c.number-3.ensures (leb-true 1 (unwrap_or (given_of c.args.self.now Budget) 10000000)
+    (and_parts (nat_le 1 (unwrap_or (given_of c.args.self.now Budget) 10000000))
+    (nat_le (unwrap_or (given_of c.args.self.now Budget) 10000000) 4294967295) in_range).0)

@@ -10,13 +10,15 @@ use Rattle.kernel_contexts.proofs.guest.GuestThread.make_turn.Goals as goal
 pub returns-then-self-clause-turn : goal.returns-then-self-clause-turn
 returns-then-self-clause-turn c =
     stops_so _ (held_state c.args.self.now) (held_state c.stop_with.new.self) _ c.stop_with.result Budget c.stop_with.ensures.answer
-    (turn_spent c.args.self.now.config c.args.self.now.number 0 (held_state c.args.self.now) c.if-self.true ∙ ap (λ s. Ends s Budget) (sym c.stop_with.ensures.state)) c.stop_with.ensures.stop
+    (turn_spent c.args.self.now.config c.args.self.now.number 0 (held_state c.args.self.now) c.if-self.true
+    ∙ ap (λ s. Ends s Budget) (sym c.stop_with.ensures.state)) c.stop_with.ensures.stop
 
 pub returns-in-Next-clause-turn : goal.returns-in-Next-clause-turn
 returns-in-Next-clause-turn c =
     let vl = vector_bytes c.args.self.now.config.vl in
     let bank = zero_bank c.args.self.now.config.vl c.args.self.now.config.svl in (
-      turn_becomes c.args.self.now.config c.args.self.now.number 0 (held_state c.args.self.now) _ c.if-self.false (c.in-Next.ensures.effect vl bank) ∙ ap Goes (sym c.count_turn.ensures.state),
+      turn_becomes c.args.self.now.config c.args.self.now.number 0 (held_state c.args.self.now) _ c.if-self.false
+          (c.in-Next.ensures.effect vl bank) ∙ ap Goes (sym c.count_turn.ensures.state),
       c.count_turn.ensures.stop ∙ c.requires,
     )
 
@@ -25,7 +27,8 @@ returns-in-Call-clause-turn c =
     let vl = vector_bytes c.args.self.now.config.vl in
     let bank = zero_bank c.args.self.now.config.vl c.args.self.now.config.svl in
     let h = c.in-Call.ensures.effect vl bank in
-    turns_from _ _ _ (held_state c.args.self.now) (held_state c.call.new.self) _ c.call.result (turn_calls c.args.self.now.config c.args.self.now.number 0 (held_state c.args.self.now) _ _ c.if-self.false h.0 h.1)
+    turns_from _ _ _ (held_state c.args.self.now) (held_state c.call.new.self) _ c.call.result
+    (turn_calls c.args.self.now.config c.args.self.now.number 0 (held_state c.args.self.now) _ _ c.if-self.false h.0 h.1)
     (ap (λ core. record (held_state c.args.self.now) { core = core }) h.1) c.call.ensures.turn
 
 pub returns-in-Raise-clause-turn : goal.returns-in-Raise-clause-turn
@@ -33,8 +36,10 @@ returns-in-Raise-clause-turn c =
     let vl = vector_bytes c.args.self.now.config.vl in
     let bank = zero_bank c.args.self.now.config.vl c.args.self.now.config.svl in
     let h = c.in-Raise.ensures.effect vl bank in
-    stops_so _ (held_state c.args.self.now) (held_state c.stop_with-in-Raise.new.self) _ c.stop_with-in-Raise.result _ c.stop_with-in-Raise.ensures.answer
-    (turn_raises c.args.self.now.config c.args.self.now.number 0 (held_state c.args.self.now) _ _ c.if-self.false h.0 h.1 ∙ ap (λ s. Ends s (Raised c.in-Raise.exception c.step.new.self.scalars.pc)) (sym c.stop_with-in-Raise.ensures.state))
+    stops_so _ (held_state c.args.self.now) (held_state c.stop_with-in-Raise.new.self) _ c.stop_with-in-Raise.result _
+    c.stop_with-in-Raise.ensures.answer
+    (turn_raises c.args.self.now.config c.args.self.now.number 0 (held_state c.args.self.now) _ _ c.if-self.false h.0 h.1
+    ∙ ap (λ s. Ends s (Raised c.in-Raise.exception c.step.new.self.scalars.pc)) (sym c.stop_with-in-Raise.ensures.state))
     c.stop_with-in-Raise.ensures.stop
 
 pub returns-in-Memory-clause-turn : goal.returns-in-Memory-clause-turn

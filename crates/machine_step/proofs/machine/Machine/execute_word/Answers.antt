@@ -7,12 +7,14 @@ use Rattle.machine_step.proofs.machine.Machine.execute_word.Goals as goal
 pub returns-in-Some-clause-effect : goal.returns-in-Some-clause-effect
 unfolding instruction_of
 returns-in-Some-clause-effect c vl bank =
-    let is : instruction_of c.args.word ≡ Some c.in-Some.insn = ap (λ o. option_or o (vector_meaning_of c.args.word)) (sym c.decode_scalar.ensures.value ∙ c.in-Some.is) in
+    let is : instruction_of c.args.word ≡ Some c.in-Some.insn =
+    ap (λ o. option_or o (vector_meaning_of c.args.word)) (sym c.decode_scalar.ensures.value ∙ c.in-Some.is) in
     rw is (c.execute.ensures.effect vl bank)
 
 pub returns-in-Some-decode_vector-clause-effect : goal.returns-in-Some-decode_vector-clause-effect
 unfolding instruction_of
 returns-in-Some-decode_vector-clause-effect c vl bank =
     let is : instruction_of c.args.word ≡ Some c.in-Some-decode_vector.insn =
-    ap (λ o. option_or o (vector_meaning_of c.args.word)) (sym c.decode_scalar.ensures.value ∙ c.in-None.is) ∙ sym c.decode_vector.ensures.value ∙ c.in-Some-decode_vector.is in
+    ap (λ o. option_or o (vector_meaning_of c.args.word)) (sym c.decode_scalar.ensures.value ∙ c.in-None.is)
+    ∙ sym c.decode_vector.ensures.value ∙ c.in-Some-decode_vector.is in
     rw is (c.execute-in-Some-decode_vector.ensures.effect vl bank)

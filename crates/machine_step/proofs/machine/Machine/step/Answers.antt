@@ -8,6 +8,8 @@ use Rattle.machine_step.proofs.Answers.{effect_of_word}
 
 pub returns-clause-effect : goal.returns-clause-effect
 returns-clause-effect c vl bank =
-    let is : effect_of vl (core_of c.args.self.now bank) ≡ effect_of_meaning c.in-Some.word (instruction_of c.in-Some.word) vl (core_of c.args.self.now bank) =
-    effect_of_word vl (core_of c.args.self.now bank) c.in-Some.word (instruction_of c.in-Some.word) c.if-pc-ne0.false (sym c.fetch.ensures ∙ c.in-Some.is) refl in
+    let is : effect_of vl (core_of c.args.self.now bank)
+    ≡ effect_of_meaning c.in-Some.word (instruction_of c.in-Some.word) vl (core_of c.args.self.now bank) =
+    effect_of_word vl (core_of c.args.self.now bank) c.in-Some.word (instruction_of c.in-Some.word) c.if-pc-ne0.false
+    (sym c.fetch.ensures ∙ c.in-Some.is) refl in
     rw is (c.execute_word.ensures.effect vl bank)

@@ -7,4 +7,5 @@ pub returns-clause-value : goal.returns-clause-value
 returns-clause-value c = rw (len-perm_of _ _ c.self.invariant.0 (ap (λ t. t.memory) c.self.view_is)) (omega arith)
 
 pub returns-clause-whole : goal.returns-clause-whole
-returns-clause-whole c = whole_memory c.self.inside.pages.items c.args.self.now.memory c.self.invariant.0 (ap (λ t. t.memory) c.self.view_is)
+returns-clause-whole c =
+    whole_memory c.self.inside.pages.items c.args.self.now.memory c.self.invariant.0 (ap (λ t. t.memory) c.self.view_is)
