@@ -197,3 +197,4 @@ forth (insn.System (system.Dmb option)) = λ u s a h i. insn.System (system.Dmb 
 forth (insn.System (system.Dsb option)) = λ u s a h i. insn.System (system.Dsb (cuts 8 (u CRM) option a.0 h.0 i))
 forth (insn.System (system.Isb option)) = λ u s a h i. insn.System (system.Isb (cuts 8 (u CRM) option a.0 h.0 i))
 forth (insn.SystemMove x) = λ u s a h i. insn.SystemMove (record { op = x.op; register = x.register; rt = cuts 8 (u RT) x.rt a.0 h.0 i })
+forth other = tt

@@ -238,3 +238,4 @@ in_line (insn.Atomic (atomic.Update op size acquire release rs rn rt)) h =
 in_line (insn.System (system.Svc imm)) h = made _ _ refl (low h & refl) (λ u s a. refl)
 in_line (insn.System _) h = made _ _ refl (low h & refl) (λ u s a. refl)
 in_line (insn.SystemMove x) h = made _ _ refl (low h & refl) (λ u s a. refl)
+in_line other h = absurd h

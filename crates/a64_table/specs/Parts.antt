@@ -136,6 +136,7 @@ shifted_numbers x = x.rm ∷ shift_number x.shift ∷ x.amount ∷ []
 abbrev pub extended_numbers : ExtendedRegister → List ℕ
 extended_numbers x = x.rm ∷ extend_number x.extend ∷ x.amount ∷ []
 
+-- none of a vector instruction
 unfoldable pub parts_of : Insn → Option (Parts Operation)
 parts_of (insn.AddSubImmediate x) =
     says (G1 x.op)
@@ -169,3 +170,4 @@ parts_of (insn.LoadStorePair x) =
 parts_of (insn.Atomic x) = atomic_parts x
 parts_of (insn.System x) = system_parts x
 parts_of (insn.SystemMove x) = says (G23 x.op x.register) (Unsigned x.rt ∷ [])
+parts_of other = None

@@ -229,7 +229,7 @@ IsSystem (Dmb option) = option < 2 ^ 4
 IsSystem (Dsb option) = option < 2 ^ 4
 IsSystem (Isb option) = option < 2 ^ 4
 
--- the fields are in the ranges that a row of the table gives them
+-- the fields are in the ranges that a row of the table gives them; a vector instruction has no row here
 abbrev pub IsInRow : Insn → Type 0
 IsInRow (insn.AddSubImmediate it) = IsAddSubImmediate it
 IsInRow (insn.AddSubRegister it) = IsAddSubRegister it
@@ -254,3 +254,4 @@ IsInRow (insn.LoadStorePair it) = IsLoadStorePair it
 IsInRow (insn.Atomic it) = IsAtomic it
 IsInRow (insn.System it) = IsSystem it
 IsInRow (insn.SystemMove it) = it.rt < 32
+IsInRow other = ⊥

@@ -40,7 +40,7 @@ fn wide_count(it: u16) -> Number
 }
 
 /// The operation of an instruction, and the numbers of its row's fields in the order of the row; `None` for a
-/// doubleword that is reversed at 32 bits.
+/// doubleword that is reversed at 32 bits, and for a vector instruction.
 pub fn parts_of(insn: &Insn) -> Option<Parts<Operation>>
     ensures { result ≡ parts_of insn.now }
 {
@@ -79,6 +79,28 @@ pub fn parts_of(insn: &Insn) -> Option<Parts<Operation>>
         Insn::Atomic(x) => atomic_parts(x),
         Insn::System(x) => system_parts(x),
         Insn::SystemMove(x) => says!(G23(x.op, x.register); count(x.rt)),
+        Insn::VectorArithmetic(_)
+        | Insn::VectorLogical(_)
+        | Insn::PredicatedBinary(_)
+        | Insn::MultiplyAdd(_)
+        | Insn::PredicatedUnary(_)
+        | Insn::VectorShift(_)
+        | Insn::VectorCopy(_)
+        | Insn::VectorPermute(_)
+        | Insn::VectorReduction(_)
+        | Insn::VectorCompare(_)
+        | Insn::Predicate(_)
+        | Insn::PredicateCount(_)
+        | Insn::ElementCount(_)
+        | Insn::VectorAccess(_)
+        | Insn::Sve2(_)
+        | Insn::Mode(_)
+        | Insn::ArrayAccess(_)
+        | Insn::TileAccess(_)
+        | Insn::TileMove(_)
+        | Insn::TileAdd(_)
+        | Insn::OuterProduct(_)
+        | Insn::StreamingLength(_) => None,
     }
 }
 

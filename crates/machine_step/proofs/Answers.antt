@@ -47,12 +47,7 @@ scalar_effect word vl (insn.ConditionalCompare x) s h = refl
 scalar_effect word vl (insn.OneSource x) s h = refl
 scalar_effect word vl (insn.TwoSource x) s h = refl
 scalar_effect word vl (insn.Multiply x) s h = refl
-scalar_effect word vl (insn.LoadStore x) s h = cc
-scalar_effect word vl (insn.LoadLiteral x) s h = cc
-scalar_effect word vl (insn.LoadStorePair x) s h = cc
-scalar_effect word vl (insn.Atomic x) s h = cc
-scalar_effect word vl (insn.System x) s h = cc
-scalar_effect word vl (insn.SystemMove x) s h = cc
+scalar_effect word vl other s h = cc
 
 -- a move of a system register that is executed
 pub move_effect : (word vl : ℕ) (x : SystemMove) (s : ProcessorState) → is_executed_register x.register ≡ true
@@ -101,22 +96,4 @@ access_effect word vl (insn.LoadStore x) s h none = ap (λ f. unless_raised f (n
 access_effect word vl (insn.LoadLiteral x) s h none = ap (λ f. unless_raised f (next_of vl (insn.LoadLiteral x) s)) none
 access_effect word vl (insn.LoadStorePair x) s h none = ap (λ f. unless_raised f (next_of vl (insn.LoadStorePair x) s)) none
 access_effect word vl (insn.Atomic x) s h none = ap (λ f. unless_raised f (next_of vl (insn.Atomic x) s)) none
-access_effect word vl (insn.AddSubImmediate x) s h none = cc
-access_effect word vl (insn.AddSubRegister x) s h none = cc
-access_effect word vl (insn.LogicalRegister x) s h none = cc
-access_effect word vl (insn.AddSubExtended x) s h none = cc
-access_effect word vl (insn.LogicalImmediate x) s h none = cc
-access_effect word vl (insn.MoveWide x) s h none = cc
-access_effect word vl (insn.BitfieldMove x) s h none = cc
-access_effect word vl (insn.Extract x) s h none = cc
-access_effect word vl (insn.PcRelative x) s h none = cc
-access_effect word vl (insn.Branch x) s h none = cc
-access_effect word vl (insn.BranchRegister x) s h none = cc
-access_effect word vl (insn.AddSubCarry x) s h none = cc
-access_effect word vl (insn.ConditionalSelect x) s h none = cc
-access_effect word vl (insn.ConditionalCompare x) s h none = cc
-access_effect word vl (insn.OneSource x) s h none = cc
-access_effect word vl (insn.TwoSource x) s h none = cc
-access_effect word vl (insn.Multiply x) s h none = cc
-access_effect word vl (insn.System x) s h none = cc
-access_effect word vl (insn.SystemMove x) s h none = cc
+access_effect word vl other s h none = cc

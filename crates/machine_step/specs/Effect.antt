@@ -44,7 +44,7 @@ is_executed_register TpidrEl0 = true
 is_executed_register Tpidr2El0 = true
 is_executed_register Svcr = false
 
--- the instructions that are executed
+-- the instructions that are executed; those of vectors are not yet
 abbrev pub is_executed : Insn → Bool
 is_executed (insn.System x) = is_executed_system x
 is_executed (insn.SystemMove x) = is_executed_register x.register
@@ -69,6 +69,7 @@ is_executed (insn.LoadStore x) = true
 is_executed (insn.LoadLiteral x) = true
 is_executed (insn.LoadStorePair x) = true
 is_executed (insn.Atomic x) = true
+is_executed other = false
 
 -- PC is a multiple of 4
 abbrev pub alignment_fault : ProcessorState → Option Exception
@@ -158,6 +159,7 @@ next_of vl (insn.ConditionalCompare x) s = Becomes (computed (insn.ConditionalCo
 next_of vl (insn.OneSource x) s = Becomes (computed (insn.OneSource x) s)
 next_of vl (insn.TwoSource x) s = Becomes (computed (insn.TwoSource x) s)
 next_of vl (insn.Multiply x) s = Becomes (computed (insn.Multiply x) s)
+next_of vl other s = Becomes s
 
 -- where there is no fault there is an instruction
 abbrev pub perform : ℕ → Option Insn → ProcessorState → Effect

@@ -34,12 +34,7 @@ is_scalar (insn.ConditionalCompare x) = true
 is_scalar (insn.OneSource x) = true
 is_scalar (insn.TwoSource x) = true
 is_scalar (insn.Multiply x) = true
-is_scalar (insn.LoadStore x) = false
-is_scalar (insn.LoadLiteral x) = false
-is_scalar (insn.LoadStorePair x) = false
-is_scalar (insn.Atomic x) = false
-is_scalar (insn.System x) = false
-is_scalar (insn.SystemMove x) = false
+is_scalar other = false
 
 -- the registers after such an instruction; no other changes them here
 unfoldable pub scalar_step : Insn → Scalars → Scalars
@@ -60,12 +55,7 @@ scalar_step (insn.ConditionalCompare x) s = past (conditional_compare x s)
 scalar_step (insn.OneSource x) s = past (one_source x s)
 scalar_step (insn.TwoSource x) s = past (two_source x s)
 scalar_step (insn.Multiply x) s = past (multiply x s)
-scalar_step (insn.LoadStore x) s = s
-scalar_step (insn.LoadLiteral x) s = s
-scalar_step (insn.LoadStorePair x) s = s
-scalar_step (insn.Atomic x) s = s
-scalar_step (insn.System x) s = s
-scalar_step (insn.SystemMove x) s = s
+scalar_step other s = s
 
 -- the registers, with PC moved as the flow says
 unfoldable pub flowed : Scalars → Flow → Scalars

@@ -1,6 +1,14 @@
 //! Instructions: one variant for each group of the table, with the group's operation and fields.
 //!
 //! Registers are their numbers, 0 to 31; what number 31 is, the zero register or SP, is the group's affair.
+use crate::matrix::{
+    ArrayAccess, Mode, OuterProduct, StreamingLength, TileAccess, TileAdd, TileMove,
+};
+use crate::vector::{
+    ElementCount, MultiplyAdd, Predicate, PredicateCount, PredicatedBinary, PredicatedUnary, Sve2,
+    VectorAccess, VectorArithmetic, VectorCompare, VectorCopy, VectorLogical, VectorPermute,
+    VectorReduction, VectorShift,
+};
 
 /// The conditions (DDI 0487, C1.2.4), in the order of their encoding.
 #[derive(Clone, Copy, PartialEq, Eq)]
@@ -630,4 +638,26 @@ pub enum Insn {
     Atomic(Atomic),
     System(System),
     SystemMove(SystemMove),
+    VectorArithmetic(VectorArithmetic),
+    VectorLogical(VectorLogical),
+    PredicatedBinary(PredicatedBinary),
+    MultiplyAdd(MultiplyAdd),
+    PredicatedUnary(PredicatedUnary),
+    VectorShift(VectorShift),
+    VectorCopy(VectorCopy),
+    VectorPermute(VectorPermute),
+    VectorReduction(VectorReduction),
+    VectorCompare(VectorCompare),
+    Predicate(Predicate),
+    PredicateCount(PredicateCount),
+    ElementCount(ElementCount),
+    VectorAccess(VectorAccess),
+    Sve2(Sve2),
+    Mode(Mode),
+    ArrayAccess(ArrayAccess),
+    TileAccess(TileAccess),
+    TileMove(TileMove),
+    TileAdd(TileAdd),
+    OuterProduct(OuterProduct),
+    StreamingLength(StreamingLength),
 }
