@@ -1,3 +1,5 @@
+pub mod Checks
 pub mod Groups
+pub mod HasLine
 pub mod NoRows
 pub mod Numbers
