@@ -3,3 +3,4 @@ pub mod Groups
 pub mod HasLine
 pub mod NoRows
 pub mod Numbers
+pub mod Ranged
