@@ -204,12 +204,32 @@ remade_shift x Q e = tt
 remade_move : (x : TileMove) (to_tile : Bool) → x.to_tile ≡ to_tile → IsRemade (insn.TileMove x) (move_parts x to_tile)
 unfolding eight slots kept are_kept move_parts slice_numbers named named_slice moved_slice moved_vector padded
 remade_move x true e = λ u s k.
-    (λ i. insn.TileMove (record { to_tile = true; slice = record { size = x.slice.size; vertical = one _ x.slice.vertical k.1.0 i;
-      rv = from_is 12 2 _ x.slice.rv k.1.1.0 i; tile = k.0 i; offset = k.1.1.1.0 i }; pg = k.1.1.1.1.0 i; z = k.1.1.1.1.1.0 i }))
+    (λ i. insn.TileMove (record {
+      to_tile = true;
+      slice = record {
+        size = x.slice.size;
+        vertical = one _ x.slice.vertical k.1.0 i;
+        rv = from_is 12 2 _ x.slice.rv k.1.1.0 i;
+        tile = k.0 i;
+        offset = k.1.1.1.0 i;
+      };
+      pg = k.1.1.1.1.0 i;
+      z = k.1.1.1.1.1.0 i;
+    }))
     ∙ ap (λ y. insn.TileMove (record x { to_tile = y })) (sym e)
 remade_move x false e = λ u s k.
-    (λ i. insn.TileMove (record { to_tile = false; slice = record { size = x.slice.size; vertical = one _ x.slice.vertical k.1.1.1.0 i;
-      rv = from_is 12 2 _ x.slice.rv k.1.1.1.1.0 i; tile = k.1.1.0 i; offset = k.1.1.1.1.1.0 i }; pg = k.1.0 i; z = k.0 i }))
+    (λ i. insn.TileMove (record {
+      to_tile = false;
+      slice = record {
+        size = x.slice.size;
+        vertical = one _ x.slice.vertical k.1.1.1.0 i;
+        rv = from_is 12 2 _ x.slice.rv k.1.1.1.1.0 i;
+        tile = k.1.1.0 i;
+        offset = k.1.1.1.1.1.0 i;
+      };
+      pg = k.1.0 i;
+      z = k.0 i;
+    }))
     ∙ ap (λ y. insn.TileMove (record x { to_tile = y })) (sym e)
 
 pub forth : (it : Insn) → IsRemade it (parts_of it)
@@ -323,13 +343,31 @@ forth (insn.StreamingLength (streaming.AddLength predicate imm rn rd)) = λ u s 
 forth (insn.VectorShift x) = remade_shift x x.size refl
 forth (insn.Mode x) = λ u s k. refl
 forth (insn.TileAccess x) = λ u s k i.
-    insn.TileAccess (record { store = x.store; slice = record { size = x.slice.size; vertical = one _ x.slice.vertical k.1.0 i;
-      rv = from_is 12 2 _ x.slice.rv k.1.1.0 i; tile = k.0 i; offset = k.1.1.1.0 i }; pg = k.1.1.1.1.0 i; rm = k.1.1.1.1.1.1.0 i;
-      rn = k.1.1.1.1.1.0 i })
+    insn.TileAccess (record {
+      store = x.store;
+      slice = record {
+        size = x.slice.size;
+        vertical = one _ x.slice.vertical k.1.0 i;
+        rv = from_is 12 2 _ x.slice.rv k.1.1.0 i;
+        tile = k.0 i;
+        offset = k.1.1.1.0 i;
+      };
+      pg = k.1.1.1.1.0 i;
+      rm = k.1.1.1.1.1.1.0 i;
+      rn = k.1.1.1.1.1.0 i;
+    })
 forth (insn.TileMove x) = remade_move x x.to_tile refl
 forth (insn.TileAdd x) = λ u s k i.
     insn.TileAdd (record { vertical = x.vertical; wide = x.wide; tile = k.0 i; pn = k.1.0 i; pm = k.1.1.0 i; zn = k.1.1.1.0 i })
 forth (insn.OuterProduct x) = λ u s k i.
-    insn.OuterProduct (record { op = x.op; subtract = one _ x.subtract k.0 i; wide = x.wide; tile = k.1.0 i; pn = k.1.1.0 i;
-      pm = k.1.1.1.0 i; zn = k.1.1.1.1.0 i; zm = k.1.1.1.1.1.0 i })
+    insn.OuterProduct (record {
+      op = x.op;
+      subtract = one _ x.subtract k.0 i;
+      wide = x.wide;
+      tile = k.1.0 i;
+      pn = k.1.1.0 i;
+      pm = k.1.1.1.0 i;
+      zn = k.1.1.1.1.0 i;
+      zm = k.1.1.1.1.1.0 i;
+    })
 forth _ = tt
