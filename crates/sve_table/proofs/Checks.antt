@@ -1,5 +1,6 @@
 -- The finite checks of the table, and its laws.
-use Rattle.std.proofs.Common.{◌≡◌, ℕ, suc, ◌==◌, not, Bool, true, false, cond, refl, sym, ap, ◌∙◌, eq-eqb, bit_and, List, [], ◌∷◌, slice_get, Option, Some, None, subst}
+use Rattle.std.proofs.Common.{◌≡◌, ℕ, suc, ◌==◌, not, Bool, true, false, cond, refl, sym, ap, ◌∙◌, eq-eqb, bit_and, List, [], ◌∷◌}
+use Rattle.std.proofs.Common.{slice_get, Option, Some, None, subst}
 use Rattle.std.specs.List.{list_all}
 use Rattle.std.specs.Prelude.{option_map}
 use Rattle.std.proofs.lemmas.Bool.{both_ways}
@@ -60,7 +61,8 @@ unfoldable unlike : Row → Row → Bool
 unlike r s = not (number_of r.operation == number_of s.operation)
 
 all_unlike : pairwise unlike LINES ≡ true
-unfolding pairwise unlike number_of copy_number permute_number reduction_number compare_number predicate_number count_number element_number access_number sve2_number array_number streaming_number
+unfolding pairwise unlike number_of copy_number permute_number reduction_number compare_number predicate_number count_number element_number
+    access_number sve2_number array_number streaming_number
 all_unlike = refl
 
 never_alike : (op : VectorOperation) (r s : Row) → unlike r s ≡ true → r.operation ≡ op → s.operation ≡ op → ⊥
@@ -76,7 +78,8 @@ place_in n [] = 0
 place_in n (r ∷ rs) = cond (number_of r.operation == n) 0 (suc (place_in n rs))
 
 listed : (op : VectorOperation) → option_map (λ (r : Row). r.operation) (slice_get LINES (place_in (number_of op) LINES)) ≡ Some op
-unfolding place_in number_of copy_number permute_number reduction_number compare_number predicate_number count_number element_number access_number sve2_number array_number streaming_number
+unfolding place_in number_of copy_number permute_number reduction_number compare_number predicate_number count_number element_number
+    access_number sve2_number array_number streaming_number
 listed (G24 arithmetic.Add) = refl
 listed (G25 logical.And) = refl
 listed (G26 binary.Add) = refl
@@ -128,7 +131,8 @@ listed _ = refl
 
 -- two operations of one number are one
 pub same_operation : (a b : VectorOperation) → number_of a ≡ number_of b → a ≡ b
-same_operation a b e = some_is (sym (listed a) ∙ ap (λ n. option_map (λ (r : Row). r.operation) (slice_get LINES (place_in n LINES))) e ∙ listed b)
+same_operation a b e =
+    some_is (sym (listed a) ∙ ap (λ n. option_map (λ (r : Row). r.operation) (slice_get LINES (place_in n LINES))) e ∙ listed b)
 
 pub record HasRow (op : VectorOperation) : Type 0 where
   pub place : ℕ
@@ -139,9 +143,12 @@ pub record HasRow (op : VectorOperation) : Type 0 where
 pub has_row : (op : VectorOperation) → HasRow op
 has_row op = go (slice_get LINES (place_in (number_of op) LINES)) refl (listed op)
   where
-    go : (found : Option Row) → slice_get LINES (place_in (number_of op) LINES) ≡ found → option_map (λ (r : Row). r.operation) found ≡ Some op → HasRow op
+    go : (found : Option Row) → slice_get LINES (place_in (number_of op) LINES) ≡ found
+        → option_map (λ (r : Row). r.operation) found ≡ Some op → HasRow op
     go None e f = cc
-    go (Some row) e f = let same : row.operation ≡ op = cc in record { place = place_in (number_of op) LINES; row = row; listed = e; same = same }
+    go (Some row) e f =
+        let same : row.operation ≡ op = cc in
+        record { place = place_in (number_of op) LINES; row = row; listed = e; same = same }
 
 -- ---- the rows are forms, and their fields are as narrow as what is taken of them
 all_forms : list_all (λ (r : Row). is_form r.mask r.value (list_of r.fields)) LINES ≡ true
@@ -159,7 +166,9 @@ unfolding list_of same_fields same_field format slots eight kept field_of_slot t
 all_formats = refl
 
 pub row-format : (i : ℕ) (r : Row) → slice_get LINES i ≡ Some r → list_of r.fields ≡ format r.operation
-row-format i r g = one_list (list_of r.fields) (format r.operation) (all-get (λ (r : Row). same_fields (list_of r.fields) (format r.operation)) LINES i r all_formats g)
+row-format i r g =
+    one_list (list_of r.fields) (format r.operation)
+    (all-get (λ (r : Row). same_fields (list_of r.fields) (format r.operation)) LINES i r all_formats g)
 
 -- ---- no two rows have the same fixed bits
 pub all_unequal : pairwise unequal LINES ≡ true
@@ -178,7 +187,8 @@ never_both : (word : ℕ) (r s : Row) → apart r s ≡ true → bit_and word r.
 unfolding apart
 never_both word r s e m n = not_alike word r.mask r.value s.mask s.value e m n
 
-pub one_match : (word i j : ℕ) (r s : Row) → slice_get LINES i ≡ Some r → slice_get LINES j ≡ Some s → bit_and word r.mask ≡ r.value → bit_and word s.mask ≡ s.value → i ≡ j
+pub one_match : (word i j : ℕ) (r s : Row) → slice_get LINES i ≡ Some r → slice_get LINES j ≡ Some s → bit_and word r.mask ≡ r.value
+    → bit_and word s.mask ≡ s.value → i ≡ j
 one_match word i j r s f g m n = one_place apart (λ x. bit_and word x.mask ≡ x.value) (never_both word) LINES all_apart i j r s f g m n
 
 pub one_row : (word : ℕ) → HasAtMostOneLine full word
@@ -187,7 +197,8 @@ one_row word i j r s f g m n d e = one_match word i j r s f g m n
 
 -- ---- the table meets what is asked of a table
 one_operation : (i j : ℕ) (r s : Row) → slice_get LINES i ≡ Some r → slice_get LINES j ≡ Some s → r.operation ≡ s.operation → i ≡ j
-one_operation i j r s f g e = one_place unlike (λ x. x.operation ≡ s.operation) (never_alike s.operation) LINES all_unlike i j r s f g e refl
+one_operation i j r s f g e =
+    one_place unlike (λ x. x.operation ≡ s.operation) (never_alike s.operation) LINES all_unlike i j r s f g e refl
 
 pub is_table : IsTable full parts_of
 unfolding full format takes

@@ -4,7 +4,7 @@ use Rattle.insn_forms.specs.declared.field.Field.{Field}
 use Rattle.insn_forms.specs.declared.number.Parts.{Parts}
 use Rattle.insn_forms.specs.Forms.{padded}
 use Rattle.insn_forms.proofs.Laws.{Take, taken, are_small}
-use Rattle.insn_forms.proofs.Ways.{Slot, flag, cut, code, signed, take_of, field_of_slot, takes_of, fields_of, pass, eight, passed}
+use Rattle.insn_forms.proofs.Ways.{Slot, flag, cut, code, signed, takes_of, fields_of, pass, eight, passed}
 use Rattle.insn_forms.proofs.Ways.{are_kept, one}
 use Rattle.sm_types.specs.declared.insn.Insn.{Insn}
 use Rattle.sm_types.specs.declared.insn.Insn.TheVariants as insn
@@ -155,7 +155,10 @@ format op = fields_of (slots op)
 -- an instruction tells what it was made of
 computes : (op : VectorOperation) (u : Field → ℕ) (s : Field → ℤ)
     → parts_of (named op u s) ≡ Some (record { operation = op; numbers = pass (slots op) u s })
-unfolding eight slots kept pass shift_elem shift_width amount_field named_copy named_permute named_reduction named_compare named_predicate named_count named_element named_access named_sve2 named_array named_streaming named_slice moved_slice moved_vector named copy_parts permute_parts reduction_parts compare_parts predicate_parts count_parts element_parts access_parts sve2_parts array_parts streaming_parts shift_parts slice_numbers move_parts parts_of padded
+unfolding eight slots kept pass shift_elem shift_width amount_field named_copy named_permute named_reduction named_compare named_predicate
+    named_count named_element named_access named_sve2 named_array named_streaming named_slice moved_slice moved_vector named copy_parts
+    permute_parts reduction_parts compare_parts predicate_parts count_parts element_parts access_parts sve2_parts array_parts
+    streaming_parts shift_parts slice_numbers move_parts parts_of padded
 computes (G29 op shift.B) u s = refl
 computes (G30 (copy_form.Index false false)) u s = refl
 computes (G30 (copy_form.Index true false)) u s = refl
@@ -233,14 +236,24 @@ remade_move x false e = λ u s k.
     ∙ ap (λ y. insn.TileMove (record x { to_tile = y })) (sym e)
 
 pub forth : (it : Insn) → IsRemade it (parts_of it)
-unfolding eight slots kept are_kept named_copy named_permute named_reduction named_compare named_predicate named_count named_element named_access named_sve2 named_array named_streaming named_slice moved_slice moved_vector named copy_parts permute_parts reduction_parts compare_parts predicate_parts count_parts element_parts access_parts sve2_parts array_parts streaming_parts shift_parts slice_numbers move_parts parts_of padded
+unfolding eight slots kept are_kept named_copy named_permute named_reduction named_compare named_predicate named_count named_element
+    named_access named_sve2 named_array named_streaming named_slice moved_slice moved_vector named copy_parts permute_parts reduction_parts
+    compare_parts predicate_parts count_parts element_parts access_parts sve2_parts array_parts streaming_parts shift_parts slice_numbers
+    move_parts parts_of padded
 forth (insn.VectorArithmetic x) = λ u s k i.
     insn.VectorArithmetic (record { op = x.op; size = elem_is _ x.size k.0 i; zm = k.1.1.1.0 i; zn = k.1.1.0 i; zd = k.1.0 i })
 forth (insn.VectorLogical x) = λ u s k i. insn.VectorLogical (record { op = x.op; zm = k.1.1.0 i; zn = k.1.0 i; zd = k.0 i })
 forth (insn.PredicatedBinary x) = λ u s k i.
     insn.PredicatedBinary (record { op = x.op; size = elem_is _ x.size k.0 i; pg = k.1.1.0 i; zm = k.1.1.1.0 i; zdn = k.1.0 i })
 forth (insn.MultiplyAdd x) = λ u s k i.
-    insn.MultiplyAdd (record { op = x.op; size = elem_is _ x.size k.0 i; pg = k.1.1.0 i; zm = k.1.1.1.1.0 i; zn = k.1.1.1.0 i; zda = k.1.0 i })
+    insn.MultiplyAdd (record {
+      op = x.op;
+      size = elem_is _ x.size k.0 i;
+      pg = k.1.1.0 i;
+      zm = k.1.1.1.1.0 i;
+      zn = k.1.1.1.0 i;
+      zda = k.1.0 i;
+    })
 forth (insn.PredicatedUnary x) = λ u s k i.
     insn.PredicatedUnary (record { op = x.op; size = elem_is _ x.size k.0 i; pg = k.1.1.0 i; zn = k.1.1.1.0 i; zd = k.1.0 i })
 forth (insn.VectorCopy (copy.Register size rn zd)) = λ u s k i. insn.VectorCopy (copy.Register (elem_is _ size k.0 i) (k.1.1.0 i) (k.1.0 i))

@@ -1,8 +1,8 @@
 -- An instruction whose fields are in their ranges is in its row: its numbers are in the row's fields, and meet its
 -- condition.
-use Rattle.std.proofs.Common.{◌≡◌, ℕ, ◌+◌, ◌-◌, ◌<◌, ◌≤◌, ◌^◌, ◌==◌, Bool, true, false, cond, nat_lt, nat_le, refl, sym, ap, ap₂, ◌∙◌}
+use Rattle.std.proofs.Common.{◌≡◌, ℕ, ◌+◌, ◌-◌, ◌<◌, ◌≤◌, ◌^◌, ◌==◌, Bool, true, false, cond, nat_lt, nat_le, refl, ap, ap₂, ◌∙◌}
 use Rattle.std.proofs.Common.{subst, arith, leb-true, le-leb, List, Some, ℤ}
-use Rattle.std.proofs.lemmas.Bool.{lt-ltb, and_parts}
+use Rattle.std.proofs.lemmas.Bool.{and_parts}
 use Rattle.insn_forms.specs.declared.field.Field.{Field}
 use Rattle.insn_forms.specs.declared.number.Parts.{Parts}
 use Rattle.insn_forms.specs.Fields.{bits_of}

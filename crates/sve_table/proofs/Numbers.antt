@@ -1,9 +1,9 @@
 -- The number of what a number stands for is that number.
-use Rattle.std.proofs.Common.{◌≡◌, ℕ, ◌+◌, ◌-◌, ◌<◌, ◌≤◌, ◌^◌, ◌==◌, Bool, true, false, cond, nat_le, refl, ap, ◌∙◌, arith, leb-true, le-leb}
-use Rattle.std.proofs.lemmas.Bool.{leb-false}
+use Rattle.std.proofs.Common.{◌≡◌, ℕ, ◌+◌, ◌-◌, ◌<◌, ◌^◌, Bool, true, false, cond, nat_le, refl, ap, ◌∙◌}
+use Rattle.std.proofs.Common.{arith, leb-true, le-leb}
 use Rattle.insn_forms.proofs.Numbers.{all_below, same_below}
 use Rattle.sm_types.specs.declared.vector as types
-use types.Elem.TheVariants.{B, H, S, D, Q}
+use types.Elem.TheVariants.{Q}
 use types.VectorShiftOp.TheVariants.{Asr, Lsr, Lsl}
 use types.{Elem.Elem, LoadType.LoadType, LoadType.TheVariants.ByteToB, VectorShiftOp.VectorShiftOp}
 use Rattle.sve_table.specs.Values.{elem_number, elem_of, load_type_number, load_type_of, shift_amount}
@@ -31,7 +31,8 @@ load_type_is n _ h = ap load_type_of h.0
 pub from_back : (least bits n : ℕ) → n < 2 ^ bits → number_from least bits (least + n) ≡ n
 unfolding number_from
 from_back least bits n lt =
-    ap (λ b. cond b (least + n - least) (2 ^ bits)) (le-leb least (least + n) (omega arith)) ∙ (let e : least + n - least ≡ n = omega arith in e)
+    ap (λ b. cond b (least + n - least) (2 ^ bits)) (le-leb least (least + n) (omega arith))
+    ∙ (let e : least + n - least ≡ n = omega arith in e)
 
 pub from_is : (least bits n it : ℕ) → (n ≡ number_from least bits it) × (n < 2 ^ bits) → least + n ≡ it
 unfolding number_from
@@ -44,7 +45,8 @@ from_is least bits n it h = go (nat_le least it) refl h.0
 -- ---- amounts of shifts
 right_back : (width n : ℕ) → n < width → cond (nat_le (width - n) width) (width - (width - n)) width ≡ n
 right_back width n lt =
-    ap (λ b. cond b (width - (width - n)) width) (le-leb (width - n) width (omega arith)) ∙ (let e : width - (width - n) ≡ n = omega arith in e)
+    ap (λ b. cond b (width - (width - n)) width) (le-leb (width - n) width (omega arith))
+    ∙ (let e : width - (width - n) ≡ n = omega arith in e)
 
 right_is : (width n amount : ℕ) → n ≡ cond (nat_le amount width) (width - amount) width → n < width → width - n ≡ amount
 right_is width n amount h lt = go (nat_le amount width) refl h

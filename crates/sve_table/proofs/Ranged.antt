@@ -1,17 +1,16 @@
 -- The fields of an instruction that a row gives are in their ranges.
-use Rattle.std.proofs.Common.{◌≡◌, ℕ, ◌+◌, ◌-◌, ◌<◌, ◌≤◌, ◌%◌, ◌^◌, ◌&&◌, Bool, true, false, nat_le, nat_lt, refl, sym, ap, ap₂, ◌∙◌, subst}
+use Rattle.std.proofs.Common.{◌≡◌, ℕ, ◌+◌, ◌<◌, ◌%◌, ◌^◌, ◌&&◌, Bool, true, false, nat_le, refl, sym, ap, ◌∙◌, subst}
 use Rattle.std.proofs.Common.{arith, le-leb}
 use Rattle.std.proofs.lemmas.Bool.{ltb-true, and_parts}
-use Rattle.insn_forms.specs.declared.field.Field.{Field}
-use Rattle.insn_forms.specs.Fields.{bits_of, field_in}
+use Rattle.insn_forms.specs.Fields.{field_in}
 use Rattle.insn_forms.specs.Tables.{Means, numbers_in, signed_numbers_in}
 use Rattle.insn_forms.specs.Values.{is_one}
 use Rattle.insn_forms.proofs.Bits.{field_in-lt}
-use Rattle.insn_forms.proofs.Numbers.{◌&◌, low, small, cut_below, signed_ranged}
+use Rattle.insn_forms.proofs.Numbers.{◌&◌, small, cut_below, signed_ranged}
 use Rattle.sm_types.specs.declared.insn.Insn.{Insn}
 use Rattle.sm_types.specs.declared.vector as types
-use types.{Elem.Elem, PredicateLogicalOp.PredicateLogicalOp, PredicateLogicalOp.TheVariants.Sel, ReductionOp.ReductionOp}
-use types.{ReductionOp.TheVariants.Saddv, VectorShiftOp.VectorShiftOp}
+use types.{Elem.Elem, PredicateLogicalOp.TheVariants.Sel, ReductionOp.ReductionOp}
+use types.{VectorShiftOp.VectorShiftOp}
 use types.VectorShiftOp.TheVariants.{Asr, Lsr, Lsl}
 use types.Elem.TheVariants.{B, H, S, D, Q}
 use Rattle.sve_table.specs.declared.fields.TheConstants.{AMOUNT_B, AMOUNT_D, AMOUNT_H, AMOUNT_S, ARRAY_OFFSET, COLUMN_PM, CPY_PG}

@@ -1,7 +1,7 @@
 -- The instruction of an operation, by the names of its fields: n is the number of a field without a sign, and
 -- s in two's complement.
 -- Source: DDI 0487, the encoding diagrams of C8.2 (SVE) and C9.2 (SME) and what their pages decode of them.
-use Rattle.std.specs.Prelude.{ℕ, ◌+◌, Bool, true, false, if◌then◌else◌, ℤ}
+use Rattle.std.specs.Prelude.{ℕ, ◌+◌, Bool, true, false, ℤ}
 use Rattle.sm_types.specs.declared.insn.Insn.{Insn}
 use Rattle.sm_types.specs.declared.insn.Insn.TheVariants as insn
 use Rattle.sm_types.specs.declared.vector as types
@@ -9,8 +9,8 @@ use Rattle.sm_types.specs.declared.matrix as matrix
 use types.{VectorCopy.VectorCopy, VectorPermute.VectorPermute, VectorReduction.VectorReduction}
 use types.{VectorCompare.VectorCompare, Predicate.Predicate, PredicateCount.PredicateCount}
 use types.{ElementCount.ElementCount, VectorAccess.VectorAccess, Sve2.Sve2, Elem.Elem}
-use types.{PredicateLogicalOp.TheVariants.Sel, IndexPart.IndexPart}
-use types.Elem.TheVariants.{B, H, S, D, Q}
+use types.{PredicateLogicalOp.TheVariants.Sel}
+use types.Elem.TheVariants.{B, H, S, D}
 use types.IndexPart.TheVariants as part
 use types.VectorOffset.TheVariants as vector_offset
 use matrix.{ArrayAccess.ArrayAccess, StreamingLength.StreamingLength, TileSlice.TileSlice}

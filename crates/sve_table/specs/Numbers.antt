@@ -7,8 +7,8 @@ use Rattle.sm_types.specs.contracts.matrix as matrix_enums
 use Rattle.sve_table.specs.contracts.operation as operations
 use Rattle.sve_table.specs.declared.operation as variants
 use variants.VectorOperation.{VectorOperation}
-use variants.VectorOperation.TheVariants.{G24, G25, G26, G27, G28, G29, G30, G31, G32, G33, G34, G35, G36, G37}
-use variants.VectorOperation.TheVariants.{G38, G39, G40, G41, G42, G43, G44, G45}
+use variants.VectorOperation.TheVariants.{G24, G25, G26, G27, G28, G29, G30, G31, G32, G33, G34, G35, G36}
+use variants.VectorOperation.TheVariants.{G37, G38, G39, G40, G41, G42, G43, G44, G45}
 use variants.CopyForm.{CopyForm}
 use variants.CopyForm.TheVariants as copy
 use variants.PermuteForm.{PermuteForm}

@@ -51,8 +51,7 @@ use Rattle.sve_table.specs.Values.{elem_number, load_type_number}
 abbrev pub says : VectorOperation → List Number → Option (Parts VectorOperation)
 says op ns = Some (record { operation = op; numbers = padded 8 ns })
 
--- the number in a field of so many bits from which what is at least `least` is counted; else one that the field
--- cannot have
+-- the number in a field of so many bits that counts from `least` on; below it, one that the field cannot have
 unfoldable pub number_from : ℕ → ℕ → ℕ → ℕ
 number_from least bits it = if nat_le least it then it - least else 2 ^ bits
 

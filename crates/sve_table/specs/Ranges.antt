@@ -1,6 +1,6 @@
 -- The ranges of a vector instruction's fields: those that a row of the table gives them, and no others.
--- Source: DDI 0487, C8.2 and C9.2: the widths of the fields of each instruction's encoding, and the values that
--- have none.
+-- Source: DDI 0487, C8.2 and C9.2: the widths of the fields of each instruction's encoding, and the values
+-- that have none.
 use Rattle.std.specs.Prelude.{◌≡◌, ℕ, ◌<◌, ◌≤◌, ◌^◌, Bool, true, false, IsTrue}
 use Rattle.sm_types.specs.declared.insn.Insn.{Insn}
 use Rattle.sm_types.specs.declared.insn.Insn.TheVariants as insn

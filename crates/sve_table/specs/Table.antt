@@ -1,5 +1,5 @@
--- The tables of the vector instructions, and what a word means by them: `full` has all rows, `vector` those whose
--- instructions have a text and an effect, of which there are none.
+-- The tables of the vector instructions, and what a word means by them: `full` has all rows, `vector` those
+-- whose instructions have a text and an effect, of which there are none.
 use Rattle.std.specs.Prelude.{ℕ, ℤ, Bool, Option}
 use Rattle.sm_types.specs.declared.insn.Insn.{Insn}
 use Rattle.insn_forms.specs.declared.field.Field.{Field}

@@ -11,12 +11,13 @@ use types.LoadType.TheVariants.{HalfwordToD, SignedHalfwordToD, SignedHalfwordTo
 use types.LoadType.TheVariants.{SignedByteToD, SignedByteToS, SignedByteToH, DoublewordToD}
 use types.{Elem.Elem, LoadType.LoadType, VectorShiftOp.VectorShiftOp, VectorShiftOp.TheVariants.Lsl}
 use Rattle.insn_forms.specs.declared.field.Field.{Field}
-use Rattle.sve_table.specs.declared.fields.TheConstants.{AMOUNT_B, AMOUNT_H, AMOUNT_S, AMOUNT_D, ZADA_S, ZADA_D}
-use Rattle.sve_table.specs.declared.fields.TheConstants.{TILE_B, TILE_H, TILE_S, TILE_D, TILE_Q, OFFSET_B}
-use Rattle.sve_table.specs.declared.fields.TheConstants.{OFFSET_H, OFFSET_S, OFFSET_D, OFFSET_Q, SOURCE_TILE_B}
-use Rattle.sve_table.specs.declared.fields.TheConstants.{SOURCE_TILE_H, SOURCE_TILE_S, SOURCE_TILE_D}
-use Rattle.sve_table.specs.declared.fields.TheConstants.{SOURCE_TILE_Q, SOURCE_OFFSET_B, SOURCE_OFFSET_H}
-use Rattle.sve_table.specs.declared.fields.TheConstants.{SOURCE_OFFSET_S, SOURCE_OFFSET_D, SOURCE_OFFSET_Q}
+use Rattle.sve_table.specs.declared.fields.TheConstants.{AMOUNT_B, AMOUNT_H, AMOUNT_S, AMOUNT_D, ZADA_S}
+use Rattle.sve_table.specs.declared.fields.TheConstants.{ZADA_D, TILE_B, TILE_H, TILE_S, TILE_D, TILE_Q}
+use Rattle.sve_table.specs.declared.fields.TheConstants.{OFFSET_B, OFFSET_H, OFFSET_S, OFFSET_D, OFFSET_Q}
+use Rattle.sve_table.specs.declared.fields.TheConstants.{SOURCE_TILE_B, SOURCE_TILE_H, SOURCE_TILE_S}
+use Rattle.sve_table.specs.declared.fields.TheConstants.{SOURCE_TILE_D, SOURCE_TILE_Q, SOURCE_OFFSET_B}
+use Rattle.sve_table.specs.declared.fields.TheConstants.{SOURCE_OFFSET_H, SOURCE_OFFSET_S, SOURCE_OFFSET_D}
+use Rattle.sve_table.specs.declared.fields.TheConstants.{SOURCE_OFFSET_Q}
 use Rattle.sve_table.specs.declared.operation.ShiftSize.{ShiftSize}
 use Rattle.sve_table.specs.declared.operation.ShiftSize.TheVariants as shift
 

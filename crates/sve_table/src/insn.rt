@@ -15,133 +15,31 @@ ghost use Rattle.sve_table.specs.Values.{source_offset_field, source_tile_field,
 ghost use Rattle.sve_table.specs.Table.{full};
 
 use crate::conditions::condition;
-use crate::fields::AMOUNT_B;
-use crate::fields::AMOUNT_D;
-use crate::fields::AMOUNT_H;
-use crate::fields::AMOUNT_S;
-use crate::fields::ARRAY_OFFSET;
-use crate::fields::COLUMN_PM;
-use crate::fields::CPY_PG;
-use crate::fields::DTYPE;
-use crate::fields::ELEMENT_SIZE;
-use crate::fields::EXT_IMM8;
-use crate::fields::FLAGS;
-use crate::fields::IMM4;
-use crate::fields::IMM5;
-use crate::fields::IMM5B;
-use crate::fields::IMM6;
-use crate::fields::IMM8;
-use crate::fields::IMM9;
-use crate::fields::MEMORY_SIZE;
-use crate::fields::MERGING;
-use crate::fields::OFFSET_B;
-use crate::fields::OFFSET_D;
-use crate::fields::OFFSET_H;
-use crate::fields::OFFSET_Q;
-use crate::fields::OFFSET_S;
-use crate::fields::PATTERN;
-use crate::fields::PD;
-use crate::fields::PG;
-use crate::fields::PG4;
-use crate::fields::PM;
-use crate::fields::PN;
-use crate::fields::PT;
-use crate::fields::RD;
-use crate::fields::RM;
-use crate::fields::RN;
-use crate::fields::RN_HIGH;
-use crate::fields::ROW_PN;
-use crate::fields::SF;
-use crate::fields::SH;
-use crate::fields::SIZE;
-use crate::fields::SOURCE_OFFSET_B;
-use crate::fields::SOURCE_OFFSET_D;
-use crate::fields::SOURCE_OFFSET_H;
-use crate::fields::SOURCE_OFFSET_Q;
-use crate::fields::SOURCE_OFFSET_S;
-use crate::fields::SOURCE_TILE_B;
-use crate::fields::SOURCE_TILE_D;
-use crate::fields::SOURCE_TILE_H;
-use crate::fields::SOURCE_TILE_Q;
-use crate::fields::SOURCE_TILE_S;
-use crate::fields::SUBTRACT;
-use crate::fields::TILE_B;
-use crate::fields::TILE_D;
-use crate::fields::TILE_H;
-use crate::fields::TILE_Q;
-use crate::fields::TILE_S;
-use crate::fields::VD;
-use crate::fields::VERTICAL;
-use crate::fields::ZADA_D;
-use crate::fields::ZADA_S;
-use crate::fields::ZD;
-use crate::fields::ZDA;
-use crate::fields::ZDN;
-use crate::fields::ZERO_MASK;
-use crate::fields::ZK;
-use crate::fields::ZM;
-use crate::fields::ZM_LOW;
-use crate::fields::ZN;
-use crate::fields::ZT;
-use crate::operation::AccessForm;
-use crate::operation::ArrayForm;
-use crate::operation::CompareForm;
-use crate::operation::CopyForm;
-use crate::operation::CountForm;
-use crate::operation::ElementForm;
-use crate::operation::PermuteForm;
-use crate::operation::PredicateForm;
-use crate::operation::ReductionForm;
-use crate::operation::ShiftSize;
-use crate::operation::StreamingForm;
-use crate::operation::Sve2Form;
-use crate::operation::VectorOperation;
-use crate::values::elem_of;
-use crate::values::load_type_of;
-use crate::values::multiplier;
-use crate::values::shift_amount;
-use crate::values::slice_register;
-use insn_forms::Field;
-use insn_forms::byte;
-use insn_forms::field_in;
-use insn_forms::one;
-use insn_forms::signed_number;
-use sm_types::ArrayAccess;
-use sm_types::Elem;
-use sm_types::ElementCount;
-use sm_types::IndexPart;
-use sm_types::Insn;
-use sm_types::Mode;
-use sm_types::MultiplyAdd;
-use sm_types::OuterProduct;
-use sm_types::Predicate;
-use sm_types::PredicateCount;
-use sm_types::PredicateLogicalOp;
-use sm_types::PredicatedBinary;
-use sm_types::PredicatedUnary;
-use sm_types::StreamingLength;
-use sm_types::Sve2;
-use sm_types::TileAccess;
-use sm_types::TileAdd;
-use sm_types::TileMove;
-use sm_types::TileSlice;
-use sm_types::VectorAccess;
-use sm_types::VectorArithmetic;
-use sm_types::VectorCompare;
-use sm_types::VectorCopy;
-use sm_types::VectorLogical;
-use sm_types::VectorOffset;
-use sm_types::VectorPermute;
-use sm_types::VectorReduction;
-use sm_types::VectorShift;
-use sm_types::VectorShiftOp;
+use crate::fields;
+use crate::operation::{
+    AccessForm, ArrayForm, CompareForm, CopyForm, CountForm, ElementForm, PermuteForm,
+    PredicateForm, ReductionForm, ShiftSize, StreamingForm, Sve2Form, VectorOperation,
+};
+use crate::values::{elem_of, load_type_of, multiplier, shift_amount, slice_register};
+use insn_forms::{Field, byte, field_in, one, signed_number};
+use sm_types::{
+    ArrayAccess, Elem, ElementCount, IndexPart, Insn, Mode, MultiplyAdd, OuterProduct, Predicate,
+    PredicateCount, PredicateLogicalOp, PredicatedBinary, PredicatedUnary, StreamingLength, Sve2,
+    TileAccess, TileAdd, TileMove, TileSlice, VectorAccess, VectorArithmetic, VectorCompare,
+    VectorCopy, VectorLogical, VectorOffset, VectorPermute, VectorReduction, VectorShift,
+    VectorShiftOp,
+};
 
-// What is given, and then what is read of the word: how it is kept, and its field.
+// What is given, and then what is read of the word: how it is kept, and its field or by what it is found.
 macro_rules! read {
     ($word:ident $($kind:ident)::+ {
-        $($given:ident $(: $value:expr)?),*; $($name:ident: $way:ident $($field:ident)*),*
+        $($given:ident $(: $value:expr)?),*;
+        $($name:ident: $way:ident $($field:ident)? $(($($by:ident),*))?),*
     }) => {
-        $($kind)::+ { $($given $(: $value)?,)* $($name: $way($($field,)* $word)),* }
+        $($kind)::+ {
+            $($given $(: $value)?,)*
+            $($name: $way($(fields::$field,)? $($($by,)*)? $word)),*
+        }
     };
 }
 
@@ -174,7 +72,7 @@ pub fn insn_given(operation: VectorOperation, word: u32) -> Option<Insn>
         G27(op) MultiplyAdd { op; size: elem_of SIZE, pg: byte PG, zm: byte ZM, zn: byte ZN, zda: byte ZDA };
         G28(op) PredicatedUnary { op; size: elem_of SIZE, pg: byte PG, zn: byte ZN, zd: byte ZD };
         G29(op, size) VectorShift {
-            op; size: shift_elem size, amount: amount op size, zn: byte ZN, zd: byte ZD };
+            op; size: shift_elem(size), amount: amount(op, size), zn: byte ZN, zd: byte ZD };
         G30(form) VectorCopy (copy form);
         G31(form) VectorPermute (permute form);
         G32(form) VectorReduction (reduction form);
@@ -187,13 +85,13 @@ pub fn insn_given(operation: VectorOperation, word: u32) -> Option<Insn>
         G39(start, part) Mode { start, part; };
         G40(form) ArrayAccess (array form);
         G41(store, size) TileAccess {
-            store; slice: slice size, pg: byte PG, rm: byte RM, rn: byte RN };
+            store; slice: slice(size), pg: byte PG, rm: byte RM, rn: byte RN };
         G42(to_tile, size) TileMove {
-            to_tile; slice: moved_slice to_tile size, pg: byte PG, z: moved_vector to_tile };
+            to_tile; slice: moved_slice(to_tile, size), pg: byte PG, z: moved_vector(to_tile) };
         G43(vertical, wide) TileAdd {
-            vertical, wide; tile: sum_tile wide, pn: byte ROW_PN, pm: byte COLUMN_PM, zn: byte ZN };
+            vertical, wide; tile: sum_tile(wide), pn: byte ROW_PN, pm: byte COLUMN_PM, zn: byte ZN };
         G44(op, wide) OuterProduct {
-            op, wide; subtract: one SUBTRACT, tile: sum_tile wide, pn: byte ROW_PN, pm: byte COLUMN_PM,
+            op, wide; subtract: one SUBTRACT, tile: sum_tile(wide), pn: byte ROW_PN, pm: byte COLUMN_PM,
             zn: byte ZN, zm: byte ZM };
         G45(form) StreamingLength (streaming form);
     })
@@ -319,7 +217,7 @@ fn predicate(form: PredicateForm, word: u32) -> Predicate
     }
 }
 
-/// The predicate of a loop, the number of active elements or the access to the first-fault register of the form.
+/// The predicate of a loop, the number of active elements, or the move of the first-fault register.
 #[inline(always)]
 fn count(form: CountForm, word: u32) -> PredicateCount
     ensures { result ≡ named_count form (numbers_in word) (signed_numbers_in word) }
@@ -496,10 +394,10 @@ fn amount(op: VectorShiftOp, size: ShiftSize, word: u32) -> u8
     ensures { result ≡ shift_amount op (shift_width size) (numbers_in word (amount_field size)) }
 {
     match size {
-        ShiftSize::B => shift_amount(op, 8, field_in(&AMOUNT_B, word)),
-        ShiftSize::H => shift_amount(op, 16, field_in(&AMOUNT_H, word)),
-        ShiftSize::S => shift_amount(op, 32, field_in(&AMOUNT_S, word)),
-        ShiftSize::D => shift_amount(op, 64, field_in(&AMOUNT_D, word)),
+        ShiftSize::B => shift_amount(op, 8, field_in(&fields::AMOUNT_B, word)),
+        ShiftSize::H => shift_amount(op, 16, field_in(&fields::AMOUNT_H, word)),
+        ShiftSize::S => shift_amount(op, 32, field_in(&fields::AMOUNT_S, word)),
+        ShiftSize::D => shift_amount(op, 64, field_in(&fields::AMOUNT_D, word)),
     }
 }
 
@@ -512,7 +410,7 @@ fn slice_at(size: Elem, tile: Field, offset: Field, word: u32) -> TileSlice
 {
     TileSlice {
         size,
-        vertical: one(VERTICAL, word),
+        vertical: one(fields::VERTICAL, word),
         rv: slice_register(word),
         tile: byte(tile, word),
         offset: byte(offset, word),
@@ -525,11 +423,11 @@ fn slice(size: Elem, word: u32) -> TileSlice
     ensures { result ≡ named_slice size (tile_field size) (offset_field size) (numbers_in word) }
 {
     match size {
-        Elem::B => slice_at(size, TILE_B, OFFSET_B, word),
-        Elem::H => slice_at(size, TILE_H, OFFSET_H, word),
-        Elem::S => slice_at(size, TILE_S, OFFSET_S, word),
-        Elem::D => slice_at(size, TILE_D, OFFSET_D, word),
-        Elem::Q => slice_at(size, TILE_Q, OFFSET_Q, word),
+        Elem::B => slice_at(size, fields::TILE_B, fields::OFFSET_B, word),
+        Elem::H => slice_at(size, fields::TILE_H, fields::OFFSET_H, word),
+        Elem::S => slice_at(size, fields::TILE_S, fields::OFFSET_S, word),
+        Elem::D => slice_at(size, fields::TILE_D, fields::OFFSET_D, word),
+        Elem::Q => slice_at(size, fields::TILE_Q, fields::OFFSET_Q, word),
     }
 }
 
@@ -548,14 +446,15 @@ fn moved_slice(to_tile: bool, size: Elem, word: u32) -> TileSlice
 /// A slice that is moved to a vector.
 #[inline(always)]
 fn source_slice(size: Elem, word: u32) -> TileSlice
-    ensures { result ≡ named_slice size (source_tile_field size) (source_offset_field size) (numbers_in word) }
+    ensures { let n = numbers_in word in
+        result ≡ named_slice size (source_tile_field size) (source_offset_field size) n }
 {
     match size {
-        Elem::B => slice_at(size, SOURCE_TILE_B, SOURCE_OFFSET_B, word),
-        Elem::H => slice_at(size, SOURCE_TILE_H, SOURCE_OFFSET_H, word),
-        Elem::S => slice_at(size, SOURCE_TILE_S, SOURCE_OFFSET_S, word),
-        Elem::D => slice_at(size, SOURCE_TILE_D, SOURCE_OFFSET_D, word),
-        Elem::Q => slice_at(size, SOURCE_TILE_Q, SOURCE_OFFSET_Q, word),
+        Elem::B => slice_at(size, fields::SOURCE_TILE_B, fields::SOURCE_OFFSET_B, word),
+        Elem::H => slice_at(size, fields::SOURCE_TILE_H, fields::SOURCE_OFFSET_H, word),
+        Elem::S => slice_at(size, fields::SOURCE_TILE_S, fields::SOURCE_OFFSET_S, word),
+        Elem::D => slice_at(size, fields::SOURCE_TILE_D, fields::SOURCE_OFFSET_D, word),
+        Elem::Q => slice_at(size, fields::SOURCE_TILE_Q, fields::SOURCE_OFFSET_Q, word),
     }
 }
 
@@ -565,9 +464,9 @@ fn moved_vector(to_tile: bool, word: u32) -> u8
     ensures { result ≡ field_byte (numbers_in word (moved_vector to_tile)) }
 {
     if to_tile {
-        byte(ZN, word)
+        byte(fields::ZN, word)
     } else {
-        byte(ZD, word)
+        byte(fields::ZD, word)
     }
 }
 
@@ -577,8 +476,8 @@ fn sum_tile(wide: bool, word: u32) -> u8
     ensures { result ≡ field_byte (numbers_in word (sum_field wide)) }
 {
     if wide {
-        byte(ZADA_D, word)
+        byte(fields::ZADA_D, word)
     } else {
-        byte(ZADA_S, word)
+        byte(fields::ZADA_S, word)
     }
 }

@@ -30,7 +30,8 @@ pub fn one_row()
 
 /// What a word means by the first row that stands for it is what it means by any.
 pub fn one_meaning()
-    ensures { (word : ℕ) (it : Insn) → word < 2 ^ 32 → (vector_meaning_of word ≡ Some it) ↔ Means vector word it }
+    ensures { (word : ℕ) (it : Insn) → word < 2 ^ 32
+        → (vector_meaning_of word ≡ Some it) ↔ Means vector word it }
 {}
 
 /// The fields of each instruction that a word means are in their ranges.
@@ -66,7 +67,8 @@ pub fn full_one_row()
 
 /// What a word means by the first row that stands for it is what it means by any.
 pub fn full_one_meaning()
-    ensures { (word : ℕ) (it : Insn) → word < 2 ^ 32 → (meaning_of word ≡ Some it) ↔ Means full word it }
+    ensures { (word : ℕ) (it : Insn) → word < 2 ^ 32
+        → (meaning_of word ≡ Some it) ↔ Means full word it }
 {}
 
 /// The fields of each instruction that a word means are in their ranges.

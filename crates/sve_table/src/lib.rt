@@ -1,8 +1,8 @@
 //! The table of the vector instructions of SVE and SME, and what a word means by it.
 //!
 //! It has the form of the table of the scalar instructions, beside which it stands: its operations, fields,
-//! conditions and meanings are its own. The whole table is `LINES`. What callers take is `VECTOR_LINES`, the part
-//! of it whose instructions have a text and an effect: none of them has yet.
+//! conditions and meanings are its own. The whole table is `LINES`. What callers take is `VECTOR_LINES`, the
+//! part of it whose instructions have a text and an effect: none of them has yet.
 #![tactic(auto)]
 
 mod conditions;

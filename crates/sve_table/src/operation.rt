@@ -1,8 +1,8 @@
 //! The operations of the rows: for each group what tells its rows apart.
 ghost use Rattle.std.specs.Prelude.{◌≡◌, ◌<◌};
-ghost use Rattle.sve_table.specs.Numbers.{access_number, array_number, compare_number, copy_number, count_number};
-ghost use Rattle.sve_table.specs.Numbers.{element_number, number_of, permute_number, predicate_number};
-ghost use Rattle.sve_table.specs.Numbers.{reduction_number, streaming_number, sve2_number};
+ghost use Rattle.sve_table.specs.Numbers.{access_number, array_number, compare_number, copy_number};
+ghost use Rattle.sve_table.specs.Numbers.{count_number, element_number, number_of, permute_number};
+ghost use Rattle.sve_table.specs.Numbers.{predicate_number, reduction_number, streaming_number, sve2_number};
 
 use sm_types::{
     AddImmediateOp, CompareImmediateOp, CompareVectorsOp, Elem, InterleaveOp, ModePart,

@@ -25,7 +25,9 @@ const NO: Number = Number::Unsigned(0);
 // An operation with eight numbers: those that are listed, and zeros.
 macro_rules! says {
     ($group:ident($($op:expr),*); $a:expr, $b:expr, $c:expr, $d:expr, $e:expr, $f:expr, $g:expr, $h:expr) => {
-        Some(Parts { operation: VectorOperation::$group($($op),*), numbers: [$a, $b, $c, $d, $e, $f, $g, $h] })
+        Some(Parts {
+            operation: VectorOperation::$group($($op),*), numbers: [$a, $b, $c, $d, $e, $f, $g, $h]
+        })
     };
     ($group:ident($($op:expr),*);) => { says!($group($($op),*); NO) };
     ($group:ident($($op:expr),*); $($number:expr),*) => { says!($group($($op),*); $($number,)* NO) };
@@ -44,8 +46,8 @@ macro_rules! by_case {
     };
 }
 
-/// The operation of an instruction, and the numbers of its row's fields in the order of the row; `None` for the
-/// scalar instructions, and for vector instructions that no row has.
+/// The operation of an instruction, and the numbers of its row's fields in the order of the row; `None` for
+/// the scalar instructions, and for vector instructions that no row has.
 pub fn parts_of(insn: &Insn) -> Option<Parts<VectorOperation>>
     ensures { result ≡ parts_of insn.now }
 {
@@ -86,8 +88,8 @@ pub fn parts_of(insn: &Insn) -> Option<Parts<VectorOperation>>
     }
 }
 
-/// The number in a field of so many bits from which what is at least `least` is counted; else one that the field
-/// cannot have.
+/// The number in a field of so many bits that counts from `least` on; below it, one that the field cannot
+/// have.
 fn number_from(least: u8, bits: u32, it: u8) -> Number
     requires { bits < 8 }
     ensures { result ≡ Unsigned (number_from least bits it) }
@@ -170,7 +172,9 @@ fn copy_parts(insn: &VectorCopy) -> Option<Parts<VectorOperation>>
         VectorCopy::PredicatedImmediate { size, pg, merging, shifted, imm, zd } =>
             G30(CopyForm::PredicatedImmediate): count(size as u8), count(zd), count(pg), flag(merging),
                 Number::Signed(imm), flag(shifted);
-        VectorCopy::Index { size, start: IndexPart::Immediate(start), step: IndexPart::Immediate(step), zd } =>
+        VectorCopy::Index {
+            size, start: IndexPart::Immediate(start), step: IndexPart::Immediate(step), zd
+        } =>
             G30(CopyForm::Index(false, false)): count(size as u8), count(zd), Number::Signed(start),
                 Number::Signed(step);
         VectorCopy::Index { size, start: IndexPart::Register(start), step: IndexPart::Immediate(step), zd } =>
@@ -292,22 +296,24 @@ fn access_parts(insn: &VectorAccess) -> Option<Parts<VectorOperation>>
         VectorAccess::Load { kind, offset: VectorOffset::Vectors(offset), pg, rn, zt } =>
             G37(AccessForm::LoadVectors): count(kind as u8), count(zt), count(pg), count(rn),
                 Number::Signed(offset);
-        VectorAccess::Load { kind, offset: VectorOffset::Register(offset), pg, rn, zt } =>
-            G37(AccessForm::LoadRegister): count(kind as u8), count(zt), count(pg), count(rn), count(offset);
+        VectorAccess::Load { kind, offset: VectorOffset::Register(rm), pg, rn, zt } =>
+            G37(AccessForm::LoadRegister): count(kind as u8), count(zt), count(pg), count(rn), count(rm);
         VectorAccess::Store { memory, element, offset: VectorOffset::Vectors(offset), pg, rn, zt } =>
             G37(AccessForm::StoreVectors): count(memory as u8), count(element as u8), count(zt), count(pg),
                 count(rn), Number::Signed(offset);
-        VectorAccess::Store { memory: Elem::B, element, offset: VectorOffset::Register(offset), pg, rn, zt } =>
+        VectorAccess::Store { memory: Elem::B, element, offset: VectorOffset::Register(rm), pg, rn, zt } =>
             G37(AccessForm::StoreBytes): count(element as u8), count(zt), count(pg), count(rn),
-                count(offset);
-        VectorAccess::Store { memory: Elem::H, element, offset: VectorOffset::Register(offset), pg, rn, zt } =>
+                count(rm);
+        VectorAccess::Store { memory: Elem::H, element, offset: VectorOffset::Register(rm), pg, rn, zt } =>
             G37(AccessForm::StoreHalfwords): count(element as u8), count(zt), count(pg), count(rn),
-                count(offset);
-        VectorAccess::Store { memory: Elem::S, element, offset: VectorOffset::Register(offset), pg, rn, zt } =>
+                count(rm);
+        VectorAccess::Store { memory: Elem::S, element, offset: VectorOffset::Register(rm), pg, rn, zt } =>
             G37(AccessForm::StoreWords): count(element as u8), count(zt), count(pg), count(rn),
-                count(offset);
-        VectorAccess::Store { memory: Elem::D, element: Elem::D, offset: VectorOffset::Register(offset), pg, rn, zt } =>
-            G37(AccessForm::StoreDoublewords): count(zt), count(pg), count(rn), count(offset);
+                count(rm);
+        VectorAccess::Store {
+            memory: Elem::D, element: Elem::D, offset: VectorOffset::Register(rm), pg, rn, zt
+        } =>
+            G37(AccessForm::StoreDoublewords): count(zt), count(pg), count(rn), count(rm);
         VectorAccess::Store { offset: VectorOffset::Register(_), .. } => none;
         VectorAccess::Vector { store, vectors, rn, zt } =>
             G37(AccessForm::Vector(store)): count(zt), count(rn), Number::Signed(vectors);

@@ -1,114 +1,19 @@
 //! The rows of the vector instructions.
 //!
-//! `ROWS` and `LINES` are the table. `VECTOR_ROWS` and `VECTOR_LINES` are the part of it whose instructions have
-//! a text and an effect, which is what callers take: none of them has yet.
-use crate::fields::AMOUNT_B;
-use crate::fields::AMOUNT_D;
-use crate::fields::AMOUNT_H;
-use crate::fields::AMOUNT_S;
-use crate::fields::ARRAY_OFFSET;
-use crate::fields::COLUMN_PM;
-use crate::fields::CPY_PG;
-use crate::fields::DTYPE;
-use crate::fields::ELEMENT_SIZE;
-use crate::fields::EXT_IMM8;
-use crate::fields::FLAGS;
-use crate::fields::IMM4;
-use crate::fields::IMM5;
-use crate::fields::IMM5B;
-use crate::fields::IMM6;
-use crate::fields::IMM8;
-use crate::fields::IMM9;
-use crate::fields::MEMORY_SIZE;
-use crate::fields::MERGING;
-use crate::fields::MULTIPLIER;
-use crate::fields::NONE;
-use crate::fields::OFFSET_B;
-use crate::fields::OFFSET_D;
-use crate::fields::OFFSET_H;
-use crate::fields::OFFSET_Q;
-use crate::fields::OFFSET_S;
-use crate::fields::PATTERN;
-use crate::fields::PD;
-use crate::fields::PG;
-use crate::fields::PG4;
-use crate::fields::PM;
-use crate::fields::PN;
-use crate::fields::PT;
-use crate::fields::RD;
-use crate::fields::RM;
-use crate::fields::RN;
-use crate::fields::RN_HIGH;
-use crate::fields::ROW_PN;
-use crate::fields::RV;
-use crate::fields::SF;
-use crate::fields::SH;
-use crate::fields::SIZE;
-use crate::fields::SOURCE_OFFSET_B;
-use crate::fields::SOURCE_OFFSET_D;
-use crate::fields::SOURCE_OFFSET_H;
-use crate::fields::SOURCE_OFFSET_Q;
-use crate::fields::SOURCE_OFFSET_S;
-use crate::fields::SOURCE_TILE_B;
-use crate::fields::SOURCE_TILE_D;
-use crate::fields::SOURCE_TILE_H;
-use crate::fields::SOURCE_TILE_Q;
-use crate::fields::SOURCE_TILE_S;
-use crate::fields::SUBTRACT;
-use crate::fields::TILE_B;
-use crate::fields::TILE_D;
-use crate::fields::TILE_H;
-use crate::fields::TILE_Q;
-use crate::fields::TILE_S;
-use crate::fields::VD;
-use crate::fields::VERTICAL;
-use crate::fields::ZADA_D;
-use crate::fields::ZADA_S;
-use crate::fields::ZD;
-use crate::fields::ZDA;
-use crate::fields::ZDN;
-use crate::fields::ZERO_MASK;
-use crate::fields::ZK;
-use crate::fields::ZM;
-use crate::fields::ZM_LOW;
-use crate::fields::ZN;
-use crate::fields::ZT;
-use crate::operation::AccessForm;
-use crate::operation::ArrayForm;
-use crate::operation::CompareForm;
-use crate::operation::CopyForm;
-use crate::operation::CountForm;
-use crate::operation::ElementForm;
-use crate::operation::Operation;
-use crate::operation::PermuteForm;
-use crate::operation::PredicateForm;
-use crate::operation::ReductionForm;
-use crate::operation::ShiftSize;
-use crate::operation::StreamingForm;
-use crate::operation::Sve2Form;
-use crate::operation::VectorOperation;
-use insn_forms::Fields;
-use insn_forms::Line;
-use sm_types::AddImmediateOp;
-use sm_types::CompareImmediateOp;
-use sm_types::CompareVectorsOp;
-use sm_types::Elem;
-use sm_types::Group;
-use sm_types::InterleaveOp;
-use sm_types::ModePart;
-use sm_types::MultiplyAddOp;
-use sm_types::OuterProductOp;
-use sm_types::PredicateLogicalOp;
-use sm_types::PredicatedBinaryOp;
-use sm_types::PredicatedUnaryOp;
-use sm_types::ReductionOp;
-use sm_types::Row;
-use sm_types::TernaryLogicalOp;
-use sm_types::VectorArithmeticOp;
-use sm_types::VectorLogicalOp;
-use sm_types::VectorMultiplyOp;
-use sm_types::VectorShiftOp;
-use sm_types::WideningOp;
+//! `ROWS` and `LINES` are the table. `VECTOR_ROWS` and `VECTOR_LINES` are the part of it whose instructions
+//! have a text and an effect, which is what callers take: none of them has yet.
+use crate::fields;
+use crate::operation::{
+    AccessForm, ArrayForm, CompareForm, CopyForm, CountForm, ElementForm, Operation, PermuteForm,
+    PredicateForm, ReductionForm, ShiftSize, StreamingForm, Sve2Form, VectorOperation,
+};
+use insn_forms::{Fields, Line};
+use sm_types::{
+    AddImmediateOp, CompareImmediateOp, CompareVectorsOp, Elem, Group, InterleaveOp, ModePart,
+    MultiplyAddOp, OuterProductOp, PredicateLogicalOp, PredicatedBinaryOp, PredicatedUnaryOp,
+    ReductionOp, Row, TernaryLogicalOp, VectorArithmeticOp, VectorLogicalOp, VectorMultiplyOp,
+    VectorShiftOp, WideningOp,
+};
 
 /// The rows of the vector instructions: there are none.
 pub static VECTOR_ROWS: [Row; 0] = [];
@@ -338,7 +243,10 @@ macro_rules! rows {
 // Eight fields: those that are listed, and none.
 macro_rules! eight {
     ($a:ident $b:ident $c:ident $d:ident $e:ident $f:ident $g:ident $h:ident) => {
-        Fields { a: $a, b: $b, c: $c, d: $d, e: $e, f: $f, g: $g, h: $h }
+        Fields {
+            a: fields::$a, b: fields::$b, c: fields::$c, d: fields::$d,
+            e: fields::$e, f: fields::$f, g: fields::$g, h: fields::$h,
+        }
     };
     ($($field:ident)*) => { eight!($($field)* NONE) };
 }
@@ -346,7 +254,8 @@ macro_rules! eight {
 macro_rules! lines {
     ($($mask:literal $value:literal $group:ident($($op:tt)*) [$($field:ident)*];)*) => {
         [$(Line {
-            mask: $mask, value: $value, operation: VectorOperation::$group($($op)*), fields: eight!($($field)*)
+            mask: $mask, value: $value,
+            operation: VectorOperation::$group($($op)*), fields: eight!($($field)*)
         }),*]
     };
 }
