@@ -32,10 +32,10 @@ pub fn fits(row: &Row, _word: u32) -> bool
 pub fn full_fits(row: &Row, word: u32) -> bool
     ensures { result ≡ row_fits row.now word }
 {
-    match line_with(&LINES, row.mask, row.value) {
-        Some(line) => condition(line.operation, word),
-        None => false,
-    }
+    let Some(line) = line_with(&LINES, row.mask, row.value) else {
+        return false;
+    };
+    condition(line.operation, word)
 }
 
 /// Whether the word meets the condition of the operation.
