@@ -1,12 +1,15 @@
 #!/usr/bin/env python3
-"""Writes src/tree.rt, the trees by which a word's row is found, from the rows of the crate a64_table.
+"""Writes src/tree.rt, the trees by which a word's row is found, from the rows of a table.
 
-Run it in this folder after a change of the rows. Nothing rests on it: the proof tests the trees against the rows.
+Run it after a change of the rows, in a64_decode as `python3 make_tree.py`, which takes those of a64_table, and in sve_decode
+as `python3 ../a64_decode/make_tree.py ../sve_table`. Nothing rests on it: the proof tests the trees against the rows.
 """
 import re
+import sys
 
 ROW = re.compile(r"^ +(0x[0-9A-F]{8}) (0x[0-9A-F]{8}) (G\d+\(.*?\)) \[", re.M)
-rows = [(int(mask, 16), int(value, 16), name) for mask, value, name in ROW.findall(open("../a64_table/src/rows.rt").read())]
+table = sys.argv[1] if len(sys.argv) > 1 else "../a64_table"
+rows = [(int(mask, 16), int(value, 16), name) for mask, value, name in ROW.findall(open(table + "/src/rows.rt").read())]
 nodes, known = [], {}
 
 

@@ -2,6 +2,7 @@
 use Rattle.std.proofs.Common.{◌≡◌, ℕ, Bool, true, false, refl, sym, ap, ◌∙◌, List, [], ◌∷◌, Option, Some, None, ℤ}
 use Rattle.insn_forms.specs.declared.field.Field.{Field}
 use Rattle.insn_forms.specs.declared.number.Parts.{Parts}
+use Rattle.insn_forms.specs.Forms.{padded}
 use Rattle.insn_forms.proofs.Laws.{Take, taken, are_small, agrees}
 use Rattle.insn_forms.proofs.Ways.{Slot, flag, cut, code, signed, take_of, field_of_slot, takes_of, fields_of, pass, eight, passed, one, cuts}
 use Rattle.sm_types.specs.declared.insn as types
@@ -24,7 +25,7 @@ use operations.{Operation.Operation}
 use operations.AddressForm.TheVariants as form
 use Rattle.a64_table.specs.Values.{condition_of, condition_number, shift_of, shift_number, extend_of, extend_number, access_size_of, access_size_number, load_store_op_of, load_store_op_number}
 use Rattle.a64_table.specs.Named.{shifted_register, extended_register, named_branch, compare_operand, is_wide_source, named_multiply, named_address, named_atomic, named_system, named}
-use Rattle.a64_table.specs.Parts.{padded, branch_parts, compare_says, compare_parts, doubleword_parts, one_source_parts, multiply_parts, load_store_says, load_store_parts, atomic_parts, system_parts, parts_of}
+use Rattle.a64_table.specs.Parts.{branch_parts, compare_says, compare_parts, doubleword_parts, one_source_parts, multiply_parts, load_store_says, load_store_parts, atomic_parts, system_parts, parts_of}
 use Rattle.a64_table.proofs.Numbers.{condition_back, shift_back, extend_back, access_size_back, load_store_op_back, condition_is, shift_is, extend_is, access_size_is, load_store_op_is}
 
 -- how an instruction keeps the numbers of its operation's fields

@@ -4,10 +4,10 @@ use Rattle.std.proofs.lemmas.Bool.{lt-ltb}
 use Rattle.bit_ops.specs.Masks.{are_mask_fields}
 use Rattle.insn_forms.specs.declared.field.Field.{Field}
 use Rattle.insn_forms.specs.declared.number.Parts.{Parts}
-use Rattle.insn_forms.specs.Forms.{flag_bit, are_in, is_in, is_signed}
+use Rattle.insn_forms.specs.Forms.{flag_bit, are_in, is_in, padded}
 use Rattle.insn_forms.proofs.Laws.{agrees}
 use Rattle.insn_forms.proofs.Tables.{IsInLine}
-use Rattle.insn_forms.proofs.Numbers.{◌&◌, low, flag, tag, signed as twos_complement}
+use Rattle.insn_forms.proofs.Numbers.{◌&◌, low, flag, tag, twos_complement as signed}
 use Rattle.insn_forms.proofs.Ways.{eight, field_of_slot}
 use Rattle.sm_types.specs.declared.insn as types
 use types.Extend.TheVariants.{Uxtw, Uxtx, Sxtw, Sxtx}
@@ -26,9 +26,9 @@ use Rattle.sm_types.specs.contracts.insn as enums
 use Rattle.a64_table.specs.declared.operation.Operation.{Operation}
 use Rattle.a64_table.specs.Values.{shift_number, extend_number, access_size_number, load_store_op_number}
 use Rattle.a64_table.specs.Conditions.{fits_of, is_below_width, has_load, is_address_option, is_apart, are_two, is_pair_apart}
-use Rattle.a64_table.specs.Parts.{padded, branch_parts, compare_says, compare_parts, doubleword_parts, one_source_parts, multiply_parts, load_store_says, load_store_parts, atomic_parts, system_parts, parts_of}
+use Rattle.a64_table.specs.Parts.{branch_parts, compare_says, compare_parts, doubleword_parts, one_source_parts, multiply_parts, load_store_says, load_store_parts, atomic_parts, system_parts, parts_of}
 use Rattle.bit_ops.specs.Bits.{width_of}
-use Rattle.a64_table.specs.Ranges.{IsInRow, IsSigned, is_address_extend, has_size, IsAddress, writes_base, IsCompareOperand, IsConditionalCompare, IsOneSource, IsLoadStore}
+use Rattle.a64_table.specs.Ranges.{IsInRow, is_address_extend, has_size, IsAddress, writes_base, IsCompareOperand, IsConditionalCompare, IsOneSource, IsLoadStore}
 use Rattle.a64_table.specs.Table.{scalar}
 use Rattle.a64_table.proofs.Checks.{has_row, row-format}
 use Rattle.a64_table.proofs.Groups.{format, slots, kept}
@@ -126,9 +126,6 @@ made it p e w f =
       within = ap (λ fs. are_in fs p.numbers) same ∙ w;
       fits = λ u s a. ap (λ o. fits_of o u) r.same ∙ f u s (subst (λ (fs : List Field). agrees fs p.numbers u s) same a);
     }
-
-signed : (width : ℕ) (z : ℤ) → 0 < width → IsSigned width z → is_signed width z ≡ true
-signed width z some h = twos_complement width z some h.low h.high
 
 -- a conditional compare, by its second operand
 compare_line : (x : ConditionalCompare) (second : CompareOperand) → x.operand ≡ second → IsConditionalCompare x → IsInLine scalar parts_of (insn.ConditionalCompare x)

@@ -6,7 +6,7 @@ use Rattle.insn_forms.specs.declared.field.Field.{Field}
 use Rattle.insn_forms.specs.Fields.{bits_of, field_in, signed_value}
 use Rattle.insn_forms.specs.Tables.{Means, numbers_in, signed_numbers_in}
 use Rattle.insn_forms.proofs.Bits.{field_in-lt}
-use Rattle.insn_forms.proofs.Numbers.{all_below, below, small, half_small, cut_below, uncut, signed_small as within}
+use Rattle.insn_forms.proofs.Numbers.{all_below, below, small, half_small, cut_below, uncut, signed_ranged as signed_small}
 use Rattle.sm_types.specs.declared.insn as types
 use types.PairIndex.TheVariants.{Offset, PostIndex, PreIndex}
 use types.{Insn.Insn, ShiftKind.TheVariants.Ror, OneSourceOp.OneSourceOp, OneSourceOp.TheVariants.Rev64, PairOp.PairOp, PairOp.TheVariants.Stp, PairOp.TheVariants.Ldp, PairIndex.PairIndex}
@@ -21,12 +21,9 @@ use Rattle.a64_table.specs.Values.{shift_of, shift_number, extend_of, access_siz
 use Rattle.a64_table.specs.Conditions.{fits_of, is_below_width, has_load, is_address_option, is_apart, are_two, is_pair_apart}
 use Rattle.a64_table.specs.Named.{shifted_register, extended_register, named_branch, compare_operand, is_wide_source, named_multiply, named_address, named_atomic, named_system, named}
 use Rattle.bit_ops.specs.Bits.{width_of}
-use Rattle.a64_table.specs.Ranges.{IsInRow, IsSigned, is_address_extend, has_size, IsAddress, writes_base, IsBranch, IsMultiply, IsAtomic, IsSystem, IsCompareOperand}
+use Rattle.a64_table.specs.Ranges.{IsInRow, is_address_extend, has_size, IsAddress, writes_base, IsBranch, IsMultiply, IsAtomic, IsSystem, IsCompareOperand}
 use Rattle.a64_table.specs.Table.{scalar}
 use Rattle.a64_table.proofs.Numbers.{shift_back}
-
-signed_small : (f : Field) (w : ℕ) → 0 < bits_of f → IsSigned (bits_of f) (signed_value (bits_of f) (field_in f w))
-signed_small f w some = let both = within f w some in record { low = both.0; high = both.1 }
 
 -- ---- conditions
 below_two : (b : Bool) (n : ℕ) → (b || nat_lt n 2) ≡ true → b ≡ false → n < 2

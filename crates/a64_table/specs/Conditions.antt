@@ -8,13 +8,13 @@ use Rattle.sm_types.specs.declared.insn as types
 use types.{PairOp.PairOp, PairOp.TheVariants.Stp, PairOp.TheVariants.Ldp, PairIndex.PairIndex}
 use types.PairIndex.TheVariants as index
 use Rattle.insn_forms.specs.declared.field.Field.{Field}
+use Rattle.insn_forms.specs.Values.{is_one}
 use Rattle.a64_table.specs.declared.fields.TheConstants.{HW, IMM3, IMM6, IMMR, IMMS, N, OPC, OPTION, RN, RT}
 use Rattle.a64_table.specs.declared.fields.TheConstants.{RT2, SF, SHIFT, SIZE}
 use Rattle.a64_table.specs.declared.operation as operations
 use operations.Operation.TheVariants.{G2, G3, G4, G5, G6, G7, G8, G18, G20}
 use operations.AddressForm.TheVariants.{PostIndex, PreIndex, Register}
 use operations.{Operation.Operation}
-use Rattle.a64_table.specs.Values.{is_one}
 
 -- the number is below the width of the registers
 unfoldable pub is_below_width : Bool → ℕ → Bool

@@ -14,6 +14,7 @@ use types.Address.TheVariants as address
 use types.Atomic.TheVariants as atomic
 use types.System.TheVariants as system
 use Rattle.insn_forms.specs.declared.field.Field.{Field}
+use Rattle.insn_forms.specs.Values.{byte, half, is_one}
 use Rattle.a64_table.specs.declared.fields.TheConstants.{ACQUIRE, BIT, BRANCH_COND, CAS_ACQUIRE, CAS_RELEASE}
 use Rattle.a64_table.specs.declared.fields.TheConstants.{COND, CRM, HINT, HW, IMM12, IMM14, IMM16, IMM19}
 use Rattle.a64_table.specs.declared.fields.TheConstants.{IMM21, IMM26, IMM3, IMM5, IMM6, IMM7, IMM9, IMMR}
@@ -29,8 +30,7 @@ use operations.SystemOp.TheVariants.{Svc, Brk, Udf, Hint, Dmb, Dsb, Isb}
 use operations.{Operation.Operation, BranchOp.BranchOp, MultiplyOp.MultiplyOp, AddressForm.AddressForm}
 use operations.{AtomicForm.AtomicForm, SystemOp.SystemOp}
 use operations.AddressForm.TheVariants as form
-use Rattle.a64_table.specs.Values.{byte, half, is_one, condition_of, shift_of, extend_of, access_size_of}
-use Rattle.a64_table.specs.Values.{load_store_op_of}
+use Rattle.a64_table.specs.Values.{condition_of, shift_of, extend_of, access_size_of, load_store_op_of}
 
 -- a register shifted by an amount
 unfoldable pub shifted_register : (Field → ℕ) → ShiftedRegister

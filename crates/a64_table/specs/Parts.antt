@@ -1,11 +1,10 @@
 -- The operation of an instruction and the numbers of its row's fields, in the order of the row: the code's
 -- own, by which an encoder finds the word.
-use Rattle.std.proofs.Common.{zero, suc}
 use Rattle.std.specs.Prelude.{ℕ, Bool, true, false, List, [], ◌∷◌, Option, Some, None}
 use Rattle.insn_forms.specs.declared.number.Number.{Number}
 use Rattle.insn_forms.specs.declared.number.Number.TheVariants.{Unsigned, Signed}
 use Rattle.insn_forms.specs.declared.number.Parts.{Parts}
-use Rattle.insn_forms.specs.Forms.{flag_number}
+use Rattle.insn_forms.specs.Forms.{flag_number, padded, unsigned}
 use Rattle.sm_types.specs.declared.insn as types
 use types.{Insn.Insn, AccessSize.AccessSize, ShiftedRegister.ShiftedRegister}
 use types.{ExtendedRegister.ExtendedRegister, Branch.Branch, CompareOperand.CompareOperand}
@@ -31,19 +30,8 @@ use operations.AddressForm.TheVariants as form
 use Rattle.a64_table.specs.Values.{condition_number, shift_number, extend_number, access_size_number}
 use Rattle.a64_table.specs.Values.{load_store_op_number}
 
--- eight numbers, those and zeros
-unfoldable pub padded : ℕ → List Number → List Number
-padded zero ns = []
-padded (suc k) [] = Unsigned 0 ∷ padded k []
-padded (suc k) (n ∷ ns) = n ∷ padded k ns
-
 abbrev pub says : Operation → List Number → Option (Parts Operation)
 says op ns = Some (record { operation = op; numbers = padded 8 ns })
-
--- the numbers of registers and of other fields without a sign
-abbrev pub unsigned : List ℕ → List Number
-unsigned [] = []
-unsigned (n ∷ ns) = Unsigned n ∷ unsigned ns
 
 unfoldable pub branch_parts : Branch → Option (Parts Operation)
 branch_parts (branch.Unconditional false words) = says (G10 B) (Signed words ∷ [])

@@ -1,7 +1,7 @@
 -- The ranges of an instruction's fields: those that a row of the table gives them, and no others.
 -- Source: DDI 0487, C6.2: the widths of the fields of each instruction's encoding, and the values that have
 -- none.
-use Rattle.std.specs.Prelude.{◌≡◌, ◌≢◌, ℕ, ◌-◌, ◌<◌, ◌^◌, Bool, true, false, IsTrue, ℤ, pos, ◌-ℤ◌, ◌≤ℤ◌, ◌<ℤ◌}
+use Rattle.std.specs.Prelude.{◌≡◌, ◌≢◌, ◌<◌, ◌^◌, Bool, true, false, IsTrue}
 use Rattle.sm_types.specs.declared.insn as types
 use types.Branch.TheVariants.{Unconditional, Conditional, Compare, TestBit}
 use types.Multiply.TheVariants.{Same, Long, High}
@@ -25,11 +25,7 @@ use types.Address.TheVariants as address
 use types.Insn.TheVariants as insn
 use Rattle.bit_ops.specs.Bits.{width_of}
 use Rattle.bit_ops.specs.Masks.{are_mask_fields}
-
--- a number of so many bits in two's complement
-pub record IsSigned (width : ℕ) (number : ℤ) : Type 0 where
-  pub low : (pos 0 -ℤ pos (2 ^ (width - 1))) ≤ℤ number
-  pub high : number <ℤ pos (2 ^ (width - 1))
+use Rattle.insn_forms.specs.Values.{IsSigned}
 
 -- a shift by less than the width
 pub record IsShiftedRegister (wide : Bool) (it : ShiftedRegister) : Type 0 where

@@ -1,6 +1,6 @@
 -- What the number of a field stands for.
 -- Source: DDI 0487, C1.2.4, and the pages of C6.2 on the shared pseudocode DecodeShift and DecodeRegExtend.
-use Rattle.std.specs.Prelude.{ℕ, ◌%◌, ◌^◌, ◌==◌, Bool, [], ◌∷◌, get_or}
+use Rattle.std.specs.Prelude.{ℕ, [], ◌∷◌, get_or}
 use denote.Enum.Declared.{tag_of}
 use Rattle.sm_types.specs.contracts.insn as enums
 use Rattle.sm_types.specs.declared.insn as types
@@ -11,17 +11,6 @@ use types.AccessSize.TheVariants.{Byte, Halfword, Word, Doubleword}
 use types.LoadStoreOp.TheVariants.{Store, Load, LoadSignedTo64, LoadSignedTo32}
 use types.{Condition.Condition, ShiftKind.ShiftKind, Extend.Extend, AccessSize.AccessSize}
 use types.{LoadStoreOp.LoadStoreOp}
-
--- a number as so many bits keep it
-abbrev pub byte : ℕ → ℕ
-byte n = n % 2 ^ 8
-
-abbrev pub half : ℕ → ℕ
-half n = n % 2 ^ 16
-
--- the truth value of a bit
-abbrev pub is_one : ℕ → Bool
-is_one n = n == 1
 
 -- the condition of a number of 4 bits
 unfoldable pub condition_of : ℕ → Condition

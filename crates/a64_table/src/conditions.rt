@@ -11,10 +11,9 @@ ghost use Rattle.a64_table.specs.Rows.{row_fits};
 
 use crate::fields::{HW, IMM3, IMM6, IMMR, IMMS, N, OPC, OPTION, RN, RT, RT2, SF, SHIFT, SIZE};
 use crate::operation::{AddressForm, Operation};
-use crate::reading::one;
 use crate::rows::SCALAR_LINES;
 use bit_ops::are_mask_fields;
-use insn_forms::{field_in, line_with};
+use insn_forms::{field_in, line_with, one};
 use sm_types::{PairIndex, PairOp, Row};
 
 /// Whether a word that has the row's fixed bits meets the condition of the row; no word does where the table

@@ -15,8 +15,8 @@ use crate::fields::{
     RELEASE, RM, RN, RS, RT, RT2, SCALED, SF, SH, SHIFT, SIZE, UDF_IMM16,
 };
 use crate::operation::{AddressForm, AtomicForm, BranchOp, MultiplyOp, Operation, SystemOp};
-use crate::reading::{byte, half, one, signed};
 use crate::values::{access_size_of, condition_of, extend_of, load_store_op_of, shift_of};
+use insn_forms::{byte, half, one, signed_number as signed};
 use sm_types::{
     AddSubCarry, AddSubExtended, AddSubImmediate, AddSubRegister, Address, Atomic, BitfieldMove,
     Branch, BranchRegister, CompareOperand, ConditionalCompare, ConditionalSelect,

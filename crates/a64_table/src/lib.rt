@@ -11,7 +11,6 @@ mod insn;
 mod laws;
 mod operation;
 mod parts;
-mod reading;
 mod rows;
 mod values;
 

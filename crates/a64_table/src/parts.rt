@@ -1,5 +1,5 @@
 //! The operation of an instruction and the numbers of its row's fields.
-#![tactic(auto, unfolding(crate::specs::Parts::parts_of, crate::specs::Parts::padded, crate::specs::Parts::branch_parts, crate::specs::Parts::compare_parts, crate::specs::Parts::compare_says, crate::specs::Parts::one_source_parts, crate::specs::Parts::doubleword_parts, crate::specs::Parts::multiply_parts, crate::specs::Parts::load_store_parts, crate::specs::Parts::load_store_says, crate::specs::Parts::atomic_parts, crate::specs::Parts::system_parts))]
+#![tactic(auto, unfolding(crate::specs::Parts::parts_of, insn_forms::specs::Forms::padded, crate::specs::Parts::branch_parts, crate::specs::Parts::compare_parts, crate::specs::Parts::compare_says, crate::specs::Parts::one_source_parts, crate::specs::Parts::doubleword_parts, crate::specs::Parts::multiply_parts, crate::specs::Parts::load_store_parts, crate::specs::Parts::load_store_says, crate::specs::Parts::atomic_parts, crate::specs::Parts::system_parts))]
 
 ghost use Rattle.std.specs.Prelude.{◌≡◌};
 ghost use Rattle.insn_forms.specs.declared.number.Number.TheVariants.{Unsigned};

@@ -23,7 +23,8 @@ use Rattle.a64_table.specs.declared.rows.TheConstants.{SCALAR_LINES}
 use Rattle.a64_table.specs.Conditions.{fits_of}
 use Rattle.a64_table.specs.Named.{named, named_branch}
 use Rattle.a64_table.specs.Table.{scalar}
-use Rattle.a64_table.specs.Values.{byte, is_one, condition_of}
+use Rattle.a64_table.specs.Values.{condition_of}
+use Rattle.insn_forms.specs.Values.{byte, is_one}
 use Rattle.sm_types.specs.declared.insn.Insn.{Insn}
 use Rattle.sm_types.specs.declared.insn.Insn.TheVariants as insn
 use Rattle.sm_types.specs.declared.insn.PcRelativeOp.TheVariants.{Adr, Adrp}

@@ -9,6 +9,7 @@ use Rattle.std.proofs.lemmas.Int.{ints}
 use Rattle.insn_forms.specs.declared.field.Field.{Field}
 use Rattle.insn_forms.specs.Fields.{bits_of, field_in, signed_value}
 use Rattle.insn_forms.specs.Forms.{flag_bit, is_signed}
+use Rattle.insn_forms.specs.Values.{IsSigned}
 use Rattle.insn_forms.proofs.Bits.{field_in-lt, doubled}
 
 -- ---- a test of all numbers below a bound
@@ -24,6 +25,10 @@ below p (suc n) k e lt = here (k == n) refl (λ g. below p n k (and_parts (p n) 
     here : (b : Bool) → (k == n) ≡ b → (k < n → p k ≡ true) → p k ≡ true
     here true h on = ap p (eqb-true k n h) ∙ (and_parts (p n) (all_below p n) e).0
     here false h on = let g = eqb-false k n h in on (omega arith)
+
+-- the numbers below a bound are those of what they stand for, by a test of each
+pub same_below : (g : ℕ → ℕ) (n k : ℕ) → all_below (λ m. g m == m) n ≡ true → k < n → g k ≡ k
+same_below g n k e lt = eqb-true _ _ (below (λ m. g m == m) n k e lt)
 
 -- ---- numbers that are in their fields
 infixr 35 ◌&◌
@@ -53,6 +58,9 @@ pub signed : (width : ℕ) (z : ℤ) → 0 < width → (pos 0 -ℤ pos (2 ^ (wid
 unfolding is_signed
 signed width z some from to = (low some & le_test _ _ from) & lt_test _ _ to
 
+pub twos_complement : (width : ℕ) (z : ℤ) → 0 < width → IsSigned width z → is_signed width z ≡ true
+twos_complement width z some h = signed width z some h.low h.high
+
 -- ---- numbers of fields
 pub small : (f : Field) (w : ℕ) → field_in f w % 2 ^ 8 < 2 ^ bits_of f
 small f w = let lt = field_in-lt f w in omega arith
@@ -80,3 +88,6 @@ signed_small f w some =
     let n = field_in f w in
     in_halves (2 ^ (bits_of f - 1)) (2 ^ bits_of f) n (doubled (bits_of f) some) (field_in-lt f w) (nat_lt n (2 ^ (bits_of f - 1)))
     (ltb-true _ _) (ltb-false _ _)
+
+pub signed_ranged : (f : Field) (w : ℕ) → 0 < bits_of f → IsSigned (bits_of f) (signed_value (bits_of f) (field_in f w))
+signed_ranged f w some = let both = signed_small f w some in record { low = both.0; high = both.1 }

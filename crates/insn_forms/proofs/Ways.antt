@@ -5,7 +5,7 @@ use Rattle.insn_forms.specs.declared.field.Field.{Field}
 use Rattle.insn_forms.specs.declared.number.Number.{Number}
 use Rattle.insn_forms.specs.declared.number.Number.TheVariants.{Unsigned, Signed}
 use Rattle.insn_forms.specs.Forms.{flag_bit, flag_number}
-use Rattle.insn_forms.proofs.Laws.{Take, most, sign, taken, are_small}
+use Rattle.insn_forms.proofs.Laws.{Take, most, sign, taken, are_small, agrees}
 
 -- a field whose number is kept as a truth value, in so many bits, as what it stands for, in two's complement; or none
 pub data Slot : Type 0 where
@@ -78,3 +78,29 @@ one n false e = ap (λ k. k == 1) e
 
 pub cuts : (k n m : ℕ) → n ≡ m → n < 2 ^ k → n % 2 ^ k ≡ m
 cuts k n m e lt = mod-eq_of_lt lt ∙ e
+
+-- the fields have the numbers, as they are kept
+unfoldable pub are_kept : List Slot → List Number → (Field → ℕ) → (Field → ℤ) → Type 0
+are_kept [] ns u s = Unit {0}
+are_kept (x ∷ xs) [] u s = Unit {0}
+are_kept (flag f ∷ xs) (Unsigned n ∷ ns) u s = (u f ≡ n) × are_kept xs ns u s
+are_kept (cut k f ∷ xs) (Unsigned n ∷ ns) u s = (u f % 2 ^ k ≡ n) × are_kept xs ns u s
+are_kept (code k g e f ∷ xs) (Unsigned n ∷ ns) u s = ((u f ≡ n) × (u f < 2 ^ k)) × are_kept xs ns u s
+are_kept (signed f ∷ xs) (Signed z ∷ ns) u s = (s f ≡ z) × are_kept xs ns u s
+are_kept (_ ∷ xs) (_ ∷ ns) u s = Unit {0} × are_kept xs ns u s
+
+pub keeps : (xs : List Slot) (ns : List Number) (u : Field → ℕ) (s : Field → ℤ) → agrees (fields_of xs) ns u s
+    → are_small (takes_of xs) (fields_of xs) u → are_kept xs ns u s
+unfolding take_of field_of_slot agrees are_small are_kept
+keeps [] ns u s a h = tt
+keeps (x ∷ xs) [] u s a h = tt
+keeps (flag f ∷ xs) (Unsigned n ∷ ns) u s a h = (a.0, keeps xs ns u s a.1 h.1)
+keeps (flag f ∷ xs) (Signed z ∷ ns) u s a h = (tt, keeps xs ns u s a.1 h.1)
+keeps (cut k f ∷ xs) (Unsigned n ∷ ns) u s a h = (cuts k (u f) n a.0 h.0, keeps xs ns u s a.1 h.1)
+keeps (cut k f ∷ xs) (Signed z ∷ ns) u s a h = (tt, keeps xs ns u s a.1 h.1)
+keeps (code k g e f ∷ xs) (Unsigned n ∷ ns) u s a h = ((a.0, h.0), keeps xs ns u s a.1 h.1)
+keeps (code k g e f ∷ xs) (Signed z ∷ ns) u s a h = (tt, keeps xs ns u s a.1 h.1)
+keeps (signed f ∷ xs) (Signed z ∷ ns) u s a h = (a.0, keeps xs ns u s a.1 h.1)
+keeps (signed f ∷ xs) (Unsigned n ∷ ns) u s a h = (tt, keeps xs ns u s a.1 h.1)
+keeps (nothing ∷ xs) (Unsigned n ∷ ns) u s a h = (tt, keeps xs ns u s a.1 h.1)
+keeps (nothing ∷ xs) (Signed z ∷ ns) u s a h = (tt, keeps xs ns u s a.1 h.1)

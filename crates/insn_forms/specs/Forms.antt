@@ -1,5 +1,6 @@
 -- Words as fixed bits and fields.
 -- Source: DDI 0487, C4: an encoding diagram has each bit of a word once, fixed or in a field.
+use Rattle.std.proofs.Common.{zero, suc}
 use Rattle.std.specs.Prelude.{ℕ, ◌-◌, ◌%◌, ◌^◌, ◌==◌, ◌&&◌, Bool, true, false, nat_lt, bit_and, bit_or}
 use Rattle.std.specs.Prelude.{if◌then◌else◌, ℤ, pos, ◌-ℤ◌, int_le, int_lt, List, [], ◌∷◌, map, Option, Some}
 use Rattle.std.specs.Prelude.{None}
@@ -22,6 +23,17 @@ flag_number b = Unsigned (flag_bit b)
 
 abbrev pub unsigned_number : ℕ → Number
 unsigned_number n = Unsigned n
+
+-- eight numbers, those and zeros
+unfoldable pub padded : ℕ → List Number → List Number
+padded zero ns = []
+padded (suc k) [] = Unsigned 0 ∷ padded k []
+padded (suc k) (n ∷ ns) = n ∷ padded k ns
+
+-- the numbers of registers and of other fields without a sign
+abbrev pub unsigned : List ℕ → List Number
+unsigned [] = []
+unsigned (n ∷ ns) = Unsigned n ∷ unsigned ns
 
 -- the bits of a number in a field
 unfoldable pub bits : Field → Number → ℕ

@@ -2,3 +2,4 @@ pub mod Fields
 pub mod Forms
 pub mod Tables
 pub mod Tree
+pub mod Values

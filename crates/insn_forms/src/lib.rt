@@ -9,9 +9,11 @@
 mod field;
 mod line;
 mod number;
+mod reading;
 mod tree;
 
 pub use field::{Field, Fields, field_in, fields_of, placed, run_of_bits, signed, signed_in};
 pub use line::{Line, line_at, line_with, matches};
 pub use number::{Number, Parts, count, flag, word_in};
+pub use reading::{byte, half, one, signed_number};
 pub use tree::{Node, line_number};

@@ -7,8 +7,8 @@ ghost use Rattle.sve_table.specs.Table.{vector, vector_meaning_of};
 
 use sm_types::Insn;
 
-/// The instruction that the rows of the table give the word; `None` exactly where there is none, and so for
-/// each word as long as the table has no rows.
+/// The instruction that the rows of the table that callers take give the word; `None` exactly where there is
+/// none, and so for each word as long as it has no rows.
 pub fn decode_vector(word: u32) -> Option<Insn>
     ensures rows { (it : Insn) → (result ≡ Some it) ↔ Means vector word it }
     ensures value { result ≡ vector_meaning_of word }

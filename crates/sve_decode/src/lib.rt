@@ -1,7 +1,11 @@
 //! The decoder of the vector instructions of SVE and SME: a word of 32 bits becomes the instruction that
-//! the table's rows give it.
+//! the table's rows give it. A tree of tests on bits leads to the one row that may match, and no other row is
+//! looked at.
 #![tactic(auto)]
 
 mod decode;
+mod full;
+mod tree;
 
 pub use decode::decode_vector;
+pub use full::decode_full;

@@ -2,9 +2,9 @@
 ghost use Rattle.std.specs.Prelude.{◌≡◌, true};
 ghost use Rattle.insn_forms.specs.Fields.{field_in, is_field};
 ghost use Rattle.insn_forms.specs.Tables.{signed_numbers_in};
-ghost use Rattle.a64_table.specs.Values.{byte, half, is_one};
+ghost use Rattle.insn_forms.specs.Values.{byte, half, is_one};
 
-use insn_forms::{Field, field_in, signed_in};
+use crate::field::{Field, field_in, signed_in};
 
 /// The number of a field as 8 bits.
 #[inline(always)]
@@ -35,7 +35,7 @@ pub fn one(it: Field, word: u32) -> bool
 
 /// The number of a field in two's complement.
 #[inline(always)]
-pub fn signed(it: Field, word: u32) -> i32
+pub fn signed_number(it: Field, word: u32) -> i32
     requires { is_field it ≡ true }
     ensures { result ≡ signed_numbers_in word it }
 {
