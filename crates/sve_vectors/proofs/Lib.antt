@@ -1,0 +1,4 @@
+pub mod Held
+pub mod Writing
+pub mod Lent
+pub mod Zero
