@@ -1,4 +1,5 @@
 pub mod Held
-pub mod Writing
 pub mod Lent
+pub mod Whole
+pub mod Writing
 pub mod Zero
