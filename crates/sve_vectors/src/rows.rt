@@ -29,6 +29,7 @@ pub(crate) fn zero_rows(
 }
 
 /// The first bytes of a row.
+#[inline]
 pub(crate) fn front(rows: &[Vec<u8>], n: usize, size: usize) -> &[u8]
     requires row { n < length rows.now }
     requires room { size ≤ length (slice_index_or (items_of rows.now) n []) }

@@ -63,6 +63,7 @@ impl Vectors {
     }
 
     /// VL.
+    #[inline]
     pub fn vl(&self) -> VecLen
         ensures { result ≡ self.now.vl }
     {
@@ -70,6 +71,7 @@ impl Vectors {
     }
 
     /// SVL.
+    #[inline]
     pub fn svl(&self) -> VecLen
         ensures { result ≡ self.now.svl }
     {
@@ -77,6 +79,7 @@ impl Vectors {
     }
 
     /// PSTATE.SM.
+    #[inline]
     pub fn streaming(&self) -> bool
         ensures { result ≡ self.now.streaming }
     {
@@ -84,6 +87,7 @@ impl Vectors {
     }
 
     /// L, the bytes of a vector: those of SVL in Streaming SVE mode, else those of VL.
+    #[inline]
     pub fn length(&self) -> usize
         ensures value { result ≡ length_of self.now }
         ensures registers { AreOfLength (length_of self.now) self.now.registers }
@@ -113,6 +117,7 @@ impl Vectors {
     }
 
     /// Z`n`, of L bytes, the lowest first.
+    #[inline]
     pub fn z(&self, n: u8) -> &[u8]
         requires { n < 32 }
         ensures value { result.now ≡ slice_index_or self.now.registers.vectors n [] }
@@ -122,6 +127,7 @@ impl Vectors {
     }
 
     /// Z`n`, of L bytes, the lowest first, to be written.
+    #[inline]
     pub fn z_mut(&mut self, n: u8) -> &mut [u8]
         requires { n < 32 }
         ensures* writes_back { sem 𝓛 (LendsVector self.entry n result) }
@@ -133,6 +139,7 @@ impl Vectors {
     }
 
     /// P`n`, of L / 8 bytes: bit i % 8 of byte i / 8 is for byte i of a vector.
+    #[inline]
     pub fn p(&self, n: u8) -> &[u8]
         requires { n < 16 }
         ensures value { truths_of result.now ≡ slice_index_or self.now.registers.predicates n [] }
@@ -142,6 +149,7 @@ impl Vectors {
     }
 
     /// P`n`, of L / 8 bytes, to be written.
+    #[inline]
     pub fn p_mut(&mut self, n: u8) -> &mut [u8]
         requires { n < 16 }
         ensures* writes_back { sem 𝓛 (LendsPredicate self.entry n result) }
@@ -153,6 +161,7 @@ impl Vectors {
     }
 
     /// FFR, of L / 8 bytes.
+    #[inline]
     pub fn ffr(&self) -> &[u8]
         ensures value { truths_of result.now ≡ self.now.registers.ffr }
         ensures long { length result.now ≡ length_of self.now / 8 }
@@ -161,6 +170,7 @@ impl Vectors {
     }
 
     /// FFR, of L / 8 bytes, to be written.
+    #[inline]
     pub fn ffr_mut(&mut self) -> &mut [u8]
         ensures* writes_back { sem 𝓛 (LendsFfr self.entry result) }
         ensures value { truths_of result.now ≡ self.old.registers.ffr }
