@@ -1,5 +1,5 @@
-//! Tests of the libraries by their public calls: words, lines of sources, memory, the lines of
-//! stops, and the object of a source.
+//! Tests of the libraries by their public calls: words, lines of sources, memory, vectors, the
+//! lines of stops, and the object of a source.
 #![tactic(auto)]
 
 #[cfg(test)]
@@ -12,5 +12,7 @@ mod memory;
 mod sources;
 #[cfg(test)]
 mod stops;
+#[cfg(test)]
+mod vectors;
 #[cfg(test)]
 mod words;

@@ -1,0 +1,11 @@
+use Rattle.std.proofs.Common.{ap, [], get_or}
+use Rattle.sve_vectors.specs.State.{SveState}
+use Rattle.sve_vectors.specs.Layout.{items_of}
+use Rattle.sve_vectors.proofs.Held.{vector_at}
+use Rattle.sve_vectors.proofs.vectors.Vectors.z.Goals as goal
+
+pub returns-clause-value : goal.returns-clause-value
+returns-clause-value c =
+    let v = c.self.inside in
+    let at = vector_at v.current _ c.args.n (items_of v.z.items) (items_of v.p.items) v.ffr.items c.self.invariant.vectors c.requires in
+    cc (at, ap (λ (s : SveState). get_or s.registers.vectors c.args.n []) c.self.view_is)

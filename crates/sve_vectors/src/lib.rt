@@ -1,0 +1,9 @@
+//! The vectors of a guest thread: Z0 to Z31, P0 to P15, FFR, and PSTATE.SM, which says how long they are.
+#![tactic(auto)]
+
+mod laws;
+mod rows;
+mod vectors;
+
+pub use laws::{bytes_tell_truths, truths_tell_bytes};
+pub use vectors::Vectors;
