@@ -1,0 +1,37 @@
+//! Operations on elements, and the changes of vectors that they make.
+ghost use Rattle.std.specs.Prelude.{◌≡◌, ℕ, ◌+◌, ◌*◌, ◌<◌, ◌≤◌, length};
+ghost use Rattle.vector_elements.specs.declared.size.Size.{Size as ElementSize};
+ghost use Rattle.vector_elements.specs.Elements.{element_of};
+ghost use Rattle.vector_elements.specs.Numbers.{bytes_in, range_of};
+
+use vector_elements::{Change, Size, element};
+
+/// An operation on two elements.
+pub trait Binary: Copy {
+    /// What it gives.
+    ghost gives: { Self → ElementSize → ℕ → ℕ → ℕ };
+
+    /// Its value at two elements.
+    fn of_two(self, size: Size, a: u64, b: u64) -> u64
+        requires a { a < range_of size }
+        requires b { b < range_of size }
+        ensures { result ≡ gives self size a b };
+}
+
+/// An operation on the elements of a vector and those of another, `m`.
+#[derive(Clone, Copy)]
+pub struct WithVector<'a, O> {
+    pub op: O,
+    pub m: &'a [u8],
+}
+
+impl<'a, O: Binary> Change for WithVector<'a, O> {
+    ghost can = { λ s size i. bytes_in size * i + bytes_in size ≤ length s.m.now };
+
+    ghost gives = { λ s size i a. O.gives s.op size a (element_of (bytes_in size) s.m.now i) };
+
+    #[inline(always)]
+    fn apply(&self, size: Size, place: usize, old: u64) -> u64 {
+        self.op.of_two(size, old, element(self.m, size, place))
+    }
+}
