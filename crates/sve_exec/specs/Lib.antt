@@ -1,3 +1,6 @@
 pub mod Numbers
 pub mod Arithmetic
 pub mod Logical
+pub mod Binary
+pub mod MultiplyAdd
+pub mod Unary

@@ -3,7 +3,9 @@ ghost use Rattle.std.specs.Prelude.{◌≡◌, ◌%◌, length};
 ghost use Rattle.vector_elements.specs.Numbers.{bytes_in};
 ghost use Rattle.sve_exec.specs.Arithmetic.{arithmetic_of, vector_arithmetic};
 
-use crate::number::{difference, saturating_signed_difference, saturating_signed_sum, saturating_sum, sum};
+use crate::number::{
+    difference, saturating_signed_difference, saturating_signed_sum, saturating_sum, sum,
+};
 use crate::operation::{Binary, WithVector};
 use sm_types::VectorArithmeticOp;
 use vector_elements::{Size, change_each};

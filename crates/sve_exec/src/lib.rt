@@ -6,10 +6,20 @@
 //! the other sources too, the caller copies the first source into a buffer of 256 bytes, and the result back.
 #![tactic(auto)]
 
+mod accumulate;
 mod arithmetic;
+mod binary;
+mod count;
 mod logical;
 mod number;
 mod operation;
+mod product;
+mod quotient;
+mod shift;
+mod unary;
 
+pub use accumulate::multiply_add;
 pub use arithmetic::vector_arithmetic;
+pub use binary::predicated_binary;
 pub use logical::vector_logical;
+pub use unary::predicated_unary;

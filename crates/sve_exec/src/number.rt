@@ -3,6 +3,7 @@ ghost use Rattle.std.specs.Prelude.{◌≡◌, ◌+◌, ◌-◌, ◌*◌, ◌/�
 ghost use Rattle.vector_elements.specs.Numbers.{range_of, signed_of, wrapped};
 ghost use Rattle.sve_exec.specs.Numbers.{signed_saturated, unsigned_saturated, inverted};
 ghost use Rattle.sve_exec.specs.Arithmetic.{sum_of, difference_of};
+ghost use Rattle.sve_exec.specs.Unary.{sign_extended};
 
 use vector_elements::{Size, low_bits, signed, wrapped};
 
@@ -70,10 +71,28 @@ pub fn saturating_signed_sum(size: Size, a: u64, b: u64) -> u64
     ensures { result ≡ wrapped size (signed_saturated size (signed_of size a +ℤ signed_of size b)) }
 {
     match size {
-        Size::B => u64::from((a as u8).cast_signed().saturating_add((b as u8).cast_signed()).cast_unsigned()),
-        Size::H => u64::from((a as u16).cast_signed().saturating_add((b as u16).cast_signed()).cast_unsigned()),
-        Size::S => u64::from((a as u32).cast_signed().saturating_add((b as u32).cast_signed()).cast_unsigned()),
-        Size::D => a.cast_signed().saturating_add(b.cast_signed()).cast_unsigned(),
+        Size::B => u64::from(
+            (a as u8)
+                .cast_signed()
+                .saturating_add((b as u8).cast_signed())
+                .cast_unsigned(),
+        ),
+        Size::H => u64::from(
+            (a as u16)
+                .cast_signed()
+                .saturating_add((b as u16).cast_signed())
+                .cast_unsigned(),
+        ),
+        Size::S => u64::from(
+            (a as u32)
+                .cast_signed()
+                .saturating_add((b as u32).cast_signed())
+                .cast_unsigned(),
+        ),
+        Size::D => a
+            .cast_signed()
+            .saturating_add(b.cast_signed())
+            .cast_unsigned(),
     }
 }
 
@@ -86,9 +105,35 @@ pub fn saturating_signed_difference(size: Size, a: u64, b: u64) -> u64
     ensures { result ≡ wrapped size (signed_saturated size (signed_of size a -ℤ signed_of size b)) }
 {
     match size {
-        Size::B => u64::from((a as u8).cast_signed().saturating_sub((b as u8).cast_signed()).cast_unsigned()),
-        Size::H => u64::from((a as u16).cast_signed().saturating_sub((b as u16).cast_signed()).cast_unsigned()),
-        Size::S => u64::from((a as u32).cast_signed().saturating_sub((b as u32).cast_signed()).cast_unsigned()),
-        Size::D => a.cast_signed().saturating_sub(b.cast_signed()).cast_unsigned(),
+        Size::B => u64::from(
+            (a as u8)
+                .cast_signed()
+                .saturating_sub((b as u8).cast_signed())
+                .cast_unsigned(),
+        ),
+        Size::H => u64::from(
+            (a as u16)
+                .cast_signed()
+                .saturating_sub((b as u16).cast_signed())
+                .cast_unsigned(),
+        ),
+        Size::S => u64::from(
+            (a as u32)
+                .cast_signed()
+                .saturating_sub((b as u32).cast_signed())
+                .cast_unsigned(),
+        ),
+        Size::D => a
+            .cast_signed()
+            .saturating_sub(b.cast_signed())
+            .cast_unsigned(),
     }
+}
+
+/// The low part of an element, of the size `from`, as an element with its sign.
+#[inline(always)]
+pub fn sign_extend(from: Size, size: Size, a: u64) -> u64
+    ensures { result ≡ sign_extended from size a }
+{
+    wrapped(size, signed(from, low_bits(from, a)))
 }
