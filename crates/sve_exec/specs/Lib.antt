@@ -4,3 +4,8 @@ pub mod Logical
 pub mod Binary
 pub mod MultiplyAdd
 pub mod Unary
+pub mod Shift
+pub mod Copies
+pub mod Multiply
+pub mod Ternary
+pub mod Widening

@@ -36,6 +36,24 @@ impl<'a, O: Binary> Change for WithVector<'a, O> {
     }
 }
 
+/// An operation on the elements of a vector and an element, the same for all.
+#[derive(Clone, Copy)]
+pub struct WithValue<O> {
+    pub op: O,
+    pub value: u64,
+}
+
+impl<O: Binary> Change for WithValue<O> {
+    ghost can = { λ s size i. s.value < range_of size };
+
+    ghost gives = { λ s size i a. O.gives s.op size a s.value };
+
+    #[inline(always)]
+    fn apply(&self, size: Size, _place: usize, old: u64) -> u64 {
+        self.op.of_two(size, old, self.value)
+    }
+}
+
 /// An operation on an element.
 pub trait Unary: Copy {
     /// What it gives.

@@ -36,7 +36,7 @@ pub fn high_product(size: Size, a: u64, b: u64) -> u64
 /// An element of 8 bits as a number.
 #[inline(always)]
 #[tactic(auto, unfolding(vector_elements::specs::Numbers::signed_of))]
-fn signed_byte(a: u64) -> i32
+pub fn signed_byte(a: u64) -> i32
     requires { a < 2 ^ 8 }
     ensures { result ≡ signed_of B a }
 {
@@ -46,7 +46,7 @@ fn signed_byte(a: u64) -> i32
 /// An element of 16 bits as a number.
 #[inline(always)]
 #[tactic(auto, unfolding(vector_elements::specs::Numbers::signed_of))]
-fn signed_halfword(a: u64) -> i32
+pub fn signed_halfword(a: u64) -> i32
     requires { a < 2 ^ 16 }
     ensures { result ≡ signed_of H a }
 {
@@ -56,7 +56,7 @@ fn signed_halfword(a: u64) -> i32
 /// An element of 32 bits as a number.
 #[inline(always)]
 #[tactic(auto, unfolding(vector_elements::specs::Numbers::signed_of))]
-fn signed_word(a: u64) -> i32
+pub fn signed_word(a: u64) -> i32
     requires { a < 2 ^ 32 }
     ensures { result ≡ signed_of S a }
 {
