@@ -1,0 +1,11 @@
+pub mod Numbers
+pub mod Arithmetic
+pub mod Logical
+pub mod Binary
+pub mod MultiplyAdd
+pub mod Unary
+pub mod Shift
+pub mod Copies
+pub mod Multiply
+pub mod Ternary
+pub mod Widening

@@ -1,0 +1,15 @@
+//! The elements of a vector's bytes and the bits of a predicate, for elements of 1, 2, 4 and 8 bytes: how
+//! they are read and written, the numbers that they are, and the loops over them. What an instruction makes
+//! of each element is a `Change`; whether inactive elements keep their value or become zero is the loop's.
+#![tactic(auto)]
+
+mod access;
+mod governed;
+mod loops;
+mod number;
+mod size;
+
+pub use access::{bit, element, set_element};
+pub use loops::{Change, change_active, change_each, change_or_zero};
+pub use number::{low_bits, signed, wrapped};
+pub use size::Size;
