@@ -1,6 +1,7 @@
 -- The instruction of an operation, by the names of its fields: n is the number of a field without a sign, and
 -- s in two's complement.
--- Source: DDI 0487, the encoding diagrams of C8.2 (SVE) and C9.2 (SME) and what their pages decode of them.
+-- Source: DDI 0487, the encoding diagrams of C8.2 (SVE), C9.2 (SME) and C6.2 (smstart and smstop), and what
+-- their pages decode of them.
 use Rattle.std.specs.Prelude.{ℕ, ◌+◌, Bool, true, false, ℤ}
 use Rattle.sm_types.specs.declared.insn.Insn.{Insn}
 use Rattle.sm_types.specs.declared.insn.Insn.TheVariants as insn

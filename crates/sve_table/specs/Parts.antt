@@ -1,5 +1,6 @@
 -- The operation of an instruction and the numbers of its row's fields, in the order of the row: the code's
--- own, by which an encoder finds the word.
+-- own, by which an encoder finds the word. None where no row has the operation: for the scalar instructions,
+-- a selection that sets flags, and a store by a register of doublewords from narrower elements.
 use Rattle.std.specs.Prelude.{ℕ, ◌-◌, ◌^◌, Bool, true, false, nat_le, if◌then◌else◌, List, [], ◌∷◌, Option}
 use Rattle.std.specs.Prelude.{Some, None}
 use Rattle.insn_forms.specs.declared.number.Number.{Number}
@@ -60,6 +61,7 @@ unfoldable pub shift_number : VectorShiftOp → ℕ → ℕ → ℕ
 shift_number Lsl width amount = amount
 shift_number _ width amount = if nat_le amount width then width - amount else width
 
+-- a shift, by its elements
 unfoldable pub shift_parts : VectorShift → Elem → Option (Parts VectorOperation)
 shift_parts x B = says (G29 x.op shift.B) (unsigned (x.zd ∷ x.zn ∷ shift_number x.op 8 x.amount ∷ []))
 shift_parts x H = says (G29 x.op shift.H) (unsigned (x.zd ∷ x.zn ∷ shift_number x.op 16 x.amount ∷ []))
@@ -67,31 +69,33 @@ shift_parts x S = says (G29 x.op shift.S) (unsigned (x.zd ∷ x.zn ∷ shift_num
 shift_parts x D = says (G29 x.op shift.D) (unsigned (x.zd ∷ x.zn ∷ shift_number x.op 64 x.amount ∷ []))
 shift_parts x Q = None
 
+-- the groups whose instructions have several forms
 unfoldable pub copy_parts : VectorCopy → Option (Parts VectorOperation)
 copy_parts (copy.Register size rn zd) =
     says (G30 copy_form.Register) (unsigned (elem_number size ∷ zd ∷ rn ∷ []))
 copy_parts (copy.PredicatedRegister size pg rn zd) =
     says (G30 copy_form.PredicatedRegister) (unsigned (elem_number size ∷ zd ∷ pg ∷ rn ∷ []))
 copy_parts (copy.Immediate size shifted imm zd) =
-    says (G30 copy_form.Immediate) (Unsigned (elem_number size) ∷ Unsigned zd ∷ Signed imm
-    ∷ flag_number shifted ∷ [])
+    says (G30 copy_form.Immediate)
+    (Unsigned (elem_number size) ∷ Unsigned zd ∷ Signed imm ∷ flag_number shifted ∷ [])
 copy_parts (copy.PredicatedImmediate size pg merging shifted imm zd) =
-    says (G30 copy_form.PredicatedImmediate) (Unsigned (elem_number size) ∷ Unsigned zd ∷ Unsigned pg
-    ∷ flag_number merging ∷ Signed imm ∷ flag_number shifted ∷ [])
+    says (G30 copy_form.PredicatedImmediate)
+    (Unsigned (elem_number size) ∷ Unsigned zd ∷ Unsigned pg ∷ flag_number merging
+    ∷ Signed imm ∷ flag_number shifted ∷ [])
 copy_parts (copy.Index size (part.Immediate start) (part.Immediate step) zd) =
-    says (G30 (copy_form.Index false false)) (Unsigned (elem_number size) ∷ Unsigned zd ∷ Signed start
-    ∷ Signed step ∷ [])
+    says (G30 (copy_form.Index false false))
+    (Unsigned (elem_number size) ∷ Unsigned zd ∷ Signed start ∷ Signed step ∷ [])
 copy_parts (copy.Index size (part.Register start) (part.Immediate step) zd) =
-    says (G30 (copy_form.Index true false)) (Unsigned (elem_number size) ∷ Unsigned zd ∷ Unsigned start
-    ∷ Signed step ∷ [])
+    says (G30 (copy_form.Index true false))
+    (Unsigned (elem_number size) ∷ Unsigned zd ∷ Unsigned start ∷ Signed step ∷ [])
 copy_parts (copy.Index size (part.Immediate start) (part.Register step) zd) =
-    says (G30 (copy_form.Index false true)) (Unsigned (elem_number size) ∷ Unsigned zd ∷ Signed start
-    ∷ Unsigned step ∷ [])
+    says (G30 (copy_form.Index false true))
+    (Unsigned (elem_number size) ∷ Unsigned zd ∷ Signed start ∷ Unsigned step ∷ [])
 copy_parts (copy.Index size (part.Register start) (part.Register step) zd) =
     says (G30 (copy_form.Index true true)) (unsigned (elem_number size ∷ zd ∷ start ∷ step ∷ []))
 copy_parts (copy.AddImmediate op size shifted imm zdn) =
-    says (G30 (copy_form.AddImmediate op)) (Unsigned (elem_number size) ∷ Unsigned zdn ∷ Unsigned imm
-    ∷ flag_number shifted ∷ [])
+    says (G30 (copy_form.AddImmediate op))
+    (Unsigned (elem_number size) ∷ Unsigned zdn ∷ Unsigned imm ∷ flag_number shifted ∷ [])
 copy_parts (copy.MultiplyImmediate size imm zdn) =
     says (G30 copy_form.MultiplyImmediate) (Unsigned (elem_number size) ∷ Unsigned zdn ∷ Signed imm ∷ [])
 copy_parts (copy.Select size zm pg zn zd) =
@@ -120,8 +124,8 @@ unfoldable pub compare_parts : VectorCompare → Option (Parts VectorOperation)
 compare_parts (compare.Vectors op size zm pg zn pd) =
     says (G33 (compare_form.Vectors op)) (unsigned (elem_number size ∷ pd ∷ pg ∷ zn ∷ zm ∷ []))
 compare_parts (compare.Immediate op size imm pg zn pd) =
-    says (G33 (compare_form.Immediate op)) (Unsigned (elem_number size) ∷ Unsigned pd ∷ Unsigned pg
-    ∷ Unsigned zn ∷ Signed imm ∷ [])
+    says (G33 (compare_form.Immediate op))
+    (Unsigned (elem_number size) ∷ Unsigned pd ∷ Unsigned pg ∷ Unsigned zn ∷ Signed imm ∷ [])
 
 unfoldable pub predicate_parts : Predicate → Option (Parts VectorOperation)
 predicate_parts (predicate.True size pattern pd) =
@@ -156,21 +160,22 @@ element_parts (element.AddLength predicate imm rn rd) =
 
 unfoldable pub access_parts : VectorAccess → Option (Parts VectorOperation)
 access_parts (access.Load kind (vector_offset.Vectors offset) pg rn zt) =
-    says (G37 access_form.LoadVectors) (Unsigned (load_type_number kind) ∷ Unsigned zt ∷ Unsigned pg
-    ∷ Unsigned rn ∷ Signed offset ∷ [])
-access_parts (access.Load kind (vector_offset.Register offset) pg rn zt) =
-    says (G37 access_form.LoadRegister) (unsigned (load_type_number kind ∷ zt ∷ pg ∷ rn ∷ offset ∷ []))
+    says (G37 access_form.LoadVectors)
+    (Unsigned (load_type_number kind) ∷ Unsigned zt ∷ Unsigned pg ∷ Unsigned rn ∷ Signed offset ∷ [])
+access_parts (access.Load kind (vector_offset.Register rm) pg rn zt) =
+    says (G37 access_form.LoadRegister) (unsigned (load_type_number kind ∷ zt ∷ pg ∷ rn ∷ rm ∷ []))
 access_parts (access.Store memory element (vector_offset.Vectors offset) pg rn zt) =
-    says (G37 access_form.StoreVectors) (Unsigned (elem_number memory) ∷ Unsigned (elem_number element)
-    ∷ Unsigned zt ∷ Unsigned pg ∷ Unsigned rn ∷ Signed offset ∷ [])
-access_parts (access.Store B element (vector_offset.Register offset) pg rn zt) =
-    says (G37 access_form.StoreBytes) (unsigned (elem_number element ∷ zt ∷ pg ∷ rn ∷ offset ∷ []))
-access_parts (access.Store H element (vector_offset.Register offset) pg rn zt) =
-    says (G37 access_form.StoreHalfwords) (unsigned (elem_number element ∷ zt ∷ pg ∷ rn ∷ offset ∷ []))
-access_parts (access.Store S element (vector_offset.Register offset) pg rn zt) =
-    says (G37 access_form.StoreWords) (unsigned (elem_number element ∷ zt ∷ pg ∷ rn ∷ offset ∷ []))
-access_parts (access.Store D D (vector_offset.Register offset) pg rn zt) =
-    says (G37 access_form.StoreDoublewords) (unsigned (zt ∷ pg ∷ rn ∷ offset ∷ []))
+    says (G37 access_form.StoreVectors)
+    (Unsigned (elem_number memory) ∷ Unsigned (elem_number element) ∷ Unsigned zt ∷ Unsigned pg
+    ∷ Unsigned rn ∷ Signed offset ∷ [])
+access_parts (access.Store B element (vector_offset.Register rm) pg rn zt) =
+    says (G37 access_form.StoreBytes) (unsigned (elem_number element ∷ zt ∷ pg ∷ rn ∷ rm ∷ []))
+access_parts (access.Store H element (vector_offset.Register rm) pg rn zt) =
+    says (G37 access_form.StoreHalfwords) (unsigned (elem_number element ∷ zt ∷ pg ∷ rn ∷ rm ∷ []))
+access_parts (access.Store S element (vector_offset.Register rm) pg rn zt) =
+    says (G37 access_form.StoreWords) (unsigned (elem_number element ∷ zt ∷ pg ∷ rn ∷ rm ∷ []))
+access_parts (access.Store D D (vector_offset.Register rm) pg rn zt) =
+    says (G37 access_form.StoreDoublewords) (unsigned (zt ∷ pg ∷ rn ∷ rm ∷ []))
 access_parts (access.Store memory element (vector_offset.Register rm) pg rn zt) = None
 access_parts (access.Vector store vectors rn zt) =
     says (G37 (access_form.Vector store)) (Unsigned zt ∷ Unsigned rn ∷ Signed vectors ∷ [])
@@ -199,12 +204,13 @@ unfoldable pub slice_numbers : TileSlice → List Number → List Number
 slice_numbers x ns =
     Unsigned x.tile ∷ flag_number x.vertical ∷ Unsigned (number_from 12 2 x.rv) ∷ Unsigned x.offset ∷ ns
 
+-- a move of a slice, by its direction
 unfoldable pub move_parts : TileMove → Bool → Option (Parts VectorOperation)
 move_parts x true = says (G42 true x.slice.size) (slice_numbers x.slice (unsigned (x.pg ∷ x.z ∷ [])))
 move_parts x false =
     says (G42 false x.slice.size) (Unsigned x.z ∷ Unsigned x.pg ∷ slice_numbers x.slice [])
 
--- none for the scalar instructions
+-- the parts of an instruction
 unfoldable pub parts_of : Insn → Option (Parts VectorOperation)
 parts_of (insn.VectorArithmetic x) = says (G24 x.op) (unsigned (elem_number x.size ∷ x.zd ∷ x.zn ∷ x.zm ∷ []))
 parts_of (insn.VectorLogical x) = says (G25 x.op) (unsigned (x.zd ∷ x.zn ∷ x.zm ∷ []))

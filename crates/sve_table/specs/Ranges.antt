@@ -1,6 +1,6 @@
 -- The ranges of a vector instruction's fields: those that a row of the table gives them, and no others.
--- Source: DDI 0487, C8.2 and C9.2: the widths of the fields of each instruction's encoding, and the values
--- that have none.
+-- Source: DDI 0487, C8.2, and C9.2 for SME: the widths of the fields of each instruction's encoding, and the
+-- values that have none.
 use Rattle.std.specs.Prelude.{◌≡◌, ℕ, ◌<◌, ◌≤◌, ◌^◌, Bool, true, false, IsTrue}
 use Rattle.sm_types.specs.declared.insn.Insn.{Insn}
 use Rattle.sm_types.specs.declared.insn.Insn.TheVariants as insn
@@ -49,14 +49,14 @@ pub record IsVectorLogical (it : VectorLogical) : Type 0 where
   pub zn : it.zn < 32
   pub zd : it.zd < 32
 
--- a predicate of the lower half
+-- the elements that the operation has, and a predicate of 0 to 7
 pub record IsPredicatedBinary (it : PredicatedBinary) : Type 0 where
   pub size : IsTrue (is_between (least_binary it.op) D it.size)
   pub pg : it.pg < 8
   pub zm : it.zm < 32
   pub zdn : it.zdn < 32
 
--- elements of 8 to 64 bits, and a predicate of the lower half
+-- elements of 8 to 64 bits, and a predicate of 0 to 7
 pub record IsMultiplyAdd (it : MultiplyAdd) : Type 0 where
   pub size : IsTrue (is_between B D it.size)
   pub pg : it.pg < 8
@@ -64,7 +64,7 @@ pub record IsMultiplyAdd (it : MultiplyAdd) : Type 0 where
   pub zn : it.zn < 32
   pub zda : it.zda < 32
 
--- a predicate of the lower half
+-- the elements that the operation has, and a predicate of 0 to 7
 pub record IsPredicatedUnary (it : PredicatedUnary) : Type 0 where
   pub size : IsTrue (is_between (least_unary it.op) D it.size)
   pub pg : it.pg < 8
@@ -138,21 +138,21 @@ IsVectorPermute (permute.Table size zm zn zd) =
 IsVectorPermute (permute.Extract amount zm zdn) = (amount < 2 ^ 8) × (zm < 32) × (zdn < 32)
 IsVectorPermute (permute.Unpack signed high size zn zd) = IsTrue (is_between H D size) × (zn < 32) × (zd < 32)
 
--- a predicate of the lower half
+-- the elements that the operation has, and a predicate of 0 to 7
 abbrev pub IsVectorReduction : VectorReduction → Type 0
 IsVectorReduction (reduction.Last active size pg zn rd) =
     IsTrue (is_between B D size) × (pg < 8) × (zn < 32) × (rd < 32)
 IsVectorReduction (reduction.Reduce op size pg zn vd) =
     IsTrue (is_between B (widest_reduced op) size) × (pg < 8) × (zn < 32) × (vd < 32)
 
--- a predicate of the lower half, and an immediate of 5 signed bits
+-- a predicate of 0 to 7, and an immediate of 5 signed bits
 abbrev pub IsVectorCompare : VectorCompare → Type 0
 IsVectorCompare (compare.Vectors op size zm pg zn pd) =
     IsTrue (is_between B D size) × (zm < 32) × (pg < 8) × (zn < 32) × (pd < 16)
 IsVectorCompare (compare.Immediate op size imm pg zn pd) =
     IsTrue (is_between B D size) × IsSigned 5 imm × (pg < 8) × (zn < 32) × (pd < 16)
 
--- predicates of both halves; a selection sets no flags
+-- predicates of 0 to 15, and a pattern of 5 bits; a selection sets no flags
 abbrev pub IsPredicate : Predicate → Type 0
 IsPredicate (predicate.True size pattern pd) = IsTrue (is_between B D size) × (pattern < 32) × (pd < 16)
 IsPredicate (predicate.False pd) = pd < 16
@@ -160,7 +160,7 @@ IsPredicate (predicate.Test pg pn) = (pg < 16) × (pn < 16)
 IsPredicate (predicate.Logical op flags pm pg pn pd) =
     (op ≡ Sel → flags ≡ false) × (pm < 16) × (pg < 16) × (pn < 16) × (pd < 16)
 
--- predicates of both halves
+-- predicates of 0 to 15
 abbrev pub IsPredicateCount : PredicateCount → Type 0
 IsPredicateCount (count.While signed wide size rm rn pd) =
     IsTrue (is_between B D size) × (rm < 32) × (rn < 32) × (pd < 16)
@@ -179,7 +179,7 @@ IsElementCount (element.Change decrement size pattern multiplier rd) =
 IsElementCount (element.Length imm rd) = IsSigned 6 imm × (rd < 32)
 IsElementCount (element.AddLength predicate imm rn rd) = IsSigned 6 imm × (rn < 32) × (rd < 32)
 
--- a predicate of the lower half, and what is stored is no wider than the element
+-- a predicate of 0 to 7, and what is stored is no wider than the element
 abbrev pub IsVectorAccess : VectorAccess → Type 0
 IsVectorAccess (access.Load kind offset pg rn zt) = IsVectorOffset offset × (pg < 8) × (rn < 32) × (zt < 32)
 IsVectorAccess (access.Store memory element offset pg rn zt) =
@@ -193,7 +193,7 @@ IsSve2 (sve2.Multiply op size zm zn zd) = IsTrue (is_between B D size) × (zm < 
 IsSve2 (sve2.Ternary op zm zk zdn) = (zm < 32) × (zk < 32) × (zdn < 32)
 IsSve2 (sve2.Widening op top size zm zn zd) = IsTrue (is_between H D size) × (zm < 32) × (zn < 32) × (zd < 32)
 
--- 8 bits, or a slice
+-- a mask of 8 bits; the register of a vector, and which vector above it
 abbrev pub IsArrayAccess : ArrayAccess → Type 0
 IsArrayAccess (array.Zero mask) = mask < 2 ^ 8
 IsArrayAccess (array.Transfer store rv offset rn) = IsSliceRegister rv × (offset < 16) × (rn < 32)
@@ -218,18 +218,20 @@ offsets S = 4
 offsets D = 2
 offsets Q = 1
 
--- a tile of its elements, and a slice above the register's
+-- one of the tiles of its elements, and which slice above the register's
 pub record IsTileSlice (it : TileSlice) : Type 0 where
   pub rv : IsSliceRegister it.rv
   pub tile : it.tile < tiles it.size
   pub offset : it.offset < offsets it.size
 
+-- a predicate of 0 to 7
 pub record IsTileAccess (it : TileAccess) : Type 0 where
   pub slice : IsTileSlice it.slice
   pub pg : it.pg < 8
   pub rm : it.rm < 32
   pub rn : it.rn < 32
 
+-- a predicate of 0 to 7
 pub record IsTileMove (it : TileMove) : Type 0 where
   pub slice : IsTileSlice it.slice
   pub pg : it.pg < 8
@@ -240,12 +242,14 @@ abbrev pub sum_tiles : Bool → ℕ
 sum_tiles true = 8
 sum_tiles false = 4
 
+-- predicates of 0 to 7
 pub record IsTileAdd (it : TileAdd) : Type 0 where
   pub tile : it.tile < sum_tiles it.wide
   pub pn : it.pn < 8
   pub pm : it.pm < 8
   pub zn : it.zn < 32
 
+-- predicates of 0 to 7
 pub record IsOuterProduct (it : OuterProduct) : Type 0 where
   pub tile : it.tile < sum_tiles it.wide
   pub pn : it.pn < 8
