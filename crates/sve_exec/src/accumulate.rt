@@ -1,5 +1,5 @@
 //! Products that are added to a vector or subtracted from it.
-ghost use Rattle.std.specs.Prelude.{◌≡◌, ◌*◌, ◌%◌, length};
+ghost use Rattle.std.specs.Prelude.{◌≡◌, ◌*◌, ◌%◌, ◌≤◌, length};
 ghost use Rattle.vector_elements.specs.Numbers.{bytes_in};
 ghost use Rattle.sve_exec.specs.MultiplyAdd.{accumulated, multiply_add};
 
@@ -31,6 +31,7 @@ fn known_multiply_add(op: MultiplyAddOp, size: Size, d: &mut [u8], p: &[u8], n: 
     requires m { length d.old ≡ length m.now }
     requires whole { length d.old % bytes_in size ≡ 0 }
     requires bits { length d.old ≡ 8 * length p.now }
+    requires small { length d.old ≤ 256 }
     ensures { d.new ≡ multiply_add op size p.now d.old n.now m.now }
 {
     change_active(&WithVectors { op, n, m }, size, d, p);
@@ -43,6 +44,7 @@ pub fn multiply_add(op: MultiplyAddOp, size: Size, d: &mut [u8], p: &[u8], n: &[
     requires m { length d.old ≡ length m.now }
     requires whole { length d.old % bytes_in size ≡ 0 }
     requires bits { length d.old ≡ 8 * length p.now }
+    requires small { length d.old ≤ 256 }
     ensures { d.new ≡ multiply_add op size p.now d.old n.now m.now }
 {
     match op {

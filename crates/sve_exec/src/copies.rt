@@ -56,6 +56,7 @@ pub fn duplicate(size: Size, value: u64, d: &mut [u8])
 pub fn copy_merging(size: Size, value: u64, d: &mut [u8], p: &[u8])
     requires whole { length d.old % bytes_in size ≡ 0 }
     requires bits { length d.old ≡ 8 * length p.now }
+    requires small { length d.old ≤ 256 }
     ensures { d.new ≡ copied_merging size value p.now d.old }
 {
     change_active(&Value { value }, size, d, p);
@@ -67,6 +68,7 @@ pub fn copy_merging(size: Size, value: u64, d: &mut [u8], p: &[u8])
 pub fn copy_zeroing(size: Size, value: u64, d: &mut [u8], p: &[u8])
     requires whole { length d.old % bytes_in size ≡ 0 }
     requires bits { length d.old ≡ 8 * length p.now }
+    requires small { length d.old ≤ 256 }
     ensures { d.new ≡ copied_zeroing size value p.now d.old }
 {
     change_or_zero(&Value { value }, size, d, p);
@@ -128,6 +130,7 @@ pub fn select(size: Size, d: &mut [u8], p: &[u8], n: &[u8])
     requires same { length d.old ≡ length n.now }
     requires whole { length d.old % bytes_in size ≡ 0 }
     requires bits { length d.old ≡ 8 * length p.now }
+    requires small { length d.old ≤ 256 }
     ensures { d.new ≡ selected size p.now n.now d.old }
 {
     change_active(&Elements { n }, size, d, p);

@@ -9,6 +9,7 @@
 mod accumulate;
 mod arithmetic;
 mod binary;
+mod binary_ops;
 mod copies;
 mod count;
 mod immediate;
@@ -22,6 +23,7 @@ mod quotient;
 mod shift;
 mod ternary;
 mod unary;
+mod unary_ops;
 mod widening;
 
 pub use accumulate::multiply_add;

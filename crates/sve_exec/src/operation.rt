@@ -1,10 +1,10 @@
 //! Operations on elements, and the changes of vectors that they make.
-ghost use Rattle.std.specs.Prelude.{◌≡◌, ℕ, ◌+◌, ◌*◌, ◌<◌, ◌≤◌, length};
+ghost use Rattle.std.specs.Prelude.{◌≡◌, ℕ, ◌+◌, ◌*◌, ◌%◌, ◌<◌, ◌≤◌, length};
 ghost use Rattle.vector_elements.specs.declared.size.Size.{Size as ElementSize};
-ghost use Rattle.vector_elements.specs.Elements.{element_of};
+ghost use Rattle.vector_elements.specs.Elements.{element_of, each_element, each_active};
 ghost use Rattle.vector_elements.specs.Numbers.{bytes_in, range_of};
 
-use vector_elements::{Change, Size, element};
+use vector_elements::{Change, Size, change_active, change_each, element};
 
 /// An operation on two elements.
 pub trait Binary: Copy {
@@ -34,6 +34,30 @@ impl<'a, O: Binary> Change for WithVector<'a, O> {
     fn apply(&self, size: Size, place: usize, old: u64) -> u64 {
         self.op.of_two(size, old, element(self.m, size, place))
     }
+}
+
+/// Changes the elements of `d` by those of `m`.
+#[inline]
+pub fn each_with<O: Binary>(op: O, size: Size, d: &mut [u8], m: &[u8])
+    requires same { length d.old ≡ length m.now }
+    requires whole { length d.old % bytes_in size ≡ 0 }
+    ensures { d.new ≡ each_element (bytes_in size) d.old (λ i a.
+        O.gives op size a (element_of (bytes_in size) m.now i)) }
+{
+    change_each(&WithVector { op, m }, size, d);
+}
+
+/// Changes the active elements of `d` by those of `m`; the others keep their value.
+#[inline]
+pub fn active_with<O: Binary>(op: O, size: Size, d: &mut [u8], p: &[u8], m: &[u8])
+    requires same { length d.old ≡ length m.now }
+    requires whole { length d.old % bytes_in size ≡ 0 }
+    requires bits { length d.old ≡ 8 * length p.now }
+    requires small { length d.old ≤ 256 }
+    ensures { d.new ≡ each_active (bytes_in size) p.now d.old (λ i a.
+        O.gives op size a (element_of (bytes_in size) m.now i)) }
+{
+    change_active(&WithVector { op, m }, size, d, p);
 }
 
 /// An operation on the elements of a vector and an element, the same for all.
@@ -81,6 +105,19 @@ impl<'a, O: Unary> Change for OfVector<'a, O> {
     fn apply(&self, size: Size, place: usize, _old: u64) -> u64 {
         self.op.of_one(size, element(self.n, size, place))
     }
+}
+
+/// The active elements of `d` become what the operation gives of those of `n`; the others keep their value.
+#[inline]
+pub fn active_of<O: Unary>(op: O, size: Size, d: &mut [u8], p: &[u8], n: &[u8])
+    requires same { length d.old ≡ length n.now }
+    requires whole { length d.old % bytes_in size ≡ 0 }
+    requires bits { length d.old ≡ 8 * length p.now }
+    requires small { length d.old ≤ 256 }
+    ensures { d.new ≡ each_active (bytes_in size) p.now d.old (λ i old.
+        O.gives op size (element_of (bytes_in size) n.now i)) }
+{
+    change_active(&OfVector { op, n }, size, d, p);
 }
 
 /// An operation on three elements.

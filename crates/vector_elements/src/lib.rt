@@ -6,6 +6,7 @@
 mod access;
 mod governed;
 mod loops;
+mod mask;
 mod number;
 mod size;
 

@@ -6,6 +6,7 @@ ghost use Rattle.vector_elements.specs.Numbers.{bytes_in, range_of};
 
 use crate::access::{element, set_element};
 use crate::governed::{Merging, Zeroing};
+use crate::mask::expand;
 use crate::size::Size;
 
 /// What an element of a vector becomes, by its place and by what it was.
@@ -57,9 +58,19 @@ pub fn change_active<C: Change>(change: &C, size: Size, d: &mut [u8], p: &[u8])
     requires can { (i : ℕ) → bytes_in size * i + bytes_in size ≤ length d.old → C.can change.now size i }
     requires whole { length d.old % bytes_in size ≡ 0 }
     requires bits { length d.old ≡ 8 * length p.now }
+    requires small { length d.old ≤ 256 }
     ensures { d.new ≡ each_active (bytes_in size) p.now d.old (C.gives change.now size) }
 {
-    change_each(&Merging { change, p }, size, d);
+    let mut mask = [0u8; 256];
+    expand(p, &mut mask);
+    change_each(
+        &Merging {
+            change,
+            mask: &mask,
+        },
+        size,
+        d,
+    );
 }
 
 /// Changes the active elements of a vector; the others become zero.
@@ -68,7 +79,17 @@ pub fn change_or_zero<C: Change>(change: &C, size: Size, d: &mut [u8], p: &[u8])
     requires can { (i : ℕ) → bytes_in size * i + bytes_in size ≤ length d.old → C.can change.now size i }
     requires whole { length d.old % bytes_in size ≡ 0 }
     requires bits { length d.old ≡ 8 * length p.now }
+    requires small { length d.old ≤ 256 }
     ensures { d.new ≡ each_or_zero (bytes_in size) p.now d.old (C.gives change.now size) }
 {
-    change_each(&Zeroing { change, p }, size, d);
+    let mut mask = [0u8; 256];
+    expand(p, &mut mask);
+    change_each(
+        &Zeroing {
+            change,
+            mask: &mask,
+        },
+        size,
+        d,
+    );
 }

@@ -1,0 +1,63 @@
+-- Masks of predicates.
+use Rattle.std.proofs.Common.{◌≡◌, ℕ, zero, suc, refl, ◌++◌, ◌+◌, ◌*◌, ◌/◌, ◌%◌, ◌^◌, ◌<◌, ◌≤◌, ◌==◌, List, [], ◌∷◌, length, take, drop, slice_index, arith, ap, ◌∙◌, sym, inl, inr}
+use Rattle.std.proofs.Math.Seq.{drop-cons}
+use Rattle.std.proofs.lemmas.Bool.{cases_lt}
+use Rattle.std.specs.Simd.Lanes.{number_l}
+use Rattle.vector_elements.specs.declared.size.Size.{Size}
+use Rattle.vector_elements.specs.declared.size.Size.TheVariants.{B, H, S, D}
+use Rattle.vector_elements.specs.Elements.{listed, element_of, bytes_of, bit_of, each_element}
+use Rattle.vector_elements.specs.Numbers.{bytes_in}
+
+-- the bits of a predicate up to a place, as bytes that are odd
+abbrev pub IsMaskTo : ℕ → List ℕ → List ℕ → Type 0
+IsMaskTo end p mask = (j : ℕ) → j < end → (slice_index mask j % 2 == 1) ≡ bit_of p j
+
+-- with one byte of the predicate more
+pub mask_next : (p old new : List ℕ) (i : ℕ) → IsMaskTo (8 * i) p old
+    → ((k : ℕ) → k < 8 → slice_index new (8 * i + k) ≡ slice_index p i / 2 ^ k)
+    → ((j : ℕ) → j < 8 * i → slice_index new j ≡ slice_index old j)
+    → IsMaskTo (8 * (i + 1)) p new
+unfolding bit_of
+mask_next p old new i so_far written kept j below = elim (cases_lt j (8 * i)) [
+  | inl before ↦ ap (λ n. n % 2 == 1) (kept j before) ∙ so_far j before
+  | inr from ↦
+      let place : 8 * i + j % 8 ≡ j = omega arith in
+      let byte : i ≡ j / 8 = omega arith in
+      ap (λ n. slice_index new n % 2 == 1) (sym place) ∙ ap (λ n. n % 2 == 1) (written (j % 8) (omega arith))
+      ∙ ap (λ n. slice_index p n / 2 ^ (j % 8) % 2 == 1) byte
+]
+
+-- an element is odd where its lowest byte is
+odd_first : (xs : List ℕ) (e x : ℕ) (rest : List ℕ) → xs ≡ x ∷ rest → number_l 256 (take (suc e) xs) % 2 ≡ x % 2
+odd_first xs e x rest is =
+    let more = number_l 256 (take e rest) in
+    let low : (x + 256 * more) % 2 ≡ x % 2 = omega arith in
+    ap (λ l. number_l 256 (take (suc e) l) % 2) is ∙ low
+
+pub odd_element : (size : Size) (bytes : List ℕ) (i : ℕ) → bytes_in size * i + bytes_in size ≤ length bytes
+    → element_of (bytes_in size) bytes i % 2 ≡ slice_index bytes (bytes_in size * i) % 2
+unfolding element_of
+odd_element B bytes i room = odd_first _ 0 _ _ (drop-cons bytes (1 * i) 0 (omega arith))
+odd_element H bytes i room = odd_first _ 1 _ _ (drop-cons bytes (2 * i) 0 (omega arith))
+odd_element S bytes i room = odd_first _ 3 _ _ (drop-cons bytes (4 * i) 0 (omega arith))
+odd_element D bytes i room = odd_first _ 7 _ _ (drop-cons bytes (8 * i) 0 (omega arith))
+
+-- a place is that of an element
+pub within : (size : Size) (i n : ℕ) → i < n / bytes_in size → bytes_in size * i < n
+within B i n below = omega arith
+within H i n below = omega arith
+within S i n below = omega arith
+within D i n below = omega arith
+
+listed_same : (f g : ℕ → ℕ) (n : ℕ) → ((i : ℕ) → i < n → f i ≡ g i) → listed f n ≡ listed g n
+unfolding listed
+listed_same f g zero same = refl
+listed_same f g (suc n) same =
+    ap (λ t. t ++ f n ∷ []) (listed_same f g n (λ i below. same i (omega arith)))
+    ∙ ap (λ x. listed g n ++ x ∷ []) (same n (omega arith))
+
+-- two changes that agree at each element
+pub each_same : (e : ℕ) (d : List ℕ) (f g : ℕ → ℕ → ℕ)
+    → ((i : ℕ) → i < length d / e → (old : ℕ) → f i old ≡ g i old) → each_element e d f ≡ each_element e d g
+unfolding each_element
+each_same e d f g same = ap (bytes_of e) (listed_same _ _ (length d / e) (λ i below. same i below (element_of e d i)))
