@@ -1,6 +1,6 @@
 //! Rows of bytes, one for each register.
-ghost use Rattle.std.specs.Prelude.{◌≡◌, ℕ, ◌<◌, ◌≤◌, [], length, map, replicate, take, slice_index_or, IfOk};
-ghost use Rattle.sve_vectors.specs.Layout.{items_of, AreRows, ClearedRows};
+ghost use Rattle.std.specs.Prelude.{◌≡◌, ℕ, ◌<◌, ◌≤◌, [], length, replicate, take, slice_index_or, IfOk};
+ghost use Rattle.sve_vectors.specs.Layout.{items_of, ClearedRows};
 
 use sm_types::Memory;
 use std::alloc::{AllocError, Global};

@@ -17,7 +17,9 @@ pub struct Vectors {
     vl: VecLen,
     svl: VecLen,
     streaming: bool,
+    /// L, in bytes.
     current: usize,
+    /// A row for each register, whose first L bytes are the register; in `p` and `ffr` the first L / 8.
     z: Vec<Vec<u8>>,
     p: Vec<Vec<u8>>,
     ffr: Vec<u8>,
