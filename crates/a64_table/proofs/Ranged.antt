@@ -3,7 +3,7 @@ use Rattle.std.proofs.Common.{◌≡◌, ◌≢◌, ℕ, ◌%◌, ◌<◌, ◌^�
 use Rattle.std.proofs.lemmas.Bool.{ltb-true, and_parts, both_ways}
 use Rattle.bit_ops.specs.Masks.{are_mask_fields}
 use Rattle.insn_forms.specs.declared.field.Field.{Field}
-use Rattle.insn_forms.specs.Fields.{bits_of, field_in, signed_value}
+use Rattle.insn_forms.specs.Fields.{field_in}
 use Rattle.insn_forms.specs.Tables.{Means, numbers_in, signed_numbers_in}
 use Rattle.insn_forms.proofs.Bits.{field_in-lt}
 use Rattle.insn_forms.proofs.Numbers.{all_below, below, small, half_small, cut_below, uncut, signed_ranged as signed_small}

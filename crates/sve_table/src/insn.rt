@@ -7,6 +7,7 @@ ghost use Rattle.sm_types.specs.declared.vector.VectorOffset.TheVariants as vect
 ghost use Rattle.insn_forms.specs.Fields.{is_field};
 ghost use Rattle.insn_forms.specs.Tables.{given, numbers_in, signed_numbers_in};
 ghost use Rattle.insn_forms.specs.Values.{byte as field_byte};
+ghost use Rattle.sve_table.specs.declared.operation.CopyForm.TheVariants.{Index};
 ghost use Rattle.sve_table.specs.Named.{named_access, named_array, named_compare, named_copy, named_count};
 ghost use Rattle.sve_table.specs.Named.{named_element, named_permute, named_predicate, named_reduction};
 ghost use Rattle.sve_table.specs.Named.{named_streaming, named_sve2, moved_slice, moved_vector, named_slice};
@@ -123,18 +124,7 @@ fn copy(form: CopyForm, word: u32) -> VectorCopy
             ; size: elem_of SIZE, pg: byte CPY_PG, merging: one MERGING, shifted: one SH,
             imm: signed_number IMM8, zd: byte ZD
         }),
-        CopyForm::Index(false, false) => read!(word VectorCopy::Index {
-            ; size: elem_of SIZE, start: index_immediate IMM5, step: index_immediate IMM5B, zd: byte ZD
-        }),
-        CopyForm::Index(true, false) => read!(word VectorCopy::Index {
-            ; size: elem_of SIZE, start: index_register RN, step: index_immediate IMM5B, zd: byte ZD
-        }),
-        CopyForm::Index(false, true) => read!(word VectorCopy::Index {
-            ; size: elem_of SIZE, start: index_immediate IMM5, step: index_register RM, zd: byte ZD
-        }),
-        CopyForm::Index(true, true) => read!(word VectorCopy::Index {
-            ; size: elem_of SIZE, start: index_register RN, step: index_register RM, zd: byte ZD
-        }),
+        CopyForm::Index(start, step) => index(start, step, word),
         CopyForm::AddImmediate(op) => read!(word VectorCopy::AddImmediate {
             op; size: elem_of SIZE, shifted: one SH, imm: byte IMM8, zdn: byte ZDN
         }),
@@ -145,6 +135,27 @@ fn copy(form: CopyForm, word: u32) -> VectorCopy
             ; size: elem_of SIZE, zm: byte ZM, pg: byte PG4, zn: byte ZN, zd: byte ZD
         }),
         CopyForm::Prefix => read!(word VectorCopy::Prefix {; zn: byte ZN, zd: byte ZD }),
+    }
+}
+
+/// An index, by whether its start and its step are registers.
+#[inline(always)]
+fn index(start: bool, step: bool, word: u32) -> VectorCopy
+    ensures { result ≡ named_copy (Index start step) (numbers_in word) (signed_numbers_in word) }
+{
+    match (start, step) {
+        (false, false) => read!(word VectorCopy::Index {
+            ; size: elem_of SIZE, start: index_immediate IMM5, step: index_immediate IMM5B, zd: byte ZD
+        }),
+        (true, false) => read!(word VectorCopy::Index {
+            ; size: elem_of SIZE, start: index_register RN, step: index_immediate IMM5B, zd: byte ZD
+        }),
+        (false, true) => read!(word VectorCopy::Index {
+            ; size: elem_of SIZE, start: index_immediate IMM5, step: index_register RM, zd: byte ZD
+        }),
+        (true, true) => read!(word VectorCopy::Index {
+            ; size: elem_of SIZE, start: index_register RN, step: index_register RM, zd: byte ZD
+        }),
     }
 }
 

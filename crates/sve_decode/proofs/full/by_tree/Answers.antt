@@ -1,4 +1,4 @@
-use Rattle.std.proofs.Common.{◌≡◌, arith}
+use Rattle.std.proofs.Common.{arith}
 use Rattle.std.proofs.lemmas.Bool.{both_ways}
 use Rattle.insn_forms.proofs.Deciding.{no_place, no_line, no_match, match}
 use Rattle.sve_table.specs.Table.{full}

@@ -1,4 +1,4 @@
-use Rattle.std.proofs.Common.{◌≡◌, ℕ, true, refl, ◌∙◌, arith}
+use Rattle.std.proofs.Common.{◌≡◌, true, refl, ◌∙◌, arith}
 use Rattle.insn_forms.proofs.Cover.{numbered, kept, may_be_clear, may_be_set, may_begin, covers_at, covers, covers_from, leads}
 use Rattle.sve_table.specs.declared.rows.TheConstants.{LINES}
 use Rattle.sve_decode.specs.declared.tree.TheConstants.{TREE, ROOTS, DEPTH}
