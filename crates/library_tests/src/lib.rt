@@ -13,4 +13,6 @@ mod sources;
 #[cfg(test)]
 mod stops;
 #[cfg(test)]
+mod vectors;
+#[cfg(test)]
 mod words;

@@ -18,7 +18,8 @@ impl<'a, C: Change> Change for Merging<'a, C> {
         C.can s.change.now size i × (bytes_in size * i + bytes_in size ≤ length s.mask.now) };
 
     ghost gives = { λ s size i old.
-        if slice_index s.mask.now (bytes_in size * i) % 2 == 1 then C.gives s.change.now size i old else old };
+        let odd = slice_index s.mask.now (bytes_in size * i) % 2 == 1 in
+        if odd then C.gives s.change.now size i old else old };
 
     #[inline(always)]
     fn apply(&self, size: Size, place: usize, old: u64) -> u64 {
@@ -43,7 +44,8 @@ impl<'a, C: Change> Change for Zeroing<'a, C> {
         C.can s.change.now size i × (bytes_in size * i + bytes_in size ≤ length s.mask.now) };
 
     ghost gives = { λ s size i old.
-        if slice_index s.mask.now (bytes_in size * i) % 2 == 1 then C.gives s.change.now size i old else 0 };
+        let odd = slice_index s.mask.now (bytes_in size * i) % 2 == 1 in
+        if odd then C.gives s.change.now size i old else 0 };
 
     #[inline(always)]
     fn apply(&self, size: Size, place: usize, old: u64) -> u64 {
