@@ -1,5 +1,5 @@
 -- Counts from the top of an element with one bit more.
-use Rattle.std.proofs.Common.{◌≡◌, ℕ, suc, ◌+◌, ◌-◌, ◌/◌, ◌%◌, ◌^◌, ◌<◌, ◌≤◌, arith, bit_xor, sym}
+use Rattle.std.proofs.Common.{◌≡◌, ℕ, ◌+◌, ◌-◌, ◌/◌, ◌^◌, ◌<◌, arith, bit_xor, sym}
 use Rattle.std.specs.Int.Count.{count_leading_zeros, leading_unique}
 use Rattle.std.proofs.lemmas.Nat.{leading_length, xor_lt}
 use Rattle.vector_elements.specs.declared.size.Size.{Size}
@@ -12,7 +12,8 @@ zero_more k n fits =
     let length = leading_length k n fits in
     sym (leading_unique (k + 1) n (count_leading_zeros k n + 1) length.0 (let e = length.1 in omega arith) length.2 length.3)
 
-pub zeros_more : (size : Size) (n : ℕ) → n < half_of size → count_leading_zeros (bits_in size) n ≡ count_leading_zeros (bits_in size - 1) n + 1
+pub zeros_more : (size : Size) (n : ℕ) → n < half_of size
+    → count_leading_zeros (bits_in size) n ≡ count_leading_zeros (bits_in size - 1) n + 1
 zeros_more B n fits = zero_more 7 n fits
 zeros_more H n fits = zero_more 15 n fits
 zeros_more S n fits = zero_more 31 n fits

@@ -2,7 +2,8 @@
 -- Source: DDI 0487, C8.2: ADD, SUB, SQADD, UQADD, SQSUB and UQSUB (vectors, unpredicated).
 use Rattle.std.specs.Prelude.{ℕ, ◌+◌, ◌-◌, ◌%◌, List, ◌+ℤ◌, ◌-ℤ◌}
 use Rattle.sm_types.specs.declared.vector.VectorArithmeticOp.{VectorArithmeticOp}
-use Rattle.sm_types.specs.declared.vector.VectorArithmeticOp.TheVariants.{Add, Sub, Sqadd, Uqadd, Sqsub, Uqsub}
+use Rattle.sm_types.specs.declared.vector.VectorArithmeticOp.TheVariants.{Add, Sub, Sqadd, Uqadd, Sqsub}
+use Rattle.sm_types.specs.declared.vector.VectorArithmeticOp.TheVariants.{Uqsub}
 use Rattle.vector_elements.specs.declared.size.Size.{Size}
 use Rattle.vector_elements.specs.Elements.{element_of, each_element}
 use Rattle.vector_elements.specs.Numbers.{bytes_in, range_of, signed_of, wrapped}

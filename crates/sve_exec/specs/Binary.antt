@@ -1,13 +1,14 @@
 -- Operations on two vectors under a predicate.
--- Source: DDI 0487, C8.2: ADD, SUB, SUBR, SMAX, UMAX, SMIN, UMIN, SABD, UABD, MUL, SMULH, UMULH, SDIV, UDIV, ORR,
--- EOR, AND, BIC, ASR, LSR and LSL (vectors, predicated).
+-- Source: DDI 0487, C8.2: ADD, SUB, SUBR, SMAX, UMAX, SMIN, UMIN, SABD, UABD, MUL, SMULH, UMULH, SDIV, UDIV,
+-- ORR, EOR, AND, BIC, ASR, LSR and LSL (vectors, predicated).
 use Rattle.std.specs.Prelude.{ℕ, ◌*◌, ◌/◌, ◌%◌, ◌^◌, ◌==◌, min, max, List, if◌then◌else◌, pos, ◌-ℤ◌, ◌*ℤ◌}
 use Rattle.std.specs.Prelude.{int_lt, int_div, unsigned_abs, bit_and, bit_or, bit_xor}
 use Rattle.std.specs.Int.{abs_diff, int_div_euclid}
 use Rattle.sm_types.specs.declared.vector.PredicatedBinaryOp.{PredicatedBinaryOp}
-use Rattle.sm_types.specs.declared.vector.PredicatedBinaryOp.TheVariants.{Add, Sub, Subr, Smax, Umax, Smin, Umin}
-use Rattle.sm_types.specs.declared.vector.PredicatedBinaryOp.TheVariants.{Sabd, Uabd, Mul, Smulh, Umulh, Sdiv}
-use Rattle.sm_types.specs.declared.vector.PredicatedBinaryOp.TheVariants.{Udiv, Orr, Eor, And, Bic, Asr, Lsr, Lsl}
+use Rattle.sm_types.specs.declared.vector.PredicatedBinaryOp.TheVariants.{Add, Sub, Subr, Smax, Umax, Smin}
+use Rattle.sm_types.specs.declared.vector.PredicatedBinaryOp.TheVariants.{Umin, Sabd, Uabd, Mul, Smulh, Umulh, Sdiv}
+use Rattle.sm_types.specs.declared.vector.PredicatedBinaryOp.TheVariants.{Udiv, Orr, Eor, And, Bic, Asr, Lsr}
+use Rattle.sm_types.specs.declared.vector.PredicatedBinaryOp.TheVariants.{Lsl}
 use Rattle.vector_elements.specs.declared.size.Size.{Size}
 use Rattle.vector_elements.specs.Elements.{element_of, each_active}
 use Rattle.vector_elements.specs.Numbers.{bytes_in, bits_in, range_of, signed_of, wrapped}

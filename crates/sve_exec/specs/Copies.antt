@@ -47,7 +47,8 @@ vector_add_immediate op size imm shifted n =
 
 -- MUL: each element times a signed immediate
 unfoldable pub vector_multiply_immediate : Size → ℤ → List ℕ → List ℕ
-vector_multiply_immediate size imm n = each_element (bytes_in size) n (λ i a. product_of size a (wrapped size imm))
+vector_multiply_immediate size imm n =
+    each_element (bytes_in size) n (λ i a. product_of size a (wrapped size imm))
 
 -- SEL: the elements of n where they are active, and those of m elsewhere
 unfoldable pub selected : Size → List ℕ → List ℕ → List ℕ → List ℕ

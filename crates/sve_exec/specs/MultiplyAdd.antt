@@ -1,6 +1,6 @@
 -- Products that are added to a vector or subtracted from it, under a predicate.
 -- Source: DDI 0487, C8.2: MLA and MLS (vectors).
-use Rattle.std.specs.Prelude.{ℕ, ◌+◌, ◌-◌, ◌*◌, ◌%◌, List}
+use Rattle.std.specs.Prelude.{ℕ, List}
 use Rattle.sm_types.specs.declared.vector.MultiplyAddOp.{MultiplyAddOp}
 use Rattle.sm_types.specs.declared.vector.MultiplyAddOp.TheVariants.{Mla, Mls}
 use Rattle.vector_elements.specs.declared.size.Size.{Size}

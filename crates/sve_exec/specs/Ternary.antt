@@ -8,7 +8,8 @@ use Rattle.vector_elements.specs.declared.size.Size.TheVariants.{D}
 use Rattle.vector_elements.specs.Elements.{element_of, each_element}
 use Rattle.sve_exec.specs.Numbers.{inverted}
 
--- bit by bit: EOR3 exclusive or, BCAX exclusive or with m where k is clear, BSL d where k is set and m elsewhere
+-- bit by bit: EOR3 exclusive or, BCAX exclusive or with m where k is clear, BSL d where k is set and m
+-- elsewhere
 unfoldable pub ternary_of : TernaryLogicalOp → Size → ℕ → ℕ → ℕ → ℕ
 ternary_of Eor3 size d m k = bit_xor (bit_xor d m) k
 ternary_of Bcax size d m k = bit_xor d (bit_and m (inverted size k))

@@ -1,6 +1,6 @@
 -- Operations on one vector under a predicate.
--- Source: DDI 0487, C8.2: ABS, NEG, CLS, CLZ, CNT, CNOT, NOT, SXTB, UXTB, SXTH, UXTH, SXTW and UXTW (predicated);
--- J1.1: CountLeadingSignBits, CountLeadingZeroBits, BitCount, SignExtend.
+-- Source: DDI 0487, C8.2: ABS, NEG, CLS, CLZ, CNT, CNOT, NOT, SXTB, UXTB, SXTH, UXTH, SXTW and UXTW
+-- (predicated); J1.1: CountLeadingSignBits, CountLeadingZeroBits, BitCount, SignExtend.
 use Rattle.std.specs.Prelude.{ℕ, ◌-◌, ◌/◌, ◌%◌, ◌==◌, List, if◌then◌else◌, unsigned_abs, bit_xor, count_ones}
 use Rattle.std.specs.Int.Count.{count_leading_zeros}
 use Rattle.sm_types.specs.declared.vector.PredicatedUnaryOp.{PredicatedUnaryOp}

@@ -1,6 +1,6 @@
 -- Sums and products that are twice as wide as their sources.
--- Source: DDI 0487, C8.2: SADDLB, SADDLT, UADDLB, UADDLT, SMULLB, SMULLT, UMULLB, UMULLT, SMLALB, SMLALT, UMLALB
--- and UMLALT (vectors).
+-- Source: DDI 0487, C8.2: SADDLB, SADDLT, UADDLB, UADDLT, SMULLB, SMULLT, UMULLB, UMULLT, SMLALB, SMLALT,
+-- UMLALB and UMLALT (vectors).
 use Rattle.std.specs.Prelude.{ℕ, ◌+◌, ◌*◌, Bool, true, false, List, ◌+ℤ◌, ◌*ℤ◌}
 use Rattle.sm_types.specs.declared.vector.WideningOp.{WideningOp}
 use Rattle.sm_types.specs.declared.vector.WideningOp.TheVariants.{Saddl, Uaddl, Smull, Umull, Smlal, Umlal}
@@ -43,4 +43,5 @@ source_of top size n i = element_of (bytes_in (half_size size)) n (source_place 
 -- the operation on each two sources
 unfoldable pub vector_widening : WideningOp → Bool → Size → List ℕ → List ℕ → List ℕ → List ℕ
 vector_widening op top size d n m =
-    each_element (bytes_in size) d (λ i old. widened op size old (source_of top size n i) (source_of top size m i))
+    each_element (bytes_in size) d (λ i old.
+    widened op size old (source_of top size n i) (source_of top size m i))

@@ -38,7 +38,8 @@ fn known_multiply_add(op: MultiplyAddOp, size: Size, d: &mut [u8], p: &[u8], n: 
 }
 
 /// Adds the products of the elements of `n` and `m` to the active elements of `d`, or subtracts them; the
-/// others keep their value. With a loop for each operation and size. Source: DDI 0487, C8.2, MLA, MLS (vectors).
+/// others keep their value. With a loop for each operation and size.
+/// Source: DDI 0487, C8.2, MLA, MLS (vectors).
 pub fn multiply_add(op: MultiplyAddOp, size: Size, d: &mut [u8], p: &[u8], n: &[u8], m: &[u8])
     requires n { length d.old ≡ length n.now }
     requires m { length d.old ≡ length m.now }

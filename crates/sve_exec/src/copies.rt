@@ -96,8 +96,8 @@ impl Change for Steps {
     }
 }
 
-/// Element `i` of `d` becomes the low bits of the start and `i` times the step; of a register its 64 bits, of an
-/// immediate the same in two's complement. Source: DDI 0487, C8.2, INDEX.
+/// Element `i` of `d` becomes the low bits of the start and `i` times the step, each the 64 bits of a register
+/// or of an immediate in two's complement. Source: DDI 0487, C8.2, INDEX.
 #[tactic(auto, unfolding(crate::specs::Copies::index_from))]
 pub fn index(size: Size, start: u64, step: u64, d: &mut [u8])
     requires { length d.old % bytes_in size ≡ 0 }
@@ -123,7 +123,8 @@ impl<'a> Change for Elements<'a> {
     }
 }
 
-/// The active elements of `d`, which holds the second source, become those of `n`; the others keep their value.
+/// The active elements of `d`, which holds the second source, become those of `n`; the others keep their
+/// value.
 /// Source: DDI 0487, C8.2, SEL (vectors).
 #[tactic(auto, unfolding(crate::specs::Copies::selected))]
 pub fn select(size: Size, d: &mut [u8], p: &[u8], n: &[u8])

@@ -1,8 +1,8 @@
 //! What the SVE instructions that work element by element make of vectors: a function for each group, whose
 //! contract says which value each element of the result has.
 //!
-//! A vector is the slice of its bytes, a predicate that of its bits. Each function changes its first vector in
-//! place, and reads the others: where the destination is another register than the first source, or is one of
+//! A vector is the slice of its bytes, a predicate that of its bits. Each function changes its first vector
+//! in place, and reads the others: where the destination is another register than the first source, or is one of
 //! the other sources too, the caller copies the first source into a buffer of 256 bytes, and the result back.
 #![tactic(auto)]
 

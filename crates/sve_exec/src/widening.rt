@@ -140,8 +140,8 @@ fn known_widening(op: WideningOp, top: bool, size: Size, d: &mut [u8], n: &[u8],
     change_each(&Halves { op, top, n, m }, size, d);
 }
 
-/// The elements of `d` become sums or products of the even elements of `n` and `m`, of half the size, or of the
-/// odd ones where `top`; SMLAL and UMLAL add the product. With a loop for each operation and size.
+/// The elements of `d` become sums or products of the even elements of `n` and `m`, of half the size, or of
+/// the odd ones where `top`; SMLAL and UMLAL add the product. With a loop for each operation and size.
 /// Source: DDI 0487, C8.2, SADDLB to UMLALT (vectors).
 pub fn vector_widening(op: WideningOp, top: bool, size: Size, d: &mut [u8], n: &[u8], m: &[u8])
     requires size { size ≢ B }

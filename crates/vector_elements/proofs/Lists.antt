@@ -1,5 +1,6 @@
 -- Vectors that are written element by element.
-use Rattle.std.proofs.Common.{◌≡◌, ℕ, zero, suc, ◌+◌, ◌*◌, ◌/◌, ◌%◌, ◌<◌, List, [], ◌∷◌, ◌++◌, length, take, drop, refl, ap, ◌∙◌, sym, append_assoc, add-one, arith, length-append}
+use Rattle.std.proofs.Common.{◌≡◌, ℕ, zero, suc, ◌+◌, ◌*◌, ◌/◌, ◌%◌, ◌<◌, List, [], ◌∷◌, ◌++◌, length, take, drop, refl, ap}
+use Rattle.std.proofs.Common.{◌∙◌, sym, append_assoc, add-one, arith, length-append}
 use Rattle.std.proofs.Math.Seq.{drop-length}
 use Rattle.std.proofs.lemmas.Grind.{common_steps}
 use Rattle.std.specs.Simd.Lanes.{number_l, digits_l}
@@ -13,11 +14,11 @@ unfolding listed
 length-listed f zero = refl
 length-listed f (suc n) = let h = length-listed f n in simp length-append (omega (arith, h))
 
-listed-next : {A : Type 0} → (f : ℕ → A) (n : ℕ) → listed f (n + 1) ≡ listed f n ++ f n ∷ []
+pub listed-next : {A : Type 0} → (f : ℕ → A) (n : ℕ) → listed f (n + 1) ≡ listed f n ++ f n ∷ []
 unfolding listed
 listed-next f n = rw add-one refl
 
-length-digits : (e x : ℕ) → length (digits_l 256 e x) ≡ e
+pub length-digits : (e x : ℕ) → length (digits_l 256 e x) ≡ e
 length-digits zero x = refl
 length-digits (suc e) x = ap suc (length-digits e (x / 256))
 
@@ -26,34 +27,38 @@ unfolding bytes_of
 length-bytes e [] = omega arith
 length-bytes e (x ∷ xs) = let h = length-bytes e xs in let d = length-digits e x in simp length-append (omega (arith, h, d))
 
-bytes-append : (e : ℕ) (xs ys : List ℕ) → bytes_of e (xs ++ ys) ≡ bytes_of e xs ++ bytes_of e ys
+pub bytes-append : (e : ℕ) (xs ys : List ℕ) → bytes_of e (xs ++ ys) ≡ bytes_of e xs ++ bytes_of e ys
 unfolding bytes_of
 bytes-append e [] ys = refl
-bytes-append e (x ∷ xs) ys = ap (λ t. digits_l 256 e x ++ t) (bytes-append e xs ys) ∙ sym (append_assoc (digits_l 256 e x) (bytes_of e xs) (bytes_of e ys))
+bytes-append e (x ∷ xs) ys =
+    ap (λ t. digits_l 256 e x ++ t) (bytes-append e xs ys)
+    ∙ sym (append_assoc (digits_l 256 e x) (bytes_of e xs) (bytes_of e ys))
 
 drop_whole : {A : Type 0} → (xs ys : List A) (m : ℕ) → drop (length xs + m) (xs ++ ys) ≡ drop m ys
 drop_whole [] ys m = let e : 0 + m ≡ m = omega arith in ap (λ k. drop k ys) e
-drop_whole (x ∷ xs) ys m = let e : length (x ∷ xs) + m ≡ suc (length xs + m) = omega arith in ap (λ k. drop k (x ∷ (xs ++ ys))) e ∙ drop_whole xs ys m
+drop_whole (x ∷ xs) ys m =
+    let e : length (x ∷ xs) + m ≡ suc (length xs + m) = omega arith in
+    ap (λ k. drop k (x ∷ (xs ++ ys))) e ∙ drop_whole xs ys m
 
 append-nil : {A : Type 0} → (xs : List A) → xs ++ [] ≡ xs
 append-nil [] = refl
 append-nil (x ∷ xs) = ap (λ t. x ∷ t) (append-nil xs)
 
-bytes-one : (e x : ℕ) → bytes_of e (x ∷ []) ≡ digits_l 256 e x
+pub bytes-one : (e x : ℕ) → bytes_of e (x ∷ []) ≡ digits_l 256 e x
 unfolding bytes_of
 bytes-one e x = append-nil (digits_l 256 e x)
 
-drop_front : {A : Type 0} → (xs ys : List A) (n m : ℕ) → n ≡ length xs + m → drop n (xs ++ ys) ≡ drop m ys
+pub drop_front : {A : Type 0} → (xs ys : List A) (n m : ℕ) → n ≡ length xs + m → drop n (xs ++ ys) ≡ drop m ys
 drop_front xs ys n m e = ap (λ k. drop k (xs ++ ys)) e ∙ drop_whole xs ys m
 
-take_front : {A : Type 0} → (xs ys : List A) (n : ℕ) → n ≡ length xs → take n (xs ++ ys) ≡ xs
+pub take_front : {A : Type 0} → (xs ys : List A) (n : ℕ) → n ≡ length xs → take n (xs ++ ys) ≡ xs
 take_front xs ys n e = grind (arith, common_steps)
 
 drop_twice : {A : Type 0} → (xs : List A) (n m k : ℕ) → k ≡ n + m → drop m (drop n xs) ≡ drop k xs
 drop_twice xs n m k e = grind (arith, common_steps)
 
 -- the bytes of the first i values stand before those that are as they were
-length-written : (e : ℕ) (f : ℕ → ℕ) (i : ℕ) → length (bytes_of e (listed f i)) ≡ e * i
+pub length-written : (e : ℕ) (f : ℕ → ℕ) (i : ℕ) → length (bytes_of e (listed f i)) ≡ e * i
 length-written e f i = length-bytes e (listed f i) ∙ ap (λ k. e * k) (length-listed f i)
 
 -- one value further
@@ -63,8 +68,11 @@ pub written : (e : ℕ) (f : ℕ → ℕ) (old : List ℕ) (i : ℕ) (d : List �
 written e f old i d x is same =
     let p = length-written e f i in
     let front : take (e * i) d ≡ bytes_of e (listed f i) = ap (λ t. take (e * i) t) is ∙ take_front _ (drop (e * i) old) (e * i) (sym p) in
-    let back : drop (e * i + e) d ≡ drop (e * (i + 1)) old = ap (λ t. drop (e * i + e) t) is ∙ drop_front _ (drop (e * i) old) (e * i + e) e (omega (arith, p)) ∙ drop_twice old (e * i) e (e * (i + 1)) (omega arith) in
-    let next : bytes_of e (listed f (i + 1)) ≡ bytes_of e (listed f i) ++ bytes_of e (f i ∷ []) = ap (bytes_of e) (listed-next f i) ∙ bytes-append e (listed f i) (f i ∷ []) in
+    let back : drop (e * i + e) d ≡ drop (e * (i + 1)) old =
+    ap (λ t. drop (e * i + e) t) is ∙ drop_front _ (drop (e * i) old) (e * i + e) e (omega (arith, p))
+    ∙ drop_twice old (e * i) e (e * (i + 1)) (omega arith) in
+    let next : bytes_of e (listed f (i + 1)) ≡ bytes_of e (listed f i) ++ bytes_of e (f i ∷ []) =
+    ap (bytes_of e) (listed-next f i) ∙ bytes-append e (listed f i) (f i ∷ []) in
     let one : bytes_of e (f i ∷ []) ≡ digits_l 256 e x = bytes-one e (f i) ∙ ap (digits_l 256 e) (sym same) in
     rw (front, back, next, one) (sym (append_assoc (bytes_of e (listed f i)) (digits_l 256 e x) (drop (e * (i + 1)) old)))
 
@@ -74,7 +82,8 @@ pub unread : (e : ℕ) (f : ℕ → ℕ) (old : List ℕ) (i : ℕ) (d : List �
 unfolding element_of
 unread e f old i d is =
     let p = length-written e f i in
-    let back : drop (e * i) d ≡ drop (e * i) old = ap (λ t. drop (e * i) t) is ∙ drop_front _ (drop (e * i) old) (e * i) 0 (omega (arith, p)) in
+    let back : drop (e * i) d ≡ drop (e * i) old =
+    ap (λ t. drop (e * i) t) is ∙ drop_front _ (drop (e * i) old) (e * i) 0 (omega (arith, p)) in
     ap (λ t. number_l 256 (take e t)) back
 
 pub some_bytes : (size : Size) → 0 < bytes_in size

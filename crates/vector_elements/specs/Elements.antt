@@ -1,8 +1,8 @@
 -- The elements of a vector and the bits of a predicate. A vector is its bytes, the lowest first; element i of
 -- `e` bytes begins at byte e * i, and its lowest byte comes first.
 -- Source: DDI 0487, B1.4 (Z and P registers), J1.1: Elem[] and ActivePredicateElement.
-use Rattle.std.specs.Prelude.{ℕ, zero, suc, ◌*◌, ◌/◌, ◌%◌, ◌^◌, ◌==◌, Bool, if◌then◌else◌, List, [], ◌∷◌, ◌++◌}
-use Rattle.std.specs.Prelude.{length, slice_index, take, drop}
+use Rattle.std.specs.Prelude.{ℕ, zero, suc, ◌*◌, ◌/◌, ◌%◌, ◌^◌, ◌==◌, Bool, if◌then◌else◌, List, []}
+use Rattle.std.specs.Prelude.{◌∷◌, ◌++◌, length, slice_index, take, drop}
 use Rattle.std.specs.Simd.Lanes.{number_l, digits_l}
 
 -- the first `count` values of a function, in order
@@ -30,10 +30,6 @@ bit_of predicate i = slice_index predicate (i / 8) / 2 ^ (i % 8) % 2 == 1
 -- ActivePredicateElement: an element's bit is that of its lowest byte
 abbrev pub is_active : ℕ → List ℕ → ℕ → Bool
 is_active e predicate i = bit_of predicate (e * i)
-
--- which elements are active
-unfoldable pub active_of : ℕ → List ℕ → List Bool
-active_of e predicate = listed (is_active e predicate) (8 * length predicate / e)
 
 -- each element becomes a function of its place and of what it was
 unfoldable pub each_element : ℕ → List ℕ → (ℕ → ℕ → ℕ) → List ℕ

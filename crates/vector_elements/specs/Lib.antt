@@ -1,2 +1,4 @@
 pub mod Elements
 pub mod Numbers
+pub mod Laws
+pub mod Spread

@@ -1,4 +1,4 @@
-use Rattle.std.proofs.Common.{ap, arith, ◌∙◌, ◌*◌, ◌/◌, ◌<◌, ◌≡◌, length, if◌then◌else◌}
+use Rattle.std.proofs.Common.{ap, arith, ◌∙◌, ◌*◌, ◌<◌, length, if◌then◌else◌}
 use Rattle.vector_elements.specs.Numbers.{bytes_in}
 use Rattle.vector_elements.proofs.Masks.{each_same, within}
 use Rattle.vector_elements.proofs.loops.change_active.Goals as goal

@@ -13,4 +13,5 @@ loop-i-preserved g c =
 pub returns : goal.returns
 returns g c =
     let count : c.loop-i.i ≡ length c.args.d.now / c.bytes.result = omega arith in
-    finished _ _ _ _ _ (some_bytes c.args.size) c.requires.whole (count ∙ ap (λ k. length c.args.d.now / k) c.bytes.ensures) c.loop-i.invariant
+    finished _ _ _ _ _ (some_bytes c.args.size) c.requires.whole
+    (count ∙ ap (λ k. length c.args.d.now / k) c.bytes.ensures) c.loop-i.invariant

@@ -1,4 +1,4 @@
-use Rattle.std.proofs.Common.{arith, ◌<◌, ◌*◌, length}
+use Rattle.std.proofs.Common.{arith}
 use Rattle.vector_elements.proofs.Masks.{mask_next}
 use Rattle.vector_elements.proofs.mask.expand.Goals as goal
 
