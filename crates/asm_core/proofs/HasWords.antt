@@ -22,7 +22,7 @@ use Rattle.asm_parser.specs.Lines.{instruction_or_fault, instruction_says, named
 use Rattle.asm_parser.specs.Lines.{line_lexemes, label_of, line_of}
 use Rattle.asm_core.specs.Aimed.{MeansAimed}
 use Rattle.asm_core.specs.Targets.{word_to}
-use Rattle.asm_core.proofs.Immediates.{named-aims}
+use Rattle.asm_core.proofs.Immediates.{named-aims, named-far}
 use Rattle.asm_core.specs.Emitted.{CanHave, CanBeAimed, HasWord}
 
 abbrev Told : Answer Says → Type 0
@@ -71,6 +71,7 @@ can_aim name ts word (Some target) e =
       sound = target-sound name ts word target e;
       means = λ back size aimed is. aimed-means name ts word target back size aimed e is;
       aims = named-aims name ts word target e;
+      far = named-far name ts word target e;
     }
 
 operands_mean : (name : ℕ) (ts : List Token) (said : OperandsSaid) → operands_said name ts ≡ said → Means said
@@ -131,6 +132,15 @@ line_word text line e =
 aims_said : (says : Says) (word column : ℕ) (target : TargetSaid) → says ≡ Instructs word (Some target) column → HasWord says
     → (from to aimed : ℕ) → word_to target.operand word from to ≡ Some aimed → MeansAimed word from to aimed
 aims_said says word column target e h = (subst HasWord e h).aims.aims
+
+far_said : (says : Says) (word column : ℕ) (target : TargetSaid) → says ≡ Instructs word (Some target) column → HasWord says
+    → (from to : ℕ) → word_to target.operand word from to ≡ None → (aimed : ℕ) → MeansAimed word from to aimed → ⊥
+far_said says word column target e h = (subst HasWord e h).aims.far
+
+pub line_far : (text : List ℕ) (line : SourceLine) (word column from to : ℕ) (target : TargetSaid) → line_of text ≡ Ok line
+    → line.says ≡ Instructs word (Some target) column → word_to target.operand word from to ≡ None
+    → (aimed : ℕ) → MeansAimed word from to aimed → ⊥
+line_far text line word column from to target e f = far_said line.says word column target f (line_word text line e) from to
 
 pub line_aims : (text : List ℕ) (line : SourceLine) (word column from to aimed : ℕ) (target : TargetSaid) → line_of text ≡ Ok line
     → line.says ≡ Instructs word (Some target) column → word_to target.operand word from to ≡ Some aimed

@@ -53,8 +53,9 @@ use Rattle.asm_operands.specs.Sound.{has_factor, is_sound}
 use Rattle.asm_operands.proofs.Tables.{all-take, all-drop, items_of-sound}
 use Rattle.asm_operands.proofs.Aimed.{is_said, word_kept, or_clear}
 use Rattle.asm_operands.proofs.WordBits.{and_swap}
-use Rattle.asm_core.specs.Aimed.{with_immediate, unit_in, place_in, MeansAimed}
+use Rattle.asm_core.specs.Aimed.{with_immediate, unit_in, place_in, IsAimed, MeansAimed}
 use Rattle.asm_core.specs.Targets.{counted_from, word_to}
+use Rattle.asm_core.proofs.Reaches.{Holds, branch_reach, in_reach, reaches, word_reach}
 
 some_is : {A : Type 0} (a b : A) → ◌≡◌ {A = Option A} (Some a) (Some b) → a ≡ b
 some_is a b e = cc
@@ -469,6 +470,27 @@ sound_field (G10 Tbnz) e = (refl, lit< tt)
 sound_field (G19 op) e = (refl, lit< tt)
 sound_field op e = cc
 
+-- an instruction with that immediate is one that a word means, so the immediate is one of its field
+holds_by : (op : Operation) → has_distance op ≡ true → (n : Field → ℕ) (s : Field → ℤ) (z : ℤ)
+    → in_reach (with_immediate (named op n s) z) → Holds (bits_of (immediate_of op)) z
+unfolding has_distance immediate_of named named_branch in_reach branch_reach
+holds_by (G9 op) e n s z h = h
+holds_by (G10 B) e n s z h = h
+holds_by (G10 Bl) e n s z h = h
+holds_by (G10 BCond) e n s z h = h
+holds_by (G10 Cbz) e n s z h = h
+holds_by (G10 Cbnz) e n s z h = h
+holds_by (G10 Tbz) e n s z h = h
+holds_by (G10 Tbnz) e n s z h = h
+holds_by (G19 op) e n s z h = h
+holds_by op e n s z h = cc
+
+some_unit : (op : Operation) → 0 < unit_by op
+unfolding unit_by
+some_unit (G9 Adr) = lit< tt
+some_unit (G9 Adrp) = lit< tt
+some_unit op = lit< tt
+
 -- ---- the operand's field is the row's
 
 record IsAt (i : Item) (f : Field) : Type 0 where
@@ -629,6 +651,49 @@ module _ (i : Item) (w : ℕ) (it : Insn) (r : IsRowOf i w it) (zero_there : bit
       distance_said i.kind (texts.bits_of i) size back is_far ∙ ap₂ (λ b u. signed_field b u back size) (same_bits i f at) unit in
       moved_by size back v (field_said i.kind (texts.bits_of i) (Distance back size)) (sym said) e
 
+  none_by : (size : ℕ) (back : Bool) (o : Option ℕ) → signed_field (bits_of f) (unit_by op) back size ≡ o
+      → option_map (λ field. bit_or w (operands.placed i field)) o ≡ None → signed_field (bits_of f) (unit_by op) back size ≡ None
+  none_by size back None e g = e
+  none_by size back (Some number) e g = cc
+
+  unmoved : (size : ℕ) (back : Bool) → with_distance i w back size ≡ None → signed_field (bits_of f) (unit_by op) back size ≡ None
+  unfolding with_distance
+  unmoved size back e =
+      let said : field_said i.kind (texts.bits_of i) (Distance back size) ≡ signed_field (bits_of f) (unit_by op) back size =
+      distance_said i.kind (texts.bits_of i) size back is_far ∙ ap₂ (λ b u. signed_field b u back size) (same_bits i f at) unit in
+      none_by size back (field_said i.kind (texts.bits_of i) (Distance back size)) (sym said) e
+
+  -- where no word has the distance to a target, no immediate of the field is that distance
+  beyond : (from target : ℕ) (b : Bool) → nat_le (counted_from i from) (counted_from i target) ≡ b
+      → cond b (with_distance i w false (counted_from i target - counted_from i from))
+      (with_distance i w true (counted_from i from - counted_from i target)) ≡ None
+      → (z : ℤ) → z *ℤ pos (unit_in it) ≡ pos (place_in it target) -ℤ pos (place_in it from) → Holds (bits_of f) z → ⊥
+  beyond from target true le e z is h =
+      let l = leb-true (counted_from i from) (counted_from i target) le in
+      let far : pos (counted_from i target) -ℤ pos (counted_from i from) ≡ pos (counted_from i target - counted_from i from) =
+      omega (arith, ints, l) in
+      reaches (unit_by op) (some_unit op) (ahead_by op) (back_by op) (bits_of f) (counted_from i target - counted_from i from) z false
+      (sound_field op has).1 h
+      (ap (λ u. z *ℤ pos u) (sym unit_here) ∙ is ∙ ap₂ (λ a b. pos a -ℤ pos b) (sym (place_here target)) (sym (place_here from)) ∙ far)
+      (unmoved (counted_from i target - counted_from i from) false e)
+  beyond from target false le e z is h =
+      let l = leb-false (counted_from i from) (counted_from i target) le in
+      let far : pos (counted_from i target) -ℤ pos (counted_from i from) ≡ pos 0 -ℤ pos (counted_from i from - counted_from i target) =
+      omega (arith, ints, l) in
+      reaches (unit_by op) (some_unit op) (ahead_by op) (back_by op) (bits_of f) (counted_from i from - counted_from i target) z true
+      (sound_field op has).1 h
+      (ap (λ u. z *ℤ pos u) (sym unit_here) ∙ is ∙ ap₂ (λ a b. pos a -ℤ pos b) (sym (place_here target)) (sym (place_here from)) ∙ far)
+      (unmoved (counted_from i from - counted_from i target) true e)
+
+  far_by : (from target v : ℕ) (other : Insn) → word_to i w from target ≡ None → instruction_of v ≡ Some other
+      → IsAimed it from target other → ⊥
+  unfolding word_to
+  far_by from target v other none means aims =
+      let same : other ≡ with_immediate (named op (numbers_in w) (signed_numbers_in w)) aims.immediate =
+      aims.only ∙ ap (λ x. with_immediate x aims.immediate) r.gives in
+      beyond from target (nat_le (counted_from i from) (counted_from i target)) refl none aims.immediate aims.is_distance
+      (holds_by op has (numbers_in w) (signed_numbers_in w) aims.immediate (subst in_reach same (word_reach v other means)))
+
   aims_by : (from target v : ℕ) (b : Bool) → nat_le (counted_from i from) (counted_from i target) ≡ b
       → cond b (with_distance i w false (counted_from i target - counted_from i from))
       (with_distance i w true (counted_from i from - counted_from i target)) ≡ Some v
@@ -693,6 +758,24 @@ aims_found ts w target h meant from to v e =
     (all-get (fits_rows h.shape) (items_of h.shape) l.place i fit.1 l.listed) in
     let r = row_of h.shape i ts w m.0 h.said rows (by_scalar w m.0 ((either w m.0 lt).0 m.1)) in
     aims_by i w m.0 r (zero_said h.shape ts w i h.said l) l.distance from to v (nat_le (counted_from i from) (counted_from i to)) refl e m.1
+
+far_found : (ts : List Token) (w : ℕ) (target : Target) → IsFound ts w target → (from to : ℕ) → word_to target.operand w from to ≡ None
+    → (v : ℕ) → MeansAimed w from to v → ⊥
+unfolding fit_rows fits_rows word_in fixed
+far_found ts w target h from to none v m =
+    let i = target.operand in
+    let fit = and_parts (nat_lt h.shape.value (2 ^ 32)) (list_all (fits_rows h.shape) (items_of h.shape)) h.fit in
+    let l = last_in (items_of h.shape) ts target h.named in
+    let lt = taken_small (items_of h.shape) (fixed h.shape) ts w (items_of-sound h.shape) (ltb-true _ _ fit.0) h.said in
+    let rows =
+    when_true (is_distance i.kind) (list_all (fits_row i h.shape) SCALAR_LINES) l.distance
+    (all-get (fits_rows h.shape) (items_of h.shape) l.place i fit.1 l.listed) in
+    let r = row_of h.shape i ts w m.it h.said rows (by_scalar w m.it ((either w m.it lt).0 m.means)) in
+    far_by i w m.it r (zero_said h.shape ts w i h.said l) l.distance from to v m.other none m.aimed_means m.aims
+
+pub named-far : (name : ℕ) (ts : List Token) (w : ℕ) (target : Target) → operands_said name ts ≡ Says w (Some target) → (from to : ℕ)
+    → word_to target.operand w from to ≡ None → (v : ℕ) → MeansAimed w from to v → ⊥
+named-far name ts w target e = far_found ts w target (found name ts w target e)
 
 pub named-aims : (name : ℕ) (ts : List Token) (w : ℕ) (target : Target) → operands_said name ts ≡ Says w (Some target) → (from to v : ℕ)
     → word_to target.operand w from to ≡ Some v → MeansAimed w from to v

@@ -13,6 +13,7 @@ pub mod HasWords
 pub mod Emission
 pub mod Aims
 pub mod Marking
+pub mod Reaches
 pub mod Immediates
 pub mod Keeping
 pub mod OneObject

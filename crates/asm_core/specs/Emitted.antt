@@ -24,13 +24,15 @@ use Rattle.asm_core.specs.Aimed.{MeansAimed}
 use Rattle.asm_core.specs.Targets.{word_to}
 use Rattle.asm_core.specs.Parts.{bytes_in}
 
--- with each distance that the operand holds the word means an instruction: the same with that distance
+-- with each distance that the operand holds the word means an instruction: the same with that distance; with
+-- another no word does
 pub record CanHave (i : Item) (word : ℕ) : Type 0 where
   pub sound : is_sound i ≡ true
   pub means :
       (back : Bool) (size aimed : ℕ) → with_distance i word back size ≡ Some aimed
       → is_some (instruction_of aimed) ≡ true
   pub aims : (from to aimed : ℕ) → word_to i word from to ≡ Some aimed → MeansAimed word from to aimed
+  pub far : (from to : ℕ) → word_to i word from to ≡ None → (aimed : ℕ) → MeansAimed word from to aimed → ⊥
 
 abbrev pub CanBeAimed : ℕ → Option TargetSaid → Type 0
 CanBeAimed word None = Unit {0}

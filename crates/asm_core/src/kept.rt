@@ -1,7 +1,7 @@
 //! What the first pass keeps of the lines, so that the second need not read them again: the words of
 //! instructions.
 ghost use Rattle.std.specs.Prelude.{◌≡◌, ◌≤◌, ◌++◌, [], ◌∷◌, List, Ok, IfOk, IfErr, OnOk, drop, length};
-ghost use Rattle.asm_parser.specs.Statements.{line_said, says_of};
+ghost use Rattle.asm_parser.specs.Statements.{SourceLine, line_said, says_of};
 ghost use Rattle.asm_parser.specs.Lines.{line_of};
 ghost use Rattle.asm_core.specs.Kept.{kept_in, kept_of, said_by, first_kept, IsKept};
 
@@ -95,11 +95,13 @@ fn line_by<'a>(kept: KeptWord) -> Line<'a>
     }
 }
 
-/// What a line says, as it was kept or read again.
+/// What a line of the grammar says, as it was kept or read again. A refusal is want of memory.
 pub fn line_again(alloc: Global, text: &[u8], kept: Option<KeptWord>) -> Result<Line<'_>, LineFault>
     requires short { length text.now ≤ 67108864 }
     requires kept { IsKept kept text.now }
+    requires fine { (line : SourceLine) × (line_of text.now ≡ Ok line) }
     ensures ok { IfOk result (λ line. line_of text.now ≡ Ok (line_said line)) }
+    ensures err { IfErr result (λ fault. fault ≡ LineFault.Memory) }
 {
     match kept {
         Some(kept) => Ok(line_by(kept)),

@@ -37,12 +37,16 @@ gathers_then : (a b c : Gathered) (r : Result Unit PutFault) (s t : List ℕ) �
 gathers_then a b c (Ok tt) s t h k = record {
   ok = (h.ok.0 ++ k.ok.0, writes_then _ _ _ _ _ _ h.ok.1 k.ok.1, regroup h.ok.0 k.ok.0 c.held b.held t a.held s h.ok.2 k.ok.2);
   failed = tt;
-  spared = λ fits. k.spared (room_second h.ok.0 b.held a.held s t h.ok.2 fits) ∙ h.spared (room_first a.held s t fits);
+  spared = λ fits.
+      let second = k.spared (room_second h.ok.0 b.held a.held s t h.ok.2 fits) in
+      (second.0, second.1 ∙ (h.spared (room_first a.held s t fits)).1);
 }
 gathers_then a b c (Err e) s t h k = record {
   ok = tt;
   failed = writes_as (follows h.ok.0 b.held t a.held s h.ok.2) (writes_then _ _ _ _ _ _ h.ok.1 k.failed);
-  spared = λ fits. k.spared (room_second h.ok.0 b.held a.held s t h.ok.2 fits) ∙ h.spared (room_first a.held s t fits);
+  spared = λ fits.
+      let second = k.spared (room_second h.ok.0 b.held a.held s t h.ok.2 fits) in
+      (second.0, second.1 ∙ (h.spared (room_first a.held s t fits)).1);
 }
 
 gathers_stop : (a b : Gathered) (r r' : Result Unit PutFault) (s t : List ℕ) → IsErr r' → IsErr r → Gathers a b r s
@@ -52,7 +56,7 @@ gathers_stop a b (Err x) (Ok u) s t e' e h = cc
 gathers_stop a b (Err x) (Err y) s t e' e h = record {
   ok = tt;
   failed = writes_as (append_assoc a.held s t) (writes_stop _ _ _ _ _ t refl refl h.failed);
-  spared = λ fits. h.spared (room_first a.held s t fits);
+  spared = λ fits. let is = h.spared (room_first a.held s t fits) in let clash = is.0 in cc;
 }
 
 -- the same text, said otherwise
@@ -75,7 +79,7 @@ pub gathers_more : (a b : Gathered) (text : List ℕ) → b.sink ≡ a.sink → 
 gathers_more a b text same e = record {
   ok = ([], subst (λ v. Writes a.sink v (Ok tt) []) (sym same) (writes_none a.sink), e);
   failed = tt;
-  spared = λ fits. same;
+  spared = λ fits. (refl, same);
 }
 
 pub gathers_none : (a : Gathered) → Gathers a a (Ok tt) []

@@ -1,5 +1,5 @@
 -- Counts of what went wrong outside. Source: the project's own rule. A count is a u64 that never falls, and
--- adds one at each fault.
+-- rises at each fault, by one or more.
 use Rattle.std.specs.Prelude.{ℕ, ◌≤◌, ◌<◌, ◌+◌, ◌^◌, ◌⊎◌}
 
 -- The count rose. A count that stands at its type's last value is read as risen.

@@ -10,6 +10,10 @@ use Rattle.cmd_words.specs.declared.command.UsageKind.TheVariants.{OutOfRange, E
 use Rattle.cmd_words.specs.declared.setting.Setting.{Setting}
 use Rattle.cmd_words.specs.declared.setting.Setting.TheVariants.{Vl, Svl, Budget}
 use Rattle.smemu.specs.declared.help.TheConstants.{HELP, VERSION}
+use Rattle.smemu.specs.declared.status.Status.{Status}
+use Rattle.smemu.specs.declared.status.Status.TheVariants.{Done, Usage, Absent, ReadFault, WriteFault}
+use Rattle.smemu.specs.declared.status.Status.TheVariants.{BadFile, BadSource, OutOfMemory}
+use Rattle.smemu.specs.Status.{code_of}
 
 -- what is wrong with a word
 abbrev pub kind_word : UsageKind → List ℕ
@@ -66,6 +70,26 @@ abbrev pub option_line : Setting → List ℕ
 option_line setting =
     option_word setting
     ++ (numbers_text (numbers_of setting) ++ (codes "; else " ++ (decimal (default_of setting) ++ codes "\n")))
+
+-- how the text that is written with a status begins, or what became of it
+abbrev pub status_words : Status → List ℕ
+status_words Done = codes "the text was written\n"
+status_words Usage = codes "usage: word "
+status_words Absent = codes "absent: "
+status_words ReadFault = codes "read fault: "
+status_words WriteFault = codes "the output could not be written\n"
+status_words BadFile = codes "bad file: "
+status_words BadSource = codes "bad source: line "
+status_words OutOfMemory = codes "there was no memory\n"
+
+-- what the text of help says of a status, from the end of the line before: the number that the process
+-- ends with, and those words
+abbrev pub status_line : Status → List ℕ
+status_line status = codes "\n  " ++ (decimal (code_of status) ++ (codes "   " ++ status_words status))
+
+-- the text begins with that part
+abbrev pub HasFront : List ℕ → List ℕ → Type 0
+HasFront text part = (rest : List ℕ) × (text ≡ part ++ rest)
 
 -- the text has that part
 abbrev pub HasPart : List ℕ → List ℕ → Type 0

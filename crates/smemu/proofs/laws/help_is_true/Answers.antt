@@ -1,4 +1,4 @@
-use Rattle.smemu.proofs.HelpLines.{has_line, has_numbers}
+use Rattle.smemu.proofs.HelpLines.{has_begun, has_line, has_numbers, has_status}
 use Rattle.smemu.proofs.laws.help_is_true.Goals as goal
 
 pub returns-clause-lines : goal.returns-clause-lines
@@ -6,3 +6,9 @@ returns-clause-lines c = has_line
 
 pub returns-clause-numbers : goal.returns-clause-numbers
 returns-clause-numbers c = has_numbers
+
+pub returns-clause-statuses : goal.returns-clause-statuses
+returns-clause-statuses c = has_status
+
+pub returns-clause-begins : goal.returns-clause-begins
+returns-clause-begins c = has_begun
