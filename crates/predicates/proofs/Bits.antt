@@ -1,13 +1,13 @@
 -- Predicates that are written bit by bit.
-use Rattle.std.proofs.Common.{◌≡◌, ◌≢◌, ℕ, zero, suc, ◌+◌, ◌*◌, ◌/◌, ◌%◌, ◌^◌, ◌<◌, ◌≤◌, ◌==◌, ◌&&◌, Bool, true, false, List, length, map, set, get_or, bit_or, refl, ap, ◌∙◌, sym, arith, inl, inr, get_or-set_same, w8}
+use Rattle.std.proofs.Common.{◌≡◌, ◌≢◌, ℕ, zero, suc, ◌+◌, ◌*◌, ◌/◌, ◌%◌, ◌^◌, ◌<◌, ◌≤◌, ◌==◌, ◌&&◌, Bool, true, false, List, length, map, set, get_or, bit_or, refl, ap, ◌∙◌, sym, arith, inl, inr, get_or-set_same, w8, subst}
 use Rattle.std.specs.List.{range_with_len}
 use Rattle.std.proofs.lemmas.Bool.{cases_eq}
+use Rattle.std.proofs.lemmas.Bool.Decides.{nat_tests}
 use Rattle.std.proofs.lemmas.Grind.{elements}
 use Rattle.std.proofs.lemmas.List.{same_lists}
 use Rattle.std.proofs.lemmas.List.FromFn.{length-map-range_with_len, get_or-map-range_with_len}
 use Rattle.std.proofs.lemmas.Nat.Bits.{bit_at_set_same, bit_at_set_other}
 use Rattle.sve_vectors.specs.Predicates.{truth_at, truths_of, predicate_bytes}
-use Rattle.sve_vectors.proofs.Bits.{predicate_bytes-truths}
 use Rattle.sve_vectors.proofs.Writing.{length-truths, truths-at}
 use Rattle.vector_elements.specs.declared.size.Size.{Size}
 use Rattle.vector_elements.specs.declared.size.Size.TheVariants.{B, H, S, D}
@@ -35,8 +35,7 @@ pub record IsPredicateTo (e count : ℕ) (truth : ℕ → Bool) (p : List ℕ) :
   pub others : (j : ℕ) → j % e ≢ 0 → bit_of p j ≡ false
 
 not_zero : (n : ℕ) → n ≢ 0 → (n == 0) ≡ false
-not_zero zero ne = absurd (ne refl)
-not_zero (suc n) ne = refl
+not_zero n ne = grind (arith, nat_tests, ne)
 
 first_byte : (size : Size) (j : ℕ) → j % bytes_in size ≡ 0 → j ≡ bytes_in size * (j / bytes_in size)
 first_byte B j e = omega (arith, e)
@@ -64,12 +63,12 @@ unfolding truth_at bit_of
 same_truth p j = refl
 
 -- all elements are written
-pub is_whole : (size : Size) (p : List ℕ) (bytes count : ℕ) (truth : ℕ → Bool) → ((k : ℕ) → k < length p → get_or p k 0 < 256)
-    → length p ≡ bytes → count ≡ 8 * length p / bytes_in size → IsPredicateTo (bytes_in size) count truth p
+pub is_whole : (size : Size) (p : List ℕ) (bytes count : ℕ) (truth : ℕ → Bool) → predicate_bytes (truths_of p) ≡ p
+    → length p ≡ bytes → count ≡ 8 * bytes / bytes_in size → IsPredicateTo (bytes_in size) count truth p
     → p ≡ predicate_of (bytes_in size) bytes truth
 unfolding predicate_of
-is_whole size p bytes count truth small long all is =
-    sym (predicate_bytes-truths p small) ∙ ap predicate_bytes (same_lists (truths_of p) values same each)
+is_whole size p bytes count truth told long all is =
+    sym told ∙ ap predicate_bytes (same_lists (truths_of p) values same each)
     ∙ ap (λ n. predicate_bytes (map (bit_for (bytes_in size) truth) (range_with_len 0 (8 * n)))) long
   where
     values : List Bool
@@ -79,7 +78,7 @@ is_whole size p bytes count truth small long all is =
     same = length-truths p ∙ sym (length-map-range_with_len (bit_for (bytes_in size) truth) 0 (8 * length p))
 
     whole : IsPredicateTo (bytes_in size) (8 * length p / bytes_in size) truth p
-    whole = subst (λ n. IsPredicateTo (bytes_in size) n truth p) all is
+    whole = subst (λ n. IsPredicateTo (bytes_in size) n truth p) (all ∙ ap (λ n. 8 * n / bytes_in size) (sym long)) is
 
     each : (j : ℕ) (d : Bool) → j < length (truths_of p) → get_or (truths_of p) j d ≡ get_or values j d
     each j d lt =

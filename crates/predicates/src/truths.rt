@@ -5,6 +5,7 @@ ghost use Rattle.vector_elements.specs.Elements.{bit_of};
 ghost use Rattle.vector_elements.specs.Numbers.{bytes_in};
 ghost use Rattle.predicates.specs.Predicates.{predicate_of};
 
+use sve_vectors::truths_tell_bytes;
 use vector_elements::Size;
 
 /// Which elements hold, by their places.
@@ -67,6 +68,7 @@ fn put_of_size<T: Truth>(truth: &T, size: Size, pd: &mut [u8])
         let holds = truth.holds(size, i);
         put_bit(pd, size.bytes() * i, holds);
     }
+    truths_tell_bytes(pd);
 }
 
 /// Makes a predicate of the truth values of its elements, with a loop for each size.
