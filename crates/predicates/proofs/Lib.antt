@@ -1,2 +1,3 @@
 pub mod Governed
 pub mod Bits
+pub mod Powers

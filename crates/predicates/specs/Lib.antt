@@ -1,2 +1,4 @@
 pub mod Flags
 pub mod Predicates
+pub mod Patterns
+pub mod Logical

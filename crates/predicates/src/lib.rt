@@ -7,6 +7,12 @@
 #![tactic(auto)]
 
 mod flags;
+mod logical;
+mod pattern;
+mod pattern_predicate;
 mod truths;
 
 pub use flags::result_flags;
+pub use logical::{predicate_logical, predicate_logical_flags, predicate_test};
+pub use pattern::pattern_count;
+pub use pattern_predicate::{predicate_false, predicate_true};
