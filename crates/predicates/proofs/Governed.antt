@@ -7,7 +7,7 @@ use Rattle.vector_elements.proofs.Lists.{length-listed}
 use Rattle.predicates.specs.Flags.{governed, first_or, last_or, any_true, flags_of}
 
 -- those of one element
-abbrev one_of : Bool → Bool → List Bool
+abbrev pub one_of : Bool → Bool → List Bool
 one_of on x = if on then x ∷ [] else []
 
 governed-one : (xs ys : List Bool) (on x : Bool) → length xs ≡ length ys → governed (xs ++ on ∷ []) (ys ++ x ∷ []) ≡ governed xs ys ++ one_of on x
@@ -74,7 +74,7 @@ next_listed : (f : ℕ → Bool) (n : ℕ) → listed f (n + 1) ≡ listed f n +
 unfolding listed
 next_listed f n = rw add-one refl
 
-governed_to-next : (e : ℕ) (mask results : List ℕ) (n : ℕ)
+pub governed_to-next : (e : ℕ) (mask results : List ℕ) (n : ℕ)
     → governed_to e mask results (n + 1) ≡ governed_to e mask results n ++ one_of (is_active e mask n) (is_active e results n)
 governed_to-next e mask results n =
     rw (next_listed (is_active e mask) n, next_listed (is_active e results) n)

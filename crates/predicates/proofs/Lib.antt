@@ -1,3 +1,4 @@
 pub mod Governed
 pub mod Bits
 pub mod Powers
+pub mod Loops

@@ -6,13 +6,19 @@
 //! slice of its own: where it is a source too, the caller copies that source first.
 #![tactic(auto)]
 
+mod compare;
+mod count_active;
 mod flags;
 mod logical;
 mod pattern;
 mod pattern_predicate;
 mod truths;
+mod while_loops;
 
+pub use compare::{compare_immediate, compare_vectors};
+pub use count_active::active_count;
 pub use flags::result_flags;
 pub use logical::{predicate_logical, predicate_logical_flags, predicate_test};
 pub use pattern::pattern_count;
 pub use pattern_predicate::{predicate_false, predicate_true};
+pub use while_loops::predicate_while;
