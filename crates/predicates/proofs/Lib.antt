@@ -2,3 +2,4 @@ pub mod Governed
 pub mod Bits
 pub mod Powers
 pub mod Loops
+pub mod Differences

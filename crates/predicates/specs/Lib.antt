@@ -4,3 +4,4 @@ pub mod Patterns
 pub mod Logical
 pub mod Loops
 pub mod Compare
+pub mod Counts

@@ -8,6 +8,7 @@
 
 mod compare;
 mod count_active;
+mod element_count;
 mod flags;
 mod logical;
 mod pattern;
@@ -17,6 +18,7 @@ mod while_loops;
 
 pub use compare::{compare_immediate, compare_vectors};
 pub use count_active::active_count;
+pub use element_count::{add_lengths, count_down, count_up, element_number, vector_lengths};
 pub use flags::result_flags;
 pub use logical::{predicate_logical, predicate_logical_flags, predicate_test};
 pub use pattern::pattern_count;

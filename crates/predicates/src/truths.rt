@@ -59,7 +59,8 @@ fn put_bit(p: &mut [u8], i: usize, value: bool)
 /// Makes a predicate of the truth values of its elements.
 #[inline(always)]
 fn put_of_size<T: Truth>(truth: &T, size: Size, pd: &mut [u8])
-    requires can { (i : ℕ) → bytes_in size * i + bytes_in size ≤ 8 * length pd.old → T.can truth.now size i }
+    requires can { (i : ℕ) → bytes_in size * i + bytes_in size ≤ 8 * length pd.old
+        → T.can truth.now size i }
     requires small { length pd.old ≤ 32 }
     ensures { pd.new ≡ predicate_of (bytes_in size) (length pd.old) (T.gives truth.now size) }
 {
@@ -74,7 +75,8 @@ fn put_of_size<T: Truth>(truth: &T, size: Size, pd: &mut [u8])
 /// Makes a predicate of the truth values of its elements, with a loop for each size.
 #[inline(always)]
 pub fn put_truths<T: Truth>(truth: &T, size: Size, pd: &mut [u8])
-    requires can { (i : ℕ) → bytes_in size * i + bytes_in size ≤ 8 * length pd.old → T.can truth.now size i }
+    requires can { (i : ℕ) → bytes_in size * i + bytes_in size ≤ 8 * length pd.old
+        → T.can truth.now size i }
     requires small { length pd.old ≤ 32 }
     ensures { pd.new ≡ predicate_of (bytes_in size) (length pd.old) (T.gives truth.now size) }
 {
