@@ -1,5 +1,6 @@
 -- Predicates that are written bit by bit.
-use Rattle.std.proofs.Common.{◌≡◌, ◌≢◌, ℕ, zero, suc, ◌+◌, ◌*◌, ◌/◌, ◌%◌, ◌^◌, ◌<◌, ◌≤◌, ◌==◌, ◌&&◌, Bool, true, false, List, length, map, set, get_or, bit_or, refl, ap, ◌∙◌, sym, arith, inl, inr, get_or-set_same, w8, subst}
+use Rattle.std.proofs.Common.{◌≡◌, ◌≢◌, ℕ, ◌*◌, ◌/◌, ◌%◌, ◌^◌, ◌<◌, ◌≤◌, ◌==◌, ◌&&◌, Bool, true, false, List, length, map, set, get_or}
+use Rattle.std.proofs.Common.{bit_or, refl, ap, ◌∙◌, sym, arith, inl, inr, get_or-set_same, w8, subst}
 use Rattle.std.specs.List.{range_with_len}
 use Rattle.std.proofs.lemmas.Bool.{cases_eq}
 use Rattle.std.proofs.lemmas.Bool.Decides.{nat_tests}
@@ -15,16 +16,20 @@ use Rattle.vector_elements.specs.Elements.{bit_of}
 use Rattle.vector_elements.specs.Numbers.{bytes_in}
 use Rattle.predicates.specs.Predicates.{bit_for, predicate_of}
 
--- a byte in which one bit more is set
-pub set_same : (p : List ℕ) (i : ℕ) → i < 8 * length p → bit_of (set p (i / 8) (bit_or (get_or p (i / 8) 0) (1 * 2 ^ (i % 8) % 256))) i ≡ true
+-- one bit more is set
+abbrev pub with_bit : List ℕ → ℕ → List ℕ
+with_bit p i = set p (i / 8) (bit_or (get_or p (i / 8) 0) (1 * 2 ^ (i % 8) % 256))
+
+pub set_same : (p : List ℕ) (i : ℕ) → i < 8 * length p → bit_of (with_bit p i) i ≡ true
 unfolding bit_of
 set_same p i lt =
     let room : i / 8 < length p = omega arith in
     let b = bit_at_set_same w8 (get_or p (i / 8) 0) (i % 8) (omega arith) in
-    let g : get_or (set p (i / 8) (bit_or (get_or p (i / 8) 0) (1 * 2 ^ (i % 8) % 256))) (i / 8) 0 ≡ bit_or (get_or p (i / 8) 0) (1 * 2 ^ (i % 8) % 256) = get_or-set_same p (i / 8) _ 0 room in
+    let g : get_or (with_bit p i) (i / 8) 0 ≡ bit_or (get_or p (i / 8) 0) (1 * 2 ^ (i % 8) % 256) =
+        get_or-set_same p (i / 8) _ 0 room in
     ap (λ n. n / 2 ^ (i % 8) % 2 == 1) g ∙ ap (λ n. n == 1) b
 
-pub set_other : (p : List ℕ) (i j : ℕ) → i < 8 * length p → j ≢ i → bit_of (set p (i / 8) (bit_or (get_or p (i / 8) 0) (1 * 2 ^ (i % 8) % 256))) j ≡ bit_of p j
+pub set_other : (p : List ℕ) (i j : ℕ) → i < 8 * length p → j ≢ i → bit_of (with_bit p i) j ≡ bit_of p j
 unfolding bit_of
 set_other p i j lt ne = grind (arith, elements, bit_at_set_other w8 (get_or p (i / 8) 0) (i % 8) (omega arith) (j % 8))
 

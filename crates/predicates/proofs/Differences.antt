@@ -1,5 +1,5 @@
 -- Differences modulo 2 ^ 64.
-use Rattle.std.proofs.Common.{◌≡◌, ℕ, ◌+◌, ◌-◌, ◌%◌, ◌^◌, ◌<◌, ◌≤◌, ℤ, pos, negsuc, ◌-ℤ◌, arith, ap, ◌∙◌, sym, inl, inr}
+use Rattle.std.proofs.Common.{◌≡◌, ℕ, ◌+◌, ◌-◌, ◌%◌, ◌^◌, ◌<◌, ◌≤◌, pos, negsuc, ◌-ℤ◌, arith, ap, ◌∙◌, sym, inl, inr}
 use Rattle.std.proofs.lemmas.Bool.{cases_lt}
 use Rattle.std.proofs.lemmas.Int.{ints}
 use Rattle.vector_elements.specs.declared.size.Size.TheVariants.{D}
@@ -14,6 +14,8 @@ below x n lt = grind (arith, ints)
 pub less : (x n : ℕ) → x < 2 ^ 64 → n < 2 ^ 64 → (x + (2 ^ 64 - n)) % 2 ^ 64 ≡ wrapped D (pos x -ℤ pos n)
 unfolding wrapped
 less x n fits small = elim (cases_lt x n) [
-  | inl lt ↦ (let e : (x + (2 ^ 64 - n)) % 2 ^ 64 ≡ 2 ^ 64 - 1 - (n - x - 1) % 2 ^ 64 = omega arith in e) ∙ sym (ap (wrapped D) (below x n lt))
+  | inl lt ↦ 
+      (let e : (x + (2 ^ 64 - n)) % 2 ^ 64 ≡ 2 ^ 64 - 1 - (n - x - 1) % 2 ^ 64 = omega arith in e)
+      ∙ sym (ap (wrapped D) (below x n lt))
   | inr le ↦ (let e : (x + (2 ^ 64 - n)) % 2 ^ 64 ≡ (x - n) % 2 ^ 64 = omega arith in e) ∙ sym (ap (wrapped D) (above x n le))
 ]

@@ -1,7 +1,6 @@
 -- The results of active elements, one element further.
-use Rattle.std.proofs.Common.{◌≡◌, ℕ, zero, suc, ◌+◌, ◌*◌, ◌/◌, Bool, true, false, not, ◌&&◌, ◌||◌, if◌then◌else◌, List, [], ◌∷◌, ◌++◌, length, refl, ap, ◌∙◌, sym, add-one, arith}
-use Rattle.std.proofs.lemmas.List.Folds.{list_any-append}
-use Rattle.bit_ops.specs.declared.sums.Nzcv.{Nzcv}
+use Rattle.std.proofs.Common.{◌≡◌, ℕ, ◌+◌, ◌*◌, ◌/◌, Bool, true, false, not, ◌&&◌, ◌||◌, if◌then◌else◌, List, [], ◌∷◌, ◌++◌, length, refl}
+use Rattle.std.proofs.Common.{ap, ◌∙◌, sym, add-one, arith}
 use Rattle.vector_elements.specs.Elements.{listed, is_active, active_of}
 use Rattle.vector_elements.proofs.Lists.{length-listed}
 use Rattle.predicates.specs.Flags.{governed, first_or, last_or, any_true, flags_of}
@@ -10,7 +9,8 @@ use Rattle.predicates.specs.Flags.{governed, first_or, last_or, any_true, flags_
 abbrev pub one_of : Bool → Bool → List Bool
 one_of on x = if on then x ∷ [] else []
 
-governed-one : (xs ys : List Bool) (on x : Bool) → length xs ≡ length ys → governed (xs ++ on ∷ []) (ys ++ x ∷ []) ≡ governed xs ys ++ one_of on x
+governed-one : (xs ys : List Bool) (on x : Bool) → length xs ≡ length ys
+    → governed (xs ++ on ∷ []) (ys ++ x ∷ []) ≡ governed xs ys ++ one_of on x
 unfolding governed
 governed-one [] [] true x e = refl
 governed-one [] [] false x e = refl
@@ -60,11 +60,11 @@ last_or-one (y ∷ g) none on x = last_or-one g y on x
 tells_next : (g : List Bool) (first seen any last on x : Bool) → Tells g first seen any last
     → Tells (g ++ one_of on x) (if seen then first else (on && x)) (seen || on) (any || (on && x)) (if on then x else last)
 tells_next g first seen any last on x t = record {
-    first_is = rw (t.first_is, t.seen_is) (first-one g on x);
-    seen_is = rw (t.seen_is) (some-one g on x);
-    any_is = rw (t.any_is) (any-one g on x);
-    last_is = rw (t.last_is) (last_or-one g false on x);
-  }
+  first_is = rw (t.first_is, t.seen_is) (first-one g on x);
+  seen_is = rw (t.seen_is) (some-one g on x);
+  any_is = rw (t.any_is) (any-one g on x);
+  last_is = rw (t.last_is) (last_or-one g false on x);
+}
 
 -- the results of the first n elements
 abbrev pub governed_to : ℕ → List ℕ → List ℕ → ℕ → List Bool
@@ -83,7 +83,8 @@ governed_to-next e mask results n =
 
 pub tells_further : (e : ℕ) (mask results : List ℕ) (n : ℕ) (first seen any last on x : Bool)
     → Tells (governed_to e mask results n) first seen any last → on ≡ is_active e mask n → x ≡ is_active e results n
-    → Tells (governed_to e mask results (n + 1)) (if seen then first else (on && x)) (seen || on) (any || (on && x)) (if on then x else last)
+    → Tells (governed_to e mask results (n + 1)) (if seen then first else (on && x)) (seen || on) (any || (on && x))
+      (if on then x else last)
 tells_further e mask results n first seen any last on x t is_on is_x =
     rw (governed_to-next e mask results n, sym is_on, sym is_x) (tells_next (governed_to e mask results n) first seen any last on x t)
 

@@ -1,5 +1,6 @@
 -- Predicates of loops, and counts.
-use Rattle.std.proofs.Common.{◌≡◌, ℕ, zero, suc, ◌+◌, ◌*◌, ◌/◌, ◌%◌, ◌^◌, ◌<◌, ◌≤◌, ◌==◌, Bool, true, false, ◌&&◌, if◌then◌else◌, List, [], ◌∷◌, ◌++◌, length, map, take, replicate, get_or, refl, ap, ap₂, ◌∙◌, sym, arith}
+use Rattle.std.proofs.Common.{◌≡◌, ℕ, zero, suc, ◌+◌, ◌*◌, ◌/◌, ◌%◌, ◌^◌, ◌<◌, ◌≤◌, ◌==◌, Bool, true, false, ◌&&◌, if◌then◌else◌, List, []}
+use Rattle.std.proofs.Common.{◌∷◌, ◌++◌, length, map, take, replicate, get_or, refl, ap, ap₂, ◌∙◌, sym, arith}
 use Rattle.std.specs.List.{range_with_len}
 use Rattle.std.proofs.lemmas.List.{length-take-le, get_or-take, get_or-replicate}
 use Rattle.sve_vectors.specs.Predicates.{predicate_bytes}
@@ -20,7 +21,8 @@ map_same f g (x ∷ xs) same = ap₂ (λ y ys. y ∷ ys) (same x) (map_same f g 
 pub same_predicate : (e bytes : ℕ) (f g : ℕ → Bool) → ((i : ℕ) → f i ≡ g i) → predicate_of e bytes f ≡ predicate_of e bytes g
 unfolding predicate_of
 same_predicate e bytes f g same =
-    ap predicate_bytes (map_same (bit_for e f) (bit_for e g) (range_with_len 0 (8 * bytes)) (λ j. ap (λ b. (j % e == 0) && b) (same (j / e))))
+    ap predicate_bytes
+    (map_same (bit_for e f) (bit_for e g) (range_with_len 0 (8 * bytes)) (λ j. ap (λ b. (j % e == 0) && b) (same (j / e))))
 
 replicate-last : {X : Type 0} (n : ℕ) (x : X) → replicate n x ++ x ∷ [] ≡ replicate (suc n) x
 replicate-last zero x = refl
@@ -64,7 +66,8 @@ all_active size mask n long ones =
     ∙ ap (λ k. replicate (8 * k / bytes_in size) true) long
 
 -- the first bytes of 32 that have all bits
-pub all_first : (size : Size) (n : ℕ) → n ≤ 32 → active_of (bytes_in size) (take n (replicate 32 255)) ≡ replicate (8 * n / bytes_in size) true
+pub all_first : (size : Size) (n : ℕ) → n ≤ 32
+    → active_of (bytes_in size) (take n (replicate 32 255)) ≡ replicate (8 * n / bytes_in size) true
 all_first size n within = all_active size (take n (replicate 32 255)) n long (λ k lt. ones k (omega (arith, lt, long)))
   where
     long : length {A = ℕ} (take n (replicate 32 255)) ≡ n

@@ -32,9 +32,10 @@ compared_with immediate.Ne size a imm = not (int_eq (signed_of size a) imm)
 
 -- the active elements that compare so
 unfoldable pub vectors_compared : CompareVectorsOp → Size → ℕ → List ℕ → List ℕ → List ℕ → List ℕ
-vectors_compared op size bytes pg n m = predicate_of (bytes_in size) bytes (λ i. is_active (bytes_in size) pg i
-    && compared op size (element_of (bytes_in size) n i) (element_of (bytes_in size) m i))
+vectors_compared op size bytes pg n m = predicate_of (bytes_in size) bytes
+    (λ i. is_active (bytes_in size) pg i &&
+    compared op size (element_of (bytes_in size) n i) (element_of (bytes_in size) m i))
 
 unfoldable pub immediate_compared : CompareImmediateOp → Size → ℕ → List ℕ → List ℕ → ℤ → List ℕ
-immediate_compared op size bytes pg n imm = predicate_of (bytes_in size) bytes (λ i. is_active (bytes_in size) pg i
-    && compared_with op size (element_of (bytes_in size) n i) imm)
+immediate_compared op size bytes pg n imm = predicate_of (bytes_in size) bytes
+    (λ i. is_active (bytes_in size) pg i && compared_with op size (element_of (bytes_in size) n i) imm)

@@ -1,6 +1,6 @@
 -- The flags of a result that is governed by a mask.
 -- Source: DDI 0487, J1.1: PredTest, FirstActive, NoneActive, LastActive.
-use Rattle.std.specs.Prelude.{Bool, true, false, not, if◌then◌else◌, List, [], ◌∷◌}
+use Rattle.std.specs.Prelude.{Bool, false, not, if◌then◌else◌, List, [], ◌∷◌}
 use Rattle.std.specs.List.{list_any}
 use Rattle.bit_ops.specs.declared.sums.Nzcv.{Nzcv}
 

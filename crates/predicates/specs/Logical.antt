@@ -2,7 +2,8 @@
 -- Source: DDI 0487, C8.2: PTRUE, PFALSE, and AND, BIC, EOR, SEL, ORR, ORN, NOR and NAND (predicates).
 use Rattle.std.specs.Prelude.{ℕ, ◌*◌, ◌/◌, Bool, false, not, ◌&&◌, ◌||◌, if◌then◌else◌, List, nat_lt}
 use Rattle.sm_types.specs.declared.vector.PredicateLogicalOp.{PredicateLogicalOp}
-use Rattle.sm_types.specs.declared.vector.PredicateLogicalOp.TheVariants.{And, Bic, Eor, Sel, Orr, Orn, Nor, Nand}
+use Rattle.sm_types.specs.declared.vector.PredicateLogicalOp.TheVariants.{And, Bic, Eor, Sel, Orr, Orn, Nor}
+use Rattle.sm_types.specs.declared.vector.PredicateLogicalOp.TheVariants.{Nand}
 use Rattle.vector_elements.specs.declared.size.Size.{Size}
 use Rattle.vector_elements.specs.Elements.{bit_of}
 use Rattle.vector_elements.specs.Numbers.{bytes_in}

@@ -22,7 +22,8 @@ while_at is_signed wide n m i =
     int_lt (register_number is_signed wide n +ℤ pos i) (register_number is_signed wide m)
 
 unfoldable pub while_predicate : Bool → Bool → Size → ℕ → ℕ → ℕ → List ℕ
-while_predicate is_signed wide size bytes n m = predicate_of (bytes_in size) bytes (while_at is_signed wide n m)
+while_predicate is_signed wide size bytes n m =
+    predicate_of (bytes_in size) bytes (while_at is_signed wide n m)
 
 -- CNTP: how many of some truth values are true
 abbrev pub true_count : List Bool → ℕ

@@ -1,9 +1,10 @@
 //! What the SVE instructions on predicates make: the flags of a result, predicates by a pattern, a count or a
 //! comparison, their logical operations, and the numbers of elements that they count.
 //!
-//! A predicate is the slice of its bytes, with a bit for each byte of a vector. An element holds where the bit
-//! of its lowest byte is set; what writes a predicate clears the element's other bits. The destination is a
-//! slice of its own: where it is a source too, the caller copies that source first.
+//! A predicate is the slice of its bytes, with a bit for each byte of a vector. An element holds where the
+//! bit of its lowest byte is set; what writes a predicate clears the element's other bits. The destination is
+//! a slice of its own: where it is a source too, the caller copies that source first. SETFFR is PTRUE of all
+//! bytes, and RDFFR and WRFFR are plain copies.
 #![tactic(auto)]
 
 mod compare;

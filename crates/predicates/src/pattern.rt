@@ -24,11 +24,7 @@ fn number_or_none(number: u64, count: u64) -> u64
     ensures value { result ≡ number_or_none number count }
     ensures within { result ≤ count }
 {
-    if number <= count {
-        number
-    } else {
-        0
-    }
+    if number <= count { number } else { 0 }
 }
 
 /// How many of `count` elements a pattern names: all, a fixed number of them, or the greatest number up to

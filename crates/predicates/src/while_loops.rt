@@ -1,5 +1,6 @@
 //! The predicates of loops.
-ghost use Rattle.std.specs.Prelude.{◌≡◌, ℕ, ◌*◌, ◌/◌, ◌≤◌, ◌<◌, pos, ◌+ℤ◌, int_lt, nat_lt, true, length, replicate};
+ghost use Rattle.std.specs.Prelude.{◌≡◌, ℕ, ◌*◌, ◌/◌, ◌≤◌, ◌<◌, pos, ◌+ℤ◌, int_lt, nat_lt, true, length};
+ghost use Rattle.std.specs.Prelude.{replicate};
 ghost use Rattle.vector_elements.specs.Elements.{active_of};
 ghost use Rattle.vector_elements.specs.Numbers.{bytes_in};
 ghost use Rattle.predicates.specs.Flags.{flags_of};
@@ -65,7 +66,14 @@ fn flags_of_all(size: Size, pd: &[u8]) -> Nzcv
 /// Makes element `i` true where `n + i` is below `m`, as whole numbers without a wrap: 64 bits of both where
 /// `wide`, else the low 32, with a sign or without. The flags are of all elements.
 /// Source: DDI 0487, C8.2, WHILELT, WHILELO (predicate).
-pub fn predicate_while(is_signed: bool, wide: bool, size: Size, pd: &mut [u8], n: u64, m: u64) -> Nzcv
+pub fn predicate_while(
+    is_signed: bool,
+    wide: bool,
+    size: Size,
+    pd: &mut [u8],
+    n: u64,
+    m: u64,
+) -> Nzcv
     requires { length pd.old ≤ 32 }
     ensures value { pd.new ≡ while_predicate is_signed wide size (length pd.old) n m }
     ensures flags { result ≡

@@ -1,7 +1,7 @@
-use Rattle.std.proofs.Common.{◌≡◌, ◌+◌, ◌≤◌, ◌*◌, ◌/◌, length, arith, ap, ◌∙◌}
+use Rattle.std.proofs.Common.{◌≡◌, ◌+◌, ◌*◌, ◌/◌, length, arith, ap, ◌∙◌}
 use Rattle.vector_elements.specs.Elements.{bit_of}
 use Rattle.vector_elements.specs.Numbers.{bytes_in}
-use Rattle.predicates.proofs.Loops.{count_none, count_further, at_most_one, count_is}
+use Rattle.predicates.proofs.Loops.{count_none, count_further, count_is}
 use Rattle.predicates.proofs.count_active.active_count.Goals as goal
 
 pub loop-i-init : goal.loop-i-init
