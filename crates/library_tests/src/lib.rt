@@ -1,5 +1,5 @@
-//! Tests of the libraries by their public calls: words, lines of sources, memory, vectors, the
-//! lines of stops, and the object of a source.
+//! Tests of the libraries by their public calls: words, lines of sources, memory, vectors, predicates,
+//! the lines of stops, and the object of a source.
 #![tactic(auto)]
 
 #[cfg(test)]
@@ -10,6 +10,8 @@ mod encodings;
 mod lines;
 #[cfg(test)]
 mod memory;
+#[cfg(test)]
+mod predicates;
 #[cfg(test)]
 mod sources;
 #[cfg(test)]

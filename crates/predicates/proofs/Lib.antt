@@ -1,0 +1,5 @@
+pub mod Governed
+pub mod Bits
+pub mod Powers
+pub mod Loops
+pub mod Differences
