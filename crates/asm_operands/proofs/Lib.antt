@@ -13,4 +13,5 @@ pub mod Stops
 pub mod GoesOn
 pub mod Aimed
 pub mod AliasNumbers
+pub mod Moves
 pub mod Bare

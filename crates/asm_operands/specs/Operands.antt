@@ -17,8 +17,6 @@ use Rattle.insn_text.specs.Texts.{items_of, bits_of}
 use Rattle.insn_text.specs.Rules.{meets}
 use Rattle.asm_tokens.specs.Tokens.{is_name, is_number_token}
 use Rattle.asm_tokens.specs.declared.token.Token.{Token}
-use Rattle.asm_tokens.specs.declared.token.Token.TheVariants.{Register, Word, Name, Number, Distance, Bare}
-use Rattle.asm_tokens.specs.declared.token.Token.TheVariants.{Malformed}
 use Rattle.asm_operands.specs.declared.fault.FaultKind.{FaultKind}
 use Rattle.asm_operands.specs.declared.fault.FaultKind.TheVariants.{BadOperand, BadNumber, Extra}
 use Rattle.asm_operands.specs.declared.operands.Target.{Target}

@@ -1,7 +1,7 @@
 //! What the faults say, as laws over every name and all tokens.
 
 ghost use Rattle.std.specs.Prelude.{◌≡◌, ◌+◌, ◌-◌, ◌^◌, ◌<◌, ◌≤◌, ℕ, Bool, true, false, List, ◌++◌, Some};
-ghost use Rattle.std.specs.Prelude.{None, length, take, is_some};
+ghost use Rattle.std.specs.Prelude.{None, length, take, is_some, codes, option_and_then};
 ghost use Rattle.bit_ops.specs.Bits.{width_of};
 ghost use Rattle.asm_tokens.specs.declared.token.Token.{Token};
 ghost use Rattle.insn_text.specs.declared.words.TheConstants.{NAMES};
@@ -13,6 +13,7 @@ ghost use Rattle.insn_text.specs.Texts.{mask_in};
 ghost use Rattle.asm_operands.specs.Aliases.{halfword_number, IsShiftLeft};
 ghost use Rattle.asm_operands.specs.Distances.{with_distance};
 ghost use Rattle.asm_operands.specs.Fields.{field_said, immediate_of};
+ghost use Rattle.asm_operands.specs.Moves.{move_tokens, moved, place_of};
 ghost use Rattle.asm_operands.specs.Operands.{shapes_of, first_word, furthest, operands_said, Says};
 
 /// The fault stands at the first token with which no instruction of the name goes on: with other tokens in
@@ -31,7 +32,8 @@ pub fn any_distance_law()
 {}
 
 /// The fields of an alias with a number stand for that number: of `mov` a halfword at its place, or its
-/// bits inverted, or a mask; of `lsl` the rotation and the highest bit of `ubfm`.
+/// bits inverted, or a mask; of `lsl` the rotation and the highest bit of `ubfm`. `mov` of a number is MOVZ
+/// where that holds the number, else MOVN where that does, else ORR.
 pub fn alias_law()
     ensures halfword { (wide negative : Bool) (bits size number field : ℕ) → immediate_of wide negative size ≡ Some number
         → field_said (Halfword wide false) bits (Number negative size) ≡ Some field → halfword_number field ≡ number }
@@ -42,4 +44,7 @@ pub fn alias_law()
     ensures shift { (wide negative : Bool) (bits size field : ℕ)
         → field_said (ShiftLeft wide) bits (Number negative size) ≡ Some field
         → IsShiftLeft wide size field }
+    ensures order { (wide negative : Bool) (register size : ℕ) → register < 31
+        → first_word (shapes_of (place_of (codes "mov"))) (move_tokens wide register negative size)
+        ≡ option_and_then (moved wide register) (immediate_of wide negative size) }
 {}

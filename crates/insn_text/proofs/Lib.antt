@@ -7,5 +7,6 @@ pub mod Regions
 pub mod Known
 pub mod AllPrinted
 pub mod Citing
+pub mod Complete
 pub mod Naming
 pub mod Following

@@ -5,4 +5,5 @@ pub mod Names
 pub mod Operands
 pub mod Aliases
 pub mod Cited
+pub mod Complete
 pub mod Wordings

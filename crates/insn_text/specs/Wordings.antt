@@ -13,8 +13,6 @@ use Rattle.a64_table.specs.declared.rows.TheConstants.{SCALAR_LINES}
 use Rattle.a64_table.specs.Numbers.{number_of}
 use Rattle.insn_text.specs.declared.item.Kind.{Kind}
 use Rattle.insn_text.specs.declared.item.Kind.TheVariants as kind
-use Rattle.insn_text.specs.declared.item.Rule.{Rule}
-use Rattle.insn_text.specs.declared.item.Rule.TheVariants as rule
 use Rattle.insn_text.specs.declared.item.Item.{Item}
 use Rattle.insn_text.specs.declared.item.Setting.{Setting}
 use Rattle.insn_text.specs.declared.item.Shape.{Shape}

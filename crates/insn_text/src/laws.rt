@@ -5,10 +5,12 @@ ghost use Rattle.sm_types.specs.declared.insn.Insn.{Insn};
 ghost use Rattle.a64_encode.specs.Either.{MeansEither};
 ghost use Rattle.insn_forms.specs.Tables.{Means, numbers_in};
 ghost use Rattle.a64_table.specs.Table.{scalar};
+ghost use Rattle.a64_table.specs.declared.rows.TheConstants.{SCALAR_LINES};
 ghost use Rattle.insn_text.specs.declared.item.Shape.{Shape};
 ghost use Rattle.insn_text.specs.declared.shapes.TheConstants.{ORDER, SHAPES};
 ghost use Rattle.insn_text.specs.declared.words.TheConstants.{NAMES};
 ghost use Rattle.insn_text.specs.Cited.{is_cited, none_is_hidden};
+ghost use Rattle.insn_text.specs.Complete.{has_aliases, has_own};
 ghost use Rattle.insn_text.specs.Names.{name_of};
 ghost use Rattle.insn_text.specs.Rules.{IsPrinted};
 ghost use Rattle.insn_text.specs.Texts.{printed_shape, text_at};
@@ -29,10 +31,14 @@ pub fn shapes_are_texts()
 {}
 
 /// Each shape is a text of a row of the table: it has the row's fixed bits, its name is that of the row's
-/// operation, or an alias of it, and its operands say the row's fields in their order.
+/// operation, or an alias of it, and its operands say the row's fields in their order. Each text of a
+/// row and each of its aliases has a shape in each of its forms: of each width, with and without what may be
+/// left out.
 pub fn texts_are_those_of_rows()
     ensures cited { list_all is_cited SHAPES ≡ true }
     ensures order { none_is_hidden SHAPES ≡ true }
+    ensures aliases { list_all has_aliases SCALAR_LINES ≡ true }
+    ensures own { list_all has_own SCALAR_LINES ≡ true }
 {}
 
 /// The name in which a word is printed is that of its instruction's operation.

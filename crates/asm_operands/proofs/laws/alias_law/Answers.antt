@@ -1,4 +1,5 @@
 use Rattle.asm_operands.proofs.AliasNumbers.{halfword, inverted, mask, shift}
+use Rattle.asm_operands.proofs.Moves.{moves}
 use Rattle.asm_operands.proofs.laws.alias_law.Goals as goal
 
 pub returns-clause-halfword : goal.returns-clause-halfword
@@ -12,3 +13,6 @@ returns-clause-mask c = mask
 
 pub returns-clause-shift : goal.returns-clause-shift
 returns-clause-shift c = shift
+
+pub returns-clause-order : goal.returns-clause-order
+returns-clause-order c = moves
