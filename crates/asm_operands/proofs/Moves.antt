@@ -193,13 +193,16 @@ wide_moves negative register size lt =
     (deaf (item X_SP RD) COMMA (item (kind.Named 1 1) NONE) (fixed (at 4)) (Register X register) (Mark 44) (Number negative size) refl)
     (skip (at 5) (after 6) ts _ refl
     (pick (at 6) (after 7) ts _ _
-    (says (at 6) register size 0 negative true (kind.Halfword true false) HW_IMM16 lt refl refl (record { free = refl; parts = refl; unknown = refl }) refl refl)
+    (says (at 6) register size 0 negative true (kind.Halfword true false) HW_IMM16 lt refl refl
+    (record { free = refl; parts = refl; unknown = refl }) refl refl)
     (skip (at 7) (after 8) ts _ refl
     (pick (at 8) (after 9) ts _ _
-    (says (at 8) register size 0 negative true (kind.Halfword true true) HW_IMM16 lt refl refl (record { free = refl; parts = refl; unknown = refl }) refl refl)
+    (says (at 8) register size 0 negative true (kind.Halfword true true) HW_IMM16 lt refl refl
+    (record { free = refl; parts = refl; unknown = refl }) refl refl)
     (skip (at 9) (after 10) ts _ refl
     (pick (at 10) (after 11) ts _ _
-    (says (at 10) register size 1 negative true (kind.SignedMask true) N_IMMR_IMMS lt refl refl (record { free = refl; parts = refl; unknown = refl }) refl refl)
+    (says (at 10) register size 1 negative true (kind.SignedMask true) N_IMMR_IMMS lt refl refl
+    (record { free = refl; parts = refl; unknown = refl }) refl refl)
     (skip (at 11) (after 12) ts _ refl refl)))))))))))
 
 narrow_moves : (negative : Bool) (register size : ℕ) → register < 31
@@ -217,13 +220,16 @@ narrow_moves negative register size lt =
     (deaf (item W_SP RD) COMMA (item (kind.Named 3 1) NONE) (fixed (at 5)) (Register W register) (Mark 44) (Number negative size) refl)
     (skip (at 6) (after 7) ts _ refl
     (pick (at 7) (after 8) ts _ _
-    (says (at 7) register size 2 negative false (kind.Halfword false false) SHORT_HW_IMM16 lt refl refl (record { free = refl; parts = refl; unknown = refl }) refl refl)
+    (says (at 7) register size 2 negative false (kind.Halfword false false) SHORT_HW_IMM16 lt refl refl
+    (record { free = refl; parts = refl; unknown = refl }) refl refl)
     (skip (at 8) (after 9) ts _ refl
     (pick (at 9) (after 10) ts _ _
-    (says (at 9) register size 2 negative false (kind.Halfword false true) SHORT_HW_IMM16 lt refl refl (record { free = refl; parts = refl; unknown = refl }) refl refl)
+    (says (at 9) register size 2 negative false (kind.Halfword false true) SHORT_HW_IMM16 lt refl refl
+    (record { free = refl; parts = refl; unknown = refl }) refl refl)
     (skip (at 10) (after 11) ts _ refl
     (pick (at 11) (after 12) ts _ _
-    (says (at 11) register size 3 negative false (kind.SignedMask false) IMMR_IMMS lt refl refl (record { free = refl; parts = refl; unknown = refl }) refl refl)
+    (says (at 11) register size 3 negative false (kind.SignedMask false) IMMR_IMMS lt refl refl
+    (record { free = refl; parts = refl; unknown = refl }) refl refl)
     refl)))))))))))
 
 pub moves : (wide negative : Bool) (register size : ℕ) → register < 31

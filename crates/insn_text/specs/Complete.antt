@@ -1,8 +1,8 @@
 -- Each text of each row has its shapes, and so has each alias.
 -- Source: DDI 0487, C6.2: the forms of each page; an alias has the widths of its instruction, and where an
 -- operand may be left out the text is there with it and without.
-use Rattle.std.specs.Prelude.{ℕ, ◌^◌, ◌==◌, ◌&&◌, Bool, true, false, List, [], ◌∷◌, ◌++◌, length, map, filter}
-use Rattle.std.specs.Prelude.{bit_and, bit_or, if◌then◌else◌}
+use Rattle.std.specs.Prelude.{ℕ, ◌+◌, ◌^◌, ◌==◌, ◌&&◌, Bool, true, false, List, [], ◌∷◌, ◌++◌, length, map}
+use Rattle.std.specs.Prelude.{filter, bit_and, bit_or, if◌then◌else◌}
 use Rattle.std.specs.List.{list_all, list_any, range_with_len}
 use Rattle.std.specs.Str.{bytes_eq}
 use Rattle.insn_forms.specs.declared.field.Field.{Field}
@@ -48,7 +48,7 @@ form fixed = record { mask = fixed_mask fixed; value = fixed_value fixed }
 
 -- the highest bit of the option, which tells an extension with a sign
 abbrev SIGNED : Field
-SIGNED = record { low = 15; width = 1; upper_low = 0; upper_width = 0 }
+SIGNED = record { low = OPTION.low + 2; width = 1; upper_low = 0; upper_width = 0 }
 
 unfoldable pub has_field : Line Operation → Field → Bool
 has_field line f = list_any (is f) (list_of line.fields)
@@ -69,7 +69,7 @@ unfoldable pub all_of : List Field → List Form
 all_of [] = form [] ∷ []
 all_of (f ∷ fs) = set_each (range_with_len 0 (2 ^ bits_of f)) f (all_of fs)
 
--- the sizes and the loads and stores of each: of a word and of a doubleword fewer extend what is loaded
+-- the loads and stores of each size: a word is extended with its sign to 64 bits alone, a doubleword is not
 unfoldable pub accesses : List Form
 accesses =
     set_each (0 ∷ 1 ∷ 2 ∷ 3 ∷ []) OPC (form (at SIZE 0 ∷ []) ∷ form (at SIZE 1 ∷ []) ∷ [])
@@ -104,7 +104,7 @@ forms_of line = forms_by line.operation line
 
 -- the upper bit of hw, which a register of 32 bits has not
 abbrev UPPER_HW : Field
-UPPER_HW = record { low = 22; width = 1; upper_low = 0; upper_width = 0 }
+UPPER_HW = record { low = HW.low + 1; width = 1; upper_low = 0; upper_width = 0 }
 
 -- the forms of a row's own text: hw is left out where it is 0
 unfoldable pub own_forms : Operation → Line Operation → List Form
