@@ -26,7 +26,7 @@ set_same p i lt =
     let room : i / 8 < length p = omega arith in
     let b = bit_at_set_same w8 (get_or p (i / 8) 0) (i % 8) (omega arith) in
     let g : get_or (with_bit p i) (i / 8) 0 ≡ bit_or (get_or p (i / 8) 0) (1 * 2 ^ (i % 8) % 256) =
-        get_or-set_same p (i / 8) _ 0 room in
+    get_or-set_same p (i / 8) _ 0 room in
     ap (λ n. n / 2 ^ (i % 8) % 2 == 1) g ∙ ap (λ n. n == 1) b
 
 pub set_other : (p : List ℕ) (i j : ℕ) → i < 8 * length p → j ≢ i → bit_of (with_bit p i) j ≡ bit_of p j

@@ -68,7 +68,7 @@ pub struct TileMove {
 /// `addha za0.t, pn/m, pm/m, zn.t`, or `addva`
 #[derive(Clone, Copy, PartialEq, Eq)]
 pub struct TileAdd {
-    /// To each row the number of its row, and not of its column.
+    /// To each element of the tile that of `zn` at its row, and not at its column.
     pub vertical: bool,
     /// Elements of 64 bits, else of 32.
     pub wide: bool,

@@ -501,8 +501,8 @@ pub enum LoadType {
     DoublewordToD,
 }
 
-/// The address of a contiguous access beside its base: `#n, mul vl`, 4 signed bits, or a general register,
-/// which is not 31.
+/// The address of a contiguous access beside its base: `#n, mul vl`, 4 signed bits, in units of all bytes
+/// that the access names, or a general register, which is not 31, in units of one element in memory.
 #[derive(Clone, Copy, PartialEq, Eq)]
 pub enum VectorOffset {
     Vectors(i32),
@@ -529,14 +529,14 @@ pub enum VectorAccess {
         rn: u8,
         zt: u8,
     },
-    /// `ldr zt, [xn{, #n, mul vl}]`, or `str`; 9 signed bits.
+    /// `ldr zt, [xn{, #n, mul vl}]`, or `str`; 9 signed bits, in units of a vector's bytes.
     Vector {
         store: bool,
         vectors: i32,
         rn: u8,
         zt: u8,
     },
-    /// `ldr pt, [xn{, #n, mul vl}]`, or `str`; 9 signed bits.
+    /// `ldr pt, [xn{, #n, mul vl}]`, or `str`; 9 signed bits, in units of a predicate's bytes.
     Predicate {
         store: bool,
         vectors: i32,

@@ -9,8 +9,8 @@ use vector_elements::{
     Change, Size, change_active, change_each, change_or_zero, element, low_bits, wrapped,
 };
 
-/// The signed immediate of DUP, CPY and MUL as an element, shifted left by 8 where `shifted`.
-/// Source: DDI 0487, C8.2, DUP, CPY and MUL (immediate).
+/// The signed immediate of DUP and CPY as an element, shifted left by 8 where `shifted`.
+/// Source: DDI 0487, C8.2, DUP and CPY (immediate).
 #[inline]
 #[tactic(auto, unfolding(crate::specs::Copies::signed_immediate))]
 pub fn signed_immediate(size: Size, imm: i32, shifted: bool) -> u64

@@ -1,6 +1,7 @@
 -- The operation of an instruction and the numbers of its row's fields, in the order of the row: the code's
 -- own, by which an encoder finds the word. None where no row has the operation: for the scalar instructions,
--- a selection that sets flags, and a store by a register of doublewords from narrower elements.
+-- shifts of 128 bits, a selection that sets flags, and a store by a register of 128 bits, or of doublewords
+-- from narrower elements.
 use Rattle.std.specs.Prelude.{ℕ, ◌-◌, ◌^◌, Bool, true, false, nat_le, if◌then◌else◌, List, [], ◌∷◌, Option}
 use Rattle.std.specs.Prelude.{Some, None}
 use Rattle.insn_forms.specs.declared.number.Number.{Number}

@@ -128,7 +128,7 @@ IsVectorCopy (copy.Select size zm pg zn zd) =
     IsTrue (is_between B D size) × (zm < 32) × (pg < 16) × (zn < 32) × (zd < 32)
 IsVectorCopy (copy.Prefix zn zd) = (zn < 32) × (zd < 32)
 
--- an amount of 8 bits; what is unpacked is wider than a byte
+-- an amount of 8 bits; an unpacked element is wider than a byte
 abbrev pub IsVectorPermute : VectorPermute → Type 0
 IsVectorPermute (permute.Interleave op size zm zn zd) =
     IsTrue (is_between B D size) × (zm < 32) × (zn < 32) × (zd < 32)
@@ -187,7 +187,7 @@ IsVectorAccess (access.Store memory element offset pg rn zt) =
 IsVectorAccess (access.Vector store vectors rn zt) = IsSigned 9 vectors × (rn < 32) × (zt < 32)
 IsVectorAccess (access.Predicate store vectors rn pt) = IsSigned 9 vectors × (rn < 32) × (pt < 16)
 
--- what is widened is wider than a byte
+-- a widened element is wider than a byte
 abbrev pub IsSve2 : Sve2 → Type 0
 IsSve2 (sve2.Multiply op size zm zn zd) = IsTrue (is_between B D size) × (zm < 32) × (zn < 32) × (zd < 32)
 IsSve2 (sve2.Ternary op zm zk zdn) = (zm < 32) × (zk < 32) × (zdn < 32)

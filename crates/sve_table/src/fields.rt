@@ -3,7 +3,8 @@
 //! The names are those of the encoding diagrams (DDI 0487, C8.2; SME's in C9.2), but for these of our own:
 //! those by the elements' size (`AMOUNT_B`, `TILE_B`, `OFFSET_B`, `SOURCE_TILE_B` and so on), `ZM_LOW` (Zm at
 //! 9:5), `RN_HIGH` (Rn at 20:16), `PG4` (Pg of 4 bits), `CPY_PG` (Pg of cpy), `ROW_PN` and `COLUMN_PM` (Pn
-//! and Pm of the outer products), `MEMORY_SIZE` and `ELEMENT_SIZE` (msz and size of stores), `EXT_IMM8`
+//! and Pm of the outer products, addha and addva), `RV` (Rv, and Rs of slices), `IMM5B` (imm5b, and imm5 of
+//! comparisons), `MEMORY_SIZE` and `ELEMENT_SIZE` (msz and size of stores), `EXT_IMM8`
 //! (imm8h:imm8l of ext), `MULTIPLIER` (imm4 of cnt, inc and dec), `MERGING` (M), `FLAGS` (S of predicates),
 //! `SUBTRACT` (S of the outer products), `VERTICAL` (V), `ARRAY_OFFSET` (off4) and `ZERO_MASK` (imm8 of
 //! zero).

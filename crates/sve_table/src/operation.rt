@@ -164,7 +164,7 @@ pub enum VectorOperation {
     G41(bool, Elem),
     /// Whether it is to a tile, and the size of the elements.
     G42(bool, Elem),
-    /// Whether it is by columns, and whether the elements are of 64 bits.
+    /// Whether each element gets that of the vector at its row, and whether the elements are of 64 bits.
     G43(bool, bool),
     /// The operation, and whether the sums are of 64 bits.
     G44(OuterProductOp, bool),

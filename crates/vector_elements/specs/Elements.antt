@@ -31,6 +31,10 @@ bit_of predicate i = slice_index predicate (i / 8) / 2 ^ (i % 8) % 2 == 1
 abbrev pub is_active : ℕ → List ℕ → ℕ → Bool
 is_active e predicate i = bit_of predicate (e * i)
 
+-- which elements are active
+unfoldable pub active_of : ℕ → List ℕ → List Bool
+active_of e predicate = listed (is_active e predicate) (8 * length predicate / e)
+
 -- each element becomes a function of its place and of what it was
 unfoldable pub each_element : ℕ → List ℕ → (ℕ → ℕ → ℕ) → List ℕ
 each_element e bytes f = bytes_of e (listed (λ i. f i (element_of e bytes i)) (length bytes / e))
