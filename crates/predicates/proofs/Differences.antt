@@ -14,7 +14,7 @@ below x n lt = grind (arith, ints)
 pub less : (x n : ℕ) → x < 2 ^ 64 → n < 2 ^ 64 → (x + (2 ^ 64 - n)) % 2 ^ 64 ≡ wrapped D (pos x -ℤ pos n)
 unfolding wrapped
 less x n fits small = elim (cases_lt x n) [
-  | inl lt ↦ 
+  | inl lt ↦
       (let e : (x + (2 ^ 64 - n)) % 2 ^ 64 ≡ 2 ^ 64 - 1 - (n - x - 1) % 2 ^ 64 = omega arith in e)
       ∙ sym (ap (wrapped D) (below x n lt))
   | inr le ↦ (let e : (x + (2 ^ 64 - n)) % 2 ^ 64 ≡ (x - n) % 2 ^ 64 = omega arith in e) ∙ sym (ap (wrapped D) (above x n le))

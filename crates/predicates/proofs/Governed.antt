@@ -84,7 +84,7 @@ governed_to-next e mask results n =
 pub tells_further : (e : ℕ) (mask results : List ℕ) (n : ℕ) (first seen any last on x : Bool)
     → Tells (governed_to e mask results n) first seen any last → on ≡ is_active e mask n → x ≡ is_active e results n
     → Tells (governed_to e mask results (n + 1)) (if seen then first else (on && x)) (seen || on) (any || (on && x))
-      (if on then x else last)
+    (if on then x else last)
 tells_further e mask results n first seen any last on x t is_on is_x =
     rw (governed_to-next e mask results n, sym is_on, sym is_x) (tells_next (governed_to e mask results n) first seen any last on x t)
 
