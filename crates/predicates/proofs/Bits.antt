@@ -1,11 +1,13 @@
 -- Predicates that are written bit by bit.
-use Rattle.std.proofs.Common.{◌≡◌, ◌≢◌, ℕ, ◌*◌, ◌/◌, ◌%◌, ◌^◌, ◌<◌, ◌≤◌, ◌==◌, ◌&&◌, Bool, true, false, List, length, map, set, get_or}
+use Rattle.std.proofs.Common.{◌≡◌, if◌then◌else◌, ◌≢◌, ℕ, ◌*◌, ◌/◌, ◌%◌, ◌^◌, ◌<◌, ◌≤◌}
+use Rattle.std.proofs.Common.{◌==◌, ◌&&◌, Bool, true, false, List, length, map, set, get_or}
 use Rattle.std.proofs.Common.{bit_or, refl, ap, ◌∙◌, sym, arith, inl, inr, get_or-set_same, w8, subst}
 use Rattle.std.specs.List.{range_with_len}
 use Rattle.std.proofs.lemmas.Bool.{cases_eq}
 use Rattle.std.proofs.lemmas.Bool.Decides.{nat_tests}
 use Rattle.std.proofs.lemmas.Grind.{elements}
-use Rattle.std.proofs.lemmas.List.{same_lists}
+use Rattle.std.proofs.lemmas.List.{same_lists, set-get_or}
+use Rattle.std.specs.Int.Bits.{or_zero_r}
 use Rattle.std.proofs.lemmas.List.FromFn.{length-map-range_with_len, get_or-map-range_with_len}
 use Rattle.std.proofs.lemmas.Nat.Bits.{bit_at_set_same, bit_at_set_other}
 use Rattle.sve_vectors.specs.Predicates.{truth_at, truths_of, predicate_bytes}
@@ -16,11 +18,15 @@ use Rattle.vector_elements.specs.Elements.{bit_of}
 use Rattle.vector_elements.specs.Numbers.{bytes_in}
 use Rattle.predicates.specs.Predicates.{bit_for, predicate_of}
 
+-- a bit is joined with another
+abbrev pub with_value : List ℕ → ℕ → ℕ → List ℕ
+with_value p i n = set p (i / 8) (bit_or (get_or p (i / 8) 0) (n * 2 ^ (i % 8) % 256))
+
 -- one bit more is set
-abbrev pub with_bit : List ℕ → ℕ → List ℕ
+abbrev with_bit : List ℕ → ℕ → List ℕ
 with_bit p i = set p (i / 8) (bit_or (get_or p (i / 8) 0) (1 * 2 ^ (i % 8) % 256))
 
-pub set_same : (p : List ℕ) (i : ℕ) → i < 8 * length p → bit_of (with_bit p i) i ≡ true
+set_same : (p : List ℕ) (i : ℕ) → i < 8 * length p → bit_of (with_bit p i) i ≡ true
 unfolding bit_of
 set_same p i lt =
     let room : i / 8 < length p = omega arith in
@@ -29,9 +35,26 @@ set_same p i lt =
     get_or-set_same p (i / 8) _ 0 room in
     ap (λ n. n / 2 ^ (i % 8) % 2 == 1) g ∙ ap (λ n. n == 1) b
 
-pub set_other : (p : List ℕ) (i j : ℕ) → i < 8 * length p → j ≢ i → bit_of (with_bit p i) j ≡ bit_of p j
+set_other : (p : List ℕ) (i j : ℕ) → i < 8 * length p → j ≢ i → bit_of (with_bit p i) j ≡ bit_of p j
 unfolding bit_of
 set_other p i j lt ne = grind (arith, elements, bit_at_set_other w8 (get_or p (i / 8) 0) (i % 8) (omega arith) (j % 8))
+
+unchanged : (p : List ℕ) (i : ℕ) → with_value p i 0 ≡ p
+unchanged p i =
+    let none : 0 * 2 ^ (i % 8) % 256 ≡ 0 = omega arith in
+    rw (none, or_zero_r (get_or p (i / 8) 0)) (set-get_or p (i / 8) 0)
+
+-- a clear bit becomes a truth value
+pub put_same : (p : List ℕ) (i n : ℕ) (v : Bool) → i < 8 * length p → bit_of p i ≡ false → n ≡ (if v then 1 else 0)
+    → bit_of (with_value p i n) i ≡ v
+put_same p i n true lt clear is = ap (λ k. bit_of (with_value p i k) i) is ∙ set_same p i lt
+put_same p i n false lt clear is =
+    ap (λ k. bit_of (with_value p i k) i) is ∙ ap (λ q. bit_of q i) (unchanged p i) ∙ clear
+
+pub put_other : (p : List ℕ) (i n j : ℕ) (v : Bool) → i < 8 * length p → n ≡ (if v then 1 else 0) → j ≢ i
+    → bit_of (with_value p i n) j ≡ bit_of p j
+put_other p i n j true lt is ne = ap (λ k. bit_of (with_value p i k) j) is ∙ set_other p i j lt ne
+put_other p i n j false lt is ne = ap (λ k. bit_of (with_value p i k) j) is ∙ ap (λ q. bit_of q j) (unchanged p i)
 
 -- the first `count` elements are as said, and all other bits are clear
 pub record IsPredicateTo (e count : ℕ) (truth : ℕ → Bool) (p : List ℕ) : Type 0 where

@@ -1,5 +1,6 @@
 //! Predicates that are written element by element.
-ghost use Rattle.std.specs.Prelude.{◌≡◌, ◌≢◌, ℕ, ◌+◌, ◌*◌, ◌<◌, ◌≤◌, Bool, true, false, length};
+ghost use Rattle.std.specs.Prelude.{◌≡◌, ◌≢◌, ℕ, ◌+◌, ◌*◌, ◌<◌, ◌≤◌, Bool, false, length};
+ghost use Rattle.std.specs.Prelude.{if◌then◌else◌};
 ghost use Rattle.vector_elements.specs.declared.size.Size.{Size as ElementSize};
 ghost use Rattle.vector_elements.specs.Elements.{bit_of};
 ghost use Rattle.vector_elements.specs.Numbers.{bytes_in};
@@ -33,17 +34,15 @@ fn clear(p: &mut [u8])
     }
 }
 
-/// Sets bit `i` of a predicate.
+/// 1 for a truth value that holds, and 0 for one that does not.
 #[inline(always)]
-fn set_bit(p: &mut [u8], i: usize)
-    requires { i < 8 * length p.old }
-    ensures set { bit_of p.new i ≡ true }
-    ensures kept { (j : ℕ) → j ≢ i → bit_of p.new j ≡ bit_of p.old j }
+fn lowest_bit(holds: bool) -> u8
+    ensures { result ≡ (if holds then 1 else 0) }
 {
-    p[i / 8] = p[i / 8] | (1 << (i % 8));
+    u8::from(holds)
 }
 
-/// Makes bit `i` of a predicate, which is clear, a truth value.
+/// Makes bit `i` of a predicate, which is clear, a truth value; without a branch.
 #[inline(always)]
 fn put_bit(p: &mut [u8], i: usize, value: bool)
     requires room { i < 8 * length p.old }
@@ -51,9 +50,7 @@ fn put_bit(p: &mut [u8], i: usize, value: bool)
     ensures value { bit_of p.new i ≡ value }
     ensures kept { (j : ℕ) → j ≢ i → bit_of p.new j ≡ bit_of p.old j }
 {
-    if value {
-        set_bit(p, i);
-    }
+    p[i / 8] = p[i / 8] | (lowest_bit(value) << (i % 8));
 }
 
 /// Makes a predicate of the truth values of its elements.
