@@ -3,6 +3,8 @@
 #![tactic(auto)]
 
 #[cfg(test)]
+mod active_elements;
+#[cfg(test)]
 mod elements;
 #[cfg(test)]
 mod encodings;
@@ -10,8 +12,6 @@ mod encodings;
 mod lines;
 #[cfg(test)]
 mod memory;
-#[cfg(test)]
-mod predicates;
 #[cfg(test)]
 mod sources;
 #[cfg(test)]
