@@ -21,9 +21,9 @@ use Rattle.a64_table.specs.Conditions.{is_below_width, has_load, is_address_opti
 use Rattle.insn_text.specs.declared.item.Kind.{Kind}
 use Rattle.insn_text.specs.declared.item.Kind.TheVariants as kind
 use Rattle.insn_text.specs.declared.item.Kind.TheVariants.{Mark, Named, Unsigned, Signed, Distance, Mask, SignedMask, ShiftLeft, Opposite}
-use Rattle.insn_text.specs.declared.item.Kind.TheVariants.{Halfword}
+use Rattle.insn_text.specs.declared.item.Kind.TheVariants.{Halfword, Sized, SliceRegister, Index, Pattern, Descending}
 use Rattle.insn_text.specs.declared.item.Rule.{Rule}
-use Rattle.insn_text.specs.declared.item.Rule.TheVariants.{Free, SecondApart, BaseApart, BasePairApart}
+use Rattle.insn_text.specs.declared.item.Rule.TheVariants.{Free, SecondApart, BaseApart, BasePairApart, OffsetGiven}
 use Rattle.insn_text.specs.declared.item.Item.{Item}
 use Rattle.insn_text.specs.declared.item.Shape.{Shape}
 use Rattle.insn_text.specs.Texts.{bits_of, field_in, items_of}
@@ -329,6 +329,11 @@ says_kind g m v i (SignedMask wide) = true
 says_kind g m v i (ShiftLeft wide) = true
 says_kind g m v i (Opposite first count) = true
 says_kind g m v i (Halfword wide inverted) = true
+says_kind g m v i (Sized file bits suffix) = true
+says_kind g m v i SliceRegister = true
+says_kind g m v i Index = true
+says_kind g m v i (Pattern first) = nat_le (2 ^ bits_of i) 32
+says_kind g m v i (Descending from) = nat_le (2 ^ bits_of i) from
 
 -- and meets the rule
 unfoldable pub says_rule : Operation → ℕ → ℕ → Rule → Bool
@@ -336,6 +341,7 @@ says_rule g m v Free = true
 says_rule g m v SecondApart = loads_two g
 says_rule g m v BaseApart = accesses_one g
 says_rule g m v BasePairApart = writes_two g
+says_rule g m v OffsetGiven = false
 
 unfoldable pub says_item : Operation → ℕ → ℕ → Item → Bool
 says_item g m v i = says_kind g m v i i.kind && says_rule g m v i.rule
@@ -552,6 +558,13 @@ kind_within g word m v i (SignedMask wide) r f e = refl
 kind_within g word m v i (ShiftLeft wide) r f e = refl
 kind_within g word m v i (Opposite first count) r f e = refl
 kind_within g word m v i (Halfword wide inverted) r f e = refl
+kind_within g word m v i (Sized file bits suffix) r f e = refl
+kind_within g word m v i SliceRegister r f e = refl
+kind_within g word m v i Index r f e = refl
+kind_within g word m v i (Pattern first) r f e =
+    let le = leb-true (2 ^ bits_of i) 32 e in let lt = field_bound i word in lt-ltb (field_in i word) 32 (omega arith)
+kind_within g word m v i (Descending from) r f e =
+    let le = leb-true (2 ^ bits_of i) from e in let lt = field_bound i word in lt-ltb (field_in i word) from (omega arith)
 
 -- ---- rules
 
@@ -574,6 +587,7 @@ rule_met g word m v BaseApart r f e = base_rule (field_of word 5 5 == field_of w
 rule_met g word m v BasePairApart r f e =
     pair_rule (field_of word 5 5 == 31) (field_of word 5 5 == field_of word 0 5) (field_of word 5 5 == field_of word 10 5)
     (two_written g word e f)
+rule_met g word m v OffsetGiven r f e = cc
 
 item_said : (g : Operation) (word m v : ℕ) (i : Item) → bit_and word m ≡ v → fits_of g (numbers_in word) ≡ true → says_item g m v i ≡ true
     → is_sayable word i ≡ true

@@ -1,12 +1,13 @@
 -- No text passes 95 bytes.
 use Rattle.std.proofs.Common.{◌≡◌, ℕ, zero, suc, ◌+◌, ◌-◌, ◌*◌, ◌/◌, ◌%◌, ◌^◌, ◌<◌, ◌≤◌, Bool, true, false, not, ◌&&◌, ◌||◌, ◌==◌, nat_lt}
-use Rattle.std.proofs.Common.{nat_le, cond, List, [], ◌∷◌, ◌++◌, Option, Some, None, slice_get, length, take, drop, decimal, refl, sym, ap}
-use Rattle.std.proofs.Common.{◌∙◌, arith, subst, lit<, ltb-true, leb-true, eq-eqb, length-append}
+use Rattle.std.proofs.Common.{nat_le, cond, max, List, [], ◌∷◌, ◌++◌, Option, Some, None, slice_get, length, take, drop, decimal, refl, sym, ap}
+use Rattle.std.proofs.Common.{◌∙◌, arith, subst, lit<, ltb-true, leb-true, eq-eqb, eqb-true, length-append}
 use Rattle.std.specs.List.{find, list_all}
 use Rattle.std.specs.Str.{IsAscii}
 use Rattle.std.specs.Fmt.{digits, digits_onto, digit_glyph}
 use Rattle.std.proofs.lemmas.Fmt.{length-decimal-le}
-use Rattle.std.proofs.lemmas.Nat.{mod_below, pow_below}
+use Rattle.std.specs.Prelude.{codes}
+use Rattle.std.proofs.lemmas.Nat.{mod_below, pow_below, pow-add, pow_pos}
 use Rattle.std.proofs.lemmas.Bool.{and_parts, cond_both}
 use Rattle.std.proofs.Math.Nat.{mul-le-mul_left, pow-suc}
 use Rattle.bit_ops.specs.Bits.{width_of, number_of_digits}
@@ -18,17 +19,20 @@ use Rattle.insn_forms.specs.Fields.{field_of}
 use Rattle.insn_forms.proofs.Bits.{field_in-lt}
 use Rattle.insn_text.specs.declared.item.Kind.{Kind}
 use Rattle.insn_text.specs.declared.item.Kind.TheVariants.{Mark, Named, Register, Unsigned, Signed, Distance, Mask, SignedMask, ShiftLeft}
-use Rattle.insn_text.specs.declared.item.Kind.TheVariants.{Opposite, Halfword}
+use Rattle.insn_text.specs.declared.item.Kind.TheVariants.{Opposite, Halfword, Sized, SliceRegister, Index, Pattern, Descending}
+use Rattle.insn_text.specs.declared.item.VectorFile.{VectorFile}
+use Rattle.insn_text.specs.declared.item.VectorFile.TheVariants as vector
 use Rattle.insn_text.specs.declared.item.RegisterFile.{RegisterFile}
 use Rattle.insn_text.specs.declared.item.RegisterFile.TheVariants.{X, W}
 use Rattle.insn_text.specs.declared.item.Item.{Item}
 use Rattle.insn_text.specs.declared.item.Shape.{Shape}
 use Rattle.insn_text.specs.declared.item.Text.{Text}
-use Rattle.insn_text.specs.declared.words.TheConstants.{WORDS, NAMES}
+use Rattle.insn_text.specs.declared.words.TheConstants.{WORDS, NAMES, SUFFIXES}
 use Rattle.insn_text.specs.declared.items.TheConstants.{ITEMS}
 use Rattle.insn_text.specs.declared.shapes.TheConstants.{SHAPES}
 use Rattle.insn_text.specs.Texts.{text_in, text_at, is_positive, size_of, hexadecimal, mask_in, mask_text, signed_text, distance_text}
-use Rattle.insn_text.specs.Texts.{file_text, register_text, kind_text, bits_of, field_in, item_text, is_mark, is_comma, gap, items_text}
+use Rattle.insn_text.specs.Texts.{file_text, register_text, vector_file_text, sized_text, is_named_pattern, pattern_place, pattern_text}
+use Rattle.insn_text.specs.Texts.{kind_text, bits_of, field_in, item_text, is_mark, is_comma, gap, items_text}
 use Rattle.insn_text.specs.Texts.{items_of, shape_text, prints, printed_shape}
 use Rattle.insn_text.specs.Places.{is_sized}
 use Rattle.insn_text.proofs.Sizes.{sizes}
@@ -147,33 +151,43 @@ mask_in_small wide field m e =
 
 -- ---- operands
 
--- the numbers of a kind are those of 16 bits
-unfoldable is_small : Kind → Bool
-is_small (Mark c) = true
-is_small (Named first count) = true
-is_small (Register file last) = true
-is_small (Unsigned base scale most) = nat_lt base 65536 && nat_lt scale 65536
-is_small (Signed scale) = nat_lt scale 65536
-is_small (Distance scale) = nat_lt scale 65536
-is_small (Mask wide) = true
-is_small (SignedMask wide) = true
-is_small (ShiftLeft wide) = true
-is_small (Opposite first count) = true
-is_small (Halfword wide inverted) = true
+-- the numbers of a kind with so many bits are those of 16 bits, and those of registers and slices have two digits
+unfoldable is_small : Kind → ℕ → Bool
+is_small (Mark c) bits = true
+is_small (Named first count) bits = true
+is_small (Register file last) bits = nat_le bits 5
+is_small (Sized file number_bits suffix) bits = nat_le number_bits 5
+is_small SliceRegister bits = nat_le bits 2
+is_small Index bits = nat_le bits 4
+is_small (Pattern first) bits = nat_le bits 5
+is_small (Descending from) bits = nat_lt from 100
+is_small (Unsigned base scale most) bits = nat_lt base 65536 && nat_lt scale 65536
+is_small (Signed scale) bits = nat_lt scale 65536
+is_small (Distance scale) bits = nat_lt scale 65536
+is_small (Mask wide) bits = true
+is_small (SignedMask wide) bits = true
+is_small (ShiftLeft wide) bits = true
+is_small (Opposite first count) bits = true
+is_small (Halfword wide inverted) bits = true
 
 -- the most bytes of an operand's text
-unfoldable room_of : Kind → ℕ
-room_of (Mark c) = 1
-room_of (Named first count) = 10
-room_of (Register file last) = 11
-room_of (Unsigned base scale most) = 16
-room_of (Signed scale) = 17
-room_of (Distance scale) = 17
-room_of (Mask wide) = 19
-room_of (SignedMask wide) = 0
-room_of (ShiftLeft wide) = 0
-room_of (Opposite first count) = 0
-room_of (Halfword wide inverted) = 0
+unfoldable room_of : Kind → ℕ → ℕ
+room_of (Mark c) bits = 1
+room_of (Named first count) bits = 10
+room_of (Register file last) bits = max 3 (length (text_at WORDS last))
+room_of (Sized file number_bits suffix) bits = 7
+room_of SliceRegister bits = 3
+room_of Index bits = 2
+room_of (Pattern first) bits = 10
+room_of (Descending from) bits = 3
+room_of (Unsigned base scale most) bits = cond (bits == 0) (1 + length (decimal base)) 16
+room_of (Signed scale) bits = 17
+room_of (Distance scale) bits = 17
+room_of (Mask wide) bits = 19
+room_of (SignedMask wide) bits = 0
+room_of (ShiftLeft wide) bits = 0
+room_of (Opposite first count) bits = 0
+room_of (Halfword wide inverted) bits = 0
 
 signed_length : (positive : Bool) (n : ℕ) → n ≤ 2 ^ 47 → length (signed_text positive n) ≤ 17
 unfolding signed_text
@@ -190,49 +204,148 @@ unfolding file_text
 file_length X = refl
 file_length W = refl
 
-register_length : (file : RegisterFile) (last number : ℕ) → number < 2 ^ 31 → length (register_text file last number) ≤ 11
+two_digits : (n : ℕ) → n < 100 → length (decimal n) ≤ 2
+two_digits n lt =
+    let fits : n < 2 ^ 64 = omega arith in
+    let few : n < 10 ^ 2 = omega arith in
+    length-decimal-le 2 n (lit< tt) few fits
+
+-- a number of at most so many bits
+below_bits : (bits most field : ℕ) → bits ≤ most → field < 2 ^ bits → field < 2 ^ most
+below_bits bits most field le lt =
+    let e : bits + (most - bits) ≡ most = omega arith in
+    let whole : 2 ^ bits * 2 ^ (most - bits) ≡ 2 ^ most = sym (pow-add 2 bits (most - bits)) ∙ ap (λ n. 2 ^ n) e in
+    let more = grow (2 ^ bits) (2 ^ (most - bits)) (pow_pos (most - bits)) in
+    omega arith
+  where
+    grow : (a b : ℕ) → 0 < b → a ≤ a * b
+    grow a zero h = absurd (omega arith)
+    grow a (suc b) h = omega arith
+
+register_length : (file : RegisterFile) (last number : ℕ) → number < 32
+    → length (register_text file last number) ≤ max 3 (length (text_at WORDS last))
 unfolding register_text
 register_length file last number lt =
-    let fits : number < 2 ^ 64 = omega arith in
-    let few : number < 10 ^ 10 = omega arith in
-    cond_both (number == 31) (text_at WORDS last) (file_text file ++ decimal number) (λ (t : List ℕ). length t ≤ 11)
-    (λ _. omega (arith, word_short last))
-    (λ _. omega (arith, length-append (file_text file) (decimal number), file_length file, length-decimal-le 10 number (lit< tt) few fits))
+    cond_both (number == 31) (text_at WORDS last) (file_text file ++ decimal number)
+    (λ (t : List ℕ). length t ≤ max 3 (length (text_at WORDS last)))
+    (λ _. omega arith)
+    (λ _. omega (arith, length-append (file_text file) (decimal number), file_length file, two_digits number (omega arith)))
 
-kind_length : (kind : Kind) (bits field : ℕ) → is_small kind ≡ true → bits < 31 → field < 2 ^ 31
-    → length (kind_text kind bits field) ≤ room_of kind
+vector_file_length : (file : VectorFile) → length (vector_file_text file) ≤ 2
+unfolding vector_file_text
+vector_file_length vector.Z = omega arith
+vector_file_length vector.P = omega arith
+vector_file_length vector.B = omega arith
+vector_file_length vector.H = omega arith
+vector_file_length vector.S = omega arith
+vector_file_length vector.D = omega arith
+vector_file_length vector.Za = omega arith
+
+unfoldable is_short_suffix : Text → Bool
+is_short_suffix t = nat_le (length (take t.length t.bytes)) 3
+
+suffixes_short : list_all is_short_suffix SUFFIXES ≡ true
+unfolding is_short_suffix
+suffixes_short = refl
+
+suffix_by : (place : ℕ) (o : Option Text) → slice_get SUFFIXES place ≡ o → length (text_in o) ≤ 3
+unfolding text_in is_short_suffix
+suffix_by place None g = omega arith
+suffix_by place (Some t) g = leb-true (length (take t.length t.bytes)) 3 (all_get is_short_suffix SUFFIXES place t suffixes_short g)
+
+suffix_length : (place : ℕ) → length (text_at SUFFIXES place) ≤ 3
+suffix_length place = suffix_by place (slice_get SUFFIXES place) refl
+
+sized_length : (file : VectorFile) (number suffix : ℕ) → number < 32 → length (sized_text file number suffix) ≤ 7
+unfolding sized_text
+sized_length file number suffix lt =
+    omega (
+      arith,
+      length-append (vector_file_text file) (decimal number ++ text_at SUFFIXES suffix),
+      length-append (decimal number) (text_at SUFFIXES suffix),
+      vector_file_length file,
+      two_digits number (omega arith),
+      suffix_length suffix,
+    )
+
+number_length : (number_bits field : ℕ) → number_bits ≤ 5 → field % 2 ^ number_bits < 32
+number_length number_bits field le =
+    below_bits number_bits 5 (field % 2 ^ number_bits) le (mod_below field (2 ^ number_bits) (pow_pos number_bits))
+
+pattern_length : (first field : ℕ) → field < 32 → length (pattern_text first field) ≤ 10
+unfolding pattern_text
+pattern_length first field lt =
+    let room = two_digits field (omega arith) in
+    cond_both (is_named_pattern field) (text_at WORDS (first + pattern_place field)) (codes "#" ++ decimal field)
+    (λ (t : List ℕ). length t ≤ 10) (λ _. word_short (first + pattern_place field)) (λ _. omega (arith, room))
+
+descending_length : (from field : ℕ) → from < 100 → length (codes "#" ++ decimal (from - field)) ≤ 3
+descending_length from field lt =
+    let less : from - field < 100 = omega arith in omega (arith, two_digits (from - field) less)
+
+unsigned_length : (base scale bits field : ℕ) → base < 65536 → scale < 65536 → bits < 31 → field < 2 ^ bits
+    → length (codes "#" ++ decimal (field * scale + base)) ≤ cond (bits == 0) (1 + length (decimal base)) 16
+unsigned_length base scale bits field b s lt f =
+    cond_both (bits == 0) (1 + length (decimal base)) 16 (λ room. length (codes "#" ++ decimal (field * scale + base)) ≤ room)
+    (λ z. alone (eqb-true bits 0 z)) (λ _. any)
+  where
+    alone : bits ≡ 0 → length (codes "#" ++ decimal (field * scale + base)) ≤ 1 + length (decimal base)
+    alone z =
+        let none : field < 2 ^ 0 = subst (λ n. field < 2 ^ n) z f in
+        let zero_field : field ≡ 0 = omega arith in
+        let same : field * scale + base ≡ base = ap (λ n. n * scale + base) zero_field ∙ omega arith in
+        omega (arith, ap (λ n. length (decimal n)) same)
+
+    any : length (codes "#" ++ decimal (field * scale + base)) ≤ 16
+    any =
+        let most = pow_below bits 31 lt in
+        let le : field ≤ 2 ^ 31 = omega arith in
+        let product = product_small field scale le s in
+        let less : field * scale + base < 2 ^ 49 = omega arith in
+        omega (arith, decimal_short (field * scale + base) less)
+
+under_31 : (bits field : ℕ) → bits < 31 → field < 2 ^ bits → field < 2 ^ 31
+under_31 bits field b f = let most = pow_below bits 31 b in omega arith
+
+kind_length : (kind : Kind) (bits field : ℕ) → is_small kind bits ≡ true → bits < 31 → field < 2 ^ bits
+    → length (kind_text kind bits field) ≤ room_of kind bits
 unfolding kind_text room_of is_small
 kind_length (Mark c) bits field e b f = omega arith
 kind_length (Named first count) bits field e b f = word_short (first + field)
-kind_length (Register file last) bits field e b f = register_length file last field f
+kind_length (Register file last) bits field e b f =
+    register_length file last field (below_bits bits 5 field (leb-true bits 5 e) f)
+kind_length (Sized file number_bits suffix) bits field e b f =
+    sized_length file (field % 2 ^ number_bits) (suffix + field / 2 ^ number_bits)
+    (number_length number_bits field (leb-true number_bits 5 e))
+kind_length SliceRegister bits field e b f =
+    let small = below_bits bits 2 field (leb-true bits 2 e) f in
+    let less : 12 + field < 100 = omega arith in
+    omega (arith, two_digits (12 + field) less)
+kind_length Index bits field e b f =
+    let small = below_bits bits 4 field (leb-true bits 4 e) f in
+    let less : field < 100 = omega arith in
+    two_digits field less
+kind_length (Pattern first) bits field e b f = pattern_length first field (below_bits bits 5 field (leb-true bits 5 e) f)
+kind_length (Descending from) bits field e b f = descending_length from field (ltb-true from 100 e)
 kind_length (Unsigned base scale most) bits field e b f =
     let p = and_parts (nat_lt base 65536) (nat_lt scale 65536) e in
-    let base_small : base < 65536 = ltb-true base 65536 p.0 in
-    let le : field ≤ 2 ^ 31 = omega arith in
-    let product = product_small field scale le (ltb-true scale 65536 p.1) in
-    let lt : field * scale + base < 2 ^ 49 = omega arith in
-    omega (arith, decimal_short (field * scale + base) lt)
+    unsigned_length base scale bits field (ltb-true base 65536 p.0) (ltb-true scale 65536 p.1) b f
 kind_length (Signed scale) bits field e b f =
     signed_length (is_positive bits field) (size_of bits field * scale)
-    (product_small (size_of bits field) scale (size_small bits field b f) (ltb-true scale 65536 e))
+    (product_small (size_of bits field) scale (size_small bits field b (under_31 bits field b f)) (ltb-true scale 65536 e))
 kind_length (Distance scale) bits field e b f =
     distance_length (is_positive bits field) (size_of bits field * scale)
-    (product_small (size_of bits field) scale (size_small bits field b f) (ltb-true scale 65536 e))
+    (product_small (size_of bits field) scale (size_small bits field b (under_31 bits field b f)) (ltb-true scale 65536 e))
 kind_length (Mask wide) bits field e b f = mask_length (mask_in wide field) (mask_in_small wide field)
 kind_length (SignedMask wide) bits field e b f = omega arith
 kind_length (ShiftLeft wide) bits field e b f = omega arith
 kind_length (Opposite first count) bits field e b f = omega arith
 kind_length (Halfword wide inverted) bits field e b f = omega arith
 
-field_small : (i : Item) (word : ℕ) → is_sized i ≡ true → field_in i word < 2 ^ 31
-field_small i word e =
-    let few = (sizes i e).few in
-    let most = pow_below (bits_of i) 31 few in
-    omega (arith, field_in-lt i.field word)
-
-item_length : (i : Item) (word : ℕ) → is_sized i ≡ true → is_small i.kind ≡ true → length (item_text word i) ≤ room_of i.kind
+item_length : (i : Item) (word : ℕ) → is_sized i ≡ true → is_small i.kind (bits_of i) ≡ true
+    → length (item_text word i) ≤ room_of i.kind (bits_of i)
 unfolding item_text
-item_length i word e s = let few = (sizes i e).few in kind_length i.kind (bits_of i) (field_in i word) s few (field_small i word e)
+item_length i word e s = kind_length i.kind (bits_of i) (field_in i word) s (sizes i e).few (field_in-lt i.field word)
 
 gap_length : (before after : Kind) → length (gap before after) ≤ 1
 unfolding gap
@@ -243,15 +356,15 @@ gap_length before after =
 -- the most bytes of operands, each with a space before it
 unfoldable items_room : List Item → ℕ
 items_room [] = 0
-items_room (i ∷ is) = 1 + room_of i.kind + items_room is
+items_room (i ∷ is) = 1 + room_of i.kind (bits_of i) + items_room is
 
-items_length : (word : ℕ) (before : Kind) (is : List Item) → list_all is_sized is ≡ true → list_all (λ i. is_small i.kind) is ≡ true
+items_length : (word : ℕ) (before : Kind) (is : List Item) → list_all is_sized is ≡ true → list_all (λ i. is_small i.kind (bits_of i)) is ≡ true
     → length (items_text word before is) ≤ items_room is
 unfolding items_text items_room
 items_length word before [] e s = omega arith
 items_length word before (i ∷ is) e s =
     let p = and_parts (is_sized i) (list_all is_sized is) e in
-    let q = and_parts (is_small i.kind) (list_all (λ j. is_small j.kind) is) s in
+    let q = and_parts (is_small i.kind (bits_of i)) (list_all (λ j. is_small j.kind (bits_of j)) is) s in
     omega (
       arith,
       gap_length before i.kind,
@@ -263,7 +376,7 @@ items_length word before (i ∷ is) e s =
 
 -- ---- shapes
 
-items_small : list_all (λ i. is_small i.kind) ITEMS ≡ true
+items_small : list_all (λ i. is_small i.kind (bits_of i)) ITEMS ≡ true
 unfolding is_small
 items_small = refl
 
@@ -271,7 +384,7 @@ unfoldable is_short : Shape → Bool
 is_short s = nat_lt (10 + items_room (items_of s)) 96
 
 shapes_short : list_all is_short SHAPES ≡ true
-unfolding is_short items_room room_of items_of
+unfolding is_short items_room room_of items_of text_in digits
 shapes_short = refl
 
 shape_length : (s : Shape) (word : ℕ) → is_short s ≡ true → length (shape_text s word) < 96
@@ -280,7 +393,8 @@ shape_length s word e =
     let is = take s.count (drop s.first ITEMS) in
     let short : 10 + items_room is < 96 = ltb-true (10 + items_room is) 96 e in
     let rest = items_length word (Mark 44) is (all_take is_sized s.count (drop s.first ITEMS) (all_drop is_sized s.first ITEMS items_sized))
-    (all_take (λ i. is_small i.kind) s.count (drop s.first ITEMS) (all_drop (λ i. is_small i.kind) s.first ITEMS items_small)) in
+    (all_take (λ i. is_small i.kind (bits_of i)) s.count (drop s.first ITEMS)
+    (all_drop (λ i. is_small i.kind (bits_of i)) s.first ITEMS items_small)) in
     omega (arith, rest, name_short s.name, length-append (text_at NAMES s.name) (items_text word (Mark 44) is))
 
 find_passes : (p q : Shape → Bool) (ss : List Shape) (s : Shape) → list_all q ss ≡ true → find p ss ≡ Some s → q s ≡ true

@@ -8,12 +8,13 @@ use Rattle.std.proofs.lemmas.Str.{IsAscii-take}
 use Rattle.std.proofs.lemmas.Str.Ascii.{IsAscii-nil}
 use Rattle.insn_forms.specs.Fields.{mask_of, is_field}
 use Rattle.insn_text.specs.declared.item.Kind.{Kind}
-use Rattle.insn_text.specs.declared.item.Kind.TheVariants.{Mark}
+use Rattle.insn_text.specs.declared.item.Kind.TheVariants.{Mark, Sized}
+use Rattle.insn_text.specs.declared.item.VectorFile.{VectorFile}
 use Rattle.insn_text.specs.declared.item.Text.{Text}
-use Rattle.insn_text.specs.declared.words.TheConstants.{WORDS, NAMES}
+use Rattle.insn_text.specs.declared.words.TheConstants.{WORDS, NAMES, SUFFIXES}
 use Rattle.insn_text.specs.declared.items.TheConstants.{ITEMS}
 use Rattle.insn_text.specs.Texts.{text_in, text_at}
-use Rattle.insn_text.specs.Places.{has_ascii_mark, is_sized}
+use Rattle.insn_text.specs.Places.{is_writable, is_sized}
 
 pub all_take : {X : Type 0} (p : X → Bool) (n : ℕ) (xs : List X) → list_all p xs ≡ true → list_all p (take n xs) ≡ true
 all_take p zero xs e = refl
@@ -39,7 +40,7 @@ all_at p (y ∷ ys) (suc i) d e lt = all_at p ys i d (and_parts (p y) (list_all 
 -- ---- operands
 
 pub items_sized : list_all is_sized ITEMS ≡ true
-unfolding mask_of is_field is_sized has_ascii_mark
+unfolding mask_of is_field is_sized is_writable
 items_sized = refl
 
 pub sized_run : (first count : ℕ) → list_all is_sized (take count (drop first ITEMS)) ≡ true
@@ -72,11 +73,22 @@ ascii_in texts place (Some t) g e = IsAscii-take t.bytes t.length (bytes_ascii t
 pub word_ascii : (place : ℕ) → IsAscii (text_at WORDS place)
 word_ascii place = ascii_in WORDS place (slice_get WORDS place) refl words_ascii
 
+suffixes_ascii : list_all is_ascii_text SUFFIXES ≡ true
+unfolding is_ascii_text
+suffixes_ascii = refl
+
+pub suffix_ascii : (place : ℕ) → IsAscii (text_at SUFFIXES place)
+suffix_ascii place = ascii_in SUFFIXES place (slice_get SUFFIXES place) refl suffixes_ascii
+
 pub name_ascii : (place : ℕ) → IsAscii (text_at NAMES place)
 name_ascii place = ascii_in NAMES place (slice_get NAMES place) refl names_ascii
 
-pub mark_ascii : (kind : Kind) (c : ℕ) → kind ≡ Mark c → has_ascii_mark kind ≡ true → IsAscii (c ∷ [])
-unfolding has_ascii_mark
+pub few_bits : (kind : Kind) (file : VectorFile) (bits suffix : ℕ) → kind ≡ Sized file bits suffix → is_writable kind ≡ true → bits < 32
+unfolding is_writable
+few_bits kind file bits suffix e h = ltb-true bits 32 (sym (ap is_writable e) ∙ h)
+
+pub mark_ascii : (kind : Kind) (c : ℕ) → kind ≡ Mark c → is_writable kind ≡ true → IsAscii (c ∷ [])
+unfolding is_writable
 mark_ascii kind c e h =
-    let test : nat_lt c 128 ≡ true = sym (ap has_ascii_mark e) ∙ h in
+    let test : nat_lt c 128 ≡ true = sym (ap is_writable e) ∙ h in
     bytes_ascii (c ∷ []) (ap (λ b. b && true) test)

@@ -36,6 +36,7 @@ use Rattle.sm_types.specs.declared.insn.SystemMoveOp.TheVariants as move_system
 use Rattle.insn_text.specs.declared.item.Item.{Item}
 use Rattle.insn_text.specs.declared.item.Rule.{Rule}
 use Rattle.insn_text.specs.declared.item.Rule.TheVariants.{Free, SecondApart, BaseApart, BasePairApart}
+use Rattle.insn_text.specs.declared.item.Rule.TheVariants.{OffsetGiven}
 use Rattle.insn_text.specs.declared.item.Kind.{Kind}
 use Rattle.insn_text.specs.declared.item.Kind.TheVariants as kind
 use Rattle.insn_text.specs.declared.item.RegisterFile.{RegisterFile}
@@ -204,6 +205,7 @@ rule_number Free = 0
 rule_number SecondApart = 1
 rule_number BaseApart = 2
 rule_number BasePairApart = 3
+rule_number OffsetGiven = 4
 
 -- how a text writes its numbers: as the fields have them; or, of an alias, as the opposite condition, as the
 -- amount of a shift to the left, or as the number that is moved
@@ -269,6 +271,7 @@ is_written way o n f bits (kind.Opposite first count) =
     is_opposed way && is f COND && are_words first count (names_from condition_name 0 14)
 is_written way o n f bits (kind.Halfword wide inverted) =
     is_moved way && is_halfword o inverted f && same wide (n SF == 1)
+is_written way o n f bits other = false
 
 unfoldable pub is_operand : Way → Operation → (Field → ℕ) → Field → Item → Bool
 is_operand way o n f i =

@@ -3,7 +3,7 @@ use Rattle.std.specs.Prelude.{ℕ, ◌+◌, ◌-◌, Bool, true, ◌&&◌, nat_l
 use Rattle.std.specs.Prelude.{slice_get, slice_index, take, drop, if◌then◌else◌}
 use Rattle.std.specs.Option.{option_or}
 use Rattle.insn_text.specs.declared.item.Kind.{Kind}
-use Rattle.insn_text.specs.declared.item.Kind.TheVariants.{Mark}
+use Rattle.insn_text.specs.declared.item.Kind.TheVariants.{Mark, Sized}
 use Rattle.insn_text.specs.declared.item.Item.{Item}
 use Rattle.insn_text.specs.declared.item.Shape.{Shape}
 use Rattle.insn_forms.specs.Fields.{is_field}
@@ -25,11 +25,12 @@ unfoldable pub part_of : List ℕ → List ℕ → ℕ → List ℕ
 part_of places starts at =
     take (slice_index starts (at + 1) - slice_index starts at) (drop (slice_index starts at) places)
 
--- a mark is a character of ASCII
-unfoldable pub has_ascii_mark : Kind → Bool
-has_ascii_mark (Mark c) = nat_lt c 128
-has_ascii_mark other = true
+-- a mark is a character of ASCII, and the number of a register has few bits
+unfoldable pub is_writable : Kind → Bool
+is_writable (Mark c) = nat_lt c 128
+is_writable (Sized file bits suffix) = nat_lt bits 32
+is_writable other = true
 
--- the operand's field lies within a word; a mark is one of ASCII
+-- the operand's field lies within a word, and its kind is written
 unfoldable pub is_sized : Item → Bool
-is_sized i = is_field i.field && has_ascii_mark i.kind
+is_sized i = is_field i.field && is_writable i.kind

@@ -6,17 +6,21 @@ use Rattle.std.specs.List.{list_all}
 use Rattle.insn_forms.specs.Fields.{field_of}
 use Rattle.bit_ops.specs.Masks.{are_mask_fields}
 use Rattle.insn_text.specs.declared.item.Kind.{Kind}
-use Rattle.insn_text.specs.declared.item.Kind.TheVariants.{Named, Unsigned, Mask}
+use Rattle.insn_text.specs.declared.item.Kind.TheVariants.{Named, Unsigned, Mask, Pattern, Descending}
 use Rattle.insn_text.specs.declared.item.Rule.{Rule}
 use Rattle.insn_text.specs.declared.item.Rule.TheVariants.{Free, SecondApart, BaseApart, BasePairApart}
+use Rattle.insn_text.specs.declared.item.Rule.TheVariants.{OffsetGiven}
 use Rattle.insn_text.specs.declared.item.Item.{Item}
 use Rattle.insn_text.specs.declared.item.Shape.{Shape}
 use Rattle.insn_text.specs.Texts.{field_in, items_of, printed_shape}
 
--- the kind has a text for the number of the field: one of its words, a number up to its greatest, or a mask
+-- the kind has a text for the number of the field: one of its words, a number up to its greatest or not above
+-- that from which it counts down, a pattern of five bits, or a mask
 unfoldable pub is_within : Kind → ℕ → Bool
 is_within (Named first count) field = nat_lt field count
 is_within (Unsigned base scale most) field = nat_le field most
+is_within (Pattern first) field = nat_lt field 32
+is_within (Descending from) field = nat_lt field from
 is_within (Mask wide) field =
     are_mask_fields (field_of field 12 1 == 1) (field_of field 0 6) (field_of field 6 6) wide
 is_within other field = true
@@ -31,6 +35,7 @@ meets Free word = true
 meets SecondApart word = not (field_of word 0 5 == field_of word 10 5)
 meets BaseApart word = is_base_apart word (field_of word 0 5)
 meets BasePairApart word = is_base_apart word (field_of word 0 5) && is_base_apart word (field_of word 10 5)
+meets OffsetGiven word = not (field_of word 16 5 == 31)
 
 unfoldable pub is_sayable : ℕ → Item → Bool
 is_sayable word i = is_within i.kind (field_in i word) && meets i.rule word

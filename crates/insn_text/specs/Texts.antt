@@ -2,7 +2,7 @@
 -- distances.
 -- Source: DDI 0487, C1.2 (assembly language symbols) and the pages of C6.2; which text is printed, and that
 -- distances are in bytes from the instruction, is this project's own.
-use Rattle.std.specs.Prelude.{ℕ, ◌+◌, ◌-◌, ◌*◌, ◌^◌, Bool, true, false, not, ◌&&◌, ◌||◌, ◌==◌, nat_lt, List}
+use Rattle.std.specs.Prelude.{ℕ, ◌+◌, ◌-◌, ◌*◌, ◌/◌, ◌%◌, ◌^◌, Bool, true, false, not, ◌&&◌, ◌||◌, ◌==◌, nat_lt, List}
 use Rattle.std.specs.Prelude.{[], ◌∷◌, ◌++◌, Option, Some, None, bit_and, slice_get, take, drop}
 use Rattle.std.specs.Prelude.{if◌then◌else◌, decimal, codes}
 use Rattle.std.specs.List.{find}
@@ -13,12 +13,15 @@ use Rattle.insn_forms.specs.Fields.{field_of}
 use Rattle.insn_text.specs.declared.item.Kind.{Kind}
 use Rattle.insn_text.specs.declared.item.Kind.TheVariants.{Mark, Named, Register, Unsigned, Signed, Distance}
 use Rattle.insn_text.specs.declared.item.Kind.TheVariants.{Mask, SignedMask, ShiftLeft, Opposite, Halfword}
+use Rattle.insn_text.specs.declared.item.Kind.TheVariants.{Sized, SliceRegister, Index, Pattern, Descending}
+use Rattle.insn_text.specs.declared.item.VectorFile.{VectorFile}
+use Rattle.insn_text.specs.declared.item.VectorFile.TheVariants as vector
 use Rattle.insn_text.specs.declared.item.RegisterFile.{RegisterFile}
 use Rattle.insn_text.specs.declared.item.RegisterFile.TheVariants.{X, W}
 use Rattle.insn_text.specs.declared.item.Item.{Item}
 use Rattle.insn_text.specs.declared.item.Shape.{Shape}
 use Rattle.insn_text.specs.declared.item.Text.{Text}
-use Rattle.insn_text.specs.declared.words.TheConstants.{WORDS, NAMES}
+use Rattle.insn_text.specs.declared.words.TheConstants.{WORDS, NAMES, SUFFIXES}
 use Rattle.insn_text.specs.declared.items.TheConstants.{ITEMS}
 use Rattle.insn_text.specs.declared.shapes.TheConstants.{SHAPES}
 
@@ -71,11 +74,44 @@ file_text W = codes "w"
 unfoldable pub register_text : RegisterFile → ℕ → ℕ → List ℕ
 register_text file last number = if number == 31 then text_at WORDS last else file_text file ++ decimal number
 
+-- the letters of a file of vectors, predicates or ZA
+unfoldable pub vector_file_text : VectorFile → List ℕ
+vector_file_text vector.Z = codes "z"
+vector_file_text vector.P = codes "p"
+vector_file_text vector.B = codes "b"
+vector_file_text vector.H = codes "h"
+vector_file_text vector.S = codes "s"
+vector_file_text vector.D = codes "d"
+vector_file_text vector.Za = codes "za"
+
+-- such a register: the letters of its file, its number, and the suffix at a place
+unfoldable pub sized_text : VectorFile → ℕ → ℕ → List ℕ
+sized_text file number suffix =
+    vector_file_text file ++ (decimal number ++ text_at SUFFIXES suffix)
+
+-- a pattern has a word: 0 to 13 and 29 to 31
+unfoldable pub is_named_pattern : ℕ → Bool
+is_named_pattern field = nat_lt field 14 || nat_lt 28 field
+
+-- its place among the words: those from 29 on follow that of 13
+unfoldable pub pattern_place : ℕ → ℕ
+pattern_place field = if nat_lt field 14 then field else field - 15
+
+unfoldable pub pattern_text : ℕ → ℕ → List ℕ
+pattern_text first field =
+    if is_named_pattern field then text_at WORDS (first + pattern_place field) else codes "#" ++ decimal field
+
 -- the text of a field of so many bits; the kinds of aliases are never printed
 unfoldable pub kind_text : Kind → ℕ → ℕ → List ℕ
 kind_text (Mark c) bits field = c ∷ []
 kind_text (Named first count) bits field = text_at WORDS (first + field)
 kind_text (Register file last) bits field = register_text file last field
+kind_text (Sized file number_bits suffix) bits field =
+    sized_text file (field % 2 ^ number_bits) (suffix + field / 2 ^ number_bits)
+kind_text SliceRegister bits field = codes "w" ++ decimal (12 + field)
+kind_text Index bits field = decimal field
+kind_text (Pattern first) bits field = pattern_text first field
+kind_text (Descending from) bits field = codes "#" ++ decimal (from - field)
 kind_text (Unsigned base scale most) bits field = codes "#" ++ decimal (field * scale + base)
 kind_text (Signed scale) bits field = signed_text (is_positive bits field) (size_of bits field * scale)
 kind_text (Distance scale) bits field = distance_text (is_positive bits field) (size_of bits field * scale)

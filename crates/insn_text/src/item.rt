@@ -1,5 +1,4 @@
 //! What the text of an instruction is made of.
-use a64_table::Operation;
 use insn_forms::Field;
 
 /// The files of registers.
@@ -11,6 +10,25 @@ pub enum RegisterFile {
     W,
 }
 
+/// The files of the registers of vectors, of predicates and of ZA, and those of the low parts of vectors.
+#[derive(Clone, Copy, PartialEq, Eq)]
+pub enum VectorFile {
+    /// Vectors.
+    Z,
+    /// Predicates.
+    P,
+    /// The low 8 bits of vectors.
+    B,
+    /// Their low 16 bits.
+    H,
+    /// Their low 32 bits.
+    S,
+    /// Their low 64 bits.
+    D,
+    /// Tiles of ZA, and their slices.
+    Za,
+}
+
 /// How the number of a field is written.
 #[derive(Clone, Copy)]
 pub enum Kind {
@@ -20,6 +38,18 @@ pub enum Kind {
     Named { first: u16, count: u16 },
     /// A register of a file: its letter and its number, and for number 31 the word at `last`.
     Register { file: RegisterFile, last: u16 },
+    /// A register of vectors, predicates or ZA: the letters of its file, its number, which is in the lowest
+    /// `bits` bits of the field, and one of the suffixes from place `suffix` of their table on, which the
+    /// bits above give: the size of its elements, or none, and of a slice its direction.
+    Sized { file: VectorFile, bits: u8, suffix: u16 },
+    /// A register W12 to W15, by the last two bits of its number.
+    SliceRegister,
+    /// The number of the field, with no `#`.
+    Index,
+    /// A pattern: one of 17 words from place `first` on, or `#n` for the numbers that have none.
+    Pattern { first: u16 },
+    /// `#n`, n what the field lacks of `from`.
+    Descending { from: u16 },
     /// `#n`, n the field times `scale`, and `base` more; the field is at most `most`.
     Unsigned { base: u16, scale: u16, most: u16 },
     /// `#n`, n the signed field times `scale`.
@@ -50,6 +80,8 @@ pub enum Rule {
     BaseApart,
     /// Rn 9:5 is neither Rt 4:0 nor Rt2 14:10, or is SP.
     BasePairApart,
+    /// Rm 20:16 is not 31.
+    OffsetGiven,
 }
 
 /// One token of a shape, and the field whose number it writes.
@@ -86,13 +118,13 @@ pub struct Setting {
     pub number: u32,
 }
 
-/// One text of an operation, as the table of texts has it: whether it is an alias, its name, the fields
+/// One text of an operation, as a table of texts has it: whether it is an alias, its name, the fields
 /// that it sets, and the places of its operands in `OPERANDS`, up to the first 0.
 #[derive(Clone, Copy)]
-pub struct Wording {
+pub struct Wording<O> {
     pub alias: bool,
     pub name: Text,
-    pub operation: Operation,
+    pub operation: O,
     pub set: [Option<Setting>; 4],
-    pub operands: [u8; 10],
+    pub operands: [u8; 24],
 }

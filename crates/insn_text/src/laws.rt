@@ -1,5 +1,5 @@
 //! The laws of the texts.
-ghost use Rattle.std.specs.Prelude.{◌≡◌, ℕ, true, Some};
+ghost use Rattle.std.specs.Prelude.{◌≡◌, ℕ, true, Some, [], length};
 ghost use Rattle.std.specs.List.{list_all};
 ghost use Rattle.sm_types.specs.declared.insn.Insn.{Insn};
 ghost use Rattle.a64_encode.specs.Either.{MeansEither};
@@ -25,9 +25,9 @@ pub fn every_word_is_printed()
 /// name and operands, and fixes the bits of the row and those that the text sets; each field of the row is
 /// set or said, and no other.
 pub fn shapes_are_texts()
-    ensures each { are_shapes texts ORDER SHAPES ≡ true }
+    ensures each { are_shapes texts [] ORDER SHAPES ≡ true }
     ensures order { stand_in_order SHAPES ORDER ≡ true }
-    ensures all { have_shapes texts ORDER ≡ true }
+    ensures all { have_shapes (length texts) ORDER ≡ true }
 {}
 
 /// Each shape is a text of a row of the table: it has the row's fixed bits, its name is that of the row's

@@ -16,7 +16,7 @@ mod shapes;
 mod texts;
 mod words;
 
-pub use item::{Item, Kind, RegisterFile, Rule, Setting, Shape, Text, Wording};
+pub use item::{Item, Kind, RegisterFile, Rule, Setting, Shape, Text, VectorFile, Wording};
 pub use items::{ITEMS, OPERANDS};
 pub use laws::{
     every_word_is_printed, names_are_those_of_operations, shapes_are_texts, texts_are_those_of_rows,
@@ -26,4 +26,4 @@ pub use printed::{PRINTED, ROOTS};
 pub use shape::operands_of;
 pub use shapes::{ORDER, SHAPES, STARTS};
 pub use texts::{ACCESSES, BOTH, EXTENDED, ORDERED, PAIRS, SINGLE, SIZED};
-pub use words::{NAMES, WORDS};
+pub use words::{NAMES, SUFFIXES, WORDS};

@@ -1,20 +1,22 @@
 //! Printing a word.
-ghost use Rattle.std.specs.Prelude.{◌≡◌, ℕ, ◌+◌, ◌-◌, ◌*◌, ◌^◌, ◌<◌, ◌≤◌, ◌++◌, true, false, length, drop};
+ghost use Rattle.std.specs.Prelude.{◌≡◌, ℕ, ◌+◌, ◌-◌, ◌*◌, ◌/◌, ◌%◌, ◌^◌, ◌<◌, ◌≤◌, ◌++◌, true, false, length, drop};
 ghost use Rattle.std.specs.Prelude.{decimal, codes};
 ghost use Rattle.std.specs.Fmt.{digit_glyph};
 ghost use Rattle.std.specs.List.{list_all};
 ghost use Rattle.std.specs.Str.{IsAscii};
 ghost use Rattle.a64_encode.specs.Either.{MeansEither};
 ghost use Rattle.insn_text.specs.declared.item.Kind.TheVariants.{Mark};
-ghost use Rattle.insn_text.specs.Places.{has_ascii_mark, is_sized};
+ghost use Rattle.insn_text.specs.Places.{is_writable, is_sized};
 ghost use Rattle.insn_text.specs.Texts.{bits_of, distance_text, field_in, gap, hexadecimal, is_comma};
 ghost use Rattle.insn_text.specs.Texts.{is_mark, is_positive, item_text, items_text, kind_text, mask_in};
 ghost use Rattle.insn_text.specs.Texts.{mask_text, register_text, file_text, shape_text, signed_text};
+ghost use Rattle.insn_text.specs.Texts.{vector_file_text, sized_text, is_named_pattern, pattern_place};
+ghost use Rattle.insn_text.specs.Texts.{pattern_text};
 ghost use Rattle.insn_text.specs.Texts.{size_of, text_at, text_of};
 ghost use Rattle.insn_text.specs.declared.words.TheConstants.{WORDS};
 
-use crate::item::{Item, Kind, RegisterFile, Shape};
-use crate::shape::{name_at, operands_of, shape_of, word_at};
+use crate::item::{Item, Kind, RegisterFile, Shape, VectorFile};
+use crate::shape::{name_at, operands_of, shape_of, suffix_at, word_at};
 use a64_encode::encode;
 use arrayvec::ArrayString;
 use bit_ops::bit_mask;
@@ -125,7 +127,7 @@ fn number_in(item: &Item, word: u32) -> u64
 /// Appends the text of a field of so many bits.
 #[tactic(auto, unfolding(crate::specs::Texts::kind_text))]
 fn push_kind(out: &mut ArrayString<96>, kind: Kind, bits: u32, field: u64)
-    requires mark { has_ascii_mark kind ≡ true }
+    requires mark { is_writable kind ≡ true }
     requires bits { bits < 32 }
     requires field { field < 2 ^ bits }
     requires below { field < 2 ^ 31 }
@@ -136,6 +138,11 @@ fn push_kind(out: &mut ArrayString<96>, kind: Kind, bits: u32, field: u64)
         Kind::Mark(mark) => push_bytes(out, &[mark]),
         Kind::Named { first, .. } => push_word(out, first as usize + field as usize),
         Kind::Register { file, last } => push_register(out, file, last, field),
+        Kind::Sized { file, bits, suffix } => push_sized_field(out, file, bits, suffix, field),
+        Kind::SliceRegister => push_slice_register(out, field),
+        Kind::Index => push_number(out, field),
+        Kind::Pattern { first } => push_pattern(out, first, field),
+        Kind::Descending { from } => push_unsigned(out, u64::from(from).saturating_sub(field)),
         Kind::Unsigned { base, scale, .. } => push_unsigned(
             out,
             field * scale as u64 + base as u64,
@@ -189,6 +196,97 @@ fn push_register(out: &mut ArrayString<96>, file: RegisterFile, last: u16, numbe
     } else {
         push_file(out, file);
         push_number(out, number);
+    }
+}
+
+/// Appends the letters of a file of vectors, predicates or ZA.
+#[tactic(auto, unfolding(crate::specs::Texts::vector_file_text))]
+fn push_vector_file(out: &mut ArrayString<96>, file: VectorFile)
+    requires { length out.old.bytes + length (vector_file_text file) ≤ 96 }
+    ensures { out.new.bytes ≡ out.old.bytes ++ vector_file_text file }
+{
+    match file {
+        VectorFile::Z => out.push_str("z"),
+        VectorFile::P => out.push_str("p"),
+        VectorFile::B => out.push_str("b"),
+        VectorFile::H => out.push_str("h"),
+        VectorFile::S => out.push_str("s"),
+        VectorFile::D => out.push_str("d"),
+        VectorFile::Za => out.push_str("za"),
+    }
+}
+
+/// Appends such a register: its file, its number and the suffix at a place.
+#[tactic(auto, unfolding(crate::specs::Texts::sized_text))]
+fn push_sized(out: &mut ArrayString<96>, file: VectorFile, number: u64, suffix: usize)
+    requires { length out.old.bytes + length (sized_text file number suffix) ≤ 96 }
+    ensures { out.new.bytes ≡ out.old.bytes ++ sized_text file number suffix }
+{
+    push_vector_file(out, file);
+    push_number(out, number);
+    push_bytes(out, suffix_at(suffix));
+}
+
+/// Appends the register of a field: its number is in the lowest bits, and the bits above give its suffix.
+fn push_sized_field(out: &mut ArrayString<96>, file: VectorFile, bits: u8, suffix: u16, field: u64)
+    requires few { bits < 32 }
+    requires below { field < 2 ^ 31 }
+    requires room { length out.old.bytes
+        + length (sized_text file (field % 2 ^ bits) (suffix + field / 2 ^ bits)) ≤ 96 }
+    ensures { out.new.bytes ≡ out.old.bytes
+        ++ sized_text file (field % 2 ^ bits) (suffix + field / 2 ^ bits) }
+{
+    let size = 1u64 << bits;
+    push_sized(
+        out,
+        file,
+        field % size,
+        suffix as usize + (field / size) as usize,
+    );
+}
+
+/// Appends one of the registers W12 to W15.
+fn push_slice_register(out: &mut ArrayString<96>, field: u64)
+    requires small { field < 2 ^ 31 }
+    requires room { length out.old.bytes + length (codes "w" ++ decimal (12 + field)) ≤ 96 }
+    ensures { out.new.bytes ≡ out.old.bytes ++ (codes "w" ++ decimal (12 + field)) }
+{
+    out.push_str("w");
+    push_number(out, 12 + field);
+}
+
+/// Whether the pattern has a word.
+#[tactic(auto, unfolding(crate::specs::Texts::is_named_pattern))]
+fn is_named_pattern(field: u64) -> bool
+    ensures { result ≡ is_named_pattern field }
+{
+    field < 14 || 28 < field
+}
+
+/// The place of its word.
+#[tactic(auto, unfolding(crate::specs::Texts::pattern_place))]
+fn pattern_place(field: u64) -> u64
+    ensures value { result ≡ pattern_place field }
+    ensures small { result ≤ field }
+{
+    if field < 14 {
+        field
+    } else {
+        field.saturating_sub(15)
+    }
+}
+
+/// Appends a pattern.
+#[tactic(auto, unfolding(crate::specs::Texts::pattern_text))]
+fn push_pattern(out: &mut ArrayString<96>, first: u16, field: u64)
+    requires small { field < 2 ^ 31 }
+    requires room { length out.old.bytes + length (pattern_text first field) ≤ 96 }
+    ensures { out.new.bytes ≡ out.old.bytes ++ pattern_text first field }
+{
+    if is_named_pattern(field) {
+        push_word(out, first as usize + pattern_place(field) as usize);
+    } else {
+        push_unsigned(out, field);
     }
 }
 

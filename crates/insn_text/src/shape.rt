@@ -10,7 +10,7 @@ use crate::item::{Item, Shape, Text};
 use crate::items::ITEMS;
 use crate::printed::{PRINTED, ROOTS};
 use crate::shapes::SHAPES;
-use crate::words::{NAMES, WORDS};
+use crate::words::{NAMES, SUFFIXES, WORDS};
 
 /// The shape in which a word is printed, if it has a text.
 pub fn shape_of(word: u32) -> Option<Shape>
@@ -114,6 +114,14 @@ pub fn word_at(place: usize) -> &'static [u8]
     ensures ascii { IsAscii result.now }
 {
     text_at(&WORDS, place)
+}
+
+/// The suffix of a register of vectors, predicates or ZA.
+pub fn suffix_at(place: usize) -> &'static [u8]
+    ensures value { result.now ≡ text_at SUFFIXES place }
+    ensures ascii { IsAscii result.now }
+{
+    text_at(&SUFFIXES, place)
 }
 
 /// The name of an instruction.

@@ -62,10 +62,10 @@ macro_rules! in_w {
     ($other:ident) => { place!($other) };
 }
 
-// The places of the operands of these names, and 0 up to ten.
-macro_rules! ten {
+// The places of the operands of these names, and 0 up to 24.
+macro_rules! twenty_four {
     ($of:ident [$($done:expr),*] [$none:literal $($nones:literal)*] $name:ident $($names:ident)*) => {
-        ten!($of [$($done,)* $of!($name)] [$($nones)*] $($names)*)
+        twenty_four!($of [$($done,)* $of!($name)] [$($nones)*] $($names)*)
     };
     ($of:ident [$($done:expr),*] [$($none:literal)*]) => {
         [$($done,)* $($none),*]
@@ -93,7 +93,7 @@ macro_rules! text {
             name: name!($($name)*),
             operation: Operation::$group($($op)*),
             set: four!([] [None None None None] $($set)*),
-            operands: ten!($of [] [0 0 0 0 0 0 0 0 0 0] $($first)* $(comma $($more)+)*),
+            operands: twenty_four!($of [] [0 0 0 0 0 0 0 0 0 0 0 0 0 0 0 0 0 0 0 0 0 0 0 0] $($first)* $(comma $($more)+)*),
         }
     };
 }
@@ -223,7 +223,7 @@ macro_rules! ordered {
 }
 
 /// The texts of both widths, with W registers where SF is 0 and X registers where it is 1.
-pub static BOTH: [Wording; 188] = both! {
+pub static BOTH: [Wording<Operation>; 188] = both! {
     print add: G1(AddSub::Add) [SH=0] (rd_sp, rn_sp, imm12);
     print add: G1(AddSub::Add) [SH=1] (rd_sp, rn_sp, imm12, lsl twelve);
     print adds: G1(AddSub::Adds) [SH=0] (rd, rn_sp, imm12);
@@ -321,7 +321,7 @@ pub static BOTH: [Wording; 188] = both! {
 };
 
 /// The texts of one width.
-pub static SINGLE: [Wording; 68] = single! {
+pub static SINGLE: [Wording<Operation>; 68] = single! {
     print sbfm: G7(BitfieldOp::Sbfm, true) [] (xd, xn, immr6, imms6);
     print sbfm: G7(BitfieldOp::Sbfm, false) [] (wd, wn, immr5, imms5);
     print bfm: G7(BitfieldOp::Bfm, true) [] (xd, xn, immr6, imms6);
@@ -393,7 +393,7 @@ pub static SINGLE: [Wording; 68] = single! {
 };
 
 /// The loads and stores of a pair.
-pub static PAIRS: [Wording; 16] = pairs! {
+pub static PAIRS: [Wording<Operation>; 16] = pairs! {
     stp: Stp false (wt, wt2) imm7_4;
     ldp: Ldp false (wt, wt2_not_t) imm7_4;
     stp: Stp true (xt, xt2) imm7_8;
@@ -401,7 +401,7 @@ pub static PAIRS: [Wording; 16] = pairs! {
 };
 
 /// The texts with an extended register.
-pub static EXTENDED: [Wording; 60] = extended! {
+pub static EXTENDED: [Wording<Operation>; 60] = extended! {
     print add: G4(AddSub::Add) [] (rd_sp, rn_sp);
     print adds: G4(AddSub::Adds) [] (rd, rn_sp);
     print sub: G4(AddSub::Sub) [] (rd_sp, rn_sp);
@@ -411,7 +411,7 @@ pub static EXTENDED: [Wording; 60] = extended! {
 };
 
 /// The loads and stores of one register: the name, the name without a scale, and what tells the offset.
-pub static ACCESSES: [Wording; 182] = accesses! {
+pub static ACCESSES: [Wording<Operation>; 182] = accesses! {
     strb sturb [SIZE=0 OPC=0] (wt) imm12 amount_is_0;
     ldrb ldurb [SIZE=0 OPC=1] (wt) imm12 amount_is_0;
     ldrsb ldursb [SIZE=0 OPC=2] (xt) imm12 amount_is_0;
@@ -428,13 +428,13 @@ pub static ACCESSES: [Wording; 182] = accesses! {
 };
 
 /// The ordered accesses.
-pub static SIZED: [Wording; 8] = sized! {
+pub static SIZED: [Wording<Operation>; 8] = sized! {
     ldar: G21(AtomicForm::Ldar);
     stlr: G21(AtomicForm::Stlr);
 };
 
 /// The atomic accesses in each size and order, with the fields of the order.
-pub static ORDERED: [Wording; 160] = ordered! {
+pub static ORDERED: [Wording<Operation>; 160] = ordered! {
     cas: G21(AtomicForm::Cas) CAS_ACQUIRE CAS_RELEASE;
     ldadd: G21(AtomicForm::Update(AtomicOp::Add)) ACQUIRE RELEASE;
     ldclr: G21(AtomicForm::Update(AtomicOp::Clear)) ACQUIRE RELEASE;
