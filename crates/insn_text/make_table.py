@@ -9,7 +9,7 @@ import pathlib
 import re
 
 HERE = pathlib.Path(__file__).resolve().parent
-TABLE = HERE.parent / "a64_table" / "src"
+SCALARS, VECTORS = HERE.parent / "a64_table" / "src", HERE.parent / "sve_table" / "src"
 FREE, FACTOR = 65535, 379
 
 
@@ -18,14 +18,22 @@ def read(path):
 
 
 # ---- fields, rows and operands
-FIELDS = {}
-for name, places in re.findall(r"pub const (\w+): Field = field!\(([^)]*)\);", read(TABLE / "fields.rt")):
-    numbers = [int(n) for n in re.findall(r"\d+", places)]
-    upper_low, upper_width, low, width = numbers if "above" in places else [0, 0, *numbers]
-    FIELDS[name] = dict(low=low, width=width, upper_low=upper_low, upper_width=upper_width)
-ROWS = {re.sub(r"\s", "", op): (int(mask, 16), int(value, 16), fields.split())
-        for mask, value, op, fields in re.findall(r"(0x\w+) (0x\w+) (G\d+\(.*?\)) \[(.*?)\];", read(TABLE / "rows.rt"))}
+def fields_of(table):
+    """The fields of a table by name."""
+    found = {}
+    for name, places in re.findall(r"pub const (\w+): Field = field!\(([^)]*)\);", read(table / "fields.rt")):
+        numbers = [int(n) for n in re.findall(r"\d+", places)]
+        upper_low, upper_width, low, width = numbers if "above" in places else [0, 0, *numbers]
+        found[name] = dict(low=low, width=width, upper_low=upper_low, upper_width=upper_width)
+    return found
+
+
+FIELDS = fields_of(SCALARS)
+VECTOR_FIELDS = fields_of(VECTORS)
+ROWS = {re.sub(r"\s", "", op): (int(mask, 16), int(value, 16), fields.split()) for table in (SCALARS, VECTORS)
+        for mask, value, op, fields in re.findall(r"(0x\w+) (0x\w+) (G\d+\(.*?\)) \[(.*?)\];", read(table / "rows.rt"))}
 SOURCE = read(HERE / "src" / "operands.rt")
+VECTOR_SOURCE = read(HERE / "src" / "vector_operands.rt")
 
 
 def number(text):
@@ -34,11 +42,38 @@ def number(text):
 
 for name, body in re.findall(r"const (\w+): Field = Field \{(.*?)\};", SOURCE, re.S):
     FIELDS[name] = {key: number(text) for key, text in re.findall(r"(\w+): ([^,}]+)", body)}
-OPERANDS = dict(re.findall(r"\((\w+)\) => \{ operand_of!\((?:Kind::\w+(?: \{.*?\}|\(.*?\))|\w+), ([\w!()]+?)(?:, \w+)?\) \};", SOURCE))
+OPERANDS = dict(re.findall(r"\((\w+)\) => \{ operand_of!\((?:Kind::\w+(?: \{.*?\}|\(.*?\))?|\w+), ([\w!():]+?)(?:, \w+)?\) \};", SOURCE.replace("scalar_fields::", "")))
+SCALAR_OPERANDS = set(OPERANDS)
+OPERANDS |= dict(re.findall(r"\((\w+)\) => \{ (\w+!\(.*\)) \};", VECTOR_SOURCE.replace("scalar_fields::", "")))
+
+
+def by_size(name, size, width):
+    """A register's field with the size of its elements, or the lower bits of it, above it."""
+    return dict(VECTOR_FIELDS[name], upper_low=VECTOR_FIELDS[size]["low"], upper_width=width)
+
+
+def vector_field(text):
+    """The field of an operand of vector_operands.rt."""
+    macro, given = re.fullmatch(r"(\w+)!\((.*)\)", text).groups()
+    field = given.split(", ")[-1] if macro != "operand_of" else re.fullmatch(r"Kind::\w+(?: \{.*?\}|\(.*?\))?, ([\w:]+)(?:, \w+)?|\w+, (\w+)(?:, \w+)?", given)
+    if macro == "operand_of":
+        name = field[1] or field[2]
+        return VECTOR_FIELDS[name[15:]] if name.startswith("vector_fields::") else FIELDS[name]
+    if macro == "word":
+        return FIELDS["NONE"]
+    if macro == "low_part":
+        return VECTOR_FIELDS["VD"]
+    if match := re.fullmatch(r"by_(low_)?size!\((\w+)\)", field):
+        return by_size(match[2], "SIZE", 1 if match[1] else 2)
+    if match := re.fullmatch(r"by_element_size!\((.*)\)", field):
+        return by_size("ZT", "ELEMENT_SIZE", 1 if match[1] == "1" else 2)
+    return VECTOR_FIELDS[field.removeprefix("vector_fields::")]
 
 
 def field_of(operand):
     text = OPERANDS[operand]
+    if operand not in SCALAR_OPERANDS:
+        return vector_field(text)
     if text.startswith("short!"):
         field = FIELDS[text[7:-1]]
         return dict(field, width=field["width"] - 1)
@@ -54,13 +89,13 @@ def placed(field, n):
 
 
 # ---- the texts, as the macros write them
-TEXTS = read(HERE / "src" / "texts.rt")
+SCALAR_TEXTS, VECTOR_TEXTS = read(HERE / "src" / "texts.rt"), read(HERE / "src" / "vector_texts.rt")
 
 
-def macro(name):
+def macro(name, source):
     """The pattern of a macro's lines, with a group for each variable, and the texts that it writes of a line."""
-    pattern, body = re.search(r"macro_rules! %s \{\s*\(\$\((.*?);\)\*\) => \{(.*?)\n    \};" % name, TEXTS, re.S).groups()
-    pattern = re.escape(pattern.strip()).replace(r"\ ", " ")
+    pattern, body = re.search(r"macro_rules! %s \{\s*\(\$\((.*?);\)\*\) => \{(.*?)\n    \};" % name, source, re.S).groups()
+    pattern = re.escape(re.sub(r"\s+", " ", pattern.strip())).replace(r"\ ", " ")
     pattern = re.sub(r"\\\$\\\(\\\$(\w+):ident\\\)\\\.\\\+", r"(?P<\1>[\\w.]+)", pattern)
     pattern = re.sub(r"\\\$\\\(\\\$(\w+):tt\\\)\\\*", r"(?P<\1>.*?)", pattern)
     pattern = re.sub(r"\\\$(\w+):(?:ident|literal)", r"(?P<\1>\\w+)", pattern)
@@ -74,8 +109,8 @@ def given(text, match):
     return text
 
 
-WIDTHS = {of: dict(re.findall(r"\((\w+)\) => \{ place!\((\w+)\) \};", re.search(r"macro_rules! %s \{(.*?)\n\}" % of, TEXTS, re.S)[1]))
-          for of in ("in_x", "in_w")}
+WIDTHS = {of: dict(re.findall(r"\((\w+)\) => \{ place!\((\w+)\) \};", body))
+          for of, body in re.findall(r"macro_rules! (in_\w+) \{(.*?)\n\}", SCALAR_TEXTS + VECTOR_TEXTS, re.S)}
 
 
 def text_of(body):
@@ -88,11 +123,12 @@ def text_of(body):
 def expanded():
     """The texts: whether it is an alias, its name, the operation, the fields that are set, the operands."""
     found = []
-    for name, lines in re.findall(r"pub static \w+: \[Wording; \d+\] = (\w+)! \{(.*?)\n\};", TEXTS, re.S):
-        pattern, bodies = macro(name)
-        for line in lines.split(";")[:-1]:
-            match = re.fullmatch(pattern, re.sub(r"\s+", " ", line.strip()))
-            found += [text_of(given(body, match)) for body in bodies]
+    for source in (SCALAR_TEXTS, VECTOR_TEXTS):
+        for name, lines in re.findall(r"pub static \w+: \[Wording<Operation>; \d+\] = (\w+)! \{(.*?)\n\};", source, re.S):
+            pattern, bodies = macro(name, source)
+            for line in lines.split(";")[:-1]:
+                match = re.fullmatch(pattern, re.sub(r"\s+", " ", line.strip()))
+                found += [dict(text_of(given(body, match)), fields=FIELDS if source is SCALAR_TEXTS else VECTOR_FIELDS) for body in bodies]
     return found
 
 
@@ -103,13 +139,29 @@ def bits_of(text):
     for operand in text["operands"]:
         free |= mask_of(field_of(operand))
     for field, n in text["sets"]:
-        value |= placed(FIELDS[field], n)
+        value |= placed(text["fields"][field], n)
     return 0xFFFFFFFF - free, value
 
 
 # ---- the tables
 def numbers(ns, per=20):
     return ["    " + ", ".join(map(str, ns[i:i + per])) + "," for i in range(0, len(ns), per)]
+
+
+def list_of(text):
+    """The list that has the operands: those of the scalar instructions, of vectors, and of stores, ZA and tiles."""
+    group = int(re.match(r"G(\d+)", text["operation"])[1])
+    return "Scalar" if group < 24 else "Matrix" if group > 38 or "Store" in text["operation"] else "Vector"
+
+
+def lines_of(words):
+    """Words in lines of at most 100 columns, the last with a semicolon."""
+    lines = ["   "]
+    for word in words:
+        if len(lines[-1]) + len(word) > 100:
+            lines.append("   ")
+        lines[-1] += " " + word
+    return [*lines[:-1], lines[-1] + ";"]
 
 
 def hash_of(text, size):
@@ -137,18 +189,19 @@ def main():
     names = {text["name"]: text["tokens"] for text in texts}
     ordered = sorted(names)
     order = sorted(range(len(texts)), key=lambda k: (texts[k]["name"], k))
-    flat, lists, shapes, starts, roots, printed = [], {}, [], [], [], []
+    flat, lists, shapes, starts, roots, printed = {"Scalar": [], "Vector": [], "Matrix": []}, {}, [], [], [], []
     for k in order:
         text, key = texts[k], tuple(texts[k]["operands"])
         if key not in lists:
-            lists[key] = len(flat)
-            flat += key
-        shapes.append((*bits_of(text), ordered.index(text["name"]), lists[key], len(key), text["alias"]))
+            of = list_of(text)
+            lists[key] = of, len(flat[of])
+            flat[of] += key
+        shapes.append((*bits_of(text), ordered.index(text["name"]), *lists[key], len(key), text["alias"]))
     for place in range(len(ordered) + 1):
         starts.append(next((k for k, s in enumerate(shapes) if s[2] >= place), len(shapes)))
     for top in range(256):
         roots.append(len(printed))
-        printed += [k for k, s in enumerate(shapes) if not s[5] and (top << 24 ^ s[1]) & s[0] & 0xFF000000 == 0]
+        printed += [k for k, s in enumerate(shapes) if not s[6] and (top << 24 ^ s[1]) & s[0] & 0xFF000000 == 0]
     roots.append(len(printed))
     src, by = HERE / "src", "as `make_table.py` writes "
     write(src / "names.rt", f"//! The names of instructions and aliases, {by}them.", "", "// A name by the parts of which a text has it.",
@@ -156,18 +209,27 @@ def main():
           *[f'    ({names[n]}) => {{ Text {{ bytes: *b"{n}{chr(92)}0'.replace("\\0", "") + "\\0" * (12 - len(n)) + f'", length: {len(n)} }} }};' for n in ordered],
           "}", "", "// All of them, in order.", "macro_rules! all_names {", "    () => {", "        [",
           *[f"            name!({names[n]})," for n in ordered], "        ]", "    };", "}", "", "pub(crate) use {all_names, name};")
-    items = (src / "items.rt").read_text()
-    write(src / "items.rt", items[:items.index("// The place of an operand")] + "// The place of an operand in `OPERANDS`, by its name.", "macro_rules! place {",
-          *[f"    ({name}) => {{ {place} }};" for place, name in enumerate(OPERANDS)], "}", "", "pub(crate) use place;", "",
-          "/// The operands of texts, each once.", f"pub static OPERANDS: [Item; {len(OPERANDS)}] = items! {{", *[f"    {name};" for name in OPERANDS], "};", "",
-          "/// The operands of the shapes, one list after another: each line is a list, and the number beside it is its place.",
-          f"pub static ITEMS: [Item; {len(flat)}] = items! {{", *[f"    {' '.join(key)}; // {first}" for key, first in lists.items() if key], "};")
-    write(src / "shapes.rt", f"//! The shapes of the instructions' texts, {by}them from those of texts.rt.", "use crate::item::Shape;", "",
-          "macro_rules! shapes {", "    ($($mask:literal $value:literal $name:literal $first:literal $count:literal $alias:literal;)*) => {",
-          "        [$(Shape { mask: $mask, value: $value, name: $name, first: $first, count: $count, alias: $alias }),*]", "    };", "}", "",
-          "/// The shapes, by name: mask, value, the place of the name, of the operands and their number, and whether it is an alias.",
+    heads = ["use crate::item::{Item, Kind, Rule, VectorFile};",
+             "use crate::operands::{HW_IMM16, IMMR_IMMS, LONG_SHIFT, N_IMMR_IMMS, SHORT_HW_IMM16, SHORT_SHIFT, W, W_SP, X, X_SP, operand, operand_of, short};",
+             "use crate::vector_operands::{by_element_size, by_low_size, by_size, index, low_part, low_predicate, predicate, right, signed, tile, up_to, vector, "
+             "vector_operand, word};",
+             "use a64_table::fields as scalar_fields;", "use insn_forms::Field;", "use sve_table::fields as vector_fields;", "",
+             "macro_rules! items {", "    ($($($item:ident)+;)*) => {", "        [$($(operand!($item)),+),*]", "    };", "}", ""]
+    write(src / "operand_items.rt", f"//! The operands of texts, {by}them from those of operands.rt and vector_operands.rt.", *heads,
+          "// The place of an operand in `OPERANDS`, by its name.", "macro_rules! place {", *[f"    ({name}) => {{ {place} }};" for place, name in enumerate(OPERANDS)], "}", "",
+          "pub(crate) use place;", "", "/// The operands of texts, each once.", f"pub static OPERANDS: [Item; {len(OPERANDS)}] = items! {{", *lines_of(OPERANDS), "};")
+    write(src / "items.rt", f"//! The operands of the shapes, {by}them.", *heads,
+          *[line for of, ident in (("Scalar", "ITEMS"), ("Vector", "VECTOR_ITEMS"), ("Matrix", "MATRIX_ITEMS"))
+            for line in (f"/// The operands of the shapes of `ItemList::{of}`, one list after another: each line is a list, and the number beside it is its place.",
+                         f"pub static {ident}: [Item; {len(flat[of])}] = items! {{",
+                         *[f"    {' '.join(key)}; // {first}" for key, (own, first) in lists.items() if key and own == of], "};", "")])
+    write(src / "shapes.rt", f"//! The shapes of the instructions' texts, {by}them from those of texts.rt.", "use crate::item::{ItemList, Shape};", "",
+          "macro_rules! shapes {", "    ($($mask:literal $value:literal $name:literal $list:ident $first:literal $count:literal $alias:literal;)*) => {",
+          "        [$(Shape {", "            mask: $mask, value: $value, name: $name,",
+          "            list: ItemList::$list, first: $first, count: $count, alias: $alias,", "        }),*]", "    };", "}", "",
+          "/// The shapes, by name: mask, value, the place of the name, the list and the place of the operands and their number, and whether it is an alias.",
           f"pub static SHAPES: [Shape; {len(shapes)}] = shapes! {{",
-          *[f"    0x{m:08X} 0x{v:08X} {n} {f} {c} {str(a).lower()}; // {ordered[n]}" for m, v, n, f, c, a in shapes], "};", "",
+          *[f"    0x{m:08X} 0x{v:08X} {n} {of} {f} {c} {str(a).lower()}; // {ordered[n]}" for m, v, n, of, f, c, a in shapes], "};", "",
           "/// The places of their texts, the lists of texts.rt one after another.", f"pub static ORDER: [u16; {len(order)}] = [", *numbers(order), "];", "",
           "/// Where the shapes of each name begin, and the end.", f"pub static STARTS: [u16; {len(starts)}] = [", *numbers(starts), "];")
     write(src / "printed.rt", f"//! Which shapes the words of each top byte may have, {by}them.", "",
@@ -181,7 +243,7 @@ def main():
         lines += ["", "/// The place of the text in each slot: its hash's, or one of the 15 after it.", f"pub static {ident}_SLOTS: [u16; {size}] = [",
                   *numbers(slots(listed, size)), "];"]
     write(HERE.parent / "asm_tokens" / "src" / "places.rt", *lines)
-    print(len(texts), "texts,", len(ordered), "names,", len(lists), "lists of", len(flat), "operands,", len(printed), "printed,", len(words), "words")
+    print(len(texts), "texts,", len(ordered), "names,", len(lists), "lists of", *[len(it) for it in flat.values()], "operands,", len(printed), "printed,", len(words), "words")
 
 
 if __name__ == "__main__":

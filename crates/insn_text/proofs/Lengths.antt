@@ -28,12 +28,13 @@ use Rattle.insn_text.specs.declared.item.Item.{Item}
 use Rattle.insn_text.specs.declared.item.Shape.{Shape}
 use Rattle.insn_text.specs.declared.item.Text.{Text}
 use Rattle.insn_text.specs.declared.words.TheConstants.{WORDS, NAMES, SUFFIXES}
-use Rattle.insn_text.specs.declared.items.TheConstants.{ITEMS}
+use Rattle.insn_text.specs.declared.item.ItemList.{ItemList}
+use Rattle.insn_text.specs.declared.item.ItemList.TheVariants as list
 use Rattle.insn_text.specs.declared.shapes.TheConstants.{SHAPES}
 use Rattle.insn_text.specs.Texts.{text_in, text_at, is_positive, size_of, hexadecimal, mask_in, mask_text, signed_text, distance_text}
 use Rattle.insn_text.specs.Texts.{file_text, register_text, vector_file_text, sized_text, is_named_pattern, pattern_place, pattern_text}
 use Rattle.insn_text.specs.Texts.{kind_text, bits_of, field_in, item_text, is_mark, is_comma, gap, items_text}
-use Rattle.insn_text.specs.Texts.{items_of, shape_text, prints, printed_shape}
+use Rattle.insn_text.specs.Texts.{items_in, items_of, shape_text, prints, printed_shape}
 use Rattle.insn_text.specs.Places.{is_sized}
 use Rattle.insn_text.proofs.Sizes.{sizes}
 use Rattle.insn_text.proofs.Tables.{all_take, all_drop, all_get, items_sized}
@@ -173,7 +174,7 @@ is_small (Halfword wide inverted) bits = true
 -- the most bytes of an operand's text
 unfoldable room_of : Kind → ℕ → ℕ
 room_of (Mark c) bits = 1
-room_of (Named first count) bits = 10
+room_of (Named first count) bits = cond (bits == 0) (length (text_at WORDS first)) 10
 room_of (Register file last) bits = max 3 (length (text_at WORDS last))
 room_of (Sized file number_bits suffix) bits = 7
 room_of SliceRegister bits = 3
@@ -272,6 +273,18 @@ number_length : (number_bits field : ℕ) → number_bits ≤ 5 → field % 2 ^ 
 number_length number_bits field le =
     below_bits number_bits 5 (field % 2 ^ number_bits) le (mod_below field (2 ^ number_bits) (pow_pos number_bits))
 
+named_length : (first bits field : ℕ) → field < 2 ^ bits
+    → length (text_at WORDS (first + field)) ≤ cond (bits == 0) (length (text_at WORDS first)) 10
+named_length first bits field f =
+    cond_both (bits == 0) (length (text_at WORDS first)) 10 (λ room. length (text_at WORDS (first + field)) ≤ room)
+    (λ z. alone (eqb-true bits 0 z)) (λ _. word_short (first + field))
+  where
+    alone : bits ≡ 0 → length (text_at WORDS (first + field)) ≤ length (text_at WORDS first)
+    alone z =
+        let none : field < 2 ^ 0 = subst (λ n. field < 2 ^ n) z f in
+        let same : first + field ≡ first = omega arith in
+        omega (arith, ap (λ n. length (text_at WORDS n)) same)
+
 pattern_length : (first field : ℕ) → field < 32 → length (pattern_text first field) ≤ 10
 unfolding pattern_text
 pattern_length first field lt =
@@ -311,7 +324,7 @@ kind_length : (kind : Kind) (bits field : ℕ) → is_small kind bits ≡ true �
     → length (kind_text kind bits field) ≤ room_of kind bits
 unfolding kind_text room_of is_small
 kind_length (Mark c) bits field e b f = omega arith
-kind_length (Named first count) bits field e b f = word_short (first + field)
+kind_length (Named first count) bits field e b f = named_length first bits field f
 kind_length (Register file last) bits field e b f =
     register_length file last field (below_bits bits 5 field (leb-true bits 5 e) f)
 kind_length (Sized file number_bits suffix) bits field e b f =
@@ -376,25 +389,28 @@ items_length word before (i ∷ is) e s =
 
 -- ---- shapes
 
-items_small : list_all (λ i. is_small i.kind (bits_of i)) ITEMS ≡ true
-unfolding is_small
-items_small = refl
+items_small : (list : ItemList) → list_all (λ i. is_small i.kind (bits_of i)) (items_in list) ≡ true
+unfolding is_small items_in
+items_small list.Scalar = refl
+items_small list.Vector = refl
+items_small list.Matrix = refl
 
 unfoldable is_short : Shape → Bool
 is_short s = nat_lt (10 + items_room (items_of s)) 96
 
 shapes_short : list_all is_short SHAPES ≡ true
-unfolding is_short items_room room_of items_of text_in digits
+unfolding is_short items_room room_of items_in items_of text_in digits
 shapes_short = refl
 
 shape_length : (s : Shape) (word : ℕ) → is_short s ≡ true → length (shape_text s word) < 96
 unfolding shape_text is_short items_of
 shape_length s word e =
-    let is = take s.count (drop s.first ITEMS) in
+    let all = items_in s.list in
+    let is = take s.count (drop s.first all) in
     let short : 10 + items_room is < 96 = ltb-true (10 + items_room is) 96 e in
-    let rest = items_length word (Mark 44) is (all_take is_sized s.count (drop s.first ITEMS) (all_drop is_sized s.first ITEMS items_sized))
-    (all_take (λ i. is_small i.kind (bits_of i)) s.count (drop s.first ITEMS)
-    (all_drop (λ i. is_small i.kind (bits_of i)) s.first ITEMS items_small)) in
+    let rest = items_length word (Mark 44) is (all_take is_sized s.count (drop s.first all) (all_drop is_sized s.first all (items_sized s.list)))
+    (all_take (λ i. is_small i.kind (bits_of i)) s.count (drop s.first all)
+    (all_drop (λ i. is_small i.kind (bits_of i)) s.first all (items_small s.list))) in
     omega (arith, rest, name_short s.name, length-append (text_at NAMES s.name) (items_text word (Mark 44) is))
 
 find_passes : (p q : Shape → Bool) (ss : List Shape) (s : Shape) → list_all q ss ≡ true → find p ss ≡ Some s → q s ≡ true

@@ -5,6 +5,8 @@ pub mod Listed
 pub mod Lengths
 pub mod Regions
 pub mod Known
+pub mod VectorKnown
+pub mod VectorsPrinted
 pub mod AllPrinted
 pub mod Citing
 pub mod Complete

@@ -72,7 +72,7 @@ pub data IsBit (word bit : ℕ) : Type 0 where
   clear : bit_and word bit ≡ 0 → IsBit word bit
   is_set : bit_and word bit ≡ bit → IsBit word bit
 
-one_bit : (word place : ℕ) → IsBit word (2 ^ place)
+pub one_bit : (word place : ℕ) → IsBit word (2 ^ place)
 one_bit word place = by_value (bit_at word place) (bit_at-lt word place) (and_pow word place)
   where
     by_value : (n : ℕ) → n < 2 → bit_and word (2 ^ place) ≡ n * 2 ^ place → IsBit word (2 ^ place)
@@ -84,10 +84,10 @@ free_one : (word mask : ℕ) (s : Shape) → IsBit word (free_bit mask s)
 unfolding free_bit
 free_one word mask s = one_bit word (highest_one 32 (s.mask - bit_and s.mask mask))
 
-half_clear : (word mask value bit : ℕ) → bit_and word mask ≡ value → bit_and word bit ≡ 0 → bit_and word (bit_or mask bit) ≡ value
+pub half_clear : (word mask value bit : ℕ) → bit_and word mask ≡ value → bit_and word bit ≡ 0 → bit_and word (bit_or mask bit) ≡ value
 half_clear word mask value bit m z = and-or word mask bit ∙ ap₂ bit_or m z ∙ or_zero_r value
 
-half_set : (word mask value bit : ℕ) → bit_and word mask ≡ value → bit_and word bit ≡ bit
+pub half_set : (word mask value bit : ℕ) → bit_and word mask ≡ value → bit_and word bit ≡ bit
     → bit_and word (bit_or mask bit) ≡ bit_or value bit
 half_set word mask value bit m z = and-or word mask bit ∙ ap₂ bit_or m z
 

@@ -12,8 +12,10 @@ use Rattle.insn_text.specs.declared.item.Kind.TheVariants.{Mark, Sized}
 use Rattle.insn_text.specs.declared.item.VectorFile.{VectorFile}
 use Rattle.insn_text.specs.declared.item.Text.{Text}
 use Rattle.insn_text.specs.declared.words.TheConstants.{WORDS, NAMES, SUFFIXES}
-use Rattle.insn_text.specs.declared.items.TheConstants.{ITEMS}
-use Rattle.insn_text.specs.Texts.{text_in, text_at}
+use Rattle.insn_text.specs.declared.items.TheConstants.{ITEMS, MATRIX_ITEMS, VECTOR_ITEMS}
+use Rattle.insn_text.specs.declared.item.ItemList.{ItemList}
+use Rattle.insn_text.specs.declared.item.ItemList.TheVariants as list
+use Rattle.insn_text.specs.Texts.{text_in, text_at, items_in}
 use Rattle.insn_text.specs.Places.{is_writable, is_sized}
 
 pub all_take : {X : Type 0} (p : X → Bool) (n : ℕ) (xs : List X) → list_all p xs ≡ true → list_all p (take n xs) ≡ true
@@ -39,12 +41,15 @@ all_at p (y ∷ ys) (suc i) d e lt = all_at p ys i d (and_parts (p y) (list_all 
 
 -- ---- operands
 
-pub items_sized : list_all is_sized ITEMS ≡ true
-unfolding mask_of is_field is_sized is_writable
-items_sized = refl
+pub items_sized : (list : ItemList) → list_all is_sized (items_in list) ≡ true
+unfolding mask_of is_field is_sized is_writable items_in
+items_sized list.Scalar = refl
+items_sized list.Vector = refl
+items_sized list.Matrix = refl
 
-pub sized_run : (first count : ℕ) → list_all is_sized (take count (drop first ITEMS)) ≡ true
-sized_run first count = all_take is_sized count (drop first ITEMS) (all_drop is_sized first ITEMS items_sized)
+pub sized_run : (list : ItemList) (first count : ℕ) → list_all is_sized (take count (drop first (items_in list))) ≡ true
+sized_run list first count =
+    all_take is_sized count (drop first (items_in list)) (all_drop is_sized first (items_in list) (items_sized list))
 
 -- ---- texts
 

@@ -19,10 +19,12 @@ use Rattle.insn_text.specs.declared.item.VectorFile.TheVariants as vector
 use Rattle.insn_text.specs.declared.item.RegisterFile.{RegisterFile}
 use Rattle.insn_text.specs.declared.item.RegisterFile.TheVariants.{X, W}
 use Rattle.insn_text.specs.declared.item.Item.{Item}
+use Rattle.insn_text.specs.declared.item.ItemList.{ItemList}
+use Rattle.insn_text.specs.declared.item.ItemList.TheVariants as list
 use Rattle.insn_text.specs.declared.item.Shape.{Shape}
 use Rattle.insn_text.specs.declared.item.Text.{Text}
 use Rattle.insn_text.specs.declared.words.TheConstants.{WORDS, NAMES, SUFFIXES}
-use Rattle.insn_text.specs.declared.items.TheConstants.{ITEMS}
+use Rattle.insn_text.specs.declared.items.TheConstants.{ITEMS, MATRIX_ITEMS, VECTOR_ITEMS}
 use Rattle.insn_text.specs.declared.shapes.TheConstants.{SHAPES}
 
 -- ---- words
@@ -152,9 +154,15 @@ items_text word before (i ∷ is) = gap before i.kind ++ (item_text word i ++ it
 
 -- ---- shapes
 
+-- the operands of a list
+unfoldable pub items_in : ItemList → List Item
+items_in list.Scalar = ITEMS
+items_in list.Vector = VECTOR_ITEMS
+items_in list.Matrix = MATRIX_ITEMS
+
 -- the operands of a shape
 unfoldable pub items_of : Shape → List Item
-items_of s = take s.count (drop s.first ITEMS)
+items_of s = take s.count (drop s.first (items_in s.list))
 
 -- the text of a word of the shape; a space stands after the name, as after a comma
 unfoldable pub shape_text : Shape → ℕ → List ℕ

@@ -22,9 +22,13 @@ use Rattle.insn_text.specs.declared.item.VectorFile.TheVariants as vector
 use Rattle.insn_text.specs.declared.item.Setting.{Setting}
 use Rattle.insn_text.specs.declared.item.Shape.{Shape}
 use Rattle.insn_text.specs.declared.item.Wording.{Wording}
-use Rattle.insn_text.specs.declared.items.TheConstants.{OPERANDS}
+use Rattle.insn_text.specs.declared.operand_items.TheConstants.{OPERANDS}
 use Rattle.insn_text.specs.declared.texts.TheConstants.{BOTH, SINGLE, PAIRS, EXTENDED, ACCESSES, SIZED}
 use Rattle.insn_text.specs.declared.texts.TheConstants.{ORDERED}
+use Rattle.insn_text.specs.declared.vector_texts.TheConstants.{EACH_SIZE, NOT_BYTES, WORDS_AND_DOUBLEWORDS}
+use Rattle.insn_text.specs.declared.vector_texts.TheConstants.{BY_REGISTER, LOW_PARTS, WITH_FLAGS, COUNTS}
+use Rattle.insn_text.specs.declared.vector_texts.TheConstants.{LOADS, STORES, WHOLE_REGISTERS, SLICES, MOVES}
+use Rattle.insn_text.specs.declared.vector_texts.TheConstants.{PRODUCTS, PLAIN}
 use Rattle.insn_text.specs.declared.words.TheConstants.{NAMES}
 use Rattle.insn_text.specs.Texts.{text_in, text_at, items_of}
 use Rattle.insn_text.specs.Operands.{is, is_long, rule_number, same}
@@ -32,6 +36,12 @@ use Rattle.insn_text.specs.Operands.{is, is_long, rule_number, same}
 -- the texts, in the order of their file
 unfoldable pub texts : List (Wording Operation)
 texts = BOTH ++ (SINGLE ++ (PAIRS ++ (EXTENDED ++ (ACCESSES ++ (SIZED ++ ORDERED)))))
+
+-- those of the vector instructions
+unfoldable pub vector_texts : List (Wording VectorOperation)
+vector_texts =
+    EACH_SIZE ++ (NOT_BYTES ++ (WORDS_AND_DOUBLEWORDS ++ (BY_REGISTER ++ (LOW_PARTS ++ (WITH_FLAGS ++ (COUNTS
+    ++ (LOADS ++ (STORES ++ (WHOLE_REGISTERS ++ (SLICES ++ (MOVES ++ (PRODUCTS ++ PLAIN))))))))))))
 
 -- ---- what a text sets and what its operands hold
 

@@ -35,38 +35,72 @@ pub enum Kind {
     /// This character, with no field.
     Mark(u8),
     /// One of `count` words of the table from place `first` on, in the order of their numbers.
-    Named { first: u16, count: u16 },
+    Named {
+        first: u16,
+        count: u16,
+    },
     /// A register of a file: its letter and its number, and for number 31 the word at `last`.
-    Register { file: RegisterFile, last: u16 },
+    Register {
+        file: RegisterFile,
+        last: u16,
+    },
     /// A register of vectors, predicates or ZA: the letters of its file, its number, which is in the lowest
     /// `bits` bits of the field, and one of the suffixes from place `suffix` of their table on, which the
     /// bits above give: the size of its elements, or none, and of a slice its direction.
-    Sized { file: VectorFile, bits: u8, suffix: u16 },
+    Sized {
+        file: VectorFile,
+        bits: u8,
+        suffix: u16,
+    },
     /// A register W12 to W15, by the last two bits of its number.
     SliceRegister,
     /// The number of the field, with no `#`.
     Index,
     /// A pattern: one of 17 words from place `first` on, or `#n` for the numbers that have none.
-    Pattern { first: u16 },
+    Pattern {
+        first: u16,
+    },
     /// `#n`, n what the field lacks of `from`.
-    Descending { from: u16 },
+    Descending {
+        from: u16,
+    },
     /// `#n`, n the field times `scale`, and `base` more; the field is at most `most`.
-    Unsigned { base: u16, scale: u16, most: u16 },
+    Unsigned {
+        base: u16,
+        scale: u16,
+        most: u16,
+    },
     /// `#n`, n the signed field times `scale`.
-    Signed { scale: u16 },
+    Signed {
+        scale: u16,
+    },
     /// `.+n` or `.-n`, n the signed field times `scale`; or a name.
-    Distance { scale: u16 },
+    Distance {
+        scale: u16,
+    },
     /// `#0xn`, n the mask that the fields N, immr and imms give, of 64 or 32 bits.
-    Mask { wide: bool },
+    Mask {
+        wide: bool,
+    },
     /// Of an alias: a mask that may be written as a negative number.
-    SignedMask { wide: bool },
+    SignedMask {
+        wide: bool,
+    },
     /// Of an alias: `#n`, the amount of a shift to the left, which gives immr and imms of `ubfm`.
-    ShiftLeft { wide: bool },
+    ShiftLeft {
+        wide: bool,
+    },
     /// Of an alias: one of `count` conditions from place `first` on; the field has its opposite.
-    Opposite { first: u16, count: u16 },
+    Opposite {
+        first: u16,
+        count: u16,
+    },
     /// Of an alias: `#n`, a number with one halfword that is not zero, or not all ones where it is
     /// inverted; the field has the halfword's place above its bits.
-    Halfword { wide: bool, inverted: bool },
+    Halfword {
+        wide: bool,
+        inverted: bool,
+    },
 }
 
 /// What the registers of an instruction are to meet once an operand is read.
@@ -92,13 +126,23 @@ pub struct Item {
     pub rule: Rule,
 }
 
+/// The lists of operands: those of the scalar instructions, of vectors, and of stores of vectors, tiles and
+/// ZA.
+#[derive(Clone, Copy)]
+pub enum ItemList {
+    Scalar,
+    Vector,
+    Matrix,
+}
+
 /// One text of an instruction, without optional parts: the bits that it fixes, the place of its name, and
-/// its operands, so many from a place on. An alias is read and never printed.
+/// its operands, so many from a place of a list on. An alias is read and never printed.
 #[derive(Clone, Copy)]
 pub struct Shape {
     pub mask: u32,
     pub value: u32,
     pub name: u16,
+    pub list: ItemList,
     pub first: u16,
     pub count: u8,
     pub alias: bool,

@@ -1,14 +1,16 @@
 //! The operands of the shapes, as `make_table.py` writes them.
-use crate::item::{Item, Kind, Rule};
+use crate::item::{Item, Kind, Rule, VectorFile};
 use crate::operands::{
     HW_IMM16, IMMR_IMMS, LONG_SHIFT, N_IMMR_IMMS, SHORT_HW_IMM16, SHORT_SHIFT, W, W_SP, X, X_SP,
     operand, operand_of, short,
 };
-use a64_table::fields::{
-    BIT, COND, CRM, HINT, HW, IMM3, IMM5, IMM6, IMM7, IMM9, IMM12, IMM14, IMM16, IMM19, IMM21,
-    IMM26, IMMR, IMMS, NONE, NZCV, OPTION, RA, RD, RM, RN, RS, RT, RT2, SHIFT, UDF_IMM16,
+use crate::vector_operands::{
+    by_element_size, by_low_size, by_size, index, low_part, low_predicate, predicate, right,
+    signed, tile, up_to, vector, vector_operand, word,
 };
+use a64_table::fields as scalar_fields;
 use insn_forms::Field;
+use sve_table::fields as vector_fields;
 
 macro_rules! items {
     ($($($item:ident)+;)*) => {
@@ -16,194 +18,7 @@ macro_rules! items {
     };
 }
 
-// The place of an operand in `OPERANDS`, by its name.
-macro_rules! place {
-    (none) => { 0 };
-    (comma) => { 1 };
-    (open) => { 2 };
-    (close) => { 3 };
-    (bang) => { 4 };
-    (xd) => { 5 };
-    (xd_sp) => { 6 };
-    (xt) => { 7 };
-    (xt2) => { 8 };
-    (xt2_not_t) => { 9 };
-    (xn) => { 10 };
-    (xn_sp) => { 11 };
-    (xn_sp_not_t) => { 12 };
-    (xn_sp_alone) => { 13 };
-    (xm) => { 14 };
-    (xs) => { 15 };
-    (xa) => { 16 };
-    (wd) => { 17 };
-    (wd_sp) => { 18 };
-    (wt) => { 19 };
-    (wt2) => { 20 };
-    (wt2_not_t) => { 21 };
-    (wn) => { 22 };
-    (wn_sp) => { 23 };
-    (wm) => { 24 };
-    (ws) => { 25 };
-    (wa) => { 26 };
-    (sp) => { 27 };
-    (wsp) => { 28 };
-    (lsl) => { 29 };
-    (shift3) => { 30 };
-    (shift4) => { 31 };
-    (extend) => { 32 };
-    (uxtb_to_uxtw) => { 33 };
-    (sxtb_to_sxtw) => { 34 };
-    (uxtw) => { 35 };
-    (uxtx) => { 36 };
-    (sxtw) => { 37 };
-    (sxtx) => { 38 };
-    (condition) => { 39 };
-    (opposite) => { 40 };
-    (nzcv) => { 41 };
-    (tpidr_el0) => { 42 };
-    (tpidr2_el0) => { 43 };
-    (svcr) => { 44 };
-    (imm12) => { 45 };
-    (imm12_2) => { 46 };
-    (imm12_4) => { 47 };
-    (imm12_8) => { 48 };
-    (imm16) => { 49 };
-    (imm5) => { 50 };
-    (udf_imm16) => { 51 };
-    (flags) => { 52 };
-    (hint) => { 53 };
-    (crm) => { 54 };
-    (bit) => { 55 };
-    (amount4) => { 56 };
-    (amount6) => { 57 };
-    (amount5) => { 58 };
-    (imms6) => { 59 };
-    (imms5) => { 60 };
-    (immr6) => { 61 };
-    (immr5) => { 62 };
-    (halfword_shift64) => { 63 };
-    (halfword_shift32) => { 64 };
-    (amount_is_0) => { 65 };
-    (amount_is_1) => { 66 };
-    (amount_is_2) => { 67 };
-    (amount_is_3) => { 68 };
-    (twelve) => { 69 };
-    (imm9) => { 70 };
-    (imm7_4) => { 71 };
-    (imm7_8) => { 72 };
-    (words26) => { 73 };
-    (words19) => { 74 };
-    (words14) => { 75 };
-    (bytes21) => { 76 };
-    (pages21) => { 77 };
-    (xmask) => { 78 };
-    (wmask) => { 79 };
-    (xmask_or_negative) => { 80 };
-    (wmask_or_negative) => { 81 };
-    (xshift_left) => { 82 };
-    (wshift_left) => { 83 };
-    (xhalfword) => { 84 };
-    (whalfword) => { 85 };
-    (xinverted_halfword) => { 86 };
-    (winverted_halfword) => { 87 };
-}
-
-pub(crate) use place;
-
-/// The operands of texts, each once.
-pub static OPERANDS: [Item; 88] = items! {
-    none;
-    comma;
-    open;
-    close;
-    bang;
-    xd;
-    xd_sp;
-    xt;
-    xt2;
-    xt2_not_t;
-    xn;
-    xn_sp;
-    xn_sp_not_t;
-    xn_sp_alone;
-    xm;
-    xs;
-    xa;
-    wd;
-    wd_sp;
-    wt;
-    wt2;
-    wt2_not_t;
-    wn;
-    wn_sp;
-    wm;
-    ws;
-    wa;
-    sp;
-    wsp;
-    lsl;
-    shift3;
-    shift4;
-    extend;
-    uxtb_to_uxtw;
-    sxtb_to_sxtw;
-    uxtw;
-    uxtx;
-    sxtw;
-    sxtx;
-    condition;
-    opposite;
-    nzcv;
-    tpidr_el0;
-    tpidr2_el0;
-    svcr;
-    imm12;
-    imm12_2;
-    imm12_4;
-    imm12_8;
-    imm16;
-    imm5;
-    udf_imm16;
-    flags;
-    hint;
-    crm;
-    bit;
-    amount4;
-    amount6;
-    amount5;
-    imms6;
-    imms5;
-    immr6;
-    immr5;
-    halfword_shift64;
-    halfword_shift32;
-    amount_is_0;
-    amount_is_1;
-    amount_is_2;
-    amount_is_3;
-    twelve;
-    imm9;
-    imm7_4;
-    imm7_8;
-    words26;
-    words19;
-    words14;
-    bytes21;
-    pages21;
-    xmask;
-    wmask;
-    xmask_or_negative;
-    wmask_or_negative;
-    xshift_left;
-    wshift_left;
-    xhalfword;
-    whalfword;
-    xinverted_halfword;
-    winverted_halfword;
-};
-
-/// The operands of the shapes, one list after another: each line is a list, and the number beside it is its
-/// place.
+/// The operands of the shapes of `ItemList::Scalar`, one list after another: each line is a list, and the number beside it is its place.
 pub static ITEMS: [Item; 1227] = items! {
     xd comma xn comma xm; // 0
     wd comma wn comma wm; // 5
@@ -395,4 +210,176 @@ pub static ITEMS: [Item; 1227] = items! {
     xn comma xmask; // 1220
     wn comma wmask; // 1223
     udf_imm16; // 1226
+};
+
+/// The operands of the shapes of `ItemList::Vector`, one list after another: each line is a list, and the number beside it is its place.
+pub static VECTOR_ITEMS: [Item; 730] = items! {
+    zd_t comma pg slash m comma zn_t; // 0
+    zd_t comma zn_t comma zm_t; // 7
+    zd_t comma pg slash m comma zd_t comma zn_t; // 12
+    zd_t comma zd_t comma imm8; // 21
+    zd_h comma zd_h comma imm8 comma lsl eight; // 26
+    zd_sd comma zd_sd comma imm8 comma lsl eight; // 34
+    xd_sp comma xm_sp comma signed6; // 42
+    pd_b comma pg4 slash z comma pn_b comma pm_b; // 47
+    zd_d comma zn_d comma zm_d; // 56
+    vd_b comma pg comma zn_b; // 61
+    vd_h comma pg comma zn_h; // 66
+    vd_s comma pg comma zn_s; // 71
+    vd_d comma pg comma zn_d; // 76
+    zd_b comma zn_b comma right_b; // 81
+    zd_h comma zn_h comma right_h; // 86
+    zd_s comma zn_s comma right_s; // 91
+    zd_d comma zn_d comma right_d; // 96
+    zd_d comma zd_d comma zm_d comma zn_d; // 101
+    pd_t comma pg slash z comma zn_t comma zm_t; // 108
+    pd_t comma pg slash z comma zn_t comma signed5b; // 117
+    xd comma pattern; // 126
+    xd comma pattern comma mul multiplier; // 129
+    xd comma pg4 comma pn_t; // 135
+    zd_t comma cpy_pg slash z comma signed8; // 140
+    zd_t comma cpy_pg slash m comma signed8; // 147
+    zd_h comma cpy_pg slash z comma signed8 comma lsl eight; // 154
+    zd_sd comma cpy_pg slash z comma signed8 comma lsl eight; // 164
+    zd_h comma cpy_pg slash m comma signed8 comma lsl eight; // 174
+    zd_sd comma cpy_pg slash m comma signed8 comma lsl eight; // 184
+    zd_bh comma pg slash m comma wn_sp; // 194
+    zd_s comma pg slash m comma wn_sp; // 201
+    zd_d comma pg slash m comma xn_sp; // 208
+    zd_t comma signed8; // 215
+    zd_h comma signed8 comma lsl eight; // 218
+    zd_sd comma signed8 comma lsl eight; // 224
+    zd_bh comma wn_sp; // 230
+    zd_s comma wn_sp; // 233
+    zd_d comma xn_sp; // 236
+    zd_b comma zd_b comma zn_b comma extract8; // 239
+    zd_t comma signed5 comma signed5b; // 246
+    zd_bh comma wn comma signed5b; // 251
+    zd_s comma wn comma signed5b; // 256
+    zd_d comma xn comma signed5b; // 261
+    zd_bh comma signed5 comma wm; // 266
+    zd_s comma signed5 comma wm; // 271
+    zd_d comma signed5 comma xm; // 276
+    zd_bh comma wn comma wm; // 281
+    zd_s comma wn comma wm; // 286
+    zd_d comma xn comma xm; // 291
+    wd comma pg comma zn_bh; // 296
+    wd comma pg comma zn_s; // 301
+    xd comma pg comma zn_d; // 306
+    brace zd_b brace_end comma pg slash z comma open xn_sp close; // 311
+    brace zd_b brace_end comma pg slash z comma open xn_sp comma signed4 comma mul vl close; // 322
+    brace zd_b brace_end comma pg slash z comma open xn_sp comma xm_given close; // 338
+    brace zd_h brace_end comma pg slash z comma open xn_sp close; // 351
+    brace zd_h brace_end comma pg slash z comma open xn_sp comma signed4 comma mul vl close; // 362
+    brace zd_h brace_end comma pg slash z comma open xn_sp comma xm_given close; // 378
+    brace zd_s brace_end comma pg slash z comma open xn_sp close; // 391
+    brace zd_s brace_end comma pg slash z comma open xn_sp comma signed4 comma mul vl close; // 402
+    brace zd_s brace_end comma pg slash z comma open xn_sp comma xm_given close; // 418
+    brace zd_d brace_end comma pg slash z comma open xn_sp close; // 431
+    brace zd_d brace_end comma pg slash z comma open xn_sp comma signed4 comma mul vl close; // 442
+    brace zd_d brace_end comma pg slash z comma open xn_sp comma xm_given close; // 458
+    brace zd_d brace_end comma pg slash z comma open xn_sp comma xm_given comma lsl amount_is_3 close; // 471
+    brace zd_h brace_end comma pg slash z comma open xn_sp comma xm_given comma lsl amount_is_1 close; // 487
+    brace zd_s brace_end comma pg slash z comma open xn_sp comma xm_given comma lsl amount_is_1 close; // 503
+    brace zd_d brace_end comma pg slash z comma open xn_sp comma xm_given comma lsl amount_is_1 close; // 519
+    brace zd_d brace_end comma pg slash z comma open xn_sp comma xm_given comma lsl amount_is_2 close; // 535
+    brace zd_s brace_end comma pg slash z comma open xn_sp comma xm_given comma lsl amount_is_2 close; // 551
+    zd_z comma open xn_sp close; // 567
+    zd_z comma open xn_sp comma signed9 comma mul vl close; // 572
+    pt comma open xn_sp close; // 582
+    pt comma open xn_sp comma signed9 comma mul vl close; // 587
+    zd_b comma zn_b comma left_b; // 597
+    zd_h comma zn_h comma left_h; // 602
+    zd_s comma zn_s comma left_s; // 607
+    zd_d comma zn_d comma left_d; // 612
+    zd_t comma pg slash m comma zn_t comma zm_t; // 617
+    zd_z comma zn_z; // 626
+    zd_t comma zd_t comma signed8; // 629
+    pd_b; // 634
+    pg4 comma pn_b; // 635
+    pd_t comma pattern; // 638
+    zd_t comma zn_t; // 641
+    zd_h comma zn_b comma zm_b; // 644
+    zd_sd comma zn_half comma zm_half; // 649
+    vd_d comma pg comma zn_bh; // 654
+    vd_d comma pg comma zn_s; // 659
+    zd_sd comma pg slash m comma zd_sd comma zn_sd; // 664
+    zd_t comma pg4 comma zn_t comma zm_t; // 673
+    pd_b comma pg4 comma pn_b comma pm_b; // 680
+    zd_h comma zn_b; // 687
+    zd_sd comma zn_half; // 690
+    zd_h comma pg slash m comma zn_h; // 693
+    zd_sd comma pg slash m comma zn_sd; // 700
+    zd_d comma pg slash m comma zn_d; // 707
+    vd_d comma pg comma zn_t; // 714
+    pd_t comma wn comma wm; // 719
+    pd_t comma xn comma xm; // 724
+    pn_b; // 729
+};
+
+/// The operands of the shapes of `ItemList::Matrix`, one list after another: each line is a list, and the number beside it is its place.
+pub static MATRIX_ITEMS: [Item; 866] = items! {
+    za_s comma row_pn slash m comma column_pm slash m comma zn_s; // 0
+    za_d comma row_pn slash m comma column_pm slash m comma zn_d; // 11
+    brace za_hb open rv comma index_b close brace_end comma pg slash z comma open xn_sp comma xm close; // 22
+    brace za_vb open rv comma index_b close brace_end comma pg slash z comma open xn_sp comma xm close; // 40
+    brace za_hd open rv comma index_d close brace_end comma pg slash z comma open xn_sp comma xm comma lsl amount_is_3 close; // 58
+    brace za_vd open rv comma index_d close brace_end comma pg slash z comma open xn_sp comma xm comma lsl amount_is_3 close; // 79
+    brace za_hh open rv comma index_h close brace_end comma pg slash z comma open xn_sp comma xm comma lsl amount_is_1 close; // 100
+    brace za_vh open rv comma index_h close brace_end comma pg slash z comma open xn_sp comma xm comma lsl amount_is_1 close; // 121
+    brace za_hq open rv comma index_q close brace_end comma pg slash z comma open xn_sp comma xm comma lsl amount_is_4 close; // 142
+    brace za_vq open rv comma index_q close brace_end comma pg slash z comma open xn_sp comma xm comma lsl amount_is_4 close; // 163
+    brace za_hs open rv comma index_s close brace_end comma pg slash z comma open xn_sp comma xm comma lsl amount_is_2 close; // 184
+    brace za_vs open rv comma index_s close brace_end comma pg slash z comma open xn_sp comma xm comma lsl amount_is_2 close; // 205
+    za open rv comma index_0 close comma open xn_sp close; // 226
+    za open rv comma index_array close comma open xn_sp comma array_offset comma mul vl close; // 236
+    za_hb open rv comma index_b close comma pg slash m comma zn_b; // 251
+    za_vb open rv comma index_b close comma pg slash m comma zn_b; // 263
+    zd_b comma pg slash m comma source_hb open rv comma source_index_b close; // 275
+    zd_b comma pg slash m comma source_vb open rv comma source_index_b close; // 287
+    za_hh open rv comma index_h close comma pg slash m comma zn_h; // 299
+    za_vh open rv comma index_h close comma pg slash m comma zn_h; // 311
+    zd_h comma pg slash m comma source_hh open rv comma source_index_h close; // 323
+    zd_h comma pg slash m comma source_vh open rv comma source_index_h close; // 335
+    za_hs open rv comma index_s close comma pg slash m comma zn_s; // 347
+    za_vs open rv comma index_s close comma pg slash m comma zn_s; // 359
+    zd_s comma pg slash m comma source_hs open rv comma source_index_s close; // 371
+    zd_s comma pg slash m comma source_vs open rv comma source_index_s close; // 383
+    za_hd open rv comma index_d close comma pg slash m comma zn_d; // 395
+    za_vd open rv comma index_d close comma pg slash m comma zn_d; // 407
+    zd_d comma pg slash m comma source_hd open rv comma source_index_d close; // 419
+    zd_d comma pg slash m comma source_vd open rv comma source_index_d close; // 431
+    za_hq open rv comma index_q close comma pg slash m comma zn_q; // 443
+    za_vq open rv comma index_q close comma pg slash m comma zn_q; // 455
+    zd_q comma pg slash m comma source_hq open rv comma source_index_q close; // 467
+    zd_q comma pg slash m comma source_vq open rv comma source_index_q close; // 479
+    xd comma signed6; // 491
+    za_s comma row_pn slash m comma column_pm slash m comma zn_b comma zm_b; // 494
+    za_d comma row_pn slash m comma column_pm slash m comma zn_h comma zm_h; // 507
+    sm; // 520
+    za; // 521
+    brace zt_e brace_end comma pg comma open xn_sp close; // 522
+    brace zt_e brace_end comma pg comma open xn_sp comma signed4 comma mul vl close; // 531
+    brace zt_e brace_end comma pg comma open xn_sp comma xm_given close; // 545
+    brace za_hb open rv comma index_b close brace_end comma pg comma open xn_sp comma xm close; // 556
+    brace za_vb open rv comma index_b close brace_end comma pg comma open xn_sp comma xm close; // 572
+    brace zd_d brace_end comma pg comma open xn_sp close; // 588
+    brace zd_d brace_end comma pg comma open xn_sp comma signed4 comma mul vl close; // 597
+    brace zd_d brace_end comma pg comma open xn_sp comma xm_given comma lsl amount_is_3 close; // 611
+    brace za_hd open rv comma index_d close brace_end comma pg comma open xn_sp comma xm comma lsl amount_is_3 close; // 625
+    brace za_vd open rv comma index_d close brace_end comma pg comma open xn_sp comma xm comma lsl amount_is_3 close; // 644
+    brace zd_h brace_end comma pg comma open xn_sp close; // 663
+    brace zd_h brace_end comma pg comma open xn_sp comma signed4 comma mul vl close; // 672
+    brace zd_h brace_end comma pg comma open xn_sp comma xm_given comma lsl amount_is_1 close; // 686
+    brace zt_sd brace_end comma pg comma open xn_sp close; // 700
+    brace zt_sd brace_end comma pg comma open xn_sp comma signed4 comma mul vl close; // 709
+    brace zt_sd brace_end comma pg comma open xn_sp comma xm_given comma lsl amount_is_1 close; // 723
+    brace za_hh open rv comma index_h close brace_end comma pg comma open xn_sp comma xm comma lsl amount_is_1 close; // 737
+    brace za_vh open rv comma index_h close brace_end comma pg comma open xn_sp comma xm comma lsl amount_is_1 close; // 756
+    brace za_hq open rv comma index_q close brace_end comma pg comma open xn_sp comma xm comma lsl amount_is_4 close; // 775
+    brace za_vq open rv comma index_q close brace_end comma pg comma open xn_sp comma xm comma lsl amount_is_4 close; // 794
+    brace zt_sd brace_end comma pg comma open xn_sp comma xm_given comma lsl amount_is_2 close; // 813
+    brace za_hs open rv comma index_s close brace_end comma pg comma open xn_sp comma xm comma lsl amount_is_2 close; // 827
+    brace za_vs open rv comma index_s close brace_end comma pg comma open xn_sp comma xm comma lsl amount_is_2 close; // 846
+    zero_mask; // 865
 };

@@ -1,5 +1,5 @@
 //! The laws of the texts.
-ghost use Rattle.std.specs.Prelude.{◌≡◌, ℕ, true, Some, [], length};
+ghost use Rattle.std.specs.Prelude.{◌≡◌, ◌+◌, ℕ, true, Some, length};
 ghost use Rattle.std.specs.List.{list_all};
 ghost use Rattle.sm_types.specs.declared.insn.Insn.{Insn};
 ghost use Rattle.a64_encode.specs.Either.{MeansEither};
@@ -14,7 +14,7 @@ ghost use Rattle.insn_text.specs.Complete.{has_aliases, has_own};
 ghost use Rattle.insn_text.specs.Names.{name_of};
 ghost use Rattle.insn_text.specs.Rules.{IsPrinted};
 ghost use Rattle.insn_text.specs.Texts.{printed_shape, text_at};
-ghost use Rattle.insn_text.specs.Wordings.{are_shapes, have_shapes, stand_in_order, texts};
+ghost use Rattle.insn_text.specs.Wordings.{are_shapes, have_shapes, stand_in_order, texts, vector_texts};
 
 /// Each word that means an instruction has a text.
 pub fn every_word_is_printed()
@@ -25,9 +25,9 @@ pub fn every_word_is_printed()
 /// name and operands, and fixes the bits of the row and those that the text sets; each field of the row is
 /// set or said, and no other.
 pub fn shapes_are_texts()
-    ensures each { are_shapes texts [] ORDER SHAPES ≡ true }
+    ensures each { are_shapes texts vector_texts ORDER SHAPES ≡ true }
     ensures order { stand_in_order SHAPES ORDER ≡ true }
-    ensures all { have_shapes (length texts) ORDER ≡ true }
+    ensures all { have_shapes (length texts + length vector_texts) ORDER ≡ true }
 {}
 
 /// Each shape is a text of a row of the table: it has the row's fixed bits, its name is that of the row's

@@ -8,22 +8,32 @@ mod item;
 mod items;
 mod laws;
 mod names;
+mod operand_items;
 mod operands;
 mod print;
 mod printed;
 mod shape;
 mod shapes;
 mod texts;
+mod vector_operands;
+mod vector_texts;
 mod words;
 
-pub use item::{Item, Kind, RegisterFile, Rule, Setting, Shape, Text, VectorFile, Wording};
-pub use items::{ITEMS, OPERANDS};
+pub use item::{
+    Item, ItemList, Kind, RegisterFile, Rule, Setting, Shape, Text, VectorFile, Wording,
+};
+pub use items::{ITEMS, MATRIX_ITEMS, VECTOR_ITEMS};
 pub use laws::{
     every_word_is_printed, names_are_those_of_operations, shapes_are_texts, texts_are_those_of_rows,
 };
+pub use operand_items::OPERANDS;
 pub use print::{print_insn, print_word};
 pub use printed::{PRINTED, ROOTS};
 pub use shape::operands_of;
 pub use shapes::{ORDER, SHAPES, STARTS};
 pub use texts::{ACCESSES, BOTH, EXTENDED, ORDERED, PAIRS, SINGLE, SIZED};
+pub use vector_texts::{
+    BY_REGISTER, COUNTS, EACH_SIZE, LOADS, LOW_PARTS, MOVES, NOT_BYTES, PLAIN, PRODUCTS, SLICES,
+    STORES, WHOLE_REGISTERS, WITH_FLAGS, WORDS_AND_DOUBLEWORDS,
+};
 pub use words::{NAMES, SUFFIXES, WORDS};

@@ -2,14 +2,22 @@
 
 // A name by the parts of which a text has it.
 macro_rules! name {
+    (abs) => { Text { bytes: *b"abs\0\0\0\0\0\0\0\0\0", length: 3 } };
     (adc) => { Text { bytes: *b"adc\0\0\0\0\0\0\0\0\0", length: 3 } };
     (adcs) => { Text { bytes: *b"adcs\0\0\0\0\0\0\0\0", length: 4 } };
     (add) => { Text { bytes: *b"add\0\0\0\0\0\0\0\0\0", length: 3 } };
+    (addha) => { Text { bytes: *b"addha\0\0\0\0\0\0\0", length: 5 } };
+    (addpl) => { Text { bytes: *b"addpl\0\0\0\0\0\0\0", length: 5 } };
     (adds) => { Text { bytes: *b"adds\0\0\0\0\0\0\0\0", length: 4 } };
+    (addspl) => { Text { bytes: *b"addspl\0\0\0\0\0\0", length: 6 } };
+    (addsvl) => { Text { bytes: *b"addsvl\0\0\0\0\0\0", length: 6 } };
+    (addva) => { Text { bytes: *b"addva\0\0\0\0\0\0\0", length: 5 } };
+    (addvl) => { Text { bytes: *b"addvl\0\0\0\0\0\0\0", length: 5 } };
     (adr) => { Text { bytes: *b"adr\0\0\0\0\0\0\0\0\0", length: 3 } };
     (adrp) => { Text { bytes: *b"adrp\0\0\0\0\0\0\0\0", length: 4 } };
     (and) => { Text { bytes: *b"and\0\0\0\0\0\0\0\0\0", length: 3 } };
     (ands) => { Text { bytes: *b"ands\0\0\0\0\0\0\0\0", length: 4 } };
+    (andv) => { Text { bytes: *b"andv\0\0\0\0\0\0\0\0", length: 4 } };
     (asr) => { Text { bytes: *b"asr\0\0\0\0\0\0\0\0\0", length: 3 } };
     (asrv) => { Text { bytes: *b"asrv\0\0\0\0\0\0\0\0", length: 4 } };
     (b) => { Text { bytes: *b"b\0\0\0\0\0\0\0\0\0\0\0", length: 1 } };
@@ -29,6 +37,7 @@ macro_rules! name {
     (b.pl) => { Text { bytes: *b"b.pl\0\0\0\0\0\0\0\0", length: 4 } };
     (b.vc) => { Text { bytes: *b"b.vc\0\0\0\0\0\0\0\0", length: 4 } };
     (b.vs) => { Text { bytes: *b"b.vs\0\0\0\0\0\0\0\0", length: 4 } };
+    (bcax) => { Text { bytes: *b"bcax\0\0\0\0\0\0\0\0", length: 4 } };
     (bfm) => { Text { bytes: *b"bfm\0\0\0\0\0\0\0\0\0", length: 3 } };
     (bic) => { Text { bytes: *b"bic\0\0\0\0\0\0\0\0\0", length: 3 } };
     (bics) => { Text { bytes: *b"bics\0\0\0\0\0\0\0\0", length: 4 } };
@@ -36,6 +45,7 @@ macro_rules! name {
     (blr) => { Text { bytes: *b"blr\0\0\0\0\0\0\0\0\0", length: 3 } };
     (br) => { Text { bytes: *b"br\0\0\0\0\0\0\0\0\0\0", length: 2 } };
     (brk) => { Text { bytes: *b"brk\0\0\0\0\0\0\0\0\0", length: 3 } };
+    (bsl) => { Text { bytes: *b"bsl\0\0\0\0\0\0\0\0\0", length: 3 } };
     (cas) => { Text { bytes: *b"cas\0\0\0\0\0\0\0\0\0", length: 3 } };
     (cas a) => { Text { bytes: *b"casa\0\0\0\0\0\0\0\0", length: 4 } };
     (cas a b) => { Text { bytes: *b"casab\0\0\0\0\0\0\0", length: 5 } };
@@ -56,18 +66,58 @@ macro_rules! name {
     (clz) => { Text { bytes: *b"clz\0\0\0\0\0\0\0\0\0", length: 3 } };
     (cmn) => { Text { bytes: *b"cmn\0\0\0\0\0\0\0\0\0", length: 3 } };
     (cmp) => { Text { bytes: *b"cmp\0\0\0\0\0\0\0\0\0", length: 3 } };
+    (cmpeq) => { Text { bytes: *b"cmpeq\0\0\0\0\0\0\0", length: 5 } };
+    (cmpge) => { Text { bytes: *b"cmpge\0\0\0\0\0\0\0", length: 5 } };
+    (cmpgt) => { Text { bytes: *b"cmpgt\0\0\0\0\0\0\0", length: 5 } };
+    (cmphi) => { Text { bytes: *b"cmphi\0\0\0\0\0\0\0", length: 5 } };
+    (cmphs) => { Text { bytes: *b"cmphs\0\0\0\0\0\0\0", length: 5 } };
+    (cmple) => { Text { bytes: *b"cmple\0\0\0\0\0\0\0", length: 5 } };
+    (cmplt) => { Text { bytes: *b"cmplt\0\0\0\0\0\0\0", length: 5 } };
+    (cmpne) => { Text { bytes: *b"cmpne\0\0\0\0\0\0\0", length: 5 } };
+    (cnot) => { Text { bytes: *b"cnot\0\0\0\0\0\0\0\0", length: 4 } };
+    (cnt) => { Text { bytes: *b"cnt\0\0\0\0\0\0\0\0\0", length: 3 } };
+    (cntb) => { Text { bytes: *b"cntb\0\0\0\0\0\0\0\0", length: 4 } };
+    (cntd) => { Text { bytes: *b"cntd\0\0\0\0\0\0\0\0", length: 4 } };
+    (cnth) => { Text { bytes: *b"cnth\0\0\0\0\0\0\0\0", length: 4 } };
+    (cntp) => { Text { bytes: *b"cntp\0\0\0\0\0\0\0\0", length: 4 } };
+    (cntw) => { Text { bytes: *b"cntw\0\0\0\0\0\0\0\0", length: 4 } };
+    (cpy) => { Text { bytes: *b"cpy\0\0\0\0\0\0\0\0\0", length: 3 } };
     (csel) => { Text { bytes: *b"csel\0\0\0\0\0\0\0\0", length: 4 } };
     (cset) => { Text { bytes: *b"cset\0\0\0\0\0\0\0\0", length: 4 } };
     (csinc) => { Text { bytes: *b"csinc\0\0\0\0\0\0\0", length: 5 } };
     (csinv) => { Text { bytes: *b"csinv\0\0\0\0\0\0\0", length: 5 } };
     (csneg) => { Text { bytes: *b"csneg\0\0\0\0\0\0\0", length: 5 } };
+    (decb) => { Text { bytes: *b"decb\0\0\0\0\0\0\0\0", length: 4 } };
+    (decd) => { Text { bytes: *b"decd\0\0\0\0\0\0\0\0", length: 4 } };
+    (dech) => { Text { bytes: *b"dech\0\0\0\0\0\0\0\0", length: 4 } };
+    (decw) => { Text { bytes: *b"decw\0\0\0\0\0\0\0\0", length: 4 } };
     (dmb) => { Text { bytes: *b"dmb\0\0\0\0\0\0\0\0\0", length: 3 } };
     (dsb) => { Text { bytes: *b"dsb\0\0\0\0\0\0\0\0\0", length: 3 } };
+    (dup) => { Text { bytes: *b"dup\0\0\0\0\0\0\0\0\0", length: 3 } };
     (eon) => { Text { bytes: *b"eon\0\0\0\0\0\0\0\0\0", length: 3 } };
     (eor) => { Text { bytes: *b"eor\0\0\0\0\0\0\0\0\0", length: 3 } };
+    (eor3) => { Text { bytes: *b"eor3\0\0\0\0\0\0\0\0", length: 4 } };
+    (eors) => { Text { bytes: *b"eors\0\0\0\0\0\0\0\0", length: 4 } };
+    (eorv) => { Text { bytes: *b"eorv\0\0\0\0\0\0\0\0", length: 4 } };
+    (ext) => { Text { bytes: *b"ext\0\0\0\0\0\0\0\0\0", length: 3 } };
     (extr) => { Text { bytes: *b"extr\0\0\0\0\0\0\0\0", length: 4 } };
     (hint) => { Text { bytes: *b"hint\0\0\0\0\0\0\0\0", length: 4 } };
+    (incb) => { Text { bytes: *b"incb\0\0\0\0\0\0\0\0", length: 4 } };
+    (incd) => { Text { bytes: *b"incd\0\0\0\0\0\0\0\0", length: 4 } };
+    (inch) => { Text { bytes: *b"inch\0\0\0\0\0\0\0\0", length: 4 } };
+    (incw) => { Text { bytes: *b"incw\0\0\0\0\0\0\0\0", length: 4 } };
+    (index) => { Text { bytes: *b"index\0\0\0\0\0\0\0", length: 5 } };
     (isb) => { Text { bytes: *b"isb\0\0\0\0\0\0\0\0\0", length: 3 } };
+    (lasta) => { Text { bytes: *b"lasta\0\0\0\0\0\0\0", length: 5 } };
+    (lastb) => { Text { bytes: *b"lastb\0\0\0\0\0\0\0", length: 5 } };
+    (ld1b) => { Text { bytes: *b"ld1b\0\0\0\0\0\0\0\0", length: 4 } };
+    (ld1d) => { Text { bytes: *b"ld1d\0\0\0\0\0\0\0\0", length: 4 } };
+    (ld1h) => { Text { bytes: *b"ld1h\0\0\0\0\0\0\0\0", length: 4 } };
+    (ld1q) => { Text { bytes: *b"ld1q\0\0\0\0\0\0\0\0", length: 4 } };
+    (ld1sb) => { Text { bytes: *b"ld1sb\0\0\0\0\0\0\0", length: 5 } };
+    (ld1sh) => { Text { bytes: *b"ld1sh\0\0\0\0\0\0\0", length: 5 } };
+    (ld1sw) => { Text { bytes: *b"ld1sw\0\0\0\0\0\0\0", length: 5 } };
+    (ld1w) => { Text { bytes: *b"ld1w\0\0\0\0\0\0\0\0", length: 4 } };
     (ldadd) => { Text { bytes: *b"ldadd\0\0\0\0\0\0\0", length: 5 } };
     (ldadd a) => { Text { bytes: *b"ldadda\0\0\0\0\0\0", length: 6 } };
     (ldadd a b) => { Text { bytes: *b"ldaddab\0\0\0\0\0", length: 7 } };
@@ -185,32 +235,75 @@ macro_rules! name {
     (lsr) => { Text { bytes: *b"lsr\0\0\0\0\0\0\0\0\0", length: 3 } };
     (lsrv) => { Text { bytes: *b"lsrv\0\0\0\0\0\0\0\0", length: 4 } };
     (madd) => { Text { bytes: *b"madd\0\0\0\0\0\0\0\0", length: 4 } };
+    (mla) => { Text { bytes: *b"mla\0\0\0\0\0\0\0\0\0", length: 3 } };
+    (mls) => { Text { bytes: *b"mls\0\0\0\0\0\0\0\0\0", length: 3 } };
     (mov) => { Text { bytes: *b"mov\0\0\0\0\0\0\0\0\0", length: 3 } };
+    (mova) => { Text { bytes: *b"mova\0\0\0\0\0\0\0\0", length: 4 } };
     (movk) => { Text { bytes: *b"movk\0\0\0\0\0\0\0\0", length: 4 } };
     (movn) => { Text { bytes: *b"movn\0\0\0\0\0\0\0\0", length: 4 } };
+    (movprfx) => { Text { bytes: *b"movprfx\0\0\0\0\0", length: 7 } };
     (movz) => { Text { bytes: *b"movz\0\0\0\0\0\0\0\0", length: 4 } };
     (mrs) => { Text { bytes: *b"mrs\0\0\0\0\0\0\0\0\0", length: 3 } };
     (msr) => { Text { bytes: *b"msr\0\0\0\0\0\0\0\0\0", length: 3 } };
     (msub) => { Text { bytes: *b"msub\0\0\0\0\0\0\0\0", length: 4 } };
     (mul) => { Text { bytes: *b"mul\0\0\0\0\0\0\0\0\0", length: 3 } };
     (mvn) => { Text { bytes: *b"mvn\0\0\0\0\0\0\0\0\0", length: 3 } };
+    (nand) => { Text { bytes: *b"nand\0\0\0\0\0\0\0\0", length: 4 } };
+    (nands) => { Text { bytes: *b"nands\0\0\0\0\0\0\0", length: 5 } };
     (neg) => { Text { bytes: *b"neg\0\0\0\0\0\0\0\0\0", length: 3 } };
     (nop) => { Text { bytes: *b"nop\0\0\0\0\0\0\0\0\0", length: 3 } };
+    (nor) => { Text { bytes: *b"nor\0\0\0\0\0\0\0\0\0", length: 3 } };
+    (nors) => { Text { bytes: *b"nors\0\0\0\0\0\0\0\0", length: 4 } };
+    (not) => { Text { bytes: *b"not\0\0\0\0\0\0\0\0\0", length: 3 } };
     (orn) => { Text { bytes: *b"orn\0\0\0\0\0\0\0\0\0", length: 3 } };
+    (orns) => { Text { bytes: *b"orns\0\0\0\0\0\0\0\0", length: 4 } };
     (orr) => { Text { bytes: *b"orr\0\0\0\0\0\0\0\0\0", length: 3 } };
+    (orrs) => { Text { bytes: *b"orrs\0\0\0\0\0\0\0\0", length: 4 } };
+    (orv) => { Text { bytes: *b"orv\0\0\0\0\0\0\0\0\0", length: 3 } };
+    (pfalse) => { Text { bytes: *b"pfalse\0\0\0\0\0\0", length: 6 } };
+    (ptest) => { Text { bytes: *b"ptest\0\0\0\0\0\0\0", length: 5 } };
+    (ptrue) => { Text { bytes: *b"ptrue\0\0\0\0\0\0\0", length: 5 } };
     (rbit) => { Text { bytes: *b"rbit\0\0\0\0\0\0\0\0", length: 4 } };
+    (rdffr) => { Text { bytes: *b"rdffr\0\0\0\0\0\0\0", length: 5 } };
+    (rdsvl) => { Text { bytes: *b"rdsvl\0\0\0\0\0\0\0", length: 5 } };
+    (rdvl) => { Text { bytes: *b"rdvl\0\0\0\0\0\0\0\0", length: 4 } };
     (ret) => { Text { bytes: *b"ret\0\0\0\0\0\0\0\0\0", length: 3 } };
     (rev) => { Text { bytes: *b"rev\0\0\0\0\0\0\0\0\0", length: 3 } };
     (rev16) => { Text { bytes: *b"rev16\0\0\0\0\0\0\0", length: 5 } };
     (rev32) => { Text { bytes: *b"rev32\0\0\0\0\0\0\0", length: 5 } };
     (rorv) => { Text { bytes: *b"rorv\0\0\0\0\0\0\0\0", length: 4 } };
+    (sabd) => { Text { bytes: *b"sabd\0\0\0\0\0\0\0\0", length: 4 } };
+    (saddlb) => { Text { bytes: *b"saddlb\0\0\0\0\0\0", length: 6 } };
+    (saddlt) => { Text { bytes: *b"saddlt\0\0\0\0\0\0", length: 6 } };
+    (saddv) => { Text { bytes: *b"saddv\0\0\0\0\0\0\0", length: 5 } };
     (sbc) => { Text { bytes: *b"sbc\0\0\0\0\0\0\0\0\0", length: 3 } };
     (sbcs) => { Text { bytes: *b"sbcs\0\0\0\0\0\0\0\0", length: 4 } };
     (sbfm) => { Text { bytes: *b"sbfm\0\0\0\0\0\0\0\0", length: 4 } };
     (sdiv) => { Text { bytes: *b"sdiv\0\0\0\0\0\0\0\0", length: 4 } };
+    (sel) => { Text { bytes: *b"sel\0\0\0\0\0\0\0\0\0", length: 3 } };
+    (setffr) => { Text { bytes: *b"setffr\0\0\0\0\0\0", length: 6 } };
     (smaddl) => { Text { bytes: *b"smaddl\0\0\0\0\0\0", length: 6 } };
+    (smax) => { Text { bytes: *b"smax\0\0\0\0\0\0\0\0", length: 4 } };
+    (smaxv) => { Text { bytes: *b"smaxv\0\0\0\0\0\0\0", length: 5 } };
+    (smin) => { Text { bytes: *b"smin\0\0\0\0\0\0\0\0", length: 4 } };
+    (sminv) => { Text { bytes: *b"sminv\0\0\0\0\0\0\0", length: 5 } };
+    (smlalb) => { Text { bytes: *b"smlalb\0\0\0\0\0\0", length: 6 } };
+    (smlalt) => { Text { bytes: *b"smlalt\0\0\0\0\0\0", length: 6 } };
+    (smopa) => { Text { bytes: *b"smopa\0\0\0\0\0\0\0", length: 5 } };
+    (smops) => { Text { bytes: *b"smops\0\0\0\0\0\0\0", length: 5 } };
+    (smstart) => { Text { bytes: *b"smstart\0\0\0\0\0", length: 7 } };
+    (smstop) => { Text { bytes: *b"smstop\0\0\0\0\0\0", length: 6 } };
     (smsubl) => { Text { bytes: *b"smsubl\0\0\0\0\0\0", length: 6 } };
     (smulh) => { Text { bytes: *b"smulh\0\0\0\0\0\0\0", length: 5 } };
+    (smullb) => { Text { bytes: *b"smullb\0\0\0\0\0\0", length: 6 } };
+    (smullt) => { Text { bytes: *b"smullt\0\0\0\0\0\0", length: 6 } };
+    (sqadd) => { Text { bytes: *b"sqadd\0\0\0\0\0\0\0", length: 5 } };
+    (sqsub) => { Text { bytes: *b"sqsub\0\0\0\0\0\0\0", length: 5 } };
+    (st1b) => { Text { bytes: *b"st1b\0\0\0\0\0\0\0\0", length: 4 } };
+    (st1d) => { Text { bytes: *b"st1d\0\0\0\0\0\0\0\0", length: 4 } };
+    (st1h) => { Text { bytes: *b"st1h\0\0\0\0\0\0\0\0", length: 4 } };
+    (st1q) => { Text { bytes: *b"st1q\0\0\0\0\0\0\0\0", length: 4 } };
+    (st1w) => { Text { bytes: *b"st1w\0\0\0\0\0\0\0\0", length: 4 } };
     (stlr) => { Text { bytes: *b"stlr\0\0\0\0\0\0\0\0", length: 4 } };
     (stlr b) => { Text { bytes: *b"stlrb\0\0\0\0\0\0\0", length: 5 } };
     (stlr h) => { Text { bytes: *b"stlrh\0\0\0\0\0\0\0", length: 5 } };
@@ -222,7 +315,12 @@ macro_rules! name {
     (sturb) => { Text { bytes: *b"sturb\0\0\0\0\0\0\0", length: 5 } };
     (sturh) => { Text { bytes: *b"sturh\0\0\0\0\0\0\0", length: 5 } };
     (sub) => { Text { bytes: *b"sub\0\0\0\0\0\0\0\0\0", length: 3 } };
+    (subr) => { Text { bytes: *b"subr\0\0\0\0\0\0\0\0", length: 4 } };
     (subs) => { Text { bytes: *b"subs\0\0\0\0\0\0\0\0", length: 4 } };
+    (sumopa) => { Text { bytes: *b"sumopa\0\0\0\0\0\0", length: 6 } };
+    (sumops) => { Text { bytes: *b"sumops\0\0\0\0\0\0", length: 6 } };
+    (sunpkhi) => { Text { bytes: *b"sunpkhi\0\0\0\0\0", length: 7 } };
+    (sunpklo) => { Text { bytes: *b"sunpklo\0\0\0\0\0", length: 7 } };
     (svc) => { Text { bytes: *b"svc\0\0\0\0\0\0\0\0\0", length: 3 } };
     (swp) => { Text { bytes: *b"swp\0\0\0\0\0\0\0\0\0", length: 3 } };
     (swp a) => { Text { bytes: *b"swpa\0\0\0\0\0\0\0\0", length: 4 } };
@@ -236,29 +334,74 @@ macro_rules! name {
     (swp l) => { Text { bytes: *b"swpl\0\0\0\0\0\0\0\0", length: 4 } };
     (swp l b) => { Text { bytes: *b"swplb\0\0\0\0\0\0\0", length: 5 } };
     (swp l h) => { Text { bytes: *b"swplh\0\0\0\0\0\0\0", length: 5 } };
+    (sxtb) => { Text { bytes: *b"sxtb\0\0\0\0\0\0\0\0", length: 4 } };
+    (sxth) => { Text { bytes: *b"sxth\0\0\0\0\0\0\0\0", length: 4 } };
+    (sxtw) => { Text { bytes: *b"sxtw\0\0\0\0\0\0\0\0", length: 4 } };
+    (tbl) => { Text { bytes: *b"tbl\0\0\0\0\0\0\0\0\0", length: 3 } };
     (tbnz) => { Text { bytes: *b"tbnz\0\0\0\0\0\0\0\0", length: 4 } };
     (tbz) => { Text { bytes: *b"tbz\0\0\0\0\0\0\0\0\0", length: 3 } };
+    (trn1) => { Text { bytes: *b"trn1\0\0\0\0\0\0\0\0", length: 4 } };
+    (trn2) => { Text { bytes: *b"trn2\0\0\0\0\0\0\0\0", length: 4 } };
     (tst) => { Text { bytes: *b"tst\0\0\0\0\0\0\0\0\0", length: 3 } };
+    (uabd) => { Text { bytes: *b"uabd\0\0\0\0\0\0\0\0", length: 4 } };
+    (uaddlb) => { Text { bytes: *b"uaddlb\0\0\0\0\0\0", length: 6 } };
+    (uaddlt) => { Text { bytes: *b"uaddlt\0\0\0\0\0\0", length: 6 } };
+    (uaddv) => { Text { bytes: *b"uaddv\0\0\0\0\0\0\0", length: 5 } };
     (ubfm) => { Text { bytes: *b"ubfm\0\0\0\0\0\0\0\0", length: 4 } };
     (udf) => { Text { bytes: *b"udf\0\0\0\0\0\0\0\0\0", length: 3 } };
     (udiv) => { Text { bytes: *b"udiv\0\0\0\0\0\0\0\0", length: 4 } };
     (umaddl) => { Text { bytes: *b"umaddl\0\0\0\0\0\0", length: 6 } };
+    (umax) => { Text { bytes: *b"umax\0\0\0\0\0\0\0\0", length: 4 } };
+    (umaxv) => { Text { bytes: *b"umaxv\0\0\0\0\0\0\0", length: 5 } };
+    (umin) => { Text { bytes: *b"umin\0\0\0\0\0\0\0\0", length: 4 } };
+    (uminv) => { Text { bytes: *b"uminv\0\0\0\0\0\0\0", length: 5 } };
+    (umlalb) => { Text { bytes: *b"umlalb\0\0\0\0\0\0", length: 6 } };
+    (umlalt) => { Text { bytes: *b"umlalt\0\0\0\0\0\0", length: 6 } };
+    (umopa) => { Text { bytes: *b"umopa\0\0\0\0\0\0\0", length: 5 } };
+    (umops) => { Text { bytes: *b"umops\0\0\0\0\0\0\0", length: 5 } };
     (umsubl) => { Text { bytes: *b"umsubl\0\0\0\0\0\0", length: 6 } };
     (umulh) => { Text { bytes: *b"umulh\0\0\0\0\0\0\0", length: 5 } };
+    (umullb) => { Text { bytes: *b"umullb\0\0\0\0\0\0", length: 6 } };
+    (umullt) => { Text { bytes: *b"umullt\0\0\0\0\0\0", length: 6 } };
+    (uqadd) => { Text { bytes: *b"uqadd\0\0\0\0\0\0\0", length: 5 } };
+    (uqsub) => { Text { bytes: *b"uqsub\0\0\0\0\0\0\0", length: 5 } };
+    (usmopa) => { Text { bytes: *b"usmopa\0\0\0\0\0\0", length: 6 } };
+    (usmops) => { Text { bytes: *b"usmops\0\0\0\0\0\0", length: 6 } };
+    (uunpkhi) => { Text { bytes: *b"uunpkhi\0\0\0\0\0", length: 7 } };
+    (uunpklo) => { Text { bytes: *b"uunpklo\0\0\0\0\0", length: 7 } };
+    (uxtb) => { Text { bytes: *b"uxtb\0\0\0\0\0\0\0\0", length: 4 } };
+    (uxth) => { Text { bytes: *b"uxth\0\0\0\0\0\0\0\0", length: 4 } };
+    (uxtw) => { Text { bytes: *b"uxtw\0\0\0\0\0\0\0\0", length: 4 } };
+    (uzp1) => { Text { bytes: *b"uzp1\0\0\0\0\0\0\0\0", length: 4 } };
+    (uzp2) => { Text { bytes: *b"uzp2\0\0\0\0\0\0\0\0", length: 4 } };
+    (whilelo) => { Text { bytes: *b"whilelo\0\0\0\0\0", length: 7 } };
+    (whilelt) => { Text { bytes: *b"whilelt\0\0\0\0\0", length: 7 } };
+    (wrffr) => { Text { bytes: *b"wrffr\0\0\0\0\0\0\0", length: 5 } };
+    (zero) => { Text { bytes: *b"zero\0\0\0\0\0\0\0\0", length: 4 } };
+    (zip1) => { Text { bytes: *b"zip1\0\0\0\0\0\0\0\0", length: 4 } };
+    (zip2) => { Text { bytes: *b"zip2\0\0\0\0\0\0\0\0", length: 4 } };
 }
 
 // All of them, in order.
 macro_rules! all_names {
     () => {
         [
+            name!(abs),
             name!(adc),
             name!(adcs),
             name!(add),
+            name!(addha),
+            name!(addpl),
             name!(adds),
+            name!(addspl),
+            name!(addsvl),
+            name!(addva),
+            name!(addvl),
             name!(adr),
             name!(adrp),
             name!(and),
             name!(ands),
+            name!(andv),
             name!(asr),
             name!(asrv),
             name!(b),
@@ -278,6 +421,7 @@ macro_rules! all_names {
             name!(b.pl),
             name!(b.vc),
             name!(b.vs),
+            name!(bcax),
             name!(bfm),
             name!(bic),
             name!(bics),
@@ -285,6 +429,7 @@ macro_rules! all_names {
             name!(blr),
             name!(br),
             name!(brk),
+            name!(bsl),
             name!(cas),
             name!(cas a),
             name!(cas a b),
@@ -305,18 +450,58 @@ macro_rules! all_names {
             name!(clz),
             name!(cmn),
             name!(cmp),
+            name!(cmpeq),
+            name!(cmpge),
+            name!(cmpgt),
+            name!(cmphi),
+            name!(cmphs),
+            name!(cmple),
+            name!(cmplt),
+            name!(cmpne),
+            name!(cnot),
+            name!(cnt),
+            name!(cntb),
+            name!(cntd),
+            name!(cnth),
+            name!(cntp),
+            name!(cntw),
+            name!(cpy),
             name!(csel),
             name!(cset),
             name!(csinc),
             name!(csinv),
             name!(csneg),
+            name!(decb),
+            name!(decd),
+            name!(dech),
+            name!(decw),
             name!(dmb),
             name!(dsb),
+            name!(dup),
             name!(eon),
             name!(eor),
+            name!(eor3),
+            name!(eors),
+            name!(eorv),
+            name!(ext),
             name!(extr),
             name!(hint),
+            name!(incb),
+            name!(incd),
+            name!(inch),
+            name!(incw),
+            name!(index),
             name!(isb),
+            name!(lasta),
+            name!(lastb),
+            name!(ld1b),
+            name!(ld1d),
+            name!(ld1h),
+            name!(ld1q),
+            name!(ld1sb),
+            name!(ld1sh),
+            name!(ld1sw),
+            name!(ld1w),
             name!(ldadd),
             name!(ldadd a),
             name!(ldadd a b),
@@ -434,32 +619,75 @@ macro_rules! all_names {
             name!(lsr),
             name!(lsrv),
             name!(madd),
+            name!(mla),
+            name!(mls),
             name!(mov),
+            name!(mova),
             name!(movk),
             name!(movn),
+            name!(movprfx),
             name!(movz),
             name!(mrs),
             name!(msr),
             name!(msub),
             name!(mul),
             name!(mvn),
+            name!(nand),
+            name!(nands),
             name!(neg),
             name!(nop),
+            name!(nor),
+            name!(nors),
+            name!(not),
             name!(orn),
+            name!(orns),
             name!(orr),
+            name!(orrs),
+            name!(orv),
+            name!(pfalse),
+            name!(ptest),
+            name!(ptrue),
             name!(rbit),
+            name!(rdffr),
+            name!(rdsvl),
+            name!(rdvl),
             name!(ret),
             name!(rev),
             name!(rev16),
             name!(rev32),
             name!(rorv),
+            name!(sabd),
+            name!(saddlb),
+            name!(saddlt),
+            name!(saddv),
             name!(sbc),
             name!(sbcs),
             name!(sbfm),
             name!(sdiv),
+            name!(sel),
+            name!(setffr),
             name!(smaddl),
+            name!(smax),
+            name!(smaxv),
+            name!(smin),
+            name!(sminv),
+            name!(smlalb),
+            name!(smlalt),
+            name!(smopa),
+            name!(smops),
+            name!(smstart),
+            name!(smstop),
             name!(smsubl),
             name!(smulh),
+            name!(smullb),
+            name!(smullt),
+            name!(sqadd),
+            name!(sqsub),
+            name!(st1b),
+            name!(st1d),
+            name!(st1h),
+            name!(st1q),
+            name!(st1w),
             name!(stlr),
             name!(stlr b),
             name!(stlr h),
@@ -471,7 +699,12 @@ macro_rules! all_names {
             name!(sturb),
             name!(sturh),
             name!(sub),
+            name!(subr),
             name!(subs),
+            name!(sumopa),
+            name!(sumops),
+            name!(sunpkhi),
+            name!(sunpklo),
             name!(svc),
             name!(swp),
             name!(swp a),
@@ -485,15 +718,52 @@ macro_rules! all_names {
             name!(swp l),
             name!(swp l b),
             name!(swp l h),
+            name!(sxtb),
+            name!(sxth),
+            name!(sxtw),
+            name!(tbl),
             name!(tbnz),
             name!(tbz),
+            name!(trn1),
+            name!(trn2),
             name!(tst),
+            name!(uabd),
+            name!(uaddlb),
+            name!(uaddlt),
+            name!(uaddv),
             name!(ubfm),
             name!(udf),
             name!(udiv),
             name!(umaddl),
+            name!(umax),
+            name!(umaxv),
+            name!(umin),
+            name!(uminv),
+            name!(umlalb),
+            name!(umlalt),
+            name!(umopa),
+            name!(umops),
             name!(umsubl),
             name!(umulh),
+            name!(umullb),
+            name!(umullt),
+            name!(uqadd),
+            name!(uqsub),
+            name!(usmopa),
+            name!(usmops),
+            name!(uunpkhi),
+            name!(uunpklo),
+            name!(uxtb),
+            name!(uxth),
+            name!(uxtw),
+            name!(uzp1),
+            name!(uzp2),
+            name!(whilelo),
+            name!(whilelt),
+            name!(wrffr),
+            name!(zero),
+            name!(zip1),
+            name!(zip2),
         ]
     };
 }

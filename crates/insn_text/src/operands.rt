@@ -78,7 +78,9 @@ pub const SHORT_HW_IMM16: Field = Field {
 // A field without its highest bit.
 macro_rules! short {
     ($field:ident) => {
-        Field { low: $field.low, width: $field.width - 1, upper_low: 0, upper_width: 0 }
+        Field {
+            low: scalar_fields::$field.low, width: scalar_fields::$field.width - 1, upper_low: 0, upper_width: 0,
+        }
     };
 }
 
@@ -95,90 +97,90 @@ macro_rules! operand_of {
 // The item of an operand's name.
 macro_rules! operand {
     // none: the end of a text's operands
-    (none) => { operand_of!(Kind::Mark(0), NONE) };
+    (none) => { operand_of!(Kind::Mark(0), scalar_fields::NONE) };
     // marks
-    (comma) => { operand_of!(Kind::Mark(b','), NONE) };
-    (open) => { operand_of!(Kind::Mark(b'['), NONE) };
-    (close) => { operand_of!(Kind::Mark(b']'), NONE) };
-    (bang) => { operand_of!(Kind::Mark(b'!'), NONE) };
+    (comma) => { operand_of!(Kind::Mark(b','), scalar_fields::NONE) };
+    (open) => { operand_of!(Kind::Mark(b'['), scalar_fields::NONE) };
+    (close) => { operand_of!(Kind::Mark(b']'), scalar_fields::NONE) };
+    (bang) => { operand_of!(Kind::Mark(b'!'), scalar_fields::NONE) };
     // X registers
-    (xd) => { operand_of!(X, RD) };
-    (xd_sp) => { operand_of!(X_SP, RD) };
-    (xt) => { operand_of!(X, RT) };
-    (xt2) => { operand_of!(X, RT2) };
-    (xt2_not_t) => { operand_of!(X, RT2, SecondApart) };
-    (xn) => { operand_of!(X, RN) };
-    (xn_sp) => { operand_of!(X_SP, RN) };
-    (xn_sp_not_t) => { operand_of!(X_SP, RN, BaseApart) };
-    (xn_sp_alone) => { operand_of!(X_SP, RN, BasePairApart) };
-    (xm) => { operand_of!(X, RM) };
-    (xs) => { operand_of!(X, RS) };
-    (xa) => { operand_of!(X, RA) };
+    (xd) => { operand_of!(X, scalar_fields::RD) };
+    (xd_sp) => { operand_of!(X_SP, scalar_fields::RD) };
+    (xt) => { operand_of!(X, scalar_fields::RT) };
+    (xt2) => { operand_of!(X, scalar_fields::RT2) };
+    (xt2_not_t) => { operand_of!(X, scalar_fields::RT2, SecondApart) };
+    (xn) => { operand_of!(X, scalar_fields::RN) };
+    (xn_sp) => { operand_of!(X_SP, scalar_fields::RN) };
+    (xn_sp_not_t) => { operand_of!(X_SP, scalar_fields::RN, BaseApart) };
+    (xn_sp_alone) => { operand_of!(X_SP, scalar_fields::RN, BasePairApart) };
+    (xm) => { operand_of!(X, scalar_fields::RM) };
+    (xs) => { operand_of!(X, scalar_fields::RS) };
+    (xa) => { operand_of!(X, scalar_fields::RA) };
     // W registers
-    (wd) => { operand_of!(W, RD) };
-    (wd_sp) => { operand_of!(W_SP, RD) };
-    (wt) => { operand_of!(W, RT) };
-    (wt2) => { operand_of!(W, RT2) };
-    (wt2_not_t) => { operand_of!(W, RT2, SecondApart) };
-    (wn) => { operand_of!(W, RN) };
-    (wn_sp) => { operand_of!(W_SP, RN) };
-    (wm) => { operand_of!(W, RM) };
-    (ws) => { operand_of!(W, RS) };
-    (wa) => { operand_of!(W, RA) };
+    (wd) => { operand_of!(W, scalar_fields::RD) };
+    (wd_sp) => { operand_of!(W_SP, scalar_fields::RD) };
+    (wt) => { operand_of!(W, scalar_fields::RT) };
+    (wt2) => { operand_of!(W, scalar_fields::RT2) };
+    (wt2_not_t) => { operand_of!(W, scalar_fields::RT2, SecondApart) };
+    (wn) => { operand_of!(W, scalar_fields::RN) };
+    (wn_sp) => { operand_of!(W_SP, scalar_fields::RN) };
+    (wm) => { operand_of!(W, scalar_fields::RM) };
+    (ws) => { operand_of!(W, scalar_fields::RS) };
+    (wa) => { operand_of!(W, scalar_fields::RA) };
     // words
-    (sp) => { operand_of!(Kind::Named { first: 1, count: 1 }, NONE) };
-    (wsp) => { operand_of!(Kind::Named { first: 3, count: 1 }, NONE) };
-    (lsl) => { operand_of!(Kind::Named { first: 4, count: 1 }, NONE) };
-    (shift3) => { operand_of!(Kind::Named { first: 4, count: 3 }, SHIFT) };
-    (shift4) => { operand_of!(Kind::Named { first: 4, count: 4 }, SHIFT) };
-    (extend) => { operand_of!(Kind::Named { first: 8, count: 8 }, OPTION) };
+    (sp) => { operand_of!(Kind::Named { first: 1, count: 1 }, scalar_fields::NONE) };
+    (wsp) => { operand_of!(Kind::Named { first: 3, count: 1 }, scalar_fields::NONE) };
+    (lsl) => { operand_of!(Kind::Named { first: 4, count: 1 }, scalar_fields::NONE) };
+    (shift3) => { operand_of!(Kind::Named { first: 4, count: 3 }, scalar_fields::SHIFT) };
+    (shift4) => { operand_of!(Kind::Named { first: 4, count: 4 }, scalar_fields::SHIFT) };
+    (extend) => { operand_of!(Kind::Named { first: 8, count: 8 }, scalar_fields::OPTION) };
     (uxtb_to_uxtw) => { operand_of!(Kind::Named { first: 8, count: 3 }, short!(OPTION)) };
     (sxtb_to_sxtw) => { operand_of!(Kind::Named { first: 12, count: 3 }, short!(OPTION)) };
-    (uxtw) => { operand_of!(Kind::Named { first: 10, count: 1 }, NONE) };
-    (uxtx) => { operand_of!(Kind::Named { first: 11, count: 1 }, NONE) };
-    (sxtw) => { operand_of!(Kind::Named { first: 14, count: 1 }, NONE) };
-    (sxtx) => { operand_of!(Kind::Named { first: 15, count: 1 }, NONE) };
-    (condition) => { operand_of!(Kind::Named { first: 16, count: 16 }, COND) };
-    (opposite) => { operand_of!(Kind::Opposite { first: 16, count: 14 }, COND) };
-    (nzcv) => { operand_of!(Kind::Named { first: 32, count: 1 }, NONE) };
-    (tpidr_el0) => { operand_of!(Kind::Named { first: 33, count: 1 }, NONE) };
-    (tpidr2_el0) => { operand_of!(Kind::Named { first: 34, count: 1 }, NONE) };
-    (svcr) => { operand_of!(Kind::Named { first: 35, count: 1 }, NONE) };
+    (uxtw) => { operand_of!(Kind::Named { first: 10, count: 1 }, scalar_fields::NONE) };
+    (uxtx) => { operand_of!(Kind::Named { first: 11, count: 1 }, scalar_fields::NONE) };
+    (sxtw) => { operand_of!(Kind::Named { first: 14, count: 1 }, scalar_fields::NONE) };
+    (sxtx) => { operand_of!(Kind::Named { first: 15, count: 1 }, scalar_fields::NONE) };
+    (condition) => { operand_of!(Kind::Named { first: 16, count: 16 }, scalar_fields::COND) };
+    (opposite) => { operand_of!(Kind::Opposite { first: 16, count: 14 }, scalar_fields::COND) };
+    (nzcv) => { operand_of!(Kind::Named { first: 32, count: 1 }, scalar_fields::NONE) };
+    (tpidr_el0) => { operand_of!(Kind::Named { first: 33, count: 1 }, scalar_fields::NONE) };
+    (tpidr2_el0) => { operand_of!(Kind::Named { first: 34, count: 1 }, scalar_fields::NONE) };
+    (svcr) => { operand_of!(Kind::Named { first: 35, count: 1 }, scalar_fields::NONE) };
     // numbers
-    (imm12) => { operand_of!(Kind::Unsigned { base: 0, scale: 1, most: 4095 }, IMM12) };
-    (imm12_2) => { operand_of!(Kind::Unsigned { base: 0, scale: 2, most: 4095 }, IMM12) };
-    (imm12_4) => { operand_of!(Kind::Unsigned { base: 0, scale: 4, most: 4095 }, IMM12) };
-    (imm12_8) => { operand_of!(Kind::Unsigned { base: 0, scale: 8, most: 4095 }, IMM12) };
-    (imm16) => { operand_of!(Kind::Unsigned { base: 0, scale: 1, most: 65535 }, IMM16) };
-    (imm5) => { operand_of!(Kind::Unsigned { base: 0, scale: 1, most: 31 }, IMM5) };
-    (udf_imm16) => { operand_of!(Kind::Unsigned { base: 0, scale: 1, most: 65535 }, UDF_IMM16) };
-    (flags) => { operand_of!(Kind::Unsigned { base: 0, scale: 1, most: 15 }, NZCV) };
-    (hint) => { operand_of!(Kind::Unsigned { base: 0, scale: 1, most: 127 }, HINT) };
-    (crm) => { operand_of!(Kind::Unsigned { base: 0, scale: 1, most: 15 }, CRM) };
-    (bit) => { operand_of!(Kind::Unsigned { base: 0, scale: 1, most: 63 }, BIT) };
-    (amount4) => { operand_of!(Kind::Unsigned { base: 0, scale: 1, most: 4 }, IMM3) };
-    (amount6) => { operand_of!(Kind::Unsigned { base: 0, scale: 1, most: 63 }, IMM6) };
+    (imm12) => { operand_of!(Kind::Unsigned { base: 0, scale: 1, most: 4095 }, scalar_fields::IMM12) };
+    (imm12_2) => { operand_of!(Kind::Unsigned { base: 0, scale: 2, most: 4095 }, scalar_fields::IMM12) };
+    (imm12_4) => { operand_of!(Kind::Unsigned { base: 0, scale: 4, most: 4095 }, scalar_fields::IMM12) };
+    (imm12_8) => { operand_of!(Kind::Unsigned { base: 0, scale: 8, most: 4095 }, scalar_fields::IMM12) };
+    (imm16) => { operand_of!(Kind::Unsigned { base: 0, scale: 1, most: 65535 }, scalar_fields::IMM16) };
+    (imm5) => { operand_of!(Kind::Unsigned { base: 0, scale: 1, most: 31 }, scalar_fields::IMM5) };
+    (udf_imm16) => { operand_of!(Kind::Unsigned { base: 0, scale: 1, most: 65535 }, scalar_fields::UDF_IMM16) };
+    (flags) => { operand_of!(Kind::Unsigned { base: 0, scale: 1, most: 15 }, scalar_fields::NZCV) };
+    (hint) => { operand_of!(Kind::Unsigned { base: 0, scale: 1, most: 127 }, scalar_fields::HINT) };
+    (crm) => { operand_of!(Kind::Unsigned { base: 0, scale: 1, most: 15 }, scalar_fields::CRM) };
+    (bit) => { operand_of!(Kind::Unsigned { base: 0, scale: 1, most: 63 }, scalar_fields::BIT) };
+    (amount4) => { operand_of!(Kind::Unsigned { base: 0, scale: 1, most: 4 }, scalar_fields::IMM3) };
+    (amount6) => { operand_of!(Kind::Unsigned { base: 0, scale: 1, most: 63 }, scalar_fields::IMM6) };
     (amount5) => { operand_of!(Kind::Unsigned { base: 0, scale: 1, most: 31 }, short!(IMM6)) };
-    (imms6) => { operand_of!(Kind::Unsigned { base: 0, scale: 1, most: 63 }, IMMS) };
+    (imms6) => { operand_of!(Kind::Unsigned { base: 0, scale: 1, most: 63 }, scalar_fields::IMMS) };
     (imms5) => { operand_of!(Kind::Unsigned { base: 0, scale: 1, most: 31 }, short!(IMMS)) };
-    (immr6) => { operand_of!(Kind::Unsigned { base: 0, scale: 1, most: 63 }, IMMR) };
+    (immr6) => { operand_of!(Kind::Unsigned { base: 0, scale: 1, most: 63 }, scalar_fields::IMMR) };
     (immr5) => { operand_of!(Kind::Unsigned { base: 0, scale: 1, most: 31 }, short!(IMMR)) };
-    (halfword_shift64) => { operand_of!(Kind::Unsigned { base: 0, scale: 16, most: 3 }, HW) };
+    (halfword_shift64) => { operand_of!(Kind::Unsigned { base: 0, scale: 16, most: 3 }, scalar_fields::HW) };
     (halfword_shift32) => { operand_of!(Kind::Unsigned { base: 0, scale: 16, most: 1 }, short!(HW)) };
-    (amount_is_0) => { operand_of!(Kind::Unsigned { base: 0, scale: 1, most: 0 }, NONE) };
-    (amount_is_1) => { operand_of!(Kind::Unsigned { base: 1, scale: 1, most: 0 }, NONE) };
-    (amount_is_2) => { operand_of!(Kind::Unsigned { base: 2, scale: 1, most: 0 }, NONE) };
-    (amount_is_3) => { operand_of!(Kind::Unsigned { base: 3, scale: 1, most: 0 }, NONE) };
-    (twelve) => { operand_of!(Kind::Unsigned { base: 12, scale: 1, most: 0 }, NONE) };
+    (amount_is_0) => { operand_of!(Kind::Unsigned { base: 0, scale: 1, most: 0 }, scalar_fields::NONE) };
+    (amount_is_1) => { operand_of!(Kind::Unsigned { base: 1, scale: 1, most: 0 }, scalar_fields::NONE) };
+    (amount_is_2) => { operand_of!(Kind::Unsigned { base: 2, scale: 1, most: 0 }, scalar_fields::NONE) };
+    (amount_is_3) => { operand_of!(Kind::Unsigned { base: 3, scale: 1, most: 0 }, scalar_fields::NONE) };
+    (twelve) => { operand_of!(Kind::Unsigned { base: 12, scale: 1, most: 0 }, scalar_fields::NONE) };
     // offsets and distances
-    (imm9) => { operand_of!(Kind::Signed { scale: 1 }, IMM9) };
-    (imm7_4) => { operand_of!(Kind::Signed { scale: 4 }, IMM7) };
-    (imm7_8) => { operand_of!(Kind::Signed { scale: 8 }, IMM7) };
-    (words26) => { operand_of!(Kind::Distance { scale: 4 }, IMM26) };
-    (words19) => { operand_of!(Kind::Distance { scale: 4 }, IMM19) };
-    (words14) => { operand_of!(Kind::Distance { scale: 4 }, IMM14) };
-    (bytes21) => { operand_of!(Kind::Distance { scale: 1 }, IMM21) };
-    (pages21) => { operand_of!(Kind::Distance { scale: 4096 }, IMM21) };
+    (imm9) => { operand_of!(Kind::Signed { scale: 1 }, scalar_fields::IMM9) };
+    (imm7_4) => { operand_of!(Kind::Signed { scale: 4 }, scalar_fields::IMM7) };
+    (imm7_8) => { operand_of!(Kind::Signed { scale: 8 }, scalar_fields::IMM7) };
+    (words26) => { operand_of!(Kind::Distance { scale: 4 }, scalar_fields::IMM26) };
+    (words19) => { operand_of!(Kind::Distance { scale: 4 }, scalar_fields::IMM19) };
+    (words14) => { operand_of!(Kind::Distance { scale: 4 }, scalar_fields::IMM14) };
+    (bytes21) => { operand_of!(Kind::Distance { scale: 1 }, scalar_fields::IMM21) };
+    (pages21) => { operand_of!(Kind::Distance { scale: 4096 }, scalar_fields::IMM21) };
     // masks, shifts to the left and halfwords, which are several fields
     (xmask) => { operand_of!(Kind::Mask { wide: true }, N_IMMR_IMMS) };
     (wmask) => { operand_of!(Kind::Mask { wide: false }, IMMR_IMMS) };
@@ -190,6 +192,8 @@ macro_rules! operand {
     (whalfword) => { operand_of!(Kind::Halfword { wide: false, inverted: false }, SHORT_HW_IMM16) };
     (xinverted_halfword) => { operand_of!(Kind::Halfword { wide: true, inverted: true }, HW_IMM16) };
     (winverted_halfword) => { operand_of!(Kind::Halfword { wide: false, inverted: true }, SHORT_HW_IMM16) };
+    // those of vector instructions
+    ($other:ident) => { vector_operand!($other) };
 }
 
 pub(crate) use operand;

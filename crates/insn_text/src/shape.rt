@@ -6,8 +6,8 @@ ghost use Rattle.std.specs.Str.{IsAscii};
 ghost use Rattle.insn_text.specs.Places.{first_at, if_printed, is_sized, part_of};
 ghost use Rattle.insn_text.specs.Texts.{items_of, printed_shape, prints, text_at};
 
-use crate::item::{Item, Shape, Text};
-use crate::items::ITEMS;
+use crate::item::{Item, ItemList, Shape, Text};
+use crate::items::{ITEMS, MATRIX_ITEMS, VECTOR_ITEMS};
 use crate::printed::{PRINTED, ROOTS};
 use crate::shapes::SHAPES;
 use crate::words::{NAMES, SUFFIXES, WORDS};
@@ -91,12 +91,18 @@ fn run_of_places(places: &[u16], first: usize, count: usize) -> &[u16]
 }
 
 /// The operands of a shape.
-#[tactic(auto, unfolding(crate::specs::Texts::items_of))]
+#[tactic(auto, unfolding(crate::specs::Texts::items_of, crate::specs::Texts::items_in))]
 pub fn operands_of(shape: &Shape) -> &'static [Item]
     ensures value { result.now ≡ items_of shape.now }
     ensures sized { list_all is_sized result.now ≡ true }
 {
-    run_of_items(&ITEMS, shape.first as usize, shape.count as usize)
+    let first = shape.first as usize;
+    let count = shape.count as usize;
+    match shape.list {
+        ItemList::Scalar => run_of_items(&ITEMS, first, count),
+        ItemList::Vector => run_of_items(&VECTOR_ITEMS, first, count),
+        ItemList::Matrix => run_of_items(&MATRIX_ITEMS, first, count),
+    }
 }
 
 /// So many items, or as many as there are, from the first on.

@@ -1,751 +1,1173 @@
 //! The shapes of the instructions' texts, as `make_table.py` writes them from those of texts.rt.
-use crate::item::Shape;
+use crate::item::{ItemList, Shape};
 
 macro_rules! shapes {
-    ($($mask:literal $value:literal $name:literal $first:literal $count:literal $alias:literal;)*) => {
-        [$(Shape { mask: $mask, value: $value, name: $name, first: $first, count: $count, alias: $alias }),*]
+    ($($mask:literal $value:literal $name:literal $list:ident $first:literal $count:literal $alias:literal;)*) => {
+        [$(Shape {
+            mask: $mask, value: $value, name: $name,
+            list: ItemList::$list, first: $first, count: $count, alias: $alias,
+        }),*]
     };
 }
 
-/// The shapes, by name: mask, value, the place of the name, of the operands and their number, and whether
-/// it is an alias.
-pub static SHAPES: [Shape; 682] = shapes! {
-    0xFFE0FC00 0x9A000000 0 0 5 false; // adc
-    0xFFE0FC00 0x1A000000 0 5 5 false; // adc
-    0xFFE0FC00 0xBA000000 1 0 5 false; // adcs
-    0xFFE0FC00 0x3A000000 1 5 5 false; // adcs
-    0xFFC00000 0x91000000 2 10 5 false; // add
-    0xFFC00000 0x11000000 2 15 5 false; // add
-    0xFFC00000 0x91400000 2 20 8 false; // add
-    0xFFC00000 0x11400000 2 28 8 false; // add
-    0xFFE0FC00 0x8B000000 2 0 5 false; // add
-    0xFFE0FC00 0x0B000000 2 5 5 false; // add
-    0xFF200000 0x8B000000 2 36 8 false; // add
-    0xFF208000 0x0B000000 2 44 8 false; // add
-    0xFFE0FC00 0x8B206000 2 52 7 false; // add
-    0xFFE0E000 0x8B206000 2 59 8 false; // add
-    0xFFE0FC00 0x8B20E000 2 67 7 false; // add
-    0xFFE0E000 0x8B20E000 2 74 8 false; // add
-    0xFFE09C00 0x8B200000 2 82 7 false; // add
-    0xFFE08000 0x8B200000 2 89 8 false; // add
-    0xFFE09C00 0x8B208000 2 97 7 false; // add
-    0xFFE08000 0x8B208000 2 104 8 false; // add
-    0xFFE01C00 0x0B200000 2 112 7 false; // add
-    0xFFE00000 0x0B200000 2 119 8 false; // add
-    0xFFC00000 0xB1000000 3 127 5 false; // adds
-    0xFFC00000 0x31000000 3 132 5 false; // adds
-    0xFFC00000 0xB1400000 3 137 8 false; // adds
-    0xFFC00000 0x31400000 3 145 8 false; // adds
-    0xFFE0FC00 0xAB000000 3 0 5 false; // adds
-    0xFFE0FC00 0x2B000000 3 5 5 false; // adds
-    0xFF200000 0xAB000000 3 36 8 false; // adds
-    0xFF208000 0x2B000000 3 44 8 false; // adds
-    0xFFE0FC00 0xAB206000 3 153 7 false; // adds
-    0xFFE0E000 0xAB206000 3 160 8 false; // adds
-    0xFFE0FC00 0xAB20E000 3 168 7 false; // adds
-    0xFFE0E000 0xAB20E000 3 175 8 false; // adds
-    0xFFE09C00 0xAB200000 3 183 7 false; // adds
-    0xFFE08000 0xAB200000 3 190 8 false; // adds
-    0xFFE09C00 0xAB208000 3 198 7 false; // adds
-    0xFFE08000 0xAB208000 3 205 8 false; // adds
-    0xFFE01C00 0x2B200000 3 213 7 false; // adds
-    0xFFE00000 0x2B200000 3 220 8 false; // adds
-    0x9F000000 0x10000000 4 228 3 false; // adr
-    0x9F000000 0x90000000 5 231 3 false; // adrp
-    0xFFE0FC00 0x8A000000 6 0 5 false; // and
-    0xFFE0FC00 0x0A000000 6 5 5 false; // and
-    0xFF200000 0x8A000000 6 234 8 false; // and
-    0xFF208000 0x0A000000 6 242 8 false; // and
-    0xFF800000 0x92000000 6 250 5 false; // and
-    0xFFC00000 0x12000000 6 255 5 false; // and
-    0xFFE0FC00 0xEA000000 7 0 5 false; // ands
-    0xFFE0FC00 0x6A000000 7 5 5 false; // ands
-    0xFF200000 0xEA000000 7 234 8 false; // ands
-    0xFF208000 0x6A000000 7 242 8 false; // ands
-    0xFF800000 0xF2000000 7 260 5 false; // ands
-    0xFFC00000 0x72000000 7 265 5 false; // ands
-    0xFFE0FC00 0x9AC02800 8 0 5 true; // asr
-    0xFFE0FC00 0x1AC02800 8 5 5 true; // asr
-    0xFFC0FC00 0x9340FC00 8 270 5 true; // asr
-    0xFFE0FC00 0x13007C00 8 275 5 true; // asr
-    0xFFE0FC00 0x9AC02800 9 0 5 false; // asrv
-    0xFFE0FC00 0x1AC02800 9 5 5 false; // asrv
-    0xFC000000 0x14000000 10 280 1 false; // b
-    0xFF00001F 0x5400000E 11 281 1 false; // b.al
-    0xFF00001F 0x54000003 12 281 1 false; // b.cc
-    0xFF00001F 0x54000002 13 281 1 false; // b.cs
-    0xFF00001F 0x54000000 14 281 1 false; // b.eq
-    0xFF00001F 0x5400000A 15 281 1 false; // b.ge
-    0xFF00001F 0x5400000C 16 281 1 false; // b.gt
-    0xFF00001F 0x54000008 17 281 1 false; // b.hi
-    0xFF00001F 0x5400000D 18 281 1 false; // b.le
-    0xFF00001F 0x54000009 19 281 1 false; // b.ls
-    0xFF00001F 0x5400000B 20 281 1 false; // b.lt
-    0xFF00001F 0x54000004 21 281 1 false; // b.mi
-    0xFF00001F 0x54000001 22 281 1 false; // b.ne
-    0xFF00001F 0x5400000F 23 281 1 false; // b.nv
-    0xFF00001F 0x54000005 24 281 1 false; // b.pl
-    0xFF00001F 0x54000007 25 281 1 false; // b.vc
-    0xFF00001F 0x54000006 26 281 1 false; // b.vs
-    0xFFC00000 0xB3400000 27 282 7 false; // bfm
-    0xFFE08000 0x33000000 27 289 7 false; // bfm
-    0xFFE0FC00 0x8A200000 28 0 5 false; // bic
-    0xFFE0FC00 0x0A200000 28 5 5 false; // bic
-    0xFF200000 0x8A200000 28 234 8 false; // bic
-    0xFF208000 0x0A200000 28 242 8 false; // bic
-    0xFFE0FC00 0xEA200000 29 0 5 false; // bics
-    0xFFE0FC00 0x6A200000 29 5 5 false; // bics
-    0xFF200000 0xEA200000 29 234 8 false; // bics
-    0xFF208000 0x6A200000 29 242 8 false; // bics
-    0xFC000000 0x94000000 30 280 1 false; // bl
-    0xFFFFFC1F 0xD63F0000 31 296 1 false; // blr
-    0xFFFFFC1F 0xD61F0000 32 296 1 false; // br
-    0xFFE0001F 0xD4200000 33 297 1 false; // brk
-    0xFFE0FC00 0x88A07C00 34 298 7 false; // cas
-    0xFFE0FC00 0xC8A07C00 34 305 7 false; // cas
-    0xFFE0FC00 0x88E07C00 35 298 7 false; // casa
-    0xFFE0FC00 0xC8E07C00 35 305 7 false; // casa
-    0xFFE0FC00 0x08E07C00 36 298 7 false; // casab
-    0xFFE0FC00 0x48E07C00 37 298 7 false; // casah
-    0xFFE0FC00 0x88E0FC00 38 298 7 false; // casal
-    0xFFE0FC00 0xC8E0FC00 38 305 7 false; // casal
-    0xFFE0FC00 0x08E0FC00 39 298 7 false; // casalb
-    0xFFE0FC00 0x48E0FC00 40 298 7 false; // casalh
-    0xFFE0FC00 0x08A07C00 41 298 7 false; // casb
-    0xFFE0FC00 0x48A07C00 42 298 7 false; // cash
-    0xFFE0FC00 0x88A0FC00 43 298 7 false; // casl
-    0xFFE0FC00 0xC8A0FC00 43 305 7 false; // casl
-    0xFFE0FC00 0x08A0FC00 44 298 7 false; // caslb
-    0xFFE0FC00 0x48A0FC00 45 298 7 false; // caslh
-    0xFF000000 0xB5000000 46 312 3 false; // cbnz
-    0xFF000000 0x35000000 46 315 3 false; // cbnz
-    0xFF000000 0xB4000000 47 312 3 false; // cbz
-    0xFF000000 0x34000000 47 315 3 false; // cbz
-    0xFFE00C10 0xBA400000 48 318 7 false; // ccmn
-    0xFFE00C10 0x3A400000 48 325 7 false; // ccmn
-    0xFFE00C10 0xBA400800 48 332 7 false; // ccmn
-    0xFFE00C10 0x3A400800 48 339 7 false; // ccmn
-    0xFFE00C10 0xFA400000 49 318 7 false; // ccmp
-    0xFFE00C10 0x7A400000 49 325 7 false; // ccmp
-    0xFFE00C10 0xFA400800 49 332 7 false; // ccmp
-    0xFFE00C10 0x7A400800 49 339 7 false; // ccmp
-    0xFFFFFC00 0xDAC01400 50 346 3 false; // cls
-    0xFFFFFC00 0x5AC01400 50 349 3 false; // cls
-    0xFFFFFC00 0xDAC01000 51 346 3 false; // clz
-    0xFFFFFC00 0x5AC01000 51 349 3 false; // clz
-    0xFFC0001F 0xB100001F 52 352 3 true; // cmn
-    0xFFC0001F 0x3100001F 52 355 3 true; // cmn
-    0xFFC0001F 0xB140001F 52 358 6 true; // cmn
-    0xFFC0001F 0x3140001F 52 364 6 true; // cmn
-    0xFFE0FC1F 0xAB00001F 52 370 3 true; // cmn
-    0xFFE0FC1F 0x2B00001F 52 373 3 true; // cmn
-    0xFF20001F 0xAB00001F 52 376 6 true; // cmn
-    0xFF20801F 0x2B00001F 52 382 6 true; // cmn
-    0xFFE0FC1F 0xAB20601F 52 388 5 true; // cmn
-    0xFFE0E01F 0xAB20601F 52 393 6 true; // cmn
-    0xFFE0FC1F 0xAB20E01F 52 399 5 true; // cmn
-    0xFFE0E01F 0xAB20E01F 52 404 6 true; // cmn
-    0xFFE09C1F 0xAB20001F 52 410 5 true; // cmn
-    0xFFE0801F 0xAB20001F 52 415 6 true; // cmn
-    0xFFE09C1F 0xAB20801F 52 421 5 true; // cmn
-    0xFFE0801F 0xAB20801F 52 426 6 true; // cmn
-    0xFFE01C1F 0x2B20001F 52 432 5 true; // cmn
-    0xFFE0001F 0x2B20001F 52 437 6 true; // cmn
-    0xFFC0001F 0xF100001F 53 352 3 true; // cmp
-    0xFFC0001F 0x7100001F 53 355 3 true; // cmp
-    0xFFC0001F 0xF140001F 53 358 6 true; // cmp
-    0xFFC0001F 0x7140001F 53 364 6 true; // cmp
-    0xFFE0FC1F 0xEB00001F 53 370 3 true; // cmp
-    0xFFE0FC1F 0x6B00001F 53 373 3 true; // cmp
-    0xFF20001F 0xEB00001F 53 376 6 true; // cmp
-    0xFF20801F 0x6B00001F 53 382 6 true; // cmp
-    0xFFE0FC1F 0xEB20601F 53 388 5 true; // cmp
-    0xFFE0E01F 0xEB20601F 53 393 6 true; // cmp
-    0xFFE0FC1F 0xEB20E01F 53 399 5 true; // cmp
-    0xFFE0E01F 0xEB20E01F 53 404 6 true; // cmp
-    0xFFE09C1F 0xEB20001F 53 410 5 true; // cmp
-    0xFFE0801F 0xEB20001F 53 415 6 true; // cmp
-    0xFFE09C1F 0xEB20801F 53 421 5 true; // cmp
-    0xFFE0801F 0xEB20801F 53 426 6 true; // cmp
-    0xFFE01C1F 0x6B20001F 53 432 5 true; // cmp
-    0xFFE0001F 0x6B20001F 53 437 6 true; // cmp
-    0xFFE00C00 0x9A800000 54 443 7 false; // csel
-    0xFFE00C00 0x1A800000 54 450 7 false; // csel
-    0xFFFF0FE0 0x9A9F07E0 55 457 3 true; // cset
-    0xFFFF0FE0 0x1A9F07E0 55 460 3 true; // cset
-    0xFFE00C00 0x9A800400 56 443 7 false; // csinc
-    0xFFE00C00 0x1A800400 56 450 7 false; // csinc
-    0xFFE00C00 0xDA800000 57 443 7 false; // csinv
-    0xFFE00C00 0x5A800000 57 450 7 false; // csinv
-    0xFFE00C00 0xDA800400 58 443 7 false; // csneg
-    0xFFE00C00 0x5A800400 58 450 7 false; // csneg
-    0xFFFFF0FF 0xD50330BF 59 463 1 false; // dmb
-    0xFFFFF0FF 0xD503309F 60 463 1 false; // dsb
-    0xFFE0FC00 0xCA200000 61 0 5 false; // eon
-    0xFFE0FC00 0x4A200000 61 5 5 false; // eon
-    0xFF200000 0xCA200000 61 234 8 false; // eon
-    0xFF208000 0x4A200000 61 242 8 false; // eon
-    0xFFE0FC00 0xCA000000 62 0 5 false; // eor
-    0xFFE0FC00 0x4A000000 62 5 5 false; // eor
-    0xFF200000 0xCA000000 62 234 8 false; // eor
-    0xFF208000 0x4A000000 62 242 8 false; // eor
-    0xFF800000 0xD2000000 62 250 5 false; // eor
-    0xFFC00000 0x52000000 62 255 5 false; // eor
-    0xFFE00000 0x93C00000 63 464 7 false; // extr
-    0xFFE08000 0x13800000 63 471 7 false; // extr
-    0xFFFFF01F 0xD503201F 64 478 1 false; // hint
-    0xFFFFF0FF 0xD50330DF 65 463 1 false; // isb
-    0xFFE0FC00 0xB8200000 66 298 7 false; // ldadd
-    0xFFE0FC00 0xF8200000 66 305 7 false; // ldadd
-    0xFFE0FC00 0xB8A00000 67 298 7 false; // ldadda
-    0xFFE0FC00 0xF8A00000 67 305 7 false; // ldadda
-    0xFFE0FC00 0x38A00000 68 298 7 false; // ldaddab
-    0xFFE0FC00 0x78A00000 69 298 7 false; // ldaddah
-    0xFFE0FC00 0xB8E00000 70 298 7 false; // ldaddal
-    0xFFE0FC00 0xF8E00000 70 305 7 false; // ldaddal
-    0xFFE0FC00 0x38E00000 71 298 7 false; // ldaddalb
-    0xFFE0FC00 0x78E00000 72 298 7 false; // ldaddalh
-    0xFFE0FC00 0x38200000 73 298 7 false; // ldaddb
-    0xFFE0FC00 0x78200000 74 298 7 false; // ldaddh
-    0xFFE0FC00 0xB8600000 75 298 7 false; // ldaddl
-    0xFFE0FC00 0xF8600000 75 305 7 false; // ldaddl
-    0xFFE0FC00 0x38600000 76 298 7 false; // ldaddlb
-    0xFFE0FC00 0x78600000 77 298 7 false; // ldaddlh
-    0xFFFFFC00 0x88DFFC00 78 479 5 false; // ldar
-    0xFFFFFC00 0xC8DFFC00 78 484 5 false; // ldar
-    0xFFFFFC00 0x08DFFC00 79 479 5 false; // ldarb
-    0xFFFFFC00 0x48DFFC00 80 479 5 false; // ldarh
-    0xFFE0FC00 0xB8201000 81 298 7 false; // ldclr
-    0xFFE0FC00 0xF8201000 81 305 7 false; // ldclr
-    0xFFE0FC00 0xB8A01000 82 298 7 false; // ldclra
-    0xFFE0FC00 0xF8A01000 82 305 7 false; // ldclra
-    0xFFE0FC00 0x38A01000 83 298 7 false; // ldclrab
-    0xFFE0FC00 0x78A01000 84 298 7 false; // ldclrah
-    0xFFE0FC00 0xB8E01000 85 298 7 false; // ldclral
-    0xFFE0FC00 0xF8E01000 85 305 7 false; // ldclral
-    0xFFE0FC00 0x38E01000 86 298 7 false; // ldclralb
-    0xFFE0FC00 0x78E01000 87 298 7 false; // ldclralh
-    0xFFE0FC00 0x38201000 88 298 7 false; // ldclrb
-    0xFFE0FC00 0x78201000 89 298 7 false; // ldclrh
-    0xFFE0FC00 0xB8601000 90 298 7 false; // ldclrl
-    0xFFE0FC00 0xF8601000 90 305 7 false; // ldclrl
-    0xFFE0FC00 0x38601000 91 298 7 false; // ldclrlb
-    0xFFE0FC00 0x78601000 92 298 7 false; // ldclrlh
-    0xFFE0FC00 0xB8202000 93 298 7 false; // ldeor
-    0xFFE0FC00 0xF8202000 93 305 7 false; // ldeor
-    0xFFE0FC00 0xB8A02000 94 298 7 false; // ldeora
-    0xFFE0FC00 0xF8A02000 94 305 7 false; // ldeora
-    0xFFE0FC00 0x38A02000 95 298 7 false; // ldeorab
-    0xFFE0FC00 0x78A02000 96 298 7 false; // ldeorah
-    0xFFE0FC00 0xB8E02000 97 298 7 false; // ldeoral
-    0xFFE0FC00 0xF8E02000 97 305 7 false; // ldeoral
-    0xFFE0FC00 0x38E02000 98 298 7 false; // ldeoralb
-    0xFFE0FC00 0x78E02000 99 298 7 false; // ldeoralh
-    0xFFE0FC00 0x38202000 100 298 7 false; // ldeorb
-    0xFFE0FC00 0x78202000 101 298 7 false; // ldeorh
-    0xFFE0FC00 0xB8602000 102 298 7 false; // ldeorl
-    0xFFE0FC00 0xF8602000 102 305 7 false; // ldeorl
-    0xFFE0FC00 0x38602000 103 298 7 false; // ldeorlb
-    0xFFE0FC00 0x78602000 104 298 7 false; // ldeorlh
-    0xFFFF8000 0x29400000 105 489 7 false; // ldp
-    0xFFC00000 0x29400000 105 496 9 false; // ldp
-    0xFFC00000 0x28C00000 105 505 9 false; // ldp
-    0xFFC00000 0x29C00000 105 514 10 false; // ldp
-    0xFFFF8000 0xA9400000 105 524 7 false; // ldp
-    0xFFC00000 0xA9400000 105 531 9 false; // ldp
-    0xFFC00000 0xA8C00000 105 540 9 false; // ldp
-    0xFFC00000 0xA9C00000 105 549 10 false; // ldp
-    0xFF000000 0x18000000 106 315 3 false; // ldr
-    0xFF000000 0x58000000 106 312 3 false; // ldr
-    0xFFFFFC00 0xB9400000 106 479 5 false; // ldr
-    0xFFC00000 0xB9400000 106 559 7 false; // ldr
-    0xFFE00C00 0xB8400400 106 566 7 false; // ldr
-    0xFFE00C00 0xB8400C00 106 573 8 false; // ldr
-    0xFFE0FC00 0xB8606800 106 581 7 false; // ldr
-    0xFFE0FC00 0xB8607800 106 588 10 false; // ldr
-    0xFFE0FC00 0xB8604800 106 598 9 false; // ldr
-    0xFFE0FC00 0xB8605800 106 607 10 false; // ldr
-    0xFFE0FC00 0xB860C800 106 617 9 false; // ldr
-    0xFFE0FC00 0xB860D800 106 626 10 false; // ldr
-    0xFFE0FC00 0xB860E800 106 636 9 false; // ldr
-    0xFFE0FC00 0xB860F800 106 645 10 false; // ldr
-    0xFFFFFC00 0xF9400000 106 484 5 false; // ldr
-    0xFFC00000 0xF9400000 106 655 7 false; // ldr
-    0xFFE00C00 0xF8400400 106 662 7 false; // ldr
-    0xFFE00C00 0xF8400C00 106 669 8 false; // ldr
-    0xFFE0FC00 0xF8606800 106 677 7 false; // ldr
-    0xFFE0FC00 0xF8607800 106 684 10 false; // ldr
-    0xFFE0FC00 0xF8604800 106 694 9 false; // ldr
-    0xFFE0FC00 0xF8605800 106 703 10 false; // ldr
-    0xFFE0FC00 0xF860C800 106 713 9 false; // ldr
-    0xFFE0FC00 0xF860D800 106 722 10 false; // ldr
-    0xFFE0FC00 0xF860E800 106 732 9 false; // ldr
-    0xFFE0FC00 0xF860F800 106 741 10 false; // ldr
-    0xFFFFFC00 0x39400000 107 479 5 false; // ldrb
-    0xFFC00000 0x39400000 107 751 7 false; // ldrb
-    0xFFE00C00 0x38400400 107 566 7 false; // ldrb
-    0xFFE00C00 0x38400C00 107 573 8 false; // ldrb
-    0xFFE0FC00 0x38606800 107 581 7 false; // ldrb
-    0xFFE0FC00 0x38607800 107 758 10 false; // ldrb
-    0xFFE0FC00 0x38604800 107 598 9 false; // ldrb
-    0xFFE0FC00 0x38605800 107 768 10 false; // ldrb
-    0xFFE0FC00 0x3860C800 107 617 9 false; // ldrb
-    0xFFE0FC00 0x3860D800 107 778 10 false; // ldrb
-    0xFFE0FC00 0x3860E800 107 636 9 false; // ldrb
-    0xFFE0FC00 0x3860F800 107 788 10 false; // ldrb
-    0xFFFFFC00 0x79400000 108 479 5 false; // ldrh
-    0xFFC00000 0x79400000 108 798 7 false; // ldrh
-    0xFFE00C00 0x78400400 108 566 7 false; // ldrh
-    0xFFE00C00 0x78400C00 108 573 8 false; // ldrh
-    0xFFE0FC00 0x78606800 108 581 7 false; // ldrh
-    0xFFE0FC00 0x78607800 108 805 10 false; // ldrh
-    0xFFE0FC00 0x78604800 108 598 9 false; // ldrh
-    0xFFE0FC00 0x78605800 108 815 10 false; // ldrh
-    0xFFE0FC00 0x7860C800 108 617 9 false; // ldrh
-    0xFFE0FC00 0x7860D800 108 825 10 false; // ldrh
-    0xFFE0FC00 0x7860E800 108 636 9 false; // ldrh
-    0xFFE0FC00 0x7860F800 108 835 10 false; // ldrh
-    0xFFFFFC00 0x39800000 109 484 5 false; // ldrsb
-    0xFFC00000 0x39800000 109 845 7 false; // ldrsb
-    0xFFE00C00 0x38800400 109 662 7 false; // ldrsb
-    0xFFE00C00 0x38800C00 109 669 8 false; // ldrsb
-    0xFFE0FC00 0x38A06800 109 677 7 false; // ldrsb
-    0xFFE0FC00 0x38A07800 109 852 10 false; // ldrsb
-    0xFFE0FC00 0x38A04800 109 694 9 false; // ldrsb
-    0xFFE0FC00 0x38A05800 109 862 10 false; // ldrsb
-    0xFFE0FC00 0x38A0C800 109 713 9 false; // ldrsb
-    0xFFE0FC00 0x38A0D800 109 872 10 false; // ldrsb
-    0xFFE0FC00 0x38A0E800 109 732 9 false; // ldrsb
-    0xFFE0FC00 0x38A0F800 109 882 10 false; // ldrsb
-    0xFFFFFC00 0x39C00000 109 479 5 false; // ldrsb
-    0xFFC00000 0x39C00000 109 751 7 false; // ldrsb
-    0xFFE00C00 0x38C00400 109 566 7 false; // ldrsb
-    0xFFE00C00 0x38C00C00 109 573 8 false; // ldrsb
-    0xFFE0FC00 0x38E06800 109 581 7 false; // ldrsb
-    0xFFE0FC00 0x38E07800 109 758 10 false; // ldrsb
-    0xFFE0FC00 0x38E04800 109 598 9 false; // ldrsb
-    0xFFE0FC00 0x38E05800 109 768 10 false; // ldrsb
-    0xFFE0FC00 0x38E0C800 109 617 9 false; // ldrsb
-    0xFFE0FC00 0x38E0D800 109 778 10 false; // ldrsb
-    0xFFE0FC00 0x38E0E800 109 636 9 false; // ldrsb
-    0xFFE0FC00 0x38E0F800 109 788 10 false; // ldrsb
-    0xFFFFFC00 0x79800000 110 484 5 false; // ldrsh
-    0xFFC00000 0x79800000 110 892 7 false; // ldrsh
-    0xFFE00C00 0x78800400 110 662 7 false; // ldrsh
-    0xFFE00C00 0x78800C00 110 669 8 false; // ldrsh
-    0xFFE0FC00 0x78A06800 110 677 7 false; // ldrsh
-    0xFFE0FC00 0x78A07800 110 899 10 false; // ldrsh
-    0xFFE0FC00 0x78A04800 110 694 9 false; // ldrsh
-    0xFFE0FC00 0x78A05800 110 909 10 false; // ldrsh
-    0xFFE0FC00 0x78A0C800 110 713 9 false; // ldrsh
-    0xFFE0FC00 0x78A0D800 110 919 10 false; // ldrsh
-    0xFFE0FC00 0x78A0E800 110 732 9 false; // ldrsh
-    0xFFE0FC00 0x78A0F800 110 929 10 false; // ldrsh
-    0xFFFFFC00 0x79C00000 110 479 5 false; // ldrsh
-    0xFFC00000 0x79C00000 110 798 7 false; // ldrsh
-    0xFFE00C00 0x78C00400 110 566 7 false; // ldrsh
-    0xFFE00C00 0x78C00C00 110 573 8 false; // ldrsh
-    0xFFE0FC00 0x78E06800 110 581 7 false; // ldrsh
-    0xFFE0FC00 0x78E07800 110 805 10 false; // ldrsh
-    0xFFE0FC00 0x78E04800 110 598 9 false; // ldrsh
-    0xFFE0FC00 0x78E05800 110 815 10 false; // ldrsh
-    0xFFE0FC00 0x78E0C800 110 617 9 false; // ldrsh
-    0xFFE0FC00 0x78E0D800 110 825 10 false; // ldrsh
-    0xFFE0FC00 0x78E0E800 110 636 9 false; // ldrsh
-    0xFFE0FC00 0x78E0F800 110 835 10 false; // ldrsh
-    0xFF000000 0x98000000 111 312 3 false; // ldrsw
-    0xFFFFFC00 0xB9800000 111 484 5 false; // ldrsw
-    0xFFC00000 0xB9800000 111 939 7 false; // ldrsw
-    0xFFE00C00 0xB8800400 111 662 7 false; // ldrsw
-    0xFFE00C00 0xB8800C00 111 669 8 false; // ldrsw
-    0xFFE0FC00 0xB8A06800 111 677 7 false; // ldrsw
-    0xFFE0FC00 0xB8A07800 111 946 10 false; // ldrsw
-    0xFFE0FC00 0xB8A04800 111 694 9 false; // ldrsw
-    0xFFE0FC00 0xB8A05800 111 956 10 false; // ldrsw
-    0xFFE0FC00 0xB8A0C800 111 713 9 false; // ldrsw
-    0xFFE0FC00 0xB8A0D800 111 966 10 false; // ldrsw
-    0xFFE0FC00 0xB8A0E800 111 732 9 false; // ldrsw
-    0xFFE0FC00 0xB8A0F800 111 976 10 false; // ldrsw
-    0xFFE0FC00 0xB8203000 112 298 7 false; // ldset
-    0xFFE0FC00 0xF8203000 112 305 7 false; // ldset
-    0xFFE0FC00 0xB8A03000 113 298 7 false; // ldseta
-    0xFFE0FC00 0xF8A03000 113 305 7 false; // ldseta
-    0xFFE0FC00 0x38A03000 114 298 7 false; // ldsetab
-    0xFFE0FC00 0x78A03000 115 298 7 false; // ldsetah
-    0xFFE0FC00 0xB8E03000 116 298 7 false; // ldsetal
-    0xFFE0FC00 0xF8E03000 116 305 7 false; // ldsetal
-    0xFFE0FC00 0x38E03000 117 298 7 false; // ldsetalb
-    0xFFE0FC00 0x78E03000 118 298 7 false; // ldsetalh
-    0xFFE0FC00 0x38203000 119 298 7 false; // ldsetb
-    0xFFE0FC00 0x78203000 120 298 7 false; // ldseth
-    0xFFE0FC00 0xB8603000 121 298 7 false; // ldsetl
-    0xFFE0FC00 0xF8603000 121 305 7 false; // ldsetl
-    0xFFE0FC00 0x38603000 122 298 7 false; // ldsetlb
-    0xFFE0FC00 0x78603000 123 298 7 false; // ldsetlh
-    0xFFE0FC00 0xB8204000 124 298 7 false; // ldsmax
-    0xFFE0FC00 0xF8204000 124 305 7 false; // ldsmax
-    0xFFE0FC00 0xB8A04000 125 298 7 false; // ldsmaxa
-    0xFFE0FC00 0xF8A04000 125 305 7 false; // ldsmaxa
-    0xFFE0FC00 0x38A04000 126 298 7 false; // ldsmaxab
-    0xFFE0FC00 0x78A04000 127 298 7 false; // ldsmaxah
-    0xFFE0FC00 0xB8E04000 128 298 7 false; // ldsmaxal
-    0xFFE0FC00 0xF8E04000 128 305 7 false; // ldsmaxal
-    0xFFE0FC00 0x38E04000 129 298 7 false; // ldsmaxalb
-    0xFFE0FC00 0x78E04000 130 298 7 false; // ldsmaxalh
-    0xFFE0FC00 0x38204000 131 298 7 false; // ldsmaxb
-    0xFFE0FC00 0x78204000 132 298 7 false; // ldsmaxh
-    0xFFE0FC00 0xB8604000 133 298 7 false; // ldsmaxl
-    0xFFE0FC00 0xF8604000 133 305 7 false; // ldsmaxl
-    0xFFE0FC00 0x38604000 134 298 7 false; // ldsmaxlb
-    0xFFE0FC00 0x78604000 135 298 7 false; // ldsmaxlh
-    0xFFE0FC00 0xB8205000 136 298 7 false; // ldsmin
-    0xFFE0FC00 0xF8205000 136 305 7 false; // ldsmin
-    0xFFE0FC00 0xB8A05000 137 298 7 false; // ldsmina
-    0xFFE0FC00 0xF8A05000 137 305 7 false; // ldsmina
-    0xFFE0FC00 0x38A05000 138 298 7 false; // ldsminab
-    0xFFE0FC00 0x78A05000 139 298 7 false; // ldsminah
-    0xFFE0FC00 0xB8E05000 140 298 7 false; // ldsminal
-    0xFFE0FC00 0xF8E05000 140 305 7 false; // ldsminal
-    0xFFE0FC00 0x38E05000 141 298 7 false; // ldsminalb
-    0xFFE0FC00 0x78E05000 142 298 7 false; // ldsminalh
-    0xFFE0FC00 0x38205000 143 298 7 false; // ldsminb
-    0xFFE0FC00 0x78205000 144 298 7 false; // ldsminh
-    0xFFE0FC00 0xB8605000 145 298 7 false; // ldsminl
-    0xFFE0FC00 0xF8605000 145 305 7 false; // ldsminl
-    0xFFE0FC00 0x38605000 146 298 7 false; // ldsminlb
-    0xFFE0FC00 0x78605000 147 298 7 false; // ldsminlh
-    0xFFE0FC00 0xB8206000 148 298 7 false; // ldumax
-    0xFFE0FC00 0xF8206000 148 305 7 false; // ldumax
-    0xFFE0FC00 0xB8A06000 149 298 7 false; // ldumaxa
-    0xFFE0FC00 0xF8A06000 149 305 7 false; // ldumaxa
-    0xFFE0FC00 0x38A06000 150 298 7 false; // ldumaxab
-    0xFFE0FC00 0x78A06000 151 298 7 false; // ldumaxah
-    0xFFE0FC00 0xB8E06000 152 298 7 false; // ldumaxal
-    0xFFE0FC00 0xF8E06000 152 305 7 false; // ldumaxal
-    0xFFE0FC00 0x38E06000 153 298 7 false; // ldumaxalb
-    0xFFE0FC00 0x78E06000 154 298 7 false; // ldumaxalh
-    0xFFE0FC00 0x38206000 155 298 7 false; // ldumaxb
-    0xFFE0FC00 0x78206000 156 298 7 false; // ldumaxh
-    0xFFE0FC00 0xB8606000 157 298 7 false; // ldumaxl
-    0xFFE0FC00 0xF8606000 157 305 7 false; // ldumaxl
-    0xFFE0FC00 0x38606000 158 298 7 false; // ldumaxlb
-    0xFFE0FC00 0x78606000 159 298 7 false; // ldumaxlh
-    0xFFE0FC00 0xB8207000 160 298 7 false; // ldumin
-    0xFFE0FC00 0xF8207000 160 305 7 false; // ldumin
-    0xFFE0FC00 0xB8A07000 161 298 7 false; // ldumina
-    0xFFE0FC00 0xF8A07000 161 305 7 false; // ldumina
-    0xFFE0FC00 0x38A07000 162 298 7 false; // lduminab
-    0xFFE0FC00 0x78A07000 163 298 7 false; // lduminah
-    0xFFE0FC00 0xB8E07000 164 298 7 false; // lduminal
-    0xFFE0FC00 0xF8E07000 164 305 7 false; // lduminal
-    0xFFE0FC00 0x38E07000 165 298 7 false; // lduminalb
-    0xFFE0FC00 0x78E07000 166 298 7 false; // lduminalh
-    0xFFE0FC00 0x38207000 167 298 7 false; // lduminb
-    0xFFE0FC00 0x78207000 168 298 7 false; // lduminh
-    0xFFE0FC00 0xB8607000 169 298 7 false; // lduminl
-    0xFFE0FC00 0xF8607000 169 305 7 false; // lduminl
-    0xFFE0FC00 0x38607000 170 298 7 false; // lduminlb
-    0xFFE0FC00 0x78607000 171 298 7 false; // lduminlh
-    0xFFFFFC00 0xB8400000 172 479 5 false; // ldur
-    0xFFE00C00 0xB8400000 172 986 7 false; // ldur
-    0xFFFFFC00 0xF8400000 172 484 5 false; // ldur
-    0xFFE00C00 0xF8400000 172 993 7 false; // ldur
-    0xFFFFFC00 0x38400000 173 479 5 false; // ldurb
-    0xFFE00C00 0x38400000 173 986 7 false; // ldurb
-    0xFFFFFC00 0x78400000 174 479 5 false; // ldurh
-    0xFFE00C00 0x78400000 174 986 7 false; // ldurh
-    0xFFFFFC00 0x38800000 175 484 5 false; // ldursb
-    0xFFE00C00 0x38800000 175 993 7 false; // ldursb
-    0xFFFFFC00 0x38C00000 175 479 5 false; // ldursb
-    0xFFE00C00 0x38C00000 175 986 7 false; // ldursb
-    0xFFFFFC00 0x78800000 176 484 5 false; // ldursh
-    0xFFE00C00 0x78800000 176 993 7 false; // ldursh
-    0xFFFFFC00 0x78C00000 176 479 5 false; // ldursh
-    0xFFE00C00 0x78C00000 176 986 7 false; // ldursh
-    0xFFFFFC00 0xB8800000 177 484 5 false; // ldursw
-    0xFFE00C00 0xB8800000 177 993 7 false; // ldursw
-    0xFFE0FC00 0x9AC02000 178 0 5 true; // lsl
-    0xFFE0FC00 0x1AC02000 178 5 5 true; // lsl
-    0xFFC00000 0xD3400000 178 1000 5 true; // lsl
-    0xFFE08000 0x53000000 178 1005 5 true; // lsl
-    0xFFE0FC00 0x9AC02000 179 0 5 false; // lslv
-    0xFFE0FC00 0x1AC02000 179 5 5 false; // lslv
-    0xFFE0FC00 0x9AC02400 180 0 5 true; // lsr
-    0xFFE0FC00 0x1AC02400 180 5 5 true; // lsr
-    0xFFC0FC00 0xD340FC00 180 270 5 true; // lsr
-    0xFFE0FC00 0x53007C00 180 275 5 true; // lsr
-    0xFFE0FC00 0x9AC02400 181 0 5 false; // lsrv
-    0xFFE0FC00 0x1AC02400 181 5 5 false; // lsrv
-    0xFFE08000 0x9B000000 182 1010 7 false; // madd
-    0xFFE08000 0x1B000000 182 1017 7 false; // madd
-    0xFFE0FFE0 0xAA0003E0 183 1024 3 true; // mov
-    0xFFE0FFE0 0x2A0003E0 183 1027 3 true; // mov
-    0xFFFFFC1F 0x9100001F 183 1030 3 true; // mov
-    0xFFFFFC1F 0x1100001F 183 1033 3 true; // mov
-    0xFFFFFFE0 0x910003E0 183 1036 3 true; // mov
-    0xFFFFFFE0 0x110003E0 183 1039 3 true; // mov
-    0xFF800000 0xD2800000 183 1042 3 true; // mov
-    0xFFC00000 0x52800000 183 1045 3 true; // mov
-    0xFF800000 0x92800000 183 1048 3 true; // mov
-    0xFFC00000 0x12800000 183 1051 3 true; // mov
-    0xFF8003E0 0xB20003E0 183 1054 3 true; // mov
-    0xFFC003E0 0x320003E0 183 1057 3 true; // mov
-    0xFFE00000 0xF2800000 184 1060 3 false; // movk
-    0xFFE00000 0x72800000 184 1063 3 false; // movk
-    0xFF800000 0xF2800000 184 1066 6 false; // movk
-    0xFFC00000 0x72800000 184 1072 6 false; // movk
-    0xFFE00000 0x92800000 185 1060 3 false; // movn
-    0xFFE00000 0x12800000 185 1063 3 false; // movn
-    0xFF800000 0x92800000 185 1066 6 false; // movn
-    0xFFC00000 0x12800000 185 1072 6 false; // movn
-    0xFFE00000 0xD2800000 186 1060 3 false; // movz
-    0xFFE00000 0x52800000 186 1063 3 false; // movz
-    0xFF800000 0xD2800000 186 1066 6 false; // movz
-    0xFFC00000 0x52800000 186 1072 6 false; // movz
-    0xFFFFFFE0 0xD53B4200 187 1078 3 false; // mrs
-    0xFFFFFFE0 0xD53BD040 187 1081 3 false; // mrs
-    0xFFFFFFE0 0xD53BD0A0 187 1084 3 false; // mrs
-    0xFFFFFFE0 0xD53B4240 187 1087 3 false; // mrs
-    0xFFFFFFE0 0xD51B4200 188 1090 3 false; // msr
-    0xFFFFFFE0 0xD51BD040 188 1093 3 false; // msr
-    0xFFFFFFE0 0xD51BD0A0 188 1096 3 false; // msr
-    0xFFFFFFE0 0xD51B4240 188 1099 3 false; // msr
-    0xFFE08000 0x9B008000 189 1010 7 false; // msub
-    0xFFE08000 0x1B008000 189 1017 7 false; // msub
-    0xFFE0FC00 0x9B007C00 190 0 5 true; // mul
-    0xFFE0FC00 0x1B007C00 190 5 5 true; // mul
-    0xFFE0FFE0 0xAA2003E0 191 1024 3 true; // mvn
-    0xFFE0FFE0 0x2A2003E0 191 1027 3 true; // mvn
-    0xFF2003E0 0xAA2003E0 191 1102 6 true; // mvn
-    0xFF2083E0 0x2A2003E0 191 1108 6 true; // mvn
-    0xFFE0FFE0 0xCB0003E0 192 1024 3 true; // neg
-    0xFFE0FFE0 0x4B0003E0 192 1027 3 true; // neg
-    0xFF2003E0 0xCB0003E0 192 1114 6 true; // neg
-    0xFF2083E0 0x4B0003E0 192 1120 6 true; // neg
-    0xFFFFFFFF 0xD503201F 193 1126 0 true; // nop
-    0xFFE0FC00 0xAA200000 194 0 5 false; // orn
-    0xFFE0FC00 0x2A200000 194 5 5 false; // orn
-    0xFF200000 0xAA200000 194 234 8 false; // orn
-    0xFF208000 0x2A200000 194 242 8 false; // orn
-    0xFFE0FC00 0xAA000000 195 0 5 false; // orr
-    0xFFE0FC00 0x2A000000 195 5 5 false; // orr
-    0xFF200000 0xAA000000 195 234 8 false; // orr
-    0xFF208000 0x2A000000 195 242 8 false; // orr
-    0xFF800000 0xB2000000 195 250 5 false; // orr
-    0xFFC00000 0x32000000 195 255 5 false; // orr
-    0xFFFFFC00 0xDAC00000 196 346 3 false; // rbit
-    0xFFFFFC00 0x5AC00000 196 349 3 false; // rbit
-    0xFFFFFC1F 0xD65F0000 197 296 1 false; // ret
-    0xFFFFFFFF 0xD65F03C0 197 1126 0 true; // ret
-    0xFFFFFC00 0x5AC00800 198 349 3 false; // rev
-    0xFFFFFC00 0xDAC00C00 198 346 3 false; // rev
-    0xFFFFFC00 0xDAC00400 199 346 3 false; // rev16
-    0xFFFFFC00 0x5AC00400 199 349 3 false; // rev16
-    0xFFFFFC00 0xDAC00800 200 346 3 false; // rev32
-    0xFFE0FC00 0x9AC02C00 201 0 5 false; // rorv
-    0xFFE0FC00 0x1AC02C00 201 5 5 false; // rorv
-    0xFFE0FC00 0xDA000000 202 0 5 false; // sbc
-    0xFFE0FC00 0x5A000000 202 5 5 false; // sbc
-    0xFFE0FC00 0xFA000000 203 0 5 false; // sbcs
-    0xFFE0FC00 0x7A000000 203 5 5 false; // sbcs
-    0xFFC00000 0x93400000 204 282 7 false; // sbfm
-    0xFFE08000 0x13000000 204 289 7 false; // sbfm
-    0xFFE0FC00 0x9AC00C00 205 0 5 false; // sdiv
-    0xFFE0FC00 0x1AC00C00 205 5 5 false; // sdiv
-    0xFFE08000 0x9B200000 206 1126 7 false; // smaddl
-    0xFFE08000 0x9B208000 207 1126 7 false; // smsubl
-    0xFFE0FC00 0x9B407C00 208 0 5 false; // smulh
-    0xFFFFFC00 0x889FFC00 209 479 5 false; // stlr
-    0xFFFFFC00 0xC89FFC00 209 484 5 false; // stlr
-    0xFFFFFC00 0x089FFC00 210 479 5 false; // stlrb
-    0xFFFFFC00 0x489FFC00 211 479 5 false; // stlrh
-    0xFFFF8000 0x29000000 212 1133 7 false; // stp
-    0xFFC00000 0x29000000 212 1140 9 false; // stp
-    0xFFC00000 0x28800000 212 1149 9 false; // stp
-    0xFFC00000 0x29800000 212 1158 10 false; // stp
-    0xFFFF8000 0xA9000000 212 1168 7 false; // stp
-    0xFFC00000 0xA9000000 212 1175 9 false; // stp
-    0xFFC00000 0xA8800000 212 1184 9 false; // stp
-    0xFFC00000 0xA9800000 212 1193 10 false; // stp
-    0xFFFFFC00 0xB9000000 213 479 5 false; // str
-    0xFFC00000 0xB9000000 213 559 7 false; // str
-    0xFFE00C00 0xB8000400 213 566 7 false; // str
-    0xFFE00C00 0xB8000C00 213 573 8 false; // str
-    0xFFE0FC00 0xB8206800 213 581 7 false; // str
-    0xFFE0FC00 0xB8207800 213 588 10 false; // str
-    0xFFE0FC00 0xB8204800 213 598 9 false; // str
-    0xFFE0FC00 0xB8205800 213 607 10 false; // str
-    0xFFE0FC00 0xB820C800 213 617 9 false; // str
-    0xFFE0FC00 0xB820D800 213 626 10 false; // str
-    0xFFE0FC00 0xB820E800 213 636 9 false; // str
-    0xFFE0FC00 0xB820F800 213 645 10 false; // str
-    0xFFFFFC00 0xF9000000 213 484 5 false; // str
-    0xFFC00000 0xF9000000 213 655 7 false; // str
-    0xFFE00C00 0xF8000400 213 662 7 false; // str
-    0xFFE00C00 0xF8000C00 213 669 8 false; // str
-    0xFFE0FC00 0xF8206800 213 677 7 false; // str
-    0xFFE0FC00 0xF8207800 213 684 10 false; // str
-    0xFFE0FC00 0xF8204800 213 694 9 false; // str
-    0xFFE0FC00 0xF8205800 213 703 10 false; // str
-    0xFFE0FC00 0xF820C800 213 713 9 false; // str
-    0xFFE0FC00 0xF820D800 213 722 10 false; // str
-    0xFFE0FC00 0xF820E800 213 732 9 false; // str
-    0xFFE0FC00 0xF820F800 213 741 10 false; // str
-    0xFFFFFC00 0x39000000 214 479 5 false; // strb
-    0xFFC00000 0x39000000 214 751 7 false; // strb
-    0xFFE00C00 0x38000400 214 566 7 false; // strb
-    0xFFE00C00 0x38000C00 214 573 8 false; // strb
-    0xFFE0FC00 0x38206800 214 581 7 false; // strb
-    0xFFE0FC00 0x38207800 214 758 10 false; // strb
-    0xFFE0FC00 0x38204800 214 598 9 false; // strb
-    0xFFE0FC00 0x38205800 214 768 10 false; // strb
-    0xFFE0FC00 0x3820C800 214 617 9 false; // strb
-    0xFFE0FC00 0x3820D800 214 778 10 false; // strb
-    0xFFE0FC00 0x3820E800 214 636 9 false; // strb
-    0xFFE0FC00 0x3820F800 214 788 10 false; // strb
-    0xFFFFFC00 0x79000000 215 479 5 false; // strh
-    0xFFC00000 0x79000000 215 798 7 false; // strh
-    0xFFE00C00 0x78000400 215 566 7 false; // strh
-    0xFFE00C00 0x78000C00 215 573 8 false; // strh
-    0xFFE0FC00 0x78206800 215 581 7 false; // strh
-    0xFFE0FC00 0x78207800 215 805 10 false; // strh
-    0xFFE0FC00 0x78204800 215 598 9 false; // strh
-    0xFFE0FC00 0x78205800 215 815 10 false; // strh
-    0xFFE0FC00 0x7820C800 215 617 9 false; // strh
-    0xFFE0FC00 0x7820D800 215 825 10 false; // strh
-    0xFFE0FC00 0x7820E800 215 636 9 false; // strh
-    0xFFE0FC00 0x7820F800 215 835 10 false; // strh
-    0xFFFFFC00 0xB8000000 216 479 5 false; // stur
-    0xFFE00C00 0xB8000000 216 986 7 false; // stur
-    0xFFFFFC00 0xF8000000 216 484 5 false; // stur
-    0xFFE00C00 0xF8000000 216 993 7 false; // stur
-    0xFFFFFC00 0x38000000 217 479 5 false; // sturb
-    0xFFE00C00 0x38000000 217 986 7 false; // sturb
-    0xFFFFFC00 0x78000000 218 479 5 false; // sturh
-    0xFFE00C00 0x78000000 218 986 7 false; // sturh
-    0xFFC00000 0xD1000000 219 10 5 false; // sub
-    0xFFC00000 0x51000000 219 15 5 false; // sub
-    0xFFC00000 0xD1400000 219 20 8 false; // sub
-    0xFFC00000 0x51400000 219 28 8 false; // sub
-    0xFFE0FC00 0xCB000000 219 0 5 false; // sub
-    0xFFE0FC00 0x4B000000 219 5 5 false; // sub
-    0xFF200000 0xCB000000 219 36 8 false; // sub
-    0xFF208000 0x4B000000 219 44 8 false; // sub
-    0xFFE0FC00 0xCB206000 219 52 7 false; // sub
-    0xFFE0E000 0xCB206000 219 59 8 false; // sub
-    0xFFE0FC00 0xCB20E000 219 67 7 false; // sub
-    0xFFE0E000 0xCB20E000 219 74 8 false; // sub
-    0xFFE09C00 0xCB200000 219 82 7 false; // sub
-    0xFFE08000 0xCB200000 219 89 8 false; // sub
-    0xFFE09C00 0xCB208000 219 97 7 false; // sub
-    0xFFE08000 0xCB208000 219 104 8 false; // sub
-    0xFFE01C00 0x4B200000 219 112 7 false; // sub
-    0xFFE00000 0x4B200000 219 119 8 false; // sub
-    0xFFC00000 0xF1000000 220 127 5 false; // subs
-    0xFFC00000 0x71000000 220 132 5 false; // subs
-    0xFFC00000 0xF1400000 220 137 8 false; // subs
-    0xFFC00000 0x71400000 220 145 8 false; // subs
-    0xFFE0FC00 0xEB000000 220 0 5 false; // subs
-    0xFFE0FC00 0x6B000000 220 5 5 false; // subs
-    0xFF200000 0xEB000000 220 36 8 false; // subs
-    0xFF208000 0x6B000000 220 44 8 false; // subs
-    0xFFE0FC00 0xEB206000 220 153 7 false; // subs
-    0xFFE0E000 0xEB206000 220 160 8 false; // subs
-    0xFFE0FC00 0xEB20E000 220 168 7 false; // subs
-    0xFFE0E000 0xEB20E000 220 175 8 false; // subs
-    0xFFE09C00 0xEB200000 220 183 7 false; // subs
-    0xFFE08000 0xEB200000 220 190 8 false; // subs
-    0xFFE09C00 0xEB208000 220 198 7 false; // subs
-    0xFFE08000 0xEB208000 220 205 8 false; // subs
-    0xFFE01C00 0x6B200000 220 213 7 false; // subs
-    0xFFE00000 0x6B200000 220 220 8 false; // subs
-    0xFFE0001F 0xD4000001 221 297 1 false; // svc
-    0xFFE0FC00 0xB8208000 222 298 7 false; // swp
-    0xFFE0FC00 0xF8208000 222 305 7 false; // swp
-    0xFFE0FC00 0xB8A08000 223 298 7 false; // swpa
-    0xFFE0FC00 0xF8A08000 223 305 7 false; // swpa
-    0xFFE0FC00 0x38A08000 224 298 7 false; // swpab
-    0xFFE0FC00 0x78A08000 225 298 7 false; // swpah
-    0xFFE0FC00 0xB8E08000 226 298 7 false; // swpal
-    0xFFE0FC00 0xF8E08000 226 305 7 false; // swpal
-    0xFFE0FC00 0x38E08000 227 298 7 false; // swpalb
-    0xFFE0FC00 0x78E08000 228 298 7 false; // swpalh
-    0xFFE0FC00 0x38208000 229 298 7 false; // swpb
-    0xFFE0FC00 0x78208000 230 298 7 false; // swph
-    0xFFE0FC00 0xB8608000 231 298 7 false; // swpl
-    0xFFE0FC00 0xF8608000 231 305 7 false; // swpl
-    0xFFE0FC00 0x38608000 232 298 7 false; // swplb
-    0xFFE0FC00 0x78608000 233 298 7 false; // swplh
-    0x7F000000 0x37000000 234 1203 5 false; // tbnz
-    0x7F000000 0x36000000 235 1203 5 false; // tbz
-    0xFFE0FC1F 0xEA00001F 236 370 3 true; // tst
-    0xFFE0FC1F 0x6A00001F 236 373 3 true; // tst
-    0xFF20001F 0xEA00001F 236 1208 6 true; // tst
-    0xFF20801F 0x6A00001F 236 1214 6 true; // tst
-    0xFF80001F 0xF200001F 236 1220 3 true; // tst
-    0xFFC0001F 0x7200001F 236 1223 3 true; // tst
-    0xFFC00000 0xD3400000 237 282 7 false; // ubfm
-    0xFFE08000 0x53000000 237 289 7 false; // ubfm
-    0xFFFF0000 0x00000000 238 1226 1 false; // udf
-    0xFFE0FC00 0x9AC00800 239 0 5 false; // udiv
-    0xFFE0FC00 0x1AC00800 239 5 5 false; // udiv
-    0xFFE08000 0x9BA00000 240 1126 7 false; // umaddl
-    0xFFE08000 0x9BA08000 241 1126 7 false; // umsubl
-    0xFFE0FC00 0x9BC07C00 242 0 5 false; // umulh
+/// The shapes, by name: mask, value, the place of the name, the list and the place of the operands and their number, and whether it is an alias.
+pub static SHAPES: [Shape; 1073] = shapes! {
+    0xFF3FE000 0x0416A000 0 Vector 0 7 false; // abs
+    0xFFE0FC00 0x9A000000 1 Scalar 0 5 false; // adc
+    0xFFE0FC00 0x1A000000 1 Scalar 5 5 false; // adc
+    0xFFE0FC00 0xBA000000 2 Scalar 0 5 false; // adcs
+    0xFFE0FC00 0x3A000000 2 Scalar 5 5 false; // adcs
+    0xFFC00000 0x91000000 3 Scalar 10 5 false; // add
+    0xFFC00000 0x11000000 3 Scalar 15 5 false; // add
+    0xFFC00000 0x91400000 3 Scalar 20 8 false; // add
+    0xFFC00000 0x11400000 3 Scalar 28 8 false; // add
+    0xFFE0FC00 0x8B000000 3 Scalar 0 5 false; // add
+    0xFFE0FC00 0x0B000000 3 Scalar 5 5 false; // add
+    0xFF200000 0x8B000000 3 Scalar 36 8 false; // add
+    0xFF208000 0x0B000000 3 Scalar 44 8 false; // add
+    0xFFE0FC00 0x8B206000 3 Scalar 52 7 false; // add
+    0xFFE0E000 0x8B206000 3 Scalar 59 8 false; // add
+    0xFFE0FC00 0x8B20E000 3 Scalar 67 7 false; // add
+    0xFFE0E000 0x8B20E000 3 Scalar 74 8 false; // add
+    0xFFE09C00 0x8B200000 3 Scalar 82 7 false; // add
+    0xFFE08000 0x8B200000 3 Scalar 89 8 false; // add
+    0xFFE09C00 0x8B208000 3 Scalar 97 7 false; // add
+    0xFFE08000 0x8B208000 3 Scalar 104 8 false; // add
+    0xFFE01C00 0x0B200000 3 Scalar 112 7 false; // add
+    0xFFE00000 0x0B200000 3 Scalar 119 8 false; // add
+    0xFF20FC00 0x04200000 3 Vector 7 5 false; // add
+    0xFF3FE000 0x04000000 3 Vector 12 9 false; // add
+    0xFF3FE000 0x2520C000 3 Vector 21 5 false; // add
+    0xFFFFE000 0x2560E000 3 Vector 26 8 false; // add
+    0xFFBFE000 0x25A0E000 3 Vector 34 8 false; // add
+    0xFFFF001C 0xC0900000 4 Matrix 0 11 false; // addha
+    0xFFFF0018 0xC0D00000 4 Matrix 11 11 false; // addha
+    0xFFE0F800 0x04605000 5 Vector 42 5 false; // addpl
+    0xFFC00000 0xB1000000 6 Scalar 127 5 false; // adds
+    0xFFC00000 0x31000000 6 Scalar 132 5 false; // adds
+    0xFFC00000 0xB1400000 6 Scalar 137 8 false; // adds
+    0xFFC00000 0x31400000 6 Scalar 145 8 false; // adds
+    0xFFE0FC00 0xAB000000 6 Scalar 0 5 false; // adds
+    0xFFE0FC00 0x2B000000 6 Scalar 5 5 false; // adds
+    0xFF200000 0xAB000000 6 Scalar 36 8 false; // adds
+    0xFF208000 0x2B000000 6 Scalar 44 8 false; // adds
+    0xFFE0FC00 0xAB206000 6 Scalar 153 7 false; // adds
+    0xFFE0E000 0xAB206000 6 Scalar 160 8 false; // adds
+    0xFFE0FC00 0xAB20E000 6 Scalar 168 7 false; // adds
+    0xFFE0E000 0xAB20E000 6 Scalar 175 8 false; // adds
+    0xFFE09C00 0xAB200000 6 Scalar 183 7 false; // adds
+    0xFFE08000 0xAB200000 6 Scalar 190 8 false; // adds
+    0xFFE09C00 0xAB208000 6 Scalar 198 7 false; // adds
+    0xFFE08000 0xAB208000 6 Scalar 205 8 false; // adds
+    0xFFE01C00 0x2B200000 6 Scalar 213 7 false; // adds
+    0xFFE00000 0x2B200000 6 Scalar 220 8 false; // adds
+    0xFFE0F800 0x04605800 7 Vector 42 5 false; // addspl
+    0xFFE0F800 0x04205800 8 Vector 42 5 false; // addsvl
+    0xFFFF001C 0xC0910000 9 Matrix 0 11 false; // addva
+    0xFFFF0018 0xC0D10000 9 Matrix 11 11 false; // addva
+    0xFFE0F800 0x04205000 10 Vector 42 5 false; // addvl
+    0x9F000000 0x10000000 11 Scalar 228 3 false; // adr
+    0x9F000000 0x90000000 12 Scalar 231 3 false; // adrp
+    0xFFE0FC00 0x8A000000 13 Scalar 0 5 false; // and
+    0xFFE0FC00 0x0A000000 13 Scalar 5 5 false; // and
+    0xFF200000 0x8A000000 13 Scalar 234 8 false; // and
+    0xFF208000 0x0A000000 13 Scalar 242 8 false; // and
+    0xFF800000 0x92000000 13 Scalar 250 5 false; // and
+    0xFFC00000 0x12000000 13 Scalar 255 5 false; // and
+    0xFF3FE000 0x041A0000 13 Vector 12 9 false; // and
+    0xFFF0C210 0x25004000 13 Vector 47 9 false; // and
+    0xFFE0FC00 0x04203000 13 Vector 56 5 false; // and
+    0xFFE0FC00 0xEA000000 14 Scalar 0 5 false; // ands
+    0xFFE0FC00 0x6A000000 14 Scalar 5 5 false; // ands
+    0xFF200000 0xEA000000 14 Scalar 234 8 false; // ands
+    0xFF208000 0x6A000000 14 Scalar 242 8 false; // ands
+    0xFF800000 0xF2000000 14 Scalar 260 5 false; // ands
+    0xFFC00000 0x72000000 14 Scalar 265 5 false; // ands
+    0xFFF0C210 0x25404000 14 Vector 47 9 false; // ands
+    0xFFFFE000 0x041A2000 15 Vector 61 5 false; // andv
+    0xFFFFE000 0x045A2000 15 Vector 66 5 false; // andv
+    0xFFFFE000 0x049A2000 15 Vector 71 5 false; // andv
+    0xFFFFE000 0x04DA2000 15 Vector 76 5 false; // andv
+    0xFFE0FC00 0x9AC02800 16 Scalar 0 5 true; // asr
+    0xFFE0FC00 0x1AC02800 16 Scalar 5 5 true; // asr
+    0xFFC0FC00 0x9340FC00 16 Scalar 270 5 true; // asr
+    0xFFE0FC00 0x13007C00 16 Scalar 275 5 true; // asr
+    0xFF3FE000 0x04108000 16 Vector 12 9 false; // asr
+    0xFFF8FC00 0x04289000 16 Vector 81 5 false; // asr
+    0xFFF0FC00 0x04309000 16 Vector 86 5 false; // asr
+    0xFFE0FC00 0x04609000 16 Vector 91 5 false; // asr
+    0xFFA0FC00 0x04A09000 16 Vector 96 5 false; // asr
+    0xFFE0FC00 0x9AC02800 17 Scalar 0 5 false; // asrv
+    0xFFE0FC00 0x1AC02800 17 Scalar 5 5 false; // asrv
+    0xFC000000 0x14000000 18 Scalar 280 1 false; // b
+    0xFF00001F 0x5400000E 19 Scalar 281 1 false; // b.al
+    0xFF00001F 0x54000003 20 Scalar 281 1 false; // b.cc
+    0xFF00001F 0x54000002 21 Scalar 281 1 false; // b.cs
+    0xFF00001F 0x54000000 22 Scalar 281 1 false; // b.eq
+    0xFF00001F 0x5400000A 23 Scalar 281 1 false; // b.ge
+    0xFF00001F 0x5400000C 24 Scalar 281 1 false; // b.gt
+    0xFF00001F 0x54000008 25 Scalar 281 1 false; // b.hi
+    0xFF00001F 0x5400000D 26 Scalar 281 1 false; // b.le
+    0xFF00001F 0x54000009 27 Scalar 281 1 false; // b.ls
+    0xFF00001F 0x5400000B 28 Scalar 281 1 false; // b.lt
+    0xFF00001F 0x54000004 29 Scalar 281 1 false; // b.mi
+    0xFF00001F 0x54000001 30 Scalar 281 1 false; // b.ne
+    0xFF00001F 0x5400000F 31 Scalar 281 1 false; // b.nv
+    0xFF00001F 0x54000005 32 Scalar 281 1 false; // b.pl
+    0xFF00001F 0x54000007 33 Scalar 281 1 false; // b.vc
+    0xFF00001F 0x54000006 34 Scalar 281 1 false; // b.vs
+    0xFFE0FC00 0x04603800 35 Vector 101 7 false; // bcax
+    0xFFC00000 0xB3400000 36 Scalar 282 7 false; // bfm
+    0xFFE08000 0x33000000 36 Scalar 289 7 false; // bfm
+    0xFFE0FC00 0x8A200000 37 Scalar 0 5 false; // bic
+    0xFFE0FC00 0x0A200000 37 Scalar 5 5 false; // bic
+    0xFF200000 0x8A200000 37 Scalar 234 8 false; // bic
+    0xFF208000 0x0A200000 37 Scalar 242 8 false; // bic
+    0xFF3FE000 0x041B0000 37 Vector 12 9 false; // bic
+    0xFFF0C210 0x25004010 37 Vector 47 9 false; // bic
+    0xFFE0FC00 0x04E03000 37 Vector 56 5 false; // bic
+    0xFFE0FC00 0xEA200000 38 Scalar 0 5 false; // bics
+    0xFFE0FC00 0x6A200000 38 Scalar 5 5 false; // bics
+    0xFF200000 0xEA200000 38 Scalar 234 8 false; // bics
+    0xFF208000 0x6A200000 38 Scalar 242 8 false; // bics
+    0xFFF0C210 0x25404010 38 Vector 47 9 false; // bics
+    0xFC000000 0x94000000 39 Scalar 280 1 false; // bl
+    0xFFFFFC1F 0xD63F0000 40 Scalar 296 1 false; // blr
+    0xFFFFFC1F 0xD61F0000 41 Scalar 296 1 false; // br
+    0xFFE0001F 0xD4200000 42 Scalar 297 1 false; // brk
+    0xFFE0FC00 0x04203C00 43 Vector 101 7 false; // bsl
+    0xFFE0FC00 0x88A07C00 44 Scalar 298 7 false; // cas
+    0xFFE0FC00 0xC8A07C00 44 Scalar 305 7 false; // cas
+    0xFFE0FC00 0x88E07C00 45 Scalar 298 7 false; // casa
+    0xFFE0FC00 0xC8E07C00 45 Scalar 305 7 false; // casa
+    0xFFE0FC00 0x08E07C00 46 Scalar 298 7 false; // casab
+    0xFFE0FC00 0x48E07C00 47 Scalar 298 7 false; // casah
+    0xFFE0FC00 0x88E0FC00 48 Scalar 298 7 false; // casal
+    0xFFE0FC00 0xC8E0FC00 48 Scalar 305 7 false; // casal
+    0xFFE0FC00 0x08E0FC00 49 Scalar 298 7 false; // casalb
+    0xFFE0FC00 0x48E0FC00 50 Scalar 298 7 false; // casalh
+    0xFFE0FC00 0x08A07C00 51 Scalar 298 7 false; // casb
+    0xFFE0FC00 0x48A07C00 52 Scalar 298 7 false; // cash
+    0xFFE0FC00 0x88A0FC00 53 Scalar 298 7 false; // casl
+    0xFFE0FC00 0xC8A0FC00 53 Scalar 305 7 false; // casl
+    0xFFE0FC00 0x08A0FC00 54 Scalar 298 7 false; // caslb
+    0xFFE0FC00 0x48A0FC00 55 Scalar 298 7 false; // caslh
+    0xFF000000 0xB5000000 56 Scalar 312 3 false; // cbnz
+    0xFF000000 0x35000000 56 Scalar 315 3 false; // cbnz
+    0xFF000000 0xB4000000 57 Scalar 312 3 false; // cbz
+    0xFF000000 0x34000000 57 Scalar 315 3 false; // cbz
+    0xFFE00C10 0xBA400000 58 Scalar 318 7 false; // ccmn
+    0xFFE00C10 0x3A400000 58 Scalar 325 7 false; // ccmn
+    0xFFE00C10 0xBA400800 58 Scalar 332 7 false; // ccmn
+    0xFFE00C10 0x3A400800 58 Scalar 339 7 false; // ccmn
+    0xFFE00C10 0xFA400000 59 Scalar 318 7 false; // ccmp
+    0xFFE00C10 0x7A400000 59 Scalar 325 7 false; // ccmp
+    0xFFE00C10 0xFA400800 59 Scalar 332 7 false; // ccmp
+    0xFFE00C10 0x7A400800 59 Scalar 339 7 false; // ccmp
+    0xFFFFFC00 0xDAC01400 60 Scalar 346 3 false; // cls
+    0xFFFFFC00 0x5AC01400 60 Scalar 349 3 false; // cls
+    0xFF3FE000 0x0418A000 60 Vector 0 7 false; // cls
+    0xFFFFFC00 0xDAC01000 61 Scalar 346 3 false; // clz
+    0xFFFFFC00 0x5AC01000 61 Scalar 349 3 false; // clz
+    0xFF3FE000 0x0419A000 61 Vector 0 7 false; // clz
+    0xFFC0001F 0xB100001F 62 Scalar 352 3 true; // cmn
+    0xFFC0001F 0x3100001F 62 Scalar 355 3 true; // cmn
+    0xFFC0001F 0xB140001F 62 Scalar 358 6 true; // cmn
+    0xFFC0001F 0x3140001F 62 Scalar 364 6 true; // cmn
+    0xFFE0FC1F 0xAB00001F 62 Scalar 370 3 true; // cmn
+    0xFFE0FC1F 0x2B00001F 62 Scalar 373 3 true; // cmn
+    0xFF20001F 0xAB00001F 62 Scalar 376 6 true; // cmn
+    0xFF20801F 0x2B00001F 62 Scalar 382 6 true; // cmn
+    0xFFE0FC1F 0xAB20601F 62 Scalar 388 5 true; // cmn
+    0xFFE0E01F 0xAB20601F 62 Scalar 393 6 true; // cmn
+    0xFFE0FC1F 0xAB20E01F 62 Scalar 399 5 true; // cmn
+    0xFFE0E01F 0xAB20E01F 62 Scalar 404 6 true; // cmn
+    0xFFE09C1F 0xAB20001F 62 Scalar 410 5 true; // cmn
+    0xFFE0801F 0xAB20001F 62 Scalar 415 6 true; // cmn
+    0xFFE09C1F 0xAB20801F 62 Scalar 421 5 true; // cmn
+    0xFFE0801F 0xAB20801F 62 Scalar 426 6 true; // cmn
+    0xFFE01C1F 0x2B20001F 62 Scalar 432 5 true; // cmn
+    0xFFE0001F 0x2B20001F 62 Scalar 437 6 true; // cmn
+    0xFFC0001F 0xF100001F 63 Scalar 352 3 true; // cmp
+    0xFFC0001F 0x7100001F 63 Scalar 355 3 true; // cmp
+    0xFFC0001F 0xF140001F 63 Scalar 358 6 true; // cmp
+    0xFFC0001F 0x7140001F 63 Scalar 364 6 true; // cmp
+    0xFFE0FC1F 0xEB00001F 63 Scalar 370 3 true; // cmp
+    0xFFE0FC1F 0x6B00001F 63 Scalar 373 3 true; // cmp
+    0xFF20001F 0xEB00001F 63 Scalar 376 6 true; // cmp
+    0xFF20801F 0x6B00001F 63 Scalar 382 6 true; // cmp
+    0xFFE0FC1F 0xEB20601F 63 Scalar 388 5 true; // cmp
+    0xFFE0E01F 0xEB20601F 63 Scalar 393 6 true; // cmp
+    0xFFE0FC1F 0xEB20E01F 63 Scalar 399 5 true; // cmp
+    0xFFE0E01F 0xEB20E01F 63 Scalar 404 6 true; // cmp
+    0xFFE09C1F 0xEB20001F 63 Scalar 410 5 true; // cmp
+    0xFFE0801F 0xEB20001F 63 Scalar 415 6 true; // cmp
+    0xFFE09C1F 0xEB20801F 63 Scalar 421 5 true; // cmp
+    0xFFE0801F 0xEB20801F 63 Scalar 426 6 true; // cmp
+    0xFFE01C1F 0x6B20001F 63 Scalar 432 5 true; // cmp
+    0xFFE0001F 0x6B20001F 63 Scalar 437 6 true; // cmp
+    0xFF20E010 0x2400A000 64 Vector 108 9 false; // cmpeq
+    0xFF20E010 0x25008000 64 Vector 117 9 false; // cmpeq
+    0xFF20E010 0x24008000 65 Vector 108 9 false; // cmpge
+    0xFF20E010 0x25000000 65 Vector 117 9 false; // cmpge
+    0xFF20E010 0x24008010 66 Vector 108 9 false; // cmpgt
+    0xFF20E010 0x25000010 66 Vector 117 9 false; // cmpgt
+    0xFF20E010 0x24000010 67 Vector 108 9 false; // cmphi
+    0xFF20E010 0x24000000 68 Vector 108 9 false; // cmphs
+    0xFF20E010 0x25002010 69 Vector 117 9 false; // cmple
+    0xFF20E010 0x25002000 70 Vector 117 9 false; // cmplt
+    0xFF20E010 0x2400A010 71 Vector 108 9 false; // cmpne
+    0xFF20E010 0x25008010 71 Vector 117 9 false; // cmpne
+    0xFF3FE000 0x041BA000 72 Vector 0 7 false; // cnot
+    0xFF3FE000 0x041AA000 73 Vector 0 7 false; // cnt
+    0xFFFFFC00 0x0420E000 74 Vector 126 3 false; // cntb
+    0xFFF0FC00 0x0420E000 74 Vector 129 6 false; // cntb
+    0xFFFFFC00 0x04E0E000 75 Vector 126 3 false; // cntd
+    0xFFF0FC00 0x04E0E000 75 Vector 129 6 false; // cntd
+    0xFFFFFC00 0x0460E000 76 Vector 126 3 false; // cnth
+    0xFFF0FC00 0x0460E000 76 Vector 129 6 false; // cnth
+    0xFF3FC200 0x25208000 77 Vector 135 5 false; // cntp
+    0xFFFFFC00 0x04A0E000 78 Vector 126 3 false; // cntw
+    0xFFF0FC00 0x04A0E000 78 Vector 129 6 false; // cntw
+    0xFF30E000 0x05100000 79 Vector 140 7 false; // cpy
+    0xFF30E000 0x05104000 79 Vector 147 7 false; // cpy
+    0xFFF0E000 0x05502000 79 Vector 154 10 false; // cpy
+    0xFFB0E000 0x05902000 79 Vector 164 10 false; // cpy
+    0xFFF0E000 0x05506000 79 Vector 174 10 false; // cpy
+    0xFFB0E000 0x05906000 79 Vector 184 10 false; // cpy
+    0xFFBFE000 0x0528A000 79 Vector 194 7 false; // cpy
+    0xFFFFE000 0x05A8A000 79 Vector 201 7 false; // cpy
+    0xFFFFE000 0x05E8A000 79 Vector 208 7 false; // cpy
+    0xFFE00C00 0x9A800000 80 Scalar 443 7 false; // csel
+    0xFFE00C00 0x1A800000 80 Scalar 450 7 false; // csel
+    0xFFFF0FE0 0x9A9F07E0 81 Scalar 457 3 true; // cset
+    0xFFFF0FE0 0x1A9F07E0 81 Scalar 460 3 true; // cset
+    0xFFE00C00 0x9A800400 82 Scalar 443 7 false; // csinc
+    0xFFE00C00 0x1A800400 82 Scalar 450 7 false; // csinc
+    0xFFE00C00 0xDA800000 83 Scalar 443 7 false; // csinv
+    0xFFE00C00 0x5A800000 83 Scalar 450 7 false; // csinv
+    0xFFE00C00 0xDA800400 84 Scalar 443 7 false; // csneg
+    0xFFE00C00 0x5A800400 84 Scalar 450 7 false; // csneg
+    0xFFFFFC00 0x0430E400 85 Vector 126 3 false; // decb
+    0xFFF0FC00 0x0430E400 85 Vector 129 6 false; // decb
+    0xFFFFFC00 0x04F0E400 86 Vector 126 3 false; // decd
+    0xFFF0FC00 0x04F0E400 86 Vector 129 6 false; // decd
+    0xFFFFFC00 0x0470E400 87 Vector 126 3 false; // dech
+    0xFFF0FC00 0x0470E400 87 Vector 129 6 false; // dech
+    0xFFFFFC00 0x04B0E400 88 Vector 126 3 false; // decw
+    0xFFF0FC00 0x04B0E400 88 Vector 129 6 false; // decw
+    0xFFFFF0FF 0xD50330BF 89 Scalar 463 1 false; // dmb
+    0xFFFFF0FF 0xD503309F 90 Scalar 463 1 false; // dsb
+    0xFF3FE000 0x2538C000 91 Vector 215 3 false; // dup
+    0xFFFFE000 0x2578E000 91 Vector 218 6 false; // dup
+    0xFFBFE000 0x25B8E000 91 Vector 224 6 false; // dup
+    0xFFBFFC00 0x05203800 91 Vector 230 3 false; // dup
+    0xFFFFFC00 0x05A03800 91 Vector 233 3 false; // dup
+    0xFFFFFC00 0x05E03800 91 Vector 236 3 false; // dup
+    0xFFE0FC00 0xCA200000 92 Scalar 0 5 false; // eon
+    0xFFE0FC00 0x4A200000 92 Scalar 5 5 false; // eon
+    0xFF200000 0xCA200000 92 Scalar 234 8 false; // eon
+    0xFF208000 0x4A200000 92 Scalar 242 8 false; // eon
+    0xFFE0FC00 0xCA000000 93 Scalar 0 5 false; // eor
+    0xFFE0FC00 0x4A000000 93 Scalar 5 5 false; // eor
+    0xFF200000 0xCA000000 93 Scalar 234 8 false; // eor
+    0xFF208000 0x4A000000 93 Scalar 242 8 false; // eor
+    0xFF800000 0xD2000000 93 Scalar 250 5 false; // eor
+    0xFFC00000 0x52000000 93 Scalar 255 5 false; // eor
+    0xFF3FE000 0x04190000 93 Vector 12 9 false; // eor
+    0xFFF0C210 0x25004200 93 Vector 47 9 false; // eor
+    0xFFE0FC00 0x04A03000 93 Vector 56 5 false; // eor
+    0xFFE0FC00 0x04203800 94 Vector 101 7 false; // eor3
+    0xFFF0C210 0x25404200 95 Vector 47 9 false; // eors
+    0xFFFFE000 0x04192000 96 Vector 61 5 false; // eorv
+    0xFFFFE000 0x04592000 96 Vector 66 5 false; // eorv
+    0xFFFFE000 0x04992000 96 Vector 71 5 false; // eorv
+    0xFFFFE000 0x04D92000 96 Vector 76 5 false; // eorv
+    0xFFE0E000 0x05200000 97 Vector 239 7 false; // ext
+    0xFFE00000 0x93C00000 98 Scalar 464 7 false; // extr
+    0xFFE08000 0x13800000 98 Scalar 471 7 false; // extr
+    0xFFFFF01F 0xD503201F 99 Scalar 478 1 false; // hint
+    0xFFFFFC00 0x0430E000 100 Vector 126 3 false; // incb
+    0xFFF0FC00 0x0430E000 100 Vector 129 6 false; // incb
+    0xFFFFFC00 0x04F0E000 101 Vector 126 3 false; // incd
+    0xFFF0FC00 0x04F0E000 101 Vector 129 6 false; // incd
+    0xFFFFFC00 0x0470E000 102 Vector 126 3 false; // inch
+    0xFFF0FC00 0x0470E000 102 Vector 129 6 false; // inch
+    0xFFFFFC00 0x04B0E000 103 Vector 126 3 false; // incw
+    0xFFF0FC00 0x04B0E000 103 Vector 129 6 false; // incw
+    0xFF20FC00 0x04204000 104 Vector 246 5 false; // index
+    0xFFA0FC00 0x04204400 104 Vector 251 5 false; // index
+    0xFFE0FC00 0x04A04400 104 Vector 256 5 false; // index
+    0xFFE0FC00 0x04E04400 104 Vector 261 5 false; // index
+    0xFFA0FC00 0x04204800 104 Vector 266 5 false; // index
+    0xFFE0FC00 0x04A04800 104 Vector 271 5 false; // index
+    0xFFE0FC00 0x04E04800 104 Vector 276 5 false; // index
+    0xFFA0FC00 0x04204C00 104 Vector 281 5 false; // index
+    0xFFE0FC00 0x04A04C00 104 Vector 286 5 false; // index
+    0xFFE0FC00 0x04E04C00 104 Vector 291 5 false; // index
+    0xFFFFF0FF 0xD50330DF 105 Scalar 463 1 false; // isb
+    0xFFBFE000 0x0520A000 106 Vector 296 5 false; // lasta
+    0xFFFFE000 0x05A0A000 106 Vector 301 5 false; // lasta
+    0xFFFFE000 0x05E0A000 106 Vector 306 5 false; // lasta
+    0xFFBFE000 0x0521A000 107 Vector 296 5 false; // lastb
+    0xFFFFE000 0x05A1A000 107 Vector 301 5 false; // lastb
+    0xFFFFE000 0x05E1A000 107 Vector 306 5 false; // lastb
+    0xFFFFE000 0xA400A000 108 Vector 311 11 false; // ld1b
+    0xFFF0E000 0xA400A000 108 Vector 322 16 false; // ld1b
+    0xFFE0E000 0xA4004000 108 Vector 338 13 false; // ld1b
+    0xFFFFE000 0xA420A000 108 Vector 351 11 false; // ld1b
+    0xFFF0E000 0xA420A000 108 Vector 362 16 false; // ld1b
+    0xFFE0E000 0xA4204000 108 Vector 378 13 false; // ld1b
+    0xFFFFE000 0xA440A000 108 Vector 391 11 false; // ld1b
+    0xFFF0E000 0xA440A000 108 Vector 402 16 false; // ld1b
+    0xFFE0E000 0xA4404000 108 Vector 418 13 false; // ld1b
+    0xFFFFE000 0xA460A000 108 Vector 431 11 false; // ld1b
+    0xFFF0E000 0xA460A000 108 Vector 442 16 false; // ld1b
+    0xFFE0E000 0xA4604000 108 Vector 458 13 false; // ld1b
+    0xFFE08010 0xE0000000 108 Matrix 22 18 false; // ld1b
+    0xFFE08010 0xE0008000 108 Matrix 40 18 false; // ld1b
+    0xFFFFE000 0xA5E0A000 109 Vector 431 11 false; // ld1d
+    0xFFF0E000 0xA5E0A000 109 Vector 442 16 false; // ld1d
+    0xFFE0E000 0xA5E04000 109 Vector 471 16 false; // ld1d
+    0xFFE08010 0xE0C00000 109 Matrix 58 21 false; // ld1d
+    0xFFE08010 0xE0C08000 109 Matrix 79 21 false; // ld1d
+    0xFFFFE000 0xA4A0A000 110 Vector 351 11 false; // ld1h
+    0xFFF0E000 0xA4A0A000 110 Vector 362 16 false; // ld1h
+    0xFFE0E000 0xA4A04000 110 Vector 487 16 false; // ld1h
+    0xFFFFE000 0xA4C0A000 110 Vector 391 11 false; // ld1h
+    0xFFF0E000 0xA4C0A000 110 Vector 402 16 false; // ld1h
+    0xFFE0E000 0xA4C04000 110 Vector 503 16 false; // ld1h
+    0xFFFFE000 0xA4E0A000 110 Vector 431 11 false; // ld1h
+    0xFFF0E000 0xA4E0A000 110 Vector 442 16 false; // ld1h
+    0xFFE0E000 0xA4E04000 110 Vector 519 16 false; // ld1h
+    0xFFE08010 0xE0400000 110 Matrix 100 21 false; // ld1h
+    0xFFE08010 0xE0408000 110 Matrix 121 21 false; // ld1h
+    0xFFE08010 0xE1C00000 111 Matrix 142 21 false; // ld1q
+    0xFFE08010 0xE1C08000 111 Matrix 163 21 false; // ld1q
+    0xFFFFE000 0xA580A000 112 Vector 431 11 false; // ld1sb
+    0xFFF0E000 0xA580A000 112 Vector 442 16 false; // ld1sb
+    0xFFE0E000 0xA5804000 112 Vector 458 13 false; // ld1sb
+    0xFFFFE000 0xA5A0A000 112 Vector 391 11 false; // ld1sb
+    0xFFF0E000 0xA5A0A000 112 Vector 402 16 false; // ld1sb
+    0xFFE0E000 0xA5A04000 112 Vector 418 13 false; // ld1sb
+    0xFFFFE000 0xA5C0A000 112 Vector 351 11 false; // ld1sb
+    0xFFF0E000 0xA5C0A000 112 Vector 362 16 false; // ld1sb
+    0xFFE0E000 0xA5C04000 112 Vector 378 13 false; // ld1sb
+    0xFFFFE000 0xA500A000 113 Vector 431 11 false; // ld1sh
+    0xFFF0E000 0xA500A000 113 Vector 442 16 false; // ld1sh
+    0xFFE0E000 0xA5004000 113 Vector 519 16 false; // ld1sh
+    0xFFFFE000 0xA520A000 113 Vector 391 11 false; // ld1sh
+    0xFFF0E000 0xA520A000 113 Vector 402 16 false; // ld1sh
+    0xFFE0E000 0xA5204000 113 Vector 503 16 false; // ld1sh
+    0xFFFFE000 0xA480A000 114 Vector 431 11 false; // ld1sw
+    0xFFF0E000 0xA480A000 114 Vector 442 16 false; // ld1sw
+    0xFFE0E000 0xA4804000 114 Vector 535 16 false; // ld1sw
+    0xFFFFE000 0xA540A000 115 Vector 391 11 false; // ld1w
+    0xFFF0E000 0xA540A000 115 Vector 402 16 false; // ld1w
+    0xFFE0E000 0xA5404000 115 Vector 551 16 false; // ld1w
+    0xFFFFE000 0xA560A000 115 Vector 431 11 false; // ld1w
+    0xFFF0E000 0xA560A000 115 Vector 442 16 false; // ld1w
+    0xFFE0E000 0xA5604000 115 Vector 535 16 false; // ld1w
+    0xFFE08010 0xE0800000 115 Matrix 184 21 false; // ld1w
+    0xFFE08010 0xE0808000 115 Matrix 205 21 false; // ld1w
+    0xFFE0FC00 0xB8200000 116 Scalar 298 7 false; // ldadd
+    0xFFE0FC00 0xF8200000 116 Scalar 305 7 false; // ldadd
+    0xFFE0FC00 0xB8A00000 117 Scalar 298 7 false; // ldadda
+    0xFFE0FC00 0xF8A00000 117 Scalar 305 7 false; // ldadda
+    0xFFE0FC00 0x38A00000 118 Scalar 298 7 false; // ldaddab
+    0xFFE0FC00 0x78A00000 119 Scalar 298 7 false; // ldaddah
+    0xFFE0FC00 0xB8E00000 120 Scalar 298 7 false; // ldaddal
+    0xFFE0FC00 0xF8E00000 120 Scalar 305 7 false; // ldaddal
+    0xFFE0FC00 0x38E00000 121 Scalar 298 7 false; // ldaddalb
+    0xFFE0FC00 0x78E00000 122 Scalar 298 7 false; // ldaddalh
+    0xFFE0FC00 0x38200000 123 Scalar 298 7 false; // ldaddb
+    0xFFE0FC00 0x78200000 124 Scalar 298 7 false; // ldaddh
+    0xFFE0FC00 0xB8600000 125 Scalar 298 7 false; // ldaddl
+    0xFFE0FC00 0xF8600000 125 Scalar 305 7 false; // ldaddl
+    0xFFE0FC00 0x38600000 126 Scalar 298 7 false; // ldaddlb
+    0xFFE0FC00 0x78600000 127 Scalar 298 7 false; // ldaddlh
+    0xFFFFFC00 0x88DFFC00 128 Scalar 479 5 false; // ldar
+    0xFFFFFC00 0xC8DFFC00 128 Scalar 484 5 false; // ldar
+    0xFFFFFC00 0x08DFFC00 129 Scalar 479 5 false; // ldarb
+    0xFFFFFC00 0x48DFFC00 130 Scalar 479 5 false; // ldarh
+    0xFFE0FC00 0xB8201000 131 Scalar 298 7 false; // ldclr
+    0xFFE0FC00 0xF8201000 131 Scalar 305 7 false; // ldclr
+    0xFFE0FC00 0xB8A01000 132 Scalar 298 7 false; // ldclra
+    0xFFE0FC00 0xF8A01000 132 Scalar 305 7 false; // ldclra
+    0xFFE0FC00 0x38A01000 133 Scalar 298 7 false; // ldclrab
+    0xFFE0FC00 0x78A01000 134 Scalar 298 7 false; // ldclrah
+    0xFFE0FC00 0xB8E01000 135 Scalar 298 7 false; // ldclral
+    0xFFE0FC00 0xF8E01000 135 Scalar 305 7 false; // ldclral
+    0xFFE0FC00 0x38E01000 136 Scalar 298 7 false; // ldclralb
+    0xFFE0FC00 0x78E01000 137 Scalar 298 7 false; // ldclralh
+    0xFFE0FC00 0x38201000 138 Scalar 298 7 false; // ldclrb
+    0xFFE0FC00 0x78201000 139 Scalar 298 7 false; // ldclrh
+    0xFFE0FC00 0xB8601000 140 Scalar 298 7 false; // ldclrl
+    0xFFE0FC00 0xF8601000 140 Scalar 305 7 false; // ldclrl
+    0xFFE0FC00 0x38601000 141 Scalar 298 7 false; // ldclrlb
+    0xFFE0FC00 0x78601000 142 Scalar 298 7 false; // ldclrlh
+    0xFFE0FC00 0xB8202000 143 Scalar 298 7 false; // ldeor
+    0xFFE0FC00 0xF8202000 143 Scalar 305 7 false; // ldeor
+    0xFFE0FC00 0xB8A02000 144 Scalar 298 7 false; // ldeora
+    0xFFE0FC00 0xF8A02000 144 Scalar 305 7 false; // ldeora
+    0xFFE0FC00 0x38A02000 145 Scalar 298 7 false; // ldeorab
+    0xFFE0FC00 0x78A02000 146 Scalar 298 7 false; // ldeorah
+    0xFFE0FC00 0xB8E02000 147 Scalar 298 7 false; // ldeoral
+    0xFFE0FC00 0xF8E02000 147 Scalar 305 7 false; // ldeoral
+    0xFFE0FC00 0x38E02000 148 Scalar 298 7 false; // ldeoralb
+    0xFFE0FC00 0x78E02000 149 Scalar 298 7 false; // ldeoralh
+    0xFFE0FC00 0x38202000 150 Scalar 298 7 false; // ldeorb
+    0xFFE0FC00 0x78202000 151 Scalar 298 7 false; // ldeorh
+    0xFFE0FC00 0xB8602000 152 Scalar 298 7 false; // ldeorl
+    0xFFE0FC00 0xF8602000 152 Scalar 305 7 false; // ldeorl
+    0xFFE0FC00 0x38602000 153 Scalar 298 7 false; // ldeorlb
+    0xFFE0FC00 0x78602000 154 Scalar 298 7 false; // ldeorlh
+    0xFFFF8000 0x29400000 155 Scalar 489 7 false; // ldp
+    0xFFC00000 0x29400000 155 Scalar 496 9 false; // ldp
+    0xFFC00000 0x28C00000 155 Scalar 505 9 false; // ldp
+    0xFFC00000 0x29C00000 155 Scalar 514 10 false; // ldp
+    0xFFFF8000 0xA9400000 155 Scalar 524 7 false; // ldp
+    0xFFC00000 0xA9400000 155 Scalar 531 9 false; // ldp
+    0xFFC00000 0xA8C00000 155 Scalar 540 9 false; // ldp
+    0xFFC00000 0xA9C00000 155 Scalar 549 10 false; // ldp
+    0xFF000000 0x18000000 156 Scalar 315 3 false; // ldr
+    0xFF000000 0x58000000 156 Scalar 312 3 false; // ldr
+    0xFFFFFC00 0xB9400000 156 Scalar 479 5 false; // ldr
+    0xFFC00000 0xB9400000 156 Scalar 559 7 false; // ldr
+    0xFFE00C00 0xB8400400 156 Scalar 566 7 false; // ldr
+    0xFFE00C00 0xB8400C00 156 Scalar 573 8 false; // ldr
+    0xFFE0FC00 0xB8606800 156 Scalar 581 7 false; // ldr
+    0xFFE0FC00 0xB8607800 156 Scalar 588 10 false; // ldr
+    0xFFE0FC00 0xB8604800 156 Scalar 598 9 false; // ldr
+    0xFFE0FC00 0xB8605800 156 Scalar 607 10 false; // ldr
+    0xFFE0FC00 0xB860C800 156 Scalar 617 9 false; // ldr
+    0xFFE0FC00 0xB860D800 156 Scalar 626 10 false; // ldr
+    0xFFE0FC00 0xB860E800 156 Scalar 636 9 false; // ldr
+    0xFFE0FC00 0xB860F800 156 Scalar 645 10 false; // ldr
+    0xFFFFFC00 0xF9400000 156 Scalar 484 5 false; // ldr
+    0xFFC00000 0xF9400000 156 Scalar 655 7 false; // ldr
+    0xFFE00C00 0xF8400400 156 Scalar 662 7 false; // ldr
+    0xFFE00C00 0xF8400C00 156 Scalar 669 8 false; // ldr
+    0xFFE0FC00 0xF8606800 156 Scalar 677 7 false; // ldr
+    0xFFE0FC00 0xF8607800 156 Scalar 684 10 false; // ldr
+    0xFFE0FC00 0xF8604800 156 Scalar 694 9 false; // ldr
+    0xFFE0FC00 0xF8605800 156 Scalar 703 10 false; // ldr
+    0xFFE0FC00 0xF860C800 156 Scalar 713 9 false; // ldr
+    0xFFE0FC00 0xF860D800 156 Scalar 722 10 false; // ldr
+    0xFFE0FC00 0xF860E800 156 Scalar 732 9 false; // ldr
+    0xFFE0FC00 0xF860F800 156 Scalar 741 10 false; // ldr
+    0xFFFFFC00 0x85804000 156 Vector 567 5 false; // ldr
+    0xFFC0E000 0x85804000 156 Vector 572 10 false; // ldr
+    0xFFFFFC10 0x85800000 156 Vector 582 5 false; // ldr
+    0xFFC0E010 0x85800000 156 Vector 587 10 false; // ldr
+    0xFFFF9C1F 0xE1000000 156 Matrix 226 10 false; // ldr
+    0xFFFF9C10 0xE1000000 156 Matrix 236 15 false; // ldr
+    0xFFFFFC00 0x39400000 157 Scalar 479 5 false; // ldrb
+    0xFFC00000 0x39400000 157 Scalar 751 7 false; // ldrb
+    0xFFE00C00 0x38400400 157 Scalar 566 7 false; // ldrb
+    0xFFE00C00 0x38400C00 157 Scalar 573 8 false; // ldrb
+    0xFFE0FC00 0x38606800 157 Scalar 581 7 false; // ldrb
+    0xFFE0FC00 0x38607800 157 Scalar 758 10 false; // ldrb
+    0xFFE0FC00 0x38604800 157 Scalar 598 9 false; // ldrb
+    0xFFE0FC00 0x38605800 157 Scalar 768 10 false; // ldrb
+    0xFFE0FC00 0x3860C800 157 Scalar 617 9 false; // ldrb
+    0xFFE0FC00 0x3860D800 157 Scalar 778 10 false; // ldrb
+    0xFFE0FC00 0x3860E800 157 Scalar 636 9 false; // ldrb
+    0xFFE0FC00 0x3860F800 157 Scalar 788 10 false; // ldrb
+    0xFFFFFC00 0x79400000 158 Scalar 479 5 false; // ldrh
+    0xFFC00000 0x79400000 158 Scalar 798 7 false; // ldrh
+    0xFFE00C00 0x78400400 158 Scalar 566 7 false; // ldrh
+    0xFFE00C00 0x78400C00 158 Scalar 573 8 false; // ldrh
+    0xFFE0FC00 0x78606800 158 Scalar 581 7 false; // ldrh
+    0xFFE0FC00 0x78607800 158 Scalar 805 10 false; // ldrh
+    0xFFE0FC00 0x78604800 158 Scalar 598 9 false; // ldrh
+    0xFFE0FC00 0x78605800 158 Scalar 815 10 false; // ldrh
+    0xFFE0FC00 0x7860C800 158 Scalar 617 9 false; // ldrh
+    0xFFE0FC00 0x7860D800 158 Scalar 825 10 false; // ldrh
+    0xFFE0FC00 0x7860E800 158 Scalar 636 9 false; // ldrh
+    0xFFE0FC00 0x7860F800 158 Scalar 835 10 false; // ldrh
+    0xFFFFFC00 0x39800000 159 Scalar 484 5 false; // ldrsb
+    0xFFC00000 0x39800000 159 Scalar 845 7 false; // ldrsb
+    0xFFE00C00 0x38800400 159 Scalar 662 7 false; // ldrsb
+    0xFFE00C00 0x38800C00 159 Scalar 669 8 false; // ldrsb
+    0xFFE0FC00 0x38A06800 159 Scalar 677 7 false; // ldrsb
+    0xFFE0FC00 0x38A07800 159 Scalar 852 10 false; // ldrsb
+    0xFFE0FC00 0x38A04800 159 Scalar 694 9 false; // ldrsb
+    0xFFE0FC00 0x38A05800 159 Scalar 862 10 false; // ldrsb
+    0xFFE0FC00 0x38A0C800 159 Scalar 713 9 false; // ldrsb
+    0xFFE0FC00 0x38A0D800 159 Scalar 872 10 false; // ldrsb
+    0xFFE0FC00 0x38A0E800 159 Scalar 732 9 false; // ldrsb
+    0xFFE0FC00 0x38A0F800 159 Scalar 882 10 false; // ldrsb
+    0xFFFFFC00 0x39C00000 159 Scalar 479 5 false; // ldrsb
+    0xFFC00000 0x39C00000 159 Scalar 751 7 false; // ldrsb
+    0xFFE00C00 0x38C00400 159 Scalar 566 7 false; // ldrsb
+    0xFFE00C00 0x38C00C00 159 Scalar 573 8 false; // ldrsb
+    0xFFE0FC00 0x38E06800 159 Scalar 581 7 false; // ldrsb
+    0xFFE0FC00 0x38E07800 159 Scalar 758 10 false; // ldrsb
+    0xFFE0FC00 0x38E04800 159 Scalar 598 9 false; // ldrsb
+    0xFFE0FC00 0x38E05800 159 Scalar 768 10 false; // ldrsb
+    0xFFE0FC00 0x38E0C800 159 Scalar 617 9 false; // ldrsb
+    0xFFE0FC00 0x38E0D800 159 Scalar 778 10 false; // ldrsb
+    0xFFE0FC00 0x38E0E800 159 Scalar 636 9 false; // ldrsb
+    0xFFE0FC00 0x38E0F800 159 Scalar 788 10 false; // ldrsb
+    0xFFFFFC00 0x79800000 160 Scalar 484 5 false; // ldrsh
+    0xFFC00000 0x79800000 160 Scalar 892 7 false; // ldrsh
+    0xFFE00C00 0x78800400 160 Scalar 662 7 false; // ldrsh
+    0xFFE00C00 0x78800C00 160 Scalar 669 8 false; // ldrsh
+    0xFFE0FC00 0x78A06800 160 Scalar 677 7 false; // ldrsh
+    0xFFE0FC00 0x78A07800 160 Scalar 899 10 false; // ldrsh
+    0xFFE0FC00 0x78A04800 160 Scalar 694 9 false; // ldrsh
+    0xFFE0FC00 0x78A05800 160 Scalar 909 10 false; // ldrsh
+    0xFFE0FC00 0x78A0C800 160 Scalar 713 9 false; // ldrsh
+    0xFFE0FC00 0x78A0D800 160 Scalar 919 10 false; // ldrsh
+    0xFFE0FC00 0x78A0E800 160 Scalar 732 9 false; // ldrsh
+    0xFFE0FC00 0x78A0F800 160 Scalar 929 10 false; // ldrsh
+    0xFFFFFC00 0x79C00000 160 Scalar 479 5 false; // ldrsh
+    0xFFC00000 0x79C00000 160 Scalar 798 7 false; // ldrsh
+    0xFFE00C00 0x78C00400 160 Scalar 566 7 false; // ldrsh
+    0xFFE00C00 0x78C00C00 160 Scalar 573 8 false; // ldrsh
+    0xFFE0FC00 0x78E06800 160 Scalar 581 7 false; // ldrsh
+    0xFFE0FC00 0x78E07800 160 Scalar 805 10 false; // ldrsh
+    0xFFE0FC00 0x78E04800 160 Scalar 598 9 false; // ldrsh
+    0xFFE0FC00 0x78E05800 160 Scalar 815 10 false; // ldrsh
+    0xFFE0FC00 0x78E0C800 160 Scalar 617 9 false; // ldrsh
+    0xFFE0FC00 0x78E0D800 160 Scalar 825 10 false; // ldrsh
+    0xFFE0FC00 0x78E0E800 160 Scalar 636 9 false; // ldrsh
+    0xFFE0FC00 0x78E0F800 160 Scalar 835 10 false; // ldrsh
+    0xFF000000 0x98000000 161 Scalar 312 3 false; // ldrsw
+    0xFFFFFC00 0xB9800000 161 Scalar 484 5 false; // ldrsw
+    0xFFC00000 0xB9800000 161 Scalar 939 7 false; // ldrsw
+    0xFFE00C00 0xB8800400 161 Scalar 662 7 false; // ldrsw
+    0xFFE00C00 0xB8800C00 161 Scalar 669 8 false; // ldrsw
+    0xFFE0FC00 0xB8A06800 161 Scalar 677 7 false; // ldrsw
+    0xFFE0FC00 0xB8A07800 161 Scalar 946 10 false; // ldrsw
+    0xFFE0FC00 0xB8A04800 161 Scalar 694 9 false; // ldrsw
+    0xFFE0FC00 0xB8A05800 161 Scalar 956 10 false; // ldrsw
+    0xFFE0FC00 0xB8A0C800 161 Scalar 713 9 false; // ldrsw
+    0xFFE0FC00 0xB8A0D800 161 Scalar 966 10 false; // ldrsw
+    0xFFE0FC00 0xB8A0E800 161 Scalar 732 9 false; // ldrsw
+    0xFFE0FC00 0xB8A0F800 161 Scalar 976 10 false; // ldrsw
+    0xFFE0FC00 0xB8203000 162 Scalar 298 7 false; // ldset
+    0xFFE0FC00 0xF8203000 162 Scalar 305 7 false; // ldset
+    0xFFE0FC00 0xB8A03000 163 Scalar 298 7 false; // ldseta
+    0xFFE0FC00 0xF8A03000 163 Scalar 305 7 false; // ldseta
+    0xFFE0FC00 0x38A03000 164 Scalar 298 7 false; // ldsetab
+    0xFFE0FC00 0x78A03000 165 Scalar 298 7 false; // ldsetah
+    0xFFE0FC00 0xB8E03000 166 Scalar 298 7 false; // ldsetal
+    0xFFE0FC00 0xF8E03000 166 Scalar 305 7 false; // ldsetal
+    0xFFE0FC00 0x38E03000 167 Scalar 298 7 false; // ldsetalb
+    0xFFE0FC00 0x78E03000 168 Scalar 298 7 false; // ldsetalh
+    0xFFE0FC00 0x38203000 169 Scalar 298 7 false; // ldsetb
+    0xFFE0FC00 0x78203000 170 Scalar 298 7 false; // ldseth
+    0xFFE0FC00 0xB8603000 171 Scalar 298 7 false; // ldsetl
+    0xFFE0FC00 0xF8603000 171 Scalar 305 7 false; // ldsetl
+    0xFFE0FC00 0x38603000 172 Scalar 298 7 false; // ldsetlb
+    0xFFE0FC00 0x78603000 173 Scalar 298 7 false; // ldsetlh
+    0xFFE0FC00 0xB8204000 174 Scalar 298 7 false; // ldsmax
+    0xFFE0FC00 0xF8204000 174 Scalar 305 7 false; // ldsmax
+    0xFFE0FC00 0xB8A04000 175 Scalar 298 7 false; // ldsmaxa
+    0xFFE0FC00 0xF8A04000 175 Scalar 305 7 false; // ldsmaxa
+    0xFFE0FC00 0x38A04000 176 Scalar 298 7 false; // ldsmaxab
+    0xFFE0FC00 0x78A04000 177 Scalar 298 7 false; // ldsmaxah
+    0xFFE0FC00 0xB8E04000 178 Scalar 298 7 false; // ldsmaxal
+    0xFFE0FC00 0xF8E04000 178 Scalar 305 7 false; // ldsmaxal
+    0xFFE0FC00 0x38E04000 179 Scalar 298 7 false; // ldsmaxalb
+    0xFFE0FC00 0x78E04000 180 Scalar 298 7 false; // ldsmaxalh
+    0xFFE0FC00 0x38204000 181 Scalar 298 7 false; // ldsmaxb
+    0xFFE0FC00 0x78204000 182 Scalar 298 7 false; // ldsmaxh
+    0xFFE0FC00 0xB8604000 183 Scalar 298 7 false; // ldsmaxl
+    0xFFE0FC00 0xF8604000 183 Scalar 305 7 false; // ldsmaxl
+    0xFFE0FC00 0x38604000 184 Scalar 298 7 false; // ldsmaxlb
+    0xFFE0FC00 0x78604000 185 Scalar 298 7 false; // ldsmaxlh
+    0xFFE0FC00 0xB8205000 186 Scalar 298 7 false; // ldsmin
+    0xFFE0FC00 0xF8205000 186 Scalar 305 7 false; // ldsmin
+    0xFFE0FC00 0xB8A05000 187 Scalar 298 7 false; // ldsmina
+    0xFFE0FC00 0xF8A05000 187 Scalar 305 7 false; // ldsmina
+    0xFFE0FC00 0x38A05000 188 Scalar 298 7 false; // ldsminab
+    0xFFE0FC00 0x78A05000 189 Scalar 298 7 false; // ldsminah
+    0xFFE0FC00 0xB8E05000 190 Scalar 298 7 false; // ldsminal
+    0xFFE0FC00 0xF8E05000 190 Scalar 305 7 false; // ldsminal
+    0xFFE0FC00 0x38E05000 191 Scalar 298 7 false; // ldsminalb
+    0xFFE0FC00 0x78E05000 192 Scalar 298 7 false; // ldsminalh
+    0xFFE0FC00 0x38205000 193 Scalar 298 7 false; // ldsminb
+    0xFFE0FC00 0x78205000 194 Scalar 298 7 false; // ldsminh
+    0xFFE0FC00 0xB8605000 195 Scalar 298 7 false; // ldsminl
+    0xFFE0FC00 0xF8605000 195 Scalar 305 7 false; // ldsminl
+    0xFFE0FC00 0x38605000 196 Scalar 298 7 false; // ldsminlb
+    0xFFE0FC00 0x78605000 197 Scalar 298 7 false; // ldsminlh
+    0xFFE0FC00 0xB8206000 198 Scalar 298 7 false; // ldumax
+    0xFFE0FC00 0xF8206000 198 Scalar 305 7 false; // ldumax
+    0xFFE0FC00 0xB8A06000 199 Scalar 298 7 false; // ldumaxa
+    0xFFE0FC00 0xF8A06000 199 Scalar 305 7 false; // ldumaxa
+    0xFFE0FC00 0x38A06000 200 Scalar 298 7 false; // ldumaxab
+    0xFFE0FC00 0x78A06000 201 Scalar 298 7 false; // ldumaxah
+    0xFFE0FC00 0xB8E06000 202 Scalar 298 7 false; // ldumaxal
+    0xFFE0FC00 0xF8E06000 202 Scalar 305 7 false; // ldumaxal
+    0xFFE0FC00 0x38E06000 203 Scalar 298 7 false; // ldumaxalb
+    0xFFE0FC00 0x78E06000 204 Scalar 298 7 false; // ldumaxalh
+    0xFFE0FC00 0x38206000 205 Scalar 298 7 false; // ldumaxb
+    0xFFE0FC00 0x78206000 206 Scalar 298 7 false; // ldumaxh
+    0xFFE0FC00 0xB8606000 207 Scalar 298 7 false; // ldumaxl
+    0xFFE0FC00 0xF8606000 207 Scalar 305 7 false; // ldumaxl
+    0xFFE0FC00 0x38606000 208 Scalar 298 7 false; // ldumaxlb
+    0xFFE0FC00 0x78606000 209 Scalar 298 7 false; // ldumaxlh
+    0xFFE0FC00 0xB8207000 210 Scalar 298 7 false; // ldumin
+    0xFFE0FC00 0xF8207000 210 Scalar 305 7 false; // ldumin
+    0xFFE0FC00 0xB8A07000 211 Scalar 298 7 false; // ldumina
+    0xFFE0FC00 0xF8A07000 211 Scalar 305 7 false; // ldumina
+    0xFFE0FC00 0x38A07000 212 Scalar 298 7 false; // lduminab
+    0xFFE0FC00 0x78A07000 213 Scalar 298 7 false; // lduminah
+    0xFFE0FC00 0xB8E07000 214 Scalar 298 7 false; // lduminal
+    0xFFE0FC00 0xF8E07000 214 Scalar 305 7 false; // lduminal
+    0xFFE0FC00 0x38E07000 215 Scalar 298 7 false; // lduminalb
+    0xFFE0FC00 0x78E07000 216 Scalar 298 7 false; // lduminalh
+    0xFFE0FC00 0x38207000 217 Scalar 298 7 false; // lduminb
+    0xFFE0FC00 0x78207000 218 Scalar 298 7 false; // lduminh
+    0xFFE0FC00 0xB8607000 219 Scalar 298 7 false; // lduminl
+    0xFFE0FC00 0xF8607000 219 Scalar 305 7 false; // lduminl
+    0xFFE0FC00 0x38607000 220 Scalar 298 7 false; // lduminlb
+    0xFFE0FC00 0x78607000 221 Scalar 298 7 false; // lduminlh
+    0xFFFFFC00 0xB8400000 222 Scalar 479 5 false; // ldur
+    0xFFE00C00 0xB8400000 222 Scalar 986 7 false; // ldur
+    0xFFFFFC00 0xF8400000 222 Scalar 484 5 false; // ldur
+    0xFFE00C00 0xF8400000 222 Scalar 993 7 false; // ldur
+    0xFFFFFC00 0x38400000 223 Scalar 479 5 false; // ldurb
+    0xFFE00C00 0x38400000 223 Scalar 986 7 false; // ldurb
+    0xFFFFFC00 0x78400000 224 Scalar 479 5 false; // ldurh
+    0xFFE00C00 0x78400000 224 Scalar 986 7 false; // ldurh
+    0xFFFFFC00 0x38800000 225 Scalar 484 5 false; // ldursb
+    0xFFE00C00 0x38800000 225 Scalar 993 7 false; // ldursb
+    0xFFFFFC00 0x38C00000 225 Scalar 479 5 false; // ldursb
+    0xFFE00C00 0x38C00000 225 Scalar 986 7 false; // ldursb
+    0xFFFFFC00 0x78800000 226 Scalar 484 5 false; // ldursh
+    0xFFE00C00 0x78800000 226 Scalar 993 7 false; // ldursh
+    0xFFFFFC00 0x78C00000 226 Scalar 479 5 false; // ldursh
+    0xFFE00C00 0x78C00000 226 Scalar 986 7 false; // ldursh
+    0xFFFFFC00 0xB8800000 227 Scalar 484 5 false; // ldursw
+    0xFFE00C00 0xB8800000 227 Scalar 993 7 false; // ldursw
+    0xFFE0FC00 0x9AC02000 228 Scalar 0 5 true; // lsl
+    0xFFE0FC00 0x1AC02000 228 Scalar 5 5 true; // lsl
+    0xFFC00000 0xD3400000 228 Scalar 1000 5 true; // lsl
+    0xFFE08000 0x53000000 228 Scalar 1005 5 true; // lsl
+    0xFF3FE000 0x04138000 228 Vector 12 9 false; // lsl
+    0xFFF8FC00 0x04289C00 228 Vector 597 5 false; // lsl
+    0xFFF0FC00 0x04309C00 228 Vector 602 5 false; // lsl
+    0xFFE0FC00 0x04609C00 228 Vector 607 5 false; // lsl
+    0xFFA0FC00 0x04A09C00 228 Vector 612 5 false; // lsl
+    0xFFE0FC00 0x9AC02000 229 Scalar 0 5 false; // lslv
+    0xFFE0FC00 0x1AC02000 229 Scalar 5 5 false; // lslv
+    0xFFE0FC00 0x9AC02400 230 Scalar 0 5 true; // lsr
+    0xFFE0FC00 0x1AC02400 230 Scalar 5 5 true; // lsr
+    0xFFC0FC00 0xD340FC00 230 Scalar 270 5 true; // lsr
+    0xFFE0FC00 0x53007C00 230 Scalar 275 5 true; // lsr
+    0xFF3FE000 0x04118000 230 Vector 12 9 false; // lsr
+    0xFFF8FC00 0x04289400 230 Vector 81 5 false; // lsr
+    0xFFF0FC00 0x04309400 230 Vector 86 5 false; // lsr
+    0xFFE0FC00 0x04609400 230 Vector 91 5 false; // lsr
+    0xFFA0FC00 0x04A09400 230 Vector 96 5 false; // lsr
+    0xFFE0FC00 0x9AC02400 231 Scalar 0 5 false; // lsrv
+    0xFFE0FC00 0x1AC02400 231 Scalar 5 5 false; // lsrv
+    0xFFE08000 0x9B000000 232 Scalar 1010 7 false; // madd
+    0xFFE08000 0x1B000000 232 Scalar 1017 7 false; // madd
+    0xFF20E000 0x04004000 233 Vector 617 9 false; // mla
+    0xFF20E000 0x04006000 234 Vector 617 9 false; // mls
+    0xFFE0FFE0 0xAA0003E0 235 Scalar 1024 3 true; // mov
+    0xFFE0FFE0 0x2A0003E0 235 Scalar 1027 3 true; // mov
+    0xFFFFFC1F 0x9100001F 235 Scalar 1030 3 true; // mov
+    0xFFFFFC1F 0x1100001F 235 Scalar 1033 3 true; // mov
+    0xFFFFFFE0 0x910003E0 235 Scalar 1036 3 true; // mov
+    0xFFFFFFE0 0x110003E0 235 Scalar 1039 3 true; // mov
+    0xFF800000 0xD2800000 235 Scalar 1042 3 true; // mov
+    0xFFC00000 0x52800000 235 Scalar 1045 3 true; // mov
+    0xFF800000 0x92800000 235 Scalar 1048 3 true; // mov
+    0xFFC00000 0x12800000 235 Scalar 1051 3 true; // mov
+    0xFF8003E0 0xB20003E0 235 Scalar 1054 3 true; // mov
+    0xFFC003E0 0x320003E0 235 Scalar 1057 3 true; // mov
+    0xFFFF8010 0xC0000000 236 Matrix 251 12 false; // mova
+    0xFFFF8010 0xC0008000 236 Matrix 263 12 false; // mova
+    0xFFFF8200 0xC0020000 236 Matrix 275 12 false; // mova
+    0xFFFF8200 0xC0028000 236 Matrix 287 12 false; // mova
+    0xFFFF8010 0xC0400000 236 Matrix 299 12 false; // mova
+    0xFFFF8010 0xC0408000 236 Matrix 311 12 false; // mova
+    0xFFFF8200 0xC0420000 236 Matrix 323 12 false; // mova
+    0xFFFF8200 0xC0428000 236 Matrix 335 12 false; // mova
+    0xFFFF8010 0xC0800000 236 Matrix 347 12 false; // mova
+    0xFFFF8010 0xC0808000 236 Matrix 359 12 false; // mova
+    0xFFFF8200 0xC0820000 236 Matrix 371 12 false; // mova
+    0xFFFF8200 0xC0828000 236 Matrix 383 12 false; // mova
+    0xFFFF8010 0xC0C00000 236 Matrix 395 12 false; // mova
+    0xFFFF8010 0xC0C08000 236 Matrix 407 12 false; // mova
+    0xFFFF8200 0xC0C20000 236 Matrix 419 12 false; // mova
+    0xFFFF8200 0xC0C28000 236 Matrix 431 12 false; // mova
+    0xFFFF8010 0xC0C10000 236 Matrix 443 12 false; // mova
+    0xFFFF8010 0xC0C18000 236 Matrix 455 12 false; // mova
+    0xFFFF8200 0xC0C30000 236 Matrix 467 12 false; // mova
+    0xFFFF8200 0xC0C38000 236 Matrix 479 12 false; // mova
+    0xFFE00000 0xF2800000 237 Scalar 1060 3 false; // movk
+    0xFFE00000 0x72800000 237 Scalar 1063 3 false; // movk
+    0xFF800000 0xF2800000 237 Scalar 1066 6 false; // movk
+    0xFFC00000 0x72800000 237 Scalar 1072 6 false; // movk
+    0xFFE00000 0x92800000 238 Scalar 1060 3 false; // movn
+    0xFFE00000 0x12800000 238 Scalar 1063 3 false; // movn
+    0xFF800000 0x92800000 238 Scalar 1066 6 false; // movn
+    0xFFC00000 0x12800000 238 Scalar 1072 6 false; // movn
+    0xFFFFFC00 0x0420BC00 239 Vector 626 3 false; // movprfx
+    0xFFE00000 0xD2800000 240 Scalar 1060 3 false; // movz
+    0xFFE00000 0x52800000 240 Scalar 1063 3 false; // movz
+    0xFF800000 0xD2800000 240 Scalar 1066 6 false; // movz
+    0xFFC00000 0x52800000 240 Scalar 1072 6 false; // movz
+    0xFFFFFFE0 0xD53B4200 241 Scalar 1078 3 false; // mrs
+    0xFFFFFFE0 0xD53BD040 241 Scalar 1081 3 false; // mrs
+    0xFFFFFFE0 0xD53BD0A0 241 Scalar 1084 3 false; // mrs
+    0xFFFFFFE0 0xD53B4240 241 Scalar 1087 3 false; // mrs
+    0xFFFFFFE0 0xD51B4200 242 Scalar 1090 3 false; // msr
+    0xFFFFFFE0 0xD51BD040 242 Scalar 1093 3 false; // msr
+    0xFFFFFFE0 0xD51BD0A0 242 Scalar 1096 3 false; // msr
+    0xFFFFFFE0 0xD51B4240 242 Scalar 1099 3 false; // msr
+    0xFFE08000 0x9B008000 243 Scalar 1010 7 false; // msub
+    0xFFE08000 0x1B008000 243 Scalar 1017 7 false; // msub
+    0xFFE0FC00 0x9B007C00 244 Scalar 0 5 true; // mul
+    0xFFE0FC00 0x1B007C00 244 Scalar 5 5 true; // mul
+    0xFF3FE000 0x04100000 244 Vector 12 9 false; // mul
+    0xFF3FE000 0x2530C000 244 Vector 629 5 false; // mul
+    0xFF20FC00 0x04206000 244 Vector 7 5 false; // mul
+    0xFFE0FFE0 0xAA2003E0 245 Scalar 1024 3 true; // mvn
+    0xFFE0FFE0 0x2A2003E0 245 Scalar 1027 3 true; // mvn
+    0xFF2003E0 0xAA2003E0 245 Scalar 1102 6 true; // mvn
+    0xFF2083E0 0x2A2003E0 245 Scalar 1108 6 true; // mvn
+    0xFFF0C210 0x25804210 246 Vector 47 9 false; // nand
+    0xFFF0C210 0x25C04210 247 Vector 47 9 false; // nands
+    0xFFE0FFE0 0xCB0003E0 248 Scalar 1024 3 true; // neg
+    0xFFE0FFE0 0x4B0003E0 248 Scalar 1027 3 true; // neg
+    0xFF2003E0 0xCB0003E0 248 Scalar 1114 6 true; // neg
+    0xFF2083E0 0x4B0003E0 248 Scalar 1120 6 true; // neg
+    0xFF3FE000 0x0417A000 248 Vector 0 7 false; // neg
+    0xFFFFFFFF 0xD503201F 249 Scalar 1126 0 true; // nop
+    0xFFF0C210 0x25804200 250 Vector 47 9 false; // nor
+    0xFFF0C210 0x25C04200 251 Vector 47 9 false; // nors
+    0xFF3FE000 0x041EA000 252 Vector 0 7 false; // not
+    0xFFE0FC00 0xAA200000 253 Scalar 0 5 false; // orn
+    0xFFE0FC00 0x2A200000 253 Scalar 5 5 false; // orn
+    0xFF200000 0xAA200000 253 Scalar 234 8 false; // orn
+    0xFF208000 0x2A200000 253 Scalar 242 8 false; // orn
+    0xFFF0C210 0x25804010 253 Vector 47 9 false; // orn
+    0xFFF0C210 0x25C04010 254 Vector 47 9 false; // orns
+    0xFFE0FC00 0xAA000000 255 Scalar 0 5 false; // orr
+    0xFFE0FC00 0x2A000000 255 Scalar 5 5 false; // orr
+    0xFF200000 0xAA000000 255 Scalar 234 8 false; // orr
+    0xFF208000 0x2A000000 255 Scalar 242 8 false; // orr
+    0xFF800000 0xB2000000 255 Scalar 250 5 false; // orr
+    0xFFC00000 0x32000000 255 Scalar 255 5 false; // orr
+    0xFF3FE000 0x04180000 255 Vector 12 9 false; // orr
+    0xFFF0C210 0x25804000 255 Vector 47 9 false; // orr
+    0xFFE0FC00 0x04603000 255 Vector 56 5 false; // orr
+    0xFFF0C210 0x25C04000 256 Vector 47 9 false; // orrs
+    0xFFFFE000 0x04182000 257 Vector 61 5 false; // orv
+    0xFFFFE000 0x04582000 257 Vector 66 5 false; // orv
+    0xFFFFE000 0x04982000 257 Vector 71 5 false; // orv
+    0xFFFFE000 0x04D82000 257 Vector 76 5 false; // orv
+    0xFFFFFFF0 0x2518E400 258 Vector 634 1 false; // pfalse
+    0xFFFFC21F 0x2550C000 259 Vector 635 3 false; // ptest
+    0xFF3FFC10 0x2518E000 260 Vector 638 3 false; // ptrue
+    0xFFFFFC00 0xDAC00000 261 Scalar 346 3 false; // rbit
+    0xFFFFFC00 0x5AC00000 261 Scalar 349 3 false; // rbit
+    0xFFFFFFF0 0x2519F000 262 Vector 634 1 false; // rdffr
+    0xFFFFF800 0x04BF5800 263 Matrix 491 3 false; // rdsvl
+    0xFFFFF800 0x04BF5000 264 Matrix 491 3 false; // rdvl
+    0xFFFFFC1F 0xD65F0000 265 Scalar 296 1 false; // ret
+    0xFFFFFFFF 0xD65F03C0 265 Scalar 1126 0 true; // ret
+    0xFFFFFC00 0x5AC00800 266 Scalar 349 3 false; // rev
+    0xFFFFFC00 0xDAC00C00 266 Scalar 346 3 false; // rev
+    0xFF3FFC00 0x05383800 266 Vector 641 3 false; // rev
+    0xFFFFFC00 0xDAC00400 267 Scalar 346 3 false; // rev16
+    0xFFFFFC00 0x5AC00400 267 Scalar 349 3 false; // rev16
+    0xFFFFFC00 0xDAC00800 268 Scalar 346 3 false; // rev32
+    0xFFE0FC00 0x9AC02C00 269 Scalar 0 5 false; // rorv
+    0xFFE0FC00 0x1AC02C00 269 Scalar 5 5 false; // rorv
+    0xFF3FE000 0x040C0000 270 Vector 12 9 false; // sabd
+    0xFFE0FC00 0x45400000 271 Vector 644 5 false; // saddlb
+    0xFFA0FC00 0x45800000 271 Vector 649 5 false; // saddlb
+    0xFFE0FC00 0x45400400 272 Vector 644 5 false; // saddlt
+    0xFFA0FC00 0x45800400 272 Vector 649 5 false; // saddlt
+    0xFFBFE000 0x04002000 273 Vector 654 5 false; // saddv
+    0xFFFFE000 0x04802000 273 Vector 659 5 false; // saddv
+    0xFFE0FC00 0xDA000000 274 Scalar 0 5 false; // sbc
+    0xFFE0FC00 0x5A000000 274 Scalar 5 5 false; // sbc
+    0xFFE0FC00 0xFA000000 275 Scalar 0 5 false; // sbcs
+    0xFFE0FC00 0x7A000000 275 Scalar 5 5 false; // sbcs
+    0xFFC00000 0x93400000 276 Scalar 282 7 false; // sbfm
+    0xFFE08000 0x13000000 276 Scalar 289 7 false; // sbfm
+    0xFFE0FC00 0x9AC00C00 277 Scalar 0 5 false; // sdiv
+    0xFFE0FC00 0x1AC00C00 277 Scalar 5 5 false; // sdiv
+    0xFFBFE000 0x04940000 277 Vector 664 9 false; // sdiv
+    0xFF20C000 0x0520C000 278 Vector 673 7 false; // sel
+    0xFFF0C210 0x25004210 278 Vector 680 7 false; // sel
+    0xFFFFFFFF 0x252C9000 279 Scalar 1126 0 false; // setffr
+    0xFFE08000 0x9B200000 280 Scalar 1126 7 false; // smaddl
+    0xFF3FE000 0x04080000 281 Vector 12 9 false; // smax
+    0xFFFFE000 0x04082000 282 Vector 61 5 false; // smaxv
+    0xFFFFE000 0x04482000 282 Vector 66 5 false; // smaxv
+    0xFFFFE000 0x04882000 282 Vector 71 5 false; // smaxv
+    0xFFFFE000 0x04C82000 282 Vector 76 5 false; // smaxv
+    0xFF3FE000 0x040A0000 283 Vector 12 9 false; // smin
+    0xFFFFE000 0x040A2000 284 Vector 61 5 false; // sminv
+    0xFFFFE000 0x044A2000 284 Vector 66 5 false; // sminv
+    0xFFFFE000 0x048A2000 284 Vector 71 5 false; // sminv
+    0xFFFFE000 0x04CA2000 284 Vector 76 5 false; // sminv
+    0xFFE0FC00 0x44404000 285 Vector 644 5 false; // smlalb
+    0xFFA0FC00 0x44804000 285 Vector 649 5 false; // smlalb
+    0xFFE0FC00 0x44404400 286 Vector 644 5 false; // smlalt
+    0xFFA0FC00 0x44804400 286 Vector 649 5 false; // smlalt
+    0xFFE0001C 0xA0800000 287 Matrix 494 13 false; // smopa
+    0xFFE00018 0xA0C00000 287 Matrix 507 13 false; // smopa
+    0xFFE0001C 0xA0800010 288 Matrix 494 13 false; // smops
+    0xFFE00018 0xA0C00010 288 Matrix 507 13 false; // smops
+    0xFFFFFFFF 0xD503437F 289 Matrix 520 1 false; // smstart
+    0xFFFFFFFF 0xD503457F 289 Matrix 521 1 false; // smstart
+    0xFFFFFFFF 0xD503477F 289 Scalar 1126 0 false; // smstart
+    0xFFFFFFFF 0xD503427F 290 Matrix 520 1 false; // smstop
+    0xFFFFFFFF 0xD503447F 290 Matrix 521 1 false; // smstop
+    0xFFFFFFFF 0xD503467F 290 Scalar 1126 0 false; // smstop
+    0xFFE08000 0x9B208000 291 Scalar 1126 7 false; // smsubl
+    0xFFE0FC00 0x9B407C00 292 Scalar 0 5 false; // smulh
+    0xFF3FE000 0x04120000 292 Vector 12 9 false; // smulh
+    0xFF20FC00 0x04206800 292 Vector 7 5 false; // smulh
+    0xFFE0FC00 0x45407000 293 Vector 644 5 false; // smullb
+    0xFFA0FC00 0x45807000 293 Vector 649 5 false; // smullb
+    0xFFE0FC00 0x45407400 294 Vector 644 5 false; // smullt
+    0xFFA0FC00 0x45807400 294 Vector 649 5 false; // smullt
+    0xFF20FC00 0x04201000 295 Vector 7 5 false; // sqadd
+    0xFF20FC00 0x04201800 296 Vector 7 5 false; // sqsub
+    0xFF9FE000 0xE400E000 297 Matrix 522 9 false; // st1b
+    0xFF90E000 0xE400E000 297 Matrix 531 14 false; // st1b
+    0xFF80E000 0xE4004000 297 Matrix 545 11 false; // st1b
+    0xFFE08010 0xE0200000 297 Matrix 556 16 false; // st1b
+    0xFFE08010 0xE0208000 297 Matrix 572 16 false; // st1b
+    0xFFFFE000 0xE5E0E000 298 Matrix 588 9 false; // st1d
+    0xFFF0E000 0xE5E0E000 298 Matrix 597 14 false; // st1d
+    0xFFE0E000 0xE5E04000 298 Matrix 611 14 false; // st1d
+    0xFFE08010 0xE0E00000 298 Matrix 625 19 false; // st1d
+    0xFFE08010 0xE0E08000 298 Matrix 644 19 false; // st1d
+    0xFFFFE000 0xE4A0E000 299 Matrix 663 9 false; // st1h
+    0xFFF0E000 0xE4A0E000 299 Matrix 672 14 false; // st1h
+    0xFFE0E000 0xE4A04000 299 Matrix 686 14 false; // st1h
+    0xFFDFE000 0xE4C0E000 299 Matrix 700 9 false; // st1h
+    0xFFD0E000 0xE4C0E000 299 Matrix 709 14 false; // st1h
+    0xFFC0E000 0xE4C04000 299 Matrix 723 14 false; // st1h
+    0xFFE08010 0xE0600000 299 Matrix 737 19 false; // st1h
+    0xFFE08010 0xE0608000 299 Matrix 756 19 false; // st1h
+    0xFFE08010 0xE1E00000 300 Matrix 775 19 false; // st1q
+    0xFFE08010 0xE1E08000 300 Matrix 794 19 false; // st1q
+    0xFFDFE000 0xE540E000 301 Matrix 700 9 false; // st1w
+    0xFFD0E000 0xE540E000 301 Matrix 709 14 false; // st1w
+    0xFFC0E000 0xE5404000 301 Matrix 813 14 false; // st1w
+    0xFFE08010 0xE0A00000 301 Matrix 827 19 false; // st1w
+    0xFFE08010 0xE0A08000 301 Matrix 846 19 false; // st1w
+    0xFFFFFC00 0x889FFC00 302 Scalar 479 5 false; // stlr
+    0xFFFFFC00 0xC89FFC00 302 Scalar 484 5 false; // stlr
+    0xFFFFFC00 0x089FFC00 303 Scalar 479 5 false; // stlrb
+    0xFFFFFC00 0x489FFC00 304 Scalar 479 5 false; // stlrh
+    0xFFFF8000 0x29000000 305 Scalar 1133 7 false; // stp
+    0xFFC00000 0x29000000 305 Scalar 1140 9 false; // stp
+    0xFFC00000 0x28800000 305 Scalar 1149 9 false; // stp
+    0xFFC00000 0x29800000 305 Scalar 1158 10 false; // stp
+    0xFFFF8000 0xA9000000 305 Scalar 1168 7 false; // stp
+    0xFFC00000 0xA9000000 305 Scalar 1175 9 false; // stp
+    0xFFC00000 0xA8800000 305 Scalar 1184 9 false; // stp
+    0xFFC00000 0xA9800000 305 Scalar 1193 10 false; // stp
+    0xFFFFFC00 0xB9000000 306 Scalar 479 5 false; // str
+    0xFFC00000 0xB9000000 306 Scalar 559 7 false; // str
+    0xFFE00C00 0xB8000400 306 Scalar 566 7 false; // str
+    0xFFE00C00 0xB8000C00 306 Scalar 573 8 false; // str
+    0xFFE0FC00 0xB8206800 306 Scalar 581 7 false; // str
+    0xFFE0FC00 0xB8207800 306 Scalar 588 10 false; // str
+    0xFFE0FC00 0xB8204800 306 Scalar 598 9 false; // str
+    0xFFE0FC00 0xB8205800 306 Scalar 607 10 false; // str
+    0xFFE0FC00 0xB820C800 306 Scalar 617 9 false; // str
+    0xFFE0FC00 0xB820D800 306 Scalar 626 10 false; // str
+    0xFFE0FC00 0xB820E800 306 Scalar 636 9 false; // str
+    0xFFE0FC00 0xB820F800 306 Scalar 645 10 false; // str
+    0xFFFFFC00 0xF9000000 306 Scalar 484 5 false; // str
+    0xFFC00000 0xF9000000 306 Scalar 655 7 false; // str
+    0xFFE00C00 0xF8000400 306 Scalar 662 7 false; // str
+    0xFFE00C00 0xF8000C00 306 Scalar 669 8 false; // str
+    0xFFE0FC00 0xF8206800 306 Scalar 677 7 false; // str
+    0xFFE0FC00 0xF8207800 306 Scalar 684 10 false; // str
+    0xFFE0FC00 0xF8204800 306 Scalar 694 9 false; // str
+    0xFFE0FC00 0xF8205800 306 Scalar 703 10 false; // str
+    0xFFE0FC00 0xF820C800 306 Scalar 713 9 false; // str
+    0xFFE0FC00 0xF820D800 306 Scalar 722 10 false; // str
+    0xFFE0FC00 0xF820E800 306 Scalar 732 9 false; // str
+    0xFFE0FC00 0xF820F800 306 Scalar 741 10 false; // str
+    0xFFFFFC00 0xE5804000 306 Vector 567 5 false; // str
+    0xFFC0E000 0xE5804000 306 Vector 572 10 false; // str
+    0xFFFFFC10 0xE5800000 306 Vector 582 5 false; // str
+    0xFFC0E010 0xE5800000 306 Vector 587 10 false; // str
+    0xFFFF9C1F 0xE1200000 306 Matrix 226 10 false; // str
+    0xFFFF9C10 0xE1200000 306 Matrix 236 15 false; // str
+    0xFFFFFC00 0x39000000 307 Scalar 479 5 false; // strb
+    0xFFC00000 0x39000000 307 Scalar 751 7 false; // strb
+    0xFFE00C00 0x38000400 307 Scalar 566 7 false; // strb
+    0xFFE00C00 0x38000C00 307 Scalar 573 8 false; // strb
+    0xFFE0FC00 0x38206800 307 Scalar 581 7 false; // strb
+    0xFFE0FC00 0x38207800 307 Scalar 758 10 false; // strb
+    0xFFE0FC00 0x38204800 307 Scalar 598 9 false; // strb
+    0xFFE0FC00 0x38205800 307 Scalar 768 10 false; // strb
+    0xFFE0FC00 0x3820C800 307 Scalar 617 9 false; // strb
+    0xFFE0FC00 0x3820D800 307 Scalar 778 10 false; // strb
+    0xFFE0FC00 0x3820E800 307 Scalar 636 9 false; // strb
+    0xFFE0FC00 0x3820F800 307 Scalar 788 10 false; // strb
+    0xFFFFFC00 0x79000000 308 Scalar 479 5 false; // strh
+    0xFFC00000 0x79000000 308 Scalar 798 7 false; // strh
+    0xFFE00C00 0x78000400 308 Scalar 566 7 false; // strh
+    0xFFE00C00 0x78000C00 308 Scalar 573 8 false; // strh
+    0xFFE0FC00 0x78206800 308 Scalar 581 7 false; // strh
+    0xFFE0FC00 0x78207800 308 Scalar 805 10 false; // strh
+    0xFFE0FC00 0x78204800 308 Scalar 598 9 false; // strh
+    0xFFE0FC00 0x78205800 308 Scalar 815 10 false; // strh
+    0xFFE0FC00 0x7820C800 308 Scalar 617 9 false; // strh
+    0xFFE0FC00 0x7820D800 308 Scalar 825 10 false; // strh
+    0xFFE0FC00 0x7820E800 308 Scalar 636 9 false; // strh
+    0xFFE0FC00 0x7820F800 308 Scalar 835 10 false; // strh
+    0xFFFFFC00 0xB8000000 309 Scalar 479 5 false; // stur
+    0xFFE00C00 0xB8000000 309 Scalar 986 7 false; // stur
+    0xFFFFFC00 0xF8000000 309 Scalar 484 5 false; // stur
+    0xFFE00C00 0xF8000000 309 Scalar 993 7 false; // stur
+    0xFFFFFC00 0x38000000 310 Scalar 479 5 false; // sturb
+    0xFFE00C00 0x38000000 310 Scalar 986 7 false; // sturb
+    0xFFFFFC00 0x78000000 311 Scalar 479 5 false; // sturh
+    0xFFE00C00 0x78000000 311 Scalar 986 7 false; // sturh
+    0xFFC00000 0xD1000000 312 Scalar 10 5 false; // sub
+    0xFFC00000 0x51000000 312 Scalar 15 5 false; // sub
+    0xFFC00000 0xD1400000 312 Scalar 20 8 false; // sub
+    0xFFC00000 0x51400000 312 Scalar 28 8 false; // sub
+    0xFFE0FC00 0xCB000000 312 Scalar 0 5 false; // sub
+    0xFFE0FC00 0x4B000000 312 Scalar 5 5 false; // sub
+    0xFF200000 0xCB000000 312 Scalar 36 8 false; // sub
+    0xFF208000 0x4B000000 312 Scalar 44 8 false; // sub
+    0xFFE0FC00 0xCB206000 312 Scalar 52 7 false; // sub
+    0xFFE0E000 0xCB206000 312 Scalar 59 8 false; // sub
+    0xFFE0FC00 0xCB20E000 312 Scalar 67 7 false; // sub
+    0xFFE0E000 0xCB20E000 312 Scalar 74 8 false; // sub
+    0xFFE09C00 0xCB200000 312 Scalar 82 7 false; // sub
+    0xFFE08000 0xCB200000 312 Scalar 89 8 false; // sub
+    0xFFE09C00 0xCB208000 312 Scalar 97 7 false; // sub
+    0xFFE08000 0xCB208000 312 Scalar 104 8 false; // sub
+    0xFFE01C00 0x4B200000 312 Scalar 112 7 false; // sub
+    0xFFE00000 0x4B200000 312 Scalar 119 8 false; // sub
+    0xFF20FC00 0x04200400 312 Vector 7 5 false; // sub
+    0xFF3FE000 0x04010000 312 Vector 12 9 false; // sub
+    0xFF3FE000 0x2521C000 312 Vector 21 5 false; // sub
+    0xFFFFE000 0x2561E000 312 Vector 26 8 false; // sub
+    0xFFBFE000 0x25A1E000 312 Vector 34 8 false; // sub
+    0xFF3FE000 0x04030000 313 Vector 12 9 false; // subr
+    0xFF3FE000 0x2523C000 313 Vector 21 5 false; // subr
+    0xFFFFE000 0x2563E000 313 Vector 26 8 false; // subr
+    0xFFBFE000 0x25A3E000 313 Vector 34 8 false; // subr
+    0xFFC00000 0xF1000000 314 Scalar 127 5 false; // subs
+    0xFFC00000 0x71000000 314 Scalar 132 5 false; // subs
+    0xFFC00000 0xF1400000 314 Scalar 137 8 false; // subs
+    0xFFC00000 0x71400000 314 Scalar 145 8 false; // subs
+    0xFFE0FC00 0xEB000000 314 Scalar 0 5 false; // subs
+    0xFFE0FC00 0x6B000000 314 Scalar 5 5 false; // subs
+    0xFF200000 0xEB000000 314 Scalar 36 8 false; // subs
+    0xFF208000 0x6B000000 314 Scalar 44 8 false; // subs
+    0xFFE0FC00 0xEB206000 314 Scalar 153 7 false; // subs
+    0xFFE0E000 0xEB206000 314 Scalar 160 8 false; // subs
+    0xFFE0FC00 0xEB20E000 314 Scalar 168 7 false; // subs
+    0xFFE0E000 0xEB20E000 314 Scalar 175 8 false; // subs
+    0xFFE09C00 0xEB200000 314 Scalar 183 7 false; // subs
+    0xFFE08000 0xEB200000 314 Scalar 190 8 false; // subs
+    0xFFE09C00 0xEB208000 314 Scalar 198 7 false; // subs
+    0xFFE08000 0xEB208000 314 Scalar 205 8 false; // subs
+    0xFFE01C00 0x6B200000 314 Scalar 213 7 false; // subs
+    0xFFE00000 0x6B200000 314 Scalar 220 8 false; // subs
+    0xFFE0001C 0xA0A00000 315 Matrix 494 13 false; // sumopa
+    0xFFE00018 0xA0E00000 315 Matrix 507 13 false; // sumopa
+    0xFFE0001C 0xA0A00010 316 Matrix 494 13 false; // sumops
+    0xFFE00018 0xA0E00010 316 Matrix 507 13 false; // sumops
+    0xFFFFFC00 0x05713800 317 Vector 687 3 false; // sunpkhi
+    0xFFBFFC00 0x05B13800 317 Vector 690 3 false; // sunpkhi
+    0xFFFFFC00 0x05703800 318 Vector 687 3 false; // sunpklo
+    0xFFBFFC00 0x05B03800 318 Vector 690 3 false; // sunpklo
+    0xFFE0001F 0xD4000001 319 Scalar 297 1 false; // svc
+    0xFFE0FC00 0xB8208000 320 Scalar 298 7 false; // swp
+    0xFFE0FC00 0xF8208000 320 Scalar 305 7 false; // swp
+    0xFFE0FC00 0xB8A08000 321 Scalar 298 7 false; // swpa
+    0xFFE0FC00 0xF8A08000 321 Scalar 305 7 false; // swpa
+    0xFFE0FC00 0x38A08000 322 Scalar 298 7 false; // swpab
+    0xFFE0FC00 0x78A08000 323 Scalar 298 7 false; // swpah
+    0xFFE0FC00 0xB8E08000 324 Scalar 298 7 false; // swpal
+    0xFFE0FC00 0xF8E08000 324 Scalar 305 7 false; // swpal
+    0xFFE0FC00 0x38E08000 325 Scalar 298 7 false; // swpalb
+    0xFFE0FC00 0x78E08000 326 Scalar 298 7 false; // swpalh
+    0xFFE0FC00 0x38208000 327 Scalar 298 7 false; // swpb
+    0xFFE0FC00 0x78208000 328 Scalar 298 7 false; // swph
+    0xFFE0FC00 0xB8608000 329 Scalar 298 7 false; // swpl
+    0xFFE0FC00 0xF8608000 329 Scalar 305 7 false; // swpl
+    0xFFE0FC00 0x38608000 330 Scalar 298 7 false; // swplb
+    0xFFE0FC00 0x78608000 331 Scalar 298 7 false; // swplh
+    0xFFFFE000 0x0450A000 332 Vector 693 7 false; // sxtb
+    0xFFBFE000 0x0490A000 332 Vector 700 7 false; // sxtb
+    0xFFBFE000 0x0492A000 333 Vector 700 7 false; // sxth
+    0xFFFFE000 0x04D4A000 334 Vector 707 7 false; // sxtw
+    0xFF20FC00 0x05203000 335 Vector 7 5 false; // tbl
+    0x7F000000 0x37000000 336 Scalar 1203 5 false; // tbnz
+    0x7F000000 0x36000000 337 Scalar 1203 5 false; // tbz
+    0xFF20FC00 0x05207000 338 Vector 7 5 false; // trn1
+    0xFF20FC00 0x05207400 339 Vector 7 5 false; // trn2
+    0xFFE0FC1F 0xEA00001F 340 Scalar 370 3 true; // tst
+    0xFFE0FC1F 0x6A00001F 340 Scalar 373 3 true; // tst
+    0xFF20001F 0xEA00001F 340 Scalar 1208 6 true; // tst
+    0xFF20801F 0x6A00001F 340 Scalar 1214 6 true; // tst
+    0xFF80001F 0xF200001F 340 Scalar 1220 3 true; // tst
+    0xFFC0001F 0x7200001F 340 Scalar 1223 3 true; // tst
+    0xFF3FE000 0x040D0000 341 Vector 12 9 false; // uabd
+    0xFFE0FC00 0x45400800 342 Vector 644 5 false; // uaddlb
+    0xFFA0FC00 0x45800800 342 Vector 649 5 false; // uaddlb
+    0xFFE0FC00 0x45400C00 343 Vector 644 5 false; // uaddlt
+    0xFFA0FC00 0x45800C00 343 Vector 649 5 false; // uaddlt
+    0xFF3FE000 0x04012000 344 Vector 714 5 false; // uaddv
+    0xFFC00000 0xD3400000 345 Scalar 282 7 false; // ubfm
+    0xFFE08000 0x53000000 345 Scalar 289 7 false; // ubfm
+    0xFFFF0000 0x00000000 346 Scalar 1226 1 false; // udf
+    0xFFE0FC00 0x9AC00800 347 Scalar 0 5 false; // udiv
+    0xFFE0FC00 0x1AC00800 347 Scalar 5 5 false; // udiv
+    0xFFBFE000 0x04950000 347 Vector 664 9 false; // udiv
+    0xFFE08000 0x9BA00000 348 Scalar 1126 7 false; // umaddl
+    0xFF3FE000 0x04090000 349 Vector 12 9 false; // umax
+    0xFFFFE000 0x04092000 350 Vector 61 5 false; // umaxv
+    0xFFFFE000 0x04492000 350 Vector 66 5 false; // umaxv
+    0xFFFFE000 0x04892000 350 Vector 71 5 false; // umaxv
+    0xFFFFE000 0x04C92000 350 Vector 76 5 false; // umaxv
+    0xFF3FE000 0x040B0000 351 Vector 12 9 false; // umin
+    0xFFFFE000 0x040B2000 352 Vector 61 5 false; // uminv
+    0xFFFFE000 0x044B2000 352 Vector 66 5 false; // uminv
+    0xFFFFE000 0x048B2000 352 Vector 71 5 false; // uminv
+    0xFFFFE000 0x04CB2000 352 Vector 76 5 false; // uminv
+    0xFFE0FC00 0x44404800 353 Vector 644 5 false; // umlalb
+    0xFFA0FC00 0x44804800 353 Vector 649 5 false; // umlalb
+    0xFFE0FC00 0x44404C00 354 Vector 644 5 false; // umlalt
+    0xFFA0FC00 0x44804C00 354 Vector 649 5 false; // umlalt
+    0xFFE0001C 0xA1A00000 355 Matrix 494 13 false; // umopa
+    0xFFE00018 0xA1E00000 355 Matrix 507 13 false; // umopa
+    0xFFE0001C 0xA1A00010 356 Matrix 494 13 false; // umops
+    0xFFE00018 0xA1E00010 356 Matrix 507 13 false; // umops
+    0xFFE08000 0x9BA08000 357 Scalar 1126 7 false; // umsubl
+    0xFFE0FC00 0x9BC07C00 358 Scalar 0 5 false; // umulh
+    0xFF3FE000 0x04130000 358 Vector 12 9 false; // umulh
+    0xFF20FC00 0x04206C00 358 Vector 7 5 false; // umulh
+    0xFFE0FC00 0x45407800 359 Vector 644 5 false; // umullb
+    0xFFA0FC00 0x45807800 359 Vector 649 5 false; // umullb
+    0xFFE0FC00 0x45407C00 360 Vector 644 5 false; // umullt
+    0xFFA0FC00 0x45807C00 360 Vector 649 5 false; // umullt
+    0xFF20FC00 0x04201400 361 Vector 7 5 false; // uqadd
+    0xFF20FC00 0x04201C00 362 Vector 7 5 false; // uqsub
+    0xFFE0001C 0xA1800000 363 Matrix 494 13 false; // usmopa
+    0xFFE00018 0xA1C00000 363 Matrix 507 13 false; // usmopa
+    0xFFE0001C 0xA1800010 364 Matrix 494 13 false; // usmops
+    0xFFE00018 0xA1C00010 364 Matrix 507 13 false; // usmops
+    0xFFFFFC00 0x05733800 365 Vector 687 3 false; // uunpkhi
+    0xFFBFFC00 0x05B33800 365 Vector 690 3 false; // uunpkhi
+    0xFFFFFC00 0x05723800 366 Vector 687 3 false; // uunpklo
+    0xFFBFFC00 0x05B23800 366 Vector 690 3 false; // uunpklo
+    0xFFFFE000 0x0451A000 367 Vector 693 7 false; // uxtb
+    0xFFBFE000 0x0491A000 367 Vector 700 7 false; // uxtb
+    0xFFBFE000 0x0493A000 368 Vector 700 7 false; // uxth
+    0xFFFFE000 0x04D5A000 369 Vector 707 7 false; // uxtw
+    0xFF20FC00 0x05206800 370 Vector 7 5 false; // uzp1
+    0xFF20FC00 0x05206C00 371 Vector 7 5 false; // uzp2
+    0xFF20FC10 0x25200C00 372 Vector 719 5 false; // whilelo
+    0xFF20FC10 0x25201C00 372 Vector 724 5 false; // whilelo
+    0xFF20FC10 0x25200400 373 Vector 719 5 false; // whilelt
+    0xFF20FC10 0x25201400 373 Vector 724 5 false; // whilelt
+    0xFFFFFE1F 0x25289000 374 Vector 729 1 false; // wrffr
+    0xFFFFFF00 0xC0080000 375 Matrix 865 1 false; // zero
+    0xFF20FC00 0x05206000 376 Vector 7 5 false; // zip1
+    0xFF20FC00 0x05206400 377 Vector 7 5 false; // zip2
 };
 
 /// The places of their texts, the lists of texts.rt one after another.
-pub static ORDER: [u16; 682] = [
-    130, 131, 132, 133, 0, 1, 2, 3, 24, 25, 26, 27, 272, 273, 274, 275, 276, 277, 278, 279, 280,
-    281, 4, 5, 6, 7, 28, 29, 30, 31, 282, 283, 284, 285, 286, 287, 288, 289, 290, 291, 202, 203,
-    52, 53, 54, 55, 92, 93, 76, 77, 78, 79, 98, 99, 180, 181, 198, 199, 172, 173, 204, 220, 209,
-    208, 206, 216, 218, 214, 219, 215, 217, 210, 207, 221, 211, 213, 212, 190, 191, 56, 57, 58, 59,
-    80, 81, 82, 83, 205, 225, 224, 241, 524, 525, 528, 529, 526, 527, 536, 537, 534, 535, 522, 523,
-    532, 533, 530, 531, 128, 129, 126, 127, 148, 149, 150, 151, 152, 153, 154, 155, 162, 163, 160,
-    161, 16, 17, 18, 19, 40, 41, 42, 43, 312, 313, 314, 315, 316, 317, 318, 319, 320, 321, 20, 21,
-    22, 23, 44, 45, 46, 47, 322, 323, 324, 325, 326, 327, 328, 329, 330, 331, 138, 139, 146, 147,
-    140, 141, 142, 143, 144, 145, 245, 246, 72, 73, 74, 75, 68, 69, 70, 71, 96, 97, 200, 201, 243,
-    247, 540, 541, 544, 545, 542, 543, 552, 553, 550, 551, 538, 539, 548, 549, 546, 547, 516, 517,
-    514, 515, 556, 557, 560, 561, 558, 559, 568, 569, 566, 567, 554, 555, 564, 565, 562, 563, 572,
-    573, 576, 577, 574, 575, 584, 585, 582, 583, 570, 571, 580, 581, 578, 579, 260, 261, 262, 263,
-    268, 269, 270, 271, 237, 238, 458, 459, 462, 463, 464, 465, 466, 467, 468, 469, 470, 471, 500,
-    501, 504, 505, 506, 507, 508, 509, 510, 511, 512, 513, 346, 347, 350, 351, 352, 353, 354, 355,
-    356, 357, 358, 359, 402, 403, 406, 407, 408, 409, 410, 411, 412, 413, 414, 415, 360, 361, 364,
-    365, 366, 367, 368, 369, 370, 371, 372, 373, 374, 375, 378, 379, 380, 381, 382, 383, 384, 385,
-    386, 387, 416, 417, 420, 421, 422, 423, 424, 425, 426, 427, 428, 429, 430, 431, 434, 435, 436,
-    437, 438, 439, 440, 441, 442, 443, 239, 472, 473, 476, 477, 478, 479, 480, 481, 482, 483, 484,
-    485, 588, 589, 592, 593, 590, 591, 600, 601, 598, 599, 586, 587, 596, 597, 594, 595, 604, 605,
-    608, 609, 606, 607, 616, 617, 614, 615, 602, 603, 612, 613, 610, 611, 620, 621, 624, 625, 622,
-    623, 632, 633, 630, 631, 618, 619, 628, 629, 626, 627, 636, 637, 640, 641, 638, 639, 648, 649,
-    646, 647, 634, 635, 644, 645, 642, 643, 652, 653, 656, 657, 654, 655, 664, 665, 662, 663, 650,
-    651, 660, 661, 658, 659, 460, 461, 502, 503, 348, 349, 404, 405, 362, 363, 376, 377, 418, 419,
-    432, 433, 474, 475, 176, 177, 194, 195, 168, 169, 178, 179, 196, 197, 170, 171, 182, 183, 114,
-    115, 116, 117, 118, 119, 120, 121, 122, 123, 124, 125, 110, 111, 112, 113, 102, 103, 104, 105,
-    106, 107, 108, 109, 248, 249, 250, 251, 252, 253, 254, 255, 184, 185, 186, 187, 88, 89, 90, 91,
-    48, 49, 50, 51, 244, 64, 65, 66, 67, 60, 61, 62, 63, 94, 95, 156, 157, 226, 227, 229, 230, 158,
-    159, 228, 174, 175, 134, 135, 136, 137, 188, 189, 166, 167, 231, 232, 235, 520, 521, 518, 519,
-    256, 257, 258, 259, 264, 265, 266, 267, 444, 445, 448, 449, 450, 451, 452, 453, 454, 455, 456,
-    457, 486, 487, 490, 491, 492, 493, 494, 495, 496, 497, 498, 499, 332, 333, 336, 337, 338, 339,
-    340, 341, 342, 343, 344, 345, 388, 389, 392, 393, 394, 395, 396, 397, 398, 399, 400, 401, 446,
-    447, 488, 489, 334, 335, 390, 391, 8, 9, 10, 11, 32, 33, 34, 35, 292, 293, 294, 295, 296, 297,
-    298, 299, 300, 301, 12, 13, 14, 15, 36, 37, 38, 39, 302, 303, 304, 305, 306, 307, 308, 309,
-    310, 311, 240, 668, 669, 672, 673, 670, 671, 680, 681, 678, 679, 666, 667, 676, 677, 674, 675,
-    223, 222, 84, 85, 86, 87, 100, 101, 192, 193, 242, 164, 165, 233, 234, 236,
+pub static ORDER: [u16; 1073] = [
+    709, 130, 131, 132, 133, 0, 1, 2, 3, 24, 25, 26, 27, 272, 273, 274, 275, 276, 277, 278, 279,
+    280, 281, 682, 688, 720, 765, 766, 1066, 1068, 1051, 4, 5, 6, 7, 28, 29, 30, 31, 282, 283, 284,
+    285, 286, 287, 288, 289, 290, 291, 1072, 1071, 1067, 1069, 1050, 202, 203, 52, 53, 54, 55, 92,
+    93, 702, 856, 1021, 76, 77, 78, 79, 98, 99, 857, 852, 853, 854, 855, 180, 181, 198, 199, 704,
+    1027, 1028, 1029, 1030, 172, 173, 204, 220, 209, 208, 206, 216, 218, 214, 219, 215, 217, 210,
+    207, 221, 211, 213, 212, 1053, 190, 191, 56, 57, 58, 59, 703, 858, 1024, 80, 81, 82, 83, 859,
+    205, 225, 224, 241, 1054, 524, 525, 528, 529, 526, 527, 536, 537, 534, 535, 522, 523, 532, 533,
+    530, 531, 128, 129, 126, 127, 148, 149, 150, 151, 152, 153, 154, 155, 162, 163, 711, 160, 161,
+    712, 16, 17, 18, 19, 40, 41, 42, 43, 312, 313, 314, 315, 316, 317, 318, 319, 320, 321, 20, 21,
+    22, 23, 44, 45, 46, 47, 322, 323, 324, 325, 326, 327, 328, 329, 330, 331, 738, 744, 736, 740,
+    737, 741, 735, 734, 743, 742, 739, 745, 714, 713, 870, 871, 876, 877, 872, 873, 751, 874, 875,
+    717, 718, 761, 762, 763, 764, 810, 811, 812, 138, 139, 146, 147, 140, 141, 142, 143, 144, 145,
+    886, 887, 892, 893, 888, 889, 890, 891, 245, 246, 716, 759, 760, 807, 808, 809, 72, 73, 74, 75,
+    68, 69, 70, 71, 96, 97, 701, 860, 1023, 1052, 861, 848, 849, 850, 851, 1040, 200, 201, 243,
+    878, 879, 884, 885, 880, 881, 882, 883, 719, 813, 814, 815, 816, 817, 818, 819, 820, 821, 247,
+    822, 823, 824, 825, 826, 827, 894, 895, 896, 897, 898, 899, 900, 901, 902, 903, 904, 905, 965,
+    966, 939, 940, 941, 977, 978, 909, 910, 911, 912, 913, 914, 915, 916, 917, 969, 970, 981, 982,
+    930, 931, 932, 933, 934, 935, 936, 937, 938, 918, 919, 920, 921, 922, 923, 906, 907, 908, 924,
+    925, 926, 927, 928, 929, 973, 974, 540, 541, 544, 545, 542, 543, 552, 553, 550, 551, 538, 539,
+    548, 549, 546, 547, 516, 517, 514, 515, 556, 557, 560, 561, 558, 559, 568, 569, 566, 567, 554,
+    555, 564, 565, 562, 563, 572, 573, 576, 577, 574, 575, 584, 585, 582, 583, 570, 571, 580, 581,
+    578, 579, 260, 261, 262, 263, 268, 269, 270, 271, 237, 238, 458, 459, 462, 463, 464, 465, 466,
+    467, 468, 469, 470, 471, 500, 501, 504, 505, 506, 507, 508, 509, 510, 511, 512, 513, 957, 958,
+    961, 962, 1062, 1063, 346, 347, 350, 351, 352, 353, 354, 355, 356, 357, 358, 359, 402, 403,
+    406, 407, 408, 409, 410, 411, 412, 413, 414, 415, 360, 361, 364, 365, 366, 367, 368, 369, 370,
+    371, 372, 373, 374, 375, 378, 379, 380, 381, 382, 383, 384, 385, 386, 387, 416, 417, 420, 421,
+    422, 423, 424, 425, 426, 427, 428, 429, 430, 431, 434, 435, 436, 437, 438, 439, 440, 441, 442,
+    443, 239, 472, 473, 476, 477, 478, 479, 480, 481, 482, 483, 484, 485, 588, 589, 592, 593, 590,
+    591, 600, 601, 598, 599, 586, 587, 596, 597, 594, 595, 604, 605, 608, 609, 606, 607, 616, 617,
+    614, 615, 602, 603, 612, 613, 610, 611, 620, 621, 624, 625, 622, 623, 632, 633, 630, 631, 618,
+    619, 628, 629, 626, 627, 636, 637, 640, 641, 638, 639, 648, 649, 646, 647, 634, 635, 644, 645,
+    642, 643, 652, 653, 656, 657, 654, 655, 664, 665, 662, 663, 650, 651, 660, 661, 658, 659, 460,
+    461, 502, 503, 348, 349, 404, 405, 362, 363, 376, 377, 418, 419, 432, 433, 474, 475, 176, 177,
+    194, 195, 706, 1035, 1036, 1037, 1038, 168, 169, 178, 179, 196, 197, 705, 1031, 1032, 1033,
+    1034, 170, 171, 182, 183, 707, 708, 114, 115, 116, 117, 118, 119, 120, 121, 122, 123, 124, 125,
+    985, 986, 987, 988, 989, 990, 991, 992, 993, 994, 995, 996, 997, 998, 999, 1000, 1001, 1002,
+    1003, 1004, 110, 111, 112, 113, 102, 103, 104, 105, 1039, 106, 107, 108, 109, 248, 249, 250,
+    251, 252, 253, 254, 255, 184, 185, 186, 187, 697, 723, 752, 88, 89, 90, 91, 868, 869, 48, 49,
+    50, 51, 710, 244, 866, 867, 715, 64, 65, 66, 67, 864, 865, 60, 61, 62, 63, 94, 95, 700, 862,
+    1022, 863, 844, 845, 846, 847, 1043, 1044, 746, 156, 157, 1047, 1070, 1049, 226, 227, 229, 230,
+    731, 158, 159, 228, 174, 175, 695, 779, 780, 781, 782, 1041, 1042, 134, 135, 136, 137, 188,
+    189, 166, 167, 803, 724, 1045, 1046, 231, 691, 828, 829, 830, 831, 693, 836, 837, 838, 839,
+    795, 796, 797, 798, 1005, 1007, 1006, 1008, 1055, 1056, 1057, 1058, 1059, 1060, 232, 235, 698,
+    753, 787, 788, 789, 790, 684, 686, 942, 943, 944, 967, 968, 954, 955, 956, 979, 980, 945, 946,
+    947, 948, 949, 950, 971, 972, 983, 984, 951, 952, 953, 975, 976, 520, 521, 518, 519, 256, 257,
+    258, 259, 264, 265, 266, 267, 444, 445, 448, 449, 450, 451, 452, 453, 454, 455, 456, 457, 486,
+    487, 490, 491, 492, 493, 494, 495, 496, 497, 498, 499, 959, 960, 963, 964, 1064, 1065, 332,
+    333, 336, 337, 338, 339, 340, 341, 342, 343, 344, 345, 388, 389, 392, 393, 394, 395, 396, 397,
+    398, 399, 400, 401, 446, 447, 488, 489, 334, 335, 390, 391, 8, 9, 10, 11, 32, 33, 34, 35, 292,
+    293, 294, 295, 296, 297, 298, 299, 300, 301, 683, 689, 721, 767, 768, 690, 722, 769, 770, 12,
+    13, 14, 15, 36, 37, 38, 39, 302, 303, 304, 305, 306, 307, 308, 309, 310, 311, 1009, 1011, 1010,
+    1012, 773, 774, 771, 772, 240, 668, 669, 672, 673, 670, 671, 680, 681, 678, 679, 666, 667, 676,
+    677, 674, 675, 755, 756, 805, 1025, 732, 223, 222, 729, 730, 84, 85, 86, 87, 100, 101, 696,
+    783, 784, 785, 786, 733, 192, 193, 242, 164, 165, 804, 233, 692, 832, 833, 834, 835, 694, 840,
+    841, 842, 843, 799, 800, 801, 802, 1017, 1019, 1018, 1020, 234, 236, 699, 754, 791, 792, 793,
+    794, 685, 687, 1013, 1015, 1014, 1016, 777, 778, 775, 776, 757, 758, 806, 1026, 727, 728, 749,
+    750, 747, 748, 1048, 1061, 725, 726,
 ];
 
 /// Where the shapes of each name begin, and the end.
-pub static STARTS: [u16; 244] = [
-    0, 2, 4, 22, 40, 41, 42, 48, 54, 58, 60, 61, 62, 63, 64, 65, 66, 67, 68, 69, 70, 71, 72, 73,
-    74, 75, 76, 77, 79, 83, 87, 88, 89, 90, 91, 93, 95, 96, 97, 99, 100, 101, 102, 103, 105, 106,
-    107, 109, 111, 115, 119, 121, 123, 141, 159, 161, 163, 165, 167, 169, 170, 171, 175, 181, 183,
-    184, 185, 187, 189, 190, 191, 193, 194, 195, 196, 197, 199, 200, 201, 203, 204, 205, 207, 209,
-    210, 211, 213, 214, 215, 216, 217, 219, 220, 221, 223, 225, 226, 227, 229, 230, 231, 232, 233,
-    235, 236, 237, 245, 271, 283, 295, 319, 343, 356, 358, 360, 361, 362, 364, 365, 366, 367, 368,
-    370, 371, 372, 374, 376, 377, 378, 380, 381, 382, 383, 384, 386, 387, 388, 390, 392, 393, 394,
-    396, 397, 398, 399, 400, 402, 403, 404, 406, 408, 409, 410, 412, 413, 414, 415, 416, 418, 419,
-    420, 422, 424, 425, 426, 428, 429, 430, 431, 432, 434, 435, 436, 440, 442, 444, 448, 452, 454,
-    458, 460, 464, 466, 468, 480, 484, 488, 492, 496, 500, 502, 504, 508, 512, 513, 517, 523, 525,
-    527, 529, 531, 532, 534, 536, 538, 540, 542, 543, 544, 545, 547, 548, 549, 557, 581, 593, 605,
-    609, 611, 613, 631, 649, 650, 652, 654, 655, 656, 658, 659, 660, 661, 662, 664, 665, 666, 667,
-    668, 674, 676, 677, 679, 680, 681, 682,
+pub static STARTS: [u16; 379] = [
+    0, 1, 3, 5, 28, 30, 31, 49, 50, 51, 53, 54, 55, 56, 65, 72, 76, 85, 87, 88, 89, 90, 91, 92, 93,
+    94, 95, 96, 97, 98, 99, 100, 101, 102, 103, 104, 105, 107, 114, 119, 120, 121, 122, 123, 124,
+    126, 128, 129, 130, 132, 133, 134, 135, 136, 138, 139, 140, 142, 144, 148, 152, 155, 158, 176,
+    194, 196, 198, 200, 201, 202, 203, 204, 206, 207, 208, 210, 212, 214, 215, 217, 226, 228, 230,
+    232, 234, 236, 238, 240, 242, 244, 245, 246, 252, 256, 265, 266, 267, 271, 272, 274, 275, 277,
+    279, 281, 283, 293, 294, 297, 300, 314, 319, 330, 332, 341, 347, 350, 358, 360, 362, 363, 364,
+    366, 367, 368, 369, 370, 372, 373, 374, 376, 377, 378, 380, 382, 383, 384, 386, 387, 388, 389,
+    390, 392, 393, 394, 396, 398, 399, 400, 402, 403, 404, 405, 406, 408, 409, 410, 418, 450, 462,
+    474, 498, 522, 535, 537, 539, 540, 541, 543, 544, 545, 546, 547, 549, 550, 551, 553, 555, 556,
+    557, 559, 560, 561, 562, 563, 565, 566, 567, 569, 571, 572, 573, 575, 576, 577, 578, 579, 581,
+    582, 583, 585, 587, 588, 589, 591, 592, 593, 594, 595, 597, 598, 599, 601, 603, 604, 605, 607,
+    608, 609, 610, 611, 613, 614, 615, 619, 621, 623, 627, 631, 633, 642, 644, 653, 655, 657, 658,
+    659, 671, 691, 695, 699, 700, 704, 708, 712, 714, 719, 723, 724, 725, 730, 731, 732, 733, 734,
+    739, 740, 749, 750, 754, 755, 756, 757, 759, 760, 761, 762, 764, 767, 769, 770, 772, 773, 775,
+    777, 779, 781, 783, 785, 788, 790, 791, 792, 793, 797, 798, 802, 804, 806, 808, 810, 813, 816,
+    817, 820, 822, 824, 825, 826, 831, 836, 844, 846, 851, 853, 854, 855, 863, 893, 905, 917, 921,
+    923, 925, 948, 952, 970, 972, 974, 976, 978, 979, 981, 983, 984, 985, 987, 988, 989, 990, 991,
+    993, 994, 995, 997, 998, 999, 1000, 1001, 1002, 1003, 1004, 1010, 1011, 1013, 1015, 1016, 1018,
+    1019, 1022, 1023, 1024, 1028, 1029, 1033, 1035, 1037, 1039, 1041, 1042, 1045, 1047, 1049, 1050,
+    1051, 1053, 1055, 1057, 1059, 1061, 1062, 1063, 1064, 1065, 1067, 1069, 1070, 1071, 1072, 1073,
 ];

@@ -5,8 +5,8 @@
 //! Where a word has two texts of a name the first is printed, and of two that take the same tokens the
 //! first is read.
 use crate::item::{Setting, Text, Wording};
-use crate::items::place;
 use crate::names::name;
+use crate::operand_items::place;
 use a64_table::fields::{
     ACQUIRE, BRANCH_COND, CAS_ACQUIRE, CAS_RELEASE, HINT, HW, IMM3, IMM6, IMM7, IMM9, IMM12, IMMS,
     N, OPC, OPTION, RA, RD, RELEASE, RM, RN, SCALED, SF, SH, SHIFT, SIZE,
@@ -446,3 +446,8 @@ pub static ORDERED: [Wording<Operation>; 160] = ordered! {
     ldumin: G21(AtomicForm::Update(AtomicOp::Umin)) ACQUIRE RELEASE;
     swp: G21(AtomicForm::Swap) ACQUIRE RELEASE;
 };
+
+pub(crate) use four;
+pub(crate) use is_alias;
+pub(crate) use text;
+pub(crate) use twenty_four;

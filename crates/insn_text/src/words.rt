@@ -93,4 +93,4 @@ pub static WORDS: [Text; 59] = texts! {
 };
 
 /// The names of instructions and aliases, in order.
-pub static NAMES: [Text; 243] = all_names!();
+pub static NAMES: [Text; 378] = all_names!();
