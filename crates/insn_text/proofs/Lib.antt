@@ -10,5 +10,6 @@ pub mod VectorsPrinted
 pub mod AllPrinted
 pub mod Citing
 pub mod Complete
+pub mod VectorCiting
 pub mod Naming
 pub mod Following

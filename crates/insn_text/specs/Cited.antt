@@ -23,6 +23,7 @@ use Rattle.insn_text.specs.declared.words.TheConstants.{WORDS, NAMES}
 use Rattle.insn_text.specs.Texts.{text_at, items_of}
 use Rattle.insn_text.specs.Operands.{is, is_operand, number_text, same_texts, says_field, frame, Way}
 use Rattle.insn_text.specs.Aliases.{Fixed, Naming, printed_naming, aliases_of}
+use Rattle.insn_text.specs.Templates.{is_vector_cited}
 
 -- the bits of an operand's field in a word
 abbrev pub mask_of : Item → ℕ
@@ -131,9 +132,9 @@ is_cited_by s line =
     then list_any (is_text s line) (aliases_of line.operation (numbers_in s.value) (is_set s.mask))
     else is_text s line (printed_naming line.operation (numbers_in s.value) (is_set s.mask)))
 
--- the shape is a text of a row
+-- the shape is a text of a row of either table
 unfoldable pub is_cited : Shape → Bool
-is_cited s = list_any (is_cited_by s) SCALAR_LINES
+is_cited s = list_any (is_cited_by s) SCALAR_LINES || is_vector_cited s
 
 -- ---- the order of the shapes
 

@@ -2,8 +2,10 @@ pub mod Texts
 pub mod Rules
 pub mod Places
 pub mod Names
+pub mod VectorNames
 pub mod Operands
 pub mod Aliases
+pub mod Templates
 pub mod Cited
 pub mod Complete
 pub mod Wordings

@@ -11,6 +11,8 @@ ghost use Rattle.insn_text.specs.declared.shapes.TheConstants.{ORDER, SHAPES};
 ghost use Rattle.insn_text.specs.declared.words.TheConstants.{NAMES};
 ghost use Rattle.insn_text.specs.Cited.{is_cited, none_is_hidden};
 ghost use Rattle.insn_text.specs.Complete.{has_aliases, has_own};
+ghost use Rattle.insn_text.specs.Templates.{has_templates};
+ghost use Rattle.sve_table.specs.declared.rows.TheConstants.{LINES};
 ghost use Rattle.insn_text.specs.Names.{name_of};
 ghost use Rattle.insn_text.specs.Rules.{IsPrinted};
 ghost use Rattle.insn_text.specs.Texts.{printed_shape, text_at};
@@ -39,6 +41,7 @@ pub fn texts_are_those_of_rows()
     ensures order { none_is_hidden SHAPES ≡ true }
     ensures aliases { list_all has_aliases SCALAR_LINES ≡ true }
     ensures own { list_all has_own SCALAR_LINES ≡ true }
+    ensures vectors { list_all has_templates LINES ≡ true }
 {}
 
 /// The name in which a word is printed is that of its instruction's operation.

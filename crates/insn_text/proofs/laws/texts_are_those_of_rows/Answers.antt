@@ -1,5 +1,6 @@
 use Rattle.insn_text.proofs.Citing.{all_cited, all_in_order}
 use Rattle.insn_text.proofs.Complete.{all_aliases, all_own}
+use Rattle.insn_text.proofs.VectorCiting.{all_templates}
 use Rattle.insn_text.proofs.laws.texts_are_those_of_rows.Goals as goal
 
 pub returns-clause-cited : goal.returns-clause-cited
@@ -13,3 +14,6 @@ returns-clause-aliases c = all_aliases
 
 pub returns-clause-own : goal.returns-clause-own
 returns-clause-own c = all_own
+
+pub returns-clause-vectors : goal.returns-clause-vectors
+returns-clause-vectors c = all_templates
