@@ -3,19 +3,12 @@ ghost use Rattle.std.specs.Prelude.{◌≡◌, ◌↔◌, ◌<◌, ◌^◌, ◌�
 ghost use Rattle.sm_types.specs.declared.insn.Insn.{Insn};
 ghost use Rattle.a64_table.specs.Ranges.{IsInRow};
 ghost use Rattle.sve_table.specs.Ranges.{IsInVectorRow};
-ghost use Rattle.a64_table.specs.Table.{scalar};
-ghost use Rattle.sve_table.specs.Table.{full};
-ghost use Rattle.a64_encode.specs.Either.{HasAtMostOneRowOfBoth, HasEitherWord, MeansEither, Stands};
+ghost use Rattle.a64_encode.specs.Either.{HasAtMostOneRowOfBoth, HasEitherWord, MeansEither};
 ghost use Rattle.a64_encode.specs.Either.{instruction_of};
 
 /// At most one row of both tables matches and fits a word.
 pub fn one_row_of_both()
     ensures { (word : ℕ) → HasAtMostOneRowOfBoth word }
-{}
-
-/// No word has a row of the scalar table and one of all rows of the vector table.
-pub fn full_rows_apart()
-    ensures { (word : ℕ) → Stands scalar word → Stands full word → ⊥ }
 {}
 
 /// The instruction of a word is what either table gives it.

@@ -7,7 +7,8 @@
 #![tactic(auto)]
 
 mod laws;
+mod table;
 mod word;
 
-pub use laws::{full_rows_apart, has_word, means_either, one_row_of_both, one_word};
+pub use laws::{has_word, means_either, one_row_of_both, one_word};
 pub use word::encode;

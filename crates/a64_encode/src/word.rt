@@ -1,37 +1,41 @@
 //! The word of an instruction.
 ghost use Rattle.std.specs.Prelude.{◌≡◌, ◌↔◌, ℕ, IsTrue, Some, option_map};
 ghost use Rattle.insn_forms.specs.Tables.{Means};
-ghost use Rattle.a64_table.specs.Numbers.{number_of};
-ghost use Rattle.a64_table.specs.Table.{scalar};
 ghost use Rattle.a64_encode.specs.Either.{MeansEither};
 ghost use Rattle.a64_encode.specs.Lines.{IsLineOf};
 
-use a64_table::{Operation, SCALAR_LINES, condition, number_of, parts_of};
+use crate::table::TableOperation;
+use a64_table::Operation;
 use insn_forms::{Line, fields_of, word_in};
 use sm_types::Insn;
+use sve_table::{VectorOperation, is_vector};
 
 /// The word to which a row of either table gives the instruction; `None` exactly where there is none, that
 /// is where a field is outside the ranges of the instruction's rows.
 pub fn encode(insn: &Insn) -> Option<u32>
     ensures { (word : ℕ) → (result ≡ Some word) ↔ MeansEither word insn.now }
 {
-    encode_scalar(insn)
+    if is_vector(insn) {
+        word_by::<VectorOperation>(insn)
+    } else {
+        word_by::<Operation>(insn)
+    }
 }
 
-/// The same by the rows of the scalar instructions.
-fn encode_scalar(insn: &Insn) -> Option<u32>
-    ensures { (word : ℕ) → (result ≡ Some word) ↔ Means scalar word insn.now }
+/// The same by the rows of one table.
+fn word_by<O: TableOperation>(insn: &Insn) -> Option<u32>
+    ensures { (word : ℕ) → (result ≡ Some word) ↔ Means O.table word insn.now }
 {
-    let Some(parts) = parts_of(insn) else {
+    let Some(parts) = O::parts_of(insn) else {
         return None;
     };
-    let Some(line) = line_of(&SCALAR_LINES, number_of(parts.operation)) else {
+    let Some(line) = line_of(O::lines(), parts.operation.number_of()) else {
         return None;
     };
     let Some(word) = word_in(line.value, &fields_of(&line.fields), &parts.numbers) else {
         return None;
     };
-    if condition(line.operation, word) {
+    if line.operation.fits(word) {
         Some(word)
     } else {
         None
@@ -39,15 +43,15 @@ fn encode_scalar(insn: &Insn) -> Option<u32>
 }
 
 /// Whether the operation of the line has the number.
-fn has_number(line: &Line<Operation>, number: u32) -> bool
-    ensures { IsTrue result ↔ (number_of line.now.operation ≡ number) }
+fn has_number<O: TableOperation>(line: &Line<O>, number: u32) -> bool
+    ensures { IsTrue result ↔ (O.number line.now.operation ≡ number) }
 {
-    number_of(line.operation) == number
+    line.operation.number_of() == number
 }
 
 /// The line whose operation has the number.
-fn line_of(lines: &[Line<Operation>], number: u32) -> Option<&Line<Operation>>
-    ensures { IsLineOf lines.now number (option_map (λ line. line.now) result) }
+fn line_of<O: TableOperation>(lines: &[Line<O>], number: u32) -> Option<&Line<O>>
+    ensures { IsLineOf O.number lines.now number (option_map (λ line. line.now) result) }
 {
     for line in lines {
         if has_number(line, number) {

@@ -1,9 +1,11 @@
 -- The meaning by the first line of a list, and by any line of it.
 use Rattle.std.proofs.Common.{◌≡◌, ◌↔◌, ◌⊎◌, inl, inr, ℕ, zero, suc, ◌<◌, ◌^◌, List, [], ◌∷◌, Option, Some, None, slice_get, Bool, true}
-use Rattle.std.proofs.Common.{false, cond, ◌&&◌, bit_and, refl, sym, ap, ap₂, ◌∙◌, subst, eq-eqb, eqb-true, arith}
+use Rattle.std.proofs.Common.{false, cond, ◌&&◌, bit_and, refl, sym, ap, ap₂, ◌∙◌, subst, eq-eqb, eqb-true, arith, ℤ}
 use Rattle.std.proofs.lemmas.Bool.{and_parts, cases_Bool, cond-true, cond-false}
+use Rattle.insn_forms.specs.declared.field.Field.{Field}
 use Rattle.insn_forms.specs.declared.line.Line.{Line}
-use Rattle.insn_forms.specs.Tables.{Table, Means, HasAtMostOneLine, fits_in, insn_in, meaning_in, meaning_by, stands_for}
+use Rattle.insn_forms.specs.Tables.{Table, Means, HasAtMostOneLine, fits_in, insn_in, meaning_in, meaning_by, stands_for, numbers_in}
+use Rattle.insn_forms.specs.Tables.{signed_numbers_in}
 use Rattle.insn_forms.proofs.Deciding.{none_some, some_is}
 
 chosen : {A : Type 0} (b : Bool) (x y z : A) → cond b x y ≡ z → ((b ≡ true) × (x ≡ z)) ⊎ ((b ≡ false) × (y ≡ z))
@@ -94,3 +96,14 @@ module _ {O I : Type 0} (t : Table O I) (word : ℕ) where
   by_meaning one lt result h =
       same_option result (meaning_by t word) (λ it e. (one_meaning one lt it).1 ((h it).0 e))
       (λ it e. (h it).1 ((one_meaning one lt it).0 e))
+
+  -- what holds of the instructions of every operation holds of what a word means
+  pub meaning_holds : (P : I → Type 0) → ((o : O) (n : Field → ℕ) (s : Field → ℤ) → P (t.insn o n s)) → (it : I)
+      → meaning_by t word ≡ Some it → P it
+  unfolding meaning_by
+  meaning_holds P holds it e =
+      let m = first_stands t.lines it e in
+      subst P (sym m.gives) (holds m.line.operation (numbers_in word) (signed_numbers_in word))
+
+  pub means_holds : (P : I → Type 0) → ((o : O) (n : Field → ℕ) (s : Field → ℤ) → P (t.insn o n s)) → (it : I) → Means t word it → P it
+  means_holds P holds it m = subst P (sym m.gives) (holds m.line.operation (numbers_in word) (signed_numbers_in word))

@@ -17,7 +17,6 @@ use mem_access::{AccessStop, transfer};
 use paged_memory::Pages;
 use scalar_exec::{Flow, exec_scalar, next_address, read_x, write_x};
 use sm_types::{Exception, Insn, Scalars, System, SystemMove, SystemMoveOp, SystemRegister};
-use sve_decode::decode_vector;
 
 /// What a step came to.
 #[derive(Clone, Copy, Debug, PartialEq, Eq)]
@@ -88,7 +87,8 @@ impl Machine {
         self.execute_word(word)
     }
 
-    /// Executes the instruction of a word, by either table.
+    /// Executes the instruction of a word. No vector instruction is executed yet: its word raises as one
+    /// without a row does.
     #[tactic(auto, unfolding(a64_encode::specs::Either::instruction_of))]
     fn execute_word(&mut self, word: u32) -> StepEnd
         ensures effect { StepsBy (effect_of_meaning word (instruction_of word)) self.old self.new result }
@@ -97,10 +97,7 @@ impl Machine {
     {
         match decode_scalar(word) {
             Some(insn) => self.execute(word, &insn),
-            None => match decode_vector(word) {
-                Some(insn) => self.execute(word, &insn),
-                None => StepEnd::Raise(Exception::Undefined(word)),
-            },
+            None => StepEnd::Raise(Exception::Undefined(word)),
         }
     }
 

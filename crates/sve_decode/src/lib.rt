@@ -4,8 +4,6 @@
 #![tactic(auto)]
 
 mod decode;
-mod full;
 mod tree;
 
 pub use decode::decode_vector;
-pub use full::decode_full;

@@ -3,14 +3,14 @@
 ghost use Rattle.std.specs.Prelude.{◌≡◌, ℕ, Some, bit_and, slice_get};
 ghost use Rattle.insn_forms.specs.declared.line.Line.{Line};
 ghost use Rattle.sve_table.specs.declared.operation.VectorOperation.{VectorOperation};
-ghost use Rattle.sve_table.specs.declared.rows.TheConstants.{LINES};
+ghost use Rattle.sve_table.specs.declared.rows.TheConstants.{VECTOR_LINES};
 
 use insn_forms::{Node, line_number};
 
 /// The number of the one row that may match the word.
 #[inline(always)]
 pub fn row_number(word: u32) -> Option<usize>
-    ensures { (i : ℕ) (line : Line VectorOperation) → slice_get LINES i ≡ Some line
+    ensures { (i : ℕ) (line : Line VectorOperation) → slice_get VECTOR_LINES i ≡ Some line
         → bit_and word line.mask ≡ line.value → result ≡ Some i }
 {
     line_number(&TREE, &ROOTS, DEPTH, word)

@@ -45,12 +45,12 @@ use operations.AccessForm.TheVariants as access
 use operations.Sve2Form.TheVariants as sve2
 use operations.ArrayForm.TheVariants as array
 use operations.StreamingForm.TheVariants as streaming
-use Rattle.sve_table.specs.declared.rows.TheConstants.{LINES}
+use Rattle.sve_table.specs.declared.rows.TheConstants.{VECTOR_LINES}
 use Rattle.sve_table.specs.Numbers.{copy_number, permute_number, reduction_number, compare_number, predicate_number, count_number}
 use Rattle.sve_table.specs.Numbers.{element_number, access_number, sve2_number, array_number, streaming_number, number_of}
 use Rattle.sve_table.specs.Values.{tile_field, offset_field, source_tile_field, source_offset_field, sum_field}
 use Rattle.sve_table.specs.Parts.{parts_of}
-use Rattle.sve_table.specs.Table.{full}
+use Rattle.sve_table.specs.Table.{vector}
 use Rattle.sve_table.proofs.Groups.{takes, format, slots, kept, back, forth, IsRemade}
 
 abbrev Row : Type 0
@@ -60,7 +60,7 @@ Row = Line VectorOperation
 unfoldable unlike : Row → Row → Bool
 unlike r s = not (number_of r.operation == number_of s.operation)
 
-all_unlike : pairwise unlike LINES ≡ true
+all_unlike : pairwise unlike VECTOR_LINES ≡ true
 unfolding pairwise unlike number_of copy_number permute_number reduction_number compare_number predicate_number count_number element_number
     access_number sve2_number array_number streaming_number
 all_unlike = refl
@@ -77,7 +77,7 @@ unfoldable place_in : ℕ → List Row → ℕ
 place_in n [] = 0
 place_in n (r ∷ rs) = cond (number_of r.operation == n) 0 (suc (place_in n rs))
 
-listed : (op : VectorOperation) → option_map (λ (r : Row). r.operation) (slice_get LINES (place_in (number_of op) LINES)) ≡ Some op
+listed : (op : VectorOperation) → option_map (λ (r : Row). r.operation) (slice_get VECTOR_LINES (place_in (number_of op) VECTOR_LINES)) ≡ Some op
 unfolding place_in number_of copy_number permute_number reduction_number compare_number predicate_number count_number element_number
     access_number sve2_number array_number streaming_number
 listed (G24 arithmetic.Add) = refl
@@ -132,46 +132,46 @@ listed _ = refl
 -- two operations of one number are one
 pub same_operation : (a b : VectorOperation) → number_of a ≡ number_of b → a ≡ b
 same_operation a b e =
-    some_is (sym (listed a) ∙ ap (λ n. option_map (λ (r : Row). r.operation) (slice_get LINES (place_in n LINES))) e ∙ listed b)
+    some_is (sym (listed a) ∙ ap (λ n. option_map (λ (r : Row). r.operation) (slice_get VECTOR_LINES (place_in n VECTOR_LINES))) e ∙ listed b)
 
 pub record HasRow (op : VectorOperation) : Type 0 where
   pub place : ℕ
   pub row : Row
-  pub listed : slice_get LINES place ≡ Some row
+  pub listed : slice_get VECTOR_LINES place ≡ Some row
   pub same : row.operation ≡ op
 
 pub has_row : (op : VectorOperation) → HasRow op
-has_row op = go (slice_get LINES (place_in (number_of op) LINES)) refl (listed op)
+has_row op = go (slice_get VECTOR_LINES (place_in (number_of op) VECTOR_LINES)) refl (listed op)
   where
-    go : (found : Option Row) → slice_get LINES (place_in (number_of op) LINES) ≡ found
+    go : (found : Option Row) → slice_get VECTOR_LINES (place_in (number_of op) VECTOR_LINES) ≡ found
         → option_map (λ (r : Row). r.operation) found ≡ Some op → HasRow op
     go None e f = cc
     go (Some row) e f =
         let same : row.operation ≡ op = cc in
-        record { place = place_in (number_of op) LINES; row = row; listed = e; same = same }
+        record { place = place_in (number_of op) VECTOR_LINES; row = row; listed = e; same = same }
 
 -- ---- the rows are forms, and their fields are as narrow as what is taken of them
-all_forms : list_all (λ (r : Row). is_form r.mask r.value (list_of r.fields)) LINES ≡ true
+all_forms : list_all (λ (r : Row). is_form r.mask r.value (list_of r.fields)) VECTOR_LINES ≡ true
 unfolding list_of is_form is_field mask_of fills
 all_forms = refl
 
-all_suit : list_all (λ (r : Row). suits (takes r.operation) (list_of r.fields)) LINES ≡ true
+all_suit : list_all (λ (r : Row). suits (takes r.operation) (list_of r.fields)) VECTOR_LINES ≡ true
 unfolding list_of suits takes slots eight kept take_of tile_field offset_field source_tile_field source_offset_field sum_field
 all_suit = refl
 
 -- ---- the fields that the instruction is read from are those of the rows
-all_formats : list_all (λ (r : Row). same_fields (list_of r.fields) (format r.operation)) LINES ≡ true
+all_formats : list_all (λ (r : Row). same_fields (list_of r.fields) (format r.operation)) VECTOR_LINES ≡ true
 unfolding list_of same_fields same_field format slots eight kept field_of_slot tile_field offset_field source_tile_field source_offset_field
     sum_field
 all_formats = refl
 
-pub row-format : (i : ℕ) (r : Row) → slice_get LINES i ≡ Some r → list_of r.fields ≡ format r.operation
+pub row-format : (i : ℕ) (r : Row) → slice_get VECTOR_LINES i ≡ Some r → list_of r.fields ≡ format r.operation
 row-format i r g =
     one_list (list_of r.fields) (format r.operation)
-    (all-get (λ (r : Row). same_fields (list_of r.fields) (format r.operation)) LINES i r all_formats g)
+    (all-get (λ (r : Row). same_fields (list_of r.fields) (format r.operation)) VECTOR_LINES i r all_formats g)
 
 -- ---- no two rows have the same fixed bits
-pub all_unequal : pairwise unequal LINES ≡ true
+pub all_unequal : pairwise unequal VECTOR_LINES ≡ true
 unfolding pairwise unequal
 all_unequal = refl
 
@@ -179,7 +179,7 @@ all_unequal = refl
 unfoldable apart : Row → Row → Bool
 apart r s = differ r.mask r.value s.mask s.value
 
-all_apart : pairwise apart LINES ≡ true
+all_apart : pairwise apart VECTOR_LINES ≡ true
 unfolding pairwise apart differ
 all_apart = refl
 
@@ -187,21 +187,21 @@ never_both : (word : ℕ) (r s : Row) → apart r s ≡ true → bit_and word r.
 unfolding apart
 never_both word r s e m n = not_alike word r.mask r.value s.mask s.value e m n
 
-pub one_match : (word i j : ℕ) (r s : Row) → slice_get LINES i ≡ Some r → slice_get LINES j ≡ Some s → bit_and word r.mask ≡ r.value
+pub one_match : (word i j : ℕ) (r s : Row) → slice_get VECTOR_LINES i ≡ Some r → slice_get VECTOR_LINES j ≡ Some s → bit_and word r.mask ≡ r.value
     → bit_and word s.mask ≡ s.value → i ≡ j
-one_match word i j r s f g m n = one_place apart (λ x. bit_and word x.mask ≡ x.value) (never_both word) LINES all_apart i j r s f g m n
+one_match word i j r s f g m n = one_place apart (λ x. bit_and word x.mask ≡ x.value) (never_both word) VECTOR_LINES all_apart i j r s f g m n
 
-pub one_row : (word : ℕ) → HasAtMostOneLine full word
-unfolding full
+pub one_row : (word : ℕ) → HasAtMostOneLine vector word
+unfolding vector
 one_row word i j r s f g m n d e = one_match word i j r s f g m n
 
 -- ---- the table meets what is asked of a table
-one_operation : (i j : ℕ) (r s : Row) → slice_get LINES i ≡ Some r → slice_get LINES j ≡ Some s → r.operation ≡ s.operation → i ≡ j
+one_operation : (i j : ℕ) (r s : Row) → slice_get VECTOR_LINES i ≡ Some r → slice_get VECTOR_LINES j ≡ Some s → r.operation ≡ s.operation → i ≡ j
 one_operation i j r s f g e =
-    one_place unlike (λ x. x.operation ≡ s.operation) (never_alike s.operation) LINES all_unlike i j r s f g e refl
+    one_place unlike (λ x. x.operation ≡ s.operation) (never_alike s.operation) VECTOR_LINES all_unlike i j r s f g e refl
 
-pub is_table : IsTable full parts_of
-unfolding full format takes
+pub is_table : IsTable vector parts_of
+unfolding vector format takes
 is_table = record {
   takes = takes;
   format = format;

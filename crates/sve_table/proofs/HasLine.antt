@@ -42,9 +42,9 @@ use Rattle.sve_table.specs.Conditions.{fits_of, is_from, is_up_to, is_offset}
 use Rattle.sve_table.specs.Parts.{number_from, shift_number, copy_parts, permute_parts, reduction_parts, compare_parts, predicate_parts}
 use Rattle.sve_table.specs.Parts.{count_parts, element_parts, access_parts, sve2_parts, array_parts, streaming_parts, shift_parts}
 use Rattle.sve_table.specs.Parts.{slice_numbers, move_parts, parts_of}
-use Rattle.sve_table.specs.Ranges.{IsInFullRow, IsAmount, IsMultiplier, IsSliceRegister, IsTileMove, IsVectorShift, bits_of_elem, offsets}
+use Rattle.sve_table.specs.Ranges.{IsInVectorRow, IsAmount, IsMultiplier, IsSliceRegister, IsTileMove, IsVectorShift, bits_of_elem, offsets}
 use Rattle.sve_table.specs.Ranges.{sum_tiles, tiles}
-use Rattle.sve_table.specs.Table.{full}
+use Rattle.sve_table.specs.Table.{vector}
 use Rattle.sve_table.proofs.Checks.{has_row, row-format}
 use Rattle.sve_table.proofs.Groups.{format, slots, kept}
 
@@ -132,8 +132,8 @@ sum_low false n lt = low lt
 -- ---- an instruction in its row
 made : (it : Insn) (p : Parts VectorOperation) → parts_of it ≡ Some p → are_in (format p.operation) p.numbers ≡ true
     → ((u : Field → ℕ) (s : Field → ℤ) → agrees (format p.operation) p.numbers u s → fits_of p.operation u ≡ true)
-    → IsInLine full parts_of it
-unfolding full
+    → IsInLine vector parts_of it
+unfolding vector
 made it p e w f =
     let r = has_row p.operation in
     let same = row-format r.place r.row r.listed ∙ ap format r.same in
@@ -149,7 +149,7 @@ made it p e w f =
     }
 
 -- a shift, by its elements
-shift_line : (x : VectorShift) (size : Elem) → x.size ≡ size → IsVectorShift x → IsInLine full parts_of (insn.VectorShift x)
+shift_line : (x : VectorShift) (size : Elem) → x.size ≡ size → IsVectorShift x → IsInLine vector parts_of (insn.VectorShift x)
 unfolding are_in is_in format slots eight kept field_of_slot padded agrees fits_of parts_of shift_parts
 shift_line x B e h =
     let amount = subst (λ z. IsAmount x.op (bits_of_elem z) x.amount) e h.amount in
@@ -166,7 +166,7 @@ shift_line x D e h =
 shift_line x Q e h = let none : is_between B D Q ≡ true = subst (λ z. is_between B D z ≡ true) e h.size in cc
 
 -- a move of a slice, by its direction
-move_line : (x : TileMove) (to_tile : Bool) → x.to_tile ≡ to_tile → IsTileMove x → IsInLine full parts_of (insn.TileMove x)
+move_line : (x : TileMove) (to_tile : Bool) → x.to_tile ≡ to_tile → IsTileMove x → IsInLine vector parts_of (insn.TileMove x)
 unfolding are_in is_in format slots eight kept field_of_slot padded agrees fits_of parts_of move_parts slice_numbers
 move_line x true e h =
     made _ _ (ap (move_parts x) e)
@@ -179,7 +179,7 @@ move_line x false e h =
     & register_low x.slice.rv h.slice.rv & source_offset_in x.slice.size x.slice.offset h.slice.offset & refl)
     (λ u s a. refl)
 
-pub in_line : (it : Insn) → IsInFullRow it → IsInLine full parts_of it
+pub in_line : (it : Insn) → IsInVectorRow it → IsInLine vector parts_of it
 unfolding are_in is_in format slots eight kept field_of_slot padded agrees fits_of is_from is_offset copy_parts permute_parts
     reduction_parts compare_parts predicate_parts count_parts element_parts access_parts sve2_parts array_parts streaming_parts
     slice_numbers parts_of

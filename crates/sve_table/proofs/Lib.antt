@@ -1,6 +1,6 @@
 pub mod Checks
 pub mod Groups
 pub mod HasLine
-pub mod NoRows
 pub mod Numbers
+pub mod OfVectors
 pub mod Ranged

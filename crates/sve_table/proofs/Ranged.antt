@@ -45,10 +45,10 @@ use Rattle.sve_table.specs.Sizes.{is_between, least_binary, least_unary, least_s
 use Rattle.sve_table.specs.Conditions.{fits_of, is_from, is_up_to, is_offset}
 use Rattle.sve_table.specs.Named.{named_copy, named_permute, named_reduction, named_compare, named_predicate, named_count, named_element}
 use Rattle.sve_table.specs.Named.{named_access, named_sve2, named_array, named_streaming, named_slice, moved_slice, moved_vector, named}
-use Rattle.sve_table.specs.Ranges.{IsInFullRow, IsAmount, IsMultiplier, IsSliceRegister, IsTileSlice, bits_of_elem, sum_tiles, IsVectorCopy}
+use Rattle.sve_table.specs.Ranges.{IsInVectorRow, IsAmount, IsMultiplier, IsSliceRegister, IsTileSlice, bits_of_elem, sum_tiles, IsVectorCopy}
 use Rattle.sve_table.specs.Ranges.{IsVectorPermute, IsVectorReduction, IsVectorCompare, IsPredicate, IsPredicateCount, IsElementCount}
 use Rattle.sve_table.specs.Ranges.{IsVectorAccess, IsSve2, IsArrayAccess, IsStreamingLength}
-use Rattle.sve_table.specs.Table.{full}
+use Rattle.sve_table.specs.Table.{vector}
 use Rattle.sve_table.proofs.Numbers.{elem_back}
 
 -- ---- sizes and amounts
@@ -241,7 +241,7 @@ module _ (w : ℕ) where
   streaming_ranged streaming_form.Length f = (signed_ranged IMM6 w (omega arith), small RD w)
   streaming_ranged (streaming_form.AddLength predicate) f = (signed_ranged IMM6 w (omega arith), small RN_HIGH w, small RD w)
 
-  operation_ranged : (op : VectorOperation) → fits_of op (numbers_in w) ≡ true → IsInFullRow (named op (numbers_in w) (signed_numbers_in w))
+  operation_ranged : (op : VectorOperation) → fits_of op (numbers_in w) ≡ true → IsInVectorRow (named op (numbers_in w) (signed_numbers_in w))
   unfolding fits_of named moved_slice moved_vector
   operation_ranged (G24 op) f = record { size = size; zm = small ZM w; zn = small ZN w; zd = small ZD w }
   operation_ranged (G25 op) f = record { zm = small ZM w; zn = small ZN w; zd = small ZD w }
@@ -268,6 +268,6 @@ module _ (w : ℕ) where
       record { tile = sum_tile wide; pn = small ROW_PN w; pm = small COLUMN_PM w; zn = small ZN w; zm = small ZM w }
   operation_ranged (G45 form) f = streaming_ranged form f
 
-pub ranged : (w : ℕ) (it : Insn) → Means full w it → IsInFullRow it
-unfolding full
-ranged w it m = subst IsInFullRow (sym m.gives) (operation_ranged w m.line.operation m.fits)
+pub ranged : (w : ℕ) (it : Insn) → Means vector w it → IsInVectorRow it
+unfolding vector
+ranged w it m = subst IsInVectorRow (sym m.gives) (operation_ranged w m.line.operation m.fits)

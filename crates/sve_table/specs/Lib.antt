@@ -1,4 +1,5 @@
 pub mod Conditions
+pub mod Groups
 pub mod Named
 pub mod Numbers
 pub mod Parts

@@ -32,10 +32,6 @@ use matrix.StreamingLength.TheVariants as streaming
 use Rattle.insn_forms.specs.Values.{IsSigned}
 use Rattle.sve_table.specs.Sizes.{is_between, least_binary, least_unary, least_shifted, widest_reduced}
 
--- no instruction is one of the vector rows that callers take
-abbrev pub IsInVectorRow : Insn → Type 0
-IsInVectorRow it = ⊥
-
 -- elements of 8 to 64 bits, and three vectors
 pub record IsVectorArithmetic (it : VectorArithmetic) : Type 0 where
   pub size : IsTrue (is_between B D it.size)
@@ -257,28 +253,28 @@ pub record IsOuterProduct (it : OuterProduct) : Type 0 where
   pub zn : it.zn < 32
   pub zm : it.zm < 32
 
--- the instruction is a vector instruction, and its fields are in the ranges that a row of all gives them
-abbrev pub IsInFullRow : Insn → Type 0
-IsInFullRow (insn.VectorArithmetic it) = IsVectorArithmetic it
-IsInFullRow (insn.VectorLogical it) = IsVectorLogical it
-IsInFullRow (insn.PredicatedBinary it) = IsPredicatedBinary it
-IsInFullRow (insn.MultiplyAdd it) = IsMultiplyAdd it
-IsInFullRow (insn.PredicatedUnary it) = IsPredicatedUnary it
-IsInFullRow (insn.VectorShift it) = IsVectorShift it
-IsInFullRow (insn.VectorCopy it) = IsVectorCopy it
-IsInFullRow (insn.VectorPermute it) = IsVectorPermute it
-IsInFullRow (insn.VectorReduction it) = IsVectorReduction it
-IsInFullRow (insn.VectorCompare it) = IsVectorCompare it
-IsInFullRow (insn.Predicate it) = IsPredicate it
-IsInFullRow (insn.PredicateCount it) = IsPredicateCount it
-IsInFullRow (insn.ElementCount it) = IsElementCount it
-IsInFullRow (insn.VectorAccess it) = IsVectorAccess it
-IsInFullRow (insn.Sve2 it) = IsSve2 it
-IsInFullRow (insn.Mode it) = Unit {0}
-IsInFullRow (insn.ArrayAccess it) = IsArrayAccess it
-IsInFullRow (insn.TileAccess it) = IsTileAccess it
-IsInFullRow (insn.TileMove it) = IsTileMove it
-IsInFullRow (insn.TileAdd it) = IsTileAdd it
-IsInFullRow (insn.OuterProduct it) = IsOuterProduct it
-IsInFullRow (insn.StreamingLength it) = IsStreamingLength it
-IsInFullRow _ = ⊥
+-- the instruction is a vector instruction, and its fields are in the ranges that a row gives them
+abbrev pub IsInVectorRow : Insn → Type 0
+IsInVectorRow (insn.VectorArithmetic it) = IsVectorArithmetic it
+IsInVectorRow (insn.VectorLogical it) = IsVectorLogical it
+IsInVectorRow (insn.PredicatedBinary it) = IsPredicatedBinary it
+IsInVectorRow (insn.MultiplyAdd it) = IsMultiplyAdd it
+IsInVectorRow (insn.PredicatedUnary it) = IsPredicatedUnary it
+IsInVectorRow (insn.VectorShift it) = IsVectorShift it
+IsInVectorRow (insn.VectorCopy it) = IsVectorCopy it
+IsInVectorRow (insn.VectorPermute it) = IsVectorPermute it
+IsInVectorRow (insn.VectorReduction it) = IsVectorReduction it
+IsInVectorRow (insn.VectorCompare it) = IsVectorCompare it
+IsInVectorRow (insn.Predicate it) = IsPredicate it
+IsInVectorRow (insn.PredicateCount it) = IsPredicateCount it
+IsInVectorRow (insn.ElementCount it) = IsElementCount it
+IsInVectorRow (insn.VectorAccess it) = IsVectorAccess it
+IsInVectorRow (insn.Sve2 it) = IsSve2 it
+IsInVectorRow (insn.Mode it) = Unit {0}
+IsInVectorRow (insn.ArrayAccess it) = IsArrayAccess it
+IsInVectorRow (insn.TileAccess it) = IsTileAccess it
+IsInVectorRow (insn.TileMove it) = IsTileMove it
+IsInVectorRow (insn.TileAdd it) = IsTileAdd it
+IsInVectorRow (insn.OuterProduct it) = IsOuterProduct it
+IsInVectorRow (insn.StreamingLength it) = IsStreamingLength it
+IsInVectorRow _ = ⊥

@@ -1,41 +1,31 @@
 //! The conditions on a word that has a row's fixed bits.
-#![tactic(auto, unfolding(insn_forms::specs::Tables::fits_with, crate::specs::Table::vector, crate::specs::Table::full, crate::specs::Conditions::fits_of, crate::specs::Conditions::is_from, crate::specs::Conditions::is_up_to, crate::specs::Conditions::is_offset, crate::specs::Sizes::least_binary, crate::specs::Sizes::least_unary, crate::specs::Sizes::least_shifted, crate::specs::Sizes::widest_reduced, insn_forms::specs::Fields::is_field, insn_forms::specs::Fields::mask_of))]
+#![tactic(auto, unfolding(insn_forms::specs::Tables::fits_with, crate::specs::Table::vector, crate::specs::Conditions::fits_of, crate::specs::Conditions::is_from, crate::specs::Conditions::is_up_to, crate::specs::Conditions::is_offset, crate::specs::Sizes::least_binary, crate::specs::Sizes::least_unary, crate::specs::Sizes::least_shifted, crate::specs::Sizes::widest_reduced, insn_forms::specs::Fields::is_field, insn_forms::specs::Fields::mask_of))]
 
 ghost use Rattle.std.specs.Prelude.{◌≡◌};
 ghost use Rattle.insn_forms.specs.Tables.{numbers_in};
 ghost use Rattle.sve_table.specs.declared.fields.TheConstants.{RM};
 ghost use Rattle.sve_table.specs.declared.operation.VectorOperation.TheVariants.{G37};
 ghost use Rattle.sve_table.specs.Conditions.{fits_of, is_from, is_offset, is_up_to};
-ghost use Rattle.sve_table.specs.Rows.{row_fits, vector_row_fits};
+ghost use Rattle.sve_table.specs.Rows.{vector_row_fits};
 ghost use Rattle.sve_table.specs.Sizes.{least_binary, least_shifted, least_unary, widest_reduced};
 
 use crate::fields::{ELEMENT_SIZE, MEMORY_SIZE, RM, SH, SIZE};
 use crate::operation::{
     AccessForm, CopyForm, PermuteForm, ReductionForm, Sve2Form, VectorOperation,
 };
-use crate::rows::{LINES, VECTOR_LINES};
+use crate::rows::VECTOR_LINES;
 use insn_forms::{field_in, line_with, one};
 use sm_types::{Elem, PredicatedBinaryOp, PredicatedUnaryOp, ReductionOp, Row};
 
 /// Whether a word that has the row's fixed bits meets the condition of the row; no word does where the table
 /// has no such row.
-pub fn fits(row: &Row, _word: u32) -> bool
-    ensures { result ≡ vector_row_fits row.now _word }
+pub fn fits(row: &Row, word: u32) -> bool
+    ensures { result ≡ vector_row_fits row.now word }
 {
     match line_with(&VECTOR_LINES, row.mask, row.value) {
-        Some(line) => match line.operation {},
+        Some(line) => condition(line.operation, word),
         None => false,
     }
-}
-
-/// The same of the table of all rows.
-pub fn full_fits(row: &Row, word: u32) -> bool
-    ensures { result ≡ row_fits row.now word }
-{
-    let Some(line) = line_with(&LINES, row.mask, row.value) else {
-        return false;
-    };
-    condition(line.operation, word)
 }
 
 /// Whether the word meets the condition of the operation.

@@ -1,5 +1,5 @@
 //! The instruction of an operation with a word's fields.
-#![tactic(auto, unfolding(crate::specs::Table::full, crate::specs::Conditions::fits_of, crate::specs::Named::named_copy, crate::specs::Named::named_permute, crate::specs::Named::named_reduction, crate::specs::Named::named_compare, crate::specs::Named::named_predicate, crate::specs::Named::named_count, crate::specs::Named::named_element, crate::specs::Named::named_access, crate::specs::Named::named_sve2, crate::specs::Named::named_array, crate::specs::Named::named_streaming, crate::specs::Named::named_slice, crate::specs::Named::moved_slice, crate::specs::Named::moved_vector, crate::specs::Named::named, crate::specs::Values::shift_elem, crate::specs::Values::shift_width, crate::specs::Values::amount_field, crate::specs::Values::tile_field, crate::specs::Values::offset_field, crate::specs::Values::source_tile_field, crate::specs::Values::source_offset_field, crate::specs::Values::sum_field, insn_forms::specs::Fields::is_field, insn_forms::specs::Fields::mask_of))]
+#![tactic(auto, unfolding(crate::specs::Table::vector, crate::specs::Conditions::fits_of, crate::specs::Named::named_copy, crate::specs::Named::named_permute, crate::specs::Named::named_reduction, crate::specs::Named::named_compare, crate::specs::Named::named_predicate, crate::specs::Named::named_count, crate::specs::Named::named_element, crate::specs::Named::named_access, crate::specs::Named::named_sve2, crate::specs::Named::named_array, crate::specs::Named::named_streaming, crate::specs::Named::named_slice, crate::specs::Named::moved_slice, crate::specs::Named::moved_vector, crate::specs::Named::named, crate::specs::Values::shift_elem, crate::specs::Values::shift_width, crate::specs::Values::amount_field, crate::specs::Values::tile_field, crate::specs::Values::offset_field, crate::specs::Values::source_tile_field, crate::specs::Values::source_offset_field, crate::specs::Values::sum_field, insn_forms::specs::Fields::is_field, insn_forms::specs::Fields::mask_of))]
 
 ghost use Rattle.std.specs.Prelude.{◌≡◌, true, Option, Some, None, if◌then◌else◌};
 ghost use Rattle.sm_types.specs.declared.vector.IndexPart.TheVariants as part;
@@ -13,7 +13,7 @@ ghost use Rattle.sve_table.specs.Named.{named_element, named_permute, named_pred
 ghost use Rattle.sve_table.specs.Named.{named_streaming, named_sve2, moved_slice, moved_vector, named_slice};
 ghost use Rattle.sve_table.specs.Values.{amount_field, offset_field, shift_amount, shift_elem, shift_width};
 ghost use Rattle.sve_table.specs.Values.{source_offset_field, source_tile_field, sum_field, tile_field};
-ghost use Rattle.sve_table.specs.Table.{full};
+ghost use Rattle.sve_table.specs.Table.{vector};
 
 use crate::conditions::condition;
 use crate::fields;
@@ -64,7 +64,7 @@ macro_rules! by_group {
 /// The instruction that the operation gives the word; `None` where the word does not meet its condition.
 #[inline(always)]
 pub fn insn_given(operation: VectorOperation, word: u32) -> Option<Insn>
-    ensures { result ≡ given full operation word }
+    ensures { result ≡ given vector operation word }
 {
     by_group!(operation word {
         G24(op) VectorArithmetic { op; size: elem_of SIZE, zm: byte ZM, zn: byte ZN, zd: byte ZD };

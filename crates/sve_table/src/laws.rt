@@ -1,16 +1,15 @@
-//! The laws of the tables: of the part that callers take, and, named `full`, of all rows.
+//! The laws of the table.
 ghost use Rattle.std.specs.Prelude.{◌≡◌, ◌<◌, ◌^◌, ◌↔◌, Some, ℕ, map, slice_get};
 ghost use Rattle.sm_types.specs.declared.insn.Insn.{Insn};
 ghost use Rattle.insn_forms.specs.declared.line.Line.{Line};
 ghost use Rattle.insn_forms.specs.Tables.{HasAtMostOneLine, HasWord, Means, fits_in};
-ghost use Rattle.sve_table.specs.declared.operation.Operation.{Operation};
 ghost use Rattle.sve_table.specs.declared.operation.VectorOperation.{VectorOperation};
-ghost use Rattle.sve_table.specs.declared.rows.TheConstants.{LINES, VECTOR_LINES};
-ghost use Rattle.sve_table.specs.Rows.{row_fits, row_of, vector_row_fits, vector_row_of};
-ghost use Rattle.sve_table.specs.Table.{full, meaning_of, vector, vector_meaning_of};
-ghost use Rattle.sve_table.specs.Ranges.{IsInFullRow, IsInVectorRow};
+ghost use Rattle.sve_table.specs.declared.rows.TheConstants.{VECTOR_LINES};
+ghost use Rattle.sve_table.specs.Rows.{vector_row_fits, vector_row_of};
+ghost use Rattle.sve_table.specs.Table.{vector, vector_meaning_of};
+ghost use Rattle.sve_table.specs.Ranges.{IsInVectorRow};
 
-use crate::rows::{ROWS, VECTOR_ROWS};
+use crate::rows::VECTOR_ROWS;
 
 /// The rows are those of the lines.
 pub fn rows_of_lines()
@@ -19,7 +18,7 @@ pub fn rows_of_lines()
 
 /// The condition that `fits` tests for a row is that of the row's line.
 pub fn fits_of_rows()
-    ensures { (place : ℕ) (line : Line Operation) (word : ℕ) → slice_get VECTOR_LINES place ≡ Some line
+    ensures { (place : ℕ) (line : Line VectorOperation) (word : ℕ) → slice_get VECTOR_LINES place ≡ Some line
         → vector_row_fits (vector_row_of line) word ≡ fits_in vector line.operation word }
 {}
 
@@ -47,41 +46,4 @@ pub fn has_word()
 /// An instruction has at most one word.
 pub fn one_word()
     ensures { (word other : ℕ) (it : Insn) → Means vector word it → Means vector other it → word ≡ other }
-{}
-
-/// The rows are those of the lines.
-pub fn full_rows_of_lines()
-    ensures { map row_of LINES ≡ ROWS }
-{}
-
-/// The condition that `full_fits` tests for a row is that of the row's line.
-pub fn full_fits_of_rows()
-    ensures { (place : ℕ) (line : Line VectorOperation) (word : ℕ) → slice_get LINES place ≡ Some line
-        → row_fits (row_of line) word ≡ fits_in full line.operation word }
-{}
-
-/// At most one row of the table matches and fits a word.
-pub fn full_one_row()
-    ensures { (word : ℕ) → HasAtMostOneLine full word }
-{}
-
-/// What a word means by the first row that stands for it is what it means by any.
-pub fn full_one_meaning()
-    ensures { (word : ℕ) (it : Insn) → word < 2 ^ 32
-        → (meaning_of word ≡ Some it) ↔ Means full word it }
-{}
-
-/// The fields of each instruction that a word means are in their ranges.
-pub fn full_in_range()
-    ensures { (word : ℕ) (it : Insn) → Means full word it → IsInFullRow it }
-{}
-
-/// An instruction whose fields are in their ranges has a word.
-pub fn full_has_word()
-    ensures { (it : Insn) → IsInFullRow it → HasWord full it }
-{}
-
-/// An instruction has at most one word.
-pub fn full_one_word()
-    ensures { (word other : ℕ) (it : Insn) → Means full word it → Means full other it → word ≡ other }
 {}

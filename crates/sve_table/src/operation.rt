@@ -11,11 +11,6 @@ use sm_types::{
     VectorShiftOp, WideningOp,
 };
 
-/// A group with what tells its rows apart, for rows whose instructions have a text and an effect: there are
-/// none.
-#[derive(Clone, Copy)]
-pub enum Operation {}
-
 /// The sizes of elements that are shifted.
 #[derive(Clone, Copy)]
 pub enum ShiftSize {

@@ -1,10 +1,7 @@
 //! The rows of the vector instructions.
-//!
-//! `ROWS` and `LINES` are the table. `VECTOR_ROWS` and `VECTOR_LINES` are the part of it whose instructions
-//! have a text and an effect, which is what callers take: none of them has yet.
 use crate::fields;
 use crate::operation::{
-    AccessForm, ArrayForm, CompareForm, CopyForm, CountForm, ElementForm, Operation, PermuteForm,
+    AccessForm, ArrayForm, CompareForm, CopyForm, CountForm, ElementForm, PermuteForm,
     PredicateForm, ReductionForm, ShiftSize, StreamingForm, Sve2Form, VectorOperation,
 };
 use insn_forms::{Fields, Line};
@@ -14,12 +11,6 @@ use sm_types::{
     ReductionOp, Row, TernaryLogicalOp, VectorArithmeticOp, VectorLogicalOp, VectorMultiplyOp,
     VectorShiftOp, WideningOp,
 };
-
-/// The rows of the vector instructions: there are none.
-pub static VECTOR_ROWS: [Row; 0] = [];
-
-/// The same with their operations and the places of their fields.
-pub static VECTOR_LINES: [Line<Operation>; 0] = [];
 
 // The rows: which bits are fixed, their values, the group with its operation, and the fields in the order of
 // the operands.
@@ -260,8 +251,8 @@ macro_rules! lines {
     };
 }
 
-/// All rows of the vector instructions: mask, value and group.
-pub static ROWS: [Row; 204] = table!(rows);
+/// The rows of the vector instructions: mask, value and group.
+pub static VECTOR_ROWS: [Row; 204] = table!(rows);
 
 /// The same with their operations and the places of their fields.
-pub static LINES: [Line<VectorOperation>; 204] = table!(lines);
+pub static VECTOR_LINES: [Line<VectorOperation>; 204] = table!(lines);

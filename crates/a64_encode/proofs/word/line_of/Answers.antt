@@ -1,45 +1,48 @@
-use Rattle.std.proofs.Common.{◌≡◌, ℕ, zero, suc, ◌+◌, ◌<◌, ◌==◌, Bool, true, false, List, [], ◌∷◌, length, get_or, Option, Some, refl, sym}
+use Rattle.std.proofs.Common.{◌≡◌, ℕ, zero, suc, ◌+◌, ◌<◌, ◌==◌, Bool, true, false, List, [], ◌∷◌, length, get_or, Some, refl, sym}
 use Rattle.std.proofs.Common.{ap, ◌∙◌, arith, eqb-true}
 use Rattle.std.specs.Prelude.{slice_get}
 use Rattle.std.proofs.lemmas.Bool.{both_ways, eqb-false}
 use Rattle.std.proofs.lemmas.Option.{slice_get-get_or}
 use Rattle.insn_forms.specs.declared.line.Line.{Line}
-use Rattle.a64_table.specs.declared.operation.Operation.{Operation}
-use Rattle.a64_table.specs.Numbers.{number_of}
+use Rattle.insn_forms.proofs.Deciding.{some_is}
 use Rattle.a64_encode.proofs.word.line_of.Goals as goal
 
-same_line : (a b : Line Operation) → ◌≡◌ {A = Option (Line Operation)} (Some a) (Some b) → a ≡ b
-same_line a b e = cc
+-- an item of a list stands at its place
+here : {A : Type 0} (items : List A) (k : ℕ) (it : A) → k < length items → it ≡ get_or items k it → slice_get items k ≡ Some it
+here items k it lt e = slice_get-get_or items k it lt ∙ ap Some (sym e)
 
-more : (lines : List (Line Operation)) (number k : ℕ) (d : Line Operation) → k < length lines
-    → (number_of (get_or lines k d).operation ≡ number → ⊥)
-    → ((place : ℕ) (line : Line Operation) → place < k → slice_get lines place ≡ Some line → number_of line.operation ≡ number → ⊥)
-    → (place : ℕ) (line : Line Operation) → place < k + 1 → slice_get lines place ≡ Some line → number_of line.operation ≡ number → ⊥
-more lines number k d lt here before place line le g e = go (place == k) refl
-  where
-    go : (b : Bool) → (place == k) ≡ b → ⊥
-    go true h =
-        here (ap (λ (r : Line Operation). number_of r.operation)
-        (same_line _ _ (sym (slice_get-get_or lines k d lt) ∙ sym (ap (slice_get lines) (eqb-true place k h)) ∙ g)) ∙ e)
-    go false h = let n = eqb-false place k h in before place line (omega arith) g e
+module _ {O : Type 0} (number_of : O → ℕ) where
+  more : (lines : List (Line O)) (number k : ℕ) (d : Line O) → slice_get lines k ≡ Some d → (number_of d.operation ≡ number → ⊥)
+      → ((place : ℕ) (line : Line O) → place < k → slice_get lines place ≡ Some line → number_of line.operation ≡ number → ⊥)
+      → (place : ℕ) (line : Line O) → place < k + 1 → slice_get lines place ≡ Some line → number_of line.operation ≡ number → ⊥
+  more lines number k d found never before place line le g e = go (place == k) refl
+    where
+      go : (b : Bool) → (place == k) ≡ b → ⊥
+      go true h =
+          never (ap (λ (r : Line O). number_of r.operation)
+          (some_is (sym found ∙ sym (ap (slice_get lines) (eqb-true place k h)) ∙ g)) ∙ e)
+      go false h = let n = eqb-false place k h in before place line (omega arith) g e
 
-there : (lines : List (Line Operation)) (place : ℕ) (line : Line Operation) → slice_get lines place ≡ Some line → place < length lines
-there [] place line g = cc
-there (r ∷ lines) zero line g = omega arith
-there (r ∷ lines) (suc place) line g = let lt = there lines place line g in omega arith
+there : {A : Type 0} (items : List A) (place : ℕ) (it : A) → slice_get items place ≡ Some it → place < length items
+there [] place it g = cc
+there (r ∷ items) zero it g = omega arith
+there (r ∷ items) (suc place) it g = let lt = there items place it g in omega arith
 
 pub returns-then-has_number : goal.returns-then-has_number
-returns-then-has_number c =
+returns-then-has_number g c =
     record {
       place = c.loop-line.line-index;
-      listed = slice_get-get_or c.args.lines.now c.loop-line.line-index _ c.loop-line-test.true;
+      listed = here c.args.lines.now c.loop-line.line-index c.line-item.result c.loop-line-test.true c.line-item.is;
       same = c.has_number.ensures.0 c.if-has_number.true;
     }
 
 pub loop-line-preserved : goal.loop-line-preserved
-loop-line-preserved c =
-    more c.args.lines.now c.args.number c.loop-line.line-index _ c.loop-line-test.true
+loop-line-preserved g c =
+    more g.O.TableOperation.number c.args.lines.now c.args.number c.loop-line.line-index c.line-item.result
+    (here c.args.lines.now c.loop-line.line-index c.line-item.result c.loop-line-test.true c.line-item.is)
     (λ e. both_ways _ c.if-has_number.false (c.has_number.ensures.1 e)) c.loop-line.invariant
 
 pub returns : goal.returns
-returns c place line g e = let lt = there c.args.lines.now place line g in c.loop-line.invariant place line (omega arith) g e
+returns g c place line h e =
+    let lt = there c.args.lines.now place line h in
+    c.loop-line.invariant place line (omega arith) h e

@@ -1,5 +1,0 @@
-use Rattle.sve_table.proofs.Ranged.{ranged}
-use Rattle.sve_table.proofs.laws.full_in_range.Goals as goal
-
-pub returns : goal.returns
-returns c = ranged

@@ -1,5 +1,0 @@
-use Rattle.sve_table.proofs.Checks.{one_row}
-use Rattle.sve_table.proofs.laws.full_one_row.Goals as goal
-
-pub returns : goal.returns
-returns c = one_row
