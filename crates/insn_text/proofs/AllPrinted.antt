@@ -8,7 +8,7 @@ use Rattle.insn_forms.specs.Tables.{numbers_in}
 use Rattle.a64_table.specs.declared.operation.Operation.{Operation}
 use Rattle.a64_table.specs.declared.rows.TheConstants.{SCALAR_LINES}
 use Rattle.a64_table.specs.Table.{scalar}
-use Rattle.sve_table.proofs.NoRows.{no_meaning}
+use Rattle.insn_text.proofs.VectorsPrinted.{vector_printed}
 use Rattle.insn_forms.specs.Fields.{field_of, bit_of}
 use Rattle.a64_table.specs.Conditions.{fits_of}
 use Rattle.a64_encode.specs.Either.{MeansEither}
@@ -41,4 +41,4 @@ pub all_printed : (word : ℕ) (it : Insn) → MeansEither word it → IsPrinted
 unfolding scalar
 all_printed word it (inl m) =
     row-printed word m.line m.matches m.fits (all_get row_printed SCALAR_LINES m.place m.line rows_printed m.listed)
-all_printed word it (inr m) = absurd (no_meaning word it m)
+all_printed word it (inr m) = vector_printed word it m

@@ -12,4 +12,5 @@ pub mod Citing
 pub mod Complete
 pub mod VectorCiting
 pub mod Naming
+pub mod VectorNaming
 pub mod Following

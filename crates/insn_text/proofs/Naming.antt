@@ -47,7 +47,7 @@ naming_fields (G21 form) = atomic_fields form
 naming_fields operation = []
 
 -- the numbers are the same in all of some fields
-abbrev Same : (Field → ℕ) → (Field → ℕ) → List Field → Type 0
+abbrev pub Same : (Field → ℕ) → (Field → ℕ) → List Field → Type 0
 Same n m [] = Unit {0}
 Same n m (f ∷ fs) = (n f ≡ m f) × Same n m fs
 
@@ -108,7 +108,7 @@ number-same s w f matches e =
     placed-one f (field_in f s.value) (field_in f w) apart (field_in-lt f s.value) (field_in-lt f w)
     (placed-field f s.value apart ∙ same ∙ sym (placed-field f w apart))
 
-numbers-same : (s : Shape) (w : ℕ) (fs : List Field) → bit_and w s.mask ≡ s.value → list_all (is_set_whole s.mask) fs ≡ true
+pub numbers-same : (s : Shape) (w : ℕ) (fs : List Field) → bit_and w s.mask ≡ s.value → list_all (is_set_whole s.mask) fs ≡ true
     → Same (numbers_in s.value) (numbers_in w) fs
 numbers-same s w [] matches e = tt
 numbers-same s w (f ∷ fs) matches e =
@@ -133,12 +133,12 @@ all_named = refl
 same_of : {A : Type 0} (a b : A) → ◌≡◌ {A = Option A} (Some a) (Some b) → a ≡ b
 same_of a b e = cc
 
-all_get : {A : Type 0} (p : A → Bool) (xs : List A) (k : ℕ) (x : A) → list_all p xs ≡ true → slice_get xs k ≡ Some x → p x ≡ true
+pub all_get : {A : Type 0} (p : A → Bool) (xs : List A) (k : ℕ) (x : A) → list_all p xs ≡ true → slice_get xs k ≡ Some x → p x ≡ true
 all_get p [] k x e g = cc
 all_get p (y ∷ ys) zero x e g = subst (λ z. p z ≡ true) (same_of y x g) (and_parts (p y) (list_all p ys) e).0
 all_get p (y ∷ ys) (suc k) x e g = all_get p ys k x (and_parts (p y) (list_all p ys) e).1 g
 
-found : (p q : Shape → Bool) (ss : List Shape) (s : Shape) → list_all q ss ≡ true → find p ss ≡ Some s → (p s ≡ true) × (q s ≡ true)
+pub found : (p q : Shape → Bool) (ss : List Shape) (s : Shape) → list_all q ss ≡ true → find p ss ≡ Some s → (p s ≡ true) × (q s ≡ true)
 found p q [] s a e = cc
 found p q (r ∷ ss) s a e =
     let b = and_parts (q r) (list_all q ss) a in
@@ -147,15 +147,15 @@ found p q (r ∷ ss) s a e =
       | false ↦ λ is h. found p q ss s b.1 h
     ] refl e
 
-when : (a b : Bool) → a ≡ true → (not a || b) ≡ true → b ≡ true
+pub when : (a b : Bool) → a ≡ true → (not a || b) ≡ true → b ≡ true
 when true b e h = h
 when false b e h = cc
 
-unless : (a b : Bool) → not a ≡ true → (a || b) ≡ true → b ≡ true
+pub unless : (a b : Bool) → not a ≡ true → (a || b) ≡ true → b ≡ true
 unless true b e h = cc
 unless false b e h = h
 
-swap : (w m n : ℕ) → bit_and (bit_and w m) n ≡ bit_and (bit_and w n) m
+pub swap : (w m n : ℕ) → bit_and (bit_and w m) n ≡ bit_and (bit_and w n) m
 swap w m n = and_assoc n w m ∙ ap (bit_and w) (and_comm m n) ∙ sym (and_assoc m w n)
 
 named_by : (s : Shape) (w : ℕ) (line : Line Operation) → bit_and w s.mask ≡ s.value → bit_and w line.mask ≡ line.value

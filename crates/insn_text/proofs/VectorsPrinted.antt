@@ -7,8 +7,8 @@ use Rattle.insn_forms.specs.declared.line.Line.{Line}
 use Rattle.insn_forms.specs.Tables.{Means, numbers_in}
 use Rattle.insn_forms.specs.Fields.{field_of, bit_of, field_in, mask_of}
 use Rattle.sve_table.specs.declared.operation.VectorOperation.{VectorOperation}
-use Rattle.sve_table.specs.declared.rows.TheConstants.{LINES}
-use Rattle.sve_table.specs.Table.{full}
+use Rattle.sve_table.specs.declared.rows.TheConstants.{VECTOR_LINES}
+use Rattle.sve_table.specs.Table.{vector}
 use Rattle.sve_table.specs.Sizes.{least_binary, least_unary, least_shifted, widest_reduced}
 use Rattle.sve_table.specs.Conditions.{is_from, is_up_to, fits_of}
 use Rattle.insn_text.specs.declared.shapes.TheConstants.{SHAPES}
@@ -23,7 +23,7 @@ use Rattle.insn_text.proofs.VectorKnown.{vector_rule, says_vector_item, vector_s
 unfoldable pub vector_row_printed : Line VectorOperation → Bool
 vector_row_printed r = covers (vector_ends r.operation) (vector_says r.operation) 1000 r.mask r.value (kept r.mask r.value SHAPES)
 
-vector_rows_printed : list_all vector_row_printed LINES ≡ true
+vector_rows_printed : list_all vector_row_printed VECTOR_LINES ≡ true
 unfolding vector_row_printed highest_one field_of bit_of field_in mask_of items_in items_of is_apart is_inside free_bit covers_at covers keep_unless kept least_binary least_unary least_shifted widest_reduced is_from is_up_to has_size size_of_word is_known has_none ends_by vector_ends says_each gives_offset vector_rule says_vector_item vector_says
 vector_rows_printed = refl
 
@@ -36,7 +36,7 @@ vector_row-printed word r m f e =
     (λ n v q h. vector_never r.operation word n v q h f) 1000 r.mask r.value (kept r.mask r.value SHAPES) e m in
     record { shape = p.shape; found = sym (find-kept word r.mask r.value SHAPES m) ∙ p.found; sayable = p.sayable }
 
-pub vector_printed : (word : ℕ) (it : Insn) → Means full word it → IsPrinted word
-unfolding full
+pub vector_printed : (word : ℕ) (it : Insn) → Means vector word it → IsPrinted word
+unfolding vector
 vector_printed word it m =
-    vector_row-printed word m.line m.matches m.fits (all_get vector_row_printed LINES m.place m.line vector_rows_printed m.listed)
+    vector_row-printed word m.line m.matches m.fits (all_get vector_row_printed VECTOR_LINES m.place m.line vector_rows_printed m.listed)

@@ -52,7 +52,7 @@ use operations.ArrayForm.{ArrayForm}
 use operations.ArrayForm.TheVariants as array
 use operations.StreamingForm.{StreamingForm}
 use operations.StreamingForm.TheVariants as streaming
-use Rattle.sve_table.specs.declared.rows.TheConstants.{LINES}
+use Rattle.sve_table.specs.declared.rows.TheConstants.{VECTOR_LINES}
 use Rattle.sve_table.specs.Conditions.{fits_of}
 use Rattle.insn_text.specs.declared.item.Kind.{Kind}
 use Rattle.insn_text.specs.declared.item.Kind.TheVariants as kind
@@ -386,7 +386,7 @@ is_vector_cited_by s line = fixes_row line s && is_vector_text line s
 
 -- the shape is a text of a vector row
 unfoldable pub is_vector_cited : Shape → Bool
-is_vector_cited s = list_any (is_vector_cited_by s) LINES
+is_vector_cited s = list_any (is_vector_cited_by s) VECTOR_LINES
 
 -- ---- each text of a row has a shape
 

@@ -12,7 +12,7 @@ use Rattle.a64_table.specs.declared.operation.Operation.{Operation}
 use Rattle.a64_table.specs.declared.rows.TheConstants.{SCALAR_LINES}
 use Rattle.a64_table.specs.Numbers.{number_of}
 use Rattle.sve_table.specs.declared.operation.VectorOperation.{VectorOperation}
-use Rattle.sve_table.specs.declared.rows.TheConstants.{LINES}
+use Rattle.sve_table.specs.declared.rows.TheConstants.{VECTOR_LINES}
 use Rattle.sve_table.specs.Numbers.{number_of as vector_number_of}
 use Rattle.insn_text.specs.declared.item.Kind.{Kind}
 use Rattle.insn_text.specs.declared.item.Kind.TheVariants as kind
@@ -156,7 +156,7 @@ is_shape_of number lines w s =
 -- the vectors'
 unfoldable pub is_shape_at : Option (Wording Operation) → Option (Wording VectorOperation) → Shape → Bool
 is_shape_at None None s = false
-is_shape_at None (Some w) s = is_shape_of vector_number_of LINES w s
+is_shape_at None (Some w) s = is_shape_of vector_number_of VECTOR_LINES w s
 is_shape_at (Some w) other s = is_shape_of number_of SCALAR_LINES w s
 
 -- each shape is that of the text at its place

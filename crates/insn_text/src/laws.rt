@@ -5,6 +5,7 @@ ghost use Rattle.sm_types.specs.declared.insn.Insn.{Insn};
 ghost use Rattle.a64_encode.specs.Either.{MeansEither};
 ghost use Rattle.insn_forms.specs.Tables.{Means, numbers_in};
 ghost use Rattle.a64_table.specs.Table.{scalar};
+ghost use Rattle.sve_table.specs.Table.{vector};
 ghost use Rattle.a64_table.specs.declared.rows.TheConstants.{SCALAR_LINES};
 ghost use Rattle.insn_text.specs.declared.item.Shape.{Shape};
 ghost use Rattle.insn_text.specs.declared.shapes.TheConstants.{ORDER, SHAPES};
@@ -12,8 +13,9 @@ ghost use Rattle.insn_text.specs.declared.words.TheConstants.{NAMES};
 ghost use Rattle.insn_text.specs.Cited.{is_cited, none_is_hidden};
 ghost use Rattle.insn_text.specs.Complete.{has_aliases, has_own};
 ghost use Rattle.insn_text.specs.Templates.{has_templates};
-ghost use Rattle.sve_table.specs.declared.rows.TheConstants.{LINES};
+ghost use Rattle.sve_table.specs.declared.rows.TheConstants.{VECTOR_LINES};
 ghost use Rattle.insn_text.specs.Names.{name_of};
+ghost use Rattle.insn_text.specs.VectorNames.{vector_name_of};
 ghost use Rattle.insn_text.specs.Rules.{IsPrinted};
 ghost use Rattle.insn_text.specs.Texts.{printed_shape, text_at};
 ghost use Rattle.insn_text.specs.Wordings.{are_shapes, have_shapes, stand_in_order, texts, vector_texts};
@@ -41,12 +43,15 @@ pub fn texts_are_those_of_rows()
     ensures order { none_is_hidden SHAPES ≡ true }
     ensures aliases { list_all has_aliases SCALAR_LINES ≡ true }
     ensures own { list_all has_own SCALAR_LINES ≡ true }
-    ensures vectors { list_all has_templates LINES ≡ true }
+    ensures vectors { list_all has_templates VECTOR_LINES ≡ true }
 {}
 
 /// The name in which a word is printed is that of its instruction's operation.
 pub fn names_are_those_of_operations()
-    ensures { (word : ℕ) (it : Insn) (means : Means scalar word it) (shape : Shape)
+    ensures scalars { (word : ℕ) (it : Insn) (means : Means scalar word it) (shape : Shape)
         → printed_shape word ≡ Some shape
         → text_at NAMES shape.name ≡ name_of means.line.operation (numbers_in word) }
+    ensures vectors { (word : ℕ) (it : Insn) (means : Means vector word it) (shape : Shape)
+        → printed_shape word ≡ Some shape
+        → text_at NAMES shape.name ≡ vector_name_of means.line.operation (numbers_in word) }
 {}
