@@ -58,6 +58,12 @@ pub never_both : (word other : ℕ) (it : Insn) → Means scalar word it → Mea
 never_both word other it m n = both_ways (is_vector_group it) (means_scalar word it m) (means_vector other it n)
 
 -- ---- an instruction's group says which table gives it
+pub scalar_of : (word : ℕ) (it : Insn) → MeansEither word it → is_vector_group it ≡ false → Means scalar word it
+scalar_of word it m g = elim m [ inl n ↦ n | inr n ↦ absurd (both_ways (is_vector_group it) g (means_vector word it n)) ]
+
+pub vector_of : (word : ℕ) (it : Insn) → MeansEither word it → is_vector_group it ≡ true → Means vector word it
+vector_of word it m g = elim m [ inl n ↦ absurd (both_ways (is_vector_group it) (means_scalar word it n) g) | inr n ↦ n ]
+
 by_either : (first second : Option Insn) (it : Insn) → option_or first second ≡ Some it → (first ≡ Some it) ⊎ (second ≡ Some it)
 by_either None second it e = inr e
 by_either (Some other) second it e = inl e

@@ -47,7 +47,7 @@ pub trait TableOperation: Copy + 'static {
     fn fits(self, word: u32) -> bool
         ensures { result ≡ table.fits self (numbers_in word) };
 
-    /// An instruction has at most one word, by its parts.
+    /// A word and the instruction that it means are made of each other, by the parts.
     ghost is_table: { IsTable table parts };
 
     /// No two operations have one number.
