@@ -6,12 +6,14 @@ use Rattle.std.specs.List.{position}
 use Rattle.std.specs.Str.{bytes_eq}
 use Rattle.insn_text.specs.declared.item.RegisterFile.{RegisterFile}
 use Rattle.insn_text.specs.declared.item.RegisterFile.TheVariants.{X, W}
+use Rattle.insn_text.specs.declared.item.VectorFile.{VectorFile}
+use Rattle.insn_text.specs.declared.item.VectorFile.TheVariants as vector
 use Rattle.insn_text.specs.declared.item.Text.{Text}
-use Rattle.insn_text.specs.declared.words.TheConstants.{WORDS}
+use Rattle.insn_text.specs.declared.words.TheConstants.{WORDS, SUFFIXES}
 use Rattle.insn_text.specs.Texts.{text_in}
 use Rattle.asm_tokens.specs.declared.token.Token.{Token}
 use Rattle.asm_tokens.specs.declared.token.Token.TheVariants.{Register, Word, Name, Number, Distance, Bare}
-use Rattle.asm_tokens.specs.declared.token.Token.TheVariants.{Malformed, Mark, Other}
+use Rattle.asm_tokens.specs.declared.token.Token.TheVariants.{Malformed, Mark, Other, Sized}
 use Rattle.asm_tokens.specs.declared.token.Lexeme.{Lexeme}
 use Rattle.asm_tokens.specs.Characters.{is_digit, is_name_character, is_blank, is_continuation, front, back}
 use Rattle.asm_tokens.specs.Numbers.{number_in, decimal_number}
@@ -19,6 +21,7 @@ use Rattle.asm_tokens.specs.Numbers.{number_in, decimal_number}
 -- the token is a name
 unfoldable pub is_name : Token → Bool
 is_name (Register file number) = true
+is_name (Sized file number suffix) = true
 is_name (Word place) = true
 is_name Name = true
 is_name _ = false
@@ -54,13 +57,57 @@ register_of (Some file) (Some number) = if nat_lt number 31 then Some (Register 
 unfoldable pub register_in : List ℕ → Option Token
 register_in cs = register_of (file_of (slice_index cs 0)) (decimal_number (drop 1 cs))
 
+-- the file of a letter, of vectors, predicates or the low parts of vectors
+unfoldable pub vector_file_of : ℕ → Option VectorFile
+vector_file_of c =
+    if c == 122 then Some vector.Z else if c == 112 then Some vector.P else if c == 98 then Some vector.B
+    else if c == 104 then Some vector.H else if c == 115 then Some vector.S
+    else if c == 100 then Some vector.D else None
+
+-- how many registers a file has
+unfoldable pub file_size : VectorFile → ℕ
+file_size vector.P = 16
+file_size vector.Za = 16
+file_size other = 32
+
+-- the suffixes of a file, by their places: a vector has any size of elements or none, a predicate none or one
+-- up to `.d`, a part of a vector none, a tile one, and a slice of a tile one behind its direction
+unfoldable pub has_suffix : VectorFile → ℕ → Bool
+has_suffix vector.Z suffix = nat_lt suffix 6
+has_suffix vector.P suffix = nat_lt suffix 5
+has_suffix vector.Za suffix = not (suffix == 0)
+has_suffix other suffix = suffix == 0
+
+-- a register of a file by its number and its suffix
+unfoldable pub sized_of : VectorFile → Option ℕ → Option ℕ → Option Token
+sized_of file None suffix = None
+sized_of file (Some number) None = None
+sized_of file (Some number) (Some suffix) =
+    if nat_lt number (file_size file) && has_suffix file suffix then Some (Sized file number suffix) else None
+
+-- the register that a name is: what follows the letters of its file is decimal digits and a suffix
+unfoldable pub sized_after : Option VectorFile → List ℕ → Option Token
+sized_after None cs = None
+sized_after (Some file) cs =
+    sized_of file (decimal_number (front is_digit cs)) (place_in SUFFIXES (back is_digit cs))
+
+-- the letters `za` come first
+unfoldable pub begins_za : List ℕ → Bool
+begins_za cs = (slice_index cs 0 == 122) && (slice_index cs 1 == 97)
+
+-- the register of vectors, predicates or ZA that a name is
+unfoldable pub sized_in : List ℕ → Option Token
+sized_in cs =
+    if begins_za cs then sized_after (Some vector.Za) (drop 2 cs)
+    else sized_after (vector_file_of (slice_index cs 0)) (drop 1 cs)
+
 abbrev pub token_or : Token → Option Token → Token
 token_or fallback None = fallback
 token_or _ (Some token) = token
 
 -- the token of a name: a register, a word, or another
 unfoldable pub token_of_name : List ℕ → Token
-token_of_name cs = token_or (name_token (place_in WORDS cs)) (register_in cs)
+token_of_name cs = token_or (token_or (name_token (place_in WORDS cs)) (sized_in cs)) (register_in cs)
 
 unfoldable pub number_token : Bool → Option ℕ → Token
 number_token negative None = Malformed

@@ -81,6 +81,19 @@ pub fn run_at(text: &[u8], at: usize) -> &[u8]
     &text[at..name_end(text, at)]
 }
 
+/// How many digits stand first.
+pub fn digits_end(text: &[u8]) -> usize
+    ensures value { result ≡ length (front is_digit text.now) }
+    ensures within { result ≤ length text.now }
+{
+    for end in 0..text.len() {
+        if !is_digit(text[end]) {
+            return end;
+        }
+    }
+    text.len()
+}
+
 /// Where the bytes that continue a character end.
 pub fn character_end(text: &[u8], at: usize) -> usize
     requires { at ≤ length text.now }

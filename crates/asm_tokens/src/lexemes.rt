@@ -4,15 +4,16 @@ ghost use Rattle.std.specs.Prelude.{MatchOption, IfSome, IsTrue};
 ghost use Rattle.asm_tokens.specs.Tokens.{number_token, distance_token, bare_token, name_token, file_of};
 ghost use Rattle.asm_tokens.specs.Tokens.{register_of, register_in, token_of_name, read_number};
 ghost use Rattle.asm_tokens.specs.Tokens.{read_distance, read_run, read_character, read_token, has_sign};
-ghost use Rattle.asm_tokens.specs.Tokens.{begins_name, lexeme_at, lexemes_of};
+ghost use Rattle.asm_tokens.specs.Tokens.{begins_name, lexeme_at, lexemes_of, vector_file_of, file_size};
+ghost use Rattle.asm_tokens.specs.Tokens.{has_suffix, sized_of, sized_after, begins_za, sized_in};
 
 use crate::characters::{
-    byte_at, character_end, is_blank, is_digit, is_name_character, run_at, skip_blanks,
+    byte_at, character_end, digits_end, is_blank, is_digit, is_name_character, run_at, skip_blanks,
 };
-use crate::names::word_place;
+use crate::names::{suffix_place, word_place};
 use crate::numbers::{decimal_number, number_in};
 use crate::token::{Lexeme, Token};
-use insn_text::RegisterFile;
+use insn_text::{RegisterFile, VectorFile};
 
 #[tactic(auto, unfolding(crate::specs::Tokens::number_token))]
 fn number_token(negative: bool, number: Option<u64>) -> Token
@@ -94,6 +95,100 @@ fn register_in(name: &[u8]) -> Option<Token>
     }
 }
 
+/// The file of a letter, of vectors, predicates or the low parts of vectors.
+#[tactic(auto, unfolding(crate::specs::Tokens::vector_file_of))]
+fn vector_file_of(letter: u8) -> Option<VectorFile>
+    ensures { result ≡ vector_file_of letter }
+{
+    match letter {
+        b'z' => Some(VectorFile::Z),
+        b'p' => Some(VectorFile::P),
+        b'b' => Some(VectorFile::B),
+        b'h' => Some(VectorFile::H),
+        b's' => Some(VectorFile::S),
+        b'd' => Some(VectorFile::D),
+        _ => None,
+    }
+}
+
+/// How many registers a file has.
+#[tactic(auto, unfolding(crate::specs::Tokens::file_size))]
+fn file_size(file: VectorFile) -> u64
+    ensures value { result ≡ file_size file }
+    ensures small { result ≤ 32 }
+{
+    match file {
+        VectorFile::P | VectorFile::Za => 16,
+        VectorFile::Z | VectorFile::B | VectorFile::H | VectorFile::S | VectorFile::D => 32,
+    }
+}
+
+/// Whether a register of the file may have the suffix at a place.
+#[tactic(auto, unfolding(crate::specs::Tokens::has_suffix))]
+fn has_suffix(file: VectorFile, suffix: u16) -> bool
+    ensures { result ≡ has_suffix file suffix }
+{
+    match file {
+        VectorFile::Z => suffix < 6,
+        VectorFile::P => suffix < 5,
+        VectorFile::Za => suffix != 0,
+        VectorFile::B | VectorFile::H | VectorFile::S | VectorFile::D => suffix == 0,
+    }
+}
+
+/// A register of a file by its number and its suffix.
+#[tactic(auto, unfolding(crate::specs::Tokens::sized_of))]
+fn sized_of(file: VectorFile, number: u64, suffix: u16) -> Option<Token>
+    ensures { result ≡ sized_of file (Some number) (Some suffix) }
+{
+    if number < file_size(file) && has_suffix(file, suffix) {
+        Some(Token::Sized {
+            file,
+            number: number as u8,
+            suffix,
+        })
+    } else {
+        None
+    }
+}
+
+/// The register of a file whose number and suffix a text is.
+#[tactic(auto, unfolding(crate::specs::Tokens::sized_after, crate::specs::Tokens::sized_of))]
+fn sized_after(file: VectorFile, text: &[u8]) -> Option<Token>
+    ensures { result ≡ sized_after (Some file) text.now }
+{
+    let (digits, rest) = text.split_at(digits_end(text));
+    let number = decimal_number(digits)?;
+    let suffix = suffix_place(rest)?;
+    sized_of(file, number, suffix)
+}
+
+/// The letters `za` come first.
+#[tactic(auto, unfolding(crate::specs::Tokens::begins_za))]
+fn begins_za(name: &[u8]) -> bool
+    ensures value { result ≡ begins_za name.now }
+    ensures within { IsTrue result → 2 ≤ length name.now }
+{
+    byte_at(name, 0) == b'z' && byte_at(name, 1) == b'a'
+}
+
+/// The register of vectors, predicates or ZA that a name is.
+#[tactic(auto, unfolding(crate::specs::Tokens::sized_in, crate::specs::Tokens::sized_after), using(crate::proofs::Registers::none_sized))]
+fn sized_in(name: &[u8]) -> Option<Token>
+    ensures { result ≡ sized_in name.now }
+{
+    if name.is_empty() {
+        return None;
+    }
+    if begins_za(name) {
+        return sized_after(VectorFile::Za, &name[2..]);
+    }
+    match vector_file_of(byte_at(name, 0)) {
+        Some(file) => sized_after(file, &name[1..]),
+        None => None,
+    }
+}
+
 /// The token of a name: a register, a word, or another.
 #[tactic(auto, unfolding(crate::specs::Tokens::token_of_name))]
 fn token_of_name(name: &[u8]) -> Token
@@ -101,7 +196,10 @@ fn token_of_name(name: &[u8]) -> Token
 {
     match register_in(name) {
         Some(token) => token,
-        None => name_token(word_place(name)),
+        None => match sized_in(name) {
+            Some(token) => token,
+            None => name_token(word_place(name)),
+        },
     }
 }
 

@@ -1,13 +1,13 @@
 //! Names and words of operands, found in their tables.
-ghost use Rattle.std.specs.Prelude.{◌≡◌, ◌≤◌, ◌<◌, Some, slice_index};
+ghost use Rattle.std.specs.Prelude.{◌≡◌, ◌≤◌, ◌<◌, Some, slice_index, length, IfSome};
 ghost use Rattle.std.specs.Str.{bytes_eq};
-ghost use Rattle.insn_text.specs.declared.words.TheConstants.{WORDS, NAMES};
+ghost use Rattle.insn_text.specs.declared.words.TheConstants.{WORDS, NAMES, SUFFIXES};
 ghost use Rattle.insn_text.specs.Texts.{text_in};
 ghost use Rattle.asm_tokens.specs.Tokens.{place_in};
 ghost use Rattle.asm_tokens.specs.Places.{hash_after, place_if, place_by, probed};
 
 use crate::places::{FACTOR, FREE, NAME_SLOTS, WORD_SLOTS};
-use insn_text::{NAMES, Text, WORDS};
+use insn_text::{NAMES, SUFFIXES, Text, WORDS};
 
 #[inline(always)]
 fn hash(text: &[u8], factor: u32, size: u32) -> usize
@@ -74,6 +74,15 @@ fn probed(texts: &[Text], slots: &[u16], size: usize, text: &[u8], start: usize)
     None
 }
 
+/// The first place of the text in a table.
+#[tactic(auto, unfolding(crate::specs::Tokens::place_in))]
+fn place_in(texts: &[Text], text: &[u8]) -> Option<usize>
+    ensures value { result ≡ place_in texts.now text.now }
+    ensures within { IfSome result (λ place. place < length texts.now) }
+{
+    texts.iter().position(|t| is_text(t, text))
+}
+
 #[tactic(auto, unfolding(crate::specs::Places::place_by))]
 fn word_by(text: &[u8]) -> Option<u16>
     ensures { result ≡ place_by WORDS WORD_SLOTS FACTOR 512 text.now }
@@ -94,6 +103,16 @@ pub fn word_place(text: &[u8]) -> Option<u16>
     ensures { result ≡ place_in WORDS text.now }
 {
     word_by(text)
+}
+
+/// The place of a suffix of registers of vectors, predicates or ZA.
+pub fn suffix_place(text: &[u8]) -> Option<u16>
+    ensures { result ≡ place_in SUFFIXES text.now }
+{
+    match place_in(&SUFFIXES, text) {
+        Some(place) => Some(place as u16),
+        None => None,
+    }
 }
 
 /// The place of an instruction's name.

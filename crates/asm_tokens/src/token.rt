@@ -2,21 +2,37 @@
 ghost use Rattle.std.specs.Prelude.{◌≡◌};
 ghost use Rattle.asm_tokens.specs.Tokens.{is_name, is_number_token};
 
-use insn_text::RegisterFile;
+use insn_text::{RegisterFile, VectorFile};
 
 /// A token. A name is a run of letters, digits, `_`, `.` and `$` that begins with no digit.
 #[derive(Clone, Copy, PartialEq, Eq, Default)]
 pub enum Token {
     /// A name that is the letter of a file and a number, 0 to 30.
-    Register { file: RegisterFile, number: u8 },
+    Register {
+        file: RegisterFile,
+        number: u8,
+    },
+    /// A name that is a register of vectors, predicates or ZA: the letters of a file, a number, which the file
+    /// has, and a suffix, its place in `insn_text::SUFFIXES`.
+    Sized {
+        file: VectorFile,
+        number: u8,
+        suffix: u16,
+    },
     /// A name that is a word of operands: its place in `insn_text::WORDS`.
     Word(u16),
     /// Any other name.
     Name,
     /// `#n` or `#-n`.
-    Number { negative: bool, size: u64 },
+    Number {
+        negative: bool,
+        size: u64,
+    },
     /// `.+n`, or `.-n` for one back.
-    Distance { back: bool, size: u64 },
+    Distance {
+        back: bool,
+        size: u64,
+    },
     /// A number without `#`.
     Bare(u64),
     /// What begins as one of these numbers and is none, or does not fit 64 bits.
@@ -41,7 +57,10 @@ pub struct Lexeme {
 pub fn is_name(token: Token) -> bool
     ensures { result ≡ is_name token }
 {
-    matches!(token, Token::Register { .. } | Token::Word(_) | Token::Name)
+    matches!(
+        token,
+        Token::Register { .. } | Token::Sized { .. } | Token::Word(_) | Token::Name
+    )
 }
 
 /// Whether the token is a number of any form.
