@@ -1,15 +1,18 @@
 -- One instruction: its first fault, and what it does where it has none.
 -- Source: DDI 0487, D1.3 (exceptions, in their order), C6.2.
-use Rattle.std.specs.Prelude.{ℕ, ◌%◌, ◌==◌, Bool, true, false, cond, [], ◌∷◌, Option, Some, None}
+use Rattle.std.specs.Prelude.{ℕ, ◌%◌, ◌==◌, ◌&&◌, Bool, true, false, cond, [], ◌∷◌, Option, Some, None}
 use Rattle.std.specs.Prelude.{option_and_then}
 use Rattle.sm_types.specs.declared.insn.Insn.{Insn}
 use Rattle.sm_types.specs.declared.insn.Insn.TheVariants as insn
+use Rattle.sm_types.specs.declared.vector.PredicateCount.{PredicateCount}
+use Rattle.sm_types.specs.declared.vector.PredicateCount.TheVariants.{While, Active, SetFfr, ReadFfr, WriteFfr}
 use Rattle.sm_types.specs.declared.insn.System.{System}
 use Rattle.sm_types.specs.declared.insn.System.TheVariants.{Svc, Brk, Udf, Hint, Dmb, Dsb, Isb}
 use Rattle.sm_types.specs.declared.insn.SystemRegister.{SystemRegister}
 use Rattle.sm_types.specs.declared.insn.SystemRegister.TheVariants.{Nzcv, TpidrEl0, Tpidr2El0, Svcr}
 use Rattle.sm_types.specs.declared.stop.Exception.{Exception}
 use Rattle.sm_types.specs.declared.stop.Exception.TheVariants.{Undefined, PcAlign, Fetch, Breakpoint}
+use Rattle.sm_types.specs.declared.stop.Exception.TheVariants.{IllegalStreaming}
 use Rattle.a64_encode.specs.Either.{instruction_of}
 use Rattle.paged_memory.specs.Memory.{word_at}
 use Rattle.scalar_exec.specs.Registers.{past}
@@ -89,14 +92,36 @@ abbrev pub undefined_fault : Option ℕ → Option Exception
 undefined_fault None = None
 undefined_fault (Some word) = row_fault word (instruction_of word)
 
+-- whether an instruction is of the first-fault register
+abbrev pub is_first_fault_count : PredicateCount → Bool
+is_first_fault_count SetFfr = true
+is_first_fault_count (ReadFfr pd) = true
+is_first_fault_count (WriteFfr pn) = true
+is_first_fault_count (While signed wide size rm rn pd) = false
+is_first_fault_count (Active size pg pn rd) = false
+
+abbrev pub is_first_fault : Insn → Bool
+is_first_fault (insn.PredicateCount x) = is_first_fault_count x
+is_first_fault other = false
+
+-- an instruction of the first-fault register is illegal in Streaming SVE mode
+abbrev pub mode_fault : Insn → Bool → Option Exception
+mode_fault it streaming = cond (is_first_fault it && streaming) (Some IllegalStreaming) None
+
+-- the mode allows the instruction at PC
+abbrev pub illegal_fault : ProcessorState → Option Exception
+illegal_fault s = option_and_then (λ it. mode_fault it s.streaming) (insn_at s)
+
 -- the checks of the access that the instruction at PC makes to memory
 abbrev pub data_fault : ProcessorState → Option Exception
 data_fault s = option_and_then (λ it. transfer_fault it s.scalars s.memory) (insn_at s)
 
 -- the exception of the first check of the instruction itself that fails: it is aligned, it can be fetched,
--- and it is executed
+-- it is executed, and the mode allows it
 abbrev pub early_fault : ProcessorState → Option Exception
-early_fault s = first_fault (alignment_fault s ∷ fetch_fault (word_of s) ∷ undefined_fault (word_of s) ∷ [])
+early_fault s =
+    first_fault (alignment_fault s ∷ fetch_fault (word_of s) ∷ undefined_fault (word_of s)
+    ∷ illegal_fault s ∷ [])
 
 -- the exception of the first check that fails, if any does: those of the instruction come before those of its
 -- access
@@ -173,3 +198,53 @@ unless_fault vl None s = perform vl (insn_at s) s
 -- the effect of the instruction at PC, with this vector length in bytes
 unfoldable pub effect_of : ℕ → ProcessorState → Effect
 effect_of vl s = unless_fault vl (fault_of s) s
+
+abbrev pub is_call : System → Bool
+is_call (Svc imm) = true
+is_call (Brk imm) = false
+is_call (Udf imm) = false
+is_call (Hint imm) = false
+is_call (Dmb imm) = false
+is_call (Dsb imm) = false
+is_call (Isb imm) = false
+
+-- whether an instruction reads or writes vectors, predicates, FFR or ZA, or changes PSTATE.SM: the vector
+-- instructions, and SVC in Streaming SVE mode, which leaves it
+abbrev pub uses_bank : Insn → Bool → Bool
+uses_bank (insn.System x) streaming = is_call x && streaming
+uses_bank (insn.VectorArithmetic x) streaming = true
+uses_bank (insn.VectorLogical x) streaming = true
+uses_bank (insn.PredicatedBinary x) streaming = true
+uses_bank (insn.MultiplyAdd x) streaming = true
+uses_bank (insn.PredicatedUnary x) streaming = true
+uses_bank (insn.VectorShift x) streaming = true
+uses_bank (insn.VectorCopy x) streaming = true
+uses_bank (insn.VectorPermute x) streaming = true
+uses_bank (insn.VectorReduction x) streaming = true
+uses_bank (insn.VectorCompare x) streaming = true
+uses_bank (insn.Predicate x) streaming = true
+uses_bank (insn.PredicateCount x) streaming = true
+uses_bank (insn.ElementCount x) streaming = true
+uses_bank (insn.VectorAccess x) streaming = true
+uses_bank (insn.Sve2 x) streaming = true
+uses_bank (insn.Mode x) streaming = true
+uses_bank (insn.ArrayAccess x) streaming = true
+uses_bank (insn.TileAccess x) streaming = true
+uses_bank (insn.TileMove x) streaming = true
+uses_bank (insn.TileAdd x) streaming = true
+uses_bank (insn.OuterProduct x) streaming = true
+uses_bank (insn.StreamingLength x) streaming = true
+uses_bank other streaming = false
+
+abbrev pub uses_bank_where : Option Insn → Bool → Bool
+uses_bank_where (Some it) streaming = uses_bank it streaming
+uses_bank_where None streaming = false
+
+-- no check of the instruction itself fails, and it uses the bank
+abbrev pub needs_unless : Option Exception → ProcessorState → Bool
+needs_unless (Some exception) s = false
+needs_unless None s = uses_bank_where (insn_at s) s.streaming
+
+-- whether the instruction at PC cannot be executed without a bank: the checks of its access are made with one
+unfoldable pub needs_bank : ProcessorState → Bool
+needs_bank s = needs_unless (early_fault s) s
