@@ -5,6 +5,8 @@
 #[cfg(test)]
 mod active_elements;
 #[cfg(test)]
+mod banks;
+#[cfg(test)]
 mod elements;
 #[cfg(test)]
 mod encodings;

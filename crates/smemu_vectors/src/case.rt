@@ -112,7 +112,7 @@ fn step_line(alloc: Global, case: Case<'_>) -> Result<String> {
         tpidr2: case.tpidr2,
         pages,
     };
-    let end = machine.step();
+    let end = machine.step(None);
     outcome_line(alloc, end, &machine)
 }
 
