@@ -1,0 +1,7 @@
+pub mod Registers
+pub mod Sizes
+pub mod Vectors
+pub mod Copies
+pub mod Predicates
+pub mod Counts
+pub mod Step
