@@ -42,12 +42,12 @@ mask_at s n size = active_of (bytes_in size) (predicate_at s.registers n)
 unfoldable pub after_compare : ℕ → VectorCompare → VectorCore → VectorCore
 after_compare l (compare.Vectors op size zm pg zn pd) s =
     to_predicate_flags s pd (element_size size) (mask_at s pg (element_size size))
-    (vectors_compared op (element_size size) (l / 8) (predicate_at s.registers pg) (vector_at s.registers zn)
-    (vector_at s.registers zm))
+    (vectors_compared op (element_size size) (l / 8) (predicate_at s.registers pg)
+    (vector_at s.registers zn) (vector_at s.registers zm))
 after_compare l (compare.Immediate op size imm pg zn pd) s =
     to_predicate_flags s pd (element_size size) (mask_at s pg (element_size size))
-    (immediate_compared op (element_size size) (l / 8) (predicate_at s.registers pg) (vector_at s.registers zn)
-    imm)
+    (immediate_compared op (element_size size) (l / 8) (predicate_at s.registers pg)
+    (vector_at s.registers zn) imm)
 
 -- PTRUE; PFALSE; PTEST; AND to NAND (predicates), and ANDS to NANDS
 unfoldable pub after_predicate : ℕ → Predicate → VectorCore → VectorCore

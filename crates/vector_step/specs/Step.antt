@@ -9,6 +9,7 @@ use Rattle.vector_step.specs.Registers.{VectorCore}
 use Rattle.vector_step.specs.Vectors.{after_arithmetic, after_logical, after_binary, after_multiply_add}
 use Rattle.vector_step.specs.Vectors.{after_unary, after_shift, after_sve2}
 use Rattle.vector_step.specs.Copies.{after_copy}
+use Rattle.vector_step.specs.Permutes.{after_permute, after_reduction}
 use Rattle.vector_step.specs.Predicates.{after_compare, after_predicate, after_predicate_count}
 use Rattle.vector_step.specs.Counts.{after_element_count}
 
@@ -21,6 +22,8 @@ is_vector_computed (insn.MultiplyAdd x) = true
 is_vector_computed (insn.PredicatedUnary x) = true
 is_vector_computed (insn.VectorShift x) = true
 is_vector_computed (insn.VectorCopy x) = true
+is_vector_computed (insn.VectorPermute x) = true
+is_vector_computed (insn.VectorReduction x) = true
 is_vector_computed (insn.VectorCompare x) = true
 is_vector_computed (insn.Predicate x) = true
 is_vector_computed (insn.PredicateCount x) = true
@@ -41,6 +44,8 @@ vector_step l (insn.MultiplyAdd x) s = of_registers s (after_multiply_add x s.re
 vector_step l (insn.PredicatedUnary x) s = of_registers s (after_unary x s.registers)
 vector_step l (insn.VectorShift x) s = of_registers s (after_shift x s.registers)
 vector_step l (insn.VectorCopy x) s = of_registers s (after_copy x s.scalars s.registers)
+vector_step l (insn.VectorPermute x) s = of_registers s (after_permute x s.registers)
+vector_step l (insn.VectorReduction x) s = after_reduction l x s
 vector_step l (insn.VectorCompare x) s = after_compare l x s
 vector_step l (insn.Predicate x) s = after_predicate l x s
 vector_step l (insn.PredicateCount x) s = after_predicate_count l x s

@@ -8,6 +8,7 @@ ghost use Rattle.vector_step.specs.Step.{is_vector_computed, vector_step};
 use crate::compare::exec_compare;
 use crate::copies::exec_copy;
 use crate::counts::exec_element_count;
+use crate::permute::{exec_permute, exec_reduction};
 use crate::predicate::exec_predicate;
 use crate::predicate_count::exec_predicate_count;
 use crate::sve2::exec_sve2;
@@ -29,6 +30,8 @@ pub fn is_vector_computed(insn: &Insn) -> bool
         | Insn::PredicatedUnary(_)
         | Insn::VectorShift(_)
         | Insn::VectorCopy(_)
+        | Insn::VectorPermute(_)
+        | Insn::VectorReduction(_)
         | Insn::VectorCompare(_)
         | Insn::Predicate(_)
         | Insn::PredicateCount(_)
@@ -57,8 +60,6 @@ pub fn is_vector_computed(insn: &Insn) -> bool
         | Insn::Atomic(_)
         | Insn::System(_)
         | Insn::SystemMove(_)
-        | Insn::VectorPermute(_)
-        | Insn::VectorReduction(_)
         | Insn::VectorAccess(_)
         | Insn::Mode(_)
         | Insn::ArrayAccess(_)
@@ -71,8 +72,8 @@ pub fn is_vector_computed(insn: &Insn) -> bool
 }
 
 /// Executes a vector instruction that reads and writes scalar and vector registers alone, with its fields in
-/// their ranges: all registers are as it leaves them, but PC, which the caller moves. The lengths and the mode
-/// of the vectors are as before.
+/// their ranges: all registers are as it leaves them, but PC, which the caller moves. The lengths and the
+/// mode of the vectors are as before.
 #[tactic(auto, unfolding(crate::specs::Step::vector_step))]
 pub fn exec_vector(scalars: &mut Scalars, vectors: &mut Vectors, insn: &Insn)
     requires computed { IsTrue (is_vector_computed insn.now) }
@@ -91,6 +92,8 @@ pub fn exec_vector(scalars: &mut Scalars, vectors: &mut Vectors, insn: &Insn)
         Insn::PredicatedUnary(x) => exec_unary(vectors, x),
         Insn::VectorShift(x) => exec_shift(vectors, x),
         Insn::VectorCopy(x) => exec_copy(scalars, vectors, x),
+        Insn::VectorPermute(x) => exec_permute(vectors, x),
+        Insn::VectorReduction(x) => exec_reduction(scalars, vectors, x),
         Insn::VectorCompare(x) => exec_compare(scalars, vectors, x),
         Insn::Predicate(x) => exec_predicate(scalars, vectors, x),
         Insn::PredicateCount(x) => exec_predicate_count(scalars, vectors, x),
@@ -119,8 +122,6 @@ pub fn exec_vector(scalars: &mut Scalars, vectors: &mut Vectors, insn: &Insn)
         | Insn::Atomic(_)
         | Insn::System(_)
         | Insn::SystemMove(_)
-        | Insn::VectorPermute(_)
-        | Insn::VectorReduction(_)
         | Insn::VectorAccess(_)
         | Insn::Mode(_)
         | Insn::ArrayAccess(_)

@@ -8,6 +8,7 @@ mod compare;
 mod copies;
 mod counts;
 mod exec;
+mod permute;
 mod predicate;
 mod predicate_count;
 mod registers;

@@ -49,7 +49,8 @@ pub fn write_p(vectors: &mut Vectors, n: u8, bytes: &[u8])
 #[tactic(auto, using(sve_vectors::proofs::Whole::ffr_whole))]
 pub fn write_ffr(vectors: &mut Vectors, bytes: &[u8])
     requires long { length_of vectors.old ≡ 8 * length bytes.now }
-    ensures { vectors.new ≡ with_registers vectors.old (ffr_written vectors.old.registers (truths_of bytes.now)) }
+    ensures { vectors.new ≡
+        with_registers vectors.old (ffr_written vectors.old.registers (truths_of bytes.now)) }
 {
     vectors.ffr_mut().copy_from_slice(bytes);
 }
