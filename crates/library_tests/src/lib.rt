@@ -1,5 +1,5 @@
-//! Tests of the libraries by their public calls: words, lines of sources, memory, vectors, predicates,
-//! the lines of stops, and the object of a source.
+//! Tests of the libraries by their public calls: words, lines of sources, memory, vectors, predicates, vector
+//! instructions, the lines of stops, and the object of a source.
 #![tactic(auto)]
 
 #[cfg(test)]
@@ -18,6 +18,8 @@ mod memory;
 mod sources;
 #[cfg(test)]
 mod stops;
+#[cfg(test)]
+mod vector_steps;
 #[cfg(test)]
 mod vectors;
 #[cfg(test)]
