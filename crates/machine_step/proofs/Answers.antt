@@ -1,5 +1,6 @@
 -- What makes the answer of an instruction.
-use Rattle.std.proofs.Common.{◌≡◌, ◌%◌, Bool, true, false, cond, IsTrue, Option, Some, None, ℕ, refl, ap, sym, ◌∙◌}
+use Rattle.std.proofs.Common.{◌≡◌, ◌%◌, Bool, true, false, cond, IsTrue, Option, Some, None, ℕ, length, refl, ap, sym, ◌∙◌}
+use Rattle.sm_types.specs.declared.scalars.Scalars.{Scalars}
 use Rattle.sm_types.specs.declared.insn.Insn.{Insn}
 use Rattle.sm_types.specs.declared.insn.Insn.TheVariants as insn
 use Rattle.sm_types.specs.declared.insn.SystemMove.{SystemMove}
@@ -10,13 +11,22 @@ use Rattle.mem_access.specs.Transfer.{is_access, transfer_fault}
 use Rattle.a64_encode.specs.Either.{instruction_of}
 use Rattle.std.specs.Option.{option_or}
 use Rattle.scalar_exec.specs.Step.{is_scalar}
-use Rattle.machine_step.specs.ProcessorState.{ProcessorState}
+use Rattle.std.specs.Prelude.{if◌then◌else◌}
+use Rattle.std.proofs.lemmas.List.{length-replicate}
+use Rattle.sve_vectors.specs.Lengths.{current_bytes}
+use Rattle.sve_vectors.specs.State.{SveState, length_of}
+use Rattle.vector_step.specs.Registers.{VectorCore, with_registers}
+use Rattle.vector_step.specs.Registers.{core_of as vector_registers}
+use Rattle.vector_step.specs.Step.{vector_step}
+use Rattle.mem_access.specs.VectorState.{zero_array, with_no_array}
+use Rattle.machine_step.specs.ProcessorState.{ProcessorState, vector_bytes}
 use Rattle.machine_step.specs.System.{system_move, core_past, moved}
 use Rattle.machine_step.specs.Effect.{Effect, Raises, Becomes, word_of, insn_at, is_executed, is_executed_register, next_of, unless_fault}
-use Rattle.machine_step.specs.Effect.{fault_of, effect_of, perform, row_fault, data_fault, accessed, computed}
+use Rattle.machine_step.specs.Effect.{fault_of, effect_of, perform, row_fault, data_fault, accessed, computed, vector_computed, with_core}
 use Rattle.machine_step.specs.Effect.{mode_fault, illegal_fault, early_fault, uses_bank, uses_bank_where, needs_unless, needs_bank}
 use Rattle.machine_step.specs.Execution.{effect_of_insn, effect_of_meaning, unless_raised, unless_refused, needs_of_insn, needs_of_meaning}
-use Rattle.machine_step.specs.Machine.{Steps}
+use Rattle.machine_step.specs.Machine.{Steps, core_of}
+use Rattle.machine_step.specs.declared.machine.Machine.{Machine}
 use Rattle.machine_step.specs.declared.machine.StepEnd.{StepEnd}
 use Rattle.machine_step.specs.declared.machine.StepEnd.TheVariants.{Next, Call, Raise, NeedsBank, Memory}
 
@@ -146,3 +156,22 @@ pub unneeded : (it : Insn) (s : ProcessorState) → uses_bank it s.streaming ≡
 unneeded it s h =
     ap (λ k. cond (is_executed it) (unless_refused (mode_fault it s.streaming) k) false) h
     ∙ cond_neither (is_executed it) (mode_fault it s.streaming)
+
+-- the current vector length of a machine with vectors in its mode
+pub length_is : (v : SveState) (streaming : Bool) → v.streaming ≡ streaming
+    → (if streaming then length (zero_array v.svl) else vector_bytes v.vl) ≡ length_of v
+unfolding zero_array
+length_is v true mode = length-replicate _ _ ∙ ap (current_bytes v.vl v.svl) (sym mode)
+length_is v false mode = ap (current_bytes v.vl v.svl) (sym mode)
+
+-- the machine and its vectors after a vector instruction that sees registers alone
+pub vector_core : (m : Machine) (v w : SveState) (scalars : Scalars) (it : Insn) → v.streaming ≡ m.streaming
+    → scalars ≡ (vector_step (length_of v) it (vector_registers m.scalars v)).scalars
+    → w ≡ with_registers v (vector_step (length_of v) it (vector_registers m.scalars v)).registers
+    → core_past (core_of (record m { scalars = scalars }) (with_no_array w))
+    ≡ vector_computed (vector_bytes v.vl) it (core_of m (with_no_array v))
+vector_core m v w scalars it mode is left =
+    let made : ℕ → VectorCore = λ l. vector_step l it (vector_registers m.scalars v) in
+    ap (λ k. core_past (core_of (record m { scalars = k }) (with_no_array w))) is
+    ∙ ap (λ k. core_past (core_of (record m { scalars = (made (length_of v)).scalars }) (with_no_array k))) left
+    ∙ ap (λ l. core_past (with_core (core_of m (with_no_array v)) (made l))) (sym (length_is v m.streaming mode))

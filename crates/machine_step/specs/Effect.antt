@@ -1,7 +1,7 @@
 -- One instruction: its first fault, and what it does where it has none.
 -- Source: DDI 0487, D1.3 (exceptions, in their order), C6.2.
 use Rattle.std.specs.Prelude.{ℕ, ◌%◌, ◌==◌, ◌&&◌, Bool, true, false, cond, [], ◌∷◌, Option, Some, None}
-use Rattle.std.specs.Prelude.{option_and_then}
+use Rattle.std.specs.Prelude.{option_and_then, length, if◌then◌else◌}
 use Rattle.sm_types.specs.declared.insn.Insn.{Insn}
 use Rattle.sm_types.specs.declared.insn.Insn.TheVariants as insn
 use Rattle.sm_types.specs.declared.vector.PredicateCount.{PredicateCount}
@@ -19,6 +19,8 @@ use Rattle.scalar_exec.specs.Registers.{past}
 use Rattle.scalar_exec.specs.Step.{scalar_step}
 use Rattle.sm_types.specs.Checks.{first_fault}
 use Rattle.mem_access.specs.Transfer.{after_access, transfer_fault}
+use Rattle.vector_step.specs.Registers.{VectorCore}
+use Rattle.vector_step.specs.Step.{is_vector_computed, vector_step}
 use Rattle.machine_step.specs.ProcessorState.{ProcessorState}
 use Rattle.machine_step.specs.System.{system_move, core_past}
 
@@ -47,7 +49,7 @@ is_executed_register TpidrEl0 = true
 is_executed_register Tpidr2El0 = true
 is_executed_register Svcr = false
 
--- the instructions that are executed; those of vectors are not yet
+-- the instructions that are executed; those of vectors that access memory or ZA, or change the mode, are not yet
 abbrev pub is_executed : Insn → Bool
 is_executed (insn.System x) = is_executed_system x
 is_executed (insn.SystemMove x) = is_executed_register x.register
@@ -72,7 +74,7 @@ is_executed (insn.LoadStore x) = true
 is_executed (insn.LoadLiteral x) = true
 is_executed (insn.LoadStorePair x) = true
 is_executed (insn.Atomic x) = true
-is_executed other = false
+is_executed other = is_vector_computed other
 
 -- PC is a multiple of 4
 abbrev pub alignment_fault : ProcessorState → Option Exception
@@ -159,6 +161,22 @@ accessed it s =
 abbrev pub computed : Insn → ProcessorState → ProcessorState
 computed it s = record s { scalars = scalar_step it s.scalars }
 
+-- the current vector length in bytes: SVL in Streaming SVE mode, which is the number of vectors of ZA, else VL
+abbrev pub length_at : ℕ → ProcessorState → ℕ
+length_at vl s = if s.streaming then length s.bank.za else vl
+
+-- the scalar and the vector registers
+abbrev pub registers_of : ProcessorState → VectorCore
+registers_of s = record { scalars = s.scalars; registers = s.bank.registers }
+
+-- the state with other scalar and vector registers
+abbrev pub with_core : ProcessorState → VectorCore → ProcessorState
+with_core s core = record s { scalars = core.scalars; bank = record s.bank { registers = core.registers } }
+
+-- the state after an instruction that sees the scalar and the vector registers alone
+abbrev pub vector_computed : ℕ → Insn → ProcessorState → ProcessorState
+vector_computed vl it s = core_past (with_core s (vector_step (length_at vl s) it (registers_of s)))
+
 -- what an executed instruction does where it has no fault, with this vector length in bytes
 abbrev pub next_of : ℕ → Insn → ProcessorState → Effect
 next_of vl (insn.System x) s = system_effect x s
@@ -184,7 +202,7 @@ next_of vl (insn.ConditionalCompare x) s = Becomes (computed (insn.ConditionalCo
 next_of vl (insn.OneSource x) s = Becomes (computed (insn.OneSource x) s)
 next_of vl (insn.TwoSource x) s = Becomes (computed (insn.TwoSource x) s)
 next_of vl (insn.Multiply x) s = Becomes (computed (insn.Multiply x) s)
-next_of vl other s = Becomes s
+next_of vl other s = Becomes (vector_computed vl other s)
 
 -- where there is no fault there is an instruction
 abbrev pub perform : ℕ → Option Insn → ProcessorState → Effect

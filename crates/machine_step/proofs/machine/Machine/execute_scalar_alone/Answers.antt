@@ -1,5 +1,4 @@
 use Rattle.std.proofs.Common.{◌≡◌, false, ◌&&◌, refl, ◌∙◌}
-use Rattle.machine_step.specs.Effect.{uses_bank}
 use Rattle.machine_step.specs.Machine.{core_of}
 use Rattle.machine_step.proofs.Answers.{unneeded}
 use Rattle.machine_step.proofs.machine.Machine.execute_scalar_alone.Goals as goal

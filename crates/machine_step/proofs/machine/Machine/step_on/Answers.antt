@@ -1,4 +1,4 @@
-use Rattle.std.proofs.Common.{◌≡◌, refl, subst}
+use Rattle.std.proofs.Common.{refl, subst}
 use Rattle.std.specs.Prelude.{option_and_then}
 use Rattle.a64_encode.specs.Either.{instruction_of}
 use Rattle.mem_access.specs.Bank.{bank_state}
