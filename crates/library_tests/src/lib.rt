@@ -1,5 +1,5 @@
-//! Tests of the libraries by their public calls: words, lines of sources, memory, vectors, predicates, vector
-//! instructions, the lines of stops, and the object of a source.
+//! Tests of the libraries by their public calls: words, lines of sources, memory, vectors, predicates,
+//! permutations and reductions, vector instructions, the lines of stops, and the object of a source.
 #![tactic(auto)]
 
 #[cfg(test)]
@@ -14,6 +14,8 @@ mod encodings;
 mod lines;
 #[cfg(test)]
 mod memory;
+#[cfg(test)]
+mod permutes;
 #[cfg(test)]
 mod sources;
 #[cfg(test)]

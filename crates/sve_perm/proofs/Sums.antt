@@ -1,13 +1,13 @@
 -- Numbers of lists with one element more.
 use Rattle.std.proofs.Common.{◌≡◌, ℕ, zero, suc, ◌+◌, ◌-◌, ◌*◌, ◌/◌, ◌%◌, ◌^◌, ◌<◌, ◌≤◌, Bool, true, false, if◌then◌else◌, List, [], ◌∷◌, ◌++◌}
-use Rattle.std.proofs.Common.{length, map, replicate, bit_or, bit_xor, ap, ap₂, append-nil, ◌∙◌, sym, arith, refl, inl, inr}
-use Rattle.std.specs.Prelude.{filter, fold, sum, ℤ, pos, negsuc, ◌+ℤ◌}
+use Rattle.std.proofs.Common.{map, replicate, bit_or, bit_xor, ap, ap₂, append-nil, ◌∙◌, sym, arith, refl, inl, inr}
+use Rattle.std.specs.Prelude.{filter, fold, ℤ, pos, negsuc, ◌+ℤ◌}
 use Rattle.std.specs.List.{range_with_len}
 use Rattle.std.proofs.lemmas.Bool.{cases_lt}
 use Rattle.std.proofs.lemmas.Int.{ints}
 use Rattle.std.proofs.lemmas.List.{map-append}
 use Rattle.std.proofs.lemmas.List.Elements.{filter-append}
-use Rattle.std.proofs.lemmas.Grind.{fold-append, common_steps}
+use Rattle.std.proofs.lemmas.Grind.{fold-append}
 use Rattle.std.proofs.lemmas.Nat.{or_lt, xor_lt}
 use Rattle.std.specs.Simd.Lanes.{digits_l}
 use Rattle.vector_elements.specs.declared.size.Size.{Size}

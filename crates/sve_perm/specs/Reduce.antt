@@ -1,7 +1,7 @@
 -- Reductions of the active elements of a vector to one number.
 -- Source: DDI 0487, C8.2: SADDV, UADDV, SMAXV, UMAXV, SMINV, UMINV, ORV, EORV and ANDV.
-use Rattle.std.specs.Prelude.{ℕ, ◌-◌, ◌%◌, ◌^◌, min, max, List, map, fold, sum, bit_and, bit_or, bit_xor}
-use Rattle.std.specs.Prelude.{length, pos, ◌+ℤ◌}
+use Rattle.std.specs.Prelude.{ℕ, ◌-◌, ◌%◌, ◌^◌, min, max, List, fold, sum, bit_and, bit_or, bit_xor}
+use Rattle.std.specs.Prelude.{pos, ◌+ℤ◌}
 use Rattle.std.specs.Simd.Lanes.{digits_l}
 use Rattle.sm_types.specs.declared.vector.ReductionOp.{ReductionOp}
 use Rattle.sm_types.specs.declared.vector.ReductionOp.TheVariants.{Saddv, Uaddv, Smaxv, Umaxv, Sminv, Uminv}

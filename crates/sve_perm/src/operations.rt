@@ -75,6 +75,14 @@ fn lowest(size: Size) -> u64
     }
 }
 
+/// The greatest signed number of an element, as an element.
+#[inline(always)]
+fn highest(size: Size) -> u64
+    ensures { result ≡ half_of size - 1 }
+{
+    lowest(size) - 1
+}
+
 /// The greatest number of an element without a sign.
 #[inline(always)]
 fn all_ones(size: Size) -> u64
@@ -148,7 +156,7 @@ impl Reduction for SignedLeast {
     #[inline(always)]
     #[tactic(auto, unfolding(crate::specs::Reduce::reduction_of))]
     fn neutral(self, size: Size) -> u64 {
-        lowest(size) - 1
+        highest(size)
     }
 
     #[inline(always)]

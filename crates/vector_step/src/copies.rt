@@ -178,8 +178,11 @@ pub fn exec_copy(scalars: &Scalars, vectors: &mut Vectors, x: &VectorCopy)
 {
     match *x {
         VectorCopy::Register { size, rn, zd } => {
-            let value = read_x_or_sp(scalars, rn);
-            change_vector(vectors, zd, zd, &Everywhere { size, value });
+            let change = Everywhere {
+                size,
+                value: read_x_or_sp(scalars, rn),
+            };
+            change_vector(vectors, zd, zd, &change);
         }
         VectorCopy::PredicatedRegister { size, pg, rn, zd } => {
             let value = read_x_or_sp(scalars, rn);

@@ -1,4 +1,4 @@
-use Rattle.std.proofs.Common.{◌≡◌, ◌≤◌, ◌-◌, ◌/◌, length, ap, ◌∙◌, sym, arith}
+use Rattle.std.proofs.Common.{◌-◌, ap, ◌∙◌, sym}
 use Rattle.vector_elements.specs.Elements.{element_of}
 use Rattle.vector_elements.specs.Numbers.{bytes_in}
 use Rattle.sve_perm.proofs.Permuted.{of_first, of_second}

@@ -1,6 +1,5 @@
-use Rattle.std.proofs.Common.{◌≡◌, ◌<◌, ◌≤◌, ◌+◌, ◌-◌, ◌*◌, ◌^◌, length, ap, ◌∙◌, sym, refl, arith}
+use Rattle.std.proofs.Common.{◌≡◌, ◌+◌, ◌-◌, ◌*◌, length, ap, ◌∙◌, sym, refl, arith}
 use Rattle.vector_elements.specs.Elements.{bit_of}
-use Rattle.vector_elements.specs.Numbers.{bytes_in}
 use Rattle.sve_perm.specs.Active.{active_places, last_or, last_place}
 use Rattle.sve_perm.proofs.Sums.{last_found, last_before, no_last, place_fits}
 use Rattle.sve_perm.proofs.last.last_place.Goals as goal
