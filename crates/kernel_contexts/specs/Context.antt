@@ -4,7 +4,9 @@ use Rattle.std.specs.FinMap.{empty}
 use Rattle.sm_types.specs.declared.config.Config.{Config}
 use Rattle.sm_types.specs.declared.stop.Stop.{Stop}
 use Rattle.paged_memory.specs.Image.{Program}
-use Rattle.machine_step.specs.ProcessorState.{VectorState, zero_bank}
+use Rattle.mem_access.specs.Bank.{bank_state}
+use Rattle.mem_access.specs.declared.bank.Bank.{Bank}
+use Rattle.machine_step.specs.ProcessorState.{VectorState}
 use Rattle.machine_step.specs.Machine.{core_of}
 use Rattle.machine_step.specs.declared.machine.Machine.{Machine}
 use Rattle.kernel_contexts.specs.State.{State}
@@ -28,17 +30,21 @@ guest_state g bank = record {
   turns = g.turns;
 }
 
--- with its own vectors, which no instruction reaches yet
+-- with the vectors of its save area
 abbrev pub held_state : GuestThread → State
-held_state g = guest_state g (zero_bank g.config.vl g.config.svl)
+held_state g = guest_state g (bank_state g.bank)
 
 -- the plain state of a context with a bank
 abbrev pub state_with : Context → VectorState → State
 state_with c bank = guest_state c.guest bank
 
--- the vectors that a context keeps
+-- its save area
+abbrev pub save_area_of : Context → Bank
+save_area_of c = c.guest.bank
+
+-- the vectors that a context keeps in it
 abbrev pub bank_of : Context → VectorState
-bank_of c = zero_bank c.guest.config.vl c.guest.config.svl
+bank_of c = bank_state (save_area_of c)
 
 -- the plain state of a context
 abbrev pub state_of : Context → State

@@ -1,4 +1,5 @@
 pub mod State
+pub mod SaveArea
 pub mod Call
 pub mod Turn
 pub mod Run

@@ -3,6 +3,7 @@ ghost use Rattle.std.specs.Prelude.{◌≡◌, ◌+◌, ◌*◌, ◌<◌, ◌≤
 
 use crate::guest::GuestThread;
 use machine_step::Machine;
+use mem_access::Bank;
 use paged_memory::Image;
 use sm_types::{Config, Memory, Stop};
 use std::alloc::Global;
@@ -27,10 +28,11 @@ pub struct Context {
 
 impl Context {
     ghost use Rattle.kernel_contexts.specs.State.{start_state};
-    ghost use Rattle.kernel_contexts.specs.Context.{state_of, config_of, thread_of, stop_of, machine_of};
+    ghost use Rattle.kernel_contexts.specs.Context.{state_of, config_of, thread_of, stop_of, machine_of, save_area_of};
     ghost use Rattle.kernel_contexts.specs.Context.{image_of, TurnsOrStays, IsSameThread};
 
-    /// A thread before its first turn, with its pages taken at once.
+    /// A thread before its first turn, with its pages and the save area of its vectors taken at once. `Memory`
+    /// is want of memory.
     pub fn start(
         alloc: Global,
         image: &Image,
@@ -118,5 +120,13 @@ impl Context {
         ensures { result.now ≡ machine_of self.now }
     {
         &self.guest.machine
+    }
+
+    /// The thread's vectors, predicates and FFR: its save area, a bank without an owner.
+    pub fn bank(&self) -> &Bank
+        ensures value { result.now ≡ save_area_of self.now }
+        ensures owner { result.now.owner ≡ None }
+    {
+        &self.guest.bank
     }
 }

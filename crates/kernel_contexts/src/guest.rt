@@ -1,26 +1,30 @@
 //! A guest thread as the kernel keeps it, and its turns.
 ghost use Rattle.std.specs.Prelude.{◌≡◌, ◌+◌, ◌*◌, ◌<◌, ◌≤◌, ◌^◌, vec_len, None, Some, IfOk};
+ghost use Rattle.kernel_contexts.specs.SaveArea.{IsSaveArea};
 ghost use Rattle.kernel_contexts.specs.State.{start_scalars};
 
 mod call;
 
 use crate::context::Turn;
 use machine_step::{Machine, StepEnd};
+use mem_access::Bank;
 use paged_memory::{Image, Pages};
 use sm_types::{Config, Memory, Scalars, Stop};
 use std::alloc::Global;
 
-/// A guest thread: its machine, its options, and what the kernel keeps of it. Its functions take it through
-/// the parts of a turn.
+/// A guest thread: its machine, the save area of its vectors, its options, and what the kernel keeps of it.
+/// Its functions take it through the parts of a turn.
 #[derive(Drop)]
 pub struct GuestThread {
     pub machine: Machine,
+    pub bank: Bank,
     pub config: Config,
     pub number: u32,
     pub output: Vec<u8>,
     pub count: u32,
     pub turns: u64,
     pub stop: Option<Stop>,
+    ghost save_area: { IsSaveArea config machine.streaming bank },
     ghost turns_are_few: { turns ≤ 3 * count + 2 },
     ghost turns_within: { turns ≤ 3 * config.budget },
     ghost within_budget: { count ≤ config.budget },
@@ -51,8 +55,8 @@ impl GuestThread {
     ghost use Rattle.kernel_contexts.specs.Call.{counted};
     ghost use Rattle.kernel_contexts.specs.Context.{held_state, guest_turn, Takes, IsSameGuest};
 
-    /// A thread before its first turn, with its pages taken at once.
-    #[tactic(auto, unfolding(crate::specs::State::start_state))]
+    /// A thread before its first turn, with its pages and its save area taken at once.
+    #[tactic(auto, unfolding(crate::specs::State::start_state, mem_access::specs::VectorState::zero_bank))]
     pub fn start(
         alloc: Global,
         image: &Image,
@@ -66,6 +70,7 @@ impl GuestThread {
         ensures stop { IfOk result (λ g. g.stop ≡ None) }
     {
         let pages = Pages::from_image(alloc, image)?;
+        let bank = Bank::new(alloc, config.vl, config.svl)?;
         let machine = Machine {
             scalars: start_registers(image.entry(), number, config.threads),
             streaming: false,
@@ -76,6 +81,7 @@ impl GuestThread {
         };
         Ok(GuestThread {
             machine,
+            bank,
             config: *config,
             number,
             output: Vec::new(alloc),
@@ -94,7 +100,7 @@ impl GuestThread {
         if self.count == self.config.budget {
             return self.stop_with(Stop::Budget);
         }
-        match self.machine.step() {
+        match self.machine.step(Some(&mut self.bank)) {
             StepEnd::Next => {
                 self.count_turn();
                 Turn::Ran
@@ -104,6 +110,7 @@ impl GuestThread {
                 let pc = self.machine.scalars.pc;
                 self.stop_with(Stop::Raised { exception, pc })
             }
+            StepEnd::NeedsBank => unreachable!(),
             StepEnd::Memory => Turn::Memory,
         }
     }

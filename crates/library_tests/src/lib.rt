@@ -1,9 +1,11 @@
 //! Tests of the libraries by their public calls: words, lines of sources, memory, vectors, predicates,
-//! the lines of stops, and the object of a source.
+//! permutations and reductions, vector instructions, the lines of stops, and the object of a source.
 #![tactic(auto)]
 
 #[cfg(test)]
 mod active_elements;
+#[cfg(test)]
+mod banks;
 #[cfg(test)]
 mod elements;
 #[cfg(test)]
@@ -13,9 +15,13 @@ mod lines;
 #[cfg(test)]
 mod memory;
 #[cfg(test)]
+mod permutes;
+#[cfg(test)]
 mod sources;
 #[cfg(test)]
 mod stops;
+#[cfg(test)]
+mod vector_steps;
 #[cfg(test)]
 mod vectors;
 #[cfg(test)]

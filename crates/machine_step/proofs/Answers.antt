@@ -1,5 +1,6 @@
 -- What makes the answer of an instruction.
-use Rattle.std.proofs.Common.{◌≡◌, ◌%◌, Bool, true, false, cond, IsTrue, Option, Some, None, ℕ, refl, ap, sym, ◌∙◌}
+use Rattle.std.proofs.Common.{◌≡◌, ◌%◌, Bool, true, false, cond, IsTrue, Option, Some, None, ℕ, length, refl, ap, sym, ◌∙◌}
+use Rattle.sm_types.specs.declared.scalars.Scalars.{Scalars}
 use Rattle.sm_types.specs.declared.insn.Insn.{Insn}
 use Rattle.sm_types.specs.declared.insn.Insn.TheVariants as insn
 use Rattle.sm_types.specs.declared.insn.SystemMove.{SystemMove}
@@ -10,14 +11,24 @@ use Rattle.mem_access.specs.Transfer.{is_access, transfer_fault}
 use Rattle.a64_encode.specs.Either.{instruction_of}
 use Rattle.std.specs.Option.{option_or}
 use Rattle.scalar_exec.specs.Step.{is_scalar}
-use Rattle.machine_step.specs.ProcessorState.{ProcessorState}
+use Rattle.std.specs.Prelude.{if◌then◌else◌}
+use Rattle.std.proofs.lemmas.List.{length-replicate}
+use Rattle.sve_vectors.specs.Lengths.{current_bytes}
+use Rattle.sve_vectors.specs.State.{SveState, length_of}
+use Rattle.vector_step.specs.Registers.{VectorCore, with_registers}
+use Rattle.vector_step.specs.Registers.{core_of as vector_registers}
+use Rattle.vector_step.specs.Step.{vector_step}
+use Rattle.mem_access.specs.VectorState.{zero_array, with_no_array}
+use Rattle.machine_step.specs.ProcessorState.{ProcessorState, vector_bytes}
 use Rattle.machine_step.specs.System.{system_move, core_past, moved}
 use Rattle.machine_step.specs.Effect.{Effect, Raises, Becomes, word_of, insn_at, is_executed, is_executed_register, next_of, unless_fault}
-use Rattle.machine_step.specs.Effect.{fault_of, effect_of, perform, row_fault, data_fault, accessed, computed}
-use Rattle.machine_step.specs.Execution.{effect_of_insn, effect_of_meaning, unless_raised}
-use Rattle.machine_step.specs.Machine.{Steps}
+use Rattle.machine_step.specs.Effect.{fault_of, effect_of, perform, row_fault, data_fault, accessed, computed, vector_computed, with_core}
+use Rattle.machine_step.specs.Effect.{mode_fault, illegal_fault, early_fault, uses_bank, uses_bank_where, needs_unless, needs_bank}
+use Rattle.machine_step.specs.Execution.{effect_of_insn, effect_of_meaning, unless_raised, unless_refused, needs_of_insn, needs_of_meaning}
+use Rattle.machine_step.specs.Machine.{Steps, core_of}
+use Rattle.machine_step.specs.declared.machine.Machine.{Machine}
 use Rattle.machine_step.specs.declared.machine.StepEnd.{StepEnd}
-use Rattle.machine_step.specs.declared.machine.StepEnd.TheVariants.{Next, Call, Raise, Memory}
+use Rattle.machine_step.specs.declared.machine.StepEnd.TheVariants.{Next, Call, Raise, NeedsBank, Memory}
 
 -- the state after an instruction that is executed
 pub steps_on : (effect : Effect) (old new made : ProcessorState) (end : StepEnd) → effect ≡ Becomes made → new ≡ made → end ≡ Next
@@ -25,6 +36,7 @@ pub steps_on : (effect : Effect) (old new made : ProcessorState) (end : StepEnd)
 steps_on effect old new made Next is same e = is ∙ ap Becomes (sym same)
 steps_on effect old new made (Call number) is same e = cc
 steps_on effect old new made (Raise exception) is same e = cc
+steps_on effect old new made NeedsBank is same e = cc
 steps_on effect old new made Memory is same e = cc
 
 -- an instruction of the scalar registers alone
@@ -55,39 +67,75 @@ pub move_effect : (word vl : ℕ) (x : SystemMove) (s : ProcessorState) → is_e
 unfolding system_move
 move_effect word vl x s h = ap (λ b. cond b (next_of vl (insn.SystemMove x) s) (Raises (Undefined word))) h
 
-unless_row : (executed : Bool) (fault : Option Exception) (word vl : ℕ) (it : Insn) (s : ProcessorState) → insn_at s ≡ Some it
-    → unless_fault vl (option_or (option_or (cond executed None (Some (Undefined word))) None) (option_or fault None)) s
-    ≡ cond executed (unless_raised fault (next_of vl it s)) (Raises (Undefined word))
-unless_row true None word vl it s h = ap (λ k. perform vl k s) h
-unless_row true (Some exception) word vl it s h = refl
-unless_row false fault word vl it s h = refl
+unless_row : (executed : Bool) (mode fault : Option Exception) (word vl : ℕ) (it : Insn) (s : ProcessorState) → insn_at s ≡ Some it
+    → unless_fault vl (option_or (option_or (cond executed None (Some (Undefined word))) (option_or mode None)) (option_or fault None)) s
+    ≡ cond executed (unless_raised mode (unless_raised fault (next_of vl it s))) (Raises (Undefined word))
+unless_row true None None word vl it s h = ap (λ k. perform vl k s) h
+unless_row true None (Some exception) word vl it s h = refl
+unless_row true (Some exception) fault word vl it s h = refl
+unless_row false mode fault word vl it s h = refl
 
-first_of : (s : ProcessorState) (word : ℕ) → s.scalars.pc % 4 ≡ 0 → word_of s ≡ Some word
-    → fault_of s ≡ option_or (option_or (row_fault word (instruction_of word)) None) (option_or (data_fault s) None)
-unfolding fault_of
-first_of s word aligned fetched = rw (aligned, fetched) refl
+needs_row : (executed : Bool) (mode : Option Exception) (word : ℕ) (it : Insn) (s : ProcessorState) → insn_at s ≡ Some it
+    → needs_unless (option_or (cond executed None (Some (Undefined word))) (option_or mode None)) s
+    ≡ cond executed (unless_refused mode (uses_bank it s.streaming)) false
+needs_row true None word it s h = ap (λ k. uses_bank_where k s.streaming) h
+needs_row true (Some exception) word it s h = refl
+needs_row false mode word it s h = refl
+
+-- the checks of the instruction itself, where its word was fetched
+early_of : (s : ProcessorState) (word : ℕ) → s.scalars.pc % 4 ≡ 0 → word_of s ≡ Some word
+    → early_fault s ≡ option_or (row_fault word (instruction_of word)) (option_or (illegal_fault s) None)
+early_of s word aligned fetched = rw (aligned, fetched) refl
+
+early_at : (s : ProcessorState) (word : ℕ) (it : Insn) → s.scalars.pc % 4 ≡ 0 → word_of s ≡ Some word → instruction_of word ≡ Some it
+    → insn_at s ≡ Some it → early_fault s ≡ option_or (row_fault word (Some it)) (option_or (mode_fault it s.streaming) None)
+early_at s word it aligned fetched is here =
+    early_of s word aligned fetched ∙ ap (λ k. option_or (row_fault word k) (option_or (illegal_fault s) None)) is
+    ∙ ap (λ k. option_or (row_fault word (Some it)) (option_or (option_and_then (λ i. mode_fault i s.streaming) k) None)) here
+
+insn_here : (s : ProcessorState) (word : ℕ) (it : Insn) → word_of s ≡ Some word → instruction_of word ≡ Some it → insn_at s ≡ Some it
+insn_here s word it fetched is = rw fetched is
 
 -- the effect at PC is that of the instruction there
 pub effect_at : (vl : ℕ) (s : ProcessorState) (word : ℕ) (it : Insn) → s.scalars.pc % 4 ≡ 0 → word_of s ≡ Some word
     → instruction_of word ≡ Some it → effect_of vl s ≡ effect_of_insn word it vl s
-unfolding effect_of
+unfolding effect_of fault_of
 effect_at vl s word it aligned fetched is =
-    let here : insn_at s ≡ Some it = rw fetched is in
-    let data_checks : data_fault s ≡ transfer_fault it s.scalars s.memory =
-    ap (option_and_then (λ k. transfer_fault k s.scalars s.memory)) here in
-    ap (λ k. unless_fault vl k s) (first_of s word aligned fetched
-    ∙ ap (λ k. option_or (option_or (row_fault word k) None) (option_or (data_fault s) None)) is
-    ∙ ap (λ k. option_or (option_or (row_fault word (Some it)) None) (option_or k None)) data_checks)
-    ∙ unless_row (is_executed it) (transfer_fault it s.scalars s.memory) word vl it s here
+    let here : insn_at s ≡ Some it = insn_here s word it fetched is in
+    ap (λ k. unless_fault vl (option_or k (option_or (data_fault s) None)) s) (early_at s word it aligned fetched is here)
+    ∙ ap (λ k. unless_fault vl (option_or (option_or (row_fault word (Some it)) (option_or (mode_fault it s.streaming) None))
+    (option_or (option_and_then (λ i. transfer_fault i s.scalars s.memory) k) None)) s) here
+    ∙ unless_row (is_executed it) (mode_fault it s.streaming) (transfer_fault it s.scalars s.memory) word vl it s here
 
 -- the effect at PC is that of the word there
 pub effect_of_word : (vl : ℕ) (s : ProcessorState) (word : ℕ) (meaning : Option Insn) → s.scalars.pc % 4 ≡ 0 → word_of s ≡ Some word
     → instruction_of word ≡ meaning → effect_of vl s ≡ effect_of_meaning word meaning vl s
-unfolding effect_of
+unfolding effect_of fault_of
 effect_of_word vl s word None aligned fetched is =
-    ap (λ k. unless_fault vl k s) (first_of s word aligned fetched
-    ∙ ap (λ k. option_or (option_or (row_fault word k) None) (option_or (data_fault s) None)) is)
+    ap (λ k. unless_fault vl (option_or k (option_or (data_fault s) None)) s) (early_of s word aligned fetched
+    ∙ ap (λ k. option_or (row_fault word k) (option_or (illegal_fault s) None)) is)
 effect_of_word vl s word (Some it) aligned fetched is = effect_at vl s word it aligned fetched is
+
+-- and it needs a bank where that does
+pub needs_of_word : (s : ProcessorState) (word : ℕ) (meaning : Option Insn) → s.scalars.pc % 4 ≡ 0 → word_of s ≡ Some word
+    → instruction_of word ≡ meaning → needs_bank s ≡ needs_of_meaning meaning s
+unfolding needs_bank
+needs_of_word s word None aligned fetched is =
+    ap (λ k. needs_unless k s) (early_of s word aligned fetched
+    ∙ ap (λ k. option_or (row_fault word k) (option_or (illegal_fault s) None)) is)
+needs_of_word s word (Some it) aligned fetched is =
+    let here : insn_at s ≡ Some it = insn_here s word it fetched is in
+    ap (λ k. needs_unless k s) (early_at s word it aligned fetched is here)
+    ∙ needs_row (is_executed it) (mode_fault it s.streaming) word it s here
+
+-- a check of the instruction itself that fails
+pub effect_refused : (vl : ℕ) (s : ProcessorState) (exception : Exception) → early_fault s ≡ Some exception → effect_of vl s ≡ Raises exception
+unfolding effect_of fault_of
+effect_refused vl s exception h = ap (λ k. unless_fault vl (option_or k (option_or (data_fault s) None)) s) h
+
+pub needs_refused : (s : ProcessorState) (exception : Exception) → early_fault s ≡ Some exception → needs_bank s ≡ false
+unfolding needs_bank
+needs_refused s exception h = ap (λ k. needs_unless k s) h
 
 -- a load, a store or an atomic instruction that no check refuses
 pub access_effect : (word vl : ℕ) (it : Insn) (s : ProcessorState) → IsTrue (is_access it) → transfer_fault it s.scalars s.memory ≡ None
@@ -97,3 +145,33 @@ access_effect word vl (insn.LoadLiteral x) s h none = ap (λ f. unless_raised f 
 access_effect word vl (insn.LoadStorePair x) s h none = ap (λ f. unless_raised f (next_of vl (insn.LoadStorePair x) s)) none
 access_effect word vl (insn.Atomic x) s h none = ap (λ f. unless_raised f (next_of vl (insn.Atomic x) s)) none
 access_effect word vl other s h none = cc
+
+cond_neither : (executed : Bool) (mode : Option Exception) → cond executed (unless_refused mode false) false ≡ false
+cond_neither true None = refl
+cond_neither true (Some exception) = refl
+cond_neither false mode = refl
+
+-- an instruction that does not use the bank does not need it
+pub unneeded : (it : Insn) (s : ProcessorState) → uses_bank it s.streaming ≡ false → needs_of_insn it s ≡ false
+unneeded it s h =
+    ap (λ k. cond (is_executed it) (unless_refused (mode_fault it s.streaming) k) false) h
+    ∙ cond_neither (is_executed it) (mode_fault it s.streaming)
+
+-- the current vector length of a machine with vectors in its mode
+pub length_is : (v : SveState) (streaming : Bool) → v.streaming ≡ streaming
+    → (if streaming then length (zero_array v.svl) else vector_bytes v.vl) ≡ length_of v
+unfolding zero_array
+length_is v true mode = length-replicate _ _ ∙ ap (current_bytes v.vl v.svl) (sym mode)
+length_is v false mode = ap (current_bytes v.vl v.svl) (sym mode)
+
+-- the machine and its vectors after a vector instruction that sees registers alone
+pub vector_core : (m : Machine) (v w : SveState) (scalars : Scalars) (it : Insn) → v.streaming ≡ m.streaming
+    → scalars ≡ (vector_step (length_of v) it (vector_registers m.scalars v)).scalars
+    → w ≡ with_registers v (vector_step (length_of v) it (vector_registers m.scalars v)).registers
+    → core_past (core_of (record m { scalars = scalars }) (with_no_array w))
+    ≡ vector_computed (vector_bytes v.vl) it (core_of m (with_no_array v))
+vector_core m v w scalars it mode is left =
+    let made : ℕ → VectorCore = λ l. vector_step l it (vector_registers m.scalars v) in
+    ap (λ k. core_past (core_of (record m { scalars = k }) (with_no_array w))) is
+    ∙ ap (λ k. core_past (core_of (record m { scalars = (made (length_of v)).scalars }) (with_no_array k))) left
+    ∙ ap (λ l. core_past (with_core (core_of m (with_no_array v)) (made l))) (sym (length_is v m.streaming mode))

@@ -1,21 +1,26 @@
 -- One instruction: its first fault, and what it does where it has none.
 -- Source: DDI 0487, D1.3 (exceptions, in their order), C6.2.
-use Rattle.std.specs.Prelude.{ℕ, ◌%◌, ◌==◌, Bool, true, false, cond, [], ◌∷◌, Option, Some, None}
-use Rattle.std.specs.Prelude.{option_and_then}
+use Rattle.std.specs.Prelude.{ℕ, ◌%◌, ◌==◌, ◌&&◌, Bool, true, false, cond, [], ◌∷◌, Option, Some, None}
+use Rattle.std.specs.Prelude.{option_and_then, length, if◌then◌else◌}
 use Rattle.sm_types.specs.declared.insn.Insn.{Insn}
 use Rattle.sm_types.specs.declared.insn.Insn.TheVariants as insn
+use Rattle.sm_types.specs.declared.vector.PredicateCount.{PredicateCount}
+use Rattle.sm_types.specs.declared.vector.PredicateCount.TheVariants.{While, Active, SetFfr, ReadFfr, WriteFfr}
 use Rattle.sm_types.specs.declared.insn.System.{System}
 use Rattle.sm_types.specs.declared.insn.System.TheVariants.{Svc, Brk, Udf, Hint, Dmb, Dsb, Isb}
 use Rattle.sm_types.specs.declared.insn.SystemRegister.{SystemRegister}
 use Rattle.sm_types.specs.declared.insn.SystemRegister.TheVariants.{Nzcv, TpidrEl0, Tpidr2El0, Svcr}
 use Rattle.sm_types.specs.declared.stop.Exception.{Exception}
 use Rattle.sm_types.specs.declared.stop.Exception.TheVariants.{Undefined, PcAlign, Fetch, Breakpoint}
+use Rattle.sm_types.specs.declared.stop.Exception.TheVariants.{IllegalStreaming}
 use Rattle.a64_encode.specs.Either.{instruction_of}
 use Rattle.paged_memory.specs.Memory.{word_at}
 use Rattle.scalar_exec.specs.Registers.{past}
 use Rattle.scalar_exec.specs.Step.{scalar_step}
 use Rattle.sm_types.specs.Checks.{first_fault}
 use Rattle.mem_access.specs.Transfer.{after_access, transfer_fault}
+use Rattle.vector_step.specs.Registers.{VectorCore}
+use Rattle.vector_step.specs.Step.{is_vector_computed, vector_step}
 use Rattle.machine_step.specs.ProcessorState.{ProcessorState}
 use Rattle.machine_step.specs.System.{system_move, core_past}
 
@@ -44,7 +49,7 @@ is_executed_register TpidrEl0 = true
 is_executed_register Tpidr2El0 = true
 is_executed_register Svcr = false
 
--- the instructions that are executed; those of vectors are not yet
+-- the instructions that are executed; those of vectors that access memory or ZA, or change the mode, are not yet
 abbrev pub is_executed : Insn → Bool
 is_executed (insn.System x) = is_executed_system x
 is_executed (insn.SystemMove x) = is_executed_register x.register
@@ -69,7 +74,7 @@ is_executed (insn.LoadStore x) = true
 is_executed (insn.LoadLiteral x) = true
 is_executed (insn.LoadStorePair x) = true
 is_executed (insn.Atomic x) = true
-is_executed other = false
+is_executed other = is_vector_computed other
 
 -- PC is a multiple of 4
 abbrev pub alignment_fault : ProcessorState → Option Exception
@@ -89,14 +94,36 @@ abbrev pub undefined_fault : Option ℕ → Option Exception
 undefined_fault None = None
 undefined_fault (Some word) = row_fault word (instruction_of word)
 
+-- whether an instruction is of the first-fault register
+abbrev pub is_first_fault_count : PredicateCount → Bool
+is_first_fault_count SetFfr = true
+is_first_fault_count (ReadFfr pd) = true
+is_first_fault_count (WriteFfr pn) = true
+is_first_fault_count (While signed wide size rm rn pd) = false
+is_first_fault_count (Active size pg pn rd) = false
+
+abbrev pub is_first_fault : Insn → Bool
+is_first_fault (insn.PredicateCount x) = is_first_fault_count x
+is_first_fault other = false
+
+-- an instruction of the first-fault register is illegal in Streaming SVE mode
+abbrev pub mode_fault : Insn → Bool → Option Exception
+mode_fault it streaming = cond (is_first_fault it && streaming) (Some IllegalStreaming) None
+
+-- the mode allows the instruction at PC
+abbrev pub illegal_fault : ProcessorState → Option Exception
+illegal_fault s = option_and_then (λ it. mode_fault it s.streaming) (insn_at s)
+
 -- the checks of the access that the instruction at PC makes to memory
 abbrev pub data_fault : ProcessorState → Option Exception
 data_fault s = option_and_then (λ it. transfer_fault it s.scalars s.memory) (insn_at s)
 
 -- the exception of the first check of the instruction itself that fails: it is aligned, it can be fetched,
--- and it is executed
+-- it is executed, and the mode allows it
 abbrev pub early_fault : ProcessorState → Option Exception
-early_fault s = first_fault (alignment_fault s ∷ fetch_fault (word_of s) ∷ undefined_fault (word_of s) ∷ [])
+early_fault s =
+    first_fault (alignment_fault s ∷ fetch_fault (word_of s) ∷ undefined_fault (word_of s)
+    ∷ illegal_fault s ∷ [])
 
 -- the exception of the first check that fails, if any does: those of the instruction come before those of its
 -- access
@@ -134,6 +161,22 @@ accessed it s =
 abbrev pub computed : Insn → ProcessorState → ProcessorState
 computed it s = record s { scalars = scalar_step it s.scalars }
 
+-- the current vector length in bytes: SVL in Streaming SVE mode, which is the number of vectors of ZA, else VL
+abbrev pub length_at : ℕ → ProcessorState → ℕ
+length_at vl s = if s.streaming then length s.bank.za else vl
+
+-- the scalar and the vector registers
+abbrev pub registers_of : ProcessorState → VectorCore
+registers_of s = record { scalars = s.scalars; registers = s.bank.registers }
+
+-- the state with other scalar and vector registers
+abbrev pub with_core : ProcessorState → VectorCore → ProcessorState
+with_core s core = record s { scalars = core.scalars; bank = record s.bank { registers = core.registers } }
+
+-- the state after an instruction that sees the scalar and the vector registers alone
+abbrev pub vector_computed : ℕ → Insn → ProcessorState → ProcessorState
+vector_computed vl it s = core_past (with_core s (vector_step (length_at vl s) it (registers_of s)))
+
 -- what an executed instruction does where it has no fault, with this vector length in bytes
 abbrev pub next_of : ℕ → Insn → ProcessorState → Effect
 next_of vl (insn.System x) s = system_effect x s
@@ -159,7 +202,7 @@ next_of vl (insn.ConditionalCompare x) s = Becomes (computed (insn.ConditionalCo
 next_of vl (insn.OneSource x) s = Becomes (computed (insn.OneSource x) s)
 next_of vl (insn.TwoSource x) s = Becomes (computed (insn.TwoSource x) s)
 next_of vl (insn.Multiply x) s = Becomes (computed (insn.Multiply x) s)
-next_of vl other s = Becomes s
+next_of vl other s = Becomes (vector_computed vl other s)
 
 -- where there is no fault there is an instruction
 abbrev pub perform : ℕ → Option Insn → ProcessorState → Effect
@@ -173,3 +216,53 @@ unless_fault vl None s = perform vl (insn_at s) s
 -- the effect of the instruction at PC, with this vector length in bytes
 unfoldable pub effect_of : ℕ → ProcessorState → Effect
 effect_of vl s = unless_fault vl (fault_of s) s
+
+abbrev pub is_call : System → Bool
+is_call (Svc imm) = true
+is_call (Brk imm) = false
+is_call (Udf imm) = false
+is_call (Hint imm) = false
+is_call (Dmb imm) = false
+is_call (Dsb imm) = false
+is_call (Isb imm) = false
+
+-- whether an instruction reads or writes vectors, predicates, FFR or ZA, or changes PSTATE.SM: the vector
+-- instructions, and SVC in Streaming SVE mode, which leaves it
+abbrev pub uses_bank : Insn → Bool → Bool
+uses_bank (insn.System x) streaming = is_call x && streaming
+uses_bank (insn.VectorArithmetic x) streaming = true
+uses_bank (insn.VectorLogical x) streaming = true
+uses_bank (insn.PredicatedBinary x) streaming = true
+uses_bank (insn.MultiplyAdd x) streaming = true
+uses_bank (insn.PredicatedUnary x) streaming = true
+uses_bank (insn.VectorShift x) streaming = true
+uses_bank (insn.VectorCopy x) streaming = true
+uses_bank (insn.VectorPermute x) streaming = true
+uses_bank (insn.VectorReduction x) streaming = true
+uses_bank (insn.VectorCompare x) streaming = true
+uses_bank (insn.Predicate x) streaming = true
+uses_bank (insn.PredicateCount x) streaming = true
+uses_bank (insn.ElementCount x) streaming = true
+uses_bank (insn.VectorAccess x) streaming = true
+uses_bank (insn.Sve2 x) streaming = true
+uses_bank (insn.Mode x) streaming = true
+uses_bank (insn.ArrayAccess x) streaming = true
+uses_bank (insn.TileAccess x) streaming = true
+uses_bank (insn.TileMove x) streaming = true
+uses_bank (insn.TileAdd x) streaming = true
+uses_bank (insn.OuterProduct x) streaming = true
+uses_bank (insn.StreamingLength x) streaming = true
+uses_bank other streaming = false
+
+abbrev pub uses_bank_where : Option Insn → Bool → Bool
+uses_bank_where (Some it) streaming = uses_bank it streaming
+uses_bank_where None streaming = false
+
+-- no check of the instruction itself fails, and it uses the bank
+abbrev pub needs_unless : Option Exception → ProcessorState → Bool
+needs_unless (Some exception) s = false
+needs_unless None s = uses_bank_where (insn_at s) s.streaming
+
+-- whether the instruction at PC cannot be executed without a bank: the checks of its access are made with one
+unfoldable pub needs_bank : ProcessorState → Bool
+needs_bank s = needs_unless (early_fault s) s

@@ -3,3 +3,4 @@ pub mod System
 pub mod Effect
 pub mod Execution
 pub mod Machine
+pub mod Lent

@@ -1,14 +1,18 @@
 -- What a machine, which has no vectors of its own, is together with a bank of vectors.
-use Rattle.std.specs.Prelude.{◌≡◌, ℕ, Option, IfSome, option_and_then}
+use Rattle.std.specs.Prelude.{◌≡◌, ℕ, ◌%◌, Bool, true, false, Option, Some, Result, Ok, Err, IfSome}
+use Rattle.std.specs.Prelude.{option_and_then}
 use Rattle.sm_types.specs.declared.insn.Insn.{Insn}
+use Rattle.sm_types.specs.declared.stop.Exception.{Exception}
 use Rattle.paged_memory.specs.Memory.{word_at}
 use Rattle.a64_encode.specs.Either.{instruction_of}
+use Rattle.mem_access.specs.Bank.{bank_state}
 use Rattle.mem_access.specs.Transfer.{HasRoomFor}
-use Rattle.machine_step.specs.ProcessorState.{ProcessorState, VectorState}
-use Rattle.machine_step.specs.Effect.{Effect, Raises, Calls, Becomes}
+use Rattle.mem_access.specs.declared.bank.Bank.{Bank}
+use Rattle.machine_step.specs.ProcessorState.{ProcessorState, VectorState, vector_bytes}
+use Rattle.machine_step.specs.Effect.{Effect, Raises, Calls, Becomes, early_fault}
 use Rattle.machine_step.specs.declared.machine.Machine.{Machine}
 use Rattle.machine_step.specs.declared.machine.StepEnd.{StepEnd}
-use Rattle.machine_step.specs.declared.machine.StepEnd.TheVariants.{Next, Call, Raise, Memory}
+use Rattle.machine_step.specs.declared.machine.StepEnd.TheVariants.{Next, Call, Raise, NeedsBank, Memory}
 
 -- the state of a machine and a bank
 abbrev pub core_of : Machine → VectorState → ProcessorState
@@ -22,6 +26,11 @@ core_of m bank =
       memory = m.pages.memory;
       bank = bank;
     }
+
+-- the word at PC, or the exception of the check that fails
+abbrev pub IsFetched : Machine → Result ℕ Exception → Type 0
+IsFetched m (Ok word) = (m.scalars.pc % 4 ≡ 0) × (word_at m.pages.memory m.scalars.pc ≡ Some word)
+IsFetched m (Err exception) = (bank : VectorState) → early_fault (core_of m bank) ≡ Some exception
 
 -- the instruction is executed: it neither raises nor calls
 abbrev pub IsBecomes : Effect → Type 0
@@ -38,15 +47,46 @@ abbrev pub HasRoomToStep : Machine → Type 0
 HasRoomToStep m = HasRoomIn m (option_and_then instruction_of (word_at m.pages.memory m.scalars.pc))
 
 -- the answer of a step is the effect of the instruction, and all answers but Next leave the state as it was;
--- memory can only be wanting where the instruction is executed
+-- memory can only be wanting where the instruction is executed, and a bank where there is none
 abbrev pub Steps : Effect → ProcessorState → ProcessorState → StepEnd → Type 0
 Steps effect old new Next = effect ≡ Becomes new
 Steps effect old new (Call number) = (effect ≡ Calls number) × (new ≡ old)
 Steps effect old new (Raise exception) = (effect ≡ Raises exception) × (new ≡ old)
+Steps effect old new NeedsBank = ⊥
 Steps effect old new Memory = (new ≡ old) × IsBecomes effect
+
+-- the answer of a step that has no bank and may need one
+abbrev pub StepsUnless : Bool → Effect → ProcessorState → ProcessorState → StepEnd → Type 0
+StepsUnless true effect old new end = (end ≡ NeedsBank) × (new ≡ old)
+StepsUnless false effect old new end = Steps effect old new end
 
 -- an answer of a machine, with every bank and every vector length in bytes
 abbrev pub StepsBy : (ℕ → ProcessorState → Effect) → Machine → Machine → StepEnd → Type 0
 StepsBy effect old new end =
     (vl : ℕ) (bank : VectorState) → Steps (effect vl (core_of old bank)) (core_of old bank)
     (core_of new bank) end
+
+-- an answer of a machine that has no bank: whatever a bank would hold, either it is needed, or the answer is
+-- that with it
+abbrev pub StepsAlone :
+    (ProcessorState → Bool) → (ℕ → ProcessorState → Effect) → Machine → Machine → StepEnd → Type 0
+StepsAlone needs effect old new end =
+    (vl : ℕ) (bank : VectorState) → StepsUnless (needs (core_of old bank)) (effect vl (core_of old bank))
+    (core_of old bank) (core_of new bank) end
+
+-- an answer of a machine with a bank, VL being that of its vectors
+abbrev pub StepsOn :
+    (ℕ → ProcessorState → Effect) → Machine → Bank → Machine → Bank → StepEnd → Type 0
+StepsOn effect old before new after end =
+    Steps (effect (vector_bytes before.vectors.vl) (core_of old (bank_state before)))
+    (core_of old (bank_state before)) (core_of new (bank_state after)) end
+
+-- the vectors of a bank are in the mode of the machine
+abbrev pub IsInMode : Bank → Machine → Type 0
+IsInMode bank m = bank.vectors.streaming ≡ m.streaming
+
+-- the lengths and the owner of a bank stay
+pub record IsSameBank (old new : Bank) : Type 0 where
+  pub vl : new.vectors.vl ≡ old.vectors.vl
+  pub svl : new.vectors.svl ≡ old.vectors.svl
+  pub owner : new.owner ≡ old.owner

@@ -3,6 +3,8 @@
 #![tactic(auto)]
 
 mod machine;
+mod scalar;
 mod system;
+mod vector;
 
 pub use machine::{Machine, StepEnd};

@@ -1,22 +1,18 @@
 //! The machine and its step.
-ghost use Rattle.std.specs.Prelude.{ℕ, ◌≡◌, ◌≢◌, ◌<◌, IsTrue};
-ghost use Rattle.a64_table.specs.Ranges.{IsInRow};
+ghost use Rattle.std.specs.Prelude.{◌≡◌, ◌≢◌};
 ghost use Rattle.a64_encode.specs.Either.{instruction_of};
-ghost use Rattle.scalar_exec.specs.Step.{is_scalar, scalar_step, flowed};
 ghost use Rattle.paged_memory.specs.PageTable.{KeepsOwned};
-ghost use Rattle.mem_access.specs.Transfer.{is_access, HasRoomFor};
-ghost use Rattle.machine_step.specs.ProcessorState.{VectorState};
-ghost use Rattle.machine_step.specs.System.{moved, core_past, system_register, with_system_register};
-ghost use Rattle.machine_step.specs.Effect.{effect_of, is_executed_register};
-ghost use Rattle.machine_step.specs.Execution.{effect_of_meaning, effect_of_insn};
-ghost use Rattle.machine_step.specs.Machine.{core_of, HasRoomIn, HasRoomToStep, StepsBy};
+ghost use Rattle.machine_step.specs.Effect.{effect_of, needs_bank};
+ghost use Rattle.machine_step.specs.Execution.{effect_of_meaning, needs_of_meaning};
+ghost use Rattle.machine_step.specs.Machine.{HasRoomIn, HasRoomToStep, IsFetched, StepsAlone, StepsOn, IsInMode};
+ghost use Rattle.machine_step.specs.Machine.{IsSameBank};
+ghost use Rattle.machine_step.specs.Lent.{lent_before, lent_after, IsLentInMode, Answers, ComesBack};
 
-use crate::system::{read_nzcv, write_nzcv};
 use a64_decode::decode_scalar;
-use mem_access::{AccessStop, transfer};
+use mem_access::Bank;
 use paged_memory::Pages;
-use scalar_exec::{Flow, exec_scalar, next_address, read_x, write_x};
-use sm_types::{Exception, Insn, Scalars, System, SystemMove, SystemMoveOp, SystemRegister};
+use sm_types::{Exception, Scalars};
+use sve_decode::decode_vector;
 
 /// What a step came to.
 #[derive(Clone, Copy, Debug, PartialEq, Eq)]
@@ -27,6 +23,8 @@ pub enum StepEnd {
     Call(u16),
     /// The instruction raises; nothing has changed.
     Raise(Exception),
+    /// The instruction needs a bank, and none was given; nothing has changed.
+    NeedsBank,
     /// There was no memory for a page that is written; nothing has changed.
     Memory,
 }
@@ -46,193 +44,98 @@ pub struct Machine {
     pub pages: Pages,
 }
 
-/// Whether moves of a system register are executed.
-fn is_executed(register: SystemRegister) -> bool
-    ensures { result ≡ is_executed_register register }
-{
-    match register {
-        SystemRegister::Nzcv => true,
-        SystemRegister::TpidrEl0 => true,
-        SystemRegister::Tpidr2El0 => true,
-        SystemRegister::Svcr => false,
-    }
-}
-
-/// Moves PC as the flow of an instruction says.
-#[tactic(auto, unfolding(scalar_exec::specs::Step::flowed, scalar_exec::specs::Registers::past))]
-fn move_pc(s: &mut Scalars, flow: Flow)
-    ensures { s.new ≡ flowed s.old flow }
-{
-    s.pc = match flow {
-        Flow::Next => next_address(s.pc),
-        Flow::Jump(target) => target,
-    };
-}
-
 impl Machine {
-    /// Executes the instruction at PC. `Memory` comes only where it writes a page that is not owned.
-    #[tactic(auto, unfolding(crate::specs::Effect::fault_of, crate::specs::Effect::effect_of))]
-    pub fn step(&mut self) -> StepEnd
-        ensures effect { StepsBy effect_of self.old self.new result }
+    /// Executes the instruction at PC, on the bank where one is given. `NeedsBank` comes only where there is
+    /// none, and `Memory` only where the instruction writes a page that is not owned.
+    pub fn step(&mut self, bank: Option<&mut Bank>) -> StepEnd
+        requires { IsLentInMode (lent_before bank) self.old }
+        ensures effect { Answers (lent_before bank.entry) (lent_after bank.exit) self.old self.new result }
+        ensures bank { ComesBack (lent_before bank.entry) (lent_after bank.exit) self.new }
         ensures room { HasRoomToStep self.old → result ≢ StepEnd.Memory }
         ensures kept { KeepsOwned self.old.pages self.new.pages }
     {
-        let pc = self.scalars.pc;
-        if pc % 4 != 0 {
-            return StepEnd::Raise(Exception::PcAlign);
+        match bank {
+            Some(bank) => self.step_on(bank),
+            None => self.step_alone(),
         }
-        let Some(word) = self.pages.fetch(pc) else {
-            return StepEnd::Raise(Exception::Fetch);
-        };
-        self.execute_word(word)
     }
 
-    /// Executes the instruction of a word. No vector instruction is executed yet: its word raises as one
-    /// without a row does.
+    /// Executes the instruction at PC on a bank.
+    fn step_on(&mut self, bank: &mut Bank) -> StepEnd
+        requires { IsInMode bank.old self.old }
+        ensures effect { StepsOn effect_of self.old bank.old self.new bank.new result }
+        ensures same { IsSameBank bank.old bank.new }
+        ensures mode { IsInMode bank.new self.new }
+        ensures room { HasRoomToStep self.old → result ≢ StepEnd.Memory }
+        ensures kept { KeepsOwned self.old.pages self.new.pages }
+    {
+        match self.fetch_word() {
+            Ok(word) => self.execute_on(word, bank),
+            Err(exception) => StepEnd::Raise(exception),
+        }
+    }
+
+    /// Executes the instruction at PC without a bank.
+    fn step_alone(&mut self) -> StepEnd
+        ensures effect { StepsAlone needs_bank effect_of self.old self.new result }
+        ensures room { HasRoomToStep self.old → result ≢ StepEnd.Memory }
+        ensures kept { KeepsOwned self.old.pages self.new.pages }
+    {
+        match self.fetch_word() {
+            Ok(word) => self.execute_alone(word),
+            Err(exception) => StepEnd::Raise(exception),
+        }
+    }
+
+    /// The word at PC, or why it cannot be fetched.
+    #[inline]
+    fn fetch_word(&self) -> Result<u32, Exception>
+        ensures { IsFetched self.now result }
+    {
+        let pc = self.scalars.pc;
+        if pc % 4 != 0 {
+            return Err(Exception::PcAlign);
+        }
+        match self.pages.fetch(pc) {
+            Some(word) => Ok(word),
+            None => Err(Exception::Fetch),
+        }
+    }
+
+    /// Executes the instruction of a word on a bank, by either table.
     #[tactic(auto, unfolding(a64_encode::specs::Either::instruction_of))]
-    fn execute_word(&mut self, word: u32) -> StepEnd
-        ensures effect { StepsBy (effect_of_meaning word (instruction_of word)) self.old self.new result }
+    fn execute_on(&mut self, word: u32, bank: &mut Bank) -> StepEnd
+        requires { IsInMode bank.old self.old }
+        ensures effect { StepsOn (effect_of_meaning word (instruction_of word)) self.old bank.old self.new bank.new
+            result }
+        ensures same { IsSameBank bank.old bank.new }
+        ensures mode { IsInMode bank.new self.new }
         ensures room { HasRoomIn self.old (instruction_of word) → result ≢ StepEnd.Memory }
         ensures kept { KeepsOwned self.old.pages self.new.pages }
     {
         match decode_scalar(word) {
             Some(insn) => self.execute(word, &insn),
-            None => StepEnd::Raise(Exception::Undefined(word)),
+            None => match decode_vector(word) {
+                Some(insn) => self.execute_vector(word, &insn, bank),
+                None => StepEnd::Raise(Exception::Undefined(word)),
+            },
         }
     }
 
-    /// Executes an instruction that the word means.
-    fn execute(&mut self, word: u32, insn: &Insn) -> StepEnd
-        requires { IsInRow insn.now }
-        ensures effect { StepsBy (effect_of_insn word insn.now) self.old self.new result }
-        ensures room { HasRoomFor insn.now self.old.scalars self.old.pages → result ≢ StepEnd.Memory }
+    /// Executes the instruction of a word without a bank, by either table.
+    #[tactic(auto, unfolding(a64_encode::specs::Either::instruction_of))]
+    fn execute_alone(&mut self, word: u32) -> StepEnd
+        ensures effect { StepsAlone (needs_of_meaning (instruction_of word))
+            (effect_of_meaning word (instruction_of word)) self.old self.new result }
+        ensures room { HasRoomIn self.old (instruction_of word) → result ≢ StepEnd.Memory }
         ensures kept { KeepsOwned self.old.pages self.new.pages }
     {
-        match insn {
-            Insn::System(x) => self.execute_system(word, *x),
-            Insn::SystemMove(x) => self.execute_move(word, x),
-            Insn::LoadStore(_) => self.execute_access(insn),
-            Insn::LoadLiteral(_) => self.execute_access(insn),
-            Insn::LoadStorePair(_) => self.execute_access(insn),
-            Insn::Atomic(_) => self.execute_access(insn),
-            _ => self.execute_scalar(insn),
-        }
-    }
-
-    /// Executes an instruction that reads and writes scalar registers alone.
-    fn execute_scalar(&mut self, insn: &Insn) -> StepEnd
-        requires scalar { IsTrue (is_scalar insn.now) }
-        requires fields { IsInRow insn.now }
-        ensures effect { (word : ℕ) → StepsBy (effect_of_insn word insn.now) self.old self.new result }
-        ensures answer { result ≡ StepEnd.Next }
-        ensures pages { self.new.pages ≡ self.old.pages }
-    {
-        let flow = exec_scalar(&mut self.scalars, insn);
-        move_pc(&mut self.scalars, flow);
-        StepEnd::Next
-    }
-
-    /// Executes a load, a store or an atomic instruction.
-    fn execute_access(&mut self, insn: &Insn) -> StepEnd
-        requires access { IsTrue (is_access insn.now) }
-        requires fields { IsInRow insn.now }
-        ensures effect { (word : ℕ) → StepsBy (effect_of_insn word insn.now) self.old self.new result }
-        ensures room { HasRoomFor insn.now self.old.scalars self.old.pages → result ≢ StepEnd.Memory }
-        ensures kept { KeepsOwned self.old.pages self.new.pages }
-    {
-        match transfer(insn, &mut self.scalars, &mut self.pages) {
-            Ok(()) => self.step_past(),
-            Err(AccessStop::Raise(exception)) => StepEnd::Raise(exception),
-            Err(AccessStop::Memory) => StepEnd::Memory,
-        }
-    }
-
-    /// Goes on to the next instruction.
-    #[tactic(auto, unfolding(scalar_exec::specs::Step::flowed))]
-    fn step_past(&mut self) -> StepEnd
-        ensures answer { result ≡ StepEnd.Next }
-        ensures pages { self.new.pages ≡ self.old.pages }
-        ensures core { (bank : VectorState) → core_of self.new bank ≡ core_past (core_of self.old bank) }
-    {
-        move_pc(&mut self.scalars, Flow::Next);
-        StepEnd::Next
-    }
-
-    /// Executes a call, an exception, a hint or a barrier.
-    fn execute_system(&mut self, word: u32, x: System) -> StepEnd
-        ensures effect { StepsBy (effect_of_insn word (Insn.System x)) self.old self.new result }
-        ensures room { result ≢ StepEnd.Memory }
-        ensures pages { self.new.pages ≡ self.old.pages }
-    {
-        match x {
-            System::Svc(imm) => StepEnd::Call(imm),
-            System::Brk(imm) => StepEnd::Raise(Exception::Breakpoint(imm)),
-            System::Udf(_) => StepEnd::Raise(Exception::Undefined(word)),
-            System::Hint(_) => self.step_past(),
-            System::Dmb(_) => self.step_past(),
-            System::Dsb(_) => self.step_past(),
-            System::Isb(_) => self.step_past(),
-        }
-    }
-
-    /// The value of a system register.
-    #[tactic(auto, unfolding(crate::specs::System::system_register))]
-    fn read_register(&self, register: SystemRegister) -> u64
-        ensures { (bank : VectorState) → result ≡ system_register register (core_of self.now bank) }
-    {
-        match register {
-            SystemRegister::Nzcv => read_nzcv(&self.scalars),
-            SystemRegister::TpidrEl0 => self.tpidr,
-            SystemRegister::Tpidr2El0 => self.tpidr2,
-            SystemRegister::Svcr => u64::from(self.streaming) + 2 * u64::from(self.za_on),
-        }
-    }
-
-    /// Writes a system register, but SVCR.
-    #[tactic(auto, unfolding(crate::specs::System::with_system_register))]
-    fn write_register(&mut self, register: SystemRegister, value: u64)
-        ensures core { (bank : VectorState)
-            → core_of self.new bank ≡ with_system_register register (core_of self.old bank) value }
-        ensures pages { self.new.pages ≡ self.old.pages }
-    {
-        match register {
-            SystemRegister::Nzcv => write_nzcv(&mut self.scalars, value),
-            SystemRegister::TpidrEl0 => self.tpidr = value,
-            SystemRegister::Tpidr2El0 => self.tpidr2 = value,
-            SystemRegister::Svcr => {}
-        }
-    }
-
-    /// Executes a move to or from a system register; those of SVCR raise.
-    fn execute_move(&mut self, word: u32, x: &SystemMove) -> StepEnd
-        requires { x.now.rt < 32 }
-        ensures effect { StepsBy (effect_of_insn word (Insn.SystemMove x.now)) self.old self.new result }
-        ensures room { result ≢ StepEnd.Memory }
-        ensures pages { self.new.pages ≡ self.old.pages }
-    {
-        if !is_executed(x.register) {
-            return StepEnd::Raise(Exception::Undefined(word));
-        }
-        self.move_register(x);
-        self.step_past()
-    }
-
-    /// Moves a system register to a register, or back.
-    fn move_register(&mut self, x: &SystemMove)
-        requires { x.now.rt < 32 }
-        ensures core { (bank : VectorState)
-            → core_of self.new bank ≡ moved x.now.op x.now (core_of self.old bank) }
-        ensures pages { self.new.pages ≡ self.old.pages }
-    {
-        match x.op {
-            SystemMoveOp::Mrs => {
-                let value = self.read_register(x.register);
-                write_x(&mut self.scalars, x.rt, value);
-            }
-            SystemMoveOp::Msr => {
-                let value = read_x(&self.scalars, x.rt);
-                self.write_register(x.register, value);
-            }
+        match decode_scalar(word) {
+            Some(insn) => self.execute_scalar_alone(word, &insn),
+            None => match decode_vector(word) {
+                Some(insn) => self.refuse_vector(word, &insn),
+                None => StepEnd::Raise(Exception::Undefined(word)),
+            },
         }
     }
 }

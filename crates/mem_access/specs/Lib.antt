@@ -1,4 +1,5 @@
 pub mod VectorState
+pub mod Bank
 pub mod Access
 pub mod DataAccess
 pub mod Checks

@@ -1,9 +1,10 @@
 //! The loads, stores and atomic instructions on private memory: `transfer` makes all checks of an access
-//! first, and changes registers and memory only where none fails.
+//! first, and changes registers and memory only where none fails. A `Bank` holds the vectors of a thread.
 #![tactic(auto)]
 
 mod access;
 mod atomic;
+mod bank;
 mod checks;
 mod exchange;
 mod numbers;
@@ -12,5 +13,6 @@ mod stop;
 mod transfers;
 mod values;
 
+pub use bank::Bank;
 pub use stop::AccessStop;
 pub use transfers::transfer;

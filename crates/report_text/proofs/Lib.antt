@@ -1,4 +1,5 @@
 pub mod Values
+pub mod Registers
 pub mod OutLines
 pub mod Pages
 pub mod Zero

@@ -1,13 +1,10 @@
 -- Lines of values that are all zero, which are none.
-use Rattle.std.proofs.Common.{◌≡◌, ℕ, zero, suc, ◌+◌, ◌-◌, ◌*◌, ◌∷◌, [], List, Bool, true, false, codes, take, refl, ap, sym, ◌∙◌, arith}
-use Rattle.std.proofs.Common.{◌==◌}
-use Rattle.std.proofs.Common.{length, replicate}
+use Rattle.std.proofs.Common.{◌≡◌, ℕ, zero, suc, ◌+◌, ◌==◌, [], ◌∷◌, List, Bool, true, false, cond, codes, length, replicate, refl, sym, ◌∙◌, arith}
 use Rattle.std.specs.List.{list_all}
-use Rattle.std.proofs.lemmas.List.{drop-replicate}
 use Rattle.sm_types.specs.declared.length.VecLen.{VecLen}
-use Rattle.machine_step.specs.ProcessorState.{zero_bank}
+use Rattle.mem_access.specs.VectorState.{zero_array}
 use Rattle.report_text.specs.Lines.{value_line, value_lines}
-use Rattle.report_text.specs.Bank.{byte_of_bits, bytes_of_bits, predicate_bytes, all_predicate_bytes, bytes_line, bytes_lines, bank_text}
+use Rattle.report_text.specs.Bank.{bytes_line, bytes_lines}
 use Rattle.std.specs.FinMap.{entries, empty, len-entries, len-empty}
 use Rattle.std.specs.Ordering.{nat_cmp}
 use Rattle.report_text.specs.Block.{handler_lines}
@@ -36,37 +33,11 @@ unfolding bytes_lines
 bytes_lines-zero name k zero n = refl
 bytes_lines-zero name k (suc m) n = rw (bytes_line-zero _ n, bytes_lines-zero name (k + 1) m n) refl
 
-byte_of_bits-zero : (m n : ℕ) → byte_of_bits (take m (replicate n false)) ≡ 0
-byte_of_bits-zero zero n = refl
-byte_of_bits-zero (suc m) zero = refl
-byte_of_bits-zero (suc m) (suc n) = ap (λ b. 0 + 2 * b) (byte_of_bits-zero m n)
-
-bytes_of_bits-zero : (m n : ℕ) → bytes_of_bits m (replicate n false) ≡ replicate m 0
-unfolding bytes_of_bits
-bytes_of_bits-zero zero n = refl
-bytes_of_bits-zero (suc m) n = rw (drop-replicate 8 n false, byte_of_bits-zero 8 n, bytes_of_bits-zero m (n - 8)) refl
-
-predicate_lines-zero : (name : List ℕ) (k m n : ℕ) → bytes_lines name k (all_predicate_bytes (replicate m (replicate n false))) ≡ []
-unfolding bytes_lines all_predicate_bytes predicate_bytes
-predicate_lines-zero name k zero n = refl
-predicate_lines-zero name k (suc m) n = rw (bytes_of_bits-zero _ n, bytes_line-zero _ _, predicate_lines-zero name (k + 1) m n) refl
-
-ffr_line-zero : (name : List ℕ) (n : ℕ) → bytes_line name (predicate_bytes (replicate n false)) ≡ []
-unfolding predicate_bytes
-ffr_line-zero name n = rw (bytes_of_bits-zero _ n) (bytes_line-zero name _)
-
--- no vector and no predicate has a line
-pub bank_text-zero : (vl svl : VecLen) (za_on : Bool) → bank_text (zero_bank vl svl) za_on ≡ []
-unfolding bank_text zero_bank
-bank_text-zero vl svl true =
-    rw (
-      bytes_lines-zero (codes "z") 0 32 _,
-      predicate_lines-zero (codes "p") 0 16 _,
-      ffr_line-zero (codes "ffr") _,
-      bytes_lines-zero (codes "za") 0 _ _,
-    ) refl
-bank_text-zero vl svl false =
-    rw (bytes_lines-zero (codes "z") 0 32 _, predicate_lines-zero (codes "p") 0 16 _, ffr_line-zero (codes "ffr") _) refl
+-- no vector of ZA has a line
+pub array_lines-none : (svl : VecLen) (za_on : Bool) → cond za_on (bytes_lines (codes "za") 0 (zero_array svl)) [] ≡ []
+unfolding zero_array
+array_lines-none svl true = bytes_lines-zero (codes "za") 0 _ _
+array_lines-none svl false = refl
 
 none_of-length : (l : List (ℕ × ℕ)) → length l ≡ 0 → l ≡ []
 none_of-length [] e = refl

@@ -9,6 +9,7 @@ ghost use Rattle.machine_step.specs.System.{svcr_of};
 ghost use Rattle.report_text.specs.Block.{head_text, nzcv_line, system_text, register_text, signal_text};
 ghost use Rattle.report_text.specs.Block.{kernel_text, block_text};
 
+use crate::bank::put_bank;
 use crate::digest::put_memory_line;
 use crate::journal::put_journal;
 use crate::lines::{flag_digit, put_flag_line, put_hex_line, put_number_line, put_value_lines};
@@ -108,8 +109,10 @@ pub fn put_block<K: Sink>(piece: &mut Piece, out: &mut K, context: &Context) -> 
         (block_text (thread_of context.now) (state_of context.now) (stop_of context.now) []) }
 {
     let machine = context.machine();
+    let bank = context.bank();
     put_head(piece, out, context)?;
     put_registers(piece, out, machine)?;
+    put_bank(piece, out, bank)?;
     put_memory_line(piece, out, &machine.pages)?;
     put_kernel(piece, out, context)
 }

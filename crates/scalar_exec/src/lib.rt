@@ -19,4 +19,4 @@ mod sums;
 pub use branches::{address_at, branch_target};
 pub use exec::{Flow, exec_scalar};
 pub use operands::{extend, extend_sign};
-pub use registers::{next_address, read_x, read_x_or_sp, write_x, write_x_or_sp};
+pub use registers::{next_address, read_x, read_x_or_sp, write_flags, write_x, write_x_or_sp};

@@ -1,4 +1,5 @@
 //! A step of one instruction: the state before it, and the line that says what it gives.
+use crate::fields::{number, scalars_at, set_nzcv, set_x};
 use crate::outcome::outcome_line;
 use crate::pages::{PC, pages_of};
 use anyhow::{Context, Result};
@@ -14,34 +15,6 @@ struct Case<'a> {
     tpidr: u64,
     tpidr2: u64,
     data: &'a str,
-}
-
-/// A number of hexadecimal digits.
-fn number(text: &str) -> Option<u64> {
-    u64::from_str_radix(text, 16).ok()
-}
-
-/// Sets the flags of four digits.
-fn set_nzcv(scalars: &mut Scalars, digits: &str) -> Option<()> {
-    let [n, z, c, v] = digits.as_bytes() else {
-        return None;
-    };
-    scalars.n = *n == b'1';
-    scalars.z = *z == b'1';
-    scalars.c = *c == b'1';
-    scalars.v = *v == b'1';
-    Some(())
-}
-
-/// Sets the register of a key `x0` to `x30`.
-fn set_x(scalars: &mut Scalars, key: &str, value: u64) -> Option<()> {
-    let place = key.strip_prefix('x')?.parse::<usize>().ok()?;
-    if place < 31 {
-        scalars.x[place] = value;
-        Some(())
-    } else {
-        None
-    }
 }
 
 /// Sets a field of the state; `None` for one that no scalar instruction sees.
@@ -66,15 +39,7 @@ fn read_case(text: &str) -> Option<Case<'_>> {
     };
     let mut case = Case {
         word: u32::from_str_radix(word, 16).ok()?,
-        scalars: Scalars {
-            x: [0; 31],
-            sp: 0,
-            pc: PC,
-            n: false,
-            z: false,
-            c: false,
-            v: false,
-        },
+        scalars: scalars_at(PC),
         tpidr: 0,
         tpidr2: 0,
         data: "",
@@ -112,7 +77,7 @@ fn step_line(alloc: Global, case: Case<'_>) -> Result<String> {
         tpidr2: case.tpidr2,
         pages,
     };
-    let end = machine.step();
+    let end = machine.step(None);
     outcome_line(alloc, end, &machine)
 }
 

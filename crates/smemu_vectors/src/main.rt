@@ -2,31 +2,46 @@
 //! each line whether the emulator agrees: the words of the first file mean instructions, each of which has
 //! that word and that text; each text of the second is read as its word, and is printed exactly where the
 //! line says so; the words of the third mean none; and a step of each line of the fourth gives what the
-//! line says. A line that it cannot read is shown as one that differs.
+//! line says, as does the vector instruction of each line of the fifth. A line that it cannot read is shown
+//! as one that differs.
 #![tactic(auto)]
 
 mod case;
+mod fields;
 mod outcome;
 mod pages;
+mod vector_case;
 mod words;
 
 use crate::case::check_steps;
+use crate::vector_case::check_vector_steps;
 use crate::words::{check_no_row, check_texts, check_words};
 use anyhow::{Context, Result};
 use std::{env, fs};
 
 fn main(rt: HostRuntime) -> Result<()> {
     let names: Vec<String> = env::args(&rt)?.skip(1).collect(rt.alloc())?;
-    let [words_name, texts_name, no_row_name, steps_name] = names.as_slice() else {
-        println!(rt; "usage: WORDS TEXTS NO_ROW STEPS")?;
+    let [
+        words_name,
+        texts_name,
+        no_row_name,
+        steps_name,
+        vector_steps_name,
+    ] = names.as_slice()
+    else {
+        println!(rt; "usage: WORDS TEXTS NO_ROW STEPS VECTOR_STEPS")?;
         return Ok(());
     };
     let words = fs::read_to_string(&rt, words_name.as_str()).context("the words")?;
     let texts = fs::read_to_string(&rt, texts_name.as_str()).context("the texts")?;
     let no_row = fs::read_to_string(&rt, no_row_name.as_str()).context("the words of no row")?;
     let steps = fs::read_to_string(&rt, steps_name.as_str()).context("the steps")?;
+    let vector_steps = fs::read_to_string(&rt, vector_steps_name.as_str()).context(
+        "the steps of vectors",
+    )?;
     check_words(&rt, words.as_str())?;
     check_texts(&rt, texts.as_str())?;
     check_no_row(&rt, no_row.as_str())?;
-    check_steps(&rt, rt.alloc(), steps.as_str())
+    check_steps(&rt, rt.alloc(), steps.as_str())?;
+    check_vector_steps(&rt, rt.alloc(), vector_steps.as_str())
 }

@@ -79,6 +79,7 @@ pub fn outcome_line(alloc: Global, end: StepEnd, machine: &Machine) -> Result<St
         StepEnd::Next => next_line(alloc, machine),
         StepEnd::Call(number) => Ok(format!(in alloc; "call {number}")?),
         StepEnd::Raise(exception) => raise_line(alloc, exception),
+        StepEnd::NeedsBank => Err(anyhow!("no bank")),
         StepEnd::Memory => Err(anyhow!("memory")),
     }
 }

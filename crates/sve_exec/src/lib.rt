@@ -36,4 +36,4 @@ pub use logical::vector_logical;
 pub use multiply::vector_multiply;
 pub use ternary::vector_ternary;
 pub use unary::predicated_unary;
-pub use widening::vector_widening;
+pub use widening::{half_size, vector_widening};

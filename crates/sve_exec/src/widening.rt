@@ -13,7 +13,7 @@ use vector_elements::{Change, Size, change_each, element, wrapped};
 
 /// The elements of half the size; there are none of half a byte.
 #[inline(always)]
-fn half_size(size: Size) -> Size
+pub fn half_size(size: Size) -> Size
     ensures { result ≡ half_size size }
 {
     match size {

@@ -1,0 +1,210 @@
+//! The instructions of the general registers: those that see scalar registers alone, accesses to memory, and
+//! those of the system.
+ghost use Rattle.std.specs.Prelude.{ℕ, ◌≡◌, ◌≢◌, ◌<◌, ◌&&◌, Bool, IsTrue};
+ghost use Rattle.a64_table.specs.Ranges.{IsInRow};
+ghost use Rattle.scalar_exec.specs.Step.{is_scalar, scalar_step, flowed};
+ghost use Rattle.paged_memory.specs.PageTable.{KeepsOwned};
+ghost use Rattle.mem_access.specs.Transfer.{is_access, HasRoomFor};
+ghost use Rattle.machine_step.specs.ProcessorState.{VectorState};
+ghost use Rattle.machine_step.specs.System.{moved, core_past, system_register, with_system_register};
+ghost use Rattle.machine_step.specs.Effect.{is_executed_register, uses_bank};
+ghost use Rattle.machine_step.specs.Execution.{effect_of_insn, needs_of_insn};
+ghost use Rattle.machine_step.specs.Machine.{core_of, StepsBy, StepsAlone};
+
+use crate::machine::{Machine, StepEnd};
+use crate::system::{read_nzcv, write_nzcv};
+use mem_access::{AccessStop, transfer};
+use scalar_exec::{Flow, exec_scalar, next_address, read_x, write_x};
+use sm_types::{Exception, Insn, Scalars, System, SystemMove, SystemMoveOp, SystemRegister};
+
+/// Whether a scalar instruction is a call of the kernel.
+fn is_call(insn: &Insn) -> bool
+    requires { IsInRow insn.now }
+    ensures { (streaming : Bool) → uses_bank insn.now streaming ≡ result && streaming }
+{
+    match insn {
+        Insn::System(System::Svc(_)) => true,
+        _ => false,
+    }
+}
+
+/// Whether moves of a system register are executed.
+fn is_register_executed(register: SystemRegister) -> bool
+    ensures { result ≡ is_executed_register register }
+{
+    match register {
+        SystemRegister::Nzcv => true,
+        SystemRegister::TpidrEl0 => true,
+        SystemRegister::Tpidr2El0 => true,
+        SystemRegister::Svcr => false,
+    }
+}
+
+/// Moves PC as the flow of an instruction says.
+#[tactic(auto, unfolding(scalar_exec::specs::Step::flowed, scalar_exec::specs::Registers::past))]
+fn move_pc(s: &mut Scalars, flow: Flow)
+    ensures { s.new ≡ flowed s.old flow }
+{
+    s.pc = match flow {
+        Flow::Next => next_address(s.pc),
+        Flow::Jump(target) => target,
+    };
+}
+
+impl Machine {
+    /// Executes a scalar instruction without a bank, which a call of the kernel in Streaming SVE mode needs.
+    pub(crate) fn execute_scalar_alone(&mut self, word: u32, insn: &Insn) -> StepEnd
+        requires { IsInRow insn.now }
+        ensures effect { StepsAlone (needs_of_insn insn.now) (effect_of_insn word insn.now) self.old self.new result }
+        ensures room { HasRoomFor insn.now self.old.scalars self.old.pages → result ≢ StepEnd.Memory }
+        ensures kept { KeepsOwned self.old.pages self.new.pages }
+    {
+        if is_call(insn) && self.streaming {
+            return StepEnd::NeedsBank;
+        }
+        self.execute(word, insn)
+    }
+
+    /// Executes a scalar instruction that the word means.
+    pub(crate) fn execute(&mut self, word: u32, insn: &Insn) -> StepEnd
+        requires { IsInRow insn.now }
+        ensures effect { StepsBy (effect_of_insn word insn.now) self.old self.new result }
+        ensures room { HasRoomFor insn.now self.old.scalars self.old.pages → result ≢ StepEnd.Memory }
+        ensures kept { KeepsOwned self.old.pages self.new.pages }
+        ensures mode { self.new.streaming ≡ self.old.streaming }
+    {
+        match insn {
+            Insn::System(x) => self.execute_system(word, *x),
+            Insn::SystemMove(x) => self.execute_move(word, x),
+            Insn::LoadStore(_) => self.execute_access(insn),
+            Insn::LoadLiteral(_) => self.execute_access(insn),
+            Insn::LoadStorePair(_) => self.execute_access(insn),
+            Insn::Atomic(_) => self.execute_access(insn),
+            _ => self.execute_scalar(insn),
+        }
+    }
+
+    /// Executes an instruction that reads and writes scalar registers alone.
+    fn execute_scalar(&mut self, insn: &Insn) -> StepEnd
+        requires scalar { IsTrue (is_scalar insn.now) }
+        requires fields { IsInRow insn.now }
+        ensures effect { (word : ℕ) → StepsBy (effect_of_insn word insn.now) self.old self.new result }
+        ensures answer { result ≡ StepEnd.Next }
+        ensures pages { self.new.pages ≡ self.old.pages }
+        ensures mode { self.new.streaming ≡ self.old.streaming }
+    {
+        let flow = exec_scalar(&mut self.scalars, insn);
+        move_pc(&mut self.scalars, flow);
+        StepEnd::Next
+    }
+
+    /// Executes a load, a store or an atomic instruction.
+    fn execute_access(&mut self, insn: &Insn) -> StepEnd
+        requires access { IsTrue (is_access insn.now) }
+        requires fields { IsInRow insn.now }
+        ensures effect { (word : ℕ) → StepsBy (effect_of_insn word insn.now) self.old self.new result }
+        ensures room { HasRoomFor insn.now self.old.scalars self.old.pages → result ≢ StepEnd.Memory }
+        ensures kept { KeepsOwned self.old.pages self.new.pages }
+        ensures mode { self.new.streaming ≡ self.old.streaming }
+    {
+        match transfer(insn, &mut self.scalars, &mut self.pages) {
+            Ok(()) => self.step_past(),
+            Err(AccessStop::Raise(exception)) => StepEnd::Raise(exception),
+            Err(AccessStop::Memory) => StepEnd::Memory,
+        }
+    }
+
+    /// Goes on to the next instruction.
+    #[tactic(auto, unfolding(scalar_exec::specs::Step::flowed))]
+    pub(crate) fn step_past(&mut self) -> StepEnd
+        ensures answer { result ≡ StepEnd.Next }
+        ensures pages { self.new.pages ≡ self.old.pages }
+        ensures core { (bank : VectorState) → core_of self.new bank ≡ core_past (core_of self.old bank) }
+        ensures mode { self.new.streaming ≡ self.old.streaming }
+    {
+        move_pc(&mut self.scalars, Flow::Next);
+        StepEnd::Next
+    }
+
+    /// Executes a call, an exception, a hint or a barrier.
+    fn execute_system(&mut self, word: u32, x: System) -> StepEnd
+        ensures effect { StepsBy (effect_of_insn word (Insn.System x)) self.old self.new result }
+        ensures room { result ≢ StepEnd.Memory }
+        ensures pages { self.new.pages ≡ self.old.pages }
+        ensures mode { self.new.streaming ≡ self.old.streaming }
+    {
+        match x {
+            System::Svc(imm) => StepEnd::Call(imm),
+            System::Brk(imm) => StepEnd::Raise(Exception::Breakpoint(imm)),
+            System::Udf(_) => StepEnd::Raise(Exception::Undefined(word)),
+            System::Hint(_) => self.step_past(),
+            System::Dmb(_) => self.step_past(),
+            System::Dsb(_) => self.step_past(),
+            System::Isb(_) => self.step_past(),
+        }
+    }
+
+    /// The value of a system register.
+    #[tactic(auto, unfolding(crate::specs::System::system_register))]
+    fn read_register(&self, register: SystemRegister) -> u64
+        ensures { (bank : VectorState) → result ≡ system_register register (core_of self.now bank) }
+    {
+        match register {
+            SystemRegister::Nzcv => read_nzcv(&self.scalars),
+            SystemRegister::TpidrEl0 => self.tpidr,
+            SystemRegister::Tpidr2El0 => self.tpidr2,
+            SystemRegister::Svcr => u64::from(self.streaming) + 2 * u64::from(self.za_on),
+        }
+    }
+
+    /// Writes a system register, but SVCR.
+    #[tactic(auto, unfolding(crate::specs::System::with_system_register))]
+    fn write_register(&mut self, register: SystemRegister, value: u64)
+        ensures core { (bank : VectorState)
+            → core_of self.new bank ≡ with_system_register register (core_of self.old bank) value }
+        ensures pages { self.new.pages ≡ self.old.pages }
+        ensures mode { self.new.streaming ≡ self.old.streaming }
+    {
+        match register {
+            SystemRegister::Nzcv => write_nzcv(&mut self.scalars, value),
+            SystemRegister::TpidrEl0 => self.tpidr = value,
+            SystemRegister::Tpidr2El0 => self.tpidr2 = value,
+            SystemRegister::Svcr => {}
+        }
+    }
+
+    /// Executes a move to or from a system register; those of SVCR raise.
+    fn execute_move(&mut self, word: u32, x: &SystemMove) -> StepEnd
+        requires { x.now.rt < 32 }
+        ensures effect { StepsBy (effect_of_insn word (Insn.SystemMove x.now)) self.old self.new result }
+        ensures room { result ≢ StepEnd.Memory }
+        ensures pages { self.new.pages ≡ self.old.pages }
+        ensures mode { self.new.streaming ≡ self.old.streaming }
+    {
+        if !is_register_executed(x.register) {
+            return StepEnd::Raise(Exception::Undefined(word));
+        }
+        self.move_register(x);
+        self.step_past()
+    }
+
+    /// Moves a system register to a register, or back.
+    fn move_register(&mut self, x: &SystemMove)
+        requires { x.now.rt < 32 }
+        ensures core { (bank : VectorState)
+            → core_of self.new bank ≡ moved x.now.op x.now (core_of self.old bank) }
+        ensures pages { self.new.pages ≡ self.old.pages }
+        ensures mode { self.new.streaming ≡ self.old.streaming }
+    {
+        match x.op {
+            SystemMoveOp::Mrs => {
+                let value = self.read_register(x.register);
+                write_x(&mut self.scalars, x.rt, value);
+            }
+            SystemMoveOp::Msr => {
+                let value = read_x(&self.scalars, x.rt);
+                self.write_register(x.register, value);
+            }
+        }
+    }
+}

@@ -1,0 +1,3 @@
+pub mod Permute
+pub mod Active
+pub mod Reduce

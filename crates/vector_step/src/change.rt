@@ -1,0 +1,43 @@
+//! Vectors that are changed in a copy, whatever registers are read meanwhile.
+ghost use Rattle.std.specs.Prelude.{◌≡◌, ℕ, ◌<◌, List, length};
+ghost use Rattle.sve_vectors.specs.Registers.{VectorRegisters};
+ghost use Rattle.sve_vectors.specs.State.{length_of};
+ghost use Rattle.vector_step.specs.Registers.{vector_at, vector_written, with_registers};
+ghost use Rattle.vector_step.specs.Sizes.{IsVectorLength};
+
+use sve_vectors::Vectors;
+
+/// What an instruction makes of a vector.
+pub trait VectorChange {
+    /// Whether the registers that it reads exist, and its elements are numbers.
+    ghost can: { Self → Type 0 };
+
+    /// The bytes that it makes, by the registers and by the vector that it changes.
+    ghost gives: { Self → VectorRegisters → List ℕ → List ℕ };
+
+    /// Changes the bytes of a vector, which are a copy: the registers are as before.
+    fn apply(&self, vectors: &Vectors, d: &mut [u8])
+        requires can { can self.now }
+        requires long { length d.old ≡ length_of vectors.now }
+        requires vector { IsVectorLength (length d.old) }
+        ensures { d.new ≡ gives self.now vectors.now.registers d.old };
+}
+
+/// Changes a copy of vector `n`, and writes it to vector `d`. The registers that the change reads may be
+/// `d` too.
+#[inline(always)]
+#[tactic(auto, using(sve_vectors::proofs::Whole::vector_whole, crate::proofs::Sizes::is_length))]
+pub fn change_vector<C: VectorChange>(vectors: &mut Vectors, n: u8, d: u8, change: &C)
+    requires n { n < 32 }
+    requires d { d < 32 }
+    requires can { C.can change.now }
+    ensures { vectors.new ≡ with_registers vectors.old (vector_written vectors.old.registers d
+        (C.gives change.now vectors.old.registers (vector_at vectors.old.registers n))) }
+{
+    let mut room = [0u8; 256];
+    let length = vectors.length();
+    let bytes = &mut room[..length];
+    bytes.copy_from_slice(vectors.z(n));
+    change.apply(vectors, bytes);
+    vectors.z_mut(d).copy_from_slice(bytes);
+}

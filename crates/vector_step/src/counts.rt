@@ -1,0 +1,61 @@
+//! Numbers of elements and lengths of vectors in general registers.
+ghost use Rattle.std.specs.Prelude.{◌≡◌, ◌≤◌};
+ghost use Rattle.sve_table.specs.Ranges.{IsElementCount};
+ghost use Rattle.vector_step.specs.Counts.{after_element_count};
+
+use crate::size::element_size;
+use predicates::{add_lengths, count_down, count_up, element_number, vector_lengths};
+use scalar_exec::{read_x, read_x_or_sp, write_x, write_x_or_sp};
+use sm_types::{ElementCount, Scalars};
+
+/// Writes a number of elements, changes a register by it, or writes or adds lengths of a vector of `bytes`
+/// bytes.
+#[tactic(auto, unfolding(crate::specs::Counts::after_element_count))]
+pub fn exec_element_count(scalars: &mut Scalars, bytes: u64, x: &ElementCount)
+    requires range { IsElementCount x.now }
+    requires small { bytes ≤ 256 }
+    ensures value { scalars.new ≡ after_element_count bytes x.now scalars.old }
+    ensures place { scalars.new.pc ≡ scalars.old.pc }
+{
+    match *x {
+        ElementCount::Count {
+            size,
+            pattern,
+            multiplier,
+            rd,
+        } => {
+            let size = element_size(size);
+            write_x(
+                scalars,
+                rd,
+                element_number(size, pattern, multiplier, bytes),
+            );
+        }
+        ElementCount::Change {
+            decrement,
+            size,
+            pattern,
+            multiplier,
+            rd,
+        } => {
+            let size = element_size(size);
+            let old = read_x(scalars, rd);
+            let new = if decrement {
+                count_down(size, pattern, multiplier, bytes, old)
+            } else {
+                count_up(size, pattern, multiplier, bytes, old)
+            };
+            write_x(scalars, rd, new);
+        }
+        ElementCount::Length { imm, rd } => write_x(scalars, rd, vector_lengths(imm, bytes)),
+        ElementCount::AddLength {
+            predicate,
+            imm,
+            rn,
+            rd,
+        } => {
+            let old = read_x_or_sp(scalars, rn);
+            write_x_or_sp(scalars, rd, add_lengths(predicate, imm, bytes, old));
+        }
+    }
+}

@@ -1,0 +1,213 @@
+//! Permutations and reductions of vectors.
+ghost use Rattle.std.specs.Prelude.{◌≡◌, ◌≢◌, ◌<◌};
+ghost use Rattle.vector_elements.specs.declared.size.Size.TheVariants.{B};
+ghost use Rattle.sve_perm.specs.Permute.{interleaved, reversed, table_of, extracted, unpacked};
+ghost use Rattle.sve_table.specs.Ranges.{IsVectorPermute, IsVectorReduction};
+ghost use Rattle.sve_vectors.specs.State.{length_of};
+ghost use Rattle.vector_step.specs.Permutes.{after_permute, after_reduction};
+ghost use Rattle.vector_step.specs.Registers.{core_of, vector_at, with_registers};
+ghost use Rattle.vector_step.specs.Sizes.{element_size};
+
+use crate::change::{VectorChange, change_vector};
+use crate::registers::{read_p, write_z};
+use crate::size::element_size;
+use scalar_exec::write_x;
+use sm_types::{Elem, InterleaveOp, ReductionOp, Scalars, VectorPermute, VectorReduction};
+use sve_perm::{
+    extract, interleave, last_element, reduce, reverse, scalar_to_vector, table, unpack,
+};
+use sve_vectors::Vectors;
+
+/// Elements of two vectors by turns.
+#[derive(Clone, Copy)]
+struct Interleaved {
+    op: InterleaveOp,
+    size: Elem,
+    n: u8,
+    m: u8,
+}
+
+impl VectorChange for Interleaved {
+    ghost can = { λ s. (s.n < 32) × (s.m < 32) };
+
+    ghost gives = { λ s r d. interleaved s.op (element_size s.size) (vector_at r s.n) (vector_at r s.m) };
+
+    #[inline(always)]
+    fn apply(&self, vectors: &Vectors, d: &mut [u8]) {
+        let n = vectors.z(self.n);
+        interleave(self.op, element_size(self.size), d, n, vectors.z(self.m));
+    }
+}
+
+/// The elements of a vector from the last to the first.
+#[derive(Clone, Copy)]
+struct Reversed {
+    size: Elem,
+    n: u8,
+}
+
+impl VectorChange for Reversed {
+    ghost can = { λ s. s.n < 32 };
+
+    ghost gives = { λ s r d. reversed (element_size s.size) (vector_at r s.n) };
+
+    #[inline(always)]
+    fn apply(&self, vectors: &Vectors, d: &mut [u8]) {
+        reverse(element_size(self.size), d, vectors.z(self.n));
+    }
+}
+
+/// The elements of a vector at the indices in another.
+#[derive(Clone, Copy)]
+struct LookedUp {
+    size: Elem,
+    n: u8,
+    m: u8,
+}
+
+impl VectorChange for LookedUp {
+    ghost can = { λ s. (s.n < 32) × (s.m < 32) };
+
+    ghost gives = { λ s r d. table_of (element_size s.size) (vector_at r s.n) (vector_at r s.m) };
+
+    #[inline(always)]
+    fn apply(&self, vectors: &Vectors, d: &mut [u8]) {
+        let n = vectors.z(self.n);
+        table(element_size(self.size), d, n, vectors.z(self.m));
+    }
+}
+
+/// The bytes of two vectors from a place on.
+#[derive(Clone, Copy)]
+struct Extracted {
+    amount: u8,
+    n: u8,
+    m: u8,
+}
+
+impl VectorChange for Extracted {
+    ghost can = { λ s. (s.n < 32) × (s.m < 32) };
+
+    ghost gives = { λ s r d. extracted s.amount (vector_at r s.n) (vector_at r s.m) };
+
+    #[inline(always)]
+    fn apply(&self, vectors: &Vectors, d: &mut [u8]) {
+        let n = vectors.z(self.n);
+        extract(self.amount, d, n, vectors.z(self.m));
+    }
+}
+
+/// The elements of half the size in a half of a vector.
+#[derive(Clone, Copy)]
+struct Unpacked {
+    signed: bool,
+    high: bool,
+    size: Elem,
+    n: u8,
+}
+
+impl VectorChange for Unpacked {
+    ghost can = { λ s. (element_size s.size ≢ B) × (s.n < 32) };
+
+    ghost gives = { λ s r d. unpacked s.signed s.high (element_size s.size) (vector_at r s.n) };
+
+    #[inline(always)]
+    fn apply(&self, vectors: &Vectors, d: &mut [u8]) {
+        let n = vectors.z(self.n);
+        unpack(self.signed, self.high, element_size(self.size), d, n);
+    }
+}
+
+/// Moves the elements of vectors.
+#[tactic(auto, unfolding(crate::specs::Permutes::after_permute), using(crate::proofs::Sizes::wider_than_byte))]
+pub fn exec_permute(vectors: &mut Vectors, x: &VectorPermute)
+    requires { IsVectorPermute x.now }
+    ensures { vectors.new ≡ with_registers vectors.old (after_permute x.now vectors.old.registers) }
+{
+    match *x {
+        VectorPermute::Interleave {
+            op,
+            size,
+            zm,
+            zn,
+            zd,
+        } => {
+            let change = Interleaved {
+                op,
+                size,
+                n: zn,
+                m: zm,
+            };
+            change_vector(vectors, zd, zd, &change);
+        }
+        VectorPermute::Reverse { size, zn, zd } => {
+            change_vector(vectors, zd, zd, &Reversed { size, n: zn });
+        }
+        VectorPermute::Table { size, zm, zn, zd } => {
+            change_vector(vectors, zd, zd, &LookedUp { size, n: zn, m: zm });
+        }
+        VectorPermute::Extract { amount, zm, zdn } => {
+            let change = Extracted {
+                amount,
+                n: zdn,
+                m: zm,
+            };
+            change_vector(vectors, zdn, zdn, &change);
+        }
+        VectorPermute::Unpack {
+            signed,
+            high,
+            size,
+            zn,
+            zd,
+        } => {
+            let change = Unpacked {
+                signed,
+                high,
+                size,
+                n: zn,
+            };
+            change_vector(vectors, zd, zd, &change);
+        }
+    }
+}
+
+/// Writes the last active element to a general register, or a reduction to a vector.
+#[tactic(auto, unfolding(crate::specs::Permutes::after_reduction), using(crate::proofs::Sizes::is_length))]
+pub fn exec_reduction(scalars: &mut Scalars, vectors: &mut Vectors, x: &VectorReduction)
+    requires { IsVectorReduction x.now }
+    ensures scalars { scalars.new ≡
+        (after_reduction (length_of vectors.old) x.now (core_of scalars.old vectors.old)).scalars }
+    ensures vectors { vectors.new ≡ with_registers vectors.old
+        (after_reduction (length_of vectors.old) x.now (core_of scalars.old vectors.old)).registers }
+    ensures place { scalars.new.pc ≡ scalars.old.pc }
+{
+    match *x {
+        VectorReduction::Last {
+            active,
+            size,
+            pg,
+            zn,
+            rd,
+        } => {
+            let p = read_p(vectors, pg);
+            let value = last_element(active, element_size(size), p, vectors.z(zn));
+            write_x(scalars, rd, value);
+        }
+        VectorReduction::Reduce {
+            op,
+            size,
+            pg,
+            zn,
+            vd,
+        } => {
+            let p = read_p(vectors, pg);
+            let value = reduce(op, element_size(size), p, vectors.z(zn));
+            let mut room = [0u8; 256];
+            let length = vectors.length();
+            let d = &mut room[..length];
+            scalar_to_vector(value, d);
+            write_z(vectors, vd, d);
+        }
+    }
+}

@@ -1,0 +1,56 @@
+//! Registers that are read and written as a whole.
+ghost use Rattle.std.specs.Prelude.{◌≡◌, ◌*◌, ◌<◌, ◌≤◌, length};
+ghost use Rattle.sve_vectors.specs.Predicates.{truths_of};
+ghost use Rattle.sve_vectors.specs.State.{length_of};
+ghost use Rattle.vector_step.specs.Registers.{predicate_at, vector_written, predicate_written, ffr_written};
+ghost use Rattle.vector_step.specs.Registers.{with_registers};
+
+use sve_vectors::{Vectors, truths_tell_bytes};
+
+/// The bytes of a predicate.
+#[inline]
+pub fn read_p(vectors: &Vectors, n: u8) -> &[u8]
+    requires { n < 16 }
+    ensures value { result.now ≡ predicate_at vectors.now.registers n }
+    ensures long { length_of vectors.now ≡ 8 * length result.now }
+    ensures small { length result.now ≤ 32 }
+{
+    let _length = vectors.length();
+    let p = vectors.p(n);
+    truths_tell_bytes(p);
+    p
+}
+
+/// Writes the bytes of a vector.
+#[inline]
+#[tactic(auto, using(sve_vectors::proofs::Whole::vector_whole))]
+pub fn write_z(vectors: &mut Vectors, n: u8, bytes: &[u8])
+    requires n { n < 32 }
+    requires long { length bytes.now ≡ length_of vectors.old }
+    ensures { vectors.new ≡ with_registers vectors.old (vector_written vectors.old.registers n bytes.now) }
+{
+    vectors.z_mut(n).copy_from_slice(bytes);
+}
+
+/// Writes the bytes of a predicate.
+#[inline]
+#[tactic(auto, using(sve_vectors::proofs::Whole::predicate_whole))]
+pub fn write_p(vectors: &mut Vectors, n: u8, bytes: &[u8])
+    requires n { n < 16 }
+    requires long { length_of vectors.old ≡ 8 * length bytes.now }
+    ensures { vectors.new ≡
+        with_registers vectors.old (predicate_written vectors.old.registers n (truths_of bytes.now)) }
+{
+    vectors.p_mut(n).copy_from_slice(bytes);
+}
+
+/// Writes the bytes of FFR.
+#[inline]
+#[tactic(auto, using(sve_vectors::proofs::Whole::ffr_whole))]
+pub fn write_ffr(vectors: &mut Vectors, bytes: &[u8])
+    requires long { length_of vectors.old ≡ 8 * length bytes.now }
+    ensures { vectors.new ≡
+        with_registers vectors.old (ffr_written vectors.old.registers (truths_of bytes.now)) }
+{
+    vectors.ffr_mut().copy_from_slice(bytes);
+}
