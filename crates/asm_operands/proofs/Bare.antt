@@ -25,7 +25,7 @@ nothing_placed i f w u =
     ap₂ (λ m n. f / 2 ^ m % 2 ^ n * 2 ^ i.field.upper_low + f % 2 ^ m * 2 ^ i.field.low) w u
     ∙ ap₂ (λ a b. a + b) (no_part (f / 2 ^ 0) (2 ^ i.field.upper_low)) (no_part f (2 ^ i.field.low))
 
-free : (r : Rule) → is_free r ≡ true → r ≡ Free
+pub free : (r : Rule) → is_free r ≡ true → r ≡ Free
 free Free e = refl
 free other e = cc
 

@@ -4,8 +4,9 @@ use Rattle.std.proofs.Common.{nat_le, bit_and, List, [], ◌∷◌, ◌++◌, le
 use Rattle.std.proofs.Common.{ap₂, ◌∙◌, arith, inl, inr, eqb-true, eq-eqb, ltb-true, lt-ltb, leb-true, le-leb, mod-eq_of_lt, lit<}
 use Rattle.std.specs.Prelude.{bit_or, bit_xor, slice_get, slice_index, option_map, option_and_then}
 use Rattle.std.specs.Int.{bit_at}
+use Rattle.std.specs.Int.Bits.{or_zero_r}
 use Rattle.std.specs.List.{list_all, list_any}
-use Rattle.std.proofs.lemmas.Bool.{and_parts, cases_lt, cond_both}
+use Rattle.std.proofs.lemmas.Bool.{and_parts, or_cases, cases_lt, cond_both}
 use Rattle.std.proofs.lemmas.Nat.{and_assoc, and_comm, and_or_self, and_or_apart, or_comm, pow_pos, shl-shr}
 use Rattle.std.proofs.Math.Nat.{zero-mod, zero-div}
 use Rattle.std.proofs.lemmas.Nat.Bits.{bit_at_and, bit_at_or, same_from_bits}
@@ -17,27 +18,35 @@ use Rattle.insn_forms.specs.Fields as fields
 use Rattle.insn_text.specs.declared.item.Kind.{Kind}
 use Rattle.insn_text.specs.declared.item.Kind.TheVariants as kind
 use Rattle.insn_text.specs.declared.item.Rule.{Rule}
-use Rattle.insn_text.specs.declared.item.Rule.TheVariants.{Free, SecondApart, BaseApart, BasePairApart}
+use Rattle.insn_text.specs.declared.item.Rule.TheVariants.{Free, SecondApart, BaseApart, BasePairApart, OffsetGiven}
 use Rattle.insn_text.specs.declared.item.Item.{Item}
 use Rattle.insn_text.specs.declared.item.Shape.{Shape}
 use Rattle.insn_text.specs.declared.words.TheConstants.{NAMES}
 use Rattle.insn_text.specs.declared.shapes.TheConstants.{SHAPES, STARTS}
-use Rattle.insn_text.specs.Texts.{bits_of, items_of, mask_in}
-use Rattle.insn_text.specs.Rules.{meets, is_base_apart}
+use Rattle.insn_text.specs.Texts.{bits_of, field_in, items_of, mask_in, is_named_pattern}
+use Rattle.insn_text.specs.Wordings.{file_number}
+use Rattle.insn_text.specs.declared.item.RegisterFile.TheVariants.{W}
+use Rattle.insn_text.specs.declared.item.VectorFile.{VectorFile}
+use Rattle.insn_text.specs.Rules.{is_within, meets, is_base_apart}
 use Rattle.asm_tokens.specs.Tokens.{is_number_token}
 use Rattle.asm_tokens.specs.declared.token.Token.{Token}
 use Rattle.asm_tokens.specs.declared.token.Token.TheVariants.{Register, Word, Name, Number, Distance, Mark}
+use Rattle.asm_tokens.specs.declared.token.Token.TheVariants.{Sized, Bare}
 use Rattle.asm_operands.specs.Fields.{is_field_of, on_mark, on_word, on_register, on_number, on_target, word_field, unsigned_field}
 use Rattle.asm_operands.specs.Fields.{signed_field, mask_field, immediate_of, shift_left_field, is_halfword_at, halfword_field, inverted_if}
-use Rattle.asm_operands.specs.Fields.{field_said}
+use Rattle.asm_operands.specs.Fields.{on_sized, on_bare, on_pattern, same_file, same_vector_file, sized_field, slice_field, index_field}
+use Rattle.asm_operands.specs.Fields.{pattern_of_number, descending_field, field_said}
+use Rattle.asm_operands.specs.Shown.{token_said}
+use Rattle.asm_operands.specs.Sound.{is_free}
 use Rattle.asm_operands.specs.Operands.{Known, mask_of, placed, with_field, agrees, known_with, known_after, taken_on, taken, reach_on}
 use Rattle.asm_operands.specs.Operands.{reach, fixed, word_in, reach_in, shapes_of, first_of_words, first_word, furthest, is_number_kind}
 use Rattle.asm_operands.specs.Operands.{is_number_item, wants_number}
-use Rattle.asm_operands.proofs.Heard.{register-said, last-said}
+use Rattle.asm_operands.proofs.Bare.{free}
+use Rattle.asm_operands.proofs.Heard.{register-said, last-said, is_printed_kind, said-heard}
 use Rattle.asm_operands.proofs.MaskFields.{all_below, all_below-at, mask_field-is}
 use Rattle.asm_operands.proofs.Tables.{all-take, all-drop}
-use Rattle.insn_forms.proofs.Bits.{field_masked, placed-within}
-use Rattle.asm_operands.proofs.WordBits.{upper_mask, lower_mask}
+use Rattle.insn_forms.proofs.Bits.{field_masked, field_in-lt, placed-within, placed-field}
+use Rattle.asm_operands.proofs.WordBits.{and_swap, upper_mask, lower_mask}
 
 -- ---- a token that each kind takes
 pub record IsSaid (k : Kind) (bits : ℕ) : Type 0 where
@@ -49,6 +58,11 @@ unfoldable pub has_word : Kind → Bool
 has_word (kind.Mark c) = true
 has_word (kind.Named first count) = nat_lt 0 count
 has_word (kind.Register file last) = true
+has_word (kind.Sized file few first) = true
+has_word kind.SliceRegister = true
+has_word kind.Index = true
+has_word (kind.Pattern first) = true
+has_word (kind.Descending from) = nat_lt 0 from
 has_word (kind.Unsigned base scale most) = true
 has_word (kind.Signed scale) = true
 has_word (kind.Distance scale) = true
@@ -66,6 +80,38 @@ word_first first count e =
     let lt : first < first + count = omega arith in
     let z : first - first ≡ 0 = omega arith in
     ap₂ (λ a b. cond (a && b) (Some (first - first)) None) (le-leb first first le) (lt-ltb first (first + count) lt) ∙ ap Some z
+
+sized_first : (file : VectorFile) (few first bits : ℕ) → sized_field file few first bits file 0 first ≡ Some 0
+unfolding sized_field same_vector_file
+sized_first file few first bits =
+    let le : first ≤ first = omega arith in
+    let z : first - first ≡ 0 = omega arith in
+    let none : 0 * 2 ^ few + 0 ≡ 0 = omega arith in
+    ap₂ (λ a b. cond (a && b && nat_le first first && nat_lt (first - first) (2 ^ (bits - few))) (Some ((first - first) * 2 ^ few + 0)) None)
+    (eq-eqb (file_number file) (file_number file) refl) (lt-ltb 0 (2 ^ few) (pow_pos few))
+    ∙ ap₂ (λ b n. cond (b && nat_lt n (2 ^ (bits - few))) (Some (n * 2 ^ few + 0)) None) (le-leb first first le) z
+    ∙ ap₂ (λ b n. cond b (Some n) None) (lt-ltb 0 (2 ^ (bits - few)) (pow_pos (bits - few))) none
+
+slice_first : (bits : ℕ) → slice_field bits W 12 ≡ Some 0
+unfolding slice_field same_file
+slice_first bits = ap (λ b. cond b (Some 0) None) (lt-ltb 0 (2 ^ bits) (pow_pos bits))
+
+index_first : (bits : ℕ) → index_field bits 0 ≡ Some 0
+unfolding index_field
+index_first bits = ap (λ b. cond b (Some 0) None) (lt-ltb 0 (2 ^ bits) (pow_pos bits))
+
+pattern_first : pattern_of_number false 14 ≡ Some 14
+unfolding pattern_of_number is_named_pattern
+pattern_first = refl
+
+descending_first : (from bits : ℕ) → nat_lt 0 from ≡ true → descending_field from bits false from ≡ Some 0
+unfolding descending_field
+descending_first from bits e =
+    let le : from ≤ from = omega arith in
+    let z : from - from ≡ 0 = omega arith in
+    ap₂ (λ a b. cond (a && b && nat_lt (from - from) (2 ^ bits)) (Some (from - from)) None) e (le-leb from from le)
+    ∙ ap (λ n. cond (nat_lt n (2 ^ bits)) (Some n) None) z
+    ∙ ap (λ b. cond b (Some 0) None) (lt-ltb 0 (2 ^ bits) (pow_pos bits))
 
 unsigned_first : (base scale most : ℕ) → unsigned_field base scale most false base ≡ Some 0
 unfolding unsigned_field
@@ -123,10 +169,15 @@ halfword_first false true = refl
 halfword_first false false = refl
 
 said : (k : Kind) (bits : ℕ) → has_word k ≡ true → IsSaid k bits
-unfolding has_word field_said on_mark on_word on_register on_number on_target
+unfolding has_word field_said on_mark on_word on_register on_number on_target on_sized on_bare on_pattern
 said (kind.Mark c) bits e = record { token = Mark c; field = 0; said = ap (λ b. cond b (Some 0) None) (eq-eqb c c refl) }
 said (kind.Named first count) bits e = record { token = Word first; field = 0; said = word_first first count e }
 said (kind.Register file last) bits e = record { token = Word last; field = 31; said = last-said last }
+said (kind.Sized file few first) bits e = record { token = Sized file 0 first; field = 0; said = sized_first file few first bits }
+said kind.SliceRegister bits e = record { token = Register W 12; field = 0; said = slice_first bits }
+said kind.Index bits e = record { token = Bare 0; field = 0; said = index_first bits }
+said (kind.Pattern first) bits e = record { token = Number false 14; field = 14; said = pattern_first }
+said (kind.Descending from) bits e = record { token = Number false from; field = 0; said = descending_first from bits e }
 said (kind.Unsigned base scale most) bits e = record { token = Number false base; field = 0; said = unsigned_first base scale most }
 said (kind.Signed scale) bits e = record { token = Number false 0; field = 0; said = signed_first bits scale }
 said (kind.Distance scale) bits e = record { token = Name; field = 0; said = refl }
@@ -167,17 +218,8 @@ placed_within i f apart = placed-within i.field f apart
 
 -- ---- registers
 unfoldable pub is_register : Kind → Bool
-is_register (kind.Mark c) = false
-is_register (kind.Named first count) = false
 is_register (kind.Register file last) = true
-is_register (kind.Unsigned base scale most) = false
-is_register (kind.Signed scale) = false
-is_register (kind.Distance scale) = false
-is_register (kind.Mask wide) = false
-is_register (kind.SignedMask wide) = false
-is_register (kind.ShiftLeft wide) = false
-is_register (kind.Opposite first count) = false
-is_register (kind.Halfword wide inverted) = false
+is_register other = false
 
 record SaysNumber (k : Kind) (bits number : ℕ) : Type 0 where
   token : Token
@@ -185,31 +227,13 @@ record SaysNumber (k : Kind) (bits number : ℕ) : Type 0 where
 
 says_number : (k : Kind) (bits number : ℕ) → is_register k ≡ true → number < 31 → SaysNumber k bits number
 unfolding is_register field_said on_register
-says_number (kind.Mark c) bits number e lt = cc
-says_number (kind.Named first count) bits number e lt = cc
 says_number (kind.Register file last) bits number e lt = record { token = Register file number; said = register-said file number lt }
-says_number (kind.Unsigned base scale most) bits number e lt = cc
-says_number (kind.Signed scale) bits number e lt = cc
-says_number (kind.Distance scale) bits number e lt = cc
-says_number (kind.Mask wide) bits number e lt = cc
-says_number (kind.SignedMask wide) bits number e lt = cc
-says_number (kind.ShiftLeft wide) bits number e lt = cc
-says_number (kind.Opposite first count) bits number e lt = cc
-says_number (kind.Halfword wide inverted) bits number e lt = cc
+says_number other bits number e lt = cc
 
 says_last : (k : Kind) (bits : ℕ) → is_register k ≡ true → SaysNumber k bits 31
 unfolding is_register field_said on_register
-says_last (kind.Mark c) bits e = cc
-says_last (kind.Named first count) bits e = cc
 says_last (kind.Register file last) bits e = record { token = Word last; said = last-said last }
-says_last (kind.Unsigned base scale most) bits e = cc
-says_last (kind.Signed scale) bits e = cc
-says_last (kind.Distance scale) bits e = cc
-says_last (kind.Mask wide) bits e = cc
-says_last (kind.SignedMask wide) bits e = cc
-says_last (kind.ShiftLeft wide) bits e = cc
-says_last (kind.Opposite first count) bits e = cc
-says_last (kind.Halfword wide inverted) bits e = cc
+says_last other bits e = cc
 
 -- a register of five bits from a place on
 unfoldable pub is_register_at : ℕ → Item → Bool
@@ -318,11 +342,20 @@ second_apart i value r free =
     ∙ ap₂ (λ a b. not (a == b)) (other_kept number value) (other_there number value none_there)
     ∙ ap not (other_is number)
 
+offset_given : (i : Item) (value : ℕ) → IsRegisterAt 16 i → bit_and value (mask_of i) ≡ 0
+    → meets OffsetGiven (bit_or value (placed i 0)) ≡ true
+unfolding meets
+offset_given i value r free =
+    let none_there : bit_and value (31 * 2 ^ 16) ≡ 0 = ap (bit_and value) (sym (mask_number 16 i r)) ∙ free in
+    ap (λ p. not (field_of (bit_or value p) 16 5 == 31)) (placed_number 16 i 0 r (lit< tt))
+    ∙ ap (λ n. not (n == 31)) (register_is 16 value 0 0 (ap (λ n. bit_and n (31 * 2 ^ 16)) (or_zero_r value) ∙ none_there))
+
 unfoldable pub has_choice : Rule → Item → Bool
 has_choice Free i = has_word i.kind
 has_choice SecondApart i = is_register_at 10 i
 has_choice BaseApart i = is_register_at 5 i
 has_choice BasePairApart i = is_register_at 5 i
+has_choice OffsetGiven i = is_register_at 16 i
 
 both_true : (a b : Bool) → a ≡ true → b ≡ true → (a && b) ≡ true
 both_true a b p q = ap₂ (λ x y. x && y) p q
@@ -350,46 +383,132 @@ choose BasePairApart i value e free =
           both_true _ _ (base_apart i value (field_of (bit_or value (placed i 31)) 0 5) r)
           (base_apart i value (field_of (bit_or value (placed i 31)) 10 5) r);
     }
+choose OffsetGiven i value e free =
+    let r = register_at 16 i e in
+    let s = says_number i.kind (bits_of i) 0 r.register (lit< tt) in
+    record { token = s.token; field = 0; said = s.said; meets_rule = offset_given i value r free }
+
+-- ---- a field that is said once more
+-- the kind has a token for each number of its bits
+unfoldable pub says_each : Kind → ℕ → Bool
+says_each (kind.Sized file few first) bits = nat_le few bits
+says_each kind.SliceRegister bits = true
+says_each kind.Index bits = true
+says_each (kind.Unsigned base scale most) bits = nat_lt 0 scale && nat_le (2 ^ bits) (most + 1)
+says_each other bits = false
+
+each_printed : (k : Kind) (bits : ℕ) → says_each k bits ≡ true → is_printed_kind k bits ≡ true
+unfolding says_each is_printed_kind
+each_printed (kind.Sized file few first) bits e = e
+each_printed kind.SliceRegister bits e = refl
+each_printed kind.Index bits e = refl
+each_printed (kind.Unsigned base scale most) bits e = (and_parts (nat_lt 0 scale) (nat_le (2 ^ bits) (most + 1)) e).0
+each_printed other bits e = cc
+
+each_within : (k : Kind) (bits field : ℕ) → says_each k bits ≡ true → field < 2 ^ bits → is_within k field ≡ true
+unfolding says_each is_within
+each_within (kind.Sized file few first) bits field e lt = refl
+each_within kind.SliceRegister bits field e lt = refl
+each_within kind.Index bits field e lt = refl
+each_within (kind.Unsigned base scale most) bits field e lt =
+    let all = leb-true (2 ^ bits) (most + 1) (and_parts (nat_lt 0 scale) (nat_le (2 ^ bits) (most + 1)) e).1 in
+    le-leb field most (omega arith)
+each_within other bits field e lt = cc
+
+each_number : (k : Kind) (bits field : ℕ) → says_each k bits ≡ true → is_number_kind k ≡ true
+    → is_number_token (token_said k bits field) ≡ true
+unfolding says_each is_number_kind token_said is_number_token
+each_number (kind.Sized file few first) bits field e n = cc
+each_number kind.SliceRegister bits field e n = cc
+each_number kind.Index bits field e n = refl
+each_number (kind.Unsigned base scale most) bits field e n = refl
+each_number other bits field e n = cc
 
 -- ---- the operands of a shape
--- the field's bits are not known yet, nor twice its own, and there is a token
+-- the field's bits are not known yet, and there is a token
+unfoldable pub is_new : Item → ℕ → Bool
+is_new i mask = (bit_and mask (mask_of i) == 0) && has_choice i.rule i
+
+-- some of the field's bits may be known, and there is a token for each number
+unfoldable pub is_repeated : Item → Bool
+is_repeated i = is_free i.rule && says_each i.kind (bits_of i)
+
+-- the two parts of the field have no bit in common, and a token goes on
 unfoldable pub is_next : Item → ℕ → Bool
-is_next i mask = (bit_and mask (mask_of i) == 0) && (bit_and (upper_mask i) (lower_mask i) == 0) && has_choice i.rule i
+is_next i mask = (bit_and (upper_mask i) (lower_mask i) == 0) && (is_new i mask || is_repeated i)
 
 unfoldable pub goes_through : List Item → ℕ → Bool
 goes_through [] mask = true
 goes_through (i ∷ is) mask = is_next i mask && goes_through is (bit_or mask (mask_of i))
 
-record IsNext (i : Item) (mask : ℕ) : Type 0 where
-  unknown : bit_and mask (mask_of i) ≡ 0
-  parts_apart : bit_and (upper_mask i) (lower_mask i) ≡ 0
-  choice : has_choice i.rule i ≡ true
-
-next_item : (i : Item) (mask : ℕ) → is_next i mask ≡ true → IsNext i mask
+parts_apart : (i : Item) (mask : ℕ) → is_next i mask ≡ true → bit_and (upper_mask i) (lower_mask i) ≡ 0
 unfolding is_next
-next_item i mask e =
-    let p = and_parts ((bit_and mask (mask_of i) == 0) && (bit_and (upper_mask i) (lower_mask i) == 0)) (has_choice i.rule i) e in
-    let q = and_parts (bit_and mask (mask_of i) == 0) (bit_and (upper_mask i) (lower_mask i) == 0) p.0 in
-    record { unknown = eqb-true _ _ q.0; parts_apart = eqb-true _ _ q.1; choice = p.1 }
+parts_apart i mask e = eqb-true _ _ (and_parts (bit_and (upper_mask i) (lower_mask i) == 0) (is_new i mask || is_repeated i) e).0
 
 -- the values of no bits but the known ones
 IsWithin : Known → Type 0
 IsWithin known = bit_and known.value known.mask ≡ known.value
 
-with_within : (i : Item) (known : Known) (field : ℕ) → IsNext i known.mask → IsWithin known → IsWithin (with_field i known field)
+with_within : (i : Item) (known : Known) (field : ℕ) → is_next i known.mask ≡ true → IsWithin known → IsWithin (with_field i known field)
 unfolding IsWithin with_field
-with_within i known field n w = within_both known.value known.mask (placed i field) (mask_of i) w (placed_within i field n.parts_apart)
+with_within i known field n w =
+    within_both known.value known.mask (placed i field) (mask_of i) w (placed_within i field (parts_apart i known.mask n))
 
-chosen_after : (i : Item) (known : Known) → IsNext i known.mask → IsWithin known → (c : IsChosen i i.rule known.value)
-    → known_after i known c.token ≡ Some (with_field i known c.field)
-unfolding IsWithin known_after known_with agrees with_field
-chosen_after i known n w c =
-    let before : bit_and known.value (mask_of i) ≡ 0 = outside known.value known.mask (mask_of i) w n.unknown in
-    let own = placed_within i c.field n.parts_apart in
+-- a token with which the operand goes on
+record IsStep (i : Item) (known : Known) : Type 0 where
+  token : Token
+  field : ℕ
+  after : known_after i known token ≡ Some (with_field i known field)
+
+agreed : (i : Item) (known : Known) (token : Token) (field : ℕ) → field_said i.kind (bits_of i) token ≡ Some field
+    → bit_and known.value (mask_of i) ≡ bit_and (placed i field) known.mask → meets i.rule (bit_or known.value (placed i field)) ≡ true
+    → known_after i known token ≡ Some (with_field i known field)
+unfolding known_after known_with agrees with_field
+agreed i known token field heard same rule =
+    ap (known_with i known) heard ∙ ap (λ b. cond b (Some (with_field i known field)) None) (both_true _ _ (eq-eqb _ _ same) rule)
+
+new_step : (i : Item) (known : Known) → bit_and (upper_mask i) (lower_mask i) ≡ 0 → bit_and known.mask (mask_of i) ≡ 0 → IsWithin known
+    → (c : IsChosen i i.rule known.value) → known_after i known c.token ≡ Some (with_field i known c.field)
+unfolding IsWithin
+new_step i known apart unknown w c =
+    let before : bit_and known.value (mask_of i) ≡ 0 = outside known.value known.mask (mask_of i) w unknown in
     let here : bit_and (placed i c.field) known.mask ≡ 0 =
-    outside (placed i c.field) (mask_of i) known.mask own (and_comm (mask_of i) known.mask ∙ n.unknown) in
-    ap (known_with i known) c.said
-    ∙ ap (λ b. cond b (Some (with_field i known c.field)) None) (both_true _ _ (ap₂ (λ a b. a == b) before here) c.meets_rule)
+    outside (placed i c.field) (mask_of i) known.mask (placed_within i c.field apart) (and_comm (mask_of i) known.mask ∙ unknown) in
+    agreed i known c.token c.field c.said (before ∙ sym here) c.meets_rule
+
+-- the token of the field as it is known
+known_token : Item → Known → Token
+known_token i known = token_said i.kind (bits_of i) (field_in i known.value)
+
+known_step : (i : Item) (known : Known) → bit_and (upper_mask i) (lower_mask i) ≡ 0 → is_repeated i ≡ true → IsWithin known
+    → known_after i known (known_token i known) ≡ Some (with_field i known (field_in i known.value))
+unfolding IsWithin is_repeated known_token meets
+known_step i known apart e w =
+    let p = and_parts (is_free i.rule) (says_each i.kind (bits_of i)) e in
+    let field = field_in i known.value in
+    let lt : field < 2 ^ bits_of i = field_in-lt i.field known.value in
+    let there : placed i field ≡ bit_and known.value (mask_of i) = placed-field i.field known.value apart in
+    let same : bit_and (bit_and known.value (mask_of i)) known.mask ≡ bit_and known.value (mask_of i) =
+    and_swap known.value (mask_of i) known.mask ∙ ap (λ n. bit_and n (mask_of i)) w in
+    agreed i known (known_token i known) field
+    (said-heard i.kind (bits_of i) field (each_printed i.kind (bits_of i) p.1) (each_within i.kind (bits_of i) field p.1 lt) lt)
+    (sym (ap (λ n. bit_and n known.mask) there ∙ same))
+    (ap (λ r. meets r (bit_or known.value (placed i field))) (free i.rule p.0))
+
+step : (i : Item) (known : Known) → is_next i known.mask ≡ true → IsWithin known → IsStep i known
+unfolding is_next is_new IsWithin
+step i known e w =
+    let p = and_parts (bit_and (upper_mask i) (lower_mask i) == 0) (is_new i known.mask || is_repeated i) e in
+    let apart = eqb-true _ _ p.0 in
+    elim (or_cases (is_new i known.mask) (is_repeated i) p.1) [
+      | inl new ↦
+          let q = and_parts (bit_and known.mask (mask_of i) == 0) (has_choice i.rule i) new in
+          let unknown = eqb-true _ _ q.0 in
+          let c = choose i.rule i known.value q.1 (outside known.value known.mask (mask_of i) w unknown) in
+          record { token = c.token; field = c.field; after = new_step i known apart unknown w c }
+      | inr repeated ↦
+          record { token = known_token i known; field = field_in i known.value; after = known_step i known apart repeated w }
+    ]
 
 record Ends (is : List Item) (known : Known) (before : List Token) : Type 0 where
   rest : List Token
@@ -406,13 +525,12 @@ unfolding goes_through taken IsWithin
 complete [] known g w = record { rest = []; word = known.value; taken_so = refl }
 complete (i ∷ is) known g w =
     let p = and_parts (is_next i known.mask) (goes_through is (bit_or known.mask (mask_of i))) g in
-    let n = next_item i known.mask p.0 in
-    let c = choose i.rule i known.value n.choice (outside known.value known.mask (mask_of i) w n.unknown) in
-    let e = complete is (with_field i known c.field) (next_mask i known c.field is p.1) (with_within i known c.field n w) in
+    let s = step i known p.0 w in
+    let e = complete is (with_field i known s.field) (next_mask i known s.field is p.1) (with_within i known s.field p.0 w) in
     record {
-      rest = c.token ∷ e.rest;
+      rest = s.token ∷ e.rest;
       word = e.word;
-      taken_so = ap (taken_on (λ next. taken is next e.rest)) (chosen_after i known n w c)
+      taken_so = ap (taken_on (λ next. taken is next e.rest)) s.after
           ∙ e.taken_so;
     }
 
@@ -439,10 +557,9 @@ go [] known (suc n) ts g w h = absurd (omega arith)
 go (i ∷ is) known (suc n) [] g w h = absurd (omega arith)
 go (i ∷ is) known (suc n) (t ∷ ts) g w h =
     let p = and_parts (is_next i known.mask) (goes_through is (bit_or known.mask (mask_of i))) g in
-    let it = next_item i known.mask p.0 in
     let e =
     go_field i is known ts n (λ field l. go is (with_field i known field) n ts (next_mask i known field is p.1)
-    (with_within i known field it w) l) (field_said i.kind (bits_of i) t) h in
+    (with_within i known field p.0 w) l) (field_said i.kind (bits_of i) t) h in
     record { rest = e.0; word = e.1; taken_so = e.2 }
 
 -- ---- the shapes of a name
@@ -451,7 +568,7 @@ unfoldable pub is_open : Shape → Bool
 is_open s = (bit_and s.value s.mask == s.value) && goes_through (items_of s) s.mask
 
 all_open : list_all is_open SHAPES ≡ true
-unfolding items_of fields.mask_of has_word is_register is_register_at has_choice is_next goes_through is_open
+unfolding items_of fields.mask_of has_word is_register is_register_at has_choice says_each is_new is_repeated is_next goes_through is_open
 all_open = refl
 
 open_of_name : (name : ℕ) → list_all is_open (shapes_of name) ≡ true
@@ -514,24 +631,28 @@ record IsNumberSaid (k : Kind) (bits : ℕ) : Type 0 where
   field : ℕ
   said : field_said k bits token ≡ Some field
 
-number_said : (k : Kind) (bits : ℕ) → is_number_kind k ≡ true → IsNumberSaid k bits
-unfolding is_number_kind is_number_token field_said on_number on_target
-number_said (kind.Unsigned base scale most) bits e =
+number_said : (k : Kind) (bits : ℕ) → is_number_kind k ≡ true → has_word k ≡ true → IsNumberSaid k bits
+unfolding is_number_kind has_word is_number_token field_said on_number on_target on_bare on_pattern
+number_said kind.Index bits e h = record { token = Bare 0; number = refl; field = 0; said = index_first bits }
+number_said (kind.Pattern first) bits e h = record { token = Number false 14; number = refl; field = 14; said = pattern_first }
+number_said (kind.Descending from) bits e h =
+    record { token = Number false from; number = refl; field = 0; said = descending_first from bits h }
+number_said (kind.Unsigned base scale most) bits e h =
     record { token = Number false base; number = refl; field = 0; said = unsigned_first base scale most }
-number_said (kind.Signed scale) bits e = record { token = Number false 0; number = refl; field = 0; said = signed_first bits scale }
-number_said (kind.Distance scale) bits e = record { token = Distance false 0; number = refl; field = 0; said = signed_first bits scale }
-number_said (kind.Mask wide) bits e = record { token = Number false (zero_mask wide); number = refl; field = 0; said = mask_first wide }
-number_said (kind.SignedMask wide) bits e =
+number_said (kind.Signed scale) bits e h = record { token = Number false 0; number = refl; field = 0; said = signed_first bits scale }
+number_said (kind.Distance scale) bits e h = record { token = Distance false 0; number = refl; field = 0; said = signed_first bits scale }
+number_said (kind.Mask wide) bits e h = record { token = Number false (zero_mask wide); number = refl; field = 0; said = mask_first wide }
+number_said (kind.SignedMask wide) bits e h =
     record {
       token = Number false (zero_mask wide);
       number = refl;
       field = 0;
       said = ap (option_and_then (mask_field wide)) (immediate_first wide) ∙ mask_first wide;
     }
-number_said (kind.ShiftLeft wide) bits e = record { token = Number false 0; number = refl; field = no_shift wide; said = shift_first wide }
-number_said (kind.Halfword wide inverted) bits e =
+number_said (kind.ShiftLeft wide) bits e h = record { token = Number false 0; number = refl; field = no_shift wide; said = shift_first wide }
+number_said (kind.Halfword wide inverted) bits e h =
     record { token = Number inverted (no_bits_size inverted); number = refl; field = 0; said = halfword_first wide inverted }
-number_said k bits e = cc
+number_said k bits e h = cc
 
 no_register : (k : Kind) → is_register k ≡ true → is_number_kind k ≡ true → ⊥
 unfolding is_register is_number_kind
@@ -542,15 +663,49 @@ record IsNumberChosen (i : Item) (rule : Rule) (value : ℕ) : Type 0 where
   chosen : IsChosen i rule value
   number : is_number_token chosen.token ≡ true
 
+record IsNumberStep (i : Item) (known : Known) : Type 0 where
+  taken_on_it : IsStep i known
+  number : is_number_token taken_on_it.token ≡ true
+
 choose_number : (rule : Rule) (i : Item) (value : ℕ) → has_choice rule i ≡ true → is_number_kind i.kind ≡ true → IsNumberChosen i rule value
 unfolding has_choice meets
 choose_number Free i value e n =
     let s =
-    number_said i.kind (bits_of i) n in
+    number_said i.kind (bits_of i) n e in
     record { chosen = record { token = s.token; field = s.field; said = s.said; meets_rule = refl }; number = s.number }
 choose_number SecondApart i value e n = absurd (no_register i.kind (register_at 10 i e).register n)
 choose_number BaseApart i value e n = absurd (no_register i.kind (register_at 5 i e).register n)
 choose_number BasePairApart i value e n = absurd (no_register i.kind (register_at 5 i e).register n)
+choose_number OffsetGiven i value e n = absurd (no_register i.kind (register_at 16 i e).register n)
+
+number_step : (i : Item) (known : Known) → is_next i known.mask ≡ true → IsWithin known → is_number_kind i.kind ≡ true → IsNumberStep i known
+unfolding is_next is_new is_repeated IsWithin known_token
+number_step i known e w n =
+    let p = and_parts (bit_and (upper_mask i) (lower_mask i) == 0) (is_new i known.mask || is_repeated i) e in
+    let apart = eqb-true _ _ p.0 in
+    elim (or_cases (is_new i known.mask) (is_repeated i) p.1) [
+      | inl new ↦
+          let q = and_parts (bit_and known.mask (mask_of i) == 0) (has_choice i.rule i) new in
+          let c = choose_number i.rule i known.value q.1 n in
+          record {
+            taken_on_it = record {
+              token = c.chosen.token;
+              field = c.chosen.field;
+              after = new_step i known apart (eqb-true _ _ q.0) w c.chosen;
+            };
+            number = c.number;
+          }
+      | inr repeated ↦
+          record {
+            taken_on_it = record {
+              token = known_token i known;
+              field = field_in i known.value;
+              after = known_step i known apart repeated w;
+            };
+            number = each_number i.kind (bits_of i) (field_in i known.value)
+                (and_parts (is_free i.rule) (says_each i.kind (bits_of i)) repeated).1 n;
+          }
+    ]
 
 record Wants (is : List Item) (known : Known) (before : List Token) : Type 0 where
   token : Token
@@ -582,25 +737,23 @@ unfolding reach taken known_after goes_through IsWithin
 want [] known zero ts g w h k = cc
 want (i ∷ is) known zero ts g w h k =
     let p = and_parts (is_next i known.mask) (goes_through is (bit_or known.mask (mask_of i))) g in
-    let n = next_item i known.mask p.0 in
-    let c = choose_number i.rule i known.value n.choice k in
-    let field = c.chosen.field in
-    let e = complete is (with_field i known field) (next_mask i known field is p.1) (with_within i known field n w) in
+    let c = number_step i known p.0 w k in
+    let s = c.taken_on_it in
+    let e = complete is (with_field i known s.field) (next_mask i known s.field is p.1) (with_within i known s.field p.0 w) in
     record {
-      token = c.chosen.token;
+      token = s.token;
       number = c.number;
       rest = e.rest;
       word = e.word;
-      taken_so = ap (taken_on (λ next. taken is next e.rest)) (chosen_after i known n w c.chosen) ∙ e.taken_so;
+      taken_so = ap (taken_on (λ next. taken is next e.rest)) s.after ∙ e.taken_so;
     }
 want [] known (suc n) ts g w h k = absurd (omega arith)
 want (i ∷ is) known (suc n) [] g w h k = absurd (omega arith)
 want (i ∷ is) known (suc n) (t ∷ ts) g w h k =
     let p = and_parts (is_next i known.mask) (goes_through is (bit_or known.mask (mask_of i))) g in
-    let it = next_item i known.mask p.0 in
     let e =
     want_field i is known ts n (λ field l. want is (with_field i known field) n ts (next_mask i known field is p.1)
-    (with_within i known field it w) l k) (field_said i.kind (bits_of i) t) h in
+    (with_within i known field p.0 w) l k) (field_said i.kind (bits_of i) t) h in
     record { token = e.0; number = e.1; rest = e.2; word = e.3; taken_so = e.4 }
 
 shape_wants : (s : Shape) (n : ℕ) (ts : List Token) → is_open s ≡ true → wants_number n ts s ≡ true → WantsOn (word_in s) (take n ts)

@@ -1,31 +1,42 @@
 -- A token that is printed says the field that it is printed for.
-use Rattle.std.proofs.Common.{◌≡◌, ℕ, zero, suc, ◌+◌, ◌-◌, ◌*◌, ◌/◌, ◌%◌, ◌^◌, ◌<◌, ◌≤◌, ◌==◌, ◌&&◌, not, Bool, true, false, nat_lt, nat_le}
+use Rattle.std.proofs.Common.{◌≡◌, ℕ, zero, suc, ◌+◌, ◌-◌, ◌*◌, ◌/◌, ◌%◌, ◌^◌, ◌<◌, ◌≤◌, ◌==◌, ◌&&◌, ◌||◌, not, Bool, true, false, nat_lt, nat_le}
 use Rattle.std.proofs.Common.{Some, None, cond, refl, sym, ap, ap₂, ◌∙◌, subst, arith, inl, inr, eqb-true, eq-eqb, lt-ltb, ltb-true, le-leb}
 use Rattle.std.proofs.Common.{leb-true, mod-eq_of_lt}
 use Rattle.std.proofs.lemmas.Bool.{and_parts, cases_lt, le-ltb}
 use Rattle.std.proofs.lemmas.Nat.{pow-add, pow_pos}
 use Rattle.std.proofs.Math.Nat.{mul-div_cancel, mul-mod_left}
+use Rattle.std.specs.Prelude.{Option, option_map}
 use borrow.Author.Tests.{ne_eqb}
 use Rattle.insn_forms.specs.Fields.{field_of}
 use Rattle.bit_ops.specs.Masks.{are_mask_fields}
 use Rattle.insn_text.specs.declared.item.RegisterFile.{RegisterFile}
 use Rattle.insn_text.specs.declared.item.RegisterFile.TheVariants.{X, W}
+use Rattle.insn_text.specs.declared.item.VectorFile.{VectorFile}
 use Rattle.insn_text.specs.declared.item.Kind.{Kind}
 use Rattle.insn_text.specs.declared.item.Kind.TheVariants as kind
-use Rattle.insn_text.specs.Texts.{is_positive, size_of, mask_in}
+use Rattle.insn_text.specs.Texts.{is_positive, size_of, mask_in, is_named_pattern, pattern_place}
+use Rattle.insn_text.specs.Wordings.{file_number}
 use Rattle.insn_text.specs.Rules.{is_within}
 use Rattle.asm_operands.specs.Fields.{on_mark, on_word, on_register, on_number, on_target, word_field, same_file, register_field}
 use Rattle.asm_operands.specs.Fields.{last_field, unsigned_field, signed_field, mask_field, field_said}
+use Rattle.asm_operands.specs.Fields.{on_sized, on_bare, on_pattern, same_vector_file, sized_field, slice_field, index_field}
+use Rattle.asm_operands.specs.Fields.{pattern_after, pattern_of_word, pattern_of_number, descending_field}
 use Rattle.std.specs.Prelude.{if◌then◌else◌}
-use Rattle.asm_tokens.specs.declared.token.Token.TheVariants.{Register, Word}
+use Rattle.asm_tokens.specs.declared.token.Token.TheVariants.{Register, Word, Number}
 use Rattle.asm_operands.specs.Shown.{mask_token, token_said}
 use Rattle.asm_operands.proofs.MaskFields.{mask-given}
+use Rattle.asm_operands.proofs.Registers.{sized-parts}
 
 -- the kind is one that is printed, with so many bits
 unfoldable pub is_printed_kind : Kind → ℕ → Bool
 is_printed_kind (kind.Mark c) bits = bits == 0
 is_printed_kind (kind.Named first count) bits = true
 is_printed_kind (kind.Register file last) bits = bits == 5
+is_printed_kind (kind.Sized file few first) bits = nat_le few bits
+is_printed_kind kind.SliceRegister bits = true
+is_printed_kind kind.Index bits = true
+is_printed_kind (kind.Pattern first) bits = true
+is_printed_kind (kind.Descending from) bits = true
 is_printed_kind (kind.Unsigned base scale most) bits = nat_lt 0 scale
 is_printed_kind (kind.Signed scale) bits = nat_lt 0 scale && nat_lt 0 bits
 is_printed_kind (kind.Distance scale) bits = nat_lt 0 scale && nat_lt 0 bits
@@ -113,6 +124,83 @@ signed_back scale n f positive signed lt =
           ∙ ap (λ m. Some (m % 2 ^ n)) back ∙ ap Some (mod-eq_of_lt lt)
     ]
 
+-- ---- registers with a size, slices, patterns
+own_vector_file : (file : VectorFile) → same_vector_file file file ≡ true
+unfolding same_vector_file
+own_vector_file file = eq-eqb (file_number file) (file_number file) refl
+
+sized_back : (file : VectorFile) (few first bits field : ℕ) → few ≤ bits → field < 2 ^ bits
+    → sized_field file few first bits file (field % 2 ^ few) (first + field / 2 ^ few) ≡ Some field
+unfolding sized_field
+sized_back file few first bits field le lt =
+    let p = sized-parts few bits field le lt in
+    let suffix = first + field / 2 ^ few in
+    let from : first ≤ suffix = omega arith in
+    let back : suffix - first ≡ field / 2 ^ few = omega arith in
+    ap (λ n. cond (same_vector_file file file && nat_lt (field % 2 ^ few) (2 ^ few) && nat_le first suffix
+    && nat_lt n (2 ^ (bits - few))) (Some (n * 2 ^ few + field % 2 ^ few)) None) back
+    ∙ ap (λ b. cond b (Some (field / 2 ^ few * 2 ^ few + field % 2 ^ few)) None)
+    (both_true _ _ (both_true _ _ (both_true _ _ (own_vector_file file) (lt-ltb (field % 2 ^ few) (2 ^ few) p.low)) (le-leb first suffix from))
+    (lt-ltb (field / 2 ^ few) (2 ^ (bits - few)) p.high))
+    ∙ ap Some p.whole
+
+slice_back : (bits field : ℕ) → field < 2 ^ bits → slice_field bits W (12 + field) ≡ Some field
+unfolding slice_field same_file
+slice_back bits field lt =
+    let le : 12 ≤ 12 + field = omega arith in
+    let back : 12 + field - 12 ≡ field = omega arith in
+    ap₂ (λ b n. cond (b && nat_lt n (2 ^ bits)) (Some n) None) (le-leb 12 (12 + field) le) back
+    ∙ ap (λ b. cond b (Some field) None) (lt-ltb field (2 ^ bits) lt)
+
+index_back : (bits field : ℕ) → field < 2 ^ bits → index_field bits field ≡ Some field
+unfolding index_field
+index_back bits field lt = ap (λ b. cond b (Some field) None) (lt-ltb field (2 ^ bits) lt)
+
+-- a pattern has a word, the one after so many others, or none
+pattern_word_back : (first field count : ℕ) → pattern_place field ≡ count → count < 17 → pattern_after count ≡ field
+    → pattern_of_word first (first + pattern_place field) ≡ Some field
+unfolding pattern_of_word
+pattern_word_back first field count e lt back =
+    ap (λ n. option_map pattern_after (word_field first 17 (first + n))) e
+    ∙ ap (option_map pattern_after) (word_back first 17 count lt) ∙ ap Some back
+
+pattern_back : (first : ℕ) (field : ℕ) → field < 32
+    → on_pattern (pattern_of_word first) pattern_of_number (cond (is_named_pattern field) (Word (first + pattern_place field)) (Number false field))
+    ≡ Some field
+unfolding on_pattern pattern_of_number is_named_pattern pattern_place pattern_after
+pattern_back first field lt = elim (cases_lt field 14) [
+  | inl low ↦
+      ap (λ b. said_pattern (b || nat_lt 28 field)) (lt-ltb field 14 low)
+      ∙ pattern_word_back first field field (ap (λ b. cond b field (field - 15)) (lt-ltb field 14 low)) (omega arith)
+      (ap (λ b. cond b field (field + 15)) (lt-ltb field 14 low))
+  | inr high ↦ elim (cases_lt 28 field) [
+    | inl top ↦
+        let less : field - 15 < 17 = omega arith in
+        let more : 14 ≤ field - 15 = omega arith in
+        let back : field - 15 + 15 ≡ field = omega arith in
+        ap₂ (λ a b. said_pattern (a || b)) (le-ltb field 14 high) (lt-ltb 28 field top)
+        ∙ pattern_word_back first field (field - 15) (ap (λ b. cond b field (field - 15)) (le-ltb field 14 high)) less
+        (ap (λ b. cond b (field - 15) (field - 15 + 15)) (le-ltb (field - 15) 14 more) ∙ back)
+    | inr mid ↦
+        ap₂ (λ a b. said_pattern (a || b)) (le-ltb field 14 high) (le-ltb 28 field mid)
+        ∙ ap₂ (λ a b. cond (not (a || b)) (Some field) None) (le-ltb field 14 high) (le-ltb 28 field mid)
+  ]
+]
+  where
+    said_pattern : Bool → Option ℕ
+    said_pattern b = on_pattern (pattern_of_word first) pattern_of_number (cond b (Word (first + pattern_place field)) (Number false field))
+
+descending_back : (from bits field : ℕ) → field < from → field < 2 ^ bits → descending_field from bits false (from - field) ≡ Some field
+unfolding descending_field
+descending_back from bits field lt fits =
+    let n = from - field in
+    let some : 0 < n = omega arith in
+    let le : n ≤ from = omega arith in
+    let back : from - n ≡ field = omega arith in
+    ap (λ m. cond (not false && nat_lt 0 n && nat_le n from && nat_lt m (2 ^ bits)) (Some m) None) back
+    ∙ ap (λ b. cond b (Some field) None)
+    (both_true _ _ (both_true _ _ (lt-ltb 0 n some) (le-leb n from le)) (lt-ltb field (2 ^ bits) fits))
+
 -- ---- masks
 mask_back : (wide : Bool) (bits field : ℕ) → field < 8192
     → are_mask_fields (field_of field 12 1 == 1) (field_of field 0 6) (field_of field 6 6) wide ≡ true
@@ -145,11 +233,16 @@ mark_back c field bits e lt =
 
 pub said-heard : (k : Kind) (bits field : ℕ) → is_printed_kind k bits ≡ true → is_within k field ≡ true → field < 2 ^ bits
     → field_said k bits (token_said k bits field) ≡ Some field
-unfolding is_printed_kind is_within field_said token_said on_mark on_word on_register on_number on_target
+unfolding is_printed_kind is_within field_said token_said on_mark on_word on_register on_number on_target on_sized on_bare
 said-heard (kind.Mark c) bits field p w lt = mark_back c field bits (eqb-true bits 0 p) lt
 said-heard (kind.Named first count) bits field p w lt = word_back first count field (ltb-true field count w)
 said-heard (kind.Register file last) bits field p w lt =
     register_back file last field (below_32 bits field (eqb-true bits 5 p) lt)
+said-heard (kind.Sized file few first) bits field p w lt = sized_back file few first bits field (leb-true few bits p) lt
+said-heard kind.SliceRegister bits field p w lt = slice_back bits field lt
+said-heard kind.Index bits field p w lt = index_back bits field lt
+said-heard (kind.Pattern first) bits field p w lt = pattern_back first field (ltb-true field 32 w)
+said-heard (kind.Descending from) bits field p w lt = descending_back from bits field (ltb-true field from w) lt
 said-heard (kind.Unsigned base scale most) bits field p w lt =
     unsigned_back base scale most field (ltb-true 0 scale p) (leb-true field most w)
 said-heard (kind.Signed scale) bits field p w lt =

@@ -15,3 +15,4 @@ pub mod Aimed
 pub mod AliasNumbers
 pub mod Moves
 pub mod Bare
+pub mod Registers

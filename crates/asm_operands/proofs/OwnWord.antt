@@ -19,7 +19,8 @@ use Rattle.insn_text.specs.Rules.{is_sayable, IsPrinted}
 use Rattle.asm_tokens.specs.Tokens.{is_name}
 use Rattle.asm_tokens.specs.declared.token.Token.{Token}
 use Rattle.asm_operands.specs.declared.operands.Target.{Target}
-use Rattle.asm_operands.specs.Fields.{same_file}
+use Rattle.insn_text.specs.Wordings.{file_number}
+use Rattle.asm_operands.specs.Fields.{same_file, same_vector_file}
 use Rattle.asm_operands.specs.Operands.{word_in, shapes_of, first_of_words, first_word, is_distance, names, target_in, target_of}
 use Rattle.asm_operands.specs.Operands.{operand_fault, said_or, Says, Fails, if_meant, word_said, operands_said}
 use Rattle.asm_operands.specs.Shown.{token_said, item_token, tokens_shown}
@@ -28,7 +29,7 @@ use Rattle.asm_operands.proofs.WordBits.{has_register, covers}
 use Rattle.asm_operands.proofs.Heard.{is_printed_kind}
 use Rattle.asm_operands.proofs.OwnTokens.{is_printed_item, says_rest, word-shown}
 use Rattle.asm_operands.proofs.Apart.{is_said_by_mark, is_said_by_number, is_said_by_distance, is_said_by_register, is_apart_from_words}
-use Rattle.asm_operands.proofs.Apart.{kinds_apart, apart, shapes-apart}
+use Rattle.asm_operands.proofs.Apart.{is_said_by_bare, is_apart_from_sized, kinds_apart, apart, shapes-apart}
 
 -- ---- the table
 unfoldable pub says_word : Shape → Bool
@@ -46,7 +47,7 @@ unfoldable pub name_apart : ℕ → Bool
 name_apart name = are_apart (shapes_of name)
 
 names_apart : all_below name_apart (length NAMES) ≡ true
-unfolding items_of shapes_of fields.mask_of all_below has_register covers is_printed_kind is_printed_item says_rest is_said_by_mark is_said_by_number is_said_by_distance same_file is_said_by_register is_apart_from_words kinds_apart apart says_word is_later_apart are_apart name_apart
+unfolding items_of shapes_of fields.mask_of all_below has_register covers is_printed_kind is_printed_item says_rest is_said_by_mark is_said_by_number is_said_by_distance is_said_by_bare same_file same_vector_file file_number is_said_by_register is_apart_from_words is_apart_from_sized kinds_apart apart says_word is_later_apart are_apart name_apart
 names_apart = refl
 
 -- a shape stands among those of its name
@@ -163,6 +164,11 @@ never_named (kind.Unsigned base scale most) bits field = refl
 never_named (kind.Signed scale) bits field = refl
 never_named (kind.Distance scale) bits field = refl
 never_named (kind.Mask wide) bits field = refl
+never_named (kind.Sized file few first) bits field = refl
+never_named kind.SliceRegister bits field = refl
+never_named kind.Index bits field = refl
+never_named (kind.Pattern first) bits field = refl
+never_named (kind.Descending from) bits field = refl
 never_named (kind.SignedMask wide) bits field = refl
 never_named (kind.ShiftLeft wide) bits field = refl
 never_named (kind.Opposite first count) bits field = refl

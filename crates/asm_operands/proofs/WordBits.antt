@@ -7,7 +7,7 @@ use Rattle.insn_forms.specs.Fields.{field_of}
 use Rattle.insn_forms.proofs.Bits.{field_masked}
 use Rattle.insn_text.specs.declared.item.Item.{Item}
 use Rattle.insn_text.specs.declared.item.Rule.{Rule}
-use Rattle.insn_text.specs.declared.item.Rule.TheVariants.{Free, SecondApart, BaseApart, BasePairApart}
+use Rattle.insn_text.specs.declared.item.Rule.TheVariants.{Free, SecondApart, BaseApart, BasePairApart, OffsetGiven}
 use Rattle.insn_text.specs.Rules.{meets}
 
 -- ---- words by their bits
@@ -31,6 +31,7 @@ covers Free mask = true
 covers SecondApart mask = has_register 0 mask && has_register 10 mask
 covers BaseApart mask = has_register 5 mask && has_register 0 mask
 covers BasePairApart mask = has_register 5 mask && has_register 0 mask && has_register 10 mask
+covers OffsetGiven mask = has_register 16 mask
 
 register-kept : (low w mask : ℕ) → has_register low mask ≡ true → field_of (bit_and w mask) low 5 ≡ field_of w low 5
 unfolding field_of has_register
@@ -57,3 +58,4 @@ meets-kept BasePairApart w mask e =
     (register-kept 0 w mask q.1)
     ∙ ap (λ b. ((field_of w 5 5 == 31) || not (field_of w 5 5 == field_of w 0 5)) && ((field_of w 5 5 == 31) || not (field_of w 5 5 == b)))
     (register-kept 10 w mask p.1)
+meets-kept OffsetGiven w mask e = ap (λ a. not (a == 31)) (register-kept 16 w mask e)

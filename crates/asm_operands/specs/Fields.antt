@@ -1,5 +1,5 @@
 -- The number of a field that a token of an operand says.
--- Source: DDI 0487, C1.2 and C6.2, with the aliases' pages for MOV (immediate), LSL (immediate) and CSET.
+-- Source: DDI 0487, C1.2, C6.2 and C8.2, with the aliases' pages for MOV (immediate), LSL (immediate) and CSET.
 use Rattle.std.specs.Prelude.{ℕ, ◌+◌, ◌-◌, ◌*◌, ◌/◌, ◌%◌, ◌^◌, Bool, true, false, not, ◌&&◌, ◌==◌, nat_lt}
 use Rattle.std.specs.Prelude.{nat_le, Option, Some, None, if◌then◌else◌, option_and_then, option_map, bit_xor}
 use Rattle.std.specs.List.{find, range_with_len}
@@ -8,11 +8,14 @@ use Rattle.bit_ops.specs.Masks.{are_mask_fields}
 use Rattle.insn_forms.specs.Fields.{field_of}
 use Rattle.insn_text.specs.declared.item.RegisterFile.{RegisterFile}
 use Rattle.insn_text.specs.declared.item.RegisterFile.TheVariants.{X, W}
+use Rattle.insn_text.specs.declared.item.VectorFile.{VectorFile}
 use Rattle.insn_text.specs.declared.item.Kind.{Kind}
 use Rattle.insn_text.specs.declared.item.Kind.TheVariants as kind
-use Rattle.insn_text.specs.Texts.{mask_in}
+use Rattle.insn_text.specs.Texts.{mask_in, is_named_pattern}
+use Rattle.insn_text.specs.Wordings.{file_number}
 use Rattle.asm_tokens.specs.declared.token.Token.{Token}
 use Rattle.asm_tokens.specs.declared.token.Token.TheVariants.{Register, Word, Name, Number, Distance, Mark}
+use Rattle.asm_tokens.specs.declared.token.Token.TheVariants.{Sized, Bare}
 
 -- ---- tokens of each sort
 
@@ -31,6 +34,7 @@ on_number says _ = None
 -- a distance, or any name, which stands for a distance that is not known yet
 unfoldable pub on_target : (Bool → ℕ → Option ℕ) → Token → Option ℕ
 on_target says (Register file number) = Some 0
+on_target says (Sized file number suffix) = Some 0
 on_target says (Word place) = Some 0
 on_target says Name = Some 0
 on_target says (Distance back size) = says back size
@@ -41,6 +45,22 @@ unfoldable pub on_register : (RegisterFile → ℕ → Option ℕ) → (ℕ → 
 on_register numbered says (Register file number) = numbered file number
 on_register numbered says (Word place) = says place
 on_register numbered says _ = None
+
+-- a register with a size
+unfoldable pub on_sized : (VectorFile → ℕ → ℕ → Option ℕ) → Token → Option ℕ
+on_sized says (Sized file number suffix) = says file number suffix
+on_sized says _ = None
+
+-- a number without `#`
+unfoldable pub on_bare : (ℕ → Option ℕ) → Token → Option ℕ
+on_bare says (Bare size) = says size
+on_bare says _ = None
+
+-- a word, or a number
+unfoldable pub on_pattern : (ℕ → Option ℕ) → (Bool → ℕ → Option ℕ) → Token → Option ℕ
+on_pattern word number (Word place) = word place
+on_pattern word number (Number negative size) = number negative size
+on_pattern word number _ = None
 
 -- ---- fields
 
@@ -62,6 +82,43 @@ register_field wanted file number = if same_file wanted file && nat_lt number 31
 -- number 31, whose word stands at a place
 unfoldable pub last_field : ℕ → ℕ → Option ℕ
 last_field last place = if place == last then Some 31 else None
+
+unfoldable pub same_vector_file : VectorFile → VectorFile → Bool
+same_vector_file wanted file = file_number wanted == file_number file
+
+-- a register of the file with one of the suffixes from a place on: the lowest `few` bits of the field are its
+-- number, and the others say which suffix
+unfoldable pub sized_field : VectorFile → ℕ → ℕ → ℕ → VectorFile → ℕ → ℕ → Option ℕ
+sized_field wanted few first bits file number suffix =
+    if same_vector_file wanted file && nat_lt number (2 ^ few) && nat_le first suffix
+    && nat_lt (suffix - first) (2 ^ (bits - few))
+    then Some ((suffix - first) * 2 ^ few + number) else None
+
+-- a register from W12 on, by the last bits of its number
+unfoldable pub slice_field : ℕ → RegisterFile → ℕ → Option ℕ
+slice_field bits file number =
+    if same_file W file && nat_le 12 number && nat_lt (number - 12) (2 ^ bits) then Some (number - 12) else None
+
+-- a number of so many bits
+unfoldable pub index_field : ℕ → ℕ → Option ℕ
+index_field bits size = if nat_lt size (2 ^ bits) then Some size else None
+
+-- the pattern whose word is the one after so many others: 0 to 13, then 29 to 31
+unfoldable pub pattern_after : ℕ → ℕ
+pattern_after count = if nat_lt count 14 then count else count + 15
+
+unfoldable pub pattern_of_word : ℕ → ℕ → Option ℕ
+pattern_of_word first place = option_map pattern_after (word_field first 17 place)
+
+-- a pattern that has no word
+unfoldable pub pattern_of_number : Bool → ℕ → Option ℕ
+pattern_of_number negative size = if not negative && not (is_named_pattern size) then Some size else None
+
+-- n = from - field, above 0, with a field of so many bits
+unfoldable pub descending_field : ℕ → ℕ → Bool → ℕ → Option ℕ
+descending_field from bits negative size =
+    if not negative && nat_lt 0 size && nat_le size from && nat_lt (from - size) (2 ^ bits)
+    then Some (from - size) else None
 
 -- n = field * scale + base, with a field up to the greatest
 unfoldable pub unsigned_field : ℕ → ℕ → ℕ → Bool → ℕ → Option ℕ
@@ -131,6 +188,11 @@ unfoldable pub field_said : Kind → ℕ → Token → Option ℕ
 field_said (kind.Mark c) bits token = on_mark (λ d. if d == c then Some 0 else None) token
 field_said (kind.Named first count) bits token = on_word (word_field first count) token
 field_said (kind.Register file last) bits token = on_register (register_field file) (last_field last) token
+field_said (kind.Sized file few first) bits token = on_sized (sized_field file few first bits) token
+field_said kind.SliceRegister bits token = on_register (slice_field bits) (λ place. None) token
+field_said kind.Index bits token = on_bare (index_field bits) token
+field_said (kind.Pattern first) bits token = on_pattern (pattern_of_word first) pattern_of_number token
+field_said (kind.Descending from) bits token = on_number (descending_field from bits) token
 field_said (kind.Unsigned base scale most) bits token = on_number (unsigned_field base scale most) token
 field_said (kind.Signed scale) bits token = on_number (signed_field bits scale) token
 field_said (kind.Distance scale) bits token = on_target (signed_field bits scale) token

@@ -119,6 +119,8 @@ is_number_kind (kind.Mark c) = false
 is_number_kind (kind.Named first count) = false
 is_number_kind (kind.Register file last) = false
 is_number_kind (kind.Opposite first count) = false
+is_number_kind (kind.Sized file few first) = false
+is_number_kind kind.SliceRegister = false
 is_number_kind other = true
 
 -- the kind is a distance, for which a name may stand

@@ -31,7 +31,12 @@ fn is_number_kind(kind: Kind) -> bool
     ensures { result ≡ is_number_kind kind }
 {
     match kind {
-        Kind::Mark(_) | Kind::Named { .. } | Kind::Register { .. } | Kind::Opposite { .. } => false,
+        Kind::Mark(_)
+        | Kind::Named { .. }
+        | Kind::Register { .. }
+        | Kind::Opposite { .. }
+        | Kind::Sized { .. }
+        | Kind::SliceRegister => false,
         _ => true,
     }
 }

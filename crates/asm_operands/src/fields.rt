@@ -1,26 +1,29 @@
 //! The number of a field that a token says.
 
-ghost use Rattle.std.specs.Prelude.{ℕ, ◌≡◌, ◌-◌, ◌*◌, ◌<◌, ◌^◌, ◌==◌, ◌&&◌, ◌≤◌, true, Option, IfSome};
+ghost use Rattle.std.specs.Prelude.{ℕ, ◌≡◌, ◌+◌, ◌-◌, ◌*◌, ◌<◌, ◌^◌, ◌==◌, ◌&&◌, ◌≤◌, true, Option, IfSome};
 ghost use Rattle.std.specs.Prelude.{IsTrue, bit_xor, option_map, option_and_then, None, if◌then◌else◌};
 ghost use Rattle.std.specs.List.{find, range_with_len};
 ghost use Rattle.bit_ops.specs.Bits.{width_of};
 ghost use Rattle.asm_tokens.specs.declared.token.Token.TheVariants.{Register, Word, Name, Number, Distance};
-ghost use Rattle.asm_tokens.specs.declared.token.Token.TheVariants.{Mark};
+ghost use Rattle.asm_tokens.specs.declared.token.Token.TheVariants.{Mark, Sized, Bare};
 ghost use Rattle.asm_operands.specs.Fields.{word_field, same_file, register_field, last_field};
 ghost use Rattle.asm_operands.specs.Fields.{unsigned_field, signed_field, mask_field, immediate_of};
 ghost use Rattle.asm_operands.specs.Fields.{shift_left_field, is_halfword_at, halfword_field, inverted_if};
-ghost use Rattle.asm_operands.specs.Fields.{field_said};
+ghost use Rattle.asm_operands.specs.Fields.{same_vector_file, sized_field, slice_field, index_field};
+ghost use Rattle.asm_operands.specs.Fields.{pattern_after, pattern_of_word, pattern_of_number};
+ghost use Rattle.asm_operands.specs.Fields.{descending_field, field_said};
 ghost use Rattle.asm_operands.specs.Sound.{has_factor};
 
 use asm_tokens::Token;
 use bit_ops::mask_fields;
-use insn_text::{Kind, RegisterFile};
+use insn_text::{Kind, RegisterFile, VectorFile};
 
 /// One of `count` words from place `first` on.
 #[inline(always)]
 #[tactic(auto, unfolding(crate::specs::Fields::word_field))]
 fn word_field(first: u16, count: u16, place: u16) -> Option<u32>
-    ensures { result ≡ word_field first count place }
+    ensures value { result ≡ word_field first count place }
+    ensures small { IfSome result (λ field. field < 2 ^ 16) }
 {
     let first = u32::from(first);
     let place = u32::from(place);
@@ -65,6 +68,136 @@ fn last_field(last: u16, place: u16) -> Option<u32>
     ensures { result ≡ last_field last place }
 {
     if place == last { Some(31) } else { None }
+}
+
+/// Whether the two are one file of vectors, predicates or ZA.
+#[inline(always)]
+#[tactic(auto, unfolding(crate::specs::Fields::same_vector_file, insn_text::specs::Wordings::file_number))]
+fn same_vector_file(wanted: VectorFile, file: VectorFile) -> bool
+    ensures { result ≡ same_vector_file wanted file }
+{
+    match wanted {
+        VectorFile::Z => matches!(file, VectorFile::Z),
+        VectorFile::P => matches!(file, VectorFile::P),
+        VectorFile::B => matches!(file, VectorFile::B),
+        VectorFile::H => matches!(file, VectorFile::H),
+        VectorFile::S => matches!(file, VectorFile::S),
+        VectorFile::D => matches!(file, VectorFile::D),
+        VectorFile::Za => matches!(file, VectorFile::Za),
+    }
+}
+
+/// The field that has the number of a register in its lowest `few` bits and, above these, by how much its
+/// suffix stands behind the first.
+fn joined(size: u32, few: u32, bits: u32, number: u32) -> u32
+    requires few { few ≤ bits }
+    requires bits { bits < 32 }
+    requires number { number < 2 ^ few }
+    requires size { size < 2 ^ (bits - few) }
+    ensures { result ≡ size * 2 ^ few + number }
+{
+    (size << few) + number
+}
+
+/// The field of so many bits that has a register of the file, with one of the suffixes from place `first` on.
+#[tactic(auto, unfolding(crate::specs::Fields::sized_field))]
+fn sized_field(
+    wanted: VectorFile,
+    few: u8,
+    first: u16,
+    bits: u32,
+    file: VectorFile,
+    number: u8,
+    suffix: u16,
+) -> Option<u32>
+    requires few { few ≤ bits }
+    requires bits { bits < 32 }
+    ensures { result ≡ sized_field wanted few first bits file number suffix }
+{
+    let few = u32::from(few);
+    let number = u32::from(number);
+    if !same_vector_file(wanted, file) || number >= 1 << few || suffix < first {
+        return None;
+    }
+    let size = u32::from(suffix - first);
+    if size < 1 << (bits - few) {
+        Some(joined(size, few, bits, number))
+    } else {
+        None
+    }
+}
+
+/// The last bits of the number of a register from W12 on.
+#[tactic(auto, unfolding(crate::specs::Fields::slice_field))]
+fn slice_field(bits: u32, file: RegisterFile, number: u8) -> Option<u32>
+    requires { bits < 32 }
+    ensures { result ≡ slice_field bits file number }
+{
+    let number = u32::from(number);
+    if same_file(RegisterFile::W, file) && 12 <= number && number - 12 < 1 << bits {
+        Some(number - 12)
+    } else {
+        None
+    }
+}
+
+/// The number, where it is one of so many bits.
+#[tactic(auto, unfolding(crate::specs::Fields::index_field))]
+fn index_field(bits: u32, size: u64) -> Option<u32>
+    requires { bits < 32 }
+    ensures { result ≡ index_field bits size }
+{
+    if size < 1 << bits {
+        Some(size as u32)
+    } else {
+        None
+    }
+}
+
+/// The pattern whose word is the one after so many others.
+#[tactic(auto, unfolding(crate::specs::Fields::pattern_after))]
+fn pattern_after(count: u32) -> u32
+    requires { count < 2 ^ 16 }
+    ensures { result ≡ pattern_after count }
+{
+    if count < 14 { count } else { count + 15 }
+}
+
+/// The pattern whose word stands at a place.
+#[tactic(auto, unfolding(crate::specs::Fields::pattern_of_word))]
+fn pattern_of_word(first: u16, place: u16) -> Option<u32>
+    ensures { result ≡ pattern_of_word first place }
+{
+    match word_field(first, 17, place) {
+        Some(count) => Some(pattern_after(count)),
+        None => None,
+    }
+}
+
+/// The number, where it is a pattern that has no word.
+#[tactic(auto, unfolding(crate::specs::Fields::pattern_of_number, insn_text::specs::Texts::is_named_pattern))]
+fn pattern_of_number(negative: bool, size: u64) -> Option<u32>
+    ensures { result ≡ pattern_of_number negative size }
+{
+    if !negative && 14 <= size && size <= 28 {
+        Some(size as u32)
+    } else {
+        None
+    }
+}
+
+/// What the number lacks of `from`, where that is a number of so many bits.
+#[tactic(auto, unfolding(crate::specs::Fields::descending_field))]
+fn descending_field(from: u16, bits: u32, negative: bool, size: u64) -> Option<u32>
+    requires { bits < 32 }
+    ensures { result ≡ descending_field from bits negative size }
+{
+    let from = u64::from(from);
+    if !negative && 0 < size && size <= from && from - size < 1 << bits {
+        Some((from - size) as u32)
+    } else {
+        None
+    }
 }
 
 /// The field, up to the greatest, that times `scale` and with `base` more is the number.
@@ -258,7 +391,7 @@ fn opposite_field(first: u16, count: u16, place: u16) -> Option<u32>
 
 /// The number of a field of so many bits that a number says.
 #[inline(always)]
-#[tactic(auto, unfolding(crate::specs::Fields::field_said, crate::specs::Fields::on_mark, crate::specs::Fields::on_word, crate::specs::Fields::on_register, crate::specs::Fields::on_number, crate::specs::Fields::on_target, crate::specs::Sound::has_factor))]
+#[tactic(auto, unfolding(crate::specs::Fields::field_said, crate::specs::Fields::on_mark, crate::specs::Fields::on_word, crate::specs::Fields::on_register, crate::specs::Fields::on_number, crate::specs::Fields::on_target, crate::specs::Fields::on_sized, crate::specs::Fields::on_bare, crate::specs::Fields::on_pattern, crate::specs::Sound::has_factor))]
 fn number_said(kind: Kind, bits: u32, negative: bool, size: u64) -> Option<u32>
     requires few { bits < 32 }
     requires factor { has_factor kind bits ≡ true }
@@ -268,6 +401,11 @@ fn number_said(kind: Kind, bits: u32, negative: bool, size: u64) -> Option<u32>
         Kind::Mark(_) => None,
         Kind::Named { .. } => None,
         Kind::Register { .. } => None,
+        Kind::Sized { .. } => None,
+        Kind::SliceRegister => None,
+        Kind::Index => None,
+        Kind::Pattern { .. } => pattern_of_number(negative, size),
+        Kind::Descending { from } => descending_field(from, bits, negative, size),
         Kind::Unsigned { base, scale, most } => unsigned_field(base, scale, most, negative, size),
         Kind::Signed { scale } => signed_field(bits, scale, negative, size),
         Kind::Distance { .. } => None,
@@ -281,7 +419,7 @@ fn number_said(kind: Kind, bits: u32, negative: bool, size: u64) -> Option<u32>
 
 /// The number of a field that the word at a place says: any name stands for a distance.
 #[inline(always)]
-#[tactic(auto, unfolding(crate::specs::Fields::field_said, crate::specs::Fields::on_mark, crate::specs::Fields::on_word, crate::specs::Fields::on_register, crate::specs::Fields::on_number, crate::specs::Fields::on_target))]
+#[tactic(auto, unfolding(crate::specs::Fields::field_said, crate::specs::Fields::on_mark, crate::specs::Fields::on_word, crate::specs::Fields::on_register, crate::specs::Fields::on_number, crate::specs::Fields::on_target, crate::specs::Fields::on_sized, crate::specs::Fields::on_bare, crate::specs::Fields::on_pattern))]
 fn word_said(kind: Kind, place: u16) -> Option<u32>
     ensures { (bits : ℕ) → result ≡ field_said kind bits (Word place) }
 {
@@ -289,6 +427,11 @@ fn word_said(kind: Kind, place: u16) -> Option<u32>
         Kind::Mark(_) => None,
         Kind::Named { first, count } => word_field(first, count, place),
         Kind::Register { last, .. } => last_field(last, place),
+        Kind::Sized { .. } => None,
+        Kind::SliceRegister => None,
+        Kind::Index => None,
+        Kind::Pattern { first } => pattern_of_word(first, place),
+        Kind::Descending { .. } => None,
         Kind::Unsigned { .. } => None,
         Kind::Signed { .. } => None,
         Kind::Distance { .. } => Some(0),
@@ -302,19 +445,52 @@ fn word_said(kind: Kind, place: u16) -> Option<u32>
 
 /// The number of a field that a register says: any name stands for a distance.
 #[inline(always)]
-#[tactic(auto, unfolding(crate::specs::Fields::field_said, crate::specs::Fields::on_mark, crate::specs::Fields::on_word, crate::specs::Fields::on_register, crate::specs::Fields::on_number, crate::specs::Fields::on_target))]
-fn register_said(kind: Kind, file: RegisterFile, number: u8) -> Option<u32>
-    ensures { (bits : ℕ) → result ≡ field_said kind bits (Register file number) }
+#[tactic(auto, unfolding(crate::specs::Fields::field_said, crate::specs::Fields::on_mark, crate::specs::Fields::on_word, crate::specs::Fields::on_register, crate::specs::Fields::on_number, crate::specs::Fields::on_target, crate::specs::Fields::on_sized, crate::specs::Fields::on_bare, crate::specs::Fields::on_pattern))]
+fn register_said(kind: Kind, bits: u32, file: RegisterFile, number: u8) -> Option<u32>
+    requires { bits < 32 }
+    ensures { result ≡ field_said kind bits (Register file number) }
 {
     match kind {
         Kind::Register { file: wanted, .. } => register_field(wanted, file, number),
+        Kind::SliceRegister => slice_field(bits, file, number),
         Kind::Distance { .. } => Some(0),
         _ => None,
     }
 }
 
+/// The number of a field of so many bits that a register with a size says: any name stands for a distance.
+#[inline(always)]
+#[tactic(auto, unfolding(crate::specs::Fields::field_said, crate::specs::Fields::on_mark, crate::specs::Fields::on_word, crate::specs::Fields::on_register, crate::specs::Fields::on_number, crate::specs::Fields::on_target, crate::specs::Fields::on_sized, crate::specs::Fields::on_bare, crate::specs::Fields::on_pattern, crate::specs::Sound::has_factor))]
+fn sized_said(kind: Kind, bits: u32, file: VectorFile, number: u8, suffix: u16) -> Option<u32>
+    requires few { bits < 32 }
+    requires factor { has_factor kind bits ≡ true }
+    ensures { result ≡ field_said kind bits (Sized file number suffix) }
+{
+    match kind {
+        Kind::Sized {
+            file: wanted,
+            bits: few,
+            suffix: first,
+        } => { sized_field(wanted, few, first, bits, file, number, suffix) }
+        Kind::Distance { .. } => Some(0),
+        _ => None,
+    }
+}
+
+/// The number of a field of so many bits that a number without `#` says.
+#[tactic(auto, unfolding(crate::specs::Fields::field_said, crate::specs::Fields::on_mark, crate::specs::Fields::on_word, crate::specs::Fields::on_register, crate::specs::Fields::on_number, crate::specs::Fields::on_target, crate::specs::Fields::on_sized, crate::specs::Fields::on_bare, crate::specs::Fields::on_pattern))]
+fn bare_said(kind: Kind, bits: u32, size: u64) -> Option<u32>
+    requires { bits < 32 }
+    ensures { result ≡ field_said kind bits (Bare size) }
+{
+    match kind {
+        Kind::Index => index_field(bits, size),
+        _ => None,
+    }
+}
+
 /// The number of a field that a name says that is no word: any stands for a distance.
-#[tactic(auto, unfolding(crate::specs::Fields::field_said, crate::specs::Fields::on_mark, crate::specs::Fields::on_word, crate::specs::Fields::on_register, crate::specs::Fields::on_number, crate::specs::Fields::on_target))]
+#[tactic(auto, unfolding(crate::specs::Fields::field_said, crate::specs::Fields::on_mark, crate::specs::Fields::on_word, crate::specs::Fields::on_register, crate::specs::Fields::on_number, crate::specs::Fields::on_target, crate::specs::Fields::on_sized, crate::specs::Fields::on_bare, crate::specs::Fields::on_pattern))]
 fn name_said(kind: Kind) -> Option<u32>
     ensures { (bits : ℕ) → result ≡ field_said kind bits Name }
 {
@@ -325,7 +501,7 @@ fn name_said(kind: Kind) -> Option<u32>
 }
 
 /// The number of a field of so many bits that a distance says.
-#[tactic(auto, unfolding(crate::specs::Fields::field_said, crate::specs::Fields::on_mark, crate::specs::Fields::on_word, crate::specs::Fields::on_register, crate::specs::Fields::on_number, crate::specs::Fields::on_target, crate::specs::Sound::has_factor))]
+#[tactic(auto, unfolding(crate::specs::Fields::field_said, crate::specs::Fields::on_mark, crate::specs::Fields::on_word, crate::specs::Fields::on_register, crate::specs::Fields::on_number, crate::specs::Fields::on_target, crate::specs::Fields::on_sized, crate::specs::Fields::on_bare, crate::specs::Fields::on_pattern, crate::specs::Sound::has_factor))]
 fn distance_said(kind: Kind, bits: u32, back: bool, size: u64) -> Option<u32>
     requires few { bits < 32 }
     requires factor { has_factor kind bits ≡ true }
@@ -339,7 +515,7 @@ fn distance_said(kind: Kind, bits: u32, back: bool, size: u64) -> Option<u32>
 
 /// The number of a field that a mark says: 0 where it is the one.
 #[inline(always)]
-#[tactic(auto, unfolding(crate::specs::Fields::field_said, crate::specs::Fields::on_mark, crate::specs::Fields::on_word, crate::specs::Fields::on_register, crate::specs::Fields::on_number, crate::specs::Fields::on_target))]
+#[tactic(auto, unfolding(crate::specs::Fields::field_said, crate::specs::Fields::on_mark, crate::specs::Fields::on_word, crate::specs::Fields::on_register, crate::specs::Fields::on_number, crate::specs::Fields::on_target, crate::specs::Fields::on_sized, crate::specs::Fields::on_bare, crate::specs::Fields::on_pattern))]
 fn mark_said(kind: Kind, mark: u8) -> Option<u32>
     ensures { (bits : ℕ) → result ≡ field_said kind bits (Mark mark) }
 {
@@ -351,19 +527,24 @@ fn mark_said(kind: Kind, mark: u8) -> Option<u32>
 
 /// The number of a field of so many bits that the token says.
 #[inline(always)]
-#[tactic(auto, unfolding(crate::specs::Fields::field_said, crate::specs::Fields::on_mark, crate::specs::Fields::on_word, crate::specs::Fields::on_register, crate::specs::Fields::on_number, crate::specs::Fields::on_target, crate::specs::Sound::has_factor))]
+#[tactic(auto, unfolding(crate::specs::Fields::field_said, crate::specs::Fields::on_mark, crate::specs::Fields::on_word, crate::specs::Fields::on_register, crate::specs::Fields::on_number, crate::specs::Fields::on_target, crate::specs::Fields::on_sized, crate::specs::Fields::on_bare, crate::specs::Fields::on_pattern, crate::specs::Sound::has_factor))]
 pub(crate) fn field_said(kind: Kind, bits: u32, token: Token) -> Option<u32>
     requires few { bits < 32 }
     requires factor { has_factor kind bits ≡ true }
     ensures { result ≡ field_said kind bits token }
 {
     match token {
-        Token::Register { file, number } => register_said(kind, file, number),
+        Token::Register { file, number } => register_said(kind, bits, file, number),
+        Token::Sized {
+            file,
+            number,
+            suffix,
+        } => sized_said(kind, bits, file, number, suffix),
         Token::Word(place) => word_said(kind, place),
         Token::Name => name_said(kind),
         Token::Number { negative, size } => number_said(kind, bits, negative, size),
         Token::Distance { back, size } => distance_said(kind, bits, back, size),
-        Token::Bare(_) => None,
+        Token::Bare(size) => bare_said(kind, bits, size),
         Token::Malformed => None,
         Token::Mark(mark) => mark_said(kind, mark),
         Token::Other => None,

@@ -68,6 +68,7 @@ fn meets(rule: Rule, word: u32) -> bool
         Rule::BaseApart => is_base_apart(word, register_at(word, 0)),
         Rule::BasePairApart => is_base_apart(word, register_at(word, 0))
             && is_base_apart(word, register_at(word, 10)),
+        Rule::OffsetGiven => register_at(word, 16) != 31,
     }
 }
 
