@@ -19,12 +19,14 @@ use Rattle.a64_table.specs.Conditions.{fits_of}
 use Rattle.a64_table.specs.Table.{scalar, meaning_of}
 use Rattle.sm_types.specs.declared.insn.Insn.{Insn}
 use Rattle.a64_encode.specs.Either.{instruction_of}
+use Rattle.sve_table.specs.declared.operation.VectorOperation.{VectorOperation}
+use Rattle.sve_table.specs.declared.rows.TheConstants.{VECTOR_LINES}
 use Rattle.sve_table.specs.Table.{vector, vector_meaning_of}
 use Rattle.insn_forms.specs.Fields as fields
 use Rattle.insn_text.specs.declared.item.Item.{Item}
 use Rattle.insn_text.specs.declared.item.Shape.{Shape}
 use Rattle.insn_text.specs.declared.shapes.TheConstants.{SHAPES, STARTS}
-use Rattle.insn_text.specs.Texts.{items_of, bits_of}
+use Rattle.insn_text.specs.Texts.{items_in, items_of, bits_of}
 use Rattle.asm_tokens.specs.declared.token.Token.{Token}
 use Rattle.asm_tokens.specs.declared.token.Token.TheVariants.{Distance}
 use Rattle.asm_operands.specs.Fields.{field_said}
@@ -169,15 +171,27 @@ leaves_room i s row =
     not (bit_and row.value s.mask == bit_and (bit_and s.value s.mask) row.mask)
     || ((bit_and row.mask (mask_of i) == 0) && is_free row.operation)
 
+-- no word of the vector row is one of the shape
+unfoldable pub is_no_vector : Shape → Line VectorOperation → Bool
+is_no_vector s row = not (bit_and row.value s.mask == bit_and (bit_and s.value s.mask) row.mask)
+
+-- the rows of the words of a shape with a distance leave room for it, and none is of a vector instruction
+unfoldable pub rows_leave_room : Shape → Item → Bool
+rows_leave_room s i = list_all (leaves_room i s) SCALAR_LINES && list_all (is_no_vector s) VECTOR_LINES
+
 unfoldable pub has_room : Shape → Item → Bool
-has_room s i = not (is_distance i.kind) || ((bit_and (upper_mask i) (lower_mask i) == 0) && list_all (leaves_room i s) SCALAR_LINES)
+has_room s i = not (is_distance i.kind) || ((bit_and (upper_mask i) (lower_mask i) == 0) && rows_leave_room s i)
 
 unfoldable pub all_room : Shape → Bool
 all_room s = list_all (has_room s) (items_of s)
 
 shapes_room : list_all all_room SHAPES ≡ true
-unfolding items_of fields.mask_of is_distance is_free leaves_room has_room all_room
+unfolding items_in items_of fields.mask_of is_distance is_free leaves_room is_no_vector rows_leave_room has_room all_room
 shapes_room = refl
+
+not_both : (b : Bool) → not b ≡ true → b ≡ true → ⊥
+not_both true x y = cc
+not_both false x y = cc
 
 when_true : (a b : Bool) → a ≡ true → (not a || b) ≡ true → b ≡ true
 when_true true b e h = h
@@ -231,18 +245,39 @@ module _ (i : Item) (s : Shape) (ts : List Token) (w field : ℕ) (said : word_i
   some_either None b (Some y) d f g e = refl
   some_either None b None d f g e = g e
 
-  no_vector : (v : ℕ) → is_some (vector_meaning_of w) ≡ true → is_some (vector_meaning_of v) ≡ true
-  unfolding vector_meaning_of meaning_by meaning_in vector
-  no_vector v e = cc
+  never_stands : (row : Line VectorOperation) → is_no_vector s row ≡ true → stands_for vector row w ≡ true → ⊥
+  unfolding is_no_vector stands_for vector
+  never_stands row room stands =
+      let matches = eqb-true (bit_and w row.mask) row.value (and_parts (bit_and w row.mask == row.value) _ stands).0 in
+      let common : bit_and row.value s.mask ≡ bit_and (bit_and s.value s.mask) row.mask =
+      ap (λ v. bit_and v s.mask) (sym matches) ∙ and_swap w row.mask s.mask ∙ ap (λ v. bit_and v row.mask) (word_kept s ts w said) in
+      not_both (bit_and row.value s.mask == bit_and (bit_and s.value s.mask) row.mask) room (eq-eqb _ _ common)
+
+  never_meant : (rows : List (Line VectorOperation)) → list_all (is_no_vector s) rows ≡ true → is_some (meaning_in vector rows w) ≡ true → ⊥
+  unfolding meaning_in
+  never_meant [] room e = cc
+  never_meant (row ∷ rows) room e =
+      let parts = and_parts (is_no_vector s row) (list_all (is_no_vector s) rows) room in
+      elim (cases_Bool (stands_for vector row w)) [
+        | inl h ↦ never_stands row parts.0 h
+        | inr h ↦ never_meant rows parts.1 (some_other (stands_for vector row w) _ _ h e)
+      ]
+
+  no_vector : list_all (is_no_vector s) VECTOR_LINES ≡ true → (v : ℕ) → is_some (vector_meaning_of w) ≡ true
+      → is_some (vector_meaning_of v) ≡ true
+  unfolding vector_meaning_of meaning_by vector
+  no_vector room v e = absurd (never_meant VECTOR_LINES room e)
 
   scalar_meant : list_all (leaves_room i s) SCALAR_LINES ≡ true → is_some (meaning_of w) ≡ true → is_some (meaning_of aimed) ≡ true
   unfolding meaning_of meaning_by scalar
   scalar_meant room e = still_meant SCALAR_LINES room e
 
-  either_meant : list_all (leaves_room i s) SCALAR_LINES ≡ true → is_some (instruction_of w) ≡ true → is_some (instruction_of aimed) ≡ true
-  unfolding instruction_of
+  either_meant : rows_leave_room s i ≡ true → is_some (instruction_of w) ≡ true → is_some (instruction_of aimed) ≡ true
+  unfolding instruction_of rows_leave_room
   either_meant room e =
-      some_either (meaning_of w) (vector_meaning_of w) (meaning_of aimed) (vector_meaning_of aimed) (scalar_meant room) (no_vector aimed) e
+      let parts = and_parts (list_all (leaves_room i s) SCALAR_LINES) (list_all (is_no_vector s) VECTOR_LINES) room in
+      some_either (meaning_of w) (vector_meaning_of w) (meaning_of aimed) (vector_meaning_of aimed) (scalar_meant parts.0)
+      (no_vector parts.1 aimed) e
 
 -- ---- the shape of a word whose target is named
 

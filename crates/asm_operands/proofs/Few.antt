@@ -7,7 +7,7 @@ use Rattle.std.proofs.lemmas.Bool.{and_parts}
 use Rattle.insn_text.specs.declared.shapes.TheConstants.{SHAPES, STARTS}
 use Rattle.insn_text.specs.declared.item.Item.{Item}
 use Rattle.insn_text.specs.declared.item.Shape.{Shape}
-use Rattle.insn_text.specs.Texts.{items_of}
+use Rattle.insn_text.specs.Texts.{items_in, items_of}
 use Rattle.asm_tokens.specs.declared.token.Token.{Token}
 use Rattle.asm_operands.specs.Operands.{Known, known_after, taken_on, taken, reach_on, reach, fixed, word_in, reach_in, shapes_of}
 use Rattle.asm_operands.specs.Operands.{first_of_words, first_word, furthest, is_number_item, wants_number, is_whole, kind_at, Fault}
@@ -63,7 +63,7 @@ unfoldable pub has_few : Shape → Bool
 has_few s = nat_lt (length (items_of s)) 24
 
 all_few : list_all has_few SHAPES ≡ true
-unfolding items_of has_few
+unfolding items_in items_of has_few
 all_few = refl
 
 few_of_name : (name : ℕ) → list_all has_few (shapes_of name) ≡ true

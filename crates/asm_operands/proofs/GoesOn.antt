@@ -23,7 +23,7 @@ use Rattle.insn_text.specs.declared.item.Item.{Item}
 use Rattle.insn_text.specs.declared.item.Shape.{Shape}
 use Rattle.insn_text.specs.declared.words.TheConstants.{NAMES}
 use Rattle.insn_text.specs.declared.shapes.TheConstants.{SHAPES, STARTS}
-use Rattle.insn_text.specs.Texts.{bits_of, field_in, items_of, mask_in, is_named_pattern}
+use Rattle.insn_text.specs.Texts.{bits_of, field_in, items_in, items_of, mask_in, is_named_pattern}
 use Rattle.insn_text.specs.Wordings.{file_number}
 use Rattle.insn_text.specs.declared.item.RegisterFile.TheVariants.{W}
 use Rattle.insn_text.specs.declared.item.VectorFile.{VectorFile}
@@ -568,7 +568,7 @@ unfoldable pub is_open : Shape → Bool
 is_open s = (bit_and s.value s.mask == s.value) && goes_through (items_of s) s.mask
 
 all_open : list_all is_open SHAPES ≡ true
-unfolding items_of fields.mask_of has_word is_register is_register_at has_choice says_each is_new is_repeated is_next goes_through is_open
+unfolding items_in items_of fields.mask_of has_word is_register is_register_at has_choice says_each is_new is_repeated is_next goes_through is_open
 all_open = refl
 
 open_of_name : (name : ℕ) → list_all is_open (shapes_of name) ≡ true

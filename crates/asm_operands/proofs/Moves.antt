@@ -15,9 +15,10 @@ use Rattle.insn_text.specs.declared.item.RegisterFile.TheVariants.{X, W}
 use Rattle.insn_text.specs.declared.item.Kind.{Kind}
 use Rattle.insn_text.specs.declared.item.Kind.TheVariants as kind
 use Rattle.insn_text.specs.declared.item.Item.{Item}
+use Rattle.insn_text.specs.declared.item.ItemList.TheVariants.{Scalar}
 use Rattle.insn_text.specs.declared.item.Rule.TheVariants.{Free}
 use Rattle.insn_text.specs.declared.item.Shape.{Shape}
-use Rattle.insn_text.specs.Texts.{text_in, bits_of, items_of}
+use Rattle.insn_text.specs.Texts.{text_in, bits_of, items_in, items_of}
 use Rattle.insn_text.specs.Rules.{meets}
 use Rattle.asm_tokens.specs.declared.token.Token.{Token}
 use Rattle.asm_tokens.specs.declared.token.Token.TheVariants.{Register, Number, Mark}
@@ -138,7 +139,7 @@ abbrev MOV : List Shape
 MOV = shapes_of (place_of (codes "mov"))
 
 abbrev at : ℕ → Shape
-at n = get_or MOV n (record { mask = 0; value = 0; name = 0; first = 0; count = 0; alias = true })
+at n = get_or MOV n (record { mask = 0; value = 0; name = 0; list = Scalar; first = 0; count = 0; alias = true })
 
 abbrev after : ℕ → List Shape
 after n = drop n MOV
@@ -181,7 +182,7 @@ by_number wide register (Some n) =
 
 wide_moves : (negative : Bool) (register size : ℕ) → register < 31
     → first_word MOV (move_tokens true register negative size) ≡ said_as true register (immediate_of true negative size)
-unfolding first_word word_in taken known_after known_with items_of shapes_of place_of text_in fixed fields.mask_of field_said on_register on_number on_word register_field same_file IsWithin
+unfolding first_word word_in taken known_after known_with items_in items_of shapes_of place_of text_in fixed fields.mask_of field_said on_register on_number on_word register_field same_file IsWithin
 wide_moves negative register size lt =
     let ts = move_tokens true register negative size in
     skip (at 0) (after 1) ts _
@@ -207,7 +208,7 @@ wide_moves negative register size lt =
 
 narrow_moves : (negative : Bool) (register size : ℕ) → register < 31
     → first_word MOV (move_tokens false register negative size) ≡ said_as false register (immediate_of false negative size)
-unfolding first_word word_in taken known_after known_with items_of shapes_of place_of text_in fixed fields.mask_of field_said on_register on_number on_word register_field same_file IsWithin
+unfolding first_word word_in taken known_after known_with items_in items_of shapes_of place_of text_in fixed fields.mask_of field_said on_register on_number on_word register_field same_file IsWithin
 narrow_moves negative register size lt =
     let ts = move_tokens false register negative size in
     skip (at 0) (after 1) ts _ refl

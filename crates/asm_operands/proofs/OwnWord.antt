@@ -14,7 +14,7 @@ use Rattle.insn_text.specs.declared.item.Item.{Item}
 use Rattle.insn_text.specs.declared.item.Shape.{Shape}
 use Rattle.insn_text.specs.declared.words.TheConstants.{NAMES}
 use Rattle.insn_text.specs.declared.shapes.TheConstants.{SHAPES, STARTS}
-use Rattle.insn_text.specs.Texts.{items_of, prints, printed_shape}
+use Rattle.insn_text.specs.Texts.{items_in, items_of, prints, printed_shape}
 use Rattle.insn_text.specs.Rules.{is_sayable, IsPrinted}
 use Rattle.asm_tokens.specs.Tokens.{is_name}
 use Rattle.asm_tokens.specs.declared.token.Token.{Token}
@@ -47,7 +47,7 @@ unfoldable pub name_apart : ℕ → Bool
 name_apart name = are_apart (shapes_of name)
 
 names_apart : all_below name_apart (length NAMES) ≡ true
-unfolding items_of shapes_of fields.mask_of all_below has_register covers is_printed_kind is_printed_item says_rest is_said_by_mark is_said_by_number is_said_by_distance is_said_by_bare same_file same_vector_file file_number is_said_by_register is_apart_from_words is_apart_from_sized kinds_apart apart says_word is_later_apart are_apart name_apart
+unfolding items_in items_of shapes_of fields.mask_of all_below has_register covers is_printed_kind is_printed_item says_rest is_said_by_mark is_said_by_number is_said_by_distance is_said_by_bare same_file same_vector_file file_number is_said_by_register is_apart_from_words is_apart_from_sized kinds_apart apart says_word is_later_apart are_apart name_apart
 names_apart = refl
 
 -- a shape stands among those of its name

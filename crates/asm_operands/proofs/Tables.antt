@@ -4,9 +4,10 @@ use Rattle.std.specs.List.{list_all}
 use Rattle.std.proofs.lemmas.Bool.{and_parts}
 use Rattle.insn_forms.specs.Fields.{mask_of, is_field}
 use Rattle.insn_text.specs.declared.item.Item.{Item}
-use Rattle.insn_text.specs.declared.items.TheConstants.{ITEMS}
+use Rattle.insn_text.specs.declared.item.ItemList.{ItemList}
+use Rattle.insn_text.specs.declared.item.ItemList.TheVariants as list
 use Rattle.insn_text.specs.declared.item.Shape.{Shape}
-use Rattle.insn_text.specs.Texts.{items_of, bits_of}
+use Rattle.insn_text.specs.Texts.{items_in, items_of, bits_of}
 use Rattle.asm_operands.specs.Sound.{has_factor, is_sound}
 
 pub all-take : {A : Type 0} (p : A → Bool) (n : ℕ) (xs : List A) → list_all p xs ≡ true → list_all p (take n xs) ≡ true
@@ -19,16 +20,19 @@ all-drop p zero xs e = e
 all-drop p (suc n) [] e = refl
 all-drop p (suc n) (x ∷ xs) e = all-drop p n xs (and_parts (p x) (list_all p xs) e).1
 
-pub items-sound : list_all is_sound ITEMS ≡ true
-unfolding mask_of is_field has_factor is_sound
-items-sound = refl
+pub items-sound : (list : ItemList) → list_all is_sound (items_in list) ≡ true
+unfolding mask_of is_field has_factor is_sound items_in
+items-sound list.Scalar = refl
+items-sound list.Vector = refl
+items-sound list.Matrix = refl
 
-pub part-sound : (first count : ℕ) → list_all is_sound (take count (drop first ITEMS)) ≡ true
-part-sound first count = all-take is_sound count (drop first ITEMS) (all-drop is_sound first ITEMS items-sound)
+pub part-sound : (list : ItemList) (first count : ℕ) → list_all is_sound (take count (drop first (items_in list))) ≡ true
+part-sound list first count =
+    all-take is_sound count (drop first (items_in list)) (all-drop is_sound first (items_in list) (items-sound list))
 
 pub items_of-sound : (s : Shape) → list_all is_sound (items_of s) ≡ true
 unfolding items_of
-items_of-sound s = part-sound s.first s.count
+items_of-sound s = part-sound s.list s.first s.count
 
 pub in_word : (i : Item) → is_sound i ≡ true → is_field i.field ≡ true
 unfolding is_sound

@@ -19,7 +19,7 @@ use Rattle.insn_text.specs.declared.item.Shape.{Shape}
 use Rattle.insn_text.specs.declared.shapes.TheConstants.{SHAPES}
 use Rattle.insn_text.specs.declared.words.TheConstants.{WORDS, NAMES}
 use Rattle.insn_text.specs.Texts.{text_in, text_at, is_positive, size_of, mask_in, mask_text, signed_text, distance_text, file_text}
-use Rattle.insn_text.specs.Texts.{register_text, kind_text, bits_of, field_in, item_text, is_mark, is_comma, gap, items_text, items_of}
+use Rattle.insn_text.specs.Texts.{register_text, kind_text, bits_of, field_in, item_text, is_mark, is_comma, gap, items_text, items_in, items_of}
 use Rattle.insn_text.specs.Rules.{is_within, meets, is_sayable}
 use Rattle.asm_tokens.specs.declared.token.Token.TheVariants as token
 use Rattle.asm_tokens.specs.Characters.{is_name_character, is_digit, is_blank}
@@ -83,7 +83,7 @@ unfoldable pub is_clean_shape : Shape → Bool
 is_clean_shape s = s.alias || list_all is_clean_item (items_of s)
 
 pub shapes_clean : list_all is_clean_shape SHAPES ≡ true
-unfolding is_clean_shape items_of is_clean_item is_clean_kind is_clean_mark is_name_character is_digit is_blank
+unfolding is_clean_shape items_in items_of is_clean_item is_clean_kind is_clean_mark is_name_character is_digit is_blank
 shapes_clean = refl
 
 -- ---- masks

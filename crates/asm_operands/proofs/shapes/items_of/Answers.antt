@@ -9,4 +9,5 @@ use Rattle.asm_operands.proofs.shapes.items_of.Goals as goal
 pub returns-clause-sound : goal.returns-clause-sound
 unfolding items_of
 returns-clause-sound c =
-    ap (λ (is : List Item). list_all is_sound is) c.operands_of.ensures.value ∙ part-sound c.args.shape.now.first c.args.shape.now.count
+    ap (λ (is : List Item). list_all is_sound is) c.operands_of.ensures.value
+    ∙ part-sound c.args.shape.now.list c.args.shape.now.first c.args.shape.now.count
