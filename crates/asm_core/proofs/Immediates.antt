@@ -31,13 +31,14 @@ use Rattle.sm_types.specs.declared.insn.PcRelativeOp.TheVariants.{Adr, Adrp}
 use Rattle.sm_types.specs.declared.insn.Branch.TheVariants as branch
 use Rattle.a64_encode.specs.Either.{instruction_of, MeansEither}
 use Rattle.a64_encode.proofs.Either.{either}
-use Rattle.sve_table.proofs.NoRows.{no_meaning}
+use Rattle.sve_table.specs.declared.rows.TheConstants.{VECTOR_LINES}
+use Rattle.sve_table.specs.Table.{vector}
 use Rattle.insn_text.specs.declared.item.Item.{Item}
 use Rattle.insn_text.specs.declared.item.Kind.{Kind}
 use Rattle.insn_text.specs.declared.item.Kind.TheVariants as kind
 use Rattle.insn_text.specs.declared.item.Shape.{Shape}
 use Rattle.insn_text.specs.declared.shapes.TheConstants.{SHAPES, STARTS}
-use Rattle.insn_text.specs.Texts.{items_of}
+use Rattle.insn_text.specs.Texts.{items_in, items_of}
 use Rattle.insn_text.specs.Texts as texts
 use Rattle.asm_tokens.specs.Tokens.{is_name}
 use Rattle.asm_tokens.specs.declared.token.Token.{Token}
@@ -51,7 +52,7 @@ use Rattle.asm_operands.specs.Operands as operands
 use Rattle.asm_operands.specs.Distances.{unit_of, with_distance}
 use Rattle.asm_operands.specs.Sound.{has_factor, is_sound}
 use Rattle.asm_operands.proofs.Tables.{all-take, all-drop, items_of-sound}
-use Rattle.asm_operands.proofs.Aimed.{is_said, word_kept, or_clear}
+use Rattle.asm_operands.proofs.Aimed.{is_said, word_kept, or_clear, is_no_vector, never_vector}
 use Rattle.asm_operands.proofs.WordBits.{and_swap}
 use Rattle.asm_core.specs.Aimed.{with_immediate, unit_in, place_in, IsAimed, MeansAimed}
 use Rattle.asm_core.specs.Targets.{counted_from, word_to}
@@ -101,13 +102,14 @@ fits_row i s row =
     || (is_immediate i row.operation && (bit_and row.mask (mask_of (immediate_of row.operation)) == 0))
 
 unfoldable fits_rows : Shape → Item → Bool
-fits_rows s i = not (is_distance i.kind) || list_all (fits_row i s) SCALAR_LINES
+fits_rows s i =
+    not (is_distance i.kind) || (list_all (fits_row i s) SCALAR_LINES && list_all (is_no_vector s) VECTOR_LINES)
 
 unfoldable fit_rows : Shape → Bool
 fit_rows s = nat_lt s.value (2 ^ 32) && list_all (fits_rows s) (items_of s)
 
 shapes_fit : list_all fit_rows SHAPES ≡ true
-unfolding items_of is_distance mask_of unit_of immediate_of unit_by has_distance stands_at is_immediate fits_row fits_rows fit_rows
+unfolding items_in items_of is_distance mask_of unit_of immediate_of unit_by has_distance stands_at is_immediate fits_row is_no_vector fits_rows fit_rows
 shapes_fit = refl
 
 -- ---- the shape of a word whose target is named
@@ -741,8 +743,8 @@ some_insn : (o : Option Insn) → is_some o ≡ true → (it : Insn) × (o ≡ S
 some_insn None e = cc
 some_insn (Some it) e = (it, refl)
 
-by_scalar : (w : ℕ) (it : Insn) → MeansEither w it → Means scalar w it
-by_scalar w it m = elim m [ inl n ↦ n | inr n ↦ absurd (no_meaning w it n) ]
+by_scalar : (w : ℕ) (it : Insn) → (Means vector w it → ⊥) → MeansEither w it → Means scalar w it
+by_scalar w it never m = elim m [ inl n ↦ n | inr n ↦ absurd (never n) ]
 
 aims_found : (ts : List Token) (w : ℕ) (target : Target) → IsFound ts w target → is_some (instruction_of w) ≡ true → (from to v : ℕ)
     → word_to target.operand w from to ≡ Some v → MeansAimed w from to v
@@ -754,9 +756,10 @@ aims_found ts w target h meant from to v e =
     let l = last_in (items_of h.shape) ts target h.named in
     let lt = taken_small (items_of h.shape) (fixed h.shape) ts w (items_of-sound h.shape) (ltb-true _ _ fit.0) h.said in
     let rows =
-    when_true (is_distance i.kind) (list_all (fits_row i h.shape) SCALAR_LINES) l.distance
-    (all-get (fits_rows h.shape) (items_of h.shape) l.place i fit.1 l.listed) in
-    let r = row_of h.shape i ts w m.0 h.said rows (by_scalar w m.0 ((either w m.0 lt).0 m.1)) in
+    and_parts (list_all (fits_row i h.shape) SCALAR_LINES) (list_all (is_no_vector h.shape) VECTOR_LINES)
+    (when_true (is_distance i.kind) _ l.distance (all-get (fits_rows h.shape) (items_of h.shape) l.place i fit.1 l.listed)) in
+    let never : Means vector w m.0 → ⊥ = never_vector h.shape ts w m.0 h.said rows.1 in
+    let r = row_of h.shape i ts w m.0 h.said rows.0 (by_scalar w m.0 never ((either w m.0 lt).0 m.1)) in
     aims_by i w m.0 r (zero_said h.shape ts w i h.said l) l.distance from to v (nat_le (counted_from i from) (counted_from i to)) refl e m.1
 
 far_found : (ts : List Token) (w : ℕ) (target : Target) → IsFound ts w target → (from to : ℕ) → word_to target.operand w from to ≡ None
@@ -768,9 +771,10 @@ far_found ts w target h from to none v m =
     let l = last_in (items_of h.shape) ts target h.named in
     let lt = taken_small (items_of h.shape) (fixed h.shape) ts w (items_of-sound h.shape) (ltb-true _ _ fit.0) h.said in
     let rows =
-    when_true (is_distance i.kind) (list_all (fits_row i h.shape) SCALAR_LINES) l.distance
-    (all-get (fits_rows h.shape) (items_of h.shape) l.place i fit.1 l.listed) in
-    let r = row_of h.shape i ts w m.it h.said rows (by_scalar w m.it ((either w m.it lt).0 m.means)) in
+    and_parts (list_all (fits_row i h.shape) SCALAR_LINES) (list_all (is_no_vector h.shape) VECTOR_LINES)
+    (when_true (is_distance i.kind) _ l.distance (all-get (fits_rows h.shape) (items_of h.shape) l.place i fit.1 l.listed)) in
+    let never : Means vector w m.it → ⊥ = never_vector h.shape ts w m.it h.said rows.1 in
+    let r = row_of h.shape i ts w m.it h.said rows.0 (by_scalar w m.it never ((either w m.it lt).0 m.means)) in
     far_by i w m.it r (zero_said h.shape ts w i h.said l) l.distance from to v m.other none m.aimed_means m.aims
 
 pub named-far : (name : ℕ) (ts : List Token) (w : ℕ) (target : Target) → operands_said name ts ≡ Says w (Some target) → (from to : ℕ)

@@ -17,7 +17,9 @@ use Rattle.a64_table.specs.declared.fields.TheConstants.{IMM14, IMM19, IMM21, IM
 use Rattle.a64_table.specs.declared.rows.TheConstants.{SCALAR_LINES}
 use Rattle.a64_table.specs.Named.{named, named_branch}
 use Rattle.a64_table.specs.Table.{scalar, meaning_of}
-use Rattle.sve_table.specs.Table.{vector, vector_meaning_of}
+use Rattle.sve_table.specs.Groups.{is_vector_group}
+use Rattle.sve_table.specs.Table.{vector_meaning_of}
+use Rattle.sve_table.proofs.OfVectors.{meaning_vector}
 use Rattle.sm_types.specs.declared.insn.Insn.{Insn}
 use Rattle.sm_types.specs.declared.insn.Insn.TheVariants as insn
 use Rattle.sm_types.specs.declared.insn.Branch.{Branch}
@@ -79,9 +81,16 @@ scalar_reach : (v : ℕ) (other : Insn) → meaning_of v ≡ Some other → in_r
 unfolding meaning_of meaning_by scalar
 scalar_reach v other e = rows_reach SCALAR_LINES v other e
 
+-- a vector instruction has no distance
+group_reach : (other : Insn) → is_vector_group other ≡ true → in_reach other
+unfolding is_vector_group in_reach
+group_reach (insn.PcRelative it) e = cc
+group_reach (insn.Branch it) e = cc
+group_reach (insn.LoadLiteral it) e = cc
+group_reach other e = tt
+
 no_vector : (v : ℕ) (other : Insn) → vector_meaning_of v ≡ Some other → in_reach other
-unfolding vector_meaning_of meaning_by meaning_in vector
-no_vector v other e = cc
+no_vector v other e = group_reach other (meaning_vector v other e)
 
 either_reach : (a b : Option Insn) (other : Insn) → (a ≡ Some other → in_reach other) → (b ≡ Some other → in_reach other)
     → option_or a b ≡ Some other → in_reach other

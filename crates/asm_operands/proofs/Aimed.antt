@@ -11,7 +11,7 @@ use Rattle.std.proofs.lemmas.Nat.{or_disjoint, shl-shr}
 use Rattle.std.proofs.lemmas.Nat.Bits.{bit_at_and, bit_at_or, bit_at-lt, bit_at-zero, same_from_bits}
 use Rattle.insn_forms.specs.declared.field.Field.{Field}
 use Rattle.insn_forms.specs.declared.line.Line.{Line}
-use Rattle.insn_forms.specs.Tables.{meaning_in, meaning_by, stands_for}
+use Rattle.insn_forms.specs.Tables.{Means, meaning_in, meaning_by, stands_for}
 use Rattle.a64_table.specs.declared.operation.Operation.{Operation}
 use Rattle.a64_table.specs.declared.operation.Operation.TheVariants.{G9, G10, G19}
 use Rattle.a64_table.specs.declared.rows.TheConstants.{SCALAR_LINES}
@@ -200,6 +200,15 @@ when_true false b e h = cc
 both_true : (a b : Bool) → a ≡ true → b ≡ true → (a && b) ≡ true
 both_true a b p q = ap₂ (λ x y. x && y) p q
 
+-- such a row does not match a word of the shape
+never_matches : (s : Shape) (ts : List Token) (w : ℕ) (row : Line VectorOperation) → word_in s ts ≡ Some w → is_no_vector s row ≡ true
+    → bit_and w row.mask ≡ row.value → ⊥
+unfolding is_no_vector
+never_matches s ts w row said room matches =
+    let common : bit_and row.value s.mask ≡ bit_and (bit_and s.value s.mask) row.mask =
+    ap (λ v. bit_and v s.mask) (sym matches) ∙ and_swap w row.mask s.mask ∙ ap (λ v. bit_and v row.mask) (word_kept s ts w said) in
+    not_both (bit_and row.value s.mask == bit_and (bit_and s.value s.mask) row.mask) room (eq-eqb _ _ common)
+
 module _ (i : Item) (s : Shape) (ts : List Token) (w field : ℕ) (said : word_in s ts ≡ Some w)
     (apart : bit_and (upper_mask i) (lower_mask i) ≡ 0) where
   abbrev aimed : ℕ
@@ -246,12 +255,9 @@ module _ (i : Item) (s : Shape) (ts : List Token) (w field : ℕ) (said : word_i
   some_either None b None d f g e = g e
 
   never_stands : (row : Line VectorOperation) → is_no_vector s row ≡ true → stands_for vector row w ≡ true → ⊥
-  unfolding is_no_vector stands_for vector
+  unfolding stands_for vector
   never_stands row room stands =
-      let matches = eqb-true (bit_and w row.mask) row.value (and_parts (bit_and w row.mask == row.value) _ stands).0 in
-      let common : bit_and row.value s.mask ≡ bit_and (bit_and s.value s.mask) row.mask =
-      ap (λ v. bit_and v s.mask) (sym matches) ∙ and_swap w row.mask s.mask ∙ ap (λ v. bit_and v row.mask) (word_kept s ts w said) in
-      not_both (bit_and row.value s.mask == bit_and (bit_and s.value s.mask) row.mask) room (eq-eqb _ _ common)
+      never_matches s ts w row said room (eqb-true (bit_and w row.mask) row.value (and_parts (bit_and w row.mask == row.value) _ stands).0)
 
   never_meant : (rows : List (Line VectorOperation)) → list_all (is_no_vector s) rows ≡ true → is_some (meaning_in vector rows w) ≡ true → ⊥
   unfolding meaning_in
@@ -351,6 +357,13 @@ of_name name ts w target e f =
     let count = slice_index STARTS (name + 1) - first in
     of_shapes (take count (drop first SHAPES)) ts w target
     (all-take all_room count (drop first SHAPES) (all-drop all_room first SHAPES shapes_room)) e f
+
+-- a word of a shape that shares none with a vector row means no vector instruction
+pub never_vector : (s : Shape) (ts : List Token) (w : ℕ) (it : Insn) → word_in s ts ≡ Some w → list_all (is_no_vector s) VECTOR_LINES ≡ true
+    → Means vector w it → ⊥
+unfolding vector
+never_vector s ts w it said room m =
+    never_matches s ts w m.line said (all_at (is_no_vector s) VECTOR_LINES m.place m.line room m.listed) m.matches
 
 -- ---- what operands say
 
