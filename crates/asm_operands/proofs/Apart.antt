@@ -223,7 +223,7 @@ deaf-mask l bits None e = deaf-other l bits
 deaf-mask l bits (Some mask) e = deaf-number l bits mask false e
 
 -- a pattern's word is one of 17
-pattern-lt : (field : ℕ) → field < 32 → pattern_place field < 17
+pub pattern-lt : (field : ℕ) → field < 32 → pattern_place field < 17
 unfolding pattern_place
 pattern-lt field lt =
     cond_both (nat_lt field 14) field (field - 15) (λ n. n < 17) (λ e. let h = ltb-true field 14 e in omega arith) (λ _. omega arith)

@@ -1,37 +1,29 @@
 -- What the tokens of a line say is what the grammar has: directives, instructions and whole lines.
-use Rattle.std.proofs.Common.{◌≡◌, ℕ, suc, ◌+◌, ◌-◌, ◌^◌, ◌<◌, ◌≤◌, ◌==◌, ◌&&◌, not, Bool, true, false, List, [], ◌∷◌, ◌++◌, Option, Some}
-use Rattle.std.proofs.Common.{None, Result, Ok, Err, length, take, drop, map, slice_get, get_or, cond, refl, sym, ap, ap₂, ◌∙◌, subst}
+use Rattle.std.proofs.Common.{◌≡◌, ℕ, suc, ◌+◌, ◌-◌, ◌^◌, ◌<◌, ◌==◌, not, Bool, true, false, List, [], ◌∷◌, Option, Some}
+use Rattle.std.proofs.Common.{None, length, map, get_or, cond, refl, sym, ap, ◌∙◌, subst}
 use Rattle.std.proofs.Common.{arith}
-use Rattle.std.specs.Prelude.{option_map, codes}
+use Rattle.std.specs.Prelude.{codes}
 use Rattle.std.specs.List.{list_all, position}
 use Rattle.std.proofs.lemmas.Slice.Eq.{bytes_eq-Decides}
 use Rattle.std.proofs.lemmas.Bool.{not-true}
 use Rattle.asm_operands.proofs.Way.{all-at}
 use Rattle.std.specs.Str.{bytes_eq}
-use Rattle.std.proofs.lemmas.List.{take-append-drop}
 use Rattle.std.proofs.lemmas.List.Quantifiers.{position-Some}
 use Rattle.insn_text.specs.declared.item.Text.{Text}
 use Rattle.insn_text.specs.declared.words.TheConstants.{NAMES}
 use Rattle.insn_text.specs.Texts.{text_in}
-use Rattle.asm_tokens.specs.declared.token.Token.{Token}
 use Rattle.asm_tokens.specs.declared.token.Lexeme.{Lexeme}
-use Rattle.asm_tokens.specs.Characters.{column_at, before_comment}
-use Rattle.asm_tokens.specs.Tokens.{place_in, is_name, is_number_token}
-use Rattle.asm_operands.specs.declared.fault.FaultKind.{FaultKind}
-use Rattle.asm_operands.specs.declared.fault.FaultKind.TheVariants.{UnknownName, BadNumber, Extra, BadOperand}
-use Rattle.asm_operands.specs.declared.operands.Target.{Target}
-use Rattle.asm_operands.specs.Operands.{first_word, target_of, shapes_of}
+use Rattle.asm_tokens.specs.Tokens.{place_in, is_name}
 use Rattle.asm_parser.specs.Statements.{QuadValue, TargetSaid, Says, Nothing, IntoText, IntoData, Quads, Words, Bytes, Zeros, Aligns}
-use Rattle.asm_parser.specs.Statements.{Globals, Instructs, SourceLine}
+use Rattle.asm_parser.specs.Statements.{Globals, Instructs}
 use Rattle.asm_parser.specs.Lines.{Answer, Tells, Stops, and_then, further, ends, one_number, one_name, values_from, number_value}
 use Rattle.asm_parser.specs.Lines.{quad_value, text_of_lexeme, Directive, TextDirective, DataDirective, QuadDirective, WordDirective}
-use Rattle.asm_parser.specs.Lines.{ByteDirective, ZeroDirective, AlignDirective, GlobalDirective, directive_of, directive_says, named_says}
-use Rattle.asm_parser.specs.Lines.{tokens_say}
-use Rattle.asm_parser.specs.Grammar.{Written, written, IsName, IsNumberTo, IsValue, IsNothing, IsOne, AreListed, Begins, target_written}
-use Rattle.asm_parser.specs.Grammar.{IsInstruction, IsWritten, IsMeaning, GoesOn, IsWhole, WantsNumber, IsWhy, StopsAt, IsFirstFault}
+use Rattle.asm_parser.specs.Lines.{ByteDirective, ZeroDirective, AlignDirective, GlobalDirective, directive_of, directive_says}
+use Rattle.asm_parser.specs.Grammar.{Written, written, IsName, IsNumberTo, IsValue, IsNothing, IsOne, AreListed, Begins}
+use Rattle.asm_parser.specs.Grammar.{IsInstruction, IsWritten, IsMeaning, IsWhy, IsFirstFault}
 use Rattle.asm_parser.specs.Grammar.{IsLineWhy}
 use Rattle.asm_parser.proofs.Names.{undotted}
-use Rattle.asm_parser.proofs.Tied.{Always, Tied, IsStep, tied_step, extra_fault, ends_tied, IsThen, no_number_name, number_tied}
+use Rattle.asm_parser.proofs.Tied.{Always, Tied, IsStep, tied_step, ends_tied, IsThen, number_tied}
 use Rattle.asm_parser.proofs.Tied.{numbers_tied, name_tied, values_tied}
 
 some_is : {A : Type 0} (a b : A) → ◌≡◌ {A = Option A} (Some a) (Some b) → a ≡ b

@@ -1,9 +1,8 @@
 -- What the operands of an instruction say is what the grammar has.
-use Rattle.std.proofs.Common.{◌≡◌, ℕ, suc, ◌+◌, ◌<◌, ◌≤◌, ◌&&◌, Bool, true, false, cond, List, [], ◌∷◌, ◌++◌, Option, Some, None, length}
+use Rattle.std.proofs.Common.{◌≡◌, ℕ, suc, ◌<◌, ◌≤◌, ◌&&◌, Bool, true, false, cond, List, [], ◌∷◌, ◌++◌, Option, Some, None, length}
 use Rattle.std.proofs.Common.{take, map, slice_get, refl, sym, ap, ap₂, ◌∙◌, subst, arith, add-one}
 use Rattle.std.specs.Prelude.{option_map, is_some}
 use Rattle.std.specs.List.{list_any}
-use Rattle.std.proofs.lemmas.Bool.{cond_both}
 use Rattle.std.proofs.lemmas.List.{take-map, map-append, length-map}
 use Rattle.std.proofs.Common.{append_assoc}
 use Rattle.std.proofs.lemmas.Option.{slice_get-map}
@@ -14,8 +13,7 @@ use Rattle.asm_tokens.specs.declared.token.Token.{Token}
 use Rattle.asm_tokens.specs.declared.token.Lexeme.{Lexeme}
 use Rattle.asm_tokens.specs.Characters.{column_at}
 use Rattle.asm_tokens.specs.Tokens.{place_in, is_name, is_number_token}
-use Rattle.asm_operands.specs.declared.fault.FaultKind.{FaultKind}
-use Rattle.asm_operands.specs.declared.fault.FaultKind.TheVariants.{UnknownName, BadNumber, Extra, BadOperand}
+use Rattle.asm_operands.specs.declared.fault.FaultKind.TheVariants.{BadNumber, Extra, BadOperand}
 use Rattle.asm_operands.specs.declared.operands.Target.{Target}
 use Rattle.asm_operands.specs.Operands.{shapes_of, first_word, furthest, target_of, wants_number, is_whole, kind_at, operand_fault}
 use Rattle.asm_operands.specs.Operands.{OperandsSaid, operands_said}
@@ -24,10 +22,10 @@ use Rattle.asm_operands.proofs.GoesOn.{goes-on, number-goes-on}
 use Rattle.asm_operands.proofs.Stops.{stops}
 use Rattle.asm_operands.proofs.Aimed.{IsSaid, is_said}
 use Rattle.asm_parser.specs.Statements.{TargetSaid, Says, Nothing, Instructs}
-use Rattle.asm_parser.specs.Lines.{Answer, Tells, Stops, further, target_named, target_at, instruction_or_fault, instruction_says}
+use Rattle.asm_parser.specs.Lines.{Tells, further, target_named, target_at, instruction_or_fault, instruction_says}
 use Rattle.asm_parser.specs.Grammar.{Written, written, target_written, IsInstruction, IsWritten, IsMeaning, GoesOn, IsWhole, WantsNumber}
 use Rattle.asm_parser.specs.Grammar.{IsWhy, StopsAt, IsFirstFault}
-use Rattle.asm_parser.proofs.Tied.{Always, Tied, IsStep, tied_same}
+use Rattle.asm_parser.proofs.Tied.{Tied, IsStep, tied_same}
 use Rattle.asm_parser.proofs.Following.{said_directive, directive_is, listed_name, IsTold, told_further}
 use Rattle.asm_parser.proofs.Wants.{get_none, get_some, furthest_le, wants_by, whole_by, whole_from, IsRefused, refused}
 

@@ -12,3 +12,4 @@ pub mod Wants
 pub mod Instructing
 pub mod LineGrammar
 pub mod LabelLaw
+pub mod Registers

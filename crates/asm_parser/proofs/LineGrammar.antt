@@ -1,6 +1,6 @@
 -- A line is what the grammar says, and its fault stands where the grammar goes no further.
 use Rattle.std.proofs.Common.{◌≡◌, ℕ, suc, ◌+◌, ◌-◌, ◌<◌, ◌≤◌, inl, inr, append_assoc, Bool, true, false, cond, List, [], ◌∷◌, ◌++◌, Option}
-use Rattle.std.proofs.Common.{Some, None, Result, Ok, Err, length, take, drop, map, slice_get, refl, sym, ap, ap₂, ◌∙◌, subst, arith}
+use Rattle.std.proofs.Common.{Some, None, Result, Ok, Err, take, drop, map, slice_get, refl, sym, ap, ap₂, ◌∙◌, subst, arith}
 use Rattle.std.specs.Prelude.{◌≢◌, IfOk, IfErr, option_map}
 use Rattle.std.proofs.lemmas.List.{take-append-drop}
 use Rattle.std.proofs.lemmas.Bool.{cases_lt}
@@ -8,18 +8,18 @@ use Rattle.std.proofs.Math.Seq.{take-add}
 use Rattle.std.proofs.lemmas.Option.{slice_get-map}
 use Rattle.insn_text.specs.declared.words.TheConstants.{NAMES}
 use Rattle.asm_tokens.specs.declared.token.Lexeme.{Lexeme}
-use Rattle.asm_tokens.specs.Characters.{column_at, before_comment, characters}
+use Rattle.asm_tokens.specs.Characters.{before_comment}
 use Rattle.asm_tokens.specs.Tokens.{place_in, is_name, is_number_token}
 use Rattle.asm_operands.specs.declared.fault.FaultKind.{FaultKind}
 use Rattle.asm_operands.specs.declared.fault.FaultKind.TheVariants.{UnknownName, BadNumber, Extra, BadOperand}
 use Rattle.asm_parser.specs.declared.line.Line.{Line}
 use Rattle.asm_parser.specs.declared.line.LineFault.{LineFault}
 use Rattle.asm_parser.specs.declared.line.LineFault.TheVariants.{Memory}
-use Rattle.asm_parser.specs.Statements.{Says, Nothing, IntoText, IntoData, Quads, Words, Bytes, Zeros, Aligns, Globals, Instructs}
+use Rattle.asm_parser.specs.Statements.{Says, Nothing, Instructs}
 use Rattle.asm_parser.specs.Statements.{SourceLine, line_said}
-use Rattle.asm_parser.specs.Lines.{Answer, Tells, Stops, further, text_of_lexeme, Directive, directive_of, directive_says, instruction_says}
+use Rattle.asm_parser.specs.Lines.{Answer, Tells, Stops, text_of_lexeme, Directive, directive_of}
 use Rattle.asm_parser.specs.Lines.{named_says, tokens_say, column_of, fault_of_kind, line_answer, line_lexemes, label_of, line_of}
-use Rattle.asm_parser.specs.Grammar.{Written, written, written_of, IsWritten, IsMeaning, IsLine, GoesOn, IsWhole, WantsNumber, IsWhy}
+use Rattle.asm_parser.specs.Grammar.{Written, written, written_of, IsWritten, IsMeaning, IsLine, GoesOn, IsWhy}
 use Rattle.asm_parser.specs.Grammar.{StopsAt, IsFirstFault, IsLineWhy, IsReason, is_leading_name, column_of_written, IsFaultOf}
 use Rattle.asm_parser.proofs.Tied.{no_number_name}
 use Rattle.asm_parser.proofs.Following.{said_directive, directive_is, leads_name, IsTold, directive_told}

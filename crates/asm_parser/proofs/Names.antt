@@ -5,12 +5,15 @@ use Rattle.std.specs.Prelude.{Result, IfErr}
 use Rattle.std.proofs.lemmas.Bool.{cond_both, cond-true, cond-false}
 use Rattle.std.proofs.lemmas.List.{drop_more, drop-take, take-take, length-take}
 use Rattle.std.proofs.lemmas.List.Sums.{prefix_len-le-length}
-use Rattle.insn_text.specs.declared.words.TheConstants.{NAMES}
+use Rattle.insn_text.specs.declared.words.TheConstants.{NAMES, WORDS}
+use Rattle.insn_text.specs.declared.item.VectorFile.{VectorFile}
 use Rattle.insn_text.specs.declared.item.RegisterFile.{RegisterFile}
 use Rattle.asm_tokens.specs.declared.token.Lexeme.{Lexeme}
-use Rattle.asm_tokens.specs.declared.token.Token.TheVariants.{Register}
+use Rattle.asm_tokens.specs.declared.token.Token.{Token}
+use Rattle.asm_tokens.specs.declared.token.Token.TheVariants.{Register, Sized}
 use Rattle.asm_tokens.specs.Characters.{is_blank, is_digit, is_name_character, front, column_at, starts_comment, before_comment}
 use Rattle.asm_tokens.specs.Tokens.{Read, run, begins_name, has_sign, name_token, token_or, register_of, register_in, token_of_name}
+use Rattle.asm_tokens.specs.Tokens.{file_size, has_suffix, sized_of, sized_after, begins_za, sized_in}
 use Rattle.asm_tokens.specs.Tokens.{number_token, distance_token, bare_token, place_in, read_number, read_distance, read_run}
 use Rattle.asm_tokens.specs.Tokens.{read_character, read_token, lexeme_at, is_name}
 use Rattle.asm_tokens.proofs.Steps.{take_front, front-length}
@@ -53,18 +56,38 @@ unfolding is_name name_token
 name_is_name None = refl
 name_is_name (Some place) = refl
 
-register_is_name : (file : Option RegisterFile) (number place : Option ℕ)
-    → is_name (token_or (name_token place) (register_of file number)) ≡ true
+register_is_name : (file : Option RegisterFile) (number : Option ℕ) (t : Token) → is_name t ≡ true
+    → is_name (token_or t (register_of file number)) ≡ true
 unfolding is_name register_of
-register_is_name None number place = name_is_name place
-register_is_name (Some file) None place = name_is_name place
-register_is_name (Some file) (Some number) place =
-    cond_both (nat_lt number 31) (Some (Register file number)) None (λ t. is_name (token_or (name_token place) t) ≡ true) (λ _. refl)
-    (λ _. name_is_name place)
+register_is_name None number t e = e
+register_is_name (Some file) None t e = e
+register_is_name (Some file) (Some number) t e =
+    cond_both (nat_lt number 31) (Some (Register file number)) None (λ o. is_name (token_or t o) ≡ true) (λ _. refl) (λ _. e)
+
+sized_of_is_name : (file : VectorFile) (number suffix : Option ℕ) (t : Token) → is_name t ≡ true
+    → is_name (token_or t (sized_of file number suffix)) ≡ true
+unfolding is_name sized_of
+sized_of_is_name file None suffix t e = e
+sized_of_is_name file (Some number) None t e = e
+sized_of_is_name file (Some number) (Some suffix) t e =
+    cond_both (nat_lt number (file_size file) && has_suffix file suffix) (Some (Sized file number suffix)) None
+    (λ o. is_name (token_or t o) ≡ true) (λ _. refl) (λ _. e)
+
+sized_after_is_name : (file : Option VectorFile) (cs : List ℕ) (t : Token) → is_name t ≡ true
+    → is_name (token_or t (sized_after file cs)) ≡ true
+unfolding sized_after
+sized_after_is_name None cs t e = e
+sized_after_is_name (Some file) cs t e = sized_of_is_name file _ _ t e
+
+sized_is_name : (cs : List ℕ) (t : Token) → is_name t ≡ true → is_name (token_or t (sized_in cs)) ≡ true
+unfolding sized_in
+sized_is_name cs t e =
+    cond_both (begins_za cs) _ _ (λ o. is_name (token_or t o) ≡ true) (λ _. sized_after_is_name _ _ t e)
+    (λ _. sized_after_is_name _ _ t e)
 
 token_is_name : (cs : List ℕ) → is_name (token_of_name cs) ≡ true
 unfolding token_of_name register_in
-token_is_name cs = register_is_name _ _ _
+token_is_name cs = register_is_name _ _ _ (sized_is_name cs (name_token (place_in WORDS cs)) (name_is_name (place_in WORDS cs)))
 
 digit_first : (a d s : Bool) → (a && not d && not s) ≡ false → a ≡ true → s ≡ false → d ≡ true
 digit_first true true s e f g = refl

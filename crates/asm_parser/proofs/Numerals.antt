@@ -52,9 +52,10 @@ no_x [] a = refl
 no_x (c ∷ []) a = refl
 no_x (c ∷ d ∷ ds) a = ne_eqb d 120 (λ e. let h : digit_value 120 < 10 = subst (λ x. digit_value x < 10) e a.1.0 in omega arith)
 
-no_sign : (ds : List ℕ) → 0 < length ds → AllDigits 10 ds → (get_or ds 0 0 == 45) ≡ false
-no_sign [] some a = refl
-no_sign (c ∷ cs) some a = ne_eqb c 45 (λ e. let h : digit_value 45 < 10 = subst (λ x. digit_value x < 10) e a.0 in omega arith)
+first_is_no : (c : ℕ) → 10 ≤ digit_value c → (ds : List ℕ) → 0 < length ds → AllDigits 10 ds → (get_or ds 0 0 == c) ≡ false
+first_is_no c large [] some a = absurd (omega arith)
+first_is_no c large (d ∷ ds) some a =
+    ne_eqb d c (λ e. let h : digit_value c < 10 = subst (λ x. digit_value x < 10) e a.0 in omega (arith, h, large))
 
 module _ (n : ℕ) (lt : n < 2 ^ 64) where
   numeral : IsNumeral 10 (decimal n) × (digits_value 10 (decimal n) ≡ n)
@@ -78,13 +79,20 @@ module _ (n : ℕ) (lt : n < 2 ^ 64) where
   pub decimal-names : list_all is_name_character (decimal n) ≡ true
   decimal-names = all_pass 10 is_name_character (λ c h. digit_name c (omega arith)) (decimal n) numeral.0.1
 
+  pub decimal-digits : list_all is_digit (decimal n) ≡ true
+  decimal-digits = all_pass 10 is_digit decimal_digit_is (decimal n) numeral.0.1
+
   pub number-read : number_in (decimal n) ≡ Some n
   unfolding number_in begins_hexadecimal
   number-read = cond-false _ _ _ (and_right _ _ (no_x (decimal n) numeral.0.1)) ∙ decimal-read
 
+  -- the first digit is no letter
+  pub no_letter : (get_or (decimal n) 0 0 == 97) ≡ false
+  no_letter = first_is_no 97 (lit≤ tt) (decimal n) numeral.0.0 numeral.0.1
+
   -- the first digit is no minus
   pub no_minus : (get_or (decimal n) 0 0 == 45) ≡ false
-  no_minus = no_sign (decimal n) numeral.0.0 numeral.0.1
+  no_minus = first_is_no 45 (lit≤ tt) (decimal n) numeral.0.0 numeral.0.1
 
 -- ---- in hexadecimal
 

@@ -30,9 +30,10 @@ use Rattle.asm_parser.specs.Told.{lexemes_from, said_from}
 use Rattle.asm_parser.proofs.Labels.{label-none, line-ok}
 use Rattle.asm_parser.proofs.Names.{undotted, named-instruction}
 use Rattle.asm_parser.proofs.Operands.{tokens_of, all-ok}
-use Rattle.asm_parser.proofs.Reading.{opens, no_slash, names_no_slash, run-whole, is_plain, plain-names, plain-begins}
-use Rattle.asm_parser.proofs.Printed.{finds, finds-true, is_good_name, names_good, is_clean_item, is_clean_shape, shapes_clean, items-read}
-use Rattle.asm_parser.proofs.Printed.{items-plain, all_append}
+use Rattle.asm_parser.proofs.Reading.{opens, names_no_slash, run-whole, is_plain, plain-names, plain-begins}
+use Rattle.asm_parser.proofs.Registers.{finds, finds-true}
+use Rattle.asm_parser.proofs.Printed.{is_good_name, names_good, is_clean_item, are_slashes_apart, is_clean_shape, shapes_clean}
+use Rattle.asm_parser.proofs.Printed.{items-read, is_uncommented, uncommented-append, items-uncommented}
 
 -- ---- the shape
 
@@ -45,26 +46,25 @@ found_passes p q (r ∷ ss) s a e =
       | false ↦ λ is h. found_passes p q ss s b.1 h
     ] refl e
 
--- the operands of the shape in which a word is printed are clean
-clean_found : (word : ℕ) (s : Shape) → printed_shape word ≡ Some s → list_all is_clean_item (items_of s) ≡ true
+-- the operands of the shape in which a word is printed are clean, and no `/` follows another
+clean_found : (word : ℕ) (s : Shape) → printed_shape word ≡ Some s
+    → (list_all is_clean_item (items_of s) ≡ true) × (are_slashes_apart (kind.Mark 44) (items_of s) ≡ true)
 unfolding printed_shape prints is_clean_shape
 clean_found word s e =
     let f = found_passes (prints word) is_clean_shape SHAPES s shapes_clean e in
     let plain : s.alias ≡ false = not-true s.alias (and_parts (not s.alias) _ f.0).0 in
-    ap (λ a. a || list_all is_clean_item (items_of s)) (sym plain) ∙ f.1
+    let clean : (list_all is_clean_item (items_of s) && are_slashes_apart (kind.Mark 44) (items_of s)) ≡ true =
+    ap (λ a. a || (list_all is_clean_item (items_of s) && are_slashes_apart (kind.Mark 44) (items_of s))) (sym plain) ∙ f.1 in
+    and_parts (list_all is_clean_item (items_of s)) (are_slashes_apart (kind.Mark 44) (items_of s)) clean
 
 -- ---- texts that a name begins
 
-no_comment : (xs : List ℕ) → list_all no_slash xs ≡ true → before_comment xs ≡ xs
-unfolding before_comment
+no_comment : (xs : List ℕ) → is_uncommented xs ≡ true → before_comment xs ≡ xs
+unfolding before_comment is_uncommented
 no_comment [] e = refl
 no_comment (c ∷ cs) e =
-    let p = and_parts (no_slash c) (list_all no_slash cs) e in
-    cond-false (starts_comment c cs) _ _ (starts_none c cs (not-true (c == 47) p.0)) ∙ ap (λ ys. c ∷ ys) (no_comment cs p.1)
-  where
-    starts_none : (c : ℕ) (cs : List ℕ) → (c == 47) ≡ false → starts_comment c cs ≡ false
-    starts_none c [] e = refl
-    starts_none c (d ∷ ds) e = ap (λ b. b && (d == 47)) e
+    let p = and_parts (not (starts_comment c cs)) (is_uncommented cs) e in
+    cond-false (starts_comment c cs) _ _ (not-true (starts_comment c cs) p.0) ∙ ap (λ ys. c ∷ ys) (no_comment cs p.1)
 
 plain_some : (xs : List ℕ) → is_plain xs ≡ true → 0 < length xs
 unfolding is_plain
@@ -136,14 +136,14 @@ module _ (word : ℕ) (it : Insn) (lt : word < 2 ^ 32) (p : IsPrinted word) (mea
   abbrev line : List ℕ
   line = name ++ rest
 
-  clean : list_all is_clean_item is ≡ true
+  clean : (list_all is_clean_item is ≡ true) × (are_slashes_apart (kind.Mark 44) is ≡ true)
   clean = clean_found word p.shape p.found
 
   good : (is_plain name ≡ true) × (place_in NAMES name ≡ Some place)
   unfolding is_good_name
   good =
       let q =
-      and_parts (is_plain name) (finds place (place_in NAMES name)) (all_below-at is_good_name 243 place names_good (own-name word p)) in
+      and_parts (is_plain name) (finds place (place_in NAMES name)) (all_below-at is_good_name (length NAMES) place names_good (own-name word p)) in
       (q.0, finds-true place _ q.1)
 
   opens-rest : opens rest ≡ true
@@ -153,12 +153,12 @@ module _ (word : ℕ) (it : Insn) (lt : word < 2 ^ 32) (p : IsPrinted word) (mea
   unfolding tokens_shown
   tokens-shown =
       ap (λ ys. tokens_of (lexemes_of (length name) ys)) (drop_at name rest (length name) refl)
-      ∙ items-read word is (kind.Mark 44) (length name) clean p.sayable
+      ∙ items-read word is (kind.Mark 44) (length name) clean.0 p.sayable
 
   whole : line ≡ before_comment line
   whole =
-      sym (no_comment line (all_append name rest (names_no_slash name (plain-names name good.0))
-      (items-plain word is (kind.Mark 44) clean p.sayable)))
+      sym (no_comment line (uncommented-append name rest (names_no_slash name (plain-names name good.0))
+      (items-uncommented word is (kind.Mark 44) clean.0 p.sayable clean.1)))
 
   first-word : run (drop 0 line) ≡ name
   first-word = run-name name rest good.0 opens-rest

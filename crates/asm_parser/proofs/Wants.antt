@@ -1,25 +1,25 @@
 -- What the shapes of a name want after some tokens, and which tokens they take as a whole.
-use Rattle.std.proofs.Common.{◌≡◌, ℕ, zero, suc, ◌+◌, ◌-◌, ◌<◌, ◌≤◌, ◌==◌, ◌&&◌, ◌||◌, Bool, true, false, cond, List, [], ◌∷◌, ◌++◌, Option}
-use Rattle.std.proofs.Common.{Some, None, length, take, map, max, slice_get, refl, sym, ap, ap₂, ◌∙◌, subst, arith, eqb-true, eq-eqb}
-use Rattle.std.specs.Prelude.{option_map, option_and_then, is_some}
+use Rattle.std.proofs.Common.{◌≡◌, ℕ, zero, suc, ◌<◌, ◌≤◌, ◌==◌, ◌&&◌, ◌||◌, Bool, true, false, cond, List, [], ◌∷◌, ◌++◌, Option}
+use Rattle.std.proofs.Common.{Some, None, length, take, max, slice_get, refl, sym, ap, ap₂, ◌∙◌, arith, eqb-true, eq-eqb}
+use Rattle.std.specs.Prelude.{option_and_then, is_some}
 use Rattle.std.specs.List.{list_any}
 use Rattle.std.proofs.lemmas.Bool.{and_parts}
 use Rattle.std.proofs.lemmas.List.{append-nil, length-take}
 use Rattle.a64_encode.specs.Either.{instruction_of}
 use Rattle.insn_text.specs.declared.item.Item.{Item}
 use Rattle.insn_text.specs.declared.item.RegisterFile.{RegisterFile}
+use Rattle.insn_text.specs.declared.item.VectorFile.{VectorFile}
 use Rattle.insn_text.specs.declared.item.Kind.{Kind}
 use Rattle.insn_text.specs.declared.item.Kind.TheVariants as kind
 use Rattle.insn_text.specs.declared.item.Shape.{Shape}
 use Rattle.insn_text.specs.Texts.{items_of, bits_of}
 use Rattle.asm_tokens.specs.Tokens.{is_number_token}
 use Rattle.asm_tokens.specs.declared.token.Token.{Token}
-use Rattle.asm_tokens.specs.declared.token.Token.TheVariants.{Register, Word, Name, Mark}
-use Rattle.asm_operands.specs.declared.operands.Target.{Target}
-use Rattle.asm_operands.specs.Fields.{on_mark, on_word, on_register, word_field, register_field, field_said}
-use Rattle.asm_operands.specs.Operands.{Known, known_with, known_after, agrees, with_field, taken_on, taken, reach_on, reach, fixed}
+use Rattle.asm_tokens.specs.declared.token.Token.TheVariants.{Register, Word, Mark, Sized}
+use Rattle.asm_operands.specs.Fields.{on_mark, on_word, on_register, on_sized, field_said}
+use Rattle.asm_operands.specs.Operands.{Known, known_with, known_after, taken_on, taken, reach_on, reach, fixed}
 use Rattle.asm_operands.specs.Operands.{word_in, reach_in, shapes_of, first_of_words, first_word, furthest, is_number_kind, is_number_item}
-use Rattle.asm_operands.specs.Operands.{wants_number, is_whole, OperandsSaid, Says, Fails, Fault, said_or, if_meant, word_said}
+use Rattle.asm_operands.specs.Operands.{wants_number, is_whole, OperandsSaid, Fails, Fault, said_or, if_meant, word_said}
 use Rattle.asm_operands.specs.Operands.{operand_fault, operands_said, target_of}
 
 some_is : {A : Type 0} (a b : A) → ◌≡◌ {A = Option A} (Some a) (Some b) → a ≡ b
@@ -115,11 +115,18 @@ register_number numbered says (Register file number) f n e = cc
 register_number numbered says (Word place) f n e = cc
 register_number numbered says t f n e = cc
 
+sized_number : (says : VectorFile → ℕ → ℕ → Option ℕ) (t : Token) (f : ℕ) → is_number_token t ≡ true → on_sized says t ≡ Some f → ⊥
+unfolding is_number_token on_sized
+sized_number says (Sized file number suffix) f n e = cc
+sized_number says t f n e = cc
+
 number_kind : (k : Kind) (bits : ℕ) (t : Token) (f : ℕ) → is_number_token t ≡ true → field_said k bits t ≡ Some f → is_number_kind k ≡ true
 unfolding field_said is_number_kind
 number_kind (kind.Mark c) bits t f n e = absurd (mark_number _ t f n e)
 number_kind (kind.Named first count) bits t f n e = absurd (word_number _ t f n e)
 number_kind (kind.Register file last) bits t f n e = absurd (register_number _ _ t f n e)
+number_kind (kind.Sized file few first) bits t f n e = absurd (sized_number _ t f n e)
+number_kind kind.SliceRegister bits t f n e = absurd (register_number _ _ t f n e)
 number_kind (kind.Opposite first count) bits t f n e = absurd (word_number _ t f n e)
 number_kind k bits t f n e = refl
 
