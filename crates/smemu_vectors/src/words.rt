@@ -17,11 +17,14 @@ fn word_of(line: &str) -> Option<u32> {
     u32::from_str_radix(field, 16).ok()
 }
 
-/// Tells whether the word means an instruction whose word it is.
+/// Tells whether the word means an instruction, of either table, whose word it is.
 fn round_trips(word: u32) -> bool {
     match decode_scalar(word) {
         Some(insn) => encode(&insn) == Some(word),
-        None => false,
+        None => match decode_vector(word) {
+            Some(insn) => encode(&insn) == Some(word),
+            None => false,
+        },
     }
 }
 
