@@ -12,5 +12,7 @@ mod stop;
 mod transfers;
 mod values;
 
+pub use checks::first_shared;
+pub use numbers::{read_number, write_bytes};
 pub use stop::AccessStop;
 pub use transfers::transfer;
