@@ -1,5 +1,5 @@
 //! Tests of the libraries by their public calls: words, lines of sources, memory, vectors, predicates,
-//! permutations and reductions, the lines of stops, and the object of a source.
+//! permutations and reductions, accesses of vectors, the lines of stops, and the object of a source.
 #![tactic(auto)]
 
 #[cfg(test)]
@@ -18,6 +18,8 @@ mod permutes;
 mod sources;
 #[cfg(test)]
 mod stops;
+#[cfg(test)]
+mod vector_accesses;
 #[cfg(test)]
 mod vectors;
 #[cfg(test)]

@@ -25,8 +25,11 @@ pub const FILE: [u8; 192] = [
     1, 2, 3, 4, // the data
 ];
 
+/// The address of the page of data.
+pub const DATA: u64 = 0x410000;
+
 /// The pages of a thread that starts from a copy of the file's image.
-fn pages(rt: &impl Stops, alloc: Global) -> Pages {
+pub fn pages(rt: &impl Stops, alloc: Global) -> Pages {
     let image = load(alloc, &FILE).ok().expect(rt, "an accepted file");
     let image = image.copy(alloc).ok().expect(rt, "memory");
     Pages::from_image(alloc, &image).ok().expect(rt, "memory")
