@@ -32,6 +32,18 @@ impl<'a> Elements<'a> {
         8 * self.pg.len() / self.element.bytes()
     }
 
+    /// The bytes in memory of all elements, active or not.
+    #[inline]
+    pub fn size(&self) -> u64
+        requires few { length self.now.pg.now ≤ 32 }
+        requires some { 2 ≤ length self.now.pg.now }
+        ensures value { result ≡ 8 * length self.now.pg.now / bytes_in self.now.element * bytes_in self.now.memory }
+        ensures some { 1 ≤ result }
+        ensures small { result ≤ 2048 }
+    {
+        (self.count() * self.memory.bytes()) as u64
+    }
+
     /// Whether element `i` is active.
     #[inline]
     pub fn is_active(&self, i: usize) -> bool
@@ -69,17 +81,30 @@ impl<'a> Elements<'a> {
     }
 }
 
+/// The first byte of the active elements that fails a check.
+fn first_of_each<C: Check>(elements: &Elements, check: &C) -> Option<u64>
+    requires { length elements.now.pg.now ≤ 32 }
+    ensures { result ≡ find (C.fails check.now) (element_addresses elements.now.start elements.now.memory
+        elements.now.element elements.now.pg.now) }
+{
+    let mut found = None;
+    for i in 0..elements.count() {
+        found = first_of(found, elements.first_of_element(check, i));
+    }
+    found
+}
+
 impl<'a> Bytes for Elements<'a> {
-    ghost can = { λ s. length s.pg.now ≤ 32 };
+    ghost can = { λ s. (length s.pg.now ≤ 32) × (2 ≤ length s.pg.now) };
 
     ghost addresses = { λ s. element_addresses s.start s.memory s.element s.pg.now };
 
+    /// Mostly no byte of any element fails.
     #[inline]
     fn first_failing<C: Check>(&self, check: &C) -> Option<u64> {
-        let mut found = None;
-        for i in 0..self.count() {
-            found = first_of(found, self.first_of_element(check, i));
+        match check.first(self.start, self.size()) {
+            None => None,
+            Some(_) => first_of_each(self, check),
         }
-        found
     }
 }

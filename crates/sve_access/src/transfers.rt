@@ -37,6 +37,7 @@ fn read_p(vectors: &Vectors, n: u8) -> &[u8]
     ensures value { result.now ≡ p_of vectors.now n }
     ensures long { length_of vectors.now ≡ 8 * length result.now }
     ensures small { length result.now ≤ 32 }
+    ensures some { 2 ≤ length result.now }
 {
     let _length = vectors.length();
     let p = vectors.p(n);
@@ -52,6 +53,7 @@ fn copy_p(vectors: &Vectors, n: u8, room: &mut [u8]) -> usize
     ensures value { take result room.new ≡ p_of vectors.now n }
     ensures long { length_of vectors.now ≡ 8 * result }
     ensures small { result ≤ 32 }
+    ensures some { 2 ≤ result }
 {
     let p = read_p(vectors, n);
     room[..p.len()].copy_from_slice(p);
@@ -66,6 +68,7 @@ fn load_z(kind: LoadType, elements: &Elements, vectors: &mut Vectors, zt: u8, pa
     requires memory { elements.now.memory ≡ memory_size kind }
     requires element { elements.now.element ≡ element_size kind }
     requires small { length elements.now.pg.now ≤ 32 }
+    requires some { 2 ≤ length elements.now.pg.now }
     requires bits { length_of vectors.old ≡ 8 * length elements.now.pg.now }
     requires readable { find (lacks 4 pages.now.memory) (element_addresses elements.now.start
         (memory_size kind) (element_size kind) elements.now.pg.now) ≡ None }

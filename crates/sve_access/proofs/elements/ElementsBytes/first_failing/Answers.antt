@@ -1,26 +1,9 @@
-use Rattle.std.proofs.Common.{◌≡◌, ◌≤◌, ◌/◌, ◌*◌, length, ap, ap₂, sym, ◌∙◌, arith}
-use Rattle.std.specs.List.{find}
-use Rattle.std.specs.Option.{option_or}
-use Rattle.sve_access.specs.Elements.{element_run, element_addresses}
-use Rattle.sve_access.proofs.Lists.{of_first, none_first, find_more}
+use Rattle.std.proofs.Common.{sym, ◌∙◌}
+use Rattle.sve_access.proofs.Spans.{none_of_span}
 use Rattle.sve_access.proofs.elements.ElementsBytes.first_failing.Goals as goal
 
-pub loop-i-init : goal.loop-i-init
-loop-i-init g c =
-    sym (ap (find (g.C.Check.fails c.args.check.now))
-    (none_first (element_run c.args.self.now.start c.args.self.now.memory) c.args.self.now.element c.args.self.now.pg.now))
-
-pub loop-i-preserved : goal.loop-i-preserved
-loop-i-preserved g c =
-    c.first_of-found.ensures ∙ ap₂ (λ a b. option_or a b) c.loop-i.invariant c.first_of_element.ensures
-    ∙ find_more (g.C.Check.fails c.args.check.now) (element_run c.args.self.now.start c.args.self.now.memory)
-    c.args.self.now.element c.args.self.now.pg.now c.loop-i.i
-
-pub returns : goal.returns
-unfolding element_addresses
-returns g c =
-    let all : c.loop-i.i ≡ c.count-i-end.result = (let end = c.loop-i-test.false in let most = c.loop-i.auto.i-end in omega (arith, end, most)) in
-    c.loop-i.invariant
-    ∙ ap (λ k. find (g.C.Check.fails c.args.check.now)
-    (of_first (element_run c.args.self.now.start c.args.self.now.memory) c.args.self.now.element c.args.self.now.pg.now k))
-    (all ∙ c.count-i-end.ensures.value)
+pub returns-in-None : goal.returns-in-None
+returns-in-None g c =
+    let x = c.args.self.now in
+    sym (none_of_span (g.C.Check.fails c.args.check.now) x.start x.memory x.element x.pg.now c.size.result c.size.ensures.value
+    (sym c.first.ensures ∙ c.in-None.is))
