@@ -1,5 +1,6 @@
 //! Tests of the libraries by their public calls: words, lines of sources, memory, vectors, predicates,
-//! permutations and reductions, vector instructions, the lines of stops, and the object of a source.
+//! permutations and reductions, vector instructions and their accesses, the lines of stops, and the object of
+//! a source.
 #![tactic(auto)]
 
 #[cfg(test)]
@@ -20,6 +21,8 @@ mod permutes;
 mod sources;
 #[cfg(test)]
 mod stops;
+#[cfg(test)]
+mod vector_accesses;
 #[cfg(test)]
 mod vector_steps;
 #[cfg(test)]

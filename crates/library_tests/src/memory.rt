@@ -25,6 +25,9 @@ pub const FILE: [u8; 192] = [
     1, 2, 3, 4, // the data
 ];
 
+/// The address of the page of data.
+pub const DATA: u64 = 0x410000;
+
 /// The pages of a thread that starts from a copy of the file's image.
 pub fn pages(rt: &impl Stops, alloc: Global) -> Pages {
     let image = load(alloc, &FILE).ok().expect(rt, "an accepted file");

@@ -42,7 +42,7 @@ run_more a (suc n) =
     let e : a + 1 + n ≡ a + suc n = omega arith in
     ap (λ xs. a % 2 ^ 64 ∷ xs) (run_more (a + 1) n) ∙ ap (λ k. a % 2 ^ 64 ∷ (run_of (a + 1) n ++ k % 2 ^ 64 ∷ [])) e
 
-length-run : (a n : ℕ) → length (run_of a n) ≡ n
+pub length-run : (a n : ℕ) → length (run_of a n) ≡ n
 unfolding run_of
 length-run a zero = refl
 length-run a (suc n) = ap suc (length-run (a + 1) n)
@@ -58,7 +58,7 @@ find_last test (x ∷ xs) y =
       | false ↦ find_last test xs y
     ]
 
-shared_run : (a n : ℕ) → find is_shared (run_of a n) ≡ first_shared a n
+pub shared_run : (a n : ℕ) → find is_shared (run_of a n) ≡ first_shared a n
 unfolding run_of first_shared
 shared_run a zero = refl
 shared_run a (suc n) =
@@ -69,7 +69,7 @@ lacks_is : (y : ℕ) (o : Option ℕ) → cond (not (is_some o)) (Some y) None �
 lacks_is y None = refl
 lacks_is y (Some b) = refl
 
-denied_run : (need : ℕ) (m : AddressSpace) (a n : ℕ) → find (lacks need m) (run_of a n) ≡ first_without need m a n
+pub denied_run : (need : ℕ) (m : AddressSpace) (a n : ℕ) → find (lacks need m) (run_of a n) ≡ first_without need m a n
 unfolding run_of first_without
 denied_run need m a zero = refl
 denied_run need m a (suc n) =
@@ -109,27 +109,27 @@ bytes_last m [] y = byte_alone (byte_with 4 m y)
 bytes_last m (x ∷ xs) y =
     ap (byte_and (byte_with 4 m x)) (bytes_last m xs y) ∙ byte_between (byte_with 4 m x) (bytes_at m xs) (byte_with 4 m y)
 
-bytes_run : (m : AddressSpace) (a n : ℕ) → bytes_at m (run_of a n) ≡ bytes_with 4 m a n
+pub bytes_run : (m : AddressSpace) (a n : ℕ) → bytes_at m (run_of a n) ≡ bytes_with 4 m a n
 unfolding bytes_at run_of bytes_with
 bytes_run m a zero = refl
 bytes_run m a (suc n) =
     ap (bytes_at m) (run_more a n) ∙ bytes_last m (run_of a n) ((a + n) % 2 ^ 64)
     ∙ ap (λ o. and_byte o (byte_with 4 m ((a + n) % 2 ^ 64))) (bytes_run m a n)
 
-number_run : (m : AddressSpace) (a k n : ℕ) → k ≡ n → number_at m (run_of a k) ≡ number_in m a n
+pub number_run : (m : AddressSpace) (a k n : ℕ) → k ≡ n → number_at m (run_of a k) ≡ number_in m a n
 unfolding number_at number_in
 number_run m a k n e = ap number_or_zero (bytes_run m a k) ∙ ap (λ k. number_or_zero (bytes_with 4 m a k)) e
 
 -- ---- what is written
 
-set_run : (mem : FinMap nat_cmp ℕ) (a n : ℕ) (bs : List ℕ) → length bs ≡ n → set_each mem (run_of a n) bs ≡ set_bytes mem a bs
+pub set_run : (mem : FinMap nat_cmp ℕ) (a n : ℕ) (bs : List ℕ) → length bs ≡ n → set_each mem (run_of a n) bs ≡ set_bytes mem a bs
 unfolding set_each run_of set_bytes
 set_run mem a zero [] e = refl
 set_run mem a zero (b ∷ bs) e = absurd (omega arith)
 set_run mem a (suc n) [] e = absurd (omega arith)
 set_run mem a (suc n) (b ∷ bs) e = set_run (insert mem (a % 2 ^ 64) b) (a + 1) n bs (omega arith)
 
-written_run : (m : AddressSpace) (a n : ℕ) (bs : List ℕ) → length bs ≡ n → written m (run_of a n) (Some bs) ≡ with_bytes m a bs
+pub written_run : (m : AddressSpace) (a n : ℕ) (bs : List ℕ) → length bs ≡ n → written m (run_of a n) (Some bs) ≡ with_bytes m a bs
 written_run m a n bs e = ap (λ x. record m { mem = x }) (set_run m.mem a n bs e)
 
 length-low : (i n v : ℕ) → length (bytes_low_first i n v) ≡ n
@@ -233,7 +233,7 @@ after_access-is it s m = refl
 
 -- ---- room
 
-all_run : (P : ℕ → Type 0) (a n : ℕ) → All P (run_of a n) → (k : ℕ) → k < n → P ((a + k) % 2 ^ 64)
+pub all_run : (P : ℕ → Type 0) (a n : ℕ) → All P (run_of a n) → (k : ℕ) → k < n → P ((a + k) % 2 ^ 64)
 unfolding run_of
 all_run P a zero all k l = absurd (omega arith)
 all_run P a (suc n) all zero l = let z : a + 0 ≡ a = omega arith in rw z (All-head P (a % 2 ^ 64) (run_of (a + 1) n) all)

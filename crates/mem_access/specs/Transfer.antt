@@ -175,7 +175,7 @@ raised_by WantOfMemory = None
 
 -- the answer of an access that has this fault, if any, and makes this: after Ok it is made, and any other
 -- answer leaves what was
-abbrev pub Transfers :
-    Option Exception → AfterAccess → AfterAccess → AfterAccess → Result (Unit {0}) AccessStop → Type 0
+abbrev pub Transfers : {State : Type 0}
+    → Option Exception → State → State → State → Result (Unit {0}) AccessStop → Type 0
 Transfers fault made old new (Ok done) = (fault ≡ None) × (new ≡ made)
 Transfers fault made old new (Err stop) = (fault ≡ raised_by stop) × (new ≡ old)

@@ -12,7 +12,7 @@ const SHARED_END: u64 = 0x7f00_0000_1000;
 
 /// The first of so many bytes from an address on that is shared.
 #[inline]
-fn first_shared(address: u64, size: u64) -> Option<u64>
+pub fn first_shared(address: u64, size: u64) -> Option<u64>
     requires some { 1 ≤ size }
     requires short { size ≤ 4096 }
     ensures { result ≡ first_shared address size }

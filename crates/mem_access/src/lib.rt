@@ -14,5 +14,7 @@ mod transfers;
 mod values;
 
 pub use bank::Bank;
+pub use checks::first_shared;
+pub use numbers::{read_number, write_bytes};
 pub use stop::AccessStop;
 pub use transfers::transfer;

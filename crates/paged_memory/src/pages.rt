@@ -1,6 +1,6 @@
 //! The pages of a guest thread.
 ghost use Rattle.std.specs.Prelude.{◌≡◌, ◌≢◌, ℕ, ◌+◌, ◌*◌, ◌/◌, ◌%◌, ◌^◌, ◌<◌, ◌≤◌, ◌↔◌, length, slice_get};
-ghost use Rattle.std.specs.Prelude.{IsSome, IfSome, IfNone, IfOk, IfErr, OnOk, OnErr, Some, None};
+ghost use Rattle.std.specs.Prelude.{IsSome, IfSome, IfNone, IfOk, IfErr, OnOk, OnErr, Some, None, IsTrue, is_ok};
 ghost use Rattle.std.specs.FinMap.{get, entries, len};
 ghost use Rattle.paged_memory.specs.Memory.{IsWhole, with_stack, with_zero_pages, no_memory, bytes_from};
 ghost use Rattle.paged_memory.specs.Memory.{byte_with, bytes_with, first_without, word_at, set_bytes};
@@ -184,6 +184,7 @@ impl Pages {
     pub fn own(&mut self, address: u64, length: u64) -> Result<(), Memory>
         ensures ok { OnOk result (OwnsAlso self.old self.new address length) }
         ensures memory { self.new.memory ≡ self.old.memory }
+        ensures room { AreOwned self.old address length → IsTrue (is_ok result) }
         ensures kept { KeepsOwned self.old self.new }
     {
         // every page is

@@ -1,0 +1,5 @@
+pub mod Faults
+pub mod Lists
+pub mod Kept
+pub mod Stored
+pub mod Spans

@@ -1,0 +1,4 @@
+pub mod Contiguous
+pub mod Elements
+pub mod Owned
+pub mod After

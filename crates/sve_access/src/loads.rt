@@ -1,0 +1,151 @@
+//! Loads of the elements of a vector.
+ghost use Rattle.std.specs.Prelude.{◌≡◌, ◌+◌, ◌*◌, ◌/◌, ◌%◌, ◌^◌, ◌<◌, ◌≤◌, true, None, length, if◌then◌else◌};
+ghost use Rattle.std.specs.List.{find};
+ghost use Rattle.paged_memory.specs.Memory.{first_without};
+ghost use Rattle.mem_access.specs.Checks.{lacks};
+ghost use Rattle.mem_access.specs.DataAccess.{run_of};
+ghost use Rattle.mem_access.specs.Values.{number_at};
+ghost use Rattle.vector_elements.specs.Elements.{element_of, is_active, each_or_zero};
+ghost use Rattle.vector_elements.specs.Numbers.{bytes_in};
+ghost use Rattle.sve_access.specs.Contiguous.{memory_size, element_size, loaded};
+ghost use Rattle.sve_access.specs.Elements.{element_run, element_addresses};
+
+use crate::addresses::{access_size, element_size, loaded, memory_size};
+use crate::elements::Elements;
+use mem_access::read_number;
+use paged_memory::Pages;
+use sm_types::LoadType;
+use vector_elements::{Change, Size, change_each, element};
+
+/// The element that a load makes of the bytes at an address, which can be read.
+#[inline]
+fn element_at(kind: LoadType, address: u64, pages: &Pages) -> u64
+    requires { first_without 4 pages.now.memory address (bytes_in (memory_size kind)) ≡ None }
+    ensures { result ≡ loaded kind (number_at pages.now.memory (run_of address (bytes_in (memory_size kind)))) }
+{
+    match read_number(pages, address, access_size(memory_size(kind))) {
+        Ok(number) => loaded(kind, number),
+        Err(_) => unreachable!(),
+    }
+}
+
+/// The elements of memory where they are active, and zero elsewhere.
+#[derive(Clone, Copy)]
+struct OfMemory<'a> {
+    kind: LoadType,
+    elements: &'a Elements<'a>,
+    pages: &'a Pages,
+}
+
+impl<'a> Change for OfMemory<'a> {
+    ghost can = { λ s size i. (size ≡ s.elements.now.element) × (s.elements.now.memory ≡ memory_size s.kind)
+        × (i ≤ 256) × (length s.elements.now.pg.now ≤ 32) × (bytes_in size * i < 8 * length s.elements.now.pg.now)
+        × (is_active (bytes_in size) s.elements.now.pg.now i ≡ true →
+        first_without 4 s.pages.now.memory
+        ((s.elements.now.start + i * bytes_in (memory_size s.kind)) % 2 ^ 64) (bytes_in (memory_size s.kind)) ≡ None) };
+
+    ghost gives = { λ s size i old. if is_active (bytes_in size) s.elements.now.pg.now i then
+        loaded s.kind (number_at s.pages.now.memory
+        (element_run s.elements.now.start (memory_size s.kind) i)) else 0 };
+
+    #[inline(always)]
+    fn apply(&self, _size: Size, place: usize, _old: u64) -> u64 {
+        if self.elements.is_active(place) {
+            element_at(self.kind, self.elements.address(place), self.pages)
+        } else {
+            0
+        }
+    }
+}
+
+/// The elements of consecutive bytes where they are active, and zero elsewhere.
+#[derive(Clone, Copy)]
+struct OfBytes<'a> {
+    kind: LoadType,
+    elements: &'a Elements<'a>,
+    bytes: &'a [u8],
+}
+
+impl<'a> Change for OfBytes<'a> {
+    ghost can = { λ s size i. (size ≡ s.elements.now.element) × (s.elements.now.memory ≡ memory_size s.kind)
+        × (length s.elements.now.pg.now ≤ 32) × (bytes_in size * i < 8 * length s.elements.now.pg.now)
+        × (bytes_in (memory_size s.kind) * i + bytes_in (memory_size s.kind) ≤ length s.bytes.now) };
+
+    ghost gives = { λ s size i old. if is_active (bytes_in size) s.elements.now.pg.now i then
+        loaded s.kind (element_of (bytes_in (memory_size s.kind)) s.bytes.now i) else 0 };
+
+    #[inline(always)]
+    fn apply(&self, _size: Size, place: usize, _old: u64) -> u64 {
+        if !self.elements.is_active(place) {
+            return 0;
+        }
+        loaded(self.kind, element(self.bytes, self.elements.memory, place))
+    }
+}
+
+/// Loads the active elements of a vector from the bytes of all elements; the others become zero.
+fn load_from(kind: LoadType, elements: &Elements, z: &mut [u8], bytes: &[u8])
+    requires memory { elements.now.memory ≡ memory_size kind }
+    requires element { elements.now.element ≡ element_size kind }
+    requires small { length elements.now.pg.now ≤ 32 }
+    requires bits { length z.old ≡ 8 * length elements.now.pg.now }
+    requires bytes { length bytes.now ≡ length z.old / bytes_in (element_size kind) * bytes_in (memory_size kind) }
+    ensures { z.new ≡ each_or_zero (bytes_in (element_size kind)) elements.now.pg.now z.old (λ i old.
+        loaded kind (element_of (bytes_in (memory_size kind)) bytes.now i)) }
+{
+    change_each(
+        &OfBytes {
+            kind,
+            elements,
+            bytes,
+        },
+        element_size(kind),
+        z,
+    );
+}
+
+/// Loads the active elements of a vector, one after the other; the others become zero.
+fn load_each(kind: LoadType, elements: &Elements, z: &mut [u8], pages: &Pages)
+    requires memory { elements.now.memory ≡ memory_size kind }
+    requires element { elements.now.element ≡ element_size kind }
+    requires small { length elements.now.pg.now ≤ 32 }
+    requires bits { length z.old ≡ 8 * length elements.now.pg.now }
+    requires readable { find (lacks 4 pages.now.memory) (element_addresses elements.now.start
+        (memory_size kind) (element_size kind) elements.now.pg.now) ≡ None }
+    ensures { z.new ≡ each_or_zero (bytes_in (element_size kind)) elements.now.pg.now z.old (λ i old.
+        loaded kind (number_at pages.now.memory (element_run elements.now.start (memory_size kind) i))) }
+{
+    change_each(
+        &OfMemory {
+            kind,
+            elements,
+            pages,
+        },
+        element_size(kind),
+        z,
+    );
+}
+
+/// Loads the active elements of a vector, whose bytes can be read; the others become zero. Where the bytes of all
+/// elements lie in one page, the page is looked up once.
+pub fn load_elements(kind: LoadType, elements: &Elements, z: &mut [u8], pages: &Pages)
+    requires memory { elements.now.memory ≡ memory_size kind }
+    requires element { elements.now.element ≡ element_size kind }
+    requires small { length elements.now.pg.now ≤ 32 }
+    requires some { 2 ≤ length elements.now.pg.now }
+    requires bits { length z.old ≡ 8 * length elements.now.pg.now }
+    requires readable { find (lacks 4 pages.now.memory) (element_addresses elements.now.start
+        (memory_size kind) (element_size kind) elements.now.pg.now) ≡ None }
+    ensures { z.new ≡ each_or_zero (bytes_in (element_size kind)) elements.now.pg.now z.old (λ i old.
+        loaded kind (number_at pages.now.memory (element_run elements.now.start (memory_size kind) i))) }
+{
+    let (start, size) = (elements.start, elements.size());
+    if start % 4096 + size > 4096 {
+        load_each(kind, elements, z, pages);
+        return;
+    }
+    match pages.bytes_within(start, size as usize) {
+        Some(bytes) => load_from(kind, elements, z, bytes),
+        None => load_each(kind, elements, z, pages),
+    }
+}

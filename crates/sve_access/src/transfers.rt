@@ -1,0 +1,406 @@
+//! The contiguous loads and stores.
+ghost use Rattle.std.specs.Prelude.{◌≡◌, ◌≢◌, ◌*◌, ◌/◌, ◌≤◌, ◌<◌, false, true, Err, Some, None, length, take};
+ghost use Rattle.std.specs.List.{find};
+ghost use Rattle.sm_types.specs.declared.vector.VectorAccess.TheVariants as form;
+ghost use Rattle.sve_table.specs.Ranges.{IsVectorAccess};
+ghost use Rattle.vector_elements.specs.Elements.{each_or_zero};
+ghost use Rattle.vector_elements.specs.Numbers.{bytes_in};
+ghost use Rattle.sve_vectors.specs.Predicates.{truths_of};
+ghost use Rattle.sve_vectors.specs.State.{length_of, with_vector, with_predicate};
+ghost use Rattle.paged_memory.specs.Memory.{first_without};
+ghost use Rattle.paged_memory.specs.PageTable.{AreOwned, KeepsOwned};
+ghost use Rattle.mem_access.specs.DataAccess.{run_of};
+ghost use Rattle.mem_access.specs.Checks.{lacks, access_fault};
+ghost use Rattle.mem_access.specs.Values.{number_at};
+ghost use Rattle.mem_access.specs.Transfer.{Transfers, HasRoom, written};
+ghost use Rattle.sve_access.specs.After.{access_of, vector_fault, after_access, contents_of, z_of, p_of};
+ghost use Rattle.sve_access.specs.After.{at_base, read_bytes};
+ghost use Rattle.sve_access.specs.Contiguous.{memory_size, element_size, loaded, multiple_from};
+ghost use Rattle.sve_access.specs.Elements.{element_run, element_addresses};
+
+use crate::addresses::{element_size, first_address, memory_size, multiple_from, size_of};
+use crate::checks::{load_fault, store_fault};
+use crate::elements::Elements;
+use crate::loads::load_elements;
+use crate::places::Run;
+use crate::stores::{own_elements, write_elements};
+use mem_access::{AccessStop, write_bytes};
+use paged_memory::Pages;
+use scalar_exec::read_x_or_sp;
+use sm_types::{Elem, LoadType, Scalars, VectorAccess, VectorOffset};
+use sve_vectors::{Vectors, truths_tell_bytes};
+
+/// The bytes of a predicate.
+#[inline]
+fn read_p(vectors: &Vectors, n: u8) -> &[u8]
+    requires { n < 16 }
+    ensures value { result.now ≡ p_of vectors.now n }
+    ensures long { length_of vectors.now ≡ 8 * length result.now }
+    ensures small { length result.now ≤ 32 }
+    ensures some { 2 ≤ length result.now }
+{
+    let _length = vectors.length();
+    let p = vectors.p(n);
+    truths_tell_bytes(p);
+    p
+}
+
+/// Copies the bytes of a predicate to the first bytes of a room, and says how many there are.
+#[inline]
+fn copy_p(vectors: &Vectors, n: u8, room: &mut [u8]) -> usize
+    requires n { n < 16 }
+    requires room { length room.old ≡ 32 }
+    ensures value { take result room.new ≡ p_of vectors.now n }
+    ensures long { length_of vectors.now ≡ 8 * result }
+    ensures small { result ≤ 32 }
+    ensures some { 2 ≤ result }
+{
+    let p = read_p(vectors, n);
+    room[..p.len()].copy_from_slice(p);
+    p.len()
+}
+
+/// Loads the active elements of a vector, whose bytes can be read; the others become zero.
+#[inline]
+#[tactic(auto, using(sve_vectors::proofs::Whole::vector_whole))]
+fn load_z(kind: LoadType, elements: &Elements, vectors: &mut Vectors, zt: u8, pages: &Pages)
+    requires zt { zt < 32 }
+    requires memory { elements.now.memory ≡ memory_size kind }
+    requires element { elements.now.element ≡ element_size kind }
+    requires small { length elements.now.pg.now ≤ 32 }
+    requires some { 2 ≤ length elements.now.pg.now }
+    requires bits { length_of vectors.old ≡ 8 * length elements.now.pg.now }
+    requires readable { find (lacks 4 pages.now.memory) (element_addresses elements.now.start
+        (memory_size kind) (element_size kind) elements.now.pg.now) ≡ None }
+    ensures { vectors.new ≡ with_vector vectors.old zt (each_or_zero (bytes_in (element_size kind))
+        elements.now.pg.now (z_of vectors.old zt) (λ i old. loaded kind (number_at pages.now.memory
+        (element_run elements.now.start (memory_size kind) i)))) }
+{
+    load_elements(kind, elements, vectors.z_mut(zt), pages);
+}
+
+/// Loads the active elements of a vector, if no check fails.
+#[inline]
+#[tactic(auto, unfolding(crate::specs::After::access_of, crate::specs::After::vectors_after, crate::specs::After::stored), using(crate::proofs::Faults::can_read))]
+fn transfer_load(
+    kind: LoadType,
+    offset: &VectorOffset,
+    pg: u8,
+    rn: u8,
+    zt: u8,
+    s: &Scalars,
+    vectors: &mut Vectors,
+    pages: &Pages,
+) -> Result<(), AccessStop>
+    requires { IsVectorAccess (form.Load kind offset.now pg rn zt) }
+    ensures made { let x = form.Load kind offset.now pg rn zt in
+        Transfers (vector_fault x s.now vectors.old pages.now.memory)
+        (after_access x s.now vectors.old pages.now.memory)
+        (contents_of vectors.old pages.now) (contents_of vectors.new pages.now) result }
+    ensures room { result ≢ Err AccessStop.Memory }
+{
+    let mut room = [0; 32];
+    let count = copy_p(vectors, pg, &mut room);
+    let (memory, element) = (memory_size(kind), element_size(kind));
+    let base = read_x_or_sp(s, rn);
+    let start = first_address(offset, memory, element, vectors.length(), base, s);
+    let elements = Elements {
+        start,
+        memory,
+        element,
+        pg: &room[..count],
+    };
+    match load_fault(&elements, rn, s, pages) {
+        Some(exception) => Err(AccessStop::Raise(exception)),
+        None => {
+            load_z(kind, &elements, vectors, zt, pages);
+            Ok(())
+        }
+    }
+}
+
+/// Stores the low bytes of the active elements of a vector, if no check fails.
+#[inline]
+#[tactic(auto, unfolding(crate::specs::After::access_of, crate::specs::After::vectors_after, crate::specs::After::stored), using(crate::proofs::Faults::can_write))]
+fn transfer_store(
+    memory: Elem,
+    element: Elem,
+    offset: &VectorOffset,
+    pg: u8,
+    rn: u8,
+    zt: u8,
+    s: &Scalars,
+    vectors: &Vectors,
+    pages: &mut Pages,
+) -> Result<(), AccessStop>
+    requires { IsVectorAccess (form.Store memory element offset.now pg rn zt) }
+    ensures made { let x = form.Store memory element offset.now pg rn zt in
+        Transfers (vector_fault x s.now vectors.now pages.old.memory)
+        (after_access x s.now vectors.now pages.old.memory)
+        (contents_of vectors.now pages.old) (contents_of vectors.now pages.new) result }
+    ensures room { HasRoom (access_of (form.Store memory element offset.now pg rn zt) s.now vectors.now) pages.old
+        → result ≢ Err AccessStop.Memory }
+    ensures kept { KeepsOwned pages.old pages.new }
+{
+    let (memory, element) = (size_of(memory), size_of(element));
+    let base = read_x_or_sp(s, rn);
+    let start = first_address(offset, memory, element, vectors.length(), base, s);
+    let elements = Elements {
+        start,
+        memory,
+        element,
+        pg: read_p(vectors, pg),
+    };
+    match store_fault(&elements, rn, s, pages) {
+        Some(exception) => Err(AccessStop::Raise(exception)),
+        None => match own_elements(&elements, pages) {
+            Ok(()) => {
+                write_elements(&elements, vectors.z(zt), pages);
+                Ok(())
+            }
+            Err(_) => Err(AccessStop::Memory),
+        },
+    }
+}
+
+/// Reads bytes that can be read.
+#[inline]
+fn read_run(pages: &Pages, address: u64, into: &mut [u8])
+    requires { first_without 4 pages.now.memory address (length into.old) ≡ None }
+    ensures { into.new ≡ read_bytes pages.now.memory (run_of address (length into.old)) }
+{
+    match pages.read(address, into) {
+        Ok(()) => {}
+        Err(_) => unreachable!(),
+    }
+}
+
+/// The bytes of a register from an address on.
+#[inline]
+fn run_from(base: u64, times: i32, bytes: usize) -> Run
+    requires some { 1 ≤ bytes }
+    requires small { bytes ≤ 256 }
+    ensures value { run_of result.address result.size ≡ run_of (multiple_from base times bytes) bytes }
+    ensures address { result.address ≡ multiple_from base times bytes }
+    ensures size { result.size ≡ bytes }
+{
+    Run {
+        address: multiple_from(base, times, bytes),
+        size: bytes as u64,
+    }
+}
+
+/// Loads all bytes of a vector, which can be read.
+#[inline]
+#[tactic(auto, using(sve_vectors::proofs::Whole::vector_whole))]
+fn read_z(pages: &Pages, address: u64, vectors: &mut Vectors, zt: u8)
+    requires zt { zt < 32 }
+    requires readable { first_without 4 pages.now.memory address (length_of vectors.old) ≡ None }
+    ensures { vectors.new ≡
+        with_vector vectors.old zt (read_bytes pages.now.memory (run_of address (length_of vectors.old))) }
+{
+    read_run(pages, address, vectors.z_mut(zt));
+}
+
+/// Loads all bytes of a predicate, which can be read.
+#[inline]
+#[tactic(auto, using(sve_vectors::proofs::Whole::predicate_whole))]
+fn read_to_p(pages: &Pages, address: u64, vectors: &mut Vectors, pt: u8)
+    requires pt { pt < 16 }
+    requires readable { first_without 4 pages.now.memory address (length_of vectors.old / 8) ≡ None }
+    ensures { vectors.new ≡ with_predicate vectors.old pt
+        (truths_of (read_bytes pages.now.memory (run_of address (length_of vectors.old / 8)))) }
+{
+    read_run(pages, address, vectors.p_mut(pt));
+}
+
+/// Loads a vector, if no check fails.
+#[inline]
+#[tactic(auto, unfolding(crate::specs::After::access_of, crate::specs::After::vectors_after, crate::specs::After::stored), using(crate::proofs::Faults::can_read_run))]
+fn load_vector(
+    times: i32,
+    rn: u8,
+    zt: u8,
+    s: &Scalars,
+    vectors: &mut Vectors,
+    pages: &Pages,
+) -> Result<(), AccessStop>
+    requires { IsVectorAccess (form.Vector false times rn zt) }
+    ensures made { let x = form.Vector false times rn zt in
+        Transfers (vector_fault x s.now vectors.old pages.now.memory)
+        (after_access x s.now vectors.old pages.now.memory)
+        (contents_of vectors.old pages.now) (contents_of vectors.new pages.now) result }
+    ensures room { result ≢ Err AccessStop.Memory }
+{
+    let run = run_from(read_x_or_sp(s, rn), times, vectors.length());
+    match load_fault(&run, rn, s, pages) {
+        Some(exception) => Err(AccessStop::Raise(exception)),
+        None => {
+            read_z(pages, run.address, vectors, zt);
+            Ok(())
+        }
+    }
+}
+
+/// Loads a predicate, if no check fails.
+#[inline]
+#[tactic(auto, unfolding(crate::specs::After::access_of, crate::specs::After::vectors_after, crate::specs::After::stored), using(crate::proofs::Faults::can_read_run))]
+fn load_predicate(
+    times: i32,
+    rn: u8,
+    pt: u8,
+    s: &Scalars,
+    vectors: &mut Vectors,
+    pages: &Pages,
+) -> Result<(), AccessStop>
+    requires { IsVectorAccess (form.Predicate false times rn pt) }
+    ensures made { let x = form.Predicate false times rn pt in
+        Transfers (vector_fault x s.now vectors.old pages.now.memory)
+        (after_access x s.now vectors.old pages.now.memory)
+        (contents_of vectors.old pages.now) (contents_of vectors.new pages.now) result }
+    ensures room { result ≢ Err AccessStop.Memory }
+{
+    let run = run_from(read_x_or_sp(s, rn), times, vectors.length() / 8);
+    match load_fault(&run, rn, s, pages) {
+        Some(exception) => Err(AccessStop::Raise(exception)),
+        None => {
+            read_to_p(pages, run.address, vectors, pt);
+            Ok(())
+        }
+    }
+}
+
+/// Stores bytes from an address on, if no check fails.
+#[inline]
+fn store_run(
+    run: &Run,
+    rn: u8,
+    bytes: &[u8],
+    s: &Scalars,
+    pages: &mut Pages,
+) -> Result<(), AccessStop>
+    requires some { 1 ≤ length bytes.now }
+    requires small { length bytes.now ≤ 256 }
+    requires size { run.now.size ≡ length bytes.now }
+    ensures made { Transfers
+        (access_fault None (at_base rn true (run_of run.now.address run.now.size)) s.now pages.old.memory)
+        (written pages.old.memory (run_of run.now.address run.now.size) (Some bytes.now))
+        pages.old.memory pages.new.memory result }
+    ensures room { AreOwned pages.old run.now.address (length bytes.now) → result ≢ Err AccessStop.Memory }
+    ensures kept { KeepsOwned pages.old pages.new }
+{
+    match store_fault(run, rn, s, pages) {
+        Some(exception) => Err(AccessStop::Raise(exception)),
+        None => write_bytes(pages, run.address, bytes),
+    }
+}
+
+/// Stores a vector, if no check fails.
+#[inline]
+#[tactic(auto, unfolding(crate::specs::After::access_of, crate::specs::After::vectors_after, crate::specs::After::stored))]
+fn store_vector(
+    times: i32,
+    rn: u8,
+    zt: u8,
+    s: &Scalars,
+    vectors: &Vectors,
+    pages: &mut Pages,
+) -> Result<(), AccessStop>
+    requires { IsVectorAccess (form.Vector true times rn zt) }
+    ensures made { let x = form.Vector true times rn zt in
+        Transfers (vector_fault x s.now vectors.now pages.old.memory)
+        (after_access x s.now vectors.now pages.old.memory)
+        (contents_of vectors.now pages.old) (contents_of vectors.now pages.new) result }
+    ensures room { HasRoom (access_of (form.Vector true times rn zt) s.now vectors.now) pages.old
+        → result ≢ Err AccessStop.Memory }
+    ensures kept { KeepsOwned pages.old pages.new }
+{
+    let run = run_from(read_x_or_sp(s, rn), times, vectors.length());
+    store_run(&run, rn, vectors.z(zt), s, pages)
+}
+
+/// Stores a predicate, if no check fails.
+#[inline]
+#[tactic(auto, unfolding(crate::specs::After::access_of, crate::specs::After::vectors_after, crate::specs::After::stored))]
+fn store_predicate(
+    times: i32,
+    rn: u8,
+    pt: u8,
+    s: &Scalars,
+    vectors: &Vectors,
+    pages: &mut Pages,
+) -> Result<(), AccessStop>
+    requires { IsVectorAccess (form.Predicate true times rn pt) }
+    ensures made { let x = form.Predicate true times rn pt in
+        Transfers (vector_fault x s.now vectors.now pages.old.memory)
+        (after_access x s.now vectors.now pages.old.memory)
+        (contents_of vectors.now pages.old) (contents_of vectors.now pages.new) result }
+    ensures room { HasRoom (access_of (form.Predicate true times rn pt) s.now vectors.now) pages.old
+        → result ≢ Err AccessStop.Memory }
+    ensures kept { KeepsOwned pages.old pages.new }
+{
+    let run = run_from(read_x_or_sp(s, rn), times, vectors.length() / 8);
+    store_run(&run, rn, read_p(vectors, pt), s, pages)
+}
+
+/// The contiguous loads and stores of vectors and predicates: makes all checks of the access, and then the
+/// access; any answer but Ok leaves vectors and memory as they were, but that more pages may be owned. `Memory`
+/// comes only where the access writes a page that is not owned. The scalar registers stay as they are, PC too.
+/// Source: DDI 0487, C8.2, LD1B to LD1D, ST1B to ST1D (contiguous), LDR, STR (vector, predicate).
+pub fn transfer_vector(
+    insn: &VectorAccess,
+    scalars: &Scalars,
+    vectors: &mut Vectors,
+    pages: &mut Pages,
+) -> Result<(), AccessStop>
+    requires { IsVectorAccess insn.now }
+    ensures made { Transfers (vector_fault insn.now scalars.now vectors.old pages.old.memory)
+        (after_access insn.now scalars.now vectors.old pages.old.memory)
+        (contents_of vectors.old pages.old) (contents_of vectors.new pages.new) result }
+    ensures room { HasRoom (access_of insn.now scalars.now vectors.old) pages.old → result ≢ Err AccessStop.Memory }
+    ensures kept { KeepsOwned pages.old pages.new }
+{
+    match insn {
+        VectorAccess::Load {
+            kind,
+            offset,
+            pg,
+            rn,
+            zt,
+        } => transfer_load(*kind, offset, *pg, *rn, *zt, scalars, vectors, pages),
+        VectorAccess::Store {
+            memory,
+            element,
+            offset,
+            pg,
+            rn,
+            zt,
+        } => transfer_store(
+            *memory, *element, offset, *pg, *rn, *zt, scalars, vectors, pages,
+        ),
+        VectorAccess::Vector {
+            store,
+            vectors: times,
+            rn,
+            zt,
+        } => {
+            if *store {
+                store_vector(*times, *rn, *zt, scalars, vectors, pages)
+            } else {
+                load_vector(*times, *rn, *zt, scalars, vectors, pages)
+            }
+        }
+        VectorAccess::Predicate {
+            store,
+            vectors: times,
+            rn,
+            pt,
+        } => {
+            if *store {
+                store_predicate(*times, *rn, *pt, scalars, vectors, pages)
+            } else {
+                load_predicate(*times, *rn, *pt, scalars, vectors, pages)
+            }
+        }
+    }
+}
