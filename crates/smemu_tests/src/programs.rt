@@ -71,6 +71,18 @@ fn instructions_have_their_results(rt: HostRuntime) -> Result<(), Fail> {
             "\nx 0 fffffffffffffffe\n",
         ),
         ("movz x1, #1\n clz x0, x1\n", "\nx 0 000000000000003f\n"),
+        // bytes of a vector of 128 bits, each twice its place
+        (
+            "index z0.b, #0, #1\n add z0.b, z0.b, z0.b\n",
+            "\nz 0 00020406080a0c0e10121416181a1c1e\n",
+        ),
+        // words 3 and 4 are below 5, of the four from 3 on the first two
+        (
+            "movz x0, #3\n movz x1, #5\n whilelt p0.s, x0, x1\n",
+            "\nnzcv 1010\ntpidr 0000000000000000\ntpidr2 0000000000000000\nsvcr 0\np 0 1100\n",
+        ),
+        ("cntd x1, all\n", "\nx 1 0000000000000002\n"),
+        ("setffr\n", "\nffr ffff\n"),
         // a call by way of the register that is linked
         (
             "adr x30, next\n blr x30\n movz x0, #1\nnext:\n",
