@@ -1,6 +1,6 @@
 -- Two objects of one source have the same bytes, the same symbols and the same start.
-use Rattle.std.proofs.Common.{◌≡◌, ℕ, zero, suc, ◌+◌, ◌*◌, ◌/◌, cond, List, [], ◌∷◌, ◌++◌, length, take, drop, map, replicate, slice_get}
-use Rattle.std.proofs.Common.{Option, Some, None, refl, sym, ap, ap₂, ◌∙◌, subst, arith}
+use Rattle.std.proofs.Common.{◌≡◌, ℕ, suc, ◌+◌, ◌*◌, ◌/◌, cond, List, [], ◌∷◌, ◌++◌, length, take, drop, map, replicate, slice_get}
+use Rattle.std.proofs.Common.{Option, Some, None, refl, sym, ap, ap₂, ◌∙◌, arith}
 use Rattle.std.specs.List.{filter_map, range_with_len}
 use Rattle.std.proofs.lemmas.List.{length-map, length-replicate, take_all}
 use Rattle.std.proofs.Math.Seq.{take-add}
@@ -12,14 +12,14 @@ use Rattle.sm_types.specs.declared.object.Symbol.{Symbol}
 use Rattle.sm_types.specs.declared.object.Object.{Object}
 use Rattle.sm_types.specs.Objects.{text_address, Mapping, mapping_at, mapping_of, mappings_of, says_in, symbol_says, name_says}
 use Rattle.sm_types.specs.Objects.{is_text_code, text_word, object_word, object_code}
-use Rattle.asm_parser.specs.Statements.{QuadValue, TargetSaid, Says, Nothing, IntoText, IntoData, Quads, Words, Bytes, Zeros, Aligns}
+use Rattle.asm_parser.specs.Statements.{Says, Nothing, IntoText, IntoData, Quads, Words, Bytes, Zeros, Aligns}
 use Rattle.asm_parser.specs.Statements.{Globals, Instructs, SourceLine}
 use Rattle.asm_core.specs.declared.place.Place.{Place}
 use Rattle.asm_core.specs.Source.{lines_of, said_lines}
-use Rattle.asm_core.specs.Layout.{first_place, here_in, here, size_of, grown_in, part_after, place_after, place_past, place_of, Label}
+use Rattle.asm_core.specs.Layout.{first_place, here_in, here, size_of, grown_in, part_after, place_after, place_past, Label}
 use Rattle.asm_core.specs.Layout.{labels_of, address_here}
 use Rattle.asm_core.specs.Faults.{text_length_of, start_of}
-use Rattle.asm_core.specs.Assembly.{HasBytes, numbers_bytes, quad_number, aimed, Puts, part_bytes, SymbolSaid, symbol_said, symbols_from}
+use Rattle.asm_core.specs.Assembly.{HasBytes, numbers_bytes, quad_number, aimed, Puts, part_bytes, SymbolSaid, symbol_said}
 use Rattle.asm_core.specs.Assembly.{IsObjectOf, Assembles, IsSameObject}
 use Rattle.asm_core.proofs.Pieces.{length-numbers}
 

@@ -3,10 +3,10 @@ use Rattle.std.proofs.Common.{◌≡◌, ℕ, ◌-◌, ◌^◌, ◌≤◌, Bool,
 use Rattle.std.proofs.Common.{subst, leb-true}
 use Rattle.insn_text.specs.declared.words.TheConstants.{NAMES}
 use Rattle.asm_tokens.specs.declared.token.Token.{Token}
-use Rattle.asm_tokens.specs.declared.token.Token.TheVariants.{Register, Word, Name, Number, Distance, Bare, Malformed, Mark, Other}
+use Rattle.asm_tokens.specs.declared.token.Token.TheVariants.{Bare}
 use Rattle.asm_tokens.specs.declared.token.Lexeme.{Lexeme}
 use Rattle.asm_tokens.specs.Characters.{column_at, before_comment}
-use Rattle.asm_tokens.specs.Tokens.{place_in, is_name, is_number_token}
+use Rattle.asm_tokens.specs.Tokens.{place_in, is_name}
 use Rattle.asm_operands.specs.declared.fault.FaultKind.TheVariants.{Extra}
 use Rattle.asm_operands.specs.Operands.{OperandsSaid, operands_said}
 use Rattle.asm_operands.specs.Operands as operands
@@ -47,14 +47,7 @@ up_to most n m false e h = cc
 number_small : (most : ℕ) (t : Token) (m : ℕ) → number_up_to most t ≡ Some m → m ≤ most
 unfolding number_up_to
 number_small most (Bare n) m e = up_to most n m (nat_le n most) refl e
-number_small most (Register file number) m e = cc
-number_small most (Word place) m e = cc
-number_small most Name m e = cc
-number_small most (Number negative size) m e = cc
-number_small most (Distance back size) m e = cc
-number_small most Malformed m e = cc
-number_small most (Mark c) m e = cc
-number_small most Other m e = cc
+number_small most t m e = cc
 
 number_told : (most : ℕ) (t : Token) (o : Option ℕ) (ls : List Lexeme) → ((m : ℕ) → o ≡ Some m → m ≤ most)
     → Told (λ m. m ≤ most) (number_then_end t o ls)
