@@ -28,11 +28,11 @@ pub struct Context {
 
 impl Context {
     ghost use Rattle.kernel_contexts.specs.State.{start_state};
-    ghost use Rattle.kernel_contexts.specs.Context.{state_of, config_of, thread_of, stop_of, machine_of, save_area_of};
-    ghost use Rattle.kernel_contexts.specs.Context.{image_of, TurnsOrStays, IsSameThread};
+    ghost use Rattle.kernel_contexts.specs.Context.{state_of, config_of, thread_of, stop_of, machine_of};
+    ghost use Rattle.kernel_contexts.specs.Context.{save_area_of, image_of, TurnsOrStays, IsSameThread};
 
-    /// A thread before its first turn, with its pages and the save area of its vectors taken at once. `Memory`
-    /// is want of memory.
+    /// A thread before its first turn, with its pages and the save area of its vectors taken at once.
+    /// `Memory` is want of memory.
     pub fn start(
         alloc: Global,
         image: &Image,

@@ -15,7 +15,9 @@ fn text_of(rt: &impl Stops, alloc: Global, bank: &Bank) -> Vec<u8> {
     assert_eq!(rt; put_bank(&mut piece, &mut sink, bank), Ok(()));
     assert_eq!(rt; piece.flush(&mut sink), Ok(()));
     let mut text = Vec::new(alloc);
-    text.extend_from_slice(sink.bytes()).ok().expect(rt, "memory");
+    text.extend_from_slice(sink.bytes())
+        .ok()
+        .expect(rt, "memory");
     text
 }
 

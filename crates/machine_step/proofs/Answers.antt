@@ -23,7 +23,8 @@ use Rattle.machine_step.specs.ProcessorState.{ProcessorState, vector_bytes}
 use Rattle.machine_step.specs.System.{system_move, core_past, moved}
 use Rattle.machine_step.specs.Effect.{Effect, Raises, Becomes, word_of, insn_at, is_executed, is_executed_register, next_of, unless_fault}
 use Rattle.machine_step.specs.Effect.{fault_of, effect_of, perform, row_fault, data_fault, accessed, computed, vector_computed, with_core}
-use Rattle.machine_step.specs.Effect.{mode_fault, illegal_fault, early_fault, uses_bank, uses_bank_where, needs_unless, needs_bank}
+use Rattle.machine_step.specs.Effect.{mode_fault, illegal_fault, early_fault}
+use Rattle.machine_step.specs.Needs.{uses_bank, uses_bank_where, needs_unless, needs_bank}
 use Rattle.machine_step.specs.Execution.{effect_of_insn, effect_of_meaning, unless_raised, unless_refused, needs_of_insn, needs_of_meaning}
 use Rattle.machine_step.specs.Machine.{Steps, core_of}
 use Rattle.machine_step.specs.declared.machine.Machine.{Machine}

@@ -5,7 +5,8 @@ use Rattle.std.specs.Prelude.{option_and_then, length, if◌then◌else◌}
 use Rattle.sm_types.specs.declared.insn.Insn.{Insn}
 use Rattle.sm_types.specs.declared.insn.Insn.TheVariants as insn
 use Rattle.sm_types.specs.declared.vector.PredicateCount.{PredicateCount}
-use Rattle.sm_types.specs.declared.vector.PredicateCount.TheVariants.{While, Active, SetFfr, ReadFfr, WriteFfr}
+use Rattle.sm_types.specs.declared.vector.PredicateCount.TheVariants.{While, Active, SetFfr}
+use Rattle.sm_types.specs.declared.vector.PredicateCount.TheVariants.{ReadFfr, WriteFfr}
 use Rattle.sm_types.specs.declared.insn.System.{System}
 use Rattle.sm_types.specs.declared.insn.System.TheVariants.{Svc, Brk, Udf, Hint, Dmb, Dsb, Isb}
 use Rattle.sm_types.specs.declared.insn.SystemRegister.{SystemRegister}
@@ -49,7 +50,7 @@ is_executed_register TpidrEl0 = true
 is_executed_register Tpidr2El0 = true
 is_executed_register Svcr = false
 
--- the instructions that are executed; those of vectors that access memory or ZA, or change the mode, are not yet
+-- the instructions that are executed; those of vectors that access memory or ZA or change the mode are not
 abbrev pub is_executed : Insn → Bool
 is_executed (insn.System x) = is_executed_system x
 is_executed (insn.SystemMove x) = is_executed_register x.register
@@ -161,7 +162,7 @@ accessed it s =
 abbrev pub computed : Insn → ProcessorState → ProcessorState
 computed it s = record s { scalars = scalar_step it s.scalars }
 
--- the current vector length in bytes: SVL in Streaming SVE mode, which is the number of vectors of ZA, else VL
+-- L: SVL in Streaming SVE mode, which is the number of vectors of ZA, else VL
 abbrev pub length_at : ℕ → ProcessorState → ℕ
 length_at vl s = if s.streaming then length s.bank.za else vl
 
@@ -216,53 +217,3 @@ unless_fault vl None s = perform vl (insn_at s) s
 -- the effect of the instruction at PC, with this vector length in bytes
 unfoldable pub effect_of : ℕ → ProcessorState → Effect
 effect_of vl s = unless_fault vl (fault_of s) s
-
-abbrev pub is_call : System → Bool
-is_call (Svc imm) = true
-is_call (Brk imm) = false
-is_call (Udf imm) = false
-is_call (Hint imm) = false
-is_call (Dmb imm) = false
-is_call (Dsb imm) = false
-is_call (Isb imm) = false
-
--- whether an instruction reads or writes vectors, predicates, FFR or ZA, or changes PSTATE.SM: the vector
--- instructions, and SVC in Streaming SVE mode, which leaves it
-abbrev pub uses_bank : Insn → Bool → Bool
-uses_bank (insn.System x) streaming = is_call x && streaming
-uses_bank (insn.VectorArithmetic x) streaming = true
-uses_bank (insn.VectorLogical x) streaming = true
-uses_bank (insn.PredicatedBinary x) streaming = true
-uses_bank (insn.MultiplyAdd x) streaming = true
-uses_bank (insn.PredicatedUnary x) streaming = true
-uses_bank (insn.VectorShift x) streaming = true
-uses_bank (insn.VectorCopy x) streaming = true
-uses_bank (insn.VectorPermute x) streaming = true
-uses_bank (insn.VectorReduction x) streaming = true
-uses_bank (insn.VectorCompare x) streaming = true
-uses_bank (insn.Predicate x) streaming = true
-uses_bank (insn.PredicateCount x) streaming = true
-uses_bank (insn.ElementCount x) streaming = true
-uses_bank (insn.VectorAccess x) streaming = true
-uses_bank (insn.Sve2 x) streaming = true
-uses_bank (insn.Mode x) streaming = true
-uses_bank (insn.ArrayAccess x) streaming = true
-uses_bank (insn.TileAccess x) streaming = true
-uses_bank (insn.TileMove x) streaming = true
-uses_bank (insn.TileAdd x) streaming = true
-uses_bank (insn.OuterProduct x) streaming = true
-uses_bank (insn.StreamingLength x) streaming = true
-uses_bank other streaming = false
-
-abbrev pub uses_bank_where : Option Insn → Bool → Bool
-uses_bank_where (Some it) streaming = uses_bank it streaming
-uses_bank_where None streaming = false
-
--- no check of the instruction itself fails, and it uses the bank
-abbrev pub needs_unless : Option Exception → ProcessorState → Bool
-needs_unless (Some exception) s = false
-needs_unless None s = uses_bank_where (insn_at s) s.streaming
-
--- whether the instruction at PC cannot be executed without a bank: the checks of its access are made with one
-unfoldable pub needs_bank : ProcessorState → Bool
-needs_bank s = needs_unless (early_fault s) s

@@ -5,7 +5,8 @@ use Rattle.sm_types.specs.declared.stop.Exception.{Exception}
 use Rattle.sm_types.specs.declared.stop.Exception.TheVariants.{Undefined}
 use Rattle.mem_access.specs.Transfer.{transfer_fault}
 use Rattle.machine_step.specs.ProcessorState.{ProcessorState}
-use Rattle.machine_step.specs.Effect.{Effect, Raises, is_executed, mode_fault, next_of, uses_bank}
+use Rattle.machine_step.specs.Effect.{Effect, Raises, is_executed, mode_fault, next_of}
+use Rattle.machine_step.specs.Needs.{uses_bank}
 
 -- the exception, or the effect where there is none
 abbrev pub unless_raised : Option Exception → Effect → Effect

@@ -3,7 +3,8 @@ use Rattle.std.proofs.Common.{inl, inr}
 use Rattle.std.specs.Prelude.{◌⊎◌, Option, Some, None}
 use Rattle.std.specs.Borrow.{MutBor}
 use Rattle.mem_access.specs.declared.bank.Bank.{Bank}
-use Rattle.machine_step.specs.Effect.{effect_of, needs_bank}
+use Rattle.machine_step.specs.Effect.{effect_of}
+use Rattle.machine_step.specs.Needs.{needs_bank}
 use Rattle.machine_step.specs.Machine.{StepsAlone, StepsOn, IsInMode, IsSameBank}
 use Rattle.machine_step.specs.declared.machine.Machine.{Machine}
 use Rattle.machine_step.specs.declared.machine.StepEnd.{StepEnd}

@@ -1,6 +1,7 @@
 pub mod ProcessorState
 pub mod System
 pub mod Effect
+pub mod Needs
 pub mod Execution
 pub mod Machine
 pub mod Lent

@@ -2,10 +2,11 @@
 ghost use Rattle.std.specs.Prelude.{◌≡◌, ◌≢◌};
 ghost use Rattle.a64_encode.specs.Either.{instruction_of};
 ghost use Rattle.paged_memory.specs.PageTable.{KeepsOwned};
-ghost use Rattle.machine_step.specs.Effect.{effect_of, needs_bank};
+ghost use Rattle.machine_step.specs.Effect.{effect_of};
+ghost use Rattle.machine_step.specs.Needs.{needs_bank};
 ghost use Rattle.machine_step.specs.Execution.{effect_of_meaning, needs_of_meaning};
-ghost use Rattle.machine_step.specs.Machine.{HasRoomIn, HasRoomToStep, IsFetched, StepsAlone, StepsOn, IsInMode};
-ghost use Rattle.machine_step.specs.Machine.{IsSameBank};
+ghost use Rattle.machine_step.specs.Machine.{HasRoomIn, HasRoomToStep, IsFetched, StepsAlone, StepsOn};
+ghost use Rattle.machine_step.specs.Machine.{IsInMode, IsSameBank};
 ghost use Rattle.machine_step.specs.Lent.{lent_before, lent_after, IsLentInMode, Answers, ComesBack};
 
 use a64_decode::decode_scalar;
@@ -106,8 +107,8 @@ impl Machine {
     #[tactic(auto, unfolding(a64_encode::specs::Either::instruction_of))]
     fn execute_on(&mut self, word: u32, bank: &mut Bank) -> StepEnd
         requires { IsInMode bank.old self.old }
-        ensures effect { StepsOn (effect_of_meaning word (instruction_of word)) self.old bank.old self.new bank.new
-            result }
+        ensures effect { StepsOn (effect_of_meaning word (instruction_of word)) self.old bank.old self.new
+            bank.new result }
         ensures same { IsSameBank bank.old bank.new }
         ensures mode { IsInMode bank.new self.new }
         ensures room { HasRoomIn self.old (instruction_of word) → result ≢ StepEnd.Memory }

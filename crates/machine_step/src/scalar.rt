@@ -7,7 +7,8 @@ ghost use Rattle.paged_memory.specs.PageTable.{KeepsOwned};
 ghost use Rattle.mem_access.specs.Transfer.{is_access, HasRoomFor};
 ghost use Rattle.machine_step.specs.ProcessorState.{VectorState};
 ghost use Rattle.machine_step.specs.System.{moved, core_past, system_register, with_system_register};
-ghost use Rattle.machine_step.specs.Effect.{is_executed_register, uses_bank};
+ghost use Rattle.machine_step.specs.Effect.{is_executed_register};
+ghost use Rattle.machine_step.specs.Needs.{uses_bank};
 ghost use Rattle.machine_step.specs.Execution.{effect_of_insn, needs_of_insn};
 ghost use Rattle.machine_step.specs.Machine.{core_of, StepsBy, StepsAlone};
 
@@ -55,7 +56,8 @@ impl Machine {
     /// Executes a scalar instruction without a bank, which a call of the kernel in Streaming SVE mode needs.
     pub(crate) fn execute_scalar_alone(&mut self, word: u32, insn: &Insn) -> StepEnd
         requires { IsInRow insn.now }
-        ensures effect { StepsAlone (needs_of_insn insn.now) (effect_of_insn word insn.now) self.old self.new result }
+        ensures effect { StepsAlone (needs_of_insn insn.now) (effect_of_insn word insn.now)
+            self.old self.new result }
         ensures room { HasRoomFor insn.now self.old.scalars self.old.pages → result ≢ StepEnd.Memory }
         ensures kept { KeepsOwned self.old.pages self.new.pages }
     {

@@ -30,7 +30,8 @@ fn is_first_fault(insn: &Insn) -> bool
 /// The exception of a vector instruction that is not executed, or that the mode does not allow.
 fn vector_fault(word: u32, insn: &Insn, streaming: bool) -> Option<Exception>
     requires { IsInVectorRow insn.now }
-    ensures { result ≡ cond (effect.is_executed insn.now) (effect.mode_fault insn.now streaming) (Some (Undefined word)) }
+    ensures { result ≡ cond (effect.is_executed insn.now)
+        (effect.mode_fault insn.now streaming) (Some (Undefined word)) }
 {
     if !is_vector_computed(insn) {
         return Some(Exception::Undefined(word));
@@ -45,7 +46,8 @@ impl Machine {
     /// What a vector instruction comes to without a bank.
     pub(crate) fn refuse_vector(&self, word: u32, insn: &Insn) -> StepEnd
         requires { IsInVectorRow insn.now }
-        ensures effect { StepsAlone (needs_of_insn insn.now) (effect_of_insn word insn.now) self.now self.now result }
+        ensures effect { StepsAlone (needs_of_insn insn.now) (effect_of_insn word insn.now)
+            self.now self.now result }
         ensures room { result ≢ StepEnd.Memory }
     {
         match vector_fault(word, insn, self.streaming) {

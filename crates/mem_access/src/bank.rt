@@ -6,8 +6,8 @@ use sm_types::{Memory, VecLen};
 use std::alloc::Global;
 use sve_vectors::Vectors;
 
-/// The vectors, predicates and FFR that a thread's instructions read and write, and the number of that thread
-/// where they are not the thread's own save area.
+/// The vectors, predicates and FFR that a thread's instructions read and write, and the number of that
+/// thread where they are not its own save area.
 #[derive(Drop)]
 pub struct Bank {
     pub vectors: Vectors,

@@ -88,7 +88,8 @@ fn put_predicates<K: Sink>(
 /// The lines of vectors, predicates and FFR that are not all zero. ZA has none, as no instruction sets
 /// PSTATE.ZA yet.
 pub fn put_bank<K: Sink>(piece: &mut Piece, out: &mut K, bank: &Bank) -> Result<(), PutFault>
-    ensures { (za_on : Bool) → Gathers (gathered (K.view out.old) piece.old) (gathered (K.view out.new) piece.new) result
+    ensures { (za_on : Bool) →
+        Gathers (gathered (K.view out.old) piece.old) (gathered (K.view out.new) piece.new) result
         (bank_text (bank_state bank.now) za_on) }
 {
     let vectors = &bank.vectors;
