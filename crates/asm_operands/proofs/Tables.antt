@@ -8,6 +8,7 @@ use Rattle.insn_text.specs.declared.items.TheConstants.{ITEMS}
 use Rattle.insn_text.specs.declared.item.Shape.{Shape}
 use Rattle.insn_text.specs.Texts.{items_of, bits_of}
 use Rattle.asm_operands.specs.Sound.{has_factor, is_sound}
+use Rattle.asm_operands.proofs.Failing.{failing, none-failing}
 
 pub all-take : {A : Type 0} (p : A → Bool) (n : ℕ) (xs : List A) → list_all p xs ≡ true → list_all p (take n xs) ≡ true
 all-take p zero xs e = refl
@@ -19,9 +20,12 @@ all-drop p zero xs e = e
 all-drop p (suc n) [] e = refl
 all-drop p (suc n) (x ∷ xs) e = all-drop p n xs (and_parts (p x) (list_all p xs) e).1
 
+sound_failing : failing is_sound 0 ITEMS ≡ []
+unfolding failing mask_of is_field has_factor is_sound
+sound_failing = refl
+
 pub items-sound : list_all is_sound ITEMS ≡ true
-unfolding mask_of is_field has_factor is_sound
-items-sound = refl
+items-sound = none-failing is_sound 0 ITEMS sound_failing
 
 pub part-sound : (first count : ℕ) → list_all is_sound (take count (drop first ITEMS)) ≡ true
 part-sound first count = all-take is_sound count (drop first ITEMS) (all-drop is_sound first ITEMS items-sound)
