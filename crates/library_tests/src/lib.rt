@@ -1,5 +1,5 @@
-//! Tests of the libraries by their public calls: words, lines of sources, memory, vectors, predicates,
-//! the lines of stops, and the object of a source.
+//! Tests of the libraries by their public calls: words, tokens and lines of sources, memory, vectors,
+//! predicates, the lines of stops, and the object of a source.
 #![tactic(auto)]
 
 #[cfg(test)]
@@ -16,6 +16,8 @@ mod memory;
 mod sources;
 #[cfg(test)]
 mod stops;
+#[cfg(test)]
+mod vector_tokens;
 #[cfg(test)]
 mod vectors;
 #[cfg(test)]
