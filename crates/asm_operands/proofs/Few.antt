@@ -13,6 +13,7 @@ use Rattle.asm_operands.specs.Operands.{Known, known_after, taken_on, taken, rea
 use Rattle.asm_operands.specs.Operands.{first_of_words, first_word, furthest, is_number_item, wants_number, is_whole, kind_at, Fault}
 use Rattle.asm_operands.specs.Operands.{operand_fault, names, target_in, target_of, if_meant, word_said, said_or, Fails, operands_said}
 use Rattle.asm_operands.proofs.Tables.{all-take, all-drop}
+use Rattle.asm_operands.proofs.Failing.{failing, none-failing}
 
 -- ---- one shape
 same_on : (f g : Known → Option ℕ) → ((k : Known) → f k ≡ g k) → (o : Option Known) → taken_on f o ≡ taken_on g o
@@ -62,9 +63,12 @@ get-few (suc n) (suc k) (t ∷ ts) lt = get-few n k ts (omega arith)
 unfoldable pub has_few : Shape → Bool
 has_few s = nat_lt (length (items_of s)) 24
 
+few_failing : failing has_few 0 SHAPES ≡ []
+unfolding failing items_in items_of has_few
+few_failing = refl
+
 all_few : list_all has_few SHAPES ≡ true
-unfolding items_in items_of has_few
-all_few = refl
+all_few = none-failing has_few 0 SHAPES few_failing
 
 few_of_name : (name : ℕ) → list_all has_few (shapes_of name) ≡ true
 unfolding shapes_of

@@ -1,5 +1,6 @@
 pub mod MaskFields
 pub mod Halfwords
+pub mod Failing
 pub mod Way
 pub mod Tables
 pub mod ShapeSteps
@@ -10,6 +11,7 @@ pub mod OwnTokens
 pub mod Apart
 pub mod OwnWord
 pub mod Stops
+pub mod SomeToken
 pub mod GoesOn
 pub mod Aimed
 pub mod AliasNumbers

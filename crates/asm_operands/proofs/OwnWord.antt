@@ -25,6 +25,7 @@ use Rattle.asm_operands.specs.Operands.{word_in, shapes_of, first_of_words, firs
 use Rattle.asm_operands.specs.Operands.{operand_fault, said_or, Says, Fails, if_meant, word_said, operands_said}
 use Rattle.asm_operands.specs.Shown.{token_said, item_token, tokens_shown}
 use Rattle.asm_operands.proofs.MaskFields.{all_below, all_below-at}
+use Rattle.asm_operands.proofs.Failing.{failing_below, none-below}
 use Rattle.asm_operands.proofs.WordBits.{has_register, covers}
 use Rattle.asm_operands.proofs.Heard.{is_printed_kind}
 use Rattle.asm_operands.proofs.OwnTokens.{is_printed_item, says_rest, word-shown}
@@ -46,9 +47,12 @@ are_apart (r ∷ ss) = says_word r && (list_all (is_later_apart (items_of r)) ss
 unfoldable pub name_apart : ℕ → Bool
 name_apart name = are_apart (shapes_of name)
 
+apart_failing : failing_below name_apart (length NAMES) ≡ []
+unfolding failing_below items_in items_of shapes_of fields.mask_of has_register covers is_printed_kind is_printed_item says_rest is_said_by_mark is_said_by_number is_said_by_distance is_said_by_bare same_file same_vector_file file_number is_said_by_register is_apart_from_words is_apart_from_sized kinds_apart apart says_word is_later_apart are_apart name_apart
+apart_failing = refl
+
 names_apart : all_below name_apart (length NAMES) ≡ true
-unfolding items_in items_of shapes_of fields.mask_of all_below has_register covers is_printed_kind is_printed_item says_rest is_said_by_mark is_said_by_number is_said_by_distance is_said_by_bare same_file same_vector_file file_number is_said_by_register is_apart_from_words is_apart_from_sized kinds_apart apart says_word is_later_apart are_apart name_apart
-names_apart = refl
+names_apart = none-below name_apart (length NAMES) apart_failing
 
 -- a shape stands among those of its name
 unfoldable pub is_at_name : ℕ → ℕ → Bool

@@ -9,6 +9,7 @@ use Rattle.insn_text.specs.declared.item.ItemList.TheVariants as list
 use Rattle.insn_text.specs.declared.item.Shape.{Shape}
 use Rattle.insn_text.specs.Texts.{items_in, items_of, bits_of}
 use Rattle.asm_operands.specs.Sound.{has_factor, is_sound}
+use Rattle.asm_operands.proofs.Failing.{failing, none-failing}
 
 pub all-take : {A : Type 0} (p : A → Bool) (n : ℕ) (xs : List A) → list_all p xs ≡ true → list_all p (take n xs) ≡ true
 all-take p zero xs e = refl

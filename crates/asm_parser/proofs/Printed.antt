@@ -33,6 +33,7 @@ use Rattle.asm_tokens.specs.Tokens.{place_in, file_of, register_of, register_in,
 use Rattle.asm_tokens.proofs.Following.{lexemes-blank}
 use Rattle.asm_operands.specs.Shown.{mask_token, token_said, item_token}
 use Rattle.asm_operands.proofs.MaskFields.{all_below, all_below-at, mask-given}
+use Rattle.asm_operands.proofs.Failing.{failing, none-failing}
 use Rattle.insn_forms.proofs.Bits.{field_in-lt}
 use Rattle.asm_parser.proofs.Operands.{tokens_of}
 use Rattle.asm_parser.proofs.Reading.{opens, no_slash, IsRead, lexemes-read, is_plain, word-read, register-is-read, number-is-read}
@@ -102,9 +103,12 @@ are_slashes_apart before (i ∷ is) = not (is_slash before && is_slash i.kind) &
 unfoldable pub is_clean_shape : Shape → Bool
 is_clean_shape s = s.alias || (list_all is_clean_item (items_of s) && are_slashes_apart (kind.Mark 44) (items_of s))
 
+clean_failing : failing is_clean_shape 0 SHAPES ≡ []
+unfolding failing is_clean_shape items_in items_of is_clean_item is_clean_kind is_clean_sized file_size has_suffix is_clean_mark is_slash are_slashes_apart is_name_character is_digit is_blank
+clean_failing = refl
+
 pub shapes_clean : list_all is_clean_shape SHAPES ≡ true
-unfolding is_clean_shape items_in items_of is_clean_item is_clean_kind is_clean_sized file_size has_suffix is_clean_mark is_slash are_slashes_apart is_name_character is_digit is_blank
-shapes_clean = refl
+shapes_clean = none-failing is_clean_shape 0 SHAPES clean_failing
 
 -- ---- masks
 

@@ -1,6 +1,6 @@
-//! Tests of the libraries by their public calls: words, lines of sources, memory, vectors, predicates,
-//! permutations and reductions, vector instructions and their accesses, the lines of stops, and the object of
-//! a source.
+//! Tests of the libraries by their public calls: words, tokens and lines of sources, memory, vectors,
+//! predicates, permutations and reductions, vector instructions and their accesses, the lines of stops, and
+//! the object of a source.
 #![tactic(auto)]
 
 #[cfg(test)]
@@ -25,6 +25,8 @@ mod stops;
 mod vector_accesses;
 #[cfg(test)]
 mod vector_steps;
+#[cfg(test)]
+mod vector_tokens;
 #[cfg(test)]
 mod vectors;
 #[cfg(test)]
