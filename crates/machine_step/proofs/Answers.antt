@@ -5,6 +5,12 @@ use Rattle.sm_types.specs.declared.insn.Insn.{Insn}
 use Rattle.sm_types.specs.declared.insn.Insn.TheVariants as insn
 use Rattle.sm_types.specs.declared.insn.SystemMove.{SystemMove}
 use Rattle.std.specs.Prelude.{option_and_then}
+use Rattle.sm_types.specs.declared.vector.VectorAccess.{VectorAccess}
+use Rattle.sve_access.specs.After.{AfterVectorAccess, vector_fault, after_access, contents_of}
+use Rattle.a64_table.specs.Ranges.{IsInRow}
+use Rattle.paged_memory.specs.PageTable.{PageTable}
+use Rattle.mem_access.specs.Transfer.{HasRoomFor}
+use Rattle.mem_access.specs.declared.bank.Bank.{Bank}
 use Rattle.sm_types.specs.declared.stop.Exception.{Exception}
 use Rattle.sm_types.specs.declared.stop.Exception.TheVariants.{Undefined}
 use Rattle.mem_access.specs.Transfer.{is_access, transfer_fault}
@@ -21,12 +27,12 @@ use Rattle.vector_step.specs.Step.{vector_step}
 use Rattle.mem_access.specs.VectorState.{zero_array, with_no_array}
 use Rattle.machine_step.specs.ProcessorState.{ProcessorState, vector_bytes}
 use Rattle.machine_step.specs.System.{system_move, core_past, moved}
-use Rattle.machine_step.specs.Effect.{Effect, Raises, Becomes, word_of, insn_at, is_executed, is_executed_register, next_of, unless_fault}
-use Rattle.machine_step.specs.Effect.{fault_of, effect_of, perform, row_fault, data_fault, accessed, computed, vector_computed, with_core}
+use Rattle.machine_step.specs.Effect.{Effect, Raises, Calls, Becomes, word_of, insn_at, is_executed, is_executed_register, next_of, unless_fault}
+use Rattle.machine_step.specs.Effect.{fault_of, effect_of, perform, row_fault, data_fault, memory_fault, accessed, with_access, computed, vector_computed, with_core}
 use Rattle.machine_step.specs.Effect.{mode_fault, illegal_fault, early_fault}
 use Rattle.machine_step.specs.Needs.{uses_bank, uses_bank_where, needs_unless, needs_bank}
 use Rattle.machine_step.specs.Execution.{effect_of_insn, effect_of_meaning, unless_raised, unless_refused, needs_of_insn, needs_of_meaning}
-use Rattle.machine_step.specs.Machine.{Steps, core_of}
+use Rattle.machine_step.specs.Machine.{Steps, core_of, HasRoomOn, IsBecomes}
 use Rattle.machine_step.specs.declared.machine.Machine.{Machine}
 use Rattle.machine_step.specs.declared.machine.StepEnd.{StepEnd}
 use Rattle.machine_step.specs.declared.machine.StepEnd.TheVariants.{Next, Call, Raise, NeedsBank, Memory}
@@ -103,17 +109,17 @@ pub effect_at : (vl : ℕ) (s : ProcessorState) (word : ℕ) (it : Insn) → s.s
 unfolding effect_of fault_of
 effect_at vl s word it aligned fetched is =
     let here : insn_at s ≡ Some it = insn_here s word it fetched is in
-    ap (λ k. unless_fault vl (option_or k (option_or (data_fault s) None)) s) (early_at s word it aligned fetched is here)
+    ap (λ k. unless_fault vl (option_or k (option_or (data_fault vl s) None)) s) (early_at s word it aligned fetched is here)
     ∙ ap (λ k. unless_fault vl (option_or (option_or (row_fault word (Some it)) (option_or (mode_fault it s.streaming) None))
-    (option_or (option_and_then (λ i. transfer_fault i s.scalars s.memory) k) None)) s) here
-    ∙ unless_row (is_executed it) (mode_fault it s.streaming) (transfer_fault it s.scalars s.memory) word vl it s here
+    (option_or (option_and_then (λ i. memory_fault vl i s) k) None)) s) here
+    ∙ unless_row (is_executed it) (mode_fault it s.streaming) (memory_fault vl it s) word vl it s here
 
 -- the effect at PC is that of the word there
 pub effect_of_word : (vl : ℕ) (s : ProcessorState) (word : ℕ) (meaning : Option Insn) → s.scalars.pc % 4 ≡ 0 → word_of s ≡ Some word
     → instruction_of word ≡ meaning → effect_of vl s ≡ effect_of_meaning word meaning vl s
 unfolding effect_of fault_of
 effect_of_word vl s word None aligned fetched is =
-    ap (λ k. unless_fault vl (option_or k (option_or (data_fault s) None)) s) (early_of s word aligned fetched
+    ap (λ k. unless_fault vl (option_or k (option_or (data_fault vl s) None)) s) (early_of s word aligned fetched
     ∙ ap (λ k. option_or (row_fault word k) (option_or (illegal_fault s) None)) is)
 effect_of_word vl s word (Some it) aligned fetched is = effect_at vl s word it aligned fetched is
 
@@ -132,7 +138,7 @@ needs_of_word s word (Some it) aligned fetched is =
 -- a check of the instruction itself that fails
 pub effect_refused : (vl : ℕ) (s : ProcessorState) (exception : Exception) → early_fault s ≡ Some exception → effect_of vl s ≡ Raises exception
 unfolding effect_of fault_of
-effect_refused vl s exception h = ap (λ k. unless_fault vl (option_or k (option_or (data_fault s) None)) s) h
+effect_refused vl s exception h = ap (λ k. unless_fault vl (option_or k (option_or (data_fault vl s) None)) s) h
 
 pub needs_refused : (s : ProcessorState) (exception : Exception) → early_fault s ≡ Some exception → needs_bank s ≡ false
 unfolding needs_bank
@@ -176,3 +182,33 @@ vector_core m v w scalars it mode is left =
     ap (λ k. core_past (core_of (record m { scalars = k }) (with_no_array w))) is
     ∙ ap (λ k. core_past (core_of (record m { scalars = (made (length_of v)).scalars }) (with_no_array k))) left
     ∙ ap (λ l. core_past (with_core (core_of m (with_no_array v)) (made l))) (sym (length_is v m.streaming mode))
+
+-- what a load or a store of vectors does, on vectors in the mode of the machine
+pub vector_access_effect : (word : ℕ) (x : VectorAccess) (m : Machine) (v : SveState) → v.streaming ≡ m.streaming
+    → effect_of_insn word (insn.VectorAccess x) (vector_bytes v.vl) (core_of m (with_no_array v))
+    ≡ unless_raised (vector_fault x m.scalars (length_of v) v.registers m.pages.memory)
+    (Becomes (core_past (with_access (core_of m (with_no_array v))
+    (after_access x m.scalars (length_of v) v.registers m.pages.memory))))
+vector_access_effect word x m v mode =
+    ap (λ l. unless_raised (vector_fault x m.scalars l v.registers m.pages.memory)
+    (Becomes (core_past (with_access (core_of m (with_no_array v)) (after_access x m.scalars l v.registers m.pages.memory)))))
+    (length_is v m.streaming mode)
+
+-- the state of a machine with other vectors of the same length and other pages
+pub with_contents : (m : Machine) (v w : SveState) (pages : PageTable) (after : AfterVectorAccess) → w.svl ≡ v.svl
+    → contents_of w.registers pages ≡ after
+    → core_of (record m { pages = pages }) (with_no_array w) ≡ with_access (core_of m (with_no_array v)) after
+with_contents m v w pages after same is =
+    ap (λ svl. core_of (record m { pages = pages }) (record { registers = w.registers; za = zero_array svl })) same
+    ∙ ap (with_access (core_of m (with_no_array v))) is
+
+-- an instruction that is executed
+pub becomes : (effect : Effect) (made : ProcessorState) → effect ≡ Becomes made → IsBecomes effect
+becomes (Raises exception) made is = cc
+becomes (Calls number) made is = cc
+becomes (Becomes s) made is = cc
+
+-- what an instruction of the general registers writes is the same with a bank
+pub scalar_room : (m : Machine) (bank : Bank) (it : Insn) → IsInRow it → HasRoomOn m bank it → HasRoomFor it m.scalars m.pages
+scalar_room m bank (insn.VectorAccess x) h room = cc
+scalar_room m bank other h room = room

@@ -22,6 +22,9 @@ use Rattle.sm_types.specs.Checks.{first_fault}
 use Rattle.mem_access.specs.Transfer.{after_access, transfer_fault}
 use Rattle.vector_step.specs.Registers.{VectorCore}
 use Rattle.vector_step.specs.Step.{is_vector_computed, vector_step}
+use Rattle.sm_types.specs.declared.vector.VectorAccess.{VectorAccess}
+use Rattle.sve_access.specs.After.{AfterVectorAccess, vector_fault}
+use Rattle.sve_access.specs.After.{after_access as after_vector_access}
 use Rattle.machine_step.specs.ProcessorState.{ProcessorState}
 use Rattle.machine_step.specs.System.{system_move, core_past}
 
@@ -50,7 +53,7 @@ is_executed_register TpidrEl0 = true
 is_executed_register Tpidr2El0 = true
 is_executed_register Svcr = false
 
--- the instructions that are executed; those of vectors that access memory or ZA or change the mode are not
+-- the instructions that are executed; those of ZA, and those that change the mode, are not yet
 abbrev pub is_executed : Insn → Bool
 is_executed (insn.System x) = is_executed_system x
 is_executed (insn.SystemMove x) = is_executed_register x.register
@@ -75,6 +78,7 @@ is_executed (insn.LoadStore x) = true
 is_executed (insn.LoadLiteral x) = true
 is_executed (insn.LoadStorePair x) = true
 is_executed (insn.Atomic x) = true
+is_executed (insn.VectorAccess x) = true
 is_executed other = is_vector_computed other
 
 -- PC is a multiple of 4
@@ -115,9 +119,20 @@ mode_fault it streaming = cond (is_first_fault it && streaming) (Some IllegalStr
 abbrev pub illegal_fault : ProcessorState → Option Exception
 illegal_fault s = option_and_then (λ it. mode_fault it s.streaming) (insn_at s)
 
--- the checks of the access that the instruction at PC makes to memory
-abbrev pub data_fault : ProcessorState → Option Exception
-data_fault s = option_and_then (λ it. transfer_fault it s.scalars s.memory) (insn_at s)
+-- the current vector length in bytes: SVL in Streaming SVE mode, which is the number of vectors of ZA, else VL
+abbrev pub length_at : ℕ → ProcessorState → ℕ
+length_at vl s = if s.streaming then length s.bank.za else vl
+
+-- the checks of the access that an instruction makes to memory; where an access of vectors is hangs on their
+-- length
+abbrev pub memory_fault : ℕ → Insn → ProcessorState → Option Exception
+memory_fault vl (insn.VectorAccess x) s =
+    vector_fault x s.scalars (length_at vl s) s.bank.registers s.memory
+memory_fault vl other s = transfer_fault other s.scalars s.memory
+
+-- those of the instruction at PC
+abbrev pub data_fault : ℕ → ProcessorState → Option Exception
+data_fault vl s = option_and_then (λ it. memory_fault vl it s) (insn_at s)
 
 -- the exception of the first check of the instruction itself that fails: it is aligned, it can be fetched,
 -- it is executed, and the mode allows it
@@ -127,9 +142,9 @@ early_fault s =
     ∷ illegal_fault s ∷ [])
 
 -- the exception of the first check that fails, if any does: those of the instruction come before those of its
--- access
-unfoldable pub fault_of : ProcessorState → Option Exception
-fault_of s = first_fault (early_fault s ∷ data_fault s ∷ [])
+-- access, which is made with this vector length in bytes
+unfoldable pub fault_of : ℕ → ProcessorState → Option Exception
+fault_of vl s = first_fault (early_fault s ∷ data_fault vl s ∷ [])
 
 pub data Effect : Type 0 where
   -- the instruction raises, and nothing changes
@@ -162,10 +177,6 @@ accessed it s =
 abbrev pub computed : Insn → ProcessorState → ProcessorState
 computed it s = record s { scalars = scalar_step it s.scalars }
 
--- L: SVL in Streaming SVE mode, which is the number of vectors of ZA, else VL
-abbrev pub length_at : ℕ → ProcessorState → ℕ
-length_at vl s = if s.streaming then length s.bank.za else vl
-
 -- the scalar and the vector registers
 abbrev pub registers_of : ProcessorState → VectorCore
 registers_of s = record { scalars = s.scalars; registers = s.bank.registers }
@@ -177,6 +188,17 @@ with_core s core = record s { scalars = core.scalars; bank = record s.bank { reg
 -- the state after an instruction that sees the scalar and the vector registers alone
 abbrev pub vector_computed : ℕ → Insn → ProcessorState → ProcessorState
 vector_computed vl it s = core_past (with_core s (vector_step (length_at vl s) it (registers_of s)))
+
+-- the state with what an access of vectors leaves
+abbrev pub with_access : ProcessorState → AfterVectorAccess → ProcessorState
+with_access s after =
+    record s { memory = after.memory; bank = record s.bank { registers = after.registers } }
+
+-- the state after a load or a store of vectors
+abbrev pub vector_accessed : ℕ → VectorAccess → ProcessorState → ProcessorState
+vector_accessed vl x s =
+    core_past
+    (with_access s (after_vector_access x s.scalars (length_at vl s) s.bank.registers s.memory))
 
 -- what an executed instruction does where it has no fault, with this vector length in bytes
 abbrev pub next_of : ℕ → Insn → ProcessorState → Effect
@@ -203,6 +225,7 @@ next_of vl (insn.ConditionalCompare x) s = Becomes (computed (insn.ConditionalCo
 next_of vl (insn.OneSource x) s = Becomes (computed (insn.OneSource x) s)
 next_of vl (insn.TwoSource x) s = Becomes (computed (insn.TwoSource x) s)
 next_of vl (insn.Multiply x) s = Becomes (computed (insn.Multiply x) s)
+next_of vl (insn.VectorAccess x) s = Becomes (vector_accessed vl x s)
 next_of vl other s = Becomes (vector_computed vl other s)
 
 -- where there is no fault there is an instruction
@@ -216,4 +239,4 @@ unless_fault vl None s = perform vl (insn_at s) s
 
 -- the effect of the instruction at PC, with this vector length in bytes
 unfoldable pub effect_of : ℕ → ProcessorState → Effect
-effect_of vl s = unless_fault vl (fault_of s) s
+effect_of vl s = unless_fault vl (fault_of vl s) s

@@ -3,9 +3,8 @@ use Rattle.std.specs.Prelude.{ℕ, Bool, false, cond, Option, Some, None}
 use Rattle.sm_types.specs.declared.insn.Insn.{Insn}
 use Rattle.sm_types.specs.declared.stop.Exception.{Exception}
 use Rattle.sm_types.specs.declared.stop.Exception.TheVariants.{Undefined}
-use Rattle.mem_access.specs.Transfer.{transfer_fault}
 use Rattle.machine_step.specs.ProcessorState.{ProcessorState}
-use Rattle.machine_step.specs.Effect.{Effect, Raises, is_executed, mode_fault, next_of}
+use Rattle.machine_step.specs.Effect.{Effect, Raises, is_executed, mode_fault, memory_fault, next_of}
 use Rattle.machine_step.specs.Needs.{uses_bank}
 
 -- the exception, or the effect where there is none
@@ -19,7 +18,7 @@ abbrev pub effect_of_insn : ℕ → Insn → ℕ → ProcessorState → Effect
 effect_of_insn word it vl s =
     cond (is_executed it)
     (unless_raised (mode_fault it s.streaming)
-    (unless_raised (transfer_fault it s.scalars s.memory) (next_of vl it s)))
+    (unless_raised (memory_fault vl it s) (next_of vl it s)))
     (Raises (Undefined word))
 
 -- the effect of a word by its meaning: one that means no instruction raises

@@ -1,12 +1,15 @@
 -- What a machine, which has no vectors of its own, is together with a bank of vectors.
-use Rattle.std.specs.Prelude.{◌≡◌, ℕ, ◌%◌, Bool, true, false, Option, Some, Result, Ok, Err, IfSome}
+use Rattle.std.specs.Prelude.{◌≡◌, ℕ, ◌%◌, Bool, true, false, Option, Some, None, Result, Ok, Err, IfSome}
 use Rattle.std.specs.Prelude.{option_and_then}
 use Rattle.sm_types.specs.declared.insn.Insn.{Insn}
+use Rattle.sm_types.specs.declared.insn.Insn.TheVariants as insn
 use Rattle.sm_types.specs.declared.stop.Exception.{Exception}
 use Rattle.paged_memory.specs.Memory.{word_at}
 use Rattle.a64_encode.specs.Either.{instruction_of}
 use Rattle.mem_access.specs.Bank.{bank_state}
-use Rattle.mem_access.specs.Transfer.{HasRoomFor}
+use Rattle.mem_access.specs.Transfer.{HasRoom, HasRoomFor}
+use Rattle.sve_vectors.specs.State.{length_of}
+use Rattle.sve_access.specs.After.{access_of}
 use Rattle.mem_access.specs.declared.bank.Bank.{Bank}
 use Rattle.machine_step.specs.ProcessorState.{ProcessorState, VectorState, vector_bytes}
 use Rattle.machine_step.specs.Effect.{Effect, Raises, Calls, Becomes, early_fault}
@@ -38,13 +41,22 @@ IsBecomes (Raises exception) = ⊥
 IsBecomes (Calls number) = ⊥
 IsBecomes (Becomes core) = Unit {0}
 
--- the pages that the instruction of a machine writes, if it has one, are owned
-abbrev pub HasRoomIn : Machine → Option Insn → Type 0
-HasRoomIn m insn = IfSome insn (λ it. HasRoomFor it m.scalars m.pages)
+-- the pages that an instruction of a machine with a bank writes are owned
+abbrev pub HasRoomOn : Machine → Bank → Insn → Type 0
+HasRoomOn m bank (insn.VectorAccess x) =
+    HasRoom (access_of x m.scalars (length_of bank.vectors) bank.vectors.registers) m.pages
+HasRoomOn m bank other = HasRoomFor other m.scalars m.pages
+
+-- those of the instruction of a machine, if it has one, with the bank that is lent; where none is, vectors are
+-- not accessed
+abbrev pub HasRoomIn : Machine → Option Bank → Option Insn → Type 0
+HasRoomIn m None insn = IfSome insn (λ it. HasRoomFor it m.scalars m.pages)
+HasRoomIn m (Some bank) insn = IfSome insn (HasRoomOn m bank)
 
 -- those that the instruction at PC writes
-abbrev pub HasRoomToStep : Machine → Type 0
-HasRoomToStep m = HasRoomIn m (option_and_then instruction_of (word_at m.pages.memory m.scalars.pc))
+abbrev pub HasRoomToStep : Machine → Option Bank → Type 0
+HasRoomToStep m lent =
+    HasRoomIn m lent (option_and_then instruction_of (word_at m.pages.memory m.scalars.pc))
 
 -- the answer of a step is the effect of the instruction, and all answers but Next leave the state as it was;
 -- memory can only be wanting where the instruction is executed, and a bank where there is none

@@ -1,5 +1,5 @@
 //! The machine and its step.
-ghost use Rattle.std.specs.Prelude.{◌≡◌, ◌≢◌};
+ghost use Rattle.std.specs.Prelude.{◌≡◌, ◌≢◌, Some, None};
 ghost use Rattle.a64_encode.specs.Either.{instruction_of};
 ghost use Rattle.paged_memory.specs.PageTable.{KeepsOwned};
 ghost use Rattle.machine_step.specs.Effect.{effect_of};
@@ -52,7 +52,7 @@ impl Machine {
         requires { IsLentInMode (lent_before bank) self.old }
         ensures effect { Answers (lent_before bank.entry) (lent_after bank.exit) self.old self.new result }
         ensures bank { ComesBack (lent_before bank.entry) (lent_after bank.exit) self.new }
-        ensures room { HasRoomToStep self.old → result ≢ StepEnd.Memory }
+        ensures room { HasRoomToStep self.old (lent_before bank.entry) → result ≢ StepEnd.Memory }
         ensures kept { KeepsOwned self.old.pages self.new.pages }
     {
         match bank {
@@ -67,7 +67,7 @@ impl Machine {
         ensures effect { StepsOn effect_of self.old bank.old self.new bank.new result }
         ensures same { IsSameBank bank.old bank.new }
         ensures mode { IsInMode bank.new self.new }
-        ensures room { HasRoomToStep self.old → result ≢ StepEnd.Memory }
+        ensures room { HasRoomToStep self.old (Some bank.old) → result ≢ StepEnd.Memory }
         ensures kept { KeepsOwned self.old.pages self.new.pages }
     {
         match self.fetch_word() {
@@ -79,7 +79,7 @@ impl Machine {
     /// Executes the instruction at PC without a bank.
     fn step_alone(&mut self) -> StepEnd
         ensures effect { StepsAlone needs_bank effect_of self.old self.new result }
-        ensures room { HasRoomToStep self.old → result ≢ StepEnd.Memory }
+        ensures room { HasRoomToStep self.old None → result ≢ StepEnd.Memory }
         ensures kept { KeepsOwned self.old.pages self.new.pages }
     {
         match self.fetch_word() {
@@ -111,7 +111,7 @@ impl Machine {
             bank.new result }
         ensures same { IsSameBank bank.old bank.new }
         ensures mode { IsInMode bank.new self.new }
-        ensures room { HasRoomIn self.old (instruction_of word) → result ≢ StepEnd.Memory }
+        ensures room { HasRoomIn self.old (Some bank.old) (instruction_of word) → result ≢ StepEnd.Memory }
         ensures kept { KeepsOwned self.old.pages self.new.pages }
     {
         match decode_scalar(word) {
@@ -128,7 +128,7 @@ impl Machine {
     fn execute_alone(&mut self, word: u32) -> StepEnd
         ensures effect { StepsAlone (needs_of_meaning (instruction_of word))
             (effect_of_meaning word (instruction_of word)) self.old self.new result }
-        ensures room { HasRoomIn self.old (instruction_of word) → result ≢ StepEnd.Memory }
+        ensures room { HasRoomIn self.old None (instruction_of word) → result ≢ StepEnd.Memory }
         ensures kept { KeepsOwned self.old.pages self.new.pages }
     {
         match decode_scalar(word) {

@@ -14,7 +14,7 @@ ghost use Rattle.mem_access.specs.Checks.{lacks, access_fault};
 ghost use Rattle.mem_access.specs.Values.{number_at};
 ghost use Rattle.mem_access.specs.Transfer.{Transfers, HasRoom, written};
 ghost use Rattle.sve_access.specs.After.{access_of, vector_fault, after_access, contents_of, z_of, p_of};
-ghost use Rattle.sve_access.specs.After.{at_base, read_bytes};
+ghost use Rattle.sve_access.specs.After.{at_base, read_bytes, KeepsLengths};
 ghost use Rattle.sve_access.specs.Contiguous.{memory_size, element_size, loaded, multiple_from};
 ghost use Rattle.sve_access.specs.Elements.{element_run, element_addresses};
 
@@ -34,7 +34,7 @@ use sve_vectors::{Vectors, truths_tell_bytes};
 #[inline]
 fn read_p(vectors: &Vectors, n: u8) -> &[u8]
     requires { n < 16 }
-    ensures value { result.now ≡ p_of vectors.now n }
+    ensures value { result.now ≡ p_of vectors.now.registers n }
     ensures long { length_of vectors.now ≡ 8 * length result.now }
     ensures small { length result.now ≤ 32 }
     ensures some { 2 ≤ length result.now }
@@ -50,7 +50,7 @@ fn read_p(vectors: &Vectors, n: u8) -> &[u8]
 fn copy_p(vectors: &Vectors, n: u8, room: &mut [u8]) -> usize
     requires n { n < 16 }
     requires room { length room.old ≡ 32 }
-    ensures value { take result room.new ≡ p_of vectors.now n }
+    ensures value { take result room.new ≡ p_of vectors.now.registers n }
     ensures long { length_of vectors.now ≡ 8 * result }
     ensures small { result ≤ 32 }
     ensures some { 2 ≤ result }
@@ -73,7 +73,7 @@ fn load_z(kind: LoadType, elements: &Elements, vectors: &mut Vectors, zt: u8, pa
     requires readable { find (lacks 4 pages.now.memory) (element_addresses elements.now.start
         (memory_size kind) (element_size kind) elements.now.pg.now) ≡ None }
     ensures { vectors.new ≡ with_vector vectors.old zt (each_or_zero (bytes_in (element_size kind))
-        elements.now.pg.now (z_of vectors.old zt) (λ i old. loaded kind (number_at pages.now.memory
+        elements.now.pg.now (z_of vectors.old.registers zt) (λ i old. loaded kind (number_at pages.now.memory
         (element_run elements.now.start (memory_size kind) i)))) }
 {
     load_elements(kind, elements, vectors.z_mut(zt), pages);
@@ -81,7 +81,7 @@ fn load_z(kind: LoadType, elements: &Elements, vectors: &mut Vectors, zt: u8, pa
 
 /// Loads the active elements of a vector, if no check fails.
 #[inline]
-#[tactic(auto, unfolding(crate::specs::After::access_of, crate::specs::After::vectors_after, crate::specs::After::stored), using(crate::proofs::Faults::can_read))]
+#[tactic(auto, unfolding(crate::specs::After::access_of, crate::specs::After::registers_after, crate::specs::After::stored), using(crate::proofs::Faults::can_read))]
 fn transfer_load(
     kind: LoadType,
     offset: &VectorOffset,
@@ -94,10 +94,12 @@ fn transfer_load(
 ) -> Result<(), AccessStop>
     requires { IsVectorAccess (form.Load kind offset.now pg rn zt) }
     ensures made { let x = form.Load kind offset.now pg rn zt in
-        Transfers (vector_fault x s.now vectors.old pages.now.memory)
-        (after_access x s.now vectors.old pages.now.memory)
-        (contents_of vectors.old pages.now) (contents_of vectors.new pages.now) result }
+        let l = length_of vectors.old in
+        Transfers (vector_fault x s.now l vectors.old.registers pages.now.memory)
+        (after_access x s.now l vectors.old.registers pages.now.memory)
+        (contents_of vectors.old.registers pages.now) (contents_of vectors.new.registers pages.now) result }
     ensures room { result ≢ Err AccessStop.Memory }
+    ensures lengths { KeepsLengths vectors.old vectors.new }
 {
     let mut room = [0; 32];
     let count = copy_p(vectors, pg, &mut room);
@@ -121,7 +123,7 @@ fn transfer_load(
 
 /// Stores the low bytes of the active elements of a vector, if no check fails.
 #[inline]
-#[tactic(auto, unfolding(crate::specs::After::access_of, crate::specs::After::vectors_after, crate::specs::After::stored), using(crate::proofs::Faults::can_write))]
+#[tactic(auto, unfolding(crate::specs::After::access_of, crate::specs::After::registers_after, crate::specs::After::stored), using(crate::proofs::Faults::can_write))]
 fn transfer_store(
     memory: Elem,
     element: Elem,
@@ -135,10 +137,12 @@ fn transfer_store(
 ) -> Result<(), AccessStop>
     requires { IsVectorAccess (form.Store memory element offset.now pg rn zt) }
     ensures made { let x = form.Store memory element offset.now pg rn zt in
-        Transfers (vector_fault x s.now vectors.now pages.old.memory)
-        (after_access x s.now vectors.now pages.old.memory)
-        (contents_of vectors.now pages.old) (contents_of vectors.now pages.new) result }
-    ensures room { HasRoom (access_of (form.Store memory element offset.now pg rn zt) s.now vectors.now) pages.old
+        let l = length_of vectors.now in
+        Transfers (vector_fault x s.now l vectors.now.registers pages.old.memory)
+        (after_access x s.now l vectors.now.registers pages.old.memory)
+        (contents_of vectors.now.registers pages.old) (contents_of vectors.now.registers pages.new) result }
+    ensures room { HasRoom (access_of (form.Store memory element offset.now pg rn zt) s.now (length_of vectors.now)
+        vectors.now.registers) pages.old
         → result ≢ Err AccessStop.Memory }
     ensures kept { KeepsOwned pages.old pages.new }
 {
@@ -216,7 +220,7 @@ fn read_to_p(pages: &Pages, address: u64, vectors: &mut Vectors, pt: u8)
 
 /// Loads a vector, if no check fails.
 #[inline]
-#[tactic(auto, unfolding(crate::specs::After::access_of, crate::specs::After::vectors_after, crate::specs::After::stored), using(crate::proofs::Faults::can_read_run))]
+#[tactic(auto, unfolding(crate::specs::After::access_of, crate::specs::After::registers_after, crate::specs::After::stored), using(crate::proofs::Faults::can_read_run))]
 fn load_vector(
     times: i32,
     rn: u8,
@@ -227,10 +231,12 @@ fn load_vector(
 ) -> Result<(), AccessStop>
     requires { IsVectorAccess (form.Vector false times rn zt) }
     ensures made { let x = form.Vector false times rn zt in
-        Transfers (vector_fault x s.now vectors.old pages.now.memory)
-        (after_access x s.now vectors.old pages.now.memory)
-        (contents_of vectors.old pages.now) (contents_of vectors.new pages.now) result }
+        let l = length_of vectors.old in
+        Transfers (vector_fault x s.now l vectors.old.registers pages.now.memory)
+        (after_access x s.now l vectors.old.registers pages.now.memory)
+        (contents_of vectors.old.registers pages.now) (contents_of vectors.new.registers pages.now) result }
     ensures room { result ≢ Err AccessStop.Memory }
+    ensures lengths { KeepsLengths vectors.old vectors.new }
 {
     let run = run_from(read_x_or_sp(s, rn), times, vectors.length());
     match load_fault(&run, rn, s, pages) {
@@ -244,7 +250,7 @@ fn load_vector(
 
 /// Loads a predicate, if no check fails.
 #[inline]
-#[tactic(auto, unfolding(crate::specs::After::access_of, crate::specs::After::vectors_after, crate::specs::After::stored), using(crate::proofs::Faults::can_read_run))]
+#[tactic(auto, unfolding(crate::specs::After::access_of, crate::specs::After::registers_after, crate::specs::After::stored), using(crate::proofs::Faults::can_read_run))]
 fn load_predicate(
     times: i32,
     rn: u8,
@@ -255,10 +261,12 @@ fn load_predicate(
 ) -> Result<(), AccessStop>
     requires { IsVectorAccess (form.Predicate false times rn pt) }
     ensures made { let x = form.Predicate false times rn pt in
-        Transfers (vector_fault x s.now vectors.old pages.now.memory)
-        (after_access x s.now vectors.old pages.now.memory)
-        (contents_of vectors.old pages.now) (contents_of vectors.new pages.now) result }
+        let l = length_of vectors.old in
+        Transfers (vector_fault x s.now l vectors.old.registers pages.now.memory)
+        (after_access x s.now l vectors.old.registers pages.now.memory)
+        (contents_of vectors.old.registers pages.now) (contents_of vectors.new.registers pages.now) result }
     ensures room { result ≢ Err AccessStop.Memory }
+    ensures lengths { KeepsLengths vectors.old vectors.new }
 {
     let run = run_from(read_x_or_sp(s, rn), times, vectors.length() / 8);
     match load_fault(&run, rn, s, pages) {
@@ -297,7 +305,7 @@ fn store_run(
 
 /// Stores a vector, if no check fails.
 #[inline]
-#[tactic(auto, unfolding(crate::specs::After::access_of, crate::specs::After::vectors_after, crate::specs::After::stored))]
+#[tactic(auto, unfolding(crate::specs::After::access_of, crate::specs::After::registers_after, crate::specs::After::stored))]
 fn store_vector(
     times: i32,
     rn: u8,
@@ -308,10 +316,12 @@ fn store_vector(
 ) -> Result<(), AccessStop>
     requires { IsVectorAccess (form.Vector true times rn zt) }
     ensures made { let x = form.Vector true times rn zt in
-        Transfers (vector_fault x s.now vectors.now pages.old.memory)
-        (after_access x s.now vectors.now pages.old.memory)
-        (contents_of vectors.now pages.old) (contents_of vectors.now pages.new) result }
-    ensures room { HasRoom (access_of (form.Vector true times rn zt) s.now vectors.now) pages.old
+        let l = length_of vectors.now in
+        Transfers (vector_fault x s.now l vectors.now.registers pages.old.memory)
+        (after_access x s.now l vectors.now.registers pages.old.memory)
+        (contents_of vectors.now.registers pages.old) (contents_of vectors.now.registers pages.new) result }
+    ensures room { HasRoom (access_of (form.Vector true times rn zt) s.now (length_of vectors.now)
+        vectors.now.registers) pages.old
         → result ≢ Err AccessStop.Memory }
     ensures kept { KeepsOwned pages.old pages.new }
 {
@@ -321,7 +331,7 @@ fn store_vector(
 
 /// Stores a predicate, if no check fails.
 #[inline]
-#[tactic(auto, unfolding(crate::specs::After::access_of, crate::specs::After::vectors_after, crate::specs::After::stored))]
+#[tactic(auto, unfolding(crate::specs::After::access_of, crate::specs::After::registers_after, crate::specs::After::stored))]
 fn store_predicate(
     times: i32,
     rn: u8,
@@ -332,10 +342,12 @@ fn store_predicate(
 ) -> Result<(), AccessStop>
     requires { IsVectorAccess (form.Predicate true times rn pt) }
     ensures made { let x = form.Predicate true times rn pt in
-        Transfers (vector_fault x s.now vectors.now pages.old.memory)
-        (after_access x s.now vectors.now pages.old.memory)
-        (contents_of vectors.now pages.old) (contents_of vectors.now pages.new) result }
-    ensures room { HasRoom (access_of (form.Predicate true times rn pt) s.now vectors.now) pages.old
+        let l = length_of vectors.now in
+        Transfers (vector_fault x s.now l vectors.now.registers pages.old.memory)
+        (after_access x s.now l vectors.now.registers pages.old.memory)
+        (contents_of vectors.now.registers pages.old) (contents_of vectors.now.registers pages.new) result }
+    ensures room { HasRoom (access_of (form.Predicate true times rn pt) s.now (length_of vectors.now)
+        vectors.now.registers) pages.old
         → result ≢ Err AccessStop.Memory }
     ensures kept { KeepsOwned pages.old pages.new }
 {
@@ -354,11 +366,14 @@ pub fn transfer_vector(
     pages: &mut Pages,
 ) -> Result<(), AccessStop>
     requires { IsVectorAccess insn.now }
-    ensures made { Transfers (vector_fault insn.now scalars.now vectors.old pages.old.memory)
-        (after_access insn.now scalars.now vectors.old pages.old.memory)
-        (contents_of vectors.old pages.old) (contents_of vectors.new pages.new) result }
-    ensures room { HasRoom (access_of insn.now scalars.now vectors.old) pages.old → result ≢ Err AccessStop.Memory }
+    ensures made { let l = length_of vectors.old in
+        Transfers (vector_fault insn.now scalars.now l vectors.old.registers pages.old.memory)
+        (after_access insn.now scalars.now l vectors.old.registers pages.old.memory)
+        (contents_of vectors.old.registers pages.old) (contents_of vectors.new.registers pages.new) result }
+    ensures room { HasRoom (access_of insn.now scalars.now (length_of vectors.old) vectors.old.registers) pages.old
+        → result ≢ Err AccessStop.Memory }
     ensures kept { KeepsOwned pages.old pages.new }
+    ensures lengths { KeepsLengths vectors.old vectors.new }
 {
     match insn {
         VectorAccess::Load {

@@ -1,4 +1,4 @@
-use Rattle.std.proofs.Common.{refl, subst}
+use Rattle.std.proofs.Common.{refl, subst, None}
 use Rattle.std.specs.Prelude.{option_and_then}
 use Rattle.a64_encode.specs.Either.{instruction_of}
 use Rattle.machine_step.specs.Machine.{core_of, HasRoomIn}
@@ -14,7 +14,7 @@ returns-in-Ok-clause-effect c vl bank =
 
 pub returns-in-Ok-clause-room : goal.returns-in-Ok-clause-room
 returns-in-Ok-clause-room c = λ room. c.execute_alone.ensures.room
-    (subst (λ word. HasRoomIn c.args.self.now (option_and_then instruction_of word)) c.in-Ok.ensures.1 room)
+    (subst (λ word. HasRoomIn c.args.self.now None (option_and_then instruction_of word)) c.in-Ok.ensures.1 room)
 
 pub returns-in-Err-clause-effect : goal.returns-in-Err-clause-effect
 returns-in-Err-clause-effect c vl bank =

@@ -1,4 +1,4 @@
-use Rattle.std.proofs.Common.{refl, subst}
+use Rattle.std.proofs.Common.{refl, subst, Some}
 use Rattle.std.specs.Prelude.{option_and_then}
 use Rattle.a64_encode.specs.Either.{instruction_of}
 use Rattle.mem_access.specs.Bank.{bank_state}
@@ -16,7 +16,7 @@ returns-in-Ok-clause-effect c =
 
 pub returns-in-Ok-clause-room : goal.returns-in-Ok-clause-room
 returns-in-Ok-clause-room c = λ room. c.execute_on.ensures.room
-    (subst (λ word. HasRoomIn c.args.self.now (option_and_then instruction_of word)) c.in-Ok.ensures.1 room)
+    (subst (λ word. HasRoomIn c.args.self.now (Some c.args.bank.now) (option_and_then instruction_of word)) c.in-Ok.ensures.1 room)
 
 pub returns-in-Err-clause-effect : goal.returns-in-Err-clause-effect
 returns-in-Err-clause-effect c =
