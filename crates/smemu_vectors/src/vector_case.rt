@@ -1,5 +1,7 @@
 //! A vector instruction that accesses neither memory nor ZA: the registers before it, and the line that says
 //! what it leaves in them.
+ghost use Rattle.std.specs.Prelude.{◌<◌, IfSome};
+
 use crate::fields::{number, scalars_at, set_nzcv, set_x};
 use crate::pages::PC;
 use anyhow::Result;
@@ -33,7 +35,9 @@ fn set_bytes(alloc: Global, register: &mut [u8], digits: &str) -> Option<()> {
 }
 
 /// The number of a register below `count`, after the letter of its file.
-fn register_number(key: &str, letter: char, count: u8) -> Option<u8> {
+fn register_number(key: &str, letter: char, count: u8) -> Option<u8>
+    ensures { IfSome result (λ n. n < count) }
+{
     let number = key.strip_prefix(letter)?.parse::<u8>().ok()?;
     if number < count { Some(number) } else { None }
 }
