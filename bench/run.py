@@ -1,7 +1,8 @@
 #!/usr/bin/env python3
 """Times the emulator on one core: instructions a second of three loops, words a second of the decoder, the time to load a file of 64 MiB
-and to refuse one at its last check, and the time from start to report of a short program; then the assembler and the listing on sources of
-200,000 and 400,000 lines, beside those assemblers and disassemblers that are installed.
+and to refuse one at its last check, and the time from start to report of a short program; loops of vector instructions at 128, 256 and 2048
+bits, beside qemu-aarch64 where it is installed; then the assembler and the listing on sources of 200,000 and 400,000 lines, beside those
+assemblers and disassemblers that are installed.
 
     bench/run.py
 
@@ -61,6 +62,25 @@ ACCESSES = [
     0xD2800BA8,  # movz x8, #93
     0xD4000001,  # svc #0
 ]
+# the lines of loops of vectors: X1 is the address of a page, P1 has all words
+TWELVE = """ld1w {z0.s}, p1/z, [x1]
+    add z1.s, z0.s, z2.s
+    mul z1.s, p1/m, z1.s, z0.s
+    sqadd z2.s, z2.s, z1.s
+    smax z2.s, p1/m, z2.s, z0.s
+    eor z3.d, z1.d, z2.d
+    asr z3.s, z3.s, #3
+    zip1 z4.s, z0.s, z3.s
+    cmpgt p2.s, p1/z, z4.s, z0.s
+    sel z5.s, p2, z4.s, z3.s
+    mla z6.s, p1/m, z5.s, z1.s
+    st1w {z6.s}, p1, [x1]"""
+VECTOR_LOOPS = {
+    "ld1w, 10 others, st1w": TWELVE,
+    "12 add": "\n    ".join(["add z1.s, z1.s, z2.s"] * 12),
+    "12 add under a full predicate": "\n    ".join(["add z1.s, p1/m, z1.s, z2.s"] * 12),
+}
+VECTOR_TURNS = 400_000
 UNLISTED = 0x1E604000
 FILE_SIZE = 67_108_864
 WORDS = 4_000_000
@@ -78,11 +98,11 @@ def best_of(command, output):
     return min(times)
 
 
-def best(path):
+def best(path, *options):
     times = []
     for _ in range(RUNS):
         start = time.perf_counter()
-        text = subprocess.run([PROGRAM, "run", path], capture_output=True, text=True).stdout
+        text = subprocess.run([PROGRAM, "run", *options, path], capture_output=True, text=True).stdout
         times.append(time.perf_counter() - start)
     return min(times), text
 
@@ -126,6 +146,43 @@ def source_of(count):
     return "\n".join(lines) + "\n"
 
 
+def vector_source(lines):
+    """A loop of these lines, `subs` and `b.ne`."""
+    return f"""    .text
+_start:
+    movz x3, #{VECTOR_TURNS & 0xFFFF}
+    movk x3, #{VECTOR_TURNS >> 16}, lsl #16
+    adr x1, page
+    ptrue p1.s, all
+next:
+    {lines}
+    subs x3, x3, #1
+    b.ne next
+    mov x0, #0
+    mov x8, #93
+    svc #0
+    .data
+page:
+    .zero 4096
+"""
+
+
+def time_vectors(folder, start):
+    source, program = folder / "vectors.s", folder / "vectors.elf"
+    for name, lines in VECTOR_LOOPS.items():
+        source.write_text(vector_source(lines))
+        program.write_bytes(subprocess.run([PROGRAM, "asm", source], check=True, stdout=subprocess.PIPE).stdout)
+        program.chmod(0o755)
+        for vl in (128, 256, 2048):
+            total, report = best(program, "--vl", str(vl))
+            assert "stop exited 0" in report, report[:200]
+            count = count_of(report)
+            print(f"{name}, {vl} bits: {count} instructions in {total:.3f} s, {count / (total - start) / 1e6:.1f} million a second")
+            if shutil.which("qemu-aarch64"):
+                taken = best_of(["qemu-aarch64", "-cpu", f"max,sve-max-vq={vl // 128},sve-default-vector-length={vl // 8}", program], folder / "qemu")
+                print(f"qemu-aarch64, {vl} bits: {taken:.3f} s, {count / taken / 1e6:.1f} million a second")
+
+
 def time_sources(folder):
     source, program, other, listing = (folder / name for name in ("source.s", "program.elf", "other.o", "listing"))
     assemblers = [[tool, "-march=armv9-a+sme", "-o", other, source] for tool in ("aarch64-linux-gnu-as",) if shutil.which(tool)]
@@ -155,6 +212,7 @@ def main():
             total, report = best(path)
             count = count_of(report)
             print(f"{name}: {count} instructions in {total:.3f} s, {count / (total - start) / 1e6:.1f} million a second")
+        time_vectors(pathlib.Path(folder), start)
         words = listed_words()
         path.write_bytes(elf(words + [UNLISTED]))
         whole, text = best(path)

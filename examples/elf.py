@@ -98,8 +98,9 @@ def mapping_symbols(file):
     for at in range(0, len(table), 24):
         name_at, _, _, _, value, _ = struct.unpack_from("<IBBHQQ", table, at)
         name = strings[name_at:strings.index(b"\0", name_at)]
-        if name in (b"$x", b"$d") and start <= value < start + size:
-            found.append((value, name == b"$x"))
+        kind = name.split(b".")[0]
+        if kind in (b"$x", b"$d") and start <= value < start + size:
+            found.append((value, kind == b"$x"))
     return sorted(found)
 
 

@@ -1,13 +1,15 @@
 #!/usr/bin/env python3
 """Prints the report that a program file is to have, by an interpreter of its own that shares nothing with the emulator.
 
-    examples/expected.py FILE
+    examples/expected.py FILE [VL]
 
 It knows the instructions that the programs of this repository use, and the calls write and exit; each other word is undefined to it.
 """
 import hashlib
 import struct
 import sys
+
+from expected_vectors import Vectors
 
 OUTPUT_LIMIT = 1_048_576
 MASK = (1 << 64) - 1
@@ -25,8 +27,8 @@ def signed(value, bits):
 
 
 class Thread:
-    def __init__(self, file, budget):
-        self.pages, self.budget = {}, budget
+    def __init__(self, file, budget, vl):
+        self.pages, self.budget, self.vectors = {}, budget, Vectors(vl // 8)
         at, count = struct.unpack_from("<Q", file, 32)[0], struct.unpack_from("<H", file, 56)[0]
         for i in range(count):
             kind, flags, offset, address, _, size, memory, _ = struct.unpack_from("<IIQQQQQQ", file, at + 56 * i)
@@ -69,6 +71,16 @@ class Thread:
             for at in range(address, address + count):
                 if name in kind and self.bytes_with(need, at, 1) is None:
                     raise Raised("data", f" {at & MASK:016x} {name}")
+
+    def check_all(self, addresses, count, kind, base):
+        if base == 31 and self.sp % 16:
+            raise Raised("spalign", "")
+        places = [(at + k) & MASK for at in addresses for k in range(count)]
+        for at in places:
+            if at in SHARED:
+                raise Raised("shared", f" {at:016x}")
+        for at in places:
+            self.check(at, 1, kind)
 
     def load(self, address, count):
         return int.from_bytes(self.bytes_with(4, address, count), "little")
@@ -167,6 +179,8 @@ class Thread:
             return after
         if word & 0xFFFFF01F == 0xD503201F:
             return after
+        if self.vectors.execute(word, self):
+            return after
         return self.access(word, rd, rn, after)
 
     def read(self, number):
@@ -263,7 +277,7 @@ class Thread:
 
 
 def report(file, vl=128, svl=256, budget=10_000_000):
-    thread, stop = Thread(file, budget), None
+    thread, stop = Thread(file, budget, vl), None
     while stop is None:
         stop = thread.turn()
     digest = hashlib.sha256()
@@ -274,7 +288,7 @@ def report(file, vl=128, svl=256, budget=10_000_000):
              f"turns {thread.count}", f"pc {thread.pc:016x}"]
     lines += [f"x {i} {value:016x}" for i, value in enumerate(thread.x) if value]
     lines += [f"sp {thread.sp:016x}", "nzcv " + "".join(map(str, thread.flags)), "tpidr " + "0" * 16, "tpidr2 " + "0" * 16,
-              "svcr 0", f"memory {len(thread.pages)} {digest.hexdigest()}", "held " + "0" * 16, "inside 0", "polled 0",
+              "svcr 0", *thread.vectors.lines(), f"memory {len(thread.pages)} {digest.hexdigest()}", "held " + "0" * 16, "inside 0", "polled 0",
               f"output {len(thread.output)}"]
     lines += [f"out {thread.output[i:i + 32].hex()}" for i in range(0, len(thread.output), 32)]
     return "\n".join(lines + ["journal 0", "end-thread", "shared", "end"]) + "\n"
@@ -282,4 +296,4 @@ def report(file, vl=128, svl=256, budget=10_000_000):
 
 if __name__ == "__main__":
     with open(sys.argv[1], "rb") as file:
-        sys.stdout.write(report(file.read()))
+        sys.stdout.write(report(file.read(), *map(int, sys.argv[2:])))

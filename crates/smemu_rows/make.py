@@ -300,6 +300,29 @@ def accesses():
     yield "load-beside-pc", program(0x58FFFFE4, 0x18FFFFC5, 0x98FFFFA6)
 
 
+# the words of vectors; the base of an access is X2, X3 or SP, its index X0 or X3, which are zero, and Z3 is not zero before it
+PTRUE_P1_D, PFALSE_P2_B, WHILELT_P0_B_ZERO_X4, INDEX_Z3_D = 0x25D8E3E1, 0x2518E402, 0x252417E0, 0x04FF4063
+LD1B_Z3_P0_AT_X2, LD1B_Z3_P2_AT_X3, LD1B_Z3_P2_AT_SP = 0xA4034043, 0xA4004863, 0xA4004BE3
+ST1D_Z3_P1_AT_X2, LD1SB_Z4_D_P1_AT_X2, ST1B_Z4_D_P1_AT_X2 = 0xE5E34443, 0xA5834444, 0xE4634444
+
+
+def vector_accesses():
+    """Loads and stores of vectors, and those that raise, at the least and the greatest length."""
+    begin = [movz(2, 0x41, 1), PTRUE_P1_D, PFALSE_P2_B, INDEX_Z3_D]
+    full = Segment(0x410000, bytes(range(128, 0, -1)) * 32, flags=6)
+    after = lambda *words: [Segment(TEXT, text_of([*begin, *words, *EXIT])), full]
+    up_to = lambda count: after(add(2, 2, 0xFF9), movz(4, count), WHILELT_P0_B_ZERO_X4, LD1B_Z3_P0_AT_X2)
+    parts = {"load-up-to-the-last-byte": up_to(7), "load-past-the-last-byte": up_to(8),
+             "store-over-a-page-to-read": [*after(add(2, 2, 0xFF8), ST1D_Z3_P1_AT_X2), Segment(0x411000, b"\7" * 4096, flags=4)],
+             "load-of-no-byte": after(movz(3, 0x8000, 1), LD1B_Z3_P2_AT_X3),
+             "load-of-no-byte-at-sp": after(add(31, 31, 8), LD1B_Z3_P2_AT_SP),
+             "load-of-signed-bytes": after(LD1SB_Z4_D_P1_AT_X2, add(2, 2, 8), ST1B_Z4_D_P1_AT_X2)}
+    files = [(f"vector-{name}", build(segments)[0]) for name, segments in parts.items()]
+    for name, file in files:
+        for vl in (128, 2048):
+            yield f"{name}-{vl}", file, {"vl": vl}
+
+
 def listing(*lines):
     """A listing of addresses, words and texts."""
     return "".join(f"{address:016x} {word:08x} {text}\n" for address, word, text in lines)
@@ -516,11 +539,15 @@ def assemblies():
     yield "move-of-65536", b"_start:\n    mov x0, #65536\n", assembled(text_of([0xD2A00020]), b"", 0x400000, [(0x400000, True)])
 
 
+VECTOR_EXAMPLES = ("saturate", "strlen")
+
+
 def main():
     data = HERE / "data"
     rows = [(name, elf(words), {}) for name, words in REPORTS.items()] + list(loaded()) + [(name, file, {}) for name, file in accesses()]
     programs = list(assemblies())
-    rows += [(name, file, {}) for name, _, file in programs]
+    rows += [(name, file, {}) for name, _, file in programs] + list(vector_accesses())
+    rows += [(f"{name}-at-2048", file, {"vl": 2048}) for name, _, file in programs if name in VECTOR_EXAMPLES]
     rows = [(f"{name}.elf", 0, file, report(file, **options), {"run": "", **options}) for name, file, options in rows]
     rows += [(f"{name}.elf", 6, file, text, {"run": ""}) for name, file, text in refusals()]
     rows += [(f"listing-{name}.elf", status, file, text, {"dis": ""}) for name, file, status, text in listings()]

@@ -1,5 +1,6 @@
 #!/usr/bin/env bash
-# Makes the program files real-*.elf of ../data, and linked/*.elf, by an assembler and two linkers (Debian: binutils-aarch64-linux-gnu, binutils, lld).
+# Makes the program files real-*.elf of ../data, and linked/*.elf, by two assemblers and two linkers (Debian: binutils-aarch64-linux-gnu, binutils, lld,
+# llvm).
 #
 #     crates/smemu_rows/real/make.sh
 set -eu
@@ -28,7 +29,10 @@ cp plain.o "$data/real-object.elf"
 # the examples and a source with data in the text, at the addresses that the assembler of this project gives them
 for path in "$examples"/*.s "$sources/marked.s"; do
     name=$(basename "$path" .s)
-    aarch64-linux-gnu-as -o "$name.o" "$path"
+    case $name in
+    saturate | strlen) llvm-mc -triple=aarch64 -mattr=+sve2 -filetype=obj -o "$name.o" "$path" ;;
+    *) aarch64-linux-gnu-as -o "$name.o" "$path" ;;
+    esac
     size=$(aarch64-linux-gnu-size -A "$name.o" | awk '$1 == ".text" { print $2 }')
     aarch64-linux-gnu-ld -static -z noseparate-code -Ttext=0x400000 "-Tdata=$(printf '0x%x' $(((0x400000 + size + 4095) / 4096 * 4096)))" \
         -o "$sources/linked/$name.elf" "$name.o"
