@@ -81,17 +81,3 @@ fn a_step_without_a_bank(rt: HostRuntime) {
         assert_eq!(rt; machine.scalars.pc, after);
     }
 }
-
-#[test]
-fn a_call_on_a_bank(rt: HostRuntime) {
-    let alloc = rt.alloc();
-    let mut bank = Bank::new(alloc, VecLen::Bits128, VecLen::Bits256)
-        .ok()
-        .expect(&rt, "memory");
-    bank.vectors.set_streaming(true);
-    bank.vectors.z_mut(3)[2] = 9;
-    let mut machine = machine(&rt, alloc, 0x400008, true);
-    assert_eq!(rt; machine.step(Some(&mut bank)), StepEnd::Call(0));
-    assert_eq!(rt; (machine.scalars.pc, machine.streaming), (0x400008, true));
-    assert_eq!(rt; bank.vectors.z(3)[2], 9);
-}

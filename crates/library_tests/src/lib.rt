@@ -1,5 +1,5 @@
 //! Tests of the libraries by their public calls: words, tokens and lines of sources, memory, vectors,
-//! predicates, permutations and reductions, vector instructions and their accesses, the lines of stops, and
+//! predicates, permutations and reductions, vector instructions, the lines of stops, and
 //! the object of a source.
 #![tactic(auto)]
 
@@ -21,8 +21,6 @@ mod permutes;
 mod sources;
 #[cfg(test)]
 mod stops;
-#[cfg(test)]
-mod vector_accesses;
 #[cfg(test)]
 mod vector_steps;
 #[cfg(test)]

@@ -192,7 +192,12 @@ fn finds_the_last(rt: HostRuntime) {
         let pg = hex::decode(rt.alloc(), pg).ok().expect(&rt, "digits");
         let n = hex::decode(rt.alloc(), n).ok().expect(&rt, "digits");
         let length = n.len();
-        assert!(rt; length == 8 * pg.len() && length % size.bytes() == 0 && size.bytes() <= length);
+        assert!(rt;
+            pg.len() <= 32
+                && length == 8 * pg.len()
+                && length % size.bytes() == 0
+                && size.bytes() <= length
+        );
         assert!(rt; last_element(active, size, &pg, &n) == want);
     }
 }
@@ -235,7 +240,7 @@ fn reduces(rt: HostRuntime) {
     } {
         let pg = hex::decode(rt.alloc(), pg).ok().expect(&rt, "digits");
         let n = hex::decode(rt.alloc(), n).ok().expect(&rt, "digits");
-        assert!(rt; n.len() == 8 * pg.len());
+        assert!(rt; pg.len() <= 32 && n.len() == 8 * pg.len());
         assert!(rt; reduce(op, size, &pg, &n) == want);
     }
 }

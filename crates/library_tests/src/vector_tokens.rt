@@ -29,8 +29,8 @@ fn sized(file: VectorFile, number: u8, suffix: u16) -> Token {
     }
 }
 
-fn mark(c: char) -> Token {
-    Token::Mark(c as u8)
+fn mark(c: u8) -> Token {
+    Token::Mark(c)
 }
 
 fn number(size: u64) -> Token {
@@ -155,13 +155,13 @@ fn a_merging_instruction(rt: HostRuntime) -> Result<(), Fail> {
     let found = tokens(&rt, " z1.b, p0/m, z1.b, z2.b")?;
     let want = [
         sized(VectorFile::Z, 1, 1),
-        mark(','),
+        mark(b','),
         sized(VectorFile::P, 0, 0),
-        mark('/'),
+        mark(b'/'),
         Token::Word(53),
-        mark(','),
+        mark(b','),
         sized(VectorFile::Z, 1, 1),
-        mark(','),
+        mark(b','),
         sized(VectorFile::Z, 2, 1),
     ];
     assert!(rt; found.as_slice() == want.as_slice());
@@ -172,33 +172,33 @@ fn a_merging_instruction(rt: HostRuntime) -> Result<(), Fail> {
 fn a_load_of_a_slice(rt: HostRuntime) -> Result<(), Fail> {
     let found = tokens(&rt, "{za7v.d[w13, 0]}, p3/z, [x23, xzr, lsl #3]")?;
     let want = [
-        mark('{'),
+        mark(b'{'),
         sized(VectorFile::Za, 7, 14),
-        mark('['),
+        mark(b'['),
         Token::Register {
             file: RegisterFile::W,
             number: 13,
         },
-        mark(','),
+        mark(b','),
         Token::Bare(0),
-        mark(']'),
-        mark('}'),
-        mark(','),
+        mark(b']'),
+        mark(b'}'),
+        mark(b','),
         sized(VectorFile::P, 3, 0),
-        mark('/'),
+        mark(b'/'),
         Token::Word(54),
-        mark(','),
-        mark('['),
+        mark(b','),
+        mark(b'['),
         Token::Register {
             file: RegisterFile::X,
             number: 23,
         },
-        mark(','),
+        mark(b','),
         Token::Word(0),
-        mark(','),
+        mark(b','),
         Token::Word(4),
         number(3),
-        mark(']'),
+        mark(b']'),
     ];
     assert!(rt; found.as_slice() == want.as_slice());
     Ok(())
@@ -209,26 +209,26 @@ fn the_array_and_its_offset(rt: HostRuntime) -> Result<(), Fail> {
     let found = tokens(&rt, "za[w12, 3], [x0, #3, mul vl]")?;
     let want = [
         Token::Word(58),
-        mark('['),
+        mark(b'['),
         Token::Register {
             file: RegisterFile::W,
             number: 12,
         },
-        mark(','),
+        mark(b','),
         Token::Bare(3),
-        mark(']'),
-        mark(','),
-        mark('['),
+        mark(b']'),
+        mark(b','),
+        mark(b'['),
         Token::Register {
             file: RegisterFile::X,
             number: 0,
         },
-        mark(','),
+        mark(b','),
         number(3),
-        mark(','),
+        mark(b','),
         Token::Word(55),
         Token::Word(56),
-        mark(']'),
+        mark(b']'),
     ];
     assert!(rt; found.as_slice() == want.as_slice());
     Ok(())
