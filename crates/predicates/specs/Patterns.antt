@@ -1,11 +1,17 @@
 -- How many elements the patterns of instructions name.
 -- Source: DDI 0487, J1.1: DecodePredCount, FloorPow2.
-use Rattle.std.specs.Prelude.{ℕ, ◌-◌, ◌%◌, ◌^◌, ◌==◌, nat_lt, if◌then◌else◌}
+use Rattle.std.specs.Prelude.{ℕ, ◌≡◌, ◌-◌, ◌*◌, ◌%◌, ◌^◌, ◌==◌, ◌<◌, ◌≤◌, nat_lt, if◌then◌else◌}
 use Rattle.std.specs.Int.Count.{count_leading_zeros}
 
 -- FloorPow2: the greatest power of 2 up to a number of 64 bits, and 0 where there is none
 unfoldable pub floor_power : ℕ → ℕ
 floor_power count = if count == 0 then 0 else 2 ^ (63 - count_leading_zeros 64 count)
+
+-- a power of 2 that is not above a number, and the greatest such, as twice it is above
+pub record IsFloorPower (count power : ℕ) : Type 0 where
+  pub is_power : (exponent : ℕ) × (power ≡ 2 ^ exponent)
+  pub within : power ≤ count
+  pub greatest : count < 2 * power
 
 -- a number of elements, and none where there are fewer
 unfoldable pub number_or_none : ℕ → ℕ → ℕ

@@ -1,7 +1,9 @@
 -- Operations on one vector under a predicate.
 -- Source: DDI 0487, C8.2: ABS, NEG, CLS, CLZ, CNT, CNOT, NOT, SXTB, UXTB, SXTH, UXTH, SXTW and UXTW
 -- (predicated); J1.1: CountLeadingSignBits, CountLeadingZeroBits, BitCount, SignExtend.
-use Rattle.std.specs.Prelude.{ℕ, ◌-◌, ◌/◌, ◌%◌, ◌==◌, List, if◌then◌else◌, unsigned_abs, bit_xor, count_ones}
+use Rattle.std.specs.Prelude.{ℕ, ◌≡◌, ◌≢◌, ◌+◌, ◌-◌, ◌/◌, ◌%◌, ◌==◌, ◌<◌, ◌≤◌, List, if◌then◌else◌}
+use Rattle.std.specs.Prelude.{unsigned_abs, bit_xor, count_ones}
+use Rattle.std.specs.Int.{bit_at}
 use Rattle.std.specs.Int.Count.{count_leading_zeros}
 use Rattle.sm_types.specs.declared.vector.PredicatedUnaryOp.{PredicatedUnaryOp}
 use Rattle.sm_types.specs.declared.vector.PredicatedUnaryOp.TheVariants.{Abs, Neg, Cls, Clz, Cnt, Cnot, Not}
@@ -16,6 +18,13 @@ use Rattle.sve_exec.specs.Arithmetic.{difference_of}
 -- CountLeadingSignBits: the leading zeros of the bits above the lowest, each exclusive or the one below it
 abbrev pub leading_signs : Size → ℕ → ℕ
 leading_signs size a = count_leading_zeros (bits_in size - 1) (bit_xor (a / 2) (a % half_of size))
+
+-- n consecutive bits of a number of `width` bits, from the one below the top bit down, equal the top bit, and no
+-- more of them do
+pub record HasLeadingSigns (width a n : ℕ) : Type 0 where
+  pub below : n < width
+  pub equal : (i : ℕ) → width - 1 - n ≤ i → i < width → bit_at a i ≡ bit_at a (width - 1)
+  pub no_more : n + 1 < width → bit_at a (width - 2 - n) ≢ bit_at a (width - 1)
 
 -- SignExtend: the low part of an element, of the size `from`, as a number with its sign
 abbrev pub sign_extended : Size → Size → ℕ → ℕ
