@@ -5,7 +5,7 @@
 -- that is 8 less the field at bit 16, and `#1+16` one that is 1 more than it.
 -- Source: DDI 0487, C8.2, and C9.2 for SME: the assembler syntax and the encoding diagram of each page.
 use Rattle.std.specs.Prelude.{ℕ, ◌+◌, ◌-◌, ◌^◌, ◌==◌, ◌&&◌, ◌||◌, Bool, true, false, not, List, [], ◌∷◌, ◌++◌}
-use Rattle.std.specs.Prelude.{codes, decimal, filter, bit_and, map, if◌then◌else◌, nat_lt}
+use Rattle.std.specs.Prelude.{◌/◌, codes, decimal, filter, bit_and, map, if◌then◌else◌, nat_lt}
 use Rattle.std.specs.List.{list_all, list_any, range_with_len}
 use Rattle.std.specs.Str.{bytes_eq}
 use Rattle.sm_types.specs.declared.vector as types
@@ -19,7 +19,7 @@ use Rattle.sm_types.specs.declared.matrix.ModePart.{ModePart}
 use Rattle.sm_types.specs.declared.matrix.ModePart.TheVariants.{Sm, Za, Both}
 use Rattle.insn_forms.specs.declared.field.Field.{Field}
 use Rattle.insn_forms.specs.declared.line.Line.{Line}
-use Rattle.insn_forms.specs.Fields.{bits_of, field_in, list_of, mask_of, placed}
+use Rattle.insn_forms.specs.Fields.{bits_of, field_in, list_of, mask_of, placed, upper_mask}
 use Rattle.insn_forms.specs.Tables.{numbers_in}
 use Rattle.sve_table.specs.declared.fields.TheConstants.{ARRAY_OFFSET, DTYPE, ELEMENT_SIZE, FLAGS, IMM4, IMM9}
 use Rattle.sve_table.specs.declared.fields.TheConstants.{MEMORY_SIZE, MERGING, MULTIPLIER, SF, SH, SIZE}
@@ -56,6 +56,8 @@ use Rattle.sve_table.specs.declared.rows.TheConstants.{VECTOR_LINES}
 use Rattle.sve_table.specs.Conditions.{fits_of}
 use Rattle.insn_text.specs.declared.item.Kind.{Kind}
 use Rattle.insn_text.specs.declared.item.Kind.TheVariants as kind
+use Rattle.insn_text.specs.declared.item.RegisterFile.{RegisterFile}
+use Rattle.insn_text.specs.declared.item.RegisterFile.TheVariants.{X, W}
 use Rattle.insn_text.specs.declared.item.Rule.{Rule}
 use Rattle.insn_text.specs.declared.item.Rule.TheVariants.{Free, OffsetGiven}
 use Rattle.insn_text.specs.declared.item.Item.{Item}
@@ -67,21 +69,59 @@ use Rattle.insn_text.specs.Names.{nth}
 use Rattle.insn_text.specs.VectorNames.{vector_name_of}
 use Rattle.insn_text.specs.Operands.{is, names_from, same_texts, number_text}
 
+-- ---- the fields of a row
+
+-- the row has the field
+unfoldable pub has : Line VectorOperation → Field → Bool
+has line f = list_any (is f) (list_of line.fields)
+
+-- the fields that choose between the forms of a text, and those that a text leaves out where they are 0
+abbrev vector_choices : List Field
+vector_choices =
+    SIZE ∷ SF ∷ SH ∷ DTYPE ∷ MEMORY_SIZE ∷ ELEMENT_SIZE ∷ MERGING ∷ FLAGS ∷ SUBTRACT ∷ VERTICAL ∷ []
+
+abbrev vector_defaults : List Field
+vector_defaults = MULTIPLIER ∷ IMM4 ∷ IMM9 ∷ ARRAY_OFFSET ∷ []
+
+-- those of the row that choose, and their bits
+unfoldable pub choices_in : Line VectorOperation → List Field
+choices_in line = filter (has line) vector_choices
+
+unfoldable pub all_bits : List Field → ℕ
+all_bits [] = 0
+all_bits (f ∷ fs) = mask_of f + all_bits fs
+
+-- the bits that are the number of a register, without those above it
+abbrev number_bits : Field → Field
+number_bits f = record { low = f.low; width = f.width; upper_low = 0; upper_width = 0 }
+
+-- the operand's field is one of the row, or none; of a register with a suffix its number is one of the row or
+-- none, and all the bits above it are those of fields that choose
+unfoldable pub is_of_row : Line VectorOperation → Field → Kind → Bool
+is_of_row line f (kind.Sized file bits suffix) =
+    (f.width == bits) && ((bits == 0) || has line (number_bits f))
+    && (bit_and (upper_mask f) (all_bits (choices_in line)) == upper_mask f)
+is_of_row line f other = (bits_of f == 0) || has line f
+
 -- ---- the template of a shape
 
 -- the lowest bit of a field
 abbrev place : Field → List ℕ
 place f = decimal f.low
 
--- the suffix of a register whose elements have this size, where the instruction tells one: a vector of elements
--- of that size, or of half of it
+-- the suffix of a register whose elements have this size, where the instruction tells one: a vector of
+-- elements of that size, or of half of it
 unfoldable pub suffix_symbol : Bool → ℕ → ℕ → List ℕ
 suffix_symbol true size suffix =
     if suffix == size + 1 then codes ".t" else if suffix == size then codes ".u" else codes "?"
 suffix_symbol false size suffix = text_at SUFFIXES suffix
 
-unfoldable pub sp_symbol : List ℕ → List ℕ
-sp_symbol last = if bytes_eq last (codes "sp") || bytes_eq last (codes "wsp") then codes "|sp" else []
+-- what number 31 is, by its word: SP or the zero register, of the width of the file
+unfoldable pub last_symbol : RegisterFile → List ℕ → List ℕ
+last_symbol X last =
+    if bytes_eq last (codes "sp") then codes "|sp" else if bytes_eq last (codes "xzr") then [] else codes "?"
+last_symbol W last =
+    if bytes_eq last (codes "wsp") then codes "|sp" else if bytes_eq last (codes "wzr") then [] else codes "?"
 
 unfoldable pub rule_symbol : Rule → List ℕ
 rule_symbol Free = []
@@ -103,16 +143,17 @@ number_symbol base scale most bits f =
     else if base == 0 then codes "#" ++ place f
     else codes "#" ++ (decimal base ++ (codes "+" ++ place f))
 
-module _ (sized : Bool) (size : ℕ) where
-  -- what stands for an operand, in an instruction that tells a size of elements or does not
+module _ (line : Line VectorOperation) (value : ℕ) (sized : Bool) (size : ℕ) where
+  -- what stands for an operand at a value of the fields that choose, in an instruction that tells a size of
+  -- elements or does not
   unfoldable pub symbol : Item → Kind → List ℕ
   symbol i (kind.Mark c) = c ∷ []
   symbol i (kind.Named first count) = if bits_of i.field == 0 then text_at WORDS first else codes "?"
   symbol i (kind.Register file last) =
-      file_text file ++ (place i.field ++ (sp_symbol (text_at WORDS last) ++ rule_symbol i.rule))
+      file_text file ++ (place i.field ++ (last_symbol file (text_at WORDS last) ++ rule_symbol i.rule))
   symbol i (kind.Sized file bits suffix) =
       vector_file_text file ++ (place i.field
-      ++ (if bits == i.field.width then suffix_symbol (sized && nat_lt 0 suffix) size suffix else codes "?"))
+      ++ suffix_symbol (sized && nat_lt 0 suffix) size (suffix + field_in i.field value / 2 ^ bits))
   symbol i kind.SliceRegister = codes "w" ++ place i.field
   symbol i kind.Index = if bits_of i.field == 0 then codes "0" else codes "i" ++ place i.field
   symbol i (kind.Pattern first) =
@@ -128,19 +169,17 @@ module _ (sized : Bool) (size : ℕ) where
   -- those of operands, with the spaces between them
   unfoldable pub template : Kind → List Item → List ℕ
   template before [] = []
-  template before (i ∷ is) = gap before i.kind ++ (symbol i i.kind ++ template i.kind is)
-
--- the row has the field
-unfoldable pub has : Line VectorOperation → Field → Bool
-has line f = list_any (is f) (list_of line.fields)
+  template before (i ∷ is) =
+      gap before i.kind
+      ++ ((if is_of_row line i.field i.kind then symbol i i.kind else codes "?") ++ template i.kind is)
 
 -- by the field that tells the size of elements, where the row has one: of a store it is its own
-unfoldable pub template_by : Line VectorOperation → Shape → List ℕ
-template_by line s =
-    if has line SIZE then template true (field_in SIZE s.value) (kind.Mark 32) (items_of s)
+unfoldable pub template_by : Line VectorOperation → ℕ → Shape → List ℕ
+template_by line value s =
+    if has line SIZE then template line value true (field_in SIZE value) (kind.Mark 32) (items_of s)
     else if has line ELEMENT_SIZE
-    then template true (field_in ELEMENT_SIZE s.value) (kind.Mark 32) (items_of s)
-    else template false 0 (kind.Mark 32) (items_of s)
+    then template line value true (field_in ELEMENT_SIZE value) (kind.Mark 32) (items_of s)
+    else template line value false 0 (kind.Mark 32) (items_of s)
 
 -- ---- the templates of a row
 
@@ -356,13 +395,24 @@ templates_of (G45 form) n = streaming_templates form
 
 -- ---- a shape and a row
 
--- the fields that choose between the forms of a text, and those that a text leaves out where they are 0
-abbrev vector_choices : List Field
-vector_choices =
-    SIZE ∷ SF ∷ SH ∷ DTYPE ∷ MEMORY_SIZE ∷ ELEMENT_SIZE ∷ MERGING ∷ FLAGS ∷ SUBTRACT ∷ VERTICAL ∷ []
+-- the field at each of its numbers, beside each of some values
+unfoldable pub with_each : Field → List ℕ → List ℕ
+with_each f [] = []
+with_each f (value ∷ values) =
+    map (λ n. placed f n + value) (range_with_len 0 (2 ^ bits_of f)) ++ with_each f values
 
-abbrev vector_defaults : List Field
-vector_defaults = MULTIPLIER ∷ IMM4 ∷ IMM9 ∷ ARRAY_OFFSET ∷ []
+-- the fields at all their numbers
+unfoldable pub all_values : List Field → List ℕ
+all_values [] = 0 ∷ []
+all_values (f ∷ fs) = with_each f (all_values fs)
+
+-- the shape has the value in those of these bits that it fixes
+unfoldable pub agrees : ℕ → Shape → ℕ → Bool
+agrees bits s value = bit_and value s.mask == bit_and s.value bits
+
+-- the values of the fields that choose of which the shape is a text
+unfoldable pub values_in : Line VectorOperation → Shape → List ℕ
+values_in line s = filter (agrees (all_bits (choices_in line)) s) (all_values (choices_in line))
 
 -- the shape fixes no bit of the field, or it is one that chooses, or is left out where it is 0
 unfoldable pub is_set_well : Shape → Field → Bool
@@ -374,15 +424,21 @@ is_set_well s f =
 unfoldable pub fixes_row : Line VectorOperation → Shape → Bool
 fixes_row line s = (bit_and s.mask line.mask == line.mask) && (bit_and s.value line.mask == line.value)
 
--- the shape is a text of the line
-unfoldable pub is_vector_text : Line VectorOperation → Shape → Bool
-is_vector_text line s =
-    not s.alias && bytes_eq (text_at NAMES s.name) (vector_name_of line.operation (numbers_in s.value))
+-- the shape has the line's name at a value of the fields that choose, and sets no other field
+unfoldable pub has_name : Line VectorOperation → Shape → ℕ → Bool
+has_name line s value =
+    not s.alias && bytes_eq (text_at NAMES s.name) (vector_name_of line.operation (numbers_in value))
     && list_all (is_set_well s) (list_of line.fields)
-    && list_any (bytes_eq (template_by line s)) (templates_of line.operation (numbers_in s.value))
 
+-- the shape is a text of the line at the value
+unfoldable pub is_vector_text : Line VectorOperation → Shape → ℕ → Bool
+is_vector_text line s value =
+    has_name line s value
+    && list_any (bytes_eq (template_by line value s)) (templates_of line.operation (numbers_in value))
+
+-- and so it is at each value at which it may be written
 unfoldable pub is_vector_cited_by : Shape → Line VectorOperation → Bool
-is_vector_cited_by s line = fixes_row line s && is_vector_text line s
+is_vector_cited_by s line = fixes_row line s && list_all (is_vector_text line s) (values_in line s)
 
 -- the shape is a text of a vector row
 unfoldable pub is_vector_cited : Shape → Bool
@@ -390,28 +446,10 @@ is_vector_cited s = list_any (is_vector_cited_by s) VECTOR_LINES
 
 -- ---- each text of a row has a shape
 
--- the field at each of its numbers, beside each of some values
-unfoldable pub with_each : Field → List ℕ → List ℕ
-with_each f [] = []
-with_each f (value ∷ values) = map (λ n. placed f n + value) (range_with_len 0 (2 ^ bits_of f)) ++ with_each f values
-
--- the fields at all their numbers
-unfoldable pub all_values : List Field → List ℕ
-all_values [] = 0 ∷ []
-all_values (f ∷ fs) = with_each f (all_values fs)
-
-unfoldable pub all_bits : List Field → ℕ
-all_bits [] = 0
-all_bits (f ∷ fs) = mask_of f + all_bits fs
-
--- the fields of the line that choose between the forms of its text
-unfoldable pub choices_in : Line VectorOperation → List Field
-choices_in line = filter (has line) vector_choices
-
 -- the shape agrees with a value of the bits that choose, and has the template
 unfoldable pub is_template_of : Line VectorOperation → ℕ → ℕ → List ℕ → Shape → Bool
 is_template_of line bits value text s =
-    (bit_and value s.mask == bit_and s.value bits) && bytes_eq (template_by line s) text && is_vector_text line s
+    agrees bits s value && bytes_eq (template_by line value s) text && has_name line s value
 
 unfoldable pub has_template : Line VectorOperation → List Shape → ℕ → ℕ → List ℕ → Bool
 has_template line shapes bits value text = list_any (is_template_of line bits value text) shapes

@@ -16,7 +16,7 @@ ghost use Rattle.insn_text.specs.Templates.{has_templates};
 ghost use Rattle.sve_table.specs.declared.rows.TheConstants.{VECTOR_LINES};
 ghost use Rattle.insn_text.specs.Names.{name_of};
 ghost use Rattle.insn_text.specs.VectorNames.{vector_name_of};
-ghost use Rattle.insn_text.specs.Rules.{IsPrinted};
+ghost use Rattle.insn_text.specs.Rules.{IsPrinted, have_room};
 ghost use Rattle.insn_text.specs.Texts.{printed_shape, text_at};
 ghost use Rattle.insn_text.specs.Wordings.{are_shapes, have_shapes, stand_in_order, texts, vector_texts};
 
@@ -35,11 +35,12 @@ pub fn shapes_are_texts()
 {}
 
 /// Each shape is a text of a row of the table: it has the row's fixed bits, its name is that of the row's
-/// operation, or an alias of it, and its operands say the row's fields in their order. Each text of a
-/// row and each of its aliases has a shape in each of its forms: of each width, with and without what may be
-/// left out.
+/// operation, or an alias of it, and its operands say the row's fields in their order. An operand's words and
+/// numbers are those of its field, and one alone where it has none. Each text of a row and each of its
+/// aliases has a shape in each of its forms: of each width, with and without what may be left out.
 pub fn texts_are_those_of_rows()
     ensures cited { list_all is_cited SHAPES ≡ true }
+    ensures room { list_all have_room SHAPES ≡ true }
     ensures order { none_is_hidden SHAPES ≡ true }
     ensures aliases { list_all has_aliases SCALAR_LINES ≡ true }
     ensures own { list_all has_own SCALAR_LINES ≡ true }
