@@ -294,7 +294,7 @@ record IsNamedIn (ts : List Token) (w : ℕ) (i : Item) : Type 0 where
   sound : is_sound i ≡ true
   distance : is_distance i.kind ≡ true
 
-all_at : {A : Type 0} (p : A → Bool) (xs : List A) (n : ℕ) (x : A) → list_all p xs ≡ true → slice_get xs n ≡ Some x → p x ≡ true
+pub all_at : {A : Type 0} (p : A → Bool) (xs : List A) (n : ℕ) (x : A) → list_all p xs ≡ true → slice_get xs n ≡ Some x → p x ≡ true
 all_at p [] n x e g = cc
 all_at p (y ∷ ys) zero x e g = let same = some_is y x g in subst (λ z. p z ≡ true) same (and_parts (p y) (list_all p ys) e).0
 all_at p (y ∷ ys) (suc n) x e g = all_at p ys n x (and_parts (p y) (list_all p ys) e).1 g

@@ -17,4 +17,5 @@ pub mod Aimed
 pub mod AliasNumbers
 pub mod Moves
 pub mod Bare
+pub mod Alone
 pub mod Registers

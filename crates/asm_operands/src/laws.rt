@@ -1,7 +1,7 @@
 //! What the faults say, as laws over every name and all tokens.
 
 ghost use Rattle.std.specs.Prelude.{◌≡◌, ◌+◌, ◌-◌, ◌^◌, ◌<◌, ◌≤◌, ℕ, Bool, true, false, List, ◌++◌, Some};
-ghost use Rattle.std.specs.Prelude.{None, length, take, is_some, codes, option_and_then};
+ghost use Rattle.std.specs.Prelude.{None, length, slice_get, take, is_some, codes, option_and_then};
 ghost use Rattle.bit_ops.specs.Bits.{width_of};
 ghost use Rattle.asm_tokens.specs.declared.token.Token.{Token};
 ghost use Rattle.insn_text.specs.declared.words.TheConstants.{NAMES};
@@ -9,12 +9,17 @@ ghost use Rattle.a64_encode.specs.Either.{instruction_of};
 ghost use Rattle.asm_operands.specs.declared.operands.Target.{Target};
 ghost use Rattle.asm_tokens.specs.declared.token.Token.TheVariants.{Number};
 ghost use Rattle.insn_text.specs.declared.item.Kind.TheVariants.{Halfword, ShiftLeft, SignedMask};
-ghost use Rattle.insn_text.specs.Texts.{mask_in};
+ghost use Rattle.insn_text.specs.declared.item.Item.{Item};
+ghost use Rattle.insn_text.specs.declared.item.Shape.{Shape};
+ghost use Rattle.insn_text.specs.declared.shapes.TheConstants.{SHAPES};
+ghost use Rattle.insn_text.specs.Texts.{bits_of, items_of, mask_in};
 ghost use Rattle.asm_operands.specs.Aliases.{halfword_number, IsShiftLeft};
 ghost use Rattle.asm_operands.specs.Distances.{with_distance};
 ghost use Rattle.asm_operands.specs.Fields.{field_said, immediate_of};
 ghost use Rattle.asm_operands.specs.Moves.{move_tokens, moved, place_of};
 ghost use Rattle.asm_operands.specs.Operands.{shapes_of, first_word, furthest, operands_said, Says};
+
+use insn_text::texts_are_those_of_rows;
 
 /// The fault stands at the first token with which no instruction of the name goes on: with other tokens in
 /// place of it and of those after it some shape takes them all, and with it none does.
@@ -48,3 +53,12 @@ pub fn alias_law()
         → first_word (shapes_of (place_of (codes "mov"))) (move_tokens wide register negative size)
         ≡ option_and_then (moved wide register) (immediate_of wide negative size) }
 {}
+
+/// An operand without a field is read from one token alone.
+pub fn bare_operand_law()
+    ensures { (at place : ℕ) (s : Shape) (i : Item) (t u : Token) (m n : ℕ)
+        → slice_get SHAPES at ≡ Some s → slice_get (items_of s) place ≡ Some i
+        → bits_of i ≡ 0 → field_said i.kind 0 t ≡ Some m → field_said i.kind 0 u ≡ Some n → t ≡ u }
+{
+    texts_are_those_of_rows()
+}

@@ -14,6 +14,6 @@ mod taking;
 
 pub use distances::{unit_of, with_distance};
 pub use fault::FaultKind;
-pub use laws::{alias_law, any_distance_law, first_fault_law};
+pub use laws::{alias_law, any_distance_law, bare_operand_law, first_fault_law};
 pub use operands::{OperandFault, Operands, Target};
 pub use reading::read_operands;
