@@ -6,4 +6,5 @@ mod rows;
 mod vectors;
 
 pub use laws::{bytes_tell_truths, truths_tell_bytes};
+pub use rows::{clear_rows, zero_rows};
 pub use vectors::Vectors;

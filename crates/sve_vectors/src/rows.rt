@@ -12,12 +12,8 @@ pub(crate) fn zero_row(alloc: Global, size: usize) -> Result<Vec<u8>, AllocError
     vec![in alloc; 0u8; size]
 }
 
-/// So many rows of so many zero bytes.
-pub(crate) fn zero_rows(
-    alloc: Global,
-    count: usize,
-    size: usize,
-) -> Result<Vec<Vec<u8>>, AllocError>
+/// So many rows of so many zero bytes each.
+pub fn zero_rows(alloc: Global, count: usize, size: usize) -> Result<Vec<Vec<u8>>, AllocError>
     ensures { IfOk result (λ rows. items_of rows.items ≡ replicate count (replicate size 0)) }
 {
     let mut rows: Vec<Vec<u8>> = Vec::new(alloc);
@@ -50,7 +46,7 @@ pub(crate) fn clear(row: &mut [u8], size: usize)
 }
 
 /// Writes zero to the first bytes of each row.
-pub(crate) fn clear_rows(rows: &mut [Vec<u8>], size: usize)
+pub fn clear_rows(rows: &mut [Vec<u8>], size: usize)
     requires { (k : ℕ) → k < length rows.old → size ≤ length (slice_index_or (items_of rows.old) k []) }
     ensures { ClearedRows size (items_of rows.old) (items_of rows.new) }
 {

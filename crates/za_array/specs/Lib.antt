@@ -1,0 +1,4 @@
+pub mod Array
+pub mod Lending
+pub mod Layout
+pub mod Tiles
