@@ -1,0 +1,4 @@
+pub mod Slices
+pub mod Moves
+pub mod Sums
+pub mod Laws
