@@ -1,0 +1,6 @@
+pub mod Sums
+pub mod Numbers
+pub mod Active
+pub mod Fours
+pub mod RowSums
+pub mod AtPlaces

@@ -1,0 +1,63 @@
+-- Sums modulo 2 ^ 32 and 2 ^ 64.
+use Rattle.std.proofs.Common.{◌≡◌, ℕ, suc, ◌+◌, ◌-◌, ◌%◌, ◌^◌, ◌<◌, ◌≤◌, ap, ◌∙◌, sym, arith, inl, inr, ℤ, pos, ◌+ℤ◌}
+use Rattle.std.specs.Prelude.{negsuc}
+use Rattle.std.specs.Int.{w32, w64, int_wrap, cast_unsigned}
+use Rattle.std.proofs.lemmas.Bool.{cases_lt}
+use Rattle.std.proofs.lemmas.Int.{ints, of_z-to_z, int_wrap-add_left, int_wrap-add_right}
+use Rattle.vector_elements.specs.declared.size.Size.TheVariants.{S, D}
+use Rattle.vector_elements.specs.Numbers.{range_of, wrapped}
+
+-- two sums that wrapped, added
+pub short_sums : (a b : ℤ) → int_wrap w32 (int_wrap w32 a +ℤ int_wrap w32 b) ≡ int_wrap w32 (a +ℤ b)
+short_sums a b = int_wrap-add_left w32 a (int_wrap w32 b) ∙ int_wrap-add_right w32 a b
+
+pub long_sums : (a b : ℤ) → int_wrap w64 (int_wrap w64 a +ℤ int_wrap w64 b) ≡ int_wrap w64 (a +ℤ b)
+long_sums a b = int_wrap-add_left w64 a (int_wrap w64 b) ∙ int_wrap-add_right w64 a b
+
+above : (a b : ℕ) → b < a → pos a +ℤ negsuc b ≡ pos (a - b - 1)
+above a b lt = grind (arith, ints)
+
+below : (a b : ℕ) → a ≤ b → pos a +ℤ negsuc b ≡ negsuc (b - a)
+below a b le = grind (arith, ints)
+
+-- a number modulo 2 ^ 32, and modulo 2 ^ 64
+abbrev short_part : ℤ → ℕ
+short_part (pos n) = n % 2 ^ 32
+short_part (negsuc n) = 2 ^ 32 - 1 - n % 2 ^ 32
+
+abbrev long_part : ℤ → ℕ
+long_part (pos n) = n % 2 ^ 64
+long_part (negsuc n) = 2 ^ 64 - 1 - n % 2 ^ 64
+
+short_part-is : (z : ℤ) → cast_unsigned w32 (int_wrap w32 z) ≡ short_part z
+unfolding int_wrap
+short_part-is (pos n) = of_z-to_z w32 (n % 2 ^ 32) (omega arith)
+short_part-is (negsuc n) = of_z-to_z w32 (2 ^ 32 - 1 - n % 2 ^ 32) (omega arith)
+
+long_part-is : (z : ℤ) → cast_unsigned w64 (int_wrap w64 z) ≡ long_part z
+unfolding int_wrap
+long_part-is (pos n) = of_z-to_z w64 (n % 2 ^ 64) (omega arith)
+long_part-is (negsuc n) = of_z-to_z w64 (2 ^ 64 - 1 - n % 2 ^ 64) (omega arith)
+
+word_sum : (old : ℕ) (z : ℤ) → (old + short_part z) % 2 ^ 32 ≡ wrapped S (pos old +ℤ z)
+unfolding wrapped
+word_sum old (pos n) = omega arith
+word_sum old (negsuc n) = elim (cases_lt n old) [
+  | inl lt ↦ (let e : (old + (2 ^ 32 - 1 - n % 2 ^ 32)) % 2 ^ 32 ≡ (old - n - 1) % 2 ^ 32 = omega (arith, lt) in e ∙ sym (ap (wrapped S) (above old n lt)))
+  | inr le ↦ (let e : (old + (2 ^ 32 - 1 - n % 2 ^ 32)) % 2 ^ 32 ≡ 2 ^ 32 - 1 - (n - old) % 2 ^ 32 = omega (arith, le) in e ∙ sym (ap (wrapped S) (below old n le)))
+]
+
+doubleword_sum : (old : ℕ) (z : ℤ) → (old + long_part z) % 2 ^ 64 ≡ wrapped D (pos old +ℤ z)
+unfolding wrapped
+doubleword_sum old (pos n) = omega arith
+doubleword_sum old (negsuc n) = elim (cases_lt n old) [
+  | inl lt ↦ (let e : (old + (2 ^ 64 - 1 - n % 2 ^ 64)) % 2 ^ 64 ≡ (old - n - 1) % 2 ^ 64 = omega (arith, lt) in e ∙ sym (ap (wrapped D) (above old n lt)))
+  | inr le ↦ (let e : (old + (2 ^ 64 - 1 - n % 2 ^ 64)) % 2 ^ 64 ≡ 2 ^ 64 - 1 - (n - old) % 2 ^ 64 = omega (arith, le) in e ∙ sym (ap (wrapped D) (below old n le)))
+]
+
+-- an element and a sum that wrapped
+pub word_with-is : (old : ℕ) (z : ℤ) → (old + cast_unsigned w32 (int_wrap w32 z)) % 2 ^ 32 ≡ wrapped S (pos old +ℤ z)
+word_with-is old z = ap (λ k. (old + k) % 2 ^ 32) (short_part-is z) ∙ word_sum old z
+
+pub doubleword_with-is : (old : ℕ) (z : ℤ) → (old + cast_unsigned w64 (int_wrap w64 z)) % 2 ^ 64 ≡ wrapped D (pos old +ℤ z)
+doubleword_with-is old z = ap (λ k. (old + k) % 2 ^ 64) (long_part-is z) ∙ doubleword_sum old z

@@ -1,0 +1,3 @@
+pub mod OuterProducts
+pub mod Planes
+pub mod Laws
