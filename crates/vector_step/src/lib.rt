@@ -17,3 +17,4 @@ mod sve2;
 mod vector;
 
 pub use exec::{exec_vector, is_vector_computed};
+pub use registers::read_p;
