@@ -1,5 +1,5 @@
 -- What is known where no check of an access fails.
-use Rattle.std.proofs.Common.{◌≡◌, ℕ, Bool, true, false, refl, sym, ◌∙◌, List, Option, Some, None, Result, Ok, Err, ap}
+use Rattle.std.proofs.Common.{◌≡◌, ℕ, true, false, refl, sym, ◌∙◌, List, Option, Some, None, Result, Ok, Err, ap}
 use Rattle.std.specs.Prelude.{OnOk, IfErr, OnErr}
 use Rattle.mem_access.specs.declared.stop.AccessStop.{AccessStop}
 use Rattle.mem_access.specs.Transfer.{Transfers, raised_by}

@@ -1,6 +1,6 @@
 -- What the writes of other bytes keep, and which pages are owned.
-use Rattle.std.proofs.Common.{◌≡◌, ℕ, zero, suc, ◌+◌, ◌*◌, ◌/◌, ◌%◌, ◌^◌, ◌<◌, ◌≤◌, ◌==◌, Bool, true, false, not, cond, List, [], ◌∷◌, ◌++◌}
-use Rattle.std.proofs.Common.{length, take, drop, refl, ap, ap₂, sym, ◌∙◌, arith, subst, All, inl, inr, Option, Some, None, length-append, length-drop}
+use Rattle.std.proofs.Common.{◌≡◌, ℕ, ◌+◌, ◌*◌, ◌/◌, ◌%◌, ◌^◌, ◌<◌, ◌≤◌, ◌==◌, Bool, true, false, not, cond, List, [], ◌∷◌}
+use Rattle.std.proofs.Common.{length, drop, refl, ap, sym, ◌∙◌, arith, subst, All, inl, inr, Option, Some, None, length-drop}
 use Rattle.std.specs.Prelude.{is_some, IsSome}
 use Rattle.std.specs.List.{find}
 use Rattle.std.specs.FinMap.{FinMap, get, insert, get-insert}
@@ -22,7 +22,7 @@ use Rattle.mem_access.specs.Transfer.{written}
 use Rattle.mem_access.proofs.Lists.{denied_run, length-run, all_run}
 use Rattle.sve_access.specs.Elements.{element_run, low_bytes, element_addresses}
 use Rattle.sve_access.specs.Owned.{OwnsFirst, OwnsElements}
-use Rattle.sve_access.proofs.Lists.{of_first, of_active, of_inactive, none_first, set_append, each_active, none_fails, all_parts}
+use Rattle.sve_access.proofs.Lists.{each_active, none_fails, all_parts}
 
 -- a byte that is there stays there
 still_there : (b : Bool) (x : ℕ) (o : Option ℕ) → is_some o ≡ true → is_some (cond b (Some x) o) ≡ true

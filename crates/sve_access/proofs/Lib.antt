@@ -3,3 +3,4 @@ pub mod Lists
 pub mod Kept
 pub mod Stored
 pub mod Spans
+pub mod Whole

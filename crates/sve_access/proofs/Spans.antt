@@ -1,6 +1,6 @@
 -- All elements of an access as consecutive bytes.
 use Rattle.std.proofs.Common.{◌≡◌, ℕ, zero, suc, ◌+◌, ◌-◌, ◌*◌, ◌/◌, ◌%◌, ◌^◌, ◌<◌, ◌≤◌, Bool, true, false, cond, if◌then◌else◌, List, [], ◌∷◌, ◌++◌}
-use Rattle.std.proofs.Common.{length, take, drop, refl, ap, ap₂, sym, subst, ◌∙◌, arith, All, Option, Some, None, inl, inr, length-append}
+use Rattle.std.proofs.Common.{length, take, drop, refl, ap, sym, subst, ◌∙◌, arith, All, Option, Some, None, length-append}
 use Rattle.std.specs.Prelude.{flat_map, unwrap_or}
 use Rattle.std.specs.List.{find}
 use Rattle.std.specs.Simd.Lanes.{number_l}
@@ -124,7 +124,7 @@ joined_parts (Some xs) (Some ys) d bs long e =
       ap Some (sym (ap (drop d) is ∙ drop_front xs ys d 0 (omega (arith, front)))),
     )
 
-parts_read : (need : ℕ) (m : AddressSpace) (a d n : ℕ) (bs : List ℕ) → bytes_with need m a (d + n) ≡ Some bs
+pub parts_read : (need : ℕ) (m : AddressSpace) (a d n : ℕ) (bs : List ℕ) → bytes_with need m a (d + n) ≡ Some bs
     → (bytes_with need m a d ≡ Some (take d bs)) × (bytes_with need m ((a + d) % 2 ^ 64) n ≡ Some (drop d bs))
 parts_read need m a d n bs e =
     joined_parts (bytes_with need m a d) (bytes_with need m ((a + d) % 2 ^ 64) n) d bs (λ xs is. length_with need m a d xs is)

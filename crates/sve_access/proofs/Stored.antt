@@ -1,6 +1,6 @@
 -- The bytes of the first elements that are stored.
-use Rattle.std.proofs.Common.{◌≡◌, ℕ, zero, suc, ◌+◌, ◌*◌, ◌/◌, ◌%◌, ◌^◌, ◌<◌, ◌≤◌, Bool, true, false, List, [], ◌∷◌, ◌++◌}
-use Rattle.std.proofs.Common.{length, refl, ap, ap₂, sym, ◌∙◌, arith, Option, Some, None, length-append, append-nil}
+use Rattle.std.proofs.Common.{◌≡◌, ℕ, zero, suc, ◌+◌, ◌*◌, ◌/◌, ◌%◌, ◌^◌, ◌<◌, ◌≤◌, Bool, true, false, List, []}
+use Rattle.std.proofs.Common.{length, refl, ap, ap₂, sym, ◌∙◌, arith, Some, length-append, append-nil}
 use Rattle.std.specs.Prelude.{flat_map}
 use Rattle.paged_memory.specs.Memory.{AddressSpace}
 use Rattle.vector_elements.specs.declared.size.Size.{Size}

@@ -5,7 +5,7 @@ use Rattle.std.specs.Prelude.{◌≡◌, ℕ, ◌/◌, Bool, true, false, not, L
 use Rattle.std.specs.Prelude.{slice_index_or, slice_set, unwrap_or}
 use Rattle.sm_types.specs.declared.scalars.Scalars.{Scalars}
 use Rattle.sm_types.specs.declared.vector as types
-use types.{Elem.Elem, LoadType.LoadType, VectorOffset.VectorOffset, VectorAccess.VectorAccess}
+use types.{VectorOffset.VectorOffset, VectorAccess.VectorAccess}
 use types.VectorAccess.TheVariants.{Load, Store, Vector, Predicate}
 use Rattle.sm_types.specs.declared.stop.Exception.{Exception}
 use Rattle.vector_elements.specs.declared.size.Size.{Size}
@@ -56,6 +56,14 @@ at_base rn writes bytes = record {
   reads = not writes;
   writes = writes;
 }
+
+-- a store of the low bytes of the active elements, and what memory is after it
+abbrev pub elements_stored : ℕ → ℕ → Size → Size → List ℕ → DataAccess
+elements_stored rn start memory element pg = at_base rn true (element_addresses start memory element pg)
+
+abbrev pub with_elements : AddressSpace → ℕ → Size → Size → List ℕ → List ℕ → AddressSpace
+with_elements m start memory element pg z =
+    written m (element_addresses start memory element pg) (Some (element_bytes z memory element pg))
 
 -- the address of element 0 of a load or store of elements, a vector having l bytes
 abbrev pub start_of : VectorOffset → Size → Size → ℕ → Scalars → ℕ → ℕ

@@ -25,7 +25,7 @@ pub fn size_of(elem: Elem) -> Size
 }
 
 /// The size of what a load reads of memory for an element.
-#[inline]
+#[inline(always)]
 pub fn memory_size(kind: LoadType) -> Size
     ensures { result ≡ memory_size kind }
 {
@@ -48,7 +48,7 @@ pub fn memory_size(kind: LoadType) -> Size
 }
 
 /// The size of the element that a load makes of it.
-#[inline]
+#[inline(always)]
 pub fn element_size(kind: LoadType) -> Size
     ensures { result ≡ element_size kind }
 {
@@ -71,7 +71,7 @@ pub fn element_size(kind: LoadType) -> Size
 }
 
 /// Whether a load extends by the sign.
-#[inline]
+#[inline(always)]
 fn is_signed(kind: LoadType) -> bool
     ensures { result ≡ is_signed kind }
 {
@@ -96,7 +96,7 @@ fn is_signed(kind: LoadType) -> bool
 }
 
 /// The number that a load reads, as an element.
-#[inline]
+#[inline(always)]
 #[tactic(auto, unfolding(crate::specs::Contiguous::loaded))]
 pub fn loaded(kind: LoadType, number: u64) -> u64
     requires { number < range_of (memory_size kind) }

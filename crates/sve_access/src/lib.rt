@@ -1,5 +1,6 @@
 //! The contiguous loads and stores of vectors and predicates on private memory: `transfer_vector` makes all
-//! checks of an access first, and changes registers and memory only where none fails.
+//! checks of an access first, and changes registers and memory only where none fails. The checks of runs and of
+//! elements, and the stores of both, serve the accesses of ZA too.
 #![tactic(auto)]
 
 mod addresses;
@@ -10,4 +11,8 @@ mod places;
 mod stores;
 mod transfers;
 
-pub use transfers::transfer_vector;
+pub use addresses::size_of;
+pub use checks::load_fault;
+pub use elements::Elements;
+pub use places::{Bytes, Check, Run};
+pub use transfers::{read_p, read_run, store_elements, store_run, transfer_vector};

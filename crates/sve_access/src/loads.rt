@@ -15,7 +15,7 @@ use crate::elements::Elements;
 use mem_access::read_number;
 use paged_memory::Pages;
 use sm_types::LoadType;
-use vector_elements::{Change, Size, change_each, element};
+use vector_elements::{Change, Size, change_each, change_or_zero, element};
 
 /// The element that a load makes of the bytes at an address, which can be read.
 #[inline]
@@ -58,50 +58,66 @@ impl<'a> Change for OfMemory<'a> {
     }
 }
 
-/// The elements of consecutive bytes where they are active, and zero elsewhere.
+/// The elements of consecutive bytes.
 #[derive(Clone, Copy)]
 struct OfBytes<'a> {
     kind: LoadType,
-    elements: &'a Elements<'a>,
     bytes: &'a [u8],
 }
 
 impl<'a> Change for OfBytes<'a> {
-    ghost can = { λ s size i. (size ≡ s.elements.now.element) × (s.elements.now.memory ≡ memory_size s.kind)
-        × (length s.elements.now.pg.now ≤ 32) × (bytes_in size * i < 8 * length s.elements.now.pg.now)
-        × (bytes_in (memory_size s.kind) * i + bytes_in (memory_size s.kind) ≤ length s.bytes.now) };
+    ghost can = { λ s size i. let e = bytes_in (memory_size s.kind) in e * i + e ≤ length s.bytes.now };
 
-    ghost gives = { λ s size i old. if is_active (bytes_in size) s.elements.now.pg.now i then
-        loaded s.kind (element_of (bytes_in (memory_size s.kind)) s.bytes.now i) else 0 };
+    ghost gives = { λ s size i old. loaded s.kind (element_of (bytes_in (memory_size s.kind)) s.bytes.now i) };
 
     #[inline(always)]
     fn apply(&self, _size: Size, place: usize, _old: u64) -> u64 {
-        if !self.elements.is_active(place) {
-            return 0;
-        }
-        loaded(self.kind, element(self.bytes, self.elements.memory, place))
+        loaded(
+            self.kind,
+            element(self.bytes, memory_size(self.kind), place),
+        )
     }
 }
 
-/// Loads the active elements of a vector from the bytes of all elements; the others become zero.
-fn load_from(kind: LoadType, elements: &Elements, z: &mut [u8], bytes: &[u8])
-    requires memory { elements.now.memory ≡ memory_size kind }
-    requires element { elements.now.element ≡ element_size kind }
-    requires small { length elements.now.pg.now ≤ 32 }
-    requires bits { length z.old ≡ 8 * length elements.now.pg.now }
+/// The same as `load_from`, for a load that the caller knows.
+#[inline(always)]
+fn load_known(kind: LoadType, pg: &[u8], z: &mut [u8], bytes: &[u8])
+    requires small { length pg.now ≤ 32 }
+    requires bits { length z.old ≡ 8 * length pg.now }
     requires bytes { length bytes.now ≡ length z.old / bytes_in (element_size kind) * bytes_in (memory_size kind) }
-    ensures { z.new ≡ each_or_zero (bytes_in (element_size kind)) elements.now.pg.now z.old (λ i old.
+    ensures { z.new ≡ each_or_zero (bytes_in (element_size kind)) pg.now z.old (λ i old.
         loaded kind (element_of (bytes_in (memory_size kind)) bytes.now i)) }
 {
-    change_each(
-        &OfBytes {
-            kind,
-            elements,
-            bytes,
-        },
-        element_size(kind),
-        z,
-    );
+    change_or_zero(&OfBytes { kind, bytes }, element_size(kind), z, pg);
+}
+
+/// Loads the active elements of a vector from the bytes of all elements; the others become zero. With a loop for
+/// each load.
+fn load_from(kind: LoadType, pg: &[u8], z: &mut [u8], bytes: &[u8])
+    requires small { length pg.now ≤ 32 }
+    requires bits { length z.old ≡ 8 * length pg.now }
+    requires bytes { length bytes.now ≡ length z.old / bytes_in (element_size kind) * bytes_in (memory_size kind) }
+    ensures { z.new ≡ each_or_zero (bytes_in (element_size kind)) pg.now z.old (λ i old.
+        loaded kind (element_of (bytes_in (memory_size kind)) bytes.now i)) }
+{
+    match kind {
+        LoadType::ByteToB => load_known(LoadType::ByteToB, pg, z, bytes),
+        LoadType::ByteToH => load_known(LoadType::ByteToH, pg, z, bytes),
+        LoadType::ByteToS => load_known(LoadType::ByteToS, pg, z, bytes),
+        LoadType::ByteToD => load_known(LoadType::ByteToD, pg, z, bytes),
+        LoadType::SignedWordToD => load_known(LoadType::SignedWordToD, pg, z, bytes),
+        LoadType::HalfwordToH => load_known(LoadType::HalfwordToH, pg, z, bytes),
+        LoadType::HalfwordToS => load_known(LoadType::HalfwordToS, pg, z, bytes),
+        LoadType::HalfwordToD => load_known(LoadType::HalfwordToD, pg, z, bytes),
+        LoadType::SignedHalfwordToD => load_known(LoadType::SignedHalfwordToD, pg, z, bytes),
+        LoadType::SignedHalfwordToS => load_known(LoadType::SignedHalfwordToS, pg, z, bytes),
+        LoadType::WordToS => load_known(LoadType::WordToS, pg, z, bytes),
+        LoadType::WordToD => load_known(LoadType::WordToD, pg, z, bytes),
+        LoadType::SignedByteToD => load_known(LoadType::SignedByteToD, pg, z, bytes),
+        LoadType::SignedByteToS => load_known(LoadType::SignedByteToS, pg, z, bytes),
+        LoadType::SignedByteToH => load_known(LoadType::SignedByteToH, pg, z, bytes),
+        LoadType::DoublewordToD => load_known(LoadType::DoublewordToD, pg, z, bytes),
+    }
 }
 
 /// Loads the active elements of a vector, one after the other; the others become zero.
@@ -145,7 +161,7 @@ pub fn load_elements(kind: LoadType, elements: &Elements, z: &mut [u8], pages: &
         return;
     }
     match pages.bytes_within(start, size as usize) {
-        Some(bytes) => load_from(kind, elements, z, bytes),
+        Some(bytes) => load_from(kind, elements.pg, z, bytes),
         None => load_each(kind, elements, z, pages),
     }
 }

@@ -14,7 +14,7 @@ ghost use Rattle.mem_access.specs.Checks.{lacks, access_fault};
 ghost use Rattle.mem_access.specs.Values.{number_at};
 ghost use Rattle.mem_access.specs.Transfer.{Transfers, HasRoom, written};
 ghost use Rattle.sve_access.specs.After.{access_of, vector_fault, after_access, contents_of, z_of, p_of};
-ghost use Rattle.sve_access.specs.After.{at_base, read_bytes, KeepsLengths};
+ghost use Rattle.sve_access.specs.After.{at_base, elements_stored, read_bytes, with_elements, KeepsLengths};
 ghost use Rattle.sve_access.specs.Contiguous.{memory_size, element_size, loaded, multiple_from};
 ghost use Rattle.sve_access.specs.Elements.{element_run, element_addresses};
 
@@ -32,7 +32,7 @@ use sve_vectors::{Vectors, truths_tell_bytes};
 
 /// The bytes of a predicate.
 #[inline]
-fn read_p(vectors: &Vectors, n: u8) -> &[u8]
+pub fn read_p(vectors: &Vectors, n: u8) -> &[u8]
     requires { n < 16 }
     ensures value { result.now ≡ p_of vectors.now.registers n }
     ensures long { length_of vectors.now ≡ 8 * length result.now }
@@ -121,9 +121,75 @@ fn transfer_load(
     }
 }
 
+/// Stores the low bytes of the active elements of a vector, one after the other, if no check fails.
+#[tactic(auto, using(crate::proofs::Faults::can_write))]
+fn store_each(
+    elements: &Elements,
+    rn: u8,
+    z: &[u8],
+    s: &Scalars,
+    pages: &mut Pages,
+) -> Result<(), AccessStop>
+    requires narrow { bytes_in elements.now.memory ≤ bytes_in elements.now.element }
+    requires small { length elements.now.pg.now ≤ 32 }
+    requires some { 2 ≤ length elements.now.pg.now }
+    requires bits { length z.now ≡ 8 * length elements.now.pg.now }
+    ensures made { let x = elements.now in Transfers
+        (access_fault None (elements_stored rn x.start x.memory x.element x.pg.now) s.now pages.old.memory)
+        (with_elements pages.old.memory x.start x.memory x.element x.pg.now z.now)
+        pages.old.memory pages.new.memory result }
+    ensures room { let x = elements.now in
+        HasRoom (elements_stored rn x.start x.memory x.element x.pg.now) pages.old → result ≢ Err AccessStop.Memory }
+    ensures kept { KeepsOwned pages.old pages.new }
+{
+    match store_fault(elements, rn, s, pages) {
+        Some(exception) => Err(AccessStop::Raise(exception)),
+        None => match own_elements(elements, pages) {
+            Ok(()) => {
+                write_elements(elements, z, pages);
+                Ok(())
+            }
+            Err(_) => Err(AccessStop::Memory),
+        },
+    }
+}
+
+/// Stores the low bytes of the active elements of a vector, if no check fails. Where they are one run of bytes,
+/// it is written as one.
+#[inline]
+pub fn store_elements(
+    elements: &Elements,
+    rn: u8,
+    z: &[u8],
+    s: &Scalars,
+    pages: &mut Pages,
+) -> Result<(), AccessStop>
+    requires narrow { bytes_in elements.now.memory ≤ bytes_in elements.now.element }
+    requires small { length elements.now.pg.now ≤ 32 }
+    requires some { 2 ≤ length elements.now.pg.now }
+    requires bits { length z.now ≡ 8 * length elements.now.pg.now }
+    ensures made { let x = elements.now in Transfers
+        (access_fault None (elements_stored rn x.start x.memory x.element x.pg.now) s.now pages.old.memory)
+        (with_elements pages.old.memory x.start x.memory x.element x.pg.now z.now)
+        pages.old.memory pages.new.memory result }
+    ensures room { let x = elements.now in
+        HasRoom (elements_stored rn x.start x.memory x.element x.pg.now) pages.old → result ≢ Err AccessStop.Memory }
+    ensures kept { KeepsOwned pages.old pages.new }
+{
+    if elements.are_run() {
+        let run = Run {
+            address: elements.start,
+            size: z.len() as u64,
+        };
+        store_run(&run, rn, z, s, pages)
+    } else {
+        store_each(elements, rn, z, s, pages)
+    }
+}
+
 /// Stores the low bytes of the active elements of a vector, if no check fails.
 #[inline]
-#[tactic(auto, unfolding(crate::specs::After::access_of, crate::specs::After::registers_after, crate::specs::After::stored), using(crate::proofs::Faults::can_write))]
+#[tactic(auto, unfolding(crate::specs::After::access_of, crate::specs::After::registers_after, crate::specs::After::stored))]
 fn transfer_store(
     memory: Elem,
     element: Elem,
@@ -155,21 +221,12 @@ fn transfer_store(
         element,
         pg: read_p(vectors, pg),
     };
-    match store_fault(&elements, rn, s, pages) {
-        Some(exception) => Err(AccessStop::Raise(exception)),
-        None => match own_elements(&elements, pages) {
-            Ok(()) => {
-                write_elements(&elements, vectors.z(zt), pages);
-                Ok(())
-            }
-            Err(_) => Err(AccessStop::Memory),
-        },
-    }
+    store_elements(&elements, rn, vectors.z(zt), s, pages)
 }
 
 /// Reads bytes that can be read.
 #[inline]
-fn read_run(pages: &Pages, address: u64, into: &mut [u8])
+pub fn read_run(pages: &Pages, address: u64, into: &mut [u8])
     requires { first_without 4 pages.now.memory address (length into.old) ≡ None }
     ensures { into.new ≡ read_bytes pages.now.memory (run_of address (length into.old)) }
 {
@@ -280,7 +337,7 @@ fn load_predicate(
 
 /// Stores bytes from an address on, if no check fails.
 #[inline]
-fn store_run(
+pub fn store_run(
     run: &Run,
     rn: u8,
     bytes: &[u8],

@@ -1,4 +1,4 @@
-use Rattle.std.proofs.Common.{◌≡◌, ◌≤◌, ◌*◌, ◌/◌, length, ap, sym, ◌∙◌, arith, true}
+use Rattle.std.proofs.Common.{◌≤◌, ◌*◌, length, ap, sym, ◌∙◌, arith}
 use Rattle.vector_elements.specs.Elements.{is_active}
 use Rattle.vector_elements.specs.Numbers.{bytes_in}
 use Rattle.sve_access.specs.Contiguous.{memory_size, element_size}

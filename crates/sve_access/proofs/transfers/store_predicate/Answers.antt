@@ -1,4 +1,4 @@
-use Rattle.std.proofs.Common.{◌≡◌, ◌*◌, ◌/◌, ap, ap₂, ◌∙◌, refl, w32, length, arith}
+use Rattle.std.proofs.Common.{◌≡◌, ◌/◌, ap, ap₂, ◌∙◌, refl, w32, length, arith}
 use Rattle.std.proofs.lemmas.Int.{to_z-of_z}
 use Rattle.scalar_exec.specs.Registers.{x_or_sp}
 use Rattle.sve_vectors.specs.State.{length_of}

@@ -1,4 +1,4 @@
-use Rattle.std.proofs.Common.{◌≡◌, sym, ap, ◌∙◌, length, true, Some, None}
+use Rattle.std.proofs.Common.{sym, ap, ◌∙◌, length, true, Some, None}
 use Rattle.sm_types.specs.declared.stop.Exception.TheVariants.{Data}
 use Rattle.sm_types.specs.declared.stop.Access.TheVariants.{Write}
 use Rattle.paged_memory.specs.Memory.{first_without}

@@ -1,4 +1,4 @@
-use Rattle.std.proofs.Common.{◌≡◌, ◌<◌, ◌≤◌, ◌*◌, ◌^◌, length, arith}
+use Rattle.std.proofs.Common.{arith}
 use Rattle.sve_access.proofs.elements.Elements.is_active.Goals as goal
 
 pub overflow_mul-bytes : goal.overflow_mul-bytes
