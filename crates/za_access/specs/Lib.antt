@@ -1,0 +1,4 @@
+pub mod Contents
+pub mod Vectors
+pub mod Slices
+pub mod Units
