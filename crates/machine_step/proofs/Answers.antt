@@ -1,5 +1,5 @@
 -- What makes the answer of an instruction.
-use Rattle.std.proofs.Common.{◌≡◌, ◌%◌, Bool, true, false, cond, IsTrue, Option, Some, None, ℕ, length, refl, ap, sym, ◌∙◌}
+use Rattle.std.proofs.Common.{List, ◌&&◌, ◌≡◌, ◌%◌, Bool, true, false, cond, IsTrue, Option, Some, None, ℕ, length, refl, ap, sym, ◌∙◌}
 use Rattle.sm_types.specs.declared.scalars.Scalars.{Scalars}
 use Rattle.sm_types.specs.declared.insn.Insn.{Insn}
 use Rattle.sm_types.specs.declared.insn.Insn.TheVariants as insn
@@ -18,19 +18,18 @@ use Rattle.a64_encode.specs.Either.{instruction_of}
 use Rattle.std.specs.Option.{option_or}
 use Rattle.scalar_exec.specs.Step.{is_scalar}
 use Rattle.std.specs.Prelude.{if◌then◌else◌}
-use Rattle.std.proofs.lemmas.List.{length-replicate}
 use Rattle.sve_vectors.specs.Lengths.{current_bytes}
 use Rattle.sve_vectors.specs.State.{SveState, length_of}
 use Rattle.vector_step.specs.Registers.{VectorCore, with_registers}
 use Rattle.vector_step.specs.Registers.{core_of as vector_registers}
 use Rattle.vector_step.specs.Step.{vector_step}
-use Rattle.mem_access.specs.VectorState.{zero_array, with_no_array}
+use Rattle.mem_access.specs.VectorState.{VectorState}
 use Rattle.machine_step.specs.ProcessorState.{ProcessorState, vector_bytes}
 use Rattle.machine_step.specs.System.{system_move, core_past, moved}
-use Rattle.machine_step.specs.Effect.{Effect, Raises, Calls, Becomes, word_of, insn_at, is_executed, is_executed_register, next_of, unless_fault}
+use Rattle.machine_step.specs.Effect.{Effect, Raises, Calls, Becomes, word_of, insn_at, is_executed, next_of, unless_fault}
 use Rattle.machine_step.specs.Effect.{fault_of, effect_of, perform, row_fault, data_fault, memory_fault, accessed, with_access, computed, vector_computed, with_core}
 use Rattle.machine_step.specs.Effect.{mode_fault, illegal_fault, early_fault}
-use Rattle.machine_step.specs.Needs.{uses_bank, uses_bank_where, needs_unless, needs_bank}
+use Rattle.machine_step.specs.Needs.{is_call, uses_bank, uses_bank_where, needs_unless, needs_bank}
 use Rattle.machine_step.specs.Execution.{effect_of_insn, effect_of_meaning, unless_raised, unless_refused, needs_of_insn, needs_of_meaning}
 use Rattle.machine_step.specs.Machine.{Steps, core_of, HasRoomOn, IsBecomes}
 use Rattle.machine_step.specs.declared.machine.Machine.{Machine}
@@ -68,11 +67,11 @@ scalar_effect word vl (insn.TwoSource x) s h = refl
 scalar_effect word vl (insn.Multiply x) s h = refl
 scalar_effect word vl other s h = cc
 
--- a move of a system register that is executed
-pub move_effect : (word vl : ℕ) (x : SystemMove) (s : ProcessorState) → is_executed_register x.register ≡ true
-    → effect_of_insn word (insn.SystemMove x) vl s ≡ Becomes (core_past (moved x.op x s))
+-- a move of a system register
+pub move_effect : (word vl : ℕ) (x : SystemMove) (s : ProcessorState)
+    → effect_of_insn word (insn.SystemMove x) vl s ≡ Becomes (core_past (moved vl x.op x s))
 unfolding system_move
-move_effect word vl x s h = ap (λ b. cond b (next_of vl (insn.SystemMove x) s) (Raises (Undefined word))) h
+move_effect word vl x s = refl
 
 unless_row : (executed : Bool) (mode fault : Option Exception) (word vl : ℕ) (it : Insn) (s : ProcessorState) → insn_at s ≡ Some it
     → unless_fault vl (option_or (option_or (cond executed None (Some (Undefined word))) (option_or mode None)) (option_or fault None)) s
@@ -95,10 +94,10 @@ early_of : (s : ProcessorState) (word : ℕ) → s.scalars.pc % 4 ≡ 0 → word
 early_of s word aligned fetched = rw (aligned, fetched) refl
 
 early_at : (s : ProcessorState) (word : ℕ) (it : Insn) → s.scalars.pc % 4 ≡ 0 → word_of s ≡ Some word → instruction_of word ≡ Some it
-    → insn_at s ≡ Some it → early_fault s ≡ option_or (row_fault word (Some it)) (option_or (mode_fault it s.streaming) None)
+    → insn_at s ≡ Some it → early_fault s ≡ option_or (row_fault word (Some it)) (option_or (mode_fault it s.streaming s.za_on) None)
 early_at s word it aligned fetched is here =
     early_of s word aligned fetched ∙ ap (λ k. option_or (row_fault word k) (option_or (illegal_fault s) None)) is
-    ∙ ap (λ k. option_or (row_fault word (Some it)) (option_or (option_and_then (λ i. mode_fault i s.streaming) k) None)) here
+    ∙ ap (λ k. option_or (row_fault word (Some it)) (option_or (option_and_then (λ i. mode_fault i s.streaming s.za_on) k) None)) here
 
 insn_here : (s : ProcessorState) (word : ℕ) (it : Insn) → word_of s ≡ Some word → instruction_of word ≡ Some it → insn_at s ≡ Some it
 insn_here s word it fetched is = rw fetched is
@@ -110,9 +109,9 @@ unfolding effect_of fault_of
 effect_at vl s word it aligned fetched is =
     let here : insn_at s ≡ Some it = insn_here s word it fetched is in
     ap (λ k. unless_fault vl (option_or k (option_or (data_fault vl s) None)) s) (early_at s word it aligned fetched is here)
-    ∙ ap (λ k. unless_fault vl (option_or (option_or (row_fault word (Some it)) (option_or (mode_fault it s.streaming) None))
+    ∙ ap (λ k. unless_fault vl (option_or (option_or (row_fault word (Some it)) (option_or (mode_fault it s.streaming s.za_on) None))
     (option_or (option_and_then (λ i. memory_fault vl i s) k) None)) s) here
-    ∙ unless_row (is_executed it) (mode_fault it s.streaming) (memory_fault vl it s) word vl it s here
+    ∙ unless_row (is_executed it) (mode_fault it s.streaming s.za_on) (memory_fault vl it s) word vl it s here
 
 -- the effect at PC is that of the word there
 pub effect_of_word : (vl : ℕ) (s : ProcessorState) (word : ℕ) (meaning : Option Insn) → s.scalars.pc % 4 ≡ 0 → word_of s ≡ Some word
@@ -133,7 +132,7 @@ needs_of_word s word None aligned fetched is =
 needs_of_word s word (Some it) aligned fetched is =
     let here : insn_at s ≡ Some it = insn_here s word it fetched is in
     ap (λ k. needs_unless k s) (early_at s word it aligned fetched is here)
-    ∙ needs_row (is_executed it) (mode_fault it s.streaming) word it s here
+    ∙ needs_row (is_executed it) (mode_fault it s.streaming s.za_on) word it s here
 
 -- a check of the instruction itself that fails
 pub effect_refused : (vl : ℕ) (s : ProcessorState) (exception : Exception) → early_fault s ≡ Some exception → effect_of vl s ≡ Raises exception
@@ -161,46 +160,58 @@ cond_neither false mode = refl
 -- an instruction that does not use the bank does not need it
 pub unneeded : (it : Insn) (s : ProcessorState) → uses_bank it s.streaming ≡ false → needs_of_insn it s ≡ false
 unneeded it s h =
-    ap (λ k. cond (is_executed it) (unless_refused (mode_fault it s.streaming) k) false) h
-    ∙ cond_neither (is_executed it) (mode_fault it s.streaming)
+    ap (λ k. cond (is_executed it) (unless_refused (mode_fault it s.streaming s.za_on) k) false) h
+    ∙ cond_neither (is_executed it) (mode_fault it s.streaming s.za_on)
+
+-- vectors with an array
+abbrev pub held_with : SveState → List (List ℕ) → VectorState
+held_with v za = record { registers = v.registers; za = za }
+
+and_false : (b : Bool) → (b && false) ≡ false
+and_false true = refl
+and_false false = refl
+
+-- a scalar instruction that needs no bank in a mode needs none outside Streaming SVE mode
+pub unneeded_outside : (it : Insn) (streaming : Bool) → IsInRow it → uses_bank it streaming ≡ false → uses_bank it false ≡ false
+unneeded_outside (insn.System x) streaming row h = and_false (is_call x)
+unneeded_outside other streaming row h = h
 
 -- the current vector length of a machine with vectors in its mode
-pub length_is : (v : SveState) (streaming : Bool) → v.streaming ≡ streaming
-    → (if streaming then length (zero_array v.svl) else vector_bytes v.vl) ≡ length_of v
-unfolding zero_array
-length_is v true mode = length-replicate _ _ ∙ ap (current_bytes v.vl v.svl) (sym mode)
-length_is v false mode = ap (current_bytes v.vl v.svl) (sym mode)
+pub length_is : (v : SveState) (za : List (List ℕ)) (streaming : Bool) → length za ≡ vector_bytes v.svl → v.streaming ≡ streaming
+    → (if streaming then length za else vector_bytes v.vl) ≡ length_of v
+length_is v za true long mode = long ∙ ap (current_bytes v.vl v.svl) (sym mode)
+length_is v za false long mode = ap (current_bytes v.vl v.svl) (sym mode)
 
 -- the machine and its vectors after a vector instruction that sees registers alone
-pub vector_core : (m : Machine) (v w : SveState) (scalars : Scalars) (it : Insn) → v.streaming ≡ m.streaming
+pub vector_core : (m : Machine) (v w : SveState) (za : List (List ℕ)) (scalars : Scalars) (it : Insn)
+    → length za ≡ vector_bytes v.svl → v.streaming ≡ m.streaming
     → scalars ≡ (vector_step (length_of v) it (vector_registers m.scalars v)).scalars
     → w ≡ with_registers v (vector_step (length_of v) it (vector_registers m.scalars v)).registers
-    → core_past (core_of (record m { scalars = scalars }) (with_no_array w))
-    ≡ vector_computed (vector_bytes v.vl) it (core_of m (with_no_array v))
-vector_core m v w scalars it mode is left =
+    → core_past (core_of (record m { scalars = scalars }) (held_with w za))
+    ≡ vector_computed (vector_bytes v.vl) it (core_of m (held_with v za))
+vector_core m v w za scalars it long mode is left =
     let made : ℕ → VectorCore = λ l. vector_step l it (vector_registers m.scalars v) in
-    ap (λ k. core_past (core_of (record m { scalars = k }) (with_no_array w))) is
-    ∙ ap (λ k. core_past (core_of (record m { scalars = (made (length_of v)).scalars }) (with_no_array k))) left
-    ∙ ap (λ l. core_past (with_core (core_of m (with_no_array v)) (made l))) (sym (length_is v m.streaming mode))
+    ap (λ k. core_past (core_of (record m { scalars = k }) (held_with w za))) is
+    ∙ ap (λ k. core_past (core_of (record m { scalars = (made (length_of v)).scalars }) (held_with k za))) left
+    ∙ ap (λ l. core_past (with_core (core_of m (held_with v za)) (made l))) (sym (length_is v za m.streaming long mode))
 
 -- what a load or a store of vectors does, on vectors in the mode of the machine
-pub vector_access_effect : (word : ℕ) (x : VectorAccess) (m : Machine) (v : SveState) → v.streaming ≡ m.streaming
-    → effect_of_insn word (insn.VectorAccess x) (vector_bytes v.vl) (core_of m (with_no_array v))
+pub vector_access_effect : (word : ℕ) (x : VectorAccess) (m : Machine) (v : SveState) (za : List (List ℕ))
+    → length za ≡ vector_bytes v.svl → v.streaming ≡ m.streaming
+    → effect_of_insn word (insn.VectorAccess x) (vector_bytes v.vl) (core_of m (held_with v za))
     ≡ unless_raised (vector_fault x m.scalars (length_of v) v.registers m.pages.memory)
-    (Becomes (core_past (with_access (core_of m (with_no_array v))
+    (Becomes (core_past (with_access (core_of m (held_with v za))
     (after_access x m.scalars (length_of v) v.registers m.pages.memory))))
-vector_access_effect word x m v mode =
+vector_access_effect word x m v za long mode =
     ap (λ l. unless_raised (vector_fault x m.scalars l v.registers m.pages.memory)
-    (Becomes (core_past (with_access (core_of m (with_no_array v)) (after_access x m.scalars l v.registers m.pages.memory)))))
-    (length_is v m.streaming mode)
+    (Becomes (core_past (with_access (core_of m (held_with v za)) (after_access x m.scalars l v.registers m.pages.memory)))))
+    (length_is v za m.streaming long mode)
 
--- the state of a machine with other vectors of the same length and other pages
-pub with_contents : (m : Machine) (v w : SveState) (pages : PageTable) (after : AfterVectorAccess) → w.svl ≡ v.svl
+-- the state of a machine with other vectors and other pages
+pub with_contents : (m : Machine) (v w : SveState) (za : List (List ℕ)) (pages : PageTable) (after : AfterVectorAccess)
     → contents_of w.registers pages ≡ after
-    → core_of (record m { pages = pages }) (with_no_array w) ≡ with_access (core_of m (with_no_array v)) after
-with_contents m v w pages after same is =
-    ap (λ svl. core_of (record m { pages = pages }) (record { registers = w.registers; za = zero_array svl })) same
-    ∙ ap (with_access (core_of m (with_no_array v))) is
+    → core_of (record m { pages = pages }) (held_with w za) ≡ with_access (core_of m (held_with v za)) after
+with_contents m v w za pages after is = ap (with_access (core_of m (held_with v za))) is
 
 -- an instruction that is executed
 pub becomes : (effect : Effect) (made : ProcessorState) → effect ≡ Becomes made → IsBecomes effect
@@ -211,4 +222,6 @@ becomes (Becomes s) made is = cc
 -- what an instruction of the general registers writes is the same with a bank
 pub scalar_room : (m : Machine) (bank : Bank) (it : Insn) → IsInRow it → HasRoomOn m bank it → HasRoomFor it m.scalars m.pages
 scalar_room m bank (insn.VectorAccess x) h room = cc
+scalar_room m bank (insn.ArrayAccess x) h room = cc
+scalar_room m bank (insn.TileAccess x) h room = cc
 scalar_room m bank other h room = room

@@ -1,7 +1,7 @@
 -- One instruction: its first fault, and what it does where it has none.
 -- Source: DDI 0487, D1.3 (exceptions, in their order), C6.2.
-use Rattle.std.specs.Prelude.{ℕ, ◌%◌, ◌==◌, ◌&&◌, Bool, true, false, cond, [], ◌∷◌, Option, Some, None}
-use Rattle.std.specs.Prelude.{option_and_then, length, if◌then◌else◌}
+use Rattle.std.specs.Prelude.{ℕ, ◌%◌, ◌==◌, ◌&&◌, Bool, true, false, not, cond, [], ◌∷◌, Option, Some, None}
+use Rattle.std.specs.Prelude.{option_and_then, length}
 use Rattle.sm_types.specs.declared.insn.Insn.{Insn}
 use Rattle.sm_types.specs.declared.insn.Insn.TheVariants as insn
 use Rattle.sm_types.specs.declared.vector.PredicateCount.{PredicateCount}
@@ -9,23 +9,30 @@ use Rattle.sm_types.specs.declared.vector.PredicateCount.TheVariants.{While, Act
 use Rattle.sm_types.specs.declared.vector.PredicateCount.TheVariants.{ReadFfr, WriteFfr}
 use Rattle.sm_types.specs.declared.insn.System.{System}
 use Rattle.sm_types.specs.declared.insn.System.TheVariants.{Svc, Brk, Udf, Hint, Dmb, Dsb, Isb}
-use Rattle.sm_types.specs.declared.insn.SystemRegister.{SystemRegister}
-use Rattle.sm_types.specs.declared.insn.SystemRegister.TheVariants.{Nzcv, TpidrEl0, Tpidr2El0, Svcr}
 use Rattle.sm_types.specs.declared.stop.Exception.{Exception}
 use Rattle.sm_types.specs.declared.stop.Exception.TheVariants.{Undefined, PcAlign, Fetch, Breakpoint}
-use Rattle.sm_types.specs.declared.stop.Exception.TheVariants.{IllegalStreaming}
+use Rattle.sm_types.specs.declared.stop.Exception.TheVariants.{IllegalStreaming, NotStreaming, ZaInactive}
 use Rattle.a64_encode.specs.Either.{instruction_of}
 use Rattle.paged_memory.specs.Memory.{word_at}
 use Rattle.scalar_exec.specs.Registers.{past}
 use Rattle.scalar_exec.specs.Step.{scalar_step}
-use Rattle.sm_types.specs.Checks.{first_fault}
+use Rattle.sm_types.specs.Checks.{first_fault, fault_when}
 use Rattle.mem_access.specs.Transfer.{after_access, transfer_fault}
 use Rattle.vector_step.specs.Registers.{VectorCore}
-use Rattle.vector_step.specs.Step.{is_vector_computed, vector_step}
+use Rattle.vector_step.specs.Step.{vector_step}
+use Rattle.sm_types.specs.declared.matrix.ArrayAccess.{ArrayAccess}
+use Rattle.sm_types.specs.declared.matrix.ArrayAccess.TheVariants as array
+use Rattle.sm_types.specs.declared.matrix.TileAccess.{TileAccess}
+use Rattle.matrix_step.specs.Step.{MatrixCore, matrix_step}
+use Rattle.za_access.specs.Contents.{Contents}
+use Rattle.za_access.specs.Vectors.{after_vector}
+use Rattle.za_access.specs.Vectors.{vector_fault as array_vector_fault}
+use Rattle.za_access.specs.Slices.{slice_fault, after_slice}
 use Rattle.sm_types.specs.declared.vector.VectorAccess.{VectorAccess}
-use Rattle.sve_access.specs.After.{AfterVectorAccess, vector_fault}
+use Rattle.sve_access.specs.After.{AfterVectorAccess, p_of, vector_fault}
 use Rattle.sve_access.specs.After.{after_access as after_vector_access}
 use Rattle.machine_step.specs.ProcessorState.{ProcessorState}
+use Rattle.machine_step.specs.Mode.{length_at, mode_written}
 use Rattle.machine_step.specs.System.{system_move, core_past}
 
 -- the word at PC, where its bytes are executable
@@ -46,40 +53,10 @@ is_executed_system (Dmb imm) = true
 is_executed_system (Dsb imm) = true
 is_executed_system (Isb imm) = true
 
--- moves of SVCR are not executed yet
-abbrev pub is_executed_register : SystemRegister → Bool
-is_executed_register Nzcv = true
-is_executed_register TpidrEl0 = true
-is_executed_register Tpidr2El0 = true
-is_executed_register Svcr = false
-
--- the instructions that are executed; those of ZA, and those that change the mode, are not yet
+-- the instructions that are executed: all others
 abbrev pub is_executed : Insn → Bool
 is_executed (insn.System x) = is_executed_system x
-is_executed (insn.SystemMove x) = is_executed_register x.register
-is_executed (insn.AddSubImmediate x) = true
-is_executed (insn.AddSubRegister x) = true
-is_executed (insn.LogicalRegister x) = true
-is_executed (insn.AddSubExtended x) = true
-is_executed (insn.LogicalImmediate x) = true
-is_executed (insn.MoveWide x) = true
-is_executed (insn.BitfieldMove x) = true
-is_executed (insn.Extract x) = true
-is_executed (insn.PcRelative x) = true
-is_executed (insn.Branch x) = true
-is_executed (insn.BranchRegister x) = true
-is_executed (insn.AddSubCarry x) = true
-is_executed (insn.ConditionalSelect x) = true
-is_executed (insn.ConditionalCompare x) = true
-is_executed (insn.OneSource x) = true
-is_executed (insn.TwoSource x) = true
-is_executed (insn.Multiply x) = true
-is_executed (insn.LoadStore x) = true
-is_executed (insn.LoadLiteral x) = true
-is_executed (insn.LoadStorePair x) = true
-is_executed (insn.Atomic x) = true
-is_executed (insn.VectorAccess x) = true
-is_executed other = is_vector_computed other
+is_executed other = true
 
 -- PC is a multiple of 4
 abbrev pub alignment_fault : ProcessorState → Option Exception
@@ -111,23 +88,50 @@ abbrev pub is_first_fault : Insn → Bool
 is_first_fault (insn.PredicateCount x) = is_first_fault_count x
 is_first_fault other = false
 
--- an instruction of the first-fault register is illegal in Streaming SVE mode
-abbrev pub mode_fault : Insn → Bool → Option Exception
-mode_fault it streaming = cond (is_first_fault it && streaming) (Some IllegalStreaming) None
+-- whether an instruction is of tiles of ZA, which are reached in Streaming SVE mode alone
+abbrev pub is_of_tiles : Insn → Bool
+is_of_tiles (insn.TileAccess x) = true
+is_of_tiles (insn.TileMove x) = true
+is_of_tiles (insn.TileAdd x) = true
+is_of_tiles (insn.OuterProduct x) = true
+is_of_tiles other = false
+
+-- whether an instruction reads or writes ZA
+abbrev pub is_of_array : Insn → Bool
+is_of_array (insn.ArrayAccess x) = true
+is_of_array (insn.TileAccess x) = true
+is_of_array (insn.TileMove x) = true
+is_of_array (insn.TileAdd x) = true
+is_of_array (insn.OuterProduct x) = true
+is_of_array other = false
+
+-- the exception of the first check of an instruction against PSTATE.SM and PSTATE.ZA that fails: an
+-- instruction of the first-fault register is illegal in Streaming SVE mode, one of tiles outside it, and one
+-- of ZA where ZA is off
+abbrev pub mode_fault : Insn → Bool → Bool → Option Exception
+mode_fault it streaming za_on = first_fault (
+    fault_when (is_first_fault it && streaming) IllegalStreaming
+    ∷ fault_when (is_of_tiles it && not streaming) NotStreaming
+    ∷ fault_when (is_of_array it && not za_on) ZaInactive
+    ∷ [])
 
 -- the mode allows the instruction at PC
 abbrev pub illegal_fault : ProcessorState → Option Exception
-illegal_fault s = option_and_then (λ it. mode_fault it s.streaming) (insn_at s)
+illegal_fault s = option_and_then (λ it. mode_fault it s.streaming s.za_on) (insn_at s)
 
--- the current vector length in bytes: SVL in Streaming SVE mode, which is the number of vectors of ZA, else VL
-abbrev pub length_at : ℕ → ProcessorState → ℕ
-length_at vl s = if s.streaming then length s.bank.za else vl
+-- the checks of an access to a vector of ZA, of which there are as many as each has bytes; ZERO makes none
+abbrev pub array_fault : ArrayAccess → ProcessorState → Option Exception
+array_fault (array.Zero mask) s = None
+array_fault (array.Transfer store rv offset rn) s =
+    array_vector_fault store offset rn s.scalars (length s.bank.za) s.memory
 
 -- the checks of the access that an instruction makes to memory; where an access of vectors is hangs on their
 -- length
 abbrev pub memory_fault : ℕ → Insn → ProcessorState → Option Exception
 memory_fault vl (insn.VectorAccess x) s =
     vector_fault x s.scalars (length_at vl s) s.bank.registers s.memory
+memory_fault vl (insn.ArrayAccess x) s = array_fault x s
+memory_fault vl (insn.TileAccess x) s = slice_fault x s.scalars (p_of s.bank.registers x.pg) s.memory
 memory_fault vl other s = transfer_fault other s.scalars s.memory
 
 -- those of the instruction at PC
@@ -189,6 +193,19 @@ with_core s core = record s { scalars = core.scalars; bank = record s.bank { reg
 abbrev pub vector_computed : ℕ → Insn → ProcessorState → ProcessorState
 vector_computed vl it s = core_past (with_core s (vector_step (length_at vl s) it (registers_of s)))
 
+-- the scalar registers, the vectors and ZA
+abbrev pub matrix_of : ProcessorState → MatrixCore
+matrix_of s = record { scalars = s.scalars; registers = s.bank.registers; za = s.bank.za }
+
+-- the state with others of them
+abbrev pub with_matrix : ProcessorState → MatrixCore → ProcessorState
+with_matrix s core =
+    record s { scalars = core.scalars; bank = record { registers = core.registers; za = core.za } }
+
+-- the state after an instruction of ZA or of the streaming vector length that accesses no memory
+abbrev pub matrix_computed : Insn → ProcessorState → ProcessorState
+matrix_computed it s = core_past (with_matrix s (matrix_step it (matrix_of s)))
+
 -- the state with what an access of vectors leaves
 abbrev pub with_access : ProcessorState → AfterVectorAccess → ProcessorState
 with_access s after =
@@ -200,10 +217,29 @@ vector_accessed vl x s =
     core_past
     (with_access s (after_vector_access x s.scalars (length_at vl s) s.bank.registers s.memory))
 
+-- the state with what an access of ZA leaves
+abbrev pub with_array : ProcessorState → Contents → ProcessorState
+with_array s after = record s { memory = after.memory; bank = record s.bank { za = after.za } }
+
+-- the state after ZERO, or a load or a store of a vector of ZA
+abbrev pub array_accessed : ArrayAccess → ProcessorState → ProcessorState
+array_accessed (array.Zero mask) s = matrix_computed (insn.ArrayAccess (array.Zero mask)) s
+array_accessed (array.Transfer store rv offset rn) s =
+    core_past
+    (with_array s
+    (after_vector store rv offset rn s.scalars (length s.bank.za) s.bank.za s.memory))
+
+-- the state after a load or a store of a slice of a tile
+abbrev pub slice_accessed : TileAccess → ProcessorState → ProcessorState
+slice_accessed x s =
+    core_past
+    (with_array s
+    (after_slice x s.scalars (p_of s.bank.registers x.pg) (length s.bank.za) s.bank.za s.memory))
+
 -- what an executed instruction does where it has no fault, with this vector length in bytes
 abbrev pub next_of : ℕ → Insn → ProcessorState → Effect
 next_of vl (insn.System x) s = system_effect x s
-next_of vl (insn.SystemMove x) s = Becomes (system_move x s)
+next_of vl (insn.SystemMove x) s = Becomes (system_move vl x s)
 next_of vl (insn.LoadStore x) s = Becomes (accessed (insn.LoadStore x) s)
 next_of vl (insn.LoadLiteral x) s = Becomes (accessed (insn.LoadLiteral x) s)
 next_of vl (insn.LoadStorePair x) s = Becomes (accessed (insn.LoadStorePair x) s)
@@ -226,6 +262,13 @@ next_of vl (insn.OneSource x) s = Becomes (computed (insn.OneSource x) s)
 next_of vl (insn.TwoSource x) s = Becomes (computed (insn.TwoSource x) s)
 next_of vl (insn.Multiply x) s = Becomes (computed (insn.Multiply x) s)
 next_of vl (insn.VectorAccess x) s = Becomes (vector_accessed vl x s)
+next_of vl (insn.Mode x) s = Becomes (core_past (mode_written vl x s))
+next_of vl (insn.ArrayAccess x) s = Becomes (array_accessed x s)
+next_of vl (insn.TileAccess x) s = Becomes (slice_accessed x s)
+next_of vl (insn.TileMove x) s = Becomes (matrix_computed (insn.TileMove x) s)
+next_of vl (insn.TileAdd x) s = Becomes (matrix_computed (insn.TileAdd x) s)
+next_of vl (insn.OuterProduct x) s = Becomes (matrix_computed (insn.OuterProduct x) s)
+next_of vl (insn.StreamingLength x) s = Becomes (matrix_computed (insn.StreamingLength x) s)
 next_of vl other s = Becomes (vector_computed vl other s)
 
 -- where there is no fault there is an instruction

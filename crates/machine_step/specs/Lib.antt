@@ -1,4 +1,5 @@
 pub mod ProcessorState
+pub mod Mode
 pub mod System
 pub mod Effect
 pub mod Needs

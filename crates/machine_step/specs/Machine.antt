@@ -9,7 +9,12 @@ use Rattle.a64_encode.specs.Either.{instruction_of}
 use Rattle.mem_access.specs.Bank.{bank_state}
 use Rattle.mem_access.specs.Transfer.{HasRoom, HasRoomFor}
 use Rattle.sve_vectors.specs.State.{length_of}
-use Rattle.sve_access.specs.After.{access_of}
+use Rattle.za_array.specs.Array.{zero_array}
+use Rattle.sm_types.specs.declared.matrix.ArrayAccess.{ArrayAccess}
+use Rattle.sm_types.specs.declared.matrix.ArrayAccess.TheVariants as array
+use Rattle.sve_access.specs.After.{access_of, p_of}
+use Rattle.za_access.specs.Vectors.{vector_access}
+use Rattle.za_access.specs.Slices.{slice_access}
 use Rattle.mem_access.specs.declared.bank.Bank.{Bank}
 use Rattle.machine_step.specs.ProcessorState.{ProcessorState, VectorState, vector_bytes}
 use Rattle.machine_step.specs.Effect.{Effect, Raises, Calls, Becomes, early_fault}
@@ -41,14 +46,23 @@ IsBecomes (Raises exception) = ⊥
 IsBecomes (Calls number) = ⊥
 IsBecomes (Becomes core) = Unit {0}
 
+-- the pages that an access to a vector of ZA writes are owned
+abbrev pub HasArrayRoom : Machine → Bank → ArrayAccess → Type 0
+HasArrayRoom m bank (array.Zero mask) = Unit {0}
+HasArrayRoom m bank (array.Transfer store rv offset rn) =
+    HasRoom (vector_access store offset rn m.scalars (vector_bytes bank.za.svl)) m.pages
+
 -- the pages that an instruction of a machine with a bank writes are owned
 abbrev pub HasRoomOn : Machine → Bank → Insn → Type 0
 HasRoomOn m bank (insn.VectorAccess x) =
     HasRoom (access_of x m.scalars (length_of bank.vectors) bank.vectors.registers) m.pages
+HasRoomOn m bank (insn.ArrayAccess x) = HasArrayRoom m bank x
+HasRoomOn m bank (insn.TileAccess x) =
+    HasRoom (slice_access x m.scalars (p_of bank.vectors.registers x.pg)) m.pages
 HasRoomOn m bank other = HasRoomFor other m.scalars m.pages
 
--- those of the instruction of a machine, if it has one, with the bank that is lent; where none is, vectors are
--- not accessed
+-- those of the instruction of a machine, if it has one, with the bank that is lent; where none is, vectors
+-- are not accessed
 abbrev pub HasRoomIn : Machine → Option Bank → Option Insn → Type 0
 HasRoomIn m None insn = IfSome insn (λ it. HasRoomFor it m.scalars m.pages)
 HasRoomIn m (Some bank) insn = IfSome insn (HasRoomOn m bank)
@@ -93,9 +107,15 @@ StepsOn effect old before new after end =
     Steps (effect (vector_bytes before.vectors.vl) (core_of old (bank_state before)))
     (core_of old (bank_state before)) (core_of new (bank_state after)) end
 
--- the vectors of a bank are in the mode of the machine
-abbrev pub IsInMode : Bank → Machine → Type 0
-IsInMode bank m = bank.vectors.streaming ≡ m.streaming
+-- the vectors of a bank are in the mode of the machine, and its array is zero where ZA is off
+pub record IsInMode (bank : Bank) (m : Machine) : Type 0 where
+  pub streaming : bank.vectors.streaming ≡ m.streaming
+  pub off : m.za_on ≡ false → bank.za ≡ zero_array bank.za.svl
+
+-- PSTATE.SM and PSTATE.ZA stay
+pub record KeepsMode (old new : Machine) : Type 0 where
+  pub streaming : new.streaming ≡ old.streaming
+  pub za_on : new.za_on ≡ old.za_on
 
 -- the lengths and the owner of a bank stay
 pub record IsSameBank (old new : Bank) : Type 0 where

@@ -5,6 +5,10 @@ use Rattle.sm_types.specs.declared.insn.Insn.{Insn}
 use Rattle.sm_types.specs.declared.insn.Insn.TheVariants as insn
 use Rattle.sm_types.specs.declared.insn.System.{System}
 use Rattle.sm_types.specs.declared.insn.System.TheVariants.{Svc, Brk, Udf, Hint, Dmb, Dsb, Isb}
+use Rattle.sm_types.specs.declared.insn.SystemMoveOp.{SystemMoveOp}
+use Rattle.sm_types.specs.declared.insn.SystemMoveOp.TheVariants.{Mrs, Msr}
+use Rattle.sm_types.specs.declared.insn.SystemRegister.{SystemRegister}
+use Rattle.sm_types.specs.declared.insn.SystemRegister.TheVariants.{Nzcv, TpidrEl0, Tpidr2El0, Svcr}
 use Rattle.sm_types.specs.declared.stop.Exception.{Exception}
 use Rattle.machine_step.specs.ProcessorState.{ProcessorState}
 use Rattle.machine_step.specs.Effect.{insn_at, early_fault}
@@ -19,10 +23,19 @@ is_call (Dmb imm) = false
 is_call (Dsb imm) = false
 is_call (Isb imm) = false
 
--- whether an instruction reads or writes vectors, predicates, FFR or ZA, or changes PSTATE.SM: the vector
--- instructions, and SVC in Streaming SVE mode, which leaves it
+-- a write to SVCR
+abbrev pub writes_svcr : SystemMoveOp → SystemRegister → Bool
+writes_svcr Mrs register = false
+writes_svcr Msr Nzcv = false
+writes_svcr Msr TpidrEl0 = false
+writes_svcr Msr Tpidr2El0 = false
+writes_svcr Msr Svcr = true
+
+-- whether an instruction reads or writes vectors, predicates, FFR or ZA, or may change PSTATE.SM or
+-- PSTATE.ZA: the vector instructions, writes to SVCR, and SVC in Streaming SVE mode, which leaves it
 abbrev pub uses_bank : Insn → Bool → Bool
 uses_bank (insn.System x) streaming = is_call x && streaming
+uses_bank (insn.SystemMove x) streaming = writes_svcr x.op x.register
 uses_bank (insn.VectorArithmetic x) streaming = true
 uses_bank (insn.VectorLogical x) streaming = true
 uses_bank (insn.PredicatedBinary x) streaming = true

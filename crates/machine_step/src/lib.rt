@@ -2,9 +2,12 @@
 //! all its answers but `Next` leave the machine as it was.
 #![tactic(auto)]
 
+mod array;
 mod machine;
+mod mode;
 mod scalar;
 mod system;
 mod vector;
 
 pub use machine::{Machine, StepEnd};
+pub use mode::write_streaming;

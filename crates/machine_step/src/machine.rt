@@ -30,7 +30,7 @@ pub enum StepEnd {
     Memory,
 }
 
-/// What an instruction reads and writes, but for the vectors, the predicates and ZA.
+/// What an instruction reads and writes, but for the vectors, the predicates, FFR and ZA.
 #[derive(Drop)]
 pub struct Machine {
     pub scalars: Scalars,
@@ -115,9 +115,9 @@ impl Machine {
         ensures kept { KeepsOwned self.old.pages self.new.pages }
     {
         match decode_scalar(word) {
-            Some(insn) => self.execute(word, &insn),
+            Some(insn) => self.execute_scalar_on(word, &insn, bank),
             None => match decode_vector(word) {
-                Some(insn) => self.execute_vector(word, &insn, bank),
+                Some(insn) => self.execute_vector(&insn, bank),
                 None => StepEnd::Raise(Exception::Undefined(word)),
             },
         }
@@ -134,7 +134,7 @@ impl Machine {
         match decode_scalar(word) {
             Some(insn) => self.execute_scalar_alone(word, &insn),
             None => match decode_vector(word) {
-                Some(insn) => self.refuse_vector(word, &insn),
+                Some(insn) => self.refuse_vector(&insn),
                 None => StepEnd::Raise(Exception::Undefined(word)),
             },
         }

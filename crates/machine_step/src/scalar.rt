@@ -1,43 +1,43 @@
 //! The instructions of the general registers: those that see scalar registers alone, accesses to memory, and
 //! those of the system.
-ghost use Rattle.std.specs.Prelude.{ℕ, ◌≡◌, ◌≢◌, ◌<◌, ◌&&◌, Bool, IsTrue};
+ghost use Rattle.std.specs.Prelude.{ℕ, ◌≡◌, ◌≢◌, ◌<◌, Bool, IsTrue, false};
 ghost use Rattle.a64_table.specs.Ranges.{IsInRow};
 ghost use Rattle.scalar_exec.specs.Step.{is_scalar, scalar_step, flowed};
 ghost use Rattle.paged_memory.specs.PageTable.{KeepsOwned};
 ghost use Rattle.mem_access.specs.Transfer.{is_access, HasRoomFor};
 ghost use Rattle.machine_step.specs.ProcessorState.{VectorState};
 ghost use Rattle.machine_step.specs.System.{moved, core_past, system_register, with_system_register};
-ghost use Rattle.machine_step.specs.Effect.{is_executed_register};
-ghost use Rattle.machine_step.specs.Needs.{uses_bank};
+ghost use Rattle.machine_step.specs.Needs.{uses_bank, writes_svcr};
 ghost use Rattle.machine_step.specs.Execution.{effect_of_insn, needs_of_insn};
-ghost use Rattle.machine_step.specs.Machine.{core_of, StepsBy, StepsAlone};
+ghost use Rattle.machine_step.specs.Machine.{core_of, StepsBy, StepsAlone, StepsOn, KeepsMode};
+ghost use Rattle.machine_step.specs.Machine.{IsInMode, IsSameBank, HasRoomOn};
 
 use crate::machine::{Machine, StepEnd};
 use crate::system::{read_nzcv, write_nzcv};
-use mem_access::{AccessStop, transfer};
+use mem_access::{AccessStop, Bank, transfer};
 use scalar_exec::{Flow, exec_scalar, next_address, read_x, write_x};
 use sm_types::{Exception, Insn, Scalars, System, SystemMove, SystemMoveOp, SystemRegister};
 
-/// Whether a scalar instruction is a call of the kernel.
-fn is_call(insn: &Insn) -> bool
-    requires { IsInRow insn.now }
-    ensures { (streaming : Bool) → uses_bank insn.now streaming ≡ result && streaming }
+/// Whether a move writes SVCR.
+fn writes_svcr(x: &SystemMove) -> bool
+    ensures { result ≡ writes_svcr x.now.op x.now.register }
 {
-    match insn {
-        Insn::System(System::Svc(_)) => true,
+    match (x.op, x.register) {
+        (SystemMoveOp::Msr, SystemRegister::Svcr) => true,
         _ => false,
     }
 }
 
-/// Whether moves of a system register are executed.
-fn is_register_executed(register: SystemRegister) -> bool
-    ensures { result ≡ is_executed_register register }
+/// Whether a scalar instruction needs a bank: a call of the kernel does in Streaming SVE mode, and a write to
+/// SVCR.
+fn uses_bank(insn: &Insn, streaming: bool) -> bool
+    requires { IsInRow insn.now }
+    ensures { result ≡ uses_bank insn.now streaming }
 {
-    match register {
-        SystemRegister::Nzcv => true,
-        SystemRegister::TpidrEl0 => true,
-        SystemRegister::Tpidr2El0 => true,
-        SystemRegister::Svcr => false,
+    match insn {
+        Insn::System(System::Svc(_)) => streaming,
+        Insn::SystemMove(x) => writes_svcr(x),
+        _ => false,
     }
 }
 
@@ -53,7 +53,7 @@ fn move_pc(s: &mut Scalars, flow: Flow)
 }
 
 impl Machine {
-    /// Executes a scalar instruction without a bank, which a call of the kernel in Streaming SVE mode needs.
+    /// Executes a scalar instruction without a bank, which a few need.
     pub(crate) fn execute_scalar_alone(&mut self, word: u32, insn: &Insn) -> StepEnd
         requires { IsInRow insn.now }
         ensures effect { StepsAlone (needs_of_insn insn.now) (effect_of_insn word insn.now)
@@ -61,23 +61,46 @@ impl Machine {
         ensures room { HasRoomFor insn.now self.old.scalars self.old.pages → result ≢ StepEnd.Memory }
         ensures kept { KeepsOwned self.old.pages self.new.pages }
     {
-        if is_call(insn) && self.streaming {
+        if uses_bank(insn, self.streaming) {
             return StepEnd::NeedsBank;
         }
         self.execute(word, insn)
     }
 
-    /// Executes a scalar instruction that the word means.
+    /// Executes a scalar instruction on a bank, which a write to SVCR changes.
+    pub(crate) fn execute_scalar_on(&mut self, word: u32, insn: &Insn, bank: &mut Bank) -> StepEnd
+        requires fields { IsInRow insn.now }
+        requires mode { IsInMode bank.old self.old }
+        ensures effect { StepsOn (effect_of_insn word insn.now) self.old bank.old self.new bank.new result }
+        ensures same { IsSameBank bank.old bank.new }
+        ensures mode { IsInMode bank.new self.new }
+        ensures room { HasRoomOn self.old bank.old insn.now → result ≢ StepEnd.Memory }
+        ensures kept { KeepsOwned self.old.pages self.new.pages }
+    {
+        match insn {
+            Insn::SystemMove(x) => {
+                if writes_svcr(x) {
+                    self.move_to_svcr(bank, x)
+                } else {
+                    self.execute(word, insn)
+                }
+            }
+            _ => self.execute(word, insn),
+        }
+    }
+
+    /// Executes a scalar instruction that the word means, and that does not write SVCR.
     pub(crate) fn execute(&mut self, word: u32, insn: &Insn) -> StepEnd
-        requires { IsInRow insn.now }
+        requires fields { IsInRow insn.now }
+        requires mode { uses_bank insn.now false ≡ false }
         ensures effect { StepsBy (effect_of_insn word insn.now) self.old self.new result }
         ensures room { HasRoomFor insn.now self.old.scalars self.old.pages → result ≢ StepEnd.Memory }
         ensures kept { KeepsOwned self.old.pages self.new.pages }
-        ensures mode { self.new.streaming ≡ self.old.streaming }
+        ensures mode { KeepsMode self.old self.new }
     {
         match insn {
             Insn::System(x) => self.execute_system(word, *x),
-            Insn::SystemMove(x) => self.execute_move(word, x),
+            Insn::SystemMove(x) => self.execute_move(x),
             Insn::LoadStore(_) => self.execute_access(insn),
             Insn::LoadLiteral(_) => self.execute_access(insn),
             Insn::LoadStorePair(_) => self.execute_access(insn),
@@ -93,7 +116,7 @@ impl Machine {
         ensures effect { (word : ℕ) → StepsBy (effect_of_insn word insn.now) self.old self.new result }
         ensures answer { result ≡ StepEnd.Next }
         ensures pages { self.new.pages ≡ self.old.pages }
-        ensures mode { self.new.streaming ≡ self.old.streaming }
+        ensures mode { KeepsMode self.old self.new }
     {
         let flow = exec_scalar(&mut self.scalars, insn);
         move_pc(&mut self.scalars, flow);
@@ -107,7 +130,7 @@ impl Machine {
         ensures effect { (word : ℕ) → StepsBy (effect_of_insn word insn.now) self.old self.new result }
         ensures room { HasRoomFor insn.now self.old.scalars self.old.pages → result ≢ StepEnd.Memory }
         ensures kept { KeepsOwned self.old.pages self.new.pages }
-        ensures mode { self.new.streaming ≡ self.old.streaming }
+        ensures mode { KeepsMode self.old self.new }
     {
         match transfer(insn, &mut self.scalars, &mut self.pages) {
             Ok(()) => self.step_past(),
@@ -122,7 +145,7 @@ impl Machine {
         ensures answer { result ≡ StepEnd.Next }
         ensures pages { self.new.pages ≡ self.old.pages }
         ensures core { (bank : VectorState) → core_of self.new bank ≡ core_past (core_of self.old bank) }
-        ensures mode { self.new.streaming ≡ self.old.streaming }
+        ensures mode { KeepsMode self.old self.new }
     {
         move_pc(&mut self.scalars, Flow::Next);
         StepEnd::Next
@@ -133,7 +156,7 @@ impl Machine {
         ensures effect { StepsBy (effect_of_insn word (Insn.System x)) self.old self.new result }
         ensures room { result ≢ StepEnd.Memory }
         ensures pages { self.new.pages ≡ self.old.pages }
-        ensures mode { self.new.streaming ≡ self.old.streaming }
+        ensures mode { KeepsMode self.old self.new }
     {
         match x {
             System::Svc(imm) => StepEnd::Call(imm),
@@ -162,41 +185,41 @@ impl Machine {
     /// Writes a system register, but SVCR.
     #[tactic(auto, unfolding(crate::specs::System::with_system_register))]
     fn write_register(&mut self, register: SystemRegister, value: u64)
-        ensures core { (bank : VectorState)
-            → core_of self.new bank ≡ with_system_register register (core_of self.old bank) value }
+        requires { writes_svcr SystemMoveOp.Msr register ≡ false }
+        ensures core { (vl : ℕ) (bank : VectorState)
+            → core_of self.new bank ≡ with_system_register vl register (core_of self.old bank) value }
         ensures pages { self.new.pages ≡ self.old.pages }
-        ensures mode { self.new.streaming ≡ self.old.streaming }
+        ensures mode { KeepsMode self.old self.new }
     {
         match register {
             SystemRegister::Nzcv => write_nzcv(&mut self.scalars, value),
             SystemRegister::TpidrEl0 => self.tpidr = value,
             SystemRegister::Tpidr2El0 => self.tpidr2 = value,
-            SystemRegister::Svcr => {}
+            SystemRegister::Svcr => unreachable!(),
         }
     }
 
-    /// Executes a move to or from a system register; those of SVCR raise.
-    fn execute_move(&mut self, word: u32, x: &SystemMove) -> StepEnd
-        requires { x.now.rt < 32 }
-        ensures effect { StepsBy (effect_of_insn word (Insn.SystemMove x.now)) self.old self.new result }
+    /// Executes a move to or from a system register, but one to SVCR.
+    fn execute_move(&mut self, x: &SystemMove) -> StepEnd
+        requires rt { x.now.rt < 32 }
+        requires mode { writes_svcr x.now.op x.now.register ≡ false }
+        ensures effect { (word : ℕ) → StepsBy (effect_of_insn word (Insn.SystemMove x.now)) self.old self.new result }
         ensures room { result ≢ StepEnd.Memory }
         ensures pages { self.new.pages ≡ self.old.pages }
-        ensures mode { self.new.streaming ≡ self.old.streaming }
+        ensures mode { KeepsMode self.old self.new }
     {
-        if !is_register_executed(x.register) {
-            return StepEnd::Raise(Exception::Undefined(word));
-        }
         self.move_register(x);
         self.step_past()
     }
 
     /// Moves a system register to a register, or back.
     fn move_register(&mut self, x: &SystemMove)
-        requires { x.now.rt < 32 }
-        ensures core { (bank : VectorState)
-            → core_of self.new bank ≡ moved x.now.op x.now (core_of self.old bank) }
+        requires rt { x.now.rt < 32 }
+        requires mode { writes_svcr x.now.op x.now.register ≡ false }
+        ensures core { (vl : ℕ) (bank : VectorState)
+            → core_of self.new bank ≡ moved vl x.now.op x.now (core_of self.old bank) }
         ensures pages { self.new.pages ≡ self.old.pages }
-        ensures mode { self.new.streaming ≡ self.old.streaming }
+        ensures mode { KeepsMode self.old self.new }
     {
         match x.op {
             SystemMoveOp::Mrs => {

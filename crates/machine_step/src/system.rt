@@ -22,7 +22,7 @@ pub fn read_nzcv(s: &Scalars) -> u64
 }
 
 /// A bit of a value.
-fn bit(value: u64, place: u32) -> bool
+pub fn bit(value: u64, place: u32) -> bool
     requires { place < 64 }
     ensures { result ≡ bit_at value place }
 {

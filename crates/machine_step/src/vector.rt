@@ -1,6 +1,5 @@
 //! The instructions of the vectors.
-ghost use Rattle.std.specs.Prelude.{ℕ, ◌≡◌, ◌≢◌, cond, None, Some, IsTrue};
-ghost use Rattle.sm_types.specs.declared.stop.Exception.TheVariants.{Undefined};
+ghost use Rattle.std.specs.Prelude.{ℕ, ◌≡◌, ◌≢◌, None, IsTrue};
 ghost use Rattle.sve_table.specs.Ranges.{IsInVectorRow, IsVectorAccess};
 ghost use Rattle.sve_vectors.specs.State.{length_of};
 ghost use Rattle.paged_memory.specs.PageTable.{KeepsOwned};
@@ -9,15 +8,17 @@ ghost use Rattle.mem_access.specs.Transfer.{HasRoom};
 ghost use Rattle.sve_access.specs.After.{access_of};
 ghost use Rattle.machine_step.specs.ProcessorState.{vector_bytes};
 ghost use Rattle.vector_step.specs.Step as step;
+ghost use Rattle.matrix_step.specs.Step as matrix;
 ghost use Rattle.machine_step.specs.Effect as effect;
 ghost use Rattle.machine_step.specs.Execution.{effect_of_insn, needs_of_insn};
 ghost use Rattle.machine_step.specs.Machine.{core_of, StepsAlone, StepsOn, IsInMode, IsSameBank, HasRoomOn};
 
 use crate::machine::{Machine, StepEnd};
+use matrix_step::exec_matrix;
 use mem_access::{AccessStop, Bank};
 use sm_types::{Exception, Insn, PredicateCount, VectorAccess};
 use sve_access::transfer_vector;
-use vector_step::{exec_vector, is_vector_computed};
+use vector_step::exec_vector;
 
 /// Whether an instruction is of the first-fault register.
 fn is_first_fault(insn: &Insn) -> bool
@@ -31,60 +32,78 @@ fn is_first_fault(insn: &Insn) -> bool
     }
 }
 
-/// Whether a vector instruction is executed.
-fn is_executed(insn: &Insn) -> bool
-    requires { IsInVectorRow insn.now }
-    ensures { result ≡ effect.is_executed insn.now }
+/// Whether an instruction is of tiles of ZA.
+fn is_of_tiles(insn: &Insn) -> bool
+    ensures { result ≡ effect.is_of_tiles insn.now }
 {
     match insn {
-        Insn::VectorAccess(_) => true,
-        _ => is_vector_computed(insn),
+        Insn::TileAccess(_) | Insn::TileMove(_) | Insn::TileAdd(_) | Insn::OuterProduct(_) => true,
+        _ => false,
     }
 }
 
-/// The exception of a vector instruction that is not executed, or that the mode does not allow.
-fn vector_fault(word: u32, insn: &Insn, streaming: bool) -> Option<Exception>
-    requires { IsInVectorRow insn.now }
-    ensures { result ≡ cond (effect.is_executed insn.now)
-        (effect.mode_fault insn.now streaming) (Some (Undefined word)) }
+/// Whether an instruction is of tiles or vectors of ZA.
+fn is_of_array(insn: &Insn) -> bool
+    ensures { result ≡ effect.is_of_array insn.now }
 {
-    if !is_executed(insn) {
-        return Some(Exception::Undefined(word));
+    match insn {
+        Insn::ArrayAccess(_) => true,
+        _ => is_of_tiles(insn),
     }
+}
+
+/// The exception of an instruction that PSTATE.SM or PSTATE.ZA does not allow.
+fn mode_fault(insn: &Insn, streaming: bool, za_on: bool) -> Option<Exception>
+    ensures { result ≡ effect.mode_fault insn.now streaming za_on }
+{
     if is_first_fault(insn) && streaming {
         return Some(Exception::IllegalStreaming);
+    }
+    if is_of_tiles(insn) && !streaming {
+        return Some(Exception::NotStreaming);
+    }
+    if is_of_array(insn) && !za_on {
+        return Some(Exception::ZaInactive);
     }
     None
 }
 
 impl Machine {
     /// What a vector instruction comes to without a bank.
-    pub(crate) fn refuse_vector(&self, word: u32, insn: &Insn) -> StepEnd
+    pub(crate) fn refuse_vector(&self, insn: &Insn) -> StepEnd
         requires { IsInVectorRow insn.now }
-        ensures effect { StepsAlone (needs_of_insn insn.now) (effect_of_insn word insn.now)
+        ensures effect { (word : ℕ) → StepsAlone (needs_of_insn insn.now) (effect_of_insn word insn.now)
             self.now self.now result }
         ensures room { result ≢ StepEnd.Memory }
     {
-        match vector_fault(word, insn, self.streaming) {
+        match mode_fault(insn, self.streaming, self.za_on) {
             Some(exception) => StepEnd::Raise(exception),
             None => StepEnd::NeedsBank,
         }
     }
 
     /// Executes a vector instruction that the word means.
-    pub(crate) fn execute_vector(&mut self, word: u32, insn: &Insn, bank: &mut Bank) -> StepEnd
+    pub(crate) fn execute_vector(&mut self, insn: &Insn, bank: &mut Bank) -> StepEnd
         requires fields { IsInVectorRow insn.now }
         requires mode { IsInMode bank.old self.old }
-        ensures effect { StepsOn (effect_of_insn word insn.now) self.old bank.old self.new bank.new result }
+        ensures effect { (word : ℕ) → StepsOn (effect_of_insn word insn.now) self.old bank.old self.new
+            bank.new result }
         ensures same { IsSameBank bank.old bank.new }
         ensures mode { IsInMode bank.new self.new }
         ensures room { HasRoomOn self.old bank.old insn.now → result ≢ StepEnd.Memory }
         ensures kept { KeepsOwned self.old.pages self.new.pages }
     {
-        match vector_fault(word, insn, self.streaming) {
+        match mode_fault(insn, self.streaming, self.za_on) {
             Some(exception) => StepEnd::Raise(exception),
             None => match insn {
                 Insn::VectorAccess(x) => self.access_vectors(x, bank),
+                Insn::Mode(x) => self.change_mode(bank, x),
+                Insn::ArrayAccess(x) => self.execute_array(x, bank),
+                Insn::TileAccess(x) => self.access_slice(x, bank),
+                Insn::TileMove(_)
+                | Insn::TileAdd(_)
+                | Insn::OuterProduct(_)
+                | Insn::StreamingLength(_) => self.compute_matrix(insn, bank),
                 _ => self.compute_vector(insn, bank),
             },
         }
@@ -102,7 +121,27 @@ impl Machine {
         ensures mode { IsInMode bank.new self.new }
         ensures pages { self.new.pages ≡ self.old.pages }
     {
+        let _size = bank.za.size();
         exec_vector(&mut self.scalars, &mut bank.vectors, insn);
+        self.step_past()
+    }
+
+    /// Executes an instruction of ZA or of the streaming vector length that accesses no memory, and that the
+    /// modes allow.
+    pub(crate) fn compute_matrix(&mut self, insn: &Insn, bank: &mut Bank) -> StepEnd
+        requires computed { IsTrue (matrix.is_matrix_computed insn.now) }
+        requires fields { IsInVectorRow insn.now }
+        requires allowed { effect.mode_fault insn.now self.old.streaming self.old.za_on ≡ None }
+        requires mode { IsInMode bank.old self.old }
+        ensures answer { result ≡ StepEnd.Next }
+        ensures core { core_of self.new (bank_state bank.new) ≡
+            effect.matrix_computed insn.now (core_of self.old (bank_state bank.old)) }
+        ensures same { IsSameBank bank.old bank.new }
+        ensures mode { IsInMode bank.new self.new }
+        ensures pages { self.new.pages ≡ self.old.pages }
+    {
+        let _size = bank.za.size();
+        exec_matrix(&mut self.scalars, &mut bank.vectors, &mut bank.za, insn);
         self.step_past()
     }
 
@@ -118,6 +157,7 @@ impl Machine {
             bank.old.vectors.registers) self.old.pages → result ≢ StepEnd.Memory }
         ensures kept { KeepsOwned self.old.pages self.new.pages }
     {
+        let _size = bank.za.size();
         match transfer_vector(x, &self.scalars, &mut bank.vectors, &mut self.pages) {
             Ok(()) => self.step_past(),
             Err(AccessStop::Raise(exception)) => StepEnd::Raise(exception),

@@ -17,4 +17,4 @@ returns-in-Some-decode_vector-clause-effect c vl bank =
     let is : instruction_of c.args.word ≡ Some c.in-Some-decode_vector.insn =
     ap (λ o. option_or o (vector_meaning_of c.args.word)) (sym c.decode_scalar.ensures.value ∙ c.in-None.is)
     ∙ sym c.decode_vector.ensures.value ∙ c.in-Some-decode_vector.is in
-    rw is (c.refuse_vector.ensures.effect vl bank)
+    rw is (c.refuse_vector.ensures.effect c.args.word vl bank)

@@ -2,8 +2,6 @@ use Rattle.std.proofs.Common.{◌≡◌, Some, sym, ap, ◌∙◌}
 use Rattle.std.specs.Option.{option_or}
 use Rattle.a64_encode.specs.Either.{instruction_of}
 use Rattle.sve_table.specs.Table.{vector_meaning_of}
-use Rattle.mem_access.specs.Bank.{bank_state}
-use Rattle.machine_step.specs.ProcessorState.{vector_bytes}
 use Rattle.machine_step.proofs.machine.Machine.execute_on.Goals as goal
 
 pub returns-in-Some-clause-effect : goal.returns-in-Some-clause-effect
@@ -11,7 +9,7 @@ unfolding instruction_of
 returns-in-Some-clause-effect c =
     let is : instruction_of c.args.word ≡ Some c.in-Some.insn =
     ap (λ o. option_or o (vector_meaning_of c.args.word)) (sym c.decode_scalar.ensures.value ∙ c.in-Some.is) in
-    rw is (c.execute.ensures.effect (vector_bytes c.args.bank.now.vectors.vl) (bank_state c.args.bank.now))
+    rw is c.execute_scalar_on.ensures.effect
 
 pub returns-in-Some-decode_vector-clause-effect : goal.returns-in-Some-decode_vector-clause-effect
 unfolding instruction_of
@@ -19,4 +17,4 @@ returns-in-Some-decode_vector-clause-effect c =
     let is : instruction_of c.args.word ≡ Some c.in-Some-decode_vector.insn =
     ap (λ o. option_or o (vector_meaning_of c.args.word)) (sym c.decode_scalar.ensures.value ∙ c.in-None.is)
     ∙ sym c.decode_vector.ensures.value ∙ c.in-Some-decode_vector.is in
-    rw is c.execute_vector.ensures.effect
+    rw is (c.execute_vector.ensures.effect c.args.word)
