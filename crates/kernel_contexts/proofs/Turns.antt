@@ -11,7 +11,7 @@ use Rattle.machine_step.specs.ProcessorState.{ProcessorState, vector_bytes}
 use Rattle.machine_step.specs.Effect.{Effect, Raises, Calls, Becomes, effect_of}
 use Rattle.kernel_contexts.specs.State.{State}
 use Rattle.kernel_contexts.specs.Call.{TurnEnd, Goes, Yields, Asks, Ends, counted, written, call_of, write_of, exit_of, output_limit}
-use Rattle.kernel_contexts.specs.Turn.{turn_of, after_effect}
+use Rattle.kernel_contexts.specs.Turn.{turn_of, after_effect, outside_streaming}
 
 pub turn_spent : (config : Config) (thread events : ℕ) (s : State) → s.count ≡ config.budget
     → turn_of config thread events s ≡ Ends s Budget
@@ -29,10 +29,10 @@ turn_becomes config thread events s core e is = turn_on config thread events s e
 
 pub turn_calls : (config : Config) (thread events : ℕ) (s : State) (core : ProcessorState) (number : ℕ) → (s.count ≡ config.budget → ⊥)
     → effect_of (vector_bytes config.vl) s.core ≡ Calls number → core ≡ s.core
-    → turn_of config thread events s ≡ call_of config thread (record s { core = core }) (record s { core = core })
+    → turn_of config thread events s ≡ call_of config thread (record s { core = core }) (outside_streaming config (record s { core = core }))
 turn_calls config thread events s core number e is same =
     turn_on config thread events s e ∙ ap (after_effect config thread s) is
-    ∙ ap (λ core. call_of config thread (record s { core = core }) (record s { core = core })) (sym same)
+    ∙ ap (λ core. call_of config thread (record s { core = core }) (outside_streaming config (record s { core = core }))) (sym same)
 
 pub turn_raises : (config : Config) (thread events : ℕ) (s : State) (core : ProcessorState) (exception : Exception)
     → (s.count ≡ config.budget → ⊥) → effect_of (vector_bytes config.vl) s.core ≡ Raises exception → core ≡ s.core
@@ -56,25 +56,31 @@ CountsOne s (Ends t stop) = (t.turns ≡ s.turns) ⊎ IsOneMore s t
 one_more : (s : State) (core : ProcessorState) → IsOneMore s (counted s core)
 one_more s core = record { count = refl; turns = refl }
 
-written_counts : (s : State) (read : Option (List ℕ)) (length : ℕ) → IsOneMore s (written s read length)
-written_counts s None length = one_more s _
-written_counts s (Some bytes) length = record { count = refl; turns = refl }
+-- a call from a state that differs from that before it in the core alone
+module _ (s : State) (core : ProcessorState) where
+  abbrev from : State
+  from = record s { core = core }
 
-write_counts : (s : State) → CountsOne s (write_of s s)
-unfolding write_of
-write_counts s = cond_both ((slice_index s.core.scalars.x 0 == 1) || (slice_index s.core.scalars.x 0 == 2)) _ _ (CountsOne s)
-    (λ _. cond_both (nat_lt output_limit (length s.output + slice_index s.core.scalars.x 2)) _ _ (CountsOne s) (λ _. inl refl)
-    (λ _. written_counts s _ _))
-    (λ _. one_more s _)
+  written_counts : (read : Option (List ℕ)) (length : ℕ) → IsOneMore s (written from read length)
+  written_counts None length = record { count = refl; turns = refl }
+  written_counts (Some bytes) length = record { count = refl; turns = refl }
 
-call_counts : (config : Config) (thread : ℕ) (s : State) → CountsOne s (call_of config thread s s)
-unfolding call_of exit_of
-call_counts config thread s = cond_both (slice_index s.core.scalars.x 8 == 64) _ _ (CountsOne s) (λ _. write_counts s)
-    (λ _. cond_both (slice_index s.core.scalars.x 8 == 93) _ _ (CountsOne s) (λ _. inr (one_more s _)) (λ _. one_more s _))
+  write_counts : CountsOne s (write_of s from)
+  unfolding write_of
+  write_counts = cond_both ((slice_index core.scalars.x 0 == 1) || (slice_index core.scalars.x 0 == 2)) _ _ (CountsOne s)
+      (λ _. cond_both (nat_lt output_limit (length s.output + slice_index core.scalars.x 2)) _ _ (CountsOne s) (λ _. inl refl)
+      (λ _. written_counts _ _))
+      (λ _. record { count = refl; turns = refl })
+
+  pub call_counts : (config : Config) (thread : ℕ) → CountsOne s (call_of config thread s from)
+  unfolding call_of exit_of
+  call_counts config thread = cond_both (slice_index core.scalars.x 8 == 64) _ _ (CountsOne s) (λ _. write_counts)
+      (λ _. cond_both (slice_index core.scalars.x 8 == 93) _ _ (CountsOne s)
+      (λ _. inr (record { count = refl; turns = refl })) (λ _. record { count = refl; turns = refl }))
 
 effect_counts : (config : Config) (thread : ℕ) (s : State) (effect : Effect) → CountsOne s (after_effect config thread s effect)
 effect_counts config thread s (Raises exception) = inl refl
-effect_counts config thread s (Calls number) = call_counts config thread s
+effect_counts config thread s (Calls number) = call_counts s (outside_streaming config s).core config thread
 effect_counts config thread s (Becomes core) = one_more s core
 
 pub turn_counts : (config : Config) (thread events : ℕ) (s : State) → CountsOne s (turn_of config thread events s)

@@ -11,7 +11,7 @@ use Rattle.machine_step.specs.Machine.{core_of}
 use Rattle.machine_step.specs.declared.machine.Machine.{Machine}
 use Rattle.kernel_contexts.specs.State.{State}
 use Rattle.kernel_contexts.specs.Call.{TurnEnd, Goes, Ends, call_of}
-use Rattle.kernel_contexts.specs.Turn.{turn_of}
+use Rattle.kernel_contexts.specs.Turn.{turn_of, outside_streaming}
 use Rattle.kernel_contexts.specs.declared.guest.GuestThread.{GuestThread}
 use Rattle.kernel_contexts.specs.declared.context.Context.{Context}
 use Rattle.kernel_contexts.specs.declared.context.Turn.{Turn}
@@ -81,9 +81,9 @@ Turns end old new stopped Memory = (new ≡ old) × (stopped ≡ None)
 abbrev pub guest_turn : GuestThread → TurnEnd
 guest_turn g = turn_of g.config g.number 0 (held_state g)
 
--- its call of the kernel, for which it has no streaming mode to leave
+-- its call of the kernel, before which it leaves Streaming SVE mode
 abbrev pub guest_call : GuestThread → TurnEnd
-guest_call g = call_of g.config g.number (held_state g) (held_state g)
+guest_call g = call_of g.config g.number (held_state g) (outside_streaming g.config (held_state g))
 
 -- the same, of a guest thread before and after
 abbrev pub Takes : TurnEnd → GuestThread → GuestThread → Turn → Type 0

@@ -1,17 +1,21 @@
 -- One turn of a guest thread that has not stopped: the budget's end, else one instruction.
-use Rattle.std.specs.Prelude.{ℕ, ◌==◌, cond}
+use Rattle.std.specs.Prelude.{ℕ, ◌==◌, false, cond}
 use Rattle.sm_types.specs.declared.config.Config.{Config}
 use Rattle.sm_types.specs.declared.stop.Stop.TheVariants.{Budget, Raised}
 use Rattle.machine_step.specs.ProcessorState.{vector_bytes}
+use Rattle.machine_step.specs.Mode.{with_sm}
 use Rattle.machine_step.specs.Effect.{Effect, Raises, Calls, Becomes, effect_of}
 use Rattle.kernel_contexts.specs.State.{State}
 use Rattle.kernel_contexts.specs.Call.{TurnEnd, Goes, Ends, counted, call_of}
 
+-- outside Streaming SVE mode, which a call leaves before all else
+abbrev pub outside_streaming : Config → State → State
+outside_streaming config s = record s { core = with_sm (vector_bytes config.vl) false s.core }
+
 -- an instruction that raises is not counted; every other is, but for the calls that stop
--- Streaming mode is not entered yet, so a call has none to leave.
 abbrev pub after_effect : Config → ℕ → State → Effect → TurnEnd
 after_effect config thread s (Raises exception) = Ends s (Raised exception s.core.scalars.pc)
-after_effect config thread s (Calls number) = call_of config thread s s
+after_effect config thread s (Calls number) = call_of config thread s (outside_streaming config s)
 after_effect config thread s (Becomes core) = Goes (counted s core)
 
 -- the turn of the thread of that number, with so many events of its journal so far: where the counted

@@ -122,7 +122,7 @@ impl Context {
         &self.guest.machine
     }
 
-    /// The thread's vectors, predicates and FFR: its save area, a bank without an owner.
+    /// The thread's vectors, predicates, FFR and ZA: its save area, a bank without an owner.
     pub fn bank(&self) -> &Bank
         ensures value { result.now ≡ save_area_of self.now }
         ensures owner { result.now.owner ≡ None }

@@ -6,14 +6,14 @@ ghost use Rattle.kernel_contexts.specs.State.{start_scalars};
 mod call;
 
 use crate::context::Turn;
-use machine_step::{Machine, StepEnd};
+use machine_step::{Machine, StepEnd, write_streaming};
 use mem_access::Bank;
 use paged_memory::{Image, Pages};
 use sm_types::{Config, Memory, Scalars, Stop};
 use std::alloc::Global;
 
-/// A guest thread: its machine, the save area of its vectors, its options, and what the kernel keeps of it.
-/// Its functions take it through the parts of a turn.
+/// A guest thread: its machine, the save area of its vectors and ZA, its options, and what the kernel keeps
+/// of it. Its functions take it through the parts of a turn.
 #[derive(Drop)]
 pub struct GuestThread {
     pub machine: Machine,
@@ -24,7 +24,7 @@ pub struct GuestThread {
     pub count: u32,
     pub turns: u64,
     pub stop: Option<Stop>,
-    ghost save_area: { IsSaveArea config machine.streaming bank },
+    ghost save_area: { IsSaveArea config machine.streaming machine.za_on bank },
     ghost turns_are_few: { turns ≤ 3 * count + 2 },
     ghost turns_within: { turns ≤ 3 * config.budget },
     ghost within_budget: { count ≤ config.budget },
@@ -53,6 +53,7 @@ fn start_registers(entry: u64, thread: u32, threads: u32) -> Scalars
 impl GuestThread {
     ghost use Rattle.kernel_contexts.specs.State.{start_state};
     ghost use Rattle.kernel_contexts.specs.Call.{counted};
+    ghost use Rattle.kernel_contexts.specs.Turn.{outside_streaming};
     ghost use Rattle.kernel_contexts.specs.Context.{held_state, guest_turn, Takes, IsSameGuest};
 
     /// A thread before its first turn, with its pages and its save area taken at once.
@@ -113,6 +114,15 @@ impl GuestThread {
             StepEnd::NeedsBank => unreachable!(),
             StepEnd::Memory => Turn::Memory,
         }
+    }
+
+    /// Leaves Streaming SVE mode, as a call of the kernel does that is counted.
+    pub(super) fn leave_streaming(&mut self)
+        ensures state { held_state self.new ≡ outside_streaming self.old.config (held_state self.old) }
+        ensures stop { self.new.stop ≡ self.old.stop }
+        ensures same { IsSameGuest self.old self.new }
+    {
+        write_streaming(&mut self.machine, &mut self.bank, false);
     }
 
     /// Counts an instruction and its turn.

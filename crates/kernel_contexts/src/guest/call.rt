@@ -66,6 +66,7 @@ fn append(pages: &Pages, address: u64, count: usize, output: &mut Vec<u8>) -> Ap
 
 impl GuestThread {
     ghost use Rattle.kernel_contexts.specs.Call.{write_of, exit_of, returned};
+    ghost use Rattle.kernel_contexts.specs.Turn.{outside_streaming};
     ghost use Rattle.kernel_contexts.specs.Context.{held_state, guest_call, Takes, IsSameGuest};
 
     /// The call of the number in X8.
@@ -83,15 +84,17 @@ impl GuestThread {
         }
     }
 
-    /// Goes on past the call, with its answer in X0.
+    /// Goes on past the call, outside Streaming SVE mode, with its answer in X0.
     fn return_with(&mut self, answer: u64) -> Turn
         requires room { self.old.count < self.old.config.budget }
         requires runs { self.old.stop ≡ None }
         ensures answer { result ≡ Turn.Ran }
-        ensures state { held_state self.new ≡ returned (held_state self.old) answer }
+        ensures state { held_state self.new ≡
+            returned (outside_streaming self.old.config (held_state self.old)) answer }
         ensures stop { self.new.stop ≡ None }
         ensures same { IsSameGuest self.old self.new }
     {
+        self.leave_streaming();
         self.machine.scalars.x[0] = answer;
         self.machine.scalars.pc = self.machine.scalars.pc.wrapping_add(4);
         self.count_turn();
@@ -103,9 +106,11 @@ impl GuestThread {
     fn exit(&mut self) -> Turn
         requires room { self.old.count < self.old.config.budget }
         requires runs { self.old.stop ≡ None }
-        ensures turn { Takes (exit_of (held_state self.old)) self.old self.new result }
+        ensures turn { Takes (exit_of (outside_streaming self.old.config (held_state self.old)))
+            self.old self.new result }
         ensures same { IsSameGuest self.old self.new }
     {
+        self.leave_streaming();
         let status = (self.machine.scalars.x[0] % 256) as u8;
         self.machine.scalars.pc = self.machine.scalars.pc.wrapping_add(4);
         self.count_turn();
@@ -117,7 +122,8 @@ impl GuestThread {
     fn write(&mut self) -> Turn
         requires room { self.old.count < self.old.config.budget }
         requires runs { self.old.stop ≡ None }
-        ensures turn { Takes (write_of (held_state self.old) (held_state self.old)) self.old self.new result }
+        ensures turn { let before = held_state self.old in
+            Takes (write_of before (outside_streaming self.old.config before)) self.old self.new result }
         ensures same { IsSameGuest self.old self.new }
     {
         let descriptor = self.machine.scalars.x[0];
