@@ -1,8 +1,6 @@
 -- Lines of values that are all zero, which are none.
-use Rattle.std.proofs.Common.{◌≡◌, ℕ, zero, suc, ◌+◌, ◌==◌, [], ◌∷◌, List, Bool, true, false, cond, codes, length, replicate, refl, sym, ◌∙◌, arith}
+use Rattle.std.proofs.Common.{◌≡◌, ℕ, zero, suc, ◌+◌, ◌==◌, [], ◌∷◌, List, true, codes, length, replicate, refl, sym, ◌∙◌, arith}
 use Rattle.std.specs.List.{list_all}
-use Rattle.sm_types.specs.declared.length.VecLen.{VecLen}
-use Rattle.mem_access.specs.VectorState.{zero_array}
 use Rattle.report_text.specs.Lines.{value_line, value_lines}
 use Rattle.report_text.specs.Bank.{bytes_line, bytes_lines}
 use Rattle.std.specs.FinMap.{entries, empty, len-entries, len-empty}
@@ -32,12 +30,6 @@ bytes_lines-zero : (name : List ℕ) (k m n : ℕ) → bytes_lines name k (repli
 unfolding bytes_lines
 bytes_lines-zero name k zero n = refl
 bytes_lines-zero name k (suc m) n = rw (bytes_line-zero _ n, bytes_lines-zero name (k + 1) m n) refl
-
--- no vector of ZA has a line
-pub array_lines-none : (svl : VecLen) (za_on : Bool) → cond za_on (bytes_lines (codes "za") 0 (zero_array svl)) [] ≡ []
-unfolding zero_array
-array_lines-none svl true = bytes_lines-zero (codes "za") 0 _ _
-array_lines-none svl false = refl
 
 none_of-length : (l : List (ℕ × ℕ)) → length l ≡ 0 → l ≡ []
 none_of-length [] e = refl

@@ -112,7 +112,7 @@ pub fn put_block<K: Sink>(piece: &mut Piece, out: &mut K, context: &Context) -> 
     let bank = context.bank();
     put_head(piece, out, context)?;
     put_registers(piece, out, machine)?;
-    put_bank(piece, out, bank)?;
+    put_bank(piece, out, bank, machine.za_on)?;
     put_memory_line(piece, out, &machine.pages)?;
     put_kernel(piece, out, context)
 }

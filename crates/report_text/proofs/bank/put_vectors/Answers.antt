@@ -1,4 +1,4 @@
-use Rattle.std.proofs.Common.{◌≤◌, ◌≡◌, ◌<◌, length, arith, ap, codes, decimal, ◌∷◌, []}
+use Rattle.std.proofs.Common.{◌≤◌, ◌<◌, length, arith, ap, codes, decimal, ◌∷◌, []}
 use Rattle.std.specs.List.{concat}
 use Rattle.edge_io.proofs.Gathering.{as_text, sofar_start, sofar_more, sofar_stop, sofar_end}
 use Rattle.report_text.specs.Bank.{bytes_line}

@@ -19,7 +19,7 @@ unfolding block_text
 returns-in_err-put_bank g c =
     and_then c.in_ok-put_head.ensures
     (and_then (rw c.machine-machine.ensures at (c.in_ok-put_registers.ensures (bank_state c.args.context.now.guest.bank)))
-    (and_stop _ (rw c.bank-bank.ensures.value at (c.in_err-put_bank.ensures c.args.context.now.guest.machine.za_on))
+    (and_stop _ (rw c.machine-machine.ensures at (rw c.bank-bank.ensures.value at c.in_err-put_bank.ensures))
     c.from_residual-in_err-put_bank.ensures.0))
 
 pub returns-in_err-put_memory_line : goal.returns-in_err-put_memory_line
@@ -27,7 +27,7 @@ unfolding block_text
 returns-in_err-put_memory_line g c =
     and_then c.in_ok-put_head.ensures
     (and_then (rw c.machine-machine.ensures at (c.in_ok-put_registers.ensures (bank_state c.args.context.now.guest.bank)))
-    (and_then (rw c.bank-bank.ensures.value at (c.in_ok-put_bank.ensures c.args.context.now.guest.machine.za_on))
+    (and_then (rw c.machine-machine.ensures at (rw c.bank-bank.ensures.value at c.in_ok-put_bank.ensures))
     (and_stop _ (rw c.machine-machine.ensures at c.in_err-put_memory_line.ensures) c.from_residual-in_err-put_memory_line.ensures.0)))
 
 pub returns : goal.returns
@@ -35,5 +35,5 @@ unfolding block_text
 returns g c =
     and_then c.in_ok-put_head.ensures
     (and_then (rw c.machine-machine.ensures at (c.in_ok-put_registers.ensures (bank_state c.args.context.now.guest.bank)))
-    (and_then (rw c.bank-bank.ensures.value at (c.in_ok-put_bank.ensures c.args.context.now.guest.machine.za_on))
+    (and_then (rw c.machine-machine.ensures at (rw c.bank-bank.ensures.value at c.in_ok-put_bank.ensures))
     (and_then (rw c.machine-machine.ensures at c.in_ok-put_memory_line.ensures) (and_end c.put_kernel.ensures))))
