@@ -1,7 +1,7 @@
 #!/usr/bin/env python3
 """Prints the report that a program file is to have, by an interpreter of its own that shares nothing with the emulator.
 
-    examples/expected.py FILE [VL]
+    examples/expected.py FILE [VL [SVL]]
 
 It knows the instructions that the programs of this repository use, and the calls write and exit; each other word is undefined to it.
 """
@@ -9,6 +9,7 @@ import hashlib
 import struct
 import sys
 
+from expected_matrix import Matrix
 from expected_vectors import Vectors
 
 OUTPUT_LIMIT = 1_048_576
@@ -27,8 +28,9 @@ def signed(value, bits):
 
 
 class Thread:
-    def __init__(self, file, budget, vl):
-        self.pages, self.budget, self.vectors = {}, budget, Vectors(vl // 8)
+    def __init__(self, file, budget, vl, svl):
+        self.pages, self.budget = {}, budget
+        self.vectors, self.matrix = Vectors(vl // 8), Matrix(vl // 8, svl // 8)
         at, count = struct.unpack_from("<Q", file, 32)[0], struct.unpack_from("<H", file, 56)[0]
         for i in range(count):
             kind, flags, offset, address, _, size, memory, _ = struct.unpack_from("<IIQQQQQQ", file, at + 56 * i)
@@ -82,6 +84,15 @@ class Thread:
         for at in places:
             self.check(at, 1, kind)
 
+    def need(self, streaming=None, za=False):
+        """Raises where the modes are not those that an instruction is executed in."""
+        if streaming is False and self.matrix.streaming:
+            raise Raised("illegalstreaming", "")
+        if streaming and not self.matrix.streaming:
+            raise Raised("notstreaming", "")
+        if za and not self.matrix.on:
+            raise Raised("zainactive", "")
+
     def load(self, address, count):
         return int.from_bytes(self.bytes_with(4, address, count), "little")
 
@@ -96,8 +107,10 @@ class Thread:
         return bool(truth) != bool(condition & 1 and condition != 15)
 
     def call(self):
+        """A call that is counted leaves streaming mode."""
         number, answer = self.x[8], -38 & MASK
         if number == 93:
+            self.matrix.leave_streaming(self)
             self.pc, self.count = self.pc + 4, self.count + 1
             return f"exited {self.x[0] & 255}"
         if number == 64:
@@ -110,6 +123,7 @@ class Thread:
                 got = self.bytes_with(4, address, count)
                 answer = -14 & MASK if got is None else count
                 self.output += got or b""
+        self.matrix.leave_streaming(self)
         self.x[0], self.pc, self.count = answer, self.pc + 4, self.count + 1
         return None
 
@@ -179,7 +193,7 @@ class Thread:
             return after
         if word & 0xFFFFF01F == 0xD503201F:
             return after
-        if self.vectors.execute(word, self):
+        if self.vectors.execute(word, self) or self.matrix.execute(word, self):
             return after
         return self.access(word, rd, rn, after)
 
@@ -277,7 +291,7 @@ class Thread:
 
 
 def report(file, vl=128, svl=256, budget=10_000_000):
-    thread, stop = Thread(file, budget, vl), None
+    thread, stop = Thread(file, budget, vl, svl), None
     while stop is None:
         stop = thread.turn()
     digest = hashlib.sha256()
@@ -288,8 +302,8 @@ def report(file, vl=128, svl=256, budget=10_000_000):
              f"turns {thread.count}", f"pc {thread.pc:016x}"]
     lines += [f"x {i} {value:016x}" for i, value in enumerate(thread.x) if value]
     lines += [f"sp {thread.sp:016x}", "nzcv " + "".join(map(str, thread.flags)), "tpidr " + "0" * 16, "tpidr2 " + "0" * 16,
-              "svcr 0", *thread.vectors.lines(), f"memory {len(thread.pages)} {digest.hexdigest()}", "held " + "0" * 16, "inside 0", "polled 0",
-              f"output {len(thread.output)}"]
+              f"svcr {thread.matrix.svcr()}", *thread.vectors.lines(), *thread.matrix.lines(),
+              f"memory {len(thread.pages)} {digest.hexdigest()}", "held " + "0" * 16, "inside 0", "polled 0", f"output {len(thread.output)}"]
     lines += [f"out {thread.output[i:i + 32].hex()}" for i in range(0, len(thread.output), 32)]
     return "\n".join(lines + ["journal 0", "end-thread", "shared", "end"]) + "\n"
 

@@ -28,6 +28,7 @@ class Vectors:
         self.length = length
         self.z = [[0] * length for _ in range(32)]
         self.p = [[False] * length for _ in range(16)]
+        self.ffr = [False] * length
 
     def elements(self, number, size):
         z = self.z[number]
@@ -45,7 +46,8 @@ class Vectors:
     def lines(self):
         bits = lambda p: bytes(sum(p[at + k] << k for k in range(8)) for at in range(0, self.length, 8))
         return ([f"z {i} {bytes(z).hex()}" for i, z in enumerate(self.z) if any(z)]
-                + [f"p {i} {bits(p).hex()}" for i, p in enumerate(self.p) if any(p)])
+                + [f"p {i} {bits(p).hex()}" for i, p in enumerate(self.p) if any(p)]
+                + [f"ffr {bits(self.ffr).hex()}"] * any(self.ffr))
 
     def execute(self, word, thread):
         """Whether the word is known; it is executed then."""
@@ -56,7 +58,10 @@ class Vectors:
                 (0xFF20E000, 0x25008000, self.compare), (0xFF3FC200, 0x25208000, self.count_active),
                 (0xFF30F800, 0x0430E000, self.increment), (0xFF20FC00, 0x04204000, self.index),
                 (0xFF3CE000, 0x04082000, self.reduce), (0xFFFFFFF0, 0x2518E400, self.clear),
-                (0xFF3FFC10, 0x2518E000, self.set_pattern), (0xFF3EE000, 0x0520A000, self.last)):
+                (0xFF3FFC10, 0x2518E000, self.set_pattern), (0xFF3EE000, 0x0520A000, self.last),
+                (0xFF3FC000, 0x2538C000, self.copy), (0xFF30F800, 0x0420E000, self.count),
+                (0xFFFFFFFF, 0x252C9000, self.set_first_fault), (0xFFFFFFF0, 0x2519F000, self.read_first_fault),
+                (0xFFFFFE1F, 0x25289000, self.write_first_fault)):
             if word & mask == value:
                 return what(word, thread, size, rd, rn, rm) is not False
         return False
@@ -124,6 +129,26 @@ class Vectors:
     def increment(self, word, thread, size, rd, rn, rm):
         number = named(rn, self.length // size) * ((word >> 16 & 15) + 1)
         thread.write(rd, (thread.read(rd) + (-number if word >> 10 & 1 else number)) & MASK, False)
+
+    def count(self, word, thread, size, rd, rn, rm):
+        thread.write(rd, named(rn, self.length // size) * ((word >> 16 & 15) + 1), False)
+
+    def copy(self, word, thread, size, rd, rn, rm):
+        if size == 1 and word >> 13 & 1:
+            return False
+        self.put(rd, size, [signed(word >> 5, 8) << (8 if word >> 13 & 1 else 0)] * (self.length // size))
+
+    def set_first_fault(self, word, thread, size, rd, rn, rm):
+        thread.need(streaming=False)
+        self.ffr = [True] * self.length
+
+    def read_first_fault(self, word, thread, size, rd, rn, rm):
+        thread.need(streaming=False)
+        self.p[rd & 15] = list(self.ffr)
+
+    def write_first_fault(self, word, thread, size, rd, rn, rm):
+        thread.need(streaming=False)
+        self.ffr = list(self.p[rn & 15])
 
     def index(self, word, thread, size, rd, rn, rm):
         self.put(rd, size, [signed(rn, 5) + e * signed(rm, 5) for e in range(self.length // size)])
