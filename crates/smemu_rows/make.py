@@ -67,7 +67,6 @@ REPORTS = {
     "branches-to-no-multiple-of-4": [movz(3, 0x40, 1), add(3, 3, 6), 0xD61F0060],
     "branches-to-0": [0xD61F03E0],
     "hints": [0xD503201F, 0xD503245F, 0xD503237F, *EXIT],
-    "svcr-is-not-moved": [0xD53B4240, *EXIT],
     "undefined": [movz(0, 1), 9],
     "overflow": [movz(3, 0x8000, 3), subs(4, 3, 1), movz(5, 0x8000, 1, False), subs(6, 5, 1, False, False), *EXIT],
 }
@@ -323,6 +322,24 @@ def vector_accesses():
             yield f"{name}-{vl}", file, {"vl": vl}
 
 
+SMSTART = {0: [], 1: [0xD503437F], 2: [0xD503457F], 3: [0xD503477F]}
+# words of SME, and the values of SVCR with which they raise for it; the base of an access is X2, where nothing is mapped, or SP, which is no multiple of 16
+MODES = {"setffr": (0x252C9000, 1), "rdffr": (0x2519F000, 3), "wrffr": (0x25289000, 1), "zero": (0xC00800FF, 1),
+         "ldr-za-at-sp": (0xE10003E0, 0), "str-za": (0xE1200040, 1), "ld1b-slice": (0xE0030040, 0, 1, 2), "st1q-slice-at-sp": (0xE1E303E0, 1),
+         "mova-to-slice": (0xC0000000, 0, 1, 2), "mova-from-slice": (0xC0020000, 1), "addha": (0xC0900000, 0, 1, 2),
+         "addva-of-doublewords": (0xC0D10000, 2), "smopa": (0xA0800000, 0, 1, 2), "umops-of-doublewords": (0xA1E00010, 1)}
+PTRUE_P0_B, LD1D_SLICE_P0_AT_X2_X3, STR_ZA_AT_X2 = 0x2518E3E0, 0xE0C30040, 0xE1200040
+
+
+def matrix_stops():
+    """Instructions of SME that raise for the mode, whatever they access, and accesses of ZA from below the shared region into it."""
+    for name, (word, *values) in MODES.items():
+        for svcr in values:
+            yield f"{name}-with-svcr-{svcr}", elf([add(31, 31, 8), *SMSTART[svcr], word, *EXIT])
+    for name, word in (("ld1d-slice", LD1D_SLICE_P0_AT_X2_X3), ("str-za", STR_ZA_AT_X2)):
+        yield f"{name}-over-the-shared-region", elf([movz(2, 0x7F00, 2), subs(2, 2, 4), *SMSTART[3], PTRUE_P0_B, word, *EXIT])
+
+
 def listing(*lines):
     """A listing of addresses, words and texts."""
     return "".join(f"{address:016x} {word:08x} {text}\n" for address, word, text in lines)
@@ -540,14 +557,32 @@ def assemblies():
 
 
 VECTOR_EXAMPLES = ("saturate", "strlen")
+# VL and SVL of the other runs of programs with ZA
+MATRIX_RUNS = {"matmul": [(128, 128), (2048, 512), (128, 2048)], "transpose": [(256, 128), (128, 512), (512, 2048)], "za-modes": [(2048, 128)],
+               "za-slices": [(256, 128), (128, 2048)], "za-loads": [(2048, 128), (512, 512), (128, 2048)],
+               "za-products": [(128, 128), (128, 2048)], "za-sums": [(256, 128)], "za-zero": [(128, 512)], "za-stack": [(128, 1024)],
+               "za-calls": [(1024, 128)], "za-vectors": [(128, 2048)], "za-load-fault": [(128, 2048)]}
+# SVL and the budget of a program that ends in streaming mode
+STOPPED_RUNS = {"za-slices": [(512, 25)], "za-products": [(128, 26)]}
+
+
+def runs(programs):
+    """The programs with the options of their runs."""
+    for name, _, file in programs:
+        yield name, file, {}
+        if name in VECTOR_EXAMPLES:
+            yield f"{name}-at-2048", file, {"vl": 2048}
+        for vl, svl in MATRIX_RUNS.get(name, ()):
+            yield f"{name}-at-{vl}-and-{svl}", file, {"vl": vl, "svl": svl}
+        for svl, budget in STOPPED_RUNS.get(name, ()):
+            yield f"{name}-until-{budget}", file, {"svl": svl, "budget": budget}
 
 
 def main():
     data = HERE / "data"
     rows = [(name, elf(words), {}) for name, words in REPORTS.items()] + list(loaded()) + [(name, file, {}) for name, file in accesses()]
     programs = list(assemblies())
-    rows += [(name, file, {}) for name, _, file in programs] + list(vector_accesses())
-    rows += [(f"{name}-at-2048", file, {"vl": 2048}) for name, _, file in programs if name in VECTOR_EXAMPLES]
+    rows += [*runs(programs), *vector_accesses(), *((name, file, {}) for name, file in matrix_stops())]
     rows = [(f"{name}.elf", 0, file, report(file, **options), {"run": "", **options}) for name, file, options in rows]
     rows += [(f"{name}.elf", 6, file, text, {"run": ""}) for name, file, text in refusals()]
     rows += [(f"listing-{name}.elf", status, file, text, {"dis": ""}) for name, file, status, text in listings()]

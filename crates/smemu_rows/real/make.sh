@@ -26,14 +26,19 @@ aarch64-linux-gnu-ld -no-pie -z max-page-size=4096 --dynamic-linker /lib/ld.so -
 aarch64-linux-gnu-ld -static -z max-page-size=4096 -o "$data/real-tls.elf" tls.o
 ld -static -o "$data/real-x86-64.elf" x86.o
 cp plain.o "$data/real-object.elf"
-# the examples and a source with data in the text, at the addresses that the assembler of this project gives them
-for path in "$examples"/*.s "$sources/marked.s"; do
+# the examples, a source with data in the text and those with ZA, at the addresses that the assembler of this project gives them
+for path in "$examples"/*.s "$sources"/{marked,za-*}.s; do
     name=$(basename "$path" .s)
     case $name in
     saturate | strlen) llvm-mc -triple=aarch64 -mattr=+sve2 -filetype=obj -o "$name.o" "$path" ;;
+    matmul | transpose | za-*)
+        # the tiles that are zeroed are names there, and a mask here
+        sed -E 's/^( *)zero #([0-9]+)/\1.inst 0xc0080000 + \2/' "$path" |
+            aarch64-linux-gnu-as -march=armv9-a+sme+sme-i64 -o "$name.o" -
+        ;;
     *) aarch64-linux-gnu-as -o "$name.o" "$path" ;;
     esac
     size=$(aarch64-linux-gnu-size -A "$name.o" | awk '$1 == ".text" { print $2 }')
-    aarch64-linux-gnu-ld -static -z noseparate-code -Ttext=0x400000 "-Tdata=$(printf '0x%x' $(((0x400000 + size + 4095) / 4096 * 4096)))" \
+    aarch64-linux-gnu-ld -static -z noseparate-code -z max-page-size=4096 -Ttext=0x400000 "-Tdata=$(printf '0x%x' $(((0x400000 + size + 4095) / 4096 * 4096)))" \
         -o "$sources/linked/$name.elf" "$name.o"
 done
