@@ -1,8 +1,12 @@
-//! Fields `KEY=VALUE` of scalar registers.
+//! Fields `KEY=VALUE` of registers.
 use sm_types::Scalars;
+use std::alloc::Global;
 
-/// A number of hexadecimal digits.
+/// A number of 16 hexadecimal digits.
 pub fn number(text: &str) -> Option<u64> {
+    if text.len() != 16 {
+        return None;
+    }
     u64::from_str_radix(text, 16).ok()
 }
 
@@ -23,6 +27,17 @@ pub fn set_x(scalars: &mut Scalars, key: &str, value: u64) -> Option<()> {
     let place = key.strip_prefix('x')?.parse::<usize>().ok()?;
     if place < 31 {
         scalars.x[place] = value;
+        Some(())
+    } else {
+        None
+    }
+}
+
+/// Sets a register to the bytes of hexadecimal digits, all of them.
+pub fn set_bytes(alloc: Global, register: &mut [u8], digits: &str) -> Option<()> {
+    let bytes = hex::decode(alloc, digits).ok()?;
+    if bytes.len() == register.len() {
+        register.copy_from_slice(bytes.as_slice());
         Some(())
     } else {
         None

@@ -11,15 +11,14 @@ const DATA: u64 = 0x10000;
 const PAGE: usize = 4096;
 
 /// The pages of a word, which can be read and executed, and of the data, which can be read and written;
-/// zeros follow both.
-pub fn pages_of(alloc: Global, word: u32, bytes: &[u8]) -> Result<Pages> {
-    ensure!(bytes.len() <= PAGE, "more bytes than a page has");
+/// zeros follow the word, and are all of the data.
+pub fn pages_of(alloc: Global, word: u32) -> Result<Pages> {
     let word = word.to_le_bytes();
     let data_part = Part {
         address: DATA,
         size: 4096,
         flags: 6,
-        bytes,
+        bytes: &[],
     };
     let code_part = Part {
         address: PC,
@@ -29,6 +28,14 @@ pub fn pages_of(alloc: Global, word: u32, bytes: &[u8]) -> Result<Pages> {
     };
     let image = Image::new(alloc, &[data_part, code_part], PC, &[]).map_err(|_| anyhow!("memory"))?;
     Pages::from_image(alloc, &image).map_err(|_| anyhow!("memory"))
+}
+
+/// Writes bytes where the data begin; `None` where they are none, or more than a page has.
+pub fn set_data(pages: &mut Pages, bytes: &[u8]) -> Option<()> {
+    if bytes.is_empty() || bytes.len() > PAGE {
+        return None;
+    }
+    pages.write(DATA, bytes).ok()
 }
 
 /// The bytes of the data up to the last that is not zero, in hexadecimal.
