@@ -1,4 +1,4 @@
-//! Banks of vectors: their owner, their lines in a report, and a step without one.
+//! Banks of vectors and ZA: their owner, their lines in a report, and a step without one.
 
 use crate::memory::pages;
 use edge_io::{MemSink, Piece};
@@ -9,10 +9,10 @@ use sm_types::{Exception, Scalars, VecLen};
 use std::alloc::Global;
 use std::process::Abort as Stops;
 
-fn text_of(rt: &impl Stops, alloc: Global, bank: &Bank) -> Vec<u8> {
+fn text_of(rt: &impl Stops, alloc: Global, bank: &Bank, za_on: bool) -> Vec<u8> {
     let mut sink = MemSink::new(alloc, 100_000).ok().expect(rt, "memory");
     let mut piece = Piece::new();
-    assert_eq!(rt; put_bank(&mut piece, &mut sink, bank), Ok(()));
+    assert_eq!(rt; put_bank(&mut piece, &mut sink, bank, za_on), Ok(()));
     assert_eq!(rt; piece.flush(&mut sink), Ok(()));
     let mut text = Vec::new(alloc);
     text.extend_from_slice(sink.bytes())
@@ -27,7 +27,7 @@ fn lines_of_registers_that_are_not_all_zero(rt: HostRuntime) {
     let mut bank = Bank::new(alloc, VecLen::Bits128, VecLen::Bits256)
         .ok()
         .expect(&rt, "memory");
-    assert_eq!(rt; text_of(&rt, alloc, &bank).as_slice(), b"".as_slice());
+    assert_eq!(rt; text_of(&rt, alloc, &bank, true).as_slice(), b"".as_slice());
     bank.vectors.z_mut(0)[15] = 0x80;
     bank.vectors.z_mut(31)[0] = 0x0f;
     bank.vectors.p_mut(10)[1] = 0xa1;
@@ -38,12 +38,29 @@ fn lines_of_registers_that_are_not_all_zero(rt: HostRuntime) {
         z 31 0f000000000000000000000000000000\n\
         p 10 00a1\n\
         ffr 0100\n";
-    assert_eq!(rt; text_of(&rt, alloc, &bank).as_slice(), want.as_slice());
+    assert_eq!(rt;
+        text_of(&rt, alloc, &bank, true).as_slice(),
+        want.as_slice()
+    );
     bank.vectors.set_streaming(true);
-    assert_eq!(rt; text_of(&rt, alloc, &bank).as_slice(), b"".as_slice());
+    assert_eq!(rt; text_of(&rt, alloc, &bank, true).as_slice(), b"".as_slice());
     bank.vectors.z_mut(7)[31] = 0x10;
     let want = b"z 7 0000000000000000000000000000000000000000000000000000000000000010\n";
-    assert_eq!(rt; text_of(&rt, alloc, &bank).as_slice(), want.as_slice());
+    assert_eq!(rt;
+        text_of(&rt, alloc, &bank, true).as_slice(),
+        want.as_slice()
+    );
+    bank.vectors.set_streaming(false);
+    bank.za.vector_mut(31)[1] = 0x20;
+    let want = b"za 31 0020000000000000000000000000000000000000000000000000000000000000\n";
+    assert_eq!(rt;
+        text_of(&rt, alloc, &bank, true).as_slice(),
+        want.as_slice()
+    );
+    assert_eq!(rt;
+        text_of(&rt, alloc, &bank, false).as_slice(),
+        b"".as_slice()
+    );
 }
 
 fn machine(rt: &impl Stops, alloc: Global, pc: u64, streaming: bool) -> Machine {

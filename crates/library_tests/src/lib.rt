@@ -1,6 +1,6 @@
 //! Tests of the libraries by their public calls: words, tokens and lines of sources, memory, vectors,
-//! predicates, permutations and reductions, vector instructions, the lines of stops, and
-//! the object of a source.
+//! predicates, permutations and reductions, vector instructions, slices of tiles, outer products, the lines of
+//! stops, and the object of a source.
 #![tactic(auto)]
 
 #[cfg(test)]
@@ -21,6 +21,10 @@ mod permutes;
 mod sources;
 #[cfg(test)]
 mod stops;
+#[cfg(test)]
+mod tile_products;
+#[cfg(test)]
+mod tiles;
 #[cfg(test)]
 mod vector_steps;
 #[cfg(test)]
