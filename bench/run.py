@@ -1,7 +1,7 @@
 #!/usr/bin/env python3
 """Times the emulator on one core: instructions a second of three loops, words a second of the decoder, the time to load a file of 64 MiB
 and to refuse one at its last check, and the time from start to report of a short program; loops of vector instructions at 128, 256 and 2048
-bits, beside qemu-aarch64 where it is installed; then the assembler and the listing on sources of 200,000 and 400,000 lines, beside those
+bits, beside qemu-aarch64 where it is installed, and of outer products at 128, 512 and 2048; then the assembler and the listing on sources of 200,000 and 400,000 lines, beside those
 assemblers and disassemblers that are installed.
 
     bench/run.py
@@ -81,6 +81,19 @@ VECTOR_LOOPS = {
     "12 add under a full predicate": "\n    ".join(["add z1.s, p1/m, z1.s, z2.s"] * 12),
 }
 VECTOR_TURNS = 400_000
+# in Streaming SVE mode with ZA on: loads, sums and a branch, and one kind of product alone
+PRODUCTS = """ld1b {z0.b}, p0/z, [x1]
+    ld1b {z1.b}, p0/z, [x1]
+    smopa za0.s, p0/m, p0/m, z0.b, z1.b
+    umopa za1.s, p0/m, p0/m, z0.b, z1.b
+    usmopa za2.s, p0/m, p0/m, z0.b, z1.b
+    smops za3.s, p0/m, p0/m, z1.b, z0.b"""
+MATRIX_LOOPS = {
+    "2 ld1b, 4 outer products of bytes": PRODUCTS,
+    "8 smopa of bytes": "\n    ".join(f"smopa za{n % 4}.s, p0/m, p0/m, z0.b, z1.b" for n in range(8)),
+    "8 smopa of halfwords": "\n    ".join(f"smopa za{n}.d, p0/m, p0/m, z0.h, z1.h" for n in range(8)),
+}
+MATRIX_TURNS = {128: 200_000, 512: 100_000, 2048: 20_000}
 UNLISTED = 0x1E604000
 FILE_SIZE = 67_108_864
 WORDS = 4_000_000
@@ -102,7 +115,7 @@ def best(path, *options):
     times = []
     for _ in range(RUNS):
         start = time.perf_counter()
-        text = subprocess.run([PROGRAM, "run", *options, path], capture_output=True, text=True).stdout
+        text = subprocess.run([PROGRAM, "run", path, *options], capture_output=True, text=True).stdout
         times.append(time.perf_counter() - start)
     return min(times), text
 
@@ -146,14 +159,14 @@ def source_of(count):
     return "\n".join(lines) + "\n"
 
 
-def vector_source(lines):
-    """A loop of these lines, `subs` and `b.ne`."""
+def vector_source(lines, turns=VECTOR_TURNS, first="ptrue p1.s, all"):
+    """So many turns of a loop of these lines, `subs` and `b.ne`, after the first lines."""
     return f"""    .text
 _start:
-    movz x3, #{VECTOR_TURNS & 0xFFFF}
-    movk x3, #{VECTOR_TURNS >> 16}, lsl #16
+    movz x3, #{turns & 0xFFFF}
+    movk x3, #{turns >> 16}, lsl #16
     adr x1, page
-    ptrue p1.s, all
+    {first}
 next:
     {lines}
     subs x3, x3, #1
@@ -181,6 +194,20 @@ def time_vectors(folder, start):
             if shutil.which("qemu-aarch64"):
                 taken = best_of(["qemu-aarch64", "-cpu", f"max,sve-max-vq={vl // 128},sve-default-vector-length={vl // 8}", program], folder / "qemu")
                 print(f"qemu-aarch64, {vl} bits: {taken:.3f} s, {count / taken / 1e6:.1f} million a second")
+
+
+def time_matrices(folder, start):
+    source, program = folder / "matrices.s", folder / "matrices.elf"
+    for name, lines in MATRIX_LOOPS.items():
+        for svl, turns in MATRIX_TURNS.items():
+            source.write_text(vector_source(lines, turns, "smstart\n    ptrue p0.b, all\n    index z0.b, #1, #3\n    index z1.b, #-5, #7"))
+            program.write_bytes(subprocess.run([PROGRAM, "asm", source], check=True, stdout=subprocess.PIPE).stdout)
+            total, report = best(program, "--svl", str(svl))
+            assert "stop exited 0" in report, report[:200]
+            count = count_of(report)
+            products = turns * lines.count("mop")
+            print(f"{name}, {svl} bits: {count} instructions in {total:.3f} s, {count / (total - start) / 1e6:.2f} million a second, "
+                  f"{1e6 * (total - start) / products:.2f} us a product with its share of the rest")
 
 
 def time_sources(folder):
@@ -213,6 +240,7 @@ def main():
             count = count_of(report)
             print(f"{name}: {count} instructions in {total:.3f} s, {count / (total - start) / 1e6:.1f} million a second")
         time_vectors(pathlib.Path(folder), start)
+        time_matrices(pathlib.Path(folder), start)
         words = listed_words()
         path.write_bytes(elf(words + [UNLISTED]))
         whole, text = best(path)
