@@ -105,7 +105,7 @@ def mapping_symbols(file):
 
 
 def assembled(text, data, entry, marks):
-    """The file of a program of that text and data, laid out as docs/FORMATS.md says."""
+    """The file of a program of that text and data, laid out as docs/ASSEMBLY.md says."""
     page = lambda place: -(-place // 4096) * 4096
     data_at, data_address = page(4096 + len(text)), page(ADDRESS + len(text))
     symbols_at = -(-(data_at + len(data)) // 8) * 8

@@ -548,7 +548,7 @@ def linked(path):
 
 
 def assemblies():
-    """Sources and their files: the bytes are those that another assembler and linker put, laid out as docs/FORMATS.md says."""
+    """Sources and their files: the bytes are those that another assembler and linker put, laid out as docs/ASSEMBLY.md says."""
     for path in sorted((HERE / "real" / "linked").glob("*.elf")):
         example = TOP / "examples" / f"{path.stem}.s"
         source = example if example.exists() else HERE / "real" / f"{path.stem}.s"
@@ -558,7 +558,7 @@ def assemblies():
 
 VECTOR_EXAMPLES = ("saturate", "strlen")
 # VL and SVL of the other runs of programs with ZA
-MATRIX_RUNS = {"matmul": [(128, 128), (2048, 512), (128, 2048)], "transpose": [(256, 128), (128, 512), (512, 2048)], "za-modes": [(2048, 128)],
+MATRIX_RUNS = {"matmul": [(128, 128), (2048, 512), (128, 2048)], "transpose": [(256, 128), (128, 512), (512, 2048)], "outer": [(128, 128)], "za-modes": [(2048, 128)],
                "za-slices": [(256, 128), (128, 2048)], "za-loads": [(2048, 128), (512, 512), (128, 2048)],
                "za-products": [(128, 128), (128, 2048)], "za-sums": [(256, 128)], "za-zero": [(128, 512)], "za-stack": [(128, 1024)],
                "za-calls": [(1024, 128)], "za-vectors": [(128, 2048)], "za-load-fault": [(128, 2048)]}
