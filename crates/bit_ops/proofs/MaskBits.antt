@@ -188,7 +188,10 @@ mask-is n wide imms immr length ones r word short e f g turn small bits =
 one_iff : (a b : ℕ) → (bool_number (nat_le a b) ≡ 1) ↔ (a ≤ b)
 one_iff a b = elim (cases_lt b a) [
   | inl less ↦ let e =
-      le_false a b less in (λ o. absurd (let z : bool_number (nat_le a b) ≡ 0 = ap bool_number e in omega arith), λ le. absurd (omega arith))
+      le_false a b less in (
+        λ o. absurd (let z : bool_number (nat_le a b) ≡ 0 = ap bool_number e in omega arith),
+        λ le. absurd (omega arith),
+      )
   | inr more ↦ (λ o. more, λ le. ap bool_number (le_true a b more))
 ]
 

@@ -128,7 +128,8 @@ pub fn mask_fields(value: u64, wide: bool) -> Option<(bool, u8, u8)>
 /// The fields that give a word.
 fn fields_of_word(word: u64, wide: bool) -> Option<(bool, u8, u8)>
     ensures some { IfSome result (λ f. IsFieldsOf f.0 f.1 f.2 wide word) }
-    ensures only { (n : Bool) (imms immr : ℕ) → IsFieldsOf n imms immr wide word → result ≡ Some (n, imms, immr) }
+    ensures only { (n : Bool) (imms immr : ℕ) → IsFieldsOf n imms immr wide word
+        → result ≡ Some (n, imms, immr) }
 {
     match likely_fields(word, wide) {
         Some((n, imms, immr)) if gives(n, imms, immr, wide, word) => Some((n, imms, immr)),
@@ -151,7 +152,8 @@ fn gives(n: bool, imms: u8, immr: u8, wide: bool, word: u64) -> bool
 /// The fields of the word if it has any, read off its first run of ones and the distance to the next.
 fn likely_fields(word: u64, wide: bool) -> Option<(bool, u8, u8)>
     ensures small { IfSome result (λ f. (f.1 < 64) × (f.2 < 64)) }
-    ensures only { (n : Bool) (imms immr : ℕ) → IsFieldsOf n imms immr wide word → result ≡ Some (n, imms, immr) }
+    ensures only { (n : Bool) (imms immr : ℕ) → IsFieldsOf n imms immr wide word
+        → result ≡ Some (n, imms, immr) }
 {
     let width = width(wide);
     let first = next_start(word, 0, width)?;

@@ -17,7 +17,8 @@ pub struct Nzcv {
 pub fn add_carry(a: u64, b: u64, carry: bool, wide: bool) -> (u64, Nzcv)
     ensures sum { result.0 ≡ sum_of wide (a % word_size wide) (b % word_size wide) (bool_number carry) }
     ensures flags { result.1 ≡ sum_flags wide (a % word_size wide) (b % word_size wide) (bool_number carry) }
-    ensures facts { IsSum wide (a % word_size wide) (b % word_size wide) (bool_number carry) result.0 result.1 }
+    ensures facts { IsSum wide (a % word_size wide) (b % word_size wide) (bool_number carry)
+        result.0 result.1 }
 {
     if wide {
         add_wide(a, b, carry)

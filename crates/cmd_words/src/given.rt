@@ -54,7 +54,8 @@ impl Given {
     /// With the number of one more option.
     pub fn with(&self, setting: Setting, number: u32) -> Given
         ensures set { given_of result setting ≡ Some number }
-        ensures others { (other : Setting) → other ≢ setting → given_of result other ≡ given_of self.now other }
+        ensures others { (other : Setting) → other ≢ setting → given_of result other
+            ≡ given_of self.now other }
     {
         let mut given = *self;
         match setting {

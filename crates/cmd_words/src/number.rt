@@ -24,7 +24,8 @@ fn is_number(word: &str) -> bool
 /// where it is not a number.
 #[tactic(auto, unfolding(crate::specs::Numbers::number_of))]
 pub fn number_of(word: &str) -> Option<u64>
-    ensures { result ≡ (if spec.is_number word.now then Some (min (spec.number_of word.now) (2 ^ 64 - 1)) else None) }
+    ensures { result ≡ (if spec.is_number word.now then Some (min (spec.number_of word.now) (2 ^ 64 - 1))
+        else None) }
 {
     if is_number(word) {
         Some(word.parse::<u64>().unwrap_or(u64::MAX))

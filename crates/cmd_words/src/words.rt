@@ -61,7 +61,8 @@ fn read_setting(settings: &[Setting], word: &str, given: &Given) -> Result<Setti
     ensures ok { IfOk result (λ setting. (options.setting_in settings.now word.now ≡ Some setting)
         × (given_of given.now setting ≡ None)) }
     ensures err { IfErr result (λ kind. MatchOption (options.setting_in settings.now word.now)
-        (kind ≡ spec.no_option settings.now) (λ setting. (kind ≡ UsageKind.Repeated) × IsSome (given_of given.now setting))) }
+        (kind ≡ spec.no_option settings.now) (λ setting. (kind ≡ UsageKind.Repeated)
+        × IsSome (given_of given.now setting))) }
 {
     let Some(setting) = setting_in(settings, word) else {
         return Err(no_option(settings));

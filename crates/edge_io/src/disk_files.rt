@@ -71,7 +71,8 @@ fn read_file<R: rt::Files>(
 
 /// The reader's first `limit` bytes, or all where it has fewer. An interrupted read is tried again.
 fn first_bytes<R: Read + Drop>(reader: R, alloc: Global, limit: u64) -> Result<Vec<u8>, FileFault>
-    ensures ok { IfOk result (λ bytes. IfSome (R.remaining reader) (λ content. bytes.items ≡ take limit content)) }
+    ensures ok { IfOk result (λ bytes. IfSome (R.remaining reader) (λ content. bytes.items
+        ≡ take limit content)) }
     ensures err { IfErr result (λ fault. fault ≢ FileFault.Absent) }
 {
     let mut bytes = Vec::new(alloc);

@@ -61,7 +61,8 @@ impl<W: Write + Drop> Sink for WriterSink<W> {
 /// Writes the whole piece and flushes it.
 fn write_whole<W: Write>(writer: &mut W, bytes: &[u8]) -> Result<(), PutFault>
     ensures ok { OnOk result (Appends (W.contents writer.old) (W.contents writer.new) bytes.now) }
-    ensures err { OnErr result ((n : ℕ) × Appends (W.contents writer.old) (W.contents writer.new) (take n bytes.now)) }
+    ensures err { OnErr result ((n : ℕ) × Appends (W.contents writer.old) (W.contents writer.new)
+        (take n bytes.now)) }
 {
     let mut written = 0;
     for _ in 0..u64::MAX {
@@ -79,7 +80,8 @@ fn write_whole<W: Write>(writer: &mut W, bytes: &[u8]) -> Result<(), PutFault>
 /// Writes a part of the bytes from the front, and gives its length: none where the write was interrupted.
 fn write_part<W: Write>(writer: &mut W, bytes: &[u8]) -> Result<usize, PutFault>
     ensures within { IfOk result (λ n. n ≤ length bytes.now) }
-    ensures ok { IfOk result (λ n. Appends (W.contents writer.old) (W.contents writer.new) (take n bytes.now)) }
+    ensures ok { IfOk result (λ n. Appends (W.contents writer.old) (W.contents writer.new)
+        (take n bytes.now)) }
     ensures err { OnErr result (Keeps (W.contents writer.old) (W.contents writer.new)) }
 {
     match writer.write(bytes) {

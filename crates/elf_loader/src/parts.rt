@@ -64,7 +64,8 @@ pub fn image_of(
     code: &[(u64, u32)],
 ) -> Result<Image, LoadFault>
     requires { AreSound file.now loads.now }
-    ensures memory { IfOk result (λ image. IsMemoryOf (map (extent_of_load file.now) loads.now) image.memory) }
+    ensures memory { IfOk result (λ image. IsMemoryOf (map (extent_of_load file.now) loads.now)
+        image.memory) }
     ensures entry { IfOk result (λ image. image.entry ≡ entry) }
     ensures code { IfOk result (λ image. image.code ≡ code.now) }
     ensures err { IfErr result (λ fault. fault ≡ LoadFault.Memory) }

@@ -23,7 +23,8 @@ fn sort_spans(alloc: Global, file: &[u8]) -> Result<Vec<Span>, AllocError>
     requires table { HasSectionTable file.now }
     requires checked { first_below (section_fault file.now) (section_count file.now) ≡ None }
     requires loads { AreLoads (loads_of file.now) }
-    ensures words { IfOk result (λ spans. (n : ℕ) → is_spanned spans.items n ≡ is_code_word file.now (4 * n)) }
+    ensures words { IfOk result (λ spans. (n : ℕ) → is_spanned spans.items n
+        ≡ is_code_word file.now (4 * n)) }
     ensures low { IfOk result (λ spans. AreSpans spans.items) }
     ensures order { IfOk result (λ spans. IsNonDecreasingBy (λ s. s.start) spans.items) }
 {
@@ -106,7 +107,8 @@ pub fn read_code(
     requires sound { AreSound file.now loads.now }
     ensures accepted { IfOk result (λ code. sections_fault file.now ≡ None) }
     ensures code { IfOk result (λ code. code.items ≡ code_words file.now) }
-    ensures refused { IfErr result (λ fault. fault ≢ LoadFault.Memory → sections_fault file.now ≡ Some fault) }
+    ensures refused { IfErr result (λ fault. fault ≢ LoadFault.Memory → sections_fault file.now
+        ≡ Some fault) }
 {
     if !has_section_table(file) {
         return Ok(Vec::new(alloc));

@@ -75,7 +75,8 @@ fn marks_below_section(marks: &[Mark], i: u64) -> usize
     requires { IsNonDecreasingBy (λ m. m.section) marks.now }
     ensures within { result ≤ length marks.now }
     ensures below { (k : ℕ) (d : Mark) → k < result → (get_or marks.now k d).section < i }
-    ensures above { (k : ℕ) (d : Mark) → result ≤ k → k < length marks.now → i ≤ (get_or marks.now k d).section }
+    ensures above { (k : ℕ) (d : Mark) → result ≤ k → k < length marks.now
+        → i ≤ (get_or marks.now k d).section }
 {
     marks.partition_point(|m| u64::from(m.section) < i)
 }
@@ -119,7 +120,8 @@ pub fn gather_spans(alloc: Global, file: &[u8], marks: &[Mark]) -> Result<Vec<Sp
     requires loads { AreLoads (loads_of file.now) }
     requires order { AreMarksInOrder marks.now }
     requires same { SayTheSame marks.now (marks_of file.now) }
-    ensures words { IfOk result (λ spans. (n : ℕ) → is_spanned spans.items n ≡ is_code_word file.now (4 * n)) }
+    ensures words { IfOk result (λ spans. (n : ℕ) → is_spanned spans.items n
+        ≡ is_code_word file.now (4 * n)) }
     ensures low { IfOk result (λ spans. AreSpans spans.items) }
 {
     let mut spans = Vec::new(alloc);

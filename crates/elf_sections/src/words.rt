@@ -77,7 +77,8 @@ pub fn word_at(file: &[u8], loads: &[ProgramHeader], near: usize, a: u64) -> u32
 /// The number of the load that has the address, if one has; load number `near` is tried first.
 pub fn near_load(loads: &[ProgramHeader], near: usize, a: u64) -> usize
     requires { AreInOrder loads.now }
-    ensures { has_load loads.now a ≡ true → (d : ProgramHeader) → has_address (get_or loads.now result d) a ≡ true }
+    ensures { has_load loads.now a ≡ true → (d : ProgramHeader)
+        → has_address (get_or loads.now result d) a ≡ true }
 {
     if near < loads.len()
         && loads[near].address <= a

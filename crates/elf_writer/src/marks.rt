@@ -116,7 +116,8 @@ fn says_word(before: Option<bool>, slot: Option<TextMark>) -> bool
 /// The mark that is written of word number `n`, where it says other than what was said before.
 fn mark_where(before: Option<bool>, code: bool, n: usize) -> Option<TextMark>
     requires { n ≤ 1048576 }
-    ensures { result ≡ cond (begins before code) (Some (record { address = word_address n; code = code })) None }
+    ensures { result ≡ cond (begins before code) (Some
+        (record { address = word_address n; code = code })) None }
 {
     let mark = TextMark {
         address: TEXT_ADDRESS + 4 * n as u64,
@@ -142,7 +143,8 @@ fn push_mark(mark: Option<TextMark>, marks: &mut Vec<TextMark>) -> Result<(), Al
 /// The marks that are written, of those that each word is the first for.
 fn list_marks(alloc: Global, slots: &[Option<TextMark>]) -> Result<Vec<TextMark>, AllocError>
     requires { length slots.now ≤ 1048576 }
-    ensures { IfOk result (λ marks. marks.items ≡ answers_below (mark_at (slots_say slots.now)) (length slots.now)) }
+    ensures { IfOk result (λ marks. marks.items ≡ answers_below (mark_at (slots_say slots.now))
+        (length slots.now)) }
 {
     let mut marks = Vec::new(alloc);
     let mut before = None;

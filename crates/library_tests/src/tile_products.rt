@@ -1,12 +1,13 @@
-//! Outer products of vectors that hold one number, added to a ZA of zeros or subtracted from it, at an SVL of 128.
+//! Outer products of vectors that hold one number, added to a ZA of zeros or subtracted from it, at an SVL of
+//! 128.
 
 use outer_products::{MopaKind, mopa};
 use sm_types::VecLen;
 use vector_elements::{Size, element, low_bits};
 use za_array::Za;
 
-// A table, a line for each row: the signs of Zn and Zm, whether the products are subtracted, each two bytes of Zn and of
-// Zm, the low byte of Pn, and what the elements of row 0 and of the other rows are then.
+// A table, a line for each row: the signs of Zn and Zm, whether the products are subtracted, each two bytes
+// of Zn and of Zm, the low byte of Pn, and what the elements of row 0 and of the other rows are then.
 macro_rules! rows {
     ($($($cell:expr),*;)*) => { [$(($($cell),*)),*] };
 }

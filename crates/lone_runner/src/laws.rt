@@ -10,9 +10,11 @@ ghost use Rattle.lone_runner.specs.LoneRun.{IsLoneRun};
 
 /// A thread's run over a journal has at most one end.
 pub fn one_end()
-    ensures state { (program : Program) (config : Config) (thread : ℕ) (journal : List Event) (s t : State) (p q : Stop)
+    ensures state { (program : Program) (config : Config) (thread : ℕ) (journal : List Event) (s t : State)
+        (p q : Stop)
         → IsLoneRun program config thread journal s p → IsLoneRun program config thread journal t q → s ≡ t }
-    ensures stop { (program : Program) (config : Config) (thread : ℕ) (journal : List Event) (s t : State) (p q : Stop)
+    ensures stop { (program : Program) (config : Config) (thread : ℕ) (journal : List Event) (s t : State)
+        (p q : Stop)
         → IsLoneRun program config thread journal s p → IsLoneRun program config thread journal t q → p ≡ q }
 {}
 

@@ -12,7 +12,8 @@ use std::alloc::Global;
 /// Makes turns until the thread stops; `Memory` where there is none for its output.
 fn run(context: &mut Context) -> Result<Stop, Memory>
     requires { stop_of context.old ≡ None }
-    ensures ends { IfOk result (λ stop. EndsFrom (config_of context.old) (thread_of context.old) (state_of context.old) []
+    ensures ends { IfOk result (λ stop. EndsFrom (config_of context.old) (thread_of context.old)
+        (state_of context.old) []
         (state_of context.new) stop) }
     ensures stop { IfOk result (λ stop. stop_of context.new ≡ Some stop) }
     ensures same { IsSameThread context.old context.new }

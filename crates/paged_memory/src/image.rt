@@ -124,7 +124,8 @@ fn touched_pages(alloc: Global, parts: &[Part<'_>]) -> Result<Vec<Page>, AllocEr
     requires sums { All (λ e. e.flags < 8) (map extent_of parts.now) }
     ensures fine { IfOk result (λ pages. IsFine pages.items) }
     ensures zero { IfOk result (λ pages. IsZero (memory_of pages.items)) }
-    ensures flags { IfOk result (λ pages. (n : ℕ) → get (perm_of pages.items) n ≡ image_flags (map extent_of parts.now) n) }
+    ensures flags { IfOk result (λ pages. (n : ℕ) → get (perm_of pages.items) n
+        ≡ image_flags (map extent_of parts.now) n) }
 {
     let mut pages = Vec::new(alloc);
     let mut left = parts.len();

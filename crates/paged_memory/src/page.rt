@@ -25,7 +25,8 @@ pub fn count_below(pages: &[Page], number: u64) -> usize
     requires { IsFine pages.now }
     ensures bound { result ≤ length pages.now }
     ensures below { (k : ℕ) (d : Page) → k < result → (get_or pages.now k d).number < number }
-    ensures rest { (k : ℕ) (d : Page) → result ≤ k → k < length pages.now → number ≤ (get_or pages.now k d).number }
+    ensures rest { (k : ℕ) (d : Page) → result ≤ k → k < length pages.now
+        → number ≤ (get_or pages.now k d).number }
 {
     let mut low = 0;
     let mut high = pages.len();
@@ -80,7 +81,8 @@ pub fn run<'a>(
 ) -> Option<&'a [u8]>
     requires fine { IsFine pages.now }
     requires fits { address % 4096 + count ≤ 4096 }
-    ensures there { IfSome result (λ bytes. bytes_with need (memory_of pages.now) address count ≡ Some bytes.now) }
+    ensures there { IfSome result (λ bytes. bytes_with need (memory_of pages.now) address count
+        ≡ Some bytes.now) }
     ensures count { IfSome result (λ bytes. length bytes.now ≡ count) }
     ensures gone { IfNone result (byte_with need (memory_of pages.now) address ≡ None) }
 {
@@ -223,7 +225,8 @@ fn put_within(pages: &mut Vec<Page>, hints: &[u16], address: u64, bytes: &[u8]) 
     requires fits { address % 4096 + length bytes.now ≤ 4096 }
     ensures fine { IsFine pages.new.items }
     ensures denied { result ≡ first_without 2 (memory_of pages.old.items) address (length bytes.now) }
-    ensures bytes { IfNone result (mem_of pages.new.items ≡ set_bytes (mem_of pages.old.items) address bytes.now) }
+    ensures bytes { IfNone result (mem_of pages.new.items ≡ set_bytes (mem_of pages.old.items) address
+        bytes.now) }
     ensures stays { OnSome result (mem_of pages.new.items ≡ mem_of pages.old.items) }
     ensures flags { perm_of pages.new.items ≡ perm_of pages.old.items }
 {
@@ -248,7 +251,8 @@ fn put_across(pages: &mut Vec<Page>, hints: &[u16], address: u64, bytes: &[u8]) 
     requires fine { IsFine pages.old.items }
     ensures fine { IsFine pages.new.items }
     ensures denied { result ≡ first_without 2 (memory_of pages.old.items) address (length bytes.now) }
-    ensures bytes { IfNone result (mem_of pages.new.items ≡ set_bytes (mem_of pages.old.items) address bytes.now) }
+    ensures bytes { IfNone result (mem_of pages.new.items ≡ set_bytes (mem_of pages.old.items) address
+        bytes.now) }
     ensures stays { OnSome result (mem_of pages.new.items ≡ mem_of pages.old.items) }
     ensures flags { perm_of pages.new.items ≡ perm_of pages.old.items }
 {
@@ -273,7 +277,8 @@ pub fn put_permitted(
     requires fine { IsFine pages.old.items }
     ensures fine { IsFine pages.new.items }
     ensures denied { result ≡ first_without 2 (memory_of pages.old.items) address (length bytes.now) }
-    ensures bytes { IfNone result (mem_of pages.new.items ≡ set_bytes (mem_of pages.old.items) address bytes.now) }
+    ensures bytes { IfNone result (mem_of pages.new.items ≡ set_bytes (mem_of pages.old.items) address
+        bytes.now) }
     ensures stays { OnSome result (mem_of pages.new.items ≡ mem_of pages.old.items) }
     ensures flags { perm_of pages.new.items ≡ perm_of pages.old.items }
 {

@@ -90,7 +90,8 @@ impl Pages {
     /// Reads the bytes from an address on; addresses go round at 2^64. After `Err`, `into` may hold anything.
     pub fn read(&self, address: u64, into: &mut [u8]) -> Result<(), Abort>
         ensures ok { OnOk result (bytes_with 4 self.now.memory address (length into.old) ≡ Some into.new) }
-        ensures abort { IfErr result (λ e. first_without 4 self.now.memory address (length into.old) ≡ Some e.address) }
+        ensures abort { IfErr result (λ e. first_without 4 self.now.memory address (length into.old)
+            ≡ Some e.address) }
         ensures access { IfErr result (λ e. e.access ≡ Access.Read) }
         ensures refused { OnErr result (bytes_with 4 self.now.memory address (length into.old) ≡ None) }
     {
@@ -164,7 +165,8 @@ impl Pages {
     /// may not.
     pub fn check(&self, address: u64, length: u64, access: Access) -> Result<(), Abort>
         ensures ok { OnOk result (first_without (need_of access) self.now.memory address length ≡ None) }
-        ensures abort { IfErr result (λ e. first_without (need_of access) self.now.memory address length ≡ Some e.address) }
+        ensures abort { IfErr result (λ e. first_without (need_of access) self.now.memory address length
+            ≡ Some e.address) }
         ensures access { IfErr result (λ e. e.access ≡ access) }
     {
         match first_lacking(
@@ -199,7 +201,8 @@ impl Pages {
         ensures ok { OnOk result (self.new.memory
             ≡ record self.old.memory { mem = set_bytes self.old.memory.mem address bytes.now }) }
         ensures allowed { OnOk result (first_without 2 self.old.memory address (length bytes.now) ≡ None) }
-        ensures abort { IfErr result (λ e. first_without 2 self.old.memory address (length bytes.now) ≡ stopped_at e) }
+        ensures abort { IfErr result (λ e. first_without 2 self.old.memory address (length bytes.now)
+            ≡ stopped_at e) }
         ensures access { IfErr result IsOfWrite }
         ensures err { OnErr result (self.new.memory ≡ self.old.memory) }
         ensures room { AreOwned self.old address (length bytes.now) → result ≢ Err WriteStop.Memory }
@@ -250,9 +253,12 @@ impl Pages {
 /// Copies bytes out, run by run, or names the first that lacks the permission.
 fn copy_out(pages: &[Page], hints: &[u16], address: u64, need: u8, into: &mut [u8]) -> Option<u64>
     requires { IsFine pages.now }
-    ensures ok { IfNone result (bytes_with need (memory_of pages.now) address (length into.old) ≡ Some into.new) }
-    ensures stops { IfSome result (λ _. bytes_with need (memory_of pages.now) address (length into.old) ≡ None) }
-    ensures first { IfSome result (λ a. first_without need (memory_of pages.now) address (length into.old) ≡ Some a) }
+    ensures ok { IfNone result (bytes_with need (memory_of pages.now) address (length into.old)
+        ≡ Some into.new) }
+    ensures stops { IfSome result (λ _. bytes_with need (memory_of pages.now) address
+        (length into.old) ≡ None) }
+    ensures first { IfSome result (λ a. first_without need (memory_of pages.now) address (length into.old)
+        ≡ Some a) }
 {
     let mut done = 0;
     while done < into.len() {

@@ -69,7 +69,8 @@ option_word Budget = codes "  --budget N    instructions after which a thread is
 abbrev pub option_line : Setting → List ℕ
 option_line setting =
     option_word setting
-    ++ (numbers_text (numbers_of setting) ++ (codes "; else " ++ (decimal (default_of setting) ++ codes "\n")))
+    ++ (numbers_text (numbers_of setting) ++ (codes "; else " ++ (decimal (default_of setting)
+    ++ codes "\n")))
 
 -- how the text that is written with a status begins, or what became of it
 abbrev pub status_words : Status → List ℕ

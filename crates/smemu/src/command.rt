@@ -127,7 +127,8 @@ fn run_program<F: Files>(
 
 /// `dis PROGRAM`: the listing of that file.
 fn list_program<F: Files>(alloc: Global, program: String, files: &mut F) -> Result<Answer, Refusal>
-    ensures ends { EndsRequest (AsksListing (string_bytes program)) (change F.view files.old files.new) result }
+    ensures ends { EndsRequest (AsksListing (string_bytes program))
+        (change F.view files.old files.new) result }
     ensures kept { IsKept (F.view files.old) (F.view files.new) }
     ensures fetched { F.fetched files.old (string_bytes program) FETCH_LIMIT files.new }
 {
@@ -142,7 +143,8 @@ fn assemble_source<F: Files>(
     source: String,
     files: &mut F,
 ) -> Result<Answer, Refusal>
-    ensures ends { EndsRequest (AsksAssembly (string_bytes source)) (change F.view files.old files.new) result }
+    ensures ends { EndsRequest (AsksAssembly (string_bytes source))
+        (change F.view files.old files.new) result }
     ensures kept { IsKept (F.view files.old) (F.view files.new) }
     ensures fetched { F.fetched files.old (string_bytes source) FETCH_LIMIT files.new }
 {

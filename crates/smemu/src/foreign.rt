@@ -29,7 +29,8 @@ fn fault_of(
     words: &[String],
     read: &Result<Command, WordsFault>,
 ) -> Result<(usize, UsageKind), Memory>
-    requires command { IfOk read.now (λ command. command_of (map string_bytes words.now) ≡ Some (request_of command)) }
+    requires command { IfOk read.now (λ command. command_of (map string_bytes words.now)
+        ≡ Some (request_of command)) }
     requires fault { IfErr read.now (IsFirstFault (map string_bytes words.now)) }
     ensures { IfOk result (λ fault. foreign_fault (map string_bytes words.now)
         ≡ record { place = fault.0; kind = fault.1 }) }

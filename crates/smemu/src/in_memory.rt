@@ -22,12 +22,15 @@ pub fn smemu_in_memory(
     files: &mut MemFiles,
     out: &mut MemSink,
 ) -> Status
-    ensures done { IsDone (call mem_files.view_of mem_sink.view_of words.now files.old files.new out.old out.new) result }
-    ensures refused { IsRefused (call mem_files.view_of mem_sink.view_of words.now files.old files.new out.old out.new)
+    ensures done { IsDone (call mem_files.view_of mem_sink.view_of words.now files.old files.new out.old
+        out.new) result }
+    ensures refused { IsRefused (call mem_files.view_of mem_sink.view_of words.now files.old files.new
+        out.old out.new)
         result }
     ensures kept { IsKept (mem_files.view_of files.old) (mem_files.view_of files.new) }
     ensures fetched { Fetches IsAfterFetch mem_files.view_of words.now files.old files.new result }
-    ensures lacks { LacksMemoryAlone (call mem_files.view_of mem_sink.view_of words.now files.old files.new out.old
+    ensures lacks { LacksMemoryAlone (call mem_files.view_of mem_sink.view_of words.now files.old
+        files.new out.old
         out.new) result }
 {
     smemu_main(alloc, words, files, out)

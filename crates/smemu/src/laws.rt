@@ -15,7 +15,8 @@ ghost use Rattle.smemu.specs.declared.status.Status.{Status};
 /// files of an assembled program are loaded as one program.
 pub fn one_answer()
     ensures { (files : List ℕ → Option (List ℕ)) (request : Request) (text other : List ℕ)
-        → IsAnswer (Some files) request text → IsAnswer (Some files) request other → AreOneAnswer request text other }
+        → IsAnswer (Some files) request text → IsAnswer (Some files) request other
+        → AreOneAnswer request text other }
 {}
 
 /// The text of help says of each option which numbers it takes, and which one it has where it is not given;

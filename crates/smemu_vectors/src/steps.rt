@@ -49,8 +49,8 @@ fn fields_of(line: &str) -> Option<Fields<'_>> {
     })
 }
 
-/// Tells whether the instruction of a word, if it has one, sees no vectors and no ZA: it is a scalar one, and no
-/// move of SVCR.
+/// Tells whether the instruction of a word, if it has one, sees no vectors and no ZA: it is a scalar one, and
+/// no move of SVCR.
 fn sees_no_bank(word: u32) -> bool {
     match decode_scalar(word) {
         Some(Insn::SystemMove(x)) => x.register != SystemRegister::Svcr,

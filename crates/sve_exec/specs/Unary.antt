@@ -19,8 +19,8 @@ use Rattle.sve_exec.specs.Arithmetic.{difference_of}
 abbrev pub leading_signs : Size → ℕ → ℕ
 leading_signs size a = count_leading_zeros (bits_in size - 1) (bit_xor (a / 2) (a % half_of size))
 
--- n consecutive bits of a number of `width` bits, from the one below the top bit down, equal the top bit, and no
--- more of them do
+-- n consecutive bits of a number of `width` bits, from the one below the top bit down, equal the top bit, and
+-- no more of them do
 pub record HasLeadingSigns (width a n : ℕ) : Type 0 where
   pub below : n < width
   pub equal : (i : ℕ) → width - 1 - n ≤ i → i < width → bit_at a i ≡ bit_at a (width - 1)

@@ -96,8 +96,8 @@ impl Change for Steps {
     }
 }
 
-/// Element `i` of `d` becomes the low bits of the start and `i` times the step, each the 64 bits of a register
-/// or of an immediate in two's complement. Source: DDI 0487, C8.2, INDEX.
+/// Element `i` of `d` becomes the low bits of the start and `i` times the step, each the 64 bits of a
+/// register or of an immediate in two's complement. Source: DDI 0487, C8.2, INDEX.
 #[tactic(auto, unfolding(crate::specs::Copies::index_from))]
 pub fn index(size: Size, start: u64, step: u64, d: &mut [u8])
     requires { length d.old % bytes_in size ≡ 0 }

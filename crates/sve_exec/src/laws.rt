@@ -6,5 +6,6 @@ ghost use Rattle.sve_exec.specs.Unary.{leading_signs, HasLeadingSigns};
 
 /// CLS counts the bits of an element below its top bit that equal it, from it down without a break.
 pub fn signs_are_counted()
-    ensures { (size : Size) (a : ℕ) → a < range_of size → HasLeadingSigns (bits_in size) a (leading_signs size a) }
+    ensures { (size : Size) (a : ℕ) → a < range_of size
+        → HasLeadingSigns (bits_in size) a (leading_signs size a) }
 {}

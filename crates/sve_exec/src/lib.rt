@@ -2,8 +2,9 @@
 //! contract says which value each element of the result has.
 //!
 //! A vector is the slice of its bytes, a predicate that of its bits. Each function changes its first vector
-//! in place, and reads the others: where the destination is another register than the first vector, or is one of
-//! the other vectors too, the caller copies the first vector into a buffer of 256 bytes, and the result back.
+//! in place, and reads the others: where the destination is another register than the first vector, or is one
+//! of the other vectors too, the caller copies the first vector into a buffer of 256 bytes, and the result
+//! back.
 #![tactic(auto)]
 
 mod accumulate;

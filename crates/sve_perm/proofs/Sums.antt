@@ -110,7 +110,8 @@ pub wrapped_sum : (a b : ℤ) → wrapped D (a +ℤ b) ≡ (wrapped D a + wrappe
 unfolding wrapped
 wrapped_sum (pos a) (pos b) = omega arith
 wrapped_sum (pos a) (negsuc b) = mixed a b
-wrapped_sum (negsuc a) (pos b) = (let e : negsuc a +ℤ pos b ≡ pos b +ℤ negsuc a = grind (arith, ints) in ap (wrapped D) e) ∙ mixed b a ∙ omega arith
+wrapped_sum (negsuc a) (pos b) = (let e : negsuc a +ℤ pos b ≡ pos b +ℤ negsuc a = grind (arith, ints) in ap (wrapped D) e) ∙ mixed b a
+    ∙ omega arith
 wrapped_sum (negsuc a) (negsuc b) = omega arith
 
 -- one element more

@@ -58,4 +58,5 @@ widened is_signed size x = if is_signed then wrapped size (signed_of (half_size 
 -- UNPK: the elements of half the size in the lower or the upper half of n
 unfoldable pub unpacked : Bool → Bool → Size → List ℕ → List ℕ
 unpacked is_signed high size n = vector_like size n (λ i.
-    widened is_signed size (element_of (bytes_in (half_size size)) n (if high then count_of size n + i else i)))
+    widened is_signed size (element_of (bytes_in (half_size size)) n (if high then count_of size n +
+    i else i)))

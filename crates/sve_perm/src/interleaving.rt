@@ -79,9 +79,9 @@ fn known_interleave(op: InterleaveOp, size: Size, d: &mut [u8], n: &[u8], m: &[u
     put_values(&Interleaved { op, n, m }, size, d);
 }
 
-/// `d` becomes elements of `n` and `m`, all three of the same length and of an even number of elements: those of
-/// their lower or upper halves by turns (ZIP1, ZIP2), the even or odd ones of `n` and then `m` (UZP1, UZP2), or
-/// the even or odd ones of both by turns (TRN1, TRN2). With a loop for each operation and size.
+/// `d` becomes elements of `n` and `m`, all three of the same length and of an even number of elements: those
+/// of their lower or upper halves by turns (ZIP1, ZIP2), the even or odd ones of `n` and then `m` (UZP1,
+/// UZP2), or the even or odd ones of both by turns (TRN1, TRN2). With a loop for each operation and size.
 /// Source: DDI 0487, C8.2, ZIP1, ZIP2, UZP1, UZP2, TRN1, TRN2 (vectors).
 pub fn interleave(op: InterleaveOp, size: Size, d: &mut [u8], n: &[u8], m: &[u8])
     requires n { length d.old ≡ length n.now }

@@ -36,8 +36,9 @@ fn next_place(place: usize, count: usize) -> usize
     if place + 1 == count { 0 } else { place + 1 }
 }
 
-/// The last active element of `n`, without a sign, or the last of all where none is active; where not `active`,
-/// the element after that one, and after the last of all the first. A predicate has a bit for each byte of `n`.
+/// The last active element of `n`, without a sign, or the last of all where none is active; where not
+/// `active`, the element after that one, and after the last of all the first. A predicate has a bit for each
+/// byte of `n`.
 /// Source: DDI 0487, C8.2, LASTA, LASTB (scalar).
 #[tactic(auto, unfolding(crate::specs::Active::last_element_of))]
 pub fn last_element(active: bool, size: Size, pg: &[u8], n: &[u8]) -> u64

@@ -2,7 +2,8 @@
 //! for each group, whose contract says which value each element of the result has, or which number it is.
 //!
 //! A vector is the slice of its bytes, a predicate that of its bits. Each function writes a slice of its own
-//! and reads the others: where the destination is also a source, the caller writes to a buffer, and copies it.
+//! and reads the others: where the destination is also a source, the caller writes to a buffer, and copies
+//! it.
 #![tactic(auto)]
 
 mod by_place;

@@ -81,8 +81,9 @@ fn reduce_by<R: Reduction>(reduction: R, size: Size, pg: &[u8], n: &[u8]) -> u64
     }
 }
 
-/// The operation on the active elements of `n`, as a number without a sign: of 64 bits for SADDV and UADDV, else of
-/// an element's; with no active element its neutral value. A predicate has a bit for each byte of `n`.
+/// The operation on the active elements of `n`, as a number without a sign: of 64 bits for SADDV and UADDV,
+/// else of an element's; with no active element its neutral value. A predicate has a bit for each byte of
+/// `n`.
 /// Source: DDI 0487, C8.2, SADDV, UADDV, SMAXV, UMAXV, SMINV, UMINV, ORV, EORV, ANDV.
 #[tactic(auto, unfolding(crate::specs::Reduce::reduced))]
 pub fn reduce(op: ReductionOp, size: Size, pg: &[u8], n: &[u8]) -> u64

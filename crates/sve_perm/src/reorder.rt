@@ -65,8 +65,8 @@ impl<'a> Places for LookedUp<'a> {
     }
 }
 
-/// `d` becomes the elements of `n` at the indices that are the elements of `m`, all three of the same length; an
-/// index past the end gives 0. Source: DDI 0487, C8.2, TBL.
+/// `d` becomes the elements of `n` at the indices that are the elements of `m`, all three of the same length;
+/// an index past the end gives 0. Source: DDI 0487, C8.2, TBL.
 #[tactic(auto, unfolding(crate::specs::Permute::table_of))]
 pub fn table(size: Size, d: &mut [u8], n: &[u8], m: &[u8])
     requires n { length d.old ≡ length n.now }
@@ -88,8 +88,8 @@ fn start_of(amount: u8, bytes: usize) -> usize
     if start < bytes { start } else { 0 }
 }
 
-/// `d` becomes as many bytes of `n` and then `m` from byte `amount` on, all three of the same length; an amount
-/// past the end of `n` counts as 0. Source: DDI 0487, C8.2, EXT.
+/// `d` becomes as many bytes of `n` and then `m` from byte `amount` on, all three of the same length; an
+/// amount past the end of `n` counts as 0. Source: DDI 0487, C8.2, EXT.
 pub fn extract(amount: u8, d: &mut [u8], n: &[u8], m: &[u8])
     requires some { 0 < length d.old }
     requires n { length d.old ≡ length n.now }

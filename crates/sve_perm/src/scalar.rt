@@ -2,8 +2,9 @@
 ghost use Rattle.std.specs.Prelude.{◌≡◌, ◌≤◌, length};
 ghost use Rattle.sve_perm.specs.Reduce.{scalar_vector};
 
-/// `d` becomes a number: its low 8 bytes are those of the number, and the others are zero. A number of fewer bits
-/// so stands in the low part alone. Source: DDI 0487, J1.1, ZeroExtend, as SADDV to ANDV write their results.
+/// `d` becomes a number: its low 8 bytes are those of the number, and the others are zero. A number of fewer
+/// bits so stands in the low part alone. Source: DDI 0487, J1.1, ZeroExtend, as SADDV to ANDV write their
+/// results.
 #[tactic(auto, using(crate::proofs::Sums::zero_extended))]
 pub fn scalar_to_vector(value: u64, d: &mut [u8])
     requires { 8 ≤ length d.old }

@@ -60,8 +60,8 @@ fn known_unpack(signed: bool, high: bool, size: Size, d: &mut [u8], n: &[u8])
     put_values(&Unpacked { signed, high, n }, size, d);
 }
 
-/// `d` becomes the elements of half the size in the lower half of `n`, which is as long, or in the upper one where
-/// `high`, each with its sign or without. Source: DDI 0487, C8.2, SUNPKLO, SUNPKHI, UUNPKLO, UUNPKHI.
+/// `d` becomes the elements of half the size in the lower half of `n`, which is as long, or in the upper one
+/// where `high`, each with its sign or without. Source: DDI 0487, C8.2, SUNPKLO, SUNPKHI, UUNPKLO, UUNPKHI.
 pub fn unpack(signed: bool, high: bool, size: Size, d: &mut [u8], n: &[u8])
     requires size { size ≢ B }
     requires same { length d.old ≡ length n.now }

@@ -21,7 +21,8 @@ zero_square size rows e = record {
 }
 
 -- rows that were cleared are those of zeros
-pub cleared_square : (size : ℕ) (old new : List (List ℕ)) → IsSquare size old → ClearedRows size old new → new ≡ replicate size (replicate size 0)
+pub cleared_square : (size : ℕ) (old new : List (List ℕ)) → IsSquare size old → ClearedRows size old new
+    → new ≡ replicate size (replicate size 0)
 cleared_square size old new s h = same_lists _ _ (h.count ∙ s.count ∙ sym (length-replicate size (replicate size 0))) each
   where
     each : (k : ℕ) (d : List ℕ) → k < length new → get_or new k d ≡ get_or (replicate size (replicate size 0)) k d

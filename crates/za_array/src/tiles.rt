@@ -24,8 +24,12 @@ pub trait RowChange {
 pub fn change_tile<C: RowChange>(za: &mut Za, bytes: usize, tile: usize, change: &C)
     requires tile { tile < bytes }
     requires whole { vector_bytes za.old.svl % bytes ≡ 0 }
-    requires can { (r : ℕ) → r * bytes < vector_bytes za.old.svl → C.can change.now r (vector_bytes za.old.svl) }
-    ensures { za.new ≡ record za.old { vectors = changed_tile bytes tile (C.gives change.now) za.old.vectors } }
+    requires can { (r : ℕ) → r * bytes < vector_bytes za.old.svl
+        → C.can change.now r (vector_bytes za.old.svl) }
+    ensures { za.new ≡ record za.old {
+      vectors = changed_tile bytes tile (C.gives change.now)
+          za.old.vectors;
+    } }
 {
     for r in 0..za.size() / bytes {
         change.change(r, za.vector_mut(r * bytes + tile));

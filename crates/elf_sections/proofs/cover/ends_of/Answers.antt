@@ -9,6 +9,7 @@ loop-left-preserved c =
       count = rw length-set c.loop-left.invariant.count;
       within = omega arith;
       ends =
-          ends_more c.args.loads.now c.loop-left.ends.items (c.loop-left.left - 1) c.end_from.result (omega arith) c.loop-left.invariant.count
+          ends_more c.args.loads.now c.loop-left.ends.items (c.loop-left.left - 1) c.end_from.result (omega arith)
+          c.loop-left.invariant.count
           (rw e c.loop-left.invariant.ends) c.end_from.ensures;
     }

@@ -25,7 +25,8 @@ returns-then-bit-clause-value c =
 pub loop-end-preserved : goal.loop-end-preserved
 loop-end-preserved c =
     let next : c.loop-end.end ≡ c.loop-end.end - 1 + 1 = (let some = c.loop-end-test.true in omega (arith, some)) in
-    let off = sym (ap (λ w. bit_of c.args.pg.now (w * (c.loop-end.end - 1))) c.bytes-width.ensures) ∙ sym c.bit.ensures ∙ c.if-bit.false in (
+    let off = sym (ap (λ w. bit_of c.args.pg.now (w * (c.loop-end.end - 1))) c.bytes-width.ensures) ∙ sym c.bit.ensures
+    ∙ c.if-bit.false in (
       (let most = c.loop-end.invariant.0 in omega (arith, most)),
       c.loop-end.invariant.1 ∙ ap (λ k. last_or (c.args.count - 1) (active_places c.args.size c.args.pg.now k)) next
           ∙ last_before c.args.size c.args.pg.now (c.args.count - 1) (c.loop-end.end - 1) off,

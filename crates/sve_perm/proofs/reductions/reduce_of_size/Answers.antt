@@ -24,7 +24,11 @@ loop-i-preserved g c =
 
 pub returns-clause-value : goal.returns-clause-value
 returns-clause-value g c =
-    let all : c.loop-i.i ≡ c.count-i-end.result = (let end = c.loop-i-test.false in let most = c.loop-i.auto.i-end in omega (arith, end, most)) in
+    let all : c.loop-i.i ≡ c.count-i-end.result = (let end = c.loop-i-test.false in let most = c.loop-i.auto.i-end in omega (
+      arith,
+      end,
+      most,
+    )) in
     c.loop-i.invariant.0
     ∙ ap (g.R.Reduction.gives c.args.reduction c.args.size)
     (all-joined c.args.size c.args.pg.now c.args.n.now c.loop-i.i (all ∙ c.count-i-end.ensures))
