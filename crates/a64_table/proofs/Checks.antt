@@ -89,7 +89,8 @@ listed _ = refl
 
 -- two operations of one number are one
 pub same_operation : (a b : Operation) → number_of a ≡ number_of b → a ≡ b
-same_operation a b e = some_is (sym (listed a) ∙ ap (λ n. option_map (λ (r : Row). r.operation) (slice_get SCALAR_LINES (place_in n SCALAR_LINES))) e ∙ listed b)
+same_operation a b e = some_is (sym (listed a) ∙ ap (λ n. option_map (λ (r : Row). r.operation)
+    (slice_get SCALAR_LINES (place_in n SCALAR_LINES))) e ∙ listed b)
 
 pub record HasRow (op : Operation) : Type 0 where
   pub place : ℕ
@@ -100,9 +101,15 @@ pub record HasRow (op : Operation) : Type 0 where
 pub has_row : (op : Operation) → HasRow op
 has_row op = go (slice_get SCALAR_LINES (place_in (number_of op) SCALAR_LINES)) refl (listed op)
   where
-    go : (found : Option Row) → slice_get SCALAR_LINES (place_in (number_of op) SCALAR_LINES) ≡ found → option_map (λ (r : Row). r.operation) found ≡ Some op → HasRow op
+    go : (found : Option Row) → slice_get SCALAR_LINES (place_in (number_of op) SCALAR_LINES) ≡ found
+        → option_map (λ (r : Row). r.operation) found ≡ Some op → HasRow op
     go None e f = cc
-    go (Some row) e f = let same : row.operation ≡ op = cc in record { place = place_in (number_of op) SCALAR_LINES; row = row; listed = e; same = same }
+    go (Some row) e f = let same : row.operation ≡ op = cc in record {
+      place = place_in (number_of op) SCALAR_LINES;
+      row = row;
+      listed = e;
+      same = same;
+    }
 
 -- ---- the rows are forms, and their fields are as narrow as what is taken of them
 all_forms : list_all (λ (r : Row). is_form r.mask r.value (list_of r.fields)) SCALAR_LINES ≡ true
@@ -119,7 +126,8 @@ unfolding list_of same_fields same_field format slots eight kept field_of_slot
 all_formats = refl
 
 pub row-format : (i : ℕ) (r : Row) → slice_get SCALAR_LINES i ≡ Some r → list_of r.fields ≡ format r.operation
-row-format i r g = one_list (list_of r.fields) (format r.operation) (all-get (λ (r : Row). same_fields (list_of r.fields) (format r.operation)) SCALAR_LINES i r all_formats g)
+row-format i r g = one_list (list_of r.fields) (format r.operation)
+    (all-get (λ (r : Row). same_fields (list_of r.fields) (format r.operation)) SCALAR_LINES i r all_formats g)
 
 -- ---- no two rows have the same fixed bits
 pub all_unequal : pairwise unequal SCALAR_LINES ≡ true
@@ -138,16 +146,20 @@ never_both : (word : ℕ) (r s : Row) → apart r s ≡ true → bit_and word r.
 unfolding apart
 never_both word r s e m n = not_alike word r.mask r.value s.mask s.value e m n
 
-pub one_match : (word i j : ℕ) (r s : Row) → slice_get SCALAR_LINES i ≡ Some r → slice_get SCALAR_LINES j ≡ Some s → bit_and word r.mask ≡ r.value → bit_and word s.mask ≡ s.value → i ≡ j
-one_match word i j r s f g m n = one_place apart (λ x. bit_and word x.mask ≡ x.value) (never_both word) SCALAR_LINES all_apart i j r s f g m n
+pub one_match : (word i j : ℕ) (r s : Row) → slice_get SCALAR_LINES i ≡ Some r → slice_get SCALAR_LINES j ≡ Some s → bit_and word r.mask
+    ≡ r.value → bit_and word s.mask ≡ s.value → i ≡ j
+one_match word i j r s f g m n = one_place apart (λ x. bit_and word x.mask ≡ x.value) (never_both word) SCALAR_LINES all_apart i j
+    r s f g m n
 
 pub one_row : (word : ℕ) → HasAtMostOneLine scalar word
 unfolding scalar
 one_row word i j r s f g m n d e = one_match word i j r s f g m n
 
 -- ---- the table meets what is asked of a table
-one_operation : (i j : ℕ) (r s : Row) → slice_get SCALAR_LINES i ≡ Some r → slice_get SCALAR_LINES j ≡ Some s → r.operation ≡ s.operation → i ≡ j
-one_operation i j r s f g e = one_place unlike (λ x. x.operation ≡ s.operation) (never_alike s.operation) SCALAR_LINES all_unlike i j r s f g e refl
+one_operation : (i j : ℕ) (r s : Row) → slice_get SCALAR_LINES i ≡ Some r → slice_get SCALAR_LINES j ≡ Some s
+    → r.operation ≡ s.operation → i ≡ j
+one_operation i j r s f g e = one_place unlike (λ x. x.operation ≡ s.operation) (never_alike s.operation) SCALAR_LINES all_unlike i j r
+    s f g e refl
 
 pub is_table : IsTable scalar parts_of
 unfolding scalar

@@ -104,8 +104,13 @@ unfoldable pub format : Operation → List Field
 format op = fields_of (slots op)
 
 -- an instruction tells what it was made of
-computes : (op : Operation) (u : Field → ℕ) (s : Field → ℤ) → parts_of (named op u s) ≡ Some (record { operation = op; numbers = pass (slots op) u s })
-unfolding eight slots kept pass named shifted_register extended_register named_branch compare_operand is_wide_source named_multiply named_address named_atomic named_system parts_of branch_parts compare_says compare_parts doubleword_parts one_source_parts multiply_parts load_store_says load_store_parts atomic_parts system_parts padded
+computes : (op : Operation) (u : Field → ℕ) (s : Field → ℤ) → parts_of (named op u s) ≡ Some (record {
+  operation = op;
+  numbers = pass (slots op) u s;
+})
+unfolding eight slots kept pass named shifted_register extended_register named_branch compare_operand is_wide_source named_multiply
+    named_address named_atomic named_system parts_of branch_parts compare_says compare_parts doubleword_parts one_source_parts
+    multiply_parts load_store_says load_store_parts atomic_parts system_parts padded
 computes (G10 B) u s = refl
 computes (G14 op false) u s = refl
 computes (G15 Rbit) u s = refl
@@ -115,81 +120,264 @@ computes (G21 Ldar) u s = refl
 computes (G22 Svc) u s = refl
 computes _ u s = refl
 
-pub back : (op : Operation) (u : Field → ℕ) (s : Field → ℤ) → are_small (takes op) (format op) u → parts_of (named op u s) ≡ Some (record { operation = op; numbers = taken (takes op) (format op) u s })
+pub back : (op : Operation) (u : Field → ℕ) (s : Field → ℤ) → are_small (takes op) (format op) u → parts_of (named op u s)
+    ≡ Some (record { operation = op; numbers = taken (takes op) (format op) u s })
 unfolding takes format
 back op u s h = computes op u s ∙ ap (λ ns. Some (record { operation = op; numbers = ns })) (passed (slots op) u s h)
 
 -- and is made of what it tells
 abbrev pub IsRemade : Insn → Option (Parts Operation) → Type 0
 IsRemade it None = Unit {0}
-IsRemade it (Some p) = (u : Field → ℕ) (s : Field → ℤ) → agrees (format p.operation) p.numbers u s → are_small (takes p.operation) (format p.operation) u → named p.operation u s ≡ it
+IsRemade it (Some p) = (u : Field → ℕ) (s : Field → ℤ) → agrees (format p.operation) p.numbers u s
+    → are_small (takes p.operation) (format p.operation) u → named p.operation u s ≡ it
 
 -- a conditional compare, by its second operand
-remade_compare : (x : ConditionalCompare) (second : CompareOperand) → x.operand ≡ second → IsRemade (insn.ConditionalCompare x) (compare_parts x second)
+remade_compare : (x : ConditionalCompare) (second : CompareOperand) → x.operand ≡ second
+    → IsRemade (insn.ConditionalCompare x) (compare_parts x second)
 unfolding compare_says compare_parts padded agrees are_small takes format slots eight kept take_of field_of_slot named compare_operand
-remade_compare x (operand.Register rm) e = λ u s a h. (λ i. insn.ConditionalCompare (record { op = x.op; wide = one (u SF) x.wide a.0 i; operand = operand.Register (cuts 8 (u RM) rm a.1.1.0 h.1.1.0 i); condition = condition_is (u COND) x.condition a.1.1.1.1.0 i; nzcv = cuts 8 (u NZCV) x.nzcv a.1.1.1.0 h.1.1.1.0 i; rn = cuts 8 (u RN) x.rn a.1.0 h.1.0 i })) ∙ ap (λ y. insn.ConditionalCompare (record x { operand = y })) (sym e)
-remade_compare x (operand.Immediate imm) e = λ u s a h. (λ i. insn.ConditionalCompare (record { op = x.op; wide = one (u SF) x.wide a.0 i; operand = operand.Immediate (cuts 8 (u IMM5) imm a.1.1.0 h.1.1.0 i); condition = condition_is (u COND) x.condition a.1.1.1.1.0 i; nzcv = cuts 8 (u NZCV) x.nzcv a.1.1.1.0 h.1.1.1.0 i; rn = cuts 8 (u RN) x.rn a.1.0 h.1.0 i })) ∙ ap (λ y. insn.ConditionalCompare (record x { operand = y })) (sym e)
+remade_compare x (operand.Register rm) e = λ u s a h. (λ i. insn.ConditionalCompare (record {
+  op = x.op;
+  wide = one (u SF) x.wide a.0 i;
+  operand = operand.Register (cuts 8 (u RM) rm a.1.1.0 h.1.1.0 i);
+  condition = condition_is (u COND) x.condition a.1.1.1.1.0 i;
+  nzcv = cuts 8 (u NZCV) x.nzcv a.1.1.1.0 h.1.1.1.0 i;
+  rn = cuts 8 (u RN) x.rn a.1.0 h.1.0 i;
+}))
+    ∙ ap (λ y. insn.ConditionalCompare (record x { operand = y })) (sym e)
+remade_compare x (operand.Immediate imm) e = λ u s a h. (λ i. insn.ConditionalCompare (record {
+  op = x.op;
+  wide = one (u SF) x.wide a.0 i;
+  operand = operand.Immediate (cuts 8 (u IMM5) imm a.1.1.0 h.1.1.0 i);
+  condition = condition_is (u COND) x.condition a.1.1.1.1.0 i;
+  nzcv = cuts 8 (u NZCV) x.nzcv a.1.1.1.0 h.1.1.1.0 i;
+  rn = cuts 8 (u RN) x.rn a.1.0 h.1.0 i;
+}))
+    ∙ ap (λ y. insn.ConditionalCompare (record x { operand = y })) (sym e)
 
 -- an operation on one register
 remade_doubleword : (x : OneSource) (wide : Bool) → x.op ≡ Rev64 → x.wide ≡ wide → IsRemade (insn.OneSource x) (doubleword_parts x wide)
 unfolding doubleword_parts padded agrees are_small takes format slots eight kept take_of field_of_slot named is_wide_source
-remade_doubleword x true e w = λ u s a h. (λ i. insn.OneSource (record { op = Rev64; wide = true; rn = cuts 8 (u RN) x.rn a.1.0 h.1.0 i; rd = cuts 8 (u RD) x.rd a.0 h.0 i })) ∙ (λ i. insn.OneSource (record x { op = sym e i; wide = sym w i }))
+remade_doubleword x true e w = λ u s a h. (λ i. insn.OneSource (record {
+  op = Rev64;
+  wide = true;
+  rn = cuts 8 (u RN) x.rn a.1.0 h.1.0 i;
+  rd = cuts 8 (u RD) x.rd a.0 h.0 i;
+})) ∙ (λ i. insn.OneSource (record x { op = sym e i; wide = sym w i }))
 remade_doubleword x false e w = tt
 
 remade_one_source : (x : OneSource) (op : OneSourceOp) → x.op ≡ op → IsRemade (insn.OneSource x) (one_source_parts x op)
 unfolding one_source_parts padded agrees are_small takes format slots eight kept take_of field_of_slot named is_wide_source
 remade_one_source x Rev64 e = remade_doubleword x x.wide e refl
-remade_one_source x op e = λ u s a h. (λ i. insn.OneSource (record { op = op; wide = one (u SF) x.wide a.0 i; rn = cuts 8 (u RN) x.rn a.1.1.0 h.1.1.0 i; rd = cuts 8 (u RD) x.rd a.1.0 h.1.0 i })) ∙ (λ i. insn.OneSource (record x { op = sym e i }))
+remade_one_source x op e = λ u s a h. (λ i. insn.OneSource (record {
+  op = op;
+  wide = one (u SF) x.wide a.0 i;
+  rn = cuts 8 (u RN) x.rn a.1.1.0 h.1.1.0 i;
+  rd = cuts 8 (u RD) x.rd a.1.0 h.1.0 i;
+})) ∙ (λ i. insn.OneSource (record x { op = sym e i }))
 
 -- a load or store, by its address
 remade_load_store : (x : LoadStore) (a : Address) → x.address ≡ a → IsRemade (insn.LoadStore x) (load_store_parts x a)
 unfolding load_store_parts load_store_says padded agrees are_small takes format slots eight kept take_of field_of_slot named named_address
-remade_load_store x (address.Offset imm) e = λ u s a h. (λ i. insn.LoadStore (record { op = load_store_op_is (u OPC) x.op a.1.0 i; size = access_size_is (u SIZE) x.size a.0 i; address = address.Offset (cuts 16 (u IMM12) imm a.1.1.1.1.0 h.1.1.1.1.0 i); rn = cuts 8 (u RN) x.rn a.1.1.1.0 h.1.1.1.0 i; rt = cuts 8 (u RT) x.rt a.1.1.0 h.1.1.0 i })) ∙ ap (λ y. insn.LoadStore (record x { address = y })) (sym e)
-remade_load_store x (address.Unscaled offset) e = λ u s a h. (λ i. insn.LoadStore (record { op = load_store_op_is (u OPC) x.op a.1.0 i; size = access_size_is (u SIZE) x.size a.0 i; address = address.Unscaled (a.1.1.1.1.0 i); rn = cuts 8 (u RN) x.rn a.1.1.1.0 h.1.1.1.0 i; rt = cuts 8 (u RT) x.rt a.1.1.0 h.1.1.0 i })) ∙ ap (λ y. insn.LoadStore (record x { address = y })) (sym e)
-remade_load_store x (address.PostIndex offset) e = λ u s a h. (λ i. insn.LoadStore (record { op = load_store_op_is (u OPC) x.op a.1.0 i; size = access_size_is (u SIZE) x.size a.0 i; address = address.PostIndex (a.1.1.1.1.0 i); rn = cuts 8 (u RN) x.rn a.1.1.1.0 h.1.1.1.0 i; rt = cuts 8 (u RT) x.rt a.1.1.0 h.1.1.0 i })) ∙ ap (λ y. insn.LoadStore (record x { address = y })) (sym e)
-remade_load_store x (address.PreIndex offset) e = λ u s a h. (λ i. insn.LoadStore (record { op = load_store_op_is (u OPC) x.op a.1.0 i; size = access_size_is (u SIZE) x.size a.0 i; address = address.PreIndex (a.1.1.1.1.0 i); rn = cuts 8 (u RN) x.rn a.1.1.1.0 h.1.1.1.0 i; rt = cuts 8 (u RT) x.rt a.1.1.0 h.1.1.0 i })) ∙ ap (λ y. insn.LoadStore (record x { address = y })) (sym e)
-remade_load_store x (address.Register rm extend scaled) e = λ u s a h. (λ i. insn.LoadStore (record { op = load_store_op_is (u OPC) x.op a.1.0 i; size = access_size_is (u SIZE) x.size a.0 i; address = address.Register (cuts 8 (u RM) rm a.1.1.1.1.0 h.1.1.1.1.0 i) (extend_is (u OPTION) extend a.1.1.1.1.1.0 i) (one (u SCALED) scaled a.1.1.1.1.1.1.0 i); rn = cuts 8 (u RN) x.rn a.1.1.1.0 h.1.1.1.0 i; rt = cuts 8 (u RT) x.rt a.1.1.0 h.1.1.0 i })) ∙ ap (λ y. insn.LoadStore (record x { address = y })) (sym e)
+remade_load_store x (address.Offset imm) e = λ u s a h. (λ i. insn.LoadStore (record {
+  op = load_store_op_is (u OPC) x.op a.1.0 i;
+  size = access_size_is (u SIZE) x.size a.0 i;
+  address = address.Offset (cuts 16 (u IMM12) imm a.1.1.1.1.0 h.1.1.1.1.0 i);
+  rn = cuts 8 (u RN) x.rn a.1.1.1.0 h.1.1.1.0 i;
+  rt = cuts 8 (u RT) x.rt a.1.1.0 h.1.1.0 i;
+}))
+    ∙ ap (λ y. insn.LoadStore (record x { address = y })) (sym e)
+remade_load_store x (address.Unscaled offset) e = λ u s a h. (λ i. insn.LoadStore (record {
+  op = load_store_op_is (u OPC) x.op a.1.0 i;
+  size = access_size_is (u SIZE) x.size a.0 i;
+  address = address.Unscaled (a.1.1.1.1.0 i);
+  rn = cuts 8 (u RN) x.rn a.1.1.1.0 h.1.1.1.0 i;
+  rt = cuts 8 (u RT) x.rt a.1.1.0 h.1.1.0 i;
+})) ∙ ap (λ y. insn.LoadStore (record x { address = y })) (sym e)
+remade_load_store x (address.PostIndex offset) e = λ u s a h. (λ i. insn.LoadStore (record {
+  op = load_store_op_is (u OPC) x.op a.1.0 i;
+  size = access_size_is (u SIZE) x.size a.0 i;
+  address = address.PostIndex (a.1.1.1.1.0 i);
+  rn = cuts 8 (u RN) x.rn a.1.1.1.0 h.1.1.1.0 i;
+  rt = cuts 8 (u RT) x.rt a.1.1.0 h.1.1.0 i;
+})) ∙ ap (λ y. insn.LoadStore (record x { address = y })) (sym e)
+remade_load_store x (address.PreIndex offset) e = λ u s a h. (λ i. insn.LoadStore (record {
+  op = load_store_op_is (u OPC) x.op a.1.0 i;
+  size = access_size_is (u SIZE) x.size a.0 i;
+  address = address.PreIndex (a.1.1.1.1.0 i);
+  rn = cuts 8 (u RN) x.rn a.1.1.1.0 h.1.1.1.0 i;
+  rt = cuts 8 (u RT) x.rt a.1.1.0 h.1.1.0 i;
+})) ∙ ap (λ y. insn.LoadStore (record x { address = y })) (sym e)
+remade_load_store x (address.Register rm extend scaled) e = λ u s a h.
+    (λ i. insn.LoadStore (record {
+      op = load_store_op_is (u OPC) x.op a.1.0 i;
+      size = access_size_is (u SIZE) x.size a.0 i;
+      address = address.Register (cuts 8 (u RM) rm a.1.1.1.1.0 h.1.1.1.1.0 i) (extend_is (u OPTION) extend a.1.1.1.1.1.0 i)
+          (one (u SCALED) scaled a.1.1.1.1.1.1.0 i);
+      rn = cuts 8 (u RN) x.rn a.1.1.1.0 h.1.1.1.0 i;
+      rt = cuts 8 (u RT) x.rt a.1.1.0 h.1.1.0 i;
+    }))
+    ∙ ap (λ y. insn.LoadStore (record x { address = y })) (sym e)
 
 pub forth : (it : Insn) → IsRemade it (parts_of it)
-unfolding parts_of branch_parts multiply_parts atomic_parts system_parts padded agrees are_small takes format slots eight kept take_of field_of_slot named shifted_register extended_register named_branch named_multiply named_atomic named_system
-forth (insn.AddSubImmediate x) = λ u s a h i. insn.AddSubImmediate (record { op = x.op; wide = one (u SF) x.wide a.0 i; shifted = one (u SH) x.shifted a.1.1.1.1.0 i; imm = cuts 16 (u IMM12) x.imm a.1.1.1.0 h.1.1.1.0 i; rn = cuts 8 (u RN) x.rn a.1.1.0 h.1.1.0 i; rd = cuts 8 (u RD) x.rd a.1.0 h.1.0 i })
-forth (insn.AddSubRegister x) = λ u s a h i. insn.AddSubRegister (record { op = x.op; wide = one (u SF) x.wide a.0 i; operand = record { rm = cuts 8 (u RM) x.operand.rm a.1.1.1.0 h.1.1.1.0 i; shift = shift_is (u SHIFT) x.operand.shift a.1.1.1.1.0 i; amount = cuts 8 (u IMM6) x.operand.amount a.1.1.1.1.1.0 h.1.1.1.1.1.0 i }; rn = cuts 8 (u RN) x.rn a.1.1.0 h.1.1.0 i; rd = cuts 8 (u RD) x.rd a.1.0 h.1.0 i })
-forth (insn.LogicalRegister x) = λ u s a h i. insn.LogicalRegister (record { op = x.op; wide = one (u SF) x.wide a.0 i; inverted = x.inverted; operand = record { rm = cuts 8 (u RM) x.operand.rm a.1.1.1.0 h.1.1.1.0 i; shift = shift_is (u SHIFT) x.operand.shift a.1.1.1.1.0 i; amount = cuts 8 (u IMM6) x.operand.amount a.1.1.1.1.1.0 h.1.1.1.1.1.0 i }; rn = cuts 8 (u RN) x.rn a.1.1.0 h.1.1.0 i; rd = cuts 8 (u RD) x.rd a.1.0 h.1.0 i })
-forth (insn.AddSubExtended x) = λ u s a h i. insn.AddSubExtended (record { op = x.op; wide = one (u SF) x.wide a.0 i; operand = record { rm = cuts 8 (u RM) x.operand.rm a.1.1.1.0 h.1.1.1.0 i; extend = extend_is (u OPTION) x.operand.extend a.1.1.1.1.0 i; amount = cuts 8 (u IMM3) x.operand.amount a.1.1.1.1.1.0 h.1.1.1.1.1.0 i }; rn = cuts 8 (u RN) x.rn a.1.1.0 h.1.1.0 i; rd = cuts 8 (u RD) x.rd a.1.0 h.1.0 i })
-forth (insn.LogicalImmediate x) = λ u s a h i. insn.LogicalImmediate (record { op = x.op; wide = one (u SF) x.wide a.0 i; n = one (u N) x.n a.1.1.1.0 i; immr = cuts 8 (u IMMR) x.immr a.1.1.1.1.0 h.1.1.1.1.0 i; imms = cuts 8 (u IMMS) x.imms a.1.1.1.1.1.0 h.1.1.1.1.1.0 i; rn = cuts 8 (u RN) x.rn a.1.1.0 h.1.1.0 i; rd = cuts 8 (u RD) x.rd a.1.0 h.1.0 i })
-forth (insn.MoveWide x) = λ u s a h i. insn.MoveWide (record { op = x.op; wide = one (u SF) x.wide a.0 i; hw = cuts 8 (u HW) x.hw a.1.1.1.0 h.1.1.1.0 i; imm = cuts 16 (u IMM16) x.imm a.1.1.0 h.1.1.0 i; rd = cuts 8 (u RD) x.rd a.1.0 h.1.0 i })
-forth (insn.BitfieldMove x) = λ u s a h i. insn.BitfieldMove (record { op = x.op; wide = x.wide; immr = cuts 8 (u IMMR) x.immr a.1.1.0 h.1.1.0 i; imms = cuts 8 (u IMMS) x.imms a.1.1.1.0 h.1.1.1.0 i; rn = cuts 8 (u RN) x.rn a.1.0 h.1.0 i; rd = cuts 8 (u RD) x.rd a.0 h.0 i })
-forth (insn.Extract x) = λ u s a h i. insn.Extract (record { wide = x.wide; rm = cuts 8 (u RM) x.rm a.1.1.0 h.1.1.0 i; lsb = cuts 8 (u IMMS) x.lsb a.1.1.1.0 h.1.1.1.0 i; rn = cuts 8 (u RN) x.rn a.1.0 h.1.0 i; rd = cuts 8 (u RD) x.rd a.0 h.0 i })
+unfolding parts_of branch_parts multiply_parts atomic_parts system_parts padded agrees are_small takes format slots eight kept take_of
+    field_of_slot named shifted_register extended_register named_branch named_multiply named_atomic named_system
+forth (insn.AddSubImmediate x) = λ u s a h i. insn.AddSubImmediate (record {
+  op = x.op;
+  wide = one (u SF) x.wide a.0 i;
+  shifted = one (u SH) x.shifted a.1.1.1.1.0 i;
+  imm = cuts 16 (u IMM12) x.imm a.1.1.1.0 h.1.1.1.0 i;
+  rn = cuts 8 (u RN) x.rn a.1.1.0 h.1.1.0 i;
+  rd = cuts 8 (u RD) x.rd a.1.0 h.1.0 i;
+})
+forth (insn.AddSubRegister x) = λ u s a h i. insn.AddSubRegister (record {
+  op = x.op;
+  wide = one (u SF) x.wide a.0 i;
+  operand = record {
+    rm = cuts 8 (u RM) x.operand.rm a.1.1.1.0 h.1.1.1.0 i;
+    shift = shift_is (u SHIFT) x.operand.shift a.1.1.1.1.0 i;
+    amount = cuts 8 (u IMM6) x.operand.amount a.1.1.1.1.1.0 h.1.1.1.1.1.0 i;
+  };
+  rn = cuts 8 (u RN) x.rn a.1.1.0 h.1.1.0 i;
+  rd = cuts 8 (u RD) x.rd a.1.0 h.1.0 i;
+})
+forth (insn.LogicalRegister x) = λ u s a h i. insn.LogicalRegister (record {
+  op = x.op;
+  wide = one (u SF) x.wide a.0 i;
+  inverted = x.inverted;
+  operand = record {
+    rm = cuts 8 (u RM) x.operand.rm a.1.1.1.0 h.1.1.1.0 i;
+    shift = shift_is (u SHIFT) x.operand.shift a.1.1.1.1.0 i;
+    amount = cuts 8 (u IMM6) x.operand.amount a.1.1.1.1.1.0 h.1.1.1.1.1.0 i;
+  };
+  rn = cuts 8 (u RN) x.rn a.1.1.0 h.1.1.0 i;
+  rd = cuts 8 (u RD) x.rd a.1.0 h.1.0 i;
+})
+forth (insn.AddSubExtended x) = λ u s a h i. insn.AddSubExtended (record {
+  op = x.op;
+  wide = one (u SF) x.wide a.0 i;
+  operand = record {
+    rm = cuts 8 (u RM) x.operand.rm a.1.1.1.0 h.1.1.1.0 i;
+    extend = extend_is (u OPTION) x.operand.extend a.1.1.1.1.0 i;
+    amount = cuts 8 (u IMM3) x.operand.amount a.1.1.1.1.1.0 h.1.1.1.1.1.0 i;
+  };
+  rn = cuts 8 (u RN) x.rn a.1.1.0 h.1.1.0 i;
+  rd = cuts 8 (u RD) x.rd a.1.0 h.1.0 i;
+})
+forth (insn.LogicalImmediate x) = λ u s a h i. insn.LogicalImmediate (record {
+  op = x.op;
+  wide = one (u SF) x.wide a.0 i;
+  n = one (u N) x.n a.1.1.1.0 i;
+  immr = cuts 8 (u IMMR) x.immr a.1.1.1.1.0 h.1.1.1.1.0 i;
+  imms = cuts 8 (u IMMS) x.imms a.1.1.1.1.1.0 h.1.1.1.1.1.0 i;
+  rn = cuts 8 (u RN) x.rn a.1.1.0 h.1.1.0 i;
+  rd = cuts 8 (u RD) x.rd a.1.0 h.1.0 i;
+})
+forth (insn.MoveWide x) = λ u s a h i. insn.MoveWide (record {
+  op = x.op;
+  wide = one (u SF) x.wide a.0 i;
+  hw = cuts 8 (u HW) x.hw a.1.1.1.0 h.1.1.1.0 i;
+  imm = cuts 16 (u IMM16) x.imm a.1.1.0 h.1.1.0 i;
+  rd = cuts 8 (u RD) x.rd a.1.0 h.1.0 i;
+})
+forth (insn.BitfieldMove x) = λ u s a h i. insn.BitfieldMove (record {
+  op = x.op;
+  wide = x.wide;
+  immr = cuts 8 (u IMMR) x.immr a.1.1.0 h.1.1.0 i;
+  imms = cuts 8 (u IMMS) x.imms a.1.1.1.0 h.1.1.1.0 i;
+  rn = cuts 8 (u RN) x.rn a.1.0 h.1.0 i;
+  rd = cuts 8 (u RD) x.rd a.0 h.0 i;
+})
+forth (insn.Extract x) = λ u s a h i. insn.Extract (record {
+  wide = x.wide;
+  rm = cuts 8 (u RM) x.rm a.1.1.0 h.1.1.0 i;
+  lsb = cuts 8 (u IMMS) x.lsb a.1.1.1.0 h.1.1.1.0 i;
+  rn = cuts 8 (u RN) x.rn a.1.0 h.1.0 i;
+  rd = cuts 8 (u RD) x.rd a.0 h.0 i;
+})
 forth (insn.PcRelative x) = λ u s a h i. insn.PcRelative (record { op = x.op; imm = a.1.0 i; rd = cuts 8 (u RD) x.rd a.0 h.0 i })
 forth (insn.Branch (branch.Unconditional false words)) = λ u s a h i. insn.Branch (branch.Unconditional false (a.0 i))
 forth (insn.Branch (branch.Unconditional true words)) = λ u s a h i. insn.Branch (branch.Unconditional true (a.0 i))
-forth (insn.Branch (branch.Conditional condition words)) = λ u s a h i. insn.Branch (branch.Conditional (condition_is (u BRANCH_COND) condition a.0 i) (a.1.0 i))
-forth (insn.Branch (branch.Compare false wide words rt)) = λ u s a h i. insn.Branch (branch.Compare false (one (u SF) wide a.0 i) (a.1.1.0 i) (cuts 8 (u RT) rt a.1.0 h.1.0 i))
-forth (insn.Branch (branch.Compare true wide words rt)) = λ u s a h i. insn.Branch (branch.Compare true (one (u SF) wide a.0 i) (a.1.1.0 i) (cuts 8 (u RT) rt a.1.0 h.1.0 i))
-forth (insn.Branch (branch.TestBit false bit words rt)) = λ u s a h i. insn.Branch (branch.TestBit false (cuts 8 (u BIT) bit a.1.0 h.1.0 i) (a.1.1.0 i) (cuts 8 (u RT) rt a.0 h.0 i))
-forth (insn.Branch (branch.TestBit true bit words rt)) = λ u s a h i. insn.Branch (branch.TestBit true (cuts 8 (u BIT) bit a.1.0 h.1.0 i) (a.1.1.0 i) (cuts 8 (u RT) rt a.0 h.0 i))
+forth (insn.Branch (branch.Conditional condition words)) = λ u s a h i. insn.Branch
+    (branch.Conditional (condition_is (u BRANCH_COND) condition a.0 i) (a.1.0 i))
+forth (insn.Branch (branch.Compare false wide words rt)) = λ u s a h i. insn.Branch (branch.Compare false (one (u SF) wide a.0 i)
+    (a.1.1.0 i) (cuts 8 (u RT) rt a.1.0 h.1.0 i))
+forth (insn.Branch (branch.Compare true wide words rt)) = λ u s a h i. insn.Branch (branch.Compare true (one (u SF) wide a.0 i) (a.1.1.0 i)
+    (cuts 8 (u RT) rt a.1.0 h.1.0 i))
+forth (insn.Branch (branch.TestBit false bit words rt)) = λ u s a h i. insn.Branch (branch.TestBit false (cuts 8 (u BIT) bit a.1.0 h.1.0 i)
+    (a.1.1.0 i) (cuts 8 (u RT) rt a.0 h.0 i))
+forth (insn.Branch (branch.TestBit true bit words rt)) = λ u s a h i. insn.Branch (branch.TestBit true (cuts 8 (u BIT) bit a.1.0 h.1.0 i)
+    (a.1.1.0 i) (cuts 8 (u RT) rt a.0 h.0 i))
 forth (insn.BranchRegister x) = λ u s a h i. insn.BranchRegister (record { op = x.op; rn = cuts 8 (u RN) x.rn a.0 h.0 i })
-forth (insn.AddSubCarry x) = λ u s a h i. insn.AddSubCarry (record { op = x.op; wide = one (u SF) x.wide a.0 i; rm = cuts 8 (u RM) x.rm a.1.1.1.0 h.1.1.1.0 i; rn = cuts 8 (u RN) x.rn a.1.1.0 h.1.1.0 i; rd = cuts 8 (u RD) x.rd a.1.0 h.1.0 i })
-forth (insn.ConditionalSelect x) = λ u s a h i. insn.ConditionalSelect (record { op = x.op; wide = one (u SF) x.wide a.0 i; condition = condition_is (u COND) x.condition a.1.1.1.1.0 i; rm = cuts 8 (u RM) x.rm a.1.1.1.0 h.1.1.1.0 i; rn = cuts 8 (u RN) x.rn a.1.1.0 h.1.1.0 i; rd = cuts 8 (u RD) x.rd a.1.0 h.1.0 i })
+forth (insn.AddSubCarry x) = λ u s a h i. insn.AddSubCarry (record {
+  op = x.op;
+  wide = one (u SF) x.wide a.0 i;
+  rm = cuts 8 (u RM) x.rm a.1.1.1.0 h.1.1.1.0 i;
+  rn = cuts 8 (u RN) x.rn a.1.1.0 h.1.1.0 i;
+  rd = cuts 8 (u RD) x.rd a.1.0 h.1.0 i;
+})
+forth (insn.ConditionalSelect x) = λ u s a h i. insn.ConditionalSelect (record {
+  op = x.op;
+  wide = one (u SF) x.wide a.0 i;
+  condition = condition_is (u COND) x.condition a.1.1.1.1.0 i;
+  rm = cuts 8 (u RM) x.rm a.1.1.1.0 h.1.1.1.0 i;
+  rn = cuts 8 (u RN) x.rn a.1.1.0 h.1.1.0 i;
+  rd = cuts 8 (u RD) x.rd a.1.0 h.1.0 i;
+})
 forth (insn.ConditionalCompare x) = remade_compare x x.operand refl
 forth (insn.OneSource x) = remade_one_source x x.op refl
-forth (insn.TwoSource x) = λ u s a h i. insn.TwoSource (record { op = x.op; wide = one (u SF) x.wide a.0 i; rm = cuts 8 (u RM) x.rm a.1.1.1.0 h.1.1.1.0 i; rn = cuts 8 (u RN) x.rn a.1.1.0 h.1.1.0 i; rd = cuts 8 (u RD) x.rd a.1.0 h.1.0 i })
-forth (insn.Multiply (multiply.Same false wide rm ra rn rd)) = λ u s a h i. insn.Multiply (multiply.Same false (one (u SF) wide a.0 i) (cuts 8 (u RM) rm a.1.1.1.0 h.1.1.1.0 i) (cuts 8 (u RA) ra a.1.1.1.1.0 h.1.1.1.1.0 i) (cuts 8 (u RN) rn a.1.1.0 h.1.1.0 i) (cuts 8 (u RD) rd a.1.0 h.1.0 i))
-forth (insn.Multiply (multiply.Same true wide rm ra rn rd)) = λ u s a h i. insn.Multiply (multiply.Same true (one (u SF) wide a.0 i) (cuts 8 (u RM) rm a.1.1.1.0 h.1.1.1.0 i) (cuts 8 (u RA) ra a.1.1.1.1.0 h.1.1.1.1.0 i) (cuts 8 (u RN) rn a.1.1.0 h.1.1.0 i) (cuts 8 (u RD) rd a.1.0 h.1.0 i))
-forth (insn.Multiply (multiply.Long false true rm ra rn rd)) = λ u s a h i. insn.Multiply (multiply.Long false true (cuts 8 (u RM) rm a.1.1.0 h.1.1.0 i) (cuts 8 (u RA) ra a.1.1.1.0 h.1.1.1.0 i) (cuts 8 (u RN) rn a.1.0 h.1.0 i) (cuts 8 (u RD) rd a.0 h.0 i))
-forth (insn.Multiply (multiply.Long true true rm ra rn rd)) = λ u s a h i. insn.Multiply (multiply.Long true true (cuts 8 (u RM) rm a.1.1.0 h.1.1.0 i) (cuts 8 (u RA) ra a.1.1.1.0 h.1.1.1.0 i) (cuts 8 (u RN) rn a.1.0 h.1.0 i) (cuts 8 (u RD) rd a.0 h.0 i))
-forth (insn.Multiply (multiply.Long false false rm ra rn rd)) = λ u s a h i. insn.Multiply (multiply.Long false false (cuts 8 (u RM) rm a.1.1.0 h.1.1.0 i) (cuts 8 (u RA) ra a.1.1.1.0 h.1.1.1.0 i) (cuts 8 (u RN) rn a.1.0 h.1.0 i) (cuts 8 (u RD) rd a.0 h.0 i))
-forth (insn.Multiply (multiply.Long true false rm ra rn rd)) = λ u s a h i. insn.Multiply (multiply.Long true false (cuts 8 (u RM) rm a.1.1.0 h.1.1.0 i) (cuts 8 (u RA) ra a.1.1.1.0 h.1.1.1.0 i) (cuts 8 (u RN) rn a.1.0 h.1.0 i) (cuts 8 (u RD) rd a.0 h.0 i))
-forth (insn.Multiply (multiply.High true rm rn rd)) = λ u s a h i. insn.Multiply (multiply.High true (cuts 8 (u RM) rm a.1.1.0 h.1.1.0 i) (cuts 8 (u RN) rn a.1.0 h.1.0 i) (cuts 8 (u RD) rd a.0 h.0 i))
-forth (insn.Multiply (multiply.High false rm rn rd)) = λ u s a h i. insn.Multiply (multiply.High false (cuts 8 (u RM) rm a.1.1.0 h.1.1.0 i) (cuts 8 (u RN) rn a.1.0 h.1.0 i) (cuts 8 (u RD) rd a.0 h.0 i))
+forth (insn.TwoSource x) = λ u s a h i. insn.TwoSource (record {
+  op = x.op;
+  wide = one (u SF) x.wide a.0 i;
+  rm = cuts 8 (u RM) x.rm a.1.1.1.0 h.1.1.1.0 i;
+  rn = cuts 8 (u RN) x.rn a.1.1.0 h.1.1.0 i;
+  rd = cuts 8 (u RD) x.rd a.1.0 h.1.0 i;
+})
+forth (insn.Multiply (multiply.Same false wide rm ra rn rd)) = λ u s a h i. insn.Multiply (multiply.Same false (one (u SF) wide a.0 i)
+    (cuts 8 (u RM) rm a.1.1.1.0 h.1.1.1.0 i) (cuts 8 (u RA) ra a.1.1.1.1.0 h.1.1.1.1.0 i) (cuts 8 (u RN) rn a.1.1.0 h.1.1.0 i)
+    (cuts 8 (u RD) rd a.1.0 h.1.0 i))
+forth (insn.Multiply (multiply.Same true wide rm ra rn rd)) = λ u s a h i. insn.Multiply (multiply.Same true (one (u SF) wide a.0 i)
+    (cuts 8 (u RM) rm a.1.1.1.0 h.1.1.1.0 i) (cuts 8 (u RA) ra a.1.1.1.1.0 h.1.1.1.1.0 i) (cuts 8 (u RN) rn a.1.1.0 h.1.1.0 i)
+    (cuts 8 (u RD) rd a.1.0 h.1.0 i))
+forth (insn.Multiply (multiply.Long false true rm ra rn rd)) = λ u s a h i. insn.Multiply
+    (multiply.Long false true (cuts 8 (u RM) rm a.1.1.0 h.1.1.0 i) (cuts 8 (u RA) ra a.1.1.1.0 h.1.1.1.0 i) (cuts 8 (u RN) rn a.1.0 h.1.0 i)
+    (cuts 8 (u RD) rd a.0 h.0 i))
+forth (insn.Multiply (multiply.Long true true rm ra rn rd)) = λ u s a h i. insn.Multiply
+    (multiply.Long true true (cuts 8 (u RM) rm a.1.1.0 h.1.1.0 i) (cuts 8 (u RA) ra a.1.1.1.0 h.1.1.1.0 i) (cuts 8 (u RN) rn a.1.0 h.1.0 i)
+    (cuts 8 (u RD) rd a.0 h.0 i))
+forth (insn.Multiply (multiply.Long false false rm ra rn rd)) = λ u s a h i. insn.Multiply
+    (multiply.Long false false (cuts 8 (u RM) rm a.1.1.0 h.1.1.0 i) (cuts 8 (u RA) ra a.1.1.1.0 h.1.1.1.0 i)
+    (cuts 8 (u RN) rn a.1.0 h.1.0 i) (cuts 8 (u RD) rd a.0 h.0 i))
+forth (insn.Multiply (multiply.Long true false rm ra rn rd)) = λ u s a h i. insn.Multiply
+    (multiply.Long true false (cuts 8 (u RM) rm a.1.1.0 h.1.1.0 i) (cuts 8 (u RA) ra a.1.1.1.0 h.1.1.1.0 i) (cuts 8 (u RN) rn a.1.0 h.1.0 i)
+    (cuts 8 (u RD) rd a.0 h.0 i))
+forth (insn.Multiply (multiply.High true rm rn rd)) = λ u s a h i. insn.Multiply (multiply.High true (cuts 8 (u RM) rm a.1.1.0 h.1.1.0 i)
+    (cuts 8 (u RN) rn a.1.0 h.1.0 i) (cuts 8 (u RD) rd a.0 h.0 i))
+forth (insn.Multiply (multiply.High false rm rn rd)) = λ u s a h i. insn.Multiply (multiply.High false (cuts 8 (u RM) rm a.1.1.0 h.1.1.0 i)
+    (cuts 8 (u RN) rn a.1.0 h.1.0 i) (cuts 8 (u RD) rd a.0 h.0 i))
 forth (insn.LoadStore x) = remade_load_store x x.address refl
 forth (insn.LoadLiteral x) = λ u s a h i. insn.LoadLiteral (record { op = x.op; words = a.1.0 i; rt = cuts 8 (u RT) x.rt a.0 h.0 i })
-forth (insn.LoadStorePair x) = λ u s a h i. insn.LoadStorePair (record { op = x.op; wide = x.wide; index = x.index; offset = a.1.1.1.0 i; rn = cuts 8 (u RN) x.rn a.1.1.0 h.1.1.0 i; rt = cuts 8 (u RT) x.rt a.0 h.0 i; rt2 = cuts 8 (u RT2) x.rt2 a.1.0 h.1.0 i })
-forth (insn.Atomic (atomic.Ldar size rn rt)) = λ u s a h i. insn.Atomic (atomic.Ldar (access_size_is (u SIZE) size a.0 i) (cuts 8 (u RN) rn a.1.1.0 h.1.1.0 i) (cuts 8 (u RT) rt a.1.0 h.1.0 i))
-forth (insn.Atomic (atomic.Stlr size rn rt)) = λ u s a h i. insn.Atomic (atomic.Stlr (access_size_is (u SIZE) size a.0 i) (cuts 8 (u RN) rn a.1.1.0 h.1.1.0 i) (cuts 8 (u RT) rt a.1.0 h.1.0 i))
-forth (insn.Atomic (atomic.Cas size acquire release rs rn rt)) = λ u s a h i. insn.Atomic (atomic.Cas (access_size_is (u SIZE) size a.0 i) (one (u CAS_ACQUIRE) acquire a.1.0 i) (one (u CAS_RELEASE) release a.1.1.0 i) (cuts 8 (u RS) rs a.1.1.1.0 h.1.1.1.0 i) (cuts 8 (u RN) rn a.1.1.1.1.1.0 h.1.1.1.1.1.0 i) (cuts 8 (u RT) rt a.1.1.1.1.0 h.1.1.1.1.0 i))
-forth (insn.Atomic (atomic.Swap size acquire release rs rn rt)) = λ u s a h i. insn.Atomic (atomic.Swap (access_size_is (u SIZE) size a.0 i) (one (u ACQUIRE) acquire a.1.0 i) (one (u RELEASE) release a.1.1.0 i) (cuts 8 (u RS) rs a.1.1.1.0 h.1.1.1.0 i) (cuts 8 (u RN) rn a.1.1.1.1.1.0 h.1.1.1.1.1.0 i) (cuts 8 (u RT) rt a.1.1.1.1.0 h.1.1.1.1.0 i))
-forth (insn.Atomic (atomic.Update op size acquire release rs rn rt)) = λ u s a h i. insn.Atomic (atomic.Update op (access_size_is (u SIZE) size a.0 i) (one (u ACQUIRE) acquire a.1.0 i) (one (u RELEASE) release a.1.1.0 i) (cuts 8 (u RS) rs a.1.1.1.0 h.1.1.1.0 i) (cuts 8 (u RN) rn a.1.1.1.1.1.0 h.1.1.1.1.1.0 i) (cuts 8 (u RT) rt a.1.1.1.1.0 h.1.1.1.1.0 i))
+forth (insn.LoadStorePair x) = λ u s a h i. insn.LoadStorePair (record {
+  op = x.op;
+  wide = x.wide;
+  index = x.index;
+  offset = a.1.1.1.0 i;
+  rn = cuts 8 (u RN) x.rn a.1.1.0 h.1.1.0 i;
+  rt = cuts 8 (u RT) x.rt a.0 h.0 i;
+  rt2 = cuts 8 (u RT2) x.rt2 a.1.0 h.1.0 i;
+})
+forth (insn.Atomic (atomic.Ldar size rn rt)) = λ u s a h i. insn.Atomic (atomic.Ldar (access_size_is (u SIZE) size a.0 i)
+    (cuts 8 (u RN) rn a.1.1.0 h.1.1.0 i) (cuts 8 (u RT) rt a.1.0 h.1.0 i))
+forth (insn.Atomic (atomic.Stlr size rn rt)) = λ u s a h i. insn.Atomic (atomic.Stlr (access_size_is (u SIZE) size a.0 i)
+    (cuts 8 (u RN) rn a.1.1.0 h.1.1.0 i) (cuts 8 (u RT) rt a.1.0 h.1.0 i))
+forth (insn.Atomic (atomic.Cas size acquire release rs rn rt)) = λ u s a h i. insn.Atomic (atomic.Cas (access_size_is (u SIZE) size a.0 i)
+    (one (u CAS_ACQUIRE) acquire a.1.0 i) (one (u CAS_RELEASE) release a.1.1.0 i) (cuts 8 (u RS) rs a.1.1.1.0 h.1.1.1.0 i)
+    (cuts 8 (u RN) rn a.1.1.1.1.1.0 h.1.1.1.1.1.0 i) (cuts 8 (u RT) rt a.1.1.1.1.0 h.1.1.1.1.0 i))
+forth (insn.Atomic (atomic.Swap size acquire release rs rn rt)) = λ u s a h i. insn.Atomic (atomic.Swap (access_size_is (u SIZE) size a.0 i)
+    (one (u ACQUIRE) acquire a.1.0 i) (one (u RELEASE) release a.1.1.0 i) (cuts 8 (u RS) rs a.1.1.1.0 h.1.1.1.0 i)
+    (cuts 8 (u RN) rn a.1.1.1.1.1.0 h.1.1.1.1.1.0 i) (cuts 8 (u RT) rt a.1.1.1.1.0 h.1.1.1.1.0 i))
+forth (insn.Atomic (atomic.Update op size acquire release rs rn rt)) = λ u s a h i. insn.Atomic
+    (atomic.Update op (access_size_is (u SIZE) size a.0 i) (one (u ACQUIRE) acquire a.1.0 i) (one (u RELEASE) release a.1.1.0 i)
+    (cuts 8 (u RS) rs a.1.1.1.0 h.1.1.1.0 i) (cuts 8 (u RN) rn a.1.1.1.1.1.0 h.1.1.1.1.1.0 i) (cuts 8 (u RT) rt a.1.1.1.1.0 h.1.1.1.1.0 i))
 forth (insn.System (system.Svc imm)) = λ u s a h i. insn.System (system.Svc (cuts 16 (u IMM16) imm a.0 h.0 i))
 forth (insn.System (system.Brk imm)) = λ u s a h i. insn.System (system.Brk (cuts 16 (u IMM16) imm a.0 h.0 i))
 forth (insn.System (system.Udf imm)) = λ u s a h i. insn.System (system.Udf (cuts 16 (u UDF_IMM16) imm a.0 h.0 i))

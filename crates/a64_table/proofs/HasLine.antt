@@ -55,7 +55,8 @@ low_halfword : (b : Bool) (n : ℕ) → (b ≡ false → n < 2) → (b || nat_lt
 low_halfword true n h = refl
 low_halfword false n h = lt-ltb n 2 (h refl)
 
-sized : (op : LoadStoreOp) (size : AccessSize) → has_size op size ≡ true → has_load (access_size_number size) (load_store_op_number op) ≡ true
+sized : (op : LoadStoreOp) (size : AccessSize) → has_size op size ≡ true
+    → has_load (access_size_number size) (load_store_op_number op) ≡ true
 unfolding has_load
 sized Store Byte e = refl
 sized Load Byte e = refl
@@ -102,7 +103,8 @@ unfolding are_two
 two_apart Ldp rt rt2 h = unequal rt rt2 (h refl)
 two_apart Stp rt rt2 h = refl
 
-pair_apart : (index : PairIndex) (rn rt rt2 : ℕ) → (index ≢ Offset → rn ≢ 31 → (rn ≢ rt) × (rn ≢ rt2)) → is_pair_apart index rn rt rt2 ≡ true
+pair_apart : (index : PairIndex) (rn rt rt2 : ℕ) → (index ≢ Offset → rn ≢ 31 → (rn ≢ rt) × (rn ≢ rt2))
+    → is_pair_apart index rn rt rt2 ≡ true
 unfolding is_pair_apart
 pair_apart Offset rn rt rt2 h = refl
 pair_apart PostIndex rn rt rt2 h = or_31 rn _ (λ n. let p = h (λ e. cc) n in unequal rn rt p.0 & unequal rn rt2 p.1)
@@ -128,7 +130,8 @@ made it p e w f =
     }
 
 -- a conditional compare, by its second operand
-compare_line : (x : ConditionalCompare) (second : CompareOperand) → x.operand ≡ second → IsConditionalCompare x → IsInLine scalar parts_of (insn.ConditionalCompare x)
+compare_line : (x : ConditionalCompare) (second : CompareOperand) → x.operand ≡ second → IsConditionalCompare x
+    → IsInLine scalar parts_of (insn.ConditionalCompare x)
 unfolding are_in is_in format slots eight kept field_of_slot padded agrees fits_of parts_of compare_parts compare_says
 compare_line x (operand.Register rm) e h =
     made _ _ (ap (compare_parts x) e)
@@ -151,60 +154,81 @@ load_store_line : (x : LoadStore) (a : Address) → x.address ≡ a → IsLoadSt
 unfolding are_in is_in format slots eight kept field_of_slot padded agrees fits_of parts_of load_store_parts load_store_says
 load_store_line x (address.Offset imm) e h =
     made _ _ (ap (load_store_parts x) e)
-    (tag enums.AccessSize.the_type x.size & tag enums.LoadStoreOp.the_type x.op & low h.rt & low h.rn & low (subst IsAddress e h.address) & refl)
+    (tag enums.AccessSize.the_type x.size & tag enums.LoadStoreOp.the_type x.op & low h.rt & low h.rn & low
+    (subst IsAddress e h.address) & refl)
     (λ u s a. ap₂ has_load a.0 a.1.0 ∙ sized x.op x.size h.size)
 load_store_line x (address.Unscaled offset) e h =
     made _ _ (ap (load_store_parts x) e)
-    (tag enums.AccessSize.the_type x.size & tag enums.LoadStoreOp.the_type x.op & low h.rt & low h.rn & signed 9 offset (omega arith) (subst IsAddress e h.address) & refl)
+    (tag enums.AccessSize.the_type x.size & tag enums.LoadStoreOp.the_type x.op & low h.rt & low h.rn & signed 9 offset (omega arith)
+    (subst IsAddress e h.address) & refl)
     (λ u s a. ap₂ has_load a.0 a.1.0 ∙ sized x.op x.size h.size)
 load_store_line x (address.PostIndex offset) e h =
     made _ _ (ap (load_store_parts x) e)
-    (tag enums.AccessSize.the_type x.size & tag enums.LoadStoreOp.the_type x.op & low h.rt & low h.rn & signed 9 offset (omega arith) (subst IsAddress e h.address) & refl)
-    (λ u s a. (ap₂ has_load a.0 a.1.0 ∙ sized x.op x.size h.size) & (ap₂ is_apart a.1.1.1.0 a.1.1.0 ∙ base_apart _ _ (h.apart (ap writes_base e))))
+    (tag enums.AccessSize.the_type x.size & tag enums.LoadStoreOp.the_type x.op & low h.rt & low h.rn & signed 9 offset (omega arith)
+    (subst IsAddress e h.address) & refl)
+    (λ u s a. (ap₂ has_load a.0 a.1.0 ∙ sized x.op x.size h.size) & (ap₂ is_apart a.1.1.1.0 a.1.1.0
+    ∙ base_apart _ _ (h.apart (ap writes_base e))))
 load_store_line x (address.PreIndex offset) e h =
     made _ _ (ap (load_store_parts x) e)
-    (tag enums.AccessSize.the_type x.size & tag enums.LoadStoreOp.the_type x.op & low h.rt & low h.rn & signed 9 offset (omega arith) (subst IsAddress e h.address) & refl)
-    (λ u s a. (ap₂ has_load a.0 a.1.0 ∙ sized x.op x.size h.size) & (ap₂ is_apart a.1.1.1.0 a.1.1.0 ∙ base_apart _ _ (h.apart (ap writes_base e))))
+    (tag enums.AccessSize.the_type x.size & tag enums.LoadStoreOp.the_type x.op & low h.rt & low h.rn & signed 9 offset (omega arith)
+    (subst IsAddress e h.address) & refl)
+    (λ u s a. (ap₂ has_load a.0 a.1.0 ∙ sized x.op x.size h.size) & (ap₂ is_apart a.1.1.1.0 a.1.1.0
+    ∙ base_apart _ _ (h.apart (ap writes_base e))))
 load_store_line x (address.Register rm extend scaled) e h =
     made _ _ (ap (load_store_parts x) e)
-    (tag enums.AccessSize.the_type x.size & tag enums.LoadStoreOp.the_type x.op & low h.rt & low h.rn & low (subst IsAddress e h.address).0 & tag enums.Extend.the_type extend & flag scaled & refl)
-    (λ u s a. (ap₂ has_load a.0 a.1.0 ∙ sized x.op x.size h.size) & (ap is_address_option a.1.1.1.1.1.0 ∙ address_option extend (subst IsAddress e h.address).1))
+    (tag enums.AccessSize.the_type x.size & tag enums.LoadStoreOp.the_type x.op & low h.rt & low h.rn & low (subst IsAddress e h.address).0
+    & tag enums.Extend.the_type extend & flag scaled & refl)
+    (λ u s a. (ap₂ has_load a.0 a.1.0 ∙ sized x.op x.size h.size) & (ap is_address_option a.1.1.1.1.1.0 ∙ address_option extend
+    (subst IsAddress e h.address).1))
 
 pub in_line : (it : Insn) → IsInRow it → IsInLine scalar parts_of it
-unfolding are_in is_in format slots eight kept field_of_slot padded agrees fits_of parts_of branch_parts multiply_parts atomic_parts system_parts
+unfolding are_in is_in format slots eight kept field_of_slot padded agrees fits_of parts_of branch_parts multiply_parts atomic_parts
+    system_parts
 in_line (insn.AddSubImmediate x) h = made _ _ refl (flag x.wide & low h.rd & low h.rn & low h.imm & flag x.shifted & refl) (λ u s a. refl)
 in_line (insn.AddSubRegister x) h =
     made _ _ refl
-    (flag x.wide & low h.rd & low h.rn & low h.operand.rm & tag enums.ShiftKind.the_type x.operand.shift & low (width_small x.wide _ h.operand.amount) & refl)
-    (λ u s a. (ap (λ k. not (k == 3)) a.1.1.1.1.0 ∙ not_ror x.operand.shift h.shift) & (ap₂ is_below_width (ap (λ k. k == 1) a.0 ∙ is_flag x.wide) a.1.1.1.1.1.0 ∙ within_width x.wide _ h.operand.amount))
+    (flag x.wide & low h.rd & low h.rn & low h.operand.rm & tag enums.ShiftKind.the_type x.operand.shift & low
+    (width_small x.wide _ h.operand.amount) & refl)
+    (λ u s a. (ap (λ k. not (k == 3)) a.1.1.1.1.0 ∙ not_ror x.operand.shift h.shift) & (ap₂ is_below_width (ap (λ k. k == 1) a.0
+    ∙ is_flag x.wide) a.1.1.1.1.1.0 ∙ within_width x.wide _ h.operand.amount))
 in_line (insn.LogicalRegister x) h =
     made _ _ refl
-    (flag x.wide & low h.rd & low h.rn & low h.operand.rm & tag enums.ShiftKind.the_type x.operand.shift & low (width_small x.wide _ h.operand.amount) & refl)
+    (flag x.wide & low h.rd & low h.rn & low h.operand.rm & tag enums.ShiftKind.the_type x.operand.shift & low
+    (width_small x.wide _ h.operand.amount) & refl)
     (λ u s a. ap₂ is_below_width (ap (λ k. k == 1) a.0 ∙ is_flag x.wide) a.1.1.1.1.1.0 ∙ within_width x.wide _ h.operand.amount)
 in_line (insn.AddSubExtended x) h =
     made _ _ refl
-    (flag x.wide & low h.rd & low h.rn & low h.operand.rm & tag enums.Extend.the_type x.operand.extend & lt-ltb _ 8 (let lt = h.operand.amount in omega arith) & refl)
+    (flag x.wide & low h.rd & low h.rn & low h.operand.rm & tag enums.Extend.the_type x.operand.extend & lt-ltb _ 8
+    (let lt = h.operand.amount in omega arith) & refl)
     (λ u s a. ap (λ k. nat_lt k 5) a.1.1.1.1.1.0 ∙ low h.operand.amount)
 in_line (insn.LogicalImmediate x) h =
     made _ _ refl (flag x.wide & low h.rd & low h.rn & flag x.n & low h.immr & low h.imms & refl)
-    (λ u s a. (λ i. are_mask_fields (a.1.1.1.0 i == 1) (a.1.1.1.1.1.0 i) (a.1.1.1.1.0 i) (a.0 i == 1)) ∙ ap₂ (λ b c. are_mask_fields b x.imms x.immr c) (is_flag x.n) (is_flag x.wide) ∙ h.mask)
+    (λ u s a. (λ i. are_mask_fields (a.1.1.1.0 i == 1) (a.1.1.1.1.1.0 i) (a.1.1.1.1.0 i) (a.0 i == 1))
+    ∙ ap₂ (λ b c. are_mask_fields b x.imms x.immr c) (is_flag x.n) (is_flag x.wide) ∙ h.mask)
 in_line (insn.MoveWide x) h =
     made _ _ refl (flag x.wide & low h.rd & low h.imm & low h.hw & refl)
-    (λ u s a. (λ i. (a.0 i == 1) || nat_lt (a.1.1.1.0 i) 2) ∙ ap (λ b. b || nat_lt x.hw 2) (is_flag x.wide) ∙ low_halfword x.wide x.hw h.narrow)
+    (λ u s a. (λ i. (a.0 i == 1) || nat_lt (a.1.1.1.0 i) 2) ∙ ap (λ b. b || nat_lt x.hw 2) (is_flag x.wide) ∙ low_halfword x.wide
+    x.hw h.narrow)
 in_line (insn.BitfieldMove x) h =
     made _ _ refl (low h.rd & low h.rn & low (width_small x.wide _ h.immr) & low (width_small x.wide _ h.imms) & refl)
-    (λ u s a. (ap (is_below_width x.wide) a.1.1.0 ∙ within_width x.wide _ h.immr) & (ap (is_below_width x.wide) a.1.1.1.0 ∙ within_width x.wide _ h.imms))
+    (λ u s a. (ap (is_below_width x.wide) a.1.1.0 ∙ within_width x.wide _ h.immr) & (ap (is_below_width x.wide) a.1.1.1.0
+    ∙ within_width x.wide _ h.imms))
 in_line (insn.Extract x) h =
     made _ _ refl (low h.rd & low h.rn & low h.rm & low (width_small x.wide _ h.lsb) & refl)
     (λ u s a. ap (is_below_width x.wide) a.1.1.1.0 ∙ within_width x.wide _ h.lsb)
 in_line (insn.PcRelative x) h = made _ _ refl (low h.rd & signed 21 x.imm (omega arith) h.imm & refl) (λ u s a. refl)
 in_line (insn.Branch (branch.Unconditional false words)) h = made _ _ refl (signed 26 words (omega arith) h & refl) (λ u s a. refl)
 in_line (insn.Branch (branch.Unconditional true words)) h = made _ _ refl (signed 26 words (omega arith) h & refl) (λ u s a. refl)
-in_line (insn.Branch (branch.Conditional c words)) h = made _ _ refl (tag enums.Condition.the_type c & signed 19 words (omega arith) h & refl) (λ u s a. refl)
-in_line (insn.Branch (branch.Compare false wide words rt)) h = made _ _ refl (flag wide & low h.1 & signed 19 words (omega arith) h.0 & refl) (λ u s a. refl)
-in_line (insn.Branch (branch.Compare true wide words rt)) h = made _ _ refl (flag wide & low h.1 & signed 19 words (omega arith) h.0 & refl) (λ u s a. refl)
-in_line (insn.Branch (branch.TestBit false bit words rt)) h = made _ _ refl (low h.2 & low h.0 & signed 14 words (omega arith) h.1 & refl) (λ u s a. refl)
-in_line (insn.Branch (branch.TestBit true bit words rt)) h = made _ _ refl (low h.2 & low h.0 & signed 14 words (omega arith) h.1 & refl) (λ u s a. refl)
+in_line (insn.Branch (branch.Conditional c words)) h = made _ _ refl (tag enums.Condition.the_type c & signed 19 words (omega arith) h &
+    refl) (λ u s a. refl)
+in_line (insn.Branch (branch.Compare false wide words rt)) h = made _ _ refl (flag wide & low h.1 & signed 19 words (omega arith) h.0 &
+    refl) (λ u s a. refl)
+in_line (insn.Branch (branch.Compare true wide words rt)) h = made _ _ refl (flag wide & low h.1 & signed 19 words (omega arith) h.0 & refl)
+    (λ u s a. refl)
+in_line (insn.Branch (branch.TestBit false bit words rt)) h = made _ _ refl (low h.2 & low h.0 & signed 14 words (omega arith) h.1 & refl)
+    (λ u s a. refl)
+in_line (insn.Branch (branch.TestBit true bit words rt)) h = made _ _ refl (low h.2 & low h.0 & signed 14 words (omega arith) h.1 & refl)
+    (λ u s a. refl)
 in_line (insn.BranchRegister x) h = made _ _ refl (low h & refl) (λ u s a. refl)
 in_line (insn.AddSubCarry x) h = made _ _ refl (flag x.wide & low h.rd & low h.rn & low h.rm & refl) (λ u s a. refl)
 in_line (insn.ConditionalSelect x) h =
@@ -212,10 +236,14 @@ in_line (insn.ConditionalSelect x) h =
 in_line (insn.ConditionalCompare x) h = compare_line x x.operand refl h
 in_line (insn.OneSource x) h = one_source_line x x.op refl h
 in_line (insn.TwoSource x) h = made _ _ refl (flag x.wide & low h.rd & low h.rn & low h.rm & refl) (λ u s a. refl)
-in_line (insn.Multiply (multiply.Same false wide rm ra rn rd)) h = made _ _ refl (flag wide & low h.3 & low h.2 & low h.0 & low h.1 & refl) (λ u s a. refl)
-in_line (insn.Multiply (multiply.Same true wide rm ra rn rd)) h = made _ _ refl (flag wide & low h.3 & low h.2 & low h.0 & low h.1 & refl) (λ u s a. refl)
-in_line (insn.Multiply (multiply.Long false true rm ra rn rd)) h = made _ _ refl (low h.3 & low h.2 & low h.0 & low h.1 & refl) (λ u s a. refl)
-in_line (insn.Multiply (multiply.Long true true rm ra rn rd)) h = made _ _ refl (low h.3 & low h.2 & low h.0 & low h.1 & refl) (λ u s a. refl)
+in_line (insn.Multiply (multiply.Same false wide rm ra rn rd)) h = made _ _ refl (flag wide & low h.3 & low h.2 & low h.0 & low h.1 & refl)
+    (λ u s a. refl)
+in_line (insn.Multiply (multiply.Same true wide rm ra rn rd)) h = made _ _ refl (flag wide & low h.3 & low h.2 & low h.0 & low h.1 & refl)
+    (λ u s a. refl)
+in_line (insn.Multiply (multiply.Long false true rm ra rn rd)) h = made _ _ refl (low h.3 & low h.2 & low h.0 & low h.1 & refl)
+    (λ u s a. refl)
+in_line (insn.Multiply (multiply.Long true true rm ra rn rd)) h = made _ _ refl (low h.3 & low h.2 & low h.0 & low h.1 & refl)
+    (λ u s a. refl)
 in_line (insn.Multiply (multiply.Long _ _ rm ra rn rd)) h = made _ _ refl (low h.3 & low h.2 & low h.0 & low h.1 & refl) (λ u s a. refl)
 in_line (insn.Multiply (multiply.High true rm rn rd)) h = made _ _ refl (low h.2 & low h.1 & low h.0 & refl) (λ u s a. refl)
 in_line (insn.Multiply (multiply.High false rm rn rd)) h = made _ _ refl (low h.2 & low h.1 & low h.0 & refl) (λ u s a. refl)
@@ -223,9 +251,12 @@ in_line (insn.LoadStore x) h = load_store_line x x.address refl h
 in_line (insn.LoadLiteral x) h = made _ _ refl (low h.rt & signed 19 x.words (omega arith) h.words & refl) (λ u s a. refl)
 in_line (insn.LoadStorePair x) h =
     made _ _ refl (low h.rt & low h.rt2 & low h.rn & signed 7 x.offset (omega arith) h.offset & refl)
-    (λ u s a. (ap₂ (are_two x.op) a.0 a.1.0 ∙ two_apart x.op _ _ h.two) & ((λ i. is_pair_apart x.index (a.1.1.0 i) (a.0 i) (a.1.0 i)) ∙ pair_apart x.index _ _ _ h.apart))
-in_line (insn.Atomic (atomic.Ldar size rn rt)) h = made _ _ refl (tag enums.AccessSize.the_type size & low h.1 & low h.0 & refl) (λ u s a. refl)
-in_line (insn.Atomic (atomic.Stlr size rn rt)) h = made _ _ refl (tag enums.AccessSize.the_type size & low h.1 & low h.0 & refl) (λ u s a. refl)
+    (λ u s a. (ap₂ (are_two x.op) a.0 a.1.0 ∙ two_apart x.op _ _ h.two) & ((λ i. is_pair_apart x.index (a.1.1.0 i) (a.0 i) (a.1.0 i))
+    ∙ pair_apart x.index _ _ _ h.apart))
+in_line (insn.Atomic (atomic.Ldar size rn rt)) h = made _ _ refl (tag enums.AccessSize.the_type size & low h.1 & low h.0 & refl)
+    (λ u s a. refl)
+in_line (insn.Atomic (atomic.Stlr size rn rt)) h = made _ _ refl (tag enums.AccessSize.the_type size & low h.1 & low h.0 & refl)
+    (λ u s a. refl)
 in_line (insn.Atomic (atomic.Cas size acquire release rs rn rt)) h =
     made _ _ refl (tag enums.AccessSize.the_type size & flag acquire & flag release & low h.0 & low h.2 & low h.1 & refl) (λ u s a. refl)
 in_line (insn.Atomic (atomic.Swap size acquire release rs rn rt)) h =

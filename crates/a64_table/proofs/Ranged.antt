@@ -80,13 +80,15 @@ module _ (w : ℕ) where
   two Ldp f e g = unlike _ _ f (sym (uncut RT w (omega arith)) ∙ g ∙ uncut RT2 w (omega arith))
   two Stp f e g = cc
 
-  written_apart : (field_in RN w == 31 || (not (field_in RN w == field_in RT w) && not (field_in RN w == field_in RT2 w))) ≡ true → register RN ≢ 31 → (register RN ≢ register RT) × (register RN ≢ register RT2)
+  written_apart : (field_in RN w == 31 || (not (field_in RN w == field_in RT w) && not (field_in RN w == field_in RT2 w))) ≡ true
+      → register RN ≢ 31 → (register RN ≢ register RT) × (register RN ≢ register RT2)
   written_apart f n =
       let rn = uncut RN w (omega arith) in
       let both = and_parts _ _ (or_else _ _ f (λ e. n (rn ∙ eqb-true _ _ e))) in
       (λ e. unlike _ _ both.0 (sym rn ∙ e ∙ uncut RT w (omega arith)), λ e. unlike _ _ both.1 (sym rn ∙ e ∙ uncut RT2 w (omega arith)))
 
-  pair_apart : (index : PairIndex) → is_pair_apart index (field_in RN w) (field_in RT w) (field_in RT2 w) ≡ true → index ≢ Offset → register RN ≢ 31 → (register RN ≢ register RT) × (register RN ≢ register RT2)
+  pair_apart : (index : PairIndex) → is_pair_apart index (field_in RN w) (field_in RT w) (field_in RT2 w) ≡ true → index ≢ Offset
+      → register RN ≢ 31 → (register RN ≢ register RT) × (register RN ≢ register RT2)
   unfolding is_pair_apart
   pair_apart Offset f o n = absurd (o refl)
   pair_apart PostIndex f o n = written_apart f n
@@ -133,11 +135,13 @@ module _ (w : ℕ) where
     rt = small RT w;
   }
 
-  load_store_ranged : (f : AddressForm) → fits_of (G18 f) (numbers_in w) ≡ true → IsInRow (named (G18 f) (numbers_in w) (signed_numbers_in w))
+  load_store_ranged : (f : AddressForm) → fits_of (G18 f) (numbers_in w) ≡ true
+      → IsInRow (named (G18 f) (numbers_in w) (signed_numbers_in w))
   unfolding fits_of named_address
   load_store_ranged form.Offset f = is_ranged form.Offset f (half_small IMM12 w) (λ e. cc)
   load_store_ranged form.Unscaled f = is_ranged form.Unscaled f (signed_small IMM9 w (omega arith)) (λ e. cc)
-  load_store_ranged form.PostIndex f = let p = and_parts _ _ f in is_ranged form.PostIndex p.0 (signed_small IMM9 w (omega arith)) (λ e. p.1)
+  load_store_ranged form.PostIndex f = let p = and_parts _ _ f in is_ranged form.PostIndex p.0
+      (signed_small IMM9 w (omega arith)) (λ e. p.1)
   load_store_ranged form.PreIndex f = let p = and_parts _ _ f in is_ranged form.PreIndex p.0 (signed_small IMM9 w (omega arith)) (λ e. p.1)
   load_store_ranged form.Register f =
       let p = and_parts _ _ f in
@@ -162,18 +166,42 @@ module _ (w : ℕ) where
   operation_ranged (G1 op) f = record { imm = half_small IMM12 w; rn = small RN w; rd = small RD w }
   operation_ranged (G2 op) f =
       let p = and_parts _ _ f in
-      record { operand = record { rm = small RM w; amount = below_width _ _ p.1 }; shift = no_rotation _ (field_in-lt SHIFT w) p.0; rn = small RN w; rd = small RD w }
-  operation_ranged (G3 op inverted) f = record { operand = record { rm = small RM w; amount = below_width _ _ f }; rn = small RN w; rd = small RD w }
-  operation_ranged (G4 op) f = record { operand = record { rm = small RM w; amount = cut_below _ 5 (ltb-true _ _ f) }; rn = small RN w; rd = small RD w }
+      record {
+        operand = record { rm = small RM w; amount = below_width _ _ p.1 };
+        shift = no_rotation _ (field_in-lt SHIFT w) p.0;
+        rn = small RN w;
+        rd = small RD w;
+      }
+  operation_ranged (G3 op inverted) f = record {
+    operand = record { rm = small RM w; amount = below_width _ _ f };
+    rn = small RN w;
+    rd = small RD w;
+  }
+  operation_ranged (G4 op) f = record {
+    operand = record { rm = small RM w; amount = cut_below _ 5 (ltb-true _ _ f) };
+    rn = small RN w;
+    rd = small RD w;
+  }
   operation_ranged (G5 op) f = record {
-    mask = ap₂ (λ a b. are_mask_fields (field_in N w == 1) a b (field_in SF w == 1)) (uncut IMMS w (omega arith)) (uncut IMMR w (omega arith)) ∙ f;
+    mask = ap₂ (λ a b. are_mask_fields (field_in N w == 1) a b (field_in SF w == 1)) (uncut IMMS w (omega arith))
+        (uncut IMMR w (omega arith)) ∙ f;
     immr = small IMMR w;
     imms = small IMMS w;
     rn = small RN w;
     rd = small RD w;
   }
-  operation_ranged (G6 op) f = record { imm = half_small IMM16 w; hw = small HW w; narrow = λ e. cut_below _ 2 (below_two _ _ f e); rd = small RD w }
-  operation_ranged (G7 op wide) f = let p = and_parts _ _ f in record { immr = below_width _ _ p.0; imms = below_width _ _ p.1; rn = small RN w; rd = small RD w }
+  operation_ranged (G6 op) f = record {
+    imm = half_small IMM16 w;
+    hw = small HW w;
+    narrow = λ e. cut_below _ 2 (below_two _ _ f e);
+    rd = small RD w;
+  }
+  operation_ranged (G7 op wide) f = let p = and_parts _ _ f in record {
+    immr = below_width _ _ p.0;
+    imms = below_width _ _ p.1;
+    rn = small RN w;
+    rd = small RD w;
+  }
   operation_ranged (G8 wide) f = record { rm = small RM w; lsb = below_width _ _ f; rn = small RN w; rd = small RD w }
   operation_ranged (G9 op) f = record { imm = signed_small IMM21 w (omega arith); rd = small RD w }
   operation_ranged (G10 op) f = branch_ranged op
@@ -188,7 +216,14 @@ module _ (w : ℕ) where
   operation_ranged (G19 op) f = record { words = signed_small IMM19 w (omega arith); rt = small RT w }
   operation_ranged (G20 op wide index) f =
       let p = and_parts _ _ f in
-      record { offset = signed_small IMM7 w (omega arith); two = two op p.0; apart = pair_apart index p.1; rn = small RN w; rt = small RT w; rt2 = small RT2 w }
+      record {
+        offset = signed_small IMM7 w (omega arith);
+        two = two op p.0;
+        apart = pair_apart index p.1;
+        rn = small RN w;
+        rt = small RT w;
+        rt2 = small RT2 w;
+      }
   operation_ranged (G21 form) f = atomic_ranged form
   operation_ranged (G22 op) f = system_ranged op
   operation_ranged (G23 op register) f = small RT w

@@ -1,5 +1,5 @@
-//! The fields of the scalar instructions, each named once; no other file has the place of a bit, but for the rules by
-//! which the registers of a load or store differ, which read Rt, Rn and Rt2 (insn_text).
+//! The fields of the scalar instructions, each named once; no other file has the place of a bit, but for the
+//! rules by which the registers of a load or store differ, which read Rt, Rn and Rt2 (insn_text).
 //!
 //! The names are those of the encoding diagrams (DDI 0487, C6.2), but for these of our own: `ACQUIRE` and
 //! `RELEASE` (A and R there), `CAS_ACQUIRE` and `CAS_RELEASE` (L and o0), `SCALED` (S), `BRANCH_COND` (cond),

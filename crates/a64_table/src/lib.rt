@@ -1,8 +1,8 @@
 //! The table of the scalar instructions of A64, and what a word means by it.
 //!
-//! A row of the table has the fixed bits of one instruction, its operation and its fields by name. A word means
-//! the instruction of the row whose fixed bits it has and whose condition it meets, with the fields of that row;
-//! at most one row is such. Of this crate the file of the fields alone has the place of a bit.
+//! A row of the table has the fixed bits of one instruction, its operation and its fields by name. A word
+//! means the instruction of the row whose fixed bits it has and whose condition it meets, with the fields of
+//! that row; at most one row is such. Of this crate the file of the fields alone has the place of a bit.
 #![tactic(auto)]
 
 mod conditions;
