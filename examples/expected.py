@@ -3,7 +3,7 @@
 
     examples/expected.py FILE [VL [SVL]]
 
-It knows the instructions that the programs of this repository use, and the calls write and exit; each other word is undefined to it.
+It knows the instructions that the programs of this repository use, and the calls write, exit, yield, set handler and number; each other word is undefined to it.
 """
 import hashlib
 import struct
@@ -30,7 +30,7 @@ def signed(value, bits):
 class Thread:
     def __init__(self, file, budget, vl, svl):
         self.pages, self.budget = {}, budget
-        self.vectors, self.matrix = Vectors(vl // 8), Matrix(vl // 8, svl // 8)
+        self.vectors, self.matrix, self.handlers = Vectors(vl // 8), Matrix(vl // 8, svl // 8), {}
         at, count = struct.unpack_from("<Q", file, 32)[0], struct.unpack_from("<H", file, 56)[0]
         for i in range(count):
             kind, flags, offset, address, _, size, memory, _ = struct.unpack_from("<IIQQQQQQ", file, at + 56 * i)
@@ -123,6 +123,15 @@ class Thread:
                 got = self.bytes_with(4, address, count)
                 answer = -14 & MASK if got is None else count
                 self.output += got or b""
+        if number == 124:
+            answer = 0
+        if number == 134:
+            signal, address = self.x[:2]
+            answer = 0 if 1 <= signal <= 62 else -22 & MASK
+            if answer == 0:
+                self.handlers[signal] = address
+        if number == 178:
+            answer = 0
         self.matrix.leave_streaming(self)
         self.x[0], self.pc, self.count = answer, self.pc + 4, self.count + 1
         return None
@@ -303,7 +312,9 @@ def report(file, vl=128, svl=256, budget=10_000_000):
     lines += [f"x {i} {value:016x}" for i, value in enumerate(thread.x) if value]
     lines += [f"sp {thread.sp:016x}", "nzcv " + "".join(map(str, thread.flags)), "tpidr " + "0" * 16, "tpidr2 " + "0" * 16,
               f"svcr {thread.matrix.svcr()}", *thread.vectors.lines(), *thread.matrix.lines(),
-              f"memory {len(thread.pages)} {digest.hexdigest()}", "held " + "0" * 16, "inside 0", "polled 0", f"output {len(thread.output)}"]
+              f"memory {len(thread.pages)} {digest.hexdigest()}", "held " + "0" * 16, "inside 0", "polled 0"]
+    lines += [f"handler {signal} {address:016x}" for signal, address in sorted(thread.handlers.items()) if address]
+    lines += [f"output {len(thread.output)}"]
     lines += [f"out {thread.output[i:i + 32].hex()}" for i in range(0, len(thread.output), 32)]
     return "\n".join(lines + ["journal 0", "end-thread", "shared", "end"]) + "\n"
 

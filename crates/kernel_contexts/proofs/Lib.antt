@@ -1,2 +1,3 @@
+pub mod HandlerTable
 pub mod Turns
 pub mod Answered

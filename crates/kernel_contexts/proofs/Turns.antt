@@ -10,7 +10,8 @@ use Rattle.sm_types.specs.declared.stop.Stop.TheVariants.{Budget, Raised}
 use Rattle.machine_step.specs.ProcessorState.{ProcessorState, vector_bytes}
 use Rattle.machine_step.specs.Effect.{Effect, Raises, Calls, Becomes, effect_of}
 use Rattle.kernel_contexts.specs.State.{State}
-use Rattle.kernel_contexts.specs.Call.{TurnEnd, Goes, Yields, Asks, Ends, counted, written, call_of, write_of, exit_of, output_limit}
+use Rattle.kernel_contexts.specs.Handlers.{is_signal}
+use Rattle.kernel_contexts.specs.Call.{TurnEnd, Goes, Yields, Asks, Ends, counted, written, call_of, write_of, exit_of, set_handler_of, output_limit}
 use Rattle.kernel_contexts.specs.Turn.{turn_of, after_effect, outside_streaming}
 
 pub turn_spent : (config : Config) (thread events : ℕ) (s : State) → s.count ≡ config.budget
@@ -72,11 +73,19 @@ module _ (s : State) (core : ProcessorState) where
       (λ _. written_counts _ _))
       (λ _. record { count = refl; turns = refl })
 
+  set_handler_counts : CountsOne s (set_handler_of from)
+  unfolding set_handler_of
+  set_handler_counts = cond_both (is_signal (slice_index core.scalars.x 0)) _ _ (CountsOne s)
+      (λ _. record { count = refl; turns = refl }) (λ _. record { count = refl; turns = refl })
+
   pub call_counts : (config : Config) (thread : ℕ) → CountsOne s (call_of config thread s from)
   unfolding call_of exit_of
   call_counts config thread = cond_both (slice_index core.scalars.x 8 == 64) _ _ (CountsOne s) (λ _. write_counts)
-      (λ _. cond_both (slice_index core.scalars.x 8 == 93) _ _ (CountsOne s)
-      (λ _. inr (record { count = refl; turns = refl })) (λ _. record { count = refl; turns = refl }))
+      (λ _. cond_both (slice_index core.scalars.x 8 == 93) _ _ (CountsOne s) (λ _. inr (record { count = refl; turns = refl }))
+      (λ _. cond_both (slice_index core.scalars.x 8 == 124) _ _ (CountsOne s) (λ _. record { count = refl; turns = refl })
+      (λ _. cond_both (slice_index core.scalars.x 8 == 134) _ _ (CountsOne s) (λ _. set_handler_counts)
+      (λ _. cond_both (slice_index core.scalars.x 8 == 178) _ _ (CountsOne s) (λ _. record { count = refl; turns = refl })
+      (λ _. record { count = refl; turns = refl })))))
 
 effect_counts : (config : Config) (thread : ℕ) (s : State) (effect : Effect) → CountsOne s (after_effect config thread s effect)
 effect_counts config thread s (Raises exception) = inl refl
@@ -91,3 +100,7 @@ turn_counts config thread events s =
 
 pub goes_turned : (config : Config) (thread events : ℕ) (s t : State) → turn_of config thread events s ≡ Goes t → t.turns ≡ s.turns + 1
 goes_turned config thread events s t e = let more : IsOneMore s t = subst (CountsOne s) e (turn_counts config thread events s) in more.turns
+
+pub yields_turned : (config : Config) (thread events : ℕ) (s t : State) → turn_of config thread events s ≡ Yields t → t.turns ≡ s.turns + 1
+yields_turned config thread events s t e =
+    let more : IsOneMore s t = subst (CountsOne s) e (turn_counts config thread events s) in more.turns

@@ -10,6 +10,7 @@ use Rattle.sm_types.specs.declared.stop.Stop.TheVariants.{Exited, OutputFull}
 use Rattle.paged_memory.specs.Memory.{bytes_with}
 use Rattle.machine_step.specs.ProcessorState.{ProcessorState}
 use Rattle.kernel_contexts.specs.State.{State}
+use Rattle.kernel_contexts.specs.Handlers.{is_signal, with_handler}
 
 -- what a turn comes to
 pub data TurnEnd : Type 0 where
@@ -67,8 +68,21 @@ exit_of s =
     Ends (counted s (record s.core { scalars = past_call s.core.scalars }))
     (Exited (slice_index s.core.scalars.x 0 % 256))
 
+-- set handler: X0 is a signal, whose handler begins at X1, or is removed where X1 is 0
+unfoldable pub set_handler_of : State → TurnEnd
+set_handler_of s = let x : List ℕ = s.core.scalars.x in
+    cond (is_signal (slice_index x 0))
+    (Goes (record (returned s 0) { handlers = with_handler s.handlers (slice_index x 0) (slice_index x 1) }))
+    (Goes (returned s (failure 22)))
+
 -- the call of the number in X8, of the thread of that number, from a state in which streaming mode has been
--- left; the state before is that of the call. 64 is write, 93 is exit, and every other number fails.
+-- left; the state before is that of the call. 64 is write, 93 exit, 124 yield, 134 set handler, 178 the
+-- thread's number, and every other number fails.
 unfoldable pub call_of : Config → ℕ → State → State → TurnEnd
 call_of config thread before s = let number : ℕ = slice_index s.core.scalars.x 8 in
-    cond (number == 64) (write_of before s) (cond (number == 93) (exit_of s) (Goes (returned s (failure 38))))
+    cond (number == 64) (write_of before s)
+    (cond (number == 93) (exit_of s)
+    (cond (number == 124) (Yields (returned s 0))
+    (cond (number == 134) (set_handler_of s)
+    (cond (number == 178) (Goes (returned s thread))
+    (Goes (returned s (failure 38)))))))

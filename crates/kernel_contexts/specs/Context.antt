@@ -1,6 +1,5 @@
 -- What a context is, and what its turns are.
 use Rattle.std.specs.Prelude.{◌≡◌, ℕ, false, Option, Some, None}
-use Rattle.std.specs.FinMap.{empty}
 use Rattle.sm_types.specs.declared.config.Config.{Config}
 use Rattle.sm_types.specs.declared.stop.Stop.{Stop}
 use Rattle.paged_memory.specs.Image.{Program}
@@ -10,18 +9,19 @@ use Rattle.machine_step.specs.ProcessorState.{VectorState}
 use Rattle.machine_step.specs.Machine.{core_of}
 use Rattle.machine_step.specs.declared.machine.Machine.{Machine}
 use Rattle.kernel_contexts.specs.State.{State}
-use Rattle.kernel_contexts.specs.Call.{TurnEnd, Goes, Ends, call_of}
+use Rattle.kernel_contexts.specs.HandlerTable.{handlers_of}
+use Rattle.kernel_contexts.specs.Call.{TurnEnd, Goes, Yields, Ends, call_of}
 use Rattle.kernel_contexts.specs.Turn.{turn_of, outside_streaming}
 use Rattle.kernel_contexts.specs.declared.guest.GuestThread.{GuestThread}
 use Rattle.kernel_contexts.specs.declared.context.Context.{Context}
 use Rattle.kernel_contexts.specs.declared.context.Turn.{Turn}
-use Rattle.kernel_contexts.specs.declared.context.Turn.TheVariants.{Ran, Stopped, Memory}
+use Rattle.kernel_contexts.specs.declared.context.Turn.TheVariants.{Ran, Yielded, Stopped, Memory}
 
--- the plain state of a guest thread with a bank; its handlers and signals no instruction reaches yet
+-- the plain state of a guest thread with a bank; no signal comes yet
 abbrev pub guest_state : GuestThread → VectorState → State
 guest_state g bank = record {
   core = core_of g.machine bank;
-  handlers = empty;
+  handlers = handlers_of g.handlers;
   held = 0;
   inside = false;
   polled = false;
@@ -74,6 +74,7 @@ stop_of c = c.guest.stop
 -- the turn; want of memory changes nothing
 abbrev pub Turns : TurnEnd → State → State → Option Stop → Turn → Type 0
 Turns end old new stopped Ran = (end ≡ Goes new) × (stopped ≡ None)
+Turns end old new stopped Yielded = (end ≡ Yields new) × (stopped ≡ None)
 Turns end old new stopped (Stopped stop) = (end ≡ Ends new stop) × (stopped ≡ Some stop)
 Turns end old new stopped Memory = (new ≡ old) × (stopped ≡ None)
 

@@ -1,4 +1,6 @@
 pub mod State
+pub mod Handlers
+pub mod HandlerTable
 pub mod SaveArea
 pub mod Call
 pub mod Turn

@@ -2,6 +2,7 @@
 ghost use Rattle.std.specs.Prelude.{◌≡◌, ◌+◌, ◌*◌, ◌<◌, ◌≤◌, None, IfOk};
 
 use crate::guest::GuestThread;
+use crate::handlers::handler_of;
 use machine_step::Machine;
 use mem_access::Bank;
 use paged_memory::Image;
@@ -13,6 +14,8 @@ use std::alloc::Global;
 pub enum Turn {
     /// The turn was made, and the thread goes on.
     Ran,
+    /// The turn was made, and the thread gives way to others.
+    Yielded,
     /// The thread has stopped, now or before.
     Stopped(Stop),
     /// There was no memory for the thread's output, or for a page that it writes; nothing has changed.
@@ -27,7 +30,9 @@ pub struct Context {
 }
 
 impl Context {
+    ghost use Rattle.std.specs.FinMap.{get};
     ghost use Rattle.kernel_contexts.specs.State.{start_state};
+    ghost use Rattle.kernel_contexts.specs.HandlerTable.{handlers_of};
     ghost use Rattle.kernel_contexts.specs.Context.{state_of, config_of, thread_of, stop_of, machine_of};
     ghost use Rattle.kernel_contexts.specs.Context.{save_area_of, image_of, TurnsOrStays, IsSameThread};
 
@@ -57,6 +62,7 @@ impl Context {
         ensures turn { TurnsOrStays (stop_of self.old) self.old self.new result }
         ensures same { IsSameThread self.old self.new }
         ensures made { result ≡ Turn.Ran → (state_of self.new).turns ≡ (state_of self.old).turns + 1 }
+        ensures yielded { result ≡ Turn.Yielded → (state_of self.new).turns ≡ (state_of self.old).turns + 1 }
         ensures budget { (state_of self.new).count ≤ (config_of self.new).budget }
         ensures few { (state_of self.new).turns ≤ 3 * (config_of self.new).budget }
     {
@@ -113,6 +119,20 @@ impl Context {
         ensures { result.now ≡ (state_of self.now).output }
     {
         self.guest.output.as_slice()
+    }
+
+    /// The address of a signal's handler; `None` exactly where none is set.
+    pub fn handler(&self, signal: u32) -> Option<u64>
+        ensures { result ≡ get (state_of self.now).handlers signal }
+    {
+        handler_of(&self.guest.handlers, signal)
+    }
+
+    /// The addresses of the handlers of signals 0 to 62, by their numbers; 0 where none is set.
+    pub fn handlers(&self) -> &[u64]
+        ensures { handlers_of result.now ≡ (state_of self.now).handlers }
+    {
+        &self.guest.handlers
     }
 
     /// The thread's registers and pages.

@@ -6,6 +6,7 @@ ghost use Rattle.kernel_contexts.specs.State.{start_scalars};
 mod call;
 
 use crate::context::Turn;
+use crate::handlers::{Addresses, no_handlers};
 use machine_step::{Machine, StepEnd, write_streaming};
 use mem_access::Bank;
 use paged_memory::{Image, Pages};
@@ -20,6 +21,7 @@ pub struct GuestThread {
     pub bank: Bank,
     pub config: Config,
     pub number: u32,
+    pub handlers: Addresses,
     pub output: Vec<u8>,
     pub count: u32,
     pub turns: u64,
@@ -85,6 +87,7 @@ impl GuestThread {
             bank,
             config: *config,
             number,
+            handlers: no_handlers(),
             output: Vec::new(alloc),
             count: 0,
             turns: 0,

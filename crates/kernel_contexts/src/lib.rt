@@ -4,5 +4,6 @@
 
 mod context;
 mod guest;
+mod handlers;
 
 pub use context::{Context, Turn};

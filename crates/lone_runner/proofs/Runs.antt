@@ -5,12 +5,12 @@ use Rattle.sm_types.specs.declared.shared_op.Event.{Event}
 use Rattle.sm_types.specs.declared.stop.Stop.{Stop}
 use Rattle.paged_memory.specs.Image.{Program}
 use Rattle.kernel_contexts.specs.State.{State, start_state}
-use Rattle.kernel_contexts.specs.Call.{TurnEnd, Goes, Ends}
+use Rattle.kernel_contexts.specs.Call.{TurnEnd, Goes, Yields, Ends}
 use Rattle.kernel_contexts.specs.Turn.{turn_of}
 use Rattle.kernel_contexts.specs.Run.{Reached, At, Ended, turned, after_turn, reach_from, reach}
 use Rattle.kernel_contexts.specs.Context.{state_of, config_of, thread_of, stop_of, TurnsOrStays}
 use Rattle.kernel_contexts.specs.declared.context.Context.{Context}
-use Rattle.kernel_contexts.specs.declared.context.Turn.TheVariants.{Ran, Stopped}
+use Rattle.kernel_contexts.specs.declared.context.Turn.TheVariants.{Ran, Yielded, Stopped}
 use Rattle.lone_runner.specs.LoneRun.{EndsFrom, IsLoneRun}
 
 -- a thread has made some turns from a state, and goes on
@@ -32,6 +32,11 @@ next config thread from now n end at is = ap (turned config thread) at ∙ ap (a
 pub under_way_on : (config : Config) (thread : ℕ) (from now new : State) → IsUnderWay config thread from now
     → turn_of config thread 0 now ≡ Goes new → IsUnderWay config thread from new
 under_way_on config thread from now new h is = record { turns = suc h.turns; at = next config thread from now h.turns (Goes new) h.at is }
+
+pub under_way_yields : (config : Config) (thread : ℕ) (from now new : State) → IsUnderWay config thread from now
+    → turn_of config thread 0 now ≡ Yields new → IsUnderWay config thread from new
+under_way_yields config thread from now new h is =
+    record { turns = suc h.turns; at = next config thread from now h.turns (Yields new) h.at is }
 
 pub under_way_ends : (config : Config) (thread : ℕ) (from now new : State) (stop : Stop) → IsUnderWay config thread from now
     → turn_of config thread 0 now ≡ Ends new stop → EndsFrom config thread from [] new stop
@@ -97,6 +102,13 @@ ran config thread old new None e same is h =
     ap (λ k. turn_of k thread 0 (state_of old)) (sym same) ∙ ap (λ n. turn_of (config_of old) n 0 (state_of old)) (sym is) ∙ h.0
 ran config thread old new (Some stop) e same is h = cc
 
+pub yielded : (config : Config) (thread : ℕ) (old new : Context) (stop : Option Stop) → stop ≡ None → config_of old ≡ config
+    → thread_of old ≡ thread → TurnsOrStays stop old new Yielded
+    → turn_of config thread 0 (state_of old) ≡ Yields (state_of new)
+yielded config thread old new None e same is h =
+    ap (λ k. turn_of k thread 0 (state_of old)) (sym same) ∙ ap (λ n. turn_of (config_of old) n 0 (state_of old)) (sym is) ∙ h.0
+yielded config thread old new (Some stop) e same is h = cc
+
 pub stopped : (config : Config) (thread : ℕ) (old new : Context) (stop : Option Stop) (why : Stop) → stop ≡ None → config_of old ≡ config
     → thread_of old ≡ thread → TurnsOrStays stop old new (Stopped why)
     → turn_of config thread 0 (state_of old) ≡ Ends (state_of new) why
@@ -107,3 +119,7 @@ stopped config thread old new (Some stop) why e same is h = cc
 pub runs_on : (old new : Context) (stop : Option Stop) → stop ≡ None → TurnsOrStays stop old new Ran → stop_of new ≡ None
 runs_on old new None e h = h.1
 runs_on old new (Some stop) e h = cc
+
+pub goes_on : (old new : Context) (stop : Option Stop) → stop ≡ None → TurnsOrStays stop old new Yielded → stop_of new ≡ None
+goes_on old new None e h = h.1
+goes_on old new (Some stop) e h = cc

@@ -21,6 +21,7 @@ fn run(context: &mut Context) -> Result<Stop, Memory>
     'turns: loop {
         match context.advance() {
             Turn::Ran => {}
+            Turn::Yielded => {}
             Turn::Stopped(stop) => return Ok(stop),
             Turn::Memory => return Err(Memory),
         }

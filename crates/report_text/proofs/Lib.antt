@@ -4,3 +4,4 @@ pub mod OutLines
 pub mod Pages
 pub mod Zero
 pub mod Events
+pub mod Handlers

@@ -1,11 +1,8 @@
 -- Lines of values that are all zero, which are none.
-use Rattle.std.proofs.Common.{◌≡◌, ℕ, zero, suc, ◌+◌, ◌==◌, [], ◌∷◌, List, true, codes, length, replicate, refl, sym, ◌∙◌, arith}
+use Rattle.std.proofs.Common.{◌≡◌, ℕ, zero, suc, ◌+◌, ◌==◌, [], List, true, codes, replicate, refl}
 use Rattle.std.specs.List.{list_all}
 use Rattle.report_text.specs.Lines.{value_line, value_lines}
 use Rattle.report_text.specs.Bank.{bytes_line, bytes_lines}
-use Rattle.std.specs.FinMap.{entries, empty, len-entries, len-empty}
-use Rattle.std.specs.Ordering.{nat_cmp}
-use Rattle.report_text.specs.Block.{handler_lines}
 use Rattle.report_text.specs.Report.{words_text, zero_words}
 
 value_lines-zero : (name : List ℕ) (k n : ℕ) → value_lines name k (replicate n 0) ≡ []
@@ -30,15 +27,3 @@ bytes_lines-zero : (name : List ℕ) (k m n : ℕ) → bytes_lines name k (repli
 unfolding bytes_lines
 bytes_lines-zero name k zero n = refl
 bytes_lines-zero name k (suc m) n = rw (bytes_line-zero _ n, bytes_lines-zero name (k + 1) m n) refl
-
-none_of-length : (l : List (ℕ × ℕ)) → length l ≡ 0 → l ≡ []
-none_of-length [] e = refl
-none_of-length (x ∷ l) e = absurd (omega arith)
-
--- where no handler is set, none has a line
-pub handler_lines-none : handler_lines (entries (empty {X = ℕ} {R = nat_cmp})) ≡ []
-unfolding handler_lines
-handler_lines-none =
-    let none : entries (empty {X = ℕ} {R = nat_cmp}) ≡ [] =
-    none_of-length _ (sym (len-entries (empty {X = ℕ} {R = nat_cmp})) ∙ len-empty nat_cmp ℕ) in
-    rw none refl

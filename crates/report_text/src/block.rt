@@ -81,15 +81,16 @@ fn put_registers<K: Sink>(piece: &mut Piece, out: &mut K, machine: &Machine) -> 
     put_system(piece, out, machine)
 }
 
-/// The signals of a thread that holds none back, is in no handler and has none set.
-fn put_signals<K: Sink>(piece: &mut Piece, out: &mut K) -> Result<(), PutFault>
-    ensures { (context : Context) →
-        Gathers (gathered (K.view out.old) piece.old) (gathered (K.view out.new) piece.new) result
-        (signal_text (state_of context)) }
+/// The signals of a thread that holds none back and is in no handler, and the handlers that it has set.
+fn put_signals<K: Sink>(piece: &mut Piece, out: &mut K, context: &Context) -> Result<(), PutFault>
+    ensures { Gathers (gathered (K.view out.old) piece.old) (gathered (K.view out.new) piece.new) result
+        (signal_text (state_of context.now)) }
 {
+    let handlers = context.handlers();
     put_hex_line(piece, out, b"held", 0)?;
     put_flag_line(piece, out, b"inside", false)?;
-    put_flag_line(piece, out, b"polled", false)
+    put_flag_line(piece, out, b"polled", false)?;
+    put_value_lines(piece, out, b"handler", handlers)
 }
 
 /// What the kernel keeps of the thread.
@@ -98,7 +99,7 @@ fn put_kernel<K: Sink>(piece: &mut Piece, out: &mut K, context: &Context) -> Res
         (kernel_text (state_of context.now) []) }
 {
     let output = context.output();
-    put_signals(piece, out)?;
+    put_signals(piece, out, context)?;
     put_output(piece, out, output)?;
     put_journal(piece, out, &[])
 }

@@ -6,6 +6,7 @@ ghost use Rattle.kernel_contexts.specs.Output.{Appends};
 
 use crate::context::Turn;
 use crate::guest::GuestThread;
+use crate::handlers::set_handler;
 use paged_memory::Pages;
 use sm_types::Stop;
 
@@ -13,12 +14,20 @@ use sm_types::Stop;
 const WRITE: u64 = 64;
 /// The call that ends the thread.
 const EXIT: u64 = 93;
+/// The call that gives way to other threads.
+const YIELD: u64 = 124;
+/// The call that sets the handler of a signal, or removes it.
+const SET_HANDLER: u64 = 134;
+/// The call that tells the thread's number.
+const NUMBER: u64 = 178;
 /// The bytes that a thread may write in all.
 const OUTPUT_LIMIT: u64 = 1_048_576;
 /// The answer for a descriptor that is not open: EBADF is 9.
 const BAD_DESCRIPTOR: u64 = u64::MAX - 8;
 /// The answer for bytes that cannot be read: EFAULT is 14.
 const BAD_ADDRESS: u64 = u64::MAX - 13;
+/// The answer for a number that is no signal: EINVAL is 22.
+const BAD_ARGUMENT: u64 = u64::MAX - 21;
 /// The answer for a number that is no call: ENOSYS is 38.
 const NO_CALL: u64 = u64::MAX - 37;
 
@@ -65,7 +74,7 @@ fn append(pages: &Pages, address: u64, count: usize, output: &mut Vec<u8>) -> Ap
 }
 
 impl GuestThread {
-    ghost use Rattle.kernel_contexts.specs.Call.{write_of, exit_of, returned};
+    ghost use Rattle.kernel_contexts.specs.Call.{write_of, exit_of, set_handler_of, returned, Yields};
     ghost use Rattle.kernel_contexts.specs.Turn.{outside_streaming};
     ghost use Rattle.kernel_contexts.specs.Context.{held_state, guest_call, Takes, IsSameGuest};
 
@@ -80,6 +89,9 @@ impl GuestThread {
         match self.machine.scalars.x[8] {
             WRITE => self.write(),
             EXIT => self.exit(),
+            YIELD => self.give_way(),
+            SET_HANDLER => self.set_handler(),
+            NUMBER => self.return_with(u64::from(self.number)),
             _ => self.return_with(NO_CALL),
         }
     }
@@ -115,6 +127,36 @@ impl GuestThread {
         self.machine.scalars.pc = self.machine.scalars.pc.wrapping_add(4);
         self.count_turn();
         self.stop_with(Stop::Exited(status))
+    }
+
+    /// Gives way to other threads.
+    fn give_way(&mut self) -> Turn
+        requires room { self.old.count < self.old.config.budget }
+        requires runs { self.old.stop ≡ None }
+        ensures turn { Takes (Yields (returned (outside_streaming self.old.config (held_state self.old)) 0))
+            self.old self.new result }
+        ensures same { IsSameGuest self.old self.new }
+    {
+        self.return_with(0);
+        Turn::Yielded
+    }
+
+    /// Sets the handler of signal X0 to the address in X1, or removes it where that is 0.
+    #[tactic(auto, unfolding(crate::specs::Call::set_handler_of))]
+    fn set_handler(&mut self) -> Turn
+        requires room { self.old.count < self.old.config.budget }
+        requires runs { self.old.stop ≡ None }
+        ensures turn { Takes (set_handler_of (outside_streaming self.old.config (held_state self.old)))
+            self.old self.new result }
+        ensures same { IsSameGuest self.old self.new }
+    {
+        let signal = self.machine.scalars.x[0];
+        let address = self.machine.scalars.x[1];
+        if signal < 1 || signal > 62 {
+            return self.return_with(BAD_ARGUMENT);
+        }
+        set_handler(&mut self.handlers, signal as usize, address);
+        self.return_with(0)
     }
 
     /// Writes the X2 bytes from X1 on to the thread's output.
