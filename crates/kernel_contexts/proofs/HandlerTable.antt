@@ -33,12 +33,15 @@ find-below q k (x ∷ xs) l =
 
 first_found : (k x : ℕ) (xs : List ℕ) → find nat_cmp k (set_from k (x ∷ xs)) ≡ address_or_none x
 unfolding set_from
-first_found k x xs = cond_both (x == 0) _ _ (λ (es : List (ℕ × ℕ)). find nat_cmp k es ≡ address_or_none x) (λ zero. find-below k (k + 1) xs (omega arith) ∙ rw zero refl)
+first_found k x xs = cond_both (x == 0) _ _ (λ (es : List (ℕ × ℕ)). find nat_cmp k es ≡ address_or_none x) (λ zero. find-below k (k + 1) xs
+    (omega arith) ∙ rw zero refl)
     (λ some. ap (λ b. cond b (Some x) (find nat_cmp k (set_from (k + 1) xs))) (same_key k) ∙ rw some refl)
 
-later_found : (q k x : ℕ) (xs : List ℕ) → eq_by_cmp nat_cmp q k ≡ false → find nat_cmp q (set_from k (x ∷ xs)) ≡ find nat_cmp q (set_from (k + 1) xs)
+later_found : (q k x : ℕ) (xs : List ℕ) → eq_by_cmp nat_cmp q k ≡ false → find nat_cmp q (set_from k (x ∷ xs))
+    ≡ find nat_cmp q (set_from (k + 1) xs)
 unfolding set_from
-later_found q k x xs e = cond_both (x == 0) _ _ (λ (es : List (ℕ × ℕ)). find nat_cmp q es ≡ find nat_cmp q (set_from (k + 1) xs)) (λ _. refl)
+later_found q k x xs e = cond_both (x == 0) _ _ (λ (es : List (ℕ × ℕ)). find nat_cmp q es ≡ find nat_cmp q (set_from (k + 1) xs))
+    (λ _. refl)
     (λ _. ap (λ b. cond b (Some x) (find nat_cmp q (set_from (k + 1) xs))) e)
 
 apart_key : (q k j : ℕ) → q ≡ k + suc j → eq_by_cmp nat_cmp q k ≡ false
@@ -77,7 +80,8 @@ index_set (x ∷ xs) zero zero a l = refl
 index_set (x ∷ xs) zero (suc q) a l = let other : (0 == suc q) ≡ false = grind (arith, nat_tests) in rw other refl
 index_set (x ∷ xs) (suc k) zero a l = let other : (suc k == 0) ≡ false = grind (arith, nat_tests) in rw other refl
 index_set (x ∷ xs) (suc k) (suc q) a l =
-    let same : (suc k == suc q) ≡ (k == q) = grind (arith, nat_tests) in index_set xs k q a (omega arith) ∙ ap (λ b. cond b a (slice_index_or xs q 0)) (sym same)
+    let same : (suc k == suc q) ≡ (k == q) = grind (arith, nat_tests) in index_set xs k q a (omega arith)
+    ∙ ap (λ b. cond b a (slice_index_or xs q 0)) (sym same)
 
 get-with_handler : (m : FinMap nat_cmp ℕ) (k a q : ℕ) → get (with_handler m k a) q ≡ cond (k == q) (address_or_none a) (get m q)
 unfolding with_handler
@@ -99,7 +103,8 @@ handler_set xs k a l = same_map nat_cmp_total nat_cmp-IsAntisymmetric _ _ (λ q.
 before_first : (k a j : ℕ) (xs : List ℕ) → k < j → put nat_cmp k a (set_from j xs) ≡ (k, a) ∷ set_from j xs
 unfolding set_from
 before_first k a j [] l = refl
-before_first k a j (x ∷ xs) l = cond_both (x == 0) _ _ (λ (es : List (ℕ × ℕ)). put nat_cmp k a es ≡ (k, a) ∷ es) (λ _. before_first k a (j + 1) xs (omega arith))
+before_first k a j (x ∷ xs) l = cond_both (x == 0) _ _ (λ (es : List (ℕ × ℕ)). put nat_cmp k a es ≡ (k, a) ∷ es)
+    (λ _. before_first k a (j + 1) xs (omega arith))
     (λ _. let less : nat_cmp k j ≡ Less = grind (arith, nat_tests) in rw less refl)
 
 no_length : (es : List (ℕ × ℕ)) → length es ≡ 0 → es ≡ []
@@ -109,7 +114,8 @@ no_length (x ∷ es) e = absurd (omega arith)
 pub in_order : (k : ℕ) (xs : List ℕ) → entries (from_entries {R = nat_cmp} (set_from k xs)) ≡ set_from k xs
 unfolding set_from
 in_order k [] = no_length (entries (empty {X = ℕ} {R = nat_cmp})) (sym (len-entries empty) ∙ len-empty nat_cmp ℕ)
-in_order k (x ∷ xs) = cond_both (x == 0) _ _ (λ (es : List (ℕ × ℕ)). entries (from_entries {R = nat_cmp} es) ≡ es) (λ _. in_order (k + 1) xs)
+in_order k (x ∷ xs) = cond_both (x == 0) _ _ (λ (es : List (ℕ × ℕ)). entries (from_entries {R = nat_cmp} es) ≡ es)
+    (λ _. in_order (k + 1) xs)
     (λ _. entries-insert nat_cmp_total (from_entries (set_from (k + 1) xs)) k x ∙ ap (put nat_cmp k x) (in_order (k + 1) xs)
     ∙ before_first k x (k + 1) xs (omega arith))
 

@@ -30,7 +30,8 @@ turn_becomes config thread events s core e is = turn_on config thread events s e
 
 pub turn_calls : (config : Config) (thread events : ℕ) (s : State) (core : ProcessorState) (number : ℕ) → (s.count ≡ config.budget → ⊥)
     → effect_of (vector_bytes config.vl) s.core ≡ Calls number → core ≡ s.core
-    → turn_of config thread events s ≡ call_of config thread (record s { core = core }) (outside_streaming config (record s { core = core }))
+    → turn_of config thread events s ≡ call_of config thread (record s { core = core })
+    (outside_streaming config (record s { core = core }))
 turn_calls config thread events s core number e is same =
     turn_on config thread events s e ∙ ap (after_effect config thread s) is
     ∙ ap (λ core. call_of config thread (record s { core = core }) (outside_streaming config (record s { core = core }))) (sym same)

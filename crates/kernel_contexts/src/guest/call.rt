@@ -56,7 +56,8 @@ fn read_end(pages: &Pages, address: u64, into: &mut [u8], from: usize) -> bool
 /// Adds bytes of the pages at the end of the output, or leaves it as it is.
 fn append(pages: &Pages, address: u64, count: usize, output: &mut Vec<u8>) -> Appended
     requires { vec_len output.old + count < 2 ^ 32 }
-    ensures appends { Appends (bytes_with 4 pages.now.memory address count) output.old.items output.new.items result }
+    ensures appends { Appends (bytes_with 4 pages.now.memory address count) output.old.items
+        output.new.items result }
     ensures within { vec_len output.new ≤ vec_len output.old + count }
 {
     let old = output.len();

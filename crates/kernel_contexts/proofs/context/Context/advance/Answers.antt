@@ -10,4 +10,5 @@ returns-in-None-clause-made c = λ ran.
 pub returns-in-None-clause-yielded : goal.returns-in-None-clause-yielded
 returns-in-None-clause-yielded c = λ yielded.
     let g = c.args.self.now.guest in
-    yielded_turned g.config g.number 0 (held_state g) (held_state c.make_turn.new.self) _ c.make_turn.result c.make_turn.ensures.turn yielded
+    yielded_turned g.config g.number 0 (held_state g) (held_state c.make_turn.new.self) _ c.make_turn.result
+    c.make_turn.ensures.turn yielded
