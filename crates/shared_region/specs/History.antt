@@ -1,5 +1,6 @@
 -- Histories of the shared words: lists of entries, the oldest first.
-use Rattle.std.specs.Prelude.{◌≡◌, ℕ, ◌<◌, ◌==◌, List, [], ◌∷◌, Some, All, length, take, map, filter, slice_get}
+use Rattle.std.specs.Prelude.{◌≡◌, ℕ, ◌<◌, ◌==◌, List, [], ◌∷◌, Some, All, length}
+use Rattle.std.specs.Prelude.{take, map, filter, slice_get}
 use Rattle.sm_types.specs.declared.shared_op.SharedOp.{SharedOp}
 use Rattle.sm_types.specs.declared.shared_op.Event.{Event}
 use Rattle.sm_types.specs.declared.shared_words.Entry.{Entry}
@@ -43,5 +44,6 @@ pub record AreOneHistory (journals : List (List Event)) (words : Words) : Type 0
   pub history : List Entry
   pub legal : IsLegal history
   pub ends : ends_in history ≡ words
-  pub parts : (t : ℕ) (journal : List Event) → slice_get journals t ≡ Some journal → part_of t history ≡ journal
+  pub parts : (t : ℕ) (journal : List Event)
+      → slice_get journals t ≡ Some journal → part_of t history ≡ journal
   pub alone : All (λ e. e.thread < length journals) history

@@ -16,7 +16,7 @@ mod port;
 mod replay;
 mod word_rule;
 
-pub use laws::one_history_grows;
+pub use laws::{chains_join, one_history_grows, plain_history_grows, replay_journal_stays};
 pub use plain::{PlainPort, PlainTicket};
 pub use port::{Port, PortStop};
 pub use replay::{ReplayPort, ReplayTicket};

@@ -61,14 +61,18 @@ pub trait Port {
         requires number { number ticket.old ≡ Some thread }
         requires belongs { ticket_name ticket.old ≡ name self.old }
         requires place { HasWord op }
-        ensures events { IfOk result (λ answer. events ticket.new ≡ events ticket.old ++ event_of op answer ∷ []) }
-        ensures gives { IfOk result (λ answer. gives self.old ticket.old (entry_of thread op answer) self.new ticket.new) }
+        ensures events { IfOk result (λ answer.
+            events ticket.new ≡ events ticket.old ++ event_of op answer ∷ []) }
+        ensures gives { IfOk result (λ answer.
+            gives self.old ticket.old (entry_of thread op answer) self.new ticket.new) }
         ensures goes { OnOk result ((¬ ends self.old ticket.old op) × (¬ strays self.old ticket.old op)) }
-        ensures cause { IfErr result (IsCause (ends self.old ticket.old op) (strays self.old ticket.old op) takes_memory) }
+        ensures cause { IfErr result
+            (IsCause (ends self.old ticket.old op) (strays self.old ticket.old op) takes_memory) }
         ensures refused { OnErr result ((self.new ≡ self.old) × (ticket.new ≡ ticket.old)) }
         ensures number { number ticket.new ≡ number ticket.old }
         ensures name { (name self.new ≡ name self.old) × (ticket_name ticket.new ≡ ticket_name ticket.old) };
 
     /// The two refusals never meet.
-    ghost apart: { (port : Self) (ticket : Self.Ticket) (op : SharedOp) → ends port ticket op → strays port ticket op → ⊥ };
+    ghost apart: { (port : Self) (ticket : Self.Ticket) (op : SharedOp)
+        → ends port ticket op → strays port ticket op → ⊥ };
 }

@@ -1,7 +1,7 @@
 //! One operation on the shared words.
 ghost use Rattle.std.specs.Prelude.{◌≡◌, ◌<◌, length, slice_index, slice_set, cond};
-ghost use Rattle.shared_region.specs.WordRule.{new_word, answer_of, is_on_signals, HasWord, word_at, with_word};
-ghost use Rattle.shared_region.specs.WordRule.{applied, answer_to};
+ghost use Rattle.shared_region.specs.WordRule.{new_word, answer_of, is_on_signals, HasWord, word_at};
+ghost use Rattle.shared_region.specs.WordRule.{with_word, applied, answer_to};
 
 use sm_types::{OpKind, SharedOp, Words};
 
