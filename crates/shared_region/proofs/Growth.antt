@@ -20,7 +20,8 @@ unfolding words_after
 words_after-snoc w [] e = refl
 words_after-snoc w (x ∷ es) e = words_after-snoc (applied w x.event.op) es e
 
-pub answers-snoc : (w : Words) (es : List Entry) (e : Entry) → AnswersFrom w es → e.event.answer ≡ answer_to (words_after w es) e.event.op → AnswersFrom w (es ++ e ∷ [])
+pub answers-snoc : (w : Words) (es : List Entry) (e : Entry)
+    → AnswersFrom w es → e.event.answer ≡ answer_to (words_after w es) e.event.op → AnswersFrom w (es ++ e ∷ [])
 unfolding words_after
 answers-snoc w [] e h is zero x at = subst (λ (y : Entry). y.event.answer ≡ answer_to w y.event.op) (same_Some e x at) is
 answers-snoc w [] e h is (suc i) x at = absurd (none-some x at)
@@ -32,7 +33,8 @@ unfolding part_of
 part-snoc_here t es e is =
     ap (map (λ (x : Entry). x.event)) (filter-append (λ (x : Entry). x.thread == t) es (e ∷ []))
     ∙ map-append (λ (x : Entry). x.event) (filter (λ (x : Entry). x.thread == t) es) (filter (λ (x : Entry). x.thread == t) (e ∷ []))
-    ∙ ap (λ b. map (λ (x : Entry). x.event) (filter (λ (x : Entry). x.thread == t) es) ++ map (λ (x : Entry). x.event) (cond b (e ∷ []) [])) (eq-eqb _ _ is)
+    ∙ ap (λ b. map (λ (x : Entry). x.event) (filter (λ (x : Entry). x.thread == t) es)
+    ++ map (λ (x : Entry). x.event) (cond b (e ∷ []) [])) (eq-eqb _ _ is)
 
 pub part-snoc_else : (t : ℕ) (es : List Entry) (e : Entry) → e.thread ≢ t → part_of t (es ++ e ∷ []) ≡ part_of t es
 unfolding part_of
@@ -86,5 +88,6 @@ grows journals words t journal op h at =
           ∙ h.parts u j (sym (set_other journals t u (journal ++ event ∷ []) ne) ∙ there));
       alone = rw (length-set journals t (journal ++ event ∷ []))
           (All-append (λ (x : Entry). x.thread < length journals) h.history (e ∷ []) h.alone
-          (All-cons (λ (x : Entry). x.thread < length journals) e [] (slice_get_within journals t journal at) (All-nil (λ (x : Entry). x.thread < length journals))));
+          (All-cons (λ (x : Entry). x.thread < length journals) e [] (slice_get_within journals t journal at)
+          (All-nil (λ (x : Entry). x.thread < length journals))));
     }

@@ -16,13 +16,15 @@ none_ahead (x ∷ xs) zero at = absurd (none-some x (sym at))
 none_ahead (x ∷ xs) (suc i) at = none_ahead xs i at
 
 -- the next one is the first that is left
-pub next_ahead : (journal : List Event) (place : ℕ) (next : Event) → slice_get journal place ≡ Some next → drop place journal ≡ next ∷ drop (suc place) journal
+pub next_ahead : (journal : List Event) (place : ℕ) (next : Event) → slice_get journal place ≡ Some next
+    → drop place journal ≡ next ∷ drop (suc place) journal
 next_ahead [] place next at = absurd (none-some next at)
 next_ahead (x ∷ xs) zero next at = ap (λ (y : Event). y ∷ xs) (same_Some x next at)
 next_ahead (x ∷ xs) (suc i) next at = next_ahead xs i next at
 
 -- and the last that is answered after it
-pub next_answered : (journal : List Event) (place : ℕ) (next : Event) → slice_get journal place ≡ Some next → take (suc place) journal ≡ take place journal ++ next ∷ []
+pub next_answered : (journal : List Event) (place : ℕ) (next : Event) → slice_get journal place ≡ Some next
+    → take (suc place) journal ≡ take place journal ++ next ∷ []
 next_answered [] place next at = absurd (none-some next at)
 next_answered (x ∷ xs) zero next at = ap (λ (y : Event). y ∷ []) (same_Some x next at)
 next_answered (x ∷ xs) (suc i) next at = ap (λ (ys : List Event). x ∷ ys) (next_answered xs i next at)
@@ -55,7 +57,8 @@ is_at_end t thread journal found place o view same looked is =
     ∙ none_ahead journal place (ap (λ (l : List Event). slice_get l place) (sym same) ∙ sym looked ∙ is)
 
 -- a ticket whose next event has that operation is neither at its end nor astray
-pub goes_on : (t : ReplayEvents) (journal : List Event) (place : ℕ) (next : Event) (op : SharedOp) → IsNext t journal place next → next.op ≡ op → (IsAtEnd t → ⊥) × (Strays t op → ⊥)
+pub goes_on : (t : ReplayEvents) (journal : List Event) (place : ℕ) (next : Event) (op : SharedOp)
+    → IsNext t journal place next → next.op ≡ op → (IsAtEnd t → ⊥) × (Strays t op → ⊥)
 goes_on t journal place next op h same = (
   λ ends. not_both next (drop (place + 1) journal) (sym ends ∙ h.ahead),
   λ strays. strays.differs (ap (λ (e : Event). e.op) (same_first strays.next next strays.others (drop (place + 1) journal) (sym strays.ahead ∙ h.ahead)) ∙ same),
@@ -68,8 +71,8 @@ goes_on t journal place next op h same = (
     same_first x y xs ys p = cc
 
 -- it gives its event, and the journal stays
-pub gives_next : (t : ReplayEvents) (thread other : ℕ) (journal : List Event) (place : ℕ) (next : Event) (op : SharedOp) → IsNext t journal place next → next.op ≡ op
-    → ReplayGives t (entry_of thread op next.answer) (told other journal (place + 1))
+pub gives_next : (t : ReplayEvents) (thread other : ℕ) (journal : List Event) (place : ℕ) (next : Event) (op : SharedOp)
+    → IsNext t journal place next → next.op ≡ op → ReplayGives t (entry_of thread op next.answer) (told other journal (place + 1))
 gives_next t thread other journal place next op h same = record {
   ahead = h.ahead ∙ ap (λ (o : SharedOp). event_of o next.answer ∷ drop (place + 1) journal) same;
   answered = h.answered ∙ ap (λ (o : SharedOp). t.answered ++ event_of o next.answer ∷ []) same;
