@@ -56,19 +56,22 @@ is_at_end t thread journal found place o view same looked is =
     ap (λ (u : ReplayEvents). u.ahead) (sym view)
     ∙ none_ahead journal place (ap (λ (l : List Event). slice_get l place) (sym same) ∙ sym looked ∙ is)
 
+not_both : (e : Event) (es : List Event) → [] ≡ e ∷ es → ⊥
+not_both e es p = cc
+
+same_first : (x y : Event) (xs ys : List Event) → x ∷ xs ≡ y ∷ ys → x ≡ y
+same_first x y xs ys p = cc
+
+same_op : (x y : Event) (xs ys : List Event) → x ∷ xs ≡ y ∷ ys → x.op ≡ y.op
+same_op x y xs ys p = ap (λ (e : Event). e.op) (same_first x y xs ys p)
+
 -- a ticket whose next event has that operation is neither at its end nor astray
 pub goes_on : (t : ReplayEvents) (journal : List Event) (place : ℕ) (next : Event) (op : SharedOp)
     → IsNext t journal place next → next.op ≡ op → (IsAtEnd t → ⊥) × (Strays t op → ⊥)
 goes_on t journal place next op h same = (
   λ ends. not_both next (drop (place + 1) journal) (sym ends ∙ h.ahead),
-  λ strays. strays.differs (ap (λ (e : Event). e.op) (same_first strays.next next strays.others (drop (place + 1) journal) (sym strays.ahead ∙ h.ahead)) ∙ same),
+  λ strays. strays.differs (same_op strays.next next strays.others _ (sym strays.ahead ∙ h.ahead) ∙ same),
 )
-  where
-    not_both : (e : Event) (es : List Event) → [] ≡ e ∷ es → ⊥
-    not_both e es p = cc
-
-    same_first : (x y : Event) (xs ys : List Event) → x ∷ xs ≡ y ∷ ys → x ≡ y
-    same_first x y xs ys p = cc
 
 -- it gives its event, and the journal stays
 pub gives_next : (t : ReplayEvents) (thread other : ℕ) (journal : List Event) (place : ℕ) (next : Event) (op : SharedOp)
