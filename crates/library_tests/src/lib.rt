@@ -1,6 +1,6 @@
 //! Tests of the libraries by their public calls: words, tokens and lines of sources, memory, vectors,
 //! predicates, permutations and reductions, vector instructions, slices of tiles, outer products, the lines of
-//! stops, and the object of a source.
+//! stops, the shared words, and the object of a source.
 #![tactic(auto)]
 
 #[cfg(test)]
@@ -17,6 +17,8 @@ mod lines;
 mod memory;
 #[cfg(test)]
 mod permutes;
+#[cfg(test)]
+mod shared_words;
 #[cfg(test)]
 mod sources;
 #[cfg(test)]
