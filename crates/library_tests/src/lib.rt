@@ -18,6 +18,8 @@ mod memory;
 #[cfg(test)]
 mod permutes;
 #[cfg(test)]
+mod shared_words;
+#[cfg(test)]
 mod sources;
 #[cfg(test)]
 mod stops;

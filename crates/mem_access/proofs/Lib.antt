@@ -6,3 +6,4 @@ pub mod OneRegister
 pub mod Atomics
 pub mod Room
 pub mod Lists
+pub mod Touched

@@ -1,7 +1,7 @@
 -- The checks of an access, in their order, all before anything changes.
 -- Source: DDI 0487, D1.3 and J1.1, CheckSPAlignment, alignment of ordered and atomic accesses, permission
 -- faults; the region of shared words from 0x7F0000000000 on is this emulator's own.
-use Rattle.std.specs.Prelude.{ℕ, ◌%◌, ◌==◌, ◌&&◌, Bool, true, false, not, nat_lt, nat_le, List, [], ◌∷◌}
+use Rattle.std.specs.Prelude.{ℕ, ◌%◌, ◌==◌, ◌&&◌, Bool, not, nat_lt, nat_le, [], ◌∷◌}
 use Rattle.std.specs.Prelude.{Option, Some, None, option_map, is_some}
 use Rattle.std.specs.List.{find}
 use Rattle.sm_types.specs.declared.scalars.Scalars.{Scalars}

@@ -5,4 +5,5 @@ pub mod DataAccess
 pub mod Checks
 pub mod Values
 pub mod Transfer
+pub mod SharedAccess
 pub mod Runs

@@ -7,7 +7,6 @@ use Rattle.std.specs.Prelude.{Some, None, Result, Ok, Err, IfSome, IsSome, All, 
 use Rattle.std.specs.Int.{bytes_low_first}
 use Rattle.std.specs.FinMap.{get}
 use Rattle.sm_types.specs.declared.scalars.Scalars.{Scalars}
-use Rattle.sm_types.specs.declared.shared_op.SharedOp.{SharedOp}
 use Rattle.sm_types.specs.declared.insn.Insn.{Insn}
 use Rattle.sm_types.specs.declared.insn.Insn.TheVariants as insn
 use Rattle.sm_types.specs.declared.insn.LoadStoreOp.{LoadStoreOp}
@@ -50,10 +49,6 @@ access_of (insn.LoadLiteral x) s = Some (of_run (load_literal_access x s))
 access_of (insn.LoadStorePair x) s = Some (of_run (pair_access x s))
 access_of (insn.Atomic x) s = Some (of_run (atomic_access x s))
 access_of it s = None
-
--- the operation on a shared word that it makes; no instruction makes one yet
-abbrev pub touched : Insn → Scalars → Option SharedOp
-touched it s = None
 
 -- a store leaves the base; a load writes Xt after it, with the number that was read
 unfoldable pub load_store_after : LoadStoreOp → LoadStore → ℕ → Scalars → Scalars
@@ -154,9 +149,9 @@ after_access it s m = after_data it (access_of it s) s m
 abbrev pub contents_of : Scalars → PageTable → AfterAccess
 contents_of s pages = record { scalars = s; memory = pages.memory }
 
--- the exception of the first check of its access that fails, if any does
+-- the exception of the first check of its access to private memory that fails, if any does
 abbrev pub transfer_fault : Insn → Scalars → AddressSpace → Option Exception
-transfer_fault it s m = option_and_then (λ access. access_fault (touched it s) access s m) (access_of it s)
+transfer_fault it s m = option_and_then (λ access. access_fault None access s m) (access_of it s)
 
 -- the pages that an access writes are owned, so that it takes no memory; a load writes none
 abbrev pub HasRoom : DataAccess → PageTable → Type 0

@@ -6,9 +6,9 @@ use crate::access::MemoryAccess;
 use sm_types::{Exception, Scalars};
 
 /// The first byte of the shared words.
-const SHARED: u64 = 0x7f00_0000_0000;
+pub const SHARED: u64 = 0x7f00_0000_0000;
 /// The first byte past them.
-const SHARED_END: u64 = 0x7f00_0000_1000;
+pub const SHARED_END: u64 = 0x7f00_0000_1000;
 
 /// The first of so many bytes from an address on that is shared.
 #[inline]

@@ -1,5 +1,6 @@
 //! The loads, stores and atomic instructions on private memory: `transfer` makes all checks of an access
-//! first, and changes registers and memory only where none fails. A `Bank` holds the vectors of a thread.
+//! first, and changes registers and memory only where none fails. `touches` gives the operation of an access
+//! to a word that the threads share. A `Bank` holds the vectors of a thread.
 #![tactic(auto)]
 
 mod access;
@@ -9,6 +10,7 @@ mod checks;
 mod exchange;
 mod numbers;
 mod pairs;
+mod shared_access;
 mod stop;
 mod transfers;
 mod values;
@@ -16,5 +18,6 @@ mod values;
 pub use bank::Bank;
 pub use checks::first_shared;
 pub use numbers::{read_number, write_bytes};
+pub use shared_access::{touched_fault, touched_is_shared, touches, write_answer};
 pub use stop::AccessStop;
 pub use transfers::transfer;

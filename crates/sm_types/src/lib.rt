@@ -13,6 +13,7 @@ mod object;
 mod row;
 mod scalars;
 mod shared_op;
+mod shared_words;
 mod stop;
 mod vector;
 
@@ -91,6 +92,8 @@ pub use scalars::Scalars;
 pub use shared_op::Event;
 pub use shared_op::OpKind;
 pub use shared_op::SharedOp;
+pub use shared_words::Entry;
+pub use shared_words::Words;
 pub use stop::Access;
 pub use stop::Exception;
 pub use stop::Stop;

@@ -1,0 +1,4 @@
+pub mod WordRule
+pub mod History
+pub mod Chain
+pub mod Ports
