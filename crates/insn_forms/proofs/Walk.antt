@@ -1,40 +1,30 @@
 -- The steps of the way through the tree.
-use Rattle.std.proofs.Common.{◌≡◌, ◌≢◌, ℕ, zero, suc, ◌+◌, ◌-◌, ◌<◌, List, Option, Some, None, slice_get, bit_and, refl, sym, ap, ◌∙◌}
-use Rattle.std.proofs.Common.{arith, ◌==◌, eqb-true}
-use Rattle.std.proofs.lemmas.Bool.{cond_both, both_ways}
+use Rattle.std.proofs.Common.{◌≡◌, ℕ, zero, suc, ◌+◌, ◌-◌, ◌<◌, List, Some, None, slice_get, refl, sym, ap, ◌∙◌, arith}
 use Rattle.insn_forms.specs.declared.tree.Node.{Node}
-use Rattle.insn_forms.specs.declared.tree.Node.TheVariants.{Test, Leaf}
-use Rattle.insn_forms.specs.Tree.{step, walk}
+use Rattle.insn_forms.specs.Tree.{step, walk, way_on}
 
-walk-suc : (m : ℕ) (nodes : List Node) (at word : ℕ)
-    → walk (suc m) nodes at word ≡ step (λ next. walk m nodes next word) (slice_get nodes at) word
+walk-suc : (m : ℕ) (nodes : List Node) (numbers : List ℕ) (at word : ℕ)
+    → walk (suc m) nodes numbers at word ≡ step (λ next. walk m nodes numbers next word) (slice_get nodes at) word
 unfolding walk
-walk-suc m nodes at word = refl
+walk-suc m nodes numbers at word = refl
 
--- what is left of the way, after i steps of n
-pub walk-next : (n i : ℕ) (nodes : List Node) (at word : ℕ) → i < n
-    → walk (n - i) nodes at word ≡ step (λ next. walk (n - (i + 1)) nodes next word) (slice_get nodes at) word
-walk-next n i nodes at word lt =
-    let e : n - i ≡ suc (n - (i + 1)) = omega arith in
-    ap (λ m. walk m nodes at word) e ∙ walk-suc (n - (i + 1)) nodes at word
-
-pub walk-zero : (nodes : List Node) (at word : ℕ) → walk zero nodes at word ≡ None
+pub walk-zero : (nodes : List Node) (numbers : List ℕ) (at word : ℕ) → walk zero nodes numbers at word ≡ slice_get numbers at
 unfolding walk
-walk-zero nodes at word = refl
+walk-zero nodes numbers at word = refl
 
-pub step-test : (on : ℕ → Option ℕ) (found : Option Node) (here : Node) (mask clear set word way : ℕ) → Some here ≡ found
-    → here ≡ Test mask clear set → (bit_and word mask ≡ 0 → way ≡ clear) → (bit_and word mask ≢ 0 → way ≡ set) → step on found word ≡ on way
+-- after i steps of n, where what stands at the place is known
+pub walk-next : (n i : ℕ) (nodes : List Node) (numbers : List ℕ) (at word : ℕ) (node : Node) → i < n → Some node ≡ slice_get nodes at
+    → walk (n - i) nodes numbers at word ≡ walk (n - (i + 1)) nodes numbers (way_on node word) word
 unfolding step
-step-test on found here mask clear set word way e f p q =
-    ap (λ o. step on o word) (sym e ∙ ap Some f) ∙ cond_both (bit_and word mask == 0) (on clear) (on set) (λ r. r ≡ on way)
-    (λ h. ap on (sym (p (eqb-true _ _ h))))
-    (λ h. ap on (sym (q (λ z. absurd (both_ways (bit_and word mask == 0) h (ap (λ n. n == 0) z))))))
+walk-next n i nodes numbers at word node lt e =
+    let fewer : n - i ≡ suc (n - (i + 1)) = omega arith in
+    ap (λ m. walk m nodes numbers at word) fewer ∙ walk-suc (n - (i + 1)) nodes numbers at word
+    ∙ ap (λ o. step (λ next. walk (n - (i + 1)) nodes numbers next word) o word) (sym e)
 
-pub step-leaf : (on : ℕ → Option ℕ) (found : Option Node) (here : Node) (number word : ℕ) → Some here ≡ found → here ≡ Leaf number
-    → step on found word ≡ Some number
+pub walk-none : (n i : ℕ) (nodes : List Node) (numbers : List ℕ) (at word : ℕ) → i < n → None ≡ slice_get nodes at
+    → walk (n - i) nodes numbers at word ≡ None
 unfolding step
-step-leaf on found here number word e f = ap (λ o. step on o word) (sym e ∙ ap Some f)
-
-pub step-none : (on : ℕ → Option ℕ) (found : Option Node) (word : ℕ) → None ≡ found → step on found word ≡ None
-unfolding step
-step-none on found word e = ap (λ o. step on o word) (sym e)
+walk-none n i nodes numbers at word lt e =
+    let fewer : n - i ≡ suc (n - (i + 1)) = omega arith in
+    ap (λ m. walk m nodes numbers at word) fewer ∙ walk-suc (n - (i + 1)) nodes numbers at word
+    ∙ ap (λ o. step (λ next. walk (n - (i + 1)) nodes numbers next word) o word) (sym e)

@@ -1,53 +1,57 @@
-//! Trees of tests on bits, which lead a word to the one line that it may match: one tree for each value of
-//! a word's top eight bits.
-ghost use Rattle.std.specs.Prelude.{◌≡◌, ◌≢◌, ◌/◌, ◌^◌, length, Some, bit_and, slice_get};
-ghost use Rattle.insn_forms.specs.Tree.{walk, walk_from};
+//! Trees that lead a word to the one line that it may match, by a few of its bits at a time.
+ghost use Rattle.std.specs.Prelude.{◌≡◌, slice_get};
+ghost use Rattle.insn_forms.specs.Tree.{walk, walk_from, way_on};
 
-/// A node of a tree.
+/// A node of a tree: it leads to the place as far after `first` as the number that the word has in the bits
+/// of the mask, from the bit `low` on (below 32).
 #[derive(Clone, Copy)]
-pub enum Node {
-    /// On to the node `clear` where all bits of the mask are 0 in the word, else to `set`.
-    Test { mask: u32, clear: u16, set: u16 },
-    /// Only the line of this number may match.
-    Leaf(u16),
+pub struct Node {
+    pub low: u8,
+    pub mask: u8,
+    pub first: u16,
 }
 
-/// The number of the one line that may match the word, by nodes, the roots of the trees and as many steps
-/// as the longest way has nodes.
+/// The number of the one line that may match the word: the root leads to a place among the nodes, each node to
+/// the next, and the last of so many to a place among the numbers.
 #[inline(always)]
-pub fn line_number(nodes: &[Node], roots: &[u16], depth: u32, word: u32) -> Option<usize>
-    requires { length roots.now ≡ 256 }
-    ensures { result ≡ walk_from depth nodes.now roots.now word }
+pub fn line_number(
+    root: Node,
+    nodes: &[Node],
+    numbers: &[u8],
+    steps: u32,
+    word: u32,
+) -> Option<usize>
+    ensures { result ≡ walk_from steps nodes.now numbers.now root word }
 {
-    follow(nodes, root_of(roots, word), depth, word)
+    follow(nodes, numbers, way_on(root, word), steps, word)
 }
 
-/// The root of a word's tree.
+/// Where the way from a place ends.
 #[inline(always)]
-fn root_of(roots: &[u16], word: u32) -> usize
-    requires { length roots.now ≡ 256 }
-    ensures { slice_get roots.now (word / 2 ^ 24) ≡ Some result }
+fn follow(nodes: &[Node], numbers: &[u8], start: usize, steps: u32, word: u32) -> Option<usize>
+    ensures { result ≡ walk steps nodes.now numbers.now start word }
 {
-    usize::from(roots[(word >> 24) as usize])
-}
-
-/// Where the way from a root ends.
-#[inline(always)]
-fn follow(nodes: &[Node], root: usize, depth: u32, word: u32) -> Option<usize>
-    ensures { result ≡ walk depth nodes.now root word }
-{
-    let mut at = root;
-    'steps: for _step in 0..depth {
+    let mut at = start;
+    'steps: for _step in 0..steps {
         match node_at(nodes, at) {
-            Some(Node::Test { mask, clear, set }) => at = way_on(word, mask, clear, set),
-            Some(Node::Leaf(number)) => return Some(number as usize),
+            Some(node) => at = way_on(node, word),
             None => return None,
         }
     }
-    None
+    number_at(numbers, at)
 }
 
-/// What stands at a place of the tree.
+/// The place that a node leads to.
+#[inline(always)]
+#[tactic(auto, unfolding(crate::specs::Tree::way_on))]
+fn way_on(node: Node, word: u32) -> usize
+    ensures { result ≡ way_on node word }
+{
+    let bits = word >> u32::from(node.low % 32) & u32::from(node.mask);
+    usize::from(node.first) + bits as usize
+}
+
+/// The node at a place.
 #[inline(always)]
 fn node_at(nodes: &[Node], at: usize) -> Option<Node>
     ensures { result ≡ slice_get nodes.now at }
@@ -59,15 +63,22 @@ fn node_at(nodes: &[Node], at: usize) -> Option<Node>
     }
 }
 
-/// The way on from a test.
+/// The number at a place.
 #[inline(always)]
-fn way_on(word: u32, mask: u32, clear: u16, set: u16) -> usize
-    ensures clear { bit_and word mask ≡ 0 → result ≡ clear }
-    ensures set { bit_and word mask ≢ 0 → result ≡ set }
+fn number_at(numbers: &[u8], at: usize) -> Option<usize>
+    ensures { result ≡ slice_get numbers.now at }
 {
-    if word & mask == 0 {
-        clear as usize
+    if at < numbers.len() {
+        Some(usize::from(numbers[at]))
     } else {
-        set as usize
+        None
     }
+}
+
+/// An array of nodes: for each its `low`, its `mask` and its `first`.
+#[macro_export]
+macro_rules! nodes {
+    ($($low:literal $mask:literal $first:literal;)*) => {
+        [$($crate::Node { low: $low, mask: $mask, first: $first }),*]
+    };
 }
