@@ -13,16 +13,18 @@ import textwrap
 CRATES = pathlib.Path(__file__).resolve().parent.parent / "crates"
 ROW = re.compile(r"^ +(0x[0-9A-F]{8}) (0x[0-9A-F]{8}) G\d+\(.*?\) \[", re.M)
 MARK = "// The rest is written by tools/make_tree.py.\n"
+# the lowest bit at the root and how many; the nodes on the longest way from there; the most bits at a fork
 ROOT = (24, 8)
+STEPS = 4
+WIDEST = 6
 
 
 class Tree:
-    """The tree that leads words to the rows in so many steps, each by no more bits than `widest`. Sets of rows are numbers with a bit for each row."""
+    """The tree that leads words to the rows. A set of rows is a number with a bit for each."""
 
-    def __init__(self, rows, steps, widest):
-        self.rows, self.steps, self.widest = rows, steps, widest
-        self.nodes, self.numbers, self.blocks = [], [], {}
-        self.cheapest = functools.cache(self.cheapest)
+    def __init__(self, rows):
+        self.rows, self.nodes, self.blocks = rows, [], {}
+        self.best = functools.cache(self.best)
         self.having = functools.cache(self.having)
 
     def having(self, low, width):
@@ -31,53 +33,52 @@ class Tree:
         may_have = lambda mask, value, number: value >> low & ones == mask >> low & number
         return [sum(1 << i for i, row in enumerate(self.rows) if may_have(*row, number)) for number in range(1 << width)]
 
-    def cheapest(self, left, steps):
-        """How many places the ways from a node take, at the least, and by which bits, their lowest and how many."""
-        if steps == 0:
-            return (1, 0, 0) if left & left - 1 == 0 else (1 << 32, 0, 0)
-        best = (1 << 32, 0, 0)
-        for width in range(self.widest + 1):
-            for low in range(33 - width if 1 << width < best[0] else 0):
+    def best(self, left, steps):
+        """What a node costs at the least, and by which bits it leads on: their lowest and how many; no bits at a leaf. A fork costs its nodes, and
+        a step for each of the rows that are left, which counts as much as four nodes."""
+        best = (0, 0, 0) if left & left - 1 == 0 else (1 << 32, 0, 0)
+        for width in range(1, WIDEST + 1):
+            for low in range(33 - width if steps > 1 and 1 << width < best[0] else 0):
                 parts = {left & part for part in self.having(low, width)}
-                if width == 0 or left not in parts:
-                    best = min(best, ((1 << width) + sum(self.cheapest(part, steps - 1)[0] for part in parts), low, width))
+                if left not in parts:
+                    cost = (1 << width) + 4 * left.bit_count() + sum(self.best(part, steps - 1)[0] for part in parts)
+                    best = min(best, (cost, low, width))
         return best
 
-    def block(self, left, steps, low, width):
-        """Where the places begin to which a node leads by these bits."""
-        parts = [left & part for part in self.having(low, width)]
-        if steps == 0:
-            return self.place(self.numbers, [part.bit_length() - 1 if part else len(self.rows) for part in parts])
-        bits = [self.cheapest(part, steps)[1:] for part in parts]
-        return self.place(self.nodes, [(low, (1 << width) - 1, self.block(part, steps - 1, low, width)) for part, (low, width) in zip(parts, bits)])
+    def node(self, left, steps):
+        _, low, width = self.best(left, steps)
+        if width:
+            return f"({low}~{(1 << width) - 1}~{self.first(left, steps - 1, low, width)})"
+        return str(left.bit_length() - 1 if left else len(self.rows))
 
-    def place(self, items, block):
-        """Where the items of the block stand, one after the other: where they stood, or at the end."""
-        key = (items is self.nodes, *block)
-        if key not in self.blocks:
-            self.blocks[key] = len(items)
-            items += block
-        return self.blocks[key]
+    def first(self, left, steps, low, width):
+        """Where the nodes stand to which one leads by these bits, one after the other."""
+        block = tuple(self.node(left & part, steps) for part in self.having(low, width))
+        if block not in self.blocks:
+            self.blocks[block] = len(self.nodes)
+            self.nodes += block
+        return self.blocks[block]
 
     def text(self):
-        first = self.block((1 << len(self.rows)) - 1, self.steps, *ROOT)
-        nodes = [f"{low}~{mask}~{first};" for low, mask, first in self.nodes]
+        all_rows = (1 << len(self.rows)) - 1
+        if any(self.best(all_rows & part, STEPS)[0] >= 1 << 32 for part in self.having(*ROOT)):
+            raise SystemExit("there is no such tree")
+        first = self.first(all_rows, STEPS, *ROOT)
         return f"""{MARK}
-/// How many nodes follow the root on each way.
-const STEPS: u32 = {self.steps};
+/// As many steps as the longest way from the root has nodes.
+const STEPS: u32 = {STEPS};
 
 /// By a word's top eight bits.
-const ROOT: Node = Node {{ low: {ROOT[0]}, mask: {(1 << ROOT[1]) - 1}, first: {first} }};
-
-/// The nodes: the lowest of their bits, the mask above it, and the first place that they lead to.
-static NODES: [Node; {len(nodes)}] = nodes! {{
-{lines_of(nodes)}
+const ROOT: Fork = Fork {{
+    low: {ROOT[0]},
+    mask: {(1 << ROOT[1]) - 1},
+    first: {first},
 }};
 
-/// The numbers of rows at the ends of the ways; {len(self.rows)} where there is none.
-static NUMBERS: [u8; {len(self.numbers)}] = [
-{lines_of(f"{number}," for number in self.numbers)}
-];
+/// A fork's lowest bit, the mask above it and its first node; a leaf's row, or {len(self.rows)} where no row matches.
+static NODES: [Node; {len(self.nodes)}] = nodes! {{
+{lines_of(self.nodes)}
+}};
 """
 
 
@@ -86,9 +87,9 @@ def lines_of(items):
     return textwrap.fill(" ".join(items), 99, initial_indent="    ", subsequent_indent="    ").replace("~", " ")
 
 
-for table, decoder, steps, widest in (("a64_table", "a64_decode", 2, 8), ("sve_table", "sve_decode", 3, 6)):
+for table, decoder in (("a64_table", "a64_decode"), ("sve_table", "sve_decode")):
     rows = [(int(mask, 16), int(value, 16)) for mask, value in ROW.findall((CRATES / table / "src" / "rows.rt").read_text())]
-    tree = Tree(rows, steps, widest)
+    tree = Tree(rows)
     file = CRATES / decoder / "src" / "tree.rt"
     file.write_text(file.read_text().partition(MARK)[0] + tree.text())
-    print(decoder, len(rows), "rows", len(tree.nodes), "nodes", len(tree.numbers), "numbers", steps, "steps")
+    print(decoder, len(rows), "rows", len(tree.nodes), "nodes")

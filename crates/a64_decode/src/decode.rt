@@ -45,11 +45,11 @@ fn by_tree(word: u32) -> Option<Insn>
 }
 
 /// Whether the word is one of those that SVE and SME have to themselves, none of which matches a row here: bits
-/// 28:25 are 0010, or they are 0000 and bit 31 is 1 (DDI 0487, C4.1).
+/// 28, 27 and 25 are 0, and it is not UDF (DDI 0487, C4.1).
 #[inline(always)]
 fn is_of_vectors(word: u32) -> bool
     ensures { IsTrue result → (i : ℕ) (line : Line Operation) → slice_get SCALAR_LINES i ≡ Some line
         → bit_and word line.mask ≢ line.value }
 {
-    matches(0x1E00_0000, 0x0400_0000, word) || matches(0x9E00_0000, 0x8000_0000, word)
+    matches(0x1A00_0000, 0, word) && !matches(0xFFFF_0000, 0, word)
 }

@@ -1,12 +1,12 @@
 use Rattle.std.proofs.Common.{◌≡◌, true, refl, ◌∙◌}
-use Rattle.insn_forms.proofs.Cover.{numbered, kept, may_have, covers_ways, covers_on, covers_at, covers_end, covers, covers_from, leads}
+use Rattle.insn_forms.proofs.Cover.{numbered, kept, may_have, covers_ways, covers_fork, covers_at, covers, covers_from, leads}
 use Rattle.a64_table.specs.declared.rows.TheConstants.{SCALAR_LINES}
-use Rattle.a64_decode.specs.declared.tree.TheConstants.{NODES, NUMBERS, ROOT, STEPS}
+use Rattle.a64_decode.specs.declared.tree.TheConstants.{NODES, ROOT, STEPS}
 use Rattle.a64_decode.proofs.tree.row_number.Goals as goal
 
-tree_covers : covers_from STEPS NODES NUMBERS ROOT (numbered 0 SCALAR_LINES) ≡ true
-unfolding numbered kept may_have covers_ways covers_on covers_at covers_end covers covers_from
+tree_covers : covers_from STEPS NODES ROOT (numbered 0 SCALAR_LINES) ≡ true
+unfolding numbered kept may_have covers_ways covers_fork covers_at covers covers_from
 tree_covers = refl
 
 pub returns : goal.returns
-returns c i line g m = c.line_number.ensures ∙ leads STEPS NODES NUMBERS ROOT SCALAR_LINES tree_covers c.args.word i line g m
+returns c i line g m = c.line_number.ensures ∙ leads STEPS NODES ROOT SCALAR_LINES tree_covers c.args.word i line g m

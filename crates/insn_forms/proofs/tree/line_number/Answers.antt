@@ -4,4 +4,4 @@ use Rattle.insn_forms.proofs.tree.line_number.Goals as goal
 
 pub returns : goal.returns
 unfolding walk_from
-returns c = c.follow.ensures ∙ ap (λ at. walk c.args.steps c.args.nodes.now c.args.numbers.now at c.args.word) c.way_on.ensures
+returns c = c.follow.ensures ∙ ap (λ at. walk c.args.steps c.args.nodes.now at c.args.word) c.way_on.ensures
