@@ -1,7 +1,10 @@
 //! Decoding a word.
-ghost use Rattle.std.specs.Prelude.{◌≡◌, ◌↔◌, Some};
+ghost use Rattle.std.specs.Prelude.{◌≡◌, ◌≢◌, ◌↔◌, IsTrue, ℕ, Some, bit_and, slice_get};
 ghost use Rattle.sm_types.specs.declared.insn.Insn.{Insn};
+ghost use Rattle.insn_forms.specs.declared.line.Line.{Line};
 ghost use Rattle.insn_forms.specs.Tables.{Means};
+ghost use Rattle.a64_table.specs.declared.operation.Operation.{Operation};
+ghost use Rattle.a64_table.specs.declared.rows.TheConstants.{SCALAR_LINES};
 ghost use Rattle.a64_table.specs.Ranges.{IsInRow};
 ghost use Rattle.a64_table.specs.Table.{meaning_of, scalar};
 
@@ -25,6 +28,9 @@ pub fn decode_scalar(word: u32) -> Option<Insn>
 fn by_tree(word: u32) -> Option<Insn>
     ensures { (it : Insn) → (result ≡ Some it) ↔ Means scalar word it }
 {
+    if is_of_vectors(word) {
+        return None;
+    }
     let Some(number) = row_number(word) else {
         return None;
     };
@@ -36,4 +42,14 @@ fn by_tree(word: u32) -> Option<Insn>
     } else {
         None
     }
+}
+
+/// Whether the word is one of those that SVE and SME have to themselves, none of which matches a row here: bits
+/// 28, 27 and 25 are 0, and it is not UDF (DDI 0487, C4.1).
+#[inline(always)]
+fn is_of_vectors(word: u32) -> bool
+    ensures { IsTrue result → (i : ℕ) (line : Line Operation) → slice_get SCALAR_LINES i ≡ Some line
+        → bit_and word line.mask ≢ line.value }
+{
+    matches(0x1A00_0000, 0, word) && !matches(0xFFFF_0000, 0, word)
 }

@@ -1,50 +1,57 @@
-//! Trees of tests on bits, which lead a word to the one line that it may match: one tree for each value of
-//! a word's top eight bits.
-ghost use Rattle.std.specs.Prelude.{◌≡◌, ◌≢◌, ◌/◌, ◌^◌, length, Some, bit_and, slice_get};
-ghost use Rattle.insn_forms.specs.Tree.{walk, walk_from};
+//! Trees that lead a word to the one line that it may match, by a few of its bits at a time.
+ghost use Rattle.std.specs.Prelude.{◌≡◌, slice_get};
+ghost use Rattle.insn_forms.specs.Tree.{walk, walk_from, way_on};
+
+/// A way for each number that a word may have in the bits of the mask, from the bit `low` on (below 32): to the
+/// node as far after `first` as the number.
+#[derive(Clone, Copy)]
+pub struct Fork {
+    pub low: u8,
+    pub mask: u8,
+    pub first: u16,
+}
 
 /// A node of a tree.
 #[derive(Clone, Copy)]
 pub enum Node {
-    /// On to the node `clear` where all bits of the mask are 0 in the word, else to `set`.
-    Test { mask: u32, clear: u16, set: u16 },
+    Fork(Fork),
     /// Only the line of this number may match.
     Leaf(u16),
 }
 
-/// The number of the one line that may match the word, by nodes, the roots of the trees and as many steps
-/// as the longest way has nodes.
+/// The number of the one line that may match the word, by the root, the nodes and as many steps as the longest
+/// way from the root has nodes.
 #[inline(always)]
-pub fn line_number(nodes: &[Node], roots: &[u16], depth: u32, word: u32) -> Option<usize>
-    requires { length roots.now ≡ 256 }
-    ensures { result ≡ walk_from depth nodes.now roots.now word }
+pub fn line_number(root: Fork, nodes: &[Node], steps: u32, word: u32) -> Option<usize>
+    ensures { result ≡ walk_from steps nodes.now root word }
 {
-    follow(nodes, root_of(roots, word), depth, word)
+    follow(nodes, way_on(root, word), steps, word)
 }
 
-/// The root of a word's tree.
+/// Where the way from a node ends.
 #[inline(always)]
-fn root_of(roots: &[u16], word: u32) -> usize
-    requires { length roots.now ≡ 256 }
-    ensures { slice_get roots.now (word / 2 ^ 24) ≡ Some result }
+fn follow(nodes: &[Node], start: usize, steps: u32, word: u32) -> Option<usize>
+    ensures { result ≡ walk steps nodes.now start word }
 {
-    usize::from(roots[(word >> 24) as usize])
-}
-
-/// Where the way from a root ends.
-#[inline(always)]
-fn follow(nodes: &[Node], root: usize, depth: u32, word: u32) -> Option<usize>
-    ensures { result ≡ walk depth nodes.now root word }
-{
-    let mut at = root;
-    'steps: for _step in 0..depth {
+    let mut at = start;
+    'steps: for _step in 0..steps {
         match node_at(nodes, at) {
-            Some(Node::Test { mask, clear, set }) => at = way_on(word, mask, clear, set),
+            Some(Node::Fork(fork)) => at = way_on(fork, word),
             Some(Node::Leaf(number)) => return Some(number as usize),
             None => return None,
         }
     }
     None
+}
+
+/// The place of the node to which the word's way leads.
+#[inline(always)]
+#[tactic(auto, unfolding(crate::specs::Tree::way_on))]
+fn way_on(fork: Fork, word: u32) -> usize
+    ensures { result ≡ way_on fork word }
+{
+    let bits = word >> u32::from(fork.low % 32) & u32::from(fork.mask);
+    usize::from(fork.first) + bits as usize
 }
 
 /// What stands at a place of the tree.
@@ -59,15 +66,12 @@ fn node_at(nodes: &[Node], at: usize) -> Option<Node>
     }
 }
 
-/// The way on from a test.
-#[inline(always)]
-fn way_on(word: u32, mask: u32, clear: u16, set: u16) -> usize
-    ensures clear { bit_and word mask ≡ 0 → result ≡ clear }
-    ensures set { bit_and word mask ≢ 0 → result ≡ set }
-{
-    if word & mask == 0 {
-        clear as usize
-    } else {
-        set as usize
-    }
+/// An array of nodes: a leaf by its number, and a fork as `(low mask first)`.
+#[macro_export]
+macro_rules! nodes {
+    (@ ($low:literal $mask:literal $first:literal)) => {
+        $crate::Node::Fork($crate::Fork { low: $low, mask: $mask, first: $first })
+    };
+    (@ $number:literal) => { $crate::Node::Leaf($number) };
+    ($($node:tt)*) => { [$($crate::nodes!(@ $node)),*] };
 }

@@ -1,11 +1,11 @@
 //! Vector instructions by their words: at the ends of their ranges, at each length, and with the destination
 //! among the sources.
 
-use sm_types::{Scalars, VecLen};
+use sm_types::{Insn, Scalars, VecLen};
 use std::alloc::Global;
 use sve_decode::decode_vector;
 use sve_vectors::Vectors;
-use vector_step::{exec_vector, is_vector_computed};
+use vector_step::exec_vector;
 
 const LENGTHS: [VecLen; 5] = [
     VecLen::Bits128,
@@ -26,13 +26,22 @@ const ZEROS: Scalars = Scalars {
 };
 
 /// Executes the instruction of a word; `None` where it is none that reads and writes registers alone.
+#[tactic(auto, unfolding(sve_table::specs::Groups::is_vector_group))]
 fn step(scalars: &mut Scalars, vectors: &mut Vectors, word: u32) -> Option<()> {
     let insn = decode_vector(word)?;
-    if is_vector_computed(&insn) {
-        exec_vector(scalars, vectors, &insn);
-        Some(())
-    } else {
-        None
+    match insn {
+        Insn::VectorAccess(_)
+        | Insn::Mode(_)
+        | Insn::ArrayAccess(_)
+        | Insn::TileAccess(_)
+        | Insn::TileMove(_)
+        | Insn::TileAdd(_)
+        | Insn::OuterProduct(_)
+        | Insn::StreamingLength(_) => None,
+        _ => {
+            exec_vector(scalars, vectors, &insn);
+            Some(())
+        }
     }
 }
 

@@ -83,6 +83,7 @@ impl Machine {
     }
 
     /// Executes a vector instruction that the word means.
+    #[tactic(auto, unfolding(sve_table::specs::Groups::is_vector_group))]
     pub(crate) fn execute_vector(&mut self, insn: &Insn, bank: &mut Bank) -> StepEnd
         requires fields { IsInVectorRow insn.now }
         requires mode { IsInMode bank.old self.old }

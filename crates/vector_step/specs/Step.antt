@@ -1,9 +1,10 @@
 -- The scalar and the vector registers after a vector instruction that accesses neither memory nor ZA, but for
 -- PC. A vector has L bytes.
 -- Source: DDI 0487, C8.2.
-use Rattle.std.specs.Prelude.{ℕ, Bool, true, false}
+use Rattle.std.specs.Prelude.{ℕ, Bool, false}
 use Rattle.sm_types.specs.declared.insn.Insn.{Insn}
 use Rattle.sm_types.specs.declared.insn.Insn.TheVariants as insn
+use Rattle.sve_table.specs.Groups.{is_vector_group}
 use Rattle.sve_vectors.specs.Registers.{VectorRegisters}
 use Rattle.vector_step.specs.Registers.{VectorCore}
 use Rattle.vector_step.specs.Vectors.{after_arithmetic, after_logical, after_binary, after_multiply_add}
@@ -13,23 +14,18 @@ use Rattle.vector_step.specs.Permutes.{after_permute, after_reduction}
 use Rattle.vector_step.specs.Predicates.{after_compare, after_predicate, after_predicate_count}
 use Rattle.vector_step.specs.Counts.{after_element_count}
 
--- the instruction reads and writes scalar and vector registers alone
+-- the instruction reads and writes scalar and vector registers alone, in either mode: it is of a group of SVE or
+-- SME, and accesses neither memory nor ZA, nor a mode, nor the streaming vector length
 abbrev pub is_vector_computed : Insn → Bool
-is_vector_computed (insn.VectorArithmetic x) = true
-is_vector_computed (insn.VectorLogical x) = true
-is_vector_computed (insn.PredicatedBinary x) = true
-is_vector_computed (insn.MultiplyAdd x) = true
-is_vector_computed (insn.PredicatedUnary x) = true
-is_vector_computed (insn.VectorShift x) = true
-is_vector_computed (insn.VectorCopy x) = true
-is_vector_computed (insn.VectorPermute x) = true
-is_vector_computed (insn.VectorReduction x) = true
-is_vector_computed (insn.VectorCompare x) = true
-is_vector_computed (insn.Predicate x) = true
-is_vector_computed (insn.PredicateCount x) = true
-is_vector_computed (insn.ElementCount x) = true
-is_vector_computed (insn.Sve2 x) = true
-is_vector_computed other = false
+is_vector_computed (insn.VectorAccess x) = false
+is_vector_computed (insn.Mode x) = false
+is_vector_computed (insn.ArrayAccess x) = false
+is_vector_computed (insn.TileAccess x) = false
+is_vector_computed (insn.TileMove x) = false
+is_vector_computed (insn.TileAdd x) = false
+is_vector_computed (insn.OuterProduct x) = false
+is_vector_computed (insn.StreamingLength x) = false
+is_vector_computed other = is_vector_group other
 
 -- with other vectors and predicates
 abbrev pub of_registers : VectorCore → VectorRegisters → VectorCore

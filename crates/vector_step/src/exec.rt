@@ -18,59 +18,6 @@ use crate::vector::{
 use sm_types::{Insn, Scalars};
 use sve_vectors::Vectors;
 
-/// Tells whether the instruction reads and writes scalar and vector registers alone.
-pub fn is_vector_computed(insn: &Insn) -> bool
-    ensures { result ≡ is_vector_computed insn.now }
-{
-    match insn {
-        Insn::VectorArithmetic(_)
-        | Insn::VectorLogical(_)
-        | Insn::PredicatedBinary(_)
-        | Insn::MultiplyAdd(_)
-        | Insn::PredicatedUnary(_)
-        | Insn::VectorShift(_)
-        | Insn::VectorCopy(_)
-        | Insn::VectorPermute(_)
-        | Insn::VectorReduction(_)
-        | Insn::VectorCompare(_)
-        | Insn::Predicate(_)
-        | Insn::PredicateCount(_)
-        | Insn::ElementCount(_)
-        | Insn::Sve2(_) => true,
-        Insn::AddSubImmediate(_)
-        | Insn::AddSubRegister(_)
-        | Insn::LogicalRegister(_)
-        | Insn::AddSubExtended(_)
-        | Insn::LogicalImmediate(_)
-        | Insn::MoveWide(_)
-        | Insn::BitfieldMove(_)
-        | Insn::Extract(_)
-        | Insn::PcRelative(_)
-        | Insn::Branch(_)
-        | Insn::BranchRegister(_)
-        | Insn::AddSubCarry(_)
-        | Insn::ConditionalSelect(_)
-        | Insn::ConditionalCompare(_)
-        | Insn::OneSource(_)
-        | Insn::TwoSource(_)
-        | Insn::Multiply(_)
-        | Insn::LoadStore(_)
-        | Insn::LoadLiteral(_)
-        | Insn::LoadStorePair(_)
-        | Insn::Atomic(_)
-        | Insn::System(_)
-        | Insn::SystemMove(_)
-        | Insn::VectorAccess(_)
-        | Insn::Mode(_)
-        | Insn::ArrayAccess(_)
-        | Insn::TileAccess(_)
-        | Insn::TileMove(_)
-        | Insn::TileAdd(_)
-        | Insn::OuterProduct(_)
-        | Insn::StreamingLength(_) => false,
-    }
-}
-
 /// Executes a vector instruction that reads and writes scalar and vector registers alone, with its fields in
 /// their ranges: all registers are as it leaves them, but PC, which the caller moves. The lengths and the
 /// mode of the vectors are as before.

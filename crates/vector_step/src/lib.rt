@@ -16,5 +16,5 @@ mod size;
 mod sve2;
 mod vector;
 
-pub use exec::{exec_vector, is_vector_computed};
+pub use exec::exec_vector;
 pub use registers::read_p;

@@ -1,8 +1,13 @@
-use Rattle.std.proofs.Common.{◌≡◌, arith}
+use Rattle.std.proofs.Common.{arith}
 use Rattle.std.proofs.lemmas.Bool.{both_ways}
 use Rattle.insn_forms.proofs.Deciding.{no_place, no_line, no_match, match}
 use Rattle.a64_table.specs.Table.{scalar}
 use Rattle.a64_decode.proofs.decode.by_tree.Goals as goal
+
+pub returns-then-is_of_vectors : goal.returns-then-is_of_vectors
+unfolding scalar
+returns-then-is_of_vectors c it =
+    no_place scalar c.args.word (λ i line g m. absurd (c.is_of_vectors.ensures c.if-is_of_vectors.true i line g m)) it
 
 pub returns-in_default : goal.returns-in_default
 unfolding scalar
