@@ -3,6 +3,7 @@ use Rattle.std.proofs.Common.{◌≡◌, ℕ, zero, suc, ◌+◌, ◌*◌, ◌/�
 use Rattle.std.proofs.Common.{◌∙◌, sym, append_assoc, arith, ℤ, pos, ◌+ℤ◌, subst}
 use Rattle.std.proofs.Math.Nat.{pow-suc}
 use Rattle.std.proofs.lemmas.Grind.{common_steps}
+use Rattle.std.proofs.lemmas.List.{append-nil}
 use Rattle.std.specs.Simd.Lanes.{number_l, digits_l, Each1, put_chunk}
 use Rattle.std.proofs.lemmas.Simd.{put_chunk_is, Each1-from_get_or}
 use Rattle.vector_elements.specs.declared.size.Size.{Size}
@@ -14,10 +15,6 @@ use Rattle.za_array.proofs.Places.{listed-at}
 use Rattle.outer_products.specs.Sources.{summed, sixteen_with}
 use Rattle.outer_products.proofs.Numbers.{wrapped_fits}
 use Rattle.outer_products.proofs.Active.{values_of}
-
-append-nil : {A : Type 0} → (xs : List A) → xs ++ [] ≡ xs
-append-nil [] = refl
-append-nil (x ∷ xs) = ap (λ t. x ∷ t) (append-nil xs)
 
 listed-more : (f : ℕ → ℕ) (i k : ℕ) → listed f (i + k) ≡ listed f i ++ listed (λ j. f (i + j)) k
 unfolding listed

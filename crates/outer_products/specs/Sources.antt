@@ -1,7 +1,7 @@
--- The sources as the loops read them: lists of the numbers of all elements. Those of Zn are negative where the
--- products are subtracted, so that they are added in each case.
-use Rattle.std.specs.Prelude.{ℕ, ◌+◌, ◌*◌, ◌/◌, Bool, true, false, List, [], ◌∷◌, ◌++◌, length, slice_index_or}
-use Rattle.std.specs.Prelude.{take, drop, ℤ, pos, neg_ℤ, ◌+ℤ◌, ◌*ℤ◌, FitsSigned}
+-- The sources as the loops read them: lists of the numbers of all elements. Those of Zn are negative where
+-- the products are subtracted, so that they are added in each case.
+use Rattle.std.specs.Prelude.{ℕ, ◌+◌, ◌*◌, ◌/◌, Bool, true, false, List, [], ◌∷◌, ◌++◌, length}
+use Rattle.std.specs.Prelude.{slice_index_or, take, drop, ℤ, pos, neg_ℤ, ◌+ℤ◌, ◌*ℤ◌, FitsSigned}
 use Rattle.std.specs.Int.{Width, w32, w64, int_wrap}
 use Rattle.vector_elements.specs.declared.size.Size.{Size}
 use Rattle.vector_elements.specs.Elements.{listed, element_of, bytes_of, each_element}
@@ -44,7 +44,8 @@ dot_at n m c =
 -- the sums for four columns from column c on, modulo 2 ^ 32
 abbrev pub word_sums : (ℕ → ℤ) → ℕ → List ℤ
 word_sums sums c =
-    int_wrap w32 (sums c) ∷ int_wrap w32 (sums (c + 1)) ∷ int_wrap w32 (sums (c + 2)) ∷ int_wrap w32 (sums (c + 3)) ∷ []
+    int_wrap w32 (sums c) ∷ int_wrap w32 (sums (c + 1))
+    ∷ int_wrap w32 (sums (c + 2)) ∷ int_wrap w32 (sums (c + 3)) ∷ []
 
 -- those for two columns, modulo 2 ^ 64
 abbrev pub doubleword_sums : (ℕ → ℤ) → ℕ → List ℤ

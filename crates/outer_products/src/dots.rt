@@ -1,6 +1,6 @@
-//! The sums of four products for the elements of 16 bytes of a row, all at once. They are written so that LLVM
-//! finds the processor's instructions that multiply and add: products of numbers of half the width, and then
-//! sums of neighbours.
+//! The sums of four products for the elements of 16 bytes of a row, all at once. They are written so that
+//! LLVM finds the processor's instructions that multiply and add: products of numbers of half the width, and
+//! then sums of neighbours.
 ghost use Rattle.std.specs.Prelude.{◌≡◌, ◌+◌, ◌*◌, ◌≤◌, length};
 ghost use Rattle.std.specs.Int.{w16, w32};
 ghost use Rattle.outer_products.specs.Sources.{AllFit, dot_at, word_sums, doubleword_sums};
