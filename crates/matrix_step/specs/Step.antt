@@ -17,13 +17,13 @@ use Rattle.sve_vectors.specs.Registers.{VectorRegisters}
 use Rattle.sve_vectors.specs.State.{SveState}
 use Rattle.za_array.specs.Array.{ArrayState}
 use Rattle.za_array.specs.Tiles.{changed_tile}
+use Rattle.tile_ops.specs.Named.{slice_of}
 use Rattle.tile_ops.specs.Moves.{moved_to_tile, moved_to_vector}
 use Rattle.tile_ops.specs.Sums.{added_to_tile}
 use Rattle.outer_products.specs.declared.kind.MopaKind.{MopaKind}
 use Rattle.outer_products.specs.OuterProducts.{sum_size, outer_row}
 use Rattle.vector_step.specs.Registers.{vector_at, predicate_at, vector_written}
 use Rattle.matrix_step.specs.Lengths.{after_streaming_length}
-use Rattle.matrix_step.specs.Slices.{slice_of}
 
 -- what such an instruction reads and writes
 pub record MatrixCore : Type 0 where
@@ -51,7 +51,7 @@ zeroed_by (Transfer store rv offset rn) za = za
 -- MOVA: to the slice, or to the vector
 unfoldable pub after_move : TileMove → MatrixCore → MatrixCore
 after_move x s =
-    let slice = slice_of (length s.za) x.slice s.scalars in
+    let slice = slice_of x.slice s.scalars (length s.za) in
     let pg = predicate_at s.registers x.pg in
     let z = vector_at s.registers x.z in
     if x.to_tile then record s { za = moved_to_tile slice pg z s.za }

@@ -1,54 +1,18 @@
 //! MOVA.
-ghost use Rattle.std.specs.Prelude.{◌≡◌, ◌*◌, ◌%◌, ◌<◌, ◌≤◌, length};
-ghost use Rattle.sve_table.specs.Ranges.{tiles, IsTileSlice, IsTileMove};
+ghost use Rattle.std.specs.Prelude.{◌≡◌, ◌<◌};
+ghost use Rattle.sve_table.specs.Ranges.{IsTileMove};
 ghost use Rattle.sve_vectors.specs.Lengths.{vector_bytes};
 ghost use Rattle.sve_vectors.specs.State.{length_of};
-ghost use Rattle.scalar_exec.specs.Registers.{x_of};
 ghost use Rattle.tile_ops.specs.Slices.{IsSliceOf};
 ghost use Rattle.tile_ops.specs.Moves.{moved_to_tile, moved_to_vector};
 ghost use Rattle.vector_step.specs.Registers.{vector_at, predicate_at, vector_written, with_registers};
-ghost use Rattle.matrix_step.specs.Slices.{slice_of};
 ghost use Rattle.matrix_step.specs.Step.{after_move, core_of};
 
-use scalar_exec::read_x;
-use sm_types::{Elem, Scalars, TileMove, TileSlice};
+use sm_types::{Scalars, TileMove};
 use sve_vectors::Vectors;
-use tile_ops::{SliceAt, move_to_tile, move_to_vector, slice_number};
+use tile_ops::{SliceAt, move_to_tile, move_to_vector, slice_of};
 use vector_step::read_p;
 use za_array::Za;
-
-/// The bytes of an element, which are as many as there are tiles of such elements.
-#[inline]
-fn bytes_of(size: Elem) -> usize
-    ensures value { result ≡ tiles size }
-    ensures some { 0 < result }
-{
-    match size {
-        Elem::B => 1,
-        Elem::H => 2,
-        Elem::S => 4,
-        Elem::D => 8,
-        Elem::Q => 16,
-    }
-}
-
-/// The slice that an instruction names in an array of vectors of `size` bytes.
-#[inline]
-pub fn slice_of(x: &TileSlice, s: &Scalars, size: usize) -> SliceAt
-    requires slice { IsTileSlice x.now }
-    requires some { 16 ≤ size }
-    requires whole { size % 16 ≡ 0 }
-    ensures value { result ≡ slice_of size x.now s.now }
-    ensures slice_of { IsSliceOf size result }
-{
-    let bytes = bytes_of(x.size);
-    SliceAt {
-        bytes,
-        tile: usize::from(x.tile),
-        vertical: x.vertical,
-        number: slice_number(read_x(s, x.rv), x.offset, size / bytes),
-    }
-}
 
 /// Moves the active elements of a slice to a vector.
 #[tactic(auto, using(sve_vectors::proofs::Whole::vector_whole))]

@@ -1,11 +1,11 @@
 -- Sums modulo 2 ^ 32 and 2 ^ 64.
-use Rattle.std.proofs.Common.{◌≡◌, ℕ, suc, ◌+◌, ◌-◌, ◌%◌, ◌^◌, ◌<◌, ◌≤◌, ap, ◌∙◌, sym, arith, inl, inr, ℤ, pos, ◌+ℤ◌}
+use Rattle.std.proofs.Common.{◌≡◌, ℕ, ◌+◌, ◌-◌, ◌%◌, ◌^◌, ◌<◌, ◌≤◌, ap, ◌∙◌, sym, arith, inl, inr, ℤ, pos, ◌+ℤ◌}
 use Rattle.std.specs.Prelude.{negsuc}
 use Rattle.std.specs.Int.{w32, w64, int_wrap, cast_unsigned}
 use Rattle.std.proofs.lemmas.Bool.{cases_lt}
 use Rattle.std.proofs.lemmas.Int.{ints, of_z-to_z, int_wrap-add_left, int_wrap-add_right}
 use Rattle.vector_elements.specs.declared.size.Size.TheVariants.{S, D}
-use Rattle.vector_elements.specs.Numbers.{range_of, wrapped}
+use Rattle.vector_elements.specs.Numbers.{wrapped}
 
 -- two sums that wrapped, added
 pub short_sums : (a b : ℤ) → int_wrap w32 (int_wrap w32 a +ℤ int_wrap w32 b) ≡ int_wrap w32 (a +ℤ b)

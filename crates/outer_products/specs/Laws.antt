@@ -2,20 +2,15 @@
 -- Source: DDI 0487, B1.4 (ZA tiles), C9.2: SMOPA, SMOPS, UMOPA and UMOPS (4-way), SUMOPA, SUMOPS, USMOPA,
 -- USMOPS.
 use Rattle.std.specs.Prelude.{◌≡◌, ◌≢◌, ℕ, ◌/◌, ◌%◌, ◌<◌, List, [], slice_index_or}
-use Rattle.std.specs.Simd.Lanes.{number_l}
 use Rattle.vector_elements.specs.Numbers.{bytes_in}
 use Rattle.za_array.specs.Array.{IsSquare}
-use Rattle.za_array.specs.Tiles.{tile_element, changed_tile}
+use Rattle.za_array.specs.Tiles.{element_number, changed_tile}
 use Rattle.outer_products.specs.declared.kind.MopaKind.{MopaKind}
 use Rattle.outer_products.specs.OuterProducts.{source_size, sum_size, source, sum_of, changed, outer_row}
 
 -- the bytes of an element of the tile
 abbrev pub sum_bytes : MopaKind → ℕ
 sum_bytes kind = bytes_in (sum_size kind.halves)
-
--- the number that element (r, c) of a tile is, without a sign
-abbrev pub element_number : ℕ → ℕ → List (List ℕ) → ℕ → ℕ → ℕ
-element_number e tile za r c = number_l 256 (tile_element e tile za r c)
 
 -- the vectors of the array after the outer product
 abbrev pub with_products :

@@ -1,3 +1,3 @@
 pub mod OuterProducts
-pub mod Planes
+pub mod Sources
 pub mod Laws

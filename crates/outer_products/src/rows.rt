@@ -1,56 +1,132 @@
 //! The rows of a tile, one after another.
-ghost use Rattle.std.specs.Prelude.{◌≡◌, ◌+◌, ◌*◌, ◌%◌, ◌<◌, ◌≤◌, length};
-ghost use Rattle.vector_elements.specs.Numbers.{bytes_in};
-ghost use Rattle.outer_products.specs.OuterProducts.{sum_size};
-ghost use Rattle.outer_products.specs.Planes.{plane_size, column_of, row_by_planes, AreInPlanes, HasColumns};
+ghost use Rattle.std.specs.Prelude.{◌≡◌, ℕ, ℤ, pos, ◌+ℤ◌, ◌+◌, ◌*◌, ◌%◌, ◌^◌, ◌<◌, ◌≤◌, length};
+ghost use Rattle.std.specs.Int.{w16, w32, w64, int_wrap};
+ghost use Rattle.vector_elements.specs.declared.size.Size.TheVariants.{S, D};
+ghost use Rattle.vector_elements.specs.Numbers.{wrapped};
+ghost use Rattle.outer_products.specs.Sources.{AllFit, word_sums, doubleword_sums, sixteen_with, row_of_sums};
 
-use crate::kind::{plane_size, sum_size};
-use crate::planes::Planes;
-use crate::products::Sums;
-use vector_elements::change_each;
+use crate::dots::{doubleword_sums, word_sums};
+use std::simd::prelude::*;
+use vector_elements::{Size, element};
 use za_array::RowChange;
 
-/// The planes of both sources, by which each row is changed.
-#[derive(Clone, Copy)]
-pub(crate) struct Sources<'a> {
-    pub halves: bool,
-    pub n: &'a Planes<'a>,
-    pub m: &'a Planes<'a>,
+/// A word and a sum modulo 2 ^ 32.
+#[inline(always)]
+fn word_with(old: u64, sum: i32) -> u32
+    requires { old < 2 ^ 32 }
+    ensures { (exact : ℤ) → sum ≡ int_wrap w32 exact → result ≡ wrapped S (pos old +ℤ exact) }
+{
+    (old as u32).wrapping_add(sum.cast_unsigned())
 }
 
-impl<'a> Sources<'a> {
-    /// Row `r` with the products of elements of a size that the caller knows.
-    #[inline(always)]
-    #[tactic(auto, unfolding(crate::specs::Planes::row_by_planes))]
-    fn known_change(&self, halves: bool, r: usize, row: &mut [u8])
-        requires n { AreInPlanes (plane_size halves) self.now.n.now r }
-        requires m { HasColumns halves self.now.m.now (length row.old) }
-        ensures { row.new ≡ row_by_planes halves self.now.n.now self.now.m.now r row.old }
-    {
-        let n = self.n.column(plane_size(halves), r);
-        change_each(
-            &Sums {
-                halves,
-                n,
-                m: self.m,
-            },
-            sum_size(halves),
-            row,
-        );
+/// A doubleword and a sum modulo 2 ^ 64.
+#[inline(always)]
+fn doubleword_with(old: u64, sum: i64) -> u64
+    ensures { (exact : ℤ) → sum ≡ int_wrap w64 exact → result ≡ wrapped D (pos old +ℤ exact) }
+{
+    old.wrapping_add(sum.cast_unsigned())
+}
+
+/// Adds sums to words 4i to 4i + 3 of a row.
+#[inline(always)]
+fn add_words(row: &mut [u8], i: usize, sums: [i32; 4])
+    requires { 16 * i + 16 ≤ length row.old }
+    ensures { (exact : ℕ → ℤ) → sums ≡ word_sums exact (4 * i) →
+        row.new ≡ sixteen_with S exact (4 * i) 4 row.old }
+{
+    let [a, b, c, d] = sums;
+    u32x4::from_array([
+        word_with(element(row, Size::S, 4 * i), a),
+        word_with(element(row, Size::S, 4 * i + 1), b),
+        word_with(element(row, Size::S, 4 * i + 2), c),
+        word_with(element(row, Size::S, 4 * i + 3), d),
+    ])
+    .to_le_bytes()
+    .copy_to_slice(&mut row[16 * i..]);
+}
+
+/// Adds sums to doublewords 2i and 2i + 1 of a row.
+#[inline(always)]
+fn add_doublewords(row: &mut [u8], i: usize, sums: [i64; 2])
+    requires { 16 * i + 16 ≤ length row.old }
+    ensures { (exact : ℕ → ℤ) → sums ≡ doubleword_sums exact (2 * i) →
+        row.new ≡ sixteen_with D exact (2 * i) 2 row.old }
+{
+    let [a, b] = sums;
+    u64x2::from_array([
+        doubleword_with(element(row, Size::D, 2 * i), a),
+        doubleword_with(element(row, Size::D, 2 * i + 1), b),
+    ])
+    .to_le_bytes()
+    .copy_to_slice(&mut row[16 * i..]);
+}
+
+/// The numbers of two sources of bytes, by which each row of words is changed.
+#[derive(Clone, Copy)]
+pub(crate) struct ByteSources<'a> {
+    pub n: &'a [i16],
+    pub m: &'a [i16],
+}
+
+/// Adds the products of numbers 4r to 4r + 3 of Zn to a row of words.
+#[inline(always)]
+fn change_words(s: &ByteSources, r: usize, row: &mut [u8])
+    requires n { 4 * r + 4 ≤ length s.now.n.now }
+    requires m { length row.old ≡ length s.now.m.now }
+    requires whole { length row.old % 16 ≡ 0 }
+    requires n_fit { AllFit w16 s.now.n.now }
+    requires m_fit { AllFit w16 s.now.m.now }
+    ensures { row.new ≡ row_of_sums S s.now.n.now s.now.m.now r row.old }
+{
+    let n = [s.n[4 * r], s.n[4 * r + 1], s.n[4 * r + 2], s.n[4 * r + 3]];
+    for i in 0..row.len() / 16 {
+        add_words(row, i, word_sums(n, s.m, i));
     }
 }
 
-impl<'a> RowChange for Sources<'a> {
-    ghost can = { λ s r size. AreInPlanes (plane_size s.halves) s.n.now r × HasColumns s.halves s.m.now size };
+impl<'a> RowChange for ByteSources<'a> {
+    ghost can = { λ s r size. (4 * r + 4 ≤ length s.n.now) × (size ≡ length s.m.now) × (size % 16 ≡ 0)
+        × AllFit w16 s.n.now × AllFit w16 s.m.now };
 
-    ghost gives = { λ s r row. row_by_planes s.halves s.n.now s.m.now r row };
+    ghost gives = { λ s r row. row_of_sums S s.n.now s.m.now r row };
 
     #[inline(always)]
     fn change(&self, r: usize, row: &mut [u8]) {
-        if self.halves {
-            self.known_change(true, r, row);
-        } else {
-            self.known_change(false, r, row);
-        }
+        change_words(self, r, row);
+    }
+}
+
+/// The numbers of two sources of halfwords, by which each row of doublewords is changed.
+#[derive(Clone, Copy)]
+pub(crate) struct HalfwordSources<'a> {
+    pub n: &'a [i32],
+    pub m: &'a [i32],
+}
+
+/// Adds the products of numbers 4r to 4r + 3 of Zn to a row of doublewords.
+#[inline(always)]
+fn change_doublewords(s: &HalfwordSources, r: usize, row: &mut [u8])
+    requires n { 4 * r + 4 ≤ length s.now.n.now }
+    requires m { length row.old ≡ 2 * length s.now.m.now }
+    requires whole { length row.old % 16 ≡ 0 }
+    requires n_fit { AllFit w32 s.now.n.now }
+    requires m_fit { AllFit w32 s.now.m.now }
+    ensures { row.new ≡ row_of_sums D s.now.n.now s.now.m.now r row.old }
+{
+    let n = [s.n[4 * r], s.n[4 * r + 1], s.n[4 * r + 2], s.n[4 * r + 3]];
+    for i in 0..row.len() / 16 {
+        add_doublewords(row, i, doubleword_sums(n, s.m, i));
+    }
+}
+
+impl<'a> RowChange for HalfwordSources<'a> {
+    ghost can = { λ s r size. (4 * r + 4 ≤ length s.n.now) × (size ≡ 2 * length s.m.now) × (size % 16 ≡ 0)
+        × AllFit w32 s.n.now × AllFit w32 s.m.now };
+
+    ghost gives = { λ s r row. row_of_sums D s.n.now s.m.now r row };
+
+    #[inline(always)]
+    fn change(&self, r: usize, row: &mut [u8]) {
+        change_doublewords(self, r, row);
     }
 }

@@ -1,12 +1,13 @@
-//! The elements of a source.
-ghost use Rattle.std.specs.Prelude.{◌≡◌, ◌+◌, ◌*◌, ◌/◌, ◌%◌, ◌<◌, ◌≤◌, length};
-ghost use Rattle.vector_elements.specs.Elements.{element_of, each_or_zero};
+//! The elements of a source as numbers, of which those that are not active are zero.
+ghost use Rattle.std.specs.Prelude.{◌≡◌, ℕ, ◌*◌, ◌/◌, ◌%◌, ◌^◌, ◌<◌, ◌≤◌, length};
+ghost use Rattle.vector_elements.specs.declared.size.Size.TheVariants.{B, H};
+ghost use Rattle.vector_elements.specs.Elements.{each_or_zero};
 ghost use Rattle.vector_elements.specs.Numbers.{bytes_in, range_of};
-ghost use Rattle.outer_products.specs.OuterProducts.{source_size, number_of};
-ghost use Rattle.outer_products.specs.Planes.{plane_size, negated, widened, IsInSource};
+ghost use Rattle.outer_products.specs.OuterProducts.{number_of};
+ghost use Rattle.std.specs.Int.{w16, w32};
+ghost use Rattle.outer_products.specs.Sources.{negated, numbers_of, AllFit};
 
-use crate::kind::{plane_size, source_size, sum_size};
-use vector_elements::{Change, Size, change_or_zero, element, wrapped};
+use vector_elements::{Change, Size, change_or_zero, element};
 
 /// Each element as it was.
 #[derive(Clone, Copy)]
@@ -24,85 +25,69 @@ impl Change for Kept {
 }
 
 /// Writes the elements of a source, with zero for those that are not active.
-pub(crate) fn write_active(halves: bool, p: &[u8], z: &[u8], out: &mut [u8])
+pub(crate) fn write_active(size: Size, p: &[u8], z: &[u8], out: &mut [u8])
     requires long { length out.old ≡ length z.now }
-    requires whole { length z.now % bytes_in (source_size halves) ≡ 0 }
+    requires whole { length z.now % bytes_in size ≡ 0 }
     requires bits { length z.now ≡ 8 * length p.now }
     requires small { length z.now ≤ 256 }
-    ensures { out.new ≡ each_or_zero (bytes_in (source_size halves)) p.now z.now (λ i old. old) }
+    ensures { out.new ≡ each_or_zero (bytes_in size) p.now z.now (λ i old. old) }
 {
     out.copy_from_slice(z);
-    change_or_zero(&Kept, source_size(halves), out, p);
+    change_or_zero(&Kept, size, out, p);
 }
 
-/// An element of a source as a number.
+/// A byte as a number, or its negative.
 #[inline(always)]
 #[tactic(auto, unfolding(crate::specs::OuterProducts::number_of, vector_elements::specs::Numbers::signed_of))]
-fn number(signed: bool, halves: bool, x: u64) -> i32
-    requires { x < range_of (source_size halves) }
-    ensures { result ≡ number_of signed (source_size halves) x }
+fn byte_number(signed: bool, negative: bool, x: u64) -> i16
+    requires { x < 2 ^ 8 }
+    ensures { result ≡ negated negative (number_of signed B x) }
 {
-    if halves {
-        let x = x as u16;
-        if signed {
-            i32::from(x.cast_signed())
-        } else {
-            i32::from(x)
-        }
+    let x = x as u8;
+    let number = if signed {
+        i16::from(x.cast_signed())
     } else {
-        let x = x as u8;
-        if signed {
-            i32::from(x.cast_signed())
-        } else {
-            i32::from(x)
-        }
+        i16::from(x)
+    };
+    if negative { -number } else { number }
+}
+
+/// A halfword as a number, or its negative.
+#[inline(always)]
+#[tactic(auto, unfolding(crate::specs::OuterProducts::number_of, vector_elements::specs::Numbers::signed_of))]
+fn halfword_number(signed: bool, negative: bool, x: u64) -> i32
+    requires { x < 2 ^ 16 }
+    ensures { result ≡ negated negative (number_of signed H x) }
+{
+    let x = x as u16;
+    let number = if signed {
+        i32::from(x.cast_signed())
+    } else {
+        i32::from(x)
+    };
+    if negative { -number } else { number }
+}
+
+/// Writes bytes as numbers, or their negatives.
+#[inline(always)]
+pub(crate) fn write_bytes(signed: bool, negative: bool, bytes: &[u8], out: &mut [i16])
+    requires { length out.old ≡ length bytes.now }
+    ensures value { out.new ≡ numbers_of B signed negative bytes.now }
+    ensures fit { AllFit w16 out.new }
+{
+    for i in 0..out.len() {
+        out[i] = byte_number(signed, negative, element(bytes, Size::B, i));
     }
 }
 
-/// A number, or its negative.
+/// Writes halfwords as numbers, or their negatives.
 #[inline(always)]
-fn negated(negative: bool, number: i32) -> i64
-    ensures { result ≡ negated negative number }
+pub(crate) fn write_halfwords(signed: bool, negative: bool, bytes: &[u8], out: &mut [i32])
+    requires { length bytes.now ≡ 2 * length out.old }
+    ensures value { out.new ≡ numbers_of H signed negative bytes.now }
+    ensures fit { AllFit w32 out.new }
 {
-    if negative {
-        -i64::from(number)
-    } else {
-        i64::from(number)
+    for i in 0..out.len() {
+        out[i] = halfword_number(signed, negative, element(bytes, Size::H, i));
     }
-}
-
-/// Element `4 * i + k` of a source, read together with its three neighbours.
-#[inline(always)]
-fn one_of_four(halves: bool, bytes: &[u8], i: usize, k: usize) -> u64
-    requires k { k < 4 }
-    requires room { IsInSource halves bytes.now (4 * i + 3) }
-    ensures value { result ≡ element_of (bytes_in (source_size halves)) bytes.now (4 * i + k) }
-    ensures fits { result < range_of (source_size halves) }
-{
-    let four = element(bytes, sum_size(halves), i);
-    if halves {
-        (four >> (16 * k)) % 0x1_0000
-    } else {
-        (four >> (8 * k)) % 0x100
-    }
-}
-
-/// Element `4 * i + k` of a source, or its negative, as an element of a plane.
-#[inline(always)]
-#[tactic(auto, unfolding(crate::specs::Planes::widened))]
-pub(crate) fn widened(
-    halves: bool,
-    signed: bool,
-    negative: bool,
-    bytes: &[u8],
-    i: usize,
-    k: usize,
-) -> u64
-    requires k { k < 4 }
-    requires room { IsInSource halves bytes.now (4 * i + 3) }
-    ensures value { result ≡ widened halves signed negative bytes.now (4 * i + k) }
-    ensures fits { result < range_of (plane_size halves) }
-{
-    let number = number(signed, halves, one_of_four(halves, bytes, i, k));
-    wrapped(plane_size(halves), negated(negative, number))
 }

@@ -16,7 +16,7 @@ use Rattle.tile_ops.specs.Slices.{IsSliceOf, slice_bytes, element_bytes, with_el
 use Rattle.tile_ops.specs.Laws.{AreWritten, ReadsWritten, KeepsElements, KeepsTiles}
 use Rattle.tile_ops.proofs.Filled.{IsFilledTo, filled_next, filled_all, length-element, within}
 use Rattle.tile_ops.proofs.Joined.{all_elements}
-use Rattle.tile_ops.proofs.Rows.{row_below, row_of, tile_of, length-changed, changed_row, kept_vector}
+use Rattle.za_array.proofs.Changed.{row_below, row_of, tile_of, length-changed, changed_row, kept_vector}
 
 -- an element that was written, and those beside it
 pub element-with_element : (e : ℕ) (bytes : List ℕ) (i : ℕ) (x : List ℕ) → i * e + e ≤ length bytes → length x ≡ e

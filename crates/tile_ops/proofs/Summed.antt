@@ -4,17 +4,17 @@ use Rattle.std.proofs.Common.{Bool, true, false, if◌then◌else◌, List, [], 
 use Rattle.std.proofs.Common.{refl, ap, ◌∙◌, sym, arith, mod-eq_of_lt, mod-lt}
 use Rattle.std.proofs.lemmas.Bool.{cond_both}
 use Rattle.std.proofs.lemmas.List.{get_or-drop}
-use Rattle.std.proofs.Math.Nat.{mul_comm, pow-suc}
+use Rattle.std.proofs.Math.Nat.{pow-suc}
 use Rattle.std.specs.Simd.Lanes.{number_l}
 use Rattle.vector_elements.specs.declared.size.Size.{Size}
 use Rattle.vector_elements.specs.declared.size.Size.TheVariants.{B, H, S, D}
 use Rattle.vector_elements.specs.Elements.{element_of, is_active, each_element, each_active}
 use Rattle.vector_elements.specs.Numbers.{bytes_in, range_of}
 use Rattle.vector_elements.proofs.ReadBack.{read_back}
-use Rattle.za_array.specs.Tiles.{tile_vector}
+use Rattle.za_array.specs.Tiles.{tile_vector, element_number}
 use Rattle.tile_ops.specs.Sums.{row_sum, addend_of}
-use Rattle.tile_ops.specs.Laws.{element_number, AddsAtPlaces, AddKeepsTiles}
-use Rattle.tile_ops.proofs.Rows.{changed_row, kept_vector}
+use Rattle.tile_ops.specs.Laws.{AddsAtPlaces, AddKeepsTiles}
+use Rattle.za_array.proofs.Changed.{changed_row, kept_vector, same_place}
 use Rattle.tile_ops.proofs.ReadBack.{length-tile_row}
 
 -- a number of n bytes is below 256 ^ n
@@ -42,10 +42,6 @@ some_range D = omega arith
 pub element_small : (e : ℕ) (bytes : List ℕ) (c : ℕ) → ((k : ℕ) → get_or bytes k 0 < 256) → element_of e bytes c < 256 ^ e
 unfolding element_of
 element_small e bytes c small = number_below e (drop (e * c) bytes) (λ k. rw get_or-drop (small (e * c + k)))
-
-same_place : (e : ℕ) (row : List ℕ) (c : ℕ) → number_l 256 (take e (drop (c * e) row)) ≡ element_of e row c
-unfolding element_of
-same_place e row c = ap (λ n. number_l 256 (take e (drop n row))) (mul_comm c e)
 
 -- an element after a change of the active ones
 active_element : (e : ℕ) (pm row : List ℕ) (f : ℕ → ℕ → ℕ) (c : ℕ) → c < length row / e → ((k : ℕ) → get_or row k 0 < 256)

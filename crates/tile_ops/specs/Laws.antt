@@ -1,12 +1,11 @@
 -- Laws of slices, and of sums.
 use Rattle.std.specs.Prelude.{◌≡◌, ◌≢◌, ℕ, ◌+◌, ◌/◌, ◌%◌, ◌<◌, ◌&&◌, Bool, if◌then◌else◌, List, [], length}
 use Rattle.std.specs.Prelude.{slice_index, slice_index_or}
-use Rattle.std.specs.Simd.Lanes.{number_l}
 use Rattle.vector_elements.specs.declared.size.Size.{Size}
 use Rattle.vector_elements.specs.Elements.{is_active}
 use Rattle.vector_elements.specs.Numbers.{bytes_in, range_of}
 use Rattle.za_array.specs.Array.{IsSquare}
-use Rattle.za_array.specs.Tiles.{tile_element}
+use Rattle.za_array.specs.Tiles.{tile_element, element_number}
 use Rattle.tile_ops.specs.declared.slices.SliceAt.{SliceAt}
 use Rattle.tile_ops.specs.Slices.{IsSliceOf, slice_bytes, element_bytes, with_slice}
 use Rattle.tile_ops.specs.Moves.{merged, chosen_element}
@@ -45,10 +44,6 @@ abbrev pub MergesElements : Type 0
 MergesElements =
     (e i : ℕ) (pg new old : List ℕ) → length new ≡ length old → i < length old / e →
     element_bytes e (merged e pg new old) i ≡ chosen_element e pg new old i
-
--- the number that element (r, c) of a tile is, without a sign
-abbrev pub element_number : ℕ → ℕ → List (List ℕ) → ℕ → ℕ → ℕ
-element_number e tile za r c = number_l 256 (tile_element e tile za r c)
 
 -- a vector is added to the elements of the active rows and columns, and to no other of the tile
 abbrev pub AddsAtPlaces : Type 0

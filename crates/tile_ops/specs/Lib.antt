@@ -2,3 +2,4 @@ pub mod Slices
 pub mod Moves
 pub mod Sums
 pub mod Laws
+pub mod Named

@@ -5,6 +5,7 @@
 mod elements;
 mod laws;
 mod moves;
+mod named;
 mod slices;
 mod sums;
 
@@ -13,5 +14,6 @@ pub use laws::{
     write_keeps_tiles, written_slice_is_read,
 };
 pub use moves::{merge, move_to_tile, move_to_vector};
+pub use named::{element_size, slice_of};
 pub use slices::{SliceAt, read_slice, slice_number, write_slice};
 pub use sums::{TileSum, add_to_tile};

@@ -19,7 +19,8 @@ use Rattle.sve_access.proofs.Lists.{none_fails}
 use Rattle.tile_ops.specs.Slices.{element_bytes, with_element}
 use Rattle.tile_ops.specs.Moves.{merged, chosen_element}
 use Rattle.tile_ops.proofs.Filled.{within}
-use Rattle.za_access.specs.Slices.{element_size, element_run, active_places, active_addresses, loaded_element, loaded_slice}
+use Rattle.tile_ops.specs.Named.{element_size}
+use Rattle.za_access.specs.Slices.{element_run, active_places, active_addresses, loaded_element, loaded_slice}
 use Rattle.za_access.proofs.Units.{of_places, places-more}
 
 -- where no byte of the active elements fails a check, none of each of them does

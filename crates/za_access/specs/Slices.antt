@@ -7,10 +7,7 @@ use Rattle.std.specs.Prelude.{Option, Some, None, length, replicate, filter, fla
 use Rattle.std.specs.List.{concat, range_with_len}
 use Rattle.sm_types.specs.declared.scalars.Scalars.{Scalars}
 use Rattle.sm_types.specs.declared.stop.Exception.{Exception}
-use Rattle.sm_types.specs.declared.vector.Elem.{Elem}
-use Rattle.sm_types.specs.declared.matrix.TileSlice.{TileSlice}
 use Rattle.sm_types.specs.declared.matrix.TileAccess.{TileAccess}
-use Rattle.sve_table.specs.Ranges.{bits_of_elem}
 use Rattle.scalar_exec.specs.Registers.{x_of, x_or_sp}
 use Rattle.paged_memory.specs.Memory.{AddressSpace}
 use Rattle.vector_elements.specs.Elements.{listed, is_active}
@@ -19,21 +16,9 @@ use Rattle.mem_access.specs.Checks.{access_fault}
 use Rattle.mem_access.specs.Transfer.{written}
 use Rattle.sve_access.specs.After.{at_base, read_bytes}
 use Rattle.tile_ops.specs.declared.slices.SliceAt.{SliceAt}
-use Rattle.tile_ops.specs.Slices.{slice_number, slice_bytes, element_bytes, with_slice}
+use Rattle.tile_ops.specs.Slices.{slice_bytes, element_bytes, with_slice}
+use Rattle.tile_ops.specs.Named.{element_size, slice_of}
 use Rattle.za_access.specs.Contents.{Contents}
-
--- the bytes of an element
-abbrev pub element_size : Elem → ℕ
-element_size size = bits_of_elem size / 8
-
--- the slice that is meant
-abbrev pub slice_of : TileSlice → Scalars → ℕ → SliceAt
-slice_of x s size = record {
-  bytes = element_size x.size;
-  tile = x.tile;
-  vertical = x.vertical;
-  number = slice_number (x_of s x.rv) x.offset (size / element_size x.size);
-}
 
 -- the address of element 0: the second register counts elements
 abbrev pub first_address : TileAccess → Scalars → ℕ

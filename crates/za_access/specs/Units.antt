@@ -3,7 +3,8 @@ use Rattle.std.specs.Prelude.{◌≡◌, ℕ, List, length}
 use Rattle.sm_types.specs.declared.vector.Elem.{Elem}
 use Rattle.sve_access.specs.Contiguous.{size_of}
 use Rattle.sve_access.specs.Elements.{element_addresses, element_bytes}
-use Rattle.za_access.specs.Slices.{element_size, active_addresses, active_bytes}
+use Rattle.tile_ops.specs.Named.{element_size}
+use Rattle.za_access.specs.Slices.{active_addresses, active_bytes}
 
 -- elements of at most 8 bytes under a predicate are the same bytes as elements of a size under another
 pub record AreUnits (size : Elem) (pg units : List ℕ) : Type 0 where

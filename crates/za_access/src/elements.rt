@@ -8,32 +8,17 @@ ghost use Rattle.mem_access.specs.Transfer.{Transfers, HasRoom, written};
 ghost use Rattle.sve_access.specs.After.{at_base};
 ghost use Rattle.sve_access.specs.Elements.{element_addresses, element_bytes};
 ghost use Rattle.tile_ops.specs.Slices.{with_element};
+ghost use Rattle.tile_ops.specs.Named.{element_size};
 ghost use Rattle.tile_ops.specs.Moves.{merged};
-ghost use Rattle.za_access.specs.Slices.{element_size, active_addresses, active_bytes, loaded_element, loaded_slice};
+ghost use Rattle.za_access.specs.Slices.{active_addresses, active_bytes, loaded_element, loaded_slice};
 ghost use Rattle.za_access.specs.Units.{AreUnits};
 
 use mem_access::AccessStop;
 use paged_memory::Pages;
 use sm_types::{Elem, Scalars};
 use sve_access::{Bytes, Check, Elements, read_run, size_of, store_elements};
-use tile_ops::merge;
+use tile_ops::{element_size, merge};
 use vector_elements::bit;
-
-/// The bytes of an element.
-#[inline]
-pub fn element_size(size: Elem) -> usize
-    ensures value { result ≡ element_size size }
-    ensures some { 1 ≤ result }
-    ensures small { result ≤ 16 }
-{
-    match size {
-        Elem::B => 1,
-        Elem::H => 2,
-        Elem::S => 4,
-        Elem::D => 8,
-        Elem::Q => 16,
-    }
-}
 
 /// The active elements of a slice in memory.
 #[derive(Clone, Copy)]

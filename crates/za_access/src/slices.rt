@@ -1,7 +1,7 @@
 //! Loads and stores of a slice of a tile.
 ghost use Rattle.std.specs.Prelude.{◌≡◌, ◌≢◌, ◌*◌, ◌%◌, ◌<◌, ◌≤◌, length, false, true, None, Err};
 ghost use Rattle.std.specs.List.{find};
-ghost use Rattle.sve_table.specs.Ranges.{IsTileSlice, IsTileAccess};
+ghost use Rattle.sve_table.specs.Ranges.{IsTileAccess};
 ghost use Rattle.sve_vectors.specs.Lengths.{vector_bytes};
 ghost use Rattle.sve_vectors.specs.State.{length_of};
 ghost use Rattle.paged_memory.specs.PageTable.{KeepsOwned};
@@ -10,36 +10,19 @@ ghost use Rattle.mem_access.specs.Transfer.{Transfers, HasRoom};
 ghost use Rattle.sve_access.specs.After.{p_of};
 ghost use Rattle.tile_ops.specs.Slices.{IsSliceOf, with_slice};
 ghost use Rattle.za_access.specs.Contents.{contents_of};
-ghost use Rattle.za_access.specs.Slices.{element_size, slice_of, first_address, loaded_slice};
+ghost use Rattle.tile_ops.specs.Named.{element_size};
+ghost use Rattle.za_access.specs.Slices.{first_address, loaded_slice};
 ghost use Rattle.za_access.specs.Slices.{slice_access, slice_fault, after_slice, active_addresses};
 
-use crate::elements::{SliceElements, element_size};
+use crate::elements::SliceElements;
 use mem_access::AccessStop;
 use paged_memory::Pages;
 use scalar_exec::{read_x, read_x_or_sp};
-use sm_types::{Scalars, TileAccess, TileSlice};
+use sm_types::{Scalars, TileAccess};
 use sve_access::{load_fault, read_p};
 use sve_vectors::Vectors;
-use tile_ops::{SliceAt, read_slice, slice_number, write_slice};
+use tile_ops::{SliceAt, element_size, read_slice, slice_of, write_slice};
 use za_array::Za;
-
-/// The slice that is meant, where vectors have `size` bytes.
-#[inline]
-fn slice_of(slice: &TileSlice, s: &Scalars, size: usize) -> SliceAt
-    requires slice { IsTileSlice slice.now }
-    requires some { 16 ≤ size }
-    requires whole { size % 16 ≡ 0 }
-    ensures value { result ≡ slice_of slice.now s.now size }
-    ensures there { IsSliceOf size result }
-{
-    let bytes = element_size(slice.size);
-    SliceAt {
-        bytes,
-        tile: usize::from(slice.tile),
-        vertical: slice.vertical,
-        number: slice_number(read_x(s, slice.rv), slice.offset, size / bytes),
-    }
-}
 
 /// The address of element 0.
 #[inline]

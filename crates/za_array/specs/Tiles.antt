@@ -3,6 +3,7 @@
 -- vector of the array has elements.
 -- Source: DDI 0487, B1.4 (ZA tiles, ZA tile slices), J1.1: ZAtile, ZAhslice, ZAvslice.
 use Rattle.std.specs.Prelude.{ℕ, ◌+◌, ◌*◌, ◌/◌, ◌%◌, ◌==◌, if◌then◌else◌, List, [], length, take, drop, slice_index_or}
+use Rattle.std.specs.Simd.Lanes.{number_l}
 use Rattle.vector_elements.specs.Elements.{listed}
 
 -- the vector of the array that is row r of a tile
@@ -16,6 +17,10 @@ tile_size e za = length za / e
 -- the bytes of element (r, c) of a tile
 abbrev pub tile_element : ℕ → ℕ → List (List ℕ) → ℕ → ℕ → List ℕ
 tile_element e tile za r c = take e (drop (c * e) (slice_index_or za (tile_vector e tile r) []))
+
+-- the number that it is, without a sign
+abbrev pub element_number : ℕ → ℕ → List (List ℕ) → ℕ → ℕ → ℕ
+element_number e tile za r c = number_l 256 (tile_element e tile za r c)
 
 -- the elements of row r
 unfoldable pub horizontal_slice : ℕ → ℕ → List (List ℕ) → ℕ → List (List ℕ)

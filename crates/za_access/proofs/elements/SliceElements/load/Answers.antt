@@ -1,5 +1,5 @@
 use Rattle.std.proofs.Common.{◌∙◌, length}
-use Rattle.za_access.specs.Slices.{element_size}
+use Rattle.tile_ops.specs.Named.{element_size}
 use Rattle.za_access.proofs.Loaded.{loaded_whole}
 use Rattle.za_access.proofs.elements.SliceElements.load.Goals as goal
 

@@ -3,7 +3,8 @@ use Rattle.std.specs.List.{concat}
 use Rattle.vector_elements.specs.Elements.{listed}
 use Rattle.tile_ops.specs.Slices.{with_element}
 use Rattle.tile_ops.proofs.Filled.{filled_none, filled_next, filled_all, within}
-use Rattle.za_access.specs.Slices.{element_size, loaded_element, loaded_slice}
+use Rattle.tile_ops.specs.Named.{element_size}
+use Rattle.za_access.specs.Slices.{loaded_element, loaded_slice}
 use Rattle.za_access.proofs.Loaded.{element_long, whole_elements}
 use Rattle.za_access.proofs.elements.SliceElements.load_each.Goals as goal
 

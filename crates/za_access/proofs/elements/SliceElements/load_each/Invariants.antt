@@ -1,5 +1,6 @@
 use Rattle.tile_ops.proofs.Filled.{IsFilledTo}
-use Rattle.za_access.specs.Slices.{element_size, loaded_element}
+use Rattle.tile_ops.specs.Named.{element_size}
+use Rattle.za_access.specs.Slices.{loaded_element}
 use Rattle.za_access.proofs.elements.SliceElements.load_each.Given as goal
 
 abbrev pub invariant-loop-i : goal.invariant-loop-i

@@ -2,7 +2,7 @@ use Rattle.std.proofs.Common.{◌≡◌, ◌+◌, ◌-◌, ◌*◌, ◌/◌, ◌
 use Rattle.std.proofs.lemmas.List.{length-take-le, length-drop}
 use Rattle.paged_memory.specs.Memory.{first_without}
 use Rattle.vector_elements.specs.Elements.{is_active, bit_of}
-use Rattle.za_access.specs.Slices.{element_size}
+use Rattle.tile_ops.specs.Named.{element_size}
 use Rattle.za_access.proofs.Loaded.{each_readable, below_count}
 use Rattle.za_access.proofs.elements.SliceElements.load_element.Goals as goal
 

@@ -2,7 +2,7 @@ use Rattle.std.proofs.Common.{ap, ◌∙◌, ◌+◌, ◌%◌, ◌^◌}
 use Rattle.std.proofs.lemmas.Int.{to_z-of_z}
 use Rattle.std.specs.Int.{w64, cast_unsigned}
 use Rattle.outer_products.proofs.Sums.{doubleword_with-is}
-use Rattle.outer_products.proofs.products.doubleword_with.Goals as goal
+use Rattle.outer_products.proofs.rows.doubleword_with.Goals as goal
 
 pub returns : goal.returns
 returns c = λ exact is.

@@ -1,10 +1,12 @@
--- Rows of a tile that were changed.
-use Rattle.std.proofs.Common.{◌≡◌, ◌≢◌, ℕ, ◌+◌, ◌*◌, ◌/◌, ◌%◌, ◌<◌, ◌≤◌, ◌==◌, List, [], length, get_or, ap}
+-- The rows of a tile that were changed, and their elements.
+use Rattle.std.proofs.Common.{◌≡◌, ◌≢◌, ℕ, ◌+◌, ◌*◌, ◌/◌, ◌%◌, ◌<◌, ◌≤◌, ◌==◌, List, [], length, take, drop, get_or, ap}
 use Rattle.std.proofs.Common.{◌∙◌, sym, arith, inl, inr, eq-eqb}
-use Rattle.std.proofs.Math.Nat.{mul-le-mul_left}
+use Rattle.std.proofs.Math.Nat.{mul_comm, mul-le-mul_left}
 use Rattle.std.proofs.lemmas.Nat.{mod-mul-add, div-mul-add}
 use Rattle.std.proofs.lemmas.Bool.{cases_lt, cond-true, cond-false, ne_eqb}
 use Rattle.std.proofs.lemmas.List.{get_or_past}
+use Rattle.std.specs.Simd.Lanes.{number_l}
+use Rattle.vector_elements.specs.Elements.{element_of}
 use Rattle.vector_elements.proofs.Lists.{length-listed}
 use Rattle.za_array.proofs.Places.{listed-at}
 use Rattle.za_array.specs.Tiles.{tile_vector, changed_vector, changed_tile}
@@ -45,3 +47,8 @@ kept_vector e tile change za v other = elim (cases_lt v (length za)) [
       let long = length-changed e tile change za in
       get_or_past (changed_tile e tile change za) v [] (omega (arith, long)) ∙ sym (get_or_past za v [] past)
 ]
+
+-- an element of a row is one of a vector
+pub same_place : (e : ℕ) (row : List ℕ) (c : ℕ) → number_l 256 (take e (drop (c * e) row)) ≡ element_of e row c
+unfolding element_of
+same_place e row c = ap (λ n. number_l 256 (take e (drop n row))) (mul_comm c e)

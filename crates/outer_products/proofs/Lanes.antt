@@ -1,0 +1,102 @@
+-- Lanes of vectors, on the bits of their numbers.
+use Rattle.std.proofs.Common.{◌≡◌, ℕ, ◌+◌, ◌*◌, ◌%◌, ◌^◌, ◌<◌, ap, ap₂, ◌∙◌, arith, ℤ, pos, ◌+ℤ◌, ◌*ℤ◌, List, [], ◌∷◌, zero, suc}
+use Rattle.std.specs.Prelude.{FitsSigned}
+use Rattle.std.specs.Int.{w16, w32, w64, int_wrap}
+use Rattle.outer_products.specs.Sources.{number, AllFit, four_of, dot_at}
+use Rattle.std.proofs.lemmas.Int.{to_z-of_z, wrapping_add-bits, wrapping_mul_is, int_wrap-add_left, int_wrap-add_right, SFits-int_wrap}
+use mir.Syntax.{Width}
+use mir.Val.{bits, to_z, of_z}
+
+-- the bits of a product of two numbers of half the width
+abbrev product : Width → Width → ℤ → ℤ → ℕ
+product wide w a b = (of_z wide (to_z w (of_z w a)) * of_z wide (to_z w (of_z w b))) % 2 ^ bits wide
+
+abbrev sum : Width → ℕ → ℕ → ℕ
+sum w x y = (x + y) % 2 ^ bits w
+
+product_is : (wide w : Width) (a b : ℤ) → FitsSigned w a → FitsSigned w b → FitsSigned wide a → FitsSigned wide b
+    → to_z wide (product wide w a b) ≡ int_wrap wide (a *ℤ b)
+product_is wide w a b fa fb ga gb =
+    ap₂ (λ x y. to_z wide ((of_z wide x * of_z wide y) % 2 ^ bits wide)) (to_z-of_z w a fa) (to_z-of_z w b fb) ∙ wrapping_mul_is wide a b ga gb
+
+added : (w : Width) (x y : ℕ) (p q : ℤ) → x < 2 ^ bits w → y < 2 ^ bits w
+    → to_z w x ≡ int_wrap w p → to_z w y ≡ int_wrap w q → to_z w (sum w x y) ≡ int_wrap w (p +ℤ q)
+added w x y p q fx fy is js =
+    wrapping_add-bits w x y fx fy ∙ ap₂ (λ a b. int_wrap w (a +ℤ b)) is js
+    ∙ int_wrap-add_left w p (int_wrap w q) ∙ int_wrap-add_right w p q
+
+wider : (a : ℤ) → FitsSigned w16 a → FitsSigned w32 a
+wider a f = record { sfits = omega (arith, f.sfits) }
+
+longer : (a : ℤ) → FitsSigned w32 a → FitsSigned w64 a
+longer a f = record { sfits = omega (arith, f.sfits) }
+
+-- four products, added as neighbours are
+pub word_lane : (n0 m0 n1 m1 n2 m2 n3 m3 : ℤ)
+    → FitsSigned w16 n0 → FitsSigned w16 m0 → FitsSigned w16 n1 → FitsSigned w16 m1
+    → FitsSigned w16 n2 → FitsSigned w16 m2 → FitsSigned w16 n3 → FitsSigned w16 m3
+    → to_z w32 (sum w32 (sum w32 (product w32 w16 n0 m0) (product w32 w16 n1 m1)) (sum w32 (product w32 w16 n2 m2) (product w32 w16 n3 m3)))
+    ≡ int_wrap w32 ((n0 *ℤ m0 +ℤ n1 *ℤ m1) +ℤ (n2 *ℤ m2 +ℤ n3 *ℤ m3))
+word_lane n0 m0 n1 m1 n2 m2 n3 m3 a0 b0 a1 b1 a2 b2 a3 b3 =
+    added w32 _ _ _ _ (omega arith) (omega arith)
+    (added w32 _ _ _ _ (omega arith) (omega arith) (product_is w32 w16 n0 m0 a0 b0 (wider n0 a0) (wider m0 b0))
+    (product_is w32 w16 n1 m1 a1 b1 (wider n1 a1) (wider m1 b1)))
+    (added w32 _ _ _ _ (omega arith) (omega arith) (product_is w32 w16 n2 m2 a2 b2 (wider n2 a2) (wider m2 b2))
+    (product_is w32 w16 n3 m3 a3 b3 (wider n3 a3) (wider m3 b3)))
+
+pub doubleword_lane : (n0 m0 n1 m1 n2 m2 n3 m3 : ℤ)
+    → FitsSigned w32 n0 → FitsSigned w32 m0 → FitsSigned w32 n1 → FitsSigned w32 m1
+    → FitsSigned w32 n2 → FitsSigned w32 m2 → FitsSigned w32 n3 → FitsSigned w32 m3
+    → to_z w64 (sum w64 (sum w64 (product w64 w32 n0 m0) (product w64 w32 n1 m1)) (sum w64 (product w64 w32 n2 m2) (product w64 w32 n3 m3)))
+    ≡ int_wrap w64 ((n0 *ℤ m0 +ℤ n1 *ℤ m1) +ℤ (n2 *ℤ m2 +ℤ n3 *ℤ m3))
+doubleword_lane n0 m0 n1 m1 n2 m2 n3 m3 a0 b0 a1 b1 a2 b2 a3 b3 =
+    added w64 _ _ _ _ (omega arith) (omega arith)
+    (added w64 _ _ _ _ (omega arith) (omega arith) (product_is w64 w32 n0 m0 a0 b0 (longer n0 a0) (longer m0 b0))
+    (product_is w64 w32 n1 m1 a1 b1 (longer n1 a1) (longer m1 b1)))
+    (added w64 _ _ _ _ (omega arith) (omega arith) (product_is w64 w32 n2 m2 a2 b2 (longer n2 a2) (longer m2 b2))
+    (product_is w64 w32 n3 m3 a3 b3 (longer n3 a3) (longer m3 b3)))
+
+-- the same of a list
+pub word_dot : (n m : List ℤ) → AllFit w16 n → AllFit w16 m → (c j0 j1 j2 j3 : ℕ)
+    → j0 ≡ 4 * c → j1 ≡ 4 * c + 1 → j2 ≡ 4 * c + 2 → j3 ≡ 4 * c + 3
+    → to_z w32 (sum w32 (sum w32 (product w32 w16 (number n 0) (number m j0)) (product w32 w16 (number n 1) (number m j1)))
+    (sum w32 (product w32 w16 (number n 2) (number m j2)) (product w32 w16 (number n 3) (number m j3))))
+    ≡ int_wrap w32 (dot_at n m c)
+unfolding dot_at
+word_dot n m a b c j0 j1 j2 j3 e0 e1 e2 e3 =
+    rw (e0, e1, e2, e3) (word_lane (number n 0) (number m (4 * c)) (number n 1) (number m (4 * c + 1)) (number n 2) (number m (4 * c + 2)) (number n 3) (number m (4 * c + 3))
+    (a 0) (b (4 * c)) (a 1) (b (4 * c + 1)) (a 2) (b (4 * c + 2)) (a 3) (b (4 * c + 3)))
+
+pub doubleword_dot : (n m : List ℤ) → AllFit w32 n → AllFit w32 m → (c j0 j1 j2 j3 : ℕ)
+    → j0 ≡ 4 * c → j1 ≡ 4 * c + 1 → j2 ≡ 4 * c + 2 → j3 ≡ 4 * c + 3
+    → to_z w64 (sum w64 (sum w64 (product w64 w32 (number n 0) (number m j0)) (product w64 w32 (number n 1) (number m j1)))
+    (sum w64 (product w64 w32 (number n 2) (number m j2)) (product w64 w32 (number n 3) (number m j3))))
+    ≡ int_wrap w64 (dot_at n m c)
+unfolding dot_at
+doubleword_dot n m a b c j0 j1 j2 j3 e0 e1 e2 e3 =
+    rw (e0, e1, e2, e3) (doubleword_lane (number n 0) (number m (4 * c)) (number n 1) (number m (4 * c + 1)) (number n 2) (number m (4 * c + 2)) (number n 3) (number m (4 * c + 3))
+    (a 0) (b (4 * c)) (a 1) (b (4 * c + 1)) (a 2) (b (4 * c + 2)) (a 3) (b (4 * c + 3)))
+
+pub two_lanes : {A : Type 0} → {a b c d : A} → a ≡ c → b ≡ d → a ∷ b ∷ [] ≡ c ∷ d ∷ []
+two_lanes first second = λ i. first i ∷ second i ∷ []
+
+pub four_lanes : {A : Type 0} → {a b c d e f g h : A} → a ≡ e → b ≡ f → c ≡ g → d ≡ h → a ∷ b ∷ c ∷ d ∷ [] ≡ e ∷ f ∷ g ∷ h ∷ []
+four_lanes first second third fourth = λ i. first i ∷ second i ∷ third i ∷ fourth i ∷ []
+
+pub four_fit : (w : Width) (xs : List ℤ) (r : ℕ) → AllFit w xs → FitsSigned w (pos 0) → AllFit w (four_of xs r)
+four_fit w xs r fit none zero = fit (4 * r)
+four_fit w xs r fit none (suc zero) = fit (4 * r + 1)
+four_fit w xs r fit none (suc (suc zero)) = fit (4 * r + 2)
+four_fit w xs r fit none (suc (suc (suc zero))) = fit (4 * r + 3)
+four_fit w xs r fit none (suc (suc (suc (suc k)))) = none
+
+-- a lane that is read as a number
+pub read_lane : (w : Width) (x z : ℤ) → x ≡ int_wrap w z → to_z w (of_z w x) ≡ int_wrap w z
+read_lane w x z is = ap (λ k. to_z w (of_z w k)) is ∙ to_z-of_z w (int_wrap w z) (SFits-int_wrap w z)
+
+-- four numbers of a list, as they are read
+pub read_four : (w : Width) (n : List ℤ) (r : ℕ) → AllFit w n
+    → to_z w (of_z w (number n (4 * r))) ∷ to_z w (of_z w (number n (4 * r + 1)))
+    ∷ to_z w (of_z w (number n (4 * r + 2))) ∷ to_z w (of_z w (number n (4 * r + 3))) ∷ [] ≡ four_of n r
+read_four w n r fit =
+    four_lanes (to_z-of_z w _ (fit (4 * r))) (to_z-of_z w _ (fit (4 * r + 1))) (to_z-of_z w _ (fit (4 * r + 2))) (to_z-of_z w _ (fit (4 * r + 3)))

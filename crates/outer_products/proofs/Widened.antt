@@ -1,0 +1,60 @@
+-- The numbers of a source's elements.
+use Rattle.std.proofs.Common.{◌≡◌, ℕ, ◌+◌, ◌/◌, ◌<◌, ◌≤◌, List, [], ◌∷◌, ◌++◌, length, take, ap, ap₂, ◌∙◌, sym, arith, inl, inr, subst}
+use Rattle.std.proofs.Common.{Bool, ℤ, pos}
+use Rattle.std.specs.Prelude.{FitsSigned}
+use Rattle.std.proofs.Math.ListN.{set}
+use Rattle.std.proofs.Math.Nat.{mul-div_cancel_left}
+use Rattle.std.proofs.lemmas.Bool.{cases_lt}
+use Rattle.std.proofs.lemmas.Grind.{common_steps}
+use Rattle.std.proofs.lemmas.List.{take_more_set, get_or_past}
+use Rattle.vector_elements.specs.declared.size.Size.{Size}
+use Rattle.vector_elements.specs.Elements.{listed, element_of, each_element}
+use Rattle.vector_elements.specs.Numbers.{bytes_in, range_of}
+use Rattle.vector_elements.proofs.Lists.{length-listed, length-written, listed-next, some_bytes}
+use Rattle.za_array.proofs.Places.{listed-at}
+use Rattle.outer_products.specs.OuterProducts.{Source}
+use Rattle.outer_products.specs.Sources.{negated, number_at, numbers_of, number, AllFit}
+use Rattle.outer_products.proofs.Numbers.{IsWithin, number_within, negated_within}
+use Rattle.outer_products.proofs.Active.{AreBytes, element_fits, values_of, active_number, active_bytes, active_is}
+use mir.Syntax.{Width}
+
+-- one number further
+pub written_to : (f : ℕ → ℤ) (out : List ℤ) (i : ℕ) (x : ℤ) → i < length out → take i out ≡ listed f i → x ≡ f i
+    → take (i + 1) (set out i x) ≡ listed f (i + 1)
+written_to f out i x inside so_far is =
+    take_more_set out i x inside ∙ ap₂ (λ t y. t ++ y ∷ []) so_far is ∙ sym (listed-next f i)
+
+-- all of them
+pub all_written : (f : ℕ → ℤ) (out : List ℤ) (n i : ℕ) → length out ≡ i → i ≡ n → take i out ≡ listed f i → out ≡ listed f n
+all_written f out n i end count so_far =
+    let all : take i out ≡ out = grind (arith, common_steps) in
+    sym all ∙ so_far ∙ ap (listed f) count
+
+-- each number fits
+pub numbers_fit : (size : Size) (w : Width) → ((z : ℤ) → IsWithin (range_of size) z → FitsSigned w z) → FitsSigned w (pos 0)
+    → (signed negative : Bool) (bytes : List ℕ) → AreBytes bytes → AllFit w (numbers_of size signed negative bytes)
+numbers_fit size w fits none signed negative bytes are k =
+    let f = number_at size signed negative bytes in
+    let n = length bytes / bytes_in size in
+    let x = element_of (bytes_in size) bytes k in
+    elim (cases_lt k n) [
+      | inl below ↦
+          let small = subst (λ m. x < m) (values_of size) (element_fits (bytes_in size) bytes k are) in
+          subst (FitsSigned w) (sym (listed-at f n k (pos 0) below)) (fits (f k) (negated_within negative _ _ (number_within signed size x small)))
+      | inr past ↦ subst (FitsSigned w) (sym (get_or_past (listed f n) k (pos 0) (subst (λ m. m ≤ k) (sym (length-listed f n)) past))) none
+    ]
+
+module _ (size : Size) (negative : Bool) (s : Source) (bytes : AreBytes s.vector) where
+  active_count : length (active_bytes size s bytes) / bytes_in size ≡ length s.vector / bytes_in size
+  unfolding each_element
+  active_count =
+      ap (λ k. k / bytes_in size) (length-written (bytes_in size) _ (length s.vector / bytes_in size))
+      ∙ mul-div_cancel_left (length s.vector / bytes_in size) (some_bytes size)
+
+  -- number i is that of the element, or zero where it is not active
+  pub read_number : (i : ℕ) → i < length s.vector / bytes_in size
+      → number (numbers_of size s.signed negative (active_bytes size s bytes)) i ≡ negated negative (active_number size s i)
+  read_number i below =
+      listed-at (number_at size s.signed negative (active_bytes size s bytes)) (length (active_bytes size s bytes) / bytes_in size) i (pos 0)
+      (subst (λ n. i < n) (sym active_count) below)
+      ∙ ap (negated negative) (active_is size s bytes i below)

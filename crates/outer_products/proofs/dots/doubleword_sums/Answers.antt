@@ -1,0 +1,10 @@
+use Rattle.std.proofs.Common.{arith}
+use Rattle.outer_products.proofs.Lanes.{doubleword_dot, two_lanes}
+use Rattle.outer_products.proofs.dots.doubleword_sums.Goals as goal
+
+pub returns : goal.returns
+returns c =
+    let dot = doubleword_dot c.args.n c.args.m.now c.requires.n_fit c.requires.m_fit in
+    two_lanes
+    (dot _ _ _ _ _ (omega arith) (omega arith) (omega arith) (omega arith))
+    (dot _ _ _ _ _ (omega arith) (omega arith) (omega arith) (omega arith))
