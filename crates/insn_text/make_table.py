@@ -1,6 +1,6 @@
 #!/usr/bin/env python3
 """Writes what follows from src/texts.rt: the shapes by their bits, the places of their texts, their operands as lists, which shapes a word's
-top byte may have (src/shapes.rt, items.rt, printed.rt), the names (src/names.rt) and the slots of names and words in asm_tokens.
+top byte may have (src/shapes.rt with its two lists, items.rt, printed.rt), the names (src/names.rt) and the slots of names and words in asm_tokens.
 
 It reads the rows and the fields of a64_table and the operands of src/operands.rt, and expands the macros of src/texts.rt. Nothing rests on it:
 `shapes_are_texts` says that each shape is its text, in the order of names and then of the texts.
@@ -42,9 +42,10 @@ def number(text):
 
 for name, body in re.findall(r"const (\w+): Field = Field \{(.*?)\};", SOURCE, re.S):
     FIELDS[name] = {key: number(text) for key, text in re.findall(r"(\w+): ([^,}]+)", body)}
-OPERANDS = dict(re.findall(r"\((\w+)\) => \{ operand_of!\((?:Kind::\w+(?: \{.*?\}|\(.*?\))?|\w+), ([\w!():]+?)(?:, \w+)?\) \};", SOURCE.replace("scalar_fields::", "")))
+OPERANDS = dict(re.findall(r"\((\w+)\) => \{\s+operand_of!\((?:Kind::\w+(?: \{.*?\}|\(.*?\))?|\w+), ([\w!():]+?)(?:, \w+)?\)\s+\};",
+                           SOURCE.replace("scalar_fields::", "")))
 SCALAR_OPERANDS = set(OPERANDS)
-OPERANDS |= dict(re.findall(r"\((\w+)\) => \{ (\w+!\(.*\)) \};", VECTOR_SOURCE.replace("scalar_fields::", "")))
+OPERANDS |= dict(re.findall(r"\((\w+)\) => \{\s+(\w+!\(.*\))\s+\};", VECTOR_SOURCE.replace("scalar_fields::", "")))
 
 
 def by_size(name, size, width):
@@ -164,6 +165,18 @@ def lines_of(words):
     return [*lines[:-1], lines[-1] + ";"]
 
 
+def list_lines(key, first):
+    """The line of a list of operands with its place, or the lines of at most 110 columns."""
+    line, (*words, last) = "   ", key
+    lines = []
+    for word in [*words, f"{last}; // {first}"]:
+        if len(line) + 1 + len(word) > 110:
+            lines.append(line)
+            line = "       "
+        line += " " + word
+    return [*lines, line]
+
+
 def hash_of(text, size):
     h = 0
     for c in text.encode():
@@ -220,16 +233,25 @@ def main():
           "pub(crate) use place;", "", "/// The operands of texts, each once.", f"pub static OPERANDS: [Item; {len(OPERANDS)}] = items! {{", *lines_of(OPERANDS), "};")
     write(src / "items.rt", f"//! The operands of the shapes, {by}them.", *heads,
           *[line for of, ident in (("Scalar", "ITEMS"), ("Vector", "VECTOR_ITEMS"), ("Matrix", "MATRIX_ITEMS"))
-            for line in (f"/// The operands of the shapes of `ItemList::{of}`, one list after another: each line is a list, and the number beside it is its place.",
+            for line in (f"/// The operands of the shapes of `ItemList::{of}`, one list after another; beside a list is its place.",
                          f"pub static {ident}: [Item; {len(flat[of])}] = items! {{",
-                         *[f"    {' '.join(key)}; // {first}" for key, (own, first) in lists.items() if key and own == of], "};", "")])
-    write(src / "shapes.rt", f"//! The shapes of the instructions' texts, {by}them from those of texts.rt.", "use crate::item::{ItemList, Shape};", "",
-          "macro_rules! shapes {", "    ($($mask:literal $value:literal $name:literal $list:ident $first:literal $count:literal $alias:literal;)*) => {",
-          "        [$(Shape {", "            mask: $mask, value: $value, name: $name,",
+                         *[line for key, (own, first) in lists.items() if key and own == of for line in list_lines(key, first)], "};", "")])
+    first = next(k for k, s in enumerate(shapes) if ordered[s[2]] >= "m")
+    shape_lines = [f"            0x{m:08X} 0x{v:08X} {n} {of} {f} {c} {str(a).lower()}; // {ordered[n]}" for m, v, n, of, f, c, a in shapes]
+    for name, letters, part in (("a_to_l", "a to l", shape_lines[:first]), ("m_to_z", "m to z", shape_lines[first:])):
+        write(src / f"shapes_{name}.rt", f"//! The shapes of the names from {letters}, {by}them.", "",
+              "// Writes a table with the lines given and those of these shapes, by name: mask, value, the place of the",
+              "// name, the list and the place of the operands and their number, and whether the shape is an alias.",
+              f"macro_rules! shapes_{name} {{", "    ($table:ident { $($lines:tt)* }) => {", "        $table! {", "            $($lines)*", *part, "        }", "    };", "}", "",
+              f"pub(crate) use shapes_{name};")
+    write(src / "shapes.rt", f"//! The shapes of the instructions' texts, {by}them from those of texts.rt.", "use crate::item::{ItemList, Shape};",
+          "use crate::shapes_a_to_l::shapes_a_to_l;", "use crate::shapes_m_to_z::shapes_m_to_z;", "",
+          "macro_rules! shapes {", "    ($(", "        $mask:literal $value:literal $name:literal $list:ident $first:literal $count:literal $alias:literal;",
+          "    )*) => {", "        [$(Shape {", "            mask: $mask, value: $value, name: $name,",
           "            list: ItemList::$list, first: $first, count: $count, alias: $alias,", "        }),*]", "    };", "}", "",
-          "/// The shapes, by name: mask, value, the place of the name, the list and the place of the operands and their number, and whether it is an alias.",
-          f"pub static SHAPES: [Shape; {len(shapes)}] = shapes! {{",
-          *[f"    0x{m:08X} 0x{v:08X} {n} {of} {f} {c} {str(a).lower()}; // {ordered[n]}" for m, v, n, of, f, c, a in shapes], "};", "",
+          "// The shapes of the names from m on, after the lines given.", "macro_rules! shapes_to_z {", "    ($($lines:tt)*) => { shapes_m_to_z! { shapes { $($lines)* } } };", "}", "",
+          "/// The shapes of the texts, by name.",
+          f"pub static SHAPES: [Shape; {len(shapes)}] = shapes_a_to_l! {{ shapes_to_z {{}} }};", "",
           "/// The places of their texts, the lists of texts.rt one after another.", f"pub static ORDER: [u16; {len(order)}] = [", *numbers(order), "];", "",
           "/// Where the shapes of each name begin, and the end.", f"pub static STARTS: [u16; {len(starts)}] = [", *numbers(starts), "];")
     write(src / "printed.rt", f"//! Which shapes the words of each top byte may have, {by}them.", "",

@@ -68,7 +68,8 @@ module _ (source : List ℕ) (short : nat_lt 67108864 (length source) ≡ false)
           (said_lines (lines_of source)) ≡ Some fault → asm_fault source ≡ Some fault
       target_fault_is fault e = said_is ∙ faulty_target (said_lines (lines_of source)) fault e
 
-      pub no_start_is : targets_fault 1 (text_length_of (said_lines (lines_of source))) (labels_of (said_lines (lines_of source))) first_place
+      pub no_start_is : targets_fault 1 (text_length_of (said_lines (lines_of source)))
+          (labels_of (said_lines (lines_of source))) first_place
           (said_lines (lines_of source)) ≡ None
           → start_of (text_length_of (said_lines (lines_of source))) (labels_of (said_lines (lines_of source))) ≡ None
           → asm_fault source ≡ Some NoStart

@@ -189,7 +189,8 @@ module _ (T : ℕ) (L : List Label) where
             (subst (λ (p : Place). Puts T L (bytes_in new.parts p.part) p line.says) h.place now))
             k (omega arith);
         symbols =
-            ap₂ (λ (p : Place) (c : Option Bool). map symbol_said new.parts.symbols.items ++ symbols_from T p c (said_lines texts)) place code
+            ap₂ (λ (p : Place) (c : Option Bool). map symbol_said new.parts.symbols.items
+            ++ symbols_from T p c (said_lines texts)) place code
             ∙ symbols_next old.place old.code line (said_lines texts) old.parts new.parts g
             ∙ ap (λ (l : List SourceLine). map symbol_said old.parts.symbols.items ++ symbols_from T old.place old.code l) (sym said)
             ∙ h.symbols;

@@ -109,7 +109,8 @@ unfoldable fit_rows : Shape → Bool
 fit_rows s = nat_lt s.value (2 ^ 32) && list_all (fits_rows s) (items_of s)
 
 shapes_fit : list_all fit_rows SHAPES ≡ true
-unfolding items_in items_of is_distance mask_of unit_of immediate_of unit_by has_distance stands_at is_immediate fits_row is_no_vector fits_rows fit_rows
+unfolding items_in items_of is_distance mask_of unit_of immediate_of unit_by has_distance stands_at is_immediate fits_row is_no_vector
+    fits_rows fit_rows
 shapes_fit = refl
 
 -- ---- the shape of a word whose target is named

@@ -110,11 +110,15 @@ fn put_instruction(
     requires near { AreNear addresses.now }
     requires meant { IsMeant word (option_map target_said target.now) }
     ensures ok { (list : List layout.Label) → Knows addresses.now.labels.now list
-        → OnOk result (instruction_fault number addresses.now.text_size list from word (option_map target_said target.now) ≡ None) }
+        → OnOk result (instruction_fault number addresses.now.text_size list from word
+        (option_map target_said target.now) ≡ None) }
     ensures bytes { (list : List layout.Label) → Knows addresses.now.labels.now list
-        → OnOk result (IsWordAfter (assembly.aimed addresses.now.text_size list from word (option_map target_said target.now)) bytes.old.items bytes.new.items) }
+        → OnOk result (IsWordAfter (assembly.aimed addresses.now.text_size list from word
+        (option_map target_said target.now)) bytes.old.items bytes.new.items) }
     ensures err { (list : List layout.Label) → Knows addresses.now.labels.now list
-        → IfErr result (λ fault. fault ≢ AsmFault.Memory → instruction_fault number addresses.now.text_size list from word (option_map target_said target.now) ≡ Some fault) }
+        → IfErr result (λ fault. fault ≢ AsmFault.Memory
+        → instruction_fault number addresses.now.text_size list from word (option_map target_said target.now)
+        ≡ Some fault) }
 {
     let aimed = aim(number, word, from, target, addresses)?;
     put_word(bytes, aimed)
@@ -132,7 +136,8 @@ pub fn put_statement(
     requires align { HasSmallAlign (says_of statement.now) }
     requires has_word { HasWord (says_of statement.now) }
     requires size { length bytes.old.items ≡ layout.here place.now }
-    requires fits { layout.here place.now + layout.size_of (says_of statement.now) (layout.here place.now) ≤ 4194304 }
+    requires fits { layout.here place.now + layout.size_of (says_of statement.now) (layout.here place.now)
+        ≤ 4194304 }
     requires near { AreNear addresses.now }
     ensures ok { (list : List layout.Label) → Knows addresses.now.labels.now list
         → OnOk result (target_fault number addresses.now.text_size list place.now

@@ -62,7 +62,8 @@ fn put_bytes(
     requires align { HasSmallAlign (says_of statement.now) }
     requires has_word { HasWord (says_of statement.now) }
     requires size { length (bytes_in parts.old place.now.part) ≡ layout.here place.now }
-    requires fits { layout.here place.now + layout.size_of (says_of statement.now) (layout.here place.now) ≤ 4194304 }
+    requires fits { layout.here place.now + layout.size_of (says_of statement.now) (layout.here place.now)
+        ≤ 4194304 }
     requires near { AreNear addresses.now }
     ensures ok { (list : List layout.Label) → Knows addresses.now.labels.now list
         → OnOk result (target_fault number addresses.now.text_size list place.now
@@ -70,7 +71,8 @@ fn put_bytes(
     ensures bytes { (list : List layout.Label) → Knows addresses.now.labels.now list
         → OnOk result (Adds addresses.now.text_size list place.now (says_of statement.now)
         (bytes_in parts.old place.now.part) (bytes_in parts.new place.now.part)) }
-    ensures others { OnOk result (bytes_in parts.new (other place.now.part) ≡ bytes_in parts.old (other place.now.part)) }
+    ensures others { OnOk result
+        (bytes_in parts.new (other place.now.part) ≡ bytes_in parts.old (other place.now.part)) }
     ensures symbols { OnOk result (parts.new.symbols ≡ parts.old.symbols) }
     ensures err { (list : List layout.Label) → Knows addresses.now.labels.now list
         → IfErr result (λ fault. fault ≢ AsmFault.Memory
@@ -95,7 +97,8 @@ fn put_line(
     requires align { HasSmallAlign (says_of line.now.statement) }
     requires has_word { HasWord (says_of line.now.statement) }
     requires size { length (bytes_in parts.old place.now.part) ≡ layout.here place.now }
-    requires fits { layout.here place.now + layout.size_of (says_of line.now.statement) (layout.here place.now) ≤ 4194304 }
+    requires fits { layout.here place.now
+        + layout.size_of (says_of line.now.statement) (layout.here place.now) ≤ 4194304 }
     requires near { AreNear addresses.now }
     ensures ok { (list : List layout.Label) → Knows addresses.now.labels.now list
         → OnOk result (target_fault number addresses.now.text_size list place.now

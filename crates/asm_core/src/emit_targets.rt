@@ -113,12 +113,15 @@ pub fn aim(
     requires near { AreNear addresses.now }
     requires meant { IsMeant word (option_map target_said target.now) }
     ensures ok { (list : List layout.Label) → Knows addresses.now.labels.now list
-        → IfOk result (λ aimed. instruction_fault number addresses.now.text_size list from word (option_map target_said target.now) ≡ None) }
+        → IfOk result (λ aimed. instruction_fault number addresses.now.text_size list from word
+        (option_map target_said target.now) ≡ None) }
     ensures value { (list : List layout.Label) → Knows addresses.now.labels.now list
-        → IfOk result (λ aimed. aimed ≡ assembly.aimed addresses.now.text_size list from word (option_map target_said target.now)) }
+        → IfOk result (λ aimed. aimed ≡ assembly.aimed addresses.now.text_size list from word
+        (option_map target_said target.now)) }
     ensures means { IfOk result (λ aimed. is_some (instruction_of aimed) ≡ true) }
     ensures err { (list : List layout.Label) → Knows addresses.now.labels.now list
-        → IfErr result (λ fault. instruction_fault number addresses.now.text_size list from word (option_map target_said target.now) ≡ Some fault) }
+        → IfErr result (λ fault. instruction_fault number addresses.now.text_size list from word
+        (option_map target_said target.now) ≡ Some fault) }
 {
     let Some(target) = target else {
         return Ok(word);

@@ -35,7 +35,8 @@ fn after_line(text: &[u8], size: usize) -> &[u8]
 
 /// The first line of a text, and what follows it; an empty text has none.
 pub fn next_line(text: &[u8]) -> Option<(&[u8], &[u8])>
-    ensures lines { MatchOption result (lines_of text.now ≡ []) (λ x. lines_of text.now ≡ x.0.now ∷ lines_of x.1.now) }
+    ensures lines { MatchOption result (lines_of text.now ≡ [])
+        (λ x. lines_of text.now ≡ x.0.now ∷ lines_of x.1.now) }
     ensures within { MatchOption result (text.now ≡ []) (λ x. (length x.0.now ≤ length text.now)
         × (length x.1.now < length text.now)) }
 {

@@ -73,8 +73,11 @@ fn add_label<'a>(
     label: Option<&'a [u8]>,
     place: &Place,
 ) -> Result<(), AsmFault>
-    ensures ok { (list : List layout.Label) → Knows labels.old list → is_doubled list (option_map (λ name. name.now) label.entry) ≡ false
-        → OnOk result (Knows labels.new (list ++ layout.if_some (option_map (layout.label_at place.now) (option_map (λ name. name.now) label.entry)))) }
+    ensures ok { (list : List layout.Label) → Knows labels.old list
+        → is_doubled list (option_map (λ name. name.now) label.entry) ≡ false
+        → OnOk result (Knows labels.new (list
+        ++ layout.if_some (option_map (layout.label_at place.now)
+        (option_map (λ name. name.now) label.entry)))) }
     ensures err { IfErr result (λ fault. fault ≡ AsmFault.Memory) }
 {
     let Some(name) = label else {
@@ -119,8 +122,10 @@ fn survey_line<'a>(
 /// has one.
 pub fn survey_source<'a>(alloc: Global, source: &'a [u8]) -> Result<Survey<'a>, AsmFault>
     requires { length source.now ≤ 67108864 }
-    ensures accepted { IfOk result (λ survey. lines_fault 1 layout.first_place [] (lines_of source.now) ≡ None) }
-    ensures knows { IfOk result (λ survey. Knows survey.labels (layout.labels_of (said_lines (lines_of source.now)))) }
+    ensures accepted { IfOk result
+        (λ survey. lines_fault 1 layout.first_place [] (lines_of source.now) ≡ None) }
+    ensures knows { IfOk result
+        (λ survey. Knows survey.labels (layout.labels_of (said_lines (lines_of source.now)))) }
     ensures end { IfOk result (λ survey. survey.end
         ≡ layout.place_past layout.first_place (said_lines (lines_of source.now))) }
     ensures limits { IfOk result (λ survey. IsInLimits survey.end) }

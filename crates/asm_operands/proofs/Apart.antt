@@ -167,7 +167,8 @@ last-none last low high place e le lt =
 
 deaf-register : (l : Kind) (bits number : ℕ) (file : RegisterFile) → is_said_by_register file l ≡ false
     → field_said l bits (Register file number) ≡ None
-unfolding is_said_by_register field_said on_mark on_word on_register on_number on_target on_sized on_bare on_pattern register_field slice_field
+unfolding is_said_by_register field_said on_mark on_word on_register on_number on_target on_sized on_bare on_pattern register_field
+    slice_field
 deaf-register (kind.Register wanted last) bits number file e = ap (λ b. cond (b && nat_lt number 31) (Some number) None) e
 deaf-register (kind.Distance scale) bits number file e = cc
 deaf-register kind.SliceRegister bits number file e =
@@ -187,7 +188,8 @@ deaf-word other bits low high place e le lt = refl
 
 -- ---- registers with a size
 sized-none : (file : VectorFile) (low high : ℕ) (wanted : VectorFile) (few first bits number suffix : ℕ)
-    → (not (same_vector_file wanted file) || (nat_le high first || nat_le (first + 2 ^ (bits - few)) low)) ≡ true → low ≤ suffix → suffix < high
+    → (not (same_vector_file wanted file) || (nat_le high first || nat_le (first + 2 ^ (bits - few)) low)) ≡ true
+    → low ≤ suffix → suffix < high
     → sized_field wanted few first bits file number suffix ≡ None
 unfolding sized_field
 sized-none file low high wanted few first bits number suffix e le lt =
@@ -199,17 +201,20 @@ sized-none file low high wanted few first bits number suffix e le lt =
         | inl above ↦
             let h = leb-true high first above in
             let less : suffix < first = omega arith in
-            ap (λ b. made (same_vector_file wanted file && own && b && nat_lt (suffix - first) (2 ^ (bits - few)))) (gt-leb first suffix less)
+            ap (λ b. made (same_vector_file wanted file && own && b && nat_lt (suffix - first) (2 ^ (bits - few))))
+            (gt-leb first suffix less)
             ∙ ap (λ b. made (b && nat_lt (suffix - first) (2 ^ (bits - few)))) (and_false (same_vector_file wanted file && own))
         | inr below ↦
             let h = leb-true (first + 2 ^ (bits - few)) low below in
             let more : 2 ^ (bits - few) ≤ suffix - first = omega arith in
-            ap (λ b. made (same_vector_file wanted file && own && nat_le first suffix && b)) (le-ltb (suffix - first) (2 ^ (bits - few)) more)
+            ap (λ b. made (same_vector_file wanted file && own && nat_le first suffix && b))
+            (le-ltb (suffix - first) (2 ^ (bits - few)) more)
             ∙ ap made (and_false (same_vector_file wanted file && own && nat_le first suffix))
       ]
     ]
 
-deaf-sized : (l : Kind) (bits low high number suffix : ℕ) (file : VectorFile) → is_apart_from_sized file low high l bits ≡ true → low ≤ suffix
+deaf-sized : (l : Kind) (bits low high number suffix : ℕ) (file : VectorFile)
+    → is_apart_from_sized file low high l bits ≡ true → low ≤ suffix
     → suffix < high → field_said l bits (Sized file number suffix) ≡ None
 unfolding is_apart_from_sized field_said on_mark on_word on_register on_number on_target on_sized on_bare on_pattern
 deaf-sized (kind.Sized wanted few first) bits low high number suffix file e le lt =
@@ -271,7 +276,8 @@ apart [] (j ∷ js) = true
 apart (i ∷ is) [] = true
 apart (i ∷ is) (j ∷ js) = kinds_apart i.kind (bits_of i) j.kind (bits_of j) || apart is js
 
-after-none : (i j : Item) (w : ℕ) (known : Known) → is_printed_item i ≡ true → is_sayable w i ≡ true → kinds_apart i.kind (bits_of i) j.kind (bits_of j) ≡ true
+after-none : (i j : Item) (w : ℕ) (known : Known) → is_printed_item i ≡ true → is_sayable w i ≡ true
+    → kinds_apart i.kind (bits_of i) j.kind (bits_of j) ≡ true
     → known_after j known (item_token w i) ≡ None
 unfolding known_after known_with item_token is_printed_item is_sayable
 after-none i j w known p e a =

@@ -358,7 +358,8 @@ unfoldable pub is_open : Shape → Bool
 is_open s = (bit_and s.value s.mask == s.value) && goes_through (items_of s) s.mask
 
 open_failing : failing is_open 0 SHAPES ≡ []
-unfolding failing items_in items_of fields.mask_of has_word is_register is_register_at has_choice says_each is_new is_repeated is_next goes_through is_open
+unfolding failing items_in items_of fields.mask_of has_word is_register is_register_at has_choice says_each is_new is_repeated is_next
+    goes_through is_open
 open_failing = refl
 
 all_open : list_all is_open SHAPES ≡ true
@@ -442,7 +443,8 @@ choose_number BaseApart i value e n = absurd (no_register i.kind (register_at 5 
 choose_number BasePairApart i value e n = absurd (no_register i.kind (register_at 5 i e).register n)
 choose_number OffsetGiven i value e n = absurd (no_register i.kind (register_at 16 i e).register n)
 
-number_step : (i : Item) (known : Known) → is_next i known.mask ≡ true → IsWithin known → is_number_kind i.kind ≡ true → IsNumberStep i known
+number_step : (i : Item) (known : Known) → is_next i known.mask ≡ true → IsWithin known → is_number_kind i.kind ≡ true
+    → IsNumberStep i known
 unfolding is_next is_new is_repeated IsWithin known_token
 number_step i known e w n =
     let p = and_parts (bit_and (upper_mask i) (lower_mask i) == 0) (is_new i known.mask || is_repeated i) e in

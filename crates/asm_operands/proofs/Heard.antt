@@ -140,7 +140,8 @@ sized_back file few first bits field le lt =
     ap (λ n. cond (same_vector_file file file && nat_lt (field % 2 ^ few) (2 ^ few) && nat_le first suffix
     && nat_lt n (2 ^ (bits - few))) (Some (n * 2 ^ few + field % 2 ^ few)) None) back
     ∙ ap (λ b. cond b (Some (field / 2 ^ few * 2 ^ few + field % 2 ^ few)) None)
-    (both_true _ _ (both_true _ _ (both_true _ _ (own_vector_file file) (lt-ltb (field % 2 ^ few) (2 ^ few) p.low)) (le-leb first suffix from))
+    (both_true _ _
+    (both_true _ _ (both_true _ _ (own_vector_file file) (lt-ltb (field % 2 ^ few) (2 ^ few) p.low)) (le-leb first suffix from))
     (lt-ltb (field / 2 ^ few) (2 ^ (bits - few)) p.high))
     ∙ ap Some p.whole
 
@@ -165,7 +166,8 @@ pattern_word_back first field count e lt back =
     ∙ ap (option_map pattern_after) (word_back first 17 count lt) ∙ ap Some back
 
 pattern_back : (first : ℕ) (field : ℕ) → field < 32
-    → on_pattern (pattern_of_word first) pattern_of_number (cond (is_named_pattern field) (Word (first + pattern_place field)) (Number false field))
+    → on_pattern (pattern_of_word first) pattern_of_number
+    (cond (is_named_pattern field) (Word (first + pattern_place field)) (Number false field))
     ≡ Some field
 unfolding on_pattern pattern_of_number is_named_pattern pattern_place pattern_after
 pattern_back first field lt = elim (cases_lt field 14) [

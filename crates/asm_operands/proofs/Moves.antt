@@ -182,7 +182,8 @@ by_number wide register (Some n) =
 
 wide_moves : (negative : Bool) (register size : ℕ) → register < 31
     → first_word MOV (move_tokens true register negative size) ≡ said_as true register (immediate_of true negative size)
-unfolding first_word word_in taken known_after known_with items_in items_of shapes_of place_of text_in fixed fields.mask_of field_said on_register on_number on_word register_field same_file IsWithin
+unfolding first_word word_in taken known_after known_with items_in items_of shapes_of place_of text_in fixed fields.mask_of field_said
+    on_register on_number on_word register_field same_file IsWithin
 wide_moves negative register size lt =
     let ts = move_tokens true register negative size in
     skip (at 0) (after 1) ts _
@@ -208,7 +209,8 @@ wide_moves negative register size lt =
 
 narrow_moves : (negative : Bool) (register size : ℕ) → register < 31
     → first_word MOV (move_tokens false register negative size) ≡ said_as false register (immediate_of false negative size)
-unfolding first_word word_in taken known_after known_with items_in items_of shapes_of place_of text_in fixed fields.mask_of field_said on_register on_number on_word register_field same_file IsWithin
+unfolding first_word word_in taken known_after known_with items_in items_of shapes_of place_of text_in fixed fields.mask_of field_said
+    on_register on_number on_word register_field same_file IsWithin
 narrow_moves negative register size lt =
     let ts = move_tokens false register negative size in
     skip (at 0) (after 1) ts _ refl

@@ -48,7 +48,9 @@ unfoldable pub name_apart : ℕ → Bool
 name_apart name = are_apart (shapes_of name)
 
 apart_failing : failing_below name_apart (length NAMES) ≡ []
-unfolding failing_below items_in items_of shapes_of fields.mask_of has_register covers is_printed_kind is_printed_item says_rest is_said_by_mark is_said_by_number is_said_by_distance is_said_by_bare same_file same_vector_file file_number is_said_by_register is_apart_from_words is_apart_from_sized kinds_apart apart says_word is_later_apart are_apart name_apart
+unfolding failing_below items_in items_of shapes_of fields.mask_of has_register covers is_printed_kind is_printed_item says_rest
+    is_said_by_mark is_said_by_number is_said_by_distance is_said_by_bare same_file same_vector_file file_number is_said_by_register
+    is_apart_from_words is_apart_from_sized kinds_apart apart says_word is_later_apart are_apart name_apart
 apart_failing = refl
 
 names_apart : all_below name_apart (length NAMES) ≡ true

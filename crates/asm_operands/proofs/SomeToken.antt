@@ -69,7 +69,8 @@ sized_first file few first bits =
     let le : first ≤ first = omega arith in
     let z : first - first ≡ 0 = omega arith in
     let none : 0 * 2 ^ few + 0 ≡ 0 = omega arith in
-    ap₂ (λ a b. cond (a && b && nat_le first first && nat_lt (first - first) (2 ^ (bits - few))) (Some ((first - first) * 2 ^ few + 0)) None)
+    ap₂ (λ a b. cond (a && b && nat_le first first && nat_lt (first - first) (2 ^ (bits - few)))
+    (Some ((first - first) * 2 ^ few + 0)) None)
     (eq-eqb (file_number file) (file_number file) refl) (lt-ltb 0 (2 ^ few) (pow_pos few))
     ∙ ap₂ (λ b n. cond (b && nat_lt n (2 ^ (bits - few))) (Some (n * 2 ^ few + 0)) None) (le-leb first first le) z
     ∙ ap₂ (λ b n. cond b (Some n) None) (lt-ltb 0 (2 ^ (bits - few)) (pow_pos (bits - few))) none
@@ -117,7 +118,8 @@ zero_mask true = 4294967297
 zero_mask false = 1
 
 zero_fields : (wide : Bool) → is_field_of wide (zero_mask wide) 0 ≡ true
-unfolding zero_mask is_field_of mask_in are_mask_fields field_of bit_mask_of is_reserved mask_of_fields highest_one length_of number_of_digits
+unfolding zero_mask is_field_of mask_in are_mask_fields field_of bit_mask_of is_reserved mask_of_fields highest_one length_of
+    number_of_digits
 zero_fields true = refl
 zero_fields false = refl
 
@@ -257,7 +259,8 @@ number_said (kind.SignedMask wide) bits e h =
       field = 0;
       said = ap (option_and_then (mask_field wide)) (immediate_first wide) ∙ mask_first wide;
     }
-number_said (kind.ShiftLeft wide) bits e h = record { token = Number false 0; number = refl; field = no_shift wide; said = shift_first wide }
+number_said (kind.ShiftLeft wide) bits e h =
+    record { token = Number false 0; number = refl; field = no_shift wide; said = shift_first wide }
 number_said (kind.Halfword wide inverted) bits e h =
     record { token = Number inverted (no_bits_size inverted); number = refl; field = 0; said = halfword_first wide inverted }
 number_said k bits e h = cc

@@ -1,5 +1,6 @@
 -- The number of a field that a token of an operand says.
--- Source: DDI 0487, C1.2, C6.2 and C8.2, with the aliases' pages for MOV (immediate), LSL (immediate) and CSET.
+-- Source: DDI 0487, C1.2, C6.2 and C8.2, with the aliases' pages for MOV (immediate), LSL (immediate) and
+-- CSET.
 use Rattle.std.specs.Prelude.{ℕ, ◌+◌, ◌-◌, ◌*◌, ◌/◌, ◌%◌, ◌^◌, Bool, true, false, not, ◌&&◌, ◌==◌, nat_lt}
 use Rattle.std.specs.Prelude.{nat_le, Option, Some, None, if◌then◌else◌, option_and_then, option_map, bit_xor}
 use Rattle.std.specs.List.{find, range_with_len}
@@ -97,7 +98,8 @@ sized_field wanted few first bits file number suffix =
 -- a register from W12 on, by the last bits of its number
 unfoldable pub slice_field : ℕ → RegisterFile → ℕ → Option ℕ
 slice_field bits file number =
-    if same_file W file && nat_le 12 number && nat_lt (number - 12) (2 ^ bits) then Some (number - 12) else None
+    if same_file W file && nat_le 12 number && nat_lt (number - 12) (2 ^ bits)
+    then Some (number - 12) else None
 
 -- a number of so many bits
 unfoldable pub index_field : ℕ → ℕ → Option ℕ

@@ -32,7 +32,8 @@ pub fn first_fault_law()
 
 /// A word whose target is named means an instruction with each distance that its operand holds.
 pub fn any_distance_law()
-    ensures { (name : ℕ) (ts : List Token) (word : ℕ) (target : Target) (back : Bool) (size aimed : ℕ) → operands_said name ts ≡ Says word (Some target)
+    ensures { (name : ℕ) (ts : List Token) (word : ℕ) (target : Target) (back : Bool) (size aimed : ℕ)
+        → operands_said name ts ≡ Says word (Some target)
         → with_distance target.operand word back size ≡ Some aimed → is_some (instruction_of aimed) ≡ true }
 {}
 
@@ -40,12 +41,18 @@ pub fn any_distance_law()
 /// bits inverted, or a mask; of `lsl` the rotation and the highest bit of `ubfm`. `mov` of a number is MOVZ
 /// where that holds the number, else MOVN where that does, else ORR.
 pub fn alias_law()
-    ensures halfword { (wide negative : Bool) (bits size number field : ℕ) → immediate_of wide negative size ≡ Some number
-        → field_said (Halfword wide false) bits (Number negative size) ≡ Some field → halfword_number field ≡ number }
-    ensures inverted { (wide negative : Bool) (bits size number field : ℕ) → immediate_of wide negative size ≡ Some number
-        → field_said (Halfword wide true) bits (Number negative size) ≡ Some field → 2 ^ width_of wide - 1 - halfword_number field ≡ number }
-    ensures mask { (wide negative : Bool) (bits size number field : ℕ) → immediate_of wide negative size ≡ Some number
-        → field_said (SignedMask wide) bits (Number negative size) ≡ Some field → mask_in wide field ≡ Some number }
+    ensures halfword { (wide negative : Bool) (bits size number field : ℕ)
+        → immediate_of wide negative size ≡ Some number
+        → field_said (Halfword wide false) bits (Number negative size) ≡ Some field
+        → halfword_number field ≡ number }
+    ensures inverted { (wide negative : Bool) (bits size number field : ℕ)
+        → immediate_of wide negative size ≡ Some number
+        → field_said (Halfword wide true) bits (Number negative size) ≡ Some field
+        → 2 ^ width_of wide - 1 - halfword_number field ≡ number }
+    ensures mask { (wide negative : Bool) (bits size number field : ℕ)
+        → immediate_of wide negative size ≡ Some number
+        → field_said (SignedMask wide) bits (Number negative size) ≡ Some field
+        → mask_in wide field ≡ Some number }
     ensures shift { (wide negative : Bool) (bits size field : ℕ)
         → field_said (ShiftLeft wide) bits (Number negative size) ≡ Some field
         → IsShiftLeft wide size field }

@@ -178,7 +178,8 @@ module _ (t : Written) (name : ℕ) (named : is_name t.token ≡ true) (listed :
           goes_on = goes;
           stops = stops_here (slice_get xs k) refl r.none_meant;
           why =
-              subst (λ o. IsWhy After (take k xs) (slice_get xs k) (kind_at ss k ts o)) (sym (slice_get-map (λ (u : Written). u.token) xs k))
+              subst (λ o. IsWhy After (take k xs) (slice_get xs k) (kind_at ss k ts o))
+              (sym (slice_get-map (λ (u : Written). u.token) xs k))
               (why_here (slice_get xs k));
         } in
         subst (λ (g : operands.Fault). IsFirstFault After IsMeaning (IsWhy After) xs g.place g.kind) (sym r.fault_is) fault

@@ -42,8 +42,10 @@ module _ (text : List ℕ) (start end : ℕ) (name : List ℕ)
     unfolding label_of label_end
     label-some e =
         let has : has_label text ≡ true = sym label-is ∙ e in
-        let sum : end + 1 ≡ blanks text + length (label_in text) + 1 = omega (arith, blanks-is, ap length label-in) in
-        (ap Some label-in ∙ sym (cond-true (has_label text) (Some (label_in text)) None has), sum ∙ sym (cond-true (has_label text) _ 0 has))
+        let sum : end + 1 ≡ blanks text + length (label_in text) + 1 = omega (arith, blanks-is, ap length label-in) in (
+          ap Some label-in ∙ sym (cond-true (has_label text) (Some (label_in text)) None has),
+          sum ∙ sym (cond-true (has_label text) _ 0 has),
+        )
 
     pub label-none : is_label text name end ≡ false → (None ≡ label_of text) × (0 ≡ label_end text)
     unfolding label_of label_end

@@ -52,7 +52,8 @@ is_good_word place =
     && (not (is_some (register_in (text_at WORDS place))) && not (is_some (sized_in (text_at WORDS place))))
 
 words_good : all_below is_good_word (length WORDS) ≡ true
-unfolding all_below is_good_word is_plain finds place_in text_in is_name_character is_digit register_in register_of file_of sized_in sized_after sized_of begins_za vector_file_of decimal_number digits_in digit_of
+unfolding all_below is_good_word is_plain finds place_in text_in is_name_character is_digit register_in register_of file_of sized_in
+    sized_after sized_of begins_za vector_file_of decimal_number digits_in digit_of
 words_good = refl
 
 unfoldable pub is_good_name : ℕ → Bool
@@ -104,7 +105,8 @@ unfoldable pub is_clean_shape : Shape → Bool
 is_clean_shape s = s.alias || (list_all is_clean_item (items_of s) && are_slashes_apart (kind.Mark 44) (items_of s))
 
 clean_failing : failing is_clean_shape 0 SHAPES ≡ []
-unfolding failing is_clean_shape items_in items_of is_clean_item is_clean_kind is_clean_sized file_size has_suffix is_clean_mark is_slash are_slashes_apart is_name_character is_digit is_blank
+unfolding failing is_clean_shape items_in items_of is_clean_item is_clean_kind is_clean_sized file_size has_suffix is_clean_mark is_slash
+    are_slashes_apart is_name_character is_digit is_blank
 clean_failing = refl
 
 pub shapes_clean : list_all is_clean_shape SHAPES ≡ true
@@ -374,7 +376,8 @@ unfolding gap
 slash-gap k j e =
     let m = slash-is_mark k e in ap₂ (λ a b. cond (a || (not b && not (is_mark j))) (32 ∷ []) []) m.1 m.0
 
-plain-first : (xs ys : List ℕ) (first : ℕ) (others : List ℕ) → xs ≡ first ∷ others → list_all no_slash xs ≡ true → begins_slash (xs ++ ys) ≡ false
+plain-first : (xs ys : List ℕ) (first : ℕ) (others : List ℕ) → xs ≡ first ∷ others → list_all no_slash xs ≡ true
+    → begins_slash (xs ++ ys) ≡ false
 unfolding begins_slash
 plain-first [] ys first others w a = cc
 plain-first (x ∷ xs) ys first others w a = not-true (x == 47) (and_parts (no_slash x) (list_all no_slash xs) a).0
@@ -392,10 +395,12 @@ module _ (word : ℕ) where
       let text = item_text word i in
       let from = at + length (gap k i.kind) in
       ap tokens_of (gap-skipped at k i.kind (text ++ rest))
-      ∙ ap tokens_of (lexemes-read (is_slash i.kind) text rest (item_token word i) from (item-read word i rest p.0 q.0 (opens-after word i.kind is p.1)))
+      ∙ ap tokens_of (lexemes-read (is_slash i.kind) text rest (item_token word i) from
+      (item-read word i rest p.0 q.0 (opens-after word i.kind is p.1)))
       ∙ ap (λ ts. item_token word i ∷ ts) (items-read is i.kind (from + length text) p.1 q.1)
 
-  module _ (i : Item) (is : List Item) (clean : list_all is_clean_item (i ∷ is) ≡ true) (sayable : list_all (is_sayable word) (i ∷ is) ≡ true) where
+  module _ (i : Item) (is : List Item) (clean : list_all is_clean_item (i ∷ is) ≡ true)
+      (sayable : list_all (is_sayable word) (i ∷ is) ≡ true) where
     first-read : IsRead (is_slash i.kind) (item_text word i) (items_text word i.kind is) (item_token word i)
     first-read =
         let p = and_parts (is_clean_item i) (list_all is_clean_item is) clean in

@@ -143,7 +143,8 @@ module _ (word : ℕ) (it : Insn) (lt : word < 2 ^ 32) (p : IsPrinted word) (mea
   unfolding is_good_name
   good =
       let q =
-      and_parts (is_plain name) (finds place (place_in NAMES name)) (all_below-at is_good_name (length NAMES) place names_good (own-name word p)) in
+      and_parts (is_plain name) (finds place (place_in NAMES name))
+      (all_below-at is_good_name (length NAMES) place names_good (own-name word p)) in
       (q.0, finds-true place _ q.1)
 
   opens-rest : opens rest ≡ true

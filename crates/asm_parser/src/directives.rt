@@ -80,8 +80,10 @@ pub fn directive_says<'a>(
 ) -> Result<Statement<'a>, Stop>
     requires within { at ≤ length text.now }
     requires part { length text.now ≤ length line.now }
-    ensures said { Shows says_of result (said_from (directive_says line.now (directive_said directive)) text.now at) }
-    ensures memory { IfErr result (λ stop. stop ≡ Stop.Memory → is_of_list (directive_said directive) ≡ true) }
+    ensures said { Shows says_of result
+        (said_from (directive_says line.now (directive_said directive)) text.now at) }
+    ensures memory { IfErr result
+        (λ stop. stop ≡ Stop.Memory → is_of_list (directive_said directive) ≡ true) }
 {
     match directive {
         Directive::Text => {

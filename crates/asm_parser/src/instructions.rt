@@ -75,8 +75,8 @@ fn target_at<'a>(
 
 fn stop_at(text: &[u8], at: usize, fault: OperandFault) -> Stop
     requires { at ≤ length text.now }
-    ensures { result ≡ Stop.Fault (option_map (λ l. l.start) (slice_get (lexemes_from text.now at) fault.place))
-        fault.kind }
+    ensures { result ≡ Stop.Fault
+        (option_map (λ l. l.start) (slice_get (lexemes_from text.now at) fault.place)) fault.kind }
 {
     match lexeme_after(text, at, fault.place) {
         None => Stop::Fault {
@@ -101,8 +101,8 @@ pub fn instruction_says<'a>(
     requires short { length line.now < 2 ^ 32 - 1 }
     requires within { at ≤ length text.now }
     requires part { length text.now ≤ length line.now }
-    ensures said { Shows says_of result (said_from (instruction_says line.now name (column_at line.now start)) text.now
-        at) }
+    ensures said { Shows says_of result
+        (said_from (instruction_says line.now name (column_at line.now start)) text.now at) }
     ensures memory { IfErr result (λ stop. stop ≢ Stop.Memory) }
 {
     let tokens = first_tokens(text, at);

@@ -20,6 +20,6 @@ pub fn printed_is_read()
 pub fn lines_are_the_grammar()
     ensures says { (line : List ℕ) (said : SourceLine) → (line_of line ≡ Ok said) ↔ IsLine line said }
     ensures fault { (line : List ℕ) (fault : LineFault) → (line_of line ≡ Err fault) ↔ IsFaultOf line fault }
-    ensures label { (text name rest : List ℕ) → ((label_of text ≡ Some name) × (drop (label_end text) text ≡ rest)) ↔
-        IsLabelled name text rest }
+    ensures label { (text name rest : List ℕ)
+        → ((label_of text ≡ Some name) × (drop (label_end text) text ≡ rest)) ↔ IsLabelled name text rest }
 {}

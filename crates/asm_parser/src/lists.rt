@@ -161,7 +161,8 @@ fn value_at<'a, T: Listed<'a>>(line: &'a [u8], text: &[u8], at: usize) -> Result
         ≡ before (T.seen r.0 ∷ []) (said_from (values_from (T.value_in line.now) false) text.now r.1)) }
     ensures further { IfOk result (λ r. at < r.1) }
     ensures within { IfOk result (λ r. r.1 ≤ length text.now) }
-    ensures err { IfErr result (λ stop. said_from (values_from (T.value_in line.now) true) text.now at ≡ Err stop) }
+    ensures err { IfErr result
+        (λ stop. said_from (values_from (T.value_in line.now) true) text.now at ≡ Err stop) }
 {
     match next_lexeme(text, at) {
         None => Err(Stop::Fault {
@@ -184,8 +185,8 @@ pub fn values<'a, T: Listed<'a>>(
 ) -> Result<Vec<T>, Stop>
     requires within { at ≤ length text.now }
     requires part { length text.now ≤ length line.now }
-    ensures { Shows (λ values. map T.seen values.items) result (said_from (values_from (T.value_in line.now) true)
-        text.now at) }
+    ensures { Shows (λ values. map T.seen values.items) result
+        (said_from (values_from (T.value_in line.now) true) text.now at) }
 {
     let mut values = Vec::new(alloc);
     let mut from = at;

@@ -26,7 +26,8 @@ fn named_says<'a>(
     requires part { text.now ≡ before_comment line.now }
     requires name { begins_name (drop start text.now) ≡ true }
     ensures said { Shows says_of result (said_from (tokens_say line.now) text.now start) }
-    ensures memory { IfErr result (λ stop. stop ≡ Stop.Memory → begin_list line.now (lexemes_from text.now start) ≡ true) }
+    ensures memory { IfErr result
+        (λ stop. stop ≡ Stop.Memory → begin_list line.now (lexemes_from text.now start) ≡ true) }
 {
     let name = run_at(text, start);
     let at = start + name.len();
@@ -53,7 +54,8 @@ pub fn tokens_say<'a>(
     requires within { at ≤ length text.now }
     requires part { text.now ≡ before_comment line.now }
     ensures said { Shows says_of result (said_from (tokens_say line.now) text.now at) }
-    ensures memory { IfErr result (λ stop. stop ≡ Stop.Memory → begin_list line.now (lexemes_from text.now at) ≡ true) }
+    ensures memory { IfErr result
+        (λ stop. stop ≡ Stop.Memory → begin_list line.now (lexemes_from text.now at) ≡ true) }
 {
     let start = skip_blanks(text, at);
     if start == text.len() {

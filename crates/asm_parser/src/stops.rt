@@ -32,8 +32,8 @@ pub fn is_comma(token: Token) -> bool
 
 /// The token is not the number that is to stand there.
 pub fn no_number(lexeme: Lexeme) -> Stop
-    ensures { result ≡ Stop.Fault (Some lexeme.start) (if is_number_token lexeme.token then FaultKind.BadNumber
-        else FaultKind.BadOperand) }
+    ensures { result ≡ Stop.Fault (Some lexeme.start)
+        (if is_number_token lexeme.token then FaultKind.BadNumber else FaultKind.BadOperand) }
 {
     let kind = if is_number(lexeme.token) {
         FaultKind::BadNumber

@@ -267,7 +267,8 @@ fn read_run(text: &[u8], start: usize) -> Lexeme
 #[tactic(auto, using(crate::proofs::Steps::joined_drops), unfolding(crate::specs::Tokens::read_character))]
 fn read_character(text: &[u8], start: usize) -> Lexeme
     requires { start < length text.now }
-    ensures value { result ≡ lexeme_at start (read_character (slice_index text.now start) (drop (start + 1) text.now)) }
+    ensures value { result ≡ lexeme_at start
+        (read_character (slice_index text.now start) (drop (start + 1) text.now)) }
     ensures within { result.end ≤ length text.now }
 {
     if text[start] < 128 {
@@ -298,7 +299,8 @@ fn has_sign(text: &[u8], at: usize) -> bool
 #[tactic(auto, using(crate::proofs::Steps::joined_drops), unfolding(crate::specs::Tokens::read_token))]
 fn lexeme_at(text: &[u8], start: usize) -> Lexeme
     requires { start < length text.now }
-    ensures value { result ≡ lexeme_at start (read_token (slice_index text.now start) (drop (start + 1) text.now)) }
+    ensures value { result ≡ lexeme_at start
+        (read_token (slice_index text.now start) (drop (start + 1) text.now)) }
     ensures within { result.end ≤ length text.now }
 {
     let c = text[start];

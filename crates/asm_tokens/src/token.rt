@@ -12,8 +12,8 @@ pub enum Token {
         file: RegisterFile,
         number: u8,
     },
-    /// A name that is a register of vectors, predicates or ZA: the letters of a file, a number, which the file
-    /// has, and a suffix, its place in `insn_text::SUFFIXES`.
+    /// A name that is a register of vectors, predicates or ZA: the letters of a file, a number, which the
+    /// file has, and a suffix, its place in `insn_text::SUFFIXES`.
     Sized {
         file: VectorFile,
         number: u8,

@@ -25,7 +25,9 @@ unfoldable pub row_printed : Line Operation → Bool
 row_printed r = covers (ends r.operation) (says r.operation) 1000 r.mask r.value (kept r.mask r.value SHAPES)
 
 rows_printed : list_all row_printed SCALAR_LINES ≡ true
-unfolding row_printed highest_one field_of bit_of items_in items_of is_apart is_inside free_bit covers_at covers keep_unless kept same fixed ends is_field has_three_shifts has_amounts has_masks accesses_one loads_two writes_two sizes is_mask_field says_kind says_rule says_item says
+unfolding row_printed highest_one field_of bit_of items_in items_of is_apart is_inside free_bit covers_at covers keep_unless kept same fixed
+    ends is_field has_three_shifts has_amounts has_masks accesses_one loads_two writes_two sizes is_mask_field says_kind says_rule says_item
+    says
 rows_printed = refl
 
 row-printed : (word : ℕ) (r : Line Operation) → bit_and word r.mask ≡ r.value → fits_of r.operation (numbers_in word) ≡ true

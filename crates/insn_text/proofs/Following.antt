@@ -13,7 +13,10 @@ use Rattle.insn_text.specs.Wordings.{is_of_line, flag, vector_text_at, file_numb
 use Rattle.insn_text.specs.Wordings.{stand_after, stand_in_order, have_shapes}
 
 pub all_shapes : are_shapes texts vector_texts ORDER SHAPES ≡ true
-unfolding list_of mask_of placed form_number number_of copy_number permute_number reduction_number compare_number predicate_number count_number element_number access_number sve2_number array_number streaming_number vector_number_of text_in items_in items_of is is_long same texts vector_texts operands_of settings_of held set_bits has_bits is_set_of is_said is_whole fixes is_of_line flag kind_numbers rule_number same_item same_items is_shape_of is_shape_at vector_text_at file_number are_shapes
+unfolding list_of mask_of placed form_number number_of copy_number permute_number reduction_number compare_number predicate_number
+    count_number element_number access_number sve2_number array_number streaming_number vector_number_of text_in items_in items_of is
+    is_long same texts vector_texts operands_of settings_of held set_bits has_bits is_set_of is_said is_whole fixes is_of_line flag
+    kind_numbers rule_number same_item same_items is_shape_of is_shape_at vector_text_at file_number are_shapes
 all_shapes = refl
 
 pub in_order : stand_in_order SHAPES ORDER ≡ true

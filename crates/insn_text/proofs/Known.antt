@@ -181,7 +181,16 @@ no_option word z e =
     let option = field_of word 13 3 in
     elim (either_true (option == 2 || option == 3 || option == 6) (option == 7) e) [
       | inr h ↦ (let n : option ≡ 7 = eqb-true _ _ h in
-          omega (arith, z, split word 13 1, split word 14 1, split word 15 1, split word 13 3, field_below word 13 1, field_below word 15 1))
+          omega (
+            arith,
+            z,
+            split word 13 1,
+            split word 14 1,
+            split word 15 1,
+            split word 13 3,
+            field_below word 13 1,
+            field_below word 15 1,
+          ))
       | inl f ↦ elim (either_true (option == 2 || option == 3) (option == 6) f) [
         | inr h ↦ (let n : option ≡ 6 = eqb-true _ _ h in
             omega (
@@ -546,7 +555,8 @@ kind_within g word m v i (kind.Register file last) r f e = refl
 kind_within g word m v i (Unsigned base scale most) r f e =
     elim (either_true (nat_le (2 ^ bits_of i) (most + 1)) (has_amounts g && (is_field i 10 3 && most == 4)) e) [
       | inl h ↦ (let le = leb-true (2 ^ bits_of i) (most + 1) h in let lt = field_bound i word in le-leb _ _ (omega arith))
-      | inr h ↦ (let p = and_parts (has_amounts g) (is_field i 10 3 && most == 4) h in let q = and_parts (is_field i 10 3) (most == 4) p.1 in
+      | inr h ↦ (let p = and_parts (has_amounts g) (is_field i 10 3 && most == 4) h in
+          let q = and_parts (is_field i 10 3) (most == 4) p.1 in
           let same_field =
           field_is i word 10 3 q.0 in let lt = amounts g word p.0 f in let four : most ≡ 4 = eqb-true _ _ q.1 in le-leb _ _ (omega arith))
     ]

@@ -371,7 +371,8 @@ unfoldable items_room : List Item → ℕ
 items_room [] = 0
 items_room (i ∷ is) = 1 + room_of i.kind (bits_of i) + items_room is
 
-items_length : (word : ℕ) (before : Kind) (is : List Item) → list_all is_sized is ≡ true → list_all (λ i. is_small i.kind (bits_of i)) is ≡ true
+items_length : (word : ℕ) (before : Kind) (is : List Item) → list_all is_sized is ≡ true
+    → list_all (λ i. is_small i.kind (bits_of i)) is ≡ true
     → length (items_text word before is) ≤ items_room is
 unfolding items_text items_room
 items_length word before [] e s = omega arith
@@ -408,7 +409,8 @@ shape_length s word e =
     let all = items_in s.list in
     let is = take s.count (drop s.first all) in
     let short : 10 + items_room is < 96 = ltb-true (10 + items_room is) 96 e in
-    let rest = items_length word (Mark 44) is (all_take is_sized s.count (drop s.first all) (all_drop is_sized s.first all (items_sized s.list)))
+    let rest = items_length word (Mark 44) is
+    (all_take is_sized s.count (drop s.first all) (all_drop is_sized s.first all (items_sized s.list)))
     (all_take (λ i. is_small i.kind (bits_of i)) s.count (drop s.first all)
     (all_drop (λ i. is_small i.kind (bits_of i)) s.first all (items_small s.list))) in
     omega (arith, rest, name_short s.name, length-append (text_at NAMES s.name) (items_text word (Mark 44) is))

@@ -127,7 +127,10 @@ unfoldable pub is_named : Shape → Bool
 is_named s = s.alias || list_all (is_named_by s) SCALAR_LINES
 
 all_named : list_all is_named SHAPES ≡ true
-unfolding text_in field_of field_in mask_of is_set is_set_whole text_or_none nth condition_name add_sub_name carry_name logical_name move_name bitfield_name relative_name branch_name jump_name select_name compare_name one_source_name two_source_name multiply_name size_letter unscaled_letter access_name literal_name pair_name order_letters atomic_name form_name call_name system_name name_of atomic_fields naming_fields is_named_by is_named
+unfolding text_in field_of field_in mask_of is_set is_set_whole text_or_none nth condition_name add_sub_name carry_name logical_name
+    move_name bitfield_name relative_name branch_name jump_name select_name compare_name one_source_name two_source_name multiply_name
+    size_letter unscaled_letter access_name literal_name pair_name order_letters atomic_name form_name call_name system_name name_of
+    atomic_fields naming_fields is_named_by is_named
 all_named = refl
 
 same_of : {A : Type 0} (a b : A) → ◌≡◌ {A = Option A} (Some a) (Some b) → a ≡ b

@@ -152,7 +152,8 @@ never_by o word f [] mask value m e = never_here o word mask value m e f
 never_by o word f (place ∷ places) mask value m e =
     by_halves o word place places mask value m (λ n v r h. never_by o word f places n v r h) (bit_of mask place) e
 
-pub vector_never : (o : VectorOperation) (word m v : ℕ) → bit_and word m ≡ v → vector_ends o m v ≡ true → fits_of o (numbers_in word) ≡ true → ⊥
+pub vector_never : (o : VectorOperation) (word m v : ℕ) → bit_and word m ≡ v → vector_ends o m v ≡ true
+    → fits_of o (numbers_in word) ≡ true → ⊥
 unfolding vector_ends
 vector_never o word m v r e f = never_by o word f size_places m v r e
 

@@ -94,7 +94,11 @@ unfoldable pub is_vector_named : Shape → Bool
 is_vector_named s = s.alias || list_all (is_vector_named_by s) VECTOR_LINES
 
 all_vectors_named : list_all is_vector_named SHAPES ≡ true
-unfolding text_in field_of field_in mask_of is_set is_set_whole text_or_none nth arithmetic_name vector_logical_name binary_name multiply_add_name unary_name vector_shift_name immediate_name interleave_name reduction_name compare_vectors_name compare_immediate_name predicate_name vector_multiply_name ternary_name widening_name element_letter elem_letter copy_name permute_name reduced_name comparison_name predicate_form_name count_name element_name memory_letters transfer_name vector_access_name sve2_name array_name signs_name streaming_name vector_name_of vector_naming_fields is_vector_named_by is_vector_named
+unfolding text_in field_of field_in mask_of is_set is_set_whole text_or_none nth arithmetic_name vector_logical_name binary_name
+    multiply_add_name unary_name vector_shift_name immediate_name interleave_name reduction_name compare_vectors_name compare_immediate_name
+    predicate_name vector_multiply_name ternary_name widening_name element_letter elem_letter copy_name permute_name reduced_name
+    comparison_name predicate_form_name count_name element_name memory_letters transfer_name vector_access_name sve2_name array_name
+    signs_name streaming_name vector_name_of vector_naming_fields is_vector_named_by is_vector_named
 all_vectors_named = refl
 
 vector_named_by : (s : Shape) (w : ℕ) (line : Line VectorOperation) → bit_and w s.mask ≡ s.value → bit_and w line.mask ≡ line.value

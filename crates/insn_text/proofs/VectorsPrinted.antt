@@ -24,7 +24,9 @@ unfoldable pub vector_row_printed : Line VectorOperation → Bool
 vector_row_printed r = covers (vector_ends r.operation) (vector_says r.operation) 1000 r.mask r.value (kept r.mask r.value SHAPES)
 
 vector_rows_printed : list_all vector_row_printed VECTOR_LINES ≡ true
-unfolding vector_row_printed highest_one field_of bit_of field_in mask_of items_in items_of is_apart is_inside free_bit covers_at covers keep_unless kept least_binary least_unary least_shifted widest_reduced is_from is_up_to has_size size_of_word is_known has_none ends_by vector_ends says_each gives_offset vector_rule says_vector_item vector_says
+unfolding vector_row_printed highest_one field_of bit_of field_in mask_of items_in items_of is_apart is_inside free_bit covers_at covers
+    keep_unless kept least_binary least_unary least_shifted widest_reduced is_from is_up_to has_size size_of_word is_known has_none ends_by
+    vector_ends says_each gives_offset vector_rule says_vector_item vector_says
 vector_rows_printed = refl
 
 vector_row-printed : (word : ℕ) (r : Line VectorOperation) → bit_and word r.mask ≡ r.value → fits_of r.operation (numbers_in word) ≡ true

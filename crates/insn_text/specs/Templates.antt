@@ -1,8 +1,8 @@
 -- The texts of the vector rows as templates: what stands for each operand, with the lowest bit of its field
 -- in place of its number. So `z5.t` is a vector whose number is in bits 9:5 and whose elements have the size
--- that the instruction tells, `z5.u` one with elements of half that size, `p10/m` a merging predicate at bit 10,
--- `x5|sp` a general register at bit 5 of which 31 is SP, `#-16` a signed number at bit 16, `#8-16` the number
--- that is 8 less the field at bit 16, and `#1+16` one that is 1 more than it.
+-- that the instruction tells, `z5.u` one with elements of half that size, `p10/m` a merging predicate at bit
+-- 10, `x5|sp` a general register at bit 5 of which 31 is SP, `#-16` a signed number at bit 16, `#8-16` the
+-- number that is 8 less the field at bit 16, and `#1+16` one that is 1 more than it.
 -- Source: DDI 0487, C8.2, and C9.2 for SME: the assembler syntax and the encoding diagram of each page.
 use Rattle.std.specs.Prelude.{ℕ, ◌+◌, ◌-◌, ◌^◌, ◌==◌, ◌&&◌, ◌||◌, Bool, true, false, not, List, [], ◌∷◌, ◌++◌}
 use Rattle.std.specs.Prelude.{◌/◌, codes, decimal, filter, bit_and, map, if◌then◌else◌, nat_lt}

@@ -96,7 +96,8 @@ fixes w line s =
     && (s.value == bit_or line.value (set_bits (settings_of w)))
 
 unfoldable pub is_of_line : {O : Type 0} → (O → ℕ) → Wording O → Shape → Line O → Bool
-is_of_line number w s line = (number line.operation == number w.operation) && is_whole w line && fixes w line s
+is_of_line number w s line =
+    (number line.operation == number w.operation) && is_whole w line && fixes w line s
 
 -- the text of a vector instruction at a place after those of the scalar ones
 unfoldable pub vector_text_at

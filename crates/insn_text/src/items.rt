@@ -18,7 +18,7 @@ macro_rules! items {
     };
 }
 
-/// The operands of the shapes of `ItemList::Scalar`, one list after another: each line is a list, and the number beside it is its place.
+/// The operands of the shapes of `ItemList::Scalar`, one list after another; beside a list is its place.
 pub static ITEMS: [Item; 1227] = items! {
     xd comma xn comma xm; // 0
     wd comma wn comma wm; // 5
@@ -212,7 +212,7 @@ pub static ITEMS: [Item; 1227] = items! {
     udf_imm16; // 1226
 };
 
-/// The operands of the shapes of `ItemList::Vector`, one list after another: each line is a list, and the number beside it is its place.
+/// The operands of the shapes of `ItemList::Vector`, one list after another; beside a list is its place.
 pub static VECTOR_ITEMS: [Item; 730] = items! {
     zd_t comma pg slash m comma zn_t; // 0
     zd_t comma zn_t comma zm_t; // 7
@@ -317,20 +317,28 @@ pub static VECTOR_ITEMS: [Item; 730] = items! {
     pn_b; // 729
 };
 
-/// The operands of the shapes of `ItemList::Matrix`, one list after another: each line is a list, and the number beside it is its place.
+/// The operands of the shapes of `ItemList::Matrix`, one list after another; beside a list is its place.
 pub static MATRIX_ITEMS: [Item; 866] = items! {
     za_s comma row_pn slash m comma column_pm slash m comma zn_s; // 0
     za_d comma row_pn slash m comma column_pm slash m comma zn_d; // 11
     brace za_hb open rv comma index_b close brace_end comma pg slash z comma open xn_sp comma xm close; // 22
     brace za_vb open rv comma index_b close brace_end comma pg slash z comma open xn_sp comma xm close; // 40
-    brace za_hd open rv comma index_d close brace_end comma pg slash z comma open xn_sp comma xm comma lsl amount_is_3 close; // 58
-    brace za_vd open rv comma index_d close brace_end comma pg slash z comma open xn_sp comma xm comma lsl amount_is_3 close; // 79
-    brace za_hh open rv comma index_h close brace_end comma pg slash z comma open xn_sp comma xm comma lsl amount_is_1 close; // 100
-    brace za_vh open rv comma index_h close brace_end comma pg slash z comma open xn_sp comma xm comma lsl amount_is_1 close; // 121
-    brace za_hq open rv comma index_q close brace_end comma pg slash z comma open xn_sp comma xm comma lsl amount_is_4 close; // 142
-    brace za_vq open rv comma index_q close brace_end comma pg slash z comma open xn_sp comma xm comma lsl amount_is_4 close; // 163
-    brace za_hs open rv comma index_s close brace_end comma pg slash z comma open xn_sp comma xm comma lsl amount_is_2 close; // 184
-    brace za_vs open rv comma index_s close brace_end comma pg slash z comma open xn_sp comma xm comma lsl amount_is_2 close; // 205
+    brace za_hd open rv comma index_d close brace_end comma pg slash z comma open xn_sp comma xm comma lsl
+        amount_is_3 close; // 58
+    brace za_vd open rv comma index_d close brace_end comma pg slash z comma open xn_sp comma xm comma lsl
+        amount_is_3 close; // 79
+    brace za_hh open rv comma index_h close brace_end comma pg slash z comma open xn_sp comma xm comma lsl
+        amount_is_1 close; // 100
+    brace za_vh open rv comma index_h close brace_end comma pg slash z comma open xn_sp comma xm comma lsl
+        amount_is_1 close; // 121
+    brace za_hq open rv comma index_q close brace_end comma pg slash z comma open xn_sp comma xm comma lsl
+        amount_is_4 close; // 142
+    brace za_vq open rv comma index_q close brace_end comma pg slash z comma open xn_sp comma xm comma lsl
+        amount_is_4 close; // 163
+    brace za_hs open rv comma index_s close brace_end comma pg slash z comma open xn_sp comma xm comma lsl
+        amount_is_2 close; // 184
+    brace za_vs open rv comma index_s close brace_end comma pg slash z comma open xn_sp comma xm comma lsl
+        amount_is_2 close; // 205
     za open rv comma index_0 close comma open xn_sp close; // 226
     za open rv comma index_array close comma open xn_sp comma array_offset comma mul vl close; // 236
     za_hb open rv comma index_b close comma pg slash m comma zn_b; // 251
@@ -366,20 +374,28 @@ pub static MATRIX_ITEMS: [Item; 866] = items! {
     brace zd_d brace_end comma pg comma open xn_sp close; // 588
     brace zd_d brace_end comma pg comma open xn_sp comma signed4 comma mul vl close; // 597
     brace zd_d brace_end comma pg comma open xn_sp comma xm_given comma lsl amount_is_3 close; // 611
-    brace za_hd open rv comma index_d close brace_end comma pg comma open xn_sp comma xm comma lsl amount_is_3 close; // 625
-    brace za_vd open rv comma index_d close brace_end comma pg comma open xn_sp comma xm comma lsl amount_is_3 close; // 644
+    brace za_hd open rv comma index_d close brace_end comma pg comma open xn_sp comma xm comma lsl amount_is_3
+        close; // 625
+    brace za_vd open rv comma index_d close brace_end comma pg comma open xn_sp comma xm comma lsl amount_is_3
+        close; // 644
     brace zd_h brace_end comma pg comma open xn_sp close; // 663
     brace zd_h brace_end comma pg comma open xn_sp comma signed4 comma mul vl close; // 672
     brace zd_h brace_end comma pg comma open xn_sp comma xm_given comma lsl amount_is_1 close; // 686
     brace zt_sd brace_end comma pg comma open xn_sp close; // 700
     brace zt_sd brace_end comma pg comma open xn_sp comma signed4 comma mul vl close; // 709
     brace zt_sd brace_end comma pg comma open xn_sp comma xm_given comma lsl amount_is_1 close; // 723
-    brace za_hh open rv comma index_h close brace_end comma pg comma open xn_sp comma xm comma lsl amount_is_1 close; // 737
-    brace za_vh open rv comma index_h close brace_end comma pg comma open xn_sp comma xm comma lsl amount_is_1 close; // 756
-    brace za_hq open rv comma index_q close brace_end comma pg comma open xn_sp comma xm comma lsl amount_is_4 close; // 775
-    brace za_vq open rv comma index_q close brace_end comma pg comma open xn_sp comma xm comma lsl amount_is_4 close; // 794
+    brace za_hh open rv comma index_h close brace_end comma pg comma open xn_sp comma xm comma lsl amount_is_1
+        close; // 737
+    brace za_vh open rv comma index_h close brace_end comma pg comma open xn_sp comma xm comma lsl amount_is_1
+        close; // 756
+    brace za_hq open rv comma index_q close brace_end comma pg comma open xn_sp comma xm comma lsl amount_is_4
+        close; // 775
+    brace za_vq open rv comma index_q close brace_end comma pg comma open xn_sp comma xm comma lsl amount_is_4
+        close; // 794
     brace zt_sd brace_end comma pg comma open xn_sp comma xm_given comma lsl amount_is_2 close; // 813
-    brace za_hs open rv comma index_s close brace_end comma pg comma open xn_sp comma xm comma lsl amount_is_2 close; // 827
-    brace za_vs open rv comma index_s close brace_end comma pg comma open xn_sp comma xm comma lsl amount_is_2 close; // 846
+    brace za_hs open rv comma index_s close brace_end comma pg comma open xn_sp comma xm comma lsl amount_is_2
+        close; // 827
+    brace za_vs open rv comma index_s close brace_end comma pg comma open xn_sp comma xm comma lsl amount_is_2
+        close; // 846
     zero_mask; // 865
 };

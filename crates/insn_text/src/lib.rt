@@ -14,6 +14,8 @@ mod print;
 mod printed;
 mod shape;
 mod shapes;
+mod shapes_a_to_l;
+mod shapes_m_to_z;
 mod texts;
 mod vector_operands;
 mod vector_texts;

@@ -79,7 +79,8 @@ pub const SHORT_HW_IMM16: Field = Field {
 macro_rules! short {
     ($field:ident) => {
         Field {
-            low: scalar_fields::$field.low, width: scalar_fields::$field.width - 1, upper_low: 0, upper_width: 0,
+            low: scalar_fields::$field.low, width: scalar_fields::$field.width - 1,
+            upper_low: 0, upper_width: 0,
         }
     };
 }
@@ -153,7 +154,9 @@ macro_rules! operand {
     (imm12_8) => { operand_of!(Kind::Unsigned { base: 0, scale: 8, most: 4095 }, scalar_fields::IMM12) };
     (imm16) => { operand_of!(Kind::Unsigned { base: 0, scale: 1, most: 65535 }, scalar_fields::IMM16) };
     (imm5) => { operand_of!(Kind::Unsigned { base: 0, scale: 1, most: 31 }, scalar_fields::IMM5) };
-    (udf_imm16) => { operand_of!(Kind::Unsigned { base: 0, scale: 1, most: 65535 }, scalar_fields::UDF_IMM16) };
+    (udf_imm16) => {
+        operand_of!(Kind::Unsigned { base: 0, scale: 1, most: 65535 }, scalar_fields::UDF_IMM16)
+    };
     (flags) => { operand_of!(Kind::Unsigned { base: 0, scale: 1, most: 15 }, scalar_fields::NZCV) };
     (hint) => { operand_of!(Kind::Unsigned { base: 0, scale: 1, most: 127 }, scalar_fields::HINT) };
     (crm) => { operand_of!(Kind::Unsigned { base: 0, scale: 1, most: 15 }, scalar_fields::CRM) };

@@ -93,7 +93,9 @@ macro_rules! text {
             name: name!($($name)*),
             operation: Operation::$group($($op)*),
             set: four!([] [None None None None] $($set)*),
-            operands: twenty_four!($of [] [0 0 0 0 0 0 0 0 0 0 0 0 0 0 0 0 0 0 0 0 0 0 0 0] $($first)* $(comma $($more)+)*),
+            operands: twenty_four!(
+                $of [] [0 0 0 0 0 0 0 0 0 0 0 0 0 0 0 0 0 0 0 0 0 0 0 0] $($first)* $(comma $($more)+)*
+            ),
         }
     };
 }

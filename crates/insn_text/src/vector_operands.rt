@@ -201,7 +201,9 @@ macro_rules! vector_operand {
     (za) => { word!(58) };
     (pattern) => { operand_of!(Kind::Pattern { first: 36 }, vector_fields::PATTERN) };
     // numbers
-    (multiplier) => { operand_of!(Kind::Unsigned { base: 1, scale: 1, most: 15 }, vector_fields::MULTIPLIER) };
+    (multiplier) => {
+        operand_of!(Kind::Unsigned { base: 1, scale: 1, most: 15 }, vector_fields::MULTIPLIER)
+    };
     (eight) => { operand_of!(Kind::Unsigned { base: 8, scale: 1, most: 0 }, scalar_fields::NONE) };
     (amount_is_4) => { operand_of!(Kind::Unsigned { base: 4, scale: 1, most: 0 }, scalar_fields::NONE) };
     (imm8) => { up_to!(255, IMM8) };

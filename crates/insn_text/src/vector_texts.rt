@@ -200,7 +200,8 @@ macro_rules! whole_registers {
     ($($name:ident $form:ident $store:literal ($rt:ident);)*) => {
         [$(
             text!(place print [$name] G37(AccessForm::$form($store)) [IMM9=0] ($rt, open xn_sp close)),
-            text!(place print [$name] G37(AccessForm::$form($store)) [] ($rt, open xn_sp, signed9, mul vl close))
+            text!(place print [$name] G37(AccessForm::$form($store)) []
+                ($rt, open xn_sp, signed9, mul vl close))
         ),*]
     };
 }
@@ -519,9 +520,11 @@ pub static PLAIN: [Wording<Operation>; 52] = plain! {
     smstop: G39(false, ModePart::Both) [] ();
     zero: G40(ArrayForm::Zero) [] (zero_mask);
     ldr: G40(ArrayForm::Transfer(false)) [ARRAY_OFFSET=0] (za open rv, index_0 close, open xn_sp close);
-    ldr: G40(ArrayForm::Transfer(false)) [] (za open rv, index_array close, open xn_sp, array_offset, mul vl close);
+    ldr: G40(ArrayForm::Transfer(false)) []
+        (za open rv, index_array close, open xn_sp, array_offset, mul vl close);
     str: G40(ArrayForm::Transfer(true)) [ARRAY_OFFSET=0] (za open rv, index_0 close, open xn_sp close);
-    str: G40(ArrayForm::Transfer(true)) [] (za open rv, index_array close, open xn_sp, array_offset, mul vl close);
+    str: G40(ArrayForm::Transfer(true)) []
+        (za open rv, index_array close, open xn_sp, array_offset, mul vl close);
     addha: G43(false, false) [] (za_s, row_pn slash m, column_pm slash m, zn_s);
     addva: G43(true, false) [] (za_s, row_pn slash m, column_pm slash m, zn_s);
     addha: G43(false, true) [] (za_d, row_pn slash m, column_pm slash m, zn_d);

@@ -26,7 +26,7 @@ pub struct GuestThread {
     pub count: u32,
     pub turns: u64,
     pub stop: Option<Stop>,
-    ghost save_area: { IsSaveArea config machine.streaming machine.za_on bank },
+    ghost save_area: { IsSaveArea config machine bank },
     ghost turns_are_few: { turns ≤ 3 * count + 2 },
     ghost turns_within: { turns ≤ 3 * config.budget },
     ghost within_budget: { count ≤ config.budget },

@@ -11,3 +11,4 @@ mod vector;
 
 pub use machine::{Machine, StepEnd};
 pub use mode::write_streaming;
+pub use system::read_svcr;

@@ -13,7 +13,7 @@ ghost use Rattle.machine_step.specs.Machine.{core_of, StepsBy, StepsAlone, Steps
 ghost use Rattle.machine_step.specs.Machine.{IsInMode, IsSameBank, HasRoomOn};
 
 use crate::machine::{Machine, StepEnd};
-use crate::system::{read_nzcv, write_nzcv};
+use crate::system::{read_nzcv, read_svcr, write_nzcv};
 use mem_access::{AccessStop, Bank, transfer};
 use scalar_exec::{Flow, exec_scalar, next_address, read_x, write_x};
 use sm_types::{Exception, Insn, Scalars, System, SystemMove, SystemMoveOp, SystemRegister};
@@ -178,7 +178,7 @@ impl Machine {
             SystemRegister::Nzcv => read_nzcv(&self.scalars),
             SystemRegister::TpidrEl0 => self.tpidr,
             SystemRegister::Tpidr2El0 => self.tpidr2,
-            SystemRegister::Svcr => u64::from(self.streaming) + 2 * u64::from(self.za_on),
+            SystemRegister::Svcr => read_svcr(self),
         }
     }
 

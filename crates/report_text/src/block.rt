@@ -5,7 +5,6 @@ ghost use Rattle.edge_io.specs.Sink.{Writes};
 ghost use Rattle.machine_step.specs.ProcessorState.{VectorState};
 ghost use Rattle.machine_step.specs.Machine.{core_of};
 ghost use Rattle.kernel_contexts.specs.Context.{state_of, thread_of, stop_of};
-ghost use Rattle.machine_step.specs.System.{svcr_of};
 ghost use Rattle.report_text.specs.Block.{head_text, nzcv_line, system_text, register_text, signal_text};
 ghost use Rattle.report_text.specs.Block.{kernel_text, block_text};
 
@@ -17,7 +16,7 @@ use crate::output::put_output;
 use crate::words::put_stop_line;
 use edge_io::{Piece, PutFault, Sink};
 use kernel_contexts::Context;
-use machine_step::Machine;
+use machine_step::{Machine, read_svcr};
 use sm_types::Scalars;
 
 /// The thread, its stop where it has stopped, and how far it came.
@@ -50,20 +49,13 @@ fn put_nzcv_line<K: Sink>(piece: &mut Piece, out: &mut K, scalars: &Scalars) -> 
     piece.put_all(out, &[b"nzcv ", &n, &z, &c, &v, b"\n"])
 }
 
-/// SVCR: bit 0 is PSTATE.SM, bit 1 is PSTATE.ZA.
-fn svcr(machine: &Machine) -> u64
-    ensures { (bank : VectorState) → result ≡ svcr_of (core_of machine.now bank) }
-{
-    u64::from(machine.streaming) + 2 * u64::from(machine.za_on)
-}
-
 /// The thread's system registers.
 fn put_system<K: Sink>(piece: &mut Piece, out: &mut K, machine: &Machine) -> Result<(), PutFault>
     ensures { (bank : VectorState) →
         Gathers (gathered (K.view out.old) piece.old) (gathered (K.view out.new) piece.new) result
         (system_text (core_of machine.now bank)) }
 {
-    let svcr = svcr(machine);
+    let svcr = read_svcr(machine);
     put_hex_line(piece, out, b"tpidr", machine.tpidr)?;
     put_hex_line(piece, out, b"tpidr2", machine.tpidr2)?;
     put_number_line(piece, out, b"svcr", svcr)

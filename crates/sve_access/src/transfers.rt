@@ -412,6 +412,66 @@ fn store_predicate(
     store_run(&run, rn, read_p(vectors, pt), s, pages)
 }
 
+/// Loads or stores all bytes of a vector, if no check fails.
+#[inline]
+fn transfer_vector_bytes(
+    store: bool,
+    times: i32,
+    rn: u8,
+    zt: u8,
+    s: &Scalars,
+    vectors: &mut Vectors,
+    pages: &mut Pages,
+) -> Result<(), AccessStop>
+    requires { IsVectorAccess (form.Vector store times rn zt) }
+    ensures made { let x = form.Vector store times rn zt in
+        let l = length_of vectors.old in
+        Transfers (vector_fault x s.now l vectors.old.registers pages.old.memory)
+        (after_access x s.now l vectors.old.registers pages.old.memory)
+        (contents_of vectors.old.registers pages.old) (contents_of vectors.new.registers pages.new) result }
+    ensures room { HasRoom (access_of (form.Vector store times rn zt) s.now (length_of vectors.old)
+        vectors.old.registers) pages.old
+        → result ≢ Err AccessStop.Memory }
+    ensures kept { KeepsOwned pages.old pages.new }
+    ensures lengths { KeepsLengths vectors.old vectors.new }
+{
+    if store {
+        store_vector(times, rn, zt, s, vectors, pages)
+    } else {
+        load_vector(times, rn, zt, s, vectors, pages)
+    }
+}
+
+/// Loads or stores all bytes of a predicate, if no check fails.
+#[inline]
+fn transfer_predicate_bytes(
+    store: bool,
+    times: i32,
+    rn: u8,
+    pt: u8,
+    s: &Scalars,
+    vectors: &mut Vectors,
+    pages: &mut Pages,
+) -> Result<(), AccessStop>
+    requires { IsVectorAccess (form.Predicate store times rn pt) }
+    ensures made { let x = form.Predicate store times rn pt in
+        let l = length_of vectors.old in
+        Transfers (vector_fault x s.now l vectors.old.registers pages.old.memory)
+        (after_access x s.now l vectors.old.registers pages.old.memory)
+        (contents_of vectors.old.registers pages.old) (contents_of vectors.new.registers pages.new) result }
+    ensures room { HasRoom (access_of (form.Predicate store times rn pt) s.now (length_of vectors.old)
+        vectors.old.registers) pages.old
+        → result ≢ Err AccessStop.Memory }
+    ensures kept { KeepsOwned pages.old pages.new }
+    ensures lengths { KeepsLengths vectors.old vectors.new }
+{
+    if store {
+        store_predicate(times, rn, pt, s, vectors, pages)
+    } else {
+        load_predicate(times, rn, pt, s, vectors, pages)
+    }
+}
+
 /// The contiguous loads and stores of vectors and predicates: makes all checks of the access, and then the
 /// access; any answer but Ok leaves vectors and memory as they were, but that more pages may be owned. `Memory`
 /// comes only where the access writes a page that is not owned. The scalar registers stay as they are, PC too.
@@ -455,24 +515,12 @@ pub fn transfer_vector(
             vectors: times,
             rn,
             zt,
-        } => {
-            if *store {
-                store_vector(*times, *rn, *zt, scalars, vectors, pages)
-            } else {
-                load_vector(*times, *rn, *zt, scalars, vectors, pages)
-            }
-        }
+        } => transfer_vector_bytes(*store, *times, *rn, *zt, scalars, vectors, pages),
         VectorAccess::Predicate {
             store,
             vectors: times,
             rn,
             pt,
-        } => {
-            if *store {
-                store_predicate(*times, *rn, *pt, scalars, vectors, pages)
-            } else {
-                load_predicate(*times, *rn, *pt, scalars, vectors, pages)
-            }
-        }
+        } => transfer_predicate_bytes(*store, *times, *rn, *pt, scalars, vectors, pages),
     }
 }

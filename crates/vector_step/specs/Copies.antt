@@ -1,6 +1,6 @@
 -- The registers after a copy to a vector, or an operation with an immediate.
 -- Source: DDI 0487, C8.2: the instructions that are named.
-use Rattle.std.specs.Prelude.{ℕ, Bool, true, if◌then◌else◌, List}
+use Rattle.std.specs.Prelude.{ℕ, Bool, true, false, if◌then◌else◌, List}
 use Rattle.sm_types.specs.declared.scalars.Scalars.{Scalars}
 use Rattle.sm_types.specs.declared.vector as types
 use types.{VectorCopy.VectorCopy, IndexPart.IndexPart}
@@ -25,6 +25,14 @@ part_value (part.Register r) s = x_of s r
 abbrev pub copied_active : Bool → Size → ℕ → List ℕ → List ℕ → List ℕ
 copied_active merging size value p d =
     if merging then copied_merging size value p d else copied_zeroing size value p d
+
+-- whether it copies an immediate or operates with one; INDEX is apart, whose start and step may be either
+abbrev pub is_of_immediate : VectorCopy → Bool
+is_of_immediate (copy.Immediate size shifted imm zd) = true
+is_of_immediate (copy.PredicatedImmediate size pg merging shifted imm zd) = true
+is_of_immediate (copy.AddImmediate op size shifted imm zdn) = true
+is_of_immediate (copy.MultiplyImmediate size imm zdn) = true
+is_of_immediate _ = false
 
 -- DUP, CPY (scalar): register 31 is SP; DUP, CPY (immediate); INDEX; ADD, SUB, SUBR, MUL (immediate); SEL
 -- (vectors); MOVPRFX (unpredicated)

@@ -1,10 +1,10 @@
 //! Copies to vectors, and operations with an immediate.
-ghost use Rattle.std.specs.Prelude.{◌≡◌, ◌<◌};
+ghost use Rattle.std.specs.Prelude.{◌≡◌, ◌<◌, IsTrue};
 ghost use Rattle.sve_exec.specs.Copies.{duplicated, index_from, selected};
 ghost use Rattle.sve_exec.specs.Copies.{vector_add_immediate, vector_multiply_immediate};
 ghost use Rattle.sve_table.specs.Ranges.{IsVectorCopy, IsIndexPart};
-ghost use Rattle.vector_step.specs.Copies.{after_copy, copied_active, part_value};
-ghost use Rattle.vector_step.specs.Registers.{vector_at, predicate_at, with_registers};
+ghost use Rattle.vector_step.specs.Copies.{after_copy, copied_active, is_of_immediate, part_value};
+ghost use Rattle.vector_step.specs.Registers.{vector_at, predicate_at, vector_written, with_registers};
 ghost use Rattle.vector_step.specs.Sizes.{element_size};
 
 use crate::change::{VectorChange, change_vector};
@@ -170,30 +170,63 @@ impl VectorChange for Unchanged {
     fn apply(&self, _vectors: &Vectors, _d: &mut [u8]) {}
 }
 
-/// Copies to vectors, of registers and of immediates, and operations with an immediate.
+/// Writes a value to each element of a vector.
+fn copy_everywhere(vectors: &mut Vectors, size: Elem, value: u64, zd: u8)
+    requires { zd < 32 }
+    ensures { let r = vectors.old.registers in vectors.new ≡ with_registers vectors.old
+        (vector_written r zd (duplicated (element_size size) value (vector_at r zd))) }
+{
+    change_vector(vectors, zd, zd, &Everywhere { size, value });
+}
+
+/// Writes a value to the active elements of a vector; the others keep theirs where `merging`, and else become
+/// zero.
+fn copy_active(vectors: &mut Vectors, merging: bool, size: Elem, value: u64, pg: u8, zd: u8)
+    requires pg { pg < 16 }
+    requires zd { zd < 32 }
+    ensures { let r = vectors.old.registers in vectors.new ≡ with_registers vectors.old
+        (vector_written r zd
+        (copied_active merging (element_size size) value (predicate_at r pg) (vector_at r zd))) }
+{
+    let change = WhereActive {
+        merging,
+        size,
+        value,
+        pg,
+    };
+    change_vector(vectors, zd, zd, &change);
+}
+
+/// Adds an immediate to a vector, or takes one from the other.
+fn add_immediate(
+    vectors: &mut Vectors,
+    op: AddImmediateOp,
+    size: Elem,
+    imm: u8,
+    shifted: bool,
+    zdn: u8,
+)
+    requires { zdn < 32 }
+    ensures { let r = vectors.old.registers in vectors.new ≡ with_registers vectors.old
+        (vector_written r zdn (vector_add_immediate op (element_size size) imm shifted (vector_at r zdn))) }
+{
+    let change = WithImmediate {
+        op,
+        size,
+        imm,
+        shifted,
+    };
+    change_vector(vectors, zdn, zdn, &change);
+}
+
+/// Copies of immediates, and operations with an immediate. They read no scalar register.
 #[tactic(auto, unfolding(crate::specs::Copies::after_copy))]
-pub fn exec_copy(scalars: &Scalars, vectors: &mut Vectors, x: &VectorCopy)
-    requires { IsVectorCopy x.now }
-    ensures { vectors.new ≡ with_registers vectors.old (after_copy x.now scalars.now vectors.old.registers) }
+fn exec_immediate(vectors: &mut Vectors, x: &VectorCopy)
+    requires immediate { IsTrue (is_of_immediate x.now) }
+    requires range { IsVectorCopy x.now }
+    ensures { (s : Scalars) → vectors.new ≡ with_registers vectors.old (after_copy x.now s vectors.old.registers) }
 {
     match *x {
-        VectorCopy::Register { size, rn, zd } => {
-            let change = Everywhere {
-                size,
-                value: read_x_or_sp(scalars, rn),
-            };
-            change_vector(vectors, zd, zd, &change);
-        }
-        VectorCopy::PredicatedRegister { size, pg, rn, zd } => {
-            let value = read_x_or_sp(scalars, rn);
-            let change = WhereActive {
-                merging: true,
-                size,
-                value,
-                pg,
-            };
-            change_vector(vectors, zd, zd, &change);
-        }
         VectorCopy::Immediate {
             size,
             shifted,
@@ -201,7 +234,7 @@ pub fn exec_copy(scalars: &Scalars, vectors: &mut Vectors, x: &VectorCopy)
             zd,
         } => {
             let value = signed_immediate(element_size(size), imm, shifted);
-            change_vector(vectors, zd, zd, &Everywhere { size, value });
+            copy_everywhere(vectors, size, value, zd);
         }
         VectorCopy::PredicatedImmediate {
             size,
@@ -212,13 +245,38 @@ pub fn exec_copy(scalars: &Scalars, vectors: &mut Vectors, x: &VectorCopy)
             zd,
         } => {
             let value = signed_immediate(element_size(size), imm, shifted);
-            let change = WhereActive {
-                merging,
-                size,
-                value,
-                pg,
-            };
-            change_vector(vectors, zd, zd, &change);
+            copy_active(vectors, merging, size, value, pg, zd);
+        }
+        VectorCopy::AddImmediate {
+            op,
+            size,
+            shifted,
+            imm,
+            zdn,
+        } => add_immediate(vectors, op, size, imm, shifted, zdn),
+        VectorCopy::MultiplyImmediate { size, imm, zdn } => {
+            change_vector(vectors, zdn, zdn, &TimesImmediate { size, imm });
+        }
+        VectorCopy::Register { .. }
+        | VectorCopy::PredicatedRegister { .. }
+        | VectorCopy::Index { .. }
+        | VectorCopy::Select { .. }
+        | VectorCopy::Prefix { .. } => {}
+    }
+}
+
+/// Copies to vectors, of registers and of immediates, and operations with an immediate.
+#[tactic(auto, unfolding(crate::specs::Copies::after_copy))]
+pub fn exec_copy(scalars: &Scalars, vectors: &mut Vectors, x: &VectorCopy)
+    requires { IsVectorCopy x.now }
+    ensures { vectors.new ≡ with_registers vectors.old (after_copy x.now scalars.now vectors.old.registers) }
+{
+    match *x {
+        VectorCopy::Register { size, rn, zd } => {
+            copy_everywhere(vectors, size, read_x_or_sp(scalars, rn), zd);
+        }
+        VectorCopy::PredicatedRegister { size, pg, rn, zd } => {
+            copy_active(vectors, true, size, read_x_or_sp(scalars, rn), pg, zd);
         }
         VectorCopy::Index {
             size,
@@ -230,24 +288,6 @@ pub fn exec_copy(scalars: &Scalars, vectors: &mut Vectors, x: &VectorCopy)
             let step = part_value(step, scalars);
             change_vector(vectors, zd, zd, &Steps { size, start, step });
         }
-        VectorCopy::AddImmediate {
-            op,
-            size,
-            shifted,
-            imm,
-            zdn,
-        } => {
-            let change = WithImmediate {
-                op,
-                size,
-                imm,
-                shifted,
-            };
-            change_vector(vectors, zdn, zdn, &change);
-        }
-        VectorCopy::MultiplyImmediate { size, imm, zdn } => {
-            change_vector(vectors, zdn, zdn, &TimesImmediate { size, imm });
-        }
         VectorCopy::Select {
             size,
             zm,
@@ -256,5 +296,9 @@ pub fn exec_copy(scalars: &Scalars, vectors: &mut Vectors, x: &VectorCopy)
             zd,
         } => change_vector(vectors, zm, zd, &Selected { size, pg, n: zn }),
         VectorCopy::Prefix { zn, zd } => change_vector(vectors, zn, zd, &Unchanged),
+        VectorCopy::Immediate { .. }
+        | VectorCopy::PredicatedImmediate { .. }
+        | VectorCopy::AddImmediate { .. }
+        | VectorCopy::MultiplyImmediate { .. } => exec_immediate(vectors, x),
     }
 }

@@ -25,7 +25,8 @@ loop-value-preserved c = λ list knows.
     let said = mapped_more value_of (take i values) (take (i + 1) values) x grown in
     record {
       defined =
-          none_more (is_undefined list) (map value_of (take i values)) (map value_of (take (i + 1) values)) (value_of x) before.defined read.0
+          none_more (is_undefined list) (map value_of (take i values)) (map value_of (take (i + 1) values)) (value_of x)
+          before.defined read.0
           said;
       bytes =
           numbers_more 8 c.args.bytes.now.items c.loop-value.bytes.items c.put_quad.new.bytes.items

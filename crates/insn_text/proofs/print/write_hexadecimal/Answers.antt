@@ -19,7 +19,8 @@ loop-done-preserved c =
       left = less-left c.loop-done.rest c.loop-done.done c.loop-done-test.true c.loop-done.invariant.left;
       some_left = λ _. more;
       digits =
-          hex-next c.loop-done.buffer c.loop-done.done c.loop-done.rest c.digit.result _ c.loop-done-test.true len c.digit.ensures.value more
+          hex-next c.loop-done.buffer c.loop-done.done c.loop-done.rest c.digit.result _ c.loop-done-test.true len
+          c.digit.ensures.value more
           c.loop-done.invariant.digits;
     }
 
