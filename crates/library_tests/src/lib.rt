@@ -1,6 +1,6 @@
 //! Tests of the libraries by their public calls: words, tokens and lines of sources, memory, vectors,
 //! predicates, permutations and reductions, vector instructions, slices of tiles, outer products, the lines
-//! of stops, and the object of a source.
+//! of stops, the shared words, and the object of a source.
 #![tactic(auto)]
 
 #[cfg(test)]
