@@ -44,8 +44,8 @@ fn by_tree(word: u32) -> Option<Insn>
     }
 }
 
-/// Whether the word is one of those that SVE and SME have to themselves, none of which matches a row here: bits
-/// 28, 27 and 25 are 0, and it is not UDF (DDI 0487, C4.1).
+/// Whether the word is one of those that SVE and SME have to themselves, none of which matches a row here:
+/// bits 28, 27 and 25 are 0, and it is not UDF (DDI 0487, C4.1).
 #[inline(always)]
 fn is_of_vectors(word: u32) -> bool
     ensures { IsTrue result → (i : ℕ) (line : Line Operation) → slice_get SCALAR_LINES i ≡ Some line

@@ -2,8 +2,8 @@
 ghost use Rattle.std.specs.Prelude.{◌≡◌, slice_get};
 ghost use Rattle.insn_forms.specs.Tree.{walk, walk_from, way_on};
 
-/// A way for each number that a word may have in the bits of the mask, from the bit `low` on (below 32): to the
-/// node as far after `first` as the number.
+/// A way for each number that a word may have in the bits of the mask, from the bit `low` on (below 32): to
+/// the node as far after `first` as the number.
 #[derive(Clone, Copy)]
 pub struct Fork {
     pub low: u8,
@@ -19,8 +19,8 @@ pub enum Node {
     Leaf(u16),
 }
 
-/// The number of the one line that may match the word, by the root, the nodes and as many steps as the longest
-/// way from the root has nodes.
+/// The number of the one line that may match the word, by the root, the nodes and as many steps as the
+/// longest way from the root has nodes.
 #[inline(always)]
 pub fn line_number(root: Fork, nodes: &[Node], steps: u32, word: u32) -> Option<usize>
     ensures { result ≡ walk_from steps nodes.now root word }

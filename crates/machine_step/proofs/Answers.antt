@@ -135,7 +135,8 @@ needs_of_word s word (Some it) aligned fetched is =
     ∙ needs_row (is_executed it) (mode_fault it s.streaming s.za_on) word it s here
 
 -- a check of the instruction itself that fails
-pub effect_refused : (vl : ℕ) (s : ProcessorState) (exception : Exception) → early_fault s ≡ Some exception → effect_of vl s ≡ Raises exception
+pub effect_refused : (vl : ℕ) (s : ProcessorState) (exception : Exception) → early_fault s ≡ Some exception
+    → effect_of vl s ≡ Raises exception
 unfolding effect_of fault_of
 effect_refused vl s exception h = ap (λ k. unless_fault vl (option_or k (option_or (data_fault vl s) None)) s) h
 

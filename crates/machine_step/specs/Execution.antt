@@ -34,7 +34,8 @@ unless_refused None needed = needed
 -- whether an instruction that has a row needs a bank: it is executed, and the mode allows it
 abbrev pub needs_of_insn : Insn → ProcessorState → Bool
 needs_of_insn it s =
-    cond (is_executed it) (unless_refused (mode_fault it s.streaming s.za_on) (uses_bank it s.streaming)) false
+    cond (is_executed it) (unless_refused (mode_fault it s.streaming s.za_on)
+    (uses_bank it s.streaming)) false
 
 -- whether a word needs one, by its meaning
 abbrev pub needs_of_meaning : Option Insn → ProcessorState → Bool

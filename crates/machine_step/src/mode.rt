@@ -33,7 +33,8 @@ pub fn write_streaming(machine: &mut Machine, bank: &mut Bank, on: bool)
 /// (SetPSTATE_ZA).
 fn write_za(machine: &mut Machine, bank: &mut Bank, on: bool)
     requires { IsInMode bank.old machine.old }
-    ensures core { core_of machine.new (bank_state bank.new) ≡ with_za on (core_of machine.old (bank_state bank.old)) }
+    ensures core { core_of machine.new (bank_state bank.new)
+        ≡ with_za on (core_of machine.old (bank_state bank.old)) }
     ensures same { IsSameBank bank.old bank.new }
     ensures mode { IsInMode bank.new machine.new }
     ensures pages { machine.new.pages ≡ machine.old.pages }
@@ -49,7 +50,8 @@ impl Machine {
     /// Writes what SMSTART or SMSTOP names.
     fn write_mode(&mut self, bank: &mut Bank, x: &Mode)
         requires { IsInMode bank.old self.old }
-        ensures core { core_of self.new (bank_state bank.new) ≡ mode_written (vector_bytes bank.old.vectors.vl) x.now
+        ensures core { core_of self.new (bank_state bank.new)
+            ≡ mode_written (vector_bytes bank.old.vectors.vl) x.now
             (core_of self.old (bank_state bank.old)) }
         ensures same { IsSameBank bank.old bank.new }
         ensures mode { IsInMode bank.new self.new }

@@ -203,7 +203,8 @@ impl Machine {
     fn execute_move(&mut self, x: &SystemMove) -> StepEnd
         requires rt { x.now.rt < 32 }
         requires mode { writes_svcr x.now.op x.now.register ≡ false }
-        ensures effect { (word : ℕ) → StepsBy (effect_of_insn word (Insn.SystemMove x.now)) self.old self.new result }
+        ensures effect { (word : ℕ) → StepsBy (effect_of_insn word (Insn.SystemMove x.now)) self.old
+            self.new result }
         ensures room { result ≢ StepEnd.Memory }
         ensures pages { self.new.pages ≡ self.old.pages }
         ensures mode { KeepsMode self.old self.new }

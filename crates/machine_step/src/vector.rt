@@ -150,7 +150,8 @@ impl Machine {
     fn access_vectors(&mut self, x: &VectorAccess, bank: &mut Bank) -> StepEnd
         requires fields { IsVectorAccess x.now }
         requires mode { IsInMode bank.old self.old }
-        ensures effect { (word : ℕ) → StepsOn (effect_of_insn word (Insn.VectorAccess x.now)) self.old bank.old
+        ensures effect { (word : ℕ) → StepsOn (effect_of_insn word (Insn.VectorAccess x.now))
+            self.old bank.old
             self.new bank.new result }
         ensures same { IsSameBank bank.old bank.new }
         ensures mode { IsInMode bank.new self.new }

@@ -41,7 +41,8 @@ is_zeroed mask v = mask / 2 ^ (v % 8) % 2 == 1
 
 -- the whole array is the tile of bytes, of which each vector is a row
 unfoldable pub zeroed_tiles : ℕ → List (List ℕ) → List (List ℕ)
-zeroed_tiles mask za = changed_tile 1 0 (λ v row. if is_zeroed mask v then replicate (length row) 0 else row) za
+zeroed_tiles mask za = changed_tile 1 0 (λ v row. if is_zeroed mask v then replicate (length row) 0
+    else row) za
 
 -- the vectors of the array after ZERO; a load or store of one is no matter of this file
 abbrev pub zeroed_by : ArrayAccess → List (List ℕ) → List (List ℕ)
@@ -98,7 +99,8 @@ after_outer_product x s =
     let r = s.registers in
     record s {
       za = changed_tile (bytes_in (sum_size x.wide)) x.tile
-          (outer_row (kind_of x) (predicate_at r x.pn) (predicate_at r x.pm) (vector_at r x.zn) (vector_at r x.zm))
+          (outer_row (kind_of x) (predicate_at r x.pn) (predicate_at r x.pm) (vector_at r x.zn)
+          (vector_at r x.zm))
           s.za;
     }
 
@@ -128,5 +130,8 @@ matrix_step (insn.ArrayAccess x) s = record s { za = zeroed_by x s.za }
 matrix_step (insn.TileMove x) s = after_move x s
 matrix_step (insn.TileAdd x) s = after_add x s
 matrix_step (insn.OuterProduct x) s = after_outer_product x s
-matrix_step (insn.StreamingLength x) s = record s { scalars = after_streaming_length (length s.za) x s.scalars }
+matrix_step (insn.StreamingLength x) s = record s {
+  scalars = after_streaming_length (length s.za) x
+      s.scalars;
+}
 matrix_step other s = s

@@ -38,7 +38,10 @@ pub(crate) fn exec_move(s: &Scalars, vectors: &mut Vectors, za: &mut Za, x: &Til
     requires long { length_of vectors.old ≡ vector_bytes za.old.svl }
     ensures vectors { vectors.new ≡
         with_registers vectors.old (after_move x.now (core_of s.now vectors.old za.old)).registers }
-    ensures za { za.new ≡ record za.old { vectors = (after_move x.now (core_of s.now vectors.old za.old)).za } }
+    ensures za { za.new ≡ record za.old {
+      vectors = (after_move x.now
+          (core_of s.now vectors.old za.old)).za;
+    } }
     ensures scalars { (after_move x.now (core_of s.now vectors.old za.old)).scalars ≡ s.now }
 {
     let slice = slice_of(&x.slice, s, za.size());

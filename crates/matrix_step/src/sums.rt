@@ -19,9 +19,13 @@ use za_array::Za;
 pub(crate) fn exec_add(s: &Scalars, vectors: &Vectors, za: &mut Za, x: &TileAdd)
     requires range { IsTileAdd x.now }
     requires long { length_of vectors.now ≡ vector_bytes za.old.svl }
-    ensures za { za.new ≡ record za.old { vectors = (after_add x.now (core_of s.now vectors.now za.old)).za } }
+    ensures za { za.new ≡ record za.old {
+      vectors = (after_add x.now
+          (core_of s.now vectors.now za.old)).za;
+    } }
     ensures scalars { (after_add x.now (core_of s.now vectors.now za.old)).scalars ≡ s.now }
-    ensures registers { (after_add x.now (core_of s.now vectors.now za.old)).registers ≡ vectors.now.registers }
+    ensures registers { (after_add x.now (core_of s.now vectors.now za.old)).registers
+        ≡ vectors.now.registers }
 {
     let _size = za.size();
     let sum = TileSum {

@@ -15,4 +15,7 @@ pub record VectorState : Type 0 where
 
 -- all zero, outside streaming mode
 unfoldable pub zero_bank : VecLen → VecLen → VectorState
-zero_bank vl svl = record { registers = zero_registers (vector_bytes vl); za = zero_vectors (vector_bytes svl) }
+zero_bank vl svl = record {
+  registers = zero_registers (vector_bytes vl);
+  za = zero_vectors (vector_bytes svl);
+}

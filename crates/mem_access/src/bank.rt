@@ -8,8 +8,8 @@ use std::alloc::Global;
 use sve_vectors::Vectors;
 use za_array::Za;
 
-/// The vectors, predicates, FFR and ZA that a thread's instructions read and write, both at one SVL, and the number of
-/// that thread where they are not its own save area.
+/// The vectors, predicates, FFR and ZA that a thread's instructions read and write, both at one SVL, and the
+/// number of that thread where they are not its own save area.
 #[derive(Drop)]
 pub struct Bank {
     pub vectors: Vectors,
@@ -19,7 +19,8 @@ pub struct Bank {
 }
 
 impl Bank {
-    /// Registers and an array of zeros, outside Streaming SVE mode, with no owner. `Memory` is want of memory.
+    /// Registers and an array of zeros, outside Streaming SVE mode, with no owner. `Memory` is want of
+    /// memory.
     pub fn new(alloc: Global, vl: VecLen, svl: VecLen) -> Result<Bank, Memory>
         ensures vectors { IfOk result (λ b. b.vectors ≡ zero_state vl svl false) }
         ensures za { IfOk result (λ b. b.za ≡ zero_array svl) }

@@ -80,7 +80,8 @@ pub fn write_bytes(pages: &mut Pages, address: u64, bytes: &[u8]) -> Result<(), 
           address bytes.now;
     }) }
     ensures allowed { OnOk result (denied_write pages.old.memory address (length bytes.now) ≡ None) }
-    ensures stops { IfErr result (λ e. denied_write pages.old.memory address (length bytes.now) ≡ raised_by e) }
+    ensures stops { IfErr result (λ e. denied_write pages.old.memory address (length bytes.now)
+        ≡ raised_by e) }
     ensures err { OnErr result (pages.new.memory ≡ pages.old.memory) }
     ensures room { AreOwned pages.old address (length bytes.now) → result ≢ Err AccessStop.Memory }
     ensures kept { KeepsOwned pages.old pages.new }

@@ -43,7 +43,8 @@ pub fn read_pair(pages: &Pages, address: u64, wide: bool) -> Result<(u64, u64), 
     ensures second { let whole = number_in pages.now.memory address (2 * register_size wide)
         in IfOk result (λ p. p.1 ≡ whole / 2 ^ (8 * register_size wide)) }
     ensures allowed { OnOk result (denied_read pages.now.memory address (2 * register_size wide) ≡ None) }
-    ensures denied { IfErr result (λ e. denied_read pages.now.memory address (2 * register_size wide) ≡ Some e) }
+    ensures denied { IfErr result (λ e. denied_read pages.now.memory address (2 * register_size wide)
+        ≡ Some e) }
 {
     let count = 2 * register_size(wide);
     if address % 4096 + count <= 4096 {
@@ -66,7 +67,8 @@ fn read_pair_across(pages: &Pages, address: u64, wide: bool) -> Result<(u64, u64
     ensures second { let whole = number_in pages.now.memory address (2 * register_size wide)
         in IfOk result (λ p. p.1 ≡ whole / 2 ^ (8 * register_size wide)) }
     ensures allowed { OnOk result (denied_read pages.now.memory address (2 * register_size wide) ≡ None) }
-    ensures denied { IfErr result (λ e. denied_read pages.now.memory address (2 * register_size wide) ≡ Some e) }
+    ensures denied { IfErr result (λ e. denied_read pages.now.memory address (2 * register_size wide)
+        ≡ Some e) }
 {
     let mut room = [0; 16];
     let bytes = &mut room[..2 * register_size(wide) as usize];
@@ -112,7 +114,8 @@ pub fn write_pair(
     ensures ok { OnOk result
         (pages.new.memory ≡ with_bytes pages.old.memory address (pair_bytes wide first second)) }
     ensures allowed { OnOk result (denied_write pages.old.memory address (2 * register_size wide) ≡ None) }
-    ensures stops { IfErr result (λ e. denied_write pages.old.memory address (2 * register_size wide) ≡ raised_by e) }
+    ensures stops { IfErr result (λ e. denied_write pages.old.memory address (2 * register_size wide)
+        ≡ raised_by e) }
     ensures err { OnErr result (pages.new.memory ≡ pages.old.memory) }
     ensures room { AreOwned pages.old address (2 * register_size wide) → result ≢ Err AccessStop.Memory }
     ensures kept { KeepsOwned pages.old pages.new }

@@ -137,7 +137,8 @@ fn store_pair(
     ensures made { Transfers (denied_write pages.old.memory address (2 * register_size x.now.wide))
         (after_pair PairOp.Stp x.now address s.old pages.old.memory)
         (contents_of s.old pages.old) (contents_of s.new pages.new) result }
-    ensures room { AreOwned pages.old address (2 * register_size x.now.wide) → result ≢ Err AccessStop.Memory }
+    ensures room { AreOwned pages.old address (2 * register_size x.now.wide)
+        → result ≢ Err AccessStop.Memory }
     ensures kept { KeepsOwned pages.old pages.new }
 {
     match write_pair(pages, address, x.wide, read_x(s, x.rt), read_x(s, x.rt2)) {

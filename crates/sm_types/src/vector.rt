@@ -520,7 +520,8 @@ pub enum VectorAccess {
         rn: u8,
         zt: u8,
     },
-    /// `st1b {zt.t}, pg, [xn{, #n, mul vl}]`; what is stored is no wider than the element, and neither is `Q`.
+    /// `st1b {zt.t}, pg, [xn{, #n, mul vl}]`; what is stored is no wider than the element, and neither is
+    /// `Q`.
     Store {
         memory: Elem,
         element: Elem,

@@ -53,7 +53,8 @@ in_page_keeps need (Some flags) o p keeps there = permitted_keeps (permits need 
 lacks_keeps : (need : ℕ) (m : AddressSpace) (xs bs : List ℕ) (a : ℕ) → lacks need m a ≡ false
     → lacks need (written m xs (Some bs)) a ≡ false
 unfolding byte_with
-lacks_keeps need m xs bs a there = in_page_keeps need (get m.perm (a / 4096)) (get m.mem a) (get (set_each m.mem xs bs) a) (set_keeps m.mem xs bs a) there
+lacks_keeps need m xs bs a there = in_page_keeps need (get m.perm (a / 4096)) (get m.mem a) (get (set_each m.mem xs bs) a)
+    (set_keeps m.mem xs bs a) there
 
 passes : (fails : Bool) (a : ℕ) (rest : Option ℕ) → cond fails (Some a) rest ≡ None → fails ≡ false
 passes true a rest none = cc

@@ -49,7 +49,8 @@ stored_more m start z memory element pg k narrow within =
     let on = is_active (bytes_in element) pg k in
     let long = length_first f g element pg k (λ j lt. same_length start z memory element j narrow (omega (arith, lt, within))) in
     ap (λ mem. record m { mem = mem })
-    (set_append m.mem (of_first f element pg k) (flat_map f (place_where on k)) (of_first g element pg k) (flat_map g (place_where on k)) long
+    (set_append m.mem (of_first f element pg k) (flat_map f (place_where on k)) (of_first g element pg k)
+    (flat_map g (place_where on k)) long
     ∙ sym (ap₂ (λ xs bs. set_each m.mem xs bs) (of_more f element pg k) (of_more g element pg k)))
 
 pub stored_none : (m : AddressSpace) (start : ℕ) (z : List ℕ) (memory element : Size) (pg : List ℕ)
@@ -65,13 +66,16 @@ pub stored_one : (m : AddressSpace) (start : ℕ) (z : List ℕ) (memory element
     → with_bytes m ((start + i * bytes_in memory) % 2 ^ 64) bytes
     ≡ written m (flat_map (element_run start memory) (place_where on i)) (Some (flat_map (low_bytes z memory element) (place_where on i)))
 stored_one m start z memory element i on bytes active is long =
-    sym (ap (λ b. written m (flat_map (element_run start memory) (place_where b i)) (Some (flat_map (low_bytes z memory element) (place_where b i)))) active
+    sym (ap (λ b. written m (flat_map (element_run start memory) (place_where b i))
+    (Some (flat_map (low_bytes z memory element) (place_where b i)))) active
     ∙ ap₂ (λ xs bs. written m xs (Some bs)) (append-nil (element_run start memory i)) (append-nil (low_bytes z memory element i) ∙ sym is)
     ∙ written_run m ((start + i * bytes_in memory) % 2 ^ 64) (bytes_in memory) bytes long)
 
 -- or is not
 pub stored_not : (m : AddressSpace) (start : ℕ) (z : List ℕ) (memory element : Size) (i : ℕ) (on : Bool) → on ≡ false
-    → m ≡ written m (flat_map (element_run start memory) (place_where on i)) (Some (flat_map (low_bytes z memory element) (place_where on i)))
+    → m ≡ written m (flat_map (element_run start memory) (place_where on i))
+    (Some (flat_map (low_bytes z memory element) (place_where on i)))
 unfolding set_each
 stored_not m start z memory element i on inactive =
-    sym (ap (λ b. written m (flat_map (element_run start memory) (place_where b i)) (Some (flat_map (low_bytes z memory element) (place_where b i)))) inactive)
+    sym (ap (λ b. written m (flat_map (element_run start memory) (place_where b i))
+    (Some (flat_map (low_bytes z memory element) (place_where b i)))) inactive)

@@ -1,5 +1,5 @@
--- The checks of an access of vectors or predicates, and what it leaves where none fails. A vector has l bytes.
--- The scalar registers stay as they are; PC is moved by the machine.
+-- The checks of an access of vectors or predicates, and what it leaves where none fails. A vector has l
+-- bytes. The scalar registers stay as they are; PC is moved by the machine.
 -- Source: DDI 0487, C8.2: LD1B to LD1D, ST1B to ST1D (contiguous), LDR and STR (vector, predicate).
 use Rattle.std.specs.Prelude.{◌≡◌, ℕ, ◌/◌, Bool, true, false, not, List, [], Option, Some, None}
 use Rattle.std.specs.Prelude.{slice_index_or, slice_set, unwrap_or}

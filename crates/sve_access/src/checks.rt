@@ -92,7 +92,8 @@ fn write_fault<B: Bytes>(bytes: &B, pages: &Pages) -> Option<Exception>
     }
 }
 
-/// The exception of the first check that fails, of an access that reads some bytes from base register `rn` on.
+/// The exception of the first check that fails, of an access that reads some bytes from base register `rn`
+/// on.
 #[inline]
 pub fn load_fault<B: Bytes>(bytes: &B, rn: u8, s: &Scalars, pages: &Pages) -> Option<Exception>
     requires { B.can bytes.now }

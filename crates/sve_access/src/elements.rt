@@ -68,8 +68,8 @@ impl<'a> Elements<'a> {
         true
     }
 
-    /// Whether the elements are one run of bytes, in memory as in the register: each is as long in one as in the
-    /// other, and all are active.
+    /// Whether the elements are one run of bytes, in memory as in the register: each is as long in one as in
+    /// the other, and all are active.
     #[inline]
     pub fn are_run(&self) -> bool
         requires { length self.now.pg.now ≤ 32 }

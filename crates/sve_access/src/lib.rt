@@ -1,6 +1,6 @@
 //! The contiguous loads and stores of vectors and predicates on private memory: `transfer_vector` makes all
-//! checks of an access first, and changes registers and memory only where none fails. The checks of runs and of
-//! elements, and the stores of both, serve the accesses of ZA too.
+//! checks of an access first, and changes registers and memory only where none fails. The checks of runs and
+//! of elements, and the stores of both, serve the accesses of ZA too.
 #![tactic(auto)]
 
 mod addresses;

@@ -21,7 +21,8 @@ use vector_elements::{Change, Size, change_each, change_or_zero, element};
 #[inline]
 fn element_at(kind: LoadType, address: u64, pages: &Pages) -> u64
     requires { first_without 4 pages.now.memory address (bytes_in (memory_size kind)) ≡ None }
-    ensures { result ≡ loaded kind (number_at pages.now.memory (run_of address (bytes_in (memory_size kind)))) }
+    ensures { result ≡ loaded kind (number_at pages.now.memory
+        (run_of address (bytes_in (memory_size kind)))) }
 {
     match read_number(pages, address, access_size(memory_size(kind))) {
         Ok(number) => loaded(kind, number),
@@ -42,7 +43,8 @@ impl<'a> Change for OfMemory<'a> {
         × (i ≤ 256) × (length s.elements.now.pg.now ≤ 32) × (bytes_in size * i < 8 * length s.elements.now.pg.now)
         × (is_active (bytes_in size) s.elements.now.pg.now i ≡ true →
         first_without 4 s.pages.now.memory
-        ((s.elements.now.start + i * bytes_in (memory_size s.kind)) % 2 ^ 64) (bytes_in (memory_size s.kind)) ≡ None) };
+        ((s.elements.now.start + i * bytes_in (memory_size s.kind)) % 2 ^ 64)
+        (bytes_in (memory_size s.kind)) ≡ None) };
 
     ghost gives = { λ s size i old. if is_active (bytes_in size) s.elements.now.pg.now i then
         loaded s.kind (number_at s.pages.now.memory
@@ -91,8 +93,8 @@ fn load_known(kind: LoadType, pg: &[u8], z: &mut [u8], bytes: &[u8])
     change_or_zero(&OfBytes { kind, bytes }, element_size(kind), z, pg);
 }
 
-/// Loads the active elements of a vector from the bytes of all elements; the others become zero. With a loop for
-/// each load.
+/// Loads the active elements of a vector from the bytes of all elements; the others become zero. With a loop
+/// for each load.
 fn load_from(kind: LoadType, pg: &[u8], z: &mut [u8], bytes: &[u8])
     requires small { length pg.now ≤ 32 }
     requires bits { length z.old ≡ 8 * length pg.now }
@@ -142,8 +144,8 @@ fn load_each(kind: LoadType, elements: &Elements, z: &mut [u8], pages: &Pages)
     );
 }
 
-/// Loads the active elements of a vector, whose bytes can be read; the others become zero. Where the bytes of all
-/// elements lie in one page, the page is looked up once.
+/// Loads the active elements of a vector, whose bytes can be read; the others become zero. Where the bytes of
+/// all elements lie in one page, the page is looked up once.
 pub fn load_elements(kind: LoadType, elements: &Elements, z: &mut [u8], pages: &Pages)
     requires memory { elements.now.memory ≡ memory_size kind }
     requires element { elements.now.element ≡ element_size kind }

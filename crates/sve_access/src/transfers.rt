@@ -139,7 +139,8 @@ fn store_each(
         (with_elements pages.old.memory x.start x.memory x.element x.pg.now z.now)
         pages.old.memory pages.new.memory result }
     ensures room { let x = elements.now in
-        HasRoom (elements_stored rn x.start x.memory x.element x.pg.now) pages.old → result ≢ Err AccessStop.Memory }
+        HasRoom (elements_stored rn x.start x.memory x.element x.pg.now) pages.old
+        → result ≢ Err AccessStop.Memory }
     ensures kept { KeepsOwned pages.old pages.new }
 {
     match store_fault(elements, rn, s, pages) {
@@ -154,8 +155,8 @@ fn store_each(
     }
 }
 
-/// Stores the low bytes of the active elements of a vector, if no check fails. Where they are one run of bytes,
-/// it is written as one.
+/// Stores the low bytes of the active elements of a vector, if no check fails. Where they are one run of
+/// bytes, it is written as one.
 #[inline]
 pub fn store_elements(
     elements: &Elements,
@@ -173,7 +174,8 @@ pub fn store_elements(
         (with_elements pages.old.memory x.start x.memory x.element x.pg.now z.now)
         pages.old.memory pages.new.memory result }
     ensures room { let x = elements.now in
-        HasRoom (elements_stored rn x.start x.memory x.element x.pg.now) pages.old → result ≢ Err AccessStop.Memory }
+        HasRoom (elements_stored rn x.start x.memory x.element x.pg.now) pages.old
+        → result ≢ Err AccessStop.Memory }
     ensures kept { KeepsOwned pages.old pages.new }
 {
     if elements.are_run() {
@@ -207,7 +209,8 @@ fn transfer_store(
         Transfers (vector_fault x s.now l vectors.now.registers pages.old.memory)
         (after_access x s.now l vectors.now.registers pages.old.memory)
         (contents_of vectors.now.registers pages.old) (contents_of vectors.now.registers pages.new) result }
-    ensures room { HasRoom (access_of (form.Store memory element offset.now pg rn zt) s.now (length_of vectors.now)
+    ensures room { HasRoom (access_of (form.Store memory element offset.now pg rn zt) s.now
+        (length_of vectors.now)
         vectors.now.registers) pages.old
         → result ≢ Err AccessStop.Memory }
     ensures kept { KeepsOwned pages.old pages.new }
@@ -473,8 +476,9 @@ fn transfer_predicate_bytes(
 }
 
 /// The contiguous loads and stores of vectors and predicates: makes all checks of the access, and then the
-/// access; any answer but Ok leaves vectors and memory as they were, but that more pages may be owned. `Memory`
-/// comes only where the access writes a page that is not owned. The scalar registers stay as they are, PC too.
+/// access; any answer but Ok leaves vectors and memory as they were, but that more pages may be owned.
+/// `Memory` comes only where the access writes a page that is not owned. The scalar registers stay as they
+/// are, PC too.
 /// Source: DDI 0487, C8.2, LD1B to LD1D, ST1B to ST1D (contiguous), LDR, STR (vector, predicate).
 pub fn transfer_vector(
     insn: &VectorAccess,
@@ -487,7 +491,8 @@ pub fn transfer_vector(
         Transfers (vector_fault insn.now scalars.now l vectors.old.registers pages.old.memory)
         (after_access insn.now scalars.now l vectors.old.registers pages.old.memory)
         (contents_of vectors.old.registers pages.old) (contents_of vectors.new.registers pages.new) result }
-    ensures room { HasRoom (access_of insn.now scalars.now (length_of vectors.old) vectors.old.registers) pages.old
+    ensures room { HasRoom (access_of insn.now scalars.now (length_of vectors.old)
+        vectors.old.registers) pages.old
         → result ≢ Err AccessStop.Memory }
     ensures kept { KeepsOwned pages.old pages.new }
     ensures lengths { KeepsLengths vectors.old vectors.new }

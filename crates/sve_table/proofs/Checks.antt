@@ -77,7 +77,8 @@ unfoldable place_in : ℕ → List Row → ℕ
 place_in n [] = 0
 place_in n (r ∷ rs) = cond (number_of r.operation == n) 0 (suc (place_in n rs))
 
-listed : (op : VectorOperation) → option_map (λ (r : Row). r.operation) (slice_get VECTOR_LINES (place_in (number_of op) VECTOR_LINES)) ≡ Some op
+listed : (op : VectorOperation) → option_map (λ (r : Row). r.operation)
+    (slice_get VECTOR_LINES (place_in (number_of op) VECTOR_LINES)) ≡ Some op
 unfolding place_in number_of copy_number permute_number reduction_number compare_number predicate_number count_number element_number
     access_number sve2_number array_number streaming_number
 listed (G24 arithmetic.Add) = refl
@@ -132,7 +133,8 @@ listed _ = refl
 -- two operations of one number are one
 pub same_operation : (a b : VectorOperation) → number_of a ≡ number_of b → a ≡ b
 same_operation a b e =
-    some_is (sym (listed a) ∙ ap (λ n. option_map (λ (r : Row). r.operation) (slice_get VECTOR_LINES (place_in n VECTOR_LINES))) e ∙ listed b)
+    some_is (sym (listed a) ∙ ap (λ n. option_map (λ (r : Row). r.operation) (slice_get VECTOR_LINES (place_in n VECTOR_LINES))) e
+    ∙ listed b)
 
 pub record HasRow (op : VectorOperation) : Type 0 where
   pub place : ℕ
@@ -187,16 +189,19 @@ never_both : (word : ℕ) (r s : Row) → apart r s ≡ true → bit_and word r.
 unfolding apart
 never_both word r s e m n = not_alike word r.mask r.value s.mask s.value e m n
 
-pub one_match : (word i j : ℕ) (r s : Row) → slice_get VECTOR_LINES i ≡ Some r → slice_get VECTOR_LINES j ≡ Some s → bit_and word r.mask ≡ r.value
+pub one_match : (word i j : ℕ) (r s : Row) → slice_get VECTOR_LINES i ≡ Some r → slice_get VECTOR_LINES j ≡ Some s
+    → bit_and word r.mask ≡ r.value
     → bit_and word s.mask ≡ s.value → i ≡ j
-one_match word i j r s f g m n = one_place apart (λ x. bit_and word x.mask ≡ x.value) (never_both word) VECTOR_LINES all_apart i j r s f g m n
+one_match word i j r s f g m n = one_place apart (λ x. bit_and word x.mask ≡ x.value) (never_both word) VECTOR_LINES all_apart i j
+    r s f g m n
 
 pub one_row : (word : ℕ) → HasAtMostOneLine vector word
 unfolding vector
 one_row word i j r s f g m n d e = one_match word i j r s f g m n
 
 -- ---- the table meets what is asked of a table
-one_operation : (i j : ℕ) (r s : Row) → slice_get VECTOR_LINES i ≡ Some r → slice_get VECTOR_LINES j ≡ Some s → r.operation ≡ s.operation → i ≡ j
+one_operation : (i j : ℕ) (r s : Row) → slice_get VECTOR_LINES i ≡ Some r → slice_get VECTOR_LINES j ≡ Some s
+    → r.operation ≡ s.operation → i ≡ j
 one_operation i j r s f g e =
     one_place unlike (λ x. x.operation ≡ s.operation) (never_alike s.operation) VECTOR_LINES all_unlike i j r s f g e refl
 

@@ -241,7 +241,8 @@ module _ (w : ℕ) where
   streaming_ranged streaming_form.Length f = (signed_ranged IMM6 w (omega arith), small RD w)
   streaming_ranged (streaming_form.AddLength predicate) f = (signed_ranged IMM6 w (omega arith), small RN_HIGH w, small RD w)
 
-  operation_ranged : (op : VectorOperation) → fits_of op (numbers_in w) ≡ true → IsInVectorRow (named op (numbers_in w) (signed_numbers_in w))
+  operation_ranged : (op : VectorOperation) → fits_of op (numbers_in w) ≡ true
+      → IsInVectorRow (named op (numbers_in w) (signed_numbers_in w))
   unfolding fits_of named moved_slice moved_vector
   operation_ranged (G24 op) f = record { size = size; zm = small ZM w; zn = small ZN w; zd = small ZD w }
   operation_ranged (G25 op) f = record { zm = small ZM w; zn = small ZN w; zd = small ZD w }

@@ -14,8 +14,8 @@ use Rattle.vector_step.specs.Permutes.{after_permute, after_reduction}
 use Rattle.vector_step.specs.Predicates.{after_compare, after_predicate, after_predicate_count}
 use Rattle.vector_step.specs.Counts.{after_element_count}
 
--- the instruction reads and writes scalar and vector registers alone, in either mode: it is of a group of SVE or
--- SME, and accesses neither memory nor ZA, nor a mode, nor the streaming vector length
+-- the instruction reads and writes scalar and vector registers alone, in either mode: it is of a group of SVE
+-- or SME, and accesses neither memory nor ZA, nor a mode, nor the streaming vector length
 abbrev pub is_vector_computed : Insn → Bool
 is_vector_computed (insn.VectorAccess x) = false
 is_vector_computed (insn.Mode x) = false

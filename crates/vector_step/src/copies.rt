@@ -224,7 +224,8 @@ fn add_immediate(
 fn exec_immediate(vectors: &mut Vectors, x: &VectorCopy)
     requires immediate { IsTrue (is_of_immediate x.now) }
     requires range { IsVectorCopy x.now }
-    ensures { (s : Scalars) → vectors.new ≡ with_registers vectors.old (after_copy x.now s vectors.old.registers) }
+    ensures { (s : Scalars) → vectors.new ≡ with_registers vectors.old
+        (after_copy x.now s vectors.old.registers) }
 {
     match *x {
         VectorCopy::Immediate {

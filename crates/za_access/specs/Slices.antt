@@ -1,5 +1,5 @@
--- The checks of a load or store of a slice of a tile, and what it leaves where none fails. A slice has S bytes, S
--- being the streaming vector length in bytes, and its predicate a bit for each of them.
+-- The checks of a load or store of a slice of a tile, and what it leaves where none fails. A slice has S
+-- bytes, S being the streaming vector length in bytes, and its predicate a bit for each of them.
 -- Source: DDI 0487, C9.2: LD1B, LD1H, LD1W, LD1D, LD1Q, ST1B, ST1H, ST1W, ST1D and ST1Q (scalar plus scalar,
 -- tile slice); J1.1: Mem[], Elem[]. Addresses are taken modulo 2 ^ 64.
 use Rattle.std.specs.Prelude.{ℕ, ◌+◌, ◌*◌, ◌/◌, ◌%◌, ◌^◌, Bool, true, false, if◌then◌else◌, List}

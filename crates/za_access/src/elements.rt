@@ -90,8 +90,8 @@ impl<'a> SliceElements<'a> {
         }
     }
 
-    /// Stores the active elements of a slice from base register `rn` on, if no check fails; any other answer leaves
-    /// memory as it was. `Memory` comes only where a page is not owned.
+    /// Stores the active elements of a slice from base register `rn` on, if no check fails; any other answer
+    /// leaves memory as it was. `Memory` comes only where a page is not owned.
     pub fn store(
         &self,
         rn: u8,
@@ -103,7 +103,8 @@ impl<'a> SliceElements<'a> {
         requires some { 2 ≤ length self.now.pg.now }
         requires even { length self.now.pg.now % 2 ≡ 0 }
         requires bits { length slice.now ≡ 8 * length self.now.pg.now }
-        ensures made { let addresses = active_addresses self.now.start (element_size self.now.size) self.now.pg.now in
+        ensures made { let addresses = active_addresses self.now.start (element_size self.now.size)
+            self.now.pg.now in
             Transfers (access_fault None (at_base rn true addresses) s.now pages.old.memory)
             (written pages.old.memory addresses
             (Some (active_bytes (element_size self.now.size) self.now.pg.now slice.now)))
@@ -167,8 +168,8 @@ impl<'a> SliceElements<'a> {
         merge(element_size(self.size), self.pg, bytes, slice);
     }
 
-    /// Loads a slice, whose active elements can be read; the others become zero. Where the bytes of all elements
-    /// lie in one page, the page is looked up once.
+    /// Loads a slice, whose active elements can be read; the others become zero. Where the bytes of all
+    /// elements lie in one page, the page is looked up once.
     pub fn load(&self, slice: &mut [u8], pages: &Pages)
         requires bits { length slice.old ≡ 8 * length self.now.pg.now }
         requires few { length self.now.pg.now ≤ 32 }

@@ -1,5 +1,5 @@
-//! The loads and stores of the ZA array on private memory: of a vector of the array, and of a slice of a tile.
-//! All checks of an access are made first, and ZA and memory change only where none fails.
+//! The loads and stores of the ZA array on private memory: of a vector of the array, and of a slice of a
+//! tile. All checks of an access are made first, and ZA and memory change only where none fails.
 #![tactic(auto)]
 
 mod elements;

@@ -116,10 +116,10 @@ fn store_slice(
     elements.store(insn.rn, bytes, s, pages)
 }
 
-/// The loads and stores of a slice of a tile: makes all checks of the access, and then the access; any answer but
-/// Ok leaves ZA and memory as they were, but that more pages may be owned. `Memory` comes only where a store writes
-/// a page that is not owned. Inactive elements are neither checked nor stored, and are loaded as zeros. That
-/// PSTATE.SM and PSTATE.ZA are 1 is for the caller to ask; PC stays.
+/// The loads and stores of a slice of a tile: makes all checks of the access, and then the access; any answer
+/// but Ok leaves ZA and memory as they were, but that more pages may be owned. `Memory` comes only where a
+/// store writes a page that is not owned. Inactive elements are neither checked nor stored, and are loaded as
+/// zeros. That PSTATE.SM and PSTATE.ZA are 1 is for the caller to ask; PC stays.
 /// Source: DDI 0487, C9.2, LD1B to LD1Q, ST1B to ST1Q (scalar plus scalar, tile slice).
 pub fn transfer_slice(
     insn: &TileAccess,
@@ -134,7 +134,8 @@ pub fn transfer_slice(
         Transfers (slice_fault insn.now scalars.now pg pages.old.memory)
         (after_slice insn.now scalars.now pg (vector_bytes za.old.svl) za.old.vectors pages.old.memory)
         (contents_of za.old pages.old) (contents_of za.new pages.new) result }
-    ensures room { HasRoom (slice_access insn.now scalars.now (p_of vectors.now.registers insn.now.pg)) pages.old
+    ensures room { HasRoom (slice_access insn.now scalars.now
+        (p_of vectors.now.registers insn.now.pg)) pages.old
         → result ≢ Err AccessStop.Memory }
     ensures kept { KeepsOwned pages.old pages.new }
     ensures svl { za.new.svl ≡ za.old.svl }

@@ -110,10 +110,10 @@ fn store_vector(
     )
 }
 
-/// LDR and STR of a vector of the array, whose fields are those of `ArrayAccess::Transfer`: makes all checks of
-/// the access, and then the access; any answer but Ok leaves ZA and memory as they were, but that more pages may be
-/// owned. `Memory` comes only where a store writes a page that is not owned. That PSTATE.ZA is 1 is for the caller
-/// to ask; PC stays. Source: DDI 0487, C9.2, LDR (array vector), STR (array vector).
+/// LDR and STR of a vector of the array, whose fields are those of `ArrayAccess::Transfer`: makes all checks
+/// of the access, and then the access; any answer but Ok leaves ZA and memory as they were, but that more
+/// pages may be owned. `Memory` comes only where a store writes a page that is not owned. That PSTATE.ZA is 1
+/// is for the caller to ask; PC stays. Source: DDI 0487, C9.2, LDR (array vector), STR (array vector).
 pub fn transfer_array_vector(
     store: bool,
     rv: u8,

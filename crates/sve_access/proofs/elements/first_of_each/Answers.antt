@@ -19,7 +19,11 @@ loop-i-preserved g c =
 pub returns : goal.returns
 unfolding element_addresses
 returns g c =
-    let all : c.loop-i.i ≡ c.count-i-end.result = (let end = c.loop-i-test.false in let most = c.loop-i.auto.i-end in omega (arith, end, most)) in
+    let all : c.loop-i.i ≡ c.count-i-end.result = (let end = c.loop-i-test.false in let most = c.loop-i.auto.i-end in omega (
+      arith,
+      end,
+      most,
+    )) in
     c.loop-i.invariant
     ∙ ap (λ k. find (g.C.Check.fails c.args.check.now)
     (of_first (element_run c.args.elements.now.start c.args.elements.now.memory) c.args.elements.now.element c.args.elements.now.pg.now k))

@@ -49,7 +49,11 @@ pub returns-clause-memory : goal.returns-clause-memory
 unfolding element_addresses element_bytes
 returns-clause-memory c =
     let x = c.args.elements.now in
-    let all : c.loop-i.i ≡ c.count-i-end.result = (let end = c.loop-i-test.false in let most = c.loop-i.auto.i-end in omega (arith, end, most)) in
+    let all : c.loop-i.i ≡ c.count-i-end.result = (let end = c.loop-i-test.false in let most = c.loop-i.auto.i-end in omega (
+      arith,
+      end,
+      most,
+    )) in
     c.loop-i.invariant.0
     ∙ ap (λ k. written c.args.pages.now.memory (of_first (element_run x.start x.memory) x.element x.pg.now k)
     (Some (of_first (low_bytes c.args.z.now x.memory x.element) x.element x.pg.now k)))
