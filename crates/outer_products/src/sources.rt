@@ -1,8 +1,8 @@
 //! The elements of a source as numbers, of which those that are not active are zero.
-ghost use Rattle.std.specs.Prelude.{◌≡◌, ℕ, ◌*◌, ◌/◌, ◌%◌, ◌^◌, ◌<◌, ◌≤◌, length};
+ghost use Rattle.std.specs.Prelude.{◌≡◌, ◌*◌, ◌%◌, ◌^◌, ◌<◌, ◌≤◌, length};
 ghost use Rattle.vector_elements.specs.declared.size.Size.TheVariants.{B, H};
 ghost use Rattle.vector_elements.specs.Elements.{each_or_zero};
-ghost use Rattle.vector_elements.specs.Numbers.{bytes_in, range_of};
+ghost use Rattle.vector_elements.specs.Numbers.{bytes_in};
 ghost use Rattle.outer_products.specs.OuterProducts.{number_of};
 ghost use Rattle.std.specs.Int.{w16, w32};
 ghost use Rattle.outer_products.specs.Sources.{negated, numbers_of, AllFit};

@@ -1,5 +1,5 @@
 //! Loads and stores of a slice of a tile.
-ghost use Rattle.std.specs.Prelude.{◌≡◌, ◌≢◌, ◌*◌, ◌%◌, ◌<◌, ◌≤◌, length, false, true, None, Err};
+ghost use Rattle.std.specs.Prelude.{◌≡◌, ◌≢◌, ◌*◌, ◌<◌, length, false, true, None, Err};
 ghost use Rattle.std.specs.List.{find};
 ghost use Rattle.sve_table.specs.Ranges.{IsTileAccess};
 ghost use Rattle.sve_vectors.specs.Lengths.{vector_bytes};
