@@ -1,6 +1,8 @@
 //! Vector instructions by their words: at the ends of their ranges, at each length, and with the destination
 //! among the sources.
 
+ghost use Rattle.sve_table.specs.Ranges.{IsInVectorRow};
+
 use sm_types::{Insn, Scalars, VecLen};
 use std::alloc::Global;
 use sve_decode::decode_vector;
@@ -26,9 +28,16 @@ const ZEROS: Scalars = Scalars {
 };
 
 /// Executes the instruction of a word; `None` where it is none that reads and writes registers alone.
-#[tactic(auto, unfolding(sve_table::specs::Groups::is_vector_group))]
 fn step(scalars: &mut Scalars, vectors: &mut Vectors, word: u32) -> Option<()> {
     let insn = decode_vector(word)?;
+    compute(scalars, vectors, &insn)
+}
+
+/// Executes a vector instruction; `None` where it is none that reads and writes registers alone.
+#[tactic(auto, unfolding(sve_table::specs::Groups::is_vector_group))]
+fn compute(scalars: &mut Scalars, vectors: &mut Vectors, insn: &Insn) -> Option<()>
+    requires { IsInVectorRow insn.now }
+{
     match insn {
         Insn::VectorAccess(_)
         | Insn::Mode(_)
@@ -39,7 +48,7 @@ fn step(scalars: &mut Scalars, vectors: &mut Vectors, word: u32) -> Option<()> {
         | Insn::OuterProduct(_)
         | Insn::StreamingLength(_) => None,
         _ => {
-            exec_vector(scalars, vectors, &insn);
+            exec_vector(scalars, vectors, insn);
             Some(())
         }
     }
