@@ -1,6 +1,6 @@
 -- What the ports and their tickets tell.
 use Rattle.std.specs.Prelude.{◌≡◌, ◌≢◌, ℕ, List, [], ◌∷◌, ◌++◌}
-use Rattle.std.proofs.Common.{sym, ◌∙◌}
+use Rattle.std.proofs.Common.{sym, ◌∙◌, subst}
 use Rattle.sm_types.specs.declared.shared_op.SharedOp.{SharedOp}
 use Rattle.sm_types.specs.declared.shared_op.Event.{Event}
 use Rattle.sm_types.specs.declared.shared_words.Entry.{Entry}
@@ -63,9 +63,11 @@ pub record ReplayGives (t : ReplayEvents) (e : Entry) (u : ReplayEvents) : Type 
   pub ahead : t.ahead ≡ e.event ∷ u.ahead
   pub answered : u.answered ≡ t.answered ++ e.event ∷ []
 
+-- the list is empty
+abbrev IsNone : List Event → Type 0
+IsNone [] = Unit {0}
+IsNone (e ∷ es) = ⊥
+
 -- no event is left, and there is a next one: not both
 pub end_or_stray : (t : ReplayEvents) (op : SharedOp) → IsAtEnd t → Strays t op → ⊥
-end_or_stray t op ends strays = not_both strays.next strays.others (sym ends ∙ strays.ahead)
-  where
-    not_both : (e : Event) (es : List Event) → [] ≡ e ∷ es → ⊥
-    not_both e es p = cc
+end_or_stray t op ends strays = subst IsNone (sym ends ∙ strays.ahead) tt
