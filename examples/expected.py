@@ -3,7 +3,7 @@
 
     examples/expected.py FILE [VL [SVL]]
 
-It knows the instructions that the programs of this repository use, and the calls write, exit, yield, set handler and number; each other word is undefined to it.
+It knows the instructions that the programs of this repository use, and the calls write, exit, yield, set handler and number; each other word is undefined to it. One thread makes all operations on the shared words.
 """
 import hashlib
 import struct
@@ -13,13 +13,35 @@ from expected_matrix import Matrix
 from expected_vectors import Vectors
 
 OUTPUT_LIMIT = 1_048_576
+JOURNAL_LIMIT = 262_144
 MASK = (1 << 64) - 1
 STACK = 0x7DFFFFFC0000
 SHARED = range(0x7F0000000000, 0x7F0000001000)
 
 
+# the operations on a shared word: the new word, from the old one and the values a and b
+OPERATIONS = {
+    "ld": lambda old, a, b: old,
+    "st": lambda old, a, b: a,
+    "swp": lambda old, a, b: a,
+    "add": lambda old, a, b: old + a & MASK,
+    "clr": lambda old, a, b: old & ~a,
+    "eor": lambda old, a, b: old ^ a,
+    "set": lambda old, a, b: old | a,
+    "umax": lambda old, a, b: max(old, a),
+    "umin": lambda old, a, b: min(old, a),
+    "cas": lambda old, a, b: b if old == a else old,
+}
+# LDADD and its kin, by their number
+UPDATES = ("add", "clr", "eor", "set", "smax", "smin", "umax", "umin")
+
+
 class Raised(Exception):
     pass
+
+
+class Full(Exception):
+    """The journal has no room for another event."""
 
 
 def signed(value, bits):
@@ -48,6 +70,7 @@ class Thread:
         self.flags = [0, 0, 0, 0]
         self.count = 0
         self.output = b""
+        self.words, self.journal = [0] * 512, []
 
     def page(self, number, flags):
         return self.pages.setdefault(number, [flags, bytearray(4096)])
@@ -73,6 +96,19 @@ class Thread:
             for at in range(address, address + count):
                 if name in kind and self.bytes_with(need, at, 1) is None:
                     raise Raised("data", f" {at & MASK:016x} {name}")
+
+    def ask(self, kind, address, base, a=0, b=0):
+        """An operation on a shared word: an aligned access of 64 bits."""
+        if base == 31 and self.sp % 16:
+            raise Raised("spalign", "")
+        if len(self.journal) == JOURNAL_LIMIT:
+            raise Full
+        place = (address - SHARED.start) // 8
+        old = self.words[place]
+        self.words[place] = OPERATIONS[kind](old, a, b)
+        answer = 0 if kind == "st" else old
+        self.journal.append(f"e {kind} {place} {a:016x} {b:016x} {answer:016x}")
+        return answer
 
     def check_all(self, addresses, count, kind, base):
         if base == 31 and self.sp % 16:
@@ -154,6 +190,8 @@ class Thread:
         except Raised as exception:
             name, values = exception.args
             return f"raised {name} {self.pc:016x}{values}"
+        except Full:
+            return "tracefull"
         if target is None:
             return f"raised undefined {self.pc:016x} {word:08x}"
         self.pc, self.count = target & MASK, self.count + 1
@@ -253,17 +291,31 @@ class Thread:
         if word & 0x3F000000 == 0x18000000 and word >> 30 < 3:
             size = (4, 8, 4)[word >> 30]
             address = (self.pc + 4 * signed(word >> 5, 19)) & MASK
+            if word >> 30 == 1 and address in SHARED and address % 8 == 0:
+                self.write(rt, self.ask("ld", address, None), False)
+                return after
             self.check(address, size, "read")
             value = self.load(address, size)
             self.write(rt, signed(value, 32) & MASK if word >> 30 == 2 else value, False)
             return after
         if word & 0x7E000000 == 0x28000000 and word >> 23 & 3:
             return self.pair(word, rt, rn, base, after)
-        if word & 0x3F20FC00 == 0x38200000:
-            self.check(base, size, "read write", rn, True)
-            old = self.load(base, size)
-            self.store(base, size, old + self.read(word >> 16 & 31))
-            self.write(rt, old, False)
+        if word & 0x3F200C00 == 0x38200000 and (word >> 15 & 1 == 0 or word >> 12 & 7 == 0):
+            return self.exchange(word, "swp" if word >> 15 & 1 else UPDATES[word >> 12 & 7], size, base, rt, rn, after)
+        if word & 0x3FA07C00 == 0x08A07C00:
+            return self.compare(word, size, base, rt, rn, after)
+        if word & 0x3FFFFC00 in (0x08DFFC00, 0x089FFC00):
+            loads = word >> 22 & 1
+            if size == 8 and base in SHARED and base % 8 == 0:
+                answer = self.ask("ld", base, rn) if loads else self.ask("st", base, rn, self.read(rt))
+                if loads:
+                    self.write(rt, answer, False)
+                return after
+            self.check(base, size, "read" if loads else "write", rn, True)
+            if loads:
+                self.write(rt, self.load(base, size), False)
+            else:
+                self.store(base, size, self.read(rt))
             return after
         return None
 
@@ -271,6 +323,12 @@ class Thread:
         operation = word >> 22 & 3
         if size == 8 and operation > 1 or size == 4 and operation == 3:
             return None
+        if size == 8 and operation < 2 and address in SHARED and address % 8 == 0:
+            kind, value = ("ld", 0) if operation else ("st", self.read(rt))
+            answer = self.ask(kind, address, rn, value)
+            if operation:
+                self.write(rt, answer, False)
+            return after
         self.check(address, size, "read" if operation else "write", rn)
         if operation == 0:
             self.store(address, size, self.read(rt))
@@ -279,6 +337,36 @@ class Thread:
             if operation > 1:
                 value = signed(value, 8 * size) & (MASK if operation == 2 else 0xFFFFFFFF)
             self.write(rt, value, False)
+        return after
+
+    def exchange(self, word, kind, size, base, rt, rn, after):
+        """SWP, LDADD and its kin."""
+        value = self.read(word >> 16 & 31)
+        if size == 8 and kind in OPERATIONS and base in SHARED and base % 8 == 0:
+            self.write(rt, self.ask(kind, base, rn, value), False)
+            return after
+        self.check(base, size, "read write", rn, True)
+        old, bits = self.load(base, size), 8 * size
+        value &= (1 << bits) - 1
+        if kind in ("smax", "smin"):
+            new = (max if kind == "smax" else min)(signed(old, bits), signed(value, bits))
+        else:
+            new = OPERATIONS[kind](old, value, 0)
+        self.store(base, size, new)
+        self.write(rt, old, False)
+        return after
+
+    def compare(self, word, size, base, rt, rn, after):
+        """CAS."""
+        rs = word >> 16 & 31
+        if size == 8 and base in SHARED and base % 8 == 0:
+            self.write(rs, self.ask("cas", base, rn, self.read(rs), self.read(rt)), False)
+            return after
+        self.check(base, size, "read write", rn, True)
+        old = self.load(base, size)
+        if old == self.read(rs) & (1 << 8 * size) - 1:
+            self.store(base, size, self.read(rt))
+        self.write(rs, old, False)
         return after
 
     def pair(self, word, rt, rn, base, after):
@@ -316,7 +404,9 @@ def report(file, vl=128, svl=256, budget=10_000_000):
     lines += [f"handler {signal} {address:016x}" for signal, address in sorted(thread.handlers.items()) if address]
     lines += [f"output {len(thread.output)}"]
     lines += [f"out {thread.output[i:i + 32].hex()}" for i in range(0, len(thread.output), 32)]
-    return "\n".join(lines + ["journal 0", "end-thread", "shared", "end"]) + "\n"
+    lines += [f"journal {len(thread.journal)}", *thread.journal, "end-thread", "shared"]
+    lines += [f"w {place} {word:016x}" for place, word in enumerate(thread.words) if word]
+    return "\n".join(lines + ["end"]) + "\n"
 
 
 if __name__ == "__main__":

@@ -3,16 +3,17 @@ use Rattle.std.proofs.Common.{◌⊎◌, inl, inr, ◌≡◌, ℕ, ◌+◌, true
 use Rattle.std.proofs.Common.{slice_index, length}
 use Rattle.std.proofs.lemmas.Bool.{cond_both}
 use Rattle.std.proofs.lemmas.Bool.Decides.{nat_tests}
-use Rattle.std.specs.Prelude.{◌==◌, ◌||◌, nat_lt}
+use Rattle.std.specs.Prelude.{◌==◌, ◌||◌, nat_lt, nat_le}
 use Rattle.sm_types.specs.declared.config.Config.{Config}
 use Rattle.sm_types.specs.declared.stop.Exception.{Exception}
 use Rattle.sm_types.specs.declared.stop.Stop.TheVariants.{Budget, Raised}
 use Rattle.machine_step.specs.ProcessorState.{ProcessorState, vector_bytes}
 use Rattle.machine_step.specs.Effect.{Effect, Raises, Calls, Becomes, effect_of}
+use Rattle.machine_step.specs.Effect as instruction
 use Rattle.kernel_contexts.specs.State.{State}
 use Rattle.kernel_contexts.specs.Handlers.{is_signal}
 use Rattle.kernel_contexts.specs.Call.{TurnEnd, Goes, Yields, Asks, Ends, counted, written, call_of, write_of, exit_of, set_handler_of, output_limit}
-use Rattle.kernel_contexts.specs.Turn.{turn_of, after_effect, outside_streaming}
+use Rattle.kernel_contexts.specs.Turn.{turn_of, after_effect, outside_streaming, journal_limit}
 
 pub turn_spent : (config : Config) (thread events : ℕ) (s : State) → s.count ≡ config.budget
     → turn_of config thread events s ≡ Ends s Budget
@@ -20,27 +21,27 @@ unfolding turn_of
 turn_spent config thread events s e = let test : (s.count == config.budget) ≡ true = grind (arith, nat_tests) in rw test refl
 
 turn_on : (config : Config) (thread events : ℕ) (s : State) → (s.count ≡ config.budget → ⊥)
-    → turn_of config thread events s ≡ after_effect config thread s (effect_of (vector_bytes config.vl) s.core)
+    → turn_of config thread events s ≡ after_effect config thread events s (effect_of (vector_bytes config.vl) s.core)
 unfolding turn_of
 turn_on config thread events s e = let test : (s.count == config.budget) ≡ false = grind (arith, nat_tests) in rw test refl
 
 pub turn_becomes : (config : Config) (thread events : ℕ) (s : State) (core : ProcessorState) → (s.count ≡ config.budget → ⊥)
     → effect_of (vector_bytes config.vl) s.core ≡ Becomes core → turn_of config thread events s ≡ Goes (counted s core)
-turn_becomes config thread events s core e is = turn_on config thread events s e ∙ ap (after_effect config thread s) is
+turn_becomes config thread events s core e is = turn_on config thread events s e ∙ ap (after_effect config thread events s) is
 
 pub turn_calls : (config : Config) (thread events : ℕ) (s : State) (core : ProcessorState) (number : ℕ) → (s.count ≡ config.budget → ⊥)
     → effect_of (vector_bytes config.vl) s.core ≡ Calls number → core ≡ s.core
     → turn_of config thread events s ≡ call_of config thread (record s { core = core })
     (outside_streaming config (record s { core = core }))
 turn_calls config thread events s core number e is same =
-    turn_on config thread events s e ∙ ap (after_effect config thread s) is
+    turn_on config thread events s e ∙ ap (after_effect config thread events s) is
     ∙ ap (λ core. call_of config thread (record s { core = core }) (outside_streaming config (record s { core = core }))) (sym same)
 
 pub turn_raises : (config : Config) (thread events : ℕ) (s : State) (core : ProcessorState) (exception : Exception)
     → (s.count ≡ config.budget → ⊥) → effect_of (vector_bytes config.vl) s.core ≡ Raises exception → core ≡ s.core
     → turn_of config thread events s ≡ Ends (record s { core = core }) (Raised exception core.scalars.pc)
 turn_raises config thread events s core exception e is same =
-    turn_on config thread events s e ∙ ap (after_effect config thread s) is
+    turn_on config thread events s e ∙ ap (after_effect config thread events s) is
     ∙ ap (λ core. Ends (record s { core = core }) (Raised exception core.scalars.pc)) (sym same)
 
 -- one instruction more is counted, and one turn
@@ -88,16 +89,19 @@ module _ (s : State) (core : ProcessorState) where
       (λ _. cond_both (slice_index core.scalars.x 8 == 178) _ _ (CountsOne s) (λ _. record { count = refl; turns = refl })
       (λ _. record { count = refl; turns = refl })))))
 
-effect_counts : (config : Config) (thread : ℕ) (s : State) (effect : Effect) → CountsOne s (after_effect config thread s effect)
-effect_counts config thread s (Raises exception) = inl refl
-effect_counts config thread s (Calls number) = call_counts s (outside_streaming config s).core config thread
-effect_counts config thread s (Becomes core) = one_more s core
+effect_counts : (config : Config) (thread events : ℕ) (s : State) (effect : Effect)
+    → CountsOne s (after_effect config thread events s effect)
+effect_counts config thread events s (Raises exception) = inl refl
+effect_counts config thread events s (Calls number) = call_counts s (outside_streaming config s).core config thread
+effect_counts config thread events s (Becomes core) = one_more s core
+effect_counts config thread events s (instruction.Asks op next) =
+    cond_both (nat_le journal_limit events) _ _ (CountsOne s) (λ _. inl refl) (λ _ answer. one_more s (next answer))
 
 pub turn_counts : (config : Config) (thread events : ℕ) (s : State) → CountsOne s (turn_of config thread events s)
 unfolding turn_of
 turn_counts config thread events s =
     cond_both (s.count == config.budget) _ _ (CountsOne s) (λ _. inl refl)
-    (λ _. effect_counts config thread s (effect_of (vector_bytes config.vl) s.core))
+    (λ _. effect_counts config thread events s (effect_of (vector_bytes config.vl) s.core))
 
 pub goes_turned : (config : Config) (thread events : ℕ) (s t : State) → turn_of config thread events s ≡ Goes t → t.turns ≡ s.turns + 1
 goes_turned config thread events s t e = let more : IsOneMore s t = subst (CountsOne s) e (turn_counts config thread events s) in more.turns

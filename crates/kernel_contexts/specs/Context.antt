@@ -1,21 +1,25 @@
 -- What a context is, and what its turns are.
-use Rattle.std.specs.Prelude.{◌≡◌, ℕ, false, Option, Some, None}
+use Rattle.std.specs.Prelude.{◌≡◌, ℕ, false, List, [], ◌∷◌, Option, Some, None, length, drop}
 use Rattle.sm_types.specs.declared.config.Config.{Config}
+use Rattle.sm_types.specs.declared.shared_op.SharedOp.{SharedOp}
+use Rattle.sm_types.specs.declared.shared_op.Event.{Event}
 use Rattle.sm_types.specs.declared.stop.Stop.{Stop}
 use Rattle.paged_memory.specs.Image.{Program}
 use Rattle.mem_access.specs.Bank.{bank_state}
 use Rattle.mem_access.specs.declared.bank.Bank.{Bank}
 use Rattle.machine_step.specs.ProcessorState.{VectorState}
 use Rattle.machine_step.specs.Machine.{core_of}
+use Rattle.machine_step.specs.Step.{Refusals}
 use Rattle.machine_step.specs.declared.machine.Machine.{Machine}
 use Rattle.kernel_contexts.specs.State.{State}
 use Rattle.kernel_contexts.specs.HandlerTable.{handlers_of}
-use Rattle.kernel_contexts.specs.Call.{TurnEnd, Goes, Yields, Ends, call_of}
+use Rattle.kernel_contexts.specs.Call.{TurnEnd, Goes, Yields, Asks, Ends, call_of}
 use Rattle.kernel_contexts.specs.Turn.{turn_of, outside_streaming}
 use Rattle.kernel_contexts.specs.declared.guest.GuestThread.{GuestThread}
 use Rattle.kernel_contexts.specs.declared.context.Context.{Context}
 use Rattle.kernel_contexts.specs.declared.context.Turn.{Turn}
-use Rattle.kernel_contexts.specs.declared.context.Turn.TheVariants.{Ran, Yielded, Stopped, Memory}
+use Rattle.kernel_contexts.specs.declared.context.Turn.TheVariants.{Ran, Yielded, Stopped, TraceEnds, TraceDiffers}
+use Rattle.kernel_contexts.specs.declared.context.Turn.TheVariants.{Memory}
 
 -- the plain state of a guest thread with a bank; no signal comes yet
 abbrev pub guest_state : GuestThread → VectorState → State
@@ -62,6 +66,10 @@ image_of c = c.image
 abbrev pub config_of : Context → Config
 config_of c = c.guest.config
 
+-- its journal
+abbrev pub journal_of : Context → List Event
+journal_of c = c.guest.journal.items
+
 -- the thread's number
 abbrev pub thread_of : Context → ℕ
 thread_of c = c.guest.number
@@ -70,43 +78,97 @@ thread_of c = c.guest.number
 abbrev pub stop_of : Context → Option Stop
 stop_of c = c.guest.stop
 
--- the answer of a turn of a thread that had not stopped, and the state and the stop after it, are those of
--- the turn; want of memory changes nothing
+-- the answer of a turn that asks no operation, of a thread that had not stopped, and the state and the stop
+-- after it, are those of the turn; want of memory changes nothing
 abbrev pub Turns : TurnEnd → State → State → Option Stop → Turn → Type 0
 Turns end old new stopped Ran = (end ≡ Goes new) × (stopped ≡ None)
 Turns end old new stopped Yielded = (end ≡ Yields new) × (stopped ≡ None)
 Turns end old new stopped (Stopped stop) = (end ≡ Ends new stop) × (stopped ≡ Some stop)
+Turns end old new stopped TraceEnds = ⊥
+Turns end old new stopped TraceDiffers = ⊥
 Turns end old new stopped Memory = (new ≡ old) × (stopped ≡ None)
 
--- the turn of a guest thread, whose journal has no event yet
+-- the turn asks an operation, of which this holds
+abbrev pub AsksFor : TurnEnd → (SharedOp → Type 0) → Type 0
+AsksFor (Goes s) holds = ⊥
+AsksFor (Yields s) holds = ⊥
+AsksFor (Asks op next) holds = holds op
+AsksFor (Ends s stop) holds = ⊥
+
+-- the turn asks the operation of the event, which the port did not refuse, and the state is that for the
+-- answer
+pub record IsAnsweredTurn (refusals : Refusals) (end : TurnEnd) (new : State) (event : Event) : Type 0 where
+  pub next : ℕ → State
+  pub asks : end ≡ Asks event.op next
+  pub made : new ≡ next event.answer
+  pub goes : (¬ refusals.ends event.op) × (¬ refusals.strays event.op)
+
+-- a turn that goes on, with the events that it made: none, or one
+abbrev pub GoesOn : Refusals → TurnEnd → State → List Event → Type 0
+GoesOn refusals end new [] = end ≡ Goes new
+GoesOn refusals end new (event ∷ []) = IsAnsweredTurn refusals end new event
+GoesOn refusals end new (event ∷ other ∷ events) = ⊥
+
+-- the answer of a turn of a thread that had not stopped, the state, the events that it made and the stop
+-- after it, are those of the turn; what a port refuses, and want of memory, change nothing
+abbrev pub TurnsOver :
+    Refusals → TurnEnd → State → State → List Event → Option Stop → Turn → Type 0
+TurnsOver refusals end old new made stopped Ran = GoesOn refusals end new made × (stopped ≡ None)
+TurnsOver refusals end old new made stopped Yielded = (end ≡ Yields new) × (made ≡ []) × (stopped ≡ None)
+TurnsOver refusals end old new made stopped (Stopped stop) =
+    (end ≡ Ends new stop) × (made ≡ []) × (stopped ≡ Some stop)
+TurnsOver refusals end old new made stopped TraceEnds =
+    AsksFor end refusals.ends × (new ≡ old) × (made ≡ []) × (stopped ≡ None)
+TurnsOver refusals end old new made stopped TraceDiffers =
+    AsksFor end refusals.strays × (new ≡ old) × (made ≡ []) × (stopped ≡ None)
+TurnsOver refusals end old new made stopped Memory = (new ≡ old) × (made ≡ []) × (stopped ≡ None)
+
+-- the turn of a guest thread
 abbrev pub guest_turn : GuestThread → TurnEnd
-guest_turn g = turn_of g.config g.number 0 (held_state g)
+guest_turn g = turn_of g.config g.number (length g.journal.items) (held_state g)
 
 -- its call of the kernel, before which it leaves Streaming SVE mode
 abbrev pub guest_call : GuestThread → TurnEnd
 guest_call g = call_of g.config g.number (held_state g) (outside_streaming g.config (held_state g))
 
--- the same, of a guest thread before and after
+-- a turn that asks nothing, of a guest thread before and after
 abbrev pub Takes : TurnEnd → GuestThread → GuestThread → Turn → Type 0
 Takes end old new turn = Turns end (held_state old) (held_state new) new.stop turn
 
+-- the events at the end of a journal that were not in it before
+abbrev pub made_since : List Event → List Event → List Event
+made_since old new = drop (length old) new
+
 -- a context that is stopped answers its stop and stays as it is
 abbrev pub Stays : Stop → Context → Context → Turn → Type 0
-Stays stop old new turn = (turn ≡ Stopped stop) × (state_of new ≡ state_of old) × (stop_of new ≡ Some stop)
+Stays stop old new turn =
+    (turn ≡ Stopped stop) × (state_of new ≡ state_of old) × (journal_of new ≡ journal_of old)
+    × (stop_of new ≡ Some stop)
 
--- the turn of a context, whose journal has no event yet
+-- the turn of a context
 abbrev pub turn_at : Context → TurnEnd
-turn_at c = turn_of (config_of c) (thread_of c) 0 (state_of c)
+turn_at c = turn_of (config_of c) (thread_of c) (length (journal_of c)) (state_of c)
+
+-- the events that a context made
+abbrev pub made_by : Context → Context → List Event
+made_by old new = made_since (journal_of old) (journal_of new)
 
 -- a context that is not stopped makes a turn
-abbrev pub TurnsOrStays : Option Stop → Context → Context → Turn → Type 0
-TurnsOrStays None old new turn = Turns (turn_at old) (state_of old) (state_of new) (stop_of new) turn
-TurnsOrStays (Some stop) old new turn = Stays stop old new turn
+abbrev pub TurnsOrStays : Option Stop → Refusals → Context → Context → Turn → Type 0
+TurnsOrStays None refusals old new turn =
+    TurnsOver refusals (turn_at old) (state_of old) (state_of new) (made_by old new) (stop_of new) turn
+TurnsOrStays (Some stop) refusals old new turn = Stays stop old new turn
 
 -- the options and the number of a guest thread are those of its start
 pub record IsSameGuest (old new : GuestThread) : Type 0 where
   pub config : new.config ≡ old.config
   pub number : new.number ≡ old.number
+
+-- and its journal is the same
+pub record IsQuietGuest (old new : GuestThread) : Type 0 where
+  pub config : new.config ≡ old.config
+  pub number : new.number ≡ old.number
+  pub journal : new.journal.items ≡ old.journal.items
 
 -- the options, the thread and the image of a context are those of its start
 pub record IsSameThread (old new : Context) : Type 0 where

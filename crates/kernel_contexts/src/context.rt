@@ -1,12 +1,13 @@
 //! Contexts and their turns.
-ghost use Rattle.std.specs.Prelude.{◌≡◌, ◌+◌, ◌*◌, ◌<◌, ◌≤◌, None, IfOk};
+ghost use Rattle.std.specs.Prelude.{◌≡◌, ◌+◌, ◌*◌, ◌<◌, ◌≤◌, ◌++◌, [], None, Some, IfOk};
 
 use crate::guest::GuestThread;
 use crate::handlers::handler_of;
 use machine_step::Machine;
 use mem_access::Bank;
 use paged_memory::Image;
-use sm_types::{Config, Memory, Stop};
+use shared_region::Port;
+use sm_types::{Config, Event, Memory, Stop, Words};
 use std::alloc::Global;
 
 /// What a turn came to.
@@ -18,7 +19,12 @@ pub enum Turn {
     Yielded,
     /// The thread has stopped, now or before.
     Stopped(Stop),
-    /// There was no memory for the thread's output, or for a page that it writes; nothing has changed.
+    /// The turn asks an operation, and the port's journal has no event left; nothing has changed.
+    TraceEnds,
+    /// The turn asks an operation, and the next event of the port's journal has another; nothing has changed.
+    TraceDiffers,
+    /// There was no memory for the thread's output, for a page that it writes, or for an event; nothing has
+    /// changed.
     Memory,
 }
 
@@ -29,12 +35,22 @@ pub struct Context {
     image: Image,
 }
 
+/// What a run ends with: a context for each guest thread, in order, and the words that they share.
+#[derive(Drop)]
+pub struct Finished {
+    pub contexts: Vec<Context>,
+    pub words: Words,
+}
+
 impl Context {
     ghost use Rattle.std.specs.FinMap.{get};
     ghost use Rattle.kernel_contexts.specs.State.{start_state};
     ghost use Rattle.kernel_contexts.specs.HandlerTable.{handlers_of};
     ghost use Rattle.kernel_contexts.specs.Context.{state_of, config_of, thread_of, stop_of, machine_of};
-    ghost use Rattle.kernel_contexts.specs.Context.{save_area_of, image_of, TurnsOrStays, IsSameThread};
+    ghost use Rattle.kernel_contexts.specs.Context.{save_area_of, image_of, journal_of, made_by};
+    ghost use Rattle.machine_step.specs.Step.{entries_of};
+    ghost use Rattle.kernel_contexts.specs.Context.{TurnsOrStays, IsSameThread};
+    ghost use Rattle.shared_region.specs.Chain.{Chain};
 
     /// A thread before its first turn, with its pages and the save area of its vectors taken at once.
     /// `Memory` is want of memory.
@@ -48,6 +64,7 @@ impl Context {
         ensures state { IfOk result (λ c. state_of c ≡ start_state image.now config.now thread) }
         ensures config { IfOk result (λ c. config_of c ≡ config.now) }
         ensures thread { IfOk result (λ c. thread_of c ≡ thread) }
+        ensures journal { IfOk result (λ c. journal_of c ≡ []) }
         ensures stop { IfOk result (λ c. stop_of c ≡ None) }
         ensures image { IfOk result (λ c. image_of c ≡ image.now) }
     {
@@ -56,10 +73,23 @@ impl Context {
         Ok(Context { guest, image })
     }
 
-    /// Makes one turn; a thread that has stopped answers its stop, and nothing changes.
+    /// Makes one turn, in which the port answers what it asks of the shared words; a thread that has stopped
+    /// answers its stop, and nothing changes. `TraceEnds` and `TraceDiffers` come exactly where the turn asks
+    /// an operation that the port refuses so.
     #[inline]
-    pub fn advance(&mut self) -> Turn
-        ensures turn { TurnsOrStays (stop_of self.old) self.old self.new result }
+    pub fn advance<P: Port>(&mut self, port: &mut P, ticket: &mut P::Ticket) -> Turn
+        requires number { P.number ticket.old ≡ Some (thread_of self.old) }
+        requires belongs { P.ticket_name ticket.old ≡ P.name port.old }
+        requires journal { P.events ticket.old ≡ journal_of self.old }
+        ensures turn { TurnsOrStays (stop_of self.old) (record { ends = P.ends port.old ticket.old;
+            strays = P.strays port.old ticket.old; takes_memory = P.takes_memory })
+            self.old self.new result }
+        ensures grows { journal_of self.new ≡ journal_of self.old ++ made_by self.old self.new }
+        ensures gives { Chain P.gives port.old ticket.old
+            (entries_of (thread_of self.old) (made_by self.old self.new)) port.new ticket.new }
+        ensures journal { P.events ticket.new ≡ journal_of self.new }
+        ensures number { P.number ticket.new ≡ Some (thread_of self.old) }
+        ensures belongs { P.ticket_name ticket.new ≡ P.name port.new }
         ensures same { IsSameThread self.old self.new }
         ensures made { result ≡ Turn.Ran → (state_of self.new).turns ≡ (state_of self.old).turns + 1 }
         ensures yielded { result ≡ Turn.Yielded → (state_of self.new).turns ≡ (state_of self.old).turns + 1 }
@@ -68,7 +98,7 @@ impl Context {
     {
         match self.guest.stop {
             Some(stop) => Turn::Stopped(stop),
-            None => self.guest.make_turn(),
+            None => self.guest.make_turn(port, ticket),
         }
     }
 
@@ -112,6 +142,13 @@ impl Context {
         ensures { result ≡ stop_of self.now }
     {
         self.guest.stop
+    }
+
+    /// The events that the thread made, the oldest first.
+    pub fn journal(&self) -> &[Event]
+        ensures { result.now ≡ journal_of self.now }
+    {
+        self.guest.journal.as_slice()
     }
 
     /// The bytes that the thread has written.

@@ -1,5 +1,5 @@
 //! A guest thread as the kernel keeps it, and its turns.
-ghost use Rattle.std.specs.Prelude.{◌≡◌, ◌+◌, ◌*◌, ◌<◌, ◌≤◌, ◌^◌, vec_len, None, Some, IfOk};
+ghost use Rattle.std.specs.Prelude.{◌≡◌, ◌+◌, ◌*◌, ◌<◌, ◌≤◌, ◌^◌, ◌++◌, vec_len, vec_capacity, None, Some, IfOk, []};
 ghost use Rattle.kernel_contexts.specs.SaveArea.{IsSaveArea};
 ghost use Rattle.kernel_contexts.specs.State.{start_scalars};
 
@@ -10,7 +10,8 @@ use crate::handlers::{Addresses, no_handlers};
 use machine_step::{Machine, StepEnd, write_streaming};
 use mem_access::Bank;
 use paged_memory::{Image, Pages};
-use sm_types::{Config, Memory, Scalars, Stop};
+use shared_region::Port;
+use sm_types::{Config, Event, Memory, Scalars, Stop};
 use std::alloc::Global;
 
 /// A guest thread: its machine, the save area of its vectors and ZA, its options, and what the kernel keeps
@@ -22,6 +23,7 @@ pub struct GuestThread {
     pub config: Config,
     pub number: u32,
     pub handlers: Addresses,
+    pub journal: Vec<Event>,
     pub output: Vec<u8>,
     pub count: u32,
     pub turns: u64,
@@ -32,6 +34,9 @@ pub struct GuestThread {
     ghost within_budget: { count ≤ config.budget },
     ghost output_within: { vec_len output ≤ 1048576 },
 }
+
+/// The events that a journal may hold.
+const JOURNAL_LIMIT: usize = 262_144;
 
 /// The registers of a thread before its first turn.
 #[tactic(auto, unfolding(crate::specs::State::start_scalars))]
@@ -56,7 +61,10 @@ impl GuestThread {
     ghost use Rattle.kernel_contexts.specs.State.{start_state};
     ghost use Rattle.kernel_contexts.specs.Call.{counted};
     ghost use Rattle.kernel_contexts.specs.Turn.{outside_streaming};
-    ghost use Rattle.kernel_contexts.specs.Context.{held_state, guest_turn, Takes, IsSameGuest};
+    ghost use Rattle.kernel_contexts.specs.Context.{held_state, guest_turn, IsSameGuest, IsQuietGuest};
+    ghost use Rattle.kernel_contexts.specs.Context.{TurnsOver, made_since};
+    ghost use Rattle.machine_step.specs.Step.{events_of, entries_of};
+    ghost use Rattle.shared_region.specs.Chain.{Chain};
 
     /// A thread before its first turn, with its pages and its save area taken at once.
     #[tactic(auto, unfolding(crate::specs::State::start_state, mem_access::specs::VectorState::zero_bank))]
@@ -70,6 +78,7 @@ impl GuestThread {
         ensures state { IfOk result (λ g. held_state g ≡ start_state image.now config.now number) }
         ensures config { IfOk result (λ g. g.config ≡ config.now) }
         ensures number { IfOk result (λ g. g.number ≡ number) }
+        ensures journal { IfOk result (λ g. g.journal.items ≡ []) }
         ensures stop { IfOk result (λ g. g.stop ≡ None) }
     {
         let pages = Pages::from_image(alloc, image)?;
@@ -88,6 +97,7 @@ impl GuestThread {
             config: *config,
             number,
             handlers: no_handlers(),
+            journal: Vec::new(alloc),
             output: Vec::new(alloc),
             count: 0,
             turns: 0,
@@ -95,35 +105,74 @@ impl GuestThread {
         })
     }
 
-    /// Makes one turn of a thread that has not stopped.
-    pub fn make_turn(&mut self) -> Turn
-        requires { self.old.stop ≡ None }
-        ensures turn { Takes (guest_turn self.old) self.old self.new result }
+    /// Makes one turn of a thread that has not stopped. Room for an event is taken before its access, so that
+    /// no answer is lost.
+    #[inline]
+    pub fn make_turn<P: Port>(&mut self, port: &mut P, ticket: &mut P::Ticket) -> Turn
+        requires runs { self.old.stop ≡ None }
+        requires number { P.number ticket.old ≡ Some self.old.number }
+        requires belongs { P.ticket_name ticket.old ≡ P.name port.old }
+        requires journal { P.events ticket.old ≡ self.old.journal.items }
+        ensures turn { TurnsOver (record { ends = P.ends port.old ticket.old;
+            strays = P.strays port.old ticket.old; takes_memory = P.takes_memory })
+            (guest_turn self.old) (held_state self.old) (held_state self.new)
+            (made_since self.old.journal.items self.new.journal.items) self.new.stop result }
+        ensures grows { self.new.journal.items ≡
+            self.old.journal.items ++ made_since self.old.journal.items self.new.journal.items }
+        ensures gives { Chain P.gives port.old ticket.old (entries_of self.old.number
+            (made_since self.old.journal.items self.new.journal.items)) port.new ticket.new }
+        ensures journal { P.events ticket.new ≡ self.new.journal.items }
+        ensures number { P.number ticket.new ≡ Some self.old.number }
+        ensures belongs { P.ticket_name ticket.new ≡ P.name port.new }
         ensures same { IsSameGuest self.old self.new }
     {
         if self.count == self.config.budget {
             return self.stop_with(Stop::Budget);
         }
-        match self.machine.step(Some(&mut self.bank)) {
-            StepEnd::Next => {
-                self.count_turn();
-                Turn::Ran
-            }
+        if self.journal.reserve(1).is_err() {
+            return Turn::Memory;
+        }
+        let room = self.journal.len() < JOURNAL_LIMIT;
+        let bank = Some(&mut self.bank);
+        match self.machine.step(bank, port, ticket, self.number, room) {
+            StepEnd::Next(event) => self.go_on(event),
             StepEnd::Call(_) => self.call(),
             StepEnd::Raise(exception) => {
                 let pc = self.machine.scalars.pc;
                 self.stop_with(Stop::Raised { exception, pc })
             }
             StepEnd::NeedsBank => unreachable!(),
+            StepEnd::NoRoom => self.stop_with(Stop::TraceFull),
+            StepEnd::TraceEnds => Turn::TraceEnds,
+            StepEnd::TraceDiffers => Turn::TraceDiffers,
             StepEnd::Memory => Turn::Memory,
         }
+    }
+
+    /// Counts an instruction, and keeps its event where it has one.
+    #[inline]
+    fn go_on(&mut self, event: Option<Event>) -> Turn
+        requires count { self.old.count < self.old.config.budget }
+        requires room { vec_len self.old.journal < vec_capacity self.old.journal }
+        ensures answer { result ≡ Turn.Ran }
+        ensures state { held_state self.new ≡ counted (held_state self.old) (held_state self.old).core }
+        ensures journal { self.new.journal.items ≡ self.old.journal.items ++ events_of event }
+        ensures stop { self.new.stop ≡ self.old.stop }
+        ensures same { IsSameGuest self.old self.new }
+    {
+        match event {
+            Some(event) => self.journal.push_reserved(event),
+            None => {}
+        }
+        self.count_turn();
+        Turn::Ran
     }
 
     /// Leaves Streaming SVE mode, as a call of the kernel does that is counted.
     pub(super) fn leave_streaming(&mut self)
         ensures state { held_state self.new ≡ outside_streaming self.old.config (held_state self.old) }
         ensures stop { self.new.stop ≡ self.old.stop }
-        ensures same { IsSameGuest self.old self.new }
+        ensures same { IsQuietGuest self.old self.new }
     {
         write_streaming(&mut self.machine, &mut self.bank, false);
     }
@@ -133,7 +182,7 @@ impl GuestThread {
         requires { self.old.count < self.old.config.budget }
         ensures state { held_state self.new ≡ counted (held_state self.old) (held_state self.old).core }
         ensures stop { self.new.stop ≡ self.old.stop }
-        ensures same { IsSameGuest self.old self.new }
+        ensures same { IsQuietGuest self.old self.new }
     {
         self.count += 1;
         self.turns += 1;
@@ -144,7 +193,7 @@ impl GuestThread {
         ensures answer { result ≡ Turn.Stopped stop }
         ensures state { held_state self.new ≡ held_state self.old }
         ensures stop { self.new.stop ≡ Some stop }
-        ensures same { IsSameGuest self.old self.new }
+        ensures same { IsQuietGuest self.old self.new }
     {
         self.stop = Some(stop);
         Turn::Stopped(stop)

@@ -6,4 +6,4 @@ mod context;
 mod guest;
 mod handlers;
 
-pub use context::{Context, Turn};
+pub use context::{Context, Finished, Turn};

@@ -5,6 +5,7 @@ use edge_io::{MemSink, Piece};
 use machine_step::{Machine, StepEnd};
 use mem_access::Bank;
 use report_text::put_bank;
+use shared_region::{ReplayPort, ReplayTicket};
 use sm_types::{Exception, Scalars, VecLen};
 use std::alloc::Global;
 use std::process::Abort as Stops;
@@ -85,8 +86,8 @@ fn machine(rt: &impl Stops, alloc: Global, pc: u64, streaming: bool) -> Machine 
 #[test]
 fn a_step_without_a_bank(rt: HostRuntime) {
     let cases = [
-        (0x400000, false, StepEnd::Next, 0x400004),
-        (0x400000, true, StepEnd::Next, 0x400004),
+        (0x400000, false, StepEnd::Next(None), 0x400004),
+        (0x400000, true, StepEnd::Next(None), 0x400004),
         (0x400008, false, StepEnd::Call(0), 0x400008),
         (0x400008, true, StepEnd::NeedsBank, 0x400008),
         (0x40000a, true, StepEnd::Raise(Exception::PcAlign), 0x40000a),
@@ -94,7 +95,10 @@ fn a_step_without_a_bank(rt: HostRuntime) {
     ];
     for (pc, streaming, end, after) in cases {
         let mut machine = machine(&rt, rt.alloc(), pc, streaming);
-        assert_eq!(rt; machine.step(None), end);
+        let mut port = ReplayPort::new();
+        let mut ticket = ReplayTicket::new(0, Vec::new(rt.alloc()));
+        let step = machine.step(None, &mut port, &mut ticket, 0, true);
+        assert_eq!(rt; step, end);
         assert_eq!(rt; machine.scalars.pc, after);
     }
 }

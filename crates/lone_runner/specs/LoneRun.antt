@@ -1,12 +1,14 @@
 -- The run of one guest thread alone, from its start to its stop.
-use Rattle.std.specs.Prelude.{◌≡◌, ℕ, List, [], Some}
+use Rattle.std.specs.Prelude.{◌≡◌, ℕ, List, [], Some, length, map, slice_get}
 use Rattle.sm_types.specs.declared.config.Config.{Config}
 use Rattle.sm_types.specs.declared.shared_op.Event.{Event}
+use Rattle.sm_types.specs.declared.shared_words.Words.{Words}
 use Rattle.sm_types.specs.declared.stop.Stop.{Stop}
 use Rattle.paged_memory.specs.Image.{Program}
+use Rattle.shared_region.specs.History.{AreOneHistory}
 use Rattle.kernel_contexts.specs.State.{State}
 use Rattle.kernel_contexts.specs.Run.{reach, reach_from, Ended}
-use Rattle.kernel_contexts.specs.Context.{state_of, stop_of}
+use Rattle.kernel_contexts.specs.Context.{state_of, stop_of, config_of, thread_of, journal_of}
 use Rattle.kernel_contexts.specs.declared.context.Context.{Context}
 
 -- from a state the turns of the thread of that number over this journal end so, and exactly the journal's
@@ -26,8 +28,18 @@ pub record IsLoneRun (program : Program) (config : Config) (thread : ℕ) (journ
   pub used : ℕ
   pub ends : reach program config thread journal turns ≡ Ended state stop used []
 
--- the context is the thread at the end of its run over no events
+-- the context is the thread of that number at the end of its run over its journal
 pub record HasRunAlone (program : Program) (config : Config) (thread : ℕ) (context : Context) : Type 0 where
+  pub number : thread_of context ≡ thread
   pub stop : Stop
   pub stopped : stop_of context ≡ Some stop
-  pub run : IsLoneRun program config thread [] (state_of context) stop
+  pub run : IsLoneRun program config thread (journal_of context) (state_of context) stop
+
+-- the contexts are the threads of a run, in order, each at the end of its run over its journal, and the
+-- journals are one history that ends in the words
+pub record HaveRun (program : Program) (config : Config) (contexts : List Context) (words : Words)
+    : Type 0 where
+  pub threads : length contexts ≡ config.threads
+  pub each : (k : ℕ) (context : Context)
+      → slice_get contexts k ≡ Some context → HasRunAlone program config k context
+  pub one_history : AreOneHistory (map journal_of contexts) words

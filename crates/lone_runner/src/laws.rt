@@ -1,9 +1,11 @@
 //! The laws of lone runs.
-ghost use Rattle.std.specs.Prelude.{◌≡◌, ◌≤◌, ◌*◌, ℕ, List};
+ghost use Rattle.std.specs.Prelude.{◌≡◌, ◌≤◌, ◌*◌, ℕ, List, [], ◌∷◌};
 ghost use Rattle.sm_types.specs.declared.config.Config.{Config};
 ghost use Rattle.sm_types.specs.declared.shared_op.Event.{Event};
+ghost use Rattle.sm_types.specs.declared.shared_words.Words.{Words};
 ghost use Rattle.sm_types.specs.declared.stop.Stop.{Stop};
 ghost use Rattle.paged_memory.specs.Image.{Program};
+ghost use Rattle.shared_region.specs.History.{AreOneHistory};
 ghost use Rattle.kernel_contexts.specs.State.{State};
 ghost use Rattle.kernel_contexts.specs.Run.{reach, At, Ended};
 ghost use Rattle.lone_runner.specs.LoneRun.{IsLoneRun};
@@ -30,4 +32,16 @@ pub fn few_turns()
     ensures ended { (program : Program) (config : Config) (thread : ℕ) (journal : List Event)
         (turns : ℕ) (s : State) (p : Stop) (used : ℕ) (left : List Event)
         → reach program config thread journal turns ≡ Ended s p used left → s.turns ≤ 3 * config.budget }
+{}
+
+/// A thread that shares its words with no other has one run: where two journals of thread 0 are each one
+/// history with some words, and the thread's run over each has an end, the journals, the words, the states
+/// and the stops are the same.
+pub fn one_run()
+    ensures journal { (program : Program) (config : Config) (j k : List Event) (s t : State) (p q : Stop)
+        (v w : Words) → IsLoneRun program config 0 j s p → IsLoneRun program config 0 k t q
+        → AreOneHistory (j ∷ []) v → AreOneHistory (k ∷ []) w → j ≡ k }
+    ensures words { (program : Program) (config : Config) (j k : List Event) (s t : State) (p q : Stop)
+        (v w : Words) → IsLoneRun program config 0 j s p → IsLoneRun program config 0 k t q
+        → AreOneHistory (j ∷ []) v → AreOneHistory (k ∷ []) w → v ≡ w }
 {}

@@ -4,5 +4,5 @@
 mod laws;
 mod run;
 
-pub use laws::{few_turns, one_end};
+pub use laws::{few_turns, one_end, one_run};
 pub use run::run_to_stop;

@@ -1,47 +1,69 @@
 //! A thread from its start to its stop.
 ghost use Rattle.std.specs.Prelude.{◌≡◌, ◌<◌, [], None, Some, IfOk};
-ghost use Rattle.kernel_contexts.specs.Context.{state_of, config_of, thread_of, stop_of, image_of};
+ghost use Rattle.machine_step.specs.Step.{entries_of};
+ghost use Rattle.kernel_contexts.specs.Context.{state_of, config_of, thread_of, stop_of, journal_of};
 ghost use Rattle.kernel_contexts.specs.Context.{IsSameThread};
-ghost use Rattle.lone_runner.specs.LoneRun.{HasRunAlone, EndsFrom};
+ghost use Rattle.lone_runner.specs.LoneRun.{HaveRun, EndsFrom};
 
-use kernel_contexts::{Context, Turn};
+use kernel_contexts::{Context, Finished, Turn};
 use paged_memory::Image;
+use shared_region::{PlainPort, PlainTicket, plain_history_grows};
 use sm_types::{Config, Memory, Stop};
 use std::alloc::Global;
 
-/// Makes turns until the thread stops; `Memory` where there is none for its output.
-fn run(context: &mut Context) -> Result<Stop, Memory>
-    requires { stop_of context.old ≡ None }
+/// Makes turns until the thread stops; `Memory` where there is none for its output, for a page that it writes,
+/// or for an event.
+fn run(
+    context: &mut Context,
+    port: &mut PlainPort,
+    ticket: &mut PlainTicket,
+) -> Result<Stop, Memory>
+    requires runs { stop_of context.old ≡ None }
+    requires journal { journal_of context.old ≡ [] }
+    requires events { ticket.old.events ≡ [] }
+    requires number { ticket.old.thread ≡ thread_of context.old }
+    requires history { port.old.history ≡ [] }
     ensures ends { IfOk result (λ stop. EndsFrom (config_of context.old) (thread_of context.old)
-        (state_of context.old) []
-        (state_of context.new) stop) }
+        (state_of context.old) (journal_of context.new) (state_of context.new) stop) }
     ensures stop { IfOk result (λ stop. stop_of context.new ≡ Some stop) }
+    ensures history { IfOk result (λ stop. port.new.history ≡
+        entries_of (thread_of context.old) (journal_of context.new)) }
     ensures same { IsSameThread context.old context.new }
 {
+    plain_history_grows();
     'turns: loop {
-        match context.advance() {
+        match context.advance(port, ticket) {
             Turn::Ran => {}
             Turn::Yielded => {}
             Turn::Stopped(stop) => return Ok(stop),
+            Turn::TraceEnds => unreachable!(),
+            Turn::TraceDiffers => unreachable!(),
             Turn::Memory => return Err(Memory),
         }
     }
 }
 
-/// Starts a thread of the image and makes its turns until it stops; `Memory` is want of memory.
-pub fn run_to_stop(
-    alloc: Global,
-    image: &Image,
-    config: &Config,
-    thread: u32,
-) -> Result<Context, Memory>
-    requires { thread < config.now.threads }
-    ensures run { IfOk result (HasRunAlone image.now config.now thread) }
-    ensures image { IfOk result (λ context. image_of context ≡ image.now) }
-    ensures config { IfOk result (λ context. config_of context ≡ config.now) }
-    ensures thread { IfOk result (λ context. thread_of context ≡ thread) }
+/// The threads of a run, which has one, and the words that they share.
+fn finish(alloc: Global, context: Context, port: &PlainPort) -> Result<Finished, Memory>
+    ensures contexts { IfOk result (λ run. run.contexts.items ≡ context ∷ []) }
+    ensures words { IfOk result (λ run. run.words ≡ port.now.words) }
 {
-    let mut context = Context::start(alloc, image, config, thread)?;
-    run(&mut context)?;
-    Ok(context)
+    let mut contexts = Vec::new(alloc);
+    match contexts.push(context) {
+        Ok(()) => Ok(Finished { contexts, words: *port.words() }),
+        Err(_) => Err(Memory),
+    }
+}
+
+/// Starts the one thread of a run of the image and makes its turns until it stops; `Memory` is want of memory.
+pub fn run_to_stop(alloc: Global, image: &Image, config: &Config) -> Result<Finished, Memory>
+    requires { config.now.threads ≡ 1 }
+    ensures { IfOk result (λ run. HaveRun image.now config.now run.contexts.items run.words) }
+{
+    let mut context = Context::start(alloc, image, config, 0)?;
+    let mut port = PlainPort::new(alloc)?;
+    let mut ticket = PlainTicket::new(alloc, 0);
+    run(&mut context, &mut port, &mut ticket)?;
+    let _history = port.history();
+    finish(alloc, context, &port)
 }

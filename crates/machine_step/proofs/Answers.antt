@@ -13,7 +13,13 @@ use Rattle.mem_access.specs.Transfer.{HasRoomFor}
 use Rattle.mem_access.specs.declared.bank.Bank.{Bank}
 use Rattle.sm_types.specs.declared.stop.Exception.{Exception}
 use Rattle.sm_types.specs.declared.stop.Exception.TheVariants.{Undefined}
-use Rattle.mem_access.specs.Transfer.{is_access, transfer_fault}
+use Rattle.sm_types.specs.declared.stop.Exception.TheVariants.{Shared}
+use Rattle.sm_types.specs.declared.shared_op.SharedOp.{SharedOp}
+use Rattle.paged_memory.specs.Memory.{AddressSpace}
+use Rattle.mem_access.specs.DataAccess.{DataAccess}
+use Rattle.mem_access.specs.Checks.{access_fault, sp_fault, align_fault, shared_fault}
+use Rattle.mem_access.specs.SharedAccess.{touched, checked_fault, address_of_word}
+use Rattle.mem_access.specs.Transfer.{is_access, access_of, transfer_fault}
 use Rattle.a64_encode.specs.Either.{instruction_of}
 use Rattle.std.specs.Option.{option_or}
 use Rattle.scalar_exec.specs.Step.{is_scalar}
@@ -26,22 +32,23 @@ use Rattle.vector_step.specs.Step.{vector_step}
 use Rattle.mem_access.specs.VectorState.{VectorState}
 use Rattle.machine_step.specs.ProcessorState.{ProcessorState, vector_bytes}
 use Rattle.machine_step.specs.System.{system_move, core_past, moved}
-use Rattle.machine_step.specs.Effect.{Effect, Raises, Calls, Becomes, word_of, insn_at, is_executed, next_of, unless_fault}
-use Rattle.machine_step.specs.Effect.{fault_of, effect_of, perform, row_fault, data_fault, memory_fault, accessed, with_access, computed, vector_computed, with_core}
+use Rattle.machine_step.specs.Effect.{Effect, Raises, Calls, Becomes, Asks, word_of, insn_at, is_executed, next_of, unless_fault}
+use Rattle.machine_step.specs.Effect.{fault_of, effect_of, perform, row_fault, data_fault, memory_fault, accessed, accesses, with_access, computed, vector_computed, with_core}
 use Rattle.machine_step.specs.Effect.{mode_fault, illegal_fault, early_fault}
 use Rattle.machine_step.specs.Needs.{is_call, uses_bank, uses_bank_where, needs_unless, needs_bank}
 use Rattle.machine_step.specs.Execution.{effect_of_insn, effect_of_meaning, unless_raised, unless_refused, needs_of_insn, needs_of_meaning}
 use Rattle.machine_step.specs.Machine.{Steps, core_of, HasRoomOn, IsBecomes}
 use Rattle.machine_step.specs.declared.machine.Machine.{Machine}
-use Rattle.machine_step.specs.declared.machine.StepEnd.{StepEnd}
-use Rattle.machine_step.specs.declared.machine.StepEnd.TheVariants.{Next, Call, Raise, NeedsBank, Memory}
+use Rattle.machine_step.specs.declared.executed.Executed.{Executed}
+use Rattle.machine_step.specs.declared.executed.Executed.TheVariants.{Next, Call, Raise, Ask, NeedsBank, Memory}
 
 -- the state after an instruction that is executed
-pub steps_on : (effect : Effect) (old new made : ProcessorState) (end : StepEnd) → effect ≡ Becomes made → new ≡ made → end ≡ Next
+pub steps_on : (effect : Effect) (old new made : ProcessorState) (end : Executed) → effect ≡ Becomes made → new ≡ made → end ≡ Next
     → Steps effect old new end
 steps_on effect old new made Next is same e = is ∙ ap Becomes (sym same)
 steps_on effect old new made (Call number) is same e = cc
 steps_on effect old new made (Raise exception) is same e = cc
+steps_on effect old new made (Ask it op) is same e = cc
 steps_on effect old new made NeedsBank is same e = cc
 steps_on effect old new made Memory is same e = cc
 
@@ -144,14 +151,53 @@ pub needs_refused : (s : ProcessorState) (exception : Exception) → early_fault
 unfolding needs_bank
 needs_refused s exception h = ap (λ k. needs_unless k s) h
 
--- a load, a store or an atomic instruction that no check refuses
-pub access_effect : (word vl : ℕ) (it : Insn) (s : ProcessorState) → IsTrue (is_access it) → transfer_fault it s.scalars s.memory ≡ None
-    → effect_of_insn word it vl s ≡ Becomes (accessed it s)
-access_effect word vl (insn.LoadStore x) s h none = ap (λ f. unless_raised f (next_of vl (insn.LoadStore x) s)) none
-access_effect word vl (insn.LoadLiteral x) s h none = ap (λ f. unless_raised f (next_of vl (insn.LoadLiteral x) s)) none
-access_effect word vl (insn.LoadStorePair x) s h none = ap (λ f. unless_raised f (next_of vl (insn.LoadStorePair x) s)) none
-access_effect word vl (insn.Atomic x) s h none = ap (λ f. unless_raised f (next_of vl (insn.Atomic x) s)) none
-access_effect word vl other s h none = cc
+-- what a load, a store or an atomic instruction does
+pub access_effect : (word vl : ℕ) (it : Insn) (s : ProcessorState) → IsTrue (is_access it)
+    → effect_of_insn word it vl s
+    ≡ unless_raised (checked_fault it s.scalars s.memory) (accesses (touched it s.scalars) it s)
+access_effect word vl (insn.LoadStore x) s h = refl
+access_effect word vl (insn.LoadLiteral x) s h = refl
+access_effect word vl (insn.LoadStorePair x) s h = refl
+access_effect word vl (insn.Atomic x) s h = refl
+access_effect word vl other s h = cc
+
+-- one that makes no operation on a shared word has the checks of private memory
+pub private_effect : (word vl : ℕ) (it : Insn) (s : ProcessorState) → IsTrue (is_access it) → touched it s.scalars ≡ None
+    → effect_of_insn word it vl s ≡ unless_raised (transfer_fault it s.scalars s.memory) (Becomes (accessed it s))
+private_effect word vl it s h none =
+    access_effect word vl it s h
+    ∙ ap (λ o. unless_raised (option_and_then (λ access. access_fault o access s.scalars s.memory) (access_of it s.scalars))
+    (accesses o it s)) none
+
+third_none : (a b c d : Option Exception) → option_or a (option_or b (option_or c d)) ≡ None → c ≡ None
+third_none None None None d e = refl
+third_none None None (Some x) d e = cc
+third_none None (Some x) c d e = cc
+third_none (Some x) b c d e = cc
+
+some_or_none : {A : Type 0} (o : Option A) (x : A) → o ≡ Some x → o ≡ None → ⊥
+some_or_none o x e n = cc
+
+none_made : (op : Option SharedOp) (access : Option DataAccess) (s : Scalars) (m : AddressSpace)
+    → ((it : SharedOp) → op ≡ Some it → option_and_then shared_fault access ≡ Some (Shared (address_of_word it.place)))
+    → option_and_then (λ a. access_fault None a s m) access ≡ None → op ≡ None
+unfolding access_fault
+none_made None access s m law none = refl
+none_made (Some op) None s m law none = absurd (some_or_none None (Shared (address_of_word op.place)) (law op refl) refl)
+none_made (Some op) (Some a) s m law none =
+    absurd (some_or_none (shared_fault a) (Shared (address_of_word op.place)) (law op refl)
+    (third_none (sp_fault a s) (align_fault a) (shared_fault a) _ none))
+
+-- an access that no check of private memory refuses makes no operation on a shared word
+pub no_operation : (it : Insn) (s : Scalars) (m : AddressSpace)
+    → ((i : Insn) (r : Scalars) (op : SharedOp) → touched i r ≡ Some op
+    → option_and_then shared_fault (access_of i r) ≡ Some (Shared (address_of_word op.place)))
+    → transfer_fault it s m ≡ None → touched it s ≡ None
+no_operation it s m law none = none_made (touched it s) (access_of it s) s m (law it s) none
+
+-- a machine with other registers and pages
+abbrev pub after_transfer : Machine → Scalars → PageTable → Machine
+after_transfer m scalars pages = record m { scalars = scalars; pages = pages }
 
 cond_neither : (executed : Bool) (mode : Option Exception) → cond executed (unless_refused mode false) false ≡ false
 cond_neither true None = refl
@@ -219,6 +265,7 @@ pub becomes : (effect : Effect) (made : ProcessorState) → effect ≡ Becomes m
 becomes (Raises exception) made is = cc
 becomes (Calls number) made is = cc
 becomes (Becomes s) made is = cc
+becomes (Asks op next) made is = cc
 
 -- what an instruction of the general registers writes is the same with a bank
 pub scalar_room : (m : Machine) (bank : Bank) (it : Insn) → IsInRow it → HasRoomOn m bank it → HasRoomFor it m.scalars m.pages

@@ -1,14 +1,18 @@
 //! One instruction of the machine: `Machine::step` answers with the effect of the instruction at PC, and
-//! all its answers but `Next` leave the machine as it was.
+//! all its answers but `Next` leave the machine as it was. A port answers an access to a word that the threads
+//! share.
 #![tactic(auto)]
 
 mod array;
+mod executed;
 mod machine;
 mod mode;
 mod scalar;
+mod step;
 mod system;
 mod vector;
 
-pub use machine::{Machine, StepEnd};
+pub use machine::Machine;
 pub use mode::write_streaming;
+pub use step::StepEnd;
 pub use system::read_svcr;

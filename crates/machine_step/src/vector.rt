@@ -13,7 +13,8 @@ ghost use Rattle.machine_step.specs.Effect as effect;
 ghost use Rattle.machine_step.specs.Execution.{effect_of_insn, needs_of_insn};
 ghost use Rattle.machine_step.specs.Machine.{core_of, StepsAlone, StepsOn, IsInMode, IsSameBank, HasRoomOn};
 
-use crate::machine::{Machine, StepEnd};
+use crate::executed::Executed;
+use crate::machine::Machine;
 use matrix_step::exec_matrix;
 use mem_access::{AccessStop, Bank};
 use sm_types::{Exception, Insn, PredicateCount, VectorAccess};
@@ -70,32 +71,32 @@ fn mode_fault(insn: &Insn, streaming: bool, za_on: bool) -> Option<Exception>
 
 impl Machine {
     /// What a vector instruction comes to without a bank.
-    pub(crate) fn refuse_vector(&self, insn: &Insn) -> StepEnd
+    pub(crate) fn refuse_vector(&self, insn: &Insn) -> Executed
         requires { IsInVectorRow insn.now }
         ensures effect { (word : ℕ) → StepsAlone (needs_of_insn insn.now) (effect_of_insn word insn.now)
             self.now self.now result }
-        ensures room { result ≢ StepEnd.Memory }
+        ensures room { result ≢ Executed.Memory }
     {
         match mode_fault(insn, self.streaming, self.za_on) {
-            Some(exception) => StepEnd::Raise(exception),
-            None => StepEnd::NeedsBank,
+            Some(exception) => Executed::Raise(exception),
+            None => Executed::NeedsBank,
         }
     }
 
     /// Executes a vector instruction that the word means.
     #[tactic(auto, unfolding(sve_table::specs::Groups::is_vector_group))]
-    pub(crate) fn execute_vector(&mut self, insn: &Insn, bank: &mut Bank) -> StepEnd
+    pub(crate) fn execute_vector(&mut self, insn: &Insn, bank: &mut Bank) -> Executed
         requires fields { IsInVectorRow insn.now }
         requires mode { IsInMode bank.old self.old }
         ensures effect { (word : ℕ) → StepsOn (effect_of_insn word insn.now) self.old bank.old self.new
             bank.new result }
         ensures same { IsSameBank bank.old bank.new }
         ensures mode { IsInMode bank.new self.new }
-        ensures room { HasRoomOn self.old bank.old insn.now → result ≢ StepEnd.Memory }
+        ensures room { HasRoomOn self.old bank.old insn.now → result ≢ Executed.Memory }
         ensures kept { KeepsOwned self.old.pages self.new.pages }
     {
         match mode_fault(insn, self.streaming, self.za_on) {
-            Some(exception) => StepEnd::Raise(exception),
+            Some(exception) => Executed::Raise(exception),
             None => match insn {
                 Insn::VectorAccess(x) => self.access_vectors(x, bank),
                 Insn::Mode(x) => self.change_mode(bank, x),
@@ -111,11 +112,11 @@ impl Machine {
     }
 
     /// Executes a vector instruction that reads and writes scalar and vector registers alone.
-    fn compute_vector(&mut self, insn: &Insn, bank: &mut Bank) -> StepEnd
+    fn compute_vector(&mut self, insn: &Insn, bank: &mut Bank) -> Executed
         requires computed { IsTrue (step.is_vector_computed insn.now) }
         requires fields { IsInVectorRow insn.now }
         requires mode { IsInMode bank.old self.old }
-        ensures answer { result ≡ StepEnd.Next }
+        ensures answer { result ≡ Executed.Next }
         ensures core { core_of self.new (bank_state bank.new) ≡ effect.vector_computed
             (vector_bytes bank.old.vectors.vl) insn.now (core_of self.old (bank_state bank.old)) }
         ensures same { IsSameBank bank.old bank.new }
@@ -129,12 +130,12 @@ impl Machine {
 
     /// Executes an instruction of ZA or of the streaming vector length that accesses no memory, and that the
     /// modes allow.
-    pub(crate) fn compute_matrix(&mut self, insn: &Insn, bank: &mut Bank) -> StepEnd
+    pub(crate) fn compute_matrix(&mut self, insn: &Insn, bank: &mut Bank) -> Executed
         requires computed { IsTrue (matrix.is_matrix_computed insn.now) }
         requires fields { IsInVectorRow insn.now }
         requires allowed { effect.mode_fault insn.now self.old.streaming self.old.za_on ≡ None }
         requires mode { IsInMode bank.old self.old }
-        ensures answer { result ≡ StepEnd.Next }
+        ensures answer { result ≡ Executed.Next }
         ensures core { core_of self.new (bank_state bank.new) ≡
             effect.matrix_computed insn.now (core_of self.old (bank_state bank.old)) }
         ensures same { IsSameBank bank.old bank.new }
@@ -147,7 +148,7 @@ impl Machine {
     }
 
     /// Executes a contiguous load or store of a vector or a predicate.
-    fn access_vectors(&mut self, x: &VectorAccess, bank: &mut Bank) -> StepEnd
+    fn access_vectors(&mut self, x: &VectorAccess, bank: &mut Bank) -> Executed
         requires fields { IsVectorAccess x.now }
         requires mode { IsInMode bank.old self.old }
         ensures effect { (word : ℕ) → StepsOn (effect_of_insn word (Insn.VectorAccess x.now))
@@ -156,14 +157,14 @@ impl Machine {
         ensures same { IsSameBank bank.old bank.new }
         ensures mode { IsInMode bank.new self.new }
         ensures room { HasRoom (access_of x.now self.old.scalars (length_of bank.old.vectors)
-            bank.old.vectors.registers) self.old.pages → result ≢ StepEnd.Memory }
+            bank.old.vectors.registers) self.old.pages → result ≢ Executed.Memory }
         ensures kept { KeepsOwned self.old.pages self.new.pages }
     {
         let _size = bank.za.size();
         match transfer_vector(x, &self.scalars, &mut bank.vectors, &mut self.pages) {
             Ok(()) => self.step_past(),
-            Err(AccessStop::Raise(exception)) => StepEnd::Raise(exception),
-            Err(AccessStop::Memory) => StepEnd::Memory,
+            Err(AccessStop::Raise(exception)) => Executed::Raise(exception),
+            Err(AccessStop::Memory) => Executed::Memory,
         }
     }
 }

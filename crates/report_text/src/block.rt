@@ -1,10 +1,10 @@
 //! The block of a guest thread in a report.
-ghost use Rattle.std.specs.Prelude.{◌≡◌, [], ℕ};
+ghost use Rattle.std.specs.Prelude.{◌≡◌, ℕ};
 ghost use Rattle.edge_io.specs.Pieces.{gathered, Gathers};
 ghost use Rattle.edge_io.specs.Sink.{Writes};
 ghost use Rattle.machine_step.specs.ProcessorState.{VectorState};
 ghost use Rattle.machine_step.specs.Machine.{core_of};
-ghost use Rattle.kernel_contexts.specs.Context.{state_of, thread_of, stop_of};
+ghost use Rattle.kernel_contexts.specs.Context.{state_of, thread_of, stop_of, journal_of};
 ghost use Rattle.report_text.specs.Block.{head_text, nzcv_line, system_text, register_text, signal_text};
 ghost use Rattle.report_text.specs.Block.{kernel_text, block_text};
 
@@ -88,18 +88,19 @@ fn put_signals<K: Sink>(piece: &mut Piece, out: &mut K, context: &Context) -> Re
 /// What the kernel keeps of the thread.
 fn put_kernel<K: Sink>(piece: &mut Piece, out: &mut K, context: &Context) -> Result<(), PutFault>
     ensures { Gathers (gathered (K.view out.old) piece.old) (gathered (K.view out.new) piece.new) result
-        (kernel_text (state_of context.now) []) }
+        (kernel_text (state_of context.now) (journal_of context.now)) }
 {
     let output = context.output();
+    let journal = context.journal();
     put_signals(piece, out, context)?;
     put_output(piece, out, output)?;
-    put_journal(piece, out, &[])
+    put_journal(piece, out, journal)
 }
 
 /// The block of a thread.
 pub fn put_block<K: Sink>(piece: &mut Piece, out: &mut K, context: &Context) -> Result<(), PutFault>
     ensures { Gathers (gathered (K.view out.old) piece.old) (gathered (K.view out.new) piece.new) result
-        (block_text (thread_of context.now) (state_of context.now) (stop_of context.now) []) }
+        (block_text (thread_of context.now) (state_of context.now) (stop_of context.now) (journal_of context.now)) }
 {
     let machine = context.machine();
     let bank = context.bank();
@@ -114,7 +115,7 @@ pub fn put_block<K: Sink>(piece: &mut Piece, out: &mut K, context: &Context) -> 
 /// written.
 pub fn write_block<K: Sink>(context: &Context, out: &mut K) -> Result<(), PutFault>
     ensures { Writes (K.view out.old) (K.view out.new) result
-        (block_text (thread_of context.now) (state_of context.now) (stop_of context.now) []) }
+        (block_text (thread_of context.now) (state_of context.now) (stop_of context.now) (journal_of context.now)) }
 {
     let mut piece = Piece::new();
     put_block(&mut piece, out, context)?;

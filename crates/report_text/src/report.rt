@@ -1,15 +1,16 @@
 //! The report of a run.
-ghost use Rattle.std.specs.Prelude.{◌≡◌, ◌∷◌, []};
+ghost use Rattle.std.specs.Prelude.{◌≡◌};
 ghost use Rattle.edge_io.specs.Pieces.{gathered, Gathers};
 ghost use Rattle.edge_io.specs.Sink.{Writes};
-ghost use Rattle.report_text.specs.Ends.{end_of};
-ghost use Rattle.report_text.specs.Report.{report_text, words_text, zero_words};
+ghost use Rattle.report_text.specs.Ends.{ends_of};
+ghost use Rattle.report_text.specs.Report.{report_text, blocks_text, words_text};
 
 use crate::block::put_block;
 use crate::header::put_header;
+use crate::lines::put_value_lines;
 use edge_io::{Piece, PutFault, Sink};
-use kernel_contexts::Context;
-use sm_types::Config;
+use kernel_contexts::{Context, Finished};
+use sm_types::{Config, Words};
 
 /// What stands before the blocks of a report.
 #[derive(Clone, Copy)]
@@ -20,36 +21,54 @@ pub struct Head {
     pub image: [u8; 32],
 }
 
-/// The shared words and pending signals where all are zero.
-fn put_zero_words<K: Sink>(piece: &mut Piece, out: &mut K) -> Result<(), PutFault>
+/// The shared words and the pending signals that are not zero.
+fn put_words<K: Sink>(piece: &mut Piece, out: &mut K, words: &Words) -> Result<(), PutFault>
     ensures { Gathers (gathered (K.view out.old) piece.old) (gathered (K.view out.new) piece.new) result
-        (words_text zero_words) }
+        (words_text words.now) }
 {
-    piece.put(out, b"shared\nend\n")
+    piece.put(out, b"shared\n")?;
+    put_value_lines(piece, out, b"w", &words.shared)?;
+    put_value_lines(piece, out, b"pending", &words.pending)?;
+    piece.put(out, b"end\n")
 }
 
-/// The report of a run with one thread.
+/// The blocks of the threads, in order.
+fn put_blocks<K: Sink>(
+    piece: &mut Piece,
+    out: &mut K,
+    contexts: &[Context],
+) -> Result<(), PutFault>
+    ensures { Gathers (gathered (K.view out.old) piece.old) (gathered (K.view out.new) piece.new) result
+        (blocks_text (ends_of contexts.now)) }
+{
+    for k in 0..contexts.len() {
+        put_block(piece, out, &contexts[k])?;
+    }
+    Ok(())
+}
+
+/// The report of a run.
 fn put_report<K: Sink>(
     piece: &mut Piece,
     out: &mut K,
-    context: &Context,
+    run: &Finished,
     head: &Head,
 ) -> Result<(), PutFault>
     ensures { Gathers (gathered (K.view out.old) piece.old) (gathered (K.view out.new) piece.new) result
-        (report_text head.now.config head.now.image (end_of context.now ∷ []) zero_words) }
+        (report_text head.now.config head.now.image (ends_of run.now.contexts.items) run.now.words) }
 {
     put_header(piece, out, &head.config, &head.image)?;
-    put_block(piece, out, context)?;
-    put_zero_words(piece, out)
+    put_blocks(piece, out, run.contexts.as_slice())?;
+    put_words(piece, out, &run.words)
 }
 
-/// Writes the report of a run with one thread. `Failed` where the sink fails; a part of the report from the
-/// front is then written.
-pub fn write_report<K: Sink>(context: &Context, head: &Head, out: &mut K) -> Result<(), PutFault>
+/// Writes the report of a run. `Failed` where the sink fails; a part of the report from the front is then
+/// written.
+pub fn write_report<K: Sink>(run: &Finished, head: &Head, out: &mut K) -> Result<(), PutFault>
     ensures { Writes (K.view out.old) (K.view out.new) result
-        (report_text head.now.config head.now.image (end_of context.now ∷ []) zero_words) }
+        (report_text head.now.config head.now.image (ends_of run.now.contexts.items) run.now.words) }
 {
     let mut piece = Piece::new();
-    put_report(&mut piece, out, context, head)?;
+    put_report(&mut piece, out, run, head)?;
     piece.flush(out)
 }

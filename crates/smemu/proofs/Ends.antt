@@ -14,8 +14,7 @@ use Rattle.edge_io.specs.declared.sink.PutFault.{PutFault}
 use Rattle.edge_io.specs.declared.sink.PutFault.TheVariants.{Failed}
 use Rattle.elf_loader.specs.Loading.{load_fault}
 use Rattle.paged_memory.specs.Image.{Program}
-use Rattle.report_text.specs.Report.{ThreadEnd}
-use Rattle.smemu.specs.Answers.{IsFile, IsAnswer, IsEndOf}
+use Rattle.smemu.specs.Answers.{IsFile, IsAnswer}
 use Rattle.smemu.specs.Ends.{Change, Call, IsUsage, IsDone, IsRefused, MayCome, FetchesReached}
 use Rattle.smemu.specs.Requests.{Kind, IsProgram, IsSource, Named, Rejection, NoProgram, NoSource, files_named, files_asked, limit_of}
 use Rattle.smemu.specs.Requests.{rejection_of, reached_of, IsReached, due_of_rejection, due_of_file, due_of_files, due_of_request}
@@ -96,16 +95,6 @@ program_file told n name fetched l front e = accepted_file IsProgram told n name
 pub source_file : (told : Told) (n : ℕ) (name fetched : List ℕ) → 67108864 < n
     → IfSome told (λ files. option_map (take n) (files name) ≡ Some fetched) → asm_fault fetched ≡ None → IsFile told name fetched
 source_file told n name fetched l front e = accepted_file IsSource told n name fetched l front (ap (option_map NoSource) e)
-
--- ---- one thread
-
-same_end : (a b : ThreadEnd) → ◌≡◌ {A = Option ThreadEnd} (Some a) (Some b) → a ≡ b
-same_end a b e = cc
-
-pub one_thread : (program : Program) (config : Config) (end : ThreadEnd) → IsEndOf program config 0 end → (k : ℕ) (other : ThreadEnd)
-    → slice_get (end ∷ []) k ≡ Some other → IsEndOf program config k other
-one_thread program config end h zero other e = subst (λ (x : ThreadEnd). IsEndOf program config 0 x) (same_end end other e) h
-one_thread program config end h (suc k) other e = cc
 
 -- ---- the words
 

@@ -6,3 +6,4 @@ pub mod OneAnswer
 pub mod InMemory
 pub mod HelpLines
 pub mod ForeignWords
+pub mod Threads

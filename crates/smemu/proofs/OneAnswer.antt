@@ -8,13 +8,15 @@ use Rattle.sm_types.specs.declared.config.Config.{Config}
 use Rattle.sm_types.specs.declared.length.VecLen.{VecLen}
 use Rattle.sm_types.specs.declared.length.VecLen.TheVariants.{Bits128, Bits256, Bits512, Bits1024, Bits2048}
 use Rattle.sm_types.specs.declared.shared_op.Event.{Event}
+use Rattle.sm_types.specs.declared.shared_words.Words.{Words}
+use Rattle.shared_region.specs.History.{AreOneHistory}
 use Rattle.sm_types.specs.Length.{bits_of}
 use Rattle.sm_types.specs.declared.object.Object.{Object}
 use Rattle.sm_types.specs.Objects.{text_address, data_address}
 use Rattle.asm_core.specs.Assembly.{IsSameObject}
 use Rattle.asm_core.proofs.OneObject.{one_object, same_code}
 use Rattle.cmd_words.specs.Options.{Options, options_of}
-use Rattle.cmd_words.specs.Words.{Request, AsksRun, AsksListing, AsksHelp, AsksVersion, AsksAssembly}
+use Rattle.cmd_words.specs.Words.{Request, command_of, AsksRun, AsksListing, AsksHelp, AsksVersion, AsksAssembly}
 use Rattle.code_listing.specs.Listing.{listing_text}
 use Rattle.elf_sections.specs.Code.{code_words}
 use Rattle.elf_loader.specs.Loading.{Loads}
@@ -22,9 +24,11 @@ use Rattle.elf_loader.specs.Objects.{IsObjectImage, object_extents, text_extent,
 use Rattle.elf_loader.proofs.Images.{one_memory, one_program}
 use Rattle.lone_runner.specs.LoneRun.{IsLoneRun}
 use Rattle.lone_runner.proofs.Runs.{one_state, one_stop}
+use Rattle.lone_runner.proofs.OneRun.{one_journal, one_words}
 use Rattle.paged_memory.specs.Image.{Extent, IsMemoryOf, Program}
-use Rattle.report_text.specs.Report.{ThreadEnd, report_text, zero_words}
-use Rattle.smemu.specs.Answers.{IsEndOf, IsReportOf, IsReport, IsListing, IsProgramOf, IsAnswer, AreLoadedAsOne, AreOneAnswer}
+use Rattle.report_text.specs.Report.{ThreadEnd, report_text}
+use Rattle.smemu.proofs.Words.{one_run}
+use Rattle.smemu.specs.Answers.{IsEndOf, journals_of, IsReportOf, IsReport, IsListing, IsProgramOf, IsAnswer, AreLoadedAsOne, AreOneAnswer}
 
 -- ---- options
 
@@ -89,42 +93,49 @@ same_file o file other e h = cc
 
 -- ---- the ends of threads
 
-same_list : {A : Type 0} (xs ys : List A) → length xs ≡ length ys
-    → ((k : ℕ) (x y : A) → slice_get xs k ≡ Some x → slice_get ys k ≡ Some y → x ≡ y) → xs ≡ ys
-same_list [] [] l h = refl
-same_list [] (y ∷ ys) l h = absurd (omega arith)
-same_list (x ∷ xs) [] l h = absurd (omega arith)
-same_list (x ∷ xs) (y ∷ ys) l h =
-    let first : x ≡ y = h 0 x y refl refl in
-    let rest : xs ≡ ys = same_list xs ys (omega arith) (λ k. h (suc k)) in
-    λ i. first i ∷ rest i
+-- one thread that ends, with words with which its journal is one history
+pub record IsOneEnd (program : Program) (config : Config) (ends : List ThreadEnd) (words : Words) : Type 0 where
+  pub end : ThreadEnd
+  pub alone : ends ≡ end ∷ []
+  pub is_end : IsEndOf program config 0 end
+  pub one_history : AreOneHistory (end.journal ∷ []) words
 
-alone : (program : Program) (config : Config) (k : ℕ) (end : ThreadEnd) (h : IsEndOf program config k end)
-    → IsLoneRun program config k [] end.state h.stop
-alone program config k end h = subst (λ (journal : List Event). IsLoneRun program config k journal end.state h.stop) h.journal h.run
+one_end_of : (program : Program) (config : Config) (ends : List ThreadEnd) (words : Words) → length ends ≡ 1
+    → ((k : ℕ) (end : ThreadEnd) → slice_get ends k ≡ Some end → IsEndOf program config k end) → AreOneHistory (journals_of ends) words
+    → IsOneEnd program config ends words
+one_end_of program config [] words l each one = absurd (omega arith)
+one_end_of program config (end ∷ []) words l each one = record { end = end; alone = refl; is_end = each 0 end refl; one_history = one }
+one_end_of program config (end ∷ other ∷ ends) words l each one = absurd (omega arith)
 
-one_thread_end : (program : Program) (config : Config) (k : ℕ) (a b : ThreadEnd) → IsEndOf program config k a → IsEndOf program config k b
-    → a ≡ b
-one_thread_end program config k a b h g =
+one_thread_end : (program : Program) (config : Config) (a b : ThreadEnd) (v w : Words) → IsEndOf program config 0 a
+    → IsEndOf program config 0 b → AreOneHistory (a.journal ∷ []) v → AreOneHistory (b.journal ∷ []) w → a ≡ b
+one_thread_end program config a b v w h g x y =
     let number = h.number ∙ sym g.number in
-    let journal = h.journal ∙ sym g.journal in
-    let state = one_state program config k [] a.state b.state h.stop g.stop (alone program config k a h) (alone program config k b g) in
-    let same = one_stop program config k [] a.state b.state h.stop g.stop (alone program config k a h) (alone program config k b g) in
+    let journal = one_journal program config a.journal b.journal a.state b.state h.stop g.stop v w h.run g.run x y in
+    let run : IsLoneRun program config 0 b.journal a.state h.stop =
+    subst (λ (j : List Event). IsLoneRun program config 0 j a.state h.stop) journal h.run in
+    let state = one_state program config 0 b.journal a.state b.state h.stop g.stop run g.run in
+    let same = one_stop program config 0 b.journal a.state b.state h.stop g.stop run g.run in
     let stop = h.stopped ∙ ap Some same ∙ sym g.stopped in
     λ i. record { thread = number i; state = state i; stop = stop i; journal = journal i }
 
 -- ---- the texts
 
-one_report : (file : List ℕ) (config : Config) (text other : List ℕ) → IsReportOf file config text → IsReportOf file config other
-    → text ≡ other
-one_report file config text other h g =
+one_report : (file : List ℕ) (config : Config) (text other : List ℕ) → config.threads ≡ 1 → IsReportOf file config text
+    → IsReportOf file config other → text ≡ other
+one_report file config text other one h g =
     let program = one_program file h.program g.program h.loads g.loads in
     let each : (k : ℕ) (end : ThreadEnd) → slice_get h.ends k ≡ Some end → IsEndOf g.program config k end =
     λ k end at. subst (λ (p : Program). IsEndOf p config k end) program (h.each k end at) in
-    let ends =
-    same_list h.ends g.ends (h.threads ∙ sym g.threads)
-    (λ k a b at there. one_thread_end g.program config k a b (each k a at) (g.each k b there)) in
-    h.is_text ∙ ap (λ (es : List ThreadEnd). report_text config (sha256 file) es zero_words) ends ∙ sym g.is_text
+    let x = one_end_of g.program config h.ends h.words (h.threads ∙ one) each h.one_history in
+    let y = one_end_of g.program config g.ends g.words (g.threads ∙ one) g.each g.one_history in
+    let end = one_thread_end g.program config x.end y.end h.words g.words x.is_end y.is_end x.one_history y.one_history in
+    let words =
+    one_words g.program config x.end.journal y.end.journal x.end.state y.end.state x.is_end.stop y.is_end.stop h.words g.words
+    x.is_end.run y.is_end.run x.one_history y.one_history in
+    let ends : h.ends ≡ g.ends = x.alone ∙ ap (λ (e : ThreadEnd). e ∷ []) end ∙ sym y.alone in
+    h.is_text ∙ ap (λ (es : List ThreadEnd). report_text config (sha256 file) es h.words) ends
+    ∙ ap (report_text config (sha256 file) g.ends) words ∙ sym g.is_text
 
 -- ---- the files of a program
 
@@ -151,20 +162,22 @@ one_assembly source text other h g =
     h.written.image g.written.image in
     (g.written.program, subst (λ (p : Program). Loads text p) same h.written.loads, g.written.loads)
 
-pub one_text : (files : List ℕ → Option (List ℕ)) (request : Request) (text other : List ℕ) → IsAnswer (Some files) request text
+pub one_text : (files : List ℕ → Option (List ℕ)) (words : List (List ℕ)) (request : Request) (text other : List ℕ)
+    → command_of words ≡ Some request → IsAnswer (Some files) request text
     → IsAnswer (Some files) request other → AreOneAnswer request text other
-one_text files (AsksRun name options) text other h g =
+one_text files words (AsksRun name options) text other asked h g =
     let file = same_file (files name) h.file g.file h.is_file g.is_file in
     let config = same_config h.config g.config (h.given ∙ sym g.given) in
     let of_file = subst (λ (f : List ℕ). IsReportOf f h.config text) file h.report in
     let of_config = subst (λ (c : Config). IsReportOf g.file c text) config of_file in
-    one_report g.file g.config text other of_config g.report
-one_text files (AsksListing name) text other h g =
+    let one : g.config.threads ≡ 1 = ap (λ (o : Options). o.threads) g.given ∙ one_run words name options asked in
+    one_report g.file g.config text other one of_config g.report
+one_text files words (AsksListing name) text other asked h g =
     let file = same_file (files name) h.file g.file h.is_file g.is_file in
     let code = h.listing.loads.code_is ∙ ap code_words file ∙ sym g.listing.loads.code_is in
     h.listing.is_text ∙ ap listing_text code ∙ sym g.listing.is_text
-one_text files (AsksAssembly name) text other h g =
+one_text files words (AsksAssembly name) text other asked h g =
     let source = same_file (files name) h.source g.source h.is_file g.is_file in
     one_assembly g.source text other (subst (λ (f : List ℕ). IsProgramOf f text) source h.program) g.program
-one_text files AsksHelp text other h g = h ∙ sym g
-one_text files AsksVersion text other h g = h ∙ sym g
+one_text files words AsksHelp text other asked h g = h ∙ sym g
+one_text files words AsksVersion text other asked h g = h ∙ sym g

@@ -7,8 +7,8 @@ use Rattle.edge_io.specs.Cause.{Rose}
 use Rattle.edge_io.specs.Files.{Told, FilesView}
 use Rattle.cmd_words.specs.Words.{Request}
 use Rattle.code_listing.specs.Listing.{listing_text}
-use Rattle.report_text.specs.Ends.{end_of}
-use Rattle.report_text.specs.Report.{report_text, zero_words}
+use Rattle.report_text.specs.Ends.{ends_of}
+use Rattle.report_text.specs.Report.{report_text}
 use Rattle.smemu.specs.Ends.{Change, Stands, Defined}
 use Rattle.smemu.specs.FaultLines.{fault_line}
 use Rattle.smemu.specs.Requests.{Kind, NoProgram, NoSource, rejection_of}
@@ -25,7 +25,7 @@ use Rattle.smemu.specs.declared.status.Status.TheVariants as status
 
 -- the text of a report
 unfoldable pub run_text : RunReport → List ℕ
-run_text r = report_text r.head.config r.head.image (end_of r.context ∷ []) zero_words
+run_text r = report_text r.head.config r.head.image (ends_of r.run.contexts.items) r.run.words
 
 -- the text of an answer
 abbrev pub answer_text : Answer → List ℕ

@@ -6,15 +6,15 @@ ghost use Rattle.smemu.specs.Views.{answer_text, run_text};
 use crate::help::{HELP, VERSION};
 use code_listing::write_listing;
 use edge_io::{PutFault, Sink};
-use kernel_contexts::Context;
+use kernel_contexts::Finished;
 use paged_memory::Image;
 use report_text::{Head, write_report};
 
 /// A run that has ended.
 #[derive(Drop)]
 pub struct RunReport {
-    /// The thread, as it stopped.
-    pub context: Context,
+    /// The threads, as they stopped, and the words that they share.
+    pub run: Finished,
     /// What stands before the report's blocks.
     pub head: Head,
 }
@@ -37,7 +37,7 @@ pub enum Answer {
 fn write_run<K: Sink>(out: &mut K, report: &RunReport) -> Result<(), PutFault>
     ensures { Writes (K.view out.old) (K.view out.new) result (run_text report.now) }
 {
-    write_report(&report.context, &report.head, out)
+    write_report(&report.run, &report.head, out)
 }
 
 /// Writes the text of help.

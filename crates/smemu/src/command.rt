@@ -69,9 +69,9 @@ fn run_image(
     requires one { config.now.threads ≡ 1 }
     ensures { IfOk result (λ report. IsReportOf file.now config.now (run_text report)) }
 {
-    let context = run_to_stop(alloc, image, config, 0)?;
+    let run = run_to_stop(alloc, image, config)?;
     Ok(RunReport {
-        context,
+        run,
         head: Head {
             config: *config,
             image: Sha256::digest(file),

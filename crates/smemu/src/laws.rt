@@ -2,7 +2,7 @@
 //! of the statuses is so.
 ghost use Rattle.std.specs.Prelude.{◌≡◌, ◌≢◌, ℕ, List, Option, Some};
 ghost use Rattle.cmd_words.specs.Options.{takes};
-ghost use Rattle.cmd_words.specs.Words.{Request};
+ghost use Rattle.cmd_words.specs.Words.{Request, command_of};
 ghost use Rattle.cmd_words.specs.declared.setting.Setting.{Setting};
 ghost use Rattle.smemu.specs.Answers.{AreOneAnswer, IsAnswer};
 ghost use Rattle.edge_io.specs.Files.{FilesView};
@@ -11,10 +11,12 @@ ghost use Rattle.smemu.specs.Texts.{has_number, help_text, numbers_of, option_li
 ghost use Rattle.smemu.specs.Texts.{status_line, status_words};
 ghost use Rattle.smemu.specs.declared.status.Status.{Status};
 
-/// Over files that are told a request has at most one answer: two texts that answer it are equal, and two
-/// files of an assembled program are loaded as one program.
+/// Over files that are told, what words ask for has at most one answer: two texts that answer it are equal,
+/// and two files of an assembled program are loaded as one program. Words ask for runs of one thread, whose
+/// shared words no other thread changes.
 pub fn one_answer()
-    ensures { (files : List ℕ → Option (List ℕ)) (request : Request) (text other : List ℕ)
+    ensures { (files : List ℕ → Option (List ℕ)) (words : List (List ℕ)) (request : Request)
+        (text other : List ℕ) → command_of words ≡ Some request
         → IsAnswer (Some files) request text → IsAnswer (Some files) request other
         → AreOneAnswer request text other }
 {}

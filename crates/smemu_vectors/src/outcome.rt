@@ -151,10 +151,11 @@ fn raise_line(alloc: Global, exception: Exception) -> Result<String> {
 /// The line of what a step came to, and of the state after it.
 pub fn outcome_line(alloc: Global, end: StepEnd, state: &State) -> Result<String> {
     match end {
-        StepEnd::Next => next_line(alloc, state),
+        StepEnd::Next(_) => next_line(alloc, state),
         StepEnd::Call(number) => Ok(format!(in alloc; "call {number}")?),
         StepEnd::Raise(exception) => raise_line(alloc, exception),
         StepEnd::NeedsBank => Err(anyhow!("no bank")),
+        StepEnd::NoRoom | StepEnd::TraceEnds | StepEnd::TraceDiffers => Err(anyhow!("shared word")),
         StepEnd::Memory => Err(anyhow!("memory")),
     }
 }

@@ -4,6 +4,7 @@ use crate::state::{State, read_state};
 use a64_decode::decode_scalar;
 use anyhow::{Result, ensure};
 use machine_step::StepEnd;
+use shared_region::{ReplayPort, ReplayTicket};
 use sm_types::{Insn, SystemRegister, VecLen};
 use std::alloc::Global;
 
@@ -59,17 +60,23 @@ fn sees_no_bank(word: u32) -> bool {
     }
 }
 
-/// Makes the step: on the bank, or without one where the instruction sees nothing of it.
-fn step(word: u32, state: &mut State) -> StepEnd {
+/// Makes the step: on the bank, or without one where the instruction sees nothing of it. No line accesses a
+/// shared word, so the port has nothing to answer.
+fn step(alloc: Global, word: u32, state: &mut State) -> StepEnd {
+    let mut port = ReplayPort::new();
+    let mut ticket = ReplayTicket::new(0, Vec::new(alloc));
     if sees_no_bank(word) {
-        return state.machine.step(None);
+        return state
+            .machine
+            .step(None, &mut port, &mut ticket, 0, false);
     }
     // both are in the modes that the line says
     state.machine.streaming = state.bank.vectors.streaming();
     if !state.machine.za_on {
         state.bank.za.clear();
     }
-    state.machine.step(Some(&mut state.bank))
+    let bank = Some(&mut state.bank);
+    state.machine.step(bank, &mut port, &mut ticket, 0, false)
 }
 
 /// Compares what the step gives with its line.
@@ -78,7 +85,7 @@ fn check_fields(alloc: Global, fields: &Fields<'_>) -> Result<Verdict> {
     else {
         return Ok(Verdict::Unread);
     };
-    let end = step(fields.word, &mut state);
+    let end = step(alloc, fields.word, &mut state);
     let given = outcome_line(alloc, end, &state)?;
     if given.as_str() == fields.outcome {
         Ok(Verdict::Agrees)

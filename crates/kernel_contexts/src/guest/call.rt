@@ -77,7 +77,7 @@ fn append(pages: &Pages, address: u64, count: usize, output: &mut Vec<u8>) -> Ap
 impl GuestThread {
     ghost use Rattle.kernel_contexts.specs.Call.{write_of, exit_of, set_handler_of, returned, Yields};
     ghost use Rattle.kernel_contexts.specs.Turn.{outside_streaming};
-    ghost use Rattle.kernel_contexts.specs.Context.{held_state, guest_call, Takes, IsSameGuest};
+    ghost use Rattle.kernel_contexts.specs.Context.{held_state, guest_call, Takes, IsQuietGuest};
 
     /// The call of the number in X8.
     #[tactic(auto, unfolding(crate::specs::Call::call_of))]
@@ -85,7 +85,7 @@ impl GuestThread {
         requires room { self.old.count < self.old.config.budget }
         requires runs { self.old.stop ≡ None }
         ensures turn { Takes (guest_call self.old) self.old self.new result }
-        ensures same { IsSameGuest self.old self.new }
+        ensures same { IsQuietGuest self.old self.new }
     {
         match self.machine.scalars.x[8] {
             WRITE => self.write(),
@@ -105,7 +105,7 @@ impl GuestThread {
         ensures state { held_state self.new ≡
             returned (outside_streaming self.old.config (held_state self.old)) answer }
         ensures stop { self.new.stop ≡ None }
-        ensures same { IsSameGuest self.old self.new }
+        ensures same { IsQuietGuest self.old self.new }
     {
         self.leave_streaming();
         self.machine.scalars.x[0] = answer;
@@ -121,7 +121,7 @@ impl GuestThread {
         requires runs { self.old.stop ≡ None }
         ensures turn { Takes (exit_of (outside_streaming self.old.config (held_state self.old)))
             self.old self.new result }
-        ensures same { IsSameGuest self.old self.new }
+        ensures same { IsQuietGuest self.old self.new }
     {
         self.leave_streaming();
         let status = (self.machine.scalars.x[0] % 256) as u8;
@@ -136,7 +136,7 @@ impl GuestThread {
         requires runs { self.old.stop ≡ None }
         ensures turn { Takes (Yields (returned (outside_streaming self.old.config (held_state self.old)) 0))
             self.old self.new result }
-        ensures same { IsSameGuest self.old self.new }
+        ensures same { IsQuietGuest self.old self.new }
     {
         self.return_with(0);
         Turn::Yielded
@@ -149,7 +149,7 @@ impl GuestThread {
         requires runs { self.old.stop ≡ None }
         ensures turn { Takes (set_handler_of (outside_streaming self.old.config (held_state self.old)))
             self.old self.new result }
-        ensures same { IsSameGuest self.old self.new }
+        ensures same { IsQuietGuest self.old self.new }
     {
         let signal = self.machine.scalars.x[0];
         let address = self.machine.scalars.x[1];
@@ -167,7 +167,7 @@ impl GuestThread {
         requires runs { self.old.stop ≡ None }
         ensures turn { let before = held_state self.old in
             Takes (write_of before (outside_streaming self.old.config before)) self.old self.new result }
-        ensures same { IsSameGuest self.old self.new }
+        ensures same { IsQuietGuest self.old self.new }
     {
         let descriptor = self.machine.scalars.x[0];
         let address = self.machine.scalars.x[1];

@@ -1,23 +1,22 @@
-use Rattle.std.proofs.Common.{sym, refl, ap, [], ◌∷◌}
-use Rattle.report_text.specs.Ends.{end_of}
-use Rattle.report_text.specs.Report.{ThreadEnd, report_text, zero_words}
-use Rattle.smemu.specs.Answers.{IsEndOf}
+use Rattle.std.proofs.Common.{ap, length-map, ◌∙◌}
+use Rattle.report_text.specs.Ends.{ends_of}
+use Rattle.report_text.specs.Report.{report_text}
 use Rattle.smemu.specs.Views.{run_text}
-use Rattle.smemu.proofs.Ends.{one_thread}
+use Rattle.smemu.proofs.Threads.{each_end, same_journals}
 use Rattle.smemu.proofs.command.run_image.Goals as goal
 
 pub returns : goal.returns
 unfolding run_text
 returns c =
-    let end : ThreadEnd = end_of c.in_ok-context.context in
-    let alone = c.in_ok-context.ensures.run in
-    let is_end : IsEndOf c.args.image.now c.args.config.now 0 end =
-    record { number = c.in_ok-context.ensures.thread; journal = refl; stop = alone.stop; stopped = alone.stopped; run = alone.run } in
+    let run = c.in_ok-run.run in
+    let have = c.in_ok-run.ensures in
     record {
       program = c.args.image.now;
       loads = c.requires.loads;
-      ends = end ∷ [];
-      threads = sym c.requires.one;
-      each = one_thread c.args.image.now c.args.config.now end is_end;
-      is_text = ap (λ digest. report_text c.args.config.now digest (end ∷ []) zero_words) c.digest.ensures;
+      ends = ends_of run.contexts.items;
+      threads = length-map _ run.contexts.items ∙ have.threads;
+      each = each_end c.args.image.now c.args.config.now run.contexts.items run.words have;
+      words = run.words;
+      one_history = same_journals run.contexts.items run.words have.one_history;
+      is_text = ap (λ digest. report_text c.args.config.now digest (ends_of run.contexts.items) run.words) c.digest.ensures;
     }

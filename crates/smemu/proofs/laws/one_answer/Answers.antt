@@ -2,4 +2,4 @@ use Rattle.smemu.proofs.OneAnswer.{one_text}
 use Rattle.smemu.proofs.laws.one_answer.Goals as goal
 
 pub returns : goal.returns
-returns c = one_text
+returns c = λ files words request text other asked h g. one_text files words request text other asked h g

@@ -1,0 +1,217 @@
+//! One step of a machine, whose accesses to shared words a port answers.
+ghost use Rattle.std.specs.Prelude.{◌≡◌, ◌≢◌, ◌++◌, None, Some, ℕ};
+ghost use Rattle.paged_memory.specs.PageTable.{KeepsOwned};
+ghost use Rattle.shared_region.specs.Chain.{Chain};
+ghost use Rattle.machine_step.specs.ProcessorState.{ProcessorState, VectorState};
+ghost use Rattle.machine_step.specs.Effect.{Effect, Asks, answered, effect_of};
+ghost use Rattle.machine_step.specs.Needs.{needs_bank};
+ghost use Rattle.machine_step.specs.Machine.{core_of, HasRoomToStep, IsInMode, IsSameBank, KeepsMode, Steps};
+ghost use Rattle.machine_step.specs.Machine.{IsAsked, AsksWell};
+ghost use Rattle.machine_step.specs.Step.{Tells, TellsOn, TellsAlone, events_in, entries_of};
+ghost use Rattle.machine_step.specs.Lent.{lent_before, lent_after, IsLentInMode, Answers, ComesBack};
+
+use crate::executed::Executed;
+use crate::machine::Machine;
+use mem_access::{Bank, write_answer};
+use shared_region::{Port, PortStop};
+use sm_types::{Event, Exception, Insn, SharedOp};
+
+/// What a step came to.
+#[derive(Clone, Copy, Debug, PartialEq, Eq)]
+pub enum StepEnd {
+    /// The instruction was executed, with this event where it accessed a shared word.
+    Next(Option<Event>),
+    /// The instruction is a call of the kernel, with the number in it; nothing has changed.
+    Call(u16),
+    /// The instruction raises; nothing has changed.
+    Raise(Exception),
+    /// The instruction needs a bank, and none was given; nothing has changed.
+    NeedsBank,
+    /// The instruction accesses a shared word, and the journal has no room for its event; nothing has changed.
+    NoRoom,
+    /// The port's journal has no event left for the access; nothing has changed.
+    TraceEnds,
+    /// The next event of the port's journal has another operation; nothing has changed.
+    TraceDiffers,
+    /// There was no memory for a page that is written, or for an event; nothing has changed.
+    Memory,
+}
+
+impl Machine {
+    /// Executes the instruction at PC, on the bank where one is given; the port answers its access to a
+    /// shared word. `room` says that the journal has a place for the event. `NeedsBank` comes only where there
+    /// is no bank, and `Memory` only where the instruction writes a page that is not owned, or where the port
+    /// takes memory.
+    pub fn step<P: Port>(
+        &mut self,
+        bank: Option<&mut Bank>,
+        port: &mut P,
+        ticket: &mut P::Ticket,
+        thread: u32,
+        room: bool,
+    ) -> StepEnd
+        requires mode { IsLentInMode (lent_before bank) self.old }
+        requires number { P.number ticket.old ≡ Some thread }
+        requires belongs { P.ticket_name ticket.old ≡ P.name port.old }
+        ensures effect { Answers (lent_before bank.entry) (lent_after bank.exit)
+            (record {
+              ends = P.ends port.old ticket.old;
+              strays = P.strays port.old ticket.old;
+              takes_memory = P.takes_memory;
+            }) room self.old self.new result }
+        ensures bank { ComesBack (lent_before bank.entry) (lent_after bank.exit) self.new }
+        ensures memory { HasRoomToStep self.old (lent_before bank.entry) → result ≡ StepEnd.Memory
+            → P.takes_memory }
+        ensures kept { KeepsOwned self.old.pages self.new.pages }
+        ensures gives { Chain P.gives port.old ticket.old (entries_of thread (events_in result)) port.new ticket.new }
+        ensures events { P.events ticket.new ≡ P.events ticket.old ++ events_in result }
+        ensures number { P.number ticket.new ≡ Some thread }
+        ensures belongs { P.ticket_name ticket.new ≡ P.name port.new }
+    {
+        match bank {
+            Some(bank) => self.step_on(bank, port, ticket, thread, room),
+            None => self.step_alone(port, ticket, thread, room),
+        }
+    }
+
+    /// Executes the instruction at PC on a bank.
+    #[inline]
+    fn step_on<P: Port>(
+        &mut self,
+        bank: &mut Bank,
+        port: &mut P,
+        ticket: &mut P::Ticket,
+        thread: u32,
+        room: bool,
+    ) -> StepEnd
+        requires mode { IsInMode bank.old self.old }
+        requires number { P.number ticket.old ≡ Some thread }
+        requires belongs { P.ticket_name ticket.old ≡ P.name port.old }
+        ensures effect { TellsOn effect_of
+            (record {
+              ends = P.ends port.old ticket.old;
+              strays = P.strays port.old ticket.old;
+              takes_memory = P.takes_memory;
+            }) room self.old bank.old self.new bank.new result }
+        ensures same { IsSameBank bank.old bank.new }
+        ensures mode { IsInMode bank.new self.new }
+        ensures memory { HasRoomToStep self.old (Some bank.old) → result ≡ StepEnd.Memory → P.takes_memory }
+        ensures kept { KeepsOwned self.old.pages self.new.pages }
+        ensures gives { Chain P.gives port.old ticket.old (entries_of thread (events_in result)) port.new ticket.new }
+        ensures events { P.events ticket.new ≡ P.events ticket.old ++ events_in result }
+        ensures number { P.number ticket.new ≡ Some thread }
+        ensures belongs { P.ticket_name ticket.new ≡ P.name port.new }
+    {
+        let executed = self.execute_on_bank(bank);
+        self.finish(executed, port, ticket, thread, room)
+    }
+
+    /// Executes the instruction at PC without a bank.
+    fn step_alone<P: Port>(
+        &mut self,
+        port: &mut P,
+        ticket: &mut P::Ticket,
+        thread: u32,
+        room: bool,
+    ) -> StepEnd
+        requires number { P.number ticket.old ≡ Some thread }
+        requires belongs { P.ticket_name ticket.old ≡ P.name port.old }
+        ensures effect { TellsAlone needs_bank effect_of
+            (record {
+              ends = P.ends port.old ticket.old;
+              strays = P.strays port.old ticket.old;
+              takes_memory = P.takes_memory;
+            }) room self.old self.new result }
+        ensures memory { HasRoomToStep self.old None → result ≡ StepEnd.Memory → P.takes_memory }
+        ensures kept { KeepsOwned self.old.pages self.new.pages }
+        ensures gives { Chain P.gives port.old ticket.old (entries_of thread (events_in result)) port.new ticket.new }
+        ensures events { P.events ticket.new ≡ P.events ticket.old ++ events_in result }
+        ensures number { P.number ticket.new ≡ Some thread }
+        ensures belongs { P.ticket_name ticket.new ≡ P.name port.new }
+    {
+        let executed = self.execute_without_bank();
+        self.finish(executed, port, ticket, thread, room)
+    }
+
+    /// What a step answers whose instruction came to this; the port is asked where that asks an operation.
+    #[inline]
+    fn finish<P: Port>(
+        &mut self,
+        executed: Executed,
+        port: &mut P,
+        ticket: &mut P::Ticket,
+        thread: u32,
+        room: bool,
+    ) -> StepEnd
+        requires asked { AsksWell self.old executed }
+        requires number { P.number ticket.old ≡ Some thread }
+        requires belongs { P.ticket_name ticket.old ≡ P.name port.old }
+        ensures tells { (bank : VectorState) (effect : Effect) (old : ProcessorState)
+            → Steps effect old (core_of self.old bank) executed
+            → Tells (record {
+              ends = P.ends port.old ticket.old;
+              strays = P.strays port.old ticket.old;
+              takes_memory = P.takes_memory;
+            }) room effect old (core_of self.new bank) result }
+        ensures needs { executed ≡ Executed.NeedsBank → (result ≡ StepEnd.NeedsBank) × (self.new ≡ self.old) }
+        ensures memory { result ≡ StepEnd.Memory → executed ≢ Executed.Memory → P.takes_memory }
+        ensures pages { self.new.pages ≡ self.old.pages }
+        ensures mode { KeepsMode self.old self.new }
+        ensures gives { Chain P.gives port.old ticket.old (entries_of thread (events_in result)) port.new ticket.new }
+        ensures events { P.events ticket.new ≡ P.events ticket.old ++ events_in result }
+        ensures number { P.number ticket.new ≡ Some thread }
+        ensures belongs { P.ticket_name ticket.new ≡ P.name port.new }
+    {
+        match executed {
+            Executed::Next => StepEnd::Next(None),
+            Executed::Call(number) => StepEnd::Call(number),
+            Executed::Raise(exception) => StepEnd::Raise(exception),
+            Executed::Ask(insn, op) => self.ask(&insn, op, port, ticket, thread, room),
+            Executed::NeedsBank => StepEnd::NeedsBank,
+            Executed::Memory => StepEnd::Memory,
+        }
+    }
+
+    /// Makes the operation of an instruction on a shared word, where the journal has room for its event.
+    fn ask<P: Port>(
+        &mut self,
+        insn: &Insn,
+        op: SharedOp,
+        port: &mut P,
+        ticket: &mut P::Ticket,
+        thread: u32,
+        room: bool,
+    ) -> StepEnd
+        requires asked { IsAsked insn.now op self.old.scalars }
+        requires number { P.number ticket.old ≡ Some thread }
+        requires belongs { P.ticket_name ticket.old ≡ P.name port.old }
+        ensures tells { (bank : VectorState) → Tells (record {
+          ends = P.ends port.old ticket.old;
+          strays = P.strays port.old ticket.old;
+          takes_memory = P.takes_memory;
+        }) room
+            (Asks op (answered insn.now (core_of self.old bank)))
+            (core_of self.old bank) (core_of self.new bank) result }
+        ensures memory { result ≡ StepEnd.Memory → P.takes_memory }
+        ensures pages { self.new.pages ≡ self.old.pages }
+        ensures mode { KeepsMode self.old self.new }
+        ensures gives { Chain P.gives port.old ticket.old (entries_of thread (events_in result)) port.new ticket.new }
+        ensures events { P.events ticket.new ≡ P.events ticket.old ++ events_in result }
+        ensures number { P.number ticket.new ≡ Some thread }
+        ensures belongs { P.ticket_name ticket.new ≡ P.name port.new }
+    {
+        if !room {
+            return StepEnd::NoRoom;
+        }
+        match port.access(ticket, thread, op) {
+            Ok(answer) => {
+                write_answer(insn, &mut self.scalars, answer);
+                self.step_past();
+                StepEnd::Next(Some(Event { op, answer }))
+            }
+            Err(PortStop::TraceEnds) => StepEnd::TraceEnds,
+            Err(PortStop::TraceDiffers) => StepEnd::TraceDiffers,
+            Err(PortStop::Memory) => StepEnd::Memory,
+        }
+    }
+}
