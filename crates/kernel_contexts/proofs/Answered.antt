@@ -1,16 +1,19 @@
 -- From the turns of the plain state to the answers of a context.
-use Rattle.std.proofs.Common.{◌≡◌, ℕ, ◌+◌, ◌≤◌, ◌++◌, List, take, drop, length, Option, Some, ap, sym, ◌∙◌, arith}
+use Rattle.std.proofs.Common.{◌≡◌, ℕ, ◌+◌, ◌≤◌, ◌++◌, List, [], ◌∷◌, take, drop, length, Option, Some, ap, sym, ◌∙◌, arith}
 use Rattle.std.proofs.lemmas.Grind.{common_steps}
-use Rattle.std.proofs.lemmas.List.{take-append-drop}
+use Rattle.std.proofs.lemmas.List.{take-append-drop, append-nil}
 use Rattle.sm_types.specs.declared.stop.Stop.{Stop}
 use Rattle.sm_types.specs.declared.config.Config.{Config}
+use Rattle.sm_types.specs.declared.shared_op.Event.{Event}
+use Rattle.machine_step.specs.Step.{Refusals}
 use Rattle.kernel_contexts.specs.State.{State}
 use Rattle.kernel_contexts.specs.Call.{TurnEnd, Ends}
 use Rattle.kernel_contexts.specs.Turn.{turn_of}
-use Rattle.kernel_contexts.specs.Context.{Turns}
+use Rattle.kernel_contexts.specs.Context.{Turns, TurnsOver, GoesOn, made_since}
 use Rattle.kernel_contexts.specs.declared.context.Turn.{Turn}
-use Rattle.kernel_contexts.specs.declared.context.Turn.TheVariants.{Ran, Yielded, Stopped, Memory}
-use Rattle.kernel_contexts.proofs.Turns.{goes_turned, yields_turned}
+use Rattle.kernel_contexts.specs.declared.context.Turn.TheVariants.{Ran, Yielded, Stopped, TraceEnds, TraceDiffers}
+use Rattle.kernel_contexts.specs.declared.context.Turn.TheVariants.{Memory}
+use Rattle.kernel_contexts.proofs.Turns.{goes_turned, yields_turned, asks_turned}
 
 pub stops_so : (end : TurnEnd) (old new : State) (stopped : Option Stop) (turn : Turn) (stop : Stop) → turn ≡ Stopped stop
     → end ≡ Ends new stop → stopped ≡ Some stop → Turns end old new stopped turn
@@ -22,21 +25,60 @@ pub turns_from : (end end' : TurnEnd) (s t new : State) (stopped : Option Stop) 
 turns_from end end' s t new stopped Ran e same h = (e ∙ h.0, h.1)
 turns_from end end' s t new stopped Yielded e same h = (e ∙ h.0, h.1)
 turns_from end end' s t new stopped (Stopped stop) e same h = (e ∙ h.0, h.1)
+turns_from end end' s t new stopped TraceEnds e same h = absurd h
+turns_from end end' s t new stopped TraceDiffers e same h = absurd h
 turns_from end end' s t new stopped Memory e same h = (h.0 ∙ same, h.1)
 
-pub ran_turned : (config : Config) (thread events : ℕ) (old new : State) (stopped : Option Stop) (turn : Turn)
-    → Turns (turn_of config thread events old) old new stopped turn → turn ≡ Ran → new.turns ≡ old.turns + 1
-ran_turned config thread events old new stopped Ran h e = goes_turned config thread events old new h.0
-ran_turned config thread events old new stopped Yielded h e = cc
-ran_turned config thread events old new stopped (Stopped stop) h e = cc
-ran_turned config thread events old new stopped Memory h e = cc
+asked_turned : (config : Config) (thread events : ℕ) (old new : State) (refusals : Refusals) (made : List Event)
+    → GoesOn refusals (turn_of config thread events old) new made → new.turns ≡ old.turns + 1
+asked_turned config thread events old new refusals [] h = goes_turned config thread events old new h
+asked_turned config thread events old new refusals (event ∷ []) h =
+    asks_turned config thread events old new event.op h.next event.answer h.asks h.made
+asked_turned config thread events old new refusals (event ∷ other ∷ made) h = absurd h
 
-pub yielded_turned : (config : Config) (thread events : ℕ) (old new : State) (stopped : Option Stop) (turn : Turn)
-    → Turns (turn_of config thread events old) old new stopped turn → turn ≡ Yielded → new.turns ≡ old.turns + 1
-yielded_turned config thread events old new stopped Ran h e = cc
-yielded_turned config thread events old new stopped Yielded h e = yields_turned config thread events old new h.0
-yielded_turned config thread events old new stopped (Stopped stop) h e = cc
-yielded_turned config thread events old new stopped Memory h e = cc
+pub ran_turned : (config : Config) (thread events : ℕ) (old new : State) (refusals : Refusals) (made : List Event) (stopped : Option Stop)
+    (turn : Turn) → TurnsOver refusals (turn_of config thread events old) old new made stopped turn → turn ≡ Ran
+    → new.turns ≡ old.turns + 1
+ran_turned config thread events old new refusals made stopped Ran h e = asked_turned config thread events old new refusals made h.0
+ran_turned config thread events old new refusals made stopped Yielded h e = cc
+ran_turned config thread events old new refusals made stopped (Stopped stop) h e = cc
+ran_turned config thread events old new refusals made stopped TraceEnds h e = cc
+ran_turned config thread events old new refusals made stopped TraceDiffers h e = cc
+ran_turned config thread events old new refusals made stopped Memory h e = cc
+
+pub yielded_turned : (config : Config) (thread events : ℕ) (old new : State) (refusals : Refusals) (made : List Event)
+    (stopped : Option Stop) (turn : Turn) → TurnsOver refusals (turn_of config thread events old) old new made stopped turn
+    → turn ≡ Yielded → new.turns ≡ old.turns + 1
+yielded_turned config thread events old new refusals made stopped Ran h e = cc
+yielded_turned config thread events old new refusals made stopped Yielded h e = yields_turned config thread events old new h.0
+yielded_turned config thread events old new refusals made stopped (Stopped stop) h e = cc
+yielded_turned config thread events old new refusals made stopped TraceEnds h e = cc
+yielded_turned config thread events old new refusals made stopped TraceDiffers h e = cc
+yielded_turned config thread events old new refusals made stopped Memory h e = cc
+
+-- a turn that asked nothing, over a port
+pub asked_nothing : (refusals : Refusals) (end : TurnEnd) (old new : State) (made : List Event) (stopped : Option Stop) (turn : Turn)
+    → made ≡ [] → Turns end old new stopped turn → TurnsOver refusals end old new made stopped turn
+asked_nothing refusals end old new made stopped Ran none h = (rw none h.0, h.1)
+asked_nothing refusals end old new made stopped Yielded none h = (h.0, none, h.1)
+asked_nothing refusals end old new made stopped (Stopped stop) none h = (h.0, none, h.1)
+asked_nothing refusals end old new made stopped TraceEnds none h = absurd h
+asked_nothing refusals end old new made stopped TraceDiffers none h = absurd h
+asked_nothing refusals end old new made stopped Memory none h = (h.0, none, h.1)
+
+-- the events at the end of a journal
+pub made_events : (old new events : List Event) → new ≡ old ++ events → made_since old new ≡ events
+made_events old new events is = rw is (grind (arith, common_steps))
+
+pub made_nothing : (old new : List Event) → new ≡ old → made_since old new ≡ []
+made_nothing old new is = made_events old new [] (is ∙ sym (append-nil old))
+
+-- a journal that got some events
+pub grown : (old new events : List Event) → new ≡ old ++ events → new ≡ old ++ made_since old new
+grown old new events is = is ∙ ap (λ (l : List Event). old ++ l) (sym (made_events old new events is))
+
+pub not_grown : (old new : List Event) → new ≡ old → new ≡ old ++ made_since old new
+not_grown old new is = grown old new [] (is ∙ sym (append-nil old))
 
 take_all : (into rest : List ℕ) → take (length into) (into ++ rest) ≡ into
 take_all into rest = grind (arith, common_steps)

@@ -1,3 +1,4 @@
 pub mod HandlerTable
 pub mod Turns
 pub mod Answered
+pub mod Over

@@ -1,12 +1,13 @@
 -- What one turn is, case by case, and that a turn after which the thread goes on counts one instruction and one turn.
-use Rattle.std.proofs.Common.{◌⊎◌, inl, inr, ◌≡◌, ℕ, ◌+◌, true, false, List, Option, Some, None, refl, ap, sym, ◌∙◌, arith, subst}
+use Rattle.std.proofs.Common.{◌⊎◌, inl, inr, ◌≡◌, ℕ, ◌+◌, true, false, cond, List, Option, Some, None, refl, ap, sym, ◌∙◌, arith, subst}
 use Rattle.std.proofs.Common.{slice_index, length}
 use Rattle.std.proofs.lemmas.Bool.{cond_both}
 use Rattle.std.proofs.lemmas.Bool.Decides.{nat_tests}
 use Rattle.std.specs.Prelude.{◌==◌, ◌||◌, nat_lt, nat_le}
 use Rattle.sm_types.specs.declared.config.Config.{Config}
 use Rattle.sm_types.specs.declared.stop.Exception.{Exception}
-use Rattle.sm_types.specs.declared.stop.Stop.TheVariants.{Budget, Raised}
+use Rattle.sm_types.specs.declared.shared_op.SharedOp.{SharedOp}
+use Rattle.sm_types.specs.declared.stop.Stop.TheVariants.{Budget, Raised, TraceFull}
 use Rattle.machine_step.specs.ProcessorState.{ProcessorState, vector_bytes}
 use Rattle.machine_step.specs.Effect.{Effect, Raises, Calls, Becomes, effect_of}
 use Rattle.machine_step.specs.Effect as instruction
@@ -109,3 +110,25 @@ goes_turned config thread events s t e = let more : IsOneMore s t = subst (Count
 pub yields_turned : (config : Config) (thread events : ℕ) (s t : State) → turn_of config thread events s ≡ Yields t → t.turns ≡ s.turns + 1
 yields_turned config thread events s t e =
     let more : IsOneMore s t = subst (CountsOne s) e (turn_counts config thread events s) in more.turns
+
+pub asks_turned : (config : Config) (thread events : ℕ) (s t : State) (op : SharedOp) (next : ℕ → State) (answer : ℕ)
+    → turn_of config thread events s ≡ Asks op next → t ≡ next answer → t.turns ≡ s.turns + 1
+asks_turned config thread events s t op next answer e made =
+    let more : CountsOne s (Asks op next) = subst (CountsOne s) e (turn_counts config thread events s) in
+    let one : IsOneMore s (next answer) = more answer in
+    ap (λ (u : State). u.turns) made ∙ one.turns
+
+-- an operation for whose event the journal has room, or none
+pub turn_asks : (config : Config) (thread events : ℕ) (s : State) (op : SharedOp) (next : ℕ → ProcessorState)
+    → (s.count ≡ config.budget → ⊥) → effect_of (vector_bytes config.vl) s.core ≡ instruction.Asks op next
+    → nat_le journal_limit events ≡ false → turn_of config thread events s ≡ Asks op (λ answer. counted s (next answer))
+turn_asks config thread events s op next e is room =
+    turn_on config thread events s e ∙ ap (after_effect config thread events s) is
+    ∙ ap (λ b. cond b (Ends s TraceFull) (Asks op (λ answer. counted s (next answer)))) room
+
+pub turn_full : (config : Config) (thread events : ℕ) (s : State) (op : SharedOp) (next : ℕ → ProcessorState)
+    → (s.count ≡ config.budget → ⊥) → effect_of (vector_bytes config.vl) s.core ≡ instruction.Asks op next
+    → nat_le journal_limit events ≡ true → turn_of config thread events s ≡ Ends s TraceFull
+turn_full config thread events s op next e is full =
+    turn_on config thread events s e ∙ ap (after_effect config thread events s) is
+    ∙ ap (λ b. cond b (Ends s TraceFull) (Asks op (λ answer. counted s (next answer)))) full

@@ -81,8 +81,11 @@ impl Context {
         requires number { P.number ticket.old ≡ Some (thread_of self.old) }
         requires belongs { P.ticket_name ticket.old ≡ P.name port.old }
         requires journal { P.events ticket.old ≡ journal_of self.old }
-        ensures turn { TurnsOrStays (stop_of self.old) (record { ends = P.ends port.old ticket.old;
-            strays = P.strays port.old ticket.old; takes_memory = P.takes_memory })
+        ensures turn { TurnsOrStays (stop_of self.old) (record {
+          ends = P.ends port.old ticket.old;
+          strays = P.strays port.old ticket.old;
+          takes_memory = P.takes_memory;
+        })
             self.old self.new result }
         ensures grows { journal_of self.new ≡ journal_of self.old ++ made_by self.old self.new }
         ensures gives { Chain P.gives port.old ticket.old

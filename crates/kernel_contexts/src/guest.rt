@@ -113,8 +113,11 @@ impl GuestThread {
         requires number { P.number ticket.old ≡ Some self.old.number }
         requires belongs { P.ticket_name ticket.old ≡ P.name port.old }
         requires journal { P.events ticket.old ≡ self.old.journal.items }
-        ensures turn { TurnsOver (record { ends = P.ends port.old ticket.old;
-            strays = P.strays port.old ticket.old; takes_memory = P.takes_memory })
+        ensures turn { TurnsOver (record {
+          ends = P.ends port.old ticket.old;
+          strays = P.strays port.old ticket.old;
+          takes_memory = P.takes_memory;
+        })
             (guest_turn self.old) (held_state self.old) (held_state self.new)
             (made_since self.old.journal.items self.new.journal.items) self.new.stop result }
         ensures grows { self.new.journal.items ≡
