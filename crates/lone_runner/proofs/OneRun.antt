@@ -30,17 +30,17 @@ data Served : Type 0 where
   Here : State → Words → List Event → Served
   Over : State → Stop → Words → List Event → Served
 
-served_turn : State → Words → List Event → TurnEnd → Served
+abbrev served_turn : State → Words → List Event → TurnEnd → Served
 served_turn s w done (Goes t) = Here t w done
 served_turn s w done (Yields t) = Here t w done
 served_turn s w done (Asks op next) = Here (next (answer_to w op)) (applied w op) (done ++ event_of op (answer_to w op) ∷ [])
 served_turn s w done (Ends t stop) = Over t stop w done
 
-served_on : Config → ℕ → Served → Served
+abbrev served_on : Config → ℕ → Served → Served
 served_on config thread (Here s w done) = served_turn s w done (turn_of config thread (length done) s)
 served_on config thread (Over s stop w done) = Over s stop w done
 
-served : Config → ℕ → State → Words → ℕ → Served
+abbrev served : Config → ℕ → State → Words → ℕ → Served
 served config thread from w zero = Here from w []
 served config thread from w (suc n) = served_on config thread (served config thread from w n)
 
@@ -65,19 +65,19 @@ Follows journal last (Strays s done left) served = Unit {0}
 
 -- ---- the same operation
 
-kind_at : ℕ → OpKind
-kind_at 0 = Load
-kind_at 1 = Store
-kind_at 2 = Swap
-kind_at 3 = Add
-kind_at 4 = Clear
-kind_at 5 = Eor
-kind_at 6 = Set
-kind_at 7 = Umax
-kind_at 8 = Umin
-kind_at 9 = Cas
-kind_at 10 = Post
-kind_at other = Poll
+abbrev kind_at : ℕ → OpKind
+kind_at n =
+    cond (n == 0) Load (
+    cond (n == 1) Store (
+    cond (n == 2) Swap (
+    cond (n == 3) Add (
+    cond (n == 4) Clear (
+    cond (n == 5) Eor (
+    cond (n == 6) Set (
+    cond (n == 7) Umax (
+    cond (n == 8) Umin (
+    cond (n == 9) Cas (
+    cond (n == 10) Post Poll))))))))))
 
 kind_back : (k : OpKind) → kind_at (kind_number k) ≡ k
 kind_back Load = refl
@@ -104,14 +104,15 @@ both false b e = (e, cc)
 same_op : (p q : SharedOp) → is_same_op p q ≡ true → p ≡ q
 unfolding is_same_op
 same_op p q e =
-    let kind = both (kind_number p.kind == kind_number q.kind) _ e in
-    let place = both (p.place == q.place) _ kind.1 in
-    let values = both (p.a == q.a) (p.b == q.b) place.1 in
+    let kinds = kind_number p.kind == kind_number q.kind in
+    let rest = both ((kinds && (p.place == q.place)) && (p.a == q.a)) (p.b == q.b) e in
+    let first = both (kinds && (p.place == q.place)) (p.a == q.a) rest.0 in
+    let kind = both kinds (p.place == q.place) first.0 in
     let k : p.kind ≡ q.kind =
     sym (kind_back p.kind) ∙ ap kind_at (same_number (kind_number p.kind) (kind_number q.kind) kind.0) ∙ kind_back q.kind in
-    let n : p.place ≡ q.place = same_number p.place q.place place.0 in
-    let a : p.a ≡ q.a = same_number p.a q.a values.0 in
-    let b : p.b ≡ q.b = same_number p.b q.b values.1 in
+    let n : p.place ≡ q.place = same_number p.place q.place kind.1 in
+    let a : p.a ≡ q.a = same_number p.a q.a first.1 in
+    let b : p.b ≡ q.b = same_number p.b q.b rest.1 in
     λ i. record { kind = k i; place = n i; a = a i; b = b i }
 
 -- ---- one turn more
@@ -164,7 +165,7 @@ follow config thread from w last journal (suc n) answered ends =
 
 -- ---- a history of one thread
 
-events_in : List Entry → List Event
+abbrev events_in : List Entry → List Event
 events_in history = map (λ e. e.event) history
 
 all_answered : (w : Words) (history : List Entry) → AnswersFrom w history → AreAnswered w (events_in history)
@@ -193,7 +194,7 @@ whole journal w h = ap events_in (sym (all_first h.history h.alone)) ∙ h.parts
 
 -- ---- one run
 
-pub record IsServed (config : Config) (from : State) (stop : Stop) (s : State) (journal : List Event) (w : Words) : Type 0 where
+record IsServed (config : Config) (from : State) (stop : Stop) (s : State) (journal : List Event) (w : Words) : Type 0 where
   pub turns : ℕ
   pub over : served config 0 from zero_words turns ≡ Over s stop w journal
 
@@ -222,7 +223,8 @@ stays : (config : Config) (from s : State) (w v : Words) (stop : Stop) (journal 
     → served config 0 from w m ≡ Over s stop v journal → served config 0 from w (m + k) ≡ Over s stop v journal
 stays config from s w v stop journal m zero e = let z : m + 0 ≡ m = omega arith in rw z e
 stays config from s w v stop journal m (suc k) e =
-    let z : m + suc k ≡ suc (m + k) = omega arith in rw (z, stays config from s w v stop journal m k e) refl
+    let z : m + suc k ≡ suc (m + k) = omega arith in
+    ap (served config 0 from w) z ∙ ap (served_on config 0) (stays config from s w v stop journal m k e)
 
 both_over : (config : Config) (from s t : State) (p q : Stop) (j k : List Event) (v w : Words) → IsServed config from p s j v
     → IsServed config from q t k w → ◌≡◌ {A = Served} (Over s p v j) (Over t q w k)

@@ -163,4 +163,3 @@ unfolding reach
 one_stop program config thread journal s t p q h k =
     same_stop s t p q h.used k.used (both_end config thread (start_state program config thread) s t p q h.used k.used journal h.turns
     k.turns h.ends k.ends)
-

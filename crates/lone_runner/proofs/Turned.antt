@@ -76,3 +76,6 @@ never (Goes s) h = h
 never (Yields s) h = h
 never (Asks op next) h = h
 never (Ends s stop) h = h
+
+pub same_some : (a b : ℕ) → ◌≡◌ {A = Option ℕ} (Some a) (Some b) → a ≡ b
+same_some a b e = cc

@@ -1,5 +1,5 @@
 //! A thread from its start to its stop.
-ghost use Rattle.std.specs.Prelude.{◌≡◌, ◌<◌, [], None, Some, IfOk};
+ghost use Rattle.std.specs.Prelude.{◌≡◌, [], ◌∷◌, None, Some, IfOk};
 ghost use Rattle.machine_step.specs.Step.{entries_of};
 ghost use Rattle.kernel_contexts.specs.Context.{state_of, config_of, thread_of, stop_of, journal_of};
 ghost use Rattle.kernel_contexts.specs.Context.{IsSameThread};
@@ -50,7 +50,10 @@ fn finish(alloc: Global, context: Context, port: &PlainPort) -> Result<Finished,
 {
     let mut contexts = Vec::new(alloc);
     match contexts.push(context) {
-        Ok(()) => Ok(Finished { contexts, words: *port.words() }),
+        Ok(()) => Ok(Finished {
+            contexts,
+            words: *port.words(),
+        }),
         Err(_) => Err(Memory),
     }
 }
@@ -65,5 +68,6 @@ pub fn run_to_stop(alloc: Global, image: &Image, config: &Config) -> Result<Fini
     let mut ticket = PlainTicket::new(alloc, 0);
     run(&mut context, &mut port, &mut ticket)?;
     let _history = port.history();
-    finish(alloc, context, &port)
+    let finished = finish(alloc, context, &port)?;
+    Ok(finished)
 }

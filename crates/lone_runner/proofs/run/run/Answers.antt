@@ -1,37 +1,98 @@
-use Rattle.std.proofs.Common.{refl, ◌∙◌}
-use Rattle.lone_runner.proofs.Runs.{under_way_start, under_way_on, under_way_yields, under_way_ends, ran, yielded, stopped, runs_on, goes_on}
+use Rattle.std.proofs.Common.{◌++◌, ℕ, refl, sym, ap, ◌∙◌}
+use Rattle.machine_step.specs.Step.{entries_of}
+use Rattle.kernel_contexts.specs.Context.{journal_of, thread_of, made_by}
+use Rattle.lone_runner.proofs.Runs.{under_way_start}
+use Rattle.lone_runner.proofs.Turned.{turned, goes_on, yields, ends, made_none, history_on, never, same_some}
 use Rattle.lone_runner.proofs.run.run.Goals as goal
 
 pub turns-init : goal.turns-init
-turns-init c = record { under_way = under_way_start _ _ _; runs = c.requires; same = record { config = refl; thread = refl; image = refl } }
+turns-init c = record {
+  under_way = under_way_start _ _ _ _ c.requires.journal;
+  runs = c.requires.runs;
+  same = record { config = refl; thread = refl; image = refl };
+  events = c.requires.events ∙ sym c.requires.journal;
+  number = c.requires.number;
+  history = c.requires.history ∙ ap (entries_of (thread_of c.args.context.now)) (sym c.requires.journal);
+}
 
 pub turns-preserved-in-Ran : goal.turns-preserved-in-Ran
-turns-preserved-in-Ran c = let h = c.turns.invariant in record {
-  under_way =
-      under_way_on _ _ _ _ _ h.under_way (ran _ _ c.turns.context c.advance.new.self _ h.runs h.same.config h.same.thread
-      c.in-Ran.ensures.turn);
-  runs = runs_on c.turns.context c.advance.new.self _ h.runs c.in-Ran.ensures.turn;
-  same = record {
-    config = c.in-Ran.ensures.same.config ∙ h.same.config;
-    thread = c.in-Ran.ensures.same.thread ∙ h.same.thread;
-    image = c.in-Ran.ensures.same.image ∙ h.same.image;
-  };
-}
+turns-preserved-in-Ran c =
+    let h = c.turns.invariant in
+    let e = c.in-Ran.ensures in
+    let old = c.turns.context in
+    let new = c.advance.new.self in
+    let thread = thread_of c.args.context.now in
+    let turn = turned _ _ old new _ h.runs e.turn in
+    record {
+      under_way = goes_on _ thread _ old new h.same.config h.same.thread h.under_way _ (made_by old new) turn.0 e.grows;
+      runs = turn.1;
+      same = record {
+        config = e.same.config ∙ h.same.config;
+        thread = e.same.thread ∙ h.same.thread;
+        image = e.same.image ∙ h.same.image;
+      };
+      events = e.journal;
+      number = same_some _ _ e.number ∙ h.same.thread;
+      history = history_on thread (journal_of old) (journal_of new) (made_by old new) c.turns.port.history c.advance.new.port.history h.history
+          (c.plain_history_grows.ensures.history _ _ _ _ _ e.gives
+          ∙ ap (λ (n : ℕ). c.turns.port.history ++ entries_of n (made_by old new)) h.same.thread) e.grows;
+    }
 
 pub turns-preserved : goal.turns-preserved
-turns-preserved c = let h = c.turns.invariant in record {
-  under_way =
-      under_way_yields _ _ _ _ _ h.under_way (yielded _ _ c.turns.context c.advance.new.self _ h.runs h.same.config h.same.thread
-      c.in-Yielded.ensures.turn);
-  runs = goes_on c.turns.context c.advance.new.self _ h.runs c.in-Yielded.ensures.turn;
-  same = record {
-    config = c.in-Yielded.ensures.same.config ∙ h.same.config;
-    thread = c.in-Yielded.ensures.same.thread ∙ h.same.thread;
-    image = c.in-Yielded.ensures.same.image ∙ h.same.image;
-  };
-}
+turns-preserved c =
+    let h = c.turns.invariant in
+    let e = c.in-Yielded.ensures in
+    let old = c.turns.context in
+    let new = c.advance.new.self in
+    let thread = thread_of c.args.context.now in
+    let turn = turned _ _ old new _ h.runs e.turn in
+    let stays = made_none (journal_of old) (journal_of new) (made_by old new) e.grows turn.1 in
+    record {
+      under_way = yields _ thread _ old new h.same.config h.same.thread h.under_way turn.0 stays;
+      runs = turn.2;
+      same = record {
+        config = e.same.config ∙ h.same.config;
+        thread = e.same.thread ∙ h.same.thread;
+        image = e.same.image ∙ h.same.image;
+      };
+      events = e.journal;
+      number = same_some _ _ e.number ∙ h.same.thread;
+      history = history_on thread (journal_of old) (journal_of new) (made_by old new) c.turns.port.history c.advance.new.port.history h.history
+          (c.plain_history_grows.ensures.history _ _ _ _ _ e.gives
+          ∙ ap (λ (n : ℕ). c.turns.port.history ++ entries_of n (made_by old new)) h.same.thread) e.grows;
+    }
 
 pub returns-in-Stopped-clause-ends : goal.returns-in-Stopped-clause-ends
-returns-in-Stopped-clause-ends c = let h = c.turns.invariant in
-    under_way_ends _ _ _ _ _ _ h.under_way (stopped _ _ c.turns.context c.advance.new.self _ _ h.runs h.same.config h.same.thread
-    c.in-Stopped.ensures.turn)
+returns-in-Stopped-clause-ends c =
+    let h = c.turns.invariant in
+    let e = c.in-Stopped.ensures in
+    let old = c.turns.context in
+    let new = c.advance.new.self in
+    let turn = turned _ _ old new _ h.runs e.turn in
+    ends _ _ _ old new h.same.config h.same.thread h.under_way _ turn.0
+    (made_none (journal_of old) (journal_of new) (made_by old new) e.grows turn.1)
+
+pub returns-in-Stopped-clause-stop : goal.returns-in-Stopped-clause-stop
+returns-in-Stopped-clause-stop c =
+    let turn = turned _ _ c.turns.context c.advance.new.self _ c.turns.invariant.runs c.in-Stopped.ensures.turn in turn.2
+
+pub returns-in-Stopped-clause-history : goal.returns-in-Stopped-clause-history
+returns-in-Stopped-clause-history c =
+    let h = c.turns.invariant in
+    let e = c.in-Stopped.ensures in
+    let old = c.turns.context in
+    let new = c.advance.new.self in
+    history_on (thread_of c.args.context.now) (journal_of old) (journal_of new) (made_by old new) c.turns.port.history
+    c.advance.new.port.history h.history
+    (c.plain_history_grows.ensures.history _ _ _ _ _ e.gives
+    ∙ ap (λ (n : ℕ). c.turns.port.history ++ entries_of n (made_by old new)) h.same.thread) e.grows
+
+pub returns-in-Stopped-clause-same : goal.returns-in-Stopped-clause-same
+returns-in-Stopped-clause-same c =
+    let h = c.turns.invariant in
+    let e = c.in-Stopped.ensures in
+    record {
+      config = e.same.config ∙ h.same.config;
+      thread = e.same.thread ∙ h.same.thread;
+      image = e.same.image ∙ h.same.image;
+    }

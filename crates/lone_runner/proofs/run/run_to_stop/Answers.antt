@@ -1,11 +1,27 @@
+use Rattle.std.proofs.Common.{◌∙◌, sym, ap, subst, ℕ}
+use Rattle.machine_step.specs.Step.{entries_of}
+use Rattle.shared_region.specs.History.{AreOneHistory}
+use Rattle.sm_types.specs.declared.shared_words.Words.{Words}
+use Rattle.kernel_contexts.specs.Context.{journal_of}
+use Rattle.lone_runner.specs.LoneRun.{HasRunAlone}
 use Rattle.lone_runner.proofs.Runs.{lone_run}
+use Rattle.lone_runner.proofs.Threads.{one_history, have_run}
 use Rattle.lone_runner.proofs.run.run_to_stop.Goals as goal
 
-pub returns-clause-run : goal.returns-clause-run
-returns-clause-run c = record {
-  stop = c.in_ok-run.field-0;
-  stopped = c.in_ok-run.ensures.stop;
-  run =
-      lone_run c.args.image.now c.args.config.now c.args.thread _ _ _ _ _ c.in_ok-context.ensures.config c.in_ok-context.ensures.thread
-      c.in_ok-context.ensures.state c.in_ok-run.ensures.ends;
-}
+pub returns : goal.returns
+returns c =
+    let program = c.args.image.now in
+    let config = c.args.config.now in
+    let context = c.run.new.context in
+    let start = c.in_ok-context.ensures in
+    let run = c.in_ok-run.ensures in
+    let plain = c.history-history.ensures.plain in
+    let alone : HasRunAlone program config 0 context = record {
+      number = run.same.thread ∙ start.thread;
+      stop = c.in_ok-run.field-0;
+      stopped = run.stop;
+      run = lone_run program config 0 _ _ _ _ _ _ start.config start.thread start.state run.ends;
+    } in
+    let history = run.history ∙ ap (λ (n : ℕ). entries_of n (journal_of context)) start.thread in
+    have_run program config context _ _ c.in_ok-finished.ensures.contexts c.requires alone
+    (one_history (journal_of context) _ _ history plain.legal (plain.ends ∙ sym c.in_ok-finished.ensures.words))
