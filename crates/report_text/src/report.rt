@@ -33,16 +33,13 @@ fn put_words<K: Sink>(piece: &mut Piece, out: &mut K, words: &Words) -> Result<(
 }
 
 /// The blocks of the threads, in order.
-fn put_blocks<K: Sink>(
-    piece: &mut Piece,
-    out: &mut K,
-    contexts: &[Context],
-) -> Result<(), PutFault>
+fn put_blocks<K: Sink>(piece: &mut Piece, out: &mut K, contexts: &[Context]) -> Result<(), PutFault>
     ensures { Gathers (gathered (K.view out.old) piece.old) (gathered (K.view out.new) piece.new) result
         (blocks_text (ends_of contexts.now)) }
 {
     for k in 0..contexts.len() {
-        put_block(piece, out, &contexts[k])?;
+        let context = &contexts[k];
+        put_block(piece, out, context)?;
     }
     Ok(())
 }
