@@ -1,4 +1,5 @@
-use Rattle.std.proofs.Common.{ap, length-map, ◌∙◌}
+use Rattle.std.proofs.Common.{ap, ◌∙◌}
+use Rattle.std.proofs.lemmas.List.{length-map}
 use Rattle.report_text.specs.Ends.{ends_of}
 use Rattle.report_text.specs.Report.{report_text}
 use Rattle.smemu.specs.Views.{run_text}
@@ -8,13 +9,13 @@ use Rattle.smemu.proofs.command.run_image.Goals as goal
 pub returns : goal.returns
 unfolding run_text
 returns c =
-    let run = c.in_ok-run.run in
+    let run = c.in_ok-run.run' in
     let have = c.in_ok-run.ensures in
     record {
       program = c.args.image.now;
       loads = c.requires.loads;
       ends = ends_of run.contexts.items;
-      threads = length-map _ run.contexts.items ∙ have.threads;
+      threads = length-map run.contexts.items _ ∙ have.threads;
       each = each_end c.args.image.now c.args.config.now run.contexts.items run.words have;
       words = run.words;
       one_history = same_journals run.contexts.items run.words have.one_history;
