@@ -305,6 +305,44 @@ def accesses():
     yield "load-beside-pc", program(0x58FFFFE4, 0x18FFFFC5, 0x98FFFFA6)
 
 
+SHARED = 0x7F0000000000
+AT_SHARED = movz(3, 0x7F00, 2)
+LDR, STR, LDUR, STUR, LDAR, STLR, CAS, SWP = (0xF9400000, 0xF9000000, 0xF8400000, 0xF8000000, 0xC8DFFC00, 0xC89FFC00, 0xC8A07C00,
+                                             0xF8208000)
+LDADD, LDCLR, LDEOR, LDSET, LDSMAX, LDSMIN, LDUMAX, LDUMIN = (0xF8200000 | n << 12 for n in range(8))
+
+
+def at_x3(word, rt, rs=0):
+    """An access at X3 of Xt, and of Xs where it has one."""
+    return word | rs << 16 | 3 << 5 | rt
+
+
+def shared_operations():
+    """Programs that make operations on shared words; X3 is the address of the first, X4 and X5 are 5 and 12, X6 is the greatest number."""
+    begin = [AT_SHARED, movz(4, 5), movz(5, 12), 0x92800006]  # the last is movn x6, #0
+    program = lambda *words: elf([*begin, *words, *EXIT])
+    every = (LDADD, LDCLR, LDEOR, LDSET, LDUMAX, LDUMIN, SWP)
+    yield "shared-store-and-load", program(at_x3(STR, 4), at_x3(LDR, 7))
+    for name, word in zip(("ldadd", "ldclr", "ldeor", "ldset", "ldumax", "ldumin", "swp"), every):
+        yield f"shared-{name}", program(at_x3(STR, 5), at_x3(word, 7, 4), at_x3(word, 8, 6), at_x3(word, 31, 5), at_x3(LDR, 9))
+    yield "shared-cas", program(at_x3(STR, 4), at_x3(CAS, 5, 4), at_x3(LDR, 7))
+    yield "shared-cas-that-fails", program(at_x3(STR, 5), at_x3(CAS, 6, 4), at_x3(LDR, 7))
+    yield "shared-ordered", program(at_x3(STLR, 4), at_x3(LDAR, 7))
+    yield "shared-addressing", program(at_x3(STR, 4) | 511 << 10, at_x3(STUR, 5) | 8 << 12, at_x3(STR & ~0x1000000, 6) | 0x10C00,
+                                       at_x3(LDUR, 7) | 0x1F8 << 12, at_x3(LDUR, 8) | 0x8400, 0xF8657869, 0xF8647868)
+    yield "shared-word-beside-pc", elf([0x58FF8004, *EXIT], 0x7F0000001000)
+    yield "shared-word-at-sp", program(0x9100007F, 0xF90003E4, 0xF94007E7, 0xF82403E8)
+    yield "shared-word-at-sp-of-no-multiple-of-16", program(0x9100207F, 0xF90003E4)
+    yield "shared-last-word-and-past-it", program(at_x3(LDR, 7) | 511 << 10, at_x3(LDR, 7) | 512 << 10)
+    refused = {"pair": 0xA9400464, "ldsmax": at_x3(LDSMAX, 7, 4), "ldsmin": at_x3(LDSMIN, 7, 4), "byte": 0x39000064, "word": 0xB9400064,
+               "signed-word": 0xB9800064, "ldadd-of-a-word": 0xB8240067, "cas-of-a-byte": 0x08A47C65, "unaligned": 0xF8401064,
+               "over-its-end": at_x3(LDUR, 7) | 0xC << 12, "vector": 0xA4004063}
+    for name, word in refused.items():
+        # the store before it stays; the vector load has P0, all of whose elements are active
+        more = [add(3, 3, 0xFF0)] if name == "over-its-end" else [0x2518E3E0] if name == "vector" else []
+        yield f"shared-region-by-{name}", program(at_x3(STR, 4), *more, word)
+
+
 # the words of vectors; the base of an access is X2, X3 or SP, its index X0 or X3, which are zero, and Z3 is not zero before it
 PTRUE_P1_D, PFALSE_P2_B, WHILELT_P0_B_ZERO_X4, INDEX_Z3_D = 0x25D8E3E1, 0x2518E402, 0x252417E0, 0x04FF4063
 LD1B_Z3_P0_AT_X2, LD1B_Z3_P2_AT_X3, LD1B_Z3_P2_AT_SP = 0xA4034043, 0xA4004863, 0xA4004BE3
@@ -586,7 +624,7 @@ def runs(programs):
 
 def main():
     data = HERE / "data"
-    rows = [(name, elf(words), {}) for name, words in REPORTS.items()] + list(loaded()) + [(name, file, {}) for name, file in accesses()]
+    rows = [(name, elf(words), {}) for name, words in REPORTS.items()] + list(loaded()) + [(name, file, {}) for name, file in [*accesses(), *shared_operations()]]
     programs = list(assemblies())
     rows += [*runs(programs), *vector_accesses(), *((name, file, {}) for name, file in matrix_stops())]
     rows = [(f"{name}.elf", 0, file, report(file, **options), {"run": "", **options}) for name, file, options in rows]

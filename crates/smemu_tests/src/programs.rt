@@ -20,7 +20,17 @@ fn assembled(alloc: Global, source: &str) -> Result<MemFiles, Fail> {
 
 /// What the command writes for the file `--vl`.
 fn written(alloc: Global, command: &str, files: &mut MemFiles) -> Result<MemSink, Fail> {
-    let mut out = MemSink::new(alloc, 4000)?;
+    written_within(alloc, 4000, command, files)
+}
+
+/// The same, of at most so many bytes.
+fn written_within(
+    alloc: Global,
+    room: usize,
+    command: &str,
+    files: &mut MemFiles,
+) -> Result<MemSink, Fail> {
+    let mut out = MemSink::new(alloc, room)?;
     if status_of(alloc, &[command, "--vl"], files, &mut out)? != Status::Done {
         return Err("a program that is refused".into());
     }
@@ -132,5 +142,17 @@ fn output_stands_in_lines_of_32_bytes(rt: HostRuntime) -> Result<(), Fail> {
         let report = std::str::from_utf8(out.bytes()).map_err(|_| "not text")?;
         assert!(rt; report.contains(wanted), "{report}");
     }
+    Ok(())
+}
+
+#[test]
+fn a_journal_that_is_full(rt: HostRuntime) -> Result<(), Fail> {
+    let source = "_start: movz x0, #32512, lsl #32\nagain: ldr x1, [x0]\n cbz x1, again\n";
+    let mut files = assembled(rt.alloc(), source)?;
+    let out = written_within(rt.alloc(), 20_000_000, "run", &mut files)?;
+    let report = std::str::from_utf8(out.bytes()).map_err(|_| "not text")?;
+    assert!(rt; report.contains("\nstop tracefull\ncount 524289\nturns 524289\n"));
+    assert!(rt; report.contains("\njournal 262144\ne ld 0 0000000000000000 "));
+    assert!(rt; report.ends_with(" 0000000000000000\nend-thread\nshared\nend\n"));
     Ok(())
 }
