@@ -1,0 +1,3 @@
+pub mod Layout
+pub mod Saved
+pub mod Writing

@@ -1,0 +1,4 @@
+//! The frame of a signal: its delivery and the return from its handler.
+#![tactic(auto)]
+
+mod writing;
