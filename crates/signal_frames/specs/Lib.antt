@@ -1,3 +1,4 @@
 pub mod Layout
 pub mod Saved
 pub mod Writing
+pub mod Reading

@@ -1,4 +1,5 @@
 //! The frame of a signal: its delivery and the return from its handler.
 #![tactic(auto)]
 
+mod reading;
 mod writing;
