@@ -112,7 +112,7 @@ has_modes frame =
 unfoldable pub has_sizes : ℕ → ℕ → List ℕ → Bool
 has_sizes vl s frame =
     (saved_length frame == (if saved_streaming frame then s else vl)) && (saved_array_size frame == s)
-    && (saved_size frame == frame_size (saved_length frame) (saved_array_size frame) (saved_za_on frame))
+    && (saved_size frame == frame_size (saved_length frame) s (saved_za_on frame))
 
 -- the fields of the first 320 bytes are those of a frame, whose signal is one of 1 to 62
 unfoldable pub is_head : ℕ → ℕ → List ℕ → Bool
