@@ -36,6 +36,13 @@ words_bytes numbers = flat_map (little_bytes 4) numbers
 abbrev pub doublewords_bytes : List ℕ → List ℕ
 doublewords_bytes numbers = flat_map (little_bytes 8) numbers
 
+-- the first 320 bytes: the tag; the size and the signal; X0 to X30; SP, PC, NZCV, SVCR, TPIDR2_EL0 and
+-- TPIDR_EL0; L and S
+abbrev pub head_bytes : List ℕ → List ℕ → List ℕ → List ℕ → List ℕ
+head_bytes first x system lengths =
+    doublewords_bytes (frame_tag ∷ []) ++ (words_bytes first
+    ++ (doublewords_bytes x ++ (doublewords_bytes system ++ words_bytes lengths)))
+
 -- Z0 to Z31
 abbrev pub vectors_bytes : VectorRegisters → List ℕ
 vectors_bytes r = concat r.vectors

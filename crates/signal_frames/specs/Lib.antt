@@ -1,4 +1,6 @@
 pub mod Layout
+pub mod Frame
 pub mod Saved
+pub mod Return
 pub mod Writing
 pub mod Reading

@@ -7,6 +7,7 @@ use Rattle.sm_types.specs.declared.scalars.Scalars.{Scalars}
 use Rattle.sve_vectors.specs.Predicates.{truths_of}
 use Rattle.sve_vectors.specs.Registers.{VectorRegisters}
 use Rattle.za_array.specs.Array.{zero_vectors}
+use Rattle.machine_step.specs.System.{bit_at}
 use Rattle.signal_frames.specs.Layout.{frame_size, frame_tag}
 
 -- the number of n bytes at an offset
@@ -16,10 +17,6 @@ number_at frame offset n = little_number n (drop offset frame)
 -- n bytes from an offset on
 abbrev pub part_of : List ℕ → ℕ → ℕ → List ℕ
 part_of frame offset n = take n (drop offset frame)
-
--- a bit of a number, as a truth value
-abbrev pub bit_at : ℕ → ℕ → Bool
-bit_at value place = value / 2 ^ place % 2 == 1
 
 abbrev pub saved_size : List ℕ → ℕ
 saved_size frame = number_at frame 8 4

@@ -1,7 +1,8 @@
 //! The size of a frame, and the fields of its first 320 bytes.
 ghost use Rattle.std.specs.Prelude.{◌≡◌, ◌+◌, ◌<◌, ◌≤◌, length};
 ghost use Rattle.signal_frames.specs.Layout.{frame_size};
-ghost use Rattle.signal_frames.specs.Saved.{number_at, bit_at, has_modes, has_sizes, is_head, saved_scalars};
+ghost use Rattle.machine_step.specs.System.{bit_at};
+ghost use Rattle.signal_frames.specs.Saved.{number_at, has_modes, has_sizes, is_head, saved_scalars};
 ghost use Rattle.signal_frames.specs.Saved.{saved_streaming, saved_za_on};
 
 use byteorder::{ByteOrder, LittleEndian};

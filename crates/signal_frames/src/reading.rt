@@ -1,12 +1,14 @@
 //! The parts of a frame, read back by their offsets.
-ghost use Rattle.std.specs.Prelude.{◌≡◌, ℕ, ◌+◌, ◌*◌, ◌/◌, ◌-◌, ◌≤◌, List, length, map, Some, ◌==◌};
+ghost use Rattle.std.specs.Prelude.{◌≡◌, ℕ, ◌+◌, ◌*◌, ◌/◌, ◌-◌, ◌≤◌, List, length, map, Some, ◌==◌, false};
 ghost use Rattle.std.specs.List.{range_with_len, list_all};
 ghost use Rattle.paged_memory.specs.Memory.{bytes_with};
-ghost use Rattle.sve_vectors.specs.Lengths.{vector_bytes};
+ghost use Rattle.sve_vectors.specs.Lengths.{vector_bytes, current_bytes};
+ghost use Rattle.za_array.specs.Array.{zero_array};
+ghost use Rattle.signal_frames.specs.Layout.{frame_size};
 ghost use Rattle.sve_vectors.specs.State.{length_of, with_ffr};
 ghost use Rattle.signal_frames.specs.Saved.{saved_vector, saved_predicate, saved_ffr, saved_array_vector};
-ghost use Rattle.signal_frames.specs.Saved.{is_zero_past};
-ghost use Rattle.signal_frames.specs.Reading.{StandsAt, with_vectors, with_predicates};
+ghost use Rattle.signal_frames.specs.Saved.{saved_registers, saved_array, is_zero_past};
+ghost use Rattle.signal_frames.specs.Reading.{StandsAt, KeepsLengths, with_vectors, with_predicates};
 
 use paged_memory::Pages;
 use sve_vectors::Vectors;
@@ -22,8 +24,9 @@ fn fetch(pages: &Pages, address: u64, into: &mut [u8])
 }
 
 /// Reads Z0 to Z31.
-pub(crate) fn read_vectors(pages: &Pages, start: u64, vectors: &mut Vectors)
-    ensures { (frame : List ℕ) → StandsAt pages.now.memory start frame
+fn read_vectors(pages: &Pages, start: u64, vectors: &mut Vectors)
+    ensures same { KeepsLengths vectors.old vectors.new }
+    ensures value { (frame : List ℕ) → StandsAt pages.now.memory start frame
         → 320 + 32 * length_of vectors.old ≤ length frame → vectors.new ≡ with_vectors vectors.old
         (map (saved_vector (length_of vectors.old) frame) (range_with_len 0 32)) }
 {
@@ -35,8 +38,9 @@ pub(crate) fn read_vectors(pages: &Pages, start: u64, vectors: &mut Vectors)
 }
 
 /// Reads P0 to P15.
-pub(crate) fn read_predicates(pages: &Pages, start: u64, vectors: &mut Vectors)
-    ensures { (frame : List ℕ) → StandsAt pages.now.memory start frame
+fn read_predicates(pages: &Pages, start: u64, vectors: &mut Vectors)
+    ensures same { KeepsLengths vectors.old vectors.new }
+    ensures value { (frame : List ℕ) → StandsAt pages.now.memory start frame
         → 320 + 34 * length_of vectors.old ≤ length frame → vectors.new ≡ with_predicates vectors.old
         (map (saved_predicate (length_of vectors.old) frame) (range_with_len 0 16)) }
 {
@@ -48,8 +52,9 @@ pub(crate) fn read_predicates(pages: &Pages, start: u64, vectors: &mut Vectors)
 }
 
 /// Reads FFR.
-pub(crate) fn read_ffr(pages: &Pages, start: u64, vectors: &mut Vectors)
-    ensures { (frame : List ℕ) → StandsAt pages.now.memory start frame
+fn read_ffr(pages: &Pages, start: u64, vectors: &mut Vectors)
+    ensures same { KeepsLengths vectors.old vectors.new }
+    ensures value { (frame : List ℕ) → StandsAt pages.now.memory start frame
         → 352 + 34 * length_of vectors.old ≤ length frame
         → vectors.new ≡ with_ffr vectors.old (saved_ffr (length_of vectors.old) frame) }
 {
@@ -58,9 +63,10 @@ pub(crate) fn read_ffr(pages: &Pages, start: u64, vectors: &mut Vectors)
 }
 
 /// Reads the vectors of ZA from a frame whose other vectors have `vector_size` bytes.
-pub(crate) fn read_array(pages: &Pages, start: u64, vector_size: u64, za: &mut Za)
+fn read_array(pages: &Pages, start: u64, vector_size: u64, za: &mut Za)
     requires { vector_size ≤ 256 }
-    ensures { (frame : List ℕ) → StandsAt pages.now.memory start frame
+    ensures same { za.new.svl ≡ za.old.svl }
+    ensures value { (frame : List ℕ) → StandsAt pages.now.memory start frame
         → 352 + 34 * vector_size + vector_bytes za.old.svl * vector_bytes za.old.svl ≤ length frame
         → za.new ≡ record za.old {
           vectors = map (saved_array_vector vector_size (vector_bytes za.old.svl) frame)
@@ -71,6 +77,38 @@ pub(crate) fn read_array(pages: &Pages, start: u64, vector_size: u64, za: &mut Z
     for n in 0..size {
         let offset = 352 + 34 * vector_size + (n * size) as u64;
         fetch(pages, start.wrapping_add(offset), za.vector_mut(n));
+    }
+}
+
+/// Reads the vectors, predicates and FFR of a frame in Streaming SVE mode, or outside of it.
+pub(crate) fn read_registers(pages: &Pages, start: u64, streaming: bool, vectors: &mut Vectors)
+    ensures mode { vectors.new.streaming ≡ streaming }
+    ensures vl { vectors.new.vl ≡ vectors.old.vl }
+    ensures svl { vectors.new.svl ≡ vectors.old.svl }
+    ensures value { (frame : List ℕ) → StandsAt pages.now.memory start frame
+        → 352 + 34 * current_bytes vectors.old.vl vectors.old.svl streaming ≤ length frame
+        → vectors.new.registers
+        ≡ saved_registers (current_bytes vectors.old.vl vectors.old.svl streaming) frame }
+{
+    vectors.set_streaming(streaming);
+    read_vectors(pages, start, vectors);
+    read_predicates(pages, start, vectors);
+    read_ffr(pages, start, vectors);
+}
+
+/// Reads ZA from a frame whose other vectors have `vector_size` bytes, or sets it to zero where it is off.
+pub(crate) fn restore_array(pages: &Pages, start: u64, vector_size: u64, za_on: bool, za: &mut Za)
+    requires { vector_size ≤ 256 }
+    ensures same { za.new.svl ≡ za.old.svl }
+    ensures off { za_on ≡ false → za.new ≡ zero_array za.old.svl }
+    ensures value { (frame : List ℕ) → StandsAt pages.now.memory start frame
+        → frame_size vector_size (vector_bytes za.old.svl) za_on ≤ length frame
+        → za.new.vectors ≡ saved_array vector_size (vector_bytes za.old.svl) za_on frame }
+{
+    if za_on {
+        read_array(pages, start, vector_size, za);
+    } else {
+        za.clear();
     }
 }
 
