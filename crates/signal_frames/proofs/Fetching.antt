@@ -7,12 +7,14 @@ use Rattle.std.specs.Prelude.{map}
 use Rattle.std.specs.List.{range_with_len}
 use Rattle.paged_memory.specs.Memory.{AddressSpace, bytes_with, byte_with, and_byte}
 use Rattle.paged_memory.proofs.Accesses.{bytes_with-join, joined}
-use Rattle.signal_frames.specs.Saved.{part_of}
+use Rattle.signal_frames.specs.Saved.{part_of, saved_vector, saved_predicate, saved_ffr, saved_registers}
 use Rattle.std.proofs.Common.{Bool}
 use Rattle.std.proofs.lemmas.List.{drop_all, append-nil}
 use Rattle.std.proofs.Math.Nat.{mul-le-mul_right, add-mul}
 use Rattle.sve_vectors.specs.Predicates.{truths_of}
-use Rattle.sve_vectors.specs.State.{SveState, length_of, with_vector, with_predicate}
+use Rattle.sve_vectors.specs.Lengths.{current_bytes}
+use Rattle.sve_vectors.specs.State.{SveState, length_of, with_vector, with_predicate, with_ffr, with_streaming}
+use Rattle.machine_step.proofs.Modes.{mode_written, lengths_kept}
 use Rattle.sve_vectors.specs.Lending.{with_vector_bytes, with_predicate_bytes}
 use Rattle.sve_vectors.proofs.Whole.{vector_whole, predicate_whole}
 use Rattle.za_array.specs.Array.{ArrayState, with_array_vector}
@@ -123,3 +125,23 @@ pub array_step : (s old : ArrayState) (n : ℕ) (bytes : List ℕ) (f : ℕ → 
 array_step s old n bytes f l before long is =
     array_whole s n bytes long ∙ ap (λ k. with_array_vector k n bytes) before
     ∙ ap (λ k. record old { vectors = k }) (row_set f old.vectors n [] bytes l is)
+
+-- ---- the registers that were read
+
+pub registers_are : (v0 v1 v2 v3 : SveState) (l : ℕ) (frame : List ℕ) → length_of v0 ≡ l → KeepsLengths v0 v1 → KeepsLengths v1 v2
+    → v1 ≡ with_vectors v0 (map (saved_vector (length_of v0) frame) (range_with_len 0 32))
+    → v2 ≡ with_predicates v1 (map (saved_predicate (length_of v1) frame) (range_with_len 0 16))
+    → v3 ≡ with_ffr v2 (saved_ffr (length_of v2) frame) → v3.registers ≡ saved_registers l frame
+unfolding saved_registers
+registers_are v0 v1 v2 v3 l frame long first second vectors predicates ffr =
+    let one : length_of v1 ≡ l = same_length v0 v1 first ∙ long in
+    let two : length_of v2 ≡ l = same_length v1 v2 second ∙ one in
+    let z : ℕ → List (List ℕ) = λ k. map (saved_vector k frame) (range_with_len 0 32) in
+    let p : ℕ → List (List Bool) = λ k. map (saved_predicate k frame) (range_with_len 0 16) in
+    let f : ℕ → List Bool = λ k. saved_ffr k frame in
+    ap (λ (s : SveState). s.registers) (ffr ∙ ap (λ k. with_ffr v2 (f k)) two)
+    ∙ ap (λ (s : SveState). (with_ffr s (f l)).registers) (predicates ∙ ap (λ k. with_predicates v1 (p k)) one)
+    ∙ ap (λ (s : SveState). (with_ffr (with_predicates s (p l)) (f l)).registers) (vectors ∙ ap (λ k. with_vectors v0 (z k)) long)
+
+pub length_written : (v w : SveState) (on : Bool) → w ≡ with_streaming v on → length_of w ≡ current_bytes v.vl v.svl on
+length_written v w on is = rw ((lengths_kept v w on is).0, (lengths_kept v w on is).1, mode_written v w on is) refl

@@ -49,7 +49,7 @@ unfolding byte_with
 still_permitted need m a bs k h =
     permitted_then need (get m.perm (k / 4096)) (get m.mem k) (get (set_bytes m.mem a bs) k) (still_there m.mem a bs k) h
 
-neither : (o p : Option ℕ) → option_or o p ≡ None → (o ≡ None) × (p ≡ None)
+pub neither : (o p : Option ℕ) → option_or o p ≡ None → (o ≡ None) × (p ≡ None)
 neither None p h = (refl, h)
 neither (Some x) p h = cc
 

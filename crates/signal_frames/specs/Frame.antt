@@ -19,7 +19,7 @@ size_of vl s = frame_size (length_at vl s) (length s.bank.za) s.za_on
 
 -- where it starts: at SP minus its size, rounded down to a multiple of 16, modulo 2 ^ 64
 unfoldable pub frame_address : ℕ → ProcessorState → ℕ
-frame_address vl s = (s.scalars.sp + 2 ^ 64 - size_of vl s) % 2 ^ 64 / 16 * 16
+frame_address vl s = (s.scalars.sp + (2 ^ 64 - size_of vl s)) % 2 ^ 64 / 16 * 16
 
 -- its bytes, for a signal
 unfoldable pub frame_bytes : ℕ → ℕ → ProcessorState → List ℕ

@@ -1,5 +1,5 @@
 //! The delivery of a signal.
-ghost use Rattle.std.specs.Prelude.{◌≡◌, ◌≢◌, ◌≤◌, ◌∷◌, [], OnOk, IfErr, Err, false, length};
+ghost use Rattle.std.specs.Prelude.{◌≡◌, ◌≢◌, ◌+◌, ◌≤◌, OnOk, IfErr, Err, false, length};
 ghost use Rattle.paged_memory.specs.Memory.{first_without};
 ghost use Rattle.paged_memory.specs.PageTable.{AreOwned, KeepsOwned};
 ghost use Rattle.sve_vectors.specs.Lengths.{vector_bytes};
@@ -8,6 +8,7 @@ ghost use Rattle.mem_access.specs.Bank.{bank_state};
 ghost use Rattle.machine_step.specs.Machine.{core_of, IsInMode, IsSameBank};
 ghost use Rattle.machine_step.specs.Mode.{with_za};
 ghost use Rattle.machine_step.specs.System.{nzcv_of};
+ghost use Rattle.signal_frames.specs.Layout as layout;
 ghost use Rattle.signal_frames.specs.Layout.{head_bytes, vector_state_bytes};
 ghost use Rattle.signal_frames.specs.Frame.{size_of, frame_bytes, entered, byte_of, Delivers, HasFrameRoom};
 ghost use Rattle.signal_frames.specs.Writing.{IsReady, Puts, PutsPart};
@@ -54,7 +55,8 @@ fn put_head(
     system: [u64; 6],
     lengths: [u32; 2],
 ) -> u64
-    ensures { PutsPart pages.old pages.new address result (head_bytes first x.now system lengths) }
+    ensures part { PutsPart pages.old pages.new address result (head_bytes first x.now system lengths) }
+    ensures long { length (head_bytes first x.now system lengths) ≡ 320 }
 {
     let tagged = put_doublewords(pages, address, &[TAG]);
     let begun = put_words(pages, tagged, &first);
@@ -65,9 +67,14 @@ fn put_head(
 
 /// Writes what follows them.
 fn put_vector_state(pages: &mut Pages, address: u64, bank: &Bank, za_on: bool) -> u64
-    ensures { PutsPart pages.old pages.new address result (vector_state_bytes (length_of bank.now.vectors) za_on
-        bank.now.vectors.registers bank.now.za.vectors) }
+    ensures part { PutsPart pages.old pages.new address result (vector_state_bytes
+        (length_of bank.now.vectors) za_on bank.now.vectors.registers bank.now.za.vectors) }
+    ensures long { 320 + length (vector_state_bytes (length_of bank.now.vectors) za_on
+        bank.now.vectors.registers bank.now.za.vectors)
+        ≡ layout.frame_size (length_of bank.now.vectors) (length bank.now.za.vectors) za_on }
 {
+    let _length = bank.vectors.length();
+    let _size = bank.za.size();
     let vectors = put_vectors(pages, address, &bank.vectors);
     let predicates = put_predicates(pages, vectors, &bank.vectors);
     let ffr = put_ffr(pages, predicates, &bank.vectors);

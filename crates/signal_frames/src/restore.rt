@@ -56,10 +56,10 @@ fn find_fault(
 }
 
 /// Returns all that a frame saves, whose first 320 bytes are given.
-fn restore(machine: &mut Machine, bank: &mut Bank, start: u64, head: &[u8])
+fn restore(machine: &mut Machine, bank: &mut Bank, head: &[u8])
     requires head { length head.now ≡ 320 }
     requires found { IsFoundUnless (vector_bytes bank.old.vectors.vl) (vector_bytes bank.old.za.svl)
-        machine.old.pages.memory start head.now None }
+        machine.old.pages.memory machine.old.scalars.sp head.now None }
     ensures core { core_of machine.new (bank_state bank.new)
         ≡ returned (vector_bytes bank.old.vectors.vl) (core_of machine.old (bank_state bank.old)) }
     ensures same { IsSameBank bank.old bank.new }
@@ -67,6 +67,7 @@ fn restore(machine: &mut Machine, bank: &mut Bank, start: u64, head: &[u8])
     ensures pages { machine.new.pages ≡ machine.old.pages }
 {
     let _size = bank.za.size();
+    let start = machine.scalars.sp;
     machine.scalars = saved_scalars(head);
     machine.tpidr2 = u64_at(head, TPIDR2);
     machine.tpidr = u64_at(head, TPIDR);
@@ -97,7 +98,7 @@ pub fn return_from(machine: &mut Machine, bank: &mut Bank, inside: bool) -> Resu
     match find_fault(&machine.pages, start, vl, size, inside, &mut head) {
         Some(address) => Err(FrameFault(address)),
         None => {
-            restore(machine, bank, start, &head);
+            restore(machine, bank, &head);
             Ok(())
         }
     }

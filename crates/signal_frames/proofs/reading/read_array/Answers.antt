@@ -24,8 +24,8 @@ loop-n-preserved c =
           (c.vector_mut.ensures.long ∙ ap vector_bytes c.loop-n.invariant.same)));
     }
 
-pub returns : goal.returns
-returns c = λ frame stands fits.
+pub returns-clause-value : goal.returns-clause-value
+returns-clause-value c = λ frame stands fits.
     let old = c.args.za.now in
     let s = vector_bytes old.svl in
     c.loop-n.invariant.read frame stands fits

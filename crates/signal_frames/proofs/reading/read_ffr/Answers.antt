@@ -6,8 +6,8 @@ use Rattle.signal_frames.specs.Saved.{part_of}
 use Rattle.signal_frames.proofs.Fetching.{part_read}
 use Rattle.signal_frames.proofs.reading.read_ffr.Goals as goal
 
-pub returns : goal.returns
-returns c = λ frame stands fits.
+pub returns-clause-value : goal.returns-clause-value
+returns-clause-value c = λ frame stands fits.
     let old = c.args.vectors.now in
     let l = length_of old in
     ffr_whole old c.ffr_mut.result.now c.fetch.new.into c.ffr_mut.ensures.value c.fetch.auto.into

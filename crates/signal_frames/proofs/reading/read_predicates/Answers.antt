@@ -28,8 +28,8 @@ loop-n-preserved c =
           (c.p_mut.ensures.long ∙ ap (λ k. k / 8) (same_length old c.loop-n.vectors c.loop-n.invariant.same)))));
     }
 
-pub returns : goal.returns
-returns c = λ frame stands fits.
+pub returns-clause-value : goal.returns-clause-value
+returns-clause-value c = λ frame stands fits.
     c.loop-n.invariant.read frame stands fits
     ∙ ap (with_predicates c.args.vectors.now) (rows_all (saved_predicate (length_of c.args.vectors.now) frame)
     c.args.vectors.now.registers.predicates c.loop-n.n 16 c.length-length.ensures.registers.predicate_count (omega arith))

@@ -27,8 +27,8 @@ loop-n-preserved c =
           (c.z_mut.ensures.long ∙ same_length old c.loop-n.vectors c.loop-n.invariant.same)));
     }
 
-pub returns : goal.returns
-returns c = λ frame stands fits.
+pub returns-clause-value : goal.returns-clause-value
+returns-clause-value c = λ frame stands fits.
     c.loop-n.invariant.read frame stands fits
     ∙ ap (with_vectors c.args.vectors.now) (rows_all (saved_vector (length_of c.args.vectors.now) frame)
     c.args.vectors.now.registers.vectors c.loop-n.n 32 c.length-length.ensures.registers.vector_count (omega arith))
