@@ -5,10 +5,9 @@ use Rattle.std.specs.Prelude.{◌&&◌, if◌then◌else◌}
 use Rattle.paged_memory.specs.Memory.{AddressSpace, byte_with, bytes_with, and_byte, unless_there, first_without}
 use Rattle.paged_memory.proofs.Accesses.{first_without-none}
 use Rattle.machine_step.specs.ProcessorState.{ProcessorState}
-use Rattle.signal_frames.specs.Layout.{frame_size}
-use Rattle.signal_frames.specs.Saved.{number_at, saved_length, saved_size, saved_za_on, is_head, is_zero_past}
+use Rattle.signal_frames.specs.Saved.{saved_length, saved_size, is_head, is_zero_past}
 use Rattle.signal_frames.specs.Return.{count_read, read_at, stop_of, fault_at, restored, restored_by, returned}
-use Rattle.signal_frames.specs.Reading.{StandsAt, IsSaved}
+use Rattle.signal_frames.specs.Reading.{IsSaved}
 use Rattle.signal_frames.proofs.Putting.{neither}
 use Rattle.signal_frames.proofs.Fetching.{length-bytes_with, front_read}
 use Rattle.signal_frames.proofs.Fields.{number_in_head, head_in_head, HeadSays, head_says}
@@ -38,9 +37,10 @@ all_read need m a (suc n) h =
     neither (first_without need m a n) (unless_there ((a + n) % 2 ^ 64) (byte_with need m ((a + n) % 2 ^ 64))) h in
     let before : (bs : List ℕ) × (bytes_with need m a n ≡ Some bs) = all_read need m a n parts.0 in
     let last : (b : ℕ) × (byte_with need m ((a + n) % 2 ^ 64) ≡ Some b) =
-    byte_there ((a + n) % 2 ^ 64) (byte_with need m ((a + n) % 2 ^ 64)) parts.1 in
-    (before.0 ++ last.0 ∷ [],
-    ap (λ o. and_byte o (byte_with need m ((a + n) % 2 ^ 64))) before.1 ∙ ap (and_byte (Some before.0)) last.1)
+    byte_there ((a + n) % 2 ^ 64) (byte_with need m ((a + n) % 2 ^ 64)) parts.1 in (
+      before.0 ++ last.0 ∷ [],
+      ap (λ o. and_byte o (byte_with need m ((a + n) % 2 ^ 64))) before.1 ∙ ap (and_byte (Some before.0)) last.1,
+    )
 
 -- ---- how many bytes are read
 
@@ -98,14 +98,16 @@ found vl svl m sp head read good none =
     let split : 320 + (saved_size head - 320) ≡ saved_size head = omega arith in
     let front : bytes_with 4 m sp 320 ≡ Some (take 320 frame) =
     front_read m sp 320 (saved_size head - 320) frame (ap (bytes_with 4 m sp) split ∙ all.1) in
-    let first : take 320 frame ≡ head = let e : Some (take 320 frame) ≡ Some head = sym front ∙ read in cc in
-    (frame, record {
-      stands = record { bytes = ap (bytes_with 4 m sp) long ∙ all.1 };
-      first = first;
-      fields = sym (head_in_head vl svl frame) ∙ ap (is_head vl svl) first ∙ good;
-      size = long ∙ ap saved_size (sym first) ∙ number_in_head frame 8 4 (omega arith);
-      read = ap (bytes_with 4 m sp) (read_head vl svl m sp head true read good) ∙ all.1;
-    })
+    let first : take 320 frame ≡ head = let e : Some (take 320 frame) ≡ Some head = sym front ∙ read in cc in (
+      frame,
+      record {
+        stands = record { bytes = ap (bytes_with 4 m sp) long ∙ all.1 };
+        first = first;
+        fields = sym (head_in_head vl svl frame) ∙ ap (is_head vl svl) first ∙ good;
+        size = long ∙ ap saved_size (sym first) ∙ number_in_head frame 8 4 (omega arith);
+        read = ap (bytes_with 4 m sp) (read_head vl svl m sp head true read good) ∙ all.1;
+      },
+    )
 
 pub fault_of_saved : (inside zeros : Bool) (vl svl : ℕ) (m : AddressSpace) (sp : ℕ) (head frame : List ℕ)
     → IsSaved vl svl m sp head frame → is_zero_past (saved_length frame) frame ≡ zeros

@@ -1,5 +1,5 @@
 -- The fields of a frame.
-use Rattle.std.proofs.Common.{◌≡◌, ℕ, ◌+◌, ◌-◌, ◌*◌, ◌<◌, ◌≤◌, List, length, take, drop, get_or, refl, ap, sym, ◌∙◌, arith}
+use Rattle.std.proofs.Common.{◌≡◌, ℕ, ◌+◌, ◌-◌, ◌*◌, ◌<◌, ◌≤◌, List, length, take, drop, refl, ap, ◌∙◌, arith}
 use Rattle.std.proofs.lemmas.List.{drop-drop, drop-take}
 use Rattle.std.proofs.Common.{Bool, true, false, eqb-true}
 use Rattle.std.proofs.lemmas.List.FromFn.{fill_by_all, length-map-range_with_len, get_or-map-range_with_len}
@@ -49,9 +49,15 @@ scalars_in_head frame =
 pub head_in_head : (vl svl : ℕ) (frame : List ℕ) → is_head vl svl (take 320 frame) ≡ is_head vl svl frame
 unfolding is_head has_modes has_sizes
 head_in_head vl svl frame =
-    rw (number_in_head frame 0 8 (omega arith), number_in_head frame 288 8 (omega arith), number_in_head frame 280 8 (omega arith),
-    number_in_head frame 312 4 (omega arith), number_in_head frame 316 4 (omega arith), number_in_head frame 8 4 (omega arith),
-    number_in_head frame 12 4 (omega arith)) refl
+    rw (
+      number_in_head frame 0 8 (omega arith),
+      number_in_head frame 288 8 (omega arith),
+      number_in_head frame 280 8 (omega arith),
+      number_in_head frame 312 4 (omega arith),
+      number_in_head frame 316 4 (omega arith),
+      number_in_head frame 8 4 (omega arith),
+      number_in_head frame 12 4 (omega arith),
+    ) refl
 
 both : (a b : Bool) → (a && b) ≡ true → (a ≡ true) × (b ≡ true)
 both true b h = (refl, h)

@@ -1,5 +1,5 @@
 -- How long the parts of a frame are.
-use Rattle.std.proofs.Common.{◌≡◌, ℕ, zero, suc, ◌+◌, ◌-◌, ◌*◌, ◌/◌, ◌%◌, ◌<◌, ◌≤◌, Bool, true, false, List, [], ◌∷◌, ◌++◌}
+use Rattle.std.proofs.Common.{◌≡◌, ℕ, suc, ◌+◌, ◌-◌, ◌*◌, ◌/◌, ◌%◌, ◌<◌, ◌≤◌, Bool, true, false, List, [], ◌∷◌, ◌++◌}
 use Rattle.std.proofs.Common.{length, get_or, refl, ap, sym, ◌∙◌, arith, length-append}
 use Rattle.std.proofs.lemmas.List.{length-replicate}
 use Rattle.std.proofs.lemmas.List.FromFn.{length-map-range_with_len}
@@ -8,7 +8,7 @@ use Rattle.std.specs.Prelude.{if◌then◌else◌, replicate}
 use Rattle.std.specs.List.{concat, flat_map}
 use Rattle.byteorder.specs.Endian.{little_bytes}
 use Rattle.byteorder.specs.Numbers.{length-bytes_low_first}
-use Rattle.sve_vectors.specs.Predicates.{predicate_bytes, byte_of_truths}
+use Rattle.sve_vectors.specs.Predicates.{predicate_bytes}
 use Rattle.sve_vectors.specs.Registers.{VectorRegisters, AreOfLength}
 use Rattle.za_array.specs.Array.{IsSquare}
 use Rattle.signal_frames.specs.Layout.{frame_size, frame_tag, words_bytes, doublewords_bytes, head_bytes, vectors_bytes}
@@ -43,7 +43,7 @@ pub length-predicates : (l : ℕ) (rows : List (List Bool)) → ((k : ℕ) → k
 length-predicates l [] h = omega arith
 length-predicates l (row ∷ rows) h =
     let more : length (predicate_bytes row ++ flat_map predicate_bytes rows)
-        ≡ length (predicate_bytes row) + length (flat_map predicate_bytes rows) =
+    ≡ length (predicate_bytes row) + length (flat_map predicate_bytes rows) =
     length-append (predicate_bytes row) (flat_map predicate_bytes rows) in
     let one : length (predicate_bytes row) ≡ l / 8 = length-predicate row ∙ ap (λ k. k / 8) (h 0 (omega arith)) in
     let rest : length (flat_map predicate_bytes rows) ≡ length rows * (l / 8) =
@@ -59,11 +59,13 @@ length-head first x system lengths a b c d =
     let two : length (doublewords_bytes x) ≡ length x * 8 = length-numbers 8 x in
     let three : length (doublewords_bytes system) ≡ length system * 8 = length-numbers 8 system in
     let four : length (words_bytes lengths) ≡ length lengths * 4 = length-numbers 4 lengths in
-    omega (arith,
-    length-append (doublewords_bytes (frame_tag ∷ [])) (words_bytes first ++ (doublewords_bytes x ++ (doublewords_bytes system ++ words_bytes lengths))),
-    length-append (words_bytes first) (doublewords_bytes x ++ (doublewords_bytes system ++ words_bytes lengths)),
-    length-append (doublewords_bytes x) (doublewords_bytes system ++ words_bytes lengths),
-    length-append (doublewords_bytes system) (words_bytes lengths))
+    omega (
+      arith,
+      length-append (doublewords_bytes (frame_tag ∷ [])) (words_bytes first ++ (doublewords_bytes x ++ (doublewords_bytes system ++ words_bytes lengths))),
+      length-append (words_bytes first) (doublewords_bytes x ++ (doublewords_bytes system ++ words_bytes lengths)),
+      length-append (doublewords_bytes x) (doublewords_bytes system ++ words_bytes lengths),
+      length-append (doublewords_bytes system) (words_bytes lengths),
+    )
 
 length-array : (za_on : Bool) (s : ℕ) (za : List (List ℕ)) → IsSquare s za
     → length (array_bytes za_on za) ≡ (if za_on then length za * length za else 0)
@@ -89,7 +91,9 @@ length-vector_state l s za_on r za long square small whole =
     let others : length r.predicates * (l / 8) ≡ 16 * (l / 8) = ap (λ k. k * (l / 8)) long.predicate_count in
     let ffr : length (ffr_bytes l r) ≡ 32 = length-ffr l r long.ffr_length small in
     let array : length (array_bytes za_on za) ≡ (if za_on then length za * length za else 0) = length-array za_on s za square in
-    omega (arith,
-    length-append (vectors_bytes r) (predicates_bytes r ++ (ffr_bytes l r ++ array_bytes za_on za)),
-    length-append (predicates_bytes r) (ffr_bytes l r ++ array_bytes za_on za),
-    length-append (ffr_bytes l r) (array_bytes za_on za))
+    omega (
+      arith,
+      length-append (vectors_bytes r) (predicates_bytes r ++ (ffr_bytes l r ++ array_bytes za_on za)),
+      length-append (predicates_bytes r) (ffr_bytes l r ++ array_bytes za_on za),
+      length-append (ffr_bytes l r) (array_bytes za_on za),
+    )

@@ -1,18 +1,18 @@
 -- Parts that are written one after the other.
-use Rattle.std.proofs.Common.{◌≡◌, ◌≢◌, ℕ, zero, suc, ◌+◌, ◌*◌, ◌/◌, ◌%◌, ◌^◌, ◌<◌, ◌≤◌, Bool, true, false, cond, List, [], ◌∷◌, ◌++◌}
-use Rattle.std.proofs.Common.{length, take, get_or, Option, Some, None, refl, ap, sym, ◌∙◌, arith, length-append, add_assoc}
+use Rattle.std.proofs.Common.{◌≡◌, ◌≢◌, ℕ, zero, suc, ◌+◌, ◌/◌, ◌%◌, ◌^◌, ◌<◌, Bool, true, false, cond, List, [], ◌∷◌, ◌++◌}
+use Rattle.std.proofs.Common.{length, take, get_or, Option, Some, None, refl, ap, sym, ◌∙◌, arith, length-append}
 use Rattle.std.proofs.Common.{subst, append_assoc}
 use Rattle.std.proofs.lemmas.List.{append-nil, take_more, take_all}
 use Rattle.std.proofs.lemmas.Grind.{flat_map-append}
 use Rattle.std.specs.List.{concat, flat_map}
 use Rattle.sve_vectors.specs.Predicates.{predicate_bytes}
-use Rattle.std.specs.Prelude.{IsSome, is_some, Result, Ok, Err, OnOk, IfErr}
+use Rattle.std.specs.Prelude.{IsSome, Result, Ok, Err, OnOk, IfErr}
 use Rattle.std.specs.FinMap.{FinMap, get, insert, get-insert}
 use Rattle.std.specs.Ordering.{nat_cmp, eq_by_cmp}
 use Rattle.std.specs.Cmp.{nat_cmp_total}
 use Rattle.std.specs.Option.{option_or}
 use Rattle.paged_memory.specs.Memory.{AddressSpace, byte_with, permits, permitted, unless_there, first_without, set_bytes}
-use Rattle.paged_memory.specs.PageTable.{PageTable, IsOwned, AreOwned, KeepsOwned}
+use Rattle.paged_memory.specs.PageTable.{PageTable, AreOwned, KeepsOwned}
 use Rattle.paged_memory.specs.Accesses.{stopped_at}
 use Rattle.paged_memory.specs.declared.pages.WriteStop.{WriteStop}
 use Rattle.paged_memory.specs.declared.pages.WriteStop.TheVariants as stop
@@ -66,9 +66,11 @@ still_none need m new a zero f h = refl
 still_none need m new a (suc n) f h =
     let parts : (first_without need m a n ≡ None) × (unless_there ((a + n) % 2 ^ 64) (byte_with need m ((a + n) % 2 ^ 64)) ≡ None) =
     neither (first_without need m a n) (unless_there ((a + n) % 2 ^ 64) (byte_with need m ((a + n) % 2 ^ 64))) h in
-    rw (still_none need m new a n f parts.0,
-    there_then ((a + n) % 2 ^ 64) (byte_with need m ((a + n) % 2 ^ 64)) (byte_with need new ((a + n) % 2 ^ 64))
-    (f ((a + n) % 2 ^ 64)) parts.1) refl
+    rw (
+      still_none need m new a n f parts.0,
+      there_then ((a + n) % 2 ^ 64) (byte_with need m ((a + n) % 2 ^ 64)) (byte_with need new ((a + n) % 2 ^ 64))
+          (f ((a + n) % 2 ^ 64)) parts.1,
+    ) refl
 
 pub ready_still : (old new : PageTable) (a : ℕ) (bs : List ℕ) (b n : ℕ) → Puts old new a bs → IsReady old b n → IsReady new b n
 ready_still old new a bs b n puts ready = record {
@@ -133,8 +135,10 @@ puts_both p q r a b c xs ys first second = record { puts = puts; next = next }
   where
     long : length (xs ++ ys) ≡ length xs + length ys
     long = length-append xs ys
+
     next : c ≡ (a + length (xs ++ ys)) % 2 ^ 64
     next = omega (arith, first.next, second.next, long)
+
     puts : IsReady p a (length (xs ++ ys)) → Puts p r a (xs ++ ys)
     puts ready =
         let all : IsReady p a (length xs + length ys) = rw long at ready in

@@ -1,6 +1,6 @@
 -- The delivery of a signal: the frame that it writes, and the state after it. Source: the kernel is this
 -- emulator's own. VL is so many bytes.
-use Rattle.std.specs.Prelude.{◌≡◌, ℕ, ◌+◌, ◌-◌, ◌*◌, ◌/◌, ◌%◌, ◌^◌, Bool, false, List, [], ◌∷◌, ◌++◌, length}
+use Rattle.std.specs.Prelude.{◌≡◌, ℕ, ◌+◌, ◌-◌, ◌*◌, ◌/◌, ◌%◌, ◌^◌, false, List, [], ◌∷◌, ◌++◌, length}
 use Rattle.std.specs.Prelude.{slice_set, Option, Some, None, Result, Ok, Err}
 use Rattle.sm_types.specs.declared.scalars.Scalars.{Scalars}
 use Rattle.paged_memory.specs.Memory.{first_without}

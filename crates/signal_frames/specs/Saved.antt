@@ -1,5 +1,5 @@
 -- What the bytes of a frame say, by the offsets of its table.
-use Rattle.std.specs.Prelude.{ℕ, ◌+◌, ◌-◌, ◌*◌, ◌/◌, ◌%◌, ◌^◌, ◌==◌, ◌&&◌, nat_le, nat_lt, Bool, false}
+use Rattle.std.specs.Prelude.{ℕ, ◌+◌, ◌-◌, ◌*◌, ◌/◌, ◌%◌, ◌^◌, ◌==◌, ◌&&◌, nat_le, nat_lt, Bool}
 use Rattle.std.specs.Prelude.{if◌then◌else◌, List, take, drop, map}
 use Rattle.std.specs.List.{range_with_len, list_all}
 use Rattle.byteorder.specs.Endian.{little_number}

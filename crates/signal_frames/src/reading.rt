@@ -129,6 +129,10 @@ pub(crate) fn is_zero_past(pages: &Pages, start: u64, vector_size: u64) -> bool
     let ffr = vector_size / 8;
     let mut room = [0; 32];
     let rest = &mut room[ffr as usize..];
-    fetch(pages, start.wrapping_add(320 + 34 * vector_size + ffr), rest);
+    fetch(
+        pages,
+        start.wrapping_add(320 + 34 * vector_size + ffr),
+        rest,
+    );
     are_zero(rest)
 }

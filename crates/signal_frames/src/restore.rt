@@ -1,12 +1,15 @@
 //! The return from a handler.
-ghost use Rattle.std.specs.Prelude.{◌≡◌, ◌≤◌, length};
-ghost use Rattle.paged_memory.specs.PageTable.{KeepsOwned};
+ghost use Rattle.std.specs.Prelude.{◌≡◌, ◌≤◌, length, None};
 ghost use Rattle.sve_vectors.specs.Lengths.{vector_bytes};
 ghost use Rattle.mem_access.specs.Bank.{bank_state};
 ghost use Rattle.machine_step.specs.Machine.{core_of, IsInMode, IsSameBank};
+ghost use Rattle.signal_frames.specs.Return.{fault_at, returned, Returns};
+ghost use Rattle.signal_frames.specs.Reading.{IsFoundUnless};
 
-use crate::head::{TPIDR, TPIDR2, is_head, saved_length, saved_scalars, saved_size};
-use crate::head::{saved_streaming, saved_za_on, u64_at};
+use crate::head::{
+    TPIDR, TPIDR2, is_head, saved_length, saved_scalars, saved_size, saved_streaming, saved_za_on,
+    u64_at,
+};
 use crate::reading::{is_zero_past, read_registers, restore_array};
 use machine_step::Machine;
 use mem_access::Bank;
@@ -16,9 +19,6 @@ use sm_types::Access;
 /// A return that finds no frame: the address of the first byte among those read that cannot be read, else SP.
 #[derive(Clone, Copy, Debug, PartialEq, Eq)]
 pub struct FrameFault(pub u64);
-
-ghost use Rattle.signal_frames.specs.Return.{fault_at, returned, Returns};
-ghost use Rattle.signal_frames.specs.Reading.{IsFoundUnless, IsSaved};
 
 /// Reads the first 320 bytes from an address on, and finds whether a frame stands there: the stop, if not.
 fn find_fault(

@@ -1,4 +1,4 @@
-use Rattle.std.proofs.Common.{◌≡◌, ◌+◌, ◌-◌, ◌*◌, ◌/◌, ◌%◌, ◌^◌, ℕ, ap, sym, ◌∙◌, arith, length, None}
+use Rattle.std.proofs.Common.{◌≡◌, ◌+◌, ◌-◌, ◌*◌, ◌/◌, ◌%◌, ◌^◌, ap, sym, ◌∙◌, length}
 use Rattle.mem_access.specs.Bank.{bank_state}
 use Rattle.paged_memory.specs.Memory.{first_without}
 use Rattle.machine_step.specs.ProcessorState.{vector_bytes}

@@ -1,8 +1,4 @@
-use Rattle.std.proofs.Common.{◌≡◌, ◌++◌, List, ℕ, [], ap, sym, subst, arith}
-use Rattle.std.specs.Prelude.{if◌then◌else◌}
-use Rattle.std.specs.List.{concat}
-use Rattle.signal_frames.specs.Layout.{vectors_bytes, predicates_bytes, ffr_bytes}
-use Rattle.signal_frames.specs.Writing.{PutsPart}
+use Rattle.std.proofs.Common.{arith}
 use Rattle.signal_frames.proofs.Putting.{puts_both, puts_none}
 use Rattle.signal_frames.proofs.Lengths.{length-vector_state}
 use Rattle.signal_frames.proofs.delivery.put_vector_state.Goals as goal

@@ -1,11 +1,9 @@
-use Rattle.std.proofs.Common.{◌≡◌, ◌+◌, ◌++◌, ℕ, ap, sym, ◌∙◌, arith, length, length-append}
+use Rattle.std.proofs.Common.{◌≡◌, ap, sym, ◌∙◌, length}
 use Rattle.mem_access.specs.Bank.{bank_state}
 use Rattle.machine_step.specs.ProcessorState.{vector_bytes}
 use Rattle.machine_step.specs.Machine.{core_of}
 use Rattle.sve_vectors.specs.State.{length_of}
 use Rattle.machine_step.specs.Mode.{length_at}
-use Rattle.signal_frames.specs.Layout.{frame_size}
-use Rattle.signal_frames.proofs.Putting.{puts_both}
 use Rattle.signal_frames.proofs.Delivered.{length_is, frame_put}
 use Rattle.signal_frames.proofs.delivery.write_frame.Goals as goal
 

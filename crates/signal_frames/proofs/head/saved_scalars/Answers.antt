@@ -1,4 +1,4 @@
-use Rattle.std.proofs.Common.{◌≡◌, refl, ap, ◌∙◌, arith, ℕ}
+use Rattle.std.proofs.Common.{refl}
 use Rattle.signal_frames.specs.Saved.{saved_scalars}
 use Rattle.signal_frames.proofs.Fields.{registers_read}
 use Rattle.signal_frames.proofs.head.saved_scalars.Goals as goal

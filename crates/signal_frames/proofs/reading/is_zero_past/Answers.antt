@@ -1,4 +1,4 @@
-use Rattle.std.proofs.Common.{◌≡◌, ◌==◌, ◌+◌, ◌-◌, ◌*◌, ◌/◌, refl, ap, ◌∙◌, arith, ℕ, length-take, length-drop}
+use Rattle.std.proofs.Common.{◌==◌, ◌+◌, ◌-◌, ◌*◌, ◌/◌, refl, ap, ◌∙◌, arith, length-take, length-drop}
 use Rattle.std.specs.List.{list_all}
 use Rattle.signal_frames.specs.Saved.{is_zero_past, past_ffr}
 use Rattle.signal_frames.proofs.Fetching.{part_read}

@@ -1,6 +1,6 @@
-use Rattle.std.proofs.Common.{◌≡◌, ◌<◌, ◌+◌, ◌*◌, ◌/◌, ◌%◌, ◌^◌, ◌≤◌, refl, ap, ◌∙◌, arith, length, ℕ, sym}
+use Rattle.std.proofs.Common.{◌<◌, ◌+◌, ◌*◌, refl, ap, ◌∙◌, arith, length}
 use Rattle.sve_vectors.specs.Lengths.{vector_bytes}
-use Rattle.signal_frames.specs.Saved.{saved_array_vector, part_of}
+use Rattle.signal_frames.specs.Saved.{saved_array_vector}
 use Rattle.signal_frames.proofs.Fetching.{part_read, row_fits, rows_all, array_step}
 use Rattle.signal_frames.proofs.reading.read_array.Goals as goal
 

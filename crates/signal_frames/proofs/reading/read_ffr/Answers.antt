@@ -1,4 +1,4 @@
-use Rattle.std.proofs.Common.{◌≡◌, ◌+◌, ◌*◌, ◌/◌, ◌%◌, ◌^◌, ◌≤◌, refl, ap, ◌∙◌, arith, length, ℕ}
+use Rattle.std.proofs.Common.{◌+◌, ◌*◌, ◌/◌, refl, ap, ◌∙◌, arith}
 use Rattle.sve_vectors.specs.Predicates.{truths_of}
 use Rattle.sve_vectors.specs.State.{length_of, with_ffr}
 use Rattle.sve_vectors.proofs.Whole.{ffr_whole}

@@ -1,4 +1,4 @@
-use Rattle.std.proofs.Common.{◌≡◌, ℕ, ◌∙◌, arith}
+use Rattle.std.proofs.Common.{◌≡◌, ◌∙◌, arith}
 use Rattle.sve_vectors.specs.Lengths.{current_bytes}
 use Rattle.sve_vectors.specs.State.{length_of}
 use Rattle.signal_frames.proofs.Fetching.{same_length, registers_are, length_written}

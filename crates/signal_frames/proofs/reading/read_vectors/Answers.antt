@@ -1,6 +1,6 @@
-use Rattle.std.proofs.Common.{◌≡◌, ◌+◌, ◌*◌, ◌%◌, ◌^◌, ◌≤◌, refl, ap, ◌∙◌, arith, length, ℕ}
+use Rattle.std.proofs.Common.{◌+◌, ◌*◌, refl, ap, ◌∙◌, arith, length}
 use Rattle.sve_vectors.specs.State.{length_of}
-use Rattle.signal_frames.specs.Saved.{saved_vector, part_of}
+use Rattle.signal_frames.specs.Saved.{saved_vector}
 use Rattle.signal_frames.proofs.Fetching.{part_read, row_fits, rows_all, same_length, vectors_step}
 use Rattle.signal_frames.specs.Reading.{with_vectors}
 use Rattle.signal_frames.proofs.reading.read_vectors.Goals as goal

@@ -1,4 +1,4 @@
-use Rattle.std.proofs.Common.{◌≡◌, ◌≤◌, ℕ, true, length, ap, sym, ◌∙◌, arith}
+use Rattle.std.proofs.Common.{◌≤◌, true, length, ap, arith}
 use Rattle.sve_vectors.specs.Lengths.{vector_bytes}
 use Rattle.za_array.specs.Array.{ArrayState}
 use Rattle.signal_frames.specs.Layout.{frame_size}

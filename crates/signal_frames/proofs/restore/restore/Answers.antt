@@ -1,11 +1,10 @@
-use Rattle.std.proofs.Common.{◌≡◌, ◌+◌, ◌*◌, ◌≤◌, Bool, List, ℕ, length, take, ap, sym, ◌∙◌, arith, subst}
+use Rattle.std.proofs.Common.{◌≡◌, ◌+◌, ◌*◌, ◌≤◌, List, ℕ, length, ap, sym, ◌∙◌, arith}
 use Rattle.sve_vectors.specs.Lengths.{vector_bytes, current_bytes}
-use Rattle.sve_vectors.specs.State.{length_of}
 use Rattle.mem_access.specs.Bank.{bank_state}
 use Rattle.machine_step.specs.Machine.{core_of}
 use Rattle.machine_step.specs.System.{bit_at}
 use Rattle.signal_frames.specs.Layout.{frame_size}
-use Rattle.signal_frames.specs.Saved.{saved_scalars, saved_streaming, saved_za_on, saved_length, saved_size, saved_registers, saved_array}
+use Rattle.signal_frames.specs.Saved.{saved_scalars, saved_streaming, saved_za_on, saved_length, saved_registers, saved_array}
 use Rattle.signal_frames.specs.Reading.{IsSaved}
 use Rattle.signal_frames.proofs.Fields.{number_in_head, scalars_in_head, head_says}
 use Rattle.signal_frames.proofs.Faults.{returned_is, long_saved}
