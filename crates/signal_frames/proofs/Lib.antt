@@ -3,5 +3,7 @@ pub mod Lengths
 pub mod Delivered
 pub mod Faults
 pub mod Restored
+pub mod Parts
+pub mod Round
 pub mod Putting
 pub mod Fetching

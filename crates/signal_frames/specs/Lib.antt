@@ -4,3 +4,4 @@ pub mod Saved
 pub mod Return
 pub mod Writing
 pub mod Reading
+pub mod Law

@@ -5,9 +5,11 @@
 
 mod delivery;
 mod head;
+mod laws;
 mod reading;
 mod restore;
 mod writing;
 
 pub use delivery::{FrameStop, deliver};
+pub use laws::frame_brings_back;
 pub use restore::{FrameFault, return_from};

@@ -119,7 +119,8 @@ fn are_zero(bytes: &[u8]) -> bool
     bytes.iter().all(|byte| *byte == 0)
 }
 
-/// Tells whether the bytes of FFR's field past FFR are zero, in a frame whose vectors have `vector_size` bytes.
+/// Tells whether the bytes of FFR's field past FFR are zero, in a frame whose vectors have `vector_size`
+/// bytes.
 #[tactic(auto, unfolding(crate::specs::Saved::is_zero_past))]
 pub(crate) fn is_zero_past(pages: &Pages, start: u64, vector_size: u64) -> bool
     requires { vector_size ≤ 256 }
