@@ -1,12 +1,12 @@
 -- When a return is refused.
 use Rattle.std.proofs.Common.{◌≡◌, ℕ, zero, suc, ◌+◌, ◌-◌, ◌*◌, ◌%◌, ◌^◌, ◌≤◌, Bool, true, false, List, [], ◌∷◌, ◌++◌}
 use Rattle.std.proofs.Common.{length, take, Option, Some, None, refl, ap, sym, ◌∙◌, arith}
-use Rattle.std.specs.Prelude.{◌&&◌, if◌then◌else◌}
+use Rattle.std.specs.Prelude.{◌&&◌, if◌then◌else◌, unwrap_or}
 use Rattle.paged_memory.specs.Memory.{AddressSpace, byte_with, bytes_with, and_byte, unless_there, first_without}
 use Rattle.paged_memory.proofs.Accesses.{first_without-none}
 use Rattle.machine_step.specs.ProcessorState.{ProcessorState}
 use Rattle.signal_frames.specs.Saved.{saved_length, saved_size, is_head, is_zero_past}
-use Rattle.signal_frames.specs.Return.{count_read, read_at, stop_of, fault_at, restored, restored_by, returned}
+use Rattle.signal_frames.specs.Return.{count_read, read_at, stop_of, fault_at, restored, returned}
 use Rattle.signal_frames.specs.Reading.{IsSaved}
 use Rattle.signal_frames.proofs.Putting.{neither}
 use Rattle.signal_frames.proofs.Fetching.{length-bytes_with, front_read}
@@ -132,4 +132,5 @@ pub returned_is : (vl svl : ℕ) (s : ProcessorState) (frame : List ℕ) → len
     → bytes_with 4 s.memory s.scalars.sp (read_at vl svl s.memory s.scalars.sp) ≡ Some frame → returned vl s ≡ restored frame s
 unfolding returned
 returned_is vl svl s frame e h =
-    ap (λ k. restored_by (bytes_with 4 s.memory s.scalars.sp (read_at vl k s.memory s.scalars.sp)) s) e ∙ ap (λ o. restored_by o s) h
+    ap (λ k. restored (unwrap_or (bytes_with 4 s.memory s.scalars.sp (read_at vl k s.memory s.scalars.sp)) []) s) e
+    ∙ ap (λ o. restored (unwrap_or o []) s) h

@@ -44,7 +44,12 @@ unfolding saved_scalars
 scalars_in_head frame =
     let x : map (saved_x (take 320 frame)) (range_with_len 0 31) ≡ map (saved_x frame) (range_with_len 0 31) =
     same_rows (saved_x (take 320 frame)) (saved_x frame) 31 0 (λ k l. number_in_head frame (16 + 8 * k) 8 (omega arith)) in
-    rw (x, number_in_head frame 264 8 (omega arith), number_in_head frame 272 8 (omega arith), number_in_head frame 280 8 (omega arith)) refl
+    rw (
+      x,
+      number_in_head frame 264 8 (omega arith),
+      number_in_head frame 272 8 (omega arith),
+      number_in_head frame 280 8 (omega arith),
+    ) refl
 
 pub head_in_head : (vl svl : ℕ) (frame : List ℕ) → is_head vl svl (take 320 frame) ≡ is_head vl svl frame
 unfolding is_head has_modes has_sizes

@@ -17,7 +17,8 @@ use Rattle.signal_frames.specs.Layout.{predicates_bytes, ffr_bytes, array_bytes,
 pub length-numbers : (k : ℕ) (xs : List ℕ) → length (flat_map (little_bytes k) xs) ≡ length xs * k
 length-numbers k [] = omega arith
 length-numbers k (x ∷ xs) =
-    let more : length (little_bytes k x ++ flat_map (little_bytes k) xs) ≡ length (little_bytes k x) + length (flat_map (little_bytes k) xs) =
+    let more : length (little_bytes k x ++ flat_map (little_bytes k) xs)
+    ≡ length (little_bytes k x) + length (flat_map (little_bytes k) xs) =
     length-append (little_bytes k x) (flat_map (little_bytes k) xs) in
     let one : length (little_bytes k x) ≡ k = length-bytes_low_first 0 k x in
     let rest : length (flat_map (little_bytes k) xs) ≡ length xs * k = length-numbers k xs in
@@ -61,7 +62,8 @@ length-head first x system lengths a b c d =
     let four : length (words_bytes lengths) ≡ length lengths * 4 = length-numbers 4 lengths in
     omega (
       arith,
-      length-append (doublewords_bytes (frame_tag ∷ [])) (words_bytes first ++ (doublewords_bytes x ++ (doublewords_bytes system ++ words_bytes lengths))),
+      length-append (doublewords_bytes (frame_tag ∷ []))
+          (words_bytes first ++ (doublewords_bytes x ++ (doublewords_bytes system ++ words_bytes lengths))),
       length-append (words_bytes first) (doublewords_bytes x ++ (doublewords_bytes system ++ words_bytes lengths)),
       length-append (doublewords_bytes x) (doublewords_bytes system ++ words_bytes lengths),
       length-append (doublewords_bytes system) (words_bytes lengths),

@@ -209,7 +209,8 @@ after_back vl signal s h =
     let short : length (predicates_bytes r) ≡ 16 * (l / 8) =
     length-predicates l r.predicates (λ k low. h.registers.predicate_length k (omega (arith, h.registers.predicate_count)))
     ∙ ap (λ k. k * (l / 8)) h.registers.predicate_count in
-    let vectors : drop (32 * l) rest ≡ predicates_bytes r ++ others = drop_at (vectors_bytes r) (predicates_bytes r ++ others) (32 * l) long in
+    let vectors : drop (32 * l) rest ≡ predicates_bytes r ++ others =
+    drop_at (vectors_bytes r) (predicates_bytes r ++ others) (32 * l) long in
     let split : 34 * l ≡ 32 * l + 16 * (l / 8) = omega (arith, h.whole) in
     record {
       vectors = vectors;
@@ -221,7 +222,8 @@ rows_of_map : (rows : List (List Bool)) → flat_map predicate_bytes rows ≡ co
 rows_of_map [] = refl
 rows_of_map (row ∷ rows) = ap (λ k. predicate_bytes row ++ k) (rows_of_map rows)
 
-row_of_map : (rows : List (List Bool)) (n : ℕ) → n < length rows → get_or (map predicate_bytes rows) n [] ≡ predicate_bytes (get_or rows n [])
+row_of_map : (rows : List (List Bool)) (n : ℕ) → n < length rows
+    → get_or (map predicate_bytes rows) n [] ≡ predicate_bytes (get_or rows n [])
 row_of_map [] n l = absurd (omega arith)
 row_of_map (row ∷ rows) zero l = refl
 row_of_map (row ∷ rows) (suc n) l = row_of_map rows n (omega arith)
@@ -332,7 +334,8 @@ registers_back vl signal s h =
     let z : map (saved_vector l f) (range_with_len 0 32) ≡ r.vectors =
     sym (fill_by_all (saved_vector l f) r.vectors 32 [] h.registers.vector_count (λ k low. sym (vector_back vl signal s h k low))) in
     let p : map (saved_predicate l f) (range_with_len 0 16) ≡ r.predicates =
-    sym (fill_by_all (saved_predicate l f) r.predicates 16 [] h.registers.predicate_count (λ k low. sym (predicate_back vl signal s h k low))) in
+    sym (fill_by_all (saved_predicate l f) r.predicates 16 [] h.registers.predicate_count
+    (λ k low. sym (predicate_back vl signal s h k low))) in
     rw (z, p, ffr_back vl signal s h) refl
 
 pub array_back : (vl signal : ℕ) (s : ProcessorState) (on : Bool) → IsInRange vl signal s → s.za_on ≡ on

@@ -1,6 +1,6 @@
 -- The return from a handler: which bytes it reads, when it is refused, and the state after it. VL and SVL are
 -- so many bytes.
-use Rattle.std.specs.Prelude.{◌≡◌, ℕ, ◌&&◌, Bool, if◌then◌else◌, List, length, Option, Some, None}
+use Rattle.std.specs.Prelude.{◌≡◌, ℕ, ◌&&◌, Bool, if◌then◌else◌, List, [], length, Option, Some, None, unwrap_or}
 use Rattle.std.specs.Prelude.{Result, Ok, Err}
 use Rattle.paged_memory.specs.Memory.{AddressSpace, bytes_with, first_without}
 use Rattle.machine_step.specs.ProcessorState.{ProcessorState}
@@ -48,14 +48,14 @@ restored frame s = record {
   };
 }
 
-abbrev pub restored_by : Option (List ℕ) → ProcessorState → ProcessorState
-restored_by None s = s
-restored_by (Some frame) s = restored frame s
+-- the bytes that a return reads, which can be read
+abbrev pub bytes_read : ℕ → ProcessorState → List ℕ
+bytes_read vl s =
+    unwrap_or (bytes_with 4 s.memory s.scalars.sp (read_at vl (length s.bank.za) s.memory s.scalars.sp)) []
 
--- the state after a return
+-- the state after a return that nothing refuses
 unfoldable pub returned : ℕ → ProcessorState → ProcessorState
-returned vl s =
-    restored_by (bytes_with 4 s.memory s.scalars.sp (read_at vl (length s.bank.za) s.memory s.scalars.sp)) s
+returned vl s = restored (bytes_read vl s) s
 
 -- the answer of a return of a thread that is inside a handler, or is not: it is made where nothing refuses
 -- it, and else all stays

@@ -142,8 +142,8 @@ fn write_frame(machine: &mut Machine, bank: &Bank, signal: u32, size: u64, addre
 #[tactic(auto, unfolding(crate::specs::Frame::entered))]
 fn enter(machine: &mut Machine, bank: &mut Bank, signal: u32, handler: u64, address: u64)
     requires { IsInMode bank.old machine.old }
-    ensures core { core_of machine.new (bank_state bank.new) ≡ entered (vector_bytes bank.old.vectors.vl) signal
-        handler address (core_of machine.old (bank_state bank.old)) }
+    ensures core { core_of machine.new (bank_state bank.new) ≡ entered (vector_bytes bank.old.vectors.vl)
+        signal handler address (core_of machine.old (bank_state bank.old)) }
     ensures same { IsSameBank bank.old bank.new }
     ensures mode { IsInMode bank.new machine.new }
     ensures pages { machine.new.pages ≡ machine.old.pages }
@@ -159,8 +159,8 @@ fn enter(machine: &mut Machine, bank: &mut Bank, signal: u32, handler: u64, addr
 }
 
 /// Delivers a signal: writes the frame of the state below SP, and begins the handler. SP and X1 are then the
-/// frame's address, X0 is the signal, X30 and TPIDR2_EL0 are 0, and the handler is outside Streaming SVE mode
-/// with ZA off. `BadFrame` comes exactly where a byte of the frame may not be written, and `Memory` only where
+/// frame's address, X0 is the signal, X30 and TPIDR2_EL0 are 0, PC is the handler, and Streaming SVE mode and
+/// ZA are off. `BadFrame` comes exactly where a byte of the frame may not be written, and `Memory` only where
 /// a page of it is not owned; either leaves all as it was, but that more pages may be owned.
 pub fn deliver(
     machine: &mut Machine,
@@ -173,8 +173,8 @@ pub fn deliver(
         (core_of machine.old (bank_state bank.old)) (core_of machine.new (bank_state bank.new)) result }
     ensures same { IsSameBank bank.old bank.new }
     ensures mode { IsInMode bank.new machine.new }
-    ensures room { HasFrameRoom (vector_bytes bank.old.vectors.vl) (core_of machine.old (bank_state bank.old))
-        machine.old.pages → result ≢ Err FrameStop.Memory }
+    ensures room { HasFrameRoom (vector_bytes bank.old.vectors.vl)
+        (core_of machine.old (bank_state bank.old)) machine.old.pages → result ≢ Err FrameStop.Memory }
     ensures kept { KeepsOwned machine.old.pages machine.new.pages }
 {
     let vector_size = bank.vectors.length() as u64;

@@ -79,14 +79,14 @@ fn restore(machine: &mut Machine, bank: &mut Bank, head: &[u8])
     restore_array(pages, start, vector_size, machine.za_on, &mut bank.za);
 }
 
-/// Returns from a handler: where a frame stands at SP, all that it saves comes back, PC too, and memory stays.
-/// `inside` says whether the thread is inside a handler. `FrameFault` comes exactly where a byte among those
-/// read cannot be read, where they are not those of a frame, or where the thread is not inside a handler, and
-/// leaves all as it was.
+/// Returns from a handler: where a frame stands at SP, all that it saves comes back, PC too, and memory
+/// stays. `inside` says whether the thread is inside a handler. `FrameFault` comes exactly where a byte among
+/// those read cannot be read, where they are not those of a frame, or where the thread is not inside a
+/// handler, and leaves all as it was.
 pub fn return_from(machine: &mut Machine, bank: &mut Bank, inside: bool) -> Result<(), FrameFault>
     requires { IsInMode bank.old machine.old }
-    ensures made { Returns inside (vector_bytes bank.old.vectors.vl) (core_of machine.old (bank_state bank.old))
-        (core_of machine.new (bank_state bank.new)) result }
+    ensures made { Returns inside (vector_bytes bank.old.vectors.vl)
+        (core_of machine.old (bank_state bank.old)) (core_of machine.new (bank_state bank.new)) result }
     ensures same { IsSameBank bank.old bank.new }
     ensures mode { IsInMode bank.new machine.new }
     ensures pages { machine.new.pages ≡ machine.old.pages }

@@ -17,7 +17,8 @@ returns-in-Err-clause-made c =
     let vl = vector_bytes bank.vectors.vl in
     let s = core_of m (bank_state bank) in
     let long : length bank.za.vectors ≡ vector_bytes bank.vectors.svl = c.size.ensures.square.count ∙ ap vector_bytes bank.one_length in
-    let current : length_of bank.vectors ≡ length_at vl s = length_is bank.vectors bank.za.vectors m.streaming long c.requires.streaming in
+    let current : length_of bank.vectors ≡ length_at vl s =
+    length_is bank.vectors bank.za.vectors m.streaming long c.requires.streaming in
     let size : c.frame_size-size.result ≡ size_of vl s = c.frame_size-size.ensures.value
     ∙ ap (λ k. frame_size k c.size.result m.za_on) (c.length-vector_size.ensures.value ∙ current)
     ∙ ap (λ k. frame_size (length_at vl s) k m.za_on) (c.size.ensures.value ∙ sym c.size.ensures.square.count) in (
@@ -32,7 +33,8 @@ returns-in-Err-clause-room c =
     let vl = vector_bytes bank.vectors.vl in
     let s = core_of m (bank_state bank) in
     let long : length bank.za.vectors ≡ vector_bytes bank.vectors.svl = c.size.ensures.square.count ∙ ap vector_bytes bank.one_length in
-    let current : length_of bank.vectors ≡ length_at vl s = length_is bank.vectors bank.za.vectors m.streaming long c.requires.streaming in
+    let current : length_of bank.vectors ≡ length_at vl s =
+    length_is bank.vectors bank.za.vectors m.streaming long c.requires.streaming in
     let size : c.frame_size-size.result ≡ size_of vl s = c.frame_size-size.ensures.value
     ∙ ap (λ k. frame_size k c.size.result m.za_on) (c.length-vector_size.ensures.value ∙ current)
     ∙ ap (λ k. frame_size (length_at vl s) k m.za_on) (c.size.ensures.value ∙ sym c.size.ensures.square.count) in
@@ -45,7 +47,8 @@ returns-in-Ok-clause-made c =
     let vl = vector_bytes bank.vectors.vl in
     let s = core_of m (bank_state bank) in
     let long : length bank.za.vectors ≡ vector_bytes bank.vectors.svl = c.size.ensures.square.count ∙ ap vector_bytes bank.one_length in
-    let current : length_of bank.vectors ≡ length_at vl s = length_is bank.vectors bank.za.vectors m.streaming long c.requires.streaming in
+    let current : length_of bank.vectors ≡ length_at vl s =
+    length_is bank.vectors bank.za.vectors m.streaming long c.requires.streaming in
     let size : c.frame_size-size.result ≡ size_of vl s = c.frame_size-size.ensures.value
     ∙ ap (λ k. frame_size k c.size.result m.za_on) (c.length-vector_size.ensures.value ∙ current)
     ∙ ap (λ k. frame_size (length_at vl s) k m.za_on) (c.size.ensures.value ∙ sym c.size.ensures.square.count) in

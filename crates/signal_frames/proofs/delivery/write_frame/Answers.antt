@@ -14,7 +14,8 @@ returns-clause-frame c =
     let vl = vector_bytes bank.vectors.vl in
     let s = core_of m (bank_state bank) in
     let long : length bank.za.vectors ≡ vector_bytes bank.vectors.svl = c.size.ensures.square.count ∙ ap vector_bytes bank.one_length in
-    let current : length_of bank.vectors ≡ length_at vl s = length_is bank.vectors bank.za.vectors m.streaming long c.requires.mode.streaming in
+    let current : length_of bank.vectors ≡ length_at vl s =
+    length_is bank.vectors bank.za.vectors m.streaming long c.requires.mode.streaming in
     λ ready.
     frame_put vl c.args.signal c.args.size c.length.result (length_of bank.vectors) c.size.result c.read_nzcv.result c.read_svcr.result s
     m.pages c.put_head-next.new.pages c.put_vector_state.new.pages c.args.address c.put_head-next.result c.put_vector_state.result

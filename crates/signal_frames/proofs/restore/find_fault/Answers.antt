@@ -43,7 +43,8 @@ returns-then-is_zero_past-clause-fault c =
     let same = c.saved_length.ensures ∙ length_of_saved c.args.vl c.args.size m c.args.start c.read.new.into it.0 it.1 in
     let zeros : is_zero_past (saved_length it.0) it.0 ≡ true =
     ap (λ k. is_zero_past k it.0) (sym same)
-    ∙ sym (c.is_zero_past.ensures it.0 it.1.stands (rw same (long_saved c.args.vl c.args.size m c.args.start c.read.new.into it.0 it.1))) ∙ c.if-is_zero_past.true in
+    ∙ sym (c.is_zero_past.ensures it.0 it.1.stands
+    (rw same (long_saved c.args.vl c.args.size m c.args.start c.read.new.into it.0 it.1))) ∙ c.if-is_zero_past.true in
     sym (fault_of_saved c.args.inside true c.args.vl c.args.size m c.args.start c.read.new.into it.0 it.1 zeros
     ∙ ap (λ k. if k && true then None else Some c.args.start) c.if-inside.true)
 
@@ -66,10 +67,12 @@ returns-else-inside-clause-fault c =
           let same = w.saved_length.ensures ∙ length_of_saved c.args.vl c.args.size m c.args.start c.read.new.into it.0 it.1 in
           let zeros : is_zero_past (saved_length it.0) it.0 ≡ false =
           ap (λ k. is_zero_past k it.0) (sym same)
-          ∙ sym (w.is_zero_past.ensures it.0 it.1.stands (rw same (long_saved c.args.vl c.args.size m c.args.start c.read.new.into it.0 it.1))) ∙ w.if-is_zero_past.false in
+          ∙ sym (w.is_zero_past.ensures it.0 it.1.stands
+          (rw same (long_saved c.args.vl c.args.size m c.args.start c.read.new.into it.0 it.1))) ∙ w.if-is_zero_past.false in
           sym (fault_of_saved c.args.inside false c.args.vl c.args.size m c.args.start c.read.new.into it.0 it.1 zeros
           ∙ ap (λ k. if k && false then None else Some c.args.start) w.if-inside.true)
       | else-inside-via-else-inside w ↦
-          sym (fault_of_saved c.args.inside (is_zero_past (saved_length it.0) it.0) c.args.vl c.args.size m c.args.start c.read.new.into it.0 it.1 refl
+          sym (fault_of_saved c.args.inside (is_zero_past (saved_length it.0) it.0) c.args.vl c.args.size m c.args.start
+          c.read.new.into it.0 it.1 refl
           ∙ ap (λ k. if k && is_zero_past (saved_length it.0) it.0 then None else Some c.args.start) w.if-inside.false)
     ]
