@@ -1,0 +1,9 @@
+pub mod Fields
+pub mod Lengths
+pub mod Delivered
+pub mod Faults
+pub mod Restored
+pub mod Parts
+pub mod Round
+pub mod Putting
+pub mod Fetching
