@@ -2,3 +2,5 @@ pub mod HandlerTable
 pub mod Turns
 pub mod Answered
 pub mod Over
+pub mod Watched
+pub mod Calls

@@ -1,14 +1,18 @@
 -- The calls of the kernel, by the number in X8.
 -- Source: the numbers are Linux's for AArch64; the kernel is this emulator's own.
-use Rattle.std.specs.Prelude.{ℕ, ◌+◌, ◌-◌, ◌%◌, ◌^◌, ◌==◌, ◌++◌, ◌||◌, nat_lt, cond, List, Option, Some, None}
+use Rattle.std.specs.Prelude.{ℕ, ◌+◌, ◌-◌, ◌%◌, ◌^◌, ◌==◌, ◌++◌, ◌&&◌, ◌||◌, nat_lt, nat_le, Bool, false, cond}
+use Rattle.std.specs.Prelude.{List, Option, Some, None}
 use Rattle.std.specs.Prelude.{length, slice_index, slice_set}
 use Rattle.sm_types.specs.declared.config.Config.{Config}
 use Rattle.sm_types.specs.declared.scalars.Scalars.{Scalars}
+use Rattle.sm_types.specs.declared.shared_op.OpKind.TheVariants.{Post}
 use Rattle.sm_types.specs.declared.shared_op.SharedOp.{SharedOp}
 use Rattle.sm_types.specs.declared.stop.Stop.{Stop}
-use Rattle.sm_types.specs.declared.stop.Stop.TheVariants.{Exited, OutputFull}
+use Rattle.sm_types.specs.declared.stop.Stop.TheVariants.{Exited, OutputFull, TraceFull, BadFrame}
 use Rattle.paged_memory.specs.Memory.{bytes_with}
-use Rattle.machine_step.specs.ProcessorState.{ProcessorState}
+use Rattle.machine_step.specs.ProcessorState.{ProcessorState, vector_bytes}
+use Rattle.signal_frames.specs.Return.{return_fault}
+use Rattle.signal_frames.specs.Return.{returned as returned_from}
 use Rattle.kernel_contexts.specs.State.{State}
 use Rattle.kernel_contexts.specs.Handlers.{is_signal, with_handler}
 
@@ -23,9 +27,18 @@ pub data TurnEnd : Type 0 where
   -- the thread stops
   Ends : State → Stop → TurnEnd
 
--- one more counted turn, after which the core is so
+-- one more counted turn, after which the core is so; the pending signals are to be polled again
 abbrev pub counted : State → ProcessorState → State
-counted s core = record s { core = core; count = s.count + 1; turns = s.turns + 1 }
+counted s core = record s { core = core; polled = false; count = s.count + 1; turns = s.turns + 1 }
+
+-- the events that a journal may hold
+abbrev pub journal_limit : ℕ
+journal_limit = 262144
+
+-- an operation, with the state for each answer; where the journal, of so many events so far, has no room for
+-- its event, the thread stops as it was before
+abbrev pub asking : ℕ → State → SharedOp → (ℕ → State) → TurnEnd
+asking events before op next = cond (nat_le journal_limit events) (Ends before TraceFull) (Asks op next)
 
 -- the registers past the call
 abbrev pub past_call : Scalars → Scalars
@@ -75,14 +88,43 @@ set_handler_of s = let x : List ℕ = s.core.scalars.x in
     (Goes (record (returned s 0) { handlers = with_handler s.handlers (slice_index x 0) (slice_index x 1) }))
     (Goes (returned s (failure 22)))
 
+-- the signal's bit in the pending word of a thread
+abbrev pub post_op : ℕ → ℕ → SharedOp
+post_op thread signal = record { kind = Post; place = thread; a = 2 ^ signal; b = 0 }
+
+-- X0 is the number of a thread, and X1 a signal
+abbrev pub may_post : Config → List ℕ → Bool
+may_post config x = nat_lt (slice_index x 0) config.threads && is_signal (slice_index x 1)
+
+-- post: signal X1 becomes pending for thread X0
+unfoldable pub post_of : Config → ℕ → State → State → TurnEnd
+post_of config events before s = let x : List ℕ = s.core.scalars.x in
+    cond (may_post config x)
+    (asking events before (post_op (slice_index x 0) (slice_index x 1)) (λ answer. returned s 0))
+    (Goes (returned s (failure 22)))
+
+-- the thread goes on so, where there is no stop of a frame
+abbrev pub return_unless : Option ℕ → State → State → TurnEnd
+return_unless (Some address) before after = Ends before (BadFrame address)
+return_unless None before after = Goes after
+
+-- return: the state that the frame at SP saves; where a byte of it cannot be read, it is no frame, or the
+-- thread is in no handler, the thread stops as it was before the call
+unfoldable pub return_of : Config → State → State → TurnEnd
+return_of config before s =
+    return_unless (return_fault s.inside (vector_bytes config.vl) s.core) before
+    (counted (record s { inside = false }) (returned_from (vector_bytes config.vl) s.core))
+
 -- the call of the number in X8, of the thread of that number, from a state in which streaming mode has been
--- left; the state before is that of the call. 64 is write, 93 exit, 124 yield, 134 set handler, 178 the
--- thread's number, and every other number fails.
-unfoldable pub call_of : Config → ℕ → State → State → TurnEnd
-call_of config thread before s = let number : ℕ = slice_index s.core.scalars.x 8 in
+-- left; the state before is that of the call, and the journal has so many events. 64 is write, 93 exit, 124
+-- yield, 131 post, 134 set handler, 139 return, 178 the thread's number, and every other number fails.
+unfoldable pub call_of : Config → ℕ → ℕ → State → State → TurnEnd
+call_of config thread events before s = let number : ℕ = slice_index s.core.scalars.x 8 in
     cond (number == 64) (write_of before s)
     (cond (number == 93) (exit_of s)
     (cond (number == 124) (Yields (returned s 0))
+    (cond (number == 131) (post_of config events before s)
     (cond (number == 134) (set_handler_of s)
+    (cond (number == 139) (return_of config before s)
     (cond (number == 178) (Goes (returned s thread))
-    (Goes (returned s (failure 38)))))))
+    (Goes (returned s (failure 38)))))))))

@@ -1,5 +1,5 @@
 -- What a context is, and what its turns are.
-use Rattle.std.specs.Prelude.{◌≡◌, ℕ, false, List, [], ◌∷◌, Option, Some, None, length, drop}
+use Rattle.std.specs.Prelude.{◌≡◌, ℕ, List, [], ◌∷◌, Option, Some, None, length, drop}
 use Rattle.sm_types.specs.declared.config.Config.{Config}
 use Rattle.sm_types.specs.declared.shared_op.SharedOp.{SharedOp}
 use Rattle.sm_types.specs.declared.shared_op.Event.{Event}
@@ -14,21 +14,21 @@ use Rattle.machine_step.specs.declared.machine.Machine.{Machine}
 use Rattle.kernel_contexts.specs.State.{State}
 use Rattle.kernel_contexts.specs.HandlerTable.{handlers_of}
 use Rattle.kernel_contexts.specs.Call.{TurnEnd, Goes, Yields, Asks, Ends, call_of}
-use Rattle.kernel_contexts.specs.Turn.{turn_of, outside_streaming}
+use Rattle.kernel_contexts.specs.Turn.{turn_of, instruction_of, outside_streaming}
 use Rattle.kernel_contexts.specs.declared.guest.GuestThread.{GuestThread}
 use Rattle.kernel_contexts.specs.declared.context.Context.{Context}
 use Rattle.kernel_contexts.specs.declared.context.Turn.{Turn}
 use Rattle.kernel_contexts.specs.declared.context.Turn.TheVariants.{Ran, Yielded, Stopped, TraceEnds, TraceDiffers}
 use Rattle.kernel_contexts.specs.declared.context.Turn.TheVariants.{Memory}
 
--- the plain state of a guest thread with a bank; no signal comes yet
+-- the plain state of a guest thread with a bank
 abbrev pub guest_state : GuestThread → VectorState → State
 guest_state g bank = record {
   core = core_of g.machine bank;
   handlers = handlers_of g.handlers;
-  held = 0;
-  inside = false;
-  polled = false;
+  held = g.held;
+  inside = g.inside;
+  polled = g.polled;
   output = g.output.items;
   count = g.count;
   turns = g.turns;
@@ -129,7 +129,13 @@ guest_turn g = turn_of g.config g.number (length g.journal.items) (held_state g)
 
 -- its call of the kernel, before which it leaves Streaming SVE mode
 abbrev pub guest_call : GuestThread → TurnEnd
-guest_call g = call_of g.config g.number (held_state g) (outside_streaming g.config (held_state g))
+guest_call g =
+    call_of g.config g.number (length g.journal.items) (held_state g)
+    (outside_streaming g.config (held_state g))
+
+-- the instruction that it executes
+abbrev pub guest_instruction : GuestThread → TurnEnd
+guest_instruction g = instruction_of g.config g.number (length g.journal.items) (held_state g)
 
 -- a turn that asks nothing, of a guest thread before and after
 abbrev pub Takes : TurnEnd → GuestThread → GuestThread → Turn → Type 0

@@ -7,3 +7,5 @@ pub mod Turn
 pub mod Run
 pub mod Context
 pub mod Output
+pub mod Watch
+pub mod Asked

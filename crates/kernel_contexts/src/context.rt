@@ -161,6 +161,27 @@ impl Context {
         self.guest.output.as_slice()
     }
 
+    /// The signals that are held, a bit for each.
+    pub fn held(&self) -> u64
+        ensures { result ≡ (state_of self.now).held }
+    {
+        self.guest.held
+    }
+
+    /// Whether the thread is in a handler.
+    pub fn inside(&self) -> bool
+        ensures { result ≡ (state_of self.now).inside }
+    {
+        self.guest.inside
+    }
+
+    /// Whether the pending signals were polled since the last counted instruction.
+    pub fn polled(&self) -> bool
+        ensures { result ≡ (state_of self.now).polled }
+    {
+        self.guest.polled
+    }
+
     /// The address of a signal's handler; `None` exactly where none is set.
     pub fn handler(&self, signal: u32) -> Option<u64>
         ensures { result ≡ get (state_of self.now).handlers signal }

@@ -2,10 +2,15 @@
 ghost use Rattle.std.specs.Prelude.{◌≡◌, ◌+◌, ◌*◌, ◌<◌, ◌≤◌, ◌^◌, ◌++◌, vec_len, vec_capacity, None, Some, IfOk, []};
 ghost use Rattle.kernel_contexts.specs.SaveArea.{IsSaveArea};
 ghost use Rattle.kernel_contexts.specs.State.{start_scalars};
+ghost use Rattle.kernel_contexts.specs.Watch.{IsWatched, waiting};
 
+mod asking;
 mod call;
+mod signals;
+mod watch;
 
 use crate::context::Turn;
+use crate::guest::watch::watch_after;
 use crate::handlers::{Addresses, no_handlers};
 use machine_step::{Machine, StepEnd, write_streaming};
 use mem_access::Bank;
@@ -23,20 +28,30 @@ pub struct GuestThread {
     pub config: Config,
     pub number: u32,
     pub handlers: Addresses,
+    /// The signals that are held, a bit for each.
+    pub held: u64,
+    /// The thread is in a handler.
+    pub inside: bool,
+    /// The pending signals were polled since the last counted instruction.
+    pub polled: bool,
+    /// Up to this count nothing but instructions can be due.
+    pub watch: u32,
     pub journal: Vec<Event>,
     pub output: Vec<u8>,
     pub count: u32,
     pub turns: u64,
     pub stop: Option<Stop>,
     ghost save_area: { IsSaveArea config machine bank },
-    ghost turns_are_few: { turns ≤ 3 * count + 2 },
+    ghost number_within: { number < config.threads },
+    ghost watched: { IsWatched config count watch polled },
+    ghost turns_are_few: { turns ≤ 3 * count + waiting polled inside },
     ghost turns_within: { turns ≤ 3 * config.budget },
     ghost within_budget: { count ≤ config.budget },
     ghost output_within: { vec_len output ≤ 1048576 },
 }
 
 /// The events that a journal may hold.
-const JOURNAL_LIMIT: usize = 262_144;
+pub const JOURNAL_LIMIT: usize = 262_144;
 
 /// The registers of a thread before its first turn.
 #[tactic(auto, unfolding(crate::specs::State::start_scalars))]
@@ -61,7 +76,9 @@ impl GuestThread {
     ghost use Rattle.kernel_contexts.specs.State.{start_state};
     ghost use Rattle.kernel_contexts.specs.Call.{counted};
     ghost use Rattle.kernel_contexts.specs.Turn.{outside_streaming};
-    ghost use Rattle.kernel_contexts.specs.Context.{held_state, guest_turn, IsSameGuest, IsQuietGuest};
+    ghost use Rattle.kernel_contexts.specs.Context.{held_state, guest_turn, guest_instruction};
+    ghost use Rattle.kernel_contexts.specs.Context.{IsSameGuest, IsQuietGuest};
+    ghost use Rattle.kernel_contexts.specs.Turn as turn;
     ghost use Rattle.kernel_contexts.specs.Context.{TurnsOver, made_since};
     ghost use Rattle.machine_step.specs.Step.{events_of, entries_of};
     ghost use Rattle.shared_region.specs.Chain.{Chain};
@@ -97,6 +114,10 @@ impl GuestThread {
             config: *config,
             number,
             handlers: no_handlers(),
+            held: 0,
+            inside: false,
+            polled: false,
+            watch: watch_after(config, 0),
             journal: Vec::new(alloc),
             output: Vec::new(alloc),
             count: 0,
@@ -105,8 +126,7 @@ impl GuestThread {
         })
     }
 
-    /// Makes one turn of a thread that has not stopped. Room for an event is taken before its access, so that
-    /// no answer is lost.
+    /// Makes one turn of a thread that has not stopped. Up to the watched count it is an instruction.
     #[inline]
     pub fn make_turn<P: Port>(&mut self, port: &mut P, ticket: &mut P::Ticket) -> Turn
         requires runs { self.old.stop ≡ None }
@@ -129,9 +149,87 @@ impl GuestThread {
         ensures belongs { P.ticket_name ticket.new ≡ P.name port.new }
         ensures same { IsSameGuest self.old self.new }
     {
+        if self.count < self.watch {
+            self.execute(port, ticket)
+        } else {
+            self.make_watched_turn(port, ticket)
+        }
+    }
+
+    /// Makes a turn at the watched count: the budget's end, a poll, the delivery of a signal, or an
+    /// instruction, whichever is due first.
+    fn make_watched_turn<P: Port>(&mut self, port: &mut P, ticket: &mut P::Ticket) -> Turn
+        requires runs { self.old.stop ≡ None }
+        requires watched { self.old.count ≡ self.old.watch }
+        requires number { P.number ticket.old ≡ Some self.old.number }
+        requires belongs { P.ticket_name ticket.old ≡ P.name port.old }
+        requires journal { P.events ticket.old ≡ self.old.journal.items }
+        ensures turn { TurnsOver (record {
+          ends = P.ends port.old ticket.old;
+          strays = P.strays port.old ticket.old;
+          takes_memory = P.takes_memory;
+        })
+            (guest_turn self.old) (held_state self.old) (held_state self.new)
+            (made_since self.old.journal.items self.new.journal.items) self.new.stop result }
+        ensures grows { self.new.journal.items ≡
+            self.old.journal.items ++ made_since self.old.journal.items self.new.journal.items }
+        ensures gives { Chain P.gives port.old ticket.old (entries_of self.old.number
+            (made_since self.old.journal.items self.new.journal.items)) port.new ticket.new }
+        ensures journal { P.events ticket.new ≡ self.new.journal.items }
+        ensures number { P.number ticket.new ≡ Some self.old.number }
+        ensures belongs { P.ticket_name ticket.new ≡ P.name port.new }
+        ensures same { IsSameGuest self.old self.new }
+    {
         if self.count == self.config.budget {
             return self.stop_with(Stop::Budget);
         }
+        if self.is_poll_due() {
+            return self.poll(port, ticket);
+        }
+        if self.is_delivery_due() {
+            return self.deliver_signal();
+        }
+        self.execute(port, ticket)
+    }
+
+    /// Whether the pending signals are to be polled.
+    fn is_poll_due(&self) -> bool
+        ensures { result ≡ turn.is_poll_due self.now.config (held_state self.now) }
+    {
+        self.count > 0 && self.count % self.config.slice == 0 && !self.polled
+    }
+
+    /// Whether a signal is to be delivered.
+    fn is_delivery_due(&self) -> bool
+        ensures { result ≡ turn.is_delivery_due (held_state self.now) }
+    {
+        self.polled && self.held != 0 && !self.inside
+    }
+
+    /// Executes one instruction. Room for an event is taken before its access, so that no answer is lost.
+    #[inline]
+    fn execute<P: Port>(&mut self, port: &mut P, ticket: &mut P::Ticket) -> Turn
+        requires runs { self.old.stop ≡ None }
+        requires count { self.old.count < self.old.config.budget }
+        requires number { P.number ticket.old ≡ Some self.old.number }
+        requires belongs { P.ticket_name ticket.old ≡ P.name port.old }
+        requires journal { P.events ticket.old ≡ self.old.journal.items }
+        ensures turn { TurnsOver (record {
+          ends = P.ends port.old ticket.old;
+          strays = P.strays port.old ticket.old;
+          takes_memory = P.takes_memory;
+        })
+            (guest_instruction self.old) (held_state self.old) (held_state self.new)
+            (made_since self.old.journal.items self.new.journal.items) self.new.stop result }
+        ensures grows { self.new.journal.items ≡
+            self.old.journal.items ++ made_since self.old.journal.items self.new.journal.items }
+        ensures gives { Chain P.gives port.old ticket.old (entries_of self.old.number
+            (made_since self.old.journal.items self.new.journal.items)) port.new ticket.new }
+        ensures journal { P.events ticket.new ≡ self.new.journal.items }
+        ensures number { P.number ticket.new ≡ Some self.old.number }
+        ensures belongs { P.ticket_name ticket.new ≡ P.name port.new }
+        ensures same { IsSameGuest self.old self.new }
+    {
         if self.journal.reserve(1).is_err() {
             return Turn::Memory;
         }
@@ -139,7 +237,7 @@ impl GuestThread {
         let bank = Some(&mut self.bank);
         match self.machine.step(bank, port, ticket, self.number, room) {
             StepEnd::Next(event) => self.go_on(event),
-            StepEnd::Call(_) => self.call(),
+            StepEnd::Call(_) => self.call(port, ticket),
             StepEnd::Raise(exception) => {
                 let pc = self.machine.scalars.pc;
                 self.stop_with(Stop::Raised { exception, pc })
@@ -181,18 +279,22 @@ impl GuestThread {
     }
 
     /// Counts an instruction and its turn.
-    fn count_turn(&mut self)
+    pub(super) fn count_turn(&mut self)
         requires { self.old.count < self.old.config.budget }
         ensures state { held_state self.new ≡ counted (held_state self.old) (held_state self.old).core }
         ensures stop { self.new.stop ≡ self.old.stop }
         ensures same { IsQuietGuest self.old self.new }
     {
+        if self.count == self.watch {
+            self.watch = watch_after(&self.config, self.count);
+        }
         self.count += 1;
         self.turns += 1;
+        self.polled = false;
     }
 
     /// Stops the thread as it stands.
-    fn stop_with(&mut self, stop: Stop) -> Turn
+    pub(super) fn stop_with(&mut self, stop: Stop) -> Turn
         ensures answer { result ≡ Turn.Stopped stop }
         ensures state { held_state self.new ≡ held_state self.old }
         ensures stop { self.new.stop ≡ Some stop }

@@ -1,14 +1,17 @@
 //! The calls of the kernel.
-ghost use Rattle.std.specs.Prelude.{◌≡◌, ◌+◌, ◌-◌, ◌<◌, ◌≤◌, ◌^◌, length, vec_len, None, Some, take, drop};
+ghost use Rattle.std.specs.Prelude.{◌≡◌, ◌≢◌, ◌+◌, ◌-◌, ◌<◌, ◌≤◌, ◌^◌, ◌++◌, length, vec_len, None, Some, take, drop};
+ghost use Rattle.std.specs.Prelude.{slice_index};
 ghost use Rattle.std.specs.Prelude.{true, false};
 ghost use Rattle.paged_memory.specs.Memory.{bytes_with};
+ghost use Rattle.kernel_contexts.specs.Call.{post_op};
 ghost use Rattle.kernel_contexts.specs.Output.{Appends};
 
 use crate::context::Turn;
 use crate::guest::GuestThread;
 use crate::handlers::set_handler;
 use paged_memory::Pages;
-use sm_types::Stop;
+use shared_region::Port;
+use sm_types::{OpKind, SharedOp, Stop};
 
 /// The call that writes bytes to the thread's output.
 const WRITE: u64 = 64;
@@ -16,8 +19,12 @@ const WRITE: u64 = 64;
 const EXIT: u64 = 93;
 /// The call that gives way to other threads.
 const YIELD: u64 = 124;
+/// The call that makes a signal pending for a thread.
+const POST: u64 = 131;
 /// The call that sets the handler of a signal, or removes it.
 const SET_HANDLER: u64 = 134;
+/// The call that returns from a handler.
+const RETURN: u64 = 139;
 /// The call that tells the thread's number.
 const NUMBER: u64 = 178;
 /// The bytes that a thread may write in all.
@@ -74,16 +81,64 @@ fn append(pages: &Pages, address: u64, count: usize, output: &mut Vec<u8>) -> Ap
     }
 }
 
+/// The operation that makes a signal pending for a thread.
+fn post_op(thread: u64, signal: u64) -> SharedOp
+    requires thread { thread < 32 }
+    requires signal { signal ≤ 62 }
+    ensures { result ≡ post_op thread signal }
+{
+    SharedOp {
+        kind: OpKind::Post,
+        place: thread as u32,
+        a: 1 << signal,
+        b: 0,
+    }
+}
+
 impl GuestThread {
-    ghost use Rattle.kernel_contexts.specs.Call.{write_of, exit_of, set_handler_of, returned, Yields};
+    ghost use Rattle.kernel_contexts.specs.Call.{write_of, exit_of, set_handler_of, post_of, may_post};
+    ghost use Rattle.kernel_contexts.specs.Call.{returned, Yields};
     ghost use Rattle.kernel_contexts.specs.Turn.{outside_streaming};
     ghost use Rattle.kernel_contexts.specs.Context.{held_state, guest_call, Takes, IsQuietGuest};
+    ghost use Rattle.kernel_contexts.specs.Context.{TurnsOver, made_since, IsSameGuest};
+    ghost use Rattle.machine_step.specs.Step.{entries_of};
+    ghost use Rattle.shared_region.specs.Chain.{Chain};
 
     /// The call of the number in X8.
-    #[tactic(auto, unfolding(crate::specs::Call::call_of))]
-    pub(super) fn call(&mut self) -> Turn
+    pub(super) fn call<P: Port>(&mut self, port: &mut P, ticket: &mut P::Ticket) -> Turn
         requires room { self.old.count < self.old.config.budget }
         requires runs { self.old.stop ≡ None }
+        requires number { P.number ticket.old ≡ Some self.old.number }
+        requires belongs { P.ticket_name ticket.old ≡ P.name port.old }
+        requires journal { P.events ticket.old ≡ self.old.journal.items }
+        ensures turn { TurnsOver (record {
+          ends = P.ends port.old ticket.old;
+          strays = P.strays port.old ticket.old;
+          takes_memory = P.takes_memory;
+        })
+            (guest_call self.old) (held_state self.old) (held_state self.new)
+            (made_since self.old.journal.items self.new.journal.items) self.new.stop result }
+        ensures grows { self.new.journal.items ≡
+            self.old.journal.items ++ made_since self.old.journal.items self.new.journal.items }
+        ensures gives { Chain P.gives port.old ticket.old (entries_of self.old.number
+            (made_since self.old.journal.items self.new.journal.items)) port.new ticket.new }
+        ensures journal { P.events ticket.new ≡ self.new.journal.items }
+        ensures number { P.number ticket.new ≡ Some self.old.number }
+        ensures belongs { P.ticket_name ticket.new ≡ P.name port.new }
+        ensures same { IsSameGuest self.old self.new }
+    {
+        match self.machine.scalars.x[8] {
+            POST => self.post(port, ticket),
+            _ => self.call_quietly(),
+        }
+    }
+
+    /// The calls that ask no operation.
+    #[tactic(auto, unfolding(crate::specs::Call::call_of))]
+    fn call_quietly(&mut self) -> Turn
+        requires room { self.old.count < self.old.config.budget }
+        requires runs { self.old.stop ≡ None }
+        requires number { slice_index self.old.machine.scalars.x 8 ≢ 131 }
         ensures turn { Takes (guest_call self.old) self.old self.new result }
         ensures same { IsQuietGuest self.old self.new }
     {
@@ -92,9 +147,55 @@ impl GuestThread {
             EXIT => self.exit(),
             YIELD => self.give_way(),
             SET_HANDLER => self.set_handler(),
+            RETURN => self.return_from_handler(),
             NUMBER => self.return_with(u64::from(self.number)),
             _ => self.return_with(NO_CALL),
         }
+    }
+
+    /// Makes signal X1 pending for thread X0.
+    fn post<P: Port>(&mut self, port: &mut P, ticket: &mut P::Ticket) -> Turn
+        requires room { self.old.count < self.old.config.budget }
+        requires runs { self.old.stop ≡ None }
+        requires number { P.number ticket.old ≡ Some self.old.number }
+        requires belongs { P.ticket_name ticket.old ≡ P.name port.old }
+        requires journal { P.events ticket.old ≡ self.old.journal.items }
+        ensures turn { TurnsOver (record {
+          ends = P.ends port.old ticket.old;
+          strays = P.strays port.old ticket.old;
+          takes_memory = P.takes_memory;
+        })
+            (post_of self.old.config (length self.old.journal.items) (held_state self.old)
+            (outside_streaming self.old.config (held_state self.old))) (held_state self.old) (held_state self.new)
+            (made_since self.old.journal.items self.new.journal.items) self.new.stop result }
+        ensures grows { self.new.journal.items ≡
+            self.old.journal.items ++ made_since self.old.journal.items self.new.journal.items }
+        ensures gives { Chain P.gives port.old ticket.old (entries_of self.old.number
+            (made_since self.old.journal.items self.new.journal.items)) port.new ticket.new }
+        ensures journal { P.events ticket.new ≡ self.new.journal.items }
+        ensures number { P.number ticket.new ≡ Some self.old.number }
+        ensures belongs { P.ticket_name ticket.new ≡ P.name port.new }
+        ensures same { IsSameGuest self.old self.new }
+    {
+        if !self.may_post() {
+            return self.return_with(BAD_ARGUMENT);
+        }
+        let op = post_op(self.machine.scalars.x[0], self.machine.scalars.x[1]);
+        match self.ask(op, port, ticket) {
+            Ok(_) => self.return_with(0),
+            Err(refusal) => self.refuse(refusal),
+        }
+    }
+
+    /// Whether X0 is the number of a thread, and X1 a signal.
+    fn may_post(&self) -> bool
+        ensures value { result ≡ may_post self.now.config self.now.machine.scalars.x }
+        ensures thread { result ≡ true → slice_index self.now.machine.scalars.x 0 < self.now.config.threads }
+        ensures signal { result ≡ true → slice_index self.now.machine.scalars.x 1 ≤ 62 }
+    {
+        let thread = self.machine.scalars.x[0];
+        let signal = self.machine.scalars.x[1];
+        thread < u64::from(self.config.threads) && signal >= 1 && signal <= 62
     }
 
     /// Goes on past the call, outside Streaming SVE mode, with its answer in X0.

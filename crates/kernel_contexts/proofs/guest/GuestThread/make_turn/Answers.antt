@@ -1,99 +1,15 @@
-use Rattle.std.proofs.Common.{◌≡◌, ◌++◌, length, ap, sym, ◌∙◌, arith}
-use Rattle.sm_types.specs.declared.length.VecLen.{VecLen}
-use Rattle.sm_types.specs.declared.stop.Stop.TheVariants.{Budget, Raised, TraceFull}
-use Rattle.machine_step.specs.ProcessorState.{ProcessorState, vector_bytes}
-use Rattle.machine_step.specs.Effect.{effect_of}
-use Rattle.machine_step.specs.Step.{events_of}
-use Rattle.kernel_contexts.specs.declared.guest.GuestThread.{GuestThread}
-use Rattle.kernel_contexts.specs.Call.{Ends}
-use Rattle.kernel_contexts.specs.Context.{held_state}
-use Rattle.kernel_contexts.proofs.Turns.{turn_spent, turn_calls, turn_raises}
-use Rattle.kernel_contexts.proofs.Answered.{stops_so, turns_from, asked_nothing, made_nothing, made_events}
-use Rattle.kernel_contexts.proofs.Over.{room_left, room_full, goes_over, full_over, refused_over}
+use Rattle.std.proofs.Common.{length, arith}
+use Rattle.kernel_contexts.specs.Context.{guest_turn, guest_instruction, held_state}
+use Rattle.kernel_contexts.proofs.Over.{turned_so}
+use Rattle.kernel_contexts.proofs.Turns.{turn_executes}
+use Rattle.kernel_contexts.proofs.Watched.{no_poll, no_delivery}
 use Rattle.kernel_contexts.proofs.guest.GuestThread.make_turn.Goals as goal
-
--- VL of the options is that of the save area
-its_effect : (g : GuestThread)
-    → effect_of (vector_bytes g.config.vl) (held_state g).core ≡ effect_of (vector_bytes g.bank.vectors.vl) (held_state g).core
-its_effect g = ap (λ (l : VecLen). effect_of (vector_bytes l) (held_state g).core) (sym g.save_area.vl)
 
 pub returns-then-self-clause-turn : goal.returns-then-self-clause-turn
 returns-then-self-clause-turn g c =
     let t = c.args.self.now in
-    asked_nothing _ _ (held_state t) (held_state c.stop_with.new.self) _ _ c.stop_with.result
-    (made_nothing t.journal.items _ c.stop_with.ensures.same.journal)
-    (stops_so _ (held_state t) (held_state c.stop_with.new.self) _ c.stop_with.result Budget c.stop_with.ensures.answer
-    (turn_spent t.config t.number (length t.journal.items) (held_state t) c.if-self.true
-    ∙ ap (λ s. Ends s Budget) (sym c.stop_with.ensures.state)) c.stop_with.ensures.stop)
-
-pub returns-in-Next-clause-turn : goal.returns-in-Next-clause-turn
-returns-in-Next-clause-turn g c =
-    let t = c.args.self.now in
-    let count : c.len-room.result ≡ length t.journal.items = omega (arith, ap length c.reserve.ensures.items) in
-    rw c.go_on.ensures.answer (
-      goes_over t.config t.number (length t.journal.items) (held_state t) c.if-self.false _ _ _ (its_effect t) _
-          (held_state c.go_on.new.self) c.in-Next.event _ (room_left c.len-room.result (length t.journal.items) count)
-          c.in-Next.ensures.effect c.go_on.ensures.state
-          (made_events t.journal.items _ _ (c.go_on.ensures.journal ∙ ap (λ l. l ++ events_of c.in-Next.event) c.reserve.ensures.items)),
-      c.go_on.ensures.stop ∙ c.requires.runs,
-    )
-
-pub returns-in-Call-clause-turn : goal.returns-in-Call-clause-turn
-returns-in-Call-clause-turn g c =
-    let t = c.args.self.now in
-    let h = c.in-Call.ensures.effect in
-    asked_nothing _ _ (held_state t) (held_state c.call.new.self) _ _ c.call.result
-    (made_nothing t.journal.items _ (c.call.ensures.same.journal ∙ c.reserve.ensures.items))
-    (turns_from _ _ _ (held_state t) (held_state c.call.new.self) _ c.call.result
-    (turn_calls t.config t.number (length t.journal.items) (held_state t) _ _ c.if-self.false (its_effect t ∙ h.0) h.1)
-    (ap (λ core. record (held_state t) { core = core }) h.1) c.call.ensures.turn)
-
-pub returns-in-Raise-clause-turn : goal.returns-in-Raise-clause-turn
-returns-in-Raise-clause-turn g c =
-    let t = c.args.self.now in
-    let h = c.in-Raise.ensures.effect in
-    let stop = c.stop_with-in-Raise in
-    asked_nothing _ _ (held_state t) (held_state stop.new.self) _ _ stop.result
-    (made_nothing t.journal.items _ (stop.ensures.same.journal ∙ c.reserve.ensures.items))
-    (stops_so _ (held_state t) (held_state stop.new.self) _ stop.result _ stop.ensures.answer
-    (turn_raises t.config t.number (length t.journal.items) (held_state t) _ _ c.if-self.false (its_effect t ∙ h.0) h.1
-    ∙ ap (λ s. Ends s (Raised c.in-Raise.exception c.step.new.self.scalars.pc)) (sym stop.ensures.state))
-    stop.ensures.stop)
-
-pub returns-in-NoRoom-clause-turn : goal.returns-in-NoRoom-clause-turn
-returns-in-NoRoom-clause-turn g c =
-    let t = c.args.self.now in
-    let h = c.in-NoRoom.ensures.effect in
-    let stop = c.stop_with-in-NoRoom in
-    let count : c.len-room.result ≡ length t.journal.items = omega (arith, ap length c.reserve.ensures.items) in
-    asked_nothing _ _ (held_state t) (held_state stop.new.self) _ _ stop.result
-    (made_nothing t.journal.items _ (stop.ensures.same.journal ∙ c.reserve.ensures.items))
-    (stops_so _ (held_state t) (held_state stop.new.self) _ stop.result TraceFull stop.ensures.answer
-    (full_over t.config t.number (length t.journal.items) (held_state t) _ c.if-self.false (its_effect t)
-    (room_full c.len-room.result (length t.journal.items) count h.1) h.2
-    ∙ ap (λ (k : ProcessorState). Ends (record (held_state t) { core = k }) TraceFull) (sym h.0)
-    ∙ ap (λ s. Ends s TraceFull) (sym stop.ensures.state)) stop.ensures.stop)
-
-pub returns-in-TraceEnds-clause-turn : goal.returns-in-TraceEnds-clause-turn
-returns-in-TraceEnds-clause-turn g c =
-    let t = c.args.self.now in
-    let h = c.in-TraceEnds.ensures.effect in
-    let count : c.len-room.result ≡ length t.journal.items = omega (arith, ap length c.reserve.ensures.items) in (
-      refused_over t.config t.number (length t.journal.items) (held_state t) _ _ c.if-self.false (its_effect t)
-          (room_left c.len-room.result (length t.journal.items) count h.1) h.2,
-      ap (λ (k : ProcessorState). record (held_state t) { core = k }) h.0,
-      made_nothing t.journal.items _ c.reserve.ensures.items,
-      c.requires.runs,
-    )
-
-pub returns-in-TraceDiffers-clause-turn : goal.returns-in-TraceDiffers-clause-turn
-returns-in-TraceDiffers-clause-turn g c =
-    let t = c.args.self.now in
-    let h = c.in-TraceDiffers.ensures.effect in
-    let count : c.len-room.result ≡ length t.journal.items = omega (arith, ap length c.reserve.ensures.items) in (
-      refused_over t.config t.number (length t.journal.items) (held_state t) _ _ c.if-self.false (its_effect t)
-          (room_left c.len-room.result (length t.journal.items) count h.1) h.2,
-      ap (λ (k : ProcessorState). record (held_state t) { core = k }) h.0,
-      made_nothing t.journal.items _ c.reserve.ensures.items,
-      c.requires.runs,
-    )
+    let s = held_state t in
+    turned_so _ (guest_instruction t) (guest_turn t) _ _ _ _ _
+    (turn_executes t.config t.number (length t.journal.items) s (λ e. omega (arith, e, t.watched.budget, c.if-self.true))
+    (no_poll t.config s t.watch t.watched c.if-self.true) (no_delivery t.config s t.watch t.watched c.if-self.true))
+    c.execute.ensures.turn

@@ -1,0 +1,63 @@
+use Rattle.std.proofs.Common.{◌≡◌, true, false, length, slice_index, ap, sym, ◌∙◌, subst}
+use Rattle.std.specs.Prelude.{Err}
+use Rattle.sm_types.specs.declared.config.Config.{Config}
+use Rattle.sm_types.specs.declared.shared_op.SharedOp.{SharedOp}
+use Rattle.kernel_contexts.specs.Asked.{Asked}
+use Rattle.machine_step.specs.Step.{Refusals}
+use Rattle.kernel_contexts.specs.State.{State}
+use Rattle.kernel_contexts.specs.Turn.{outside_streaming}
+use Rattle.kernel_contexts.specs.Call.{Goes, asking, may_post, post_op, post_of, returned}
+use Rattle.kernel_contexts.specs.Context.{held_state, made_since}
+use Rattle.kernel_contexts.proofs.Answered.{asked_nothing, made_nothing}
+use Rattle.kernel_contexts.proofs.Calls.{post_asks, post_fails}
+use Rattle.kernel_contexts.proofs.Over.{turned_so, answered_after, refused_after}
+use Rattle.kernel_contexts.proofs.guest.GuestThread.post.Goals as goal
+
+pub returns-in-Ok-clause-turn : goal.returns-in-Ok-clause-turn
+returns-in-Ok-clause-turn g c =
+    let t = c.args.self.now in
+    let s = outside_streaming t.config (held_state t) in
+    let x = t.machine.scalars.x in
+    let may : may_post t.config x ≡ true = sym c.may_post.ensures.value ∙ c.if-not-may_post.false in
+    let events = length t.journal.items in
+    let op = post_op (slice_index x 0) (slice_index x 1) in
+    turned_so _ (asking events (held_state t) op (λ answer. returned s 0)) (post_of t.config events (held_state t) s) _ _ _ _ _
+    (post_asks t.config events (held_state t) s may)
+    (answered_after _ t.journal.items c.ask.new.self.journal.items _ (held_state t) _ op (λ answer. returned s 0) c.in-Ok.field-0 _ _
+    (rw c.post_op-op.ensures at c.in-Ok.ensures.made) c.return_with-in-Ok.ensures.same.journal
+    (c.return_with-in-Ok.ensures.state
+    ∙ ap (λ (k : Config). returned (outside_streaming k (held_state c.ask.new.self)) 0) c.in-Ok.ensures.same.config
+    ∙ ap (λ (k : State). returned (outside_streaming t.config k) 0) c.in-Ok.ensures.state)
+    c.return_with-in-Ok.ensures.answer c.return_with-in-Ok.ensures.stop)
+
+pub returns-in-Err-clause-turn : goal.returns-in-Err-clause-turn
+returns-in-Err-clause-turn g c =
+    let t = c.args.self.now in
+    let refusals : Refusals = record {
+      ends = g.P.Port.ends c.args.port.now c.args.ticket.now;
+      strays = g.P.Port.strays c.args.port.now c.args.ticket.now;
+      takes_memory = g.P.Port.takes_memory;
+    } in
+    let s = outside_streaming t.config (held_state t) in
+    let x = t.machine.scalars.x in
+    let may : may_post t.config x ≡ true = sym c.may_post.ensures.value ∙ c.if-not-may_post.false in
+    let events = length t.journal.items in
+    let op = post_op (slice_index x 0) (slice_index x 1) in
+    turned_so _ (asking events (held_state t) op (λ answer. returned s 0)) (post_of t.config events (held_state t) s) _ _ _ _ _
+    (post_asks t.config events (held_state t) s may)
+    (refused_after _ t.journal.items c.ask.new.self.journal.items _ (held_state t) _ _ op (λ answer. returned s 0) c.in-Err.refusal _ _
+    (subst (λ (o : SharedOp). Asked refusals o t.journal.items (made_since t.journal.items c.ask.new.self.journal.items) (Err c.in-Err.refusal))
+    c.post_op-op.ensures c.in-Err.ensures.made) c.refuse.ensures.same.journal c.in-Err.ensures.state c.refuse.ensures.turn)
+
+pub returns-then-not-may_post-clause-turn : goal.returns-then-not-may_post-clause-turn
+returns-then-not-may_post-clause-turn g c =
+    let t = c.args.self.now in
+    let s = outside_streaming t.config (held_state t) in
+    let may : may_post t.config t.machine.scalars.x ≡ false = sym c.may_post.ensures.value ∙ c.if-not-may_post.true in
+    asked_nothing _ _ (held_state t) (held_state c.return_with.new.self) _ _ c.return_with.result
+    (made_nothing t.journal.items _ c.return_with.ensures.same.journal)
+    (rw c.return_with.ensures.answer (
+      post_fails t.config (length t.journal.items) (held_state t) s may
+          ∙ ap Goes (sym c.return_with.ensures.state),
+      c.return_with.ensures.stop,
+    ))

@@ -1,0 +1,107 @@
+//! The delivery of a signal, and the return from its handler.
+ghost use Rattle.std.specs.Prelude.{◌≡◌, ◌≢◌, ◌-◌, ◌^◌, ◌<◌, ◌≤◌, None, true, false};
+
+use crate::context::Turn;
+use crate::guest::GuestThread;
+use crate::handlers::handler_of;
+use signal_frames::{FrameStop, deliver, return_from, return_sees_no_mode};
+use sm_types::Stop;
+
+impl GuestThread {
+    ghost use Rattle.kernel_contexts.specs.Call.{return_of};
+    ghost use Rattle.kernel_contexts.specs.Turn.{delivery_of, lowest_signal, released, outside_streaming};
+    ghost use Rattle.kernel_contexts.specs.Turn.{handled_by};
+    ghost use Rattle.kernel_contexts.specs.Context.{held_state, Takes, IsQuietGuest};
+
+    /// The lowest signal that is held.
+    #[tactic(auto, using(crate::proofs::Watched::lowest_is_held))]
+    fn lowest_signal(&self) -> u32
+        requires { self.now.held ≢ 0 }
+        ensures signal { result ≡ lowest_signal (held_state self.now) }
+        ensures within { result < 64 }
+        ensures is_held { 2 ^ result ≤ self.now.held }
+    {
+        self.held.trailing_zeros()
+    }
+
+    /// Holds the lowest signal no longer.
+    fn release(&mut self, signal: u32)
+        requires within { signal < 64 }
+        requires is_held { 2 ^ signal ≤ self.old.held }
+        requires lowest { signal ≡ lowest_signal (held_state self.old) }
+        ensures state { held_state self.new ≡ released (held_state self.old) }
+        ensures stop { self.new.stop ≡ self.old.stop }
+        ensures watch { (self.new.watch ≡ self.old.watch) }
+        ensures same { IsQuietGuest self.old self.new }
+    {
+        self.held -= 1 << signal;
+    }
+
+    /// Delivers the lowest signal that is held to its handler; a thread that has none for it is killed.
+    pub(super) fn deliver_signal(&mut self) -> Turn
+        requires runs { self.old.stop ≡ None }
+        requires held { self.old.held ≢ 0 }
+        requires polled { self.old.polled ≡ true }
+        requires outside { self.old.inside ≡ false }
+        requires count { self.old.count < self.old.config.budget }
+        ensures turn { Takes (delivery_of self.old.config (held_state self.old)) self.old self.new result }
+        ensures same { IsQuietGuest self.old self.new }
+    {
+        let signal = self.lowest_signal();
+        match handler_of(&self.handlers, signal) {
+            Some(handler) => self.enter_handler(signal, handler),
+            None => {
+                self.release(signal);
+                self.stop_with(Stop::Killed(signal))
+            }
+        }
+    }
+
+    /// Writes the frame of a signal and goes on in its handler.
+    fn enter_handler(&mut self, signal: u32, handler: u64) -> Turn
+        requires runs { self.old.stop ≡ None }
+        requires lowest { signal ≡ lowest_signal (held_state self.old) }
+        requires within { signal < 64 }
+        requires is_held { 2 ^ signal ≤ self.old.held }
+        requires polled { self.old.polled ≡ true }
+        requires outside { self.old.inside ≡ false }
+        requires count { self.old.count < self.old.config.budget }
+        ensures turn { Takes (handled_by self.old.config signal handler (held_state self.old))
+            self.old self.new result }
+        ensures same { IsQuietGuest self.old self.new }
+    {
+        match deliver(&mut self.machine, &mut self.bank, signal, handler) {
+            Ok(()) => {
+                self.release(signal);
+                self.inside = true;
+                self.turns += 1;
+                Turn::Ran
+            }
+            Err(FrameStop::BadFrame(address)) => {
+                self.release(signal);
+                self.stop_with(Stop::BadFrame(address))
+            }
+            Err(FrameStop::Memory) => Turn::Memory,
+        }
+    }
+
+    /// Returns from a handler.
+    #[tactic(auto, unfolding(crate::specs::Call::return_of))]
+    pub(super) fn return_from_handler(&mut self) -> Turn
+        requires room { self.old.count < self.old.config.budget }
+        requires runs { self.old.stop ≡ None }
+        ensures turn { Takes (return_of self.old.config (held_state self.old)
+            (outside_streaming self.old.config (held_state self.old))) self.old self.new result }
+        ensures same { IsQuietGuest self.old self.new }
+    {
+        return_sees_no_mode();
+        match return_from(&mut self.machine, &mut self.bank, self.inside) {
+            Ok(()) => {
+                self.count_turn();
+                self.inside = false;
+                Turn::Ran
+            }
+            Err(fault) => self.stop_with(Stop::BadFrame(fault.0)),
+        }
+    }
+}
