@@ -1,4 +1,4 @@
--- A run has few turns: each but the last counts one instruction.
+-- A run has few turns: at most three for each instruction of the budget.
 use Rattle.std.proofs.Common.{inl, inr, ◌≡◌, ℕ, zero, suc, ◌+◌, ◌*◌, ◌<◌, ◌≤◌, true, false, List, [], ◌∷◌, refl, sym, subst, arith}
 use Rattle.std.specs.Prelude.{◌==◌}
 use Rattle.std.proofs.lemmas.Bool.{cond_both, cases_Bool}
@@ -11,30 +11,38 @@ use Rattle.paged_memory.specs.Image.{Program}
 use Rattle.kernel_contexts.specs.State.{State, start_state}
 use Rattle.kernel_contexts.specs.Call.{TurnEnd, Goes, Yields, Asks, Ends}
 use Rattle.kernel_contexts.specs.Turn.{turn_of}
+use Rattle.kernel_contexts.specs.Watch.{waiting}
 use Rattle.kernel_contexts.specs.Run.{Reached, At, Ended, Strays, turned, after_turn, reach_from, reach}
-use Rattle.kernel_contexts.proofs.Turns.{IsOneMore, CountsOne, turn_spent, turn_counts}
+use Rattle.kernel_contexts.proofs.Turns.{IsTurned, CountsOne, waiting_small, turn_spent, turn_counts}
 
 -- what has been counted so many turns after a start
 abbrev IsCounted : ℕ → ℕ → Reached → Type 0
-IsCounted budget turns (At s done events) = (s.count ≡ turns) × (s.turns ≡ turns) × (turns ≤ budget)
-IsCounted budget turns (Ended s stop done events) = s.turns ≤ budget
+IsCounted budget turns (At s done events) =
+    (s.turns ≡ turns) × (s.turns ≤ 3 * s.count + waiting s.polled s.inside) × (s.count ≤ budget) × (s.turns ≤ 3 * budget)
+IsCounted budget turns (Ended s stop done events) = s.turns ≤ 3 * budget
 IsCounted budget turns (Strays s done events) = Unit {0}
 
-on : (budget turns : ℕ) (s t : State) (done : ℕ) (events : List Event) → s.count ≡ turns → s.turns ≡ turns → turns < budget → IsOneMore s t
-    → IsCounted budget (suc turns) (At t done events)
-on budget turns s t done events count made under more = (omega (arith, more.count), omega (arith, more.turns), omega arith)
+within : (budget : ℕ) (s t : State) → s.turns ≤ 3 * s.count + waiting s.polled s.inside → s.count < budget → IsTurned s t → t.turns ≤ 3 * budget
+within budget s t few under more = let w = waiting_small s.polled s.inside in omega (arith, more.turns, w)
 
-after : (budget turns : ℕ) (s : State) (done : ℕ) (events : List Event) (end : TurnEnd) → s.count ≡ turns → s.turns ≡ turns → turns < budget
-    → CountsOne s end → IsCounted budget (suc turns) (after_turn s done events end)
-after budget turns s done events (Goes t) count made under more = on budget turns s t done events count made under more
-after budget turns s done events (Yields t) count made under more = on budget turns s t done events count made under more
-after budget turns s done [] (Asks op next) count made under more = tt
-after budget turns s done (event ∷ events) (Asks op next) count made under more =
+on : (budget turns : ℕ) (s t : State) (done : ℕ) (events : List Event) → s.turns ≡ turns
+    → s.turns ≤ 3 * s.count + waiting s.polled s.inside → s.count < budget → IsTurned s t
+    → IsCounted budget (suc turns) (At t done events)
+on budget turns s t done events made few under more =
+    (omega (arith, more.turns), more.few few, omega (arith, more.count), within budget s t few under more)
+
+after : (budget turns : ℕ) (s : State) (done : ℕ) (events : List Event) (end : TurnEnd) → s.turns ≡ turns
+    → s.turns ≤ 3 * s.count + waiting s.polled s.inside → s.count < budget → s.turns ≤ 3 * budget → CountsOne s end
+    → IsCounted budget (suc turns) (after_turn s done events end)
+after budget turns s done events (Goes t) made few under all more = on budget turns s t done events made few under more
+after budget turns s done events (Yields t) made few under all more = on budget turns s t done events made few under more
+after budget turns s done [] (Asks op next) made few under all more = tt
+after budget turns s done (event ∷ events) (Asks op next) made few under all more =
     cond_both (is_same_op op event.op) _ _ (IsCounted budget (suc turns))
-    (λ _. on budget turns s (next event.answer) (done + 1) events count made under (more event.answer)) (λ _. tt)
-after budget turns s done events (Ends t stop) count made under more = elim more [
-  | inl same ↦ let last : t.turns ≤ budget = omega arith in last
-  | inr one ↦ let last : t.turns ≤ budget = omega (arith, one.turns) in last
+    (λ _. on budget turns s (next event.answer) (done + 1) events made few under (more event.answer)) (λ _. tt)
+after budget turns s done events (Ends t stop) made few under all more = elim more [
+  | inl same ↦ let last : t.turns ≤ 3 * budget = omega arith in last
+  | inr one ↦ within budget s t few under one
 ]
 
 apart : (a b : ℕ) → (a == b) ≡ false → a ≤ b → a < b
@@ -48,13 +56,11 @@ counted_on : (config : Config) (thread turns : ℕ) (reached : Reached) → IsCo
     → IsCounted config.budget (suc turns) (turned config thread reached)
 counted_on config thread turns (At s done events) h = elim (cases_Bool (s.count == config.budget)) [
   | inl spent ↦
-      let within : s.turns ≤ config.budget = omega (arith, h.1, h.2) in
       subst (λ end. IsCounted config.budget (suc turns) (after_turn s done events end))
-      (sym (turn_spent config thread done s (same s.count config.budget spent))) within
+      (sym (turn_spent config thread done s (same s.count config.budget spent))) h.3
   | inr left ↦
-      let within : s.count ≤ config.budget = omega (arith, h.0, h.2) in
-      let under : s.count < config.budget = apart s.count config.budget left within in
-      after config.budget turns s done events (turn_of config thread done s) h.0 h.1 (omega (arith, h.0)) (turn_counts config thread done s)
+      let under : s.count < config.budget = apart s.count config.budget left h.2 in
+      after config.budget turns s done events (turn_of config thread done s) h.0 h.1 under h.3 (turn_counts config thread done s)
 ]
 counted_on config thread turns (Ended s stop done events) h = h
 counted_on config thread turns (Strays s done events) h = tt
@@ -62,7 +68,7 @@ counted_on config thread turns (Strays s done events) h = tt
 counted_from : (config : Config) (thread : ℕ) (from : State) (journal : List Event) (turns : ℕ) → from.count ≡ 0 → from.turns ≡ 0
     → IsCounted config.budget turns (reach_from config thread from 0 journal turns)
 unfolding reach_from
-counted_from config thread from journal zero count made = (count, made, omega arith)
+counted_from config thread from journal zero count made = (made, omega arith, omega arith, omega arith)
 counted_from config thread from journal (suc turns) count made =
     counted_on config thread turns (reach_from config thread from 0 journal turns)
     (counted_from config thread from journal turns count made)
@@ -76,13 +82,13 @@ pub turns_told : (program : Program) (config : Config) (thread : ℕ) (journal :
     (left : List Event) → reach program config thread journal turns ≡ At s done left → s.turns ≡ turns
 turns_told program config thread journal turns s done left e =
     let h : IsCounted config.budget turns (At s done left) =
-    subst (IsCounted config.budget turns) e (counted program config thread journal turns) in h.1
+    subst (IsCounted config.budget turns) e (counted program config thread journal turns) in h.0
 
 pub few_under_way : (program : Program) (config : Config) (thread : ℕ) (journal : List Event) (turns : ℕ) (s : State) (done : ℕ)
     (left : List Event) → reach program config thread journal turns ≡ At s done left → turns ≤ 3 * config.budget
 few_under_way program config thread journal turns s done left e =
     let h : IsCounted config.budget turns (At s done left) =
-    subst (IsCounted config.budget turns) e (counted program config thread journal turns) in omega (arith, h.2)
+    subst (IsCounted config.budget turns) e (counted program config thread journal turns) in omega (arith, h.0, h.3)
 
 pub few_at_end : (program : Program) (config : Config) (thread : ℕ) (journal : List Event) (turns : ℕ) (s : State) (stop : Stop) (done : ℕ)
     (left : List Event) → reach program config thread journal turns ≡ Ended s stop done left → s.turns ≤ 3 * config.budget
