@@ -73,15 +73,19 @@ fn put_registers<K: Sink>(piece: &mut Piece, out: &mut K, machine: &Machine) -> 
     put_system(piece, out, machine)
 }
 
-/// The signals of a thread that holds none back and is in no handler, and the handlers that it has set.
+/// The signals that a thread holds, whether it is in a handler and has polled, and the handlers that it has
+/// set.
 fn put_signals<K: Sink>(piece: &mut Piece, out: &mut K, context: &Context) -> Result<(), PutFault>
     ensures { Gathers (gathered (K.view out.old) piece.old) (gathered (K.view out.new) piece.new) result
         (signal_text (state_of context.now)) }
 {
+    let held = context.held();
+    let inside = context.inside();
+    let polled = context.polled();
     let handlers = context.handlers();
-    put_hex_line(piece, out, b"held", 0)?;
-    put_flag_line(piece, out, b"inside", false)?;
-    put_flag_line(piece, out, b"polled", false)?;
+    put_hex_line(piece, out, b"held", held)?;
+    put_flag_line(piece, out, b"inside", inside)?;
+    put_flag_line(piece, out, b"polled", polled)?;
     put_value_lines(piece, out, b"handler", handlers)
 }
 
