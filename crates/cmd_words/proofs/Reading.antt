@@ -20,7 +20,7 @@ use Rattle.cmd_words.specs.declared.command.UsageKind.TheVariants.{Unknown, Repe
 use Rattle.cmd_words.specs.declared.form.Operand.{Operand}
 use Rattle.cmd_words.specs.declared.given.Given.{Given}
 use Rattle.cmd_words.specs.declared.setting.Setting.{Setting}
-use Rattle.cmd_words.specs.declared.setting.Setting.TheVariants.{Vl, Svl, Budget}
+use Rattle.cmd_words.specs.declared.setting.Setting.TheVariants.{Vl, Svl, Slice, Budget}
 use Rattle.cmd_words.specs.declared.verb.Verb.{Verb}
 use Rattle.cmd_words.specs.declared.verb.Verb.TheVariants.{Run}
 use Rattle.sm_types.proofs.Places.{or_next, find-more, find-none}
@@ -61,15 +61,16 @@ unfolding setting_in
 setting_past settings word i l = rw (drop_of_length-le settings l) refl
 
 -- each option is that of its word
-of_word : (s : Setting) → setting_in (Vl ∷ Svl ∷ Budget ∷ []) (word_of s) ≡ Some s
+of_word : (s : Setting) → setting_in (Vl ∷ Svl ∷ Slice ∷ Budget ∷ []) (word_of s) ≡ Some s
 unfolding setting_in
 of_word Vl = refl
 of_word Svl = refl
+of_word Slice = refl
 of_word Budget = refl
 
 -- options of one word are one
 one_word : (s t : Setting) → word_of t ≡ word_of s → t ≡ s
-one_word s t e = same_setting t s (sym (of_word t) ∙ ap (setting_in (Vl ∷ Svl ∷ Budget ∷ [])) e ∙ of_word s)
+one_word s t e = same_setting t s (sym (of_word t) ∙ ap (setting_in (Vl ∷ Svl ∷ Slice ∷ Budget ∷ [])) e ∙ of_word s)
 
 not_both : (b : Bool) → b ≡ false → b ≡ true → ⊥
 not_both b f t = cc
@@ -92,6 +93,7 @@ pub number_in_range : (s : Setting) (given : Option ℕ) → ForSome given (λ n
 number_in_range s (Some n) h = h n refl
 number_in_range Vl None h = refl
 number_in_range Svl None h = refl
+number_in_range Slice None h = refl
 number_in_range Budget None h = refl
 
 -- ---- the places of options
@@ -406,6 +408,7 @@ options_read given =
     record default_options {
       vl = unwrap_or given.vl (default_of Vl);
       svl = unwrap_or given.svl (default_of Svl);
+      slice = unwrap_or given.slice (default_of Slice);
       budget = unwrap_or given.budget (default_of Budget);
     }
 
@@ -417,6 +420,7 @@ given_options words given h =
     rw (
       given_number words (form_of Run) given h Vl,
       given_number words (form_of Run) given h Svl,
+      given_number words (form_of Run) given h Slice,
       given_number words (form_of Run) given h Budget,
     ) refl
 

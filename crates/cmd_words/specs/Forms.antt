@@ -3,7 +3,7 @@ use Rattle.std.specs.Prelude.{ℕ, ◌+◌, List, [], ◌∷◌, length}
 use Rattle.cmd_words.specs.declared.form.Operand.{Operand}
 use Rattle.cmd_words.specs.declared.form.Operand.TheVariants.{Name}
 use Rattle.cmd_words.specs.declared.setting.Setting.{Setting}
-use Rattle.cmd_words.specs.declared.setting.Setting.TheVariants.{Vl, Svl, Budget}
+use Rattle.cmd_words.specs.declared.setting.Setting.TheVariants.{Vl, Svl, Slice, Budget}
 use Rattle.cmd_words.specs.declared.verb.Verb.{Verb}
 use Rattle.cmd_words.specs.declared.verb.Verb.TheVariants.{Run, Dis, Asm, Help, Version}
 
@@ -15,7 +15,7 @@ pub record Form : Type 0 where
 
 -- the form of each command
 abbrev pub form_of : Verb → Form
-form_of Run = record { operands = Name ∷ []; options = Vl ∷ Svl ∷ Budget ∷ [] }
+form_of Run = record { operands = Name ∷ []; options = Vl ∷ Svl ∷ Slice ∷ Budget ∷ [] }
 form_of Dis = record { operands = Name ∷ []; options = [] }
 form_of Asm = record { operands = Name ∷ []; options = [] }
 form_of Help = record { operands = []; options = [] }

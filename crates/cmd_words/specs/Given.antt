@@ -7,12 +7,13 @@ use Rattle.cmd_words.specs.Words.{form_asked, option_place, value_below, fault_a
 use Rattle.cmd_words.specs.declared.form.Form.{Form}
 use Rattle.cmd_words.specs.declared.given.Given.{Given}
 use Rattle.cmd_words.specs.declared.setting.Setting.{Setting}
-use Rattle.cmd_words.specs.declared.setting.Setting.TheVariants.{Vl, Svl, Budget}
+use Rattle.cmd_words.specs.declared.setting.Setting.TheVariants.{Vl, Svl, Slice, Budget}
 
 -- the number of an option, where it is given
 abbrev pub given_of : Given → Setting → Option ℕ
 given_of given Vl = given.vl
 given_of given Svl = given.svl
+given_of given Slice = given.slice
 given_of given Budget = given.budget
 
 -- what a form of the code says

@@ -6,7 +6,7 @@ use Rattle.std.specs.Str.{bytes_eq}
 use Rattle.sm_types.specs.Length.{bits_of}
 use Rattle.sm_types.specs.declared.config.Config.{Config}
 use Rattle.cmd_words.specs.declared.setting.Setting.{Setting}
-use Rattle.cmd_words.specs.declared.setting.Setting.TheVariants.{Vl, Svl, Budget}
+use Rattle.cmd_words.specs.declared.setting.Setting.TheVariants.{Vl, Svl, Slice, Budget}
 
 -- the numbers of a run's options, the lengths in bits
 pub record Options : Type 0 where
@@ -27,6 +27,7 @@ default_options = record { vl = 128; svl = 256; slice = 1000; budget = 10000000;
 abbrev pub word_of : Setting → List ℕ
 word_of Vl = codes "--vl"
 word_of Svl = codes "--svl"
+word_of Slice = codes "--slice"
 word_of Budget = codes "--budget"
 
 -- one of the five vector lengths in bits
@@ -37,18 +38,21 @@ is_length bits = (bits == 128) || (bits == 256) || (bits == 512) || (bits == 102
 abbrev pub takes : Setting → ℕ → Bool
 takes Vl number = is_length number
 takes Svl number = is_length number
+takes Slice number = nat_le 1 number && nat_le number 1000000
 takes Budget number = nat_le 1 number && nat_le number 4294967295
 
 -- its number among those of the options
 abbrev pub number_in : Options → Setting → ℕ
 number_in options Vl = options.vl
 number_in options Svl = options.svl
+number_in options Slice = options.slice
 number_in options Budget = options.budget
 
 -- the options with that number for it
 abbrev pub with_number : Options → Setting → ℕ → Options
 with_number options Vl number = record options { vl = number }
 with_number options Svl number = record options { svl = number }
+with_number options Slice number = record options { slice = number }
 with_number options Budget number = record options { budget = number }
 
 -- ---- the same of all

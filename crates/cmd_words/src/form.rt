@@ -29,7 +29,7 @@ pub fn form_of(verb: Verb) -> Form
     match verb {
         Verb::Run => Form {
             operands: &[Operand::Name],
-            options: &[Setting::Vl, Setting::Svl, Setting::Budget],
+            options: &[Setting::Vl, Setting::Svl, Setting::Slice, Setting::Budget],
         },
         Verb::Dis | Verb::Asm => Form {
             operands: &[Operand::Name],

@@ -14,6 +14,7 @@ use sm_types::{Config, VecLen};
 pub struct Given {
     pub vl: Option<u32>,
     pub svl: Option<u32>,
+    pub slice: Option<u32>,
     pub budget: Option<u32>,
 }
 
@@ -36,6 +37,7 @@ impl Given {
         Given {
             vl: None,
             svl: None,
+            slice: None,
             budget: None,
         }
     }
@@ -47,6 +49,7 @@ impl Given {
         match setting {
             Setting::Vl => self.vl,
             Setting::Svl => self.svl,
+            Setting::Slice => self.slice,
             Setting::Budget => self.budget,
         }
     }
@@ -61,6 +64,7 @@ impl Given {
         match setting {
             Setting::Vl => given.vl = Some(number),
             Setting::Svl => given.svl = Some(number),
+            Setting::Slice => given.slice = Some(number),
             Setting::Budget => given.budget = Some(number),
         }
         given
@@ -80,6 +84,7 @@ impl Given {
         ensures { spec.options_of result ≡ record spec.default_options {
           vl = unwrap_or self.now.vl (spec.default_of Setting.Vl);
           svl = unwrap_or self.now.svl (spec.default_of Setting.Svl);
+          slice = unwrap_or self.now.slice (spec.default_of Setting.Slice);
           budget = unwrap_or self.now.budget (spec.default_of Setting.Budget);
         } }
     {
@@ -87,7 +92,7 @@ impl Given {
         Config {
             vl: length_of(self.number(Setting::Vl)),
             svl: length_of(self.number(Setting::Svl)),
-            slice: defaults.slice,
+            slice: self.number(Setting::Slice),
             budget: self.number(Setting::Budget),
             threads: defaults.threads,
             cores: defaults.cores,

@@ -11,6 +11,8 @@ pub enum Setting {
     Vl,
     /// The vector length in streaming mode.
     Svl,
+    /// The instructions between two polls of the pending signals.
+    Slice,
     /// The instructions after which a thread is stopped.
     Budget,
 }
@@ -22,6 +24,7 @@ fn word_of(setting: Setting) -> &'static str
     match setting {
         Setting::Vl => "--vl",
         Setting::Svl => "--svl",
+        Setting::Slice => "--slice",
         Setting::Budget => "--budget",
     }
 }
@@ -45,6 +48,7 @@ pub fn takes(setting: Setting, number: u64) -> bool
     match setting {
         Setting::Vl => matches!(number, 128 | 256 | 512 | 1024 | 2048),
         Setting::Svl => matches!(number, 128 | 256 | 512 | 1024 | 2048),
+        Setting::Slice => matches!(number, 1..=1_000_000),
         Setting::Budget => matches!(number, 1..=0xFFFF_FFFF),
     }
 }
@@ -57,6 +61,7 @@ pub fn default_of(setting: Setting) -> u32
     match setting {
         Setting::Vl => defaults.vl.bits(),
         Setting::Svl => defaults.svl.bits(),
+        Setting::Slice => defaults.slice,
         Setting::Budget => defaults.budget,
     }
 }

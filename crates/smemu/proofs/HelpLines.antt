@@ -4,7 +4,7 @@ use Rattle.std.specs.Fmt.{digits}
 use Rattle.std.specs.List.{concat}
 use Rattle.cmd_words.specs.Options.{takes}
 use Rattle.cmd_words.specs.declared.setting.Setting.{Setting}
-use Rattle.cmd_words.specs.declared.setting.Setting.TheVariants.{Vl, Svl, Budget}
+use Rattle.cmd_words.specs.declared.setting.Setting.TheVariants.{Vl, Svl, Slice, Budget}
 use Rattle.edge_io.specs.Files.{FilesView}
 use Rattle.smemu.specs.Ends.{Change, Defined}
 use Rattle.smemu.specs.FaultLines.{fault_line, fault_words}
@@ -18,7 +18,8 @@ pub has_line : (setting : Setting) → HasPart help_text (option_line setting)
 unfolding help_text digits
 has_line Vl = (take 456 help_text, drop 548 help_text, refl)
 has_line Svl = (take 548 help_text, drop 635 help_text, refl)
-has_line Budget = (take 635 help_text, drop 728 help_text, refl)
+has_line Slice = (take 635 help_text, drop 726 help_text, refl)
+has_line Budget = (take 726 help_text, drop 819 help_text, refl)
 
 -- one of five, from the left or from the right
 any_of_five : (a b c d e : Bool) → (a || (b || (c || (d || (e || false))))) ≡ ((((a || b) || c) || d) || e)
@@ -32,18 +33,19 @@ any_of_five false false false false false = refl
 pub has_numbers : (setting : Setting) (n : ℕ) → has_number (numbers_of setting) n ≡ takes setting n
 has_numbers Vl n = any_of_five (n == 128) (n == 256) (n == 512) (n == 1024) (n == 2048)
 has_numbers Svl n = any_of_five (n == 128) (n == 256) (n == 512) (n == 1024) (n == 2048)
+has_numbers Slice n = refl
 has_numbers Budget n = refl
 
 pub has_status : (status : Status) → HasPart help_text (status_line status)
 unfolding help_text digits
-has_status Done = (take 738 help_text, drop 766 help_text, refl)
-has_status Usage = (take 765 help_text, drop 784 help_text, refl)
-has_status Absent = (take 840 help_text, drop 855 help_text, refl)
-has_status ReadFault = (take 896 help_text, drop 915 help_text, refl)
-has_status WriteFault = (take 953 help_text, drop 992 help_text, refl)
-has_status BadFile = (take 991 help_text, drop 1008 help_text, refl)
-has_status BadSource = (take 1064 help_text, drop 1088 help_text, refl)
-has_status OutOfMemory = (take 1149 help_text, drop 1176 help_text, refl)
+has_status Done = (take 829 help_text, drop 857 help_text, refl)
+has_status Usage = (take 856 help_text, drop 875 help_text, refl)
+has_status Absent = (take 931 help_text, drop 946 help_text, refl)
+has_status ReadFault = (take 987 help_text, drop 1006 help_text, refl)
+has_status WriteFault = (take 1044 help_text, drop 1083 help_text, refl)
+has_status BadFile = (take 1082 help_text, drop 1099 help_text, refl)
+has_status BadSource = (take 1155 help_text, drop 1179 help_text, refl)
+has_status OutOfMemory = (take 1240 help_text, drop 1267 help_text, refl)
 
 pub has_begun : (words : List (List ℕ)) (files : Change FilesView) (status : Status) (text : List ℕ) → status ≢ Done
     → Defined words files status text → HasFront text (status_words status)

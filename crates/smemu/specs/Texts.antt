@@ -8,7 +8,7 @@ use Rattle.cmd_words.specs.declared.command.UsageKind.{UsageKind}
 use Rattle.cmd_words.specs.declared.command.UsageKind.TheVariants.{Unknown, Missing, Repeated, BadNumber}
 use Rattle.cmd_words.specs.declared.command.UsageKind.TheVariants.{OutOfRange, Extra}
 use Rattle.cmd_words.specs.declared.setting.Setting.{Setting}
-use Rattle.cmd_words.specs.declared.setting.Setting.TheVariants.{Vl, Svl, Budget}
+use Rattle.cmd_words.specs.declared.setting.Setting.TheVariants.{Vl, Svl, Slice, Budget}
 use Rattle.smemu.specs.declared.help.TheConstants.{HELP, VERSION}
 use Rattle.smemu.specs.declared.status.Status.{Status}
 use Rattle.smemu.specs.declared.status.Status.TheVariants.{Done, Usage, Absent, ReadFault, WriteFault}
@@ -37,6 +37,7 @@ pub data Numbers : Type 0 where
 abbrev pub numbers_of : Setting → Numbers
 numbers_of Vl = OneOf (128 ∷ 256 ∷ 512 ∷ 1024 ∷ 2048 ∷ [])
 numbers_of Svl = OneOf (128 ∷ 256 ∷ 512 ∷ 1024 ∷ 2048 ∷ [])
+numbers_of Slice = FromTo 1 1000000
 numbers_of Budget = FromTo 1 4294967295
 
 abbrev pub is_among : ℕ → List ℕ → Bool
@@ -63,6 +64,7 @@ numbers_text (FromTo least most) = decimal least ++ (codes " to " ++ decimal mos
 abbrev pub option_word : Setting → List ℕ
 option_word Vl = codes "  --vl BITS     vector length outside streaming mode: "
 option_word Svl = codes "  --svl BITS    vector length in streaming mode: "
+option_word Slice = codes "  --slice N     instructions between polls of the pending signals: "
 option_word Budget = codes "  --budget N    instructions after which a thread is stopped: "
 
 -- what the text of help says of an option: the numbers that it takes, and the one where it is not given

@@ -14,6 +14,7 @@ commands:
 options of run, in any order after PROGRAM, each at most once:
   --vl BITS     vector length outside streaming mode: 128, 256, 512, 1024 or 2048; else 128
   --svl BITS    vector length in streaming mode: 128, 256, 512, 1024 or 2048; else 256
+  --slice N     instructions between polls of the pending signals: 1 to 1000000; else 1000
   --budget N    instructions after which a thread is stopped: 1 to 4294967295; else 10000000
 
 statuses:

@@ -1,8 +1,8 @@
-use Rattle.std.specs.Prelude.{unwrap_or, nat_le}
+use Rattle.std.specs.Prelude.{◌≡◌, ℕ, ◌≤◌, ◌&&◌, true, unwrap_or, nat_le}
 use Rattle.std.proofs.lemmas.Bool.{and_parts, leb-true}
 use Rattle.cmd_words.specs.Given.{given_of}
 use Rattle.cmd_words.proofs.Reading.{number_in_range}
-use Rattle.cmd_words.specs.declared.setting.Setting.TheVariants.{Vl, Svl, Budget}
+use Rattle.cmd_words.specs.declared.setting.Setting.TheVariants.{Vl, Svl, Slice, Budget}
 use Rattle.cmd_words.proofs.given.Given.config.Goals as goal
 
 pub length_of-requires : goal.length_of-requires
@@ -11,9 +11,18 @@ length_of-requires c = rw c.number.ensures (number_in_range Vl (given_of c.args.
 pub length_of-requires-2 : goal.length_of-requires-2
 length_of-requires-2 c = rw c.number-2.ensures (number_in_range Svl (given_of c.args.self.now Svl) (c.requires Svl))
 
+-- a number from one to a greatest is so
+both_ends : (n most : ℕ) → (nat_le 1 n && nat_le n most) ≡ true → (1 ≤ n) × (n ≤ most)
+both_ends n most e = let h = and_parts (nat_le 1 n) (nat_le n most) e in (leb-true 1 n h.0, leb-true n most h.1)
+
+pub invariant_of-result-clause-slice_in_range : goal.invariant_of-result-clause-slice_in_range
+invariant_of-result-clause-slice_in_range c =
+    rw c.number-3.ensures (both_ends (unwrap_or (given_of c.args.self.now Slice) 1000) 1000000
+    (number_in_range Slice (given_of c.args.self.now Slice) (c.requires Slice)))
+
 pub invariant_of-result-clause-budget_in_range : goal.invariant_of-result-clause-budget_in_range
 invariant_of-result-clause-budget_in_range c =
     let in_range = number_in_range Budget (given_of c.args.self.now Budget) (c.requires Budget) in
-    rw c.number-3.ensures (leb-true 1 (unwrap_or (given_of c.args.self.now Budget) 10000000)
+    rw c.number-4.ensures (leb-true 1 (unwrap_or (given_of c.args.self.now Budget) 10000000)
     (and_parts (nat_le 1 (unwrap_or (given_of c.args.self.now Budget) 10000000))
     (nat_le (unwrap_or (given_of c.args.self.now Budget) 10000000) 4294967295) in_range).0)
