@@ -3,13 +3,14 @@
 
     examples/expected.py FILE [VL [SVL]]
 
-It knows the instructions that the programs of this repository use, and the calls write, exit, yield, set handler and number; each other word is undefined to it. One thread makes all operations on the shared words.
+It knows the instructions that the programs of this repository use, and the calls of the kernel; each other word is undefined to it. One thread makes all operations on the shared words.
 """
 import hashlib
 import struct
 import sys
 
 from expected_matrix import Matrix
+from expected_signals import BadFrame, come_back, deliver
 from expected_vectors import Vectors
 
 OUTPUT_LIMIT = 1_048_576
@@ -31,6 +32,8 @@ OPERATIONS = {
     "umax": lambda old, a, b: max(old, a),
     "umin": lambda old, a, b: min(old, a),
     "cas": lambda old, a, b: b if old == a else old,
+    "post": lambda old, a, b: old | a,
+    "poll": lambda old, a, b: 0,
 }
 # LDADD and its kin, by their number
 UPDATES = ("add", "clr", "eor", "set", "smax", "smin", "umax", "umin")
@@ -50,8 +53,10 @@ def signed(value, bits):
 
 
 class Thread:
-    def __init__(self, file, budget, vl, svl):
-        self.pages, self.budget = {}, budget
+    def __init__(self, file, budget, vl, svl, interval):
+        self.pages, self.budget, self.interval = {}, budget, interval
+        self.tpidr = self.tpidr2 = self.held = self.pending = self.turns = 0
+        self.inside = self.polled = False
         self.vectors, self.matrix, self.handlers = Vectors(vl // 8), Matrix(vl // 8, svl // 8), {}
         at, count = struct.unpack_from("<Q", file, 32)[0], struct.unpack_from("<H", file, 56)[0]
         for i in range(count):
@@ -97,18 +102,30 @@ class Thread:
                 if name in kind and self.bytes_with(need, at, 1) is None:
                     raise Raised("data", f" {at & MASK:016x} {name}")
 
+    def keep(self, kind, place, a, b, answer):
+        self.journal.append(f"e {kind} {place} {a:016x} {b:016x} {answer:016x}")
+        return answer
+
+    def need_room(self):
+        if len(self.journal) == JOURNAL_LIMIT:
+            raise Full
+
     def ask(self, kind, address, base, a=0, b=0):
         """An operation on a shared word: an aligned access of 64 bits."""
         if base == 31 and self.sp % 16:
             raise Raised("spalign", "")
-        if len(self.journal) == JOURNAL_LIMIT:
-            raise Full
+        self.need_room()
         place = (address - SHARED.start) // 8
         old = self.words[place]
         self.words[place] = OPERATIONS[kind](old, a, b)
-        answer = 0 if kind == "st" else old
-        self.journal.append(f"e {kind} {place} {a:016x} {b:016x} {answer:016x}")
-        return answer
+        return self.keep(kind, place, a, b, 0 if kind == "st" else old)
+
+    def ask_signals(self, kind, a=0):
+        """A poll or a post of the one thread's pending signals."""
+        self.need_room()
+        old = self.pending
+        self.pending = OPERATIONS[kind](old, a, 0)
+        return self.keep(kind, 0, a, 0, old)
 
     def check_all(self, addresses, count, kind, base):
         if base == 31 and self.sp % 16:
@@ -147,7 +164,8 @@ class Thread:
         number, answer = self.x[8], -38 & MASK
         if number == 93:
             self.matrix.leave_streaming(self)
-            self.pc, self.count = self.pc + 4, self.count + 1
+            self.pc = self.pc + 4
+            self.counted()
             return f"exited {self.x[0] & 255}"
         if number == 64:
             descriptor, address, count = self.x[:3]
@@ -161,6 +179,15 @@ class Thread:
                 self.output += got or b""
         if number == 124:
             answer = 0
+        if number == 131:
+            target, signal = self.x[:2]
+            answer = -22 & MASK
+            if target == 0 and 1 <= signal <= 62:
+                self.ask_signals("post", 1 << signal)
+                answer = 0
+        if number == 139:
+            come_back(self)
+            return self.counted()
         if number == 134:
             signal, address = self.x[:2]
             answer = 0 if 1 <= signal <= 62 else -22 & MASK
@@ -169,12 +196,40 @@ class Thread:
         if number == 178:
             answer = 0
         self.matrix.leave_streaming(self)
-        self.x[0], self.pc, self.count = answer, self.pc + 4, self.count + 1
-        return None
+        self.x[0], self.pc = answer, self.pc + 4
+        return self.counted()
+
+    def counted(self):
+        self.count, self.turns, self.polled = self.count + 1, self.turns + 1, False
 
     def turn(self):
+        """What the thread stops with, if it does."""
+        try:
+            return self.due()
+        except Full:
+            return "tracefull"
+        except BadFrame as bad:
+            return f"badframe {bad.args[0]:016x}"
+
+    def due(self):
+        """A poll, the delivery of a signal, or an instruction."""
         if self.count == self.budget:
             return "budget"
+        if self.count and self.count % self.interval == 0 and not self.polled:
+            self.held |= self.ask_signals("poll")
+            self.polled, self.turns = True, self.turns + 1
+            return None
+        if self.polled and self.held and not self.inside:
+            signal = (self.held & -self.held).bit_length() - 1
+            self.held -= 1 << signal
+            if not self.handlers.get(signal):
+                return f"killed {signal}"
+            deliver(self, signal)
+            self.turns += 1
+            return None
+        return self.instruction()
+
+    def instruction(self):
         if self.pc % 4:
             return f"raised pcalign {self.pc:016x}"
         got = self.bytes_with(1, self.pc, 4)
@@ -190,12 +245,10 @@ class Thread:
         except Raised as exception:
             name, values = exception.args
             return f"raised {name} {self.pc:016x}{values}"
-        except Full:
-            return "tracefull"
         if target is None:
             return f"raised undefined {self.pc:016x} {word:08x}"
-        self.pc, self.count = target & MASK, self.count + 1
-        return None
+        self.pc = target & MASK
+        return self.counted()
 
     def execute(self, word):
         """The address of the next instruction; None where the word is undefined."""
@@ -239,6 +292,13 @@ class Thread:
             self.write(rd, ((self.pc & ~4095) + 4096 * distance if wide else self.pc + distance) & MASK, False)
             return after
         if word & 0xFFFFF01F == 0xD503201F:
+            return after
+        if word & 0xFFDFFFE0 in (0xD51BD040, 0xD51BD0A0):
+            name = "tpidr2" if word & 0x80 else "tpidr"
+            if word >> 21 & 1:
+                self.write(rd, getattr(self, name), False)
+            else:
+                setattr(self, name, self.read(rd))
             return after
         if self.vectors.execute(word, self) or self.matrix.execute(word, self):
             return after
@@ -387,25 +447,27 @@ class Thread:
         return after
 
 
-def report(file, vl=128, svl=256, budget=10_000_000):
-    thread, stop = Thread(file, budget, vl, svl), None
+def report(file, vl=128, svl=256, budget=10_000_000, slice=1000):
+    thread, stop = Thread(file, budget, vl, svl, slice), None
     while stop is None:
         stop = thread.turn()
     digest = hashlib.sha256()
     for number, (flags, content) in sorted(thread.pages.items()):
         digest.update(struct.pack("<QB", number * 4096, flags) + content)
-    lines = ["smemu-report 1", f"options vl={vl} svl={svl} slice=1000 budget={budget} threads=1",
+    lines = ["smemu-report 1", f"options vl={vl} svl={svl} slice={slice} budget={budget} threads=1",
              f"image {hashlib.sha256(file).hexdigest()}", "thread 0", f"stop {stop}", f"count {thread.count}",
-             f"turns {thread.count}", f"pc {thread.pc:016x}"]
+             f"turns {thread.turns}", f"pc {thread.pc:016x}"]
     lines += [f"x {i} {value:016x}" for i, value in enumerate(thread.x) if value]
-    lines += [f"sp {thread.sp:016x}", "nzcv " + "".join(map(str, thread.flags)), "tpidr " + "0" * 16, "tpidr2 " + "0" * 16,
+    lines += [f"sp {thread.sp:016x}", "nzcv " + "".join(map(str, thread.flags)), f"tpidr {thread.tpidr:016x}", f"tpidr2 {thread.tpidr2:016x}",
               f"svcr {thread.matrix.svcr()}", *thread.vectors.lines(), *thread.matrix.lines(),
-              f"memory {len(thread.pages)} {digest.hexdigest()}", "held " + "0" * 16, "inside 0", "polled 0"]
+              f"memory {len(thread.pages)} {digest.hexdigest()}", f"held {thread.held:016x}",
+              f"inside {int(thread.inside)}", f"polled {int(thread.polled)}"]
     lines += [f"handler {signal} {address:016x}" for signal, address in sorted(thread.handlers.items()) if address]
     lines += [f"output {len(thread.output)}"]
     lines += [f"out {thread.output[i:i + 32].hex()}" for i in range(0, len(thread.output), 32)]
     lines += [f"journal {len(thread.journal)}", *thread.journal, "end-thread", "shared"]
     lines += [f"w {place} {word:016x}" for place, word in enumerate(thread.words) if word]
+    lines += [f"pending 0 {thread.pending:016x}"] * bool(thread.pending)
     return "\n".join(lines + ["end"]) + "\n"
 
 

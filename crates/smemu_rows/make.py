@@ -343,6 +343,66 @@ def shared_operations():
         yield f"shared-region-by-{name}", program(at_x3(STR, 4), *more, word)
 
 
+# a loop of one branch, and the call that returns from a handler
+FOREVER, RETURN = branch(14, 0), [movz(8, 139), SVC]
+SMSTART_BOTH, SMSTART_ZA, SMSTOP_BOTH = 0xD503477F, 0xD503457F, 0xD503467F
+
+
+def handled(handler, *setup, posts=(5,), handlers=(5,), end=(FOREVER,)):
+    """A program that sets one handler for some signals, posts some to itself, and goes on so; the handler stands past its end."""
+    begin = [word for signal in posts for word in [movz(0, 0), movz(1, signal), movz(8, 131), SVC]]
+    count = 5 * len(handlers) + len(begin) + len(setup) + len(end)
+    sets = [word for signal in handlers for word in [movz(0, signal), movz(1, 0x40, 1), add(1, 1, 4 * count), movz(8, 134), SVC]]
+    return elf([*sets, *begin, *setup, *end, *handler])
+
+
+def changed(offset, amount=1, value=None):
+    """A handler that changes one byte of the frame, at X1, and returns."""
+    load = [0x39400029 | offset << 10, add(9, 9, amount, wide=False)] if value is None else [movz(9, value)]
+    return [*load, 0x39000029 | offset << 10, *RETURN]
+
+
+def signals():
+    """Signals that are posted, polled, delivered and returned from, and frames that are none; the frame is of 16 bytes a vector."""
+    soon = {"slice": 40, "budget": 120}
+    counts = [0xF9401429, add(9, 9, 1), 0xF9001429, *RETURN]  # one more in the X3 that the frame keeps
+    yield "signal-returns", handled(counts), soon
+    yield "signal-comes-in-a-handler", handled([0xF9401429, add(9, 9, 1), 0xF9001429, *call(131, (0, 0), (5, 0)), *RETURN]), soon
+    yield "signal-has-no-handler", handled(RETURN, posts=(6,)), soon
+    yield "signals-of-one-poll", handled(RETURN, posts=(5, 3), handlers=(3,)), soon
+    yield "signals-one-after-the-other", handled(counts, posts=(62, 1), handlers=(1, 62)), soon
+    yield "signal-that-was-posted-is-pending", handled(RETURN, end=EXIT), {}
+    yield "signal-whose-handler-was-removed", handled(RETURN, *call(134, (5, 0), (0, 0))), soon
+    yield "signal-at-a-slice-of-1", handled(counts), {"slice": 1, "budget": 30}
+    yield "posts-that-fail", elf([*call(131, (1, 0), (5, 0)), add(3, 0, 0), *call(131, (0, 0), (0, 0)), add(4, 0, 0),
+                                  *call(131, (0, 0), (63, 0)), add(5, 0, 0), *call(131, (0, 0), (62, 0)), *EXIT]), {}
+    modes = [SMSTART_BOTH, 0x2518E3E0, 0x04284000 | 1 << 5, 0xA0800000]  # ptrue p0.b, index z0.b, #1, #8, smopa za0.s
+    streams = [SMSTART_BOTH, 0x2538C120, 0x2518E3E1, 0xA0800401, SMSTOP_BOTH, *RETURN]  # dup z0.b, #9, ptrue p1.b, smopa za1.s
+    for svl in (128, 2048):
+        yield f"signal-in-streaming-mode-{svl}", handled(streams, *modes), {**soon, "svl": svl}
+    dormant = [SMSTART_ZA, movz(3, 0x1230), 0xD51BD0A3]  # msr tpidr2_el0, x3
+    sees = [0xD53B4244, 0xD53BD0A5, 0xF9002024, 0xF9002425, *RETURN]  # svcr and tpidr2_el0, put where the frame keeps X6 and X7
+    yield "signal-while-za-is-dormant", handled(sees, *dormant), soon
+    yield "signal-while-za-is-dormant-stops-inside", handled(sees, *dormant), {"slice": 40, "budget": 42}
+    low = [SMSTART_ZA, movz(9, 0x7DFF, 2), movz(10, 0xFFFC, 1), 0x8B0A0129, add(31, 9, 1, True)]  # sp is 4096 bytes above the stack's start
+    yield "frame-below-the-stack", handled(RETURN, *low), {**soon, "svl": 2048}
+    for name, handler in {"tag": changed(0), "tag-s-end": changed(7), "size": changed(8), "size-s-end": changed(11),
+                          "other-signal": changed(12), "signal-0": changed(12, value=0), "signal-63": changed(12, value=63),
+                          "signal-s-end": changed(15), "x0": changed(16), "x30": changed(256, 7), "sp": changed(264, 32), "flags": changed(283, 0x50),
+                          "bit-0-of-nzcv": changed(280), "bit-24-of-nzcv": changed(283), "bit-32-of-nzcv": changed(284),
+                          "mode": changed(288), "za-on": changed(288, 2), "bit-2-of-svcr": changed(288, 4), "svcr-s-end": changed(295),
+                          "tpidr2": changed(296), "tpidr": changed(304, 9), "length": changed(312), "streaming-length": changed(316),
+                          "z0": changed(320), "z31": changed(831, 3), "p15": changed(863, 3), "ffr": changed(865, 3),
+                          "past-ffr": changed(866), "ffr-s-end": changed(895)}.items():
+        yield f"frame-changed-at-{name}", handled(handler), soon
+    yield "return-of-no-handler", elf(RETURN), {}
+    yield "return-of-no-handler-to-zeros", elf([subs(31, 31, 1, True), *RETURN]), {}
+    yield "return-to-the-last-bytes", elf([subs(31, 31, 319), *RETURN]), {}
+    again = [0xF9002421, *RETURN]  # the X7 that the frame keeps is its address
+    # after the return the frame is still there, and the thread is inside no handler
+    yield "return-twice", handled(again, 0xB4000007, add(31, 7, 0), *RETURN), soon  # cbz x7, .
+
+
 # the words of vectors; the base of an access is X2, X3 or SP, its index X0 or X3, which are zero, and Z3 is not zero before it
 PTRUE_P1_D, PFALSE_P2_B, WHILELT_P0_B_ZERO_X4, INDEX_Z3_D = 0x25D8E3E1, 0x2518E402, 0x252417E0, 0x04FF4063
 LD1B_Z3_P0_AT_X2, LD1B_Z3_P2_AT_X3, LD1B_Z3_P2_AT_SP = 0xA4034043, 0xA4004863, 0xA4004BE3
@@ -624,9 +684,9 @@ def runs(programs):
 
 def main():
     data = HERE / "data"
-    rows = [(name, elf(words), {}) for name, words in REPORTS.items()] + list(loaded()) + [(name, file, {}) for name, file in [*accesses(), *shared_operations()]]
+    rows = [(name, elf(words), {"slice": 1_000_000} if name == "loops" else {}) for name, words in REPORTS.items()] + list(loaded()) + [(name, file, {}) for name, file in [*accesses(), *shared_operations()]]
     programs = list(assemblies())
-    rows += [*runs(programs), *vector_accesses(), *((name, file, {}) for name, file in matrix_stops())]
+    rows += [*signals(), *runs(programs), *vector_accesses(), *((name, file, {}) for name, file in matrix_stops())]
     rows = [(f"{name}.elf", 0, file, report(file, **options), {"run": "", **options}) for name, file, options in rows]
     rows += [(f"{name}.elf", 6, file, text, {"run": ""}) for name, file, text in refusals()]
     rows += [(f"listing-{name}.elf", status, file, text, {"dis": ""}) for name, file, status, text in listings()]
