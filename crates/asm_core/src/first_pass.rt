@@ -35,19 +35,10 @@ fn fault_at(number: u32, fault: LineFault) -> AsmFault
 {
     match fault {
         LineFault::Memory => AsmFault::Memory,
-        LineFault::UnknownName(_) => AsmFault::Line {
-            line: number,
-            fault,
-        },
-        LineFault::BadOperand(_) => AsmFault::Line {
-            line: number,
-            fault,
-        },
-        LineFault::BadNumber(_) => AsmFault::Line {
-            line: number,
-            fault,
-        },
-        LineFault::Extra(_) => AsmFault::Line {
+        LineFault::UnknownName(_)
+        | LineFault::BadOperand(_)
+        | LineFault::BadNumber(_)
+        | LineFault::Extra(_) => AsmFault::Line {
             line: number,
             fault,
         },
@@ -89,10 +80,8 @@ fn add_label<'a>(
         part: counter.part,
         offset: here(counter),
     };
-    match labels.add(name, position) {
-        Ok(()) => Ok(()),
-        Err(_) => Err(AsmFault::Memory),
-    }
+    labels.add(name, position)?;
+    Ok(())
 }
 
 /// The location counter after line number `number`, whose label is added and of which a word is kept, or its
@@ -142,10 +131,7 @@ pub fn scan_source<'a>(alloc: Global, source: &'a [u8]) -> Result<FirstPass<'a>,
     let mut number = 1u32;
     let mut rest = source;
     while let Some((text, after)) = next_line(rest) {
-        counter = match scan_line(alloc, number, &counter, &mut labels, &mut kept, text) {
-            Ok(next) => next,
-            Err(fault) => return Err(fault),
-        };
+        counter = scan_line(alloc, number, &counter, &mut labels, &mut kept, text)?;
         number += 1;
         rest = after;
     }

@@ -30,19 +30,7 @@ fn kept_in(statement: &Statement<'_>) -> Option<KeptWord>
             word: *word,
             column: *column,
         }),
-        Statement::Instruction {
-            target: Some(_),
-            ..
-        } => None,
-        Statement::Empty => None,
-        Statement::Text => None,
-        Statement::Data => None,
-        Statement::Quad(_) => None,
-        Statement::Word(_) => None,
-        Statement::Byte(_) => None,
-        Statement::Zero(_) => None,
-        Statement::Align(_) => None,
-        Statement::Global(_) => None,
+        _ => None,
     }
 }
 

@@ -20,15 +20,7 @@ fn misaligned(statement: &Statement<'_>, offset: u64) -> Option<u32>
         Statement::Instruction { column, .. } => {
             if offset % 4 == 0 { None } else { Some(*column) }
         }
-        Statement::Empty => None,
-        Statement::Text => None,
-        Statement::Data => None,
-        Statement::Quad(_) => None,
-        Statement::Word(_) => None,
-        Statement::Byte(_) => None,
-        Statement::Zero(_) => None,
-        Statement::Align(_) => None,
-        Statement::Global(_) => None,
+        _ => None,
     }
 }
 

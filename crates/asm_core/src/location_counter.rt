@@ -59,15 +59,12 @@ pub fn size_of(statement: &Statement<'_>, offset: u64) -> u128
     ensures small { result < 2 ^ 70 }
 {
     match statement {
-        Statement::Empty => 0,
-        Statement::Text => 0,
-        Statement::Data => 0,
+        Statement::Empty | Statement::Text | Statement::Data | Statement::Global(_) => 0,
         Statement::Quad(values) => 8 * values.len() as u128,
         Statement::Word(numbers) => 4 * numbers.len() as u128,
         Statement::Byte(numbers) => numbers.len() as u128,
         Statement::Zero(count) => *count as u128,
         Statement::Align(power) => padding(*power, offset) as u128,
-        Statement::Global(_) => 0,
         Statement::Instruction { .. } => 4,
     }
 }
@@ -79,14 +76,7 @@ pub fn part_after(statement: &Statement<'_>, part: Section) -> Section
     match statement {
         Statement::Text => Section::Text,
         Statement::Data => Section::Data,
-        Statement::Empty => part,
-        Statement::Quad(_) => part,
-        Statement::Word(_) => part,
-        Statement::Byte(_) => part,
-        Statement::Zero(_) => part,
-        Statement::Align(_) => part,
-        Statement::Global(_) => part,
-        Statement::Instruction { .. } => part,
+        _ => part,
     }
 }
 

@@ -16,7 +16,7 @@ use std::alloc::Global;
 /// How many bytes a source may have.
 const SOURCE_LIMIT: usize = 67_108_864;
 
-/// The object of a source, or its first fault; or `Memory` where it is out of memory.
+/// The object of a source, or its first fault, or `Memory` where it is out of memory.
 pub fn assemble(alloc: Global, source: &[u8]) -> Result<Object, AsmFault>
     ensures assembles { IfOk result (λ object. Assembles source.now object) }
     ensures sound { IfOk result IsWritable }
@@ -29,20 +29,14 @@ pub fn assemble(alloc: Global, source: &[u8]) -> Result<Object, AsmFault>
     if let Some(offset) = not_text(source) {
         return Err(AsmFault::NotText(offset));
     }
-    let first_pass = match scan_source(alloc, source) {
-        Ok(first_pass) => first_pass,
-        Err(fault) => return Err(fault),
-    };
-    let parts = match emit(
+    let first_pass = scan_source(alloc, source)?;
+    let parts = emit(
         alloc,
         source,
         first_pass.kept.as_slice(),
         &first_pass.labels,
         first_pass.end.text_size,
-    ) {
-        Ok(parts) => parts,
-        Err(fault) => return Err(fault),
-    };
+    )?;
     match start_of(first_pass.end.text_size, &first_pass.labels) {
         Some(entry) => Ok(Object {
             text_bytes: parts.text_bytes,

@@ -28,18 +28,7 @@ fn is_mapping_name(name: &[u8]) -> bool
 fn is_instruction(statement: &Statement<'_>) -> bool
     ensures { result ≡ assembly.is_instruction (says_of statement.now) }
 {
-    match statement {
-        Statement::Instruction { .. } => true,
-        Statement::Empty => false,
-        Statement::Text => false,
-        Statement::Data => false,
-        Statement::Quad(_) => false,
-        Statement::Word(_) => false,
-        Statement::Byte(_) => false,
-        Statement::Zero(_) => false,
-        Statement::Align(_) => false,
-        Statement::Global(_) => false,
-    }
+    matches!(statement, Statement::Instruction { .. })
 }
 
 /// Tells whether a statement puts bytes into the text.
