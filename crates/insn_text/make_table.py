@@ -1,9 +1,9 @@
 #!/usr/bin/env python3
-"""Writes what follows from src/texts.rt: the shapes by their bits, the places of their texts, their operands as lists, which shapes a word's
-top byte may have (src/shapes.rt with its two lists, items.rt, printed.rt), the names (src/names.rt) and the slots of names and words in asm_tokens.
+"""Writes what follows from src/texts.rt: the shapes by their bits, the indices of their texts, their operands as lists, which shapes a word's
+top byte may have (src/shapes.rt with its two lists, items.rt, printed.rt), the mnemonics (src/mnemonics.rt) and the slots of mnemonics and keywords in asm_tokens.
 
 It reads the rows and the fields of a64_table and the operands of src/operands.rt, and expands the macros of src/texts.rt. Nothing rests on it:
-`shapes_are_texts` says that each shape is its text, in the order of names and then of the texts.
+`shapes_are_texts` says that each shape is its text, in the order of mnemonics and then of the texts.
 """
 import pathlib
 import re
@@ -166,7 +166,7 @@ def lines_of(words):
 
 
 def list_lines(key, first):
-    """The line of a list of operands with its place, or the lines of at most 110 columns."""
+    """The line of a list of operands with its index, or the lines of at most 110 columns."""
     line, (*words, last) = "   ", key
     lines = []
     for word in [*words, f"{last}; // {first}"]:
@@ -210,18 +210,18 @@ def main():
             lists[key] = of, len(flat[of])
             flat[of] += key
         shapes.append((*bits_of(text), ordered.index(text["name"]), *lists[key], len(key), text["alias"]))
-    for place in range(len(ordered) + 1):
-        starts.append(next((k for k, s in enumerate(shapes) if s[2] >= place), len(shapes)))
+    for index in range(len(ordered) + 1):
+        starts.append(next((k for k, s in enumerate(shapes) if s[2] >= index), len(shapes)))
     for top in range(256):
         roots.append(len(printed))
         printed += [k for k, s in enumerate(shapes) if not s[6] and (top << 24 ^ s[1]) & s[0] & 0xFF000000 == 0]
     roots.append(len(printed))
     src, by = HERE / "src", "as `make_table.py` writes "
-    write(src / "names.rt", f"//! The names of instructions and aliases, {by}them.", "", "// A name by the parts of which a text has it.",
-          "macro_rules! name {",
+    write(src / "mnemonics.rt", f"//! The mnemonics of instructions and aliases, {by}them.", "", "// A mnemonic by the parts of which a text has it.",
+          "macro_rules! mnemonic {",
           *[f'    ({names[n]}) => {{ Text {{ bytes: *b"{n}{chr(92)}0'.replace("\\0", "") + "\\0" * (12 - len(n)) + f'", length: {len(n)} }} }};' for n in ordered],
-          "}", "", "// All of them, in order.", "macro_rules! all_names {", "    () => {", "        [",
-          *[f"            name!({names[n]})," for n in ordered], "        ]", "    };", "}", "", "pub(crate) use {all_names, name};")
+          "}", "", "// All of them, in order.", "macro_rules! all_mnemonics {", "    () => {", "        [",
+          *[f"            mnemonic!({names[n]})," for n in ordered], "        ]", "    };", "}", "", "pub(crate) use {all_mnemonics, mnemonic};")
     heads = ["use crate::item::{Item, Kind, Rule, VectorFile};",
              "use crate::operands::{HW_IMM16, IMMR_IMMS, LONG_SHIFT, N_IMMR_IMMS, SHORT_HW_IMM16, SHORT_SHIFT, W, W_SP, X, X_SP, operand, operand_of, short};",
              "use crate::vector_operands::{by_element_size, by_low_size, by_size, index, low_part, low_predicate, predicate, right, signed, tile, up_to, vector, "
@@ -229,43 +229,44 @@ def main():
              "use a64_table::fields as scalar_fields;", "use insn_forms::Field;", "use sve_table::fields as vector_fields;", "",
              "macro_rules! items {", "    ($($($item:ident)+;)*) => {", "        [$($(operand!($item)),+),*]", "    };", "}", ""]
     write(src / "operand_items.rt", f"//! The operands of texts, {by}them from those of operands.rt and vector_operands.rt.", *heads,
-          "// The place of an operand in `OPERANDS`, by its name.", "macro_rules! place {", *[f"    ({name}) => {{ {place} }};" for place, name in enumerate(OPERANDS)], "}", "",
+          "// The index of an operand in `OPERANDS`, by its name.", "macro_rules! place {", *[f"    ({name}) => {{ {place} }};" for place, name in enumerate(OPERANDS)], "}", "",
           "pub(crate) use place;", "", "/// The operands of texts, each once.", f"pub static OPERANDS: [Item; {len(OPERANDS)}] = items! {{", *lines_of(OPERANDS), "};")
     write(src / "items.rt", f"//! The operands of the shapes, {by}them.", *heads,
           *[line for of, ident in (("Scalar", "ITEMS"), ("Vector", "VECTOR_ITEMS"), ("Matrix", "MATRIX_ITEMS"))
-            for line in (f"/// The operands of the shapes of `ItemList::{of}`, one list after another; beside a list is its place.",
+            for line in (f"/// The operands of the shapes of `ItemList::{of}`, one list after another; beside a list is its index.",
                          f"pub static {ident}: [Item; {len(flat[of])}] = items! {{",
                          *[line for key, (own, first) in lists.items() if key and own == of for line in list_lines(key, first)], "};", "")])
     first = next(k for k, s in enumerate(shapes) if ordered[s[2]] >= "m")
     shape_lines = [f"            0x{m:08X} 0x{v:08X} {n} {of} {f} {c} {str(a).lower()}; // {ordered[n]}" for m, v, n, of, f, c, a in shapes]
     for name, letters, part in (("a_to_l", "a to l", shape_lines[:first]), ("m_to_z", "m to z", shape_lines[first:])):
-        write(src / f"shapes_{name}.rt", f"//! The shapes of the names from {letters}, {by}them.", "",
-              "// Writes a table with the lines given and those of these shapes, by name: mask, value, the place of the",
-              "// name, the list and the place of the operands and their number, and whether the shape is an alias.",
+        write(src / f"shapes_{name}.rt", f"//! The shapes of the mnemonics from {letters}, {by}them.", "",
+              "// Writes a table with the lines given and those of these shapes, by mnemonic: mask, value, the index of the",
+              "// mnemonic, the list and the index of the operands and their number, and whether the shape is an alias.",
               f"macro_rules! shapes_{name} {{", "    ($table:ident { $($lines:tt)* }) => {", "        $table! {", "            $($lines)*", *part, "        }", "    };", "}", "",
               f"pub(crate) use shapes_{name};")
     write(src / "shapes.rt", f"//! The shapes of the instructions' texts, {by}them from those of texts.rt.", "use crate::item::{ItemList, Shape};",
           "use crate::shapes_a_to_l::shapes_a_to_l;", "use crate::shapes_m_to_z::shapes_m_to_z;", "",
-          "macro_rules! shapes {", "    ($(", "        $mask:literal $value:literal $name:literal $list:ident $first:literal $count:literal $alias:literal;",
-          "    )*) => {", "        [$(Shape {", "            mask: $mask, value: $value, name: $name,",
+          "macro_rules! shapes {", "    ($(", "        $mask:literal $value:literal $mnemonic:literal $list:ident $first:literal $count:literal",
+          "        $alias:literal;",
+          "    )*) => {", "        [$(Shape {", "            mask: $mask, value: $value, mnemonic: $mnemonic,",
           "            list: ItemList::$list, first: $first, count: $count, alias: $alias,", "        }),*]", "    };", "}", "",
-          "// The shapes of the names from m on, after the lines given.", "macro_rules! shapes_to_z {", "    ($($lines:tt)*) => { shapes_m_to_z! { shapes { $($lines)* } } };", "}", "",
-          "/// The shapes of the texts, by name.",
+          "// The shapes of the mnemonics from m on, after the lines given.", "macro_rules! shapes_to_z {", "    ($($lines:tt)*) => { shapes_m_to_z! { shapes { $($lines)* } } };", "}", "",
+          "/// The shapes of the texts, by mnemonic.",
           f"pub static SHAPES: [Shape; {len(shapes)}] = shapes_a_to_l! {{ shapes_to_z {{}} }};", "",
-          "/// The places of their texts, the lists of texts.rt one after another.", f"pub static ORDER: [u16; {len(order)}] = [", *numbers(order), "];", "",
-          "/// Where the shapes of each name begin, and the end.", f"pub static STARTS: [u16; {len(starts)}] = [", *numbers(starts), "];")
+          "/// The indices of their texts, the lists of texts.rt one after another.", f"pub static ORDER: [u16; {len(order)}] = [", *numbers(order), "];", "",
+          "/// Where the shapes of each mnemonic begin, and the end.", f"pub static STARTS: [u16; {len(starts)}] = [", *numbers(starts), "];")
     write(src / "printed.rt", f"//! Which shapes the words of each top byte may have, {by}them.", "",
-          "/// Where the places in `PRINTED` begin for each value of the top byte of a word, and the end.", "pub static ROOTS: [u16; 257] = [", *numbers(roots), "];", "",
-          "/// The places of the shapes that are no aliases and that a word with the top byte may have, in order.",
+          "/// Where the indices in `PRINTED` begin for each value of the top byte of a word, and the end.", "pub static ROOTS: [u16; 257] = [", *numbers(roots), "];", "",
+          "/// The indices of the shapes that are no aliases and that a word with the top byte may have, in order.",
           f"pub static PRINTED: [u16; {len(printed)}] = [", *numbers(printed), "];")
-    words = re.findall(r'b"(\w+)', re.search(r"static WORDS.*?\};", (src / "words.rt").read_text(), re.S)[0])
-    lines = [f"//! Where words and names stand in their tables, by hash, {by[:-7]}of insn_text writes it.", "", "/// The factor of the hash.",
+    words = re.findall(r'b"(\w+)', re.search(r"static KEYWORDS.*?\};", (src / "keywords.rt").read_text(), re.S)[0])
+    lines = [f"//! Where keywords and mnemonics stand in their tables, by hash, {by[:-7]}of insn_text writes it.", "", "/// The factor of the hash.",
              f"pub const FACTOR: u32 = {FACTOR};", "", "/// What a free slot has.", f"pub const FREE: u16 = {FREE};"]
-    for ident, listed, size in (("WORD", words, 512), ("NAME", ordered, 1024)):
-        lines += ["", "/// The place of the text in each slot: its hash's, or one of the 15 after it.", f"pub static {ident}_SLOTS: [u16; {size}] = [",
+    for ident, listed, size in (("KEYWORD", words, 512), ("MNEMONIC", ordered, 1024)):
+        lines += ["", "/// The index of the text in each slot: its hash's, or one of the 15 after it.", f"pub static {ident}_SLOTS: [u16; {size}] = [",
                   *numbers(slots(listed, size)), "];"]
-    write(HERE.parent / "asm_tokens" / "src" / "places.rt", *lines)
-    print(len(texts), "texts,", len(ordered), "names,", len(lists), "lists of", *[len(it) for it in flat.values()], "operands,", len(printed), "printed,", len(words), "words")
+    write(HERE.parent / "asm_tokens" / "src" / "slots.rt", *lines)
+    print(len(texts), "texts,", len(ordered), "mnemonics,", len(lists), "lists of", *[len(it) for it in flat.values()], "operands,", len(printed), "printed,", len(words), "keywords")
 
 
 if __name__ == "__main__":

@@ -1,4 +1,4 @@
--- Lines of which none has a fault by itself: what holds of the first, of the places and of the labels.
+-- Lines of which none has a fault by itself: what holds of the first, of the location counters and of the labels.
 use Rattle.std.proofs.Common.{◌≡◌, ℕ, ◌+◌, ◌≤◌, Bool, true, false, cond, List, [], ◌∷◌, ◌++◌, Option, Some, None, Result, Ok, Err, ◌||◌}
 use Rattle.std.proofs.Common.{nat_lt, refl, sym, ap, ◌∙◌, subst, arith, ltb-false}
 use Rattle.std.specs.Prelude.{option_map}
@@ -10,19 +10,19 @@ use Rattle.asm_parser.specs.Statements.{Says, SourceLine}
 use Rattle.asm_parser.specs.Lines.{line_of}
 use Rattle.asm_core.specs.declared.fault.AsmFault.{AsmFault}
 use Rattle.asm_core.specs.declared.fault.AsmFault.TheVariants.{Line, Doubled, TooLarge}
-use Rattle.asm_core.specs.declared.place.Place.{Place}
-use Rattle.asm_core.specs.declared.emit_targets.Addresses.{Addresses}
-use Rattle.asm_core.specs.declared.labels.LabelPlace.{LabelPlace}
+use Rattle.asm_core.specs.declared.location_counter.LocationCounter.{LocationCounter}
+use Rattle.asm_core.specs.declared.target_addresses.Addresses.{Addresses}
+use Rattle.asm_core.specs.declared.labels.LabelPosition.{LabelPosition}
 use Rattle.asm_core.specs.Source.{said_lines}
 use Rattle.sm_types.specs.declared.object.Section.{Section}
 use Rattle.sm_types.specs.declared.object.Section.TheVariants.{Text, Data}
-use Rattle.asm_core.specs.Layout.{here, here_in, size_of, grown_in, Label, label_at, if_some, place_after, place_past, labels_from}
-use Rattle.asm_core.specs.Layout.{label_named, labels_of, first_place}
+use Rattle.asm_core.specs.Layout.{here, here_in, size_of, grown_in, Label, label_at, if_some, counter_after, counter_past, labels_from}
+use Rattle.asm_core.specs.Layout.{label_named, labels_of, first_counter}
 use Rattle.std.specs.Option.{option_or as or_else}
-use Rattle.asm_core.specs.Faults.{fault_if, misplaced, is_doubled, is_too_large, line_fault, labels_after, after_line, lines_fault}
+use Rattle.asm_core.specs.Faults.{fault_if, misaligned, is_doubled, is_too_large, line_fault, labels_after, after_line, lines_fault}
 use Rattle.asm_core.specs.Faults.{text_length_of}
 use Rattle.asm_core.specs.Limits.{IsInLimits}
-use Rattle.asm_core.specs.Known.{Knows, label_place}
+use Rattle.asm_core.specs.Known.{Knows, label_position}
 use Rattle.asm_core.specs.Emitted.{IsFine, AreNear}
 
 -- neither of two is a fault
@@ -34,19 +34,19 @@ not_large : (b : Bool) (fault : AsmFault) → fault_if b fault ≡ None → b �
 not_large true fault e = cc
 not_large false fault e = refl
 
-not_misplaced : (n : ℕ) (o : Option ℕ) → option_map (λ column. Line n (BadOperand column)) o ≡ None → o ≡ None
-not_misplaced n None e = refl
-not_misplaced n (Some column) e = cc
+not_misaligned : (n : ℕ) (o : Option ℕ) → option_map (λ column. Line n (BadOperand column)) o ≡ None → o ≡ None
+not_misaligned n None e = refl
+not_misaligned n (Some column) e = cc
 
 -- a line and the lines after it
-pub record IsAccepted (n : ℕ) (p : Place) (labels : List Label) (text : List ℕ) (texts : List (List ℕ)) : Type 0 where
+pub record IsAccepted (n : ℕ) (p : LocationCounter) (labels : List Label) (text : List ℕ) (texts : List (List ℕ)) : Type 0 where
   pub line : SourceLine
   pub says : line_of text ≡ Ok line
-  pub aligned : misplaced line.says (here p) ≡ None
+  pub aligned : misaligned line.says (here p) ≡ None
   pub fits : is_too_large p line.says ≡ false
-  pub rest : lines_fault (n + 1) (place_after p line.says) (labels_after p labels line) texts ≡ None
+  pub rest : lines_fault (n + 1) (counter_after p line.says) (labels_after p labels line) texts ≡ None
 
-accepted_by : (n : ℕ) (p : Place) (labels : List Label) (text : List ℕ) (texts : List (List ℕ)) (r : Result SourceLine LineFault)
+accepted_by : (n : ℕ) (p : LocationCounter) (labels : List Label) (text : List ℕ) (texts : List (List ℕ)) (r : Result SourceLine LineFault)
     → line_of text ≡ r
     → or_else (line_fault n p labels r) (after_line (λ next known. lines_fault (n + 1) next known texts) p labels r) ≡ None
     → IsAccepted n p labels text texts
@@ -54,22 +54,22 @@ unfolding line_fault
 accepted_by n p labels text texts (Err fault) is e = cc
 accepted_by n p labels text texts (Ok line) is e =
     let parts = both_none (line_fault n p labels (Ok line)) _ e in
-    let first = both_none (option_map (λ column. Line n (BadOperand column)) (misplaced line.says (here p))) _ parts.0 in
+    let first = both_none (option_map (λ column. Line n (BadOperand column)) (misaligned line.says (here p))) _ parts.0 in
     let second = both_none (fault_if (is_doubled labels line.label) (Doubled n)) _ first.1 in
     record {
       line = line;
       says = is;
-      aligned = not_misplaced n (misplaced line.says (here p)) first.0;
+      aligned = not_misaligned n (misaligned line.says (here p)) first.0;
       fits = not_large (is_too_large p line.says) (TooLarge n) second.1;
       rest = parts.1;
     }
 
-pub accepted_first : (n : ℕ) (p : Place) (labels : List Label) (text : List ℕ) (texts : List (List ℕ))
+pub accepted_first : (n : ℕ) (p : LocationCounter) (labels : List Label) (text : List ℕ) (texts : List (List ℕ))
     → lines_fault n p labels (text ∷ texts) ≡ None → IsAccepted n p labels text texts
 unfolding lines_fault
 accepted_first n p labels text texts e = accepted_by n p labels text texts (line_of text) refl e
 
-pub fine_first : (n : ℕ) (p : Place) (labels : List Label) (text : List ℕ) (texts : List (List ℕ))
+pub fine_first : (n : ℕ) (p : LocationCounter) (labels : List Label) (text : List ℕ) (texts : List (List ℕ))
     → lines_fault n p labels (text ∷ texts) ≡ None → IsFine p text
 fine_first n p labels text texts e =
     let a = accepted_first n p labels text texts e in record { line = a.line; says = a.says; fits = a.fits }
@@ -85,30 +85,32 @@ neither_part : (a b : Bool) → (a || b) ≡ false → (a ≡ false) × (b ≡ f
 neither_part true b e = cc
 neither_part false b e = (refl, e)
 
-pub limits_after : (p : Place) (says : Says) → is_too_large p says ≡ false → IsInLimits (place_after p says)
+pub limits_after : (p : LocationCounter) (says : Says) → is_too_large p says ≡ false → IsInLimits (counter_after p says)
 unfolding is_too_large
 limits_after p says e =
-    let parts = neither_part (nat_lt 4194304 (place_after p says).text_size) (nat_lt 4194304 (place_after p says).data_size) e in
+    let parts = neither_part (nat_lt 4194304 (counter_after p says).text_size) (nat_lt 4194304 (counter_after p says).data_size) e in
     record { text = ltb-false _ _ parts.0; data_part = ltb-false _ _ parts.1 }
 
-pub limits_past : (n : ℕ) (p : Place) (labels : List Label) (texts : List (List ℕ)) → IsInLimits p → lines_fault n p labels texts ≡ None
-    → IsInLimits (place_past p (said_lines texts))
-unfolding place_past said_lines
+pub limits_past : (n : ℕ) (p : LocationCounter) (labels : List Label) (texts : List (List ℕ)) → IsInLimits p
+    → lines_fault n p labels texts ≡ None
+    → IsInLimits (counter_past p (said_lines texts))
+unfolding counter_past said_lines
 limits_past n p labels [] h e = h
 limits_past n p labels (text ∷ texts) h e =
     let a = accepted_first n p labels text texts e in
     let rest =
-    limits_past (n + 1) (place_after p a.line.says) (labels_after p labels a.line) texts (limits_after p a.line.says a.fits) a.rest in
+    limits_past (n + 1) (counter_after p a.line.says) (labels_after p labels a.line) texts (limits_after p a.line.says a.fits) a.rest in
     rw (said_first text texts a.line a.says) rest
 
-fits_in : (part : Section) (p : Place) (size : ℕ) → (grown_in part p size).text_size ≤ 4194304 → (grown_in part p size).data_size ≤ 4194304
+fits_in : (part : Section) (p : LocationCounter) (size : ℕ) → (grown_in part p size).text_size ≤ 4194304
+    → (grown_in part p size).data_size ≤ 4194304
     → here_in part p + size ≤ 4194304
 fits_in Text p size t d = t
 fits_in Data p size t d = d
 
 -- the bytes of a line fit into its part
-pub fits_here : (p : Place) (says : Says) → is_too_large p says ≡ false → here p + size_of says (here p) ≤ 4194304
-unfolding place_after
+pub fits_here : (p : LocationCounter) (says : Says) → is_too_large p says ≡ false → here p + size_of says (here p) ≤ 4194304
+unfolding counter_after
 fits_here p says e = let h = limits_after p says e in fits_in p.part p (size_of says (here p)) h.text h.data_part
 
 same_line : (a b : SourceLine) → ◌≡◌ {A = Result SourceLine LineFault} (Ok a) (Ok b) → a ≡ b
@@ -118,7 +120,8 @@ pub one_line : (text : List ℕ) (a b : SourceLine) → line_of text ≡ Ok a �
 one_line text a b e f = same_line a b (sym e ∙ f)
 
 -- a line that is fine, as it was parsed
-pub fine_fits : (p : Place) (text : List ℕ) (line : SourceLine) → IsFine p text → line_of text ≡ Ok line → is_too_large p line.says ≡ false
+pub fine_fits : (p : LocationCounter) (text : List ℕ) (line : SourceLine) → IsFine p text → line_of text ≡ Ok line
+    → is_too_large p line.says ≡ false
 fine_fits p text line fine e =
     subst (λ (l : SourceLine). is_too_large p l.says ≡ false) (one_line text fine.line line fine.says e) fine.fits
 
@@ -131,48 +134,48 @@ near_found test l found ls near rest e = elim (test l) as (λ b. cond b (Some l)
   | false ↦ λ h. rest found h
 ] e
 
-near_labelled : (test : Label → Bool) (p : Place) (label : Option (List ℕ)) (found : Label) (ls : List Label) → here p ≤ 4194304
+near_labelled : (test : Label → Bool) (p : LocationCounter) (label : Option (List ℕ)) (found : Label) (ls : List Label) → here p ≤ 4194304
     → ((f : Label) → find test ls ≡ Some f → f.offset ≤ 4194304) → find test (if_some (option_map (label_at p) label) ++ ls) ≡ Some found
     → found.offset ≤ 4194304
 near_labelled test p None found ls h rest e = rest found e
 near_labelled test p (Some name) found ls h rest e = near_found test (label_at p name) found ls h rest e
 
-here_part : (part : Section) (p : Place) → IsInLimits p → here_in part p ≤ 4194304
+here_part : (part : Section) (p : LocationCounter) → IsInLimits p → here_in part p ≤ 4194304
 here_part Text p h = h.text
 here_part Data p h = h.data_part
 
-pub here_near : (p : Place) → IsInLimits p → here p ≤ 4194304
+pub here_near : (p : LocationCounter) → IsInLimits p → here p ≤ 4194304
 here_near p h = here_part p.part p h
 
-labels_near : (test : Label → Bool) (n : ℕ) (p : Place) (labels : List Label) (texts : List (List ℕ)) → IsInLimits p
+labels_near : (test : Label → Bool) (n : ℕ) (p : LocationCounter) (labels : List Label) (texts : List (List ℕ)) → IsInLimits p
     → lines_fault n p labels texts ≡ None → (found : Label) → find test (labels_from p (said_lines texts)) ≡ Some found
     → found.offset ≤ 4194304
 unfolding labels_from said_lines
 labels_near test n p labels [] h e found g = cc
 labels_near test n p labels (text ∷ texts) h e found g =
     let a = accepted_first n p labels text texts e in
-    let after = place_after p a.line.says in
+    let after = counter_after p a.line.says in
     let rest = labels_near test (n + 1) after (labels_after p labels a.line) texts (limits_after p a.line.says a.fits) a.rest in
     near_labelled test p a.line.label found (labels_from after (said_lines texts)) (here_near p h) rest
     (sym (ap (λ ls. find test (labels_from p ls)) (said_first text texts a.line a.says)) ∙ g)
 
-near_place : (o : Option Label) (place : LabelPlace) → ((found : Label) → o ≡ Some found → found.offset ≤ 4194304)
-    → option_map label_place o ≡ Some place → place.offset ≤ 4194304
-near_place None place near e = cc
-near_place (Some found) place near e =
-    let same : label_place found ≡ place = cc in subst (λ (l : LabelPlace). l.offset ≤ 4194304) same (near found refl)
+near_counter : (o : Option Label) (counter : LabelPosition) → ((found : Label) → o ≡ Some found → found.offset ≤ 4194304)
+    → option_map label_position o ≡ Some counter → counter.offset ≤ 4194304
+near_counter None counter near e = cc
+near_counter (Some found) counter near e =
+    let same : label_position found ≡ counter = cc in subst (λ (l : LabelPosition). l.offset ≤ 4194304) same (near found refl)
 
 -- the text of such lines has at most 4 MiB, and so has what stands before their labels
 pub addresses_near : (addresses : Addresses) (texts : List (List ℕ)) → addresses.text_size ≡ text_length_of (said_lines texts)
-    → Knows addresses.labels.now (labels_of (said_lines texts)) → lines_fault 1 first_place [] texts ≡ None → AreNear addresses
+    → Knows addresses.labels.now (labels_of (said_lines texts)) → lines_fault 1 first_counter [] texts ≡ None → AreNear addresses
 unfolding label_named
 addresses_near addresses texts size knows e = record {
   text =
-      subst (λ n. n ≤ 4194304) (sym size) (limits_past 1 first_place [] texts (record { text = omega arith; data_part = omega arith })
+      subst (λ n. n ≤ 4194304) (sym size) (limits_past 1 first_counter [] texts (record { text = omega arith; data_part = omega arith })
       e).text;
-  labels = λ name place is.
-      near_place (label_named (labels_of (said_lines texts)) name) place
-      (λ found named. labels_near (λ label. bytes_eq label.name name) 1 first_place [] texts
+  labels = λ name counter is.
+      near_counter (label_named (labels_of (said_lines texts)) name) counter
+      (λ found named. labels_near (λ label. bytes_eq label.name name) 1 first_counter [] texts
       (record { text = omega arith; data_part = omega arith }) e found named)
       (sym (knows.each name) ∙ is);
 }

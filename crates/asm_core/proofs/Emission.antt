@@ -8,11 +8,11 @@ use Rattle.sm_types.specs.declared.object.Section.TheVariants.{Text, Data}
 use Rattle.asm_parser.specs.Statements.{Says, SourceLine}
 use Rattle.asm_parser.specs.Lines.{line_of}
 use Rattle.asm_core.specs.declared.fault.AsmFault.{AsmFault}
-use Rattle.asm_core.specs.declared.place.Place.{Place}
-use Rattle.asm_core.specs.declared.parts.Parts.{Parts}
+use Rattle.asm_core.specs.declared.location_counter.LocationCounter.{LocationCounter}
+use Rattle.asm_core.specs.declared.object_parts.Parts.{Parts}
 use Rattle.asm_core.specs.declared.emit_lines.Emission.{Emission}
 use Rattle.asm_core.specs.Source.{said_lines}
-use Rattle.asm_core.specs.Layout.{Label, first_place, here, here_in, grown_in, size_of, place_after, place_past, place_of, labels_of}
+use Rattle.asm_core.specs.Layout.{Label, first_counter, here, here_in, grown_in, size_of, counter_after, counter_past, counter_of, labels_of}
 use Rattle.asm_core.specs.Faults.{target_fault, targets_fault, labels_after, lines_fault, text_length_of}
 use Rattle.asm_core.specs.Limits.{IsInLimits}
 use Rattle.asm_core.specs.Assembly.{Puts, SymbolSaid, symbol_said, text_is, label_symbol, mapping_symbol, symbols_from}
@@ -21,7 +21,7 @@ use Rattle.asm_core.specs.Emitted.{other, line_symbols, HaveGrown}
 use Rattle.asm_core.proofs.Pieces.{piece_puts, puts_kept}
 use Rattle.asm_core.proofs.Accepted.{accepted_first, said_first, limits_after, one_line}
 
--- ---- lines at a place of a list
+-- ---- lines at a location counter of a list
 
 pub get_next : (ls : List SourceLine) (k : ℕ) (line : SourceLine) (rest : List SourceLine) → drop k ls ≡ line ∷ rest
     → slice_get ls k ≡ Some line
@@ -37,13 +37,13 @@ drop_next [] (suc k) line rest e = cc
 drop_next (l ∷ ls) zero line rest e = cc
 drop_next (l ∷ ls) (suc k) line rest e = drop_next ls k line rest e
 
-place_next : (p : Place) (ls : List SourceLine) (k : ℕ) (line : SourceLine) (rest : List SourceLine) → drop k ls ≡ line ∷ rest
-    → place_past p (take (suc k) ls) ≡ place_after (place_past p (take k ls)) line.says
-unfolding place_past
-place_next p [] zero line rest e = cc
-place_next p [] (suc k) line rest e = cc
-place_next p (l ∷ ls) zero line rest e = let same : l ≡ line = cc in ap (λ (x : SourceLine). place_after p x.says) same
-place_next p (l ∷ ls) (suc k) line rest e = place_next (place_after p l.says) ls k line rest e
+counter_next : (p : LocationCounter) (ls : List SourceLine) (k : ℕ) (line : SourceLine) (rest : List SourceLine) → drop k ls ≡ line ∷ rest
+    → counter_past p (take (suc k) ls) ≡ counter_after (counter_past p (take k ls)) line.says
+unfolding counter_past
+counter_next p [] zero line rest e = cc
+counter_next p [] (suc k) line rest e = cc
+counter_next p (l ∷ ls) zero line rest e = let same : l ≡ line = cc in ap (λ (x : SourceLine). counter_after p x.says) same
+counter_next p (l ∷ ls) (suc k) line rest e = counter_next (counter_after p l.says) ls k line rest e
 
 none_left : (ls : List SourceLine) (k : ℕ) → drop k ls ≡ [] → length ls ≤ k
 none_left [] k e = omega arith
@@ -52,12 +52,13 @@ none_left (l ∷ ls) (suc k) e = let le = none_left ls k e in omega arith
 
 -- ---- the parts
 
-size_in : (part : Section) (p : Place) (parts : Parts) → length parts.text_bytes.items ≡ p.text_size
+size_in : (part : Section) (p : LocationCounter) (parts : Parts) → length parts.text_bytes.items ≡ p.text_size
     → length parts.data_bytes.items ≡ p.data_size → length (bytes_in parts part) ≡ here_in part p
 size_in Text p parts t d = t
 size_in Data p parts t d = d
 
-pub size_here : (p : Place) (parts : Parts) → length parts.text_bytes.items ≡ p.text_size → length parts.data_bytes.items ≡ p.data_size
+pub size_here : (p : LocationCounter) (parts : Parts) → length parts.text_bytes.items ≡ p.text_size
+    → length parts.data_bytes.items ≡ p.data_size
     → length (bytes_in parts p.part) ≡ here p
 size_here p parts t d = size_in p.part p parts t d
 
@@ -69,7 +70,7 @@ any_part Text Data old new piece a o = ([], o ∙ sym (append-nil old.text_bytes
 any_part Data Text old new piece a o = ([], o ∙ sym (append-nil old.data_bytes.items))
 any_part Data Data old new piece a o = (piece, a)
 
-pub record HasSizes (p : Place) (parts : Parts) : Type 0 where
+pub record HasSizes (p : LocationCounter) (parts : Parts) : Type 0 where
   pub text : length parts.text_bytes.items ≡ p.text_size
   pub data_part : length parts.data_bytes.items ≡ p.data_size
 
@@ -77,7 +78,7 @@ grown_length : (old new piece : List ℕ) (from size : ℕ) → new ≡ old ++ p
     → length new ≡ from + size
 grown_length old new piece from size a f s = ap length a ∙ length-append old piece ∙ ap₂ (λ m n. m + n) f s
 
-sizes_in : (part : Section) (p : Place) (old new : Parts) (piece : List ℕ) (size : ℕ) → HasSizes p old
+sizes_in : (part : Section) (p : LocationCounter) (old new : Parts) (piece : List ℕ) (size : ℕ) → HasSizes p old
     → bytes_in new part ≡ bytes_in old part ++ piece → bytes_in new (other part) ≡ bytes_in old (other part) → length piece ≡ size
     → HasSizes (grown_in part p size) new
 sizes_in Text p old new piece size h a o s =
@@ -94,45 +95,47 @@ sizes_in Data p old new piece size h a o s =
     }
 
 module _ (T : ℕ) (L : List Label) where
-  grown_sizes : (p : Place) (code : Option Bool) (line : SourceLine) (old new : Parts) → HasSizes p old → HaveGrown T L p code line old new
-      → HasSizes (place_after p line.says) new
-  unfolding place_after
+  grown_sizes : (p : LocationCounter) (code : Option Bool) (line : SourceLine) (old new : Parts) → HasSizes p old
+      → HaveGrown T L p code line old new
+      → HasSizes (counter_after p line.says) new
+  unfolding counter_after
   grown_sizes p code line old new h g =
       let s =
       sizes_in p.part p old new g.bytes.piece (size_of line.says (here p)) h g.bytes.added g.others g.bytes.size in
       record { text = s.text; data_part = s.data_part }
 
-  put_now : (p : Place) (code : Option Bool) (line : SourceLine) (old new : Parts) → HasSizes p old → HaveGrown T L p code line old new
+  put_now : (p : LocationCounter) (code : Option Bool) (line : SourceLine) (old new : Parts) → HasSizes p old
+      → HaveGrown T L p code line old new
       → Puts T L (bytes_in new p.part) p line.says
   put_now p code line old new h g =
       subst (λ (bytes : List ℕ). Puts T L bytes p line.says) (sym g.bytes.added)
       (piece_puts T L p line.says (bytes_in old p.part) g.bytes.piece (size_here p old h.text h.data_part) g.bytes.piece_is)
 
-  put_before : (p : Place) (code : Option Bool) (line : SourceLine) (old new : Parts) (q : Place) (says : Says)
+  put_before : (p : LocationCounter) (code : Option Bool) (line : SourceLine) (old new : Parts) (q : LocationCounter) (says : Says)
       → HaveGrown T L p code line old new → Puts T L (bytes_in old q.part) q says → Puts T L (bytes_in new q.part) q says
   put_before p code line old new q says g h =
       let more = any_part q.part p.part old new g.bytes.piece g.bytes.added g.others in
       subst (λ (bytes : List ℕ). Puts T L bytes q says) (sym more.1) (puts_kept T L q says (bytes_in old q.part) more.0 h)
 
-  symbols_next : (p : Place) (code : Option Bool) (line : SourceLine) (rest : List SourceLine) (old new : Parts)
+  symbols_next : (p : LocationCounter) (code : Option Bool) (line : SourceLine) (rest : List SourceLine) (old new : Parts)
       → HaveGrown T L p code line old new
-      → map symbol_said new.symbols.items ++ symbols_from T (place_after p line.says) (text_is p line.says code) rest
+      → map symbol_said new.symbols.items ++ symbols_from T (counter_after p line.says) (text_is p line.says code) rest
       ≡ map symbol_said old.symbols.items ++ symbols_from T p code (line ∷ rest)
   unfolding symbols_from line_symbols
   symbols_next p code line rest old new g =
       let label = label_symbol T p line.label in
       let mapping = mapping_symbol T p line.says code in
-      let after = symbols_from T (place_after p line.says) (text_is p line.says code) rest in
+      let after = symbols_from T (counter_after p line.says) (text_is p line.says code) rest in
       let before = map symbol_said old.symbols.items in
       ap (λ x. x ++ after) g.symbols ∙ append_assoc before (label ++ mapping) after
       ∙ ap (λ x. before ++ x) (append_assoc label mapping after)
 
-  targets_next : (n : ℕ) (p : Place) (line : SourceLine) (rest : List SourceLine) → target_fault n T L p line.says ≡ None
-      → targets_fault (n + 1) T L (place_after p line.says) rest ≡ targets_fault n T L p (line ∷ rest)
+  targets_next : (n : ℕ) (p : LocationCounter) (line : SourceLine) (rest : List SourceLine) → target_fault n T L p line.says ≡ None
+      → targets_fault (n + 1) T L (counter_after p line.says) rest ≡ targets_fault n T L p (line ∷ rest)
   unfolding targets_fault
   targets_next n p line rest e = rw e refl
 
-  targets_stop : (n : ℕ) (p : Place) (line : SourceLine) (rest : List SourceLine) (fault : AsmFault)
+  targets_stop : (n : ℕ) (p : LocationCounter) (line : SourceLine) (rest : List SourceLine) (fault : AsmFault)
       → target_fault n T L p line.says ≡ Some fault → targets_fault n T L p (line ∷ rest) ≡ Some fault
   unfolding targets_fault
   targets_stop n p line rest fault e = rw e refl
@@ -142,94 +145,98 @@ module _ (T : ℕ) (L : List Label) where
     pub done : ℕ
     pub known : List Label
     pub rest : drop done ls ≡ said_lines texts
-    pub place : e.place ≡ place_of ls done
-    pub accepted : lines_fault n e.place known texts ≡ None
-    pub limits : IsInLimits e.place
-    pub sizes : HasSizes e.place e.parts
+    pub counter : e.counter ≡ counter_of ls done
+    pub accepted : lines_fault n e.counter known texts ≡ None
+    pub limits : IsInLimits e.counter
+    pub sizes : HasSizes e.counter e.parts
     pub puts : (k : ℕ) → k < done → (line : SourceLine) → slice_get ls k ≡ Some line
-        → Puts T L (bytes_in e.parts (place_of ls k).part) (place_of ls k) line.says
+        → Puts T L (bytes_in e.parts (counter_of ls k).part) (counter_of ls k) line.says
     pub symbols : map symbol_said e.parts.symbols.items
-        ++ symbols_from T e.place e.code (said_lines texts) ≡ symbols_from T first_place None ls
-    pub targets : targets_fault n T L e.place (said_lines texts) ≡ targets_fault 1 T L first_place ls
+        ++ symbols_from T e.counter e.code (said_lines texts) ≡ symbols_from T first_counter None ls
+    pub targets : targets_fault n T L e.counter (said_lines texts) ≡ targets_fault 1 T L first_counter ls
 
   -- a line is put
   pub at_next : (ls : List SourceLine) (text : List ℕ) (texts : List (List ℕ)) (n : ℕ) (old new : Emission) (line : SourceLine)
       → line_of text ≡ Ok line → IsAt ls (text ∷ texts) n old
-      → HaveGrown T L old.place old.code line old.parts new.parts → new.place ≡ place_after old.place line.says
-      → new.code ≡ text_is old.place line.says old.code
-      → target_fault n T L old.place line.says ≡ None → IsAt ls texts (n + 1) new
-  at_next ls text texts n old new line says h g place code fine =
-      let a = accepted_first n old.place h.known text texts h.accepted in
+      → HaveGrown T L old.counter old.code line old.parts new.parts → new.counter ≡ counter_after old.counter line.says
+      → new.code ≡ text_is old.counter line.says old.code
+      → target_fault n T L old.counter line.says ≡ None → IsAt ls texts (n + 1) new
+  at_next ls text texts n old new line says h g counter code fine =
+      let a = accepted_first n old.counter h.known text texts h.accepted in
       let same : a.line ≡ line = one_line text a.line line a.says says in
       let said : said_lines (text ∷ texts) ≡ line ∷ said_lines texts = said_first text texts line says in
       let left : drop h.done ls ≡ line ∷ said_lines texts = h.rest ∙ said in
-      let there : place_of ls (suc h.done) ≡ place_after old.place line.says =
-      place_next first_place ls h.done line (said_lines texts) left ∙ ap (λ (p : Place). place_after p line.says) (sym h.place) in
+      let there : counter_of ls (suc h.done) ≡ counter_after old.counter line.says =
+      counter_next first_counter ls h.done line (said_lines texts) left
+      ∙ ap (λ (p : LocationCounter). counter_after p line.says) (sym h.counter) in
       let P : ℕ → Type 0 =
-      λ k. (l : SourceLine) → slice_get ls k ≡ Some l → Puts T L (bytes_in new.parts (place_of ls k).part) (place_of ls k) l.says in
-      let now : Puts T L (bytes_in new.parts old.place.part) old.place line.says =
-      put_now old.place old.code line old.parts new.parts h.sizes g in
+      λ k. (l : SourceLine) → slice_get ls k ≡ Some l → Puts T L (bytes_in new.parts (counter_of ls k).part) (counter_of ls k) l.says in
+      let now : Puts T L (bytes_in new.parts old.counter.part) old.counter line.says =
+      put_now old.counter old.code line old.parts new.parts h.sizes g in
       record {
         done = suc h.done;
-        known = labels_after old.place h.known line;
+        known = labels_after old.counter h.known line;
         rest = drop_next ls h.done line (said_lines texts) left;
-        place = place ∙ sym there;
-        accepted = subst (λ (p : Place). lines_fault (n + 1) p (labels_after old.place h.known line) texts ≡ None) (sym place)
-            (subst (λ (l : SourceLine). lines_fault (n + 1) (place_after old.place l.says) (labels_after old.place h.known l) texts ≡ None)
+        counter = counter ∙ sym there;
+        accepted = subst (λ (p : LocationCounter). lines_fault (n + 1) p (labels_after old.counter h.known line) texts ≡ None) (sym counter)
+            (subst (λ (l : SourceLine). lines_fault (n + 1) (counter_after old.counter l.says) (labels_after old.counter h.known l) texts
+            ≡ None)
             same a.rest);
         limits =
-            subst IsInLimits (sym place) (subst (λ (l : SourceLine). IsInLimits (place_after old.place l.says)) same
-            (limits_after old.place a.line.says a.fits));
-        sizes = subst (λ (p : Place). HasSizes p new.parts) (sym place) (grown_sizes old.place old.code line old.parts new.parts h.sizes g);
+            subst IsInLimits (sym counter) (subst (λ (l : SourceLine). IsInLimits (counter_after old.counter l.says)) same
+            (limits_after old.counter a.line.says a.fits));
+        sizes = subst (λ (p : LocationCounter). HasSizes p new.parts) (sym counter)
+            (grown_sizes old.counter old.code line old.parts new.parts h.sizes g);
         puts = λ k lt. below_more P h.done
-            (λ j less l is. put_before old.place old.code line old.parts new.parts (place_of ls j) l.says g (h.puts j less l is))
+            (λ j less l is. put_before old.counter old.code line old.parts new.parts (counter_of ls j) l.says g (h.puts j less l is))
             (λ l is.
             let one : line ≡ l = let found = get_next ls h.done line (said_lines texts) left in cc in
-            subst (λ (x : SourceLine). Puts T L (bytes_in new.parts (place_of ls h.done).part) (place_of ls h.done) x.says) one
-            (subst (λ (p : Place). Puts T L (bytes_in new.parts p.part) p line.says) h.place now))
+            subst (λ (x : SourceLine). Puts T L (bytes_in new.parts (counter_of ls h.done).part) (counter_of ls h.done) x.says) one
+            (subst (λ (p : LocationCounter). Puts T L (bytes_in new.parts p.part) p line.says) h.counter now))
             k (omega arith);
         symbols =
-            ap₂ (λ (p : Place) (c : Option Bool). map symbol_said new.parts.symbols.items
-            ++ symbols_from T p c (said_lines texts)) place code
-            ∙ symbols_next old.place old.code line (said_lines texts) old.parts new.parts g
-            ∙ ap (λ (l : List SourceLine). map symbol_said old.parts.symbols.items ++ symbols_from T old.place old.code l) (sym said)
+            ap₂ (λ (p : LocationCounter) (c : Option Bool). map symbol_said new.parts.symbols.items
+            ++ symbols_from T p c (said_lines texts)) counter code
+            ∙ symbols_next old.counter old.code line (said_lines texts) old.parts new.parts g
+            ∙ ap (λ (l : List SourceLine). map symbol_said old.parts.symbols.items ++ symbols_from T old.counter old.code l) (sym said)
             ∙ h.symbols;
         targets =
-            ap (λ (p : Place). targets_fault (n + 1) T L p (said_lines texts)) place ∙ targets_next n old.place line (said_lines texts) fine
-            ∙ ap (λ (l : List SourceLine). targets_fault n T L old.place l) (sym said) ∙ h.targets;
+            ap (λ (p : LocationCounter). targets_fault (n + 1) T L p (said_lines texts)) counter
+            ∙ targets_next n old.counter line (said_lines texts) fine
+            ∙ ap (λ (l : List SourceLine). targets_fault n T L old.counter l) (sym said) ∙ h.targets;
       }
 
   -- a line has a fault
   pub at_fault : (ls : List SourceLine) (text : List ℕ) (texts : List (List ℕ)) (n : ℕ) (old : Emission) (line : SourceLine)
       (fault : AsmFault) → line_of text ≡ Ok line → IsAt ls (text ∷ texts) n old
-      → target_fault n T L old.place line.says ≡ Some fault → targets_fault 1 T L first_place ls ≡ Some fault
+      → target_fault n T L old.counter line.says ≡ Some fault → targets_fault 1 T L first_counter ls ≡ Some fault
   at_fault ls text texts n old line fault says h e =
-      sym h.targets ∙ ap (λ (l : List SourceLine). targets_fault n T L old.place l) (said_first text texts line says)
-      ∙ targets_stop n old.place line (said_lines texts) fault e
+      sym h.targets ∙ ap (λ (l : List SourceLine). targets_fault n T L old.counter l) (said_first text texts line says)
+      ∙ targets_stop n old.counter line (said_lines texts) fault e
 
   -- before the first line
-  pub at_start : (texts : List (List ℕ)) (e : Emission) → lines_fault 1 first_place [] texts ≡ None → e.parts.text_bytes.items ≡ []
-      → e.parts.data_bytes.items ≡ [] → e.parts.symbols.items ≡ [] → e.place ≡ first_place → e.code ≡ None
+  pub at_start : (texts : List (List ℕ)) (e : Emission) → lines_fault 1 first_counter [] texts ≡ None → e.parts.text_bytes.items ≡ []
+      → e.parts.data_bytes.items ≡ [] → e.parts.symbols.items ≡ [] → e.counter ≡ first_counter → e.code ≡ None
       → IsAt (said_lines texts) texts 1 e
-  unfolding place_past
-  at_start texts e accepted text data_part symbols place code = record {
+  unfolding counter_past
+  at_start texts e accepted text data_part symbols counter code = record {
     done = zero;
     known = [];
     rest = refl;
-    place = place;
-    accepted = subst (λ (p : Place). lines_fault 1 p [] texts ≡ None) (sym place) accepted;
-    limits = subst IsInLimits (sym place) (record { text = omega arith; data_part = omega arith });
+    counter = counter;
+    accepted = subst (λ (p : LocationCounter). lines_fault 1 p [] texts ≡ None) (sym counter) accepted;
+    limits = subst IsInLimits (sym counter) (record { text = omega arith; data_part = omega arith });
     sizes =
         record {
-          text = ap length text ∙ sym (ap (λ (p : Place). p.text_size) place);
+          text = ap length text ∙ sym (ap (λ (p : LocationCounter). p.text_size) counter);
           data_part = ap length data_part
-              ∙ sym (ap (λ (p : Place). p.data_size) place);
+              ∙ sym (ap (λ (p : LocationCounter). p.data_size) counter);
         };
     puts = λ k lt. absurd (omega arith);
     symbols =
         ap₂ (λ (x : List SymbolSaid) (y : List SymbolSaid). x ++ y) (ap (map symbol_said) symbols)
-        (ap₂ (λ (p : Place) (c : Option Bool). symbols_from T p c (said_lines texts)) place code);
-    targets = ap (λ (p : Place). targets_fault 1 T L p (said_lines texts)) place;
+        (ap₂ (λ (p : LocationCounter) (c : Option Bool). symbols_from T p c (said_lines texts)) counter code);
+    targets = ap (λ (p : LocationCounter). targets_fault 1 T L p (said_lines texts)) counter;
   }
 
   -- after the last line
@@ -238,20 +245,22 @@ module _ (T : ℕ) (L : List Label) where
   unfolding said_lines symbols_from
   at_end ls n e size labels h =
       let le = none_left ls h.done h.rest in
-      let whole : place_of ls h.done ≡ place_past first_place ls = ap (place_past first_place) (take_all h.done ls le) in
-      let there : e.place ≡ place_past first_place ls = h.place ∙ whole in
+      let whole : counter_of ls h.done ≡ counter_past first_counter ls = ap (counter_past first_counter) (take_all h.done ls le) in
+      let there : e.counter ≡ counter_past first_counter ls = h.counter ∙ whole in
       record {
-        text_size = h.sizes.text ∙ ap (λ (p : Place). p.text_size) there;
-        data_size = h.sizes.data_part ∙ ap (λ (p : Place). p.data_size) there;
+        text_size = h.sizes.text ∙ ap (λ (p : LocationCounter). p.text_size) there;
+        data_size = h.sizes.data_part ∙ ap (λ (p : LocationCounter). p.data_size) there;
         puts = λ k line is.
-            subst (λ (l : List Label). Puts (text_length_of ls) l (bytes_in e.parts (place_of ls k).part) (place_of ls k) line.says) labels
-            (subst (λ (t : ℕ). Puts t L (bytes_in e.parts (place_of ls k).part) (place_of ls k) line.says) size
+            subst (λ (l : List Label). Puts (text_length_of ls) l (bytes_in e.parts (counter_of ls k).part) (counter_of ls k) line.says)
+            labels
+            (subst (λ (t : ℕ). Puts t L (bytes_in e.parts (counter_of ls k).part) (counter_of ls k) line.says) size
             (let within = slice_get_within ls k line is in h.puts k (omega arith) line is));
         symbols =
-            sym (append-nil (map symbol_said e.parts.symbols.items)) ∙ h.symbols ∙ ap (λ (t : ℕ). symbols_from t first_place None ls) size;
+            sym (append-nil (map symbol_said e.parts.symbols.items)) ∙ h.symbols
+            ∙ ap (λ (t : ℕ). symbols_from t first_counter None ls) size;
       }
 
   -- no line had a fault
-  pub at_end_fine : (ls : List SourceLine) (n : ℕ) (e : Emission) → IsAt ls [] n e → targets_fault 1 T L first_place ls ≡ None
+  pub at_end_fine : (ls : List SourceLine) (n : ℕ) (e : Emission) → IsAt ls [] n e → targets_fault 1 T L first_counter ls ≡ None
   unfolding said_lines targets_fault
   at_end_fine ls n e h = sym h.targets

@@ -2,16 +2,16 @@
 use Rattle.std.proofs.Common.{◌≡◌, ℕ, ◌-◌, ◌^◌, true, false, cond, List, [], ◌∷◌, map, Option, Some, None, Result, Ok, refl, subst}
 use Rattle.std.specs.Prelude.{is_some, slice_get}
 use Rattle.a64_encode.specs.Either.{instruction_of}
-use Rattle.insn_text.specs.declared.words.TheConstants.{NAMES}
+use Rattle.insn_text.specs.declared.keywords.TheConstants.{MNEMONICS}
 use Rattle.asm_tokens.specs.declared.token.Token.{Token}
 use Rattle.asm_tokens.specs.declared.token.Lexeme.{Lexeme}
 use Rattle.asm_tokens.specs.Characters.{column_at, before_comment}
-use Rattle.asm_tokens.specs.Tokens.{place_in, is_name}
+use Rattle.asm_tokens.specs.Tokens.{index_in, is_name}
 use Rattle.asm_operands.specs.declared.fault.FaultKind.TheVariants.{Extra}
 use Rattle.asm_operands.specs.declared.operands.Target.{Target}
 use Rattle.asm_operands.specs.Operands.{OperandsSaid, operands_said}
 use Rattle.asm_operands.specs.Operands as operands
-use Rattle.asm_operands.proofs.Aimed.{said-means, target-sound, aimed-means}
+use Rattle.asm_operands.proofs.AnyDistance.{said-means, target-sound, resolved-means}
 use Rattle.asm_parser.specs.declared.line.LineFault.{LineFault}
 use Rattle.asm_parser.specs.Statements.{Says, TargetSaid, Instructs, IntoText, IntoData, Quads, Words, Bytes, Zeros, Aligns, Globals}
 use Rattle.asm_parser.specs.Statements.{SourceLine}
@@ -20,22 +20,22 @@ use Rattle.asm_parser.specs.Lines.{quad_value, Directive, TextDirective, DataDir
 use Rattle.asm_parser.specs.Lines.{ZeroDirective, AlignDirective, GlobalDirective, directive_of, directive_says, target_named, target_at}
 use Rattle.asm_parser.specs.Lines.{instruction_or_fault, instruction_says, named_says, tokens_say, text_of_lexeme, line_answer}
 use Rattle.asm_parser.specs.Lines.{line_lexemes, label_of, line_of}
-use Rattle.asm_core.specs.Aimed.{MeansAimed}
+use Rattle.asm_core.specs.Resolved.{MeansResolved}
 use Rattle.asm_core.specs.Targets.{word_to}
-use Rattle.asm_core.proofs.Immediates.{named-aims, named-far}
-use Rattle.asm_core.specs.Emitted.{CanHave, CanBeAimed, HasWord}
+use Rattle.asm_core.proofs.Immediates.{named-resolves, named-far}
+use Rattle.asm_core.specs.Emitted.{CanHave, CanBeResolved, HasWord}
 
 abbrev Told : Answer Says → Type 0
 Told (Tells says) = HasWord says
-Told (Stops place kind) = Unit {0}
+Told (Stops index kind) = Unit {0}
 
 further_told : (k : ℕ) (a : Answer Says) → Told a → Told (further k a)
 further_told k (Tells says) h = h
-further_told k (Stops place kind) h = tt
+further_told k (Stops index kind) h = tt
 
 made_told : {A : Type 0} (make : A → Says) → ((a : A) → HasWord (make a)) → (a : Answer A) → Told (and_then make a)
 made_told make has (Tells a) = has a
-made_told make has (Stops place kind) = tt
+made_told make has (Stops index kind) = tt
 
 ends_told : (says : Says) (ls : List Lexeme) → HasWord says → Told (ends says ls)
 unfolding ends
@@ -54,43 +54,43 @@ directive_told line AlignDirective ls = made_told Aligns (λ a. tt) (one_number 
 directive_told line GlobalDirective ls = made_told Globals (λ a. tt) (one_name line ls)
 
 -- a target can have each distance
-abbrev CanAim : ℕ → Option Target → Type 0
-CanAim word None = Unit {0}
-CanAim word (Some target) = CanHave target.operand word
+abbrev CanResolve : ℕ → Option Target → Type 0
+CanResolve word None = Unit {0}
+CanResolve word (Some target) = CanHave target.operand word
 
 -- the word that operands say means an instruction
 abbrev Means : OperandsSaid → Type 0
-Means (operands.Says word target) = (is_some (instruction_of word) ≡ true) × CanAim word target
+Means (operands.Says word target) = (is_some (instruction_of word) ≡ true) × CanResolve word target
 Means (operands.Fails fault) = Unit {0}
 
-can_aim : (name : ℕ) (ts : List Token) (word : ℕ) (target : Option Target) → operands_said name ts ≡ operands.Says word target
-    → CanAim word target
-can_aim name ts word None e = tt
-can_aim name ts word (Some target) e =
+can_resolve : (name : ℕ) (ts : List Token) (word : ℕ) (target : Option Target) → operands_said name ts ≡ operands.Says word target
+    → CanResolve word target
+can_resolve name ts word None e = tt
+can_resolve name ts word (Some target) e =
     record {
       sound = target-sound name ts word target e;
-      means = λ back size aimed is. aimed-means name ts word target back size aimed e is;
-      aims = named-aims name ts word target e;
+      means = λ back size resolved is. resolved-means name ts word target back size resolved e is;
+      resolves = named-resolves name ts word target e;
       far = named-far name ts word target e;
     }
 
 operands_mean : (name : ℕ) (ts : List Token) (said : OperandsSaid) → operands_said name ts ≡ said → Means said
-operands_mean name ts (operands.Says word target) e = (said-means name ts word target e, can_aim name ts word target e)
+operands_mean name ts (operands.Says word target) e = (said-means name ts word target e, can_resolve name ts word target e)
 operands_mean name ts (operands.Fails fault) e = tt
 
-aims_named : (line : List ℕ) (word : ℕ) (target : Target) (o : Option Lexeme) → CanHave target.operand word
-    → CanBeAimed word (target_named line target.operand o)
-aims_named line word target None h = tt
-aims_named line word target (Some l) h = h
+resolves_named : (line : List ℕ) (word : ℕ) (target : Target) (o : Option Lexeme) → CanHave target.operand word
+    → CanBeResolved word (target_named line target.operand o)
+resolves_named line word target None h = tt
+resolves_named line word target (Some l) h = h
 
-aims_at : (line : List ℕ) (ls : List Lexeme) (word : ℕ) (target : Option Target) → CanAim word target
-    → CanBeAimed word (target_at line ls target)
-aims_at line ls word None h = tt
-aims_at line ls word (Some target) h = aims_named line word target (slice_get ls target.place) h
+resolves_at : (line : List ℕ) (ls : List Lexeme) (word : ℕ) (target : Option Target) → CanResolve word target
+    → CanBeResolved word (target_at line ls target)
+resolves_at line ls word None h = tt
+resolves_at line ls word (Some target) h = resolves_named line word target (slice_get ls target.index) h
 
 operands_told : (line : List ℕ) (column : ℕ) (ls : List Lexeme) (said : OperandsSaid) → Means said
     → Told (instruction_or_fault line column ls said)
-operands_told line column ls (operands.Says word target) h = record { means = h.0; aims = aims_at line ls word target h.1 }
+operands_told line column ls (operands.Says word target) h = record { means = h.0; resolves = resolves_at line ls word target h.1 }
 operands_told line column ls (operands.Fails f) h = tt
 
 instruction_told : (line : List ℕ) (name column : ℕ) (ls : List Lexeme) → Told (instruction_says line name column ls)
@@ -110,8 +110,8 @@ unfolding tokens_say
 tokens_told line [] = tt
 tokens_told line (l ∷ ls) =
     elim (is_name l.token) as (λ b. Told (cond b
-    (named_says line l ls (directive_of (text_of_lexeme line l)) (place_in NAMES (text_of_lexeme line l))) (Stops 0 Extra))) [
-      | true ↦ named_told line l ls (directive_of (text_of_lexeme line l)) (place_in NAMES (text_of_lexeme line l))
+    (named_says line l ls (directive_of (text_of_lexeme line l)) (index_in MNEMONICS (text_of_lexeme line l))) (Stops 0 Extra))) [
+      | true ↦ named_told line l ls (directive_of (text_of_lexeme line l)) (index_in MNEMONICS (text_of_lexeme line l))
       | false ↦ tt
     ]
 
@@ -121,7 +121,7 @@ same_line a b e = cc
 answer_told : (text : List ℕ) (label : Option (List ℕ)) (ls : List Lexeme) (a : Answer Says) (line : SourceLine) → Told a
     → line_answer text label ls a ≡ Ok line → HasWord line.says
 answer_told text label ls (Tells says) line h e = subst (λ (l : SourceLine). HasWord l.says) (same_line _ line e) h
-answer_told text label ls (Stops place kind) line h e = cc
+answer_told text label ls (Stops index kind) line h e = cc
 
 pub line_word : (text : List ℕ) (line : SourceLine) → line_of text ≡ Ok line → HasWord line.says
 unfolding line_of
@@ -129,21 +129,21 @@ line_word text line e =
     answer_told text (label_of (before_comment text)) (line_lexemes text) (tokens_say text (line_lexemes text)) line
     (tokens_told text (line_lexemes text)) e
 
-aims_said : (says : Says) (word column : ℕ) (target : TargetSaid) → says ≡ Instructs word (Some target) column → HasWord says
-    → (from to aimed : ℕ) → word_to target.operand word from to ≡ Some aimed → MeansAimed word from to aimed
-aims_said says word column target e h = (subst HasWord e h).aims.aims
+resolves_said : (says : Says) (word column : ℕ) (target : TargetSaid) → says ≡ Instructs word (Some target) column → HasWord says
+    → (from to resolved : ℕ) → word_to target.operand word from to ≡ Some resolved → MeansResolved word from to resolved
+resolves_said says word column target e h = (subst HasWord e h).resolves.resolves
 
 far_said : (says : Says) (word column : ℕ) (target : TargetSaid) → says ≡ Instructs word (Some target) column → HasWord says
-    → (from to : ℕ) → word_to target.operand word from to ≡ None → (aimed : ℕ) → MeansAimed word from to aimed → ⊥
-far_said says word column target e h = (subst HasWord e h).aims.far
+    → (from to : ℕ) → word_to target.operand word from to ≡ None → (resolved : ℕ) → MeansResolved word from to resolved → ⊥
+far_said says word column target e h = (subst HasWord e h).resolves.far
 
 pub line_far : (text : List ℕ) (line : SourceLine) (word column from to : ℕ) (target : TargetSaid) → line_of text ≡ Ok line
     → line.says ≡ Instructs word (Some target) column → word_to target.operand word from to ≡ None
-    → (aimed : ℕ) → MeansAimed word from to aimed → ⊥
+    → (resolved : ℕ) → MeansResolved word from to resolved → ⊥
 line_far text line word column from to target e f = far_said line.says word column target f (line_word text line e) from to
 
-pub line_aims : (text : List ℕ) (line : SourceLine) (word column from to aimed : ℕ) (target : TargetSaid) → line_of text ≡ Ok line
-    → line.says ≡ Instructs word (Some target) column → word_to target.operand word from to ≡ Some aimed
-    → MeansAimed word from to aimed
-line_aims text line word column from to aimed target e f g =
-    aims_said line.says word column target f (line_word text line e) from to aimed g
+pub line_resolves : (text : List ℕ) (line : SourceLine) (word column from to resolved : ℕ) (target : TargetSaid) → line_of text ≡ Ok line
+    → line.says ≡ Instructs word (Some target) column → word_to target.operand word from to ≡ Some resolved
+    → MeansResolved word from to resolved
+line_resolves text line word column from to resolved target e f g =
+    resolves_said line.says word column target f (line_word text line e) from to resolved g

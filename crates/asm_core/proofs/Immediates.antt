@@ -42,21 +42,21 @@ use Rattle.insn_text.specs.Texts.{items_in, items_of}
 use Rattle.insn_text.specs.Texts as texts
 use Rattle.asm_tokens.specs.Tokens.{is_name}
 use Rattle.asm_tokens.specs.declared.token.Token.{Token}
-use Rattle.asm_tokens.specs.declared.token.Token.TheVariants.{Word, Distance}
+use Rattle.asm_tokens.specs.declared.token.Token.TheVariants.{Keyword, Distance}
 use Rattle.asm_operands.specs.declared.operands.Target.{Target}
 use Rattle.asm_operands.specs.Fields.{on_target, signed_field, field_said}
-use Rattle.asm_operands.specs.Operands.{Known, with_field, agrees, known_with, known_after, taken_on, taken, fixed, word_in, shapes_of}
+use Rattle.asm_operands.specs.Operands.{PartialWord, with_field, agrees, partial_with, partial_after, taken_on, taken, fixed, word_in, shapes_of}
 use Rattle.asm_operands.specs.Operands.{first_of_words, first_word, is_distance, is_name_token, names, target_in, target_of, operands_said}
 use Rattle.asm_operands.specs.Operands.{Says}
 use Rattle.asm_operands.specs.Operands as operands
 use Rattle.asm_operands.specs.Distances.{unit_of, with_distance}
 use Rattle.asm_operands.specs.Sound.{has_factor, is_sound}
 use Rattle.asm_operands.proofs.Tables.{all-take, all-drop, items_of-sound}
-use Rattle.asm_operands.proofs.Aimed.{is_said, word_kept, or_clear, is_no_vector, never_vector}
+use Rattle.asm_operands.proofs.AnyDistance.{is_said, word_kept, or_clear, is_no_vector, never_vector}
 use Rattle.asm_operands.proofs.WordBits.{and_swap}
-use Rattle.asm_core.specs.Aimed.{with_immediate, unit_in, place_in, IsAimed, MeansAimed}
+use Rattle.asm_core.specs.Resolved.{with_immediate, unit_in, base_in, IsResolved, MeansResolved}
 use Rattle.asm_core.specs.Targets.{counted_from, word_to}
-use Rattle.asm_core.proofs.Reaches.{Holds, branch_reach, in_reach, reaches, word_reach}
+use Rattle.asm_core.proofs.ImmediateRanges.{Holds, branch_range, in_range, ranges, word_range}
 
 some_is : {A : Type 0} (a b : A) → ◌≡◌ {A = Option A} (Some a) (Some b) → a ≡ b
 some_is a b e = cc
@@ -145,32 +145,32 @@ found name ts w target e =
 -- ---- the target is the last operand, and its token a name
 
 record IsLast (is : List Item) (ts : List Token) (i : Item) : Type 0 where
-  place : ℕ
-  listed : slice_get is place ≡ Some i
+  index : ℕ
+  listed : slice_get is index ≡ Some i
   token : Token
-  read : slice_get ts place ≡ Some token
+  read : slice_get ts index ≡ Some token
   name : is_name token ≡ true
   distance : is_distance i.kind ≡ true
-  last : length is ≤ place + 1
+  last : length is ≤ index + 1
 
-last_if : (d n : Bool) (j : Item) (place : ℕ) (target : Target)
-    → option_map (λ (i : Item). record { place = place; operand = i }) (cond (d && n) (Some j) None) ≡ Some target → (j ≡ target.operand)
+last_if : (d n : Bool) (j : Item) (index : ℕ) (target : Target)
+    → option_map (λ (i : Item). record { index = index; operand = i }) (cond (d && n) (Some j) None) ≡ Some target → (j ≡ target.operand)
     × (d ≡ true) × (n ≡ true)
-last_if true true j place target e =
-    let same : record { place = place; operand = j } ≡ target = some_is _ target e in (ap (λ (x : Target). x.operand) same, refl, refl)
-last_if true false j place target e = cc
-last_if false n j place target e = cc
+last_if true true j index target e =
+    let same : record { index = index; operand = j } ≡ target = some_is _ target e in (ap (λ (x : Target). x.operand) same, refl, refl)
+last_if true false j index target e = cc
+last_if false n j index target e = cc
 
-last_by : (is : List Item) (ts : List Token) (place : ℕ) (o : Option Item) (t : Option Token) (target : Target) → length is ≤ place + 1
-    → slice_get is place ≡ o → slice_get ts place ≡ t
-    → option_map (λ (i : Item). record { place = place; operand = i }) (option_and_then (names t) o) ≡ Some target
+last_by : (is : List Item) (ts : List Token) (index : ℕ) (o : Option Item) (t : Option Token) (target : Target) → length is ≤ index + 1
+    → slice_get is index ≡ o → slice_get ts index ≡ t
+    → option_map (λ (i : Item). record { index = index; operand = i }) (option_and_then (names t) o) ≡ Some target
     → IsLast is ts target.operand
-last_by is ts place None t target le g h e = cc
-last_by is ts place (Some j) None target le g h e = let n = last_if (is_distance j.kind) false j place target e in let f = n.2 in cc
-last_by is ts place (Some j) (Some k) target le g h e =
-    let n = last_if (is_distance j.kind) (is_name k) j place target e in
+last_by is ts index None t target le g h e = cc
+last_by is ts index (Some j) None target le g h e = let n = last_if (is_distance j.kind) false j index target e in let f = n.2 in cc
+last_by is ts index (Some j) (Some k) target le g h e =
+    let n = last_if (is_distance j.kind) (is_name k) j index target e in
     record {
-      place = place;
+      index = index;
       listed = g ∙ ap Some n.0;
       token = k;
       read = h;
@@ -188,7 +188,7 @@ last_in is ts target e =
 
 name_zero : (says : Bool → ℕ → Option ℕ) (t : Token) → is_name t ≡ true → on_target says t ≡ Some 0
 unfolding on_target is_name
-name_zero says (Word place) e = refl
+name_zero says (Keyword index) e = refl
 name_zero says t e = cc
 
 kind_zero : (k : Kind) (bits : ℕ) (t : Token) → is_distance k ≡ true → is_name t ≡ true → field_said k bits t ≡ Some 0
@@ -209,63 +209,63 @@ none_and v = refl
 or_none : (v : ℕ) → bit_or v 0 ≡ v
 or_none v = or_comm v 0
 
-zero_by : (i : Item) (known next : Known) (b : Bool) (w : ℕ) → agrees i known 0 ≡ b
-    → ◌≡◌ {A = Option Known} (cond b (Some (with_field i known 0)) None) (Some next) → Some next.value ≡ Some w
+zero_by : (i : Item) (partial next : PartialWord) (b : Bool) (w : ℕ) → agrees i partial 0 ≡ b
+    → ◌≡◌ {A = Option PartialWord} (cond b (Some (with_field i partial 0)) None) (Some next) → Some next.value ≡ Some w
     → bit_and w (operands.mask_of i) ≡ 0
 unfolding agrees with_field
-zero_by i known next false w a e h = cc
-zero_by i known next true w a e h =
-    let same = some_is (with_field i known 0) next e in
-    let parts = and_parts (bit_and known.value (operands.mask_of i) == bit_and (operands.placed i 0) known.mask) _ a in
-    let value : known.value ≡ w =
-    sym (or_none known.value) ∙ ap (bit_or known.value) (sym (placed_zero i)) ∙ ap (λ (k : Known). k.value) same
+zero_by i partial next false w a e h = cc
+zero_by i partial next true w a e h =
+    let same = some_is (with_field i partial 0) next e in
+    let parts = and_parts (bit_and partial.value (operands.mask_of i) == bit_and (operands.placed i 0) partial.mask) _ a in
+    let value : partial.value ≡ w =
+    sym (or_none partial.value) ∙ ap (bit_or partial.value) (sym (placed_zero i)) ∙ ap (λ (k : PartialWord). k.value) same
     ∙ some_is next.value w h in
-    ap (λ v. bit_and v (operands.mask_of i)) (sym value) ∙ eqb-true _ _ parts.0 ∙ ap (λ p. bit_and p known.mask) (placed_zero i)
-    ∙ none_and known.mask
+    ap (λ v. bit_and v (operands.mask_of i)) (sym value) ∙ eqb-true _ _ parts.0 ∙ ap (λ p. bit_and p partial.mask) (placed_zero i)
+    ∙ none_and partial.mask
 
-zero_end : (i : Item) (is : List Item) (known next : Known) (t : Token) (ts : List Token) (w : ℕ) → length is ≡ 0
-    → known_after i known t ≡ Some next → taken is next ts ≡ Some w → is_distance i.kind ≡ true → is_name t ≡ true
+zero_end : (i : Item) (is : List Item) (partial next : PartialWord) (t : Token) (ts : List Token) (w : ℕ) → length is ≡ 0
+    → partial_after i partial t ≡ Some next → taken is next ts ≡ Some w → is_distance i.kind ≡ true → is_name t ≡ true
     → bit_and w (operands.mask_of i) ≡ 0
-unfolding known_after known_with taken
-zero_end i [] known next t [] w z k e d n =
+unfolding partial_after partial_with taken
+zero_end i [] partial next t [] w z k e d n =
     let f = kind_zero i.kind (texts.bits_of i) t d n in
-    zero_by i known next (agrees i known 0) w refl (sym (ap (known_with i known) f) ∙ k) e
-zero_end i [] known next t (u ∷ ts) w z k e d n = cc
-zero_end i (j ∷ is) known next t ts w z k e d n = absurd (omega arith)
+    zero_by i partial next (agrees i partial 0) w refl (sym (ap (partial_with i partial) f) ∙ k) e
+zero_end i [] partial next t (u ∷ ts) w z k e d n = cc
+zero_end i (j ∷ is) partial next t ts w z k e d n = absurd (omega arith)
 
-zero_last : (is : List Item) (known : Known) (ts : List Token) (w place : ℕ) (i : Item) (t : Token) → taken is known ts ≡ Some w
-    → slice_get is place ≡ Some i → slice_get ts place ≡ Some t → length is ≤ place + 1 → is_distance i.kind ≡ true → is_name t ≡ true
+zero_last : (is : List Item) (partial : PartialWord) (ts : List Token) (w index : ℕ) (i : Item) (t : Token) → taken is partial ts ≡ Some w
+    → slice_get is index ≡ Some i → slice_get ts index ≡ Some t → length is ≤ index + 1 → is_distance i.kind ≡ true → is_name t ≡ true
     → bit_and w (operands.mask_of i) ≡ 0
 unfolding taken
-zero_last [] known ts w place i t e g h le d n = cc
-zero_last (j ∷ is) known [] w place i t e g h le d n = cc
-zero_last (j ∷ is) known (u ∷ ts) w zero i t e g h le d n =
+zero_last [] partial ts w index i t e g h le d n = cc
+zero_last (j ∷ is) partial [] w index i t e g h le d n = cc
+zero_last (j ∷ is) partial (u ∷ ts) w zero i t e g h le d n =
     let item : j ≡ i = some_is j i g in
     let token : u ≡ t = some_is u t h in
-    elim (known_after j known u) as (λ o. known_after j known u ≡ o → taken_on (λ next. taken is next ts) o ≡ Some w
+    elim (partial_after j partial u) as (λ o. partial_after j partial u ≡ o → taken_on (λ next. taken is next ts) o ≡ Some w
     → bit_and w (operands.mask_of i) ≡ 0) [
       | None ↦ λ is_none f. cc
-      | Some next ↦ λ is_next f. zero_end i is known next t ts w (omega arith)
-          (sym (ap₂ (λ x y. known_after x known y) item token) ∙ is_next) f d n
+      | Some next ↦ λ is_next f. zero_end i is partial next t ts w (omega arith)
+          (sym (ap₂ (λ x y. partial_after x partial y) item token) ∙ is_next) f d n
     ] refl e
-zero_last (j ∷ is) known (u ∷ ts) w (suc place) i t e g h le d n =
-    elim (known_after j known u) as (λ o. known_after j known u ≡ o → taken_on (λ next. taken is next ts) o ≡ Some w
+zero_last (j ∷ is) partial (u ∷ ts) w (suc index) i t e g h le d n =
+    elim (partial_after j partial u) as (λ o. partial_after j partial u ≡ o → taken_on (λ next. taken is next ts) o ≡ Some w
     → bit_and w (operands.mask_of i) ≡ 0) [
       | None ↦ λ is_none f. cc
-      | Some next ↦ λ is_next f. zero_last is next ts w place i t f g h (omega arith) d n
+      | Some next ↦ λ is_next f. zero_last is next ts w index i t f g h (omega arith) d n
     ] refl e
 
 zero_said : (s : Shape) (ts : List Token) (w : ℕ) (i : Item) → word_in s ts ≡ Some w → IsLast (items_of s) ts i
     → bit_and w (operands.mask_of i) ≡ 0
 unfolding word_in
-zero_said s ts w i e l = zero_last (items_of s) (fixed s) ts w l.place i l.token e l.listed l.read l.last l.distance l.name
+zero_said s ts w i e l = zero_last (items_of s) (fixed s) ts w l.index i l.token e l.listed l.read l.last l.distance l.name
 
 -- ---- the row of the word
 
 record IsRowOf (i : Item) (w : ℕ) (it : Insn) : Type 0 where
-  place : ℕ
+  index : ℕ
   row : Line Operation
-  listed : slice_get SCALAR_LINES place ≡ Some row
+  listed : slice_get SCALAR_LINES index ≡ Some row
   matches : bit_and w row.mask ≡ row.value
   gives : it ≡ named row.operation (numbers_in w) (signed_numbers_in w)
   immediate : is_immediate i row.operation ≡ true
@@ -287,7 +287,7 @@ row_of s i ts w it said all m =
     and_parts (is_immediate i m.line.operation) (bit_and m.line.mask (mask_of (immediate_of m.line.operation)) == 0)
     (when_true _ _ (eq-eqb _ _ common) fit) in
     record {
-      place = m.place;
+      index = m.place;
       row = m.line;
       listed = m.listed;
       matches = m.matches;
@@ -303,33 +303,33 @@ module _ (f : Field) (w number : ℕ) (sound : is_field f ≡ true) (zero_there 
   apart : bit_and (upper_mask f) (lower_mask f) ≡ 0
   apart = (a_field f sound).apart
 
-  abbrev aimed : ℕ
-  aimed = bit_or w (placed f number)
+  abbrev resolved : ℕ
+  resolved = bit_or w (placed f number)
 
   -- another field is as it was
-  kept : (g : Field) → bit_and (upper_mask g) (lower_mask g) ≡ 0 → bit_and (mask_of f) (mask_of g) ≡ 0 → field_in g aimed ≡ field_in g w
+  kept : (g : Field) → bit_and (upper_mask g) (lower_mask g) ≡ 0 → bit_and (mask_of f) (mask_of g) ≡ 0 → field_in g resolved ≡ field_in g w
   kept g own other =
       let clear : bit_and (placed f number) (mask_of g) ≡ 0 =
       ap (λ p. bit_and p (mask_of g)) (sym (placed-within f number apart)) ∙ and_assoc (mask_of g) (placed f number) (mask_of f)
       ∙ ap (bit_and (placed f number)) other ∙ and_comm (placed f number) 0 in
-      placed-one g (field_in g aimed) (field_in g w) own (field_in-lt g aimed) (field_in-lt g w)
-      (placed-field g aimed own ∙ or_clear w (placed f number) (mask_of g) clear ∙ sym (placed-field g w own))
+      placed-one g (field_in g resolved) (field_in g w) own (field_in-lt g resolved) (field_in-lt g w)
+      (placed-field g resolved own ∙ or_clear w (placed f number) (mask_of g) clear ∙ sym (placed-field g w own))
 
   -- the field is the number
-  there : number < 2 ^ bits_of f → field_in f aimed ≡ number
+  there : number < 2 ^ bits_of f → field_in f resolved ≡ number
   there lt =
-      placed-one f (field_in f aimed) number apart (field_in-lt f aimed) lt
-      (placed-field f aimed apart ∙ ap (λ n. bit_and n (mask_of f)) (or_comm w (placed f number))
+      placed-one f (field_in f resolved) number apart (field_in-lt f resolved) lt
+      (placed-field f resolved apart ∙ ap (λ n. bit_and n (mask_of f)) (or_comm w (placed f number))
       ∙ or_clear (placed f number) w (mask_of f) zero_there ∙ placed-within f number apart)
 
   -- the fixed bits are as they were
-  fixed_kept : (mask : ℕ) → bit_and mask (mask_of f) ≡ 0 → bit_and aimed mask ≡ bit_and w mask
+  fixed_kept : (mask : ℕ) → bit_and mask (mask_of f) ≡ 0 → bit_and resolved mask ≡ bit_and w mask
   fixed_kept mask other =
       or_clear w (placed f number) mask
       (ap (λ p. bit_and p mask) (sym (placed-within f number apart)) ∙ and_assoc mask (placed f number) (mask_of f)
       ∙ ap (bit_and (placed f number)) (and_comm (mask_of f) mask ∙ other) ∙ and_comm (placed f number) 0)
 
-  small : w < 2 ^ 32 → aimed < 2 ^ 32
+  small : w < 2 ^ 32 → resolved < 2 ^ 32
   small lt = or_lt 32 w (placed f number) lt (placed-lt f number sound)
 
 -- ---- the number of a distance
@@ -432,14 +432,14 @@ units (G10 op) e n s = refl
 units (G19 op) e n s = refl
 units op e n s = cc
 
-places : (op : Operation) (u : ℕ) → has_distance op ≡ true → u ≡ unit_by op → (n : Field → ℕ) (s : Field → ℤ) (a : ℕ)
-    → cond (u == 4096) (a / 4096 * 4096) a ≡ place_in (named op n s) a
+bases : (op : Operation) (u : ℕ) → has_distance op ≡ true → u ≡ unit_by op → (n : Field → ℕ) (s : Field → ℤ) (a : ℕ)
+    → cond (u == 4096) (a / 4096 * 4096) a ≡ base_in (named op n s) a
 unfolding has_distance unit_by named
-places (G9 Adr) u e h n s a = ap (λ v. cond (v == 4096) (a / 4096 * 4096) a) h
-places (G9 Adrp) u e h n s a = ap (λ v. cond (v == 4096) (a / 4096 * 4096) a) h
-places (G10 op) u e h n s a = ap (λ v. cond (v == 4096) (a / 4096 * 4096) a) h
-places (G19 op) u e h n s a = ap (λ v. cond (v == 4096) (a / 4096 * 4096) a) h
-places op u e h n s a = cc
+bases (G9 Adr) u e h n s a = ap (λ v. cond (v == 4096) (a / 4096 * 4096) a) h
+bases (G9 Adrp) u e h n s a = ap (λ v. cond (v == 4096) (a / 4096 * 4096) a) h
+bases (G10 op) u e h n s a = ap (λ v. cond (v == 4096) (a / 4096 * 4096) a) h
+bases (G19 op) u e h n s a = ap (λ v. cond (v == 4096) (a / 4096 * 4096) a) h
+bases op u e h n s a = cc
 
 back_by : (op : Operation) (count : ℕ) → (pos 0 -ℤ pos count) *ℤ pos (unit_by op) ≡ pos 0 -ℤ pos (count * unit_by op)
 unfolding unit_by
@@ -475,8 +475,8 @@ sound_field op e = cc
 
 -- an instruction with that immediate is one that a word means, so the immediate is one of its field
 holds_by : (op : Operation) → has_distance op ≡ true → (n : Field → ℕ) (s : Field → ℤ) (z : ℤ)
-    → in_reach (with_immediate (named op n s) z) → Holds (bits_of (immediate_of op)) z
-unfolding has_distance immediate_of named named_branch in_reach branch_reach
+    → in_range (with_immediate (named op n s) z) → Holds (bits_of (immediate_of op)) z
+unfolding has_distance immediate_of named named_branch in_range branch_range
 holds_by (G9 op) e n s z h = h
 holds_by (G10 B) e n s z h = h
 holds_by (G10 Bl) e n s z h = h
@@ -539,32 +539,33 @@ placed_small i n e =
     let le : placed i.field n ≤ mask_of i.field = placed-le i.field n in
     omega (arith, lt, le)
 
-small_by : (i : Item) (known next : Known) (field : ℕ) (b : Bool) → is_sound i ≡ true → known.value < 2 ^ 32
-    → ◌≡◌ {A = Option Known} (cond b (Some (with_field i known field)) None) (Some next) → next.value < 2 ^ 32
+small_by : (i : Item) (partial next : PartialWord) (field : ℕ) (b : Bool) → is_sound i ≡ true → partial.value < 2 ^ 32
+    → ◌≡◌ {A = Option PartialWord} (cond b (Some (with_field i partial field)) None) (Some next) → next.value < 2 ^ 32
 unfolding with_field
-small_by i known next field true s lt e =
-    subst (λ (k : Known). k.value < 2 ^ 32) (some_is (with_field i known field) next e)
-    (or_lt 32 known.value (operands.placed i field) lt (placed_small i field s))
-small_by i known next field false s lt e = cc
+small_by i partial next field true s lt e =
+    subst (λ (k : PartialWord). k.value < 2 ^ 32) (some_is (with_field i partial field) next e)
+    (or_lt 32 partial.value (operands.placed i field) lt (placed_small i field s))
+small_by i partial next field false s lt e = cc
 
-small_with : (i : Item) (known next : Known) (o : Option ℕ) → is_sound i ≡ true → known.value < 2 ^ 32 → known_with i known o ≡ Some next
+small_with : (i : Item) (partial next : PartialWord) (o : Option ℕ) → is_sound i ≡ true → partial.value < 2 ^ 32
+    → partial_with i partial o ≡ Some next
     → next.value < 2 ^ 32
-unfolding known_with
-small_with i known next None s lt e = cc
-small_with i known next (Some field) s lt e = small_by i known next field (agrees i known field) s lt e
+unfolding partial_with
+small_with i partial next None s lt e = cc
+small_with i partial next (Some field) s lt e = small_by i partial next field (agrees i partial field) s lt e
 
-taken_small : (is : List Item) (known : Known) (ts : List Token) (w : ℕ) → list_all is_sound is ≡ true → known.value < 2 ^ 32
-    → taken is known ts ≡ Some w → w < 2 ^ 32
-unfolding taken known_after
-taken_small [] known [] w s lt e = subst (λ v. v < 2 ^ 32) (some_is known.value w e) lt
-taken_small [] known (t ∷ ts) w s lt e = cc
-taken_small (i ∷ is) known [] w s lt e = cc
-taken_small (i ∷ is) known (t ∷ ts) w s lt e =
+taken_small : (is : List Item) (partial : PartialWord) (ts : List Token) (w : ℕ) → list_all is_sound is ≡ true → partial.value < 2 ^ 32
+    → taken is partial ts ≡ Some w → w < 2 ^ 32
+unfolding taken partial_after
+taken_small [] partial [] w s lt e = subst (λ v. v < 2 ^ 32) (some_is partial.value w e) lt
+taken_small [] partial (t ∷ ts) w s lt e = cc
+taken_small (i ∷ is) partial [] w s lt e = cc
+taken_small (i ∷ is) partial (t ∷ ts) w s lt e =
     let p = and_parts (is_sound i) (list_all is_sound is) s in
-    elim (known_after i known t) as (λ o. known_after i known t ≡ o → taken_on (λ next. taken is next ts) o ≡ Some w → w < 2 ^ 32) [
+    elim (partial_after i partial t) as (λ o. partial_after i partial t ≡ o → taken_on (λ next. taken is next ts) o ≡ Some w → w < 2 ^ 32) [
       | None ↦ λ is_none h. cc
       | Some next ↦ λ is_next h. taken_small is next ts w p.1
-          (small_with i known next (field_said i.kind (texts.bits_of i) t) p.0 lt is_next) h
+          (small_with i partial next (field_said i.kind (texts.bits_of i) t) p.0 lt is_next) h
     ] refl e
 
 -- ---- the word with a distance
@@ -609,9 +610,9 @@ module _ (i : Item) (w : ℕ) (it : Insn) (r : IsRowOf i w it) (zero_there : bit
   unit_here : unit_in it ≡ unit_by op
   unit_here = ap unit_in r.gives ∙ units op has (numbers_in w) (signed_numbers_in w)
 
-  place_here : (a : ℕ) → counted_from i a ≡ place_in it a
+  base_here : (a : ℕ) → counted_from i a ≡ base_in it a
   unfolding counted_from
-  place_here a = places op (unit_of i.kind) has unit (numbers_in w) (signed_numbers_in w) a ∙ ap (λ x. place_in x a) (sym r.gives)
+  base_here a = bases op (unit_of i.kind) has unit (numbers_in w) (signed_numbers_in w) a ∙ ap (λ x. base_in x a) (sym r.gives)
 
   moved_word : (number size : ℕ) (back : Bool) → IsHeld (bits_of f) (unit_by op) size number back
       → IsMoved it size back (bit_or w (placed f number))
@@ -626,7 +627,7 @@ module _ (i : Item) (w : ℕ) (it : Insn) (r : IsRowOf i w it) (zero_there : bit
       let value : s f ≡ signed_value (bits_of f) number = ap (signed_value (bits_of f)) (there f w number sound none h.lt) in
       let means : Means scalar v (named op n s) = record {
         is_word = small f w number sound none r.is_word;
-        place = r.place;
+        place = r.index;
         line = r.row;
         listed = r.listed;
         matches = fixed_kept f w number sound none r.row.mask r.clear ∙ r.matches;
@@ -670,38 +671,38 @@ module _ (i : Item) (w : ℕ) (it : Insn) (r : IsRowOf i w it) (zero_there : bit
   beyond : (from target : ℕ) (b : Bool) → nat_le (counted_from i from) (counted_from i target) ≡ b
       → cond b (with_distance i w false (counted_from i target - counted_from i from))
       (with_distance i w true (counted_from i from - counted_from i target)) ≡ None
-      → (z : ℤ) → z *ℤ pos (unit_in it) ≡ pos (place_in it target) -ℤ pos (place_in it from) → Holds (bits_of f) z → ⊥
+      → (z : ℤ) → z *ℤ pos (unit_in it) ≡ pos (base_in it target) -ℤ pos (base_in it from) → Holds (bits_of f) z → ⊥
   beyond from target true le e z is h =
       let l = leb-true (counted_from i from) (counted_from i target) le in
       let far : pos (counted_from i target) -ℤ pos (counted_from i from) ≡ pos (counted_from i target - counted_from i from) =
       omega (arith, ints, l) in
-      reaches (unit_by op) (some_unit op) (ahead_by op) (back_by op) (bits_of f) (counted_from i target - counted_from i from) z false
+      ranges (unit_by op) (some_unit op) (ahead_by op) (back_by op) (bits_of f) (counted_from i target - counted_from i from) z false
       (sound_field op has).1 h
-      (ap (λ u. z *ℤ pos u) (sym unit_here) ∙ is ∙ ap₂ (λ a b. pos a -ℤ pos b) (sym (place_here target)) (sym (place_here from)) ∙ far)
+      (ap (λ u. z *ℤ pos u) (sym unit_here) ∙ is ∙ ap₂ (λ a b. pos a -ℤ pos b) (sym (base_here target)) (sym (base_here from)) ∙ far)
       (unmoved (counted_from i target - counted_from i from) false e)
   beyond from target false le e z is h =
       let l = leb-false (counted_from i from) (counted_from i target) le in
       let far : pos (counted_from i target) -ℤ pos (counted_from i from) ≡ pos 0 -ℤ pos (counted_from i from - counted_from i target) =
       omega (arith, ints, l) in
-      reaches (unit_by op) (some_unit op) (ahead_by op) (back_by op) (bits_of f) (counted_from i from - counted_from i target) z true
+      ranges (unit_by op) (some_unit op) (ahead_by op) (back_by op) (bits_of f) (counted_from i from - counted_from i target) z true
       (sound_field op has).1 h
-      (ap (λ u. z *ℤ pos u) (sym unit_here) ∙ is ∙ ap₂ (λ a b. pos a -ℤ pos b) (sym (place_here target)) (sym (place_here from)) ∙ far)
+      (ap (λ u. z *ℤ pos u) (sym unit_here) ∙ is ∙ ap₂ (λ a b. pos a -ℤ pos b) (sym (base_here target)) (sym (base_here from)) ∙ far)
       (unmoved (counted_from i from - counted_from i target) true e)
 
   far_by : (from target v : ℕ) (other : Insn) → word_to i w from target ≡ None → instruction_of v ≡ Some other
-      → IsAimed it from target other → ⊥
+      → IsResolved it from target other → ⊥
   unfolding word_to
-  far_by from target v other none means aims =
-      let same : other ≡ with_immediate (named op (numbers_in w) (signed_numbers_in w)) aims.immediate =
-      aims.only ∙ ap (λ x. with_immediate x aims.immediate) r.gives in
-      beyond from target (nat_le (counted_from i from) (counted_from i target)) refl none aims.immediate aims.is_distance
-      (holds_by op has (numbers_in w) (signed_numbers_in w) aims.immediate (subst in_reach same (word_reach v other means)))
+  far_by from target v other none means resolves =
+      let same : other ≡ with_immediate (named op (numbers_in w) (signed_numbers_in w)) resolves.immediate =
+      resolves.only ∙ ap (λ x. with_immediate x resolves.immediate) r.gives in
+      beyond from target (nat_le (counted_from i from) (counted_from i target)) refl none resolves.immediate resolves.is_distance
+      (holds_by op has (numbers_in w) (signed_numbers_in w) resolves.immediate (subst in_range same (word_range v other means)))
 
-  aims_by : (from target v : ℕ) (b : Bool) → nat_le (counted_from i from) (counted_from i target) ≡ b
+  resolves_by : (from target v : ℕ) (b : Bool) → nat_le (counted_from i from) (counted_from i target) ≡ b
       → cond b (with_distance i w false (counted_from i target - counted_from i from))
       (with_distance i w true (counted_from i from - counted_from i target)) ≡ Some v
-      → (m : instruction_of w ≡ Some it) → MeansAimed w from target v
-  aims_by from target v true le e m =
+      → (m : instruction_of w ≡ Some it) → MeansResolved w from target v
+  resolves_by from target v true le e m =
       let h = moved (counted_from i target - counted_from i from) false v e in
       let l = leb-true (counted_from i from) (counted_from i target) le in
       let far : pos (counted_from i target - counted_from i from) ≡ pos (counted_from i target) -ℤ pos (counted_from i from) =
@@ -710,16 +711,16 @@ module _ (i : Item) (w : ℕ) (it : Insn) (r : IsRowOf i w it) (zero_there : bit
         it = it;
         other = with_immediate it h.immediate;
         means = m;
-        aimed_means = h.means;
-        aims =
+        resolved_means = h.means;
+        resolves =
             record {
               immediate = h.immediate;
               is_distance = h.counts ∙ far
-                  ∙ ap₂ (λ a b. pos a -ℤ pos b) (place_here target) (place_here from);
+                  ∙ ap₂ (λ a b. pos a -ℤ pos b) (base_here target) (base_here from);
               only = refl;
             };
       }
-  aims_by from target v false le e m =
+  resolves_by from target v false le e m =
       let h = moved (counted_from i from - counted_from i target) true v e in
       let l = leb-false (counted_from i from) (counted_from i target) le in
       let far : pos 0 -ℤ pos (counted_from i from - counted_from i target) ≡ pos (counted_from i target) -ℤ pos (counted_from i from) =
@@ -728,12 +729,12 @@ module _ (i : Item) (w : ℕ) (it : Insn) (r : IsRowOf i w it) (zero_there : bit
         it = it;
         other = with_immediate it h.immediate;
         means = m;
-        aimed_means = h.means;
-        aims =
+        resolved_means = h.means;
+        resolves =
             record {
               immediate = h.immediate;
               is_distance = h.counts ∙ far
-                  ∙ ap₂ (λ a b. pos a -ℤ pos b) (place_here target) (place_here from);
+                  ∙ ap₂ (λ a b. pos a -ℤ pos b) (base_here target) (base_here from);
               only = refl;
             };
       }
@@ -747,10 +748,10 @@ some_insn (Some it) e = (it, refl)
 by_scalar : (w : ℕ) (it : Insn) → (Means vector w it → ⊥) → MeansEither w it → Means scalar w it
 by_scalar w it never m = elim m [ inl n ↦ n | inr n ↦ absurd (never n) ]
 
-aims_found : (ts : List Token) (w : ℕ) (target : Target) → IsFound ts w target → is_some (instruction_of w) ≡ true → (from to v : ℕ)
-    → word_to target.operand w from to ≡ Some v → MeansAimed w from to v
+resolves_found : (ts : List Token) (w : ℕ) (target : Target) → IsFound ts w target → is_some (instruction_of w) ≡ true → (from to v : ℕ)
+    → word_to target.operand w from to ≡ Some v → MeansResolved w from to v
 unfolding word_to fit_rows fits_rows word_in fixed
-aims_found ts w target h meant from to v e =
+resolves_found ts w target h meant from to v e =
     let i = target.operand in
     let m = some_insn (instruction_of w) meant in
     let fit = and_parts (nat_lt h.shape.value (2 ^ 32)) (list_all (fits_rows h.shape) (items_of h.shape)) h.fit in
@@ -758,13 +759,14 @@ aims_found ts w target h meant from to v e =
     let lt = taken_small (items_of h.shape) (fixed h.shape) ts w (items_of-sound h.shape) (ltb-true _ _ fit.0) h.said in
     let rows =
     and_parts (list_all (fits_row i h.shape) SCALAR_LINES) (list_all (is_no_vector h.shape) VECTOR_LINES)
-    (when_true (is_distance i.kind) _ l.distance (all-get (fits_rows h.shape) (items_of h.shape) l.place i fit.1 l.listed)) in
+    (when_true (is_distance i.kind) _ l.distance (all-get (fits_rows h.shape) (items_of h.shape) l.index i fit.1 l.listed)) in
     let never : Means vector w m.0 → ⊥ = never_vector h.shape ts w m.0 h.said rows.1 in
     let r = row_of h.shape i ts w m.0 h.said rows.0 (by_scalar w m.0 never ((either w m.0 lt).0 m.1)) in
-    aims_by i w m.0 r (zero_said h.shape ts w i h.said l) l.distance from to v (nat_le (counted_from i from) (counted_from i to)) refl e m.1
+    resolves_by i w m.0 r (zero_said h.shape ts w i h.said l) l.distance from to v (nat_le (counted_from i from) (counted_from i to)) refl e
+    m.1
 
 far_found : (ts : List Token) (w : ℕ) (target : Target) → IsFound ts w target → (from to : ℕ) → word_to target.operand w from to ≡ None
-    → (v : ℕ) → MeansAimed w from to v → ⊥
+    → (v : ℕ) → MeansResolved w from to v → ⊥
 unfolding fit_rows fits_rows word_in fixed
 far_found ts w target h from to none v m =
     let i = target.operand in
@@ -773,15 +775,15 @@ far_found ts w target h from to none v m =
     let lt = taken_small (items_of h.shape) (fixed h.shape) ts w (items_of-sound h.shape) (ltb-true _ _ fit.0) h.said in
     let rows =
     and_parts (list_all (fits_row i h.shape) SCALAR_LINES) (list_all (is_no_vector h.shape) VECTOR_LINES)
-    (when_true (is_distance i.kind) _ l.distance (all-get (fits_rows h.shape) (items_of h.shape) l.place i fit.1 l.listed)) in
+    (when_true (is_distance i.kind) _ l.distance (all-get (fits_rows h.shape) (items_of h.shape) l.index i fit.1 l.listed)) in
     let never : Means vector w m.it → ⊥ = never_vector h.shape ts w m.it h.said rows.1 in
     let r = row_of h.shape i ts w m.it h.said rows.0 (by_scalar w m.it never ((either w m.it lt).0 m.means)) in
-    far_by i w m.it r (zero_said h.shape ts w i h.said l) l.distance from to v m.other none m.aimed_means m.aims
+    far_by i w m.it r (zero_said h.shape ts w i h.said l) l.distance from to v m.other none m.resolved_means m.resolves
 
 pub named-far : (name : ℕ) (ts : List Token) (w : ℕ) (target : Target) → operands_said name ts ≡ Says w (Some target) → (from to : ℕ)
-    → word_to target.operand w from to ≡ None → (v : ℕ) → MeansAimed w from to v → ⊥
+    → word_to target.operand w from to ≡ None → (v : ℕ) → MeansResolved w from to v → ⊥
 named-far name ts w target e = far_found ts w target (found name ts w target e)
 
-pub named-aims : (name : ℕ) (ts : List Token) (w : ℕ) (target : Target) → operands_said name ts ≡ Says w (Some target) → (from to v : ℕ)
-    → word_to target.operand w from to ≡ Some v → MeansAimed w from to v
-named-aims name ts w target e = aims_found ts w target (found name ts w target e) (is_said name ts w (Some target) e).means
+pub named-resolves : (name : ℕ) (ts : List Token) (w : ℕ) (target : Target) → operands_said name ts ≡ Says w (Some target) → (from to v : ℕ)
+    → word_to target.operand w from to ≡ Some v → MeansResolved w from to v
+named-resolves name ts w target e = resolves_found ts w target (found name ts w target e) (is_said name ts w (Some target) e).means

@@ -4,11 +4,11 @@ use Rattle.std.proofs.lemmas.List.{append_assoc}
 use Rattle.asm_parser.specs.Statements.{Says, SourceLine, Nothing, IntoText, IntoData, Quads, Words, Bytes, Zeros, Aligns, Globals}
 use Rattle.asm_parser.specs.Statements.{Instructs}
 use Rattle.asm_parser.specs.Lines.{line_of}
-use Rattle.asm_core.specs.declared.kept.KeptWord.{KeptWord}
+use Rattle.asm_core.specs.declared.kept_words.KeptWord.{KeptWord}
 use Rattle.asm_core.specs.Source.{lines_of}
 use Rattle.asm_core.specs.Kept.{AreKept, IsKept, first_kept, kept_from, kept_of}
-use Rattle.asm_core.specs.Surveyed.{AreKeptTo, HasKept}
-use Rattle.asm_core.proofs.Surveying.{append_none}
+use Rattle.asm_core.specs.Scanned.{AreKeptTo, HasKept}
+use Rattle.asm_core.proofs.Scanning.{append_none}
 
 -- what is kept of a line is what it says
 kept_says : (label : Option (List ℕ)) (says : Says) (text : List ℕ) → line_of text ≡ Ok (record { label = label; says = says })

@@ -3,27 +3,27 @@ use Rattle.std.proofs.Common.{◌≡◌, ℕ, true, false, List, Some, None, Ok,
 use Rattle.asm_parser.specs.declared.line.LineFault.TheVariants.{BadOperand}
 use Rattle.asm_parser.specs.Statements.{SourceLine}
 use Rattle.asm_core.specs.declared.fault.AsmFault.TheVariants.{Line, Doubled, TooLarge}
-use Rattle.asm_core.specs.declared.place.Place.{Place}
+use Rattle.asm_core.specs.declared.location_counter.LocationCounter.{LocationCounter}
 use Rattle.asm_core.specs.Layout.{Label, here}
-use Rattle.asm_core.specs.Faults.{misplaced, is_doubled, is_too_large, line_fault}
+use Rattle.asm_core.specs.Faults.{misaligned, is_doubled, is_too_large, line_fault}
 
-module _ (n : ℕ) (p : Place) (labels : List Label) (line : SourceLine) where
-  pub misplaced_fault : (column : ℕ) → misplaced line.says (here p) ≡ Some column
+module _ (n : ℕ) (p : LocationCounter) (labels : List Label) (line : SourceLine) where
+  pub misaligned_fault : (column : ℕ) → misaligned line.says (here p) ≡ Some column
       → line_fault n p labels (Ok line) ≡ Some (Line n (BadOperand column))
   unfolding line_fault
-  misplaced_fault column e = rw e refl
+  misaligned_fault column e = rw e refl
 
-  pub doubled_fault : misplaced line.says (here p) ≡ None → is_doubled labels line.label ≡ true
+  pub doubled_fault : misaligned line.says (here p) ≡ None → is_doubled labels line.label ≡ true
       → line_fault n p labels (Ok line) ≡ Some (Doubled n)
   unfolding line_fault
   doubled_fault e f = rw (e, f) refl
 
-  pub large_fault : misplaced line.says (here p) ≡ None → is_doubled labels line.label ≡ false → is_too_large p line.says ≡ true
+  pub large_fault : misaligned line.says (here p) ≡ None → is_doubled labels line.label ≡ false → is_too_large p line.says ≡ true
       → line_fault n p labels (Ok line) ≡ Some (TooLarge n)
   unfolding line_fault
   large_fault e f g = rw (e, f, g) refl
 
-  pub no_fault : misplaced line.says (here p) ≡ None → is_doubled labels line.label ≡ false → is_too_large p line.says ≡ false
+  pub no_fault : misaligned line.says (here p) ≡ None → is_doubled labels line.label ≡ false → is_too_large p line.says ≡ false
       → line_fault n p labels (Ok line) ≡ None
   unfolding line_fault
   no_fault e f g = rw (e, f, g) refl

@@ -17,15 +17,15 @@ use Rattle.asm_parser.specs.Statements.{Says, Nothing, IntoText, IntoData, Quads
 use Rattle.asm_parser.specs.Statements.{SourceLine}
 use Rattle.asm_parser.specs.Lines.{line_of}
 use Rattle.asm_core.specs.declared.fault.AsmFault.{AsmFault}
-use Rattle.asm_core.specs.declared.place.Place.{Place}
+use Rattle.asm_core.specs.declared.location_counter.LocationCounter.{LocationCounter}
 use Rattle.asm_core.specs.Source.{said_lines}
-use Rattle.asm_core.specs.Layout.{first_place, here_in, here, size_of, Label, labels_of, place_after, place_past}
+use Rattle.asm_core.specs.Layout.{first_counter, here_in, here, size_of, Label, labels_of, counter_after, counter_past}
 use Rattle.std.specs.Option.{option_or as or_else}
-use Rattle.asm_core.specs.Faults.{misplaced, line_fault, lines_fault, labels_after, text_length_of}
+use Rattle.asm_core.specs.Faults.{misaligned, line_fault, lines_fault, labels_after, text_length_of}
 use Rattle.asm_core.specs.Assembly.{IsAssembled, Puts, part_bytes, is_instruction, IsObjectOf}
 use Rattle.a64_encode.specs.Writable.{is_listed}
-use Rattle.asm_core.proofs.Marks.{mappings_said, marks_said, told}
-use Rattle.asm_core.proofs.Surveying.{lines_cons, said_cons, line_passes}
+use Rattle.asm_core.proofs.MappingSymbols.{mappings_said, line_mappings_said, told}
+use Rattle.asm_core.proofs.Scanning.{lines_cons, said_cons, line_passes}
 
 -- ---- instructions stand at multiples of 4
 
@@ -41,18 +41,18 @@ placed_column : (o : Option ℕ) (f : ℕ → AsmFault) → option_map f o ≡ N
 placed_column None f e = refl
 placed_column (Some c) f e = cc
 
-no_column : (n : ℕ) (p : Place) (labels : List Label) (line : SourceLine) → line_fault n p labels (Ok line) ≡ None
-    → misplaced line.says (here p) ≡ None
+no_column : (n : ℕ) (p : LocationCounter) (labels : List Label) (line : SourceLine) → line_fault n p labels (Ok line) ≡ None
+    → misaligned line.says (here p) ≡ None
 unfolding line_fault
-no_column n p labels line e = placed_column (misplaced line.says (here p)) _ (first_none _ _ e)
+no_column n p labels line e = placed_column (misaligned line.says (here p)) _ (first_none _ _ e)
 
-past_none : (p : Place) → place_past p [] ≡ p
-unfolding place_past
+past_none : (p : LocationCounter) → counter_past p [] ≡ p
+unfolding counter_past
 past_none p = refl
 
-past_cons : (p : Place) (line : SourceLine) (lines : List SourceLine)
-    → place_past p (line ∷ lines) ≡ place_past (place_after p line.says) lines
-unfolding place_past
+past_cons : (p : LocationCounter) (line : SourceLine) (lines : List SourceLine)
+    → counter_past p (line ∷ lines) ≡ counter_past (counter_after p line.says) lines
+unfolding counter_past
 past_cons p line lines = refl
 
 nothing_said : said_lines [] ≡ []
@@ -62,7 +62,7 @@ nothing_said = refl
 some_line : (a b : SourceLine) → ◌≡◌ {A = Option SourceLine} (Some a) (Some b) → a ≡ b
 some_line a b e = cc
 
-faulty : (n : ℕ) (p : Place) (list : List Label) (fault : LineFault) → line_fault n p list (Err fault) ≡ None → ⊥
+faulty : (n : ℕ) (p : LocationCounter) (list : List Label) (fault : LineFault) → line_fault n p list (Err fault) ≡ None → ⊥
 unfolding line_fault
 faulty n p list fault e = cc
 
@@ -70,33 +70,36 @@ no_item : (lines : List SourceLine) (k : ℕ) (line : SourceLine) → lines ≡ 
 no_item [] k line h e = cc
 no_item (l ∷ lines) k line h e = cc
 
-aligned_cons : (texts : List (List ℕ)) (n : ℕ) (p : Place) (list : List Label) (first : SourceLine) → line_fault n p list (Ok first) ≡ None
+aligned_cons : (texts : List (List ℕ)) (n : ℕ) (p : LocationCounter) (list : List Label) (first : SourceLine)
+    → line_fault n p list (Ok first) ≡ None
     → ((j : ℕ) (other : SourceLine) → slice_get (said_lines texts) j ≡ Some other
-    → misplaced other.says (here (place_past (place_after p first.says) (take j (said_lines texts)))) ≡ None)
+    → misaligned other.says (here (counter_past (counter_after p first.says) (take j (said_lines texts)))) ≡ None)
     → (k : ℕ) (line : SourceLine) → slice_get (first ∷ said_lines texts) k ≡ Some line
-    → misplaced line.says (here (place_past p (take k (first ∷ said_lines texts)))) ≡ None
+    → misaligned line.says (here (counter_past p (take k (first ∷ said_lines texts)))) ≡ None
 aligned_cons texts n p list first sound later zero line at =
-    subst (λ (l : SourceLine). misplaced l.says (here (place_past p [])) ≡ None) (some_line first line at)
-    (subst (λ (q : Place). misplaced first.says (here q) ≡ None) (sym (past_none p)) (no_column n p list first sound))
+    subst (λ (l : SourceLine). misaligned l.says (here (counter_past p [])) ≡ None) (some_line first line at)
+    (subst (λ (q : LocationCounter). misaligned first.says (here q) ≡ None) (sym (past_none p)) (no_column n p list first sound))
 aligned_cons texts n p list first sound later (suc k) line at =
-    subst (λ (q : Place). misplaced line.says (here q) ≡ None) (sym (past_cons p first (take k (said_lines texts)))) (later k line at)
+    subst (λ (q : LocationCounter). misaligned line.says (here q) ≡ None) (sym (past_cons p first (take k (said_lines texts))))
+    (later k line at)
 
-pub aligned_at : (texts : List (List ℕ)) (n : ℕ) (p : Place) (list : List Label) → lines_fault n p list texts ≡ None
+pub aligned_at : (texts : List (List ℕ)) (n : ℕ) (p : LocationCounter) (list : List Label) → lines_fault n p list texts ≡ None
     → (k : ℕ) (line : SourceLine) → slice_get (said_lines texts) k ≡ Some line
-    → misplaced line.says (here (place_past p (take k (said_lines texts)))) ≡ None
+    → misaligned line.says (here (counter_past p (take k (said_lines texts)))) ≡ None
 aligned_at [] n p list e k line at = absurd (no_item (said_lines []) k line nothing_said at)
 aligned_at (text ∷ texts) n p list e k line at =
     let split = sym (lines_cons n p list text texts) ∙ e in
-    elim (line_of text) as (λ r. line_of text ≡ r → misplaced line.says (here (place_past p (take k (said_lines (text ∷ texts))))) ≡ None) [
+    elim (line_of text) as (λ r. line_of text ≡ r → misaligned line.says (here (counter_past p (take k (said_lines (text ∷ texts)))))
+    ≡ None) [
       | Err fault ↦ λ is. absurd (faulty n p list fault (sym (ap (line_fault n p list) is) ∙ first_none _ _ split))
       | Ok first ↦ λ is.
           let sound : line_fault n p list (Ok first) ≡ None = sym (ap (line_fault n p list) is) ∙ first_none _ _ split in
-          let rest : lines_fault (n + 1) (place_after p first.says) (labels_after p list first) texts ≡ None =
+          let rest : lines_fault (n + 1) (counter_after p first.says) (labels_after p list first) texts ≡ None =
           sym (line_passes n p list text texts first is sound) ∙ e in
           let said : said_lines (text ∷ texts) ≡ first ∷ said_lines texts = said_cons text texts first is in
-          subst (λ (ls : List SourceLine). misplaced line.says (here (place_past p (take k ls))) ≡ None) (sym said)
+          subst (λ (ls : List SourceLine). misaligned line.says (here (counter_past p (take k ls))) ≡ None) (sym said)
           (aligned_cons texts n p list first sound
-          (λ j other there. aligned_at texts (n + 1) (place_after p first.says) (labels_after p list first) rest j other there) k line
+          (λ j other there. aligned_at texts (n + 1) (counter_after p first.says) (labels_after p list first) rest j other there) k line
           (sym (ap (λ (ls : List SourceLine). slice_get ls k) said) ∙ at))
     ] refl
 
@@ -109,7 +112,7 @@ multiple at column false e h = cc
 bytes_word : (word : ℕ) → word < 2 ^ 32 → little (little_bytes 4 word) ≡ word
 bytes_word word l = omega arith
 
-here_text : (p : Place) → p.part ≡ Text → here p ≡ p.text_size
+here_text : (p : LocationCounter) → p.part ≡ Text → here p ≡ p.text_size
 here_text p e = ap (λ part. here_in part p) e
 
 word_there : (word : ℕ) (text : List ℕ) (at : ℕ) → IsAssembled word text at → is_some (instruction_of (text_word text at)) ≡ true
@@ -118,19 +121,20 @@ word_there word text at h =
     ap (λ bytes. is_some (instruction_of (little bytes))) h.stands ∙ ap (λ w. is_some (instruction_of w)) (bytes_word word h.is_word)
     ∙ h.means
 
-same_place : (n at : ℕ) → at % 4 ≡ 0 → at ≤ 4 * n → 4 * n < at + 4 → at ≡ 4 * n
-same_place n at e l m = omega arith
+same_offset : (n at : ℕ) → at % 4 ≡ 0 → at ≤ 4 * n → 4 * n < at + 4 → at ≡ 4 * n
+same_offset n at e l m = omega arith
 
--- an instruction at a place of the text that has byte 4 * n put word n
-put_word : (tl : ℕ) (labels : List Label) (text : List ℕ) (says : Says) (p : Place) (n : ℕ) → is_instruction says ≡ true → p.part ≡ Text
+-- an instruction at a location counter of the text that has byte 4 * n put word n
+put_word : (tl : ℕ) (labels : List Label) (text : List ℕ) (says : Says) (p : LocationCounter) (n : ℕ) → is_instruction says ≡ true
+    → p.part ≡ Text
     → p.text_size ≤ 4 * n → 4 * n < p.text_size + size_of says (here p)
-    → misplaced says (here p) ≡ None → Puts tl labels text p says → is_some (instruction_of (text_word text (4 * n))) ≡ true
-unfolding is_instruction size_of misplaced Puts
+    → misaligned says (here p) ≡ None → Puts tl labels text p says → is_some (instruction_of (text_word text (4 * n))) ≡ true
+unfolding is_instruction size_of misaligned Puts
 put_word tl labels text (Instructs word target column) p n isn in_text from to aligned puts =
     let at : here p ≡ p.text_size = here_text p in_text in
     let whole : here p % 4 ≡ 0 = multiple (here p) column (here p % 4 == 0) refl aligned in
     let same : here p ≡ 4 * n =
-    same_place n (here p) whole (subst (λ m. m ≤ 4 * n) (sym at) from) (subst (λ m. 4 * n < m + 4) (sym at) to) in
+    same_offset n (here p) whole (subst (λ m. m ≤ 4 * n) (sym at) from) (subst (λ m. 4 * n < m + 4) (sym at) to) in
     ap (λ m. is_some (instruction_of (text_word text m))) (sym same) ∙ word_there _ text (here p) puts
 put_word tl labels text Nothing p n isn in_text from to aligned puts = cc
 put_word tl labels text IntoText p n isn in_text from to aligned puts = cc
@@ -165,7 +169,7 @@ code_if : (b : Bool) (address word : ℕ) (e : ℕ × ℕ) → cond b (Some (add
 code_if true address word e h = (refl, same_word address word e h)
 code_if false address word e h = cc
 
-module _ (texts : List (List ℕ)) (accepted : lines_fault 1 first_place [] texts ≡ None) (object : Object)
+module _ (texts : List (List ℕ)) (accepted : lines_fault 1 first_counter [] texts ≡ None) (object : Object)
     (is : IsObjectOf (said_lines texts) object) where
   code_listed : (n : ℕ) → 4 * n < length object.text_bytes.items
       → is_text_code (mappings_of object.symbols.items) (text_address + 4 * n) ≡ true
@@ -173,18 +177,19 @@ module _ (texts : List (List ℕ)) (accepted : lines_fault 1 first_place [] text
   unfolding is_text_code
   code_listed n l code =
       let lines = said_lines texts in
-      let inside : 4 * n < (place_past first_place lines).text_size = subst (λ m. 4 * n < m) is.text_size l in
-      let t = told lines first_place None None (4 * n) refl (omega arith) inside in
-      let p = place_past first_place (take t.put.k lines) in
-      let marks =
-      mappings_said object.symbols.items ∙ ap (filter_map _) is.symbols ∙ marks_said (text_length_of lines) first_place None lines in
+      let inside : 4 * n < (counter_past first_counter lines).text_size = subst (λ m. 4 * n < m) is.text_size l in
+      let t = told lines first_counter None None (4 * n) refl (omega arith) inside in
+      let p = counter_past first_counter (take t.put.k lines) in
+      let mappings =
+      mappings_said object.symbols.items ∙ ap (filter_map _) is.symbols
+      ∙ line_mappings_said (text_length_of lines) first_counter None lines in
       let instruction : is_instruction t.put.line.says ≡ true =
-      sym t.kind ∙ sym (ap (λ ms. mapping_says_code (governing_mapping (text_address + 4 * n) None ms)) marks) ∙ code in
+      sym t.kind ∙ sym (ap (λ ms. mapping_says_code (governing_mapping (text_address + 4 * n) None ms)) mappings) ∙ code in
       let puts : Puts (text_length_of lines) (labels_of lines) object.text_bytes.items p t.put.line.says =
       subst (λ (part : Section). Puts (text_length_of lines) (labels_of lines) (part_bytes object part) p t.put.line.says) t.put.in_text
       (is.puts t.put.k t.put.line t.put.listed) in
       put_word (text_length_of lines) (labels_of lines) object.text_bytes.items t.put.line.says p n instruction t.put.in_text t.put.from
-      t.put.to (aligned_at texts 1 first_place [] accepted t.put.k t.put.line t.put.listed) puts
+      t.put.to (aligned_at texts 1 first_counter [] accepted t.put.k t.put.line t.put.listed) puts
 
   -- each code word means an instruction
   pub object_listed : list_all is_listed (object_code object) ≡ true

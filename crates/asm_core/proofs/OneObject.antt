@@ -14,12 +14,12 @@ use Rattle.sm_types.specs.Objects.{text_address, Mapping, mapping_at, mapping_of
 use Rattle.sm_types.specs.Objects.{is_text_code, text_word, object_word, object_code}
 use Rattle.asm_parser.specs.Statements.{Says, Nothing, IntoText, IntoData, Quads, Words, Bytes, Zeros, Aligns}
 use Rattle.asm_parser.specs.Statements.{Globals, Instructs, SourceLine}
-use Rattle.asm_core.specs.declared.place.Place.{Place}
+use Rattle.asm_core.specs.declared.location_counter.LocationCounter.{LocationCounter}
 use Rattle.asm_core.specs.Source.{lines_of, said_lines}
-use Rattle.asm_core.specs.Layout.{first_place, here_in, here, size_of, grown_in, part_after, place_after, place_past, Label}
+use Rattle.asm_core.specs.Layout.{first_counter, here_in, here, size_of, grown_in, part_after, counter_after, counter_past, Label}
 use Rattle.asm_core.specs.Layout.{labels_of, address_here}
 use Rattle.asm_core.specs.Faults.{text_length_of, start_of}
-use Rattle.asm_core.specs.Assembly.{HasBytes, numbers_bytes, quad_number, aimed, Puts, part_bytes, SymbolSaid, symbol_said}
+use Rattle.asm_core.specs.Assembly.{HasBytes, numbers_bytes, quad_number, resolved, Puts, part_bytes, SymbolSaid, symbol_said}
 use Rattle.asm_core.specs.Assembly.{IsObjectOf, Assembles, IsSameObject}
 use Rattle.asm_core.proofs.Pieces.{length-numbers}
 
@@ -30,13 +30,14 @@ alike : (at n : ℕ) (piece bytes others : List ℕ) → length piece ≡ n → 
 alike at n piece bytes others size h g = ap (λ k. take k (drop at bytes)) (sym size) ∙ h ∙ sym g ∙ ap (λ k. take k (drop at others)) size
 
 module _ (text_length : ℕ) (labels : List Label) where
-  puts_alike : (p : Place) (says : Says) (bytes others : List ℕ) → Puts text_length labels bytes p says
+  puts_alike : (p : LocationCounter) (says : Says) (bytes others : List ℕ) → Puts text_length labels bytes p says
       → Puts text_length labels others p says
       → take (size_of says (here p)) (drop (here p) bytes) ≡ take (size_of says (here p)) (drop (here p) others)
   unfolding Puts size_of
   puts_alike p (Instructs word target column) bytes others h g =
-      let piece = little_bytes 4 (aimed text_length labels (address_here text_length p) word target) in
-      alike (here p) 4 piece bytes others (length-bytes_low_first 0 4 (aimed text_length labels (address_here text_length p) word target))
+      let piece = little_bytes 4 (resolved text_length labels (address_here text_length p) word target) in
+      alike (here p) 4 piece bytes others (length-bytes_low_first 0 4
+      (resolved text_length labels (address_here text_length p) word target))
       h.stands g.stands
   puts_alike p (Quads values) bytes others h g =
       let numbers = map (quad_number text_length labels) values in
@@ -56,14 +57,14 @@ module _ (text_length : ℕ) (labels : List Label) where
 
   -- ---- so the parts are alike up to where the lines come
 
-  AreAlike : (Section → List ℕ) → (Section → List ℕ) → Place → Type 0
+  AreAlike : (Section → List ℕ) → (Section → List ℕ) → LocationCounter → Type 0
   AreAlike a b p = (s : Section) → take (here_in s p) (a s) ≡ take (here_in s p) (b s)
 
   more_alike : (at n : ℕ) (bytes others : List ℕ) → take at bytes ≡ take at others → take n (drop at bytes) ≡ take n (drop at others)
       → take (at + n) bytes ≡ take (at + n) others
   more_alike at n bytes others front next = take-add at n bytes ∙ ap₂ (λ x y. x ++ y) front next ∙ sym (take-add at n others)
 
-  grown_alike : (a b : Section → List ℕ) (p : Place) (q : Section) (n : ℕ) (part s : Section) → AreAlike a b p
+  grown_alike : (a b : Section → List ℕ) (p : LocationCounter) (q : Section) (n : ℕ) (part s : Section) → AreAlike a b p
       → take n (drop (here_in part p) (a part)) ≡ take n (drop (here_in part p) (b part))
       → take (here_in s (record (grown_in part p n) { part = q })) (a s) ≡ take (here_in s (record (grown_in part p n) { part = q })) (b s)
   unfolding AreAlike
@@ -73,23 +74,24 @@ module _ (text_length : ℕ) (labels : List Label) where
   grown_alike a b p q n Data Data h e = more_alike p.data_size n (a Data) (b Data) (h Data) e
 
   -- the lines from a place on put what they do
-  ArePut : (Section → List ℕ) → Place → List SourceLine → Type 0
+  ArePut : (Section → List ℕ) → LocationCounter → List SourceLine → Type 0
   ArePut a p lines =
       (k : ℕ) (line : SourceLine) → slice_get lines k ≡ Some line
-      → Puts text_length labels (a (place_past p (take k lines)).part) (place_past p (take k lines)) line.says
+      → Puts text_length labels (a (counter_past p (take k lines)).part) (counter_past p (take k lines)) line.says
 
-  line_alike : (a b : Section → List ℕ) (p : Place) (says : Says) → AreAlike a b p
+  line_alike : (a b : Section → List ℕ) (p : LocationCounter) (says : Says) → AreAlike a b p
       → take (size_of says (here p)) (drop (here p) (a p.part)) ≡ take (size_of says (here p)) (drop (here p) (b p.part))
-      → AreAlike a b (place_after p says)
-  unfolding place_after AreAlike
+      → AreAlike a b (counter_after p says)
+  unfolding counter_after AreAlike
   line_alike a b p says e same = λ s. grown_alike a b p (part_after says p.part) (size_of says (here p)) p.part s e same
 
-  all_alike : (a b : Section → List ℕ) (p : Place) (lines : List SourceLine) → ArePut a p lines → ArePut b p lines → AreAlike a b p
-      → AreAlike a b (place_past p lines)
-  unfolding ArePut place_past
+  all_alike : (a b : Section → List ℕ) (p : LocationCounter) (lines : List SourceLine) → ArePut a p lines → ArePut b p lines
+      → AreAlike a b p
+      → AreAlike a b (counter_past p lines)
+  unfolding ArePut counter_past
   all_alike a b p [] h g e = e
   all_alike a b p (line ∷ lines) h g e =
-      all_alike a b (place_after p line.says) lines (λ k other at. h (suc k) other at) (λ k other at. g (suc k) other at)
+      all_alike a b (counter_after p line.says) lines (λ k other at. h (suc k) other at) (λ k other at. g (suc k) other at)
       (line_alike a b p line.says e (puts_alike p line.says (a p.part) (b p.part) (h 0 line refl) (g 0 line refl)))
 
 -- ---- the objects
@@ -104,16 +106,16 @@ one_by_lines : (lines : List SourceLine) (o p : Object) → IsObjectOf lines o �
 unfolding ArePut AreAlike
 one_by_lines lines o p h g =
     let n = text_length_of lines in
-    let parts = all_alike n (labels_of lines) (part_bytes o) (part_bytes p) first_place lines h.puts g.puts (λ s. none s) in
+    let parts = all_alike n (labels_of lines) (part_bytes o) (part_bytes p) first_counter lines h.puts g.puts (λ s. none s) in
     record {
       text_bytes = whole o.text_bytes.items p.text_bytes.items n h.text_size g.text_size (parts Text);
       data_bytes =
-          whole o.data_bytes.items p.data_bytes.items (place_past first_place lines).data_size h.data_size g.data_size (parts Data);
+          whole o.data_bytes.items p.data_bytes.items (counter_past first_counter lines).data_size h.data_size g.data_size (parts Data);
       symbols = h.symbols ∙ sym g.symbols;
       entry = same_some o.entry p.entry (start_of n (labels_of lines)) h.starts g.starts;
     }
   where
-    none : (s : Section) → take (here_in s first_place) (part_bytes o s) ≡ take (here_in s first_place) (part_bytes p s)
+    none : (s : Section) → take (here_in s first_counter) (part_bytes o s) ≡ take (here_in s first_counter) (part_bytes p s)
     none Text = refl
     none Data = refl
 
@@ -138,7 +140,7 @@ mappings_by (s ∷ symbols) = ap (λ ms. add (mapping_of s) ms) (mappings_by sym
 pub same_code : (o p : Object) → IsSameObject o p → object_code o ≡ object_code p
 unfolding object_code object_word
 same_code o p h =
-    let marks : mappings_of o.symbols.items ≡ mappings_of p.symbols.items =
+    let mappings : mappings_of o.symbols.items ≡ mappings_of p.symbols.items =
     mappings_by o.symbols.items ∙ ap (filter_map mapping_said) h.symbols ∙ sym (mappings_by p.symbols.items) in
-    λ i. filter_map (λ n. cond (is_text_code (marks i) (text_address + 4 * n))
+    λ i. filter_map (λ n. cond (is_text_code (mappings i) (text_address + 4 * n))
     (Some (text_address + 4 * n, text_word (h.text_bytes i) (4 * n))) None) (range_with_len 0 (length (h.text_bytes i) / 4))

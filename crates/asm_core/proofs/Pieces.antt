@@ -8,9 +8,9 @@ use Rattle.byteorder.specs.Endian.{little_bytes}
 use Rattle.byteorder.specs.Numbers.{length-bytes_low_first}
 use Rattle.asm_parser.specs.Statements.{QuadValue, TargetSaid, Says, Nothing, IntoText, IntoData, Quads, Words, Bytes, Zeros, Aligns}
 use Rattle.asm_parser.specs.Statements.{Globals, Instructs}
-use Rattle.asm_core.specs.declared.place.Place.{Place}
+use Rattle.asm_core.specs.declared.location_counter.LocationCounter.{LocationCounter}
 use Rattle.asm_core.specs.Layout.{Label, here, size_of, address_here}
-use Rattle.asm_core.specs.Assembly.{HasBytes, numbers_bytes, quad_number, aimed, Puts}
+use Rattle.asm_core.specs.Assembly.{HasBytes, numbers_bytes, quad_number, resolved, Puts}
 use Rattle.asm_core.specs.Emitted.{IsWordAfter, IsPiece, Adds}
 
 pub length-numbers : (width : ℕ) (ns : List ℕ) → length (numbers_bytes width ns) ≡ width * length ns
@@ -20,7 +20,7 @@ length-numbers width (n ∷ ns) =
     let tail : length (numbers_bytes width ns) ≡ width * length ns = length-numbers width ns in
     length-append (little_bytes width n) (numbers_bytes width ns) ∙ omega arith
 
--- ---- standing at a place
+-- ---- standing at a location counter
 
 front_kept : (bytes more piece : List ℕ) → take (length piece) bytes ≡ piece → take (length piece) (bytes ++ more) ≡ piece
 front_kept bytes more piece h =
@@ -43,7 +43,7 @@ bytes_put old piece at e = ap (take (length piece)) (drop_at old piece at e) ∙
 
 -- ---- what a line puts
 
-module _ (text_length : ℕ) (labels : List Label) (p : Place) where
+module _ (text_length : ℕ) (labels : List Label) (p : LocationCounter) where
   pub piece_puts : (says : Says) (old piece : List ℕ) → length old ≡ here p → IsPiece text_length labels p says piece
       → Puts text_length labels (old ++ piece) p says
   unfolding IsPiece Puts
@@ -70,7 +70,7 @@ module _ (text_length : ℕ) (labels : List Label) (p : Place) where
         is_word = h.is_word;
         means = h.means;
         stands =
-            bytes_kept bytes more (here p) (little_bytes 4 (aimed text_length labels (address_here text_length p) word target)) h.stands;
+            bytes_kept bytes more (here p) (little_bytes 4 (resolved text_length labels (address_here text_length p) word target)) h.stands;
       }
   puts_kept (Quads values) bytes more h = bytes_kept bytes more (here p) (numbers_bytes 8 (map (quad_number text_length labels) values)) h
   puts_kept (Words numbers) bytes more h = bytes_kept bytes more (here p) (numbers_bytes 4 numbers) h
@@ -120,7 +120,7 @@ module _ (text_length : ℕ) (labels : List Label) (p : Place) where
   adds_nothing old says s h = record { piece = []; added = sym (append-nil old); size = sym s; piece_is = h }
 
   pub adds_word : (word : ℕ) (target : Option TargetSaid) (column : ℕ) (old new : List ℕ)
-      → IsWordAfter (aimed text_length labels (address_here text_length p) word target) old new
+      → IsWordAfter (resolved text_length labels (address_here text_length p) word target) old new
       → Adds text_length labels p (Instructs word target column) old new
   unfolding IsPiece size_of
   adds_word word target column old new h =
@@ -128,7 +128,7 @@ module _ (text_length : ℕ) (labels : List Label) (p : Place) where
         piece = h.piece;
         added = h.added;
         size = ap length h.piece_is.bytes
-            ∙ length-bytes_low_first 0 4 (aimed text_length labels (address_here text_length p) word target);
+            ∙ length-bytes_low_first 0 4 (resolved text_length labels (address_here text_length p) word target);
         piece_is = h.piece_is;
       }
 

@@ -1,12 +1,12 @@
 -- A line of the grammar aligns to 2 ^ 12 at most.
 use Rattle.std.proofs.Common.{◌≡◌, ℕ, ◌-◌, ◌^◌, ◌≤◌, Bool, true, false, cond, List, [], ◌∷◌, Option, Some, None, Result, Ok, nat_le, refl}
 use Rattle.std.proofs.Common.{subst, leb-true}
-use Rattle.insn_text.specs.declared.words.TheConstants.{NAMES}
+use Rattle.insn_text.specs.declared.keywords.TheConstants.{MNEMONICS}
 use Rattle.asm_tokens.specs.declared.token.Token.{Token}
 use Rattle.asm_tokens.specs.declared.token.Token.TheVariants.{Bare}
 use Rattle.asm_tokens.specs.declared.token.Lexeme.{Lexeme}
 use Rattle.asm_tokens.specs.Characters.{column_at, before_comment}
-use Rattle.asm_tokens.specs.Tokens.{place_in, is_name}
+use Rattle.asm_tokens.specs.Tokens.{index_in, is_name}
 use Rattle.asm_operands.specs.declared.fault.FaultKind.TheVariants.{Extra}
 use Rattle.asm_operands.specs.Operands.{OperandsSaid, operands_said}
 use Rattle.asm_operands.specs.Operands as operands
@@ -22,15 +22,15 @@ use Rattle.asm_core.specs.Limits.{HasSmallAlign}
 -- what an answer tells has a property
 abbrev Told : {A : Type 0} → (A → Type 0) → Answer A → Type 0
 Told P (Tells a) = P a
-Told P (Stops place kind) = Unit {0}
+Told P (Stops index kind) = Unit {0}
 
 further_told : {A : Type 0} (P : A → Type 0) (k : ℕ) (a : Answer A) → Told P a → Told P (further k a)
 further_told P k (Tells a) h = h
-further_told P k (Stops place kind) h = tt
+further_told P k (Stops index kind) h = tt
 
 made_told : {A : Type 0} (make : A → Says) → ((a : A) → HasSmallAlign (make a)) → (a : Answer A) → Told HasSmallAlign (and_then make a)
 made_told make small (Tells a) = small a
-made_told make small (Stops place kind) = tt
+made_told make small (Stops index kind) = tt
 
 ends_told : {A : Type 0} (P : A → Type 0) (a : A) (ls : List Lexeme) → P a → Told P (ends a ls)
 unfolding ends
@@ -62,7 +62,7 @@ one_told most (l ∷ ls) = number_told most l.token (number_up_to most l.token) 
 
 aligns_told : (a : Answer ℕ) → Told (λ m. m ≤ 12) a → Told HasSmallAlign (and_then Aligns a)
 aligns_told (Tells n) h = h
-aligns_told (Stops place kind) h = tt
+aligns_told (Stops index kind) h = tt
 
 directive_told : (line : List ℕ) (d : Directive) (ls : List Lexeme) → Told HasSmallAlign (directive_says line d ls)
 unfolding directive_says
@@ -97,8 +97,8 @@ unfolding tokens_say
 tokens_told line [] = tt
 tokens_told line (l ∷ ls) =
     elim (is_name l.token) as (λ b. Told HasSmallAlign
-    (cond b (named_says line l ls (directive_of (text_of_lexeme line l)) (place_in NAMES (text_of_lexeme line l))) (Stops 0 Extra))) [
-      | true ↦ named_told line l ls (directive_of (text_of_lexeme line l)) (place_in NAMES (text_of_lexeme line l))
+    (cond b (named_says line l ls (directive_of (text_of_lexeme line l)) (index_in MNEMONICS (text_of_lexeme line l))) (Stops 0 Extra))) [
+      | true ↦ named_told line l ls (directive_of (text_of_lexeme line l)) (index_in MNEMONICS (text_of_lexeme line l))
       | false ↦ tt
     ]
 
@@ -108,7 +108,7 @@ same_line a b e = cc
 answer_told : (text : List ℕ) (label : Option (List ℕ)) (ls : List Lexeme) (a : Answer Says) (line : SourceLine) → Told HasSmallAlign a
     → line_answer text label ls a ≡ Ok line → HasSmallAlign line.says
 answer_told text label ls (Tells says) line h e = subst (λ (l : SourceLine). HasSmallAlign l.says) (same_line _ line e) h
-answer_told text label ls (Stops place kind) line h e = cc
+answer_told text label ls (Stops index kind) line h e = cc
 
 pub small_align : (text : List ℕ) (line : SourceLine) → line_of text ≡ Ok line → HasSmallAlign line.says
 unfolding line_of

@@ -16,8 +16,8 @@ use Rattle.asm_parser.specs.Statements.{QuadValue, IsNumber, IsAddressOf, Target
 use Rattle.asm_parser.specs.Statements.{IntoData, Quads, Words, Bytes, Zeros, Aligns, Globals, Instructs}
 use Rattle.asm_parser.specs.Statements.{SourceLine}
 use Rattle.asm_core.specs.Source.{lines_of, said_lines}
-use Rattle.asm_core.specs.declared.place.Place.{Place}
-use Rattle.asm_core.specs.Layout.{first_place, here, size_of, place_after, place_past, place_of, Label}
+use Rattle.asm_core.specs.declared.location_counter.LocationCounter.{LocationCounter}
+use Rattle.asm_core.specs.Layout.{first_counter, here, size_of, counter_after, counter_past, counter_of, Label}
 use Rattle.asm_core.specs.Layout.{labels_of, label_named, label_address, address_here}
 use Rattle.insn_text.specs.declared.item.Item.{Item}
 use Rattle.asm_core.specs.Targets.{word_to}
@@ -25,11 +25,11 @@ use Rattle.asm_core.specs.Faults.{asm_fault, start_of, text_length_of}
 
 -- ---- bytes
 
--- these bytes stand at a place of others
+-- these bytes stand at an offset of others
 abbrev pub HasBytes : List ℕ → ℕ → List ℕ → Type 0
-HasBytes bytes at piece = take (length piece) (drop at bytes) ≡ piece
+HasBytes bytes offset piece = take (length piece) (drop offset bytes) ≡ piece
 
--- the numbers of so many bytes each, the low byte first
+-- the numbers of so many bytes each, little-endian
 abbrev pub numbers_bytes : ℕ → List ℕ → List ℕ
 numbers_bytes width numbers = concat (map (little_bytes width) numbers)
 
@@ -44,29 +44,29 @@ quad_number text_length labels (IsAddressOf name) = address_or_zero text_length 
 
 abbrev pub word_or : ℕ → Option ℕ → ℕ
 word_or word None = word
-word_or word (Some aimed) = aimed
+word_or word (Some resolved) = resolved
 
-abbrev pub aimed_at : ℕ → Item → ℕ → ℕ → Option Label → ℕ
-aimed_at text_length i word from None = word
-aimed_at text_length i word from (Some label) =
+abbrev pub resolved_at : ℕ → Item → ℕ → ℕ → Option Label → ℕ
+resolved_at text_length i word from None = word
+resolved_at text_length i word from (Some label) =
     word_or word (word_to i word from (label_address text_length label))
 
 -- the word of an instruction at an address with the distance to its target, where a name says the target
-unfoldable pub aimed : ℕ → List Label → ℕ → ℕ → Option TargetSaid → ℕ
-aimed text_length labels from word None = word
-aimed text_length labels from word (Some target) =
-    aimed_at text_length target.operand word from (label_named labels target.name)
+unfoldable pub resolved : ℕ → List Label → ℕ → ℕ → Option TargetSaid → ℕ
+resolved text_length labels from word None = word
+resolved text_length labels from word (Some target) =
+    resolved_at text_length target.operand word from (label_named labels target.name)
 
 -- the word means an instruction, and its bytes stand there
-pub record IsAssembled (word : ℕ) (bytes : List ℕ) (at : ℕ) : Type 0 where
+pub record IsAssembled (word : ℕ) (bytes : List ℕ) (offset : ℕ) : Type 0 where
   pub is_word : word < 2 ^ 32
   pub means : is_some (instruction_of word) ≡ true
-  pub stands : HasBytes bytes at (little_bytes 4 word)
+  pub stands : HasBytes bytes offset (little_bytes 4 word)
 
--- what a line at a place puts stands in its part
-unfoldable pub Puts : ℕ → List Label → List ℕ → Place → Says → Type 0
+-- what a line at a location counter puts stands in its part
+unfoldable pub Puts : ℕ → List Label → List ℕ → LocationCounter → Says → Type 0
 Puts text_length labels bytes p (Instructs word target column) =
-    IsAssembled (aimed text_length labels (address_here text_length p) word target) bytes (here p)
+    IsAssembled (resolved text_length labels (address_here text_length p) word target) bytes (here p)
 Puts text_length labels bytes p (Quads values) =
     HasBytes bytes (here p) (numbers_bytes 8 (map (quad_number text_length labels) values))
 Puts text_length labels bytes p (Words numbers) = HasBytes bytes (here p) (numbers_bytes 4 numbers)
@@ -94,7 +94,7 @@ abbrev pub symbol_said : Symbol → SymbolSaid
 symbol_said symbol = record { name = symbol.name.items; address = symbol.address; section = symbol.section }
 
 -- the symbol of a label; one that is called like a mapping symbol has none
-unfoldable pub label_symbol : ℕ → Place → Option (List ℕ) → List SymbolSaid
+unfoldable pub label_symbol : ℕ → LocationCounter → Option (List ℕ) → List SymbolSaid
 label_symbol text_length p None = []
 label_symbol text_length p (Some name) =
     if is_none (name_says name) then record {
@@ -121,11 +121,11 @@ fills_in Text size = nat_lt 0 size
 fills_in Data size = false
 
 -- a line puts bytes into the text
-unfoldable pub fills_text : Place → Says → Bool
+unfoldable pub fills_text : LocationCounter → Says → Bool
 fills_text p says = fills_in p.part (size_of says (here p))
 
 -- what the text is after a line: code, data, or nothing yet
-unfoldable pub text_is : Place → Says → Option Bool → Option Bool
+unfoldable pub text_is : LocationCounter → Says → Option Bool → Option Bool
 text_is p says before = if fills_text p says then Some (is_instruction says) else before
 
 abbrev pub is_same : Option Bool → Bool → Bool
@@ -137,7 +137,7 @@ mapping_name true = codes "$x"
 mapping_name false = codes "$d"
 
 -- the mapping symbol of a line, where the text changes between code and data with it
-unfoldable pub mapping_symbol : ℕ → Place → Says → Option Bool → List SymbolSaid
+unfoldable pub mapping_symbol : ℕ → LocationCounter → Says → Option Bool → List SymbolSaid
 mapping_symbol text_length p says before =
     if fills_text p says && not (is_same before (is_instruction says))
     then record {
@@ -148,23 +148,23 @@ mapping_symbol text_length p says before =
     else []
 
 -- the symbols of lines in their order: of each line that of its label and then its mapping symbol
-unfoldable pub symbols_from : ℕ → Place → Option Bool → List SourceLine → List SymbolSaid
+unfoldable pub symbols_from : ℕ → LocationCounter → Option Bool → List SourceLine → List SymbolSaid
 symbols_from text_length p before [] = []
 symbols_from text_length p before (line ∷ lines) =
     label_symbol text_length p line.label ++ (mapping_symbol text_length p line.says before
-    ++ symbols_from text_length (place_after p line.says) (text_is p line.says before) lines)
+    ++ symbols_from text_length (counter_after p line.says) (text_is p line.says before) lines)
 
 -- ---- the object
 
 -- the object is what the lines mean
 pub record IsObjectOf (lines : List SourceLine) (object : Object) : Type 0 where
   pub text_size : length object.text_bytes.items ≡ text_length_of lines
-  pub data_size : length object.data_bytes.items ≡ (place_past first_place lines).data_size
+  pub data_size : length object.data_bytes.items ≡ (counter_past first_counter lines).data_size
   pub puts : (k : ℕ) (line : SourceLine) → slice_get lines k ≡ Some line
-      → Puts (text_length_of lines) (labels_of lines) (part_bytes object (place_of lines k).part)
-      (place_of lines k) line.says
+      → Puts (text_length_of lines) (labels_of lines) (part_bytes object (counter_of lines k).part)
+      (counter_of lines k) line.says
   pub symbols :
-      map symbol_said object.symbols.items ≡ symbols_from (text_length_of lines) first_place None lines
+      map symbol_said object.symbols.items ≡ symbols_from (text_length_of lines) first_counter None lines
   pub starts : start_of (text_length_of lines) (labels_of lines) ≡ Some object.entry
 
 -- the source is assembled to this object

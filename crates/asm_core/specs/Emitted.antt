@@ -11,16 +11,16 @@ use Rattle.a64_encode.specs.Either.{instruction_of}
 use Rattle.asm_parser.specs.Statements.{TargetSaid, Says, Nothing, IntoText, IntoData, Quads, Words, Bytes}
 use Rattle.asm_parser.specs.Statements.{Zeros, Aligns, Globals, Instructs, SourceLine}
 use Rattle.asm_parser.specs.Lines.{line_of}
-use Rattle.asm_core.specs.declared.place.Place.{Place}
-use Rattle.asm_core.specs.declared.emit_targets.Addresses.{Addresses}
-use Rattle.asm_core.specs.declared.labels.LabelPlace.{LabelPlace}
-use Rattle.asm_core.specs.declared.parts.Parts.{Parts}
+use Rattle.asm_core.specs.declared.location_counter.LocationCounter.{LocationCounter}
+use Rattle.asm_core.specs.declared.target_addresses.Addresses.{Addresses}
+use Rattle.asm_core.specs.declared.labels.LabelPosition.{LabelPosition}
+use Rattle.asm_core.specs.declared.object_parts.Parts.{Parts}
 use Rattle.asm_core.specs.Layout.{Label, here, size_of, address_here}
-use Rattle.asm_core.specs.Assembly.{numbers_bytes, quad_number, aimed, SymbolSaid, symbol_said, label_symbol}
+use Rattle.asm_core.specs.Assembly.{numbers_bytes, quad_number, resolved, SymbolSaid, symbol_said, label_symbol}
 use Rattle.asm_core.specs.Assembly.{mapping_symbol}
 use Rattle.asm_core.specs.Faults.{is_too_large}
 use Rattle.asm_core.specs.Known.{known}
-use Rattle.asm_core.specs.Aimed.{MeansAimed}
+use Rattle.asm_core.specs.Resolved.{MeansResolved}
 use Rattle.asm_core.specs.Targets.{word_to}
 use Rattle.asm_core.specs.Parts.{bytes_in}
 
@@ -29,19 +29,21 @@ use Rattle.asm_core.specs.Parts.{bytes_in}
 pub record CanHave (i : Item) (word : ℕ) : Type 0 where
   pub sound : is_sound i ≡ true
   pub means :
-      (back : Bool) (size aimed : ℕ) → with_distance i word back size ≡ Some aimed
-      → is_some (instruction_of aimed) ≡ true
-  pub aims : (from to aimed : ℕ) → word_to i word from to ≡ Some aimed → MeansAimed word from to aimed
-  pub far : (from to : ℕ) → word_to i word from to ≡ None → (aimed : ℕ) → MeansAimed word from to aimed → ⊥
+      (back : Bool) (size resolved : ℕ) → with_distance i word back size ≡ Some resolved
+      → is_some (instruction_of resolved) ≡ true
+  pub resolves : (from to resolved : ℕ) → word_to i word from to ≡ Some resolved
+      → MeansResolved word from to resolved
+  pub far : (from to : ℕ) → word_to i word from to ≡ None → (resolved : ℕ)
+      → MeansResolved word from to resolved → ⊥
 
-abbrev pub CanBeAimed : ℕ → Option TargetSaid → Type 0
-CanBeAimed word None = Unit {0}
-CanBeAimed word (Some target) = CanHave target.operand word
+abbrev pub CanBeResolved : ℕ → Option TargetSaid → Type 0
+CanBeResolved word None = Unit {0}
+CanBeResolved word (Some target) = CanHave target.operand word
 
 -- the word means an instruction, and it does with each distance to its target
 pub record IsMeant (word : ℕ) (target : Option TargetSaid) : Type 0 where
   pub means : is_some (instruction_of word) ≡ true
-  pub aims : CanBeAimed word target
+  pub resolves : CanBeResolved word target
 
 -- the word of a line means an instruction, where it is one
 abbrev pub HasWord : Says → Type 0
@@ -57,7 +59,7 @@ HasWord (Aligns power) = Unit {0}
 HasWord (Globals name) = Unit {0}
 
 -- the line is in the grammar, and its part has at most 4 MiB with it
-pub record IsFine (p : Place) (text : List ℕ) : Type 0 where
+pub record IsFine (p : LocationCounter) (text : List ℕ) : Type 0 where
   pub line : SourceLine
   pub says : line_of text ≡ Ok line
   pub fits : is_too_large p line.says ≡ false
@@ -66,8 +68,8 @@ pub record IsFine (p : Place) (text : List ℕ) : Type 0 where
 pub record AreNear (addresses : Addresses) : Type 0 where
   pub text : addresses.text_size ≤ 4194304
   pub labels :
-      (name : List ℕ) (place : LabelPlace) → known addresses.labels.now name ≡ Some place
-      → place.offset ≤ 4194304
+      (name : List ℕ) (position : LabelPosition) → known addresses.labels.now name ≡ Some position
+      → position.offset ≤ 4194304
 
 -- the word of 32 bits means an instruction, and these are its bytes
 pub record IsWordOf (word : ℕ) (piece : List ℕ) : Type 0 where
@@ -81,10 +83,10 @@ pub record IsWordAfter (word : ℕ) (old new : List ℕ) : Type 0 where
   pub added : new ≡ old ++ piece
   pub piece_is : IsWordOf word piece
 
--- the bytes that a line at a place puts
-unfoldable pub IsPiece : ℕ → List Label → Place → Says → List ℕ → Type 0
+-- the bytes that a line at a location counter puts
+unfoldable pub IsPiece : ℕ → List Label → LocationCounter → Says → List ℕ → Type 0
 IsPiece text_length labels p (Instructs word target column) piece =
-    IsWordOf (aimed text_length labels (address_here text_length p) word target) piece
+    IsWordOf (resolved text_length labels (address_here text_length p) word target) piece
 IsPiece text_length labels p (Quads values) piece =
     piece ≡ numbers_bytes 8 (map (quad_number text_length labels) values)
 IsPiece text_length labels p (Words numbers) piece = piece ≡ numbers_bytes 4 numbers
@@ -97,8 +99,8 @@ IsPiece text_length labels p IntoData piece = Unit {0}
 IsPiece text_length labels p (Globals name) piece = Unit {0}
 
 -- the bytes of a line follow others, as many as its size says
-pub record Adds (text_length : ℕ) (labels : List Label) (p : Place) (says : Says) (old new : List ℕ) : Type
-    0 where
+pub record Adds (text_length : ℕ) (labels : List Label) (p : LocationCounter) (says : Says)
+    (old new : List ℕ) : Type 0 where
   pub piece : List ℕ
   pub added : new ≡ old ++ piece
   pub size : length piece ≡ size_of says (here p)
@@ -113,12 +115,12 @@ abbrev pub one_symbol : List ℕ → ℕ → Section → List SymbolSaid
 one_symbol name address section = record { name = name; address = address; section = section } ∷ []
 
 -- the symbols of a line
-unfoldable pub line_symbols : ℕ → Place → Option Bool → SourceLine → List SymbolSaid
+unfoldable pub line_symbols : ℕ → LocationCounter → Option Bool → SourceLine → List SymbolSaid
 line_symbols text_length p before line =
     label_symbol text_length p line.label ++ mapping_symbol text_length p line.says before
 
--- the parts have grown by a line at a place: by its bytes, and by its symbols
-pub record HaveGrown (text_length : ℕ) (labels : List Label) (p : Place) (before : Option Bool)
+-- the parts have grown by a line at a location counter: by its bytes, and by its symbols
+pub record HaveGrown (text_length : ℕ) (labels : List Label) (p : LocationCounter) (before : Option Bool)
     (line : SourceLine) (old new : Parts) : Type 0 where
   pub bytes : Adds text_length labels p line.says (bytes_in old p.part) (bytes_in new p.part)
   pub others : bytes_in new (other p.part) ≡ bytes_in old (other p.part)

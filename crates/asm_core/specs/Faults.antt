@@ -19,8 +19,8 @@ use Rattle.asm_core.specs.declared.fault.AsmFault.{AsmFault}
 use Rattle.asm_core.specs.declared.fault.AsmFault.TheVariants.{TooLong, NotText, Line, Doubled, Undefined}
 use Rattle.asm_core.specs.declared.fault.AsmFault.TheVariants.{TooFar, TooLarge, NoStart}
 use Rattle.asm_core.specs.Source.{lines_of, said_lines}
-use Rattle.asm_core.specs.declared.place.Place.{Place}
-use Rattle.asm_core.specs.Layout.{first_place, here, place_after, place_past, Label, label_at, if_some}
+use Rattle.asm_core.specs.declared.location_counter.LocationCounter.{LocationCounter}
+use Rattle.asm_core.specs.Layout.{first_counter, here, counter_after, counter_past, Label, label_at, if_some}
 use Rattle.asm_core.specs.Layout.{labels_of, label_named, label_address, address_in, address_here}
 use Rattle.insn_text.specs.declared.item.Item.{Item}
 use Rattle.asm_core.specs.Targets.{distance, word_to}
@@ -32,17 +32,17 @@ fault_if false fault = None
 -- ---- each line by itself, after those before it
 
 -- the column of an instruction that stands at no multiple of 4
-unfoldable pub misplaced : Says → ℕ → Option ℕ
-misplaced (Instructs word target column) at = if at % 4 == 0 then None else Some column
-misplaced Nothing at = None
-misplaced IntoText at = None
-misplaced IntoData at = None
-misplaced (Quads values) at = None
-misplaced (Words numbers) at = None
-misplaced (Bytes numbers) at = None
-misplaced (Zeros count) at = None
-misplaced (Aligns power) at = None
-misplaced (Globals name) at = None
+unfoldable pub misaligned : Says → ℕ → Option ℕ
+misaligned (Instructs word target column) offset = if offset % 4 == 0 then None else Some column
+misaligned Nothing offset = None
+misaligned IntoText offset = None
+misaligned IntoData offset = None
+misaligned (Quads values) offset = None
+misaligned (Words numbers) offset = None
+misaligned (Bytes numbers) offset = None
+misaligned (Zeros count) offset = None
+misaligned (Aligns power) offset = None
+misaligned (Globals name) offset = None
 
 -- a label has the name of the line's
 abbrev pub is_doubled : List Label → Option (List ℕ) → Bool
@@ -50,31 +50,32 @@ is_doubled labels None = false
 is_doubled labels (Some name) = is_some (label_named labels name)
 
 -- the part that a line goes to has more than 4 MiB with it
-unfoldable pub is_too_large : Place → Says → Bool
+unfoldable pub is_too_large : LocationCounter → Says → Bool
 is_too_large p says =
-    nat_lt 4194304 (place_after p says).text_size || nat_lt 4194304 (place_after p says).data_size
+    nat_lt 4194304 (counter_after p says).text_size || nat_lt 4194304 (counter_after p says).data_size
 
--- the fault of line number n, from 1, at a place and after some labels
-unfoldable pub line_fault : ℕ → Place → List Label → Result SourceLine LineFault → Option AsmFault
+-- the fault of line number n, from 1, at a location counter and after some labels
+unfoldable pub line_fault : ℕ → LocationCounter → List Label → Result SourceLine LineFault → Option AsmFault
 line_fault n p labels (Err fault) = Some (Line n fault)
 line_fault n p labels (Ok line) =
-    or_else (option_map (λ column. Line n (BadOperand column)) (misplaced line.says (here p)))
+    or_else (option_map (λ column. Line n (BadOperand column)) (misaligned line.says (here p)))
     (or_else (fault_if (is_doubled labels line.label) (Doubled n))
     (fault_if (is_too_large p line.says) (TooLarge n)))
 
 -- the labels after a line
-abbrev pub labels_after : Place → List Label → SourceLine → List Label
+abbrev pub labels_after : LocationCounter → List Label → SourceLine → List Label
 labels_after p labels line = labels ++ if_some (option_map (label_at p) line.label)
 
--- what follows a line that is in the grammar, at the place and with the labels after it
+-- what follows a line that is in the grammar, at the location counter and with the labels after it
 abbrev pub after_line :
-    (Place → List Label → Option AsmFault) → Place → List Label → Result SourceLine LineFault
-    → Option AsmFault
+    (LocationCounter → List Label → Option AsmFault) → LocationCounter → List Label
+    → Result SourceLine LineFault → Option AsmFault
 after_line rest p labels (Err fault) = None
-after_line rest p labels (Ok line) = rest (place_after p line.says) (labels_after p labels line)
+after_line rest p labels (Ok line) = rest (counter_after p line.says) (labels_after p labels line)
 
--- the fault of the first of some lines that has one; the first is number n, at a place and after some labels
-unfoldable pub lines_fault : ℕ → Place → List Label → List (List ℕ) → Option AsmFault
+-- the fault of the first of some lines that has one; the first is number n, at a location counter and after
+-- some labels
+unfoldable pub lines_fault : ℕ → LocationCounter → List Label → List (List ℕ) → Option AsmFault
 lines_fault n p labels [] = None
 lines_fault n p labels (text ∷ texts) =
     or_else (line_fault n p labels (line_of text)) (after_line
@@ -96,18 +97,18 @@ abbrev pub distance_fault : ℕ → Item → ℕ → ℕ → ℕ → Option AsmF
 distance_fault n i word from target = too_far n (distance i from target) (word_to i word from target)
 
 -- the fault of an instruction at an address with the label of its target
-abbrev pub aim_fault : ℕ → ℕ → Item → ℕ → ℕ → Option Label → Option AsmFault
-aim_fault n text_length i word from None = Some (Undefined n)
-aim_fault n text_length i word from (Some label) =
+abbrev pub label_fault : ℕ → ℕ → Item → ℕ → ℕ → Option Label → Option AsmFault
+label_fault n text_length i word from None = Some (Undefined n)
+label_fault n text_length i word from (Some label) =
     distance_fault n i word from (label_address text_length label)
 
 abbrev pub instruction_fault : ℕ → ℕ → List Label → ℕ → ℕ → Option TargetSaid → Option AsmFault
 instruction_fault n text_length labels from word None = None
 instruction_fault n text_length labels from word (Some target) =
-    aim_fault n text_length target.operand word from (label_named labels target.name)
+    label_fault n text_length target.operand word from (label_named labels target.name)
 
--- the fault of the names and distances of line number n at a place
-unfoldable pub target_fault : ℕ → ℕ → List Label → Place → Says → Option AsmFault
+-- the fault of the names and distances of line number n at a location counter
+unfoldable pub target_fault : ℕ → ℕ → List Label → LocationCounter → Says → Option AsmFault
 target_fault n text_length labels p (Instructs word target column) =
     instruction_fault n text_length labels (address_here text_length p) word target
 target_fault n text_length labels p (Quads values) =
@@ -121,12 +122,12 @@ target_fault n text_length labels p (Zeros count) = None
 target_fault n text_length labels p (Aligns power) = None
 target_fault n text_length labels p (Globals name) = None
 
--- the fault of the first of some lines that has one; the first is number n, at a place
-unfoldable pub targets_fault : ℕ → ℕ → List Label → Place → List SourceLine → Option AsmFault
+-- the fault of the first of some lines that has one; the first is number n, at a location counter
+unfoldable pub targets_fault : ℕ → ℕ → List Label → LocationCounter → List SourceLine → Option AsmFault
 targets_fault n text_length labels p [] = None
 targets_fault n text_length labels p (line ∷ lines) =
     or_else (target_fault n text_length labels p line.says) (targets_fault (n + 1) text_length labels
-    (place_after p line.says) lines)
+    (counter_after p line.says) lines)
 
 -- ---- the start
 
@@ -147,16 +148,16 @@ start_of text_length labels = start_at text_length (label_named labels (codes "_
 
 -- how many bytes of text the lines put
 abbrev pub text_length_of : List SourceLine → ℕ
-text_length_of lines = (place_past first_place lines).text_size
+text_length_of lines = (counter_past first_counter lines).text_size
 
 -- the fault of lines that are all in the grammar
 unfoldable pub said_fault : List SourceLine → Option AsmFault
 said_fault lines =
-    or_else (targets_fault 1 (text_length_of lines) (labels_of lines) first_place lines)
+    or_else (targets_fault 1 (text_length_of lines) (labels_of lines) first_counter lines)
     (fault_if (not (is_some (start_of (text_length_of lines) (labels_of lines)))) NoStart)
 
 unfoldable pub text_fault : List (List ℕ) → Option AsmFault
-text_fault texts = or_else (lines_fault 1 first_place [] texts) (said_fault (said_lines texts))
+text_fault texts = or_else (lines_fault 1 first_counter [] texts) (said_fault (said_lines texts))
 
 -- why a source is refused: it is too long, it is no UTF-8, or the first fault of its lines
 unfoldable pub asm_fault : List ℕ → Option AsmFault

@@ -2,7 +2,7 @@
 use Rattle.std.specs.Prelude.{◌≡◌, ℕ, List, [], ◌∷◌, Option, Some, None, Ok, IfSome}
 use Rattle.asm_parser.specs.Statements.{TargetSaid, Says, Instructs, SourceLine}
 use Rattle.asm_parser.specs.Lines.{line_of}
-use Rattle.asm_core.specs.declared.kept.KeptWord.{KeptWord}
+use Rattle.asm_core.specs.declared.kept_words.KeptWord.{KeptWord}
 
 -- what a line says of which a word was kept: the instruction alone
 abbrev pub said_by : KeptWord → SourceLine

@@ -7,41 +7,41 @@ use Rattle.std.specs.Str.{bytes_eq}
 use Rattle.sm_types.specs.declared.object.Section.{Section}
 use Rattle.sm_types.specs.declared.object.Section.TheVariants.{Text, Data}
 use Rattle.sm_types.specs.Objects.{text_address, data_address}
-use Rattle.asm_core.specs.declared.place.Place.{Place}
+use Rattle.asm_core.specs.declared.location_counter.LocationCounter.{LocationCounter}
 use Rattle.asm_parser.specs.Statements.{Says, Nothing, IntoText, IntoData, Quads, Words, Bytes, Zeros, Aligns}
 use Rattle.asm_parser.specs.Statements.{Globals, Instructs, SourceLine}
 
 -- a source begins in the text
-abbrev pub first_place : Place
-first_place = record { part = Text; text_size = 0; data_size = 0 }
+abbrev pub first_counter : LocationCounter
+first_counter = record { part = Text; text_size = 0; data_size = 0 }
 
 -- how many bytes the part has that is written to
-abbrev pub here_in : Section → Place → ℕ
+abbrev pub here_in : Section → LocationCounter → ℕ
 here_in Text p = p.text_size
 here_in Data p = p.data_size
 
-abbrev pub here : Place → ℕ
+abbrev pub here : LocationCounter → ℕ
 here p = here_in p.part p
 
 -- how many zeros there are up to the next multiple
 unfoldable pub padding : ℕ → ℕ → ℕ
-padding unit at = (unit - at % unit) % unit
+padding unit offset = (unit - offset % unit) % unit
 
 -- how many bytes a line puts after so many
 unfoldable pub size_of : Says → ℕ → ℕ
-size_of Nothing at = 0
-size_of IntoText at = 0
-size_of IntoData at = 0
-size_of (Quads values) at = 8 * length values
-size_of (Words numbers) at = 4 * length numbers
-size_of (Bytes numbers) at = length numbers
-size_of (Zeros count) at = count
-size_of (Aligns power) at = padding (2 ^ power) at
-size_of (Globals name) at = 0
-size_of (Instructs word target column) at = 4
+size_of Nothing offset = 0
+size_of IntoText offset = 0
+size_of IntoData offset = 0
+size_of (Quads values) offset = 8 * length values
+size_of (Words numbers) offset = 4 * length numbers
+size_of (Bytes numbers) offset = length numbers
+size_of (Zeros count) offset = count
+size_of (Aligns power) offset = padding (2 ^ power) offset
+size_of (Globals name) offset = 0
+size_of (Instructs word target column) offset = 4
 
 -- so many bytes more in the part
-abbrev pub grown_in : Section → Place → ℕ → Place
+abbrev pub grown_in : Section → LocationCounter → ℕ → LocationCounter
 grown_in Text p size = record p { text_size = p.text_size + size }
 grown_in Data p size = record p { data_size = p.data_size + size }
 
@@ -58,29 +58,29 @@ part_after (Aligns power) part = part
 part_after (Globals name) part = part
 part_after (Instructs word target column) part = part
 
--- the place after a line
-unfoldable pub place_after : Place → Says → Place
-place_after p says = record (grown_in p.part p (size_of says (here p))) { part = part_after says p.part }
+-- the location counter after a line
+unfoldable pub counter_after : LocationCounter → Says → LocationCounter
+counter_after p says = record (grown_in p.part p (size_of says (here p))) { part = part_after says p.part }
 
--- the place after some lines
-unfoldable pub place_past : Place → List SourceLine → Place
-place_past p [] = p
-place_past p (line ∷ lines) = place_past (place_after p line.says) lines
+-- the location counter after some lines
+unfoldable pub counter_past : LocationCounter → List SourceLine → LocationCounter
+counter_past p [] = p
+counter_past p (line ∷ lines) = counter_past (counter_after p line.says) lines
 
--- the place of line number k, from 0
-abbrev pub place_of : List SourceLine → ℕ → Place
-place_of lines k = place_past first_place (take k lines)
+-- the location counter of line number k, from 0
+abbrev pub counter_of : List SourceLine → ℕ → LocationCounter
+counter_of lines k = counter_past first_counter (take k lines)
 
 -- ---- labels
 
--- a name for a place of a part
+-- a name for an offset in a part
 pub record Label : Type 0 where
   pub name : List ℕ
   pub part : Section
   pub offset : ℕ
 
--- the label of a line at a place
-abbrev pub label_at : Place → List ℕ → Label
+-- the label of a line at a location counter
+abbrev pub label_at : LocationCounter → List ℕ → Label
 label_at p name = record { name = name; part = p.part; offset = here p }
 
 -- a list of one, or of none
@@ -88,15 +88,15 @@ abbrev pub if_some : {A : Type 0} → Option A → List A
 if_some None = []
 if_some (Some a) = a ∷ []
 
--- the labels of lines, the first of which stands at a place
-unfoldable pub labels_from : Place → List SourceLine → List Label
+-- the labels of lines, the first of which stands at a location counter
+unfoldable pub labels_from : LocationCounter → List SourceLine → List Label
 labels_from p [] = []
 labels_from p (line ∷ lines) =
-    if_some (option_map (label_at p) line.label) ++ labels_from (place_after p line.says) lines
+    if_some (option_map (label_at p) line.label) ++ labels_from (counter_after p line.says) lines
 
 -- the labels of a source
 abbrev pub labels_of : List SourceLine → List Label
-labels_of lines = labels_from first_place lines
+labels_of lines = labels_from first_counter lines
 
 -- the label of a name
 unfoldable pub label_named : List Label → List ℕ → Option Label
@@ -116,5 +116,5 @@ abbrev pub label_address : ℕ → Label → ℕ
 label_address text_length label = address_in text_length label.part label.offset
 
 -- the address of the next byte
-abbrev pub address_here : ℕ → Place → ℕ
+abbrev pub address_here : ℕ → LocationCounter → ℕ
 address_here text_length p = address_in text_length p.part (here p)

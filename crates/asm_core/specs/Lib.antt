@@ -7,7 +7,7 @@ pub mod Emitted
 pub mod Assembly
 pub mod Known
 pub mod Parts
-pub mod Surveyed
-pub mod Marked
-pub mod Aimed
+pub mod Scanned
+pub mod Mapped
+pub mod Resolved
 pub mod Kept

@@ -1,11 +1,11 @@
--- What holds of a line that is in the grammar, and of a place that no fault was found before.
+-- What holds of a line that is in the grammar, and of a location counter before which no fault was found.
 use Rattle.std.specs.Prelude.{◌≤◌}
 use Rattle.asm_parser.specs.Statements.{Says, Nothing, IntoText, IntoData, Quads, Words, Bytes, Zeros, Aligns}
 use Rattle.asm_parser.specs.Statements.{Globals, Instructs}
-use Rattle.asm_core.specs.declared.place.Place.{Place}
+use Rattle.asm_core.specs.declared.location_counter.LocationCounter.{LocationCounter}
 
 -- each part has at most 4 MiB
-pub record IsInLimits (p : Place) : Type 0 where
+pub record IsInLimits (p : LocationCounter) : Type 0 where
   pub text : p.text_size ≤ 4194304
   pub data_part : p.data_size ≤ 4194304
 

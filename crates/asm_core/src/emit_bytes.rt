@@ -11,9 +11,9 @@ ghost use Rattle.asm_core.specs.Known.{Knows};
 ghost use Rattle.asm_core.specs.Limits.{HasSmallAlign};
 ghost use Rattle.asm_core.specs.Emitted.{Adds, AreNear, HasWord, IsMeant, IsWordAfter};
 
-use crate::emit_targets::{Addresses, address_in, aim, quad_number};
 use crate::fault::AsmFault;
-use crate::place::{Place, here, size_of};
+use crate::location_counter::{LocationCounter, here, size_of};
+use crate::target_addresses::{Addresses, address_in, quad_number, resolve_target};
 use asm_parser::{Statement, Target, Value};
 use sm_types::Bytes;
 
@@ -24,10 +24,8 @@ fn put_zeros(bytes: &mut Bytes, count: u64) -> Result<(), AsmFault>
     ensures err { IfErr result (λ fault. fault ≡ AsmFault.Memory) }
 {
     let size = bytes.len() + count as usize;
-    match bytes.resize(size, 0) {
-        Ok(()) => Ok(()),
-        Err(_) => Err(AsmFault::Memory),
-    }
+    bytes.resize(size, 0)?;
+    Ok(())
 }
 
 /// Appends bytes.
@@ -35,13 +33,11 @@ fn put_all(bytes: &mut Bytes, more: &[u8]) -> Result<(), AsmFault>
     ensures ok { OnOk result (bytes.new.items ≡ bytes.old.items ++ more.now) }
     ensures err { IfErr result (λ fault. fault ≡ AsmFault.Memory) }
 {
-    match bytes.extend_from_slice(more) {
-        Ok(()) => Ok(()),
-        Err(_) => Err(AsmFault::Memory),
-    }
+    bytes.extend_from_slice(more)?;
+    Ok(())
 }
 
-/// Appends a number of 4 bytes, the low one first.
+/// Appends a number of 4 bytes, little-endian.
 fn put_word(bytes: &mut Bytes, number: u32) -> Result<(), AsmFault>
     ensures ok { OnOk result (bytes.new.items ≡ bytes.old.items ++ little_bytes 4 number) }
     ensures err { IfErr result (λ fault. fault ≡ AsmFault.Memory) }
@@ -49,7 +45,7 @@ fn put_word(bytes: &mut Bytes, number: u32) -> Result<(), AsmFault>
     put_all(bytes, &number.to_le_bytes())
 }
 
-/// Appends a number of 8 bytes, the low one first.
+/// Appends a number of 8 bytes, little-endian.
 fn put_quad(bytes: &mut Bytes, number: u64) -> Result<(), AsmFault>
     ensures ok { OnOk result (bytes.new.items ≡ bytes.old.items ++ little_bytes 8 number) }
     ensures err { IfErr result (λ fault. fault ≡ AsmFault.Memory) }
@@ -113,52 +109,53 @@ fn put_instruction(
         → OnOk result (instruction_fault number addresses.now.text_size list from word
         (option_map target_said target.now) ≡ None) }
     ensures bytes { (list : List layout.Label) → Knows addresses.now.labels.now list
-        → OnOk result (IsWordAfter (assembly.aimed addresses.now.text_size list from word
+        → OnOk result (IsWordAfter (assembly.resolved addresses.now.text_size list from word
         (option_map target_said target.now)) bytes.old.items bytes.new.items) }
     ensures err { (list : List layout.Label) → Knows addresses.now.labels.now list
         → IfErr result (λ fault. fault ≢ AsmFault.Memory
         → instruction_fault number addresses.now.text_size list from word (option_map target_said target.now)
         ≡ Some fault) }
 {
-    let aimed = aim(number, word, from, target, addresses)?;
-    put_word(bytes, aimed)
+    let resolved = resolve_target(number, word, from, target, addresses)?;
+    put_word(bytes, resolved)
 }
 
-/// Appends the bytes of line number `number` at a place, or tells the fault of its names and distances.
+/// Appends the bytes of line number `number` at a location counter, or tells the fault of its names and
+/// distances.
 #[tactic(auto, unfolding(crate::specs::Faults::target_fault))]
 pub fn put_statement(
     bytes: &mut Bytes,
     number: u32,
-    place: &Place,
+    counter: &LocationCounter,
     statement: &Statement<'_>,
     addresses: &Addresses<'_, '_>,
 ) -> Result<(), AsmFault>
     requires align { HasSmallAlign (says_of statement.now) }
     requires has_word { HasWord (says_of statement.now) }
-    requires size { length bytes.old.items ≡ layout.here place.now }
-    requires fits { layout.here place.now + layout.size_of (says_of statement.now) (layout.here place.now)
+    requires size { length bytes.old.items ≡ layout.here counter.now }
+    requires fits { layout.here counter.now + layout.size_of (says_of statement.now) (layout.here counter.now)
         ≤ 4194304 }
     requires near { AreNear addresses.now }
     ensures ok { (list : List layout.Label) → Knows addresses.now.labels.now list
-        → OnOk result (target_fault number addresses.now.text_size list place.now
+        → OnOk result (target_fault number addresses.now.text_size list counter.now
         (says_of statement.now) ≡ None) }
     ensures bytes { (list : List layout.Label) → Knows addresses.now.labels.now list
-        → OnOk result (Adds addresses.now.text_size list place.now (says_of statement.now)
+        → OnOk result (Adds addresses.now.text_size list counter.now (says_of statement.now)
         bytes.old.items bytes.new.items) }
     ensures err { (list : List layout.Label) → Knows addresses.now.labels.now list
         → IfErr result (λ fault. fault ≢ AsmFault.Memory
-        → target_fault number addresses.now.text_size list place.now (says_of statement.now) ≡ Some fault) }
+        → target_fault number addresses.now.text_size list counter.now (says_of statement.now) ≡ Some fault) }
 {
     match statement {
         Statement::Instruction { word, target, .. } => {
-            let from = address_in(place.part, here(place), addresses.text_size);
+            let from = address_in(counter.part, here(counter), addresses.text_size);
             put_instruction(bytes, number, *word, from, target, addresses)
         }
         Statement::Quad(values) => put_quads(bytes, number, values, addresses),
         Statement::Word(numbers) => put_words(bytes, numbers),
         Statement::Byte(numbers) => put_all(bytes, numbers),
         Statement::Zero(count) => put_zeros(bytes, *count),
-        Statement::Align(_) => put_zeros(bytes, size_of(statement, here(place)) as u64),
+        Statement::Align(_) => put_zeros(bytes, size_of(statement, here(counter)) as u64),
         Statement::Empty => Ok(()),
         Statement::Text => Ok(()),
         Statement::Data => Ok(()),

@@ -12,22 +12,22 @@ ghost use Rattle.asm_core.specs.Kept.{IsKept};
 ghost use Rattle.asm_core.specs.Emitted.{Adds, AreNear, HasWord, HaveGrown, IsFine, other};
 
 use crate::emit_bytes::put_statement;
-use crate::emit_targets::Addresses;
 use crate::fault::AsmFault;
-use crate::kept::{KeptWord, line_again};
-use crate::parts::Parts;
-use crate::place::{Place, first_place, place_after};
+use crate::kept_words::{KeptWord, line_again};
+use crate::location_counter::{LocationCounter, counter_after, first_counter};
+use crate::object_parts::Parts;
 use crate::symbols::{put_symbols, text_is};
+use crate::target_addresses::Addresses;
 use asm_parser::{Line, Statement};
 use sm_types::Section;
 use std::alloc::Global;
 
-/// What some lines have put: the parts, the place of the next line, and what the text is so far: code,
-/// data, or nothing yet.
+/// What some lines have put: the parts, the location counter of the next line, and what the text is so far:
+/// code, data, or nothing yet.
 #[derive(Drop)]
 pub struct Emission {
     pub parts: Parts,
-    pub place: Place,
+    pub counter: LocationCounter,
     pub code: Option<bool>,
 }
 
@@ -36,7 +36,7 @@ pub fn new_emission(alloc: Global) -> Emission
     ensures text_bytes { result.parts.text_bytes.items ≡ [] }
     ensures data_bytes { result.parts.data_bytes.items ≡ [] }
     ensures symbols { result.parts.symbols.items ≡ [] }
-    ensures place { result.place ≡ layout.first_place }
+    ensures counter { result.counter ≡ layout.first_counter }
     ensures code { result.code ≡ None }
 {
     Emission {
@@ -45,81 +45,94 @@ pub fn new_emission(alloc: Global) -> Emission
             data_bytes: Vec::new(alloc),
             symbols: Vec::new(alloc),
         },
-        place: first_place(),
+        counter: first_counter(),
         code: None,
     }
 }
 
-/// Appends the bytes of line number `number` to the part of its place, or tells the fault of its names and
-/// distances.
+/// Appends the bytes of line number `number` to the part of its location counter, or tells the fault of its
+/// names and distances.
 fn put_bytes(
     parts: &mut Parts,
     number: u32,
-    place: &Place,
+    counter: &LocationCounter,
     statement: &Statement<'_>,
     addresses: &Addresses<'_, '_>,
 ) -> Result<(), AsmFault>
     requires align { HasSmallAlign (says_of statement.now) }
     requires has_word { HasWord (says_of statement.now) }
-    requires size { length (bytes_in parts.old place.now.part) ≡ layout.here place.now }
-    requires fits { layout.here place.now + layout.size_of (says_of statement.now) (layout.here place.now)
+    requires size { length (bytes_in parts.old counter.now.part) ≡ layout.here counter.now }
+    requires fits { layout.here counter.now + layout.size_of (says_of statement.now) (layout.here counter.now)
         ≤ 4194304 }
     requires near { AreNear addresses.now }
     ensures ok { (list : List layout.Label) → Knows addresses.now.labels.now list
-        → OnOk result (target_fault number addresses.now.text_size list place.now
+        → OnOk result (target_fault number addresses.now.text_size list counter.now
         (says_of statement.now) ≡ None) }
     ensures bytes { (list : List layout.Label) → Knows addresses.now.labels.now list
-        → OnOk result (Adds addresses.now.text_size list place.now (says_of statement.now)
-        (bytes_in parts.old place.now.part) (bytes_in parts.new place.now.part)) }
+        → OnOk result (Adds addresses.now.text_size list counter.now (says_of statement.now)
+        (bytes_in parts.old counter.now.part) (bytes_in parts.new counter.now.part)) }
     ensures others { OnOk result
-        (bytes_in parts.new (other place.now.part) ≡ bytes_in parts.old (other place.now.part)) }
+        (bytes_in parts.new (other counter.now.part) ≡ bytes_in parts.old (other counter.now.part)) }
     ensures symbols { OnOk result (parts.new.symbols ≡ parts.old.symbols) }
     ensures err { (list : List layout.Label) → Knows addresses.now.labels.now list
         → IfErr result (λ fault. fault ≢ AsmFault.Memory
-        → target_fault number addresses.now.text_size list place.now (says_of statement.now) ≡ Some fault) }
+        → target_fault number addresses.now.text_size list counter.now (says_of statement.now) ≡ Some fault) }
 {
-    match place.part {
-        Section::Text => put_statement(&mut parts.text_bytes, number, place, statement, addresses),
-        Section::Data => put_statement(&mut parts.data_bytes, number, place, statement, addresses),
+    match counter.part {
+        Section::Text => put_statement(
+            &mut parts.text_bytes,
+            number,
+            counter,
+            statement,
+            addresses,
+        ),
+        Section::Data => put_statement(
+            &mut parts.data_bytes,
+            number,
+            counter,
+            statement,
+            addresses,
+        ),
     }
 }
 
-/// Appends what line number `number` puts at a place, or tells the fault of its names and distances.
+/// Appends what line number `number` puts at a location counter, or tells the fault of its names and
+/// distances.
 fn put_line(
     parts: &mut Parts,
     alloc: Global,
     number: u32,
-    place: &Place,
+    counter: &LocationCounter,
     code: Option<bool>,
     line: &Line<'_>,
     addresses: &Addresses<'_, '_>,
 ) -> Result<(), AsmFault>
     requires align { HasSmallAlign (says_of line.now.statement) }
     requires has_word { HasWord (says_of line.now.statement) }
-    requires size { length (bytes_in parts.old place.now.part) ≡ layout.here place.now }
-    requires fits { layout.here place.now
-        + layout.size_of (says_of line.now.statement) (layout.here place.now) ≤ 4194304 }
+    requires size { length (bytes_in parts.old counter.now.part) ≡ layout.here counter.now }
+    requires fits { layout.here counter.now
+        + layout.size_of (says_of line.now.statement) (layout.here counter.now) ≤ 4194304 }
     requires near { AreNear addresses.now }
     ensures ok { (list : List layout.Label) → Knows addresses.now.labels.now list
-        → OnOk result (target_fault number addresses.now.text_size list place.now
+        → OnOk result (target_fault number addresses.now.text_size list counter.now
         (says_of line.now.statement) ≡ None) }
     ensures grown { (list : List layout.Label) → Knows addresses.now.labels.now list
-        → OnOk result (HaveGrown addresses.now.text_size list place.now code (line_said line.now)
+        → OnOk result (HaveGrown addresses.now.text_size list counter.now code (line_said line.now)
         parts.old parts.new) }
     ensures err { (list : List layout.Label) → Knows addresses.now.labels.now list
         → IfErr result (λ fault. fault ≢ AsmFault.Memory
-        → target_fault number addresses.now.text_size list place.now (says_of line.now.statement)
+        → target_fault number addresses.now.text_size list counter.now (says_of line.now.statement)
         ≡ Some fault) }
 {
     put_symbols(
         &mut parts.symbols,
         alloc,
-        place,
+        counter,
         line,
         code,
         addresses.text_size,
     )?;
-    put_bytes(parts, number, place, &line.statement, addresses)
+    put_bytes(parts, number, counter, &line.statement, addresses)
 }
 
 /// Appends what line number `number` puts, as it was kept or is read again, or tells the fault of its names
@@ -134,47 +147,47 @@ pub fn emit_line(
 ) -> Result<(), AsmFault>
     requires short { length text.now ≤ 67108864 }
     requires kept { IsKept kept text.now }
-    requires fine { IsFine emission.old.place text.now }
-    requires limits { IsInLimits emission.old.place }
-    requires text_size { length emission.old.parts.text_bytes.items ≡ emission.old.place.text_size }
-    requires data_size { length emission.old.parts.data_bytes.items ≡ emission.old.place.data_size }
+    requires fine { IsFine emission.old.counter text.now }
+    requires limits { IsInLimits emission.old.counter }
+    requires text_size { length emission.old.parts.text_bytes.items ≡ emission.old.counter.text_size }
+    requires data_size { length emission.old.parts.data_bytes.items ≡ emission.old.counter.data_size }
     requires near { AreNear addresses.now }
     ensures ok { (list : List layout.Label) → Knows addresses.now.labels.now list → (line : SourceLine)
         → line_of text.now ≡ Ok line
-        → OnOk result (target_fault number addresses.now.text_size list emission.old.place line.says
+        → OnOk result (target_fault number addresses.now.text_size list emission.old.counter line.says
         ≡ None) }
     ensures grown { (list : List layout.Label) → Knows addresses.now.labels.now list → (line : SourceLine)
         → line_of text.now ≡ Ok line
-        → OnOk result (HaveGrown addresses.now.text_size list emission.old.place emission.old.code line
+        → OnOk result (HaveGrown addresses.now.text_size list emission.old.counter emission.old.code line
         emission.old.parts emission.new.parts) }
-    ensures place { (line : SourceLine) → line_of text.now ≡ Ok line
-        → OnOk result (emission.new.place ≡ layout.place_after emission.old.place line.says) }
+    ensures counter { (line : SourceLine) → line_of text.now ≡ Ok line
+        → OnOk result (emission.new.counter ≡ layout.counter_after emission.old.counter line.says) }
     ensures code { (line : SourceLine) → line_of text.now ≡ Ok line
         → OnOk result (emission.new.code
-        ≡ assembly.text_is emission.old.place line.says emission.old.code) }
+        ≡ assembly.text_is emission.old.counter line.says emission.old.code) }
     ensures err { (list : List layout.Label) → Knows addresses.now.labels.now list → (line : SourceLine)
         → line_of text.now ≡ Ok line
         → IfErr result (λ fault. fault ≢ AsmFault.Memory
-        → target_fault number addresses.now.text_size list emission.old.place line.says ≡ Some fault) }
+        → target_fault number addresses.now.text_size list emission.old.counter line.says ≡ Some fault) }
 {
     let Ok(line) = line_again(alloc, text, kept) else {
         return Err(AsmFault::Memory);
     };
-    let place = emission.place;
+    let counter = emission.counter;
     let code = emission.code;
-    let Some(after) = place_after(&place, &line.statement) else {
+    let Some(after) = counter_after(&counter, &line.statement) else {
         unreachable!()
     };
     put_line(
         &mut emission.parts,
         alloc,
         number,
-        &place,
+        &counter,
         code,
         &line,
         addresses,
     )?;
-    emission.code = text_is(&place, &line.statement, code);
-    emission.place = after;
+    emission.code = text_is(&counter, &line.statement, code);
+    emission.counter = after;
     Ok(())
 }

@@ -1,6 +1,9 @@
 //! Why a source is refused.
+ghost use Rattle.std.specs.Prelude.{◌≡◌};
+ghost use Rattle.asm_core.specs.declared.fault.AsmFault.TheVariants as variants;
 
 use asm_parser::LineFault;
+use std::alloc::{AllocError, AllocFailed};
 
 /// Why a source has no object. Lines are counted from 1.
 ///
@@ -24,6 +27,22 @@ pub enum AsmFault {
     TooLarge(u32),
     /// There is no label `_start` at a multiple of 4 at a byte of the text.
     NoStart,
-    /// Want of memory.
+    /// Out of memory.
     Memory,
+}
+
+impl From<AllocError> for AsmFault {
+    ghost from_gives = { λ _ fault. fault ≡ variants.Memory };
+
+    fn from(_error: AllocError) -> AsmFault {
+        AsmFault::Memory
+    }
+}
+
+impl<T: Drop> From<AllocFailed<T>> for AsmFault {
+    ghost from_gives = { λ _ fault. fault ≡ variants.Memory };
+
+    fn from(_error: AllocFailed<T>) -> AsmFault {
+        AsmFault::Memory
+    }
 }

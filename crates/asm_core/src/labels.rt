@@ -9,7 +9,7 @@ use std::collections::HashMap;
 
 /// Where a label stands: at an offset in a part.
 #[derive(Clone, Copy)]
-pub struct LabelPlace {
+pub struct LabelPosition {
     pub part: Section,
     pub offset: u64,
 }
@@ -17,7 +17,7 @@ pub struct LabelPlace {
 /// The labels so far.
 #[derive(Drop)]
 pub struct Labels<'a> {
-    pub places: HashMap<&'a [u8], LabelPlace>,
+    pub positions: HashMap<&'a [u8], LabelPosition>,
 }
 
 impl<'a> Labels<'a> {
@@ -26,23 +26,23 @@ impl<'a> Labels<'a> {
         ensures { (name : List ℕ) → known result name ≡ None }
     {
         Labels {
-            places: HashMap::new(alloc),
+            positions: HashMap::new(alloc),
         }
     }
 
     /// The label of that name.
-    pub fn find(&self, name: &[u8]) -> Option<LabelPlace>
+    pub fn find(&self, name: &[u8]) -> Option<LabelPosition>
         ensures { result ≡ known self.now name.now }
     {
-        self.places.get(name).copied()
+        self.positions.get(name).copied()
     }
 
     /// Adds a label; one of the same name that stands before is forgotten.
-    pub fn add(&mut self, name: &'a [u8], place: LabelPlace) -> Result<(), AllocError>
+    pub fn add(&mut self, name: &'a [u8], position: LabelPosition) -> Result<(), AllocError>
         ensures { OnOk result ((other : List ℕ)
-            → known self.new other ≡ cond (bytes_eq name.now other) (Some place) (known self.old other)) }
+            → known self.new other ≡ cond (bytes_eq name.now other) (Some position) (known self.old other)) }
     {
-        match self.places.insert(name, place) {
+        match self.positions.insert(name, position) {
             Ok(_) => Ok(()),
             Err(_) => Err(AllocError),
         }

@@ -1,25 +1,25 @@
 //! The assembler: `assemble` makes the object of a source, or tells its first fault.
 #![tactic(auto)]
 
-mod aim;
-mod check;
 mod emit_bytes;
 mod emit_lines;
-mod emit_source;
-mod emit_targets;
 mod fault;
-mod kept;
+mod first_pass;
+mod kept_words;
 mod labels;
 mod laws;
+mod line_checks;
 mod lines;
+mod location_counter;
 mod object;
-mod parts;
-mod place;
+mod object_parts;
+mod second_pass;
 mod start;
-mod survey;
 mod symbols;
-mod text;
+mod target_addresses;
+mod target_distance;
+mod utf8;
 
 pub use fault::AsmFault;
-pub use laws::{aimed_law, one_object};
+pub use laws::{one_object, resolved_law};
 pub use object::assemble;

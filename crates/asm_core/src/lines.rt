@@ -3,7 +3,7 @@ ghost use Rattle.std.specs.Prelude.{◌≡◌, ◌<◌, ◌≤◌, ◌==◌, [],
 ghost use Rattle.std.specs.List.{position, position_or_len};
 ghost use Rattle.asm_core.specs.Source.{lines_of};
 
-/// The place of the first line feed.
+/// The offset of the first line feed.
 fn line_end(text: &[u8]) -> Option<usize>
     ensures { result ≡ position (λ c. c == 10) text.now }
 {
@@ -16,7 +16,7 @@ fn line_length(text: &[u8]) -> usize
     ensures within { result ≤ length text.now }
 {
     match line_end(text) {
-        Some(at) => at,
+        Some(offset) => offset,
         None => text.len(),
     }
 }

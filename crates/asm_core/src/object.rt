@@ -2,48 +2,42 @@
 ghost use Rattle.std.specs.Prelude.{◌≡◌, ◌≢◌, Some, IfOk, IfErr};
 ghost use Rattle.asm_core.specs.Faults.{asm_fault};
 ghost use Rattle.asm_core.specs.Assembly.{Assembles};
-ghost use Rattle.asm_core.specs.Marked.{MarksCode};
+ghost use Rattle.asm_core.specs.Mapped.{MapsCode};
 ghost use Rattle.a64_encode.specs.Writable.{IsWritable};
 
-use crate::emit_source::emit;
 use crate::fault::AsmFault;
+use crate::first_pass::scan_source;
+use crate::second_pass::emit;
 use crate::start::start_of;
-use crate::survey::survey_source;
-use crate::text::not_text;
+use crate::utf8::not_text;
 use sm_types::Object;
 use std::alloc::Global;
 
 /// How many bytes a source may have.
 const SOURCE_LIMIT: usize = 67_108_864;
 
-/// The object of a source, or its first fault; `Memory` is want of memory.
+/// The object of a source, or its first fault, or `Memory` where it is out of memory.
 pub fn assemble(alloc: Global, source: &[u8]) -> Result<Object, AsmFault>
     ensures assembles { IfOk result (λ object. Assembles source.now object) }
     ensures sound { IfOk result IsWritable }
-    ensures code { IfOk result (λ object. MarksCode source.now object) }
+    ensures code { IfOk result (λ object. MapsCode source.now object) }
     ensures fault { IfErr result (λ fault. fault ≢ AsmFault.Memory → asm_fault source.now ≡ Some fault) }
 {
     if source.len() > SOURCE_LIMIT {
         return Err(AsmFault::TooLong);
     }
-    if let Some(at) = not_text(source) {
-        return Err(AsmFault::NotText(at));
+    if let Some(offset) = not_text(source) {
+        return Err(AsmFault::NotText(offset));
     }
-    let survey = match survey_source(alloc, source) {
-        Ok(survey) => survey,
-        Err(fault) => return Err(fault),
-    };
-    let parts = match emit(
+    let first_pass = scan_source(alloc, source)?;
+    let parts = emit(
         alloc,
         source,
-        survey.kept.as_slice(),
-        &survey.labels,
-        survey.end.text_size,
-    ) {
-        Ok(parts) => parts,
-        Err(fault) => return Err(fault),
-    };
-    match start_of(survey.end.text_size, &survey.labels) {
+        first_pass.kept.as_slice(),
+        &first_pass.labels,
+        first_pass.end.text_size,
+    )?;
+    match start_of(first_pass.end.text_size, &first_pass.labels) {
         Some(entry) => Ok(Object {
             text_bytes: parts.text_bytes,
             data_bytes: parts.data_bytes,

@@ -4,11 +4,11 @@ ghost use Rattle.asm_core.specs.Layout as layout;
 ghost use Rattle.asm_core.specs.Faults.{start_in, start_of};
 ghost use Rattle.asm_core.specs.Known.{Knows};
 
-use crate::labels::{LabelPlace, Labels};
+use crate::labels::{LabelPosition, Labels};
 use sm_types::{Section, TEXT_ADDRESS};
 
 /// The address of a label in a text of so many bytes, where a program can start there.
-fn start_in(text_size: u64, label: LabelPlace) -> Option<u64>
+fn start_in(text_size: u64, label: LabelPosition) -> Option<u64>
     requires { text_size ≤ 4194304 }
     ensures { result ≡ start_in text_size label.part label.offset }
 {

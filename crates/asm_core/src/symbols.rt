@@ -9,9 +9,9 @@ ghost use Rattle.asm_core.specs.Assembly as assembly;
 ghost use Rattle.asm_core.specs.Limits.{HasSmallAlign};
 ghost use Rattle.asm_core.specs.Emitted.{line_symbols, one_symbol};
 
-use crate::emit_targets::address_in;
 use crate::fault::AsmFault;
-use crate::place::{Place, here, size_of};
+use crate::location_counter::{LocationCounter, here, size_of};
+use crate::target_addresses::address_in;
 use asm_parser::{Line, Statement};
 use sm_types::{Section, Symbol, Symbols, name_says};
 use std::alloc::Global;
@@ -28,39 +28,32 @@ fn is_mapping_name(name: &[u8]) -> bool
 fn is_instruction(statement: &Statement<'_>) -> bool
     ensures { result ≡ assembly.is_instruction (says_of statement.now) }
 {
-    match statement {
-        Statement::Instruction { .. } => true,
-        Statement::Empty => false,
-        Statement::Text => false,
-        Statement::Data => false,
-        Statement::Quad(_) => false,
-        Statement::Word(_) => false,
-        Statement::Byte(_) => false,
-        Statement::Zero(_) => false,
-        Statement::Align(_) => false,
-        Statement::Global(_) => false,
-    }
+    matches!(statement, Statement::Instruction { .. })
 }
 
 /// Tells whether a statement puts bytes into the text.
 #[tactic(auto, unfolding(crate::specs::Assembly::fills_text))]
-fn fills_text(place: &Place, statement: &Statement<'_>) -> bool
+fn fills_text(counter: &LocationCounter, statement: &Statement<'_>) -> bool
     requires { HasSmallAlign (says_of statement.now) }
-    ensures { result ≡ assembly.fills_text place.now (says_of statement.now) }
+    ensures { result ≡ assembly.fills_text counter.now (says_of statement.now) }
 {
-    match place.part {
-        Section::Text => size_of(statement, here(place)) > 0,
+    match counter.part {
+        Section::Text => size_of(statement, here(counter)) > 0,
         Section::Data => false,
     }
 }
 
 /// What the text is after a statement: code, data, or nothing yet.
 #[tactic(auto, unfolding(crate::specs::Assembly::text_is))]
-pub fn text_is(place: &Place, statement: &Statement<'_>, before: Option<bool>) -> Option<bool>
+pub fn text_is(
+    counter: &LocationCounter,
+    statement: &Statement<'_>,
+    before: Option<bool>,
+) -> Option<bool>
     requires { HasSmallAlign (says_of statement.now) }
-    ensures { result ≡ assembly.text_is place.now (says_of statement.now) before }
+    ensures { result ≡ assembly.text_is counter.now (says_of statement.now) before }
 {
-    if fills_text(place, statement) {
+    if fills_text(counter, statement) {
         Some(is_instruction(statement))
     } else {
         before
@@ -96,33 +89,29 @@ fn put_symbol(
         ≡ map assembly.symbol_said symbols.old.items ++ one_symbol name.now address section) }
     ensures err { IfErr result (λ fault. fault ≡ AsmFault.Memory) }
 {
-    let Ok(name) = Vec::from_slice(alloc, name) else {
-        return Err(AsmFault::Memory);
-    };
-    match symbols.push(Symbol {
+    let name = Vec::from_slice(alloc, name)?;
+    symbols.push(Symbol {
         name,
         address,
         section,
-    }) {
-        Ok(()) => Ok(()),
-        Err(_) => Err(AsmFault::Memory),
-    }
+    })?;
+    Ok(())
 }
 
-/// Appends the symbol of a label at a place, unless it is called like a mapping symbol.
+/// Appends the symbol of a label at a location counter, unless it is called like a mapping symbol.
 #[tactic(auto, unfolding(crate::specs::Assembly::label_symbol))]
 fn put_label(
     symbols: &mut Symbols,
     alloc: Global,
-    place: &Place,
+    counter: &LocationCounter,
     label: Option<&[u8]>,
     text_size: u64,
 ) -> Result<(), AsmFault>
     requires text { text_size ≤ 4194304 }
-    requires here { layout.here place.now ≤ 4194304 }
+    requires here { layout.here counter.now ≤ 4194304 }
     ensures ok { OnOk result (map assembly.symbol_said symbols.new.items
         ≡ map assembly.symbol_said symbols.old.items
-        ++ assembly.label_symbol text_size place.now (option_map (λ name. name.now) label.entry)) }
+        ++ assembly.label_symbol text_size counter.now (option_map (λ name. name.now) label.entry)) }
     ensures err { IfErr result (λ fault. fault ≡ AsmFault.Memory) }
 {
     let Some(name) = label else {
@@ -131,55 +120,55 @@ fn put_label(
     if is_mapping_name(name) {
         return Ok(());
     }
-    let address = address_in(place.part, here(place), text_size);
-    put_symbol(symbols, alloc, name, address, place.part)
+    let address = address_in(counter.part, here(counter), text_size);
+    put_symbol(symbols, alloc, name, address, counter.part)
 }
 
-/// Appends the mapping symbol of a statement at a place, where the text changes between code and data with
-/// it.
+/// Appends the mapping symbol of a statement at a location counter, where the text changes between code and
+/// data with it.
 #[tactic(auto, unfolding(crate::specs::Assembly::mapping_symbol))]
 fn put_mapping(
     symbols: &mut Symbols,
     alloc: Global,
-    place: &Place,
+    counter: &LocationCounter,
     statement: &Statement<'_>,
     before: Option<bool>,
     text_size: u64,
 ) -> Result<(), AsmFault>
     requires text { text_size ≤ 4194304 }
-    requires here { layout.here place.now ≤ 4194304 }
+    requires here { layout.here counter.now ≤ 4194304 }
     requires align { HasSmallAlign (says_of statement.now) }
     ensures ok { OnOk result (map assembly.symbol_said symbols.new.items
         ≡ map assembly.symbol_said symbols.old.items
-        ++ assembly.mapping_symbol text_size place.now (says_of statement.now) before) }
+        ++ assembly.mapping_symbol text_size counter.now (says_of statement.now) before) }
     ensures err { IfErr result (λ fault. fault ≡ AsmFault.Memory) }
 {
     let code = is_instruction(statement);
-    if !fills_text(place, statement) || is_same(before, code) {
+    if !fills_text(counter, statement) || is_same(before, code) {
         return Ok(());
     }
-    let address = address_in(place.part, here(place), text_size);
-    put_symbol(symbols, alloc, mapping_name(code), address, place.part)
+    let address = address_in(counter.part, here(counter), text_size);
+    put_symbol(symbols, alloc, mapping_name(code), address, counter.part)
 }
 
-/// Appends the symbols of a line at a place.
+/// Appends the symbols of a line at a location counter.
 #[tactic(auto, unfolding(crate::specs::Emitted::line_symbols))]
 pub fn put_symbols(
     symbols: &mut Symbols,
     alloc: Global,
-    place: &Place,
+    counter: &LocationCounter,
     line: &Line<'_>,
     before: Option<bool>,
     text_size: u64,
 ) -> Result<(), AsmFault>
     requires text { text_size ≤ 4194304 }
-    requires here { layout.here place.now ≤ 4194304 }
+    requires here { layout.here counter.now ≤ 4194304 }
     requires align { HasSmallAlign (says_of line.now.statement) }
     ensures ok { OnOk result (map assembly.symbol_said symbols.new.items
         ≡ map assembly.symbol_said symbols.old.items
-        ++ line_symbols text_size place.now before (line_said line.now)) }
+        ++ line_symbols text_size counter.now before (line_said line.now)) }
     ensures err { IfErr result (λ fault. fault ≡ AsmFault.Memory) }
 {
-    put_label(symbols, alloc, place, line.label, text_size)?;
-    put_mapping(symbols, alloc, place, &line.statement, before, text_size)
+    put_label(symbols, alloc, counter, line.label, text_size)?;
+    put_mapping(symbols, alloc, counter, &line.statement, before, text_size)
 }

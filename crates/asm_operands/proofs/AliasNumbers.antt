@@ -27,30 +27,30 @@ passes p (y ∷ ys) x e = elim (p y) as (λ b. p y ≡ b → cond b (Some y) (fi
 
 -- ---- halfwords
 
-parts_of : (place q : ℕ) → q < 65536 → ((place * 65536 + q) / 65536 ≡ place) × ((place * 65536 + q) % 65536 ≡ q)
-parts_of place q lt = (omega arith, omega arith)
+parts_of : (index q : ℕ) → q < 65536 → ((index * 65536 + q) / 65536 ≡ index) × ((index * 65536 + q) % 65536 ≡ q)
+parts_of index q lt = (omega arith, omega arith)
 
-at_place : (n place field : ℕ) → is_halfword_at n place ≡ true → place * 65536 + n / 2 ^ (16 * place) ≡ field → halfword_number field ≡ n
+at_index : (n index field : ℕ) → is_halfword_at n index ≡ true → index * 65536 + n / 2 ^ (16 * index) ≡ field → halfword_number field ≡ n
 unfolding is_halfword_at
-at_place n place field e f =
-    let p = and_parts (n % 2 ^ (16 * place) == 0) (nat_lt (n / 2 ^ (16 * place)) 65536) e in
-    let parts = parts_of place (n / 2 ^ (16 * place)) (ltb-true _ _ p.1) in
-    let none : n % 2 ^ (16 * place) ≡ 0 = eqb-true _ _ p.0 in
-    let whole = shr_split n (16 * place) in
+at_index n index field e f =
+    let p = and_parts (n % 2 ^ (16 * index) == 0) (nat_lt (n / 2 ^ (16 * index)) 65536) e in
+    let parts = parts_of index (n / 2 ^ (16 * index)) (ltb-true _ _ p.1) in
+    let none : n % 2 ^ (16 * index) ≡ 0 = eqb-true _ _ p.0 in
+    let whole = shr_split n (16 * index) in
     ap (λ m. m % 65536 * 2 ^ (16 * (m / 65536))) (sym f)
     ∙ ap₂ (λ a b. a * 2 ^ (16 * b)) parts.1 parts.0
-    ∙ (let same : n / 2 ^ (16 * place) * 2 ^ (16 * place) ≡ n = omega (arith, whole, none) in same)
+    ∙ (let same : n / 2 ^ (16 * index) * 2 ^ (16 * index) ≡ n = omega (arith, whole, none) in same)
 
-found_at : (n field : ℕ) (o : Option ℕ) → ((place : ℕ) → o ≡ Some place → is_halfword_at n place ≡ true)
-    → option_map (λ place. place * 65536 + n / 2 ^ (16 * place)) o ≡ Some field → halfword_number field ≡ n
+found_at : (n field : ℕ) (o : Option ℕ) → ((index : ℕ) → o ≡ Some index → is_halfword_at n index ≡ true)
+    → option_map (λ index. index * 65536 + n / 2 ^ (16 * index)) o ≡ Some field → halfword_number field ≡ n
 found_at n field None h e = cc
-found_at n field (Some place) h e = at_place n place field (h place refl) (some_is _ field e)
+found_at n field (Some index) h e = at_index n index field (h index refl) (some_is _ field e)
 
 halfword-is : (wide : Bool) (n field : ℕ) → halfword_field wide n ≡ Some field → halfword_number field ≡ n
 unfolding halfword_field
 halfword-is wide n field e =
     found_at n field (find (is_halfword_at n) (range_with_len 0 (width_of wide / 16)))
-    (λ place f. passes (is_halfword_at n) (range_with_len 0 (width_of wide / 16)) place f) e
+    (λ index f. passes (is_halfword_at n) (range_with_len 0 (width_of wide / 16)) index f) e
 
 pub halfword : (wide negative : Bool) (bits size number field : ℕ) → immediate_of wide negative size ≡ Some number
     → field_said (kind.Halfword wide false) bits (Number negative size) ≡ Some field → halfword_number field ≡ number

@@ -18,23 +18,23 @@ use Rattle.insn_text.specs.Rules.{has_room, have_room}
 use Rattle.insn_text.specs.Texts.{bits_of, items_of}
 use Rattle.insn_text.specs.Wordings.{file_number}
 use Rattle.asm_tokens.specs.declared.token.Token.{Token}
-use Rattle.asm_tokens.specs.declared.token.Token.TheVariants.{Register, Word, Number, Mark, Sized, Bare, Other}
-use Rattle.asm_operands.specs.Fields.{on_mark, on_word, on_register, on_number, on_sized, on_bare, word_field, same_file, slice_field}
+use Rattle.asm_tokens.specs.declared.token.Token.TheVariants.{Register, Keyword, Number, Punctuation, Sized, Bare, Other}
+use Rattle.asm_operands.specs.Fields.{on_punctuation, on_keyword, on_register, on_number, on_sized, on_bare, keyword_field, same_file, slice_field}
 use Rattle.asm_operands.specs.Fields.{same_vector_file, sized_field, index_field, descending_field, unsigned_field, field_said}
 use Rattle.asm_operands.specs.Sound.{has_factor, is_sound}
 use Rattle.asm_operands.proofs.Tables.{items_of-sound}
-use Rattle.asm_operands.proofs.Aimed.{all_at}
+use Rattle.asm_operands.proofs.AnyDistance.{all_at}
 
 -- the token of an operand without a field
 unfoldable own_token : Kind → Token
-own_token (kind.Mark c) = Mark c
-own_token (kind.Named first count) = Word first
+own_token (kind.Punctuation c) = Punctuation c
+own_token (kind.Keyword first count) = Keyword first
 own_token (kind.Sized file few first) = Sized file 0 first
 own_token kind.SliceRegister = Register W 12
 own_token kind.Index = Bare 0
 own_token (kind.Descending from) = Number false from
 own_token (kind.Unsigned base scale most) = Number false base
-own_token (kind.Opposite first count) = Word first
+own_token (kind.Opposite first count) = Keyword first
 own_token other = Other
 
 -- a test that lets a number through holds
@@ -48,19 +48,19 @@ not_true false e = refl
 
 -- ---- words and marks
 
-only_word : (first count place m : ℕ) → count ≤ 1 → word_field first count place ≡ Some m → place ≡ first
-unfolding word_field
-only_word first count place m le e =
-    let p = and_parts (nat_le first place) (nat_lt place (first + count))
-    (holds (nat_le first place && nat_lt place (first + count)) (place - first) m e) in
-    let low = leb-true first place p.0 in
-    let high = ltb-true place (first + count) p.1 in
+only_word : (first count index m : ℕ) → count ≤ 1 → keyword_field first count index ≡ Some m → index ≡ first
+unfolding keyword_field
+only_word first count index m le e =
+    let p = and_parts (nat_le first index) (nat_lt index (first + count))
+    (holds (nat_le first index && nat_lt index (first + count)) (index - first) m e) in
+    let low = leb-true first index p.0 in
+    let high = ltb-true index (first + count) p.1 in
     omega arith
 
-on_one_word : (says : ℕ → Option ℕ) (first m : ℕ) → ((place n : ℕ) → says place ≡ Some n → place ≡ first) → (t : Token)
-    → on_word says t ≡ Some m → t ≡ Word first
-unfolding on_word
-on_one_word says first m one (Word place) e = ap Word (one place m e)
+on_one_word : (says : ℕ → Option ℕ) (first m : ℕ) → ((index n : ℕ) → says index ≡ Some n → index ≡ first) → (t : Token)
+    → on_keyword says t ≡ Some m → t ≡ Keyword first
+unfolding on_keyword
+on_one_word says first m one (Keyword index) e = ap Keyword (one index m e)
 on_one_word says first m one other e = cc
 
 -- ---- numbers
@@ -136,7 +136,7 @@ on_one_sized wanted first m (Sized file number suffix) e =
     cc
 on_one_sized wanted first m other e = cc
 
-on_one_slice : (m : ℕ) (t : Token) → on_register (slice_field 0) (λ place. None) t ≡ Some m → t ≡ Register W 12
+on_one_slice : (m : ℕ) (t : Token) → on_register (slice_field 0) (λ index. None) t ≡ Some m → t ≡ Register W 12
 unfolding on_register slice_field same_file
 on_one_slice m (Register X number) e = cc
 on_one_slice m (Register W number) e =
@@ -156,30 +156,30 @@ on_one_index m (Bare size) e =
     ap Bare n
 on_one_index m other e = cc
 
-on_one_mark : (c m : ℕ) (t : Token) → on_mark (λ d. cond (d == c) (Some 0) None) t ≡ Some m → t ≡ Mark c
-unfolding on_mark
-on_one_mark c m (Mark d) e = ap Mark (eqb-true d c (holds (d == c) 0 m e))
-on_one_mark c m other e = cc
+on_one_punctuation : (c m : ℕ) (t : Token) → on_punctuation (λ d. cond (d == c) (Some 0) None) t ≡ Some m → t ≡ Punctuation c
+unfolding on_punctuation
+on_one_punctuation c m (Punctuation d) e = ap Punctuation (eqb-true d c (holds (d == c) 0 m e))
+on_one_punctuation c m other e = cc
 
 -- ---- operands
 
 never : (n : ℕ) → 0 < n → nat_le n 0 ≡ true → ⊥
 never n positive e = let le = leb-true n 0 e in omega arith
 
-opposite_of : (first count place m : ℕ) → count ≤ 1
-    → option_map (λ field. bit_xor field 1) (word_field first count place) ≡ Some m → place ≡ first
-opposite_of first count place m few e = by_word (word_field first count place) refl e
+opposite_of : (first count index m : ℕ) → count ≤ 1
+    → option_map (λ field. bit_xor field 1) (keyword_field first count index) ≡ Some m → index ≡ first
+opposite_of first count index m few e = by_word (keyword_field first count index) refl e
   where
-    by_word : (o : Option ℕ) → word_field first count place ≡ o → option_map (λ field. bit_xor field 1) o ≡ Some m → place ≡ first
+    by_word : (o : Option ℕ) → keyword_field first count index ≡ o → option_map (λ field. bit_xor field 1) o ≡ Some m → index ≡ first
     by_word None h x = cc
-    by_word (Some field) h x = only_word first count place field few h
+    by_word (Some field) h x = only_word first count index field few h
 
 own_alone : (k : Kind) (t : Token) (m : ℕ) → has_room k 0 ≡ true → has_factor k 0 ≡ true → field_said k 0 t ≡ Some m → t ≡ own_token k
 unfolding has_room has_factor field_said own_token
-own_alone (kind.Mark c) t m r f e = on_one_mark c m t e
-own_alone (kind.Named first count) t m r f e =
+own_alone (kind.Punctuation c) t m r f e = on_one_punctuation c m t e
+own_alone (kind.Keyword first count) t m r f e =
     let few : count ≤ 1 = leb-true count 1 (and_parts (nat_lt 0 count) (nat_le count (2 ^ 0)) r).1 in
-    on_one_word (word_field first count) first m (λ place n h. only_word first count place n few h) t e
+    on_one_word (keyword_field first count) first m (λ index n h. only_word first count index n few h) t e
 own_alone (kind.Register file last) t m r f e = absurd (never 5 (omega arith) r)
 own_alone (kind.Sized file zero first) t m r f e = on_one_sized file first m t e
 own_alone (kind.Sized file (suc few) first) t m r f e = absurd (never (suc few) (omega arith) r)
@@ -203,20 +203,20 @@ own_alone (kind.ShiftLeft true) t m r f e = absurd (never 12 (omega arith) r)
 own_alone (kind.ShiftLeft false) t m r f e = absurd (never 10 (omega arith) r)
 own_alone (kind.Opposite first count) t m r f e =
     let few : count ≤ 1 = leb-true count 1 (and_parts (nat_lt 0 count) (nat_le count (2 ^ 0)) r).1 in
-    on_one_word (λ place. option_map (λ field. bit_xor field 1) (word_field first count place)) first m
-    (λ place n h. opposite_of first count place n few h) t e
+    on_one_word (λ index. option_map (λ field. bit_xor field 1) (keyword_field first count index)) first m
+    (λ index n h. opposite_of first count index n few h) t e
 own_alone (kind.Halfword true inverted) t m r f e = absurd (never 18 (omega arith) r)
 own_alone (kind.Halfword false inverted) t m r f e = absurd (never 17 (omega arith) r)
 
 -- of an operand of a shape
-pub bare-alone : list_all have_room SHAPES ≡ true → (at place : ℕ) (s : Shape) (i : Item) (t u : Token) (m n : ℕ)
-    → slice_get SHAPES at ≡ Some s → slice_get (items_of s) place ≡ Some i → bits_of i ≡ 0
+pub bare-alone : list_all have_room SHAPES ≡ true → (at index : ℕ) (s : Shape) (i : Item) (t u : Token) (m n : ℕ)
+    → slice_get SHAPES at ≡ Some s → slice_get (items_of s) index ≡ Some i → bits_of i ≡ 0
     → field_said i.kind 0 t ≡ Some m → field_said i.kind 0 u ≡ Some n → t ≡ u
 unfolding have_room is_sound
-bare-alone all at place s i t u m n listed here bare e f =
+bare-alone all at index s i t u m n listed here bare e f =
     let room : has_room i.kind (bits_of i) ≡ true =
-    all_at (λ (j : Item). has_room j.kind (bits_of j)) (items_of s) place i (all_at have_room SHAPES at s all listed) here in
-    let sound = all_at is_sound (items_of s) place i (items_of-sound s) here in
+    all_at (λ (j : Item). has_room j.kind (bits_of j)) (items_of s) index i (all_at have_room SHAPES at s all listed) here in
+    let sound = all_at is_sound (items_of s) index i (items_of-sound s) here in
     let factor : has_factor i.kind (bits_of i) ≡ true = (and_parts (has_factor i.kind (bits_of i)) (is_field i.field) sound).0 in
     let r : has_room i.kind 0 ≡ true = ap (has_room i.kind) (sym bare) ∙ room in
     let g : has_factor i.kind 0 ≡ true = ap (has_factor i.kind) (sym bare) ∙ factor in

@@ -8,7 +8,7 @@ use Rattle.insn_text.specs.declared.item.Item.{Item}
 use Rattle.insn_text.specs.declared.item.Rule.{Rule}
 use Rattle.insn_text.specs.declared.item.Rule.TheVariants.{Free}
 use Rattle.insn_text.specs.Rules.{meets}
-use Rattle.asm_operands.specs.Operands.{Known, mask_of, placed, with_field, agrees, known_with}
+use Rattle.asm_operands.specs.Operands.{PartialWord, mask_of, placed, with_field, agrees, partial_with}
 use Rattle.asm_operands.specs.Sound.{is_free, is_bare}
 
 no_mask : (i : Item) → i.field.width ≡ 0 → i.field.upper_width ≡ 0 → mask_of i ≡ 0
@@ -29,16 +29,17 @@ pub free : (r : Rule) → is_free r ≡ true → r ≡ Free
 free Free e = refl
 free other e = cc
 
-with_none : (i : Item) (known : Known) (f : ℕ) → mask_of i ≡ 0 → placed i f ≡ 0 → i.rule ≡ Free → Some known ≡ known_with i known (Some f)
-unfolding known_with agrees with_field meets
-with_none i known f m p r =
-    rw (m, p, r, and_comm known.value 0, or_zero_r known.mask, or_zero_r known.value) refl
+with_none : (i : Item) (partial : PartialWord) (f : ℕ) → mask_of i ≡ 0 → placed i f ≡ 0 → i.rule ≡ Free
+    → Some partial ≡ partial_with i partial (Some f)
+unfolding partial_with agrees with_field meets
+with_none i partial f m p r =
+    rw (m, p, r, and_comm partial.value 0, or_zero_r partial.mask, or_zero_r partial.value) refl
 
-pub with_bare : (i : Item) (known : Known) (f : ℕ) → is_bare i ≡ true → Some known ≡ known_with i known (Some f)
+pub with_bare : (i : Item) (partial : PartialWord) (f : ℕ) → is_bare i ≡ true → Some partial ≡ partial_with i partial (Some f)
 unfolding is_bare
-with_bare i known f e =
+with_bare i partial f e =
     let p = and_parts ((i.field.width == 0) && (i.field.upper_width == 0)) (is_free i.rule) e in
     let q = and_parts (i.field.width == 0) (i.field.upper_width == 0) p.0 in
     let w = eqb-true i.field.width 0 q.0 in
     let u = eqb-true i.field.upper_width 0 q.1 in
-    with_none i known f (no_mask i w u) (nothing_placed i f w u) (free i.rule p.1)
+    with_none i partial f (no_mask i w u) (nothing_placed i f w u) (free i.rule p.1)

@@ -116,14 +116,14 @@ of-fields n wide imms immr mask f =
     both_true _ _ (rw (b, r, s) test) (is_that-same mask _ (rw (b, r, s) f.given))
 
 -- ---- a mask has no other fields
-record IsLeast (p : ℕ → Bool) (from n place : ℕ) : Type 0 where
-  above : from ≤ place
-  below : place < n
-  passes : p place ≡ true
-  before : (k : ℕ) → from ≤ k → k < place → p k ≡ false
+record IsLeast (p : ℕ → Bool) (from n index : ℕ) : Type 0 where
+  above : from ≤ index
+  below : index < n
+  passes : p index ≡ true
+  before : (k : ℕ) → from ≤ k → k < index → p k ≡ false
 
 at_end : (p : ℕ → Bool) (from n : ℕ) → ((k : ℕ) → from ≤ k → k < n → p k ≡ false) → (b : Bool) → p n ≡ b
-    → ((place : ℕ) × IsLeast p from (suc n) place) ⊎ ((k : ℕ) → from ≤ k → k < suc n → p k ≡ false)
+    → ((index : ℕ) × IsLeast p from (suc n) index) ⊎ ((k : ℕ) → from ≤ k → k < suc n → p k ≡ false)
 at_end p from n never true e = elim (cases_lt n from) [
   | inl under ↦ inr (λ k le lt. absurd (omega arith))
   | inr over ↦ inl (n, record { above = over; below = omega arith; passes = e; before = never })
@@ -131,7 +131,7 @@ at_end p from n never true e = elim (cases_lt n from) [
 at_end p from n never false e =
     inr (λ k le lt. elim (cases_lt k n) [ inl under ↦ never k le under | inr over ↦ (let s : k ≡ n = omega arith in ap p s ∙ e) ])
 
-least : (p : ℕ → Bool) (from n : ℕ) → ((place : ℕ) × IsLeast p from n place) ⊎ ((k : ℕ) → from ≤ k → k < n → p k ≡ false)
+least : (p : ℕ → Bool) (from n : ℕ) → ((index : ℕ) × IsLeast p from n index) ⊎ ((k : ℕ) → from ≤ k → k < n → p k ≡ false)
 least p from zero = inr (λ k le lt. absurd (omega arith))
 least p from (suc n) = elim (least p from n) [
   | inl f ↦ let within = f.1.below in inl (f.0, record { above = f.1.above; below = omega arith; passes = f.1.passes; before = f.1.before })

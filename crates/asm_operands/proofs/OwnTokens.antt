@@ -10,12 +10,12 @@ use Rattle.insn_text.specs.declared.item.Shape.{Shape}
 use Rattle.insn_text.specs.Texts.{bits_of, field_in, items_of}
 use Rattle.insn_text.specs.Rules.{is_within, meets, is_sayable}
 use Rattle.asm_operands.specs.Fields.{field_said}
-use Rattle.asm_operands.specs.Operands.{Known, mask_of, placed, with_field, agrees, known_with, known_after, taken_on, taken, fixed}
+use Rattle.asm_operands.specs.Operands.{PartialWord, mask_of, placed, with_field, agrees, partial_with, partial_after, taken_on, taken, fixed}
 use Rattle.asm_operands.specs.Operands.{word_in}
 use Rattle.asm_operands.specs.Shown.{item_token, tokens_shown}
 use Rattle.insn_forms.proofs.Bits.{or_of_ands, field_in-lt, placed-field}
 use Rattle.asm_operands.proofs.WordBits.{and_swap, upper_mask, lower_mask, covers, meets-kept}
-use Rattle.asm_operands.proofs.Heard.{is_printed_kind, said-heard}
+use Rattle.asm_operands.proofs.PrintedTokens.{is_printed_kind, said-heard}
 
 -- the kind is printed, and the two parts of the field have no bit in common
 unfoldable pub is_printed_item : Item → Bool
@@ -27,8 +27,8 @@ says_rest [] mask = mask == 2 ^ 32 - 1
 says_rest (i ∷ is) mask = is_printed_item i && (covers i.rule (bit_or mask (mask_of i)) && says_rest is (bit_or mask (mask_of i)))
 
 -- the bits of a word that a mask has
-abbrev pub known_at : ℕ → ℕ → Known
-known_at w mask = record { mask = mask; value = bit_and w mask }
+abbrev pub partial_at : ℕ → ℕ → PartialWord
+partial_at w mask = record { mask = mask; value = bit_and w mask }
 
 both_true : (a b : Bool) → a ≡ true → b ≡ true → (a && b) ≡ true
 both_true a b p q = ap₂ (λ x y. x && y) p q
@@ -55,22 +55,22 @@ unfolding is_sayable
 meets_here i w e = (and_parts (is_within i.kind (field_in i w)) (meets i.rule w) e).1
 
 item-taken : (i : Item) (w mask : ℕ) → is_printed_item i ≡ true → covers i.rule (bit_or mask (mask_of i)) ≡ true → is_sayable w i ≡ true
-    → known_after i (known_at w mask) (item_token w i) ≡ Some (known_at w (bit_or mask (mask_of i)))
-unfolding known_after known_with agrees with_field
+    → partial_after i (partial_at w mask) (item_token w i) ≡ Some (partial_at w (bit_or mask (mask_of i)))
+unfolding partial_after partial_with agrees with_field
 item-taken i w mask p c e =
     let f = field_in i w in
-    let known = known_at w mask in
+    let partial = partial_at w mask in
     let same : bit_and (bit_and w mask) (mask_of i) ≡ bit_and (placed i f) mask =
     and_swap w mask (mask_of i) ∙ ap (λ b. bit_and b mask) (sym (placed_back i w p)) in
     let value = next_value i w mask p in
     let rule : meets i.rule (bit_or (bit_and w mask) (placed i f)) ≡ true =
     ap (meets i.rule) value ∙ meets-kept i.rule w (bit_or mask (mask_of i)) c ∙ meets_here i w e in
-    ap (known_with i known) (item-heard i w p e)
-    ∙ ap (λ b. cond b (Some (with_field i known f)) None) (both_true _ _ (eq-eqb _ _ same) rule)
+    ap (partial_with i partial) (item-heard i w p e)
+    ∙ ap (λ b. cond b (Some (with_field i partial f)) None) (both_true _ _ (eq-eqb _ _ same) rule)
     ∙ ap (λ v. Some (record { mask = bit_or mask (mask_of i); value = v })) value
 
 pub taken-shown : (is : List Item) (mask w : ℕ) → w < 2 ^ 32 → says_rest is mask ≡ true → list_all (is_sayable w) is ≡ true
-    → taken is (known_at w mask) (map (item_token w) is) ≡ Some w
+    → taken is (partial_at w mask) (map (item_token w) is) ≡ Some w
 unfolding taken says_rest
 taken-shown [] mask w lt s e = ap (λ m. Some (bit_and w m)) (eqb-true mask (2 ^ 32 - 1) s) ∙ ap Some (and_mask w 32 ∙ mod-eq_of_lt lt)
 taken-shown (i ∷ is) mask w lt s e =

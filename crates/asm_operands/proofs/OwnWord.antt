@@ -1,4 +1,4 @@
--- The tokens of a word that is printed say the word, and no target: the shapes of a name are told apart by any operand's tokens.
+-- The tokens of a word that is printed say the word, and no target: the shapes of a mnemonic are told apart by any operand's tokens.
 use Rattle.std.proofs.Common.{◌≡◌, ℕ, zero, suc, ◌+◌, ◌-◌, ◌^◌, ◌<◌, ◌≤◌, ◌==◌, ◌&&◌, ◌||◌, not, Bool, true, false, nat_lt, nat_le, bit_and}
 use Rattle.std.proofs.Common.{List, [], ◌∷◌, map, take, drop, length, slice_get, Option, Some, None, cond, refl, sym, ap, ap₂, ◌∙◌, arith}
 use Rattle.std.proofs.Common.{eqb-true, ltb-true, leb-true}
@@ -12,7 +12,7 @@ use Rattle.insn_text.specs.declared.item.Kind.{Kind}
 use Rattle.insn_text.specs.declared.item.Kind.TheVariants as kind
 use Rattle.insn_text.specs.declared.item.Item.{Item}
 use Rattle.insn_text.specs.declared.item.Shape.{Shape}
-use Rattle.insn_text.specs.declared.words.TheConstants.{NAMES}
+use Rattle.insn_text.specs.declared.keywords.TheConstants.{MNEMONICS}
 use Rattle.insn_text.specs.declared.shapes.TheConstants.{SHAPES, STARTS}
 use Rattle.insn_text.specs.Texts.{items_in, items_of, prints, printed_shape}
 use Rattle.insn_text.specs.Rules.{is_sayable, IsPrinted}
@@ -27,9 +27,9 @@ use Rattle.asm_operands.specs.Shown.{token_said, item_token, tokens_shown}
 use Rattle.asm_operands.proofs.MaskFields.{all_below, all_below-at}
 use Rattle.asm_operands.proofs.Failing.{failing_below, none-below}
 use Rattle.asm_operands.proofs.WordBits.{has_register, covers}
-use Rattle.asm_operands.proofs.Heard.{is_printed_kind}
+use Rattle.asm_operands.proofs.PrintedTokens.{is_printed_kind}
 use Rattle.asm_operands.proofs.OwnTokens.{is_printed_item, says_rest, word-shown}
-use Rattle.asm_operands.proofs.Apart.{is_said_by_mark, is_said_by_number, is_said_by_distance, is_said_by_register, is_apart_from_words}
+use Rattle.asm_operands.proofs.Apart.{is_said_by_punctuation, is_said_by_number, is_said_by_distance, is_said_by_register, is_apart_from_words}
 use Rattle.asm_operands.proofs.Apart.{is_said_by_bare, is_apart_from_sized, kinds_apart, apart, shapes-apart}
 
 -- ---- the table
@@ -45,43 +45,43 @@ are_apart [] = true
 are_apart (r ∷ ss) = says_word r && (list_all (is_later_apart (items_of r)) ss && are_apart ss)
 
 unfoldable pub name_apart : ℕ → Bool
-name_apart name = are_apart (shapes_of name)
+name_apart mnemonic = are_apart (shapes_of mnemonic)
 
-apart_failing : failing_below name_apart (length NAMES) ≡ []
+apart_failing : failing_below name_apart (length MNEMONICS) ≡ []
 unfolding failing_below items_in items_of shapes_of fields.mask_of has_register covers is_printed_kind is_printed_item says_rest
-    is_said_by_mark is_said_by_number is_said_by_distance is_said_by_bare same_file same_vector_file file_number is_said_by_register
+    is_said_by_punctuation is_said_by_number is_said_by_distance is_said_by_bare same_file same_vector_file file_number is_said_by_register
     is_apart_from_words is_apart_from_sized kinds_apart apart says_word is_later_apart are_apart name_apart
 apart_failing = refl
 
-names_apart : all_below name_apart (length NAMES) ≡ true
-names_apart = none-below name_apart (length NAMES) apart_failing
+names_apart : all_below name_apart (length MNEMONICS) ≡ true
+names_apart = none-below name_apart (length MNEMONICS) apart_failing
 
 -- a shape stands among those of its name
 unfoldable pub is_at_name : ℕ → ℕ → Bool
-is_at_name place name =
-    (nat_le (slice_index STARTS name) place && nat_lt place (slice_index STARTS (name + 1))) && nat_lt name (length NAMES)
+is_at_name index mnemonic =
+    (nat_le (slice_index STARTS mnemonic) index && nat_lt index (slice_index STARTS (mnemonic + 1))) && nat_lt mnemonic (length MNEMONICS)
 
 unfoldable pub are_at_names : ℕ → List Shape → Bool
-are_at_names place [] = true
-are_at_names place (s ∷ ss) = is_at_name place s.name && are_at_names (suc place) ss
+are_at_names index [] = true
+are_at_names index (s ∷ ss) = is_at_name index s.mnemonic && are_at_names (suc index) ss
 
 all_at_names : are_at_names 0 SHAPES ≡ true
 unfolding is_at_name are_at_names
 all_at_names = refl
 
-at_names-get : (place k : ℕ) (ss : List Shape) (s : Shape) → are_at_names place ss ≡ true → slice_get ss k ≡ Some s
-    → is_at_name (place + k) s.name ≡ true
+at_names-get : (index k : ℕ) (ss : List Shape) (s : Shape) → are_at_names index ss ≡ true → slice_get ss k ≡ Some s
+    → is_at_name (index + k) s.mnemonic ≡ true
 unfolding are_at_names
-at_names-get place k [] s e g = cc
-at_names-get place zero (r ∷ ss) s e g =
+at_names-get index k [] s e g = cc
+at_names-get index zero (r ∷ ss) s e g =
     let same : r ≡ s = cc in
-    let z : place + zero ≡ place = omega arith in
-    ap (λ m. is_at_name m s.name) z ∙ ap (λ (x : Shape). is_at_name place x.name) (sym same)
-    ∙ (and_parts (is_at_name place r.name) (are_at_names (suc place) ss) e).0
-at_names-get place (suc k) (r ∷ ss) s e g =
-    let z : place + suc k ≡ suc place + k = omega arith in
-    ap (λ m. is_at_name m s.name) z ∙ at_names-get (suc place) k ss s
-    (and_parts (is_at_name place r.name) (are_at_names (suc place) ss) e).1 g
+    let z : index + zero ≡ index = omega arith in
+    ap (λ m. is_at_name m s.mnemonic) z ∙ ap (λ (x : Shape). is_at_name index x.mnemonic) (sym same)
+    ∙ (and_parts (is_at_name index r.mnemonic) (are_at_names (suc index) ss) e).0
+at_names-get index (suc k) (r ∷ ss) s e g =
+    let z : index + suc k ≡ suc index + k = omega arith in
+    ap (λ m. is_at_name m s.mnemonic) z ∙ at_names-get (suc index) k ss s
+    (and_parts (is_at_name index r.mnemonic) (are_at_names (suc index) ss) e).1 g
 
 get-drop : (a k : ℕ) (ss : List Shape) → a ≤ k → slice_get (drop a ss) (k - a) ≡ slice_get ss k
 get-drop zero k ss h = let e : k - zero ≡ k = omega arith in ap (slice_get ss) e
@@ -97,32 +97,32 @@ get-take (suc n) zero (s ∷ ss) h = refl
 get-take (suc n) (suc k) (s ∷ ss) h = let l : k < n = omega arith in get-take n k ss l
 
 record IsOfName (s : Shape) : Type 0 where
-  place : ℕ
-  listed : slice_get (shapes_of s.name) place ≡ Some s
-  named : s.name < length NAMES
+  index : ℕ
+  listed : slice_get (shapes_of s.mnemonic) index ≡ Some s
+  named : s.mnemonic < length MNEMONICS
 
 of_name : (k : ℕ) (s : Shape) → slice_get SHAPES k ≡ Some s → IsOfName s
 unfolding shapes_of is_at_name
 of_name k s g =
-    let a = slice_index STARTS s.name in
-    let b = slice_index STARTS (s.name + 1) in
+    let a = slice_index STARTS s.mnemonic in
+    let b = slice_index STARTS (s.mnemonic + 1) in
     let z : 0 + k ≡ k = omega arith in
-    let here : is_at_name k s.name ≡ true = sym (ap (λ m. is_at_name m s.name) z) ∙ at_names-get 0 k SHAPES s all_at_names g in
-    let p = and_parts (nat_le a k && nat_lt k b) (nat_lt s.name (length NAMES)) here in
+    let here : is_at_name k s.mnemonic ≡ true = sym (ap (λ m. is_at_name m s.mnemonic) z) ∙ at_names-get 0 k SHAPES s all_at_names g in
+    let p = and_parts (nat_le a k && nat_lt k b) (nat_lt s.mnemonic (length MNEMONICS)) here in
     let q = and_parts (nat_le a k) (nat_lt k b) p.0 in
     let low : a ≤ k = leb-true a k q.0 in
     let high : k < b = ltb-true k b q.1 in
     let within : k - a < b - a = omega arith in
     record {
-      place = k - a;
+      index = k - a;
       listed = get-take (b - a) (k - a) (drop a SHAPES) within ∙ get-drop a k SHAPES low ∙ g;
-      named = ltb-true s.name (length NAMES) p.1;
+      named = ltb-true s.mnemonic (length MNEMONICS) p.1;
     }
 
 -- what is found is listed, and passes
 record IsFound (p : Shape → Bool) (ss : List Shape) (s : Shape) : Type 0 where
-  place : ℕ
-  listed : slice_get ss place ≡ Some s
+  index : ℕ
+  listed : slice_get ss index ≡ Some s
   passes : p s ≡ true
 
 same_shape : (a b : Shape) → ◌≡◌ {A = Option Shape} (Some a) (Some b) → a ≡ b
@@ -131,8 +131,8 @@ same_shape a b e = cc
 found : (p : Shape → Bool) (ss : List Shape) (s : Shape) → find p ss ≡ Some s → IsFound p ss s
 found p [] s e = cc
 found p (r ∷ ss) s e = elim (p r) as (λ b. p r ≡ b → cond b (Some r) (find p ss) ≡ Some s → IsFound p (r ∷ ss) s) [
-  | true ↦ λ is h. let same = same_shape r s h in record { place = 0; listed = h; passes = ap p (sym same) ∙ is }
-  | false ↦ λ is h. let f = found p ss s h in record { place = suc f.place; listed = f.listed; passes = f.passes }
+  | true ↦ λ is h. let same = same_shape r s h in record { index = 0; listed = h; passes = ap p (sym same) ∙ is }
+  | false ↦ λ is h. let f = found p ss s h in record { index = suc f.index; listed = f.listed; passes = f.passes }
 ] refl e
 
 record IsOwn (word : ℕ) (s : Shape) : Type 0 where
@@ -149,7 +149,7 @@ unfolding printed_shape prints
 own word s e =
     let f = found (λ x. not x.alias && (bit_and word x.mask == x.value)) SHAPES s e in
     let p = and_parts (not s.alias) (bit_and word s.mask == s.value) f.passes in
-    record { of_its_name = of_name f.place s f.listed; printed = not_true s.alias p.0; matches = eqb-true _ _ p.1 }
+    record { of_its_name = of_name f.index s f.listed; printed = not_true s.alias p.0; matches = eqb-true _ _ p.1 }
 
 -- ---- the place of a target
 get-map : (f : Item → Token) (is : List Item) (n : ℕ) → slice_get (map f is) n ≡ option_map f (slice_get is n)
@@ -163,8 +163,8 @@ and_false false = refl
 
 never_named : (k : Kind) (bits field : ℕ) → (is_distance k && is_name (token_said k bits field)) ≡ false
 unfolding is_distance is_name token_said
-never_named (kind.Mark c) bits field = refl
-never_named (kind.Named first count) bits field = refl
+never_named (kind.Punctuation c) bits field = refl
+never_named (kind.Keyword first count) bits field = refl
 never_named (kind.Register file last) bits field = refl
 never_named (kind.Unsigned base scale most) bits field = refl
 never_named (kind.Signed scale) bits field = refl
@@ -194,7 +194,7 @@ unfolding target_in tokens_shown
 target-none s w =
     let is = items_of s in
     let last = length is - 1 in
-    let make : Option Item → Option Target = option_map (λ (i : Item). record { place = last; operand = i }) in
+    let make : Option Item → Option Target = option_map (λ (i : Item). record { index = last; operand = i }) in
     ap (λ o. make (option_and_then (names o) (slice_get is last))) (get-map (item_token w) is last)
     ∙ ap make (no_name w (slice_get is last))
 
@@ -256,36 +256,36 @@ says-own (r ∷ ss) (suc k) s w e g printed all says sayable =
       target = ap (λ o. if is_some o then target_in (items_of r) ts else target_of ss ts) missed ∙ rest.target;
     }
 
-printed-says : (w : ℕ) → w < 2 ^ 32 → (p : IsPrinted w) → SaysOwn (shapes_of p.shape.name) p.shape w
+printed-says : (w : ℕ) → w < 2 ^ 32 → (p : IsPrinted w) → SaysOwn (shapes_of p.shape.mnemonic) p.shape w
 unfolding name_apart says_word
 printed-says w lt p =
     let s = p.shape in
     let o = own w s p.found in
     let n = o.of_its_name in
-    let ss = shapes_of s.name in
-    let told : are_apart ss ≡ true = all_below-at name_apart (length NAMES) s.name names_apart n.named in
-    let all = when_printed s (says_rest (items_of s) s.mask) o.printed (says_word-get ss n.place s told n.listed) in
-    says-own ss n.place s w told n.listed o.printed all (word-shown s w lt o.matches all p.sayable) p.sayable
+    let ss = shapes_of s.mnemonic in
+    let told : are_apart ss ≡ true = all_below-at name_apart (length MNEMONICS) s.mnemonic names_apart n.named in
+    let all = when_printed s (says_rest (items_of s) s.mask) o.printed (says_word-get ss n.index s told n.listed) in
+    says-own ss n.index s w told n.listed o.printed all (word-shown s w lt o.matches all p.sayable) p.sayable
 
 -- ---- what asm_parser needs
 -- the tokens of a word that is printed say the word
-pub own-word : (w : ℕ) → w < 2 ^ 32 → (p : IsPrinted w) → first_word (shapes_of p.shape.name) (tokens_shown p.shape w) ≡ Some w
+pub own-word : (w : ℕ) → w < 2 ^ 32 → (p : IsPrinted w) → first_word (shapes_of p.shape.mnemonic) (tokens_shown p.shape w) ≡ Some w
 own-word w lt p = (printed-says w lt p).word
 
 -- none of them names a target
-pub own-target : (w : ℕ) → w < 2 ^ 32 → (p : IsPrinted w) → target_of (shapes_of p.shape.name) (tokens_shown p.shape w) ≡ None
+pub own-target : (w : ℕ) → w < 2 ^ 32 → (p : IsPrinted w) → target_of (shapes_of p.shape.mnemonic) (tokens_shown p.shape w) ≡ None
 own-target w lt p = (printed-says w lt p).target
 
 -- the name of the shape stands in the table of names
-pub own-name : (w : ℕ) (p : IsPrinted w) → p.shape.name < length NAMES
-own-name w p = (own w p.shape p.found).of_its_name.named
+pub own-mnemonic : (w : ℕ) (p : IsPrinted w) → p.shape.mnemonic < length MNEMONICS
+own-mnemonic w p = (own w p.shape p.found).of_its_name.named
 
 -- the tokens say the word, where it means an instruction
 pub own-said : (w : ℕ) (it : Insn) → w < 2 ^ 32 → (p : IsPrinted w) → instruction_of w ≡ Some it
-    → operands_said p.shape.name (tokens_shown p.shape w) ≡ Says w None
+    → operands_said p.shape.mnemonic (tokens_shown p.shape w) ≡ Says w None
 unfolding operands_said word_said if_meant
 own-said w it lt p e =
-    let ss = shapes_of p.shape.name in
+    let ss = shapes_of p.shape.mnemonic in
     let ts = tokens_shown p.shape w in
     ap₂ (λ t o. said_or (Fails (operand_fault ss ts)) t (option_and_then if_meant o)) (own-target w lt p) (own-word w lt p)
     ∙ ap (λ o. said_or (Fails (operand_fault ss ts)) None (cond (is_some o) (Some w) None)) e

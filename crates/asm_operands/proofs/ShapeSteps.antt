@@ -1,4 +1,4 @@
--- The steps of a walk over the shapes of a name.
+-- The steps of a walk over the shapes of a mnemonic.
 use Rattle.std.proofs.Common.{◌≡◌, ℕ, ◌+◌, ◌<◌, ◌≤◌, List, Option, Some, None, length, drop, get_or, cond, max, sym, ap, ◌∙◌, arith}
 use Rattle.std.specs.Prelude.{is_some}
 use Rattle.std.proofs.Math.ListN.{drop_of_length-le}
@@ -7,19 +7,19 @@ use Rattle.insn_text.specs.declared.item.Item.{Item}
 use Rattle.insn_text.specs.declared.item.Shape.{Shape}
 use Rattle.insn_text.specs.Texts.{items_of}
 use Rattle.asm_operands.specs.declared.operands.Target.{Target}
-use Rattle.asm_operands.specs.Operands.{word_in, reach_in, first_of_words, first_word, furthest, target_in, target_of}
-use Rattle.asm_operands.proofs.Way.{drop-at}
+use Rattle.asm_operands.specs.Operands.{word_in, taken_count_in, first_of_words, first_word, furthest, target_in, target_of}
+use Rattle.asm_operands.proofs.TakenTokens.{drop-at}
 
 -- ---- the greatest reach
 max_more : (a b c d all : ℕ) → d ≡ max b c → max a d ≡ all → max (max a b) c ≡ all
 max_more a b c d all e inv = omega arith
 
-pub furthest-step : (ss : List Shape) (ts : List Token) (at most reached all : ℕ) (d : Shape) → at < length ss
-    → reached ≡ reach_in (get_or ss at d) ts
-    → max most (furthest (drop at ss) ts) ≡ all → max (max most reached) (furthest (drop (at + 1) ss) ts) ≡ all
+pub furthest-step : (ss : List Shape) (ts : List Token) (at most counted all : ℕ) (d : Shape) → at < length ss
+    → counted ≡ taken_count_in (get_or ss at d) ts
+    → max most (furthest (drop at ss) ts) ≡ all → max (max most counted) (furthest (drop (at + 1) ss) ts) ≡ all
 unfolding furthest
-furthest-step ss ts at most reached all d lt e inv =
-    max_more most reached (furthest (drop (at + 1) ss) ts) (furthest (drop at ss) ts) all
+furthest-step ss ts at most counted all d lt e inv =
+    max_more most counted (furthest (drop (at + 1) ss) ts) (furthest (drop at ss) ts) all
     (ap (λ (x : List Shape). furthest x ts) (drop-at ss at d lt) ∙ ap (λ n. max n (furthest (drop (at + 1) ss) ts)) (sym e)) inv
 
 pub furthest-end : (ss : List Shape) (ts : List Token) (at most all : ℕ) → length ss ≤ at → max most (furthest (drop at ss) ts) ≡ all

@@ -19,15 +19,15 @@ use Rattle.insn_text.specs.declared.item.VectorFile.{VectorFile}
 use Rattle.insn_text.specs.Rules.{is_within}
 use Rattle.asm_tokens.specs.Tokens.{is_number_token}
 use Rattle.asm_tokens.specs.declared.token.Token.{Token}
-use Rattle.asm_tokens.specs.declared.token.Token.TheVariants.{Register, Word, Name, Number, Distance, Mark}
+use Rattle.asm_tokens.specs.declared.token.Token.TheVariants.{Register, Keyword, Name, Number, Distance, Punctuation}
 use Rattle.asm_tokens.specs.declared.token.Token.TheVariants.{Sized, Bare}
-use Rattle.asm_operands.specs.Fields.{is_field_of, on_mark, on_word, on_register, on_number, on_target, word_field, unsigned_field}
+use Rattle.asm_operands.specs.Fields.{is_field_of, on_punctuation, on_keyword, on_register, on_number, on_target, keyword_field, unsigned_field}
 use Rattle.asm_operands.specs.Fields.{signed_field, mask_field, immediate_of, shift_left_field, is_halfword_at, halfword_field, inverted_if}
 use Rattle.asm_operands.specs.Fields.{on_sized, on_bare, on_pattern, same_file, same_vector_file, sized_field, slice_field, index_field}
 use Rattle.asm_operands.specs.Fields.{pattern_of_number, descending_field, field_said}
 use Rattle.asm_operands.specs.Shown.{token_said}
 use Rattle.asm_operands.specs.Operands.{is_number_kind}
-use Rattle.asm_operands.proofs.Heard.{register-said, last-said, is_printed_kind}
+use Rattle.asm_operands.proofs.PrintedTokens.{register-said, last-said, is_printed_kind}
 use Rattle.asm_operands.proofs.MaskFields.{mask_field-is}
 
 -- ---- a token that each kind takes
@@ -37,8 +37,8 @@ pub record IsSaid (k : Kind) (bits : ℕ) : Type 0 where
   pub said : field_said k bits token ≡ Some field
 
 unfoldable pub has_word : Kind → Bool
-has_word (kind.Mark c) = true
-has_word (kind.Named first count) = nat_lt 0 count
+has_word (kind.Punctuation c) = true
+has_word (kind.Keyword first count) = nat_lt 0 count
 has_word (kind.Register file last) = true
 has_word (kind.Sized file few first) = true
 has_word kind.SliceRegister = true
@@ -54,8 +54,8 @@ has_word (kind.ShiftLeft wide) = true
 has_word (kind.Opposite first count) = nat_lt 0 count
 has_word (kind.Halfword wide inverted) = true
 
-word_first : (first count : ℕ) → nat_lt 0 count ≡ true → word_field first count first ≡ Some 0
-unfolding word_field
+word_first : (first count : ℕ) → nat_lt 0 count ≡ true → keyword_field first count first ≡ Some 0
+unfolding keyword_field
 word_first first count e =
     let h = ltb-true 0 count e in
     let le : first ≤ first = omega arith in
@@ -153,10 +153,10 @@ halfword_first false true = refl
 halfword_first false false = refl
 
 pub said : (k : Kind) (bits : ℕ) → has_word k ≡ true → IsSaid k bits
-unfolding has_word field_said on_mark on_word on_register on_number on_target on_sized on_bare on_pattern
-said (kind.Mark c) bits e = record { token = Mark c; field = 0; said = ap (λ b. cond b (Some 0) None) (eq-eqb c c refl) }
-said (kind.Named first count) bits e = record { token = Word first; field = 0; said = word_first first count e }
-said (kind.Register file last) bits e = record { token = Word last; field = 31; said = last-said last }
+unfolding has_word field_said on_punctuation on_keyword on_register on_number on_target on_sized on_bare on_pattern
+said (kind.Punctuation c) bits e = record { token = Punctuation c; field = 0; said = ap (λ b. cond b (Some 0) None) (eq-eqb c c refl) }
+said (kind.Keyword first count) bits e = record { token = Keyword first; field = 0; said = word_first first count e }
+said (kind.Register file last) bits e = record { token = Keyword last; field = 31; said = last-said last }
 said (kind.Sized file few first) bits e = record { token = Sized file 0 first; field = 0; said = sized_first file few first bits }
 said kind.SliceRegister bits e = record { token = Register W 12; field = 0; said = slice_first bits }
 said kind.Index bits e = record { token = Bare 0; field = 0; said = index_first bits }
@@ -175,7 +175,7 @@ said (kind.SignedMask wide) bits e =
     }
 said (kind.ShiftLeft wide) bits e = record { token = Number false 0; field = no_shift wide; said = shift_first wide }
 said (kind.Opposite first count) bits e =
-    record { token = Word first; field = 1; said = ap (option_map (λ field. bit_xor field 1)) (word_first first count e) }
+    record { token = Keyword first; field = 1; said = ap (option_map (λ field. bit_xor field 1)) (word_first first count e) }
 said (kind.Halfword wide inverted) bits e =
     record { token = Number inverted (no_bits_size inverted); field = 0; said = halfword_first wide inverted }
 
@@ -195,7 +195,7 @@ says_number other bits number e lt = cc
 
 pub says_last : (k : Kind) (bits : ℕ) → is_register k ≡ true → SaysNumber k bits 31
 unfolding is_register field_said on_register
-says_last (kind.Register file last) bits e = record { token = Word last; said = last-said last }
+says_last (kind.Register file last) bits e = record { token = Keyword last; said = last-said last }
 says_last other bits e = cc
 
 -- ---- each number of a field

@@ -15,18 +15,18 @@ use Rattle.insn_text.specs.declared.item.Kind.TheVariants as kind
 use Rattle.insn_text.specs.Texts.{mask_in, is_named_pattern}
 use Rattle.insn_text.specs.Wordings.{file_number}
 use Rattle.asm_tokens.specs.declared.token.Token.{Token}
-use Rattle.asm_tokens.specs.declared.token.Token.TheVariants.{Register, Word, Name, Number, Distance, Mark}
+use Rattle.asm_tokens.specs.declared.token.Token.TheVariants.{Register, Keyword, Name, Number, Distance, Punctuation}
 use Rattle.asm_tokens.specs.declared.token.Token.TheVariants.{Sized, Bare}
 
 -- ---- tokens of each sort
 
-unfoldable pub on_mark : (ℕ → Option ℕ) → Token → Option ℕ
-on_mark says (Mark c) = says c
-on_mark says _ = None
+unfoldable pub on_punctuation : (ℕ → Option ℕ) → Token → Option ℕ
+on_punctuation says (Punctuation c) = says c
+on_punctuation says _ = None
 
-unfoldable pub on_word : (ℕ → Option ℕ) → Token → Option ℕ
-on_word says (Word place) = says place
-on_word says _ = None
+unfoldable pub on_keyword : (ℕ → Option ℕ) → Token → Option ℕ
+on_keyword says (Keyword index) = says index
+on_keyword says _ = None
 
 unfoldable pub on_number : (Bool → ℕ → Option ℕ) → Token → Option ℕ
 on_number says (Number negative size) = says negative size
@@ -36,7 +36,7 @@ on_number says _ = None
 unfoldable pub on_target : (Bool → ℕ → Option ℕ) → Token → Option ℕ
 on_target says (Register file number) = Some 0
 on_target says (Sized file number suffix) = Some 0
-on_target says (Word place) = Some 0
+on_target says (Keyword index) = Some 0
 on_target says Name = Some 0
 on_target says (Distance back size) = says back size
 on_target says _ = None
@@ -44,7 +44,7 @@ on_target says _ = None
 -- a register by its file and number, or a word
 unfoldable pub on_register : (RegisterFile → ℕ → Option ℕ) → (ℕ → Option ℕ) → Token → Option ℕ
 on_register numbered says (Register file number) = numbered file number
-on_register numbered says (Word place) = says place
+on_register numbered says (Keyword index) = says index
 on_register numbered says _ = None
 
 -- a register with a size
@@ -59,16 +59,16 @@ on_bare says _ = None
 
 -- a word, or a number
 unfoldable pub on_pattern : (ℕ → Option ℕ) → (Bool → ℕ → Option ℕ) → Token → Option ℕ
-on_pattern word number (Word place) = word place
+on_pattern word number (Keyword index) = word index
 on_pattern word number (Number negative size) = number negative size
 on_pattern word number _ = None
 
 -- ---- fields
 
--- one of `count` words from a place on
-unfoldable pub word_field : ℕ → ℕ → ℕ → Option ℕ
-word_field first count place =
-    if nat_le first place && nat_lt place (first + count) then Some (place - first) else None
+-- one of `count` keywords from an index on
+unfoldable pub keyword_field : ℕ → ℕ → ℕ → Option ℕ
+keyword_field first count index =
+    if nat_le first index && nat_lt index (first + count) then Some (index - first) else None
 
 unfoldable pub same_file : RegisterFile → RegisterFile → Bool
 same_file X X = true
@@ -80,15 +80,15 @@ same_file W W = true
 unfoldable pub register_field : RegisterFile → RegisterFile → ℕ → Option ℕ
 register_field wanted file number = if same_file wanted file && nat_lt number 31 then Some number else None
 
--- number 31, whose word stands at a place
+-- number 31, whose keyword has an index
 unfoldable pub last_field : ℕ → ℕ → Option ℕ
-last_field last place = if place == last then Some 31 else None
+last_field last index = if index == last then Some 31 else None
 
 unfoldable pub same_vector_file : VectorFile → VectorFile → Bool
 same_vector_file wanted file = file_number wanted == file_number file
 
--- a register of the file with one of the suffixes from a place on: the lowest `few` bits of the field are its
--- number, and the others say which suffix
+-- a register of the file with one of the suffixes from an index on: the lowest `few` bits of the field are
+-- its number, and the others say which suffix
 unfoldable pub sized_field : VectorFile → ℕ → ℕ → ℕ → VectorFile → ℕ → ℕ → Option ℕ
 sized_field wanted few first bits file number suffix =
     if same_vector_file wanted file && nat_lt number (2 ^ few) && nat_le first suffix
@@ -109,8 +109,8 @@ index_field bits size = if nat_lt size (2 ^ bits) then Some size else None
 unfoldable pub pattern_after : ℕ → ℕ
 pattern_after count = if nat_lt count 14 then count else count + 15
 
-unfoldable pub pattern_of_word : ℕ → ℕ → Option ℕ
-pattern_of_word first place = option_map pattern_after (word_field first 17 place)
+unfoldable pub pattern_of_keyword : ℕ → ℕ → Option ℕ
+pattern_of_keyword first index = option_map pattern_after (keyword_field first 17 index)
 
 -- a pattern that has no word
 unfoldable pub pattern_of_number : Bool → ℕ → Option ℕ
@@ -173,12 +173,12 @@ shift_left_field wide negative size =
 
 -- the number has no bits but those of one halfword
 unfoldable pub is_halfword_at : ℕ → ℕ → Bool
-is_halfword_at number place = (number % 2 ^ (16 * place) == 0) && nat_lt (number / 2 ^ (16 * place)) 65536
+is_halfword_at number index = (number % 2 ^ (16 * index) == 0) && nat_lt (number / 2 ^ (16 * index)) 65536
 
 -- the lowest halfword that has all bits of the number, above these bits
 unfoldable pub halfword_field : Bool → ℕ → Option ℕ
 halfword_field wide number =
-    option_map (λ place. place * 65536 + number / 2 ^ (16 * place))
+    option_map (λ index. index * 65536 + number / 2 ^ (16 * index))
     (find (is_halfword_at number) (range_with_len 0 (width_of wide / 16)))
 
 -- the number, or all its bits inverted
@@ -187,13 +187,13 @@ inverted_if wide inverted number = if inverted then 2 ^ width_of wide - 1 - numb
 
 -- the number of a field of so many bits that a token says
 unfoldable pub field_said : Kind → ℕ → Token → Option ℕ
-field_said (kind.Mark c) bits token = on_mark (λ d. if d == c then Some 0 else None) token
-field_said (kind.Named first count) bits token = on_word (word_field first count) token
+field_said (kind.Punctuation c) bits token = on_punctuation (λ d. if d == c then Some 0 else None) token
+field_said (kind.Keyword first count) bits token = on_keyword (keyword_field first count) token
 field_said (kind.Register file last) bits token = on_register (register_field file) (last_field last) token
 field_said (kind.Sized file few first) bits token = on_sized (sized_field file few first bits) token
-field_said kind.SliceRegister bits token = on_register (slice_field bits) (λ place. None) token
+field_said kind.SliceRegister bits token = on_register (slice_field bits) (λ index. None) token
 field_said kind.Index bits token = on_bare (index_field bits) token
-field_said (kind.Pattern first) bits token = on_pattern (pattern_of_word first) pattern_of_number token
+field_said (kind.Pattern first) bits token = on_pattern (pattern_of_keyword first) pattern_of_number token
 field_said (kind.Descending from) bits token = on_number (descending_field from bits) token
 field_said (kind.Unsigned base scale most) bits token = on_number (unsigned_field base scale most) token
 field_said (kind.Signed scale) bits token = on_number (signed_field bits scale) token
@@ -204,7 +204,7 @@ field_said (kind.SignedMask wide) bits token =
     on_number (λ negative size. option_and_then (mask_field wide) (immediate_of wide negative size)) token
 field_said (kind.ShiftLeft wide) bits token = on_number (shift_left_field wide) token
 field_said (kind.Opposite first count) bits token =
-    on_word (λ place. option_map (λ field. bit_xor field 1) (word_field first count place)) token
+    on_keyword (λ index. option_map (λ field. bit_xor field 1) (keyword_field first count index)) token
 field_said (kind.Halfword wide inverted) bits token =
     on_number (λ negative size. option_and_then (λ number. halfword_field wide
     (inverted_if wide inverted number))

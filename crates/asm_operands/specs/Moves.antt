@@ -14,16 +14,16 @@ use Rattle.a64_table.specs.declared.fields.TheConstants.{RD}
 use Rattle.insn_text.specs.declared.item.RegisterFile.{RegisterFile}
 use Rattle.insn_text.specs.declared.item.RegisterFile.TheVariants.{X, W}
 use Rattle.insn_text.specs.declared.operands.TheConstants.{HW_IMM16, IMMR_IMMS, N_IMMR_IMMS, SHORT_HW_IMM16}
-use Rattle.insn_text.specs.declared.words.TheConstants.{NAMES}
+use Rattle.insn_text.specs.declared.keywords.TheConstants.{MNEMONICS}
 use Rattle.insn_text.specs.Texts.{text_in}
 use Rattle.asm_tokens.specs.declared.token.Token.{Token}
-use Rattle.asm_tokens.specs.declared.token.Token.TheVariants.{Register, Number, Mark}
+use Rattle.asm_tokens.specs.declared.token.Token.TheVariants.{Register, Number, Punctuation}
 use Rattle.asm_operands.specs.Fields.{halfword_field, mask_field}
 use Rattle.asm_operands.specs.Operands.{first_of_words}
 
--- the place of a name in the table of names
-unfoldable pub place_of : List ℕ → ℕ
-place_of name = length (take_while (λ t. not (bytes_eq (text_in (Some t)) name)) NAMES)
+-- the index of a mnemonic in its table
+unfoldable pub index_of : List ℕ → ℕ
+index_of mnemonic = length (take_while (λ t. not (bytes_eq (text_in (Some t)) mnemonic)) MNEMONICS)
 
 abbrev pub file_of : Bool → RegisterFile
 file_of true = X
@@ -32,7 +32,7 @@ file_of false = W
 -- a register by its number, a comma and a number
 abbrev pub move_tokens : Bool → ℕ → Bool → ℕ → List Token
 move_tokens wide register negative size =
-    Register (file_of wide) register ∷ Mark 44 ∷ Number negative size ∷ []
+    Register (file_of wide) register ∷ Punctuation 44 ∷ Number negative size ∷ []
 
 -- the bits of the three instructions, in bits 30:23, with the width above them; ORR has Rn 31
 abbrev pub width_bit : Bool → ℕ
@@ -48,11 +48,11 @@ abbrev pub orr : Bool → ℕ
 orr wide = width_bit wide + 100 * 2 ^ 23 + 31 * 2 ^ 5
 
 -- where hw above imm16 stand, and N above immr above imms
-abbrev pub halfword_place : Bool → Field
-halfword_place wide = if wide then HW_IMM16 else SHORT_HW_IMM16
+abbrev pub halfword_index : Bool → Field
+halfword_index wide = if wide then HW_IMM16 else SHORT_HW_IMM16
 
-abbrev pub mask_place : Bool → Field
-mask_place wide = if wide then N_IMMR_IMMS else IMMR_IMMS
+abbrev pub mask_index : Bool → Field
+mask_index wide = if wide then N_IMMR_IMMS else IMMR_IMMS
 
 -- the word of an instruction with the register in Rd and the field at its place
 abbrev pub word_with : ℕ → ℕ → Field → ℕ → ℕ
@@ -62,8 +62,8 @@ word_with bits register f field = bit_or (bit_or bits (placed RD register)) (pla
 abbrev pub moved : Bool → ℕ → ℕ → Option ℕ
 moved wide register number =
     first_of_words
-    (option_map (word_with (movz wide) register (halfword_place wide)) (halfword_field wide number))
+    (option_map (word_with (movz wide) register (halfword_index wide)) (halfword_field wide number))
     (first_of_words
-    (option_map (word_with (movn wide) register (halfword_place wide))
+    (option_map (word_with (movn wide) register (halfword_index wide))
     (halfword_field wide (2 ^ width_of wide - 1 - number)))
-    (option_map (word_with (orr wide) register (mask_place wide)) (mask_field wide number)))
+    (option_map (word_with (orr wide) register (mask_index wide)) (mask_field wide number)))

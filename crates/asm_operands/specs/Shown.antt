@@ -6,10 +6,10 @@ use Rattle.insn_text.specs.declared.item.Kind.TheVariants as kind
 use Rattle.insn_text.specs.declared.item.Item.{Item}
 use Rattle.insn_text.specs.declared.item.Shape.{Shape}
 use Rattle.insn_text.specs.Texts.{bits_of, field_in, items_of, is_positive, size_of, mask_in}
-use Rattle.insn_text.specs.Texts.{is_named_pattern, pattern_place}
+use Rattle.insn_text.specs.Texts.{is_named_pattern, pattern_index}
 use Rattle.insn_text.specs.declared.item.RegisterFile.TheVariants.{W}
 use Rattle.asm_tokens.specs.declared.token.Token.{Token}
-use Rattle.asm_tokens.specs.declared.token.Token.TheVariants.{Register, Word, Number, Distance, Mark, Other}
+use Rattle.asm_tokens.specs.declared.token.Token.TheVariants.{Register, Keyword, Number, Distance, Punctuation, Other}
 use Rattle.asm_tokens.specs.declared.token.Token.TheVariants.{Sized, Bare}
 
 -- the token of a mask, if the fields have one
@@ -19,15 +19,15 @@ mask_token (Some mask) = Number false mask
 
 -- the token that a field of so many bits is printed as; the kinds of aliases are never printed
 unfoldable pub token_said : Kind → ℕ → ℕ → Token
-token_said (kind.Mark c) bits field = Mark c
-token_said (kind.Named first count) bits field = Word (first + field)
-token_said (kind.Register file last) bits field = if field == 31 then Word last else Register file field
+token_said (kind.Punctuation c) bits field = Punctuation c
+token_said (kind.Keyword first count) bits field = Keyword (first + field)
+token_said (kind.Register file last) bits field = if field == 31 then Keyword last else Register file field
 token_said (kind.Sized file few first) bits field =
     Sized file (field % 2 ^ few) (first + field / 2 ^ few)
 token_said kind.SliceRegister bits field = Register W (12 + field)
 token_said kind.Index bits field = Bare field
 token_said (kind.Pattern first) bits field =
-    if is_named_pattern field then Word (first + pattern_place field) else Number false field
+    if is_named_pattern field then Keyword (first + pattern_index field) else Number false field
 token_said (kind.Descending from) bits field = Number false (from - field)
 token_said (kind.Unsigned base scale most) bits field = Number false (field * scale + base)
 token_said (kind.Signed scale) bits field = Number (not (is_positive bits field)) (size_of bits field * scale)

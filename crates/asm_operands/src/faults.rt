@@ -1,8 +1,8 @@
-//! The first token with which no shape of a name goes on.
+//! The first token with which no shape of a mnemonic goes on.
 
 ghost use Rattle.std.specs.Prelude.{◌≡◌, ◌-◌, ◌==◌, ◌&&◌, length, slice_get};
 ghost use Rattle.std.specs.List.{list_any};
-ghost use Rattle.asm_operands.specs.Operands.{reach_in, furthest, is_number_kind, is_distance};
+ghost use Rattle.asm_operands.specs.Operands.{taken_count_in, furthest, is_number_kind, is_distance};
 ghost use Rattle.asm_operands.specs.Operands.{is_number_item, is_name_token};
 ghost use Rattle.asm_operands.specs.Operands.{wants_number, is_whole, kind_at, operand_fault};
 ghost use Rattle.asm_operands.specs.Views.{fault_of};
@@ -10,7 +10,7 @@ ghost use Rattle.asm_operands.specs.Views.{fault_of};
 use crate::fault::FaultKind;
 use crate::operands::OperandFault;
 use crate::shapes::items_of;
-use crate::taking::reach_in;
+use crate::taking::taken_count_in;
 use asm_tokens::{Token, is_number};
 use insn_text::{Item, Kind, Shape};
 
@@ -20,7 +20,7 @@ fn furthest(shapes: &[Shape], tokens: &[Token]) -> usize
 {
     let mut most = 0usize;
     for shape in shapes {
-        most = most.max(reach_in(shape, tokens));
+        most = most.max(taken_count_in(shape, tokens));
     }
     most
 }
@@ -31,8 +31,8 @@ fn is_number_kind(kind: Kind) -> bool
     ensures { result ≡ is_number_kind kind }
 {
     match kind {
-        Kind::Mark(_)
-        | Kind::Named { .. }
+        Kind::Punctuation(_)
+        | Kind::Keyword { .. }
         | Kind::Register { .. }
         | Kind::Opposite { .. }
         | Kind::Sized { .. }
@@ -41,15 +41,11 @@ fn is_number_kind(kind: Kind) -> bool
     }
 }
 
-/// Whether there is an operand at the place, and a number.
-fn is_number_at(items: &[Item], place: usize) -> bool
-    ensures { result ≡ is_number_item (slice_get items.now place) }
+/// Whether there is an operand of that index, and a number.
+fn is_number_at(items: &[Item], index: usize) -> bool
+    ensures { result ≡ is_number_item (slice_get items.now index) }
 {
-    if place < items.len() {
-        is_number_kind(items[place].kind)
-    } else {
-        false
-    }
+    index < items.len() && is_number_kind(items[index].kind)
 }
 
 /// Whether the shape takes so many tokens, and a number is its next operand.
@@ -57,7 +53,7 @@ fn is_number_at(items: &[Item], place: usize) -> bool
 fn wants_number(count: usize, tokens: &[Token], shape: &Shape) -> bool
     ensures { result ≡ wants_number count tokens.now shape.now }
 {
-    reach_in(shape, tokens) == count && is_number_at(items_of(shape), count)
+    taken_count_in(shape, tokens) == count && is_number_at(items_of(shape), count)
 }
 
 /// Whether the shape takes so many tokens, and has no more operands.
@@ -65,7 +61,7 @@ fn wants_number(count: usize, tokens: &[Token], shape: &Shape) -> bool
 fn is_whole(count: usize, tokens: &[Token], shape: &Shape) -> bool
     ensures { result ≡ is_whole count tokens.now shape.now }
 {
-    reach_in(shape, tokens) == count && items_of(shape).len() == count
+    taken_count_in(shape, tokens) == count && items_of(shape).len() == count
 }
 
 /// Whether a shape takes so many tokens, and a number is its next operand.
@@ -92,16 +88,16 @@ fn some_is_whole(shapes: &[Shape], count: usize, tokens: &[Token]) -> bool
     false
 }
 
-/// Why no shape goes on with the token at the place.
+/// Why no shape goes on with the token of that index.
 #[tactic(auto, unfolding(crate::specs::Operands::kind_at))]
-fn kind_at(shapes: &[Shape], place: usize, tokens: &[Token]) -> FaultKind
-    ensures { result ≡ kind_at shapes.now place tokens.now (slice_get tokens.now place) }
+fn kind_at(shapes: &[Shape], index: usize, tokens: &[Token]) -> FaultKind
+    ensures { result ≡ kind_at shapes.now index tokens.now (slice_get tokens.now index) }
 {
-    if place >= tokens.len() {
+    if index >= tokens.len() {
         FaultKind::BadOperand
-    } else if is_number(tokens[place]) && some_wants_number(shapes, place, tokens) {
+    } else if is_number(tokens[index]) && some_wants_number(shapes, index, tokens) {
         FaultKind::BadNumber
-    } else if some_is_whole(shapes, place, tokens) {
+    } else if some_is_whole(shapes, index, tokens) {
         FaultKind::Extra
     } else {
         FaultKind::BadOperand
@@ -113,9 +109,9 @@ fn kind_at(shapes: &[Shape], place: usize, tokens: &[Token]) -> FaultKind
 pub(crate) fn operand_fault(shapes: &[Shape], tokens: &[Token]) -> OperandFault
     ensures { fault_of result ≡ operand_fault shapes.now tokens.now }
 {
-    let place = furthest(shapes, tokens);
+    let index = furthest(shapes, tokens);
     OperandFault {
-        place,
-        kind: kind_at(shapes, place, tokens),
+        index,
+        kind: kind_at(shapes, index, tokens),
     }
 }

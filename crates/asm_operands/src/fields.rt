@@ -4,13 +4,13 @@ ghost use Rattle.std.specs.Prelude.{ℕ, ◌≡◌, ◌+◌, ◌-◌, ◌*◌, �
 ghost use Rattle.std.specs.Prelude.{IsTrue, bit_xor, option_map, option_and_then, None, if◌then◌else◌};
 ghost use Rattle.std.specs.List.{find, range_with_len};
 ghost use Rattle.bit_ops.specs.Bits.{width_of};
-ghost use Rattle.asm_tokens.specs.declared.token.Token.TheVariants.{Register, Word, Name, Number, Distance};
-ghost use Rattle.asm_tokens.specs.declared.token.Token.TheVariants.{Mark, Sized, Bare};
-ghost use Rattle.asm_operands.specs.Fields.{word_field, same_file, register_field, last_field};
+ghost use Rattle.asm_tokens.specs.declared.token.Token.TheVariants.{Register, Keyword, Name, Number, Distance};
+ghost use Rattle.asm_tokens.specs.declared.token.Token.TheVariants.{Punctuation, Sized, Bare};
+ghost use Rattle.asm_operands.specs.Fields.{keyword_field, same_file, register_field, last_field};
 ghost use Rattle.asm_operands.specs.Fields.{unsigned_field, signed_field, mask_field, immediate_of};
 ghost use Rattle.asm_operands.specs.Fields.{shift_left_field, is_halfword_at, halfword_field, inverted_if};
 ghost use Rattle.asm_operands.specs.Fields.{same_vector_file, sized_field, slice_field, index_field};
-ghost use Rattle.asm_operands.specs.Fields.{pattern_after, pattern_of_word, pattern_of_number};
+ghost use Rattle.asm_operands.specs.Fields.{pattern_after, pattern_of_keyword, pattern_of_number};
 ghost use Rattle.asm_operands.specs.Fields.{descending_field, field_said};
 ghost use Rattle.asm_operands.specs.Sound.{has_factor};
 
@@ -18,17 +18,17 @@ use asm_tokens::Token;
 use bit_ops::mask_fields;
 use insn_text::{Kind, RegisterFile, VectorFile};
 
-/// One of `count` words from place `first` on.
+/// One of `count` keywords from index `first` on.
 #[inline(always)]
-#[tactic(auto, unfolding(crate::specs::Fields::word_field))]
-fn word_field(first: u16, count: u16, place: u16) -> Option<u32>
-    ensures value { result ≡ word_field first count place }
+#[tactic(auto, unfolding(crate::specs::Fields::keyword_field))]
+fn keyword_field(first: u16, count: u16, index: u16) -> Option<u32>
+    ensures value { result ≡ keyword_field first count index }
     ensures small { IfSome result (λ field. field < 2 ^ 16) }
 {
     let first = u32::from(first);
-    let place = u32::from(place);
-    if first <= place && place < first + u32::from(count) {
-        Some(place - first)
+    let index = u32::from(index);
+    if first <= index && index < first + u32::from(count) {
+        Some(index - first)
     } else {
         None
     }
@@ -61,13 +61,13 @@ fn register_field(wanted: RegisterFile, file: RegisterFile, number: u8) -> Optio
     }
 }
 
-/// Number 31, whose word stands at a place.
+/// Number 31, whose keyword has an index.
 #[inline(always)]
 #[tactic(auto, unfolding(crate::specs::Fields::last_field))]
-fn last_field(last: u16, place: u16) -> Option<u32>
-    ensures { result ≡ last_field last place }
+fn last_field(last: u16, index: u16) -> Option<u32>
+    ensures { result ≡ last_field last index }
 {
-    if place == last { Some(31) } else { None }
+    if index == last { Some(31) } else { None }
 }
 
 /// Whether the two are one file of vectors, predicates or ZA.
@@ -99,7 +99,7 @@ fn joined(size: u32, few: u32, bits: u32, number: u32) -> u32
     (size << few) + number
 }
 
-/// The field of so many bits that has a register of the file, with one of the suffixes from place `first` on.
+/// The field of so many bits that has a register of the file, with one of the suffixes from index `first` on.
 #[tactic(auto, unfolding(crate::specs::Fields::sized_field))]
 fn sized_field(
     wanted: VectorFile,
@@ -163,12 +163,12 @@ fn pattern_after(count: u32) -> u32
     if count < 14 { count } else { count + 15 }
 }
 
-/// The pattern whose word stands at a place.
-#[tactic(auto, unfolding(crate::specs::Fields::pattern_of_word))]
-fn pattern_of_word(first: u16, place: u16) -> Option<u32>
-    ensures { result ≡ pattern_of_word first place }
+/// The pattern whose keyword has an index.
+#[tactic(auto, unfolding(crate::specs::Fields::pattern_of_keyword))]
+fn pattern_of_keyword(first: u16, index: u16) -> Option<u32>
+    ensures { result ≡ pattern_of_keyword first index }
 {
-    match word_field(first, 17, place) {
+    match keyword_field(first, 17, index) {
         Some(count) => Some(pattern_after(count)),
         None => None,
     }
@@ -230,17 +230,17 @@ fn signed_field(bits: u32, scale: u16, negative: bool, size: u64) -> Option<u32>
     let scale = u64::from(scale);
     let half = 1u64 << (bits - 1);
     let all = 1u64 << bits;
-    let steps = size / scale;
+    let magnitude = size / scale;
     if size % scale != 0 {
         None
     } else if negative {
-        if steps <= half {
-            Some(((all - steps) % all) as u32)
+        if magnitude <= half {
+            Some(((all - magnitude) % all) as u32)
         } else {
             None
         }
-    } else if steps < half {
-        Some(steps as u32)
+    } else if magnitude < half {
+        Some(magnitude as u32)
     } else {
         None
     }
@@ -295,38 +295,38 @@ fn shift_left_field(wide: bool, negative: bool, size: u64) -> Option<u32>
     }
 }
 
-/// Whether the number has no bits but those of the halfword at the place.
+/// Whether the number has no bits but those of the halfword of that index.
 #[tactic(auto, unfolding(crate::specs::Fields::is_halfword_at))]
-fn is_halfword_at(number: u64, place: u32) -> bool
-    requires { place < 4 }
-    ensures { result ≡ is_halfword_at number place }
+fn is_halfword_at(number: u64, index: u32) -> bool
+    requires { index < 4 }
+    ensures { result ≡ is_halfword_at number index }
 {
-    let unit = 1u64 << (16 * place);
+    let unit = 1u64 << (16 * index);
     number % unit == 0 && number / unit < 65536
 }
 
-/// The place of the lowest halfword, of so many, that has all bits of the number.
-fn halfword_place(number: u64, count: u32) -> Option<u32>
+/// The index of the lowest halfword, of so many, that has all bits of the number.
+fn halfword_index(number: u64, count: u32) -> Option<u32>
     requires { count ≤ 4 }
     ensures value { result ≡ find (is_halfword_at number) (range_with_len 0 count) }
-    ensures in_range { IfSome result (λ place. place < 4) }
-    ensures passes { IfSome result (λ place. is_halfword_at number place ≡ true) }
+    ensures in_range { IfSome result (λ index. index < 4) }
+    ensures passes { IfSome result (λ index. is_halfword_at number index ≡ true) }
 {
-    for place in 0..count {
-        if is_halfword_at(number, place) {
-            return Some(place);
+    for index in 0..count {
+        if is_halfword_at(number, index) {
+            return Some(index);
         }
     }
     None
 }
 
-/// The place of the lowest halfword that has all bits of the number, above these bits.
+/// The index of the lowest halfword that has all bits of the number, above these bits.
 #[tactic(auto, unfolding(crate::specs::Fields::halfword_field))]
 fn halfword_field(wide: bool, number: u64) -> Option<u32>
     ensures { result ≡ halfword_field wide number }
 {
-    match halfword_place(number, if wide { 4 } else { 2 }) {
-        Some(place) => Some(place * 65536 + (number >> (16 * place)) as u32),
+    match halfword_index(number, if wide { 4 } else { 2 }) {
+        Some(index) => Some(index * 65536 + (number >> (16 * index)) as u32),
         None => None,
     }
 }
@@ -379,11 +379,11 @@ fn signed_halfword_field(wide: bool, inverted: bool, negative: bool, size: u64) 
     }
 }
 
-/// The opposite of one of `count` conditions from place `first` on.
-fn opposite_field(first: u16, count: u16, place: u16) -> Option<u32>
-    ensures { result ≡ option_map (λ field. bit_xor field 1) (word_field first count place) }
+/// The opposite of one of `count` conditions from index `first` on.
+fn opposite_field(first: u16, count: u16, index: u16) -> Option<u32>
+    ensures { result ≡ option_map (λ field. bit_xor field 1) (keyword_field first count index) }
 {
-    match word_field(first, count, place) {
+    match keyword_field(first, count, index) {
         Some(field) => Some(field ^ 1),
         None => None,
     }
@@ -391,15 +391,15 @@ fn opposite_field(first: u16, count: u16, place: u16) -> Option<u32>
 
 /// The number of a field of so many bits that a number says.
 #[inline(always)]
-#[tactic(auto, unfolding(crate::specs::Fields::field_said, crate::specs::Fields::on_mark, crate::specs::Fields::on_word, crate::specs::Fields::on_register, crate::specs::Fields::on_number, crate::specs::Fields::on_target, crate::specs::Fields::on_sized, crate::specs::Fields::on_bare, crate::specs::Fields::on_pattern, crate::specs::Sound::has_factor))]
+#[tactic(auto, unfolding(crate::specs::Fields::field_said, crate::specs::Fields::on_punctuation, crate::specs::Fields::on_keyword, crate::specs::Fields::on_register, crate::specs::Fields::on_number, crate::specs::Fields::on_target, crate::specs::Fields::on_sized, crate::specs::Fields::on_bare, crate::specs::Fields::on_pattern, crate::specs::Sound::has_factor))]
 fn number_said(kind: Kind, bits: u32, negative: bool, size: u64) -> Option<u32>
     requires few { bits < 32 }
     requires factor { has_factor kind bits ≡ true }
     ensures { result ≡ field_said kind bits (Number negative size) }
 {
     match kind {
-        Kind::Mark(_) => None,
-        Kind::Named { .. } => None,
+        Kind::Punctuation(_) => None,
+        Kind::Keyword { .. } => None,
         Kind::Register { .. } => None,
         Kind::Sized { .. } => None,
         Kind::SliceRegister => None,
@@ -417,20 +417,20 @@ fn number_said(kind: Kind, bits: u32, negative: bool, size: u64) -> Option<u32>
     }
 }
 
-/// The number of a field that the word at a place says: any name stands for a distance.
+/// The number of a field that the keyword of an index says: any name stands for a distance.
 #[inline(always)]
-#[tactic(auto, unfolding(crate::specs::Fields::field_said, crate::specs::Fields::on_mark, crate::specs::Fields::on_word, crate::specs::Fields::on_register, crate::specs::Fields::on_number, crate::specs::Fields::on_target, crate::specs::Fields::on_sized, crate::specs::Fields::on_bare, crate::specs::Fields::on_pattern))]
-fn word_said(kind: Kind, place: u16) -> Option<u32>
-    ensures { (bits : ℕ) → result ≡ field_said kind bits (Word place) }
+#[tactic(auto, unfolding(crate::specs::Fields::field_said, crate::specs::Fields::on_punctuation, crate::specs::Fields::on_keyword, crate::specs::Fields::on_register, crate::specs::Fields::on_number, crate::specs::Fields::on_target, crate::specs::Fields::on_sized, crate::specs::Fields::on_bare, crate::specs::Fields::on_pattern))]
+fn keyword_said(kind: Kind, index: u16) -> Option<u32>
+    ensures { (bits : ℕ) → result ≡ field_said kind bits (Keyword index) }
 {
     match kind {
-        Kind::Mark(_) => None,
-        Kind::Named { first, count } => word_field(first, count, place),
-        Kind::Register { last, .. } => last_field(last, place),
+        Kind::Punctuation(_) => None,
+        Kind::Keyword { first, count } => keyword_field(first, count, index),
+        Kind::Register { last, .. } => last_field(last, index),
         Kind::Sized { .. } => None,
         Kind::SliceRegister => None,
         Kind::Index => None,
-        Kind::Pattern { first } => pattern_of_word(first, place),
+        Kind::Pattern { first } => pattern_of_keyword(first, index),
         Kind::Descending { .. } => None,
         Kind::Unsigned { .. } => None,
         Kind::Signed { .. } => None,
@@ -438,14 +438,14 @@ fn word_said(kind: Kind, place: u16) -> Option<u32>
         Kind::Mask { .. } => None,
         Kind::SignedMask { .. } => None,
         Kind::ShiftLeft { .. } => None,
-        Kind::Opposite { first, count } => opposite_field(first, count, place),
+        Kind::Opposite { first, count } => opposite_field(first, count, index),
         Kind::Halfword { .. } => None,
     }
 }
 
 /// The number of a field that a register says: any name stands for a distance.
 #[inline(always)]
-#[tactic(auto, unfolding(crate::specs::Fields::field_said, crate::specs::Fields::on_mark, crate::specs::Fields::on_word, crate::specs::Fields::on_register, crate::specs::Fields::on_number, crate::specs::Fields::on_target, crate::specs::Fields::on_sized, crate::specs::Fields::on_bare, crate::specs::Fields::on_pattern))]
+#[tactic(auto, unfolding(crate::specs::Fields::field_said, crate::specs::Fields::on_punctuation, crate::specs::Fields::on_keyword, crate::specs::Fields::on_register, crate::specs::Fields::on_number, crate::specs::Fields::on_target, crate::specs::Fields::on_sized, crate::specs::Fields::on_bare, crate::specs::Fields::on_pattern))]
 fn register_said(kind: Kind, bits: u32, file: RegisterFile, number: u8) -> Option<u32>
     requires { bits < 32 }
     ensures { result ≡ field_said kind bits (Register file number) }
@@ -460,7 +460,7 @@ fn register_said(kind: Kind, bits: u32, file: RegisterFile, number: u8) -> Optio
 
 /// The number of a field of so many bits that a register with a size says: any name stands for a distance.
 #[inline(always)]
-#[tactic(auto, unfolding(crate::specs::Fields::field_said, crate::specs::Fields::on_mark, crate::specs::Fields::on_word, crate::specs::Fields::on_register, crate::specs::Fields::on_number, crate::specs::Fields::on_target, crate::specs::Fields::on_sized, crate::specs::Fields::on_bare, crate::specs::Fields::on_pattern, crate::specs::Sound::has_factor))]
+#[tactic(auto, unfolding(crate::specs::Fields::field_said, crate::specs::Fields::on_punctuation, crate::specs::Fields::on_keyword, crate::specs::Fields::on_register, crate::specs::Fields::on_number, crate::specs::Fields::on_target, crate::specs::Fields::on_sized, crate::specs::Fields::on_bare, crate::specs::Fields::on_pattern, crate::specs::Sound::has_factor))]
 fn sized_said(kind: Kind, bits: u32, file: VectorFile, number: u8, suffix: u16) -> Option<u32>
     requires few { bits < 32 }
     requires factor { has_factor kind bits ≡ true }
@@ -478,7 +478,7 @@ fn sized_said(kind: Kind, bits: u32, file: VectorFile, number: u8, suffix: u16) 
 }
 
 /// The number of a field of so many bits that a number without `#` says.
-#[tactic(auto, unfolding(crate::specs::Fields::field_said, crate::specs::Fields::on_mark, crate::specs::Fields::on_word, crate::specs::Fields::on_register, crate::specs::Fields::on_number, crate::specs::Fields::on_target, crate::specs::Fields::on_sized, crate::specs::Fields::on_bare, crate::specs::Fields::on_pattern))]
+#[tactic(auto, unfolding(crate::specs::Fields::field_said, crate::specs::Fields::on_punctuation, crate::specs::Fields::on_keyword, crate::specs::Fields::on_register, crate::specs::Fields::on_number, crate::specs::Fields::on_target, crate::specs::Fields::on_sized, crate::specs::Fields::on_bare, crate::specs::Fields::on_pattern))]
 fn bare_said(kind: Kind, bits: u32, size: u64) -> Option<u32>
     requires { bits < 32 }
     ensures { result ≡ field_said kind bits (Bare size) }
@@ -489,8 +489,8 @@ fn bare_said(kind: Kind, bits: u32, size: u64) -> Option<u32>
     }
 }
 
-/// The number of a field that a name says that is no word: any stands for a distance.
-#[tactic(auto, unfolding(crate::specs::Fields::field_said, crate::specs::Fields::on_mark, crate::specs::Fields::on_word, crate::specs::Fields::on_register, crate::specs::Fields::on_number, crate::specs::Fields::on_target, crate::specs::Fields::on_sized, crate::specs::Fields::on_bare, crate::specs::Fields::on_pattern))]
+/// The number of a field that a name says that is no keyword: any stands for a distance.
+#[tactic(auto, unfolding(crate::specs::Fields::field_said, crate::specs::Fields::on_punctuation, crate::specs::Fields::on_keyword, crate::specs::Fields::on_register, crate::specs::Fields::on_number, crate::specs::Fields::on_target, crate::specs::Fields::on_sized, crate::specs::Fields::on_bare, crate::specs::Fields::on_pattern))]
 fn name_said(kind: Kind) -> Option<u32>
     ensures { (bits : ℕ) → result ≡ field_said kind bits Name }
 {
@@ -501,7 +501,7 @@ fn name_said(kind: Kind) -> Option<u32>
 }
 
 /// The number of a field of so many bits that a distance says.
-#[tactic(auto, unfolding(crate::specs::Fields::field_said, crate::specs::Fields::on_mark, crate::specs::Fields::on_word, crate::specs::Fields::on_register, crate::specs::Fields::on_number, crate::specs::Fields::on_target, crate::specs::Fields::on_sized, crate::specs::Fields::on_bare, crate::specs::Fields::on_pattern, crate::specs::Sound::has_factor))]
+#[tactic(auto, unfolding(crate::specs::Fields::field_said, crate::specs::Fields::on_punctuation, crate::specs::Fields::on_keyword, crate::specs::Fields::on_register, crate::specs::Fields::on_number, crate::specs::Fields::on_target, crate::specs::Fields::on_sized, crate::specs::Fields::on_bare, crate::specs::Fields::on_pattern, crate::specs::Sound::has_factor))]
 fn distance_said(kind: Kind, bits: u32, back: bool, size: u64) -> Option<u32>
     requires few { bits < 32 }
     requires factor { has_factor kind bits ≡ true }
@@ -513,21 +513,21 @@ fn distance_said(kind: Kind, bits: u32, back: bool, size: u64) -> Option<u32>
     }
 }
 
-/// The number of a field that a mark says: 0 where it is the one.
+/// The number of a field that punctuation says: 0 where it is the one.
 #[inline(always)]
-#[tactic(auto, unfolding(crate::specs::Fields::field_said, crate::specs::Fields::on_mark, crate::specs::Fields::on_word, crate::specs::Fields::on_register, crate::specs::Fields::on_number, crate::specs::Fields::on_target, crate::specs::Fields::on_sized, crate::specs::Fields::on_bare, crate::specs::Fields::on_pattern))]
-fn mark_said(kind: Kind, mark: u8) -> Option<u32>
-    ensures { (bits : ℕ) → result ≡ field_said kind bits (Mark mark) }
+#[tactic(auto, unfolding(crate::specs::Fields::field_said, crate::specs::Fields::on_punctuation, crate::specs::Fields::on_keyword, crate::specs::Fields::on_register, crate::specs::Fields::on_number, crate::specs::Fields::on_target, crate::specs::Fields::on_sized, crate::specs::Fields::on_bare, crate::specs::Fields::on_pattern))]
+fn punctuation_said(kind: Kind, character: u8) -> Option<u32>
+    ensures { (bits : ℕ) → result ≡ field_said kind bits (Punctuation character) }
 {
     match kind {
-        Kind::Mark(wanted) => { if mark == wanted { Some(0) } else { None } }
+        Kind::Punctuation(wanted) => { if character == wanted { Some(0) } else { None } }
         _ => None,
     }
 }
 
 /// The number of a field of so many bits that the token says.
 #[inline(always)]
-#[tactic(auto, unfolding(crate::specs::Fields::field_said, crate::specs::Fields::on_mark, crate::specs::Fields::on_word, crate::specs::Fields::on_register, crate::specs::Fields::on_number, crate::specs::Fields::on_target, crate::specs::Fields::on_sized, crate::specs::Fields::on_bare, crate::specs::Fields::on_pattern, crate::specs::Sound::has_factor))]
+#[tactic(auto, unfolding(crate::specs::Fields::field_said, crate::specs::Fields::on_punctuation, crate::specs::Fields::on_keyword, crate::specs::Fields::on_register, crate::specs::Fields::on_number, crate::specs::Fields::on_target, crate::specs::Fields::on_sized, crate::specs::Fields::on_bare, crate::specs::Fields::on_pattern, crate::specs::Sound::has_factor))]
 pub(crate) fn field_said(kind: Kind, bits: u32, token: Token) -> Option<u32>
     requires few { bits < 32 }
     requires factor { has_factor kind bits ≡ true }
@@ -540,13 +540,13 @@ pub(crate) fn field_said(kind: Kind, bits: u32, token: Token) -> Option<u32>
             number,
             suffix,
         } => sized_said(kind, bits, file, number, suffix),
-        Token::Word(place) => word_said(kind, place),
+        Token::Keyword(index) => keyword_said(kind, index),
         Token::Name => name_said(kind),
         Token::Number { negative, size } => number_said(kind, bits, negative, size),
         Token::Distance { back, size } => distance_said(kind, bits, back, size),
         Token::Bare(size) => bare_said(kind, bits, size),
         Token::Malformed => None,
-        Token::Mark(mark) => mark_said(kind, mark),
+        Token::Punctuation(character) => punctuation_said(kind, character),
         Token::Other => None,
     }
 }

@@ -4,7 +4,7 @@ ghost use Rattle.std.specs.Prelude.{◌≡◌, ◌+◌, ◌-◌, ◌^◌, ◌<�
 ghost use Rattle.std.specs.Prelude.{None, length, slice_get, take, is_some, codes, option_and_then};
 ghost use Rattle.bit_ops.specs.Bits.{width_of};
 ghost use Rattle.asm_tokens.specs.declared.token.Token.{Token};
-ghost use Rattle.insn_text.specs.declared.words.TheConstants.{NAMES};
+ghost use Rattle.insn_text.specs.declared.keywords.TheConstants.{MNEMONICS};
 ghost use Rattle.a64_encode.specs.Either.{instruction_of};
 ghost use Rattle.asm_operands.specs.declared.operands.Target.{Target};
 ghost use Rattle.asm_tokens.specs.declared.token.Token.TheVariants.{Number};
@@ -16,25 +16,27 @@ ghost use Rattle.insn_text.specs.Texts.{bits_of, items_of, mask_in};
 ghost use Rattle.asm_operands.specs.Aliases.{halfword_number, IsShiftLeft};
 ghost use Rattle.asm_operands.specs.Distances.{with_distance};
 ghost use Rattle.asm_operands.specs.Fields.{field_said, immediate_of};
-ghost use Rattle.asm_operands.specs.Moves.{move_tokens, moved, place_of};
+ghost use Rattle.asm_operands.specs.Moves.{move_tokens, moved, index_of};
 ghost use Rattle.asm_operands.specs.Operands.{shapes_of, first_word, furthest, operands_said, Says};
 
 use insn_text::texts_are_those_of_rows;
 
-/// The fault stands at the first token with which no instruction of the name goes on: with other tokens in
-/// place of it and of those after it some shape takes them all, and with it none does.
+/// The fault stands at the first token with which no instruction of the mnemonic goes on: with other tokens
+/// in place of it and of those after it some shape takes them all, and with it none does.
 pub fn first_fault_law()
-    ensures goes_on { (name n : ℕ) (ts : List Token) → name < length NAMES → n ≤ furthest (shapes_of name) ts
-        → (rest : List Token) × (word : ℕ) × (first_word (shapes_of name) (take n ts ++ rest) ≡ Some word) }
-    ensures stops { (name : ℕ) (ts rest : List Token) → furthest (shapes_of name) ts < length ts
-        → first_word (shapes_of name) (take (furthest (shapes_of name) ts + 1) ts ++ rest) ≡ None }
+    ensures goes_on { (mnemonic n : ℕ) (ts : List Token) → mnemonic < length MNEMONICS
+        → n ≤ furthest (shapes_of mnemonic) ts → (rest : List Token) × (word : ℕ)
+        × (first_word (shapes_of mnemonic) (take n ts ++ rest) ≡ Some word) }
+    ensures stops { (mnemonic : ℕ) (ts rest : List Token) → furthest (shapes_of mnemonic) ts < length ts
+        → first_word (shapes_of mnemonic) (take (furthest (shapes_of mnemonic) ts + 1) ts ++ rest) ≡ None }
 {}
 
 /// A word whose target is named means an instruction with each distance that its operand holds.
 pub fn any_distance_law()
-    ensures { (name : ℕ) (ts : List Token) (word : ℕ) (target : Target) (back : Bool) (size aimed : ℕ)
-        → operands_said name ts ≡ Says word (Some target)
-        → with_distance target.operand word back size ≡ Some aimed → is_some (instruction_of aimed) ≡ true }
+    ensures { (mnemonic : ℕ) (ts : List Token) (word : ℕ) (target : Target) (back : Bool) (size resolved : ℕ)
+        → operands_said mnemonic ts ≡ Says word (Some target)
+        → with_distance target.operand word back size ≡ Some resolved
+        → is_some (instruction_of resolved) ≡ true }
 {}
 
 /// The fields of an alias with a number stand for that number: of `mov` a halfword at its place, or its
@@ -57,14 +59,14 @@ pub fn alias_law()
         → field_said (ShiftLeft wide) bits (Number negative size) ≡ Some field
         → IsShiftLeft wide size field }
     ensures order { (wide negative : Bool) (register size : ℕ) → register < 31
-        → first_word (shapes_of (place_of (codes "mov"))) (move_tokens wide register negative size)
+        → first_word (shapes_of (index_of (codes "mov"))) (move_tokens wide register negative size)
         ≡ option_and_then (moved wide register) (immediate_of wide negative size) }
 {}
 
 /// An operand without a field is read from one token alone.
 pub fn bare_operand_law()
-    ensures { (at place : ℕ) (s : Shape) (i : Item) (t u : Token) (m n : ℕ)
-        → slice_get SHAPES at ≡ Some s → slice_get (items_of s) place ≡ Some i
+    ensures { (number index : ℕ) (s : Shape) (i : Item) (t u : Token) (m n : ℕ)
+        → slice_get SHAPES number ≡ Some s → slice_get (items_of s) index ≡ Some i
         → bits_of i ≡ 0 → field_said i.kind 0 t ≡ Some m → field_said i.kind 0 u ≡ Some n → t ≡ u }
 {
     texts_are_those_of_rows()

@@ -3,11 +3,11 @@
 use crate::fault::FaultKind;
 use insn_text::Item;
 
-/// A name in the place of a distance: the place of its token among those of the operands, and the operand
+/// A name for a distance: the index of its token among those of the operands, and the operand
 /// whose field is to have the distance.
 #[derive(Clone, Copy)]
 pub struct Target {
-    pub place: usize,
+    pub index: usize,
     pub operand: Item,
 }
 
@@ -18,10 +18,10 @@ pub struct Operands {
     pub target: Option<Target>,
 }
 
-/// The first token with which no instruction of the name goes on: its place, or that just past the last,
+/// The first token with which no instruction of the mnemonic goes on: its index, or that just past the last,
 /// and why.
 #[derive(Clone, Copy)]
 pub struct OperandFault {
-    pub place: usize,
+    pub index: usize,
     pub kind: FaultKind,
 }

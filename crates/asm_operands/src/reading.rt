@@ -1,4 +1,4 @@
-//! What the operands after a name say.
+//! What the operands after a mnemonic say.
 
 ghost use Rattle.std.specs.Prelude.{◌≡◌, ◌-◌, ◌&&◌, length, slice_get, option_and_then, option_map, is_some};
 ghost use Rattle.std.specs.Prelude.{IfSome};
@@ -23,25 +23,21 @@ fn is_distance(kind: Kind) -> bool
     matches!(kind, Kind::Distance { .. })
 }
 
-/// Whether there is a token at the place, and a name.
-fn is_name_at(tokens: &[Token], place: usize) -> bool
-    ensures { result ≡ is_name_token (slice_get tokens.now place) }
+/// Whether there is a token of that index, and a name.
+fn is_name_at(tokens: &[Token], index: usize) -> bool
+    ensures { result ≡ is_name_token (slice_get tokens.now index) }
 {
-    if place < tokens.len() {
-        is_name(tokens[place])
-    } else {
-        false
-    }
+    index < tokens.len() && is_name(tokens[index])
 }
 
-/// The operand at a place, where it is a distance and its token a name.
-fn named_at(items: &[Item], tokens: &[Token], place: usize) -> Option<Item>
-    ensures { result ≡ option_and_then (names (slice_get tokens.now place)) (slice_get items.now place) }
+/// The operand of an index, where it is a distance and its token a name.
+fn named_at(items: &[Item], tokens: &[Token], index: usize) -> Option<Item>
+    ensures { result ≡ option_and_then (names (slice_get tokens.now index)) (slice_get items.now index) }
 {
-    if place >= items.len() {
+    if index >= items.len() {
         None
-    } else if is_distance(items[place].kind) && is_name_at(tokens, place) {
-        Some(items[place])
+    } else if is_distance(items[index].kind) && is_name_at(tokens, index) {
+        Some(items[index])
     } else {
         None
     }
@@ -52,9 +48,9 @@ fn named_at(items: &[Item], tokens: &[Token], place: usize) -> Option<Item>
 fn target_in(items: &[Item], tokens: &[Token]) -> Option<Target>
     ensures { result ≡ target_in items.now tokens.now }
 {
-    let place = items.len().saturating_sub(1);
-    match named_at(items, tokens, place) {
-        Some(operand) => Some(Target { place, operand }),
+    let index = items.len().saturating_sub(1);
+    match named_at(items, tokens, index) {
+        Some(operand) => Some(Target { index, operand }),
         None => None,
     }
 }
@@ -90,13 +86,13 @@ fn is_instruction(word: u32) -> bool
     decode(word).is_some()
 }
 
-/// What the tokens after a name say: the word, with the token that names its target, or the first fault;
-/// `name` is a place of `insn_text::NAMES`.
+/// What the tokens after a mnemonic say: the word, with the token that names its target, or the first fault;
+/// `mnemonic` is an index in `insn_text::MNEMONICS`.
 #[tactic(auto, unfolding(crate::specs::Operands::operands_said, crate::specs::Operands::word_said, crate::specs::Operands::if_meant))]
-pub fn read_operands(name: u16, tokens: &[Token]) -> Result<Operands, OperandFault>
-    ensures { said_by result ≡ operands_said name tokens.now }
+pub fn read_operands(mnemonic: u16, tokens: &[Token]) -> Result<Operands, OperandFault>
+    ensures { said_by result ≡ operands_said mnemonic tokens.now }
 {
-    let shapes = shapes_of(name);
+    let shapes = shapes_of(mnemonic);
     match first_said(shapes, tokens) {
         Some(said) if is_instruction(said.word) => Ok(Operands {
             word: said.word,

@@ -1,4 +1,4 @@
-//! The shapes of a name, and their operands.
+//! The shapes of a mnemonic, and their operands.
 
 ghost use Rattle.std.specs.Prelude.{◌≡◌, ◌+◌, ◌-◌, true, length, take, drop, slice_index};
 ghost use Rattle.std.specs.List.{list_all};
@@ -17,7 +17,7 @@ pub(crate) fn items_of(shape: &Shape) -> &'static [Item]
     operands_of(shape)
 }
 
-/// So many shapes from a place on.
+/// So many shapes from an index on.
 fn shapes_part(shapes: &[Shape], first: usize, count: usize) -> &[Shape]
     ensures { result.now ≡ take count (drop first shapes.now) }
 {
@@ -36,29 +36,29 @@ fn all_shapes_part(first: usize, count: usize) -> &'static [Shape]
     shapes_part(&SHAPES, first, count)
 }
 
-fn start_at(starts: &[u16], name: usize) -> usize
-    ensures { result ≡ slice_index starts.now name }
+fn start_at(starts: &[u16], mnemonic: usize) -> usize
+    ensures { result ≡ slice_index starts.now mnemonic }
 {
-    if name < starts.len() {
-        usize::from(starts[name])
+    if mnemonic < starts.len() {
+        usize::from(starts[mnemonic])
     } else {
         0
     }
 }
 
-/// Where the shapes of a name begin.
-fn start_of(name: usize) -> usize
-    ensures { result ≡ slice_index STARTS name }
+/// Where the shapes of a mnemonic begin.
+fn start_of(mnemonic: usize) -> usize
+    ensures { result ≡ slice_index STARTS mnemonic }
 {
-    start_at(&STARTS, name)
+    start_at(&STARTS, mnemonic)
 }
 
-/// The shapes of the name at a place of the table of names.
+/// The shapes of the mnemonic of that index.
 #[tactic(auto, unfolding(crate::specs::Operands::shapes_of))]
-pub(crate) fn shapes_of(name: u16) -> &'static [Shape]
-    ensures { result.now ≡ shapes_of name }
+pub(crate) fn shapes_of(mnemonic: u16) -> &'static [Shape]
+    ensures { result.now ≡ shapes_of mnemonic }
 {
-    let name = usize::from(name);
-    let first = start_of(name);
-    all_shapes_part(first, start_of(name + 1).saturating_sub(first))
+    let mnemonic = usize::from(mnemonic);
+    let first = start_of(mnemonic);
+    all_shapes_part(first, start_of(mnemonic + 1).saturating_sub(first))
 }

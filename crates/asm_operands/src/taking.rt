@@ -2,46 +2,46 @@
 
 ghost use Rattle.std.specs.Prelude.{◌≡◌, ◌<◌, true, length};
 ghost use Rattle.std.specs.List.{list_all};
-ghost use Rattle.asm_operands.specs.Operands.{taken, reach, word_in, reach_in};
+ghost use Rattle.asm_operands.specs.Operands.{taken, taken_count, word_in, taken_count_in};
 ghost use Rattle.asm_operands.specs.Sound.{is_sound};
-ghost use Rattle.asm_operands.specs.Views.{known_of};
+ghost use Rattle.asm_operands.specs.Views.{partial_of};
 
-use crate::known::Known;
+use crate::partial_word::PartialWord;
 use crate::shapes::items_of;
 use asm_tokens::Token;
 use insn_text::{Item, Shape};
 
 /// The word that the tokens say as these operands, all of them.
-fn taken(items: &[Item], known: Known, tokens: &[Token]) -> Option<u32>
+fn taken(items: &[Item], partial: PartialWord, tokens: &[Token]) -> Option<u32>
     requires { list_all is_sound items.now ≡ true }
-    ensures { result ≡ taken items.now (known_of known) tokens.now }
+    ensures { result ≡ taken items.now (partial_of partial) tokens.now }
 {
     if tokens.len() != items.len() {
         return None;
     }
-    let mut known = known;
-    for at in 0..items.len() {
-        match known.after(&items[at], tokens[at]) {
-            Some(next) => known = next,
+    let mut partial = partial;
+    for index in 0..items.len() {
+        match partial.after(&items[index], tokens[index]) {
+            Some(next) => partial = next,
             None => return None,
         }
     }
-    Some(known.value)
+    Some(partial.value)
 }
 
 /// How many tokens the operands take, in order, before the first that they do not.
-fn reach(items: &[Item], known: Known, tokens: &[Token]) -> usize
+fn taken_count(items: &[Item], partial: PartialWord, tokens: &[Token]) -> usize
     requires { list_all is_sound items.now ≡ true }
-    ensures { result ≡ reach items.now (known_of known) tokens.now }
+    ensures { result ≡ taken_count items.now (partial_of partial) tokens.now }
 {
-    let mut known = known;
-    for at in 0..items.len() {
-        if at >= tokens.len() {
-            return at;
+    let mut partial = partial;
+    for index in 0..items.len() {
+        if index >= tokens.len() {
+            return index;
         }
-        match known.after(&items[at], tokens[at]) {
-            Some(next) => known = next,
-            None => return at,
+        match partial.after(&items[index], tokens[index]) {
+            Some(next) => partial = next,
+            None => return index,
         }
     }
     items.len()
@@ -52,13 +52,13 @@ fn reach(items: &[Item], known: Known, tokens: &[Token]) -> usize
 pub(crate) fn word_in(shape: &Shape, tokens: &[Token]) -> Option<u32>
     ensures { result ≡ word_in shape.now tokens.now }
 {
-    taken(items_of(shape), Known::fixed(shape), tokens)
+    taken(items_of(shape), PartialWord::fixed(shape), tokens)
 }
 
 /// How many tokens the operands of the shape take.
-#[tactic(auto, unfolding(crate::specs::Operands::reach_in))]
-pub(crate) fn reach_in(shape: &Shape, tokens: &[Token]) -> usize
-    ensures { result ≡ reach_in shape.now tokens.now }
+#[tactic(auto, unfolding(crate::specs::Operands::taken_count_in))]
+pub(crate) fn taken_count_in(shape: &Shape, tokens: &[Token]) -> usize
+    ensures { result ≡ taken_count_in shape.now tokens.now }
 {
-    reach(items_of(shape), Known::fixed(shape), tokens)
+    taken_count(items_of(shape), PartialWord::fixed(shape), tokens)
 }

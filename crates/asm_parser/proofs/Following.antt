@@ -6,14 +6,14 @@ use Rattle.std.specs.Prelude.{codes}
 use Rattle.std.specs.List.{list_all, position}
 use Rattle.std.proofs.lemmas.Slice.Eq.{bytes_eq-Decides}
 use Rattle.std.proofs.lemmas.Bool.{not-true}
-use Rattle.asm_operands.proofs.Way.{all-at}
+use Rattle.asm_operands.proofs.TakenTokens.{all-at}
 use Rattle.std.specs.Str.{bytes_eq}
 use Rattle.std.proofs.lemmas.List.Quantifiers.{position-Some}
 use Rattle.insn_text.specs.declared.item.Text.{Text}
-use Rattle.insn_text.specs.declared.words.TheConstants.{NAMES}
+use Rattle.insn_text.specs.declared.keywords.TheConstants.{MNEMONICS}
 use Rattle.insn_text.specs.Texts.{text_in}
 use Rattle.asm_tokens.specs.declared.token.Lexeme.{Lexeme}
-use Rattle.asm_tokens.specs.Tokens.{place_in, is_name}
+use Rattle.asm_tokens.specs.Tokens.{index_in, is_name}
 use Rattle.asm_parser.specs.Statements.{QuadValue, TargetSaid, Says, Nothing, IntoText, IntoData, Quads, Words, Bytes, Zeros, Aligns}
 use Rattle.asm_parser.specs.Statements.{Globals, Instructs}
 use Rattle.asm_parser.specs.Lines.{Answer, Tells, Stops, and_then, further, ends, one_number, one_name, values_from, number_value}
@@ -34,26 +34,26 @@ some_is a b e = cc
 is_undotted : Text → Bool
 is_undotted t = not (get_or (text_in (Some t)) 0 0 == 46)
 
-all_undotted : list_all is_undotted NAMES ≡ true
+all_undotted : list_all is_undotted MNEMONICS ≡ true
 unfolding is_undotted text_in
 all_undotted = refl
 
 same_text : (a b : List ℕ) → bytes_eq a b ≡ true → a ≡ b
 same_text a b e = (bytes_eq-Decides a b).0 e
 
-place_facts : (xs : List Text) (text : List ℕ) (n : ℕ) → list_all is_undotted xs ≡ true
+index_facts : (xs : List Text) (text : List ℕ) (n : ℕ) → list_all is_undotted xs ≡ true
     → position (λ t. bytes_eq (text_in (Some t)) text) xs ≡ Some n → (n < length xs) × ((get_or text 0 0 == 46) ≡ false)
 unfolding is_undotted
-place_facts [] text n a e = cc
-place_facts (x ∷ xs) text n a e =
+index_facts [] text n a e = cc
+index_facts (x ∷ xs) text n a e =
     let p = position-Some (λ t. bytes_eq (text_in (Some t)) text) (x ∷ xs) n x e in
     let same = same_text (text_in (Some (get_or (x ∷ xs) n x))) text p.1 in
     (p.0, ap (λ ys. get_or ys 0 0 == 46) (sym same) ∙ not-true _ (all-at is_undotted (x ∷ xs) n x a p.0))
 
 -- a name of the table stands in it, and is no directive's
-pub listed_name : (text : List ℕ) (n : ℕ) → place_in NAMES text ≡ Some n → (n < length NAMES) × (directive_of text ≡ None)
-unfolding place_in
-listed_name text n e = let f = place_facts NAMES text n all_undotted e in (f.0, undotted text f.1)
+pub listed_name : (text : List ℕ) (n : ℕ) → index_in MNEMONICS text ≡ Some n → (n < length MNEMONICS) × (directive_of text ≡ None)
+unfolding index_in
+listed_name text n e = let f = index_facts MNEMONICS text n all_undotted e in (f.0, undotted text f.1)
 
 -- ---- which directive the tokens of a statement begin with
 
@@ -255,16 +255,16 @@ global_made = record { up = λ t xs a n s f. begin (codes ".global") (IsOne IsNa
 -- an answer is what the grammar of lines has
 abbrev pub IsTold : Answer Says → List Written → Type 0
 IsTold (Tells says) ts = IsWritten says ts × IsMeaning says × ((other : Says) → IsWritten other ts → says ≡ other)
-IsTold (Stops place kind) ts = IsFirstFault IsWritten IsMeaning IsLineWhy ts place kind
+IsTold (Stops index kind) ts = IsFirstFault IsWritten IsMeaning IsLineWhy ts index kind
 
 -- past the first token no name leads a line
 pub told_further : (answer : Answer Says) (t : Written) (xs : List Written) → Tied IsWritten IsMeaning (further 1 answer) (t ∷ xs)
     → IsTold (further 1 answer) (t ∷ xs)
 told_further (Tells says) t xs h = h
-told_further (Stops place kind) t xs h =
-    let e : 1 + place ≡ suc place = omega arith in
+told_further (Stops index kind) t xs h =
+    let e : 1 + index ≡ suc index = omega arith in
     let f = subst (λ n. IsFirstFault IsWritten IsMeaning (IsWhy IsWritten) (t ∷ xs) n kind) e h in
-    let g : IsFirstFault IsWritten IsMeaning IsLineWhy (t ∷ xs) (suc place) kind =
+    let g : IsFirstFault IsWritten IsMeaning IsLineWhy (t ∷ xs) (suc index) kind =
     record { goes_on = f.goes_on; stops = f.stops; why = f.why } in
     subst (λ n. IsFirstFault IsWritten IsMeaning IsLineWhy (t ∷ xs) n kind) (sym e) g
 

@@ -7,20 +7,20 @@ use Rattle.std.proofs.lemmas.List.{take-map, map-append, length-map}
 use Rattle.std.proofs.Common.{append_assoc}
 use Rattle.std.proofs.lemmas.Option.{slice_get-map}
 use Rattle.a64_encode.specs.Either.{instruction_of}
-use Rattle.insn_text.specs.declared.words.TheConstants.{NAMES}
+use Rattle.insn_text.specs.declared.keywords.TheConstants.{MNEMONICS}
 use Rattle.insn_text.specs.declared.item.Shape.{Shape}
 use Rattle.asm_tokens.specs.declared.token.Token.{Token}
 use Rattle.asm_tokens.specs.declared.token.Lexeme.{Lexeme}
 use Rattle.asm_tokens.specs.Characters.{column_at}
-use Rattle.asm_tokens.specs.Tokens.{place_in, is_name, is_number_token}
+use Rattle.asm_tokens.specs.Tokens.{index_in, is_name, is_number_token}
 use Rattle.asm_operands.specs.declared.fault.FaultKind.TheVariants.{BadNumber, Extra, BadOperand}
 use Rattle.asm_operands.specs.declared.operands.Target.{Target}
 use Rattle.asm_operands.specs.Operands.{shapes_of, first_word, furthest, target_of, wants_number, is_whole, kind_at, operand_fault}
 use Rattle.asm_operands.specs.Operands.{OperandsSaid, operands_said}
 use Rattle.asm_operands.specs.Operands as operands
-use Rattle.asm_operands.proofs.GoesOn.{goes-on, number-goes-on}
-use Rattle.asm_operands.proofs.Stops.{stops}
-use Rattle.asm_operands.proofs.Aimed.{IsSaid, is_said}
+use Rattle.asm_operands.proofs.Completions.{goes-on, number-goes-on}
+use Rattle.asm_operands.proofs.FaultStops.{stops}
+use Rattle.asm_operands.proofs.AnyDistance.{IsSaid, is_said}
 use Rattle.asm_parser.specs.Statements.{TargetSaid, Says, Nothing, Instructs}
 use Rattle.asm_parser.specs.Lines.{Tells, further, target_named, target_at, instruction_or_fault, instruction_says}
 use Rattle.asm_parser.specs.Grammar.{Written, written, target_written, IsInstruction, IsWritten, IsMeaning, GoesOn, IsWhole, WantsNumber}
@@ -55,7 +55,7 @@ toks-more n xs rest =
 
 -- ---- after the name of an instruction
 
-module _ (t : Written) (name : ℕ) (named : is_name t.token ≡ true) (listed : place_in NAMES t.text ≡ Some name) where
+module _ (t : Written) (name : ℕ) (named : is_name t.token ≡ true) (listed : index_in MNEMONICS t.text ≡ Some name) where
   -- what the tokens after it say
   After : Says → List Written → Type 0
   After says xs = IsWritten says (t ∷ xs)
@@ -73,7 +73,7 @@ module _ (t : Written) (name : ℕ) (named : is_name t.token ≡ true) (listed :
   down_instruction word column target xs j =
       let same : t ≡ j.first = (let e = j.all in cc) in
       let rest : xs ≡ j.operands = (let e = j.all in cc) in
-      let name_is : name ≡ j.name = some_is name j.name (sym listed ∙ ap (λ (u : Written). place_in NAMES u.text) same ∙ j.listed) in
+      let name_is : name ≡ j.name = some_is name j.name (sym listed ∙ ap (λ (u : Written). index_in MNEMONICS u.text) same ∙ j.listed) in
       let aims : target_written xs (target_of (shapes_of name) (toks xs)) ≡ target =
       ap₂ (λ n ys. target_written ys (target_of (shapes_of n) (toks ys))) name_is rest ∙ sym j.aims in
       let column_is : t.column ≡ column = ap (λ (u : Written). u.column) same ∙ sym j.column_is in
@@ -100,13 +100,13 @@ module _ (t : Written) (name : ℕ) (named : is_name t.token ≡ true) (listed :
 
     goes : GoesOn After (take k xs)
     goes =
-        let lt : name < length NAMES = (listed_name t.text name listed).0 in
+        let lt : name < length MNEMONICS = (listed_name t.text name listed).0 in
         let g = goes-on name k ts lt (omega arith) in
         let e : first_word ss (toks (take k xs ++ map bare g.0)) ≡ Some g.1 = ap (first_word ss) (toks-front k xs g.0) ∙ g.2 in
         (map bare g.0, said g.1 (take k xs ++ map bare g.0), up (take k xs ++ map bare g.0) g.1 e)
 
-    stopped : k < length xs → GoesOn After (take (suc k) xs) → ⊥
-    stopped lt g =
+    faulted : k < length xs → GoesOn After (take (suc k) xs) → ⊥
+    faulted lt g =
         let d = down g.1 (take (suc k) xs ++ g.0) g.2 in
         let less : k < length ts = omega (arith, length-map xs (λ (t : Written). t.token)) in
         let none : first_word ss (take (suc k) ts ++ toks g.0) ≡ None =
@@ -114,10 +114,10 @@ module _ (t : Written) (name : ℕ) (named : is_name t.token ≡ true) (listed :
         let clash : None ≡ Some d.0 = sym none ∙ ap (first_word ss) (sym (toks-more (suc k) xs g.0)) ∙ d.1 in
         cc
 
-    stops_here : (o : Option Written) → slice_get xs k ≡ o → ((w : ℕ) → first_word ss ts ≡ Some w → is_some (instruction_of w) ≡ true → ⊥)
+    faults_here : (o : Option Written) → slice_get xs k ≡ o → ((w : ℕ) → first_word ss ts ≡ Some w → is_some (instruction_of w) ≡ true → ⊥)
         → StopsAt After IsMeaning xs k o
-    stops_here (Some u) is none = stopped (get_some xs k u is)
-    stops_here None is none = (
+    faults_here (Some u) is none = faulted (get_some xs k u is)
+    faults_here None is none = (
       omega (arith, small, get_none xs k is),
       λ says j m.
           let d = down says xs j in
@@ -171,18 +171,18 @@ module _ (t : Written) (name : ℕ) (named : is_name t.token ≡ true) (listed :
     why_here None = tt
     why_here (Some u) = why_by u (is_number_token u.token) (list_any (wants_number k ts) ss) (list_any (is_whole k ts) ss) refl refl refl
 
-    refused_fault : (f : operands.Fault) → IsRefused name ts f → IsFirstFault After IsMeaning (IsWhy After) xs f.place f.kind
+    refused_fault : (f : operands.Fault) → IsRefused name ts f → IsFirstFault After IsMeaning (IsWhy After) xs f.index f.kind
     unfolding operand_fault
     refused_fault f r =
         let fault : IsFirstFault After IsMeaning (IsWhy After) xs k (kind_at ss k ts (slice_get ts k)) = record {
           goes_on = goes;
-          stops = stops_here (slice_get xs k) refl r.none_meant;
+          stops = faults_here (slice_get xs k) refl r.none_meant;
           why =
               subst (λ o. IsWhy After (take k xs) (slice_get xs k) (kind_at ss k ts o))
               (sym (slice_get-map (λ (u : Written). u.token) xs k))
               (why_here (slice_get xs k));
         } in
-        subst (λ (g : operands.Fault). IsFirstFault After IsMeaning (IsWhy After) xs g.place g.kind) (sym r.fault_is) fault
+        subst (λ (g : operands.Fault). IsFirstFault After IsMeaning (IsWhy After) xs g.index g.kind) (sym r.fault_is) fault
 
 -- ---- the answer
 
@@ -194,16 +194,16 @@ target_is : (line : List ℕ) (ls : List Lexeme) (target : Option Target)
     → target_at line ls target ≡ target_written (map (written line) ls) target
 target_is line ls None = refl
 target_is line ls (Some target) =
-    by_place (slice_get ls target.place) ∙ ap (option_map (λ (t : Written). record { name = t.text; operand = target.operand }))
-    (sym (slice_get-map (written line) ls target.place))
+    by_index (slice_get ls target.index) ∙ ap (option_map (λ (t : Written). record { name = t.text; operand = target.operand }))
+    (sym (slice_get-map (written line) ls target.index))
   where
-    by_place : (o : Option Lexeme) → target_named line target.operand o
+    by_index : (o : Option Lexeme) → target_named line target.operand o
         ≡ option_map (λ (t : Written). record { name = t.text; operand = target.operand }) (option_map (written line) o)
-    by_place None = refl
-    by_place (Some l) = refl
+    by_index None = refl
+    by_index (Some l) = refl
 
 module _ (line : List ℕ) (l : Lexeme) (ls : List Lexeme) (name : ℕ) (named : is_name l.token ≡ true)
-    (listed : place_in NAMES (written line l).text ≡ Some name) where
+    (listed : index_in MNEMONICS (written line l).text ≡ Some name) where
   abbrev xs : List Written
   xs = map (written line) ls
 

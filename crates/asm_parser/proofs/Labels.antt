@@ -12,12 +12,12 @@ use Rattle.asm_operands.specs.declared.fault.FaultKind.{FaultKind}
 use Rattle.asm_operands.specs.declared.fault.FaultKind.TheVariants.{UnknownName, BadNumber, Extra, BadOperand}
 use Rattle.asm_parser.specs.declared.line.LineFault.{LineFault}
 use Rattle.asm_parser.specs.declared.line.LineFault.TheVariants as LineFaults
-use Rattle.asm_parser.specs.declared.stops.Stop.{Stop}
-use Rattle.asm_parser.specs.declared.stops.Stop.TheVariants.{Fault, Memory}
+use Rattle.asm_parser.specs.declared.parse_fault.ParseFault.{ParseFault}
+use Rattle.asm_parser.specs.declared.parse_fault.ParseFault.TheVariants.{Syntax, Memory}
 use Rattle.asm_parser.specs.Statements.{Says, SourceLine}
 use Rattle.asm_parser.specs.Lines.{Answer, Tells, Stops, blanks, label_in, has_label, label_of, label_end, column_of, fault_of_kind}
 use Rattle.asm_parser.specs.Lines.{line_answer, line_lexemes, begin_list, keeps_list, line_of, tokens_say}
-use Rattle.asm_parser.specs.Told.{located, lexemes_from, said_from, column_from, stop_fault, StopsAs, is_label}
+use Rattle.asm_parser.specs.Told.{located, lexemes_from, said_from, column_from, line_fault_of, FaultsAs, is_label}
 
 module _ (text : List ℕ) (start end : ℕ) (name : List ℕ)
     (begins : start ≡ 0 + length (front is_blank (drop 0 text))) (runs : name ≡ run (drop start text)) (ends : end ≡ start + length name)
@@ -66,16 +66,16 @@ module _ (line : List ℕ) (label : Option (List ℕ)) (ls : List Lexeme) where
   unfolding located
   answer-ok (Tells a) says e =
       let same : a ≡ says = cc in ap (λ (x : Says). let l : SourceLine = record { label = label; says = x } in Ok l) same
-  answer-ok (Stops place kind) says e = cc
+  answer-ok (Stops index kind) says e = cc
 
-  answer-err : (answer : Answer Says) (start : Option ℕ) (kind : FaultKind) → located ls answer ≡ Err (Fault start kind)
+  answer-err : (answer : Answer Says) (start : Option ℕ) (kind : FaultKind) → located ls answer ≡ Err (Syntax start kind)
       → line_answer line label ls answer ≡ Err (fault_of_kind kind (column_from line start))
   unfolding located
   answer-err (Tells a) start kind e = cc
-  answer-err (Stops place why) start kind e =
-      let here : option_map (λ (l : Lexeme). l.start) (slice_get ls place) ≡ start = cc in
+  answer-err (Stops index why) start kind e =
+      let here : option_map (λ (l : Lexeme). l.start) (slice_get ls index) ≡ start = cc in
       let same : why ≡ kind = cc in
-      ap Err (ap₂ fault_of_kind same (column-is line (slice_get ls place) ∙ ap (column_from line) here))
+      ap Err (ap₂ fault_of_kind same (column-is line (slice_get ls index) ∙ ap (column_from line) here))
 
 no_memory : (kind : FaultKind) (column : ℕ) → fault_of_kind kind column ≡ LineFaults.Memory → ⊥
 no_memory UnknownName column e = cc
@@ -96,18 +96,19 @@ module _ (line text : List ℕ) (label : Option (List ℕ)) (end : ℕ) (part : 
   unfolding said_from
   line-ok says e = line-is ∙ answer-ok line label (lexemes_from text end) _ says e
 
-  pub line-err : (stop : Stop) (fault : LineFault) → fault ≡ stop_fault line stop → StopsAs stop (said_from (tokens_say line) text end)
+  pub line-err : (parse : ParseFault) (fault : LineFault) → fault ≡ line_fault_of line parse
+      → FaultsAs parse (said_from (tokens_say line) text end)
       → fault ≢ LineFaults.Memory
       → line_of line ≡ Err fault
-  unfolding said_from stop_fault
+  unfolding said_from line_fault_of
   line-err Memory fault is e other = absurd (other is)
-  line-err (Fault start kind) fault is e other = line-is ∙ answer-err line label (lexemes_from text end) _ start kind e ∙ ap Err (sym is)
+  line-err (Syntax start kind) fault is e other = line-is ∙ answer-err line label (lexemes_from text end) _ start kind e ∙ ap Err (sym is)
 
-  pub line-memory : (stop : Stop) (fault : LineFault) → fault ≡ stop_fault line stop
-      → (stop ≡ Memory → begin_list line (lexemes_from text end) ≡ true) → fault ≡ LineFaults.Memory
+  pub line-memory : (parse : ParseFault) (fault : LineFault) → fault ≡ line_fault_of line parse
+      → (parse ≡ Memory → begin_list line (lexemes_from text end) ≡ true) → fault ≡ LineFaults.Memory
       → keeps_list line ≡ true
-  unfolding stop_fault keeps_list line_lexemes
+  unfolding line_fault_of keeps_list line_lexemes
   line-memory Memory fault is h e =
       ap (λ xs. begin_list line (lexemes_from xs (label_end xs))) (sym part) ∙ ap (λ n. begin_list line (lexemes_from text n)) (sym ends)
       ∙ h refl
-  line-memory (Fault start kind) fault is h e = absurd (no_memory kind (column_from line start) (sym is ∙ e))
+  line-memory (Syntax start kind) fault is h e = absurd (no_memory kind (column_from line start) (sym is ∙ e))

@@ -6,10 +6,10 @@ use Rattle.std.proofs.lemmas.List.{take-append-drop}
 use Rattle.std.proofs.lemmas.Bool.{cases_lt}
 use Rattle.std.proofs.Math.Seq.{take-add}
 use Rattle.std.proofs.lemmas.Option.{slice_get-map}
-use Rattle.insn_text.specs.declared.words.TheConstants.{NAMES}
+use Rattle.insn_text.specs.declared.keywords.TheConstants.{MNEMONICS}
 use Rattle.asm_tokens.specs.declared.token.Lexeme.{Lexeme}
 use Rattle.asm_tokens.specs.Characters.{before_comment}
-use Rattle.asm_tokens.specs.Tokens.{place_in, is_name, is_number_token}
+use Rattle.asm_tokens.specs.Tokens.{index_in, is_name, is_number_token}
 use Rattle.asm_operands.specs.declared.fault.FaultKind.{FaultKind}
 use Rattle.asm_operands.specs.declared.fault.FaultKind.TheVariants.{UnknownName, BadNumber, Extra, BadOperand}
 use Rattle.asm_parser.specs.declared.line.Line.{Line}
@@ -54,17 +54,17 @@ unknown_why : (t : Written) (b : Bool) → b ≡ true → IsReason b [] (Some t)
 unknown_why t true e = refl
 unknown_why t false e = cc
 
-no_statement : (says : Says) (t : Written) (xs : List Written) → directive_of t.text ≡ None → place_in NAMES t.text ≡ None
+no_statement : (says : Says) (t : Written) (xs : List Written) → directive_of t.text ≡ None → index_in MNEMONICS t.text ≡ None
     → IsWritten says (t ∷ xs) → ⊥
 unfolding said_directive IsWritten
 no_statement Nothing t xs d p h = cc
 no_statement (Instructs word target column) t xs d p h =
     let same : h.first ≡ t = (let e = h.all in cc) in
-    let clash : None ≡ Some h.name = sym p ∙ ap (λ (u : Written). place_in NAMES u.text) (sym same) ∙ h.listed in
+    let clash : None ≡ Some h.name = sym p ∙ ap (λ (u : Written). index_in MNEMONICS u.text) (sym same) ∙ h.listed in
     cc
 no_statement says t xs d p h = let e = directive_is says t xs h in cc
 
-unknown_told : (t : Written) (xs : List Written) → is_name t.token ≡ true → directive_of t.text ≡ None → place_in NAMES t.text ≡ None
+unknown_told : (t : Written) (xs : List Written) → is_name t.token ≡ true → directive_of t.text ≡ None → index_in MNEMONICS t.text ≡ None
     → IsTold (Stops 0 UnknownName) (t ∷ xs)
 unfolding IsWritten
 unknown_told t xs n d p = record {
@@ -74,17 +74,18 @@ unknown_told t xs n d p = record {
 }
 
 named_told : (line : List ℕ) (l : Lexeme) (ls : List Lexeme) (d : Option Directive) (p : Option ℕ) → is_name l.token ≡ true
-    → directive_of (text_of_lexeme line l) ≡ d → place_in NAMES (text_of_lexeme line l) ≡ p
+    → directive_of (text_of_lexeme line l) ≡ d → index_in MNEMONICS (text_of_lexeme line l) ≡ p
     → IsTold (named_says line l ls d p) (map (written line) (l ∷ ls))
 named_told line l ls (Some d) p n e f = directive_told line l ls d n e
 named_told line l ls None (Some name) n e f = instruction_told line l ls name n f
 named_told line l ls None None n e f = unknown_told (written line l) (map (written line) ls) n e f
 
 name_told : (line : List ℕ) (l : Lexeme) (ls : List Lexeme) (b : Bool) → is_name l.token ≡ b
-    → IsTold (cond b (named_says line l ls (directive_of (text_of_lexeme line l)) (place_in NAMES (text_of_lexeme line l))) (Stops 0 Extra))
+    → IsTold (cond b (named_says line l ls (directive_of (text_of_lexeme line l)) (index_in MNEMONICS (text_of_lexeme line l)))
+    (Stops 0 Extra))
     (map (written line) (l ∷ ls))
 name_told line l ls true e =
-    named_told line l ls (directive_of (text_of_lexeme line l)) (place_in NAMES (text_of_lexeme line l)) e refl refl
+    named_told line l ls (directive_of (text_of_lexeme line l)) (index_in MNEMONICS (text_of_lexeme line l)) e refl refl
 name_told line l ls false e = other_told (written line l) (map (written line) ls) e
 
 tokens_told : (line : List ℕ) (ls : List Lexeme) → IsTold (tokens_say line ls) (map (written line) ls)
@@ -94,11 +95,11 @@ tokens_told line (l ∷ ls) = name_told line l ls (is_name l.token) refl
 
 -- ---- lines
 
-no_line : (ts : List Written) (place : ℕ) (kind : FaultKind) (says : Says) (o : Option Written) → slice_get ts place ≡ o
-    → StopsAt IsWritten IsMeaning ts place o → IsWritten says ts → IsMeaning says → ⊥
-no_line ts place kind says (Some t) e s h m =
-    s (drop (suc place) ts, says, subst (IsWritten says) (sym (take-append-drop (suc place) ts)) h)
-no_line ts place kind says None e s h m = s.1 says h m
+no_line : (ts : List Written) (index : ℕ) (kind : FaultKind) (says : Says) (o : Option Written) → slice_get ts index ≡ o
+    → StopsAt IsWritten IsMeaning ts index o → IsWritten says ts → IsMeaning says → ⊥
+no_line ts index kind says (Some t) e s h m =
+    s (drop (suc index) ts, says, subst (IsWritten says) (sym (take-append-drop (suc index) ts)) h)
+no_line ts index kind says None e s h m = s.1 says h m
 
 column_is : (line : List ℕ) (o : Option Lexeme) → column_of line o ≡ column_of_written line (option_map (written line) o)
 column_is line None = refl
@@ -126,7 +127,7 @@ module _ (line : List ℕ) where
   answer_line (Tells says) said h e =
       let same = same_ok (record { label = label; says = says }) said e in
       subst (IsLine line) same (record { label = refl; tokens = h.0; meaning = h.1 })
-  answer_line (Stops place kind) said h e = cc
+  answer_line (Stops index kind) said h e = cc
 
   pub line_says : (said : SourceLine) → line_of line ≡ Ok said → IsLine line said
   unfolding line_of
@@ -137,8 +138,8 @@ module _ (line : List ℕ) where
   answer_only (Tells says) said h l =
       let same = h.2 said.says l.tokens in
       λ i. Ok (record { label = sym l.label i; says = same i })
-  answer_only (Stops place kind) said h l =
-      absurd (no_line (written_of line) place kind said.says (slice_get (written_of line) place) refl h.stops l.tokens l.meaning)
+  answer_only (Stops index kind) said h l =
+      absurd (no_line (written_of line) index kind said.says (slice_get (written_of line) index) refl h.stops l.tokens l.meaning)
 
   pub line_only : (said : SourceLine) → IsLine line said → line_of line ≡ Ok said
   unfolding line_of
@@ -148,13 +149,13 @@ module _ (line : List ℕ) where
       → IsFaultOf line fault
   unfolding written_of
   answer_fault (Tells says) fault h e = cc
-  answer_fault (Stops place kind) fault h e = record {
-    place = place;
+  answer_fault (Stops index kind) fault h e = record {
+    index = index;
     kind = kind;
     first = h;
     fault_is =
         sym (same_err _ fault e) ∙ ap (fault_of_kind kind)
-        (column_is line (slice_get ls place) ∙ ap (column_of_written line) (sym (slice_get-map (written line) ls place)));
+        (column_is line (slice_get ls index) ∙ ap (column_of_written line) (sym (slice_get-map (written line) ls index)));
   }
 
   pub line_fault : (fault : LineFault) → line_of line ≡ Err fault → IsFaultOf line fault
@@ -188,7 +189,7 @@ reasons_one true ts o p q h g = h ∙ sym g
 reasons_one false ts o p q h g = whys_one ts o p q h g
 
 abbrev Fails : List Written → ℕ → FaultKind → Type 0
-Fails ts place kind = IsFirstFault IsWritten IsMeaning IsLineWhy ts place kind
+Fails ts index kind = IsFirstFault IsWritten IsMeaning IsLineWhy ts index kind
 
 front_goes : (ts : List Written) (m n : ℕ) → m ≤ n → GoesOn IsWritten (take n ts) → GoesOn IsWritten (take m ts)
 front_goes ts m n le g =
@@ -205,8 +206,8 @@ fault_low ts m n p q (Some t) r e f s u g lt = s (front_goes ts (suc m) n (omega
 fault_low ts m n p q None (Some t) e f s u g lt = let a = get_some ts n t f in let b = s.0 in omega arith
 fault_low ts m n p q None None e f s u g lt = let a = u.0 in let b = s.0 in omega arith
 
-one_place : (ts : List Written) (m n : ℕ) (p q : FaultKind) → Fails ts m p → Fails ts n q → m ≡ n
-one_place ts m n p q h g =
+one_index : (ts : List Written) (m n : ℕ) (p q : FaultKind) → Fails ts m p → Fails ts n q → m ≡ n
+one_index ts m n p q h g =
     let low = fault_low ts m n p q (slice_get ts m) (slice_get ts n) refl refl h.stops g.stops g.goes_on in
     let high = fault_low ts n m q p (slice_get ts n) (slice_get ts m) refl refl g.stops h.stops h.goes_on in
     elim (cases_lt m n) [
@@ -223,13 +224,13 @@ fault_only_by : (line : List ℕ) (answer : Answer Says) (fault : LineFault) →
     → line_answer line (label line) (ls line) answer ≡ Err fault
 unfolding written_of
 fault_only_by line (Tells says) fault h f =
-    absurd (no_line (written_of line) f.place f.kind says (slice_get (written_of line) f.place) refl f.first.stops h.0 h.1)
-fault_only_by line (Stops place kind) fault h f =
-    let place_is = one_place (written_of line) place f.place kind f.kind h f.first in
-    let kind_is = one_kind (written_of line) place f.place kind f.kind place_is h f.first in
-    let column : column_of line (slice_get (ls line) place) ≡ column_of_written line (slice_get (written_of line) f.place) =
-    column_is line (slice_get (ls line) place)
-    ∙ ap (column_of_written line) (sym (slice_get-map (written line) (ls line) place) ∙ ap (slice_get (written_of line)) place_is) in
+    absurd (no_line (written_of line) f.index f.kind says (slice_get (written_of line) f.index) refl f.first.stops h.0 h.1)
+fault_only_by line (Stops index kind) fault h f =
+    let index_is = one_index (written_of line) index f.index kind f.kind h f.first in
+    let kind_is = one_kind (written_of line) index f.index kind f.kind index_is h f.first in
+    let column : column_of line (slice_get (ls line) index) ≡ column_of_written line (slice_get (written_of line) f.index) =
+    column_is line (slice_get (ls line) index)
+    ∙ ap (column_of_written line) (sym (slice_get-map (written line) (ls line) index) ∙ ap (slice_get (written_of line)) index_is) in
     ap Err (ap₂ fault_of_kind kind_is column ∙ sym f.fault_is)
 
 pub fault_only : (line : List ℕ) (fault : LineFault) → IsFaultOf line fault → line_of line ≡ Err fault

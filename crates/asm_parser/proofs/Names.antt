@@ -5,7 +5,7 @@ use Rattle.std.specs.Prelude.{Result, IfErr}
 use Rattle.std.proofs.lemmas.Bool.{cond_both, cond-true, cond-false}
 use Rattle.std.proofs.lemmas.List.{drop_more, drop-take, take-take, length-take}
 use Rattle.std.proofs.lemmas.List.Sums.{prefix_len-le-length}
-use Rattle.insn_text.specs.declared.words.TheConstants.{NAMES, WORDS}
+use Rattle.insn_text.specs.declared.keywords.TheConstants.{MNEMONICS, KEYWORDS}
 use Rattle.insn_text.specs.declared.item.VectorFile.{VectorFile}
 use Rattle.insn_text.specs.declared.item.RegisterFile.{RegisterFile}
 use Rattle.asm_tokens.specs.declared.token.Lexeme.{Lexeme}
@@ -14,14 +14,14 @@ use Rattle.asm_tokens.specs.declared.token.Token.TheVariants.{Register, Sized}
 use Rattle.asm_tokens.specs.Characters.{is_blank, is_digit, is_name_character, front, column_at, starts_comment, before_comment}
 use Rattle.asm_tokens.specs.Tokens.{Read, run, begins_name, has_sign, name_token, token_or, register_of, register_in, token_of_name}
 use Rattle.asm_tokens.specs.Tokens.{file_size, has_suffix, sized_of, sized_after, begins_za, sized_in}
-use Rattle.asm_tokens.specs.Tokens.{number_token, distance_token, bare_token, place_in, read_number, read_distance, read_run}
+use Rattle.asm_tokens.specs.Tokens.{number_token, distance_token, bare_token, index_in, read_number, read_distance, read_run}
 use Rattle.asm_tokens.specs.Tokens.{read_character, read_token, lexeme_at, is_name}
 use Rattle.asm_tokens.proofs.Steps.{take_front, front-length}
 use Rattle.asm_tokens.proofs.Following.{lexemes-skip, lexemes-none, lexemes-some}
 use Rattle.asm_tokens.proofs.Naming.{named, first-name}
 use Rattle.asm_operands.specs.declared.fault.FaultKind.TheVariants.{UnknownName, Extra}
-use Rattle.asm_parser.specs.declared.stops.Stop.{Stop}
-use Rattle.asm_parser.specs.declared.stops.Stop.TheVariants.{Fault, Memory}
+use Rattle.asm_parser.specs.declared.parse_fault.ParseFault.{ParseFault}
+use Rattle.asm_parser.specs.declared.parse_fault.ParseFault.TheVariants.{Syntax, Memory}
 use Rattle.asm_parser.specs.Statements.{Nothing}
 use Rattle.asm_parser.specs.Lines.{Answer, text_of_lexeme, Directive, is_of_list, if_of_list, begin_list, directive_of, directive_says}
 use Rattle.asm_parser.specs.Lines.{instruction_says, named_says, tokens_say}
@@ -54,7 +54,7 @@ no_bare_name (Some n) = refl
 name_is_name : (o : Option ℕ) → is_name (name_token o) ≡ true
 unfolding is_name name_token
 name_is_name None = refl
-name_is_name (Some place) = refl
+name_is_name (Some index) = refl
 
 register_is_name : (file : Option RegisterFile) (number : Option ℕ) (t : Token) → is_name t ≡ true
     → is_name (token_or t (register_of file number)) ≡ true
@@ -87,7 +87,7 @@ sized_is_name cs t e =
 
 token_is_name : (cs : List ℕ) → is_name (token_of_name cs) ≡ true
 unfolding token_of_name register_in
-token_is_name cs = register_is_name _ _ _ (sized_is_name cs (name_token (place_in WORDS cs)) (name_is_name (place_in WORDS cs)))
+token_is_name cs = register_is_name _ _ _ (sized_is_name cs (name_token (index_in KEYWORDS cs)) (name_is_name (index_in KEYWORDS cs)))
 
 digit_first : (a d s : Bool) → (a && not d && not s) ≡ false → a ≡ true → s ≡ false → d ≡ true
 digit_first true true s e f g = refl
@@ -166,23 +166,23 @@ module _ (line text : List ℕ) (start : ℕ) (part : text ≡ before_comment li
       ap (λ n. take n (drop start line)) size ∙ sym (part-same line start (length word) within)
       ∙ ap (λ ys. take (length word) (drop start ys)) (sym part) ∙ take_front is_name_character (drop start text)
 
-  says-named : (d : Option Directive) (p : Option ℕ) → d ≡ directive_of word → p ≡ place_in NAMES word
+  says-named : (d : Option Directive) (p : Option ℕ) → d ≡ directive_of word → p ≡ index_in MNEMONICS word
       → tokens_say line (l ∷ lexemes_from text l.end) ≡ named_says line l (lexemes_from text l.end) d p
   unfolding tokens_say
   says-named d p e f =
       cond-true _ _ _ (token_is_name word)
-      ∙ ap (λ ys. named_says line l (lexemes_from text l.end) (directive_of ys) (place_in NAMES ys)) text-is
+      ∙ ap (λ ys. named_says line l (lexemes_from text l.end) (directive_of ys) (index_in MNEMONICS ys)) text-is
       ∙ ap₂ (λ x y. named_says line l (lexemes_from text l.end) x y) (sym e) (sym f)
 
   pub named-directive : (d : Directive) → Some d ≡ directive_of word
       → said_from (tokens_say line) text start ≡ said_from (directive_says line d) text (start + length word)
   named-directive d e =
-      said-goes (tokens_say line) (directive_says line d) text start l first (says-named (Some d) (place_in NAMES word) e refl)
+      said-goes (tokens_say line) (directive_says line d) text start l first (says-named (Some d) (index_in MNEMONICS word) e refl)
 
-  pub named-instruction : (place : ℕ) → None ≡ directive_of word → Some place ≡ place_in NAMES word
-      → said_from (tokens_say line) text start ≡ said_from (instruction_says line place (column_at line start)) text (start + length word)
-  named-instruction place e f =
-      said-goes (tokens_say line) (instruction_says line place (column_at line start)) text start l first (says-named None (Some place) e f)
+  pub named-instruction : (index : ℕ) → None ≡ directive_of word → Some index ≡ index_in MNEMONICS word
+      → said_from (tokens_say line) text start ≡ said_from (instruction_says line index (column_at line start)) text (start + length word)
+  named-instruction index e f =
+      said-goes (tokens_say line) (instruction_says line index (column_at line start)) text start l first (says-named None (Some index) e f)
 
   -- a list follows the directive of the first token
   pub named-list : (d : Directive) → Some d ≡ directive_of word → is_of_list d ≡ true → begin_list line (lexemes_from text start) ≡ true
@@ -192,15 +192,15 @@ module _ (line text : List ℕ) (start : ℕ) (part : text ≡ before_comment li
       ∙ ap₂ (λ a b. a && if_of_list b) (token_is_name word) (ap directive_of text-is ∙ sym e)
       ∙ list
 
-  pub named-unknown : None ≡ directive_of word → None ≡ place_in NAMES word
-      → said_from (tokens_say line) text start ≡ Err (Fault (Some start) UnknownName)
+  pub named-unknown : None ≡ directive_of word → None ≡ index_in MNEMONICS word
+      → said_from (tokens_say line) text start ≡ Err (Syntax (Some start) UnknownName)
   named-unknown e f = said-stops (tokens_say line) text start l UnknownName first (says-named None None e f)
 
--- a want of memory that is passed on
-pub only_memory : {R : Type 0} (result : Result R Stop) (P Q : Type 0) → (P → Q) → IfErr result (λ stop. stop ≡ Memory → P)
-    → IfErr result (λ stop. stop ≡ Memory → Q)
+-- a out of memory that is passed on
+pub only_memory : {R : Type 0} (result : Result R ParseFault) (P Q : Type 0) → (P → Q) → IfErr result (λ fault. fault ≡ Memory → P)
+    → IfErr result (λ fault. fault ≡ Memory → Q)
 only_memory (Ok r) P Q f h = tt
-only_memory (Err stop) P Q f h = λ e. f (h e)
+only_memory (Err fault) P Q f h = λ e. f (h e)
 
 -- ---- the first token after blanks
 
@@ -214,7 +214,7 @@ module _ (text : List ℕ) (at start : ℕ) (skips : start ≡ at + length (fron
   said-nothing line le = said-empty (tokens_say line) text at (lexemes-none text at start skips le)
 
   pub said-other : (line : List ℕ) → start < length text → begins_name (drop start text) ≡ false
-      → said_from (tokens_say line) text at ≡ Err (Fault (Some start) Extra)
+      → said_from (tokens_say line) text at ≡ Err (Syntax (Some start) Extra)
   unfolding tokens_say
   said-other line lt other =
       let c = get_or text start 0 in

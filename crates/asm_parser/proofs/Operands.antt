@@ -7,8 +7,8 @@ use Rattle.asm_tokens.specs.declared.token.Token.{Token}
 use Rattle.asm_operands.specs.declared.operands.Target.{Target}
 use Rattle.asm_operands.specs.Operands as operands
 use Rattle.asm_operands.specs.Operands.{operands_said}
-use Rattle.asm_operands.proofs.Few.{few_operands}
-use Rattle.asm_parser.specs.declared.stops.Stop.TheVariants.{Fault}
+use Rattle.asm_operands.proofs.OperandCounts.{few_operands}
+use Rattle.asm_parser.specs.declared.parse_fault.ParseFault.TheVariants.{Syntax}
 use Rattle.asm_parser.specs.Statements.{Instructs}
 use Rattle.asm_parser.specs.Lines.{target_at, instruction_or_fault, instruction_says}
 use Rattle.asm_parser.specs.Told.{located, lexemes_from, said_from}
@@ -58,6 +58,6 @@ module _ (line text : List ℕ) (at name column : ℕ) where
 
   pub instruction-err : (ts : List Token) (f : operands.Fault) → ts ≡ take 24 (tokens_of ls) → operands.Fails f ≡ operands_said name ts
       → said_from (instruction_says line name column) text at
-      ≡ Err (Fault (option_map (λ (l : Lexeme). l.start) (slice_get ls f.place)) f.kind)
+      ≡ Err (Syntax (option_map (λ (l : Lexeme). l.start) (slice_get ls f.index)) f.kind)
   unfolding located
   instruction-err ts f first is = all-say (operands.Fails f) (first-say ts (operands.Fails f) first is)

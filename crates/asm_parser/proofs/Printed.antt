@@ -20,16 +20,16 @@ use Rattle.insn_text.specs.declared.item.VectorFile.{VectorFile}
 use Rattle.insn_text.specs.declared.item.Item.{Item}
 use Rattle.insn_text.specs.declared.item.Shape.{Shape}
 use Rattle.insn_text.specs.declared.shapes.TheConstants.{SHAPES}
-use Rattle.insn_text.specs.declared.words.TheConstants.{WORDS, NAMES}
+use Rattle.insn_text.specs.declared.keywords.TheConstants.{KEYWORDS, MNEMONICS}
 use Rattle.insn_text.specs.Texts.{text_in, text_at, is_positive, size_of, mask_in, mask_text, signed_text, distance_text, file_text}
-use Rattle.insn_text.specs.Texts.{register_text, kind_text, bits_of, field_in, item_text, is_mark, is_comma, gap, items_text, items_in, items_of}
-use Rattle.insn_text.specs.Texts.{sized_text, is_named_pattern, pattern_place, pattern_text}
+use Rattle.insn_text.specs.Texts.{register_text, kind_text, bits_of, field_in, item_text, is_punctuation, is_comma, gap, items_text, items_in, items_of}
+use Rattle.insn_text.specs.Texts.{sized_text, is_named_pattern, pattern_index, pattern_text}
 use Rattle.insn_text.specs.Rules.{is_within, meets, is_sayable}
 use Rattle.asm_tokens.specs.declared.token.Token.TheVariants as token
 use Rattle.asm_tokens.specs.Characters.{is_name_character, is_digit, is_blank, starts_comment}
 use Rattle.asm_tokens.specs.Numbers.{decimal_number, digits_in, digit_of}
 use Rattle.asm_tokens.specs.Tokens.{vector_file_of, file_size, has_suffix, sized_of, sized_after, begins_za, sized_in}
-use Rattle.asm_tokens.specs.Tokens.{place_in, file_of, register_of, register_in, lexemes_from, lexemes_of}
+use Rattle.asm_tokens.specs.Tokens.{index_in, file_of, register_of, register_in, lexemes_from, lexemes_of}
 use Rattle.asm_tokens.proofs.Following.{lexemes-blank}
 use Rattle.asm_operands.specs.Shown.{mask_token, token_said, item_token}
 use Rattle.asm_operands.proofs.MaskFields.{all_below, all_below-at, mask-given}
@@ -37,8 +37,8 @@ use Rattle.asm_operands.proofs.Failing.{failing, none-failing}
 use Rattle.insn_forms.proofs.Bits.{field_in-lt}
 use Rattle.asm_parser.proofs.Operands.{tokens_of}
 use Rattle.asm_parser.proofs.Reading.{opens, no_slash, IsRead, lexemes-read, is_plain, word-read, register-is-read, number-is-read}
-use Rattle.asm_parser.proofs.Reading.{negative-is-read, forward-is-read, back-is-read, mask-is-read, is_clean_mark, clean_mark}
-use Rattle.asm_parser.proofs.Reading.{mark-is-read, bare-is-read}
+use Rattle.asm_parser.proofs.Reading.{negative-is-read, forward-is-read, back-is-read, mask-is-read, is_clean_punctuation, clean_punctuation}
+use Rattle.asm_parser.proofs.Reading.{character-is-read, bare-is-read}
 use Rattle.asm_operands.proofs.Registers.{sized-parts}
 use Rattle.asm_operands.proofs.Apart.{pattern-lt}
 use Rattle.asm_parser.proofs.Registers.{finds, finds-true, suffix_between, sized-is-read}
@@ -47,20 +47,20 @@ use Rattle.asm_parser.proofs.Registers.{finds, finds-true, suffix_between, sized
 
 -- the word is plain, and stands at its place alone
 unfoldable pub is_good_word : ℕ → Bool
-is_good_word place =
-    (is_plain (text_at WORDS place) && finds place (place_in WORDS (text_at WORDS place)))
-    && (not (is_some (register_in (text_at WORDS place))) && not (is_some (sized_in (text_at WORDS place))))
+is_good_word index =
+    (is_plain (text_at KEYWORDS index) && finds index (index_in KEYWORDS (text_at KEYWORDS index)))
+    && (not (is_some (register_in (text_at KEYWORDS index))) && not (is_some (sized_in (text_at KEYWORDS index))))
 
-words_good : all_below is_good_word (length WORDS) ≡ true
-unfolding all_below is_good_word is_plain finds place_in text_in is_name_character is_digit register_in register_of file_of sized_in
+words_good : all_below is_good_word (length KEYWORDS) ≡ true
+unfolding all_below is_good_word is_plain finds index_in text_in is_name_character is_digit register_in register_of file_of sized_in
     sized_after sized_of begins_za vector_file_of decimal_number digits_in digit_of
 words_good = refl
 
 unfoldable pub is_good_name : ℕ → Bool
-is_good_name place = is_plain (text_at NAMES place) && finds place (place_in NAMES (text_at NAMES place))
+is_good_name index = is_plain (text_at MNEMONICS index) && finds index (index_in MNEMONICS (text_at MNEMONICS index))
 
-pub names_good : all_below is_good_name (length NAMES) ≡ true
-unfolding all_below is_good_name is_plain finds place_in text_in is_name_character is_digit
+pub names_good : all_below is_good_name (length MNEMONICS) ≡ true
+unfolding all_below is_good_name is_plain finds index_in text_in is_name_character is_digit
 names_good = refl
 
 -- the file has each register of so many bits, and each suffix that the bits above these give
@@ -71,13 +71,13 @@ is_clean_sized file few first bits =
 
 -- the kind is printed as texts that are read
 unfoldable pub is_clean_kind : Kind → ℕ → Bool
-is_clean_kind (kind.Mark c) bits = is_clean_mark c
-is_clean_kind (kind.Named first count) bits = nat_le (first + count) (length WORDS)
-is_clean_kind (kind.Register file last) bits = (bits == 5) && nat_lt last (length WORDS)
+is_clean_kind (kind.Punctuation c) bits = is_clean_punctuation c
+is_clean_kind (kind.Keyword first count) bits = nat_le (first + count) (length KEYWORDS)
+is_clean_kind (kind.Register file last) bits = (bits == 5) && nat_lt last (length KEYWORDS)
 is_clean_kind (kind.Sized file few first) bits = is_clean_sized file few first bits
 is_clean_kind kind.SliceRegister bits = nat_le bits 2
 is_clean_kind kind.Index bits = nat_le bits 64
-is_clean_kind (kind.Pattern first) bits = nat_le (first + 17) (length WORDS)
+is_clean_kind (kind.Pattern first) bits = nat_le (first + 17) (length KEYWORDS)
 is_clean_kind (kind.Descending from) bits = nat_lt from (2 ^ 64)
 is_clean_kind (kind.Unsigned base scale most) bits = nat_lt (most * scale + base) (2 ^ 64)
 is_clean_kind (kind.Signed scale) bits = nat_lt (2 ^ bits * scale) (2 ^ 64)
@@ -93,7 +93,7 @@ is_clean_item i = is_clean_kind i.kind (bits_of i)
 
 -- the kind is a `/`
 unfoldable pub is_slash : Kind → Bool
-is_slash (kind.Mark c) = c == 47
+is_slash (kind.Punctuation c) = c == 47
 is_slash other = false
 
 -- no `/` follows another, the first of them after one of that kind
@@ -102,10 +102,11 @@ are_slashes_apart before [] = true
 are_slashes_apart before (i ∷ is) = not (is_slash before && is_slash i.kind) && are_slashes_apart i.kind is
 
 unfoldable pub is_clean_shape : Shape → Bool
-is_clean_shape s = s.alias || (list_all is_clean_item (items_of s) && are_slashes_apart (kind.Mark 44) (items_of s))
+is_clean_shape s = s.alias || (list_all is_clean_item (items_of s) && are_slashes_apart (kind.Punctuation 44) (items_of s))
 
 clean_failing : failing is_clean_shape 0 SHAPES ≡ []
-unfolding failing is_clean_shape items_in items_of is_clean_item is_clean_kind is_clean_sized file_size has_suffix is_clean_mark is_slash
+unfolding failing is_clean_shape items_in items_of is_clean_item is_clean_kind is_clean_sized file_size has_suffix is_clean_punctuation
+    is_slash
     are_slashes_apart is_name_character is_digit is_blank
 clean_failing = refl
 
@@ -143,26 +144,26 @@ none_of None e = refl
 none_of (Some a) e = cc
 
 module _ (rest : List ℕ) (o : opens rest ≡ true) where
-  place-read : (place : ℕ) → place < length WORDS → IsRead false (text_at WORDS place) rest (token.Word place)
+  index-read : (index : ℕ) → index < length KEYWORDS → IsRead false (text_at KEYWORDS index) rest (token.Keyword index)
   unfolding is_good_word
-  place-read place lt =
+  index-read index lt =
       let g =
-      and_parts (is_plain (text_at WORDS place) && finds place (place_in WORDS (text_at WORDS place)))
-      (not (is_some (register_in (text_at WORDS place))) && not (is_some (sized_in (text_at WORDS place))))
-      (all_below-at is_good_word (length WORDS) place words_good lt) in
-      let q = and_parts (not (is_some (register_in (text_at WORDS place)))) (not (is_some (sized_in (text_at WORDS place)))) g.1 in
-      let p = and_parts (is_plain (text_at WORDS place)) (finds place (place_in WORDS (text_at WORDS place))) g.0 in
-      word-read (text_at WORDS place) rest place p.0 (none_of (register_in (text_at WORDS place)) q.0)
-      (none_of (sized_in (text_at WORDS place)) q.1) (finds-true place _ p.1) o
+      and_parts (is_plain (text_at KEYWORDS index) && finds index (index_in KEYWORDS (text_at KEYWORDS index)))
+      (not (is_some (register_in (text_at KEYWORDS index))) && not (is_some (sized_in (text_at KEYWORDS index))))
+      (all_below-at is_good_word (length KEYWORDS) index words_good lt) in
+      let q = and_parts (not (is_some (register_in (text_at KEYWORDS index)))) (not (is_some (sized_in (text_at KEYWORDS index)))) g.1 in
+      let p = and_parts (is_plain (text_at KEYWORDS index)) (finds index (index_in KEYWORDS (text_at KEYWORDS index))) g.0 in
+      word-read (text_at KEYWORDS index) rest index p.0 (none_of (register_in (text_at KEYWORDS index)) q.0)
+      (none_of (sized_in (text_at KEYWORDS index)) q.1) (finds-true index _ p.1) o
 
-  register-read : (file : RegisterFile) (last field : ℕ) → last < length WORDS → field < 32
-      → IsRead false (register_text file last field) rest (cond (field == 31) (token.Word last) (token.Register file field))
+  register-read : (file : RegisterFile) (last field : ℕ) → last < length KEYWORDS → field < 32
+      → IsRead false (register_text file last field) rest (cond (field == 31) (token.Keyword last) (token.Register file field))
   unfolding register_text
   register-read file last field a lt =
       elim (field == 31) as (λ b. field == 31 ≡ b
-      → IsRead false (cond b (text_at WORDS last) (file_text file ++ decimal field)) rest
-      (cond b (token.Word last) (token.Register file field))) [
-        | true ↦ λ e. place-read last a
+      → IsRead false (cond b (text_at KEYWORDS last) (file_text file ++ decimal field)) rest
+      (cond b (token.Keyword last) (token.Register file field))) [
+        | true ↦ λ e. index-read last a
         | false ↦ λ e. (let ne : field ≡ 31 → ⊥ = eqb-false field 31 e in register-is-read file field rest (omega arith) o)
       ] refl
 
@@ -210,15 +211,15 @@ slice-few bits field le lt = let most : 2 ^ bits ≤ 2 ^ 2 = pow_mono le in omeg
 few-small : (bits field : ℕ) → bits ≤ 64 → field < 2 ^ bits → field < 2 ^ 64
 few-small bits field le lt = let most : 2 ^ bits ≤ 2 ^ 64 = pow_mono le in omega arith
 
-pattern-read : (first field : ℕ) (rest : List ℕ) → first + 17 ≤ length WORDS → field < 32 → opens rest ≡ true
+pattern-read : (first field : ℕ) (rest : List ℕ) → first + 17 ≤ length KEYWORDS → field < 32 → opens rest ≡ true
     → IsRead false (pattern_text first field) rest
-    (cond (is_named_pattern field) (token.Word (first + pattern_place field)) (token.Number false field))
+    (cond (is_named_pattern field) (token.Keyword (first + pattern_index field)) (token.Number false field))
 unfolding pattern_text
 pattern-read first field rest le lt o =
     elim (is_named_pattern field) as (λ b.
-    IsRead false (cond b (text_at WORDS (first + pattern_place field)) (35 ∷ decimal field)) rest
-    (cond b (token.Word (first + pattern_place field)) (token.Number false field))) [
-      | true ↦ place-read rest o (first + pattern_place field) (omega (arith, pattern-lt field lt, le))
+    IsRead false (cond b (text_at KEYWORDS (first + pattern_index field)) (35 ∷ decimal field)) rest
+    (cond b (token.Keyword (first + pattern_index field)) (token.Number false field))) [
+      | true ↦ index-read rest o (first + pattern_index field) (omega (arith, pattern-lt field lt, le))
       | false ↦ number-is-read field rest (omega arith) o
     ]
 
@@ -240,23 +241,23 @@ few_bits bits field e lt =
     ]
 
 kind-read : (k : Kind) (bits field : ℕ) (rest : List ℕ) → is_clean_kind k bits ≡ true → is_within k field ≡ true → field < 2 ^ bits
-    → (is_mark k || opens rest) ≡ true
+    → (is_punctuation k || opens rest) ≡ true
     → IsRead (is_slash k) (kind_text k bits field) rest (token_said k bits field)
-unfolding is_clean_kind is_within is_mark is_slash kind_text token_said file_text
-kind-read (kind.Mark c) bits field rest e w lt o = mark-is-read c rest e
-kind-read (kind.Named first count) bits field rest e w lt o =
-    let a = leb-true (first + count) (length WORDS) e in
+unfolding is_clean_kind is_within is_punctuation is_slash kind_text token_said file_text
+kind-read (kind.Punctuation c) bits field rest e w lt o = character-is-read c rest e
+kind-read (kind.Keyword first count) bits field rest e w lt o =
+    let a = leb-true (first + count) (length KEYWORDS) e in
     let b = ltb-true field count w in
-    place-read rest o (first + field) (omega arith)
+    index-read rest o (first + field) (omega arith)
 kind-read (kind.Register file last) bits field rest e w lt o =
-    let p = and_parts (bits == 5) (nat_lt last (length WORDS)) e in
-    register-read rest o file last field (ltb-true last (length WORDS) p.1) (subst (λ n. field < 2 ^ n) (eqb-true bits 5 p.0) lt)
+    let p = and_parts (bits == 5) (nat_lt last (length KEYWORDS)) e in
+    register-read rest o file last field (ltb-true last (length KEYWORDS) p.1) (subst (λ n. field < 2 ^ n) (eqb-true bits 5 p.0) lt)
 kind-read (kind.Sized file few first) bits field rest e w lt o = sized-read file few first bits field rest e lt o
 kind-read kind.SliceRegister bits field rest e w lt o =
     register-is-read W (12 + field) rest (omega (arith, slice-few bits field (leb-true bits 2 e) lt)) o
 kind-read kind.Index bits field rest e w lt o = bare-is-read field rest (few-small bits field (leb-true bits 64 e) lt) o
 kind-read (kind.Pattern first) bits field rest e w lt o =
-    pattern-read first field rest (leb-true (first + 17) (length WORDS) e) (ltb-true field 32 w) o
+    pattern-read first field rest (leb-true (first + 17) (length KEYWORDS) e) (ltb-true field 32 w) o
 kind-read (kind.Descending from) bits field rest e w lt o =
     let small = ltb-true from (2 ^ 64) e in number-is-read (from - field) rest (omega arith) o
 kind-read (kind.Unsigned base scale most) bits field rest e w lt o =
@@ -274,7 +275,7 @@ kind-read (kind.Opposite first count) bits field rest e w lt o = cc
 kind-read (kind.Halfword wide inverted) bits field rest e w lt o = cc
 
 item-read : (word : ℕ) (i : Item) (rest : List ℕ) → is_clean_item i ≡ true → is_sayable word i ≡ true
-    → (is_mark i.kind || opens rest) ≡ true
+    → (is_punctuation i.kind || opens rest) ≡ true
     → IsRead (is_slash i.kind) (item_text word i) rest (item_token word i)
 unfolding is_clean_item is_sayable item_text item_token
 item-read word i rest e s o =
@@ -283,46 +284,47 @@ item-read word i rest e s o =
 
 -- ---- operands
 
-no_comma : (k : Kind) → is_mark k ≡ false → is_comma k ≡ false
-unfolding is_mark is_comma
-no_comma (kind.Mark c) e = cc
+no_comma : (k : Kind) → is_punctuation k ≡ false → is_comma k ≡ false
+unfolding is_punctuation is_comma
+no_comma (kind.Punctuation c) e = cc
 no_comma k e = refl
 
 -- what stands before an operand that follows none that is a mark is no character of a name
 abbrev after_gap : Kind → List ℕ → List ℕ
-after_gap j ys = cond (not (is_mark j)) (32 ∷ []) [] ++ ys
+after_gap j ys = cond (not (is_punctuation j)) (32 ∷ []) [] ++ ys
 
 opens-gap : (j : Kind) (bits field : ℕ) (ys : List ℕ) → is_clean_kind j bits ≡ true
     → opens (after_gap j (kind_text j bits field ++ ys)) ≡ true
-unfolding is_clean_kind is_mark kind_text opens is_name_character is_digit
-opens-gap (kind.Mark c) bits field ys e = not_from_false _ (clean_mark c e).no_name
+unfolding is_clean_kind is_punctuation kind_text opens is_name_character is_digit
+opens-gap (kind.Punctuation c) bits field ys e = not_from_false _ (clean_punctuation c e).no_name
 opens-gap j bits field ys e = refl
 
-gap-no_mark : (k j : Kind) → is_mark k ≡ false → gap k j ≡ cond (not (is_mark j)) (32 ∷ []) []
+gap-no_punctuation : (k j : Kind) → is_punctuation k ≡ false → gap k j ≡ cond (not (is_punctuation j)) (32 ∷ []) []
 unfolding gap
-gap-no_mark k j e = ap₂ (λ a b. cond (a || (not b && not (is_mark j))) (32 ∷ []) []) (no_comma k e) e
+gap-no_punctuation k j e = ap₂ (λ a b. cond (a || (not b && not (is_punctuation j))) (32 ∷ []) []) (no_comma k e) e
 
-opens-items : (word : ℕ) (k : Kind) (is : List Item) → is_mark k ≡ false → list_all is_clean_item is ≡ true
+opens-items : (word : ℕ) (k : Kind) (is : List Item) → is_punctuation k ≡ false → list_all is_clean_item is ≡ true
     → opens (items_text word k is) ≡ true
 unfolding items_text opens is_clean_item item_text
 opens-items word k [] e a = refl
 opens-items word k (j ∷ js) e a =
-    ap (λ g. opens (g ++ (item_text word j ++ items_text word j.kind js))) (gap-no_mark k j.kind e)
+    ap (λ g. opens (g ++ (item_text word j ++ items_text word j.kind js))) (gap-no_punctuation k j.kind e)
     ∙ opens-gap j.kind (bits_of j) (field_in j word) (items_text word j.kind js)
     (and_parts (is_clean_item j) (list_all is_clean_item js) a).0
 
-opens-after : (word : ℕ) (k : Kind) (is : List Item) → list_all is_clean_item is ≡ true → (is_mark k || opens (items_text word k is)) ≡ true
+opens-after : (word : ℕ) (k : Kind) (is : List Item) → list_all is_clean_item is ≡ true
+    → (is_punctuation k || opens (items_text word k is)) ≡ true
 opens-after word k is a =
-    elim (cases_Bool (is_mark k)) [
+    elim (cases_Bool (is_punctuation k)) [
       | inl e ↦ or_left _ _ e
-      | inr e ↦ or_right (is_mark k) _ (opens-items word k is e a)
+      | inr e ↦ or_right (is_punctuation k) _ (opens-items word k is e a)
     ]
 
 -- the blank between two operands says nothing
 gap-skipped : (at : ℕ) (k j : Kind) (ys : List ℕ) → lexemes_of at (gap k j ++ ys) ≡ lexemes_of (at + length (gap k j)) ys
 unfolding gap is_blank
 gap-skipped at k j ys =
-    cond_both (is_comma k || (not (is_mark k) && not (is_mark j))) (32 ∷ []) []
+    cond_both (is_comma k || (not (is_punctuation k) && not (is_punctuation j))) (32 ∷ []) []
     (λ g. lexemes_of at (g ++ ys) ≡ lexemes_of (at + length g) ys)
     (λ _. lexemes-blank at 32 ys refl) (λ _. ap (λ n. lexemes_of n ys) (omega arith))
 
@@ -357,24 +359,24 @@ after_slash (c ∷ cs) e a = and_from _ _ (not_from_false _ e) a
 gap-uncommented : (k j : Kind) (ys : List ℕ) → is_uncommented ys ≡ true → is_uncommented (gap k j ++ ys) ≡ true
 unfolding gap
 gap-uncommented k j ys e =
-    cond_both (is_comma k || (not (is_mark k) && not (is_mark j))) (32 ∷ []) [] (λ g. is_uncommented (g ++ ys) ≡ true)
+    cond_both (is_comma k || (not (is_punctuation k) && not (is_punctuation j))) (32 ∷ []) [] (λ g. is_uncommented (g ++ ys) ≡ true)
     (λ _. uncommented-append (32 ∷ []) ys refl e) (λ _. e)
 
 slash-text : (k : Kind) (bits field : ℕ) → is_slash k ≡ true → kind_text k bits field ≡ 47 ∷ []
 unfolding is_slash kind_text
-slash-text (kind.Mark c) bits field e = ap (λ d. d ∷ []) (eqb-true c 47 e)
+slash-text (kind.Punctuation c) bits field e = ap (λ d. d ∷ []) (eqb-true c 47 e)
 slash-text k bits field e = cc
 
-slash-is_mark : (k : Kind) → is_slash k ≡ true → (is_mark k ≡ true) × (is_comma k ≡ false)
-unfolding is_slash is_mark is_comma
-slash-is_mark (kind.Mark c) e = (refl, ap (λ d. d == 44) (eqb-true c 47 e))
-slash-is_mark k e = cc
+slash-is_punctuation : (k : Kind) → is_slash k ≡ true → (is_punctuation k ≡ true) × (is_comma k ≡ false)
+unfolding is_slash is_punctuation is_comma
+slash-is_punctuation (kind.Punctuation c) e = (refl, ap (λ d. d == 44) (eqb-true c 47 e))
+slash-is_punctuation k e = cc
 
 -- no blank stands behind a `/`
 slash-gap : (k j : Kind) → is_slash k ≡ true → gap k j ≡ []
 unfolding gap
 slash-gap k j e =
-    let m = slash-is_mark k e in ap₂ (λ a b. cond (a || (not b && not (is_mark j))) (32 ∷ []) []) m.1 m.0
+    let m = slash-is_punctuation k e in ap₂ (λ a b. cond (a || (not b && not (is_punctuation j))) (32 ∷ []) []) m.1 m.0
 
 plain-first : (xs ys : List ℕ) (first : ℕ) (others : List ℕ) → xs ≡ first ∷ others → list_all no_slash xs ≡ true
     → begins_slash (xs ++ ys) ≡ false

@@ -12,15 +12,15 @@ use Rattle.std.proofs.lemmas.List.Sums.{take_while-cons}
 use Rattle.insn_text.specs.declared.item.RegisterFile.{RegisterFile}
 use Rattle.insn_text.specs.declared.item.RegisterFile.TheVariants.{X, W}
 use Rattle.insn_text.specs.Texts.{file_text}
-use Rattle.insn_text.specs.declared.words.TheConstants.{WORDS}
+use Rattle.insn_text.specs.declared.keywords.TheConstants.{KEYWORDS}
 use Rattle.asm_tokens.specs.declared.token.Lexeme.{Lexeme}
 use Rattle.asm_tokens.specs.declared.token.Token.{Token}
-use Rattle.asm_tokens.specs.declared.token.Token.TheVariants.{Register, Word, Number, Distance, Mark, Bare}
+use Rattle.asm_tokens.specs.declared.token.Token.TheVariants.{Register, Keyword, Number, Distance, Punctuation, Bare}
 use Rattle.asm_tokens.specs.Characters.{is_name_character, is_blank, is_digit}
 use Rattle.asm_tokens.specs.Numbers.{number_in, decimal_number, begins_hexadecimal}
 use Rattle.asm_tokens.specs.Tokens.{Read, run, has_sign, begins_name, name_token, token_or, file_of, register_of, register_in}
 use Rattle.asm_tokens.specs.Tokens.{sized_in, bare_token, read_run}
-use Rattle.asm_tokens.specs.Tokens.{token_of_name, number_token, distance_token, place_in, read_number, read_distance, read_character}
+use Rattle.asm_tokens.specs.Tokens.{token_of_name, number_token, distance_token, index_in, read_number, read_distance, read_character}
 use Rattle.asm_tokens.specs.Tokens.{read_token, lexemes_of}
 use Rattle.asm_tokens.proofs.Following.{lexemes-token}
 use Rattle.asm_tokens.proofs.Naming.{read-name, name_no_blank}
@@ -116,15 +116,15 @@ name-is-read (c ∷ cs) rest t e is o =
           ∙ ap (λ v. make v (length (c ∷ cs))) is;
     }
 
-pub word-read : (xs rest : List ℕ) (place : ℕ) → is_plain xs ≡ true → register_in xs ≡ None → sized_in xs ≡ None
-    → place_in WORDS xs ≡ Some place → opens rest ≡ true → IsRead false xs rest (Word place)
+pub word-read : (xs rest : List ℕ) (index : ℕ) → is_plain xs ≡ true → register_in xs ≡ None → sized_in xs ≡ None
+    → index_in KEYWORDS xs ≡ Some index → opens rest ≡ true → IsRead false xs rest (Keyword index)
 unfolding token_of_name name_token
-word-read xs rest place e other unsized found o =
-    name-is-read xs rest (Word place) e
-    (ap₂ (λ p r. token_or (token_or (name_token p) (sized_in xs)) r) found other ∙ ap (token_or (Word place)) unsized) o
+word-read xs rest index e other unsized found o =
+    name-is-read xs rest (Keyword index) e
+    (ap₂ (λ p r. token_or (token_or (name_token p) (sized_in xs)) r) found other ∙ ap (token_or (Keyword index)) unsized) o
 
 abbrev unregistered : List ℕ → Token
-unregistered cs = token_or (name_token (place_in WORDS cs)) (sized_in cs)
+unregistered cs = token_or (name_token (index_in KEYWORDS cs)) (sized_in cs)
 
 register-token : (file : RegisterFile) (n : ℕ) → n < 31 → token_of_name (file_text file ++ decimal n) ≡ Register file n
 unfolding token_of_name register_in register_of file_of file_text
@@ -150,9 +150,9 @@ register-is-read file n rest lt o =
 -- ---- numbers
 
 -- digits are a number without `#`
-digit_no_mark : (c : ℕ) → is_digit c ≡ true → (c == 35) ≡ false
+digit_no_punctuation : (c : ℕ) → is_digit c ≡ true → (c == 35) ≡ false
 unfolding is_digit
-digit_no_mark c e = grind (arith, nat_tests)
+digit_no_punctuation c e = grind (arith, nat_tests)
 
 digit_no_dot : (c : ℕ) → is_digit c ≡ true → (c == 46) ≡ false
 unfolding is_digit
@@ -172,7 +172,7 @@ digits-are-read (c ∷ cs) rest n some digits names reads o =
       no_blank = name_no_blank c name;
       plain = λ _. names_no_slash (c ∷ cs) names;
       reads =
-          cond-false (c == 35) _ _ (digit_no_mark c digit)
+          cond-false (c == 35) _ _ (digit_no_punctuation c digit)
           ∙ cond-false ((c == 46) && has_sign (cs ++ rest)) _ _ (ap (λ b. b && has_sign (cs ++ rest)) (digit_no_dot c digit))
           ∙ cond-true (is_name_character c) _ _ name
           ∙ ap (λ b. make (cond b (bare_token (number_in (run (c ∷ (cs ++ rest))))) (token_of_name (run (c ∷ (cs ++ rest)))))
@@ -197,11 +197,11 @@ two_more : (n : ℕ) → 2 + n ≡ suc (suc n)
 two_more n = omega arith
 
 -- `#` and digits with no sign
-after-mark : (ds rest : List ℕ) (n : ℕ) → list_all is_name_character ds ≡ true → (get_or (ds ++ rest) 0 0 == 45) ≡ false
+after-character : (ds rest : List ℕ) (n : ℕ) → list_all is_name_character ds ≡ true → (get_or (ds ++ rest) 0 0 == 45) ≡ false
     → number_in ds ≡ Some n → opens rest ≡ true
     → IsRead false (35 ∷ ds) rest (Number false n)
 unfolding read_token read_number number_token is_blank
-after-mark ds rest n names plus reads o = record {
+after-character ds rest n names plus reads o = record {
   first = 35;
   others = ds;
   whole = refl;
@@ -215,13 +215,13 @@ after-mark ds rest n names plus reads o = record {
 
 pub number-is-read : (n : ℕ) (rest : List ℕ) → n < 2 ^ 64 → opens rest ≡ true → IsRead false (35 ∷ decimal n) rest (Number false n)
 number-is-read n rest lt o =
-    after-mark (decimal n) rest n (decimal-names n lt)
+    after-character (decimal n) rest n (decimal-names n lt)
     (ap (λ c. c == 45) (first_of (decimal n) rest (decimal_nonempty n lt)) ∙ no_minus n lt) (number-read n lt) o
 
 pub mask-is-read : (n : ℕ) (rest : List ℕ) → n < 2 ^ 64 → opens rest ≡ true
     → IsRead false (35 ∷ 48 ∷ 120 ∷ digits 16 false n) rest (Number false n)
 unfolding number_in begins_hexadecimal is_name_character is_digit
-mask-is-read n rest lt o = after-mark (48 ∷ 120 ∷ digits 16 false n) rest n (hexadecimal-names n lt) refl (hexadecimal-read n lt) o
+mask-is-read n rest lt o = after-character (48 ∷ 120 ∷ digits 16 false n) rest n (hexadecimal-names n lt) refl (hexadecimal-read n lt) o
 
 -- a character, a sign and digits
 after-sign : (first sign : ℕ) (n : ℕ) (rest : List ℕ) (t : Token) (token : List ℕ → Token) → n < 2 ^ 64 → opens rest ≡ true
@@ -261,8 +261,8 @@ back-is-read n rest lt o =
 
 -- ---- marks
 
-unfoldable pub is_clean_mark : ℕ → Bool
-is_clean_mark c = nat_lt c 128 && (not (is_name_character c) && (not (is_blank c) && (not (c == 35) && not (c == 46))))
+unfoldable pub is_clean_punctuation : ℕ → Bool
+is_clean_punctuation c = nat_lt c 128 && (not (is_name_character c) && (not (is_blank c) && (not (c == 35) && not (c == 46))))
 
 pub record IsCleanMark (c : ℕ) : Type 0 where
   pub ascii : nat_lt c 128 ≡ true
@@ -271,9 +271,9 @@ pub record IsCleanMark (c : ℕ) : Type 0 where
   pub no_number : (c == 35) ≡ false
   pub no_dot : (c == 46) ≡ false
 
-pub clean_mark : (c : ℕ) → is_clean_mark c ≡ true → IsCleanMark c
-unfolding is_clean_mark
-clean_mark c e =
+pub clean_punctuation : (c : ℕ) → is_clean_punctuation c ≡ true → IsCleanMark c
+unfolding is_clean_punctuation
+clean_punctuation c e =
     let p = and_parts (nat_lt c 128) _ e in
     let q = and_parts (not (is_name_character c)) _ p.1 in
     let r = and_parts (not (is_blank c)) _ q.1 in
@@ -286,10 +286,10 @@ clean_mark c e =
       no_dot = not-true _ s.1;
     }
 
-pub mark-is-read : (c : ℕ) (rest : List ℕ) → is_clean_mark c ≡ true → IsRead (c == 47) (c ∷ []) rest (Mark c)
+pub character-is-read : (c : ℕ) (rest : List ℕ) → is_clean_punctuation c ≡ true → IsRead (c == 47) (c ∷ []) rest (Punctuation c)
 unfolding read_token read_character
-mark-is-read c rest e =
-    let m = clean_mark c e in
+character-is-read c rest e =
+    let m = clean_punctuation c e in
     record {
       first = c;
       others = [];

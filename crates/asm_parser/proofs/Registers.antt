@@ -10,12 +10,12 @@ use Rattle.std.proofs.lemmas.List.{drop_at}
 use Rattle.std.proofs.lemmas.List.Sums.{take_while-cons}
 use Rattle.insn_text.specs.declared.item.VectorFile.{VectorFile}
 use Rattle.insn_text.specs.declared.item.VectorFile.TheVariants.{Z, P, B, H, S, D, Za}
-use Rattle.insn_text.specs.declared.words.TheConstants.{WORDS, SUFFIXES}
+use Rattle.insn_text.specs.declared.keywords.TheConstants.{KEYWORDS, SUFFIXES}
 use Rattle.insn_text.specs.Texts.{text_in, text_at, vector_file_text, sized_text}
 use Rattle.asm_tokens.specs.declared.token.Token.TheVariants.{Sized}
 use Rattle.asm_tokens.specs.Characters.{is_name_character, is_digit, front, back}
 use Rattle.asm_tokens.specs.Numbers.{decimal_number}
-use Rattle.asm_tokens.specs.Tokens.{name_token, token_or, file_of, register_of, register_in, token_of_name, place_in}
+use Rattle.asm_tokens.specs.Tokens.{name_token, token_or, file_of, register_of, register_in, token_of_name, index_in}
 use Rattle.asm_tokens.specs.Tokens.{vector_file_of, file_size, has_suffix, sized_of, sized_after, begins_za, sized_in}
 use Rattle.asm_operands.proofs.MaskFields.{all_below, all_below-at}
 use Rattle.asm_parser.proofs.Numerals.{decimal-read, decimal-names, decimal-digits, no_letter}
@@ -39,28 +39,28 @@ is_undigited (c ∷ cs) = not (is_digit c)
 
 -- the suffix stands at its place alone, and is characters of names, no digit first
 unfoldable is_good_suffix : ℕ → Bool
-is_good_suffix place =
-    finds place (place_in SUFFIXES (text_at SUFFIXES place))
-    && (list_all is_name_character (text_at SUFFIXES place) && is_undigited (text_at SUFFIXES place))
+is_good_suffix index =
+    finds index (index_in SUFFIXES (text_at SUFFIXES index))
+    && (list_all is_name_character (text_at SUFFIXES index) && is_undigited (text_at SUFFIXES index))
 
 suffixes_good : all_below is_good_suffix 16 ≡ true
-unfolding all_below is_good_suffix finds is_undigited place_in text_in is_name_character is_digit
+unfolding all_below is_good_suffix finds is_undigited index_in text_in is_name_character is_digit
 suffixes_good = refl
 
-record IsSuffix (place : ℕ) : Type 0 where
-  found : place_in SUFFIXES (text_at SUFFIXES place) ≡ Some place
-  names : list_all is_name_character (text_at SUFFIXES place) ≡ true
-  undigited : is_undigited (text_at SUFFIXES place) ≡ true
+record IsSuffix (index : ℕ) : Type 0 where
+  found : index_in SUFFIXES (text_at SUFFIXES index) ≡ Some index
+  names : list_all is_name_character (text_at SUFFIXES index) ≡ true
+  undigited : is_undigited (text_at SUFFIXES index) ≡ true
 
-suffix_at : (place : ℕ) → place < 16 → IsSuffix place
+suffix_at : (index : ℕ) → index < 16 → IsSuffix index
 unfolding is_good_suffix
-suffix_at place lt =
-    let text = text_at SUFFIXES place in
+suffix_at index lt =
+    let text = text_at SUFFIXES index in
     let p =
-    and_parts (finds place (place_in SUFFIXES text)) (list_all is_name_character text && is_undigited text)
-    (all_below-at is_good_suffix 16 place suffixes_good lt) in
+    and_parts (finds index (index_in SUFFIXES text)) (list_all is_name_character text && is_undigited text)
+    (all_below-at is_good_suffix 16 index suffixes_good lt) in
     let q = and_parts (list_all is_name_character text) (is_undigited text) p.1 in
-    record { found = finds-true place _ p.0; names = q.0; undigited = q.1 }
+    record { found = finds-true index _ p.0; names = q.0; undigited = q.1 }
 
 -- a file that has two suffixes has those between them
 pub suffix_between : (file : VectorFile) (low high k : ℕ) → has_suffix file low ≡ true → has_suffix file high ≡ true → low ≤ k → k ≤ high
@@ -125,7 +125,7 @@ module _ (file : VectorFile) (n k : ℕ) (few : n < file_size file) (has : has_s
   after : sized_after (Some file) behind ≡ Some (Sized file n k)
   unfolding sized_after sized_of
   after =
-      ap₂ (λ ds ss. sized_of file (decimal_number ds) (place_in SUFFIXES ss)) behind-front behind-back
+      ap₂ (λ ds ss. sized_of file (decimal_number ds) (index_in SUFFIXES ss)) behind-front behind-back
       ∙ ap₂ (sized_of file) (decimal-read n small) (suffix_at k lt).found
       ∙ cond-true _ (Some (Sized file n k)) None (and_from _ _ (lt-ltb n (file_size file) few) has)
 
@@ -158,7 +158,7 @@ sized-token : (file : VectorFile) (n k : ℕ) → n < file_size file → has_suf
 unfolding token_of_name sized_text
 sized-token file n k few has lt =
     let text = sized_text file n k in
-    let name = name_token (place_in WORDS text) in
+    let name = name_token (index_in KEYWORDS text) in
     ap (token_or (token_or name (sized_in text))) (unregistered file (decimal n ++ text_at SUFFIXES k))
     ∙ ap (token_or name) (sized-name file n k few has lt)
 

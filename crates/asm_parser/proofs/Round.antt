@@ -13,16 +13,16 @@ use Rattle.insn_text.specs.declared.item.Kind.TheVariants as kind
 use Rattle.insn_text.specs.declared.item.Item.{Item}
 use Rattle.insn_text.specs.declared.item.Shape.{Shape}
 use Rattle.insn_text.specs.declared.shapes.TheConstants.{SHAPES}
-use Rattle.insn_text.specs.declared.words.TheConstants.{NAMES}
+use Rattle.insn_text.specs.declared.keywords.TheConstants.{MNEMONICS}
 use Rattle.insn_text.specs.Texts.{text_at, is_comma, gap, items_text, items_of, shape_text, text_of_shape, text_of, prints, printed_shape}
 use Rattle.insn_text.specs.Rules.{IsPrinted}
 use Rattle.insn_text.proofs.AllPrinted.{all_printed}
 use Rattle.asm_tokens.specs.Characters.{is_name_character, is_digit, is_blank, front, characters, column_at, starts_comment, before_comment}
-use Rattle.asm_tokens.specs.Tokens.{run, place_in, lexemes_of}
+use Rattle.asm_tokens.specs.Tokens.{run, index_in, lexemes_of}
 use Rattle.asm_tokens.proofs.Naming.{name_no_blank}
 use Rattle.asm_operands.specs.Operands.{operands_said}
 use Rattle.asm_operands.specs.Shown.{tokens_shown}
-use Rattle.asm_operands.proofs.OwnWord.{own-name, own-said}
+use Rattle.asm_operands.proofs.OwnWord.{own-mnemonic, own-said}
 use Rattle.asm_operands.proofs.MaskFields.{all_below-at}
 use Rattle.asm_parser.specs.Statements.{Instructs}
 use Rattle.asm_parser.specs.Lines.{label_of, label_end, directive_of, instruction_says, tokens_say, line_of}
@@ -48,14 +48,14 @@ found_passes p q (r ∷ ss) s a e =
 
 -- the operands of the shape in which a word is printed are clean, and no `/` follows another
 clean_found : (word : ℕ) (s : Shape) → printed_shape word ≡ Some s
-    → (list_all is_clean_item (items_of s) ≡ true) × (are_slashes_apart (kind.Mark 44) (items_of s) ≡ true)
+    → (list_all is_clean_item (items_of s) ≡ true) × (are_slashes_apart (kind.Punctuation 44) (items_of s) ≡ true)
 unfolding printed_shape prints is_clean_shape
 clean_found word s e =
     let f = found_passes (prints word) is_clean_shape SHAPES s shapes_clean e in
     let plain : s.alias ≡ false = not-true s.alias (and_parts (not s.alias) _ f.0).0 in
-    let clean : (list_all is_clean_item (items_of s) && are_slashes_apart (kind.Mark 44) (items_of s)) ≡ true =
-    ap (λ a. a || (list_all is_clean_item (items_of s) && are_slashes_apart (kind.Mark 44) (items_of s))) (sym plain) ∙ f.1 in
-    and_parts (list_all is_clean_item (items_of s)) (are_slashes_apart (kind.Mark 44) (items_of s)) clean
+    let clean : (list_all is_clean_item (items_of s) && are_slashes_apart (kind.Punctuation 44) (items_of s)) ≡ true =
+    ap (λ a. a || (list_all is_clean_item (items_of s) && are_slashes_apart (kind.Punctuation 44) (items_of s))) (sym plain) ∙ f.1 in
+    and_parts (list_all is_clean_item (items_of s)) (are_slashes_apart (kind.Punctuation 44) (items_of s)) clean
 
 -- ---- texts that a name begins
 
@@ -110,42 +110,42 @@ module _ (name rest : List ℕ) (plain : is_plain name ≡ true) (o : opens rest
 instruction_is : (word : ℕ) (it : Insn) → MeansEither word it → (word < 2 ^ 32) × (instruction_of word ≡ Some it)
 instruction_is word it m = let lt = is_word word it m in (lt, (either word it lt).1 m)
 
-rest-opens : (word : ℕ) (is : List Item) → opens (items_text word (kind.Mark 44) is) ≡ true
+rest-opens : (word : ℕ) (is : List Item) → opens (items_text word (kind.Punctuation 44) is) ≡ true
 unfolding items_text opens gap is_comma is_name_character is_digit
 rest-opens word [] = refl
 rest-opens word (i ∷ is) = refl
 
-rest-colon : (word : ℕ) (is : List Item) → (get_or (items_text word (kind.Mark 44) is) 0 0 == 58) ≡ false
+rest-colon : (word : ℕ) (is : List Item) → (get_or (items_text word (kind.Punctuation 44) is) 0 0 == 58) ≡ false
 unfolding items_text gap is_comma
 rest-colon word [] = refl
 rest-colon word (i ∷ is) = refl
 
 module _ (word : ℕ) (it : Insn) (lt : word < 2 ^ 32) (p : IsPrinted word) (means : instruction_of word ≡ Some it) where
-  abbrev place : ℕ
-  place = p.shape.name
+  abbrev index : ℕ
+  index = p.shape.mnemonic
 
   abbrev name : List ℕ
-  name = text_at NAMES place
+  name = text_at MNEMONICS index
 
   abbrev is : List Item
   is = items_of p.shape
 
   abbrev rest : List ℕ
-  rest = items_text word (kind.Mark 44) is
+  rest = items_text word (kind.Punctuation 44) is
 
   abbrev line : List ℕ
   line = name ++ rest
 
-  clean : (list_all is_clean_item is ≡ true) × (are_slashes_apart (kind.Mark 44) is ≡ true)
+  clean : (list_all is_clean_item is ≡ true) × (are_slashes_apart (kind.Punctuation 44) is ≡ true)
   clean = clean_found word p.shape p.found
 
-  good : (is_plain name ≡ true) × (place_in NAMES name ≡ Some place)
+  good : (is_plain name ≡ true) × (index_in MNEMONICS name ≡ Some index)
   unfolding is_good_name
   good =
       let q =
-      and_parts (is_plain name) (finds place (place_in NAMES name))
-      (all_below-at is_good_name (length NAMES) place names_good (own-name word p)) in
-      (q.0, finds-true place _ q.1)
+      and_parts (is_plain name) (finds index (index_in MNEMONICS name))
+      (all_below-at is_good_name (length MNEMONICS) index names_good (own-mnemonic word p)) in
+      (q.0, finds-true index _ q.1)
 
   opens-rest : opens rest ≡ true
   opens-rest = rest-opens word is
@@ -154,12 +154,12 @@ module _ (word : ℕ) (it : Insn) (lt : word < 2 ^ 32) (p : IsPrinted word) (mea
   unfolding tokens_shown
   tokens-shown =
       ap (λ ys. tokens_of (lexemes_of (length name) ys)) (drop_at name rest (length name) refl)
-      ∙ items-read word is (kind.Mark 44) (length name) clean.0 p.sayable
+      ∙ items-read word is (kind.Punctuation 44) (length name) clean.0 p.sayable
 
   whole : line ≡ before_comment line
   whole =
       sym (no_comment line (uncommented-append name rest (names_no_slash name (plain-names name good.0))
-      (items-uncommented word is (kind.Mark 44) clean.0 p.sayable clean.1)))
+      (items-uncommented word is (kind.Punctuation 44) clean.0 p.sayable clean.1)))
 
   first-word : run (drop 0 line) ≡ name
   first-word = run-name name rest good.0 opens-rest
@@ -168,11 +168,11 @@ module _ (word : ℕ) (it : Insn) (lt : word < 2 ^ 32) (p : IsPrinted word) (mea
   unfolding column_at characters
   said =
       let size : 0 + length (run (drop 0 line)) ≡ length name = omega (arith, ap length first-word) in
-      named-instruction line line 0 whole (text-some name rest good.0 opens-rest) (plain-begins name rest good.0) place
-      (sym (ap directive_of first-word ∙ undotted name (plain_undotted name good.0))) (sym (ap (place_in NAMES) first-word ∙ good.1))
-      ∙ ap (λ n. said_from (instruction_says line place (column_at line 0)) line n) size
-      ∙ all-ok line line (length name) place (column_at line 0) word None
-      (sym (own-said word it lt p means) ∙ ap (operands_said place) (sym tokens-shown))
+      named-instruction line line 0 whole (text-some name rest good.0 opens-rest) (plain-begins name rest good.0) index
+      (sym (ap directive_of first-word ∙ undotted name (plain_undotted name good.0))) (sym (ap (index_in MNEMONICS) first-word ∙ good.1))
+      ∙ ap (λ n. said_from (instruction_says line index (column_at line 0)) line n) size
+      ∙ all-ok line line (length name) index (column_at line 0) word None
+      (sym (own-said word it lt p means) ∙ ap (operands_said index) (sym tokens-shown))
 
   line-said : line_of line ≡ Ok (record { label = None; says = Instructs word None 1 })
   line-said =

@@ -3,7 +3,7 @@ use Rattle.std.proofs.Common.{◌≡◌, ℕ, suc, ◌+◌, ◌-◌, ◌^◌, Bo
 use Rattle.std.proofs.Common.{take, map, slice_get, cond, refl, sym, ap, ◌∙◌, subst, arith, leb-true, leb-false, eqb-true}
 use Rattle.std.specs.Prelude.{option_map}
 use Rattle.asm_tokens.specs.declared.token.Token.{Token}
-use Rattle.asm_tokens.specs.declared.token.Token.TheVariants.{Word, Name, Bare, Mark}
+use Rattle.asm_tokens.specs.declared.token.Token.TheVariants.{Keyword, Name, Bare, Punctuation}
 use Rattle.asm_tokens.specs.declared.token.Lexeme.{Lexeme}
 use Rattle.asm_operands.specs.declared.fault.FaultKind.{FaultKind}
 use Rattle.asm_operands.specs.declared.fault.FaultKind.TheVariants.{UnknownName, BadNumber, Extra, BadOperand}
@@ -21,7 +21,7 @@ Always a = Unit {0}
 -- an answer is what the grammar has: that alone, or the first fault
 abbrev pub Tied : {A : Type 0} → (A → List Written → Type 0) → (A → Type 0) → Answer A → List Written → Type 0
 Tied Is Allowed (Tells a) ts = Is a ts × Allowed a × ((b : _) → Is b ts → a ≡ b)
-Tied Is Allowed (Stops place kind) ts = IsFirstFault Is Allowed (IsWhy Is) ts place kind
+Tied Is Allowed (Stops index kind) ts = IsFirstFault Is Allowed (IsWhy Is) ts index kind
 
 -- ---- one token, and then what an inner grammar has
 
@@ -62,27 +62,27 @@ module _ {A B : Type 0} (Is : A → List Written → Type 0) (P : A → Type 0) 
   why_up xs None BadOperand w = w
   why_up xs None UnknownName w = w
 
-  stops_up : (xs : List Written) (place : ℕ) (o : Option Written) → StopsAt Is P xs place o → StopsAt Js Q (t ∷ xs) (suc place) o
-  stops_up xs place (Some u) h = λ g. h (goes_down (take (suc place) xs) g)
-  stops_up xs place None h = (ap suc h.0, λ b j q. let d = s.down xs b j in h.1 d.0 d.1 (s.allowed_back d.0 (subst Q (sym d.2) q)))
+  faults_up : (xs : List Written) (index : ℕ) (o : Option Written) → StopsAt Is P xs index o → StopsAt Js Q (t ∷ xs) (suc index) o
+  faults_up xs index (Some u) h = λ g. h (goes_down (take (suc index) xs) g)
+  faults_up xs index None h = (ap suc h.0, λ b j q. let d = s.down xs b j in h.1 d.0 d.1 (s.allowed_back d.0 (subst Q (sym d.2) q)))
 
-  fault_up : (xs : List Written) (place : ℕ) (kind : FaultKind) → IsFirstFault Is P (IsWhy Is) xs place kind
-      → IsFirstFault Js Q (IsWhy Js) (t ∷ xs) (suc place) kind
-  fault_up xs place kind h = record {
-    goes_on = goes_up (take place xs) h.goes_on;
-    stops = stops_up xs place (slice_get xs place) h.stops;
-    why = why_up (take place xs) (slice_get xs place) kind h.why;
+  fault_up : (xs : List Written) (index : ℕ) (kind : FaultKind) → IsFirstFault Is P (IsWhy Is) xs index kind
+      → IsFirstFault Js Q (IsWhy Js) (t ∷ xs) (suc index) kind
+  fault_up xs index kind h = record {
+    goes_on = goes_up (take index xs) h.goes_on;
+    stops = faults_up xs index (slice_get xs index) h.stops;
+    why = why_up (take index xs) (slice_get xs index) kind h.why;
   }
 
   pub tied_step : (answer : Answer A) (xs : List Written) → Tied Is P answer xs → Tied Js Q (further 1 (and_then f answer)) (t ∷ xs)
   tied_step (Tells a) xs h = (s.up xs a h.0, s.allowed a h.1, λ b j. let d = s.down xs b j in ap f (h.2 d.0 d.1) ∙ d.2)
-  tied_step (Stops place kind) xs h =
-      let e : suc place ≡ 1 + place = omega arith in
-      subst (λ n. IsFirstFault Js Q (IsWhy Js) (t ∷ xs) n kind) e (fault_up xs place kind h)
+  tied_step (Stops index kind) xs h =
+      let e : suc index ≡ 1 + index = omega arith in
+      subst (λ n. IsFirstFault Js Q (IsWhy Js) (t ∷ xs) n kind) e (fault_up xs index kind h)
 
 and_then_same : {A : Type 0} (answer : Answer A) → and_then (λ a. a) answer ≡ answer
 and_then_same (Tells a) = refl
-and_then_same (Stops place kind) = refl
+and_then_same (Stops index kind) = refl
 
 pub tied_same : {A : Type 0} (Is : A → List Written → Type 0) (P : A → Type 0) (Js : A → List Written → Type 0) (Q : A → Type 0)
     (t : Written) → IsStep Is P Js Q t (λ a. a)
@@ -230,7 +230,7 @@ module _ {A : Type 0} (IsItem : A → Written → Type 0) where
 
   cons_is : (a : A) (answer : Answer (List A)) → cons_answer a answer ≡ and_then (λ items. a ∷ items) answer
   cons_is a (Tells items) = refl
-  cons_is a (Stops place kind) = refl
+  cons_is a (Stops index kind) = refl
 
   goes_wanted : {B : Type 0} (Is : B → List Written → Type 0) → WantsNumber Is [] → GoesOn Is []
   goes_wanted Is w = (w.0 ∷ w.2.0, w.2.1, w.2.2)
@@ -238,9 +238,9 @@ module _ {A : Type 0} (IsItem : A → Written → Type 0) where
   wants_one : HasNumber IsItem → WantsNumber (IsOne IsItem) []
   wants_one n = (n.token, n.number, ([], n.item, (n.token, refl, n.is_item)))
 
-  comma_mark : (k : Token) → is_comma_token k ≡ true → k ≡ Mark 44
-  comma_mark (Mark c) e = ap Mark (eqb-true c 44 e)
-  comma_mark k e = cc
+  comma_punctuation : (k : Token) → is_comma_token k ≡ true → k ≡ Punctuation 44
+  comma_punctuation (Punctuation c) e = ap Punctuation (eqb-true c 44 e)
+  comma_punctuation k e = cc
 
   module _ (line : List ℕ) (value : Lexeme → Option A) (reads : (l : Lexeme) → ReadAs IsItem (written line l) (value l))
       (number : HasNumber IsItem) where
@@ -251,7 +251,8 @@ module _ {A : Type 0} (IsItem : A → Written → Type 0) where
         → Tied (AreListed IsItem) Always (values_from value true ls) (map (written line) ls)
         → Tied (AreMore IsItem) Always (cond b (further 1 (values_from value true ls)) (Stops 0 Extra)) (map (written line) (l ∷ ls))
     comma_case l ls true e ih =
-        tied_same (AreListed IsItem) Always (AreMore IsItem) Always (written line l) (comma_step (written line l) (comma_mark l.token e))
+        tied_same (AreListed IsItem) Always (AreMore IsItem) Always (written line l)
+        (comma_step (written line l) (comma_punctuation l.token e))
         (values_from value true ls) (map (written line) ls) ih
     comma_case l ls false e ih =
         extra_fault (AreMore IsItem) (written line l) (map (written line) ls) more_none
@@ -338,7 +339,7 @@ numbers_tied most line ls =
 
 pub no_number_name : (k : Token) → is_number_token k ≡ true → is_name k ≡ true → ⊥
 unfolding is_number_token is_name
-no_number_name (Word place) e f = cc
+no_number_name (Keyword index) e f = cc
 no_number_name Name e f = cc
 no_number_name k e f = cc
 

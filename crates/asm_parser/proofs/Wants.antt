@@ -15,10 +15,10 @@ use Rattle.insn_text.specs.declared.item.Shape.{Shape}
 use Rattle.insn_text.specs.Texts.{items_of, bits_of}
 use Rattle.asm_tokens.specs.Tokens.{is_number_token}
 use Rattle.asm_tokens.specs.declared.token.Token.{Token}
-use Rattle.asm_tokens.specs.declared.token.Token.TheVariants.{Register, Word, Mark, Sized}
-use Rattle.asm_operands.specs.Fields.{on_mark, on_word, on_register, on_sized, field_said}
-use Rattle.asm_operands.specs.Operands.{Known, known_with, known_after, taken_on, taken, reach_on, reach, fixed}
-use Rattle.asm_operands.specs.Operands.{word_in, reach_in, shapes_of, first_of_words, first_word, furthest, is_number_kind, is_number_item}
+use Rattle.asm_tokens.specs.declared.token.Token.TheVariants.{Register, Keyword, Punctuation, Sized}
+use Rattle.asm_operands.specs.Fields.{on_punctuation, on_keyword, on_register, on_sized, field_said}
+use Rattle.asm_operands.specs.Operands.{PartialWord, partial_with, partial_after, taken_on, taken, count_on, taken_count, fixed}
+use Rattle.asm_operands.specs.Operands.{word_in, taken_count_in, shapes_of, first_of_words, first_word, furthest, is_number_kind, is_number_item}
 use Rattle.asm_operands.specs.Operands.{wants_number, is_whole, OperandsSaid, Fails, Fault, said_or, if_meant, word_said}
 use Rattle.asm_operands.specs.Operands.{operand_fault, operands_said, target_of}
 
@@ -39,58 +39,58 @@ get_some (y ∷ xs) (suc k) x e = let lt = get_some xs k x e in omega arith
 
 -- ---- how far shapes reach
 
-reach_on_le : (is : List Item) (ts : List Token) → ((next : Known) → reach is next ts ≤ length ts) → (o : Option Known)
-    → reach_on (λ next. reach is next ts) o ≤ suc (length ts)
+reach_on_le : (is : List Item) (ts : List Token) → ((next : PartialWord) → taken_count is next ts ≤ length ts) → (o : Option PartialWord)
+    → count_on (λ next. taken_count is next ts) o ≤ suc (length ts)
 reach_on_le is ts ih None = omega arith
 reach_on_le is ts ih (Some next) = let le = ih next in omega arith
 
-reach_le : (is : List Item) (known : Known) (ts : List Token) → reach is known ts ≤ length ts
-unfolding reach
-reach_le [] known ts = omega arith
-reach_le (i ∷ is) known [] = omega arith
-reach_le (i ∷ is) known (t ∷ ts) = reach_on_le is ts (λ next. reach_le is next ts) (known_after i known t)
+reach_le : (is : List Item) (partial : PartialWord) (ts : List Token) → taken_count is partial ts ≤ length ts
+unfolding taken_count
+reach_le [] partial ts = omega arith
+reach_le (i ∷ is) partial [] = omega arith
+reach_le (i ∷ is) partial (t ∷ ts) = reach_on_le is ts (λ next. reach_le is next ts) (partial_after i partial t)
 
 pub furthest_le : (ss : List Shape) (ts : List Token) → furthest ss ts ≤ length ts
-unfolding furthest reach_in
+unfolding furthest taken_count_in
 furthest_le [] ts = omega arith
 furthest_le (s ∷ ss) ts = let a = reach_le (items_of s) (fixed s) ts in let b = furthest_le ss ts in omega arith
 
 -- operands that take the first tokens and others reach as far
-taken_reach : (is : List Item) (known : Known) (n : ℕ) (ts rest : List Token) (w : ℕ) → n ≤ length ts
-    → taken is known (take n ts ++ rest) ≡ Some w → n ≤ reach is known ts
-unfolding taken reach
-taken_reach is known zero ts rest w le e = omega arith
-taken_reach is known (suc n) [] rest w le e = absurd (omega arith)
-taken_reach [] known (suc n) (t ∷ ts) rest w le e = cc
-taken_reach (i ∷ is) known (suc n) (t ∷ ts) rest w le e =
-    elim (known_after i known t) as (λ o. taken_on (λ next. taken is next (take n ts ++ rest)) o ≡ Some w
-    → suc n ≤ reach_on (λ next. reach is next ts) o) [
+taken_reach : (is : List Item) (partial : PartialWord) (n : ℕ) (ts rest : List Token) (w : ℕ) → n ≤ length ts
+    → taken is partial (take n ts ++ rest) ≡ Some w → n ≤ taken_count is partial ts
+unfolding taken taken_count
+taken_reach is partial zero ts rest w le e = omega arith
+taken_reach is partial (suc n) [] rest w le e = absurd (omega arith)
+taken_reach [] partial (suc n) (t ∷ ts) rest w le e = cc
+taken_reach (i ∷ is) partial (suc n) (t ∷ ts) rest w le e =
+    elim (partial_after i partial t) as (λ o. taken_on (λ next. taken is next (take n ts ++ rest)) o ≡ Some w
+    → suc n ≤ count_on (λ next. taken_count is next ts) o) [
       | None ↦ λ h. cc
       | Some next ↦ λ h. let less : n ≤ length ts = omega arith in let r = taken_reach is next n ts rest w less h in omega arith
     ] e
 
 -- operands that take all tokens are as many
-taken_length : (is : List Item) (known : Known) (ts : List Token) (w : ℕ) → taken is known ts ≡ Some w → length is ≡ length ts
+taken_length : (is : List Item) (partial : PartialWord) (ts : List Token) (w : ℕ) → taken is partial ts ≡ Some w → length is ≡ length ts
 unfolding taken
-taken_length [] known [] w e = refl
-taken_length [] known (t ∷ ts) w e = cc
-taken_length (i ∷ is) known [] w e = cc
-taken_length (i ∷ is) known (t ∷ ts) w e =
-    elim (known_after i known t) as (λ o. taken_on (λ next. taken is next ts) o ≡ Some w → suc (length is) ≡ suc (length ts)) [
+taken_length [] partial [] w e = refl
+taken_length [] partial (t ∷ ts) w e = cc
+taken_length (i ∷ is) partial [] w e = cc
+taken_length (i ∷ is) partial (t ∷ ts) w e =
+    elim (partial_after i partial t) as (λ o. taken_on (λ next. taken is next ts) o ≡ Some w → suc (length is) ≡ suc (length ts)) [
       | None ↦ λ h. cc
       | Some next ↦ λ h. ap suc (taken_length is next ts w h)
     ] e
 
 -- and where they reach as far as they are many, they take these
-reach_taken : (is : List Item) (known : Known) (n : ℕ) (ts : List Token) → reach is known ts ≡ n → length is ≡ n → (w : ℕ)
-    × (taken is known (take n ts) ≡ Some w)
-unfolding taken reach
-reach_taken [] known zero ts r l = (known.value, refl)
-reach_taken [] known (suc n) ts r l = absurd (omega arith)
-reach_taken (i ∷ is) known zero ts r l = absurd (omega arith)
-reach_taken (i ∷ is) known (suc n) [] r l = absurd (omega arith)
-reach_taken (i ∷ is) known (suc n) (t ∷ ts) r l =
-    elim (known_after i known t) as (λ o. reach_on (λ next. reach is next ts) o ≡ suc n → (w : ℕ)
+reach_taken : (is : List Item) (partial : PartialWord) (n : ℕ) (ts : List Token) → taken_count is partial ts ≡ n → length is ≡ n → (w : ℕ)
+    × (taken is partial (take n ts) ≡ Some w)
+unfolding taken taken_count
+reach_taken [] partial zero ts r l = (partial.value, refl)
+reach_taken [] partial (suc n) ts r l = absurd (omega arith)
+reach_taken (i ∷ is) partial zero ts r l = absurd (omega arith)
+reach_taken (i ∷ is) partial (suc n) [] r l = absurd (omega arith)
+reach_taken (i ∷ is) partial (suc n) (t ∷ ts) r l =
+    elim (partial_after i partial t) as (λ o. count_on (λ next. taken_count is next ts) o ≡ suc n → (w : ℕ)
     × (taken_on (λ next. taken is next (take n ts)) o ≡ Some w)) [
       | None ↦ λ h. absurd (omega arith)
       | Some next ↦ λ h. reach_taken is next n ts (omega arith) (omega arith)
@@ -98,21 +98,21 @@ reach_taken (i ∷ is) known (suc n) (t ∷ ts) r l =
 
 -- ---- numbers
 
-mark_number : (says : ℕ → Option ℕ) (t : Token) (f : ℕ) → is_number_token t ≡ true → on_mark says t ≡ Some f → ⊥
-unfolding is_number_token on_mark
-mark_number says (Mark c) f n e = cc
-mark_number says t f n e = cc
+punctuation_number : (says : ℕ → Option ℕ) (t : Token) (f : ℕ) → is_number_token t ≡ true → on_punctuation says t ≡ Some f → ⊥
+unfolding is_number_token on_punctuation
+punctuation_number says (Punctuation c) f n e = cc
+punctuation_number says t f n e = cc
 
-word_number : (says : ℕ → Option ℕ) (t : Token) (f : ℕ) → is_number_token t ≡ true → on_word says t ≡ Some f → ⊥
-unfolding is_number_token on_word
-word_number says (Word place) f n e = cc
+word_number : (says : ℕ → Option ℕ) (t : Token) (f : ℕ) → is_number_token t ≡ true → on_keyword says t ≡ Some f → ⊥
+unfolding is_number_token on_keyword
+word_number says (Keyword index) f n e = cc
 word_number says t f n e = cc
 
 register_number : (numbered : RegisterFile → ℕ → Option ℕ) (says : ℕ → Option ℕ) (t : Token) (f : ℕ) → is_number_token t ≡ true
     → on_register numbered says t ≡ Some f → ⊥
 unfolding is_number_token on_register
 register_number numbered says (Register file number) f n e = cc
-register_number numbered says (Word place) f n e = cc
+register_number numbered says (Keyword index) f n e = cc
 register_number numbered says t f n e = cc
 
 sized_number : (says : VectorFile → ℕ → ℕ → Option ℕ) (t : Token) (f : ℕ) → is_number_token t ≡ true → on_sized says t ≡ Some f → ⊥
@@ -122,36 +122,37 @@ sized_number says t f n e = cc
 
 number_kind : (k : Kind) (bits : ℕ) (t : Token) (f : ℕ) → is_number_token t ≡ true → field_said k bits t ≡ Some f → is_number_kind k ≡ true
 unfolding field_said is_number_kind
-number_kind (kind.Mark c) bits t f n e = absurd (mark_number _ t f n e)
-number_kind (kind.Named first count) bits t f n e = absurd (word_number _ t f n e)
+number_kind (kind.Punctuation c) bits t f n e = absurd (punctuation_number _ t f n e)
+number_kind (kind.Keyword first count) bits t f n e = absurd (word_number _ t f n e)
 number_kind (kind.Register file last) bits t f n e = absurd (register_number _ _ t f n e)
 number_kind (kind.Sized file few first) bits t f n e = absurd (sized_number _ t f n e)
 number_kind kind.SliceRegister bits t f n e = absurd (register_number _ _ t f n e)
 number_kind (kind.Opposite first count) bits t f n e = absurd (word_number _ t f n e)
 number_kind k bits t f n e = refl
 
-known_field : (i : Item) (known next : Known) (o : Option ℕ) → known_with i known o ≡ Some next → (f : ℕ) × (o ≡ Some f)
-unfolding known_with
-known_field i known next None e = cc
-known_field i known next (Some f) e = (f, refl)
+known_field : (i : Item) (partial next : PartialWord) (o : Option ℕ) → partial_with i partial o ≡ Some next → (f : ℕ) × (o ≡ Some f)
+unfolding partial_with
+known_field i partial next None e = cc
+known_field i partial next (Some f) e = (f, refl)
 
 -- the operand of a number
-taken_number : (is : List Item) (known : Known) (n : ℕ) (ts : List Token) (t : Token) (rest : List Token) (w : ℕ) → n ≤ length ts
-    → is_number_token t ≡ true → taken is known (take n ts ++ t ∷ rest) ≡ Some w
+taken_number : (is : List Item) (partial : PartialWord) (n : ℕ) (ts : List Token) (t : Token) (rest : List Token) (w : ℕ) → n ≤ length ts
+    → is_number_token t ≡ true → taken is partial (take n ts ++ t ∷ rest) ≡ Some w
     → is_number_item (slice_get is n) ≡ true
-unfolding taken known_after
-taken_number [] known zero ts t rest w le k e = cc
-taken_number (i ∷ is) known zero ts t rest w le k e =
-    elim (known_with i known (field_said i.kind (bits_of i) t)) as (λ o. known_with i known (field_said i.kind (bits_of i) t) ≡ o
+unfolding taken partial_after
+taken_number [] partial zero ts t rest w le k e = cc
+taken_number (i ∷ is) partial zero ts t rest w le k e =
+    elim (partial_with i partial (field_said i.kind (bits_of i) t)) as (λ o. partial_with i partial (field_said i.kind (bits_of i) t) ≡ o
     → taken_on (λ next. taken is next rest) o ≡ Some w → is_number_kind i.kind ≡ true) [
       | None ↦ λ is_none h. cc
       | Some next ↦ λ is_next h. let f =
-          known_field i known next (field_said i.kind (bits_of i) t) is_next in number_kind i.kind (bits_of i) t f.0 k f.1
+          known_field i partial next (field_said i.kind (bits_of i) t) is_next in number_kind i.kind (bits_of i) t f.0 k f.1
     ] refl e
-taken_number is known (suc n) [] t rest w le k e = absurd (omega arith)
-taken_number [] known (suc n) (u ∷ ts) t rest w le k e = cc
-taken_number (i ∷ is) known (suc n) (u ∷ ts) t rest w le k e =
-    elim (known_with i known (field_said i.kind (bits_of i) u)) as (λ o. taken_on (λ next. taken is next (take n ts ++ t ∷ rest)) o ≡ Some w
+taken_number is partial (suc n) [] t rest w le k e = absurd (omega arith)
+taken_number [] partial (suc n) (u ∷ ts) t rest w le k e = cc
+taken_number (i ∷ is) partial (suc n) (u ∷ ts) t rest w le k e =
+    elim (partial_with i partial (field_said i.kind (bits_of i) u))
+    as (λ o. taken_on (λ next. taken is next (take n ts ++ t ∷ rest)) o ≡ Some w
     → is_number_item (slice_get is n) ≡ true) [
       | None ↦ λ h. cc
       | Some next ↦ λ h. let less : n ≤ length ts = omega arith in taken_number is next n ts t rest w less k h
@@ -162,7 +163,7 @@ taken_number (i ∷ is) known (suc n) (u ∷ ts) t rest w le k e =
 record HasShape (ss : List Shape) (P : Shape → Type 0) : Type 0 where
   shape : Shape
   among : (test : Shape → Bool) → test shape ≡ true → list_any test ss ≡ true
-  reaches : (us : List Token) → reach_in shape us ≤ furthest ss us
+  reaches : (us : List Token) → taken_count_in shape us ≤ furthest ss us
   holds : P shape
 
 any_or : (a b : Bool) → b ≡ true → (a || b) ≡ true
@@ -194,13 +195,13 @@ first_shape (s ∷ ss) ts w e =
 
 some_shape : (test : Shape → Bool) (ss : List Shape) → list_any test ss ≡ true → (s : Shape) × (test s ≡ true)
     × ((ts : List Token) (w : ℕ) → word_in s ts ≡ Some w → (v : ℕ) × (first_word ss ts ≡ Some v))
-    × ((ts : List Token) → reach_in s ts ≤ furthest ss ts)
+    × ((ts : List Token) → taken_count_in s ts ≤ furthest ss ts)
 unfolding first_word furthest
 some_shape test [] e = cc
 some_shape test (s ∷ ss) e =
     elim (test s) as (λ b. test s ≡ b → (b || list_any test ss) ≡ true → (s' : Shape) × (test s' ≡ true)
     × ((ts : List Token) (w : ℕ) → word_in s' ts ≡ Some w → (v : ℕ) × (first_of_words (word_in s ts) (first_word ss ts) ≡ Some v))
-    × ((ts : List Token) → reach_in s' ts ≤ max (reach_in s ts) (furthest ss ts))) [
+    × ((ts : List Token) → taken_count_in s' ts ≤ max (taken_count_in s ts) (furthest ss ts))) [
       | true ↦ λ is h. (s, is, (λ ts w g. (w, ap (λ o. first_of_words o (first_word ss ts)) g)), (λ ts. omega arith))
       | false ↦ λ is h. let r =
           some_shape test ss h in (
@@ -224,8 +225,8 @@ module _ (ss : List Shape) (ts : List Token) where
 
   -- a shape that takes the tokens before the first that none takes, and others, reaches as far
   reach_here : (rest : List Token) (w : ℕ) (h : HasShape ss (λ s. word_in s (take k ts ++ rest) ≡ Some w))
-      → (reach_in h.shape ts == k) ≡ true
-  unfolding word_in reach_in
+      → (taken_count_in h.shape ts == k) ≡ true
+  unfolding word_in taken_count_in
   reach_here rest w h =
       let low = taken_reach (items_of h.shape) (fixed h.shape) k ts rest w (furthest_le ss ts) h.holds in
       let high = h.reaches ts in
@@ -251,10 +252,10 @@ module _ (ss : List Shape) (ts : List Token) where
       (eq-eqb _ _ (taken_length (items_of h.shape) (fixed h.shape) (take k ts ++ []) w h.holds ∙ size)))
 
   pub whole_from : list_any (is_whole k ts) ss ≡ true → (w : ℕ) × (first_word ss (take k ts) ≡ Some w)
-  unfolding is_whole word_in reach_in
+  unfolding is_whole word_in taken_count_in
   whole_from e =
       let s = some_shape (is_whole k ts) ss e in
-      let p = and_parts (reach_in s.0 ts == k) (length (items_of s.0) == k) s.1 in
+      let p = and_parts (taken_count_in s.0 ts == k) (length (items_of s.0) == k) s.1 in
       let t = reach_taken (items_of s.0) (fixed s.0) k ts (eqb-true _ _ p.0) (eqb-true _ _ p.1) in
       s.2 (take k ts) t.0 t.1
 

@@ -6,13 +6,13 @@ use Rattle.std.specs.Prelude.{length, take, map, slice_get, slice_index, Option,
 use Rattle.std.specs.Prelude.{option_map}
 use Rattle.std.specs.List.{list_all}
 use Rattle.a64_encode.specs.Either.{instruction_of}
-use Rattle.insn_text.specs.declared.words.TheConstants.{NAMES}
+use Rattle.insn_text.specs.declared.keywords.TheConstants.{MNEMONICS}
 use Rattle.asm_tokens.specs.declared.token.Token.{Token}
-use Rattle.asm_tokens.specs.declared.token.Token.TheVariants.{Bare, Mark}
+use Rattle.asm_tokens.specs.declared.token.Token.TheVariants.{Bare, Punctuation}
 use Rattle.asm_tokens.specs.declared.token.Lexeme.{Lexeme}
 use Rattle.asm_tokens.specs.Characters.{is_blank, is_digit, is_name_character, characters, column_at}
 use Rattle.asm_tokens.specs.Characters.{before_comment}
-use Rattle.asm_tokens.specs.Tokens.{place_in, is_name, is_number_token}
+use Rattle.asm_tokens.specs.Tokens.{index_in, is_name, is_number_token}
 use Rattle.asm_operands.specs.declared.fault.FaultKind.{FaultKind}
 use Rattle.asm_operands.specs.declared.fault.FaultKind.TheVariants.{UnknownName, BadNumber, Extra, BadOperand}
 use Rattle.asm_operands.specs.declared.operands.Target.{Target}
@@ -62,7 +62,7 @@ IsValue (IsAddressOf name) t = IsName name t
 
 -- a comma
 abbrev pub IsComma : Written → Type 0
-IsComma t = t.token ≡ Mark 44
+IsComma t = t.token ≡ Punctuation 44
 
 -- nothing
 abbrev pub IsNothing : List Written → Type 0
@@ -97,7 +97,7 @@ pub record Begins (name : List ℕ) (Follows : List Written → Type 0) (ts : Li
 abbrev pub target_written : List Written → Option Target → Option TargetSaid
 target_written ts None = None
 target_written ts (Some target) =
-    option_map (λ t. record { name = t.text; operand = target.operand }) (slice_get ts target.place)
+    option_map (λ t. record { name = t.text; operand = target.operand }) (slice_get ts target.index)
 
 -- the name of an instruction, and operands that a shape of that name takes as that word
 pub record IsInstruction (word : ℕ) (target : Option TargetSaid) (column : ℕ) (ts : List Written) : Type 0
@@ -107,7 +107,7 @@ pub record IsInstruction (word : ℕ) (target : Option TargetSaid) (column : ℕ
     pub all : ts ≡ first ∷ operands
     pub named : is_name first.token ≡ true
     pub name : ℕ
-    pub listed : place_in NAMES first.text ≡ Some name
+    pub listed : index_in MNEMONICS first.text ≡ Some name
     pub takes : first_word (shapes_of name) (map (λ t. t.token) operands) ≡ Some word
     pub aims : target ≡ target_written operands (target_of (shapes_of name) (map (λ t. t.token) operands))
     pub column_is : column ≡ first.column
@@ -166,17 +166,17 @@ module _ {A : Type 0} (Is : A → List Written → Type 0) where
   IsWhy ts None BadOperand = Unit {0}
   IsWhy ts other kind = ⊥
 
-  -- they do not go on with the token at a place; or there they end, and are none that is allowed
+  -- they do not go on with the token at an index; or there they end, and are none that is allowed
   abbrev pub StopsAt : (A → Type 0) → List Written → ℕ → Option Written → Type 0
-  StopsAt IsAllowed ts place (Some t) = GoesOn (take (suc place) ts) → ⊥
-  StopsAt IsAllowed ts place None = (place ≡ length ts) × ((a : A) → Is a ts → IsAllowed a → ⊥)
+  StopsAt IsAllowed ts index (Some t) = GoesOn (take (suc index) ts) → ⊥
+  StopsAt IsAllowed ts index None = (index ≡ length ts) × ((a : A) → Is a ts → IsAllowed a → ⊥)
 
   -- the first token with which they do not go on, or their end where they are not allowed to end
-  pub record IsFirstFault (IsAllowed : A → Type 0) (Why : Whys) (ts : List Written) (place : ℕ)
+  pub record IsFirstFault (IsAllowed : A → Type 0) (Why : Whys) (ts : List Written) (index : ℕ)
       (kind : FaultKind) : Type 0 where
-    pub goes_on : GoesOn (take place ts)
-    pub stops : StopsAt IsAllowed ts place (slice_get ts place)
-    pub why : Why (take place ts) (slice_get ts place) kind
+    pub goes_on : GoesOn (take index ts)
+    pub stops : StopsAt IsAllowed ts index (slice_get ts index)
+    pub why : Why (take index ts) (slice_get ts index) kind
 
 -- ---- the fault of a line
 
@@ -200,7 +200,7 @@ column_of_written line (Some t) = t.column
 
 -- the fault of a line: the first token with which no line goes on, or the end of one that may not end there
 pub record IsFaultOf (line : List ℕ) (fault : LineFault) : Type 0 where
-  pub place : ℕ
+  pub index : ℕ
   pub kind : FaultKind
-  pub first : IsFirstFault IsWritten IsMeaning IsLineWhy (written_of line) place kind
-  pub fault_is : fault ≡ fault_of_kind kind (column_of_written line (slice_get (written_of line) place))
+  pub first : IsFirstFault IsWritten IsMeaning IsLineWhy (written_of line) index kind
+  pub fault_is : fault ≡ fault_of_kind kind (column_of_written line (slice_get (written_of line) index))

@@ -5,13 +5,13 @@ use Rattle.std.specs.Prelude.{length, take, drop, map, slice_get, slice_index, O
 use Rattle.std.specs.Prelude.{Err, codes, if◌then◌else◌, option_map}
 use Rattle.std.specs.Str.{bytes_eq}
 use Rattle.insn_text.specs.declared.item.Item.{Item}
-use Rattle.insn_text.specs.declared.words.TheConstants.{NAMES}
+use Rattle.insn_text.specs.declared.keywords.TheConstants.{MNEMONICS}
 use Rattle.asm_tokens.specs.declared.token.Token.{Token}
-use Rattle.asm_tokens.specs.declared.token.Token.TheVariants.{Bare, Mark}
+use Rattle.asm_tokens.specs.declared.token.Token.TheVariants.{Bare, Punctuation}
 use Rattle.asm_tokens.specs.declared.token.Lexeme.{Lexeme}
 use Rattle.asm_tokens.specs.Characters.{is_digit, is_blank, characters, column_at, before_comment, front}
 use Rattle.asm_tokens.specs.Characters.{back}
-use Rattle.asm_tokens.specs.Tokens.{run, lexemes_of, place_in, is_name, is_number_token}
+use Rattle.asm_tokens.specs.Tokens.{run, lexemes_of, index_in, is_name, is_number_token}
 use Rattle.asm_operands.specs.declared.fault.FaultKind.{FaultKind}
 use Rattle.asm_operands.specs.declared.fault.FaultKind.TheVariants.{UnknownName, BadNumber, Extra, BadOperand}
 use Rattle.asm_operands.specs.Operands.{OperandsSaid, operands_said}
@@ -35,12 +35,12 @@ pub data Answer (A : Type 0) : Type 0 where
 
 abbrev pub and_then : {A B : Type 0} → (A → B) → Answer A → Answer B
 and_then make (Tells a) = Tells (make a)
-and_then make (Stops place kind) = Stops place kind
+and_then make (Stops index kind) = Stops index kind
 
--- the same of tokens that stand so many places further on
+-- the same of tokens that stand so many tokens further on
 abbrev pub further : {A : Type 0} → ℕ → Answer A → Answer A
-further places (Tells a) = Tells a
-further places (Stops place kind) = Stops (places + place) kind
+further indices (Tells a) = Tells a
+further indices (Stops index kind) = Stops (indices + index) kind
 
 -- nothing is to follow
 unfoldable pub ends : {A : Type 0} → A → List Lexeme → Answer A
@@ -75,10 +75,11 @@ one_name line (l ∷ ls) =
 
 abbrev pub cons_answer : {A : Type 0} → A → Answer (List A) → Answer (List A)
 cons_answer a (Tells rest) = Tells (a ∷ rest)
-cons_answer a (Stops place kind) = Stops place kind
+cons_answer a (Stops index kind) = Stops index kind
 
+-- `,`
 abbrev pub is_comma_token : Token → Bool
-is_comma_token (Mark c) = c == 44
+is_comma_token (Punctuation c) = c == 44
 is_comma_token _ = false
 
 -- one value or more with a comma between each two; `value` tells whether a token is one
@@ -150,30 +151,31 @@ begin_list line (l ∷ ls) = is_name l.token && if_of_list (directive_of (text_o
 
 -- ---- instructions
 
--- the target, from the place of its token
+-- the target, from the index of its token
 abbrev pub target_named : List ℕ → Item → Option Lexeme → Option TargetSaid
 target_named line i None = None
 target_named line i (Some l) = Some (record { name = text_of_lexeme line l; operand = i })
 
 abbrev pub target_at : List ℕ → List Lexeme → Option Target → Option TargetSaid
 target_at line ls None = None
-target_at line ls (Some target) = target_named line target.operand (slice_get ls target.place)
+target_at line ls (Some target) = target_named line target.operand (slice_get ls target.index)
 
 abbrev pub instruction_or_fault : List ℕ → ℕ → List Lexeme → OperandsSaid → Answer Says
 instruction_or_fault line column ls (operands.Says word target) =
     Tells (Instructs word (target_at line ls target) column)
-instruction_or_fault line column ls (operands.Fails f) = Stops f.place f.kind
+instruction_or_fault line column ls (operands.Fails f) = Stops f.index f.kind
 
--- what an instruction says, whose name stands at that place of the table of names and at that column
+-- what an instruction says, whose mnemonic has that index in its table and stands at that column
 unfoldable pub instruction_says : List ℕ → ℕ → ℕ → List Lexeme → Answer Says
-instruction_says line name column ls =
-    instruction_or_fault line column ls (operands_said name (map (λ l. l.token) ls))
+instruction_says line mnemonic column ls =
+    instruction_or_fault line column ls (operands_said mnemonic (map (λ l. l.token) ls))
 
 -- ---- a line
 
 abbrev pub named_says : List ℕ → Lexeme → List Lexeme → Option Directive → Option ℕ → Answer Says
-named_says line l ls (Some directive) place = further 1 (directive_says line directive ls)
-named_says line l ls None (Some name) = further 1 (instruction_says line name (column_at line l.start) ls)
+named_says line l ls (Some directive) index = further 1 (directive_says line directive ls)
+named_says line l ls None (Some mnemonic) =
+    further 1 (instruction_says line mnemonic (column_at line l.start) ls)
 named_says line l ls None None = Stops 0 UnknownName
 
 -- what the tokens after the label say
@@ -181,11 +183,11 @@ unfoldable pub tokens_say : List ℕ → List Lexeme → Answer Says
 tokens_say line [] = Tells Nothing
 tokens_say line (l ∷ ls) =
     if is_name l.token then named_says line l ls (directive_of (text_of_lexeme line l))
-    (place_in NAMES (text_of_lexeme line l))
+    (index_in MNEMONICS (text_of_lexeme line l))
     else Stops 0 Extra
 
--- how many bytes the blanks, the name and the colon of a label at the front have: the colon stands right
--- after the name
+-- how many bytes the blanks, the name and the colon of a label that a text begins with have: the colon stands
+-- right after the name
 unfoldable pub blanks : List ℕ → ℕ
 blanks text = length (front is_blank text)
 
@@ -217,7 +219,7 @@ fault_of_kind BadOperand column = fault.BadOperand column
 
 abbrev pub line_answer : List ℕ → Option (List ℕ) → List Lexeme → Answer Says → Result SourceLine LineFault
 line_answer line label ls (Tells says) = Ok (record { label = label; says = says })
-line_answer line label ls (Stops place kind) = Err (fault_of_kind kind (column_of line (slice_get ls place)))
+line_answer line label ls (Stops index kind) = Err (fault_of_kind kind (column_of line (slice_get ls index)))
 
 -- the tokens of a line after its label
 unfoldable pub line_lexemes : List ℕ → List Lexeme

@@ -6,8 +6,8 @@ use Rattle.asm_tokens.specs.declared.token.Lexeme.{Lexeme}
 use Rattle.asm_tokens.specs.Characters.{is_digit, column_at}
 use Rattle.asm_tokens.specs.Tokens.{lexemes_of}
 use Rattle.asm_parser.specs.declared.line.LineFault.{LineFault}
-use Rattle.asm_parser.specs.declared.stops.Stop.{Stop}
-use Rattle.asm_parser.specs.declared.stops.Stop.TheVariants.{Fault, Memory}
+use Rattle.asm_parser.specs.declared.parse_fault.ParseFault.{ParseFault}
+use Rattle.asm_parser.specs.declared.parse_fault.ParseFault.TheVariants.{Syntax, Memory}
 use Rattle.asm_parser.specs.declared.line.LineFault.TheVariants as fault
 use Rattle.asm_parser.specs.declared.directives.Directive.{Directive}
 use Rattle.asm_parser.specs.declared.directives.Directive.TheVariants as directive
@@ -16,32 +16,32 @@ use Rattle.asm_parser.specs.Lines.{Answer, Tells, Stops, fault_of_kind}
 
 -- what some tokens say, with a fault where its token begins in the line, or nowhere if it stands past the
 -- last token
-unfoldable pub located : {A : Type 0} → List Lexeme → Answer A → Result A Stop
+unfoldable pub located : {A : Type 0} → List Lexeme → Answer A → Result A ParseFault
 located ls (Tells a) = Ok a
-located ls (Stops place kind) = Err (Fault (option_map (λ l. l.start) (slice_get ls place)) kind)
+located ls (Stops index kind) = Err (Syntax (option_map (λ l. l.start) (slice_get ls index)) kind)
 
--- the tokens of a text from a place on
+-- the tokens of a text from an offset on
 abbrev pub lexemes_from : List ℕ → ℕ → List Lexeme
-lexemes_from text at = lexemes_of at (drop at text)
+lexemes_from text offset = lexemes_of offset (drop offset text)
 
--- what the tokens of a text from a place on say
-unfoldable pub said_from : {A : Type 0} → (List Lexeme → Answer A) → List ℕ → ℕ → Result A Stop
-said_from says text at = located (lexemes_from text at) (says (lexemes_from text at))
+-- what the tokens of a text from an offset on say
+unfoldable pub said_from : {A : Type 0} → (List Lexeme → Answer A) → List ℕ → ℕ → Result A ParseFault
+said_from says text offset = located (lexemes_from text offset) (says (lexemes_from text offset))
 
--- a line stops there, but where memory is wanted
-abbrev pub StopsAs : {A : Type 0} → Stop → Result A Stop → Type 0
-StopsAs Memory said = Unit {0}
-StopsAs (Fault start kind) said = said ≡ Err (Fault start kind)
+-- a line stops there, but where it is out of memory
+abbrev pub FaultsAs : {A : Type 0} → ParseFault → Result A ParseFault → Type 0
+FaultsAs Memory said = Unit {0}
+FaultsAs (Syntax start kind) said = said ≡ Err (Syntax start kind)
 
--- a result shows what is said, but where memory is wanted
-abbrev pub Shows : {R A : Type 0} → (R → A) → Result R Stop → Result A Stop → Type 0
+-- a result shows what is said, but where it is out of memory
+abbrev pub Shows : {R A : Type 0} → (R → A) → Result R ParseFault → Result A ParseFault → Type 0
 Shows view (Ok r) said = said ≡ Ok (view r)
-Shows view (Err stop) said = StopsAs stop said
+Shows view (Err fault) said = FaultsAs fault said
 
 -- values that stand before those of a list
-abbrev pub before : {A : Type 0} → List A → Result (List A) Stop → Result (List A) Stop
+abbrev pub before : {A : Type 0} → List A → Result (List A) ParseFault → Result (List A) ParseFault
 before values (Ok others) = Ok (values ++ others)
-before values (Err stop) = Err stop
+before values (Err fault) = Err fault
 
 -- the column of a byte of the line, or just past the line's end
 unfoldable pub column_from : List ℕ → Option ℕ → ℕ
@@ -49,9 +49,9 @@ column_from line None = column_at line (length line)
 column_from line (Some start) = column_at line start
 
 -- the fault of a line that stops
-unfoldable pub stop_fault : List ℕ → Stop → LineFault
-stop_fault line (Fault start kind) = fault_of_kind kind (column_from line start)
-stop_fault line Memory = fault.Memory
+unfoldable pub line_fault_of : List ℕ → ParseFault → LineFault
+line_fault_of line (Syntax start kind) = fault_of_kind kind (column_from line start)
+line_fault_of line Memory = fault.Memory
 
 -- the directive of a name
 abbrev pub directive_said : Directive → lines.Directive

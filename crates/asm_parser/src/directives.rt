@@ -4,9 +4,9 @@ ghost use Rattle.asm_parser.specs.Lines.{directive_of, directive_says, is_of_lis
 ghost use Rattle.asm_parser.specs.Statements.{says_of};
 ghost use Rattle.asm_parser.specs.Told.{said_from, Shows, directive_said};
 
+use crate::directive_operands::{expect_end, one_name, one_number, values};
 use crate::line::Statement;
-use crate::lists::{expect_end, one_name, one_number, values};
-use crate::stops::Stop;
+use crate::parse_fault::ParseFault;
 use std::alloc::Global;
 
 /// The name of a directive.
@@ -25,11 +25,7 @@ pub enum Directive {
 fn begins_dotted(name: &[u8]) -> bool
     ensures { result ≡ (slice_index name.now 0 == 46) }
 {
-    if name.is_empty() {
-        false
-    } else {
-        name[0] == 46
-    }
+    !name.is_empty() && name[0] == b'.'
 }
 
 #[tactic(auto, unfolding(crate::specs::Lines::directive_of))]
@@ -69,36 +65,36 @@ pub fn directive_of(name: &[u8]) -> Option<Directive>
     }
 }
 
-/// What a directive says with the tokens from a place on.
+/// What a directive says with the tokens from an offset on.
 #[tactic(auto, unfolding(crate::specs::Lines::directive_says, crate::specs::Lines::is_of_list))]
 pub fn directive_says<'a>(
     alloc: Global,
     line: &'a [u8],
     text: &[u8],
-    at: usize,
+    offset: usize,
     directive: Directive,
-) -> Result<Statement<'a>, Stop>
-    requires within { at ≤ length text.now }
+) -> Result<Statement<'a>, ParseFault>
+    requires within { offset ≤ length text.now }
     requires part { length text.now ≤ length line.now }
     ensures said { Shows says_of result
-        (said_from (directive_says line.now (directive_said directive)) text.now at) }
+        (said_from (directive_says line.now (directive_said directive)) text.now offset) }
     ensures memory { IfErr result
-        (λ stop. stop ≡ Stop.Memory → is_of_list (directive_said directive) ≡ true) }
+        (λ fault. fault ≡ ParseFault.Memory → is_of_list (directive_said directive) ≡ true) }
 {
     match directive {
         Directive::Text => {
-            expect_end(text, at)?;
+            expect_end(text, offset)?;
             Ok(Statement::Text)
         }
         Directive::Data => {
-            expect_end(text, at)?;
+            expect_end(text, offset)?;
             Ok(Statement::Data)
         }
-        Directive::Quad => Ok(Statement::Quad(values(alloc, line, text, at)?)),
-        Directive::Word => Ok(Statement::Word(values(alloc, line, text, at)?)),
-        Directive::Byte => Ok(Statement::Byte(values(alloc, line, text, at)?)),
-        Directive::Zero => Ok(Statement::Zero(one_number(text, at, u64::MAX)?)),
-        Directive::Align => Ok(Statement::Align(one_number(text, at, 12)? as u8)),
-        Directive::Global => Ok(Statement::Global(one_name(line, text, at)?)),
+        Directive::Quad => Ok(Statement::Quad(values(alloc, line, text, offset)?)),
+        Directive::Word => Ok(Statement::Word(values(alloc, line, text, offset)?)),
+        Directive::Byte => Ok(Statement::Byte(values(alloc, line, text, offset)?)),
+        Directive::Zero => Ok(Statement::Zero(one_number(text, offset, u64::MAX)?)),
+        Directive::Align => Ok(Statement::Align(one_number(text, offset, 12)? as u8)),
+        Directive::Global => Ok(Statement::Global(one_name(line, text, offset)?)),
     }
 }

@@ -8,18 +8,18 @@ ghost use Rattle.asm_parser.specs.Statements.{says_of, target_said};
 ghost use Rattle.asm_parser.specs.Told.{said_from, Shows, lexemes_from};
 
 use crate::line::{Statement, Target};
-use crate::stops::Stop;
+use crate::parse_fault::ParseFault;
 use arrayvec::ArrayVec;
 use asm_operands::{OperandFault, read_operands};
 use asm_tokens::{Lexeme, Token, column_at, next_lexeme};
 
 /// The first tokens, at most 24.
-fn first_tokens(text: &[u8], at: usize) -> ArrayVec<Token, 24>
-    requires { at ≤ length text.now }
-    ensures { result.items ≡ take 24 (map (λ l. l.token) (lexemes_from text.now at)) }
+fn first_tokens(text: &[u8], offset: usize) -> ArrayVec<Token, 24>
+    requires { offset ≤ length text.now }
+    ensures { result.items ≡ take 24 (map (λ l. l.token) (lexemes_from text.now offset)) }
 {
     let mut tokens = ArrayVec::new();
-    let mut from = at;
+    let mut from = offset;
     for count in 0..24usize {
         match next_lexeme(text, from) {
             None => return tokens,
@@ -33,13 +33,13 @@ fn first_tokens(text: &[u8], at: usize) -> ArrayVec<Token, 24>
 }
 
 /// The token after so many.
-fn lexeme_after(text: &[u8], at: usize, count: usize) -> Option<Lexeme>
-    requires { at ≤ length text.now }
-    ensures value { result ≡ slice_get (lexemes_from text.now at) count }
+fn lexeme_after(text: &[u8], offset: usize, count: usize) -> Option<Lexeme>
+    requires { offset ≤ length text.now }
+    ensures value { result ≡ slice_get (lexemes_from text.now offset) count }
     ensures some { IfSome result (λ l. l.start < l.end) }
     ensures within { IfSome result (λ l. l.end ≤ length text.now) }
 {
-    let mut from = at;
+    let mut from = offset;
     for skipped in 0..count {
         match next_lexeme(text, from) {
             None => return None,
@@ -49,21 +49,21 @@ fn lexeme_after(text: &[u8], at: usize, count: usize) -> Option<Lexeme>
     next_lexeme(text, from)
 }
 
-/// The target, from the place of its token.
+/// The target, from the index of its token.
 #[tactic(auto, unfolding(crate::specs::Lines::text_of_lexeme))]
 fn target_at<'a>(
     line: &'a [u8],
     text: &[u8],
-    at: usize,
+    offset: usize,
     named: Option<asm_operands::Target>,
 ) -> Option<Target<'a>>
-    requires within { at ≤ length text.now }
+    requires within { offset ≤ length text.now }
     requires part { length text.now ≤ length line.now }
-    ensures { option_map target_said result ≡ target_at line.now (lexemes_from text.now at) named }
+    ensures { option_map target_said result ≡ target_at line.now (lexemes_from text.now offset) named }
 {
     match named {
         None => None,
-        Some(named) => match lexeme_after(text, at, named.place) {
+        Some(named) => match lexeme_after(text, offset, named.index) {
             None => None,
             Some(lexeme) => Some(Target {
                 name: &line[lexeme.start..lexeme.end],
@@ -73,45 +73,45 @@ fn target_at<'a>(
     }
 }
 
-fn stop_at(text: &[u8], at: usize, fault: OperandFault) -> Stop
-    requires { at ≤ length text.now }
-    ensures { result ≡ Stop.Fault
-        (option_map (λ l. l.start) (slice_get (lexemes_from text.now at) fault.place)) fault.kind }
+fn fault_at(text: &[u8], offset: usize, fault: OperandFault) -> ParseFault
+    requires { offset ≤ length text.now }
+    ensures { result ≡ ParseFault.Syntax
+        (option_map (λ l. l.start) (slice_get (lexemes_from text.now offset) fault.index)) fault.kind }
 {
-    match lexeme_after(text, at, fault.place) {
-        None => Stop::Fault {
+    match lexeme_after(text, offset, fault.index) {
+        None => ParseFault::Syntax {
             start: None,
             kind: fault.kind,
         },
-        Some(lexeme) => Stop::Fault {
+        Some(lexeme) => ParseFault::Syntax {
             start: Some(lexeme.start),
             kind: fault.kind,
         },
     }
 }
 
-/// What an instruction says, whose name begins at `start` of the line, with the tokens from a place on.
+/// What an instruction says, whose mnemonic begins at `start` of the line, with the tokens from an offset on.
 pub fn instruction_says<'a>(
     line: &'a [u8],
     text: &[u8],
     start: usize,
-    at: usize,
-    name: u16,
-) -> Result<Statement<'a>, Stop>
+    offset: usize,
+    mnemonic: u16,
+) -> Result<Statement<'a>, ParseFault>
     requires short { length line.now < 2 ^ 32 - 1 }
-    requires within { at ≤ length text.now }
+    requires within { offset ≤ length text.now }
     requires part { length text.now ≤ length line.now }
     ensures said { Shows says_of result
-        (said_from (instruction_says line.now name (column_at line.now start)) text.now at) }
-    ensures memory { IfErr result (λ stop. stop ≢ Stop.Memory) }
+        (said_from (instruction_says line.now mnemonic (column_at line.now start)) text.now offset) }
+    ensures memory { IfErr result (λ fault. fault ≢ ParseFault.Memory) }
 {
-    let tokens = first_tokens(text, at);
-    match read_operands(name, tokens.as_slice()) {
+    let tokens = first_tokens(text, offset);
+    match read_operands(mnemonic, tokens.as_slice()) {
         Ok(operands) => Ok(Statement::Instruction {
             word: operands.word,
-            target: target_at(line, text, at, operands.target),
+            target: target_at(line, text, offset, operands.target),
             column: column_at(line, start),
         }),
-        Err(fault) => Err(stop_at(text, at, fault)),
+        Err(fault) => Err(fault_at(text, offset, fault)),
     }
 }

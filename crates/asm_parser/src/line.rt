@@ -26,9 +26,9 @@ pub enum Statement<'a> {
     Text,
     /// `.data`: what follows goes to the data.
     Data,
-    /// `.quad`: 8 bytes each, the low one first.
+    /// `.quad`: 8 bytes each, little-endian.
     Quad(Vec<Value<'a>>),
-    /// `.word`: 4 bytes each, the low one first.
+    /// `.word`: 4 bytes each, little-endian.
     Word(Vec<u32>),
     /// `.byte`
     Byte(Vec<u8>),
@@ -39,7 +39,7 @@ pub enum Statement<'a> {
     /// `.global NAME`, which has no effect.
     Global(&'a [u8]),
     /// An instruction's word, its target where that is a name, the distance in the word being 0 then, and
-    /// the column of the instruction's name.
+    /// the column of the mnemonic.
     Instruction {
         word: u32,
         target: Option<Target<'a>>,
@@ -56,7 +56,7 @@ pub struct Line<'a> {
 
 /// The first token with which no line goes on: its column, from 1 in characters, or that just past the end
 /// of the line. Of the kinds the first that fits is given: `UnknownName`, `BadNumber`, `Extra`,
-/// `BadOperand`. `Memory` is want of memory.
+/// `BadOperand`. `Memory` says that it was out of memory.
 #[derive(Clone, Copy, Debug, PartialEq, Eq)]
 pub enum LineFault {
     /// No instruction and no directive has the name.

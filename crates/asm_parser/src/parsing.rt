@@ -7,8 +7,8 @@ ghost use Rattle.asm_parser.specs.Told.{is_label};
 ghost use Rattle.asm_parser.specs.Statements.{line_said};
 
 use crate::line::{Line, LineFault};
+use crate::parse_fault::fault_of;
 use crate::statements::tokens_say;
-use crate::stops::fault_of;
 use asm_tokens::{before_comment, byte_at, is_digit, run_at, skip_blanks};
 use std::alloc::Global;
 
@@ -24,10 +24,10 @@ fn is_label(text: &[u8], name: &[u8], end: usize) -> bool
     ensures value { result ≡ is_label text.now name.now end }
     ensures within { IsTrue result → end < length text.now }
 {
-    !name.is_empty() && !is_digit(name[0]) && byte_at(text, end) == 58
+    !name.is_empty() && !is_digit(name[0]) && byte_at(text, end) == b':'
 }
 
-/// The label at the front.
+/// The label that a text begins with.
 fn label_of(text: &[u8]) -> Label<'_>
     ensures name { option_map (λ name. name.now) result.name ≡ label_of text.now }
     ensures end { result.end ≡ label_end text.now }
@@ -60,7 +60,7 @@ pub fn parse_bytes(alloc: Global, line: &[u8]) -> Result<Line<'_>, LineFault>
             label: label.name,
             statement,
         }),
-        Err(stop) => Err(fault_of(line, stop)),
+        Err(fault) => Err(fault_of(line, fault)),
     }
 }
 

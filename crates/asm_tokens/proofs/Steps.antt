@@ -9,9 +9,9 @@ use Rattle.std.proofs.Math.Nat.{mul-le-mul_left}
 use Rattle.std.proofs.lemmas.Bool.{le-ltb}
 use Rattle.asm_tokens.specs.Characters.{front, starts_comment, before_comment}
 use Rattle.asm_tokens.specs.Numbers.{digit_of, number_after, if_fits}
-use Rattle.asm_tokens.specs.Places.{hash_after}
+use Rattle.asm_tokens.specs.Slots.{hash_after}
 
--- what a text has from a place on, from a place on
+-- what a text has from an offset on, from an offset on
 pub joined_drops : (n m : ℕ) (xs : List ℕ) → drop m (drop n xs) ≡ drop (n + m) xs
 joined_drops n m xs = drop-drop m n xs
 

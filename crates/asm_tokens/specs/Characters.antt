@@ -24,7 +24,7 @@ is_blank c = (c == 32) || (c == 9)
 unfoldable pub is_continuation : ℕ → Bool
 is_continuation c = is_between 128 191 c
 
--- the bytes from the front on that pass the test, and the others
+-- the longest prefix of bytes that pass the test, and the rest
 abbrev pub front : (ℕ → Bool) → List ℕ → List ℕ
 front test bytes = take_while test bytes
 
@@ -37,8 +37,9 @@ characters bytes = count_by (λ c. not (is_continuation c)) bytes
 
 -- the column, from 1, of the character that begins at a byte of the line
 unfoldable pub column_at : List ℕ → ℕ → ℕ
-column_at line at = characters (take at line) + 1
+column_at line offset = characters (take offset line) + 1
 
+-- two `/`
 abbrev pub starts_comment : ℕ → List ℕ → Bool
 starts_comment c [] = false
 starts_comment c (d ∷ ds) = (c == 47) && (d == 47)

@@ -1,4 +1,4 @@
 pub mod Characters
 pub mod Numbers
-pub mod Places
+pub mod Slots
 pub mod Tokens

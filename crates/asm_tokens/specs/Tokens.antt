@@ -1,4 +1,4 @@
--- The tokens of a line: names, numbers and marks, with blanks between them.
+-- The tokens of a line: names, numbers and punctuation, with blanks between them.
 -- Source: this project's own assembly language.
 use Rattle.std.specs.Prelude.{ℕ, zero, suc, ◌+◌, Bool, true, false, not, ◌&&◌, ◌||◌, ◌==◌, nat_lt, List, []}
 use Rattle.std.specs.Prelude.{◌∷◌, length, drop, slice_index, Option, Some, None, if◌then◌else◌}
@@ -9,11 +9,11 @@ use Rattle.insn_text.specs.declared.item.RegisterFile.TheVariants.{X, W}
 use Rattle.insn_text.specs.declared.item.VectorFile.{VectorFile}
 use Rattle.insn_text.specs.declared.item.VectorFile.TheVariants as vector
 use Rattle.insn_text.specs.declared.item.Text.{Text}
-use Rattle.insn_text.specs.declared.words.TheConstants.{WORDS, SUFFIXES}
+use Rattle.insn_text.specs.declared.keywords.TheConstants.{KEYWORDS, SUFFIXES}
 use Rattle.insn_text.specs.Texts.{text_in}
 use Rattle.asm_tokens.specs.declared.token.Token.{Token}
-use Rattle.asm_tokens.specs.declared.token.Token.TheVariants.{Register, Word, Name, Number, Distance, Bare}
-use Rattle.asm_tokens.specs.declared.token.Token.TheVariants.{Malformed, Mark, Other, Sized}
+use Rattle.asm_tokens.specs.declared.token.Token.TheVariants.{Register, Keyword, Name, Number, Distance, Bare}
+use Rattle.asm_tokens.specs.declared.token.Token.TheVariants.{Malformed, Punctuation, Other, Sized}
 use Rattle.asm_tokens.specs.declared.token.Lexeme.{Lexeme}
 use Rattle.asm_tokens.specs.Characters.{is_digit, is_name_character, is_blank, is_continuation, front, back}
 use Rattle.asm_tokens.specs.Numbers.{number_in, decimal_number}
@@ -22,7 +22,7 @@ use Rattle.asm_tokens.specs.Numbers.{number_in, decimal_number}
 unfoldable pub is_name : Token → Bool
 is_name (Register file number) = true
 is_name (Sized file number suffix) = true
-is_name (Word place) = true
+is_name (Keyword index) = true
 is_name Name = true
 is_name _ = false
 
@@ -34,16 +34,16 @@ is_number_token (Bare size) = true
 is_number_token Malformed = true
 is_number_token _ = false
 
--- the place of a text in a table
-unfoldable pub place_in : List Text → List ℕ → Option ℕ
-place_in texts text = position (λ t. bytes_eq (text_in (Some t)) text) texts
+-- the index of a text in a table
+unfoldable pub index_in : List Text → List ℕ → Option ℕ
+index_in texts text = position (λ t. bytes_eq (text_in (Some t)) text) texts
 
--- a name is a word of operands, or not
+-- a name is a keyword of operands, or not
 unfoldable pub name_token : Option ℕ → Token
 name_token None = Name
-name_token (Some place) = Word place
+name_token (Some index) = Keyword index
 
--- the file of a letter
+-- the file of a letter: `x` or `w`
 unfoldable pub file_of : ℕ → Option RegisterFile
 file_of c = if c == 120 then Some X else if c == 119 then Some W else None
 
@@ -57,7 +57,7 @@ register_of (Some file) (Some number) = if nat_lt number 31 then Some (Register 
 unfoldable pub register_in : List ℕ → Option Token
 register_in cs = register_of (file_of (slice_index cs 0)) (decimal_number (drop 1 cs))
 
--- the file of a letter, of vectors, predicates or the low parts of vectors
+-- the file of a letter, of vectors, predicates or the low parts of vectors: z, p, b, h, s, d
 unfoldable pub vector_file_of : ℕ → Option VectorFile
 vector_file_of c =
     if c == 122 then Some vector.Z else if c == 112 then Some vector.P else if c == 98 then Some vector.B
@@ -70,8 +70,8 @@ file_size vector.P = 16
 file_size vector.Za = 16
 file_size other = 32
 
--- the suffixes of a file, by their places: a vector has any size of elements or none, a predicate none or one
--- up to `.d`, a part of a vector none, a tile one, and a slice of a tile one behind its direction
+-- the suffixes of a file, by their indices: a vector has any size of elements or none, a predicate none or
+-- one up to `.d`, a part of a vector none, a tile one, and a slice of a tile one behind its direction
 unfoldable pub has_suffix : VectorFile → ℕ → Bool
 has_suffix vector.Z suffix = nat_lt suffix 6
 has_suffix vector.P suffix = nat_lt suffix 5
@@ -89,7 +89,7 @@ sized_of file (Some number) (Some suffix) =
 unfoldable pub sized_after : Option VectorFile → List ℕ → Option Token
 sized_after None cs = None
 sized_after (Some file) cs =
-    sized_of file (decimal_number (front is_digit cs)) (place_in SUFFIXES (back is_digit cs))
+    sized_of file (decimal_number (front is_digit cs)) (index_in SUFFIXES (back is_digit cs))
 
 -- the letters `za` come first
 unfoldable pub begins_za : List ℕ → Bool
@@ -105,9 +105,9 @@ abbrev pub token_or : Token → Option Token → Token
 token_or fallback None = fallback
 token_or _ (Some token) = token
 
--- the token of a name: a register, a word, or another
+-- the token of a name: a register, a keyword, or another
 unfoldable pub token_of_name : List ℕ → Token
-token_of_name cs = token_or (token_or (name_token (place_in WORDS cs)) (sized_in cs)) (register_in cs)
+token_of_name cs = token_or (token_or (name_token (index_in KEYWORDS cs)) (sized_in cs)) (register_in cs)
 
 unfoldable pub number_token : Bool → Option ℕ → Token
 number_token negative None = Malformed
@@ -158,7 +158,7 @@ read_run cs = record {
 -- a character by itself, with the bytes that continue it
 unfoldable pub read_character : ℕ → List ℕ → Read
 read_character c cs =
-    if nat_lt c 128 then record { token = Mark c; size = 1 }
+    if nat_lt c 128 then record { token = Punctuation c; size = 1 }
     else record { token = Other; size = 1 + length (front is_continuation cs) }
 
 -- `+` or `-` stands first
@@ -179,18 +179,18 @@ begins_name [] = false
 begins_name (c ∷ cs) = is_name_character c && not (is_digit c) && not ((c == 46) && has_sign cs)
 
 abbrev pub lexeme_at : ℕ → Read → Lexeme
-lexeme_at at r = record { token = r.token; start = at; end = at + r.size }
+lexeme_at offset r = record { token = r.token; start = offset; end = offset + r.size }
 
--- the tokens of a text that stands at a place of the line; each takes a byte at least, and no more than
+-- the tokens of a text that stands at an offset of the line; each takes a byte at least, and no more than
 -- `most` are taken
 unfoldable pub lexemes_from : ℕ → ℕ → List ℕ → List Lexeme
-lexemes_from zero at text = []
-lexemes_from (suc most) at [] = []
-lexemes_from (suc most) at (c ∷ cs) =
-    if is_blank c then lexemes_from most (at + 1) cs
-    else lexeme_at at (read_token c cs)
-    ∷ lexemes_from most (at + (read_token c cs).size) (drop (read_token c cs).size (c ∷ cs))
+lexemes_from zero offset text = []
+lexemes_from (suc most) offset [] = []
+lexemes_from (suc most) offset (c ∷ cs) =
+    if is_blank c then lexemes_from most (offset + 1) cs
+    else lexeme_at offset (read_token c cs)
+    ∷ lexemes_from most (offset + (read_token c cs).size) (drop (read_token c cs).size (c ∷ cs))
 
--- the tokens of a text that stands at a place of the line
+-- the tokens of a text that stands at an offset of the line
 abbrev pub lexemes_of : ℕ → List ℕ → List Lexeme
-lexemes_of at text = lexemes_from (length text) at text
+lexemes_of offset text = lexemes_from (length text) offset text

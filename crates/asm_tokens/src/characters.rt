@@ -11,7 +11,7 @@ ghost use Rattle.asm_tokens.specs.Tokens.{run};
 pub fn is_digit(c: u8) -> bool
     ensures { result ≡ is_digit c }
 {
-    48 <= c && c <= 57
+    b'0' <= c && c <= b'9'
 }
 
 /// A character of a name: a letter, a digit, `$`, `.` or `_`.
@@ -19,7 +19,12 @@ pub fn is_digit(c: u8) -> bool
 pub fn is_name_character(c: u8) -> bool
     ensures { result ≡ is_name_character c }
 {
-    (97 <= c && c <= 122) || (65 <= c && c <= 90) || is_digit(c) || c == 36 || c == 46 || c == 95
+    (b'a' <= c && c <= b'z')
+        || (b'A' <= c && c <= b'Z')
+        || is_digit(c)
+        || c == b'$'
+        || c == b'.'
+        || c == b'_'
 }
 
 /// A space or a tab.
@@ -27,7 +32,7 @@ pub fn is_name_character(c: u8) -> bool
 pub fn is_blank(c: u8) -> bool
     ensures { result ≡ is_blank c }
 {
-    c == 32 || c == 9
+    c == b' ' || c == b'\t'
 }
 
 /// A byte that continues a character.
@@ -35,23 +40,23 @@ pub fn is_blank(c: u8) -> bool
 pub fn is_continuation(c: u8) -> bool
     ensures { result ≡ is_continuation c }
 {
-    128 <= c && c <= 191
+    0x80 <= c && c <= 0xBF
 }
 
-/// The byte at a place, or 0 past the end.
-pub fn byte_at(text: &[u8], at: usize) -> u8
-    ensures { result ≡ slice_index text.now at }
+/// The byte at an offset, or 0 past the end.
+pub fn byte_at(text: &[u8], offset: usize) -> u8
+    ensures { result ≡ slice_index text.now offset }
 {
-    if at < text.len() { text[at] } else { 0 }
+    if offset < text.len() { text[offset] } else { 0 }
 }
 
-/// Where the blanks from a place on end.
-pub fn skip_blanks(text: &[u8], at: usize) -> usize
-    requires { at ≤ length text.now }
-    ensures value { result ≡ at + length (front is_blank (drop at text.now)) }
+/// Where the blanks from an offset on end.
+pub fn skip_blanks(text: &[u8], offset: usize) -> usize
+    requires { offset ≤ length text.now }
+    ensures value { result ≡ offset + length (front is_blank (drop offset text.now)) }
     ensures within { result ≤ length text.now }
 {
-    for end in at..text.len() {
+    for end in offset..text.len() {
         if !is_blank(text[end]) {
             return end;
         }
@@ -59,12 +64,12 @@ pub fn skip_blanks(text: &[u8], at: usize) -> usize
     text.len()
 }
 
-fn name_end(text: &[u8], at: usize) -> usize
-    requires { at ≤ length text.now }
-    ensures value { result ≡ at + length (run (drop at text.now)) }
+fn name_end(text: &[u8], offset: usize) -> usize
+    requires { offset ≤ length text.now }
+    ensures value { result ≡ offset + length (run (drop offset text.now)) }
     ensures within { result ≤ length text.now }
 {
-    for end in at..text.len() {
+    for end in offset..text.len() {
         if !is_name_character(text[end]) {
             return end;
         }
@@ -72,13 +77,13 @@ fn name_end(text: &[u8], at: usize) -> usize
     text.len()
 }
 
-/// The run of characters of names at a place.
-pub fn run_at(text: &[u8], at: usize) -> &[u8]
-    requires { at ≤ length text.now }
-    ensures value { result.now ≡ run (drop at text.now) }
-    ensures within { at + length result.now ≤ length text.now }
+/// The run of characters of names at an offset.
+pub fn run_at(text: &[u8], offset: usize) -> &[u8]
+    requires { offset ≤ length text.now }
+    ensures value { result.now ≡ run (drop offset text.now) }
+    ensures within { offset + length result.now ≤ length text.now }
 {
-    &text[at..name_end(text, at)]
+    &text[offset..name_end(text, offset)]
 }
 
 /// How many digits stand first.
@@ -95,12 +100,12 @@ pub fn digits_end(text: &[u8]) -> usize
 }
 
 /// Where the bytes that continue a character end.
-pub fn character_end(text: &[u8], at: usize) -> usize
-    requires { at ≤ length text.now }
-    ensures value { result ≡ at + length (front is_continuation (drop at text.now)) }
+pub fn character_end(text: &[u8], offset: usize) -> usize
+    requires { offset ≤ length text.now }
+    ensures value { result ≡ offset + length (front is_continuation (drop offset text.now)) }
     ensures within { result ≤ length text.now }
 {
-    for end in at..text.len() {
+    for end in offset..text.len() {
         if !is_continuation(text[end]) {
             return end;
         }
@@ -118,35 +123,39 @@ fn characters(bytes: &[u8]) -> usize
 
 /// The column, from 1, of the character that begins at a byte of the line, or just past its end.
 #[tactic(auto, unfolding(crate::specs::Characters::column_at))]
-pub fn column_at(line: &[u8], at: usize) -> u32
+pub fn column_at(line: &[u8], offset: usize) -> u32
     requires { length line.now < 2 ^ 32 - 1 }
-    ensures { result ≡ column_at line.now at }
+    ensures { result ≡ column_at line.now offset }
 {
-    let before = if at < line.len() { &line[..at] } else { line };
+    let before = if offset < line.len() {
+        &line[..offset]
+    } else {
+        line
+    };
     characters(before) as u32 + 1
 }
 
-fn starts_comment(line: &[u8], at: usize) -> bool
-    requires { at < length line.now }
-    ensures { result ≡ starts_comment (slice_index line.now at) (drop (at + 1) line.now) }
+fn starts_comment(line: &[u8], offset: usize) -> bool
+    requires { offset < length line.now }
+    ensures { result ≡ starts_comment (slice_index line.now offset) (drop (offset + 1) line.now) }
 {
-    line[at] == 47 && byte_at(line, at + 1) == 47
+    line[offset] == b'/' && byte_at(line, offset + 1) == b'/'
 }
 
 /// Whether the line has a `/`.
 fn has_slash(line: &[u8]) -> bool
     ensures { result ≡ list_any is_slash line.now }
 {
-    line.iter().any(|c| *c == 47)
+    line.iter().any(|c| *c == b'/')
 }
 
 /// The line before its comment.
 fn cut_comment(line: &[u8]) -> &[u8]
     ensures { result.now ≡ before_comment line.now }
 {
-    for at in 0..line.len() {
-        if starts_comment(line, at) {
-            return &line[..at];
+    for offset in 0..line.len() {
+        if starts_comment(line, offset) {
+            return &line[..offset];
         }
     }
     line

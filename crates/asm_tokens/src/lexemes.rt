@@ -10,7 +10,7 @@ ghost use Rattle.asm_tokens.specs.Tokens.{has_suffix, sized_of, sized_after, beg
 use crate::characters::{
     byte_at, character_end, digits_end, is_blank, is_digit, is_name_character, run_at, skip_blanks,
 };
-use crate::names::{suffix_place, word_place};
+use crate::names::{keyword_index, suffix_index};
 use crate::numbers::{decimal_number, number_in};
 use crate::token::{Lexeme, Token};
 use insn_text::{RegisterFile, VectorFile};
@@ -46,11 +46,11 @@ fn bare_token(number: Option<u64>) -> Token
 }
 
 #[tactic(auto, unfolding(crate::specs::Tokens::name_token))]
-fn name_token(place: Option<u16>) -> Token
-    ensures { result ≡ name_token place }
+fn name_token(index: Option<u16>) -> Token
+    ensures { result ≡ name_token index }
 {
-    match place {
-        Some(place) => Token::Word(place),
+    match index {
+        Some(index) => Token::Keyword(index),
         None => Token::Name,
     }
 }
@@ -61,8 +61,8 @@ fn file_of(letter: u8) -> Option<RegisterFile>
     ensures { result ≡ file_of letter }
 {
     match letter {
-        120 => Some(RegisterFile::X),
-        119 => Some(RegisterFile::W),
+        b'x' => Some(RegisterFile::X),
+        b'w' => Some(RegisterFile::W),
         _ => None,
     }
 }
@@ -123,7 +123,7 @@ fn file_size(file: VectorFile) -> u64
     }
 }
 
-/// Whether a register of the file may have the suffix at a place.
+/// Whether a register of the file may have the suffix, by its index.
 #[tactic(auto, unfolding(crate::specs::Tokens::has_suffix))]
 fn has_suffix(file: VectorFile, suffix: u16) -> bool
     ensures { result ≡ has_suffix file suffix }
@@ -159,7 +159,7 @@ fn sized_after(file: VectorFile, text: &[u8]) -> Option<Token>
 {
     let (digits, rest) = text.split_at(digits_end(text));
     let number = decimal_number(digits)?;
-    let suffix = suffix_place(rest)?;
+    let suffix = suffix_index(rest)?;
     sized_of(file, number, suffix)
 }
 
@@ -189,7 +189,7 @@ fn sized_in(name: &[u8]) -> Option<Token>
     }
 }
 
-/// The token of a name: a register, a word, or another.
+/// The token of a name: a register, a keyword, or another.
 #[tactic(auto, unfolding(crate::specs::Tokens::token_of_name))]
 fn token_of_name(name: &[u8]) -> Token
     ensures { result ≡ token_of_name name.now }
@@ -198,7 +198,7 @@ fn token_of_name(name: &[u8]) -> Token
         Some(token) => token,
         None => match sized_in(name) {
             Some(token) => token,
-            None => name_token(word_place(name)),
+            None => name_token(keyword_index(name)),
         },
     }
 }
@@ -210,7 +210,7 @@ fn read_number(text: &[u8], start: usize) -> Lexeme
     ensures value { result ≡ lexeme_at start (read_number (drop (start + 1) text.now)) }
     ensures within { result.end ≤ length text.now }
 {
-    if byte_at(text, start + 1) == 45 {
+    if byte_at(text, start + 1) == b'-' {
         let run = run_at(text, start + 2);
         Lexeme {
             token: number_token(true, number_in(run)),
@@ -235,7 +235,7 @@ fn read_distance(text: &[u8], start: usize) -> Lexeme
     ensures within { result.end ≤ length text.now }
 {
     let run = run_at(text, start + 2);
-    let back = byte_at(text, start + 1) == 45;
+    let back = byte_at(text, start + 1) == b'-';
     Lexeme {
         token: distance_token(back, decimal_number(run)),
         start,
@@ -263,7 +263,7 @@ fn read_run(text: &[u8], start: usize) -> Lexeme
     }
 }
 
-/// A character by itself.
+/// Punctuation: a character by itself.
 #[tactic(auto, using(crate::proofs::Steps::joined_drops), unfolding(crate::specs::Tokens::read_character))]
 fn read_character(text: &[u8], start: usize) -> Lexeme
     requires { start < length text.now }
@@ -273,7 +273,7 @@ fn read_character(text: &[u8], start: usize) -> Lexeme
 {
     if text[start] < 128 {
         Lexeme {
-            token: Token::Mark(text[start]),
+            token: Token::Punctuation(text[start]),
             start,
             end: start + 1,
         }
@@ -287,15 +287,15 @@ fn read_character(text: &[u8], start: usize) -> Lexeme
 }
 
 #[tactic(auto, using(crate::proofs::Steps::joined_drops), unfolding(crate::specs::Tokens::has_sign))]
-fn has_sign(text: &[u8], at: usize) -> bool
-    ensures value { result ≡ has_sign (drop at text.now) }
-    ensures within { IsTrue result → at < length text.now }
+fn has_sign(text: &[u8], offset: usize) -> bool
+    ensures value { result ≡ has_sign (drop offset text.now) }
+    ensures within { IsTrue result → offset < length text.now }
 {
-    let c = byte_at(text, at);
-    c == 43 || c == 45
+    let c = byte_at(text, offset);
+    c == b'+' || c == b'-'
 }
 
-/// The token that begins at a place.
+/// The token that begins at an offset.
 #[tactic(auto, using(crate::proofs::Steps::joined_drops), unfolding(crate::specs::Tokens::read_token))]
 fn lexeme_at(text: &[u8], start: usize) -> Lexeme
     requires { start < length text.now }
@@ -304,9 +304,9 @@ fn lexeme_at(text: &[u8], start: usize) -> Lexeme
     ensures within { result.end ≤ length text.now }
 {
     let c = text[start];
-    if c == 35 {
+    if c == b'#' {
         read_number(text, start)
-    } else if c == 46 && has_sign(text, start + 1) {
+    } else if c == b'.' && has_sign(text, start + 1) {
         read_distance(text, start)
     } else if is_name_character(c) {
         read_run(text, start)
@@ -315,16 +315,16 @@ fn lexeme_at(text: &[u8], start: usize) -> Lexeme
     }
 }
 
-/// The first token from a place on, which the others follow.
-pub fn next_lexeme(text: &[u8], at: usize) -> Option<Lexeme>
-    requires { at ≤ length text.now }
-    ensures first { MatchOption result (lexemes_of at (drop at text.now) ≡ [])
-        (λ l. lexemes_of at (drop at text.now) ≡ l ∷ lexemes_of l.end (drop l.end text.now)) }
-    ensures after { IfSome result (λ l. at ≤ l.start) }
+/// The first token from an offset on, which the others follow.
+pub fn next_lexeme(text: &[u8], offset: usize) -> Option<Lexeme>
+    requires { offset ≤ length text.now }
+    ensures first { MatchOption result (lexemes_of offset (drop offset text.now) ≡ [])
+        (λ l. lexemes_of offset (drop offset text.now) ≡ l ∷ lexemes_of l.end (drop l.end text.now)) }
+    ensures after { IfSome result (λ l. offset ≤ l.start) }
     ensures some { IfSome result (λ l. l.start < l.end) }
     ensures within { IfSome result (λ l. l.end ≤ length text.now) }
 {
-    let start = skip_blanks(text, at);
+    let start = skip_blanks(text, offset);
     if start < text.len() {
         Some(lexeme_at(text, start))
     } else {
@@ -332,13 +332,13 @@ pub fn next_lexeme(text: &[u8], at: usize) -> Option<Lexeme>
     }
 }
 
-/// A name stands at a place, and no number.
+/// A name stands at an offset, and no number.
 #[tactic(auto, using(crate::proofs::Steps::joined_drops), unfolding(crate::specs::Tokens::begins_name))]
-pub fn begins_name(text: &[u8], at: usize) -> bool
-    ensures { result ≡ begins_name (drop at text.now) }
+pub fn begins_name(text: &[u8], offset: usize) -> bool
+    ensures { result ≡ begins_name (drop offset text.now) }
 {
-    at < text.len()
-        && is_name_character(text[at])
-        && !is_digit(text[at])
-        && !(text[at] == 46 && has_sign(text, at + 1))
+    offset < text.len()
+        && is_name_character(text[offset])
+        && !is_digit(text[offset])
+        && !(text[offset] == b'.' && has_sign(text, offset + 1))
 }

@@ -1,13 +1,13 @@
-//! Names and words of operands, found in their tables.
+//! Mnemonics and keywords, found in their tables.
 ghost use Rattle.std.specs.Prelude.{◌≡◌, ◌≤◌, ◌<◌, Some, slice_index, length, IfSome};
 ghost use Rattle.std.specs.Str.{bytes_eq};
-ghost use Rattle.insn_text.specs.declared.words.TheConstants.{WORDS, NAMES, SUFFIXES};
+ghost use Rattle.insn_text.specs.declared.keywords.TheConstants.{KEYWORDS, MNEMONICS, SUFFIXES};
 ghost use Rattle.insn_text.specs.Texts.{text_in};
-ghost use Rattle.asm_tokens.specs.Tokens.{place_in};
-ghost use Rattle.asm_tokens.specs.Places.{hash_after, place_if, place_by, probed};
+ghost use Rattle.asm_tokens.specs.Tokens.{index_in};
+ghost use Rattle.asm_tokens.specs.Slots.{hash_after, index_if, index_by, probed};
 
-use crate::places::{FACTOR, FREE, NAME_SLOTS, WORD_SLOTS};
-use insn_text::{NAMES, SUFFIXES, Text, WORDS};
+use crate::slots::{FACTOR, FREE, KEYWORD_SLOTS, MNEMONIC_SLOTS};
+use insn_text::{KEYWORDS, MNEMONICS, SUFFIXES, Text};
 
 #[inline(always)]
 fn hash(text: &[u8], factor: u32, size: u32) -> usize
@@ -18,16 +18,16 @@ fn hash(text: &[u8], factor: u32, size: u32) -> usize
     ensures small { result < size }
 {
     let mut hash: u32 = 0;
-    for at in 0..text.len() {
-        hash = (hash * factor + text[at] as u32) % size;
+    for offset in 0..text.len() {
+        hash = (hash * factor + text[offset] as u32) % size;
     }
     hash as usize
 }
 
-fn slot_at(slots: &[u16], at: usize) -> u16
-    ensures { result ≡ slice_index slots.now at }
+fn slot_at(slots: &[u16], slot: usize) -> u16
+    ensures { result ≡ slice_index slots.now slot }
 {
-    if at < slots.len() { slots[at] } else { 0 }
+    if slot < slots.len() { slots[slot] } else { 0 }
 }
 
 #[tactic(auto, unfolding(insn_text::specs::Texts::text_in))]
@@ -41,18 +41,18 @@ fn is_text(text: &Text, bytes: &[u8]) -> bool
     }
 }
 
-#[tactic(auto, unfolding(crate::specs::Places::place_if))]
-fn place_if(texts: &[Text], place: u16, bytes: &[u8]) -> Option<u16>
-    ensures { result ≡ place_if texts.now place bytes.now }
+#[tactic(auto, unfolding(crate::specs::Slots::index_if))]
+fn index_if(texts: &[Text], index: u16, bytes: &[u8]) -> Option<u16>
+    ensures { result ≡ index_if texts.now index bytes.now }
 {
-    if (place as usize) < texts.len() && is_text(&texts[place as usize], bytes) {
-        Some(place)
+    if (index as usize) < texts.len() && is_text(&texts[index as usize], bytes) {
+        Some(index)
     } else {
         None
     }
 }
 
-/// The place of the text by at most 16 slots from one on; a free slot is the last.
+/// The index of the text by at most 16 slots from one on; a free slot is the last.
 #[inline(always)]
 fn probed(texts: &[Text], slots: &[u16], size: usize, text: &[u8], start: usize) -> Option<u16>
     requires some { 0 < size }
@@ -60,65 +60,77 @@ fn probed(texts: &[Text], slots: &[u16], size: usize, text: &[u8], start: usize)
     requires start { start < size }
     ensures { result ≡ probed texts.now slots.now size text.now 16 start }
 {
-    let mut at = start;
+    let mut slot = start;
     for step in 0..16usize {
-        let slot = slot_at(slots, at);
-        if slot == FREE {
+        let entry = slot_at(slots, slot);
+        if entry == FREE {
             return None;
         }
-        match place_if(texts, slot, text) {
-            Some(place) => return Some(place),
-            None => at = (at + 1) % size,
+        match index_if(texts, entry, text) {
+            Some(index) => return Some(index),
+            None => slot = (slot + 1) % size,
         }
     }
     None
 }
 
-/// The first place of the text in a table.
-#[tactic(auto, unfolding(crate::specs::Tokens::place_in))]
-fn place_in(texts: &[Text], text: &[u8]) -> Option<usize>
-    ensures value { result ≡ place_in texts.now text.now }
-    ensures within { IfSome result (λ place. place < length texts.now) }
+/// The first index of the text in a table.
+#[tactic(auto, unfolding(crate::specs::Tokens::index_in))]
+fn index_in(texts: &[Text], text: &[u8]) -> Option<usize>
+    ensures value { result ≡ index_in texts.now text.now }
+    ensures within { IfSome result (λ index. index < length texts.now) }
 {
     texts.iter().position(|t| is_text(t, text))
 }
 
-#[tactic(auto, unfolding(crate::specs::Places::place_by))]
-fn word_by(text: &[u8]) -> Option<u16>
-    ensures { result ≡ place_by WORDS WORD_SLOTS FACTOR 512 text.now }
+#[tactic(auto, unfolding(crate::specs::Slots::index_by))]
+fn keyword_by(text: &[u8]) -> Option<u16>
+    ensures { result ≡ index_by KEYWORDS KEYWORD_SLOTS FACTOR 512 text.now }
 {
-    probed(&WORDS, &WORD_SLOTS, 512, text, hash(text, FACTOR, 512))
+    probed(
+        &KEYWORDS,
+        &KEYWORD_SLOTS,
+        512,
+        text,
+        hash(text, FACTOR, 512),
+    )
 }
 
-#[tactic(auto, unfolding(crate::specs::Places::place_by))]
-fn name_by(text: &[u8]) -> Option<u16>
-    ensures { result ≡ place_by NAMES NAME_SLOTS FACTOR 1024 text.now }
+#[tactic(auto, unfolding(crate::specs::Slots::index_by))]
+fn mnemonic_by(text: &[u8]) -> Option<u16>
+    ensures { result ≡ index_by MNEMONICS MNEMONIC_SLOTS FACTOR 1024 text.now }
 {
-    probed(&NAMES, &NAME_SLOTS, 1024, text, hash(text, FACTOR, 1024))
+    probed(
+        &MNEMONICS,
+        &MNEMONIC_SLOTS,
+        1024,
+        text,
+        hash(text, FACTOR, 1024),
+    )
 }
 
-/// The place of a word of operands.
-#[tactic(auto, using(crate::proofs::Leading::word_place))]
-pub fn word_place(text: &[u8]) -> Option<u16>
-    ensures { result ≡ place_in WORDS text.now }
+/// The index of a keyword of operands.
+#[tactic(auto, using(crate::proofs::Leading::keyword_index))]
+pub fn keyword_index(text: &[u8]) -> Option<u16>
+    ensures { result ≡ index_in KEYWORDS text.now }
 {
-    word_by(text)
+    keyword_by(text)
 }
 
-/// The place of a suffix of registers of vectors, predicates or ZA.
-pub fn suffix_place(text: &[u8]) -> Option<u16>
-    ensures { result ≡ place_in SUFFIXES text.now }
+/// The index of a suffix of registers of vectors, predicates or ZA.
+pub fn suffix_index(text: &[u8]) -> Option<u16>
+    ensures { result ≡ index_in SUFFIXES text.now }
 {
-    match place_in(&SUFFIXES, text) {
-        Some(place) => Some(place as u16),
+    match index_in(&SUFFIXES, text) {
+        Some(index) => Some(index as u16),
         None => None,
     }
 }
 
-/// The place of an instruction's name.
-#[tactic(auto, using(crate::proofs::Leading::name_place))]
-pub fn name_place(text: &[u8]) -> Option<u16>
-    ensures { result ≡ place_in NAMES text.now }
+/// The index of a mnemonic.
+#[tactic(auto, using(crate::proofs::Leading::mnemonic_index))]
+pub fn mnemonic_index(text: &[u8]) -> Option<u16>
+    ensures { result ≡ index_in MNEMONICS text.now }
 {
-    name_by(text)
+    mnemonic_by(text)
 }

@@ -11,7 +11,7 @@ use crate::characters::{byte_at, is_digit};
 fn is_hex_digit(c: u8) -> bool
     ensures { result ≡ is_hex_digit c }
 {
-    is_digit(c) || (97 <= c && c <= 102) || (65 <= c && c <= 70)
+    is_digit(c) || (b'a' <= c && c <= b'f') || (b'A' <= c && c <= b'F')
 }
 
 #[tactic(auto, unfolding(crate::specs::Numbers::digit_of))]
@@ -19,11 +19,11 @@ fn digit_of(c: u8) -> u64
     ensures { result ≡ digit_of c }
 {
     if is_digit(c) {
-        c.saturating_sub(48) as u64
-    } else if 97 <= c {
-        (c - 87) as u64
+        c.saturating_sub(b'0') as u64
+    } else if b'a' <= c {
+        (c - b'a') as u64 + 10
     } else {
-        c.saturating_sub(55) as u64
+        c.saturating_sub(b'A' - 10) as u64
     }
 }
 
@@ -69,8 +69,8 @@ fn digits_in(base: Base, digits: &[u8]) -> Option<u64>
     ensures { result ≡ digits_in base digits.now }
 {
     let mut number = 0;
-    for at in 0..digits.len() {
-        let c = digits[at];
+    for index in 0..digits.len() {
+        let c = digits[index];
         if !is_digit_of(base, c) {
             return None;
         }
@@ -87,7 +87,7 @@ fn has_no_leading_zero(digits: &[u8]) -> bool
     ensures { result ≡ (nat_lt 0 (length digits.now)
         && (not (slice_index digits.now 0 == 48) || (length digits.now == 1))) }
 {
-    0 < digits.len() && (byte_at(digits, 0) != 48 || digits.len() == 1)
+    0 < digits.len() && (byte_at(digits, 0) != b'0' || digits.len() == 1)
 }
 
 /// The number that decimal digits are, with no leading zero.
@@ -118,7 +118,7 @@ fn hexadecimal_number(digits: &[u8]) -> Option<u64>
 pub fn number_in(text: &[u8]) -> Option<u64>
     ensures { result ≡ number_in text.now }
 {
-    if byte_at(text, 0) == 48 && byte_at(text, 1) == 120 {
+    if byte_at(text, 0) == b'0' && byte_at(text, 1) == b'x' {
         hexadecimal_number(&text[2..])
     } else {
         decimal_number(text)

@@ -13,14 +13,14 @@ pub enum Token {
         number: u8,
     },
     /// A name that is a register of vectors, predicates or ZA: the letters of a file, a number, which the
-    /// file has, and a suffix, its place in `insn_text::SUFFIXES`.
+    /// file has, and a suffix, its index in `insn_text::SUFFIXES`.
     Sized {
         file: VectorFile,
         number: u8,
         suffix: u16,
     },
-    /// A name that is a word of operands: its place in `insn_text::WORDS`.
-    Word(u16),
+    /// A name that is a keyword of operands: its index in `insn_text::KEYWORDS`.
+    Keyword(u16),
     /// Any other name.
     Name,
     /// `#n` or `#-n`.
@@ -37,8 +37,8 @@ pub enum Token {
     Bare(u64),
     /// What begins as one of these numbers and is none, or does not fit 64 bits.
     Malformed,
-    /// Any other character of ASCII.
-    Mark(u8),
+    /// Punctuation: any other character of ASCII.
+    Punctuation(u8),
     /// Any other character.
     #[default]
     Other,
@@ -59,7 +59,7 @@ pub fn is_name(token: Token) -> bool
 {
     matches!(
         token,
-        Token::Register { .. } | Token::Sized { .. } | Token::Word(_) | Token::Name
+        Token::Register { .. } | Token::Sized { .. } | Token::Keyword(_) | Token::Name
     )
 }
 

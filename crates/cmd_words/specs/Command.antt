@@ -17,7 +17,7 @@ request_of (command.Asm source) = AsksAssembly (string_bytes source)
 request_of command.Help = AsksHelp
 request_of command.Version = AsksVersion
 
--- the fault is the first of the words; want of memory says nothing of them
+-- the fault is the first of the words; `Memory` says nothing of them
 abbrev pub IsFirstFault : List (List ℕ) → WordsFault → Type 0
 IsFirstFault words (fault.Usage place kind) = usage_fault words ≡ Some (record { place = place; kind = kind })
 IsFirstFault words fault.Memory = Unit {0}

@@ -34,10 +34,10 @@ pub enum UsageKind {
     Extra,
 }
 
-/// Why the words are no command, or want of memory.
+/// Why the words are no command.
 #[derive(Clone, Copy, Debug, PartialEq, Eq)]
 pub enum WordsFault {
-    /// The first place with a fault, counted from 0, and what is wrong there.
+    /// The index of the first word with a fault, counted from 0, and what is wrong there.
     Usage { place: usize, kind: UsageKind },
     /// There was no memory for a name.
     Memory,

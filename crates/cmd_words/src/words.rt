@@ -197,7 +197,7 @@ fn make_command(
 }
 
 /// Reads the words of a command line, without the program's name: Ok is what they ask for, `Usage` is their
-/// first fault, and `Memory` is want of memory.
+/// first fault, and `Memory` says that it was out of memory.
 pub fn read_words(alloc: Global, words: &[String]) -> Result<Command, WordsFault>
     ensures command { IfOk result (λ command.
         command_of (map string_bytes words.now) ≡ Some (request_of command)) }

@@ -9,7 +9,7 @@ use Rattle.elf_headers.specs.declared.fault.LoadFault.TheVariants.{Overlap}
 use Rattle.elf_headers.specs.declared.spans.Span.{Span}
 use Rattle.elf_headers.specs.Below.{first_below}
 use Rattle.sm_types.specs.Checks.{fault_when}
-use Rattle.elf_headers.specs.Header.{segment_count}
+use Rattle.elf_headers.specs.Header.{program_header_count}
 use Rattle.elf_headers.specs.Segments.{segment_of, is_load}
 use Rattle.elf_headers.specs.Loads.{share, overlap_at}
 use Rattle.elf_headers.specs.Spans.{span_at, spans_of, IsClearBelow}
@@ -26,12 +26,12 @@ span_is : (file : List ℕ) (i : ℕ) → is_load (segment_of file i) ≡ true �
 unfolding span_at
 span_is file i load = rw load refl
 
-span_there : (file : List ℕ) (spans : List Span) (i : ℕ) → IsPermutation (spans_of file) spans → i < segment_count file
+span_there : (file : List ℕ) (spans : List Span) (i : ℕ) → IsPermutation (spans_of file) spans → i < program_header_count file
     → is_load (segment_of file i) ≡ true → Contains spans (span file i)
 unfolding spans_of
 span_there file spans i perm below load =
     Contains-permutation (spans_of file) spans (span file i) perm
-    (Contains-answers_below (span_at file) i (segment_count file) (span file i) (span_is file i load) below)
+    (Contains-answers_below (span_at file) i (program_header_count file) (span file i) (span_is file i load) below)
 
 -- a default changes nothing within a list
 default_any : (spans : List Span) (p : ℕ) (d e : Span) → p < length spans → get_or spans p d ≡ get_or spans p e
@@ -44,7 +44,7 @@ and_split true b h = (refl, h)
 and_split false b h = cc
 
 pair_apart : (file : List ℕ) (spans : List Span) (least i j : ℕ) → IsPermutation (spans_of file) spans → IsClearBelow spans least
-    → i < least → i < segment_count file → j < segment_count file
+    → i < least → i < program_header_count file → j < program_header_count file
     → i < j → is_load (segment_of file i) ≡ true → is_load (segment_of file j) ≡ true → share (segment_of file i) (segment_of file j) ≡ true
     → ⊥
 pair_apart file spans least i j perm clear low li lj order one other shared =
@@ -66,7 +66,7 @@ pair_apart file spans least i j perm clear low li lj order one other shared =
     omega arith
 
 pair_clear : (file : List ℕ) (spans : List Span) (least i j : ℕ) → IsPermutation (spans_of file) spans → IsClearBelow spans least
-    → i < least → i < segment_count file → j < segment_count file → overlap_at file i j ≡ None
+    → i < least → i < program_header_count file → j < program_header_count file → overlap_at file i j ≡ None
 unfolding overlap_at
 pair_clear file spans least i j perm clear low li lj =
     elim (nat_lt i j && is_load (segment_of file i) && is_load (segment_of file j) && share (segment_of file i) (segment_of file j))
@@ -82,9 +82,9 @@ pair_clear file spans least i j perm clear low li lj =
     ] refl
 
 pub rows_clear : (file : List ℕ) (spans : List Span) (least : ℕ) → IsPermutation (spans_of file) spans → IsClearBelow spans least
-    → least ≤ segment_count file → first_below (λ i. first_below (overlap_at file i) (segment_count file)) least ≡ None
+    → least ≤ program_header_count file → first_below (λ i. first_below (overlap_at file i) (program_header_count file)) least ≡ None
 rows_clear file spans least perm clear within =
-    first_below-all_none _ least (λ i h. first_below-all_none (overlap_at file i) (segment_count file)
+    first_below-all_none _ least (λ i h. first_below-all_none (overlap_at file i) (program_header_count file)
     (λ j k. pair_clear file spans least i j perm clear h (omega arith) k))
 
 -- a program header has no pair with one of a number that is no higher

@@ -11,10 +11,10 @@ use Rattle.paged_memory.specs.Image.{Extent, part_byte, parts_byte}
 use Rattle.paged_memory.specs.Parts.{touched_below, AreApart, IsPlaced, ArePlaced}
 use Rattle.paged_memory.proofs.Count.{placed_by_ends}
 use Rattle.elf_headers.specs.declared.fault.LoadFault.TheVariants.{Overlap, TooManyPages}
-use Rattle.elf_headers.specs.declared.header.ProgramHeader.{ProgramHeader}
+use Rattle.elf_headers.specs.declared.program_header.ProgramHeader.{ProgramHeader}
 use Rattle.elf_headers.specs.Below.{first_below, answers, answers_below}
 use Rattle.sm_types.specs.Checks.{fault_when}
-use Rattle.elf_headers.specs.Header.{segment_count}
+use Rattle.elf_headers.specs.Header.{program_header_count}
 use Rattle.elf_headers.specs.Segments.{segment_of, is_load, segments_fault}
 use Rattle.elf_headers.specs.Loads.{load_of, loads_of, extent_of_load, extents_of, share, overlap_at, overlap_fault, pages_fault, IsSound}
 use Rattle.elf_headers.specs.Loads.{AreSound}
@@ -53,12 +53,12 @@ AreApart-push (p ∷ ps) q apart each = (
 
 -- ---- the loads
 
-no_overlap : (file : List ℕ) (i j : ℕ) → overlap_fault file ≡ None → i < segment_count file → j < segment_count file
+no_overlap : (file : List ℕ) (i j : ℕ) → overlap_fault file ≡ None → i < program_header_count file → j < program_header_count file
     → overlap_at file i j ≡ None
 unfolding overlap_fault
 no_overlap file i j h l m =
-    let row = first_below-each_none (λ k. first_below (overlap_at file k) (segment_count file)) (segment_count file) h i l in
-    first_below-each_none (overlap_at file i) (segment_count file) row j m
+    let row = first_below-each_none (λ k. first_below (overlap_at file k) (program_header_count file)) (program_header_count file) h i l in
+    first_below-each_none (overlap_at file i) (program_header_count file) row j m
 
 not_shared : (file : List ℕ) (i j : ℕ) → overlap_at file i j ≡ None → i < j → is_load (segment_of file i) ≡ true
     → is_load (segment_of file j) ≡ true → share (segment_of file i) (segment_of file j) ≡ false
@@ -97,7 +97,7 @@ one_more : (file : List ℕ) (s : ProgramHeader) (load : Bool) (ps : List Extent
 one_more file s true ps apart h = AreApart-push ps (extent_of_load file s) apart (h refl)
 one_more file s false ps apart h = rw (append-nil ps) apart
 
-apart_below : (file : List ℕ) (n : ℕ) → overlap_fault file ≡ None → n ≤ segment_count file
+apart_below : (file : List ℕ) (n : ℕ) → overlap_fault file ≡ None → n ≤ program_header_count file
     → AreApart (map (extent_of_load file) (answers_below (load_of file) n))
 unfolding answers_below
 apart_below file zero h l = tt
@@ -118,7 +118,7 @@ pub loads_are_sound : (file : List ℕ) (loads : List ProgramHeader) → loads �
 unfolding pages_fault loads_of
 loads_are_sound file loads is each apart few = record {
   each = rw is (loads_sound file each);
-  apart = rw is (apart_below file (segment_count file) apart (omega arith));
+  apart = rw is (apart_below file (program_header_count file) apart (omega arith));
   few = rw is (few_pages (touched_below (extents_of file) (2 ^ 35)) few);
 }
 

@@ -4,9 +4,9 @@ use Rattle.std.proofs.Common.{All}
 use Rattle.std.specs.Prelude.{◌&&◌, ◌||◌, nat_lt}
 use Rattle.std.proofs.lemmas.Bool.Decides.{nat_tests}
 use Rattle.elf_headers.specs.declared.fault.LoadFault.TheVariants.{Truncated, NotStatic, BadTable, InShared}
-use Rattle.elf_headers.specs.declared.header.ProgramHeader.{ProgramHeader}
-use Rattle.elf_headers.specs.Header.{segment_count}
-use Rattle.elf_headers.specs.Segments.{segment_at, segment_of, is_load, is_dynamic, is_in_shared, load_fault_of, segment_fault}
+use Rattle.elf_headers.specs.declared.program_header.ProgramHeader.{ProgramHeader}
+use Rattle.elf_headers.specs.Header.{program_header_count}
+use Rattle.elf_headers.specs.Segments.{program_header_offset, segment_of, is_load, is_dynamic, is_in_shared, load_fault_of, segment_fault}
 use Rattle.elf_headers.specs.Segments.{segments_fault}
 use Rattle.elf_headers.specs.declared.spans.Span.{Span}
 use Rattle.elf_headers.specs.Loads.{load_of, loads_of, IsSound}
@@ -30,12 +30,12 @@ load_inside s size test some = grind (arith, nat_tests)
 load_private : (s : ProgramHeader) → is_in_shared s ≡ false → (s.address + s.memory_size ≤ 0x7DFFFFFC0000) ⊎ (0x7F0000001000 ≤ s.address)
 load_private s test = grind (arith, nat_tests)
 
-sound_load : (size at i : ℕ) (s : ProgramHeader) → is_load s ≡ true → load_fault_of size at i s ≡ None → IsSound size s
+sound_load : (size offset i : ℕ) (s : ProgramHeader) → is_load s ≡ true → load_fault_of size offset i s ≡ None → IsSound size s
 unfolding load_fault_of
-sound_load size at i s load h =
-    let order = passed (nat_lt s.memory_size s.file_size) (BadTable at) _ h in
+sound_load size offset i s load h =
+    let order = passed (nat_lt s.memory_size s.file_size) (BadTable offset) _ h in
     let ends =
-    passed (nat_lt (2 ^ 47) (s.address + s.memory_size) || nat_lt (2 ^ 64 - 1) (s.offset + s.file_size)) (BadTable at) _ order.1 in
+    passed (nat_lt (2 ^ 47) (s.address + s.memory_size) || nat_lt (2 ^ 64 - 1) (s.offset + s.file_size)) (BadTable offset) _ order.1 in
     let file = passed (nat_lt 0 s.file_size && nat_lt size (s.offset + s.file_size)) (Truncated size) _ ends.1 in
     let place = passed (is_in_shared s) (InShared i) _ file.1 in
     let end = or_both (nat_lt (2 ^ 47) (s.address + s.memory_size)) _ ends.0 in
@@ -49,13 +49,14 @@ sound_load size at i s load h =
 
 -- ---- the loads of a file
 
-pub sound_at : (file : List ℕ) (i : ℕ) → segments_fault file ≡ None → i < segment_count file → is_load (segment_of file i) ≡ true
+pub sound_at : (file : List ℕ) (i : ℕ) → segments_fault file ≡ None → i < program_header_count file → is_load (segment_of file i) ≡ true
     → IsSound (length file) (segment_of file i)
 unfolding segments_fault segment_fault
 sound_at file i h l load =
-    let each = first_below-each_none (segment_fault file) (segment_count file) h i l in
+    let each = first_below-each_none (segment_fault file) (program_header_count file) h i l in
     let only = passed (is_dynamic (segment_of file i)) (NotStatic (segment_of file i).kind) _ each in
-    sound_load (length file) (segment_at file i) i (segment_of file i) load (passed_only (is_load (segment_of file i)) _ load only.1)
+    sound_load (length file) (program_header_offset file i) i (segment_of file i) load
+    (passed_only (is_load (segment_of file i)) _ load only.1)
 
 load_sound : (size : ℕ) (s : ProgramHeader) (load : Bool) → (load ≡ true → IsSound size s) → IfSome (cond load (Some s) None) (IsSound size)
 load_sound size s true h = h refl
@@ -64,11 +65,12 @@ load_sound size s false h = tt
 pub loads_sound : (file : List ℕ) → segments_fault file ≡ None → All (IsSound (length file)) (loads_of file)
 unfolding loads_of
 loads_sound file h =
-    All-answers_below (IsSound (length file)) (load_of file) (segment_count file)
+    All-answers_below (IsSound (length file)) (load_of file) (program_header_count file)
     (λ i l. load_sound (length file) (segment_of file i) (is_load (segment_of file i)) (sound_at file i h l))
 
 -- a load ends where the address space does at the latest
-pub end_low : (file : List ℕ) (i : ℕ) (s : ProgramHeader) → segments_fault file ≡ None → i < segment_count file → s ≡ segment_of file i
+pub end_low : (file : List ℕ) (i : ℕ) (s : ProgramHeader) → segments_fault file ≡ None → i < program_header_count file
+    → s ≡ segment_of file i
     → is_load s ≡ true → s.address + s.memory_size ≤ 2 ^ 47
 end_low file i s h l e load = let same : is_load (segment_of file i) ≡ true = rw e at load in rw e ((sound_at file i h l same).low)
 
@@ -79,6 +81,6 @@ span_low file i false s h = tt
 pub spans_low : (file : List ℕ) → segments_fault file ≡ None → All IsLow (spans_of file)
 unfolding spans_of span_at
 spans_low file h =
-    All-answers_below IsLow (span_at file) (segment_count file) (λ i l. span_low file i (is_load (segment_of file i)) _ (λ load.
+    All-answers_below IsLow (span_at file) (program_header_count file) (λ i l. span_low file i (is_load (segment_of file i)) _ (λ load.
     let sound = sound_at file i h l load in
     record { some = omega (arith, sound.some); low = sound.low }))

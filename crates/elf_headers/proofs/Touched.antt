@@ -9,11 +9,11 @@ use Rattle.std.proofs.lemmas.Bool.Decides.{nat_tests}
 use Rattle.paged_memory.specs.Image.{Extent, union, part_flags, image_flags}
 use Rattle.paged_memory.specs.Parts.{touched_below}
 use Rattle.elf_headers.specs.declared.fault.LoadFault.TheVariants.{TooManyPages, EntryOutside}
-use Rattle.elf_headers.specs.declared.header.ProgramHeader.{ProgramHeader}
+use Rattle.elf_headers.specs.declared.program_header.ProgramHeader.{ProgramHeader}
 use Rattle.elf_headers.specs.declared.spans.Span.{Span}
 use Rattle.elf_headers.specs.Below.{any_below, count_below}
 use Rattle.sm_types.specs.Checks.{fault_when}
-use Rattle.elf_headers.specs.Header.{header_entry, segment_count}
+use Rattle.elf_headers.specs.Header.{header_entry, program_header_count}
 use Rattle.elf_headers.specs.Segments.{segment_of, is_load, segments_fault}
 use Rattle.elf_headers.specs.Loads.{load_of, loads_of, extent_of_load, extents_of, pages_fault, has_executable, is_executable_at}
 use Rattle.elf_headers.specs.Loads.{entry_fault}
@@ -75,10 +75,10 @@ spans_touch : (file : List ℕ) (n : ℕ) → segments_fault file ≡ None
     → list_any (λ s. touches_page s n) (spans_of file) ≡ list_any (touches n) (extents_of file)
 unfolding spans_of span_at loads_of
 spans_touch file n h =
-    list_any-answers_below (λ s. touches_page s n) (span_at file) (segment_count file)
-    ∙ any_below-same _ _ (segment_count file)
+    list_any-answers_below (λ s. touches_page s n) (span_at file) (program_header_count file)
+    ∙ any_below-same _ _ (program_header_count file)
     (λ i l. header_touches file i n (is_load (segment_of file i)) (λ load. (sound_at file i h l load).some))
-    ∙ sym (list_any-answers_below (λ s. touches n (extent_of_load file s)) (load_of file) (segment_count file))
+    ∙ sym (list_any-answers_below (λ s. touches n (extent_of_load file s)) (load_of file) (program_header_count file))
     ∙ sym (list_any-map (touches n) (extent_of_load file) (loads_of file))
 
 pub pages_same : (file : List ℕ) (spans : List Span) (limit : ℕ) → segments_fault file ≡ None → IsPermutation (spans_of file) spans
@@ -101,11 +101,11 @@ load_executable s a true = refl
 load_executable s a false = refl
 
 executable : (file : List ℕ) (a : ℕ) → list_any (λ s. has_executable s a) (loads_of file)
-    ≡ any_below (is_executable_at file a) (segment_count file)
+    ≡ any_below (is_executable_at file a) (program_header_count file)
 unfolding loads_of
 executable file a =
-    list_any-answers_below (λ s. has_executable s a) (load_of file) (segment_count file)
-    ∙ any_below-same _ _ (segment_count file) (λ i l. load_executable (segment_of file i) a (is_load (segment_of file i)))
+    list_any-answers_below (λ s. has_executable s a) (load_of file) (program_header_count file)
+    ∙ any_below-same _ _ (program_header_count file) (λ i l. load_executable (segment_of file i) a (is_load (segment_of file i)))
 
 pub entry_fault-is : (file : List ℕ) (entry : ℕ) (loads : List ProgramHeader) → entry ≡ header_entry file → loads ≡ loads_of file
     → entry_fault file ≡ fault_when (not ((entry % 4 == 0) && list_any (λ s. has_executable s entry) loads)) (EntryOutside entry)

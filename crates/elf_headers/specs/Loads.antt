@@ -7,10 +7,10 @@ use Rattle.paged_memory.specs.Image.{Extent}
 use Rattle.paged_memory.specs.Parts.{touched_below, AreApart}
 use Rattle.elf_headers.specs.declared.fault.LoadFault.{LoadFault}
 use Rattle.elf_headers.specs.declared.fault.LoadFault.TheVariants.{Overlap, TooManyPages, EntryOutside}
-use Rattle.elf_headers.specs.declared.header.ProgramHeader.{ProgramHeader}
+use Rattle.elf_headers.specs.declared.program_header.ProgramHeader.{ProgramHeader}
 use Rattle.elf_headers.specs.Below.{first_below, any_below, answers_below}
 use Rattle.sm_types.specs.Checks.{first_fault, fault_when}
-use Rattle.elf_headers.specs.Header.{header_entry, segment_count, length_fault, kind_fault, table_fault}
+use Rattle.elf_headers.specs.Header.{header_entry, program_header_count, length_fault, kind_fault, table_fault}
 use Rattle.elf_headers.specs.Segments.{segment_of, is_load, segments_fault}
 
 -- program header number i, where it is a load
@@ -19,7 +19,7 @@ load_of file i = cond (is_load (segment_of file i)) (Some (segment_of file i)) N
 
 -- the loads, in the order of their program headers
 unfoldable pub loads_of : List ℕ → List ProgramHeader
-loads_of file = answers_below (load_of file) (segment_count file)
+loads_of file = answers_below (load_of file) (program_header_count file)
 
 -- what a load takes into memory: its bytes of the file, with zeros after them
 unfoldable pub extent_of_load : List ℕ → ProgramHeader → Extent
@@ -52,7 +52,7 @@ overlap_at file i j =
 -- the least i, and for it the least j
 unfoldable pub overlap_fault : List ℕ → Option LoadFault
 overlap_fault file =
-    first_below (λ i. first_below (overlap_at file i) (segment_count file)) (segment_count file)
+    first_below (λ i. first_below (overlap_at file i) (program_header_count file)) (program_header_count file)
 
 -- the pages that the loads touch, and the stack's
 abbrev pub page_sum : List ℕ → ℕ
@@ -73,7 +73,7 @@ is_executable_at file a i = is_load (segment_of file i) && has_executable (segme
 unfoldable pub entry_fault : List ℕ → Option LoadFault
 entry_fault file =
     fault_when (not ((header_entry file % 4 == 0)
-    && any_below (is_executable_at file (header_entry file)) (segment_count file)))
+    && any_below (is_executable_at file (header_entry file)) (program_header_count file)))
     (EntryOutside (header_entry file))
 
 -- the first check on the headers that fails, in this order

@@ -4,29 +4,29 @@ use Rattle.std.specs.Prelude.{ℕ, ◌+◌, ◌*◌, ◌-◌, ◌^◌, Bool, Lis
 use Rattle.std.specs.Prelude.{not, nat_lt}
 use Rattle.elf_headers.specs.declared.fault.LoadFault.{LoadFault}
 use Rattle.elf_headers.specs.declared.fault.LoadFault.TheVariants.{Truncated, NotStatic, BadTable, InShared}
-use Rattle.elf_headers.specs.declared.header.ProgramHeader.{ProgramHeader}
+use Rattle.elf_headers.specs.declared.program_header.ProgramHeader.{ProgramHeader}
 use Rattle.elf_headers.specs.Below.{first_below}
 use Rattle.sm_types.specs.Checks.{first_fault, fault_when, fault_only}
-use Rattle.elf_headers.specs.Header.{number_at, segments_at, segment_count}
+use Rattle.elf_headers.specs.Header.{number_at, program_headers_offset, program_header_count}
 
--- the place of program header number i
-abbrev pub segment_at : List ℕ → ℕ → ℕ
-segment_at file i = segments_at file + 56 * i
+-- the offset of program header number i
+abbrev pub program_header_offset : List ℕ → ℕ → ℕ
+program_header_offset file i = program_headers_offset file + 56 * i
 
--- the program header at a place of the file
+-- the program header at an offset in the file
 unfoldable pub program_header : List ℕ → ℕ → ProgramHeader
-program_header file at = record {
-  kind = number_at file at 4;
-  flags = number_at file (at + 4) 4;
-  offset = number_at file (at + 8) 8;
-  address = number_at file (at + 16) 8;
-  file_size = number_at file (at + 32) 8;
-  memory_size = number_at file (at + 40) 8;
+program_header file offset = record {
+  kind = number_at file offset 4;
+  flags = number_at file (offset + 4) 4;
+  offset = number_at file (offset + 8) 8;
+  address = number_at file (offset + 16) 8;
+  file_size = number_at file (offset + 32) 8;
+  memory_size = number_at file (offset + 40) 8;
 }
 
 -- program header number i
 abbrev pub segment_of : List ℕ → ℕ → ProgramHeader
-segment_of file i = program_header file (segment_at file i)
+segment_of file i = program_header file (program_header_offset file i)
 
 -- PT_DYNAMIC, PT_INTERP or PT_TLS
 abbrev pub is_dynamic : ProgramHeader → Bool
@@ -44,10 +44,10 @@ is_in_shared s = nat_lt s.address 0x7F0000001000 && nat_lt 0x7DFFFFFC0000 (s.add
 -- and below 2 ^ 64 in the file, its bytes are in the file, and it has no address of the stack, of the
 -- shared region or between them
 unfoldable pub load_fault_of : ℕ → ℕ → ℕ → ProgramHeader → Option LoadFault
-load_fault_of size at i s = first_fault (
-    fault_when (nat_lt s.memory_size s.file_size) (BadTable at)
+load_fault_of size offset i s = first_fault (
+    fault_when (nat_lt s.memory_size s.file_size) (BadTable offset)
     ∷ fault_when (nat_lt (2 ^ 47) (s.address + s.memory_size)
-    || nat_lt (2 ^ 64 - 1) (s.offset + s.file_size)) (BadTable at)
+    || nat_lt (2 ^ 64 - 1) (s.offset + s.file_size)) (BadTable offset)
     ∷ fault_when (nat_lt 0 s.file_size && nat_lt size (s.offset + s.file_size)) (Truncated size)
     ∷ fault_when (is_in_shared s) (InShared i)
     ∷ [])
@@ -56,10 +56,10 @@ load_fault_of size at i s = first_fault (
 unfoldable pub segment_fault : List ℕ → ℕ → Option LoadFault
 segment_fault file i = first_fault (
     fault_when (is_dynamic (segment_of file i)) (NotStatic (segment_of file i).kind)
-    ∷ fault_only (is_load (segment_of file i)) (load_fault_of (length file) (segment_at file i) i
+    ∷ fault_only (is_load (segment_of file i)) (load_fault_of (length file) (program_header_offset file i) i
     (segment_of file i))
     ∷ [])
 
 -- the first program header that fails a check
 unfoldable pub segments_fault : List ℕ → Option LoadFault
-segments_fault file = first_below (segment_fault file) (segment_count file)
+segments_fault file = first_below (segment_fault file) (program_header_count file)

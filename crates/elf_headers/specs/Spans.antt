@@ -4,7 +4,7 @@ use Rattle.std.specs.Prelude.{None, cond, ◌&&◌, nat_le}
 use Rattle.std.specs.List.{list_any}
 use Rattle.elf_headers.specs.declared.spans.Span.{Span}
 use Rattle.elf_headers.specs.Below.{answers_below, count_below}
-use Rattle.elf_headers.specs.Header.{segment_count}
+use Rattle.elf_headers.specs.Header.{program_header_count}
 use Rattle.elf_headers.specs.Segments.{segment_of, is_load}
 
 -- the addresses of program header number i, where it is a load
@@ -19,7 +19,7 @@ span_at file i =
 
 -- the addresses of the loads, in the order of their program headers
 unfoldable pub spans_of : List ℕ → List Span
-spans_of file = answers_below (span_at file) (segment_count file)
+spans_of file = answers_below (span_at file) (program_header_count file)
 
 -- a span has an address, and ends where an address space of 47 bits does at the latest
 pub record IsLow (s : Span) : Type 0 where

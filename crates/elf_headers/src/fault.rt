@@ -1,12 +1,13 @@
-//! Why a file is refused.
+//! Why a file is not loaded.
 ghost use Rattle.std.specs.Prelude.{◌≡◌};
-ghost use Rattle.elf_headers.specs.declared.fault.LoadFault.TheVariants.{Memory};
+ghost use Rattle.elf_headers.specs.declared.fault.LoadFault.TheVariants as variants;
 
+use sm_types::Memory;
 use std::alloc::{AllocError, AllocFailed};
 use thiserror::Error;
 
-/// Why a file is refused, or want of memory. Places are in bytes from the file's begin, indices count
-/// program headers from 0.
+/// Why a file is not loaded. Offsets are in bytes from the begin of the file, indices count program headers
+/// from 0.
 #[derive(Clone, Copy, Debug, PartialEq, Eq, Error)]
 pub enum LoadFault {
     /// More than 67,108,864 bytes.
@@ -15,7 +16,7 @@ pub enum LoadFault {
     /// The header, a table or a load's bytes go past the file, which has that many bytes.
     #[error("truncated {0}")]
     Truncated(u64),
-    /// No ELF64 file with the low byte first.
+    /// No little-endian ELF64 file.
     #[error("notelf")]
     NotElf,
     /// The machine's number, which is not that of AArch64.
@@ -25,7 +26,7 @@ pub enum LoadFault {
     /// thread-local storage.
     #[error("notstatic {0}")]
     NotStatic(u32),
-    /// The place of a table or of a header that breaks its rules.
+    /// The offset of a table or of a header that breaks its rules.
     #[error("badtable {0}")]
     BadTable(u64),
     /// The program header of a load with an address from the stack to the shared region.
@@ -49,15 +50,23 @@ pub enum LoadFault {
 }
 
 impl From<AllocError> for LoadFault {
-    ghost from_gives = { λ _ fault. fault ≡ Memory };
+    ghost from_gives = { λ _ fault. fault ≡ variants.Memory };
 
     fn from(_error: AllocError) -> LoadFault {
         LoadFault::Memory
     }
 }
 
+impl From<Memory> for LoadFault {
+    ghost from_gives = { λ _ fault. fault ≡ variants.Memory };
+
+    fn from(_error: Memory) -> LoadFault {
+        LoadFault::Memory
+    }
+}
+
 impl<T: Drop> From<AllocFailed<T>> for LoadFault {
-    ghost from_gives = { λ _ fault. fault ≡ Memory };
+    ghost from_gives = { λ _ fault. fault ≡ variants.Memory };
 
     fn from(_error: AllocFailed<T>) -> LoadFault {
         LoadFault::Memory

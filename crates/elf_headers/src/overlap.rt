@@ -3,7 +3,7 @@ ghost use Rattle.std.specs.Prelude.{◌≡◌, true, None, ℕ, ◌+◌, ◌≤�
 ghost use Rattle.std.specs.List.Sorted.{IsNonDecreasingBy, IsPermutation};
 ghost use Rattle.elf_headers.specs.Below.{first_below};
 ghost use Rattle.elf_headers.specs.Fault.{Tells};
-ghost use Rattle.elf_headers.specs.Header.{segment_count, HasTable};
+ghost use Rattle.elf_headers.specs.Header.{program_header_count, HasTable};
 ghost use Rattle.elf_headers.specs.Segments.{segments_fault};
 ghost use Rattle.elf_headers.specs.Loads.{overlap_at, overlap_fault};
 ghost use Rattle.elf_headers.specs.Spans.{spans_of, IsClearBelow};
@@ -47,7 +47,7 @@ fn check_pair(file: &[u8], i: u16, j: u16) -> Result<(), LoadFault>
     requires table { HasTable file.now }
     requires accepted { segments_fault file.now ≡ None }
     requires order { i < j }
-    requires below { j < segment_count file.now }
+    requires below { j < program_header_count file.now }
     ensures { Tells result (overlap_at file.now i j) }
 {
     let one = read_program_header(file, i);
@@ -62,8 +62,8 @@ fn check_pair(file: &[u8], i: u16, j: u16) -> Result<(), LoadFault>
 fn check_pairs_of(file: &[u8], i: u16) -> Result<(), LoadFault>
     requires table { HasTable file.now }
     requires accepted { segments_fault file.now ≡ None }
-    requires below { i < segment_count file.now }
-    ensures { Tells result (first_below (overlap_at file.now i) (segment_count file.now)) }
+    requires below { i < program_header_count file.now }
+    ensures { Tells result (first_below (overlap_at file.now i) (program_header_count file.now)) }
 {
     let count = count_program_headers(file);
     for j in i + 1..count {

@@ -1,7 +1,7 @@
 //! The addresses of the loads, sorted.
 ghost use Rattle.std.specs.Prelude.{◌≡◌, ◌+◌, ◌≤◌, ◌<◌, length, All, None, IfOk};
 ghost use Rattle.std.specs.List.Sorted.{IsNonDecreasingBy, IsPermutation};
-ghost use Rattle.elf_headers.specs.Header.{segment_count, HasTable};
+ghost use Rattle.elf_headers.specs.Header.{program_header_count, HasTable};
 ghost use Rattle.elf_headers.specs.Segments.{segments_fault};
 ghost use Rattle.elf_headers.specs.Spans.{span_at, spans_of, IsLow};
 
@@ -21,7 +21,7 @@ pub struct Span {
 fn span_of(file: &[u8], header: u16) -> Option<Span>
     requires table { HasTable file.now }
     requires accepted { segments_fault file.now ≡ None }
-    requires below { header < segment_count file.now }
+    requires below { header < program_header_count file.now }
     ensures { result ≡ span_at file.now header }
 {
     let s = read_program_header(file, header);

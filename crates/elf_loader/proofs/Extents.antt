@@ -4,7 +4,7 @@ use Rattle.std.proofs.Common.{add-one}
 use Rattle.std.proofs.Math.Seq.{take-suc}
 use Rattle.paged_memory.specs.declared.image.Part.{Part}
 use Rattle.paged_memory.specs.Image.{Extent, extent_of}
-use Rattle.elf_headers.specs.declared.header.ProgramHeader.{ProgramHeader}
+use Rattle.elf_headers.specs.declared.program_header.ProgramHeader.{ProgramHeader}
 use Rattle.elf_headers.specs.Loads.{extent_of_load}
 
 map_push : {A B : Type 0} (f : A → B) (xs : List A) (x : A) → map f (xs ++ x ∷ []) ≡ map f xs ++ f x ∷ []

@@ -7,7 +7,7 @@ use elf_headers::{LoadFault, ProgramHeader};
 use paged_memory::{Image, Part};
 use std::alloc::Global;
 
-/// The bytes of a load in the file; one of no bytes may have any place.
+/// The bytes of a load in the file; one of no bytes may have any offset.
 fn bytes_of<'a>(file: &'a [u8], load: &ProgramHeader) -> &'a [u8]
     requires { IsSound (length file.now) load.now }
     ensures { result.now ≡ take load.now.file_size (drop load.now.offset file.now) }
@@ -43,14 +43,9 @@ fn parts_of<'a>(
     ensures ok { IfOk result (λ parts. map extent_of parts.items ≡ map (extent_of_load file.now) loads.now) }
     ensures err { IfErr result (λ fault. fault ≡ LoadFault.Memory) }
 {
-    let Ok(mut parts) = Vec::with_capacity(alloc, loads.len()) else {
-        return Err(LoadFault::Memory);
-    };
+    let mut parts = Vec::with_capacity(alloc, loads.len())?;
     for load in loads {
-        match parts.push(part_of(file, load)) {
-            Ok(()) => {}
-            Err(_) => return Err(LoadFault::Memory),
-        }
+        parts.push(part_of(file, load))?;
     }
     Ok(parts)
 }
@@ -71,8 +66,6 @@ pub fn image_of(
     ensures err { IfErr result (λ fault. fault ≡ LoadFault.Memory) }
 {
     let parts = parts_of(alloc, file, loads)?;
-    match Image::new(alloc, parts.as_slice(), entry, code) {
-        Ok(image) => Ok(image),
-        Err(_) => Err(LoadFault::Memory),
-    }
+    let image = Image::new(alloc, parts.as_slice(), entry, code)?;
+    Ok(image)
 }

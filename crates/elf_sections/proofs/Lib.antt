@@ -1,13 +1,13 @@
 pub mod Governing
-pub mod Answers
+pub mod AnswersBelow
 pub mod Names
 pub mod MappingNames
-pub mod Covering
+pub mod LoadMaps
 pub mod Loaded
 pub mod Tables
 pub mod Saying
 pub mod Sorting
-pub mod Spans
+pub mod WordRanges
 pub mod Reading
 pub mod Listing
 pub mod Faults

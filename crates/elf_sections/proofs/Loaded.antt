@@ -7,14 +7,14 @@ use Rattle.std.proofs.lemmas.List.Sorted.{list_any-IsPermutation}
 use Rattle.std.specs.Option.{option_or}
 use Rattle.paged_memory.specs.Image.{parts_byte, part_byte, or_zero}
 use Rattle.paged_memory.specs.Parts.{AreApart}
-use Rattle.elf_headers.specs.declared.header.ProgramHeader.{ProgramHeader}
+use Rattle.elf_headers.specs.declared.program_header.ProgramHeader.{ProgramHeader}
 use Rattle.elf_headers.specs.Below.{all_below}
 use Rattle.elf_headers.specs.Loads.{loads_of, extent_of_load, has_address, AreSound}
 use Rattle.elf_sections.specs.declared.section.SectionHeader.{SectionHeader}
 use Rattle.elf_sections.specs.Sections.{is_loaded, is_all_loaded}
-use Rattle.elf_sections.specs.Cover.{has_load, AreLoads}
+use Rattle.elf_sections.specs.LoadMap.{has_load, AreLoads}
 use Rattle.elf_headers.proofs.Below.{all_below-same, all_below-each}
-use Rattle.elf_sections.proofs.Covering.{has_load-contains, has_load-some, has_address-high, HasOne}
+use Rattle.elf_sections.proofs.LoadMaps.{has_load-contains, has_load-some, has_address-high, HasOne}
 
 there_or : (t : Bool) (b : ℕ) (o : Option ℕ) → is_some (option_or (cond t (Some b) None) o) ≡ (t || is_some o)
 there_or true b o = refl

@@ -5,7 +5,7 @@ use Rattle.std.proofs.lemmas.List.{get_or-drop}
 use Rattle.std.proofs.lemmas.Bool.{eqb-true}
 use Rattle.sm_types.specs.Objects.{dollar, dot, code_letter, data_letter, name_says, letter_says, is_suffix}
 use Rattle.elf_headers.specs.Header.{number_at}
-use Rattle.elf_sections.specs.Marks.{until_zero, name_in}
+use Rattle.elf_sections.specs.MappingSymbols.{until_zero, name_in}
 use Rattle.elf_sections.specs.FirstBytes.{is_mapping_name}
 
 abbrev ends_or_dot : ℕ → Bool

@@ -5,7 +5,7 @@ use Rattle.std.proofs.lemmas.Bool.{cases_lt, le-ltb, lt-ltb, leb-true, eqb-true,
 use Rattle.std.proofs.lemmas.Bool.Decides.{nat_tests}
 use Rattle.elf_headers.specs.Header.{number_at}
 use Rattle.elf_sections.specs.declared.section.SectionHeader.{SectionHeader}
-use Rattle.elf_sections.specs.Marks.{HasEnd}
+use Rattle.elf_sections.specs.MappingSymbols.{HasEnd}
 use Rattle.elf_sections.specs.Sections.{is_in_file, ends_inside, has_names, symbol_name, symbol_count, strings_of}
 use Rattle.elf_headers.proofs.Below.{any_below-found, any_below-all_none, any_below-one, all_below-found, all_below-all}
 

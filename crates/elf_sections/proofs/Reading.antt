@@ -7,12 +7,12 @@ use Rattle.std.proofs.lemmas.List.Elements.{Contains-get_or}
 use Rattle.std.proofs.lemmas.List.Sorted.{All-permutation, Contains-permutation, IsPermutation-sym}
 use Rattle.sm_types.specs.Bytes.{little_number}
 use Rattle.paged_memory.specs.Image.{parts_byte, part_byte, or_zero}
-use Rattle.elf_headers.specs.declared.header.ProgramHeader.{ProgramHeader}
+use Rattle.elf_headers.specs.declared.program_header.ProgramHeader.{ProgramHeader}
 use Rattle.elf_headers.specs.Header.{number_at}
 use Rattle.elf_headers.specs.Loads.{loads_of, extent_of_load, extents_of, has_address, IsSound}
 use Rattle.elf_sections.specs.Code.{loaded_byte, loaded_word}
-use Rattle.elf_sections.specs.Cover.{has_load, AreLoadsOf}
-use Rattle.elf_sections.proofs.Covering.{has_address-from}
+use Rattle.elf_sections.specs.LoadMap.{has_load, AreLoadsOf}
+use Rattle.elf_sections.proofs.LoadMaps.{has_address-from}
 use Rattle.elf_sections.proofs.Loaded.{has_load-byte, has_load-permutation, parts_byte-at}
 
 pub sound_at : (file : List ℕ) (loads : List ProgramHeader) (i : ℕ) (d : ProgramHeader) → AreLoadsOf file loads → i < length loads

@@ -11,9 +11,9 @@ use Rattle.elf_headers.specs.Below.{first_below}
 use Rattle.elf_sections.specs.declared.section.SectionHeader.{SectionHeader}
 use Rattle.elf_sections.specs.Sections.{section_of, section_count, section_fault, is_symbol_table, is_code_section, is_all_loaded}
 use Rattle.elf_sections.specs.Sections.{is_in_file, is_good_table, has_names, ends_inside, strings_of, symbol_count, symbol_name}
-use Rattle.elf_sections.specs.Sections.{section_at}
+use Rattle.elf_sections.specs.Sections.{section_header_offset}
 use Rattle.elf_sections.specs.Repeats.{is_same_table, repeats_table}
-use Rattle.elf_sections.specs.Marks.{table_marks}
+use Rattle.elf_sections.specs.MappingSymbols.{table_mapping_symbols}
 use Rattle.elf_headers.proofs.Below.{first_below-each_none, all_below-each}
 use Rattle.elf_sections.proofs.Names.{in_file}
 
@@ -58,10 +58,10 @@ is_good_table-fields : (file : List ℕ) (s : SectionHeader)
 unfolding is_good_table has_names
 is_good_table-fields file s = refl
 
-table_marks-fields : (file : List ℕ) (s : SectionHeader)
-    → table_marks file s ≡ table_marks file (table_header s.offset s.size s.link s.entry_size)
-unfolding table_marks
-table_marks-fields file s = refl
+table_mapping_symbols-fields : (file : List ℕ) (s : SectionHeader)
+    → table_mapping_symbols file s ≡ table_mapping_symbols file (table_header s.offset s.size s.link s.entry_size)
+unfolding table_mapping_symbols
+table_mapping_symbols-fields file s = refl
 
 same_header : (s t : SectionHeader) → s.offset ≡ t.offset → s.size ≡ t.size → s.link ≡ t.link → s.entry_size ≡ t.entry_size
     → table_header s.offset s.size s.link s.entry_size ≡ table_header t.offset t.size t.link t.entry_size
@@ -74,12 +74,12 @@ is_good_table-repeats file i r =
     ∙ ap (is_good_table file) (same_header (section_of file i) (section_of file (i - 1)) r.offset r.size r.link r.entry_size)
     ∙ sym (is_good_table-fields file (section_of file (i - 1)))
 
-pub table_marks-repeats : (file : List ℕ) (i : ℕ) → Repeats file i
-    → table_marks file (section_of file i) ≡ table_marks file (section_of file (i - 1))
-table_marks-repeats file i r =
-    table_marks-fields file (section_of file i)
-    ∙ ap (table_marks file) (same_header (section_of file i) (section_of file (i - 1)) r.offset r.size r.link r.entry_size)
-    ∙ sym (table_marks-fields file (section_of file (i - 1)))
+pub table_mapping_symbols-repeats : (file : List ℕ) (i : ℕ) → Repeats file i
+    → table_mapping_symbols file (section_of file i) ≡ table_mapping_symbols file (section_of file (i - 1))
+table_mapping_symbols-repeats file i r =
+    table_mapping_symbols-fields file (section_of file i)
+    ∙ ap (table_mapping_symbols file) (same_header (section_of file i) (section_of file (i - 1)) r.offset r.size r.link r.entry_size)
+    ∙ sym (table_mapping_symbols-fields file (section_of file (i - 1)))
 
 -- ---- what the checks give
 
@@ -99,14 +99,14 @@ pub good_table : (file : List ℕ) (i : ℕ) → section_fault file i ≡ None �
 unfolding section_fault
 good_table file i h t =
     (both_parts (is_symbol_table (section_of file i)) (is_good_table file (section_of file i)) (is_code_section (section_of file i))
-    (is_all_loaded file (section_of file i)) (BadTable (section_at file i)) h).0 t
+    (is_all_loaded file (section_of file i)) (BadTable (section_header_offset file i)) h).0 t
 
 pub loaded_section : (file : List ℕ) (i : ℕ) → section_fault file i ≡ None → is_code_section (section_of file i) ≡ true
     → is_all_loaded file (section_of file i) ≡ true
 unfolding section_fault
 loaded_section file i h t =
     (both_parts (is_symbol_table (section_of file i)) (is_good_table file (section_of file i)) (is_code_section (section_of file i))
-    (is_all_loaded file (section_of file i)) (BadTable (section_at file i)) h).1 t
+    (is_all_loaded file (section_of file i)) (BadTable (section_header_offset file i)) h).1 t
 
 no_code : (s : SectionHeader) → is_symbol_table s ≡ true → is_code_section s ≡ false
 no_code s h = grind (arith, nat_tests)
@@ -127,7 +127,7 @@ section_fault-repeats file i h before =
     let good : is_good_table file (section_of file (i - 1)) ≡ true =
     good_table file (i - 1) (first_below-each_none (section_fault file) i before (i - 1) (omega (arith, r.later))) r.before in
     passes (is_symbol_table (section_of file i)) (is_good_table file (section_of file i)) (is_code_section (section_of file i))
-    (is_all_loaded file (section_of file i)) (BadTable (section_at file i))
+    (is_all_loaded file (section_of file i)) (BadTable (section_header_offset file i))
     (is_good_table-repeats file i r ∙ good) (no_code (section_of file i) r.table)
 
 -- ---- what a good table has

@@ -9,7 +9,7 @@ use Rattle.elf_headers.specs.Below.{any_below, answers_below}
 use Rattle.elf_headers.specs.Loads.{extents_of}
 use Rattle.elf_sections.specs.declared.section.SectionHeader.{SectionHeader}
 use Rattle.elf_sections.specs.Sections.{section_of, section_count, is_code_section, has_sections}
-use Rattle.elf_sections.specs.Marks.{marks_of, is_code_at}
+use Rattle.elf_sections.specs.MappingSymbols.{mapping_symbols_of, is_code_at}
 
 -- the byte that the loads have at an address
 abbrev pub loaded_byte : List ℕ → ℕ → ℕ
@@ -28,7 +28,8 @@ has_word s a = nat_le s.address a && nat_le (a + 4) (s.address + s.size)
 -- section number i makes the word at an address code
 abbrev pub is_code_in : List ℕ → ℕ → ℕ → Bool
 is_code_in file a i =
-    is_code_section (section_of file i) && has_word (section_of file i) a && is_code_at (marks_of file) i a
+    is_code_section (section_of file i) && has_word (section_of file i) a
+    && is_code_at (mapping_symbols_of file) i a
 
 -- a section makes the word at an address code
 unfoldable pub is_code_word : List ℕ → ℕ → Bool

@@ -1,8 +1,8 @@
 pub mod Sections
-pub mod Marks
+pub mod MappingSymbols
 pub mod FirstBytes
 pub mod Code
-pub mod Cover
+pub mod LoadMap
 pub mod Repeats
-pub mod MarkOrder
-pub mod Intervals
+pub mod SymbolOrder
+pub mod WordRanges

@@ -1,5 +1,5 @@
 -- The section table, and the checks on it and on each section.
--- Source: ELF-64 Object File Format, the tables of Elf64_Ehdr, Elf64_Shdr and Elf64_Sym, of which places
+-- Source: ELF-64 Object File Format, the tables of Elf64_Ehdr, Elf64_Shdr and Elf64_Sym, of which offsets
 -- and widths are in bytes.
 use Rattle.std.specs.Prelude.{ℕ, ◌+◌, ◌*◌, ◌-◌, ◌/◌, ◌%◌, ◌^◌, ◌≤◌, Bool, List, [], ◌∷◌, length, Option, ◌==◌}
 use Rattle.std.specs.Prelude.{◌&&◌, ◌||◌, not, nat_lt, nat_le, is_some}
@@ -12,13 +12,13 @@ use Rattle.elf_headers.specs.Header.{number_at, table_end}
 use Rattle.elf_headers.specs.Loads.{extents_of}
 use Rattle.elf_sections.specs.declared.section.SectionHeader.{SectionHeader}
 
--- e_shoff, the place of the section headers, or 0 where there are none
-abbrev pub sections_at : List ℕ → ℕ
-sections_at file = number_at file 40 8
+-- e_shoff, the offset of the section headers, or 0 where there are none
+abbrev pub section_headers_offset : List ℕ → ℕ
+section_headers_offset file = number_at file 40 8
 
 -- e_shentsize, the size of a section header
-abbrev pub section_size : List ℕ → ℕ
-section_size file = number_at file 58 2
+abbrev pub section_header_size : List ℕ → ℕ
+section_header_size file = number_at file 58 2
 
 -- e_shnum, the number of section headers
 abbrev pub section_count : List ℕ → ℕ
@@ -28,37 +28,37 @@ section_count file = number_at file 60 2
 -- and in the file
 unfoldable pub section_table_fault : List ℕ → Option LoadFault
 section_table_fault file = first_fault (
-    fault_when (not (section_size file == 64) || (section_count file == 0)
-    || nat_lt (2 ^ 64 - 1) (table_end (sections_at file) 64 (section_count file)))
-    (BadTable (sections_at file))
-    ∷ fault_when (nat_lt (length file) (table_end (sections_at file) 64 (section_count file)))
+    fault_when (not (section_header_size file == 64) || (section_count file == 0)
+    || nat_lt (2 ^ 64 - 1) (table_end (section_headers_offset file) 64 (section_count file)))
+    (BadTable (section_headers_offset file))
+    ∷ fault_when (nat_lt (length file) (table_end (section_headers_offset file) 64 (section_count file)))
     (Truncated (length file))
     ∷ [])
 
 -- the header and the table of section headers are in the file
 pub record HasSectionTable (file : List ℕ) : Type 0 where
   pub header : 64 ≤ length file
-  pub table : table_end (sections_at file) 64 (section_count file) ≤ length file
+  pub table : table_end (section_headers_offset file) 64 (section_count file) ≤ length file
 
--- the place of section header number i
-abbrev pub section_at : List ℕ → ℕ → ℕ
-section_at file i = sections_at file + 64 * i
+-- the offset of section header number i
+abbrev pub section_header_offset : List ℕ → ℕ → ℕ
+section_header_offset file i = section_headers_offset file + 64 * i
 
--- the section header at a place of the file
+-- the section header at an offset in the file
 unfoldable pub section_header : List ℕ → ℕ → SectionHeader
-section_header file at = record {
-  kind = number_at file (at + 4) 4;
-  flags = number_at file (at + 8) 8;
-  address = number_at file (at + 16) 8;
-  offset = number_at file (at + 24) 8;
-  size = number_at file (at + 32) 8;
-  link = number_at file (at + 40) 4;
-  entry_size = number_at file (at + 56) 8;
+section_header file offset = record {
+  kind = number_at file (offset + 4) 4;
+  flags = number_at file (offset + 8) 8;
+  address = number_at file (offset + 16) 8;
+  offset = number_at file (offset + 24) 8;
+  size = number_at file (offset + 32) 8;
+  link = number_at file (offset + 40) 4;
+  entry_size = number_at file (offset + 56) 8;
 }
 
 -- section header number i
 abbrev pub section_of : List ℕ → ℕ → SectionHeader
-section_of file i = section_header file (section_at file i)
+section_of file i = section_header file (section_header_offset file i)
 
 -- ---- symbol tables
 
@@ -74,13 +74,13 @@ is_in_file file s = (s.size == 0) || nat_le (s.offset + s.size) (length file)
 abbrev pub symbol_count : SectionHeader → ℕ
 symbol_count s = s.size / 24
 
--- the place of symbol number k of a table
-abbrev pub symbol_at : SectionHeader → ℕ → ℕ
-symbol_at s k = s.offset + 24 * k
+-- the offset of symbol number k of a table
+abbrev pub symbol_offset : SectionHeader → ℕ → ℕ
+symbol_offset s k = s.offset + 24 * k
 
 -- st_name: where the name begins in the string table
 abbrev pub symbol_name : List ℕ → SectionHeader → ℕ → ℕ
-symbol_name file s k = number_at file (symbol_at s k) 4
+symbol_name file s k = number_at file (symbol_offset s k) 4
 
 -- the string table that a symbol table names
 abbrev pub strings_of : List ℕ → SectionHeader → SectionHeader
@@ -121,14 +121,14 @@ is_all_loaded file s = all_below (λ k. is_loaded file (s.address + k)) s.size
 unfoldable pub section_fault : List ℕ → ℕ → Option LoadFault
 section_fault file i = first_fault (
     fault_only (is_symbol_table (section_of file i)) (fault_when
-    (not (is_good_table file (section_of file i))) (BadTable (section_at file i)))
+    (not (is_good_table file (section_of file i))) (BadTable (section_header_offset file i)))
     ∷ fault_only (is_code_section (section_of file i)) (fault_when
-    (not (is_all_loaded file (section_of file i))) (BadTable (section_at file i)))
+    (not (is_all_loaded file (section_of file i))) (BadTable (section_header_offset file i)))
     ∷ [])
 
 -- the file has a section table
 abbrev pub has_sections : List ℕ → Bool
-has_sections file = not (sections_at file == 0)
+has_sections file = not (section_headers_offset file == 0)
 
 -- the first check on the section table that fails, where there is one
 unfoldable pub sections_fault : List ℕ → Option LoadFault

@@ -4,35 +4,35 @@ ghost use Rattle.std.specs.Prelude.{Some, true, max};
 ghost use Rattle.std.specs.List.Sorted.{IsNonDecreasingBy, IsPermutation};
 ghost use Rattle.elf_headers.specs.Below.{first_below, answers_below};
 ghost use Rattle.elf_headers.specs.Loads.{loads_of, AreSound};
-ghost use Rattle.elf_sections.specs.Cover.{AreLoads, AreLoadsOf};
+ghost use Rattle.elf_sections.specs.LoadMap.{AreLoads, AreLoadsOf};
 ghost use Rattle.elf_sections.specs.Sections.{section_count, section_fault, sections_fault, HasSectionTable};
 ghost use Rattle.elf_sections.specs.Code.{is_code_word, code_word, code_words};
-ghost use Rattle.elf_sections.specs.Intervals.{is_spanned, AreSpans};
+ghost use Rattle.elf_sections.specs.WordRanges.{is_in_ranges, AreWordRanges};
 
 use crate::checks::check_sections;
-use crate::cover::Cover;
-use crate::intervals::{Span, gather_spans};
-use crate::marks::{gather_marks, sort_marks};
+use crate::load_map::LoadMap;
+use crate::loaded_words::{near_load, word_at};
+use crate::mapping_symbols::{gather_mapping_symbols, sort_mapping_symbols};
 use crate::section::{check_section_table, has_section_table};
-use crate::words::{near_load, word_at};
+use crate::word_ranges::{WordRange, gather_ranges};
 use elf_headers::{LoadFault, ProgramHeader};
 use std::alloc::{AllocError, Global};
 
-/// The spans of the words that sections make code, in order of their first words.
-fn sort_spans(alloc: Global, file: &[u8]) -> Result<Vec<Span>, AllocError>
+/// The ranges of the words that sections make code, in order of their first words.
+fn sort_ranges(alloc: Global, file: &[u8]) -> Result<Vec<WordRange>, AllocError>
     requires table { HasSectionTable file.now }
     requires checked { first_below (section_fault file.now) (section_count file.now) ≡ None }
     requires loads { AreLoads (loads_of file.now) }
-    ensures words { IfOk result (λ spans. (n : ℕ) → is_spanned spans.items n
+    ensures words { IfOk result (λ ranges. (n : ℕ) → is_in_ranges ranges.items n
         ≡ is_code_word file.now (4 * n)) }
-    ensures low { IfOk result (λ spans. AreSpans spans.items) }
-    ensures order { IfOk result (λ spans. IsNonDecreasingBy (λ s. s.start) spans.items) }
+    ensures low { IfOk result (λ ranges. AreWordRanges ranges.items) }
+    ensures order { IfOk result (λ ranges. IsNonDecreasingBy (λ s. s.start) ranges.items) }
 {
-    let mut marks = gather_marks(alloc, file)?;
-    sort_marks(&mut marks)?;
-    let mut spans = gather_spans(alloc, file, marks.as_slice())?;
-    spans.sort_by_key(|s| s.start)?;
-    Ok(spans)
+    let mut symbols = gather_mapping_symbols(alloc, file)?;
+    sort_mapping_symbols(&mut symbols)?;
+    let mut ranges = gather_ranges(alloc, file, symbols.as_slice())?;
+    ranges.sort_by_key(|s| s.start)?;
+    Ok(ranges)
 }
 
 /// Adds the code words from number `start` on up to number `end`, all of which are code.
@@ -63,19 +63,19 @@ fn list_code(
     alloc: Global,
     file: &[u8],
     loads: &[ProgramHeader],
-    spans: &[Span],
+    ranges: &[WordRange],
 ) -> Result<Vec<(u64, u32)>, AllocError>
     requires loads { AreLoadsOf file.now loads.now }
-    requires words { (n : ℕ) → is_spanned spans.now n ≡ is_code_word file.now (4 * n) }
-    requires low { AreSpans spans.now }
-    requires order { IsNonDecreasingBy (λ s. s.start) spans.now }
+    requires words { (n : ℕ) → is_in_ranges ranges.now n ≡ is_code_word file.now (4 * n) }
+    requires low { AreWordRanges ranges.now }
+    requires order { IsNonDecreasingBy (λ s. s.start) ranges.now }
     ensures { IfOk result (λ code. code.items ≡ answers_below (code_word file.now) (2 ^ 45)) }
 {
     let mut code = Vec::new(alloc);
     let mut next = 0;
-    for span in spans {
-        list_words(file, loads, span.start.max(next), span.end, &mut code)?;
-        next = next.max(span.end);
+    for range in ranges {
+        list_words(file, loads, range.start.max(next), range.end, &mut code)?;
+        next = next.max(range.end);
     }
     Ok(code)
 }
@@ -91,12 +91,13 @@ fn code_of(
     requires loads { AreLoadsOf file.now loads.now }
     ensures { IfOk result (λ code. code.items ≡ answers_below (code_word file.now) (2 ^ 45)) }
 {
-    let spans = sort_spans(alloc, file)?;
-    list_code(alloc, file, loads, spans.as_slice())
+    let ranges = sort_ranges(alloc, file)?;
+    list_code(alloc, file, loads, ranges.as_slice())
 }
 
 /// The code words of a program file with their addresses, in order of address, or the fault of the first
-/// check on its section table that fails; `Memory` is want of memory. `loads` are the file's loads.
+/// check on its section table that fails, or `Memory` where it is out of memory. `loads` are the file's
+/// loads.
 pub fn read_code(
     alloc: Global,
     file: &[u8],
@@ -114,12 +115,8 @@ pub fn read_code(
         return Ok(Vec::new(alloc));
     }
     check_section_table(file)?;
-    let Ok(cover) = Cover::new(alloc, loads) else {
-        return Err(LoadFault::Memory);
-    };
-    check_sections(file, &cover)?;
-    match code_of(alloc, file, cover.loads.as_slice()) {
-        Ok(code) => Ok(code),
-        Err(_) => Err(LoadFault::Memory),
-    }
+    let load_map = LoadMap::new(alloc, loads)?;
+    check_sections(file, &load_map)?;
+    let code = code_of(alloc, file, load_map.loads.as_slice())?;
+    Ok(code)
 }

@@ -1,27 +1,15 @@
 //! The section table, its headers, and the checks on it and on each section.
 ghost use Rattle.std.specs.Prelude.{◌≡◌, ◌+◌, ◌*◌, ◌≤◌, ◌<◌, length, OnOk, true};
 ghost use Rattle.elf_headers.specs.Fault.{Tells};
-ghost use Rattle.elf_sections.specs.Sections.{section_header, section_of, section_at, section_count};
-ghost use Rattle.elf_sections.specs.Sections.{sections_at, section_table_fault, is_symbol_table};
+ghost use Rattle.elf_sections.specs.Sections.{section_header, section_of, section_header_offset, section_count};
+ghost use Rattle.elf_sections.specs.Sections.{section_headers_offset, section_table_fault, is_symbol_table};
 ghost use Rattle.elf_sections.specs.Sections.{is_code_section, has_sections, HasSectionTable};
 ghost use Rattle.elf_sections.specs.Repeats.{is_same_table, repeats_table};
 
+use crate::elf::{
+    E_SHENTSIZE, E_SHNUM, E_SHOFF, SECTION_HEADER_SIZE, SHF_EXECINSTR, SHT_PROGBITS, SHT_SYMTAB,
+};
 use elf_headers::{LoadFault, u16_at, u32_at, u64_at};
-
-/// The place of the section headers, in the file's header.
-const E_SHOFF: usize = 40;
-/// The size of a section header, in the file's header.
-const E_SHENTSIZE: usize = 58;
-/// The number of section headers, in the file's header.
-const E_SHNUM: usize = 60;
-/// The size of a section header.
-const ENTRY_SIZE: u16 = 64;
-/// The type of a section whose bytes are the program's own.
-const SHT_PROGBITS: u32 = 1;
-/// The type of a symbol table.
-const SHT_SYMTAB: u32 = 2;
-/// The flag of a section with code.
-const SHF_EXECINSTR: u64 = 4;
 
 /// A section header of the file.
 #[derive(Clone, Copy, Debug)]
@@ -82,55 +70,55 @@ pub fn count_sections(file: &[u8]) -> u32
     u32::from(u16_at(file, E_SHNUM))
 }
 
-/// The place of a section header in the file.
-pub fn section_place(file: &[u8], i: u32) -> u64
+/// The offset of a section header in the file.
+pub fn section_header_offset(file: &[u8], index: u32) -> u64
     requires table { HasSectionTable file.now }
-    requires number { i < section_count file.now }
-    ensures place { result ≡ section_at file.now i }
+    requires number { index < section_count file.now }
+    ensures offset { result ≡ section_header_offset file.now index }
     ensures inside { result + 64 ≤ length file.now }
 {
-    u64_at(file, E_SHOFF) + 64 * u64::from(i)
+    u64_at(file, E_SHOFF) + 64 * u64::from(index)
 }
 
-/// The section header at a place of the file.
+/// The section header at an offset in the file.
 #[tactic(auto, unfolding(crate::specs::Sections::section_header))]
-fn section_header_at(file: &[u8], at: usize) -> SectionHeader
-    requires { at + 64 ≤ length file.now }
-    ensures { result ≡ section_header file.now at }
+fn section_header_at(file: &[u8], offset: usize) -> SectionHeader
+    requires { offset + 64 ≤ length file.now }
+    ensures { result ≡ section_header file.now offset }
 {
     SectionHeader {
-        kind: u32_at(file, at + 4),
-        flags: u64_at(file, at + 8),
-        address: u64_at(file, at + 16),
-        offset: u64_at(file, at + 24),
-        size: u64_at(file, at + 32),
-        link: u32_at(file, at + 40),
-        entry_size: u64_at(file, at + 56),
+        kind: u32_at(file, offset + 4),
+        flags: u64_at(file, offset + 8),
+        address: u64_at(file, offset + 16),
+        offset: u64_at(file, offset + 24),
+        size: u64_at(file, offset + 32),
+        link: u32_at(file, offset + 40),
+        entry_size: u64_at(file, offset + 56),
     }
 }
 
 /// A section header of the file.
-pub fn read_section(file: &[u8], i: u32) -> SectionHeader
+pub fn read_section(file: &[u8], index: u32) -> SectionHeader
     requires table { HasSectionTable file.now }
-    requires number { i < section_count file.now }
-    ensures { result ≡ section_of file.now i }
+    requires number { index < section_count file.now }
+    ensures { result ≡ section_of file.now index }
 {
-    section_header_at(file, section_place(file, i) as usize)
+    section_header_at(file, section_header_offset(file, index) as usize)
 }
 
-/// Tells whether section number `i` is a symbol table and the section before it is the same one.
+/// Tells whether section number `index` is a symbol table and the section before it is the same one.
 #[tactic(auto, unfolding(crate::specs::Repeats::repeats_table))]
-pub fn repeats_before(file: &[u8], i: u32) -> bool
+pub fn repeats_before(file: &[u8], index: u32) -> bool
     requires table { HasSectionTable file.now }
-    requires number { i < section_count file.now }
-    ensures { result ≡ repeats_table file.now i }
+    requires number { index < section_count file.now }
+    ensures { result ≡ repeats_table file.now index }
 {
-    if i == 0 {
+    if index == 0 {
         return false;
     }
-    let s = read_section(file, i);
-    let before = read_section(file, i - 1);
-    s.is_symbol_table() && before.is_symbol_table() && s.is_same_table(&before)
+    let header = read_section(file, index);
+    let before = read_section(file, index - 1);
+    header.is_symbol_table() && before.is_symbol_table() && header.is_same_table(&before)
 }
 
 /// Checks the section table.
@@ -140,13 +128,13 @@ pub fn check_section_table(file: &[u8]) -> Result<(), LoadFault>
     ensures tells { Tells result (section_table_fault file.now) }
     ensures inside { OnOk result (HasSectionTable file.now) }
 {
-    let at = u64_at(file, E_SHOFF);
+    let offset = u64_at(file, E_SHOFF);
     let count = u16_at(file, E_SHNUM);
-    if u16_at(file, E_SHENTSIZE) != ENTRY_SIZE || count == 0 {
-        return Err(LoadFault::BadTable(at));
+    if u16_at(file, E_SHENTSIZE) != SECTION_HEADER_SIZE || count == 0 {
+        return Err(LoadFault::BadTable(offset));
     }
-    let Some(end) = at.checked_add(u64::from(ENTRY_SIZE) * u64::from(count)) else {
-        return Err(LoadFault::BadTable(at));
+    let Some(end) = offset.checked_add(u64::from(SECTION_HEADER_SIZE) * u64::from(count)) else {
+        return Err(LoadFault::BadTable(offset));
     };
     if end > file.len() as u64 {
         return Err(LoadFault::Truncated(file.len() as u64));

@@ -3,11 +3,9 @@ ghost use Rattle.std.specs.Prelude.{◌≡◌, ◌+◌, ◌*◌, ◌/◌, ◌≤
 ghost use Rattle.elf_sections.specs.Sections.{is_in_file, ends_inside, has_names, is_good_table, strings_of};
 ghost use Rattle.elf_sections.specs.Sections.{section_count, HasSectionTable};
 
+use crate::elf::SYMBOL_SIZE;
 use crate::section::{SectionHeader, count_sections, read_section};
 use elf_headers::{u8_at, u32_at};
-
-/// The size of a symbol.
-pub const SYMBOL_SIZE: u64 = 24;
 
 /// Tells whether the section's bytes are in the file.
 pub fn lies_in_file(file: &[u8], s: &SectionHeader) -> bool

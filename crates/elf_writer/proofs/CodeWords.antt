@@ -14,21 +14,21 @@ use Rattle.elf_headers.specs.Below.{answers, answers_below, any_below}
 use Rattle.elf_headers.proofs.Below.{answers_below-zero, answers_below-next, answers_below-same}
 use Rattle.elf_sections.specs.declared.section.SectionHeader.{SectionHeader}
 use Rattle.elf_sections.specs.Sections.{section_of, is_code_section, has_sections}
-use Rattle.elf_sections.specs.Marks.{marks_of, is_code_at}
+use Rattle.elf_sections.specs.MappingSymbols.{mapping_symbols_of, is_code_at}
 use Rattle.elf_sections.specs.Code.{loaded_byte, loaded_word, has_word, is_code_in, code_word, code_words}
 use Rattle.elf_sections.specs.Code as code
-use Rattle.elf_sections.proofs.Answers.{answers_below-gap}
+use Rattle.elf_sections.proofs.AnswersBelow.{answers_below-gap}
 use Rattle.elf_writer.specs.declared.layout.Layout.{Layout}
-use Rattle.elf_writer.specs.declared.marks.TextMark.{TextMark}
+use Rattle.elf_writer.specs.declared.mapping_symbols.TextMapping.{TextMapping}
 use Rattle.elf_writer.specs.Layout.{no_section, text_section, data_section, symbols_section, strings_section}
-use Rattle.elf_writer.specs.TextMarks.{is_code_word, text_marks}
+use Rattle.elf_writer.specs.TextMappings.{is_code_word, text_mappings}
 use Rattle.elf_writer.proofs.Reading.{IsFile, Reads, reads}
-use Rattle.elf_writer.proofs.Headers.{sections_at-is, section_count-is, section_of-0, section_of-text, section_of-data, section_of-symbols}
+use Rattle.elf_writer.proofs.Headers.{section_headers_offset-is, section_count-is, section_of-0, section_of-text, section_of-data, section_of-symbols}
 use Rattle.elf_writer.proofs.Headers.{section_of-strings, section_of-names}
 use Rattle.elf_writer.proofs.Images.{extents_of-is}
 use Rattle.elf_writer.proofs.SectionsPass.{byte_of_text}
-use Rattle.elf_writer.proofs.Symbols.{read_mark, marks_of-is}
-use Rattle.elf_writer.proofs.SaidCode.{marks_say}
+use Rattle.elf_writer.proofs.Symbols.{as_mapping_symbol, mapping_symbols_of-is}
+use Rattle.elf_writer.proofs.SaidCode.{mappings_say}
 
 -- ---- answers in a row
 
@@ -88,22 +88,23 @@ word-is text at h =
     ∷ or_zero (get-drop text at 3 i) ∷ []))
     ∙ four (drop at text) (length-past text at 4 h)
 
-byte-is : (file : List ℕ) (l : Layout) (text bytes : List ℕ) (marks : List TextMark) → IsFile file l text bytes marks → (a place : ℕ)
-    → a ≡ text_address + place → place < length text → loaded_byte file a ≡ or_zero (slice_get text place)
-byte-is file l text bytes marks is a place e h =
+byte-is : (file : List ℕ) (l : Layout) (text bytes : List ℕ) (mappings : List TextMapping) → IsFile file l text bytes mappings
+    → (a offset : ℕ)
+    → a ≡ text_address + offset → offset < length text → loaded_byte file a ≡ or_zero (slice_get text offset)
+byte-is file l text bytes mappings is a offset e h =
     let some : 0 < l.text_size = omega (arith, is.from, is.before) in
-    let back : a - text_address ≡ place = omega arith in
-    ap (λ es. or_zero (parts_byte es a)) (extents_of-is file l text bytes marks is some)
+    let back : a - text_address ≡ offset = omega arith in
+    ap (λ es. or_zero (parts_byte es a)) (extents_of-is file l text bytes mappings is some)
     ∙ ap or_zero (byte_of_text text bytes a (omega arith) (omega arith)) ∙ ap (λ p. or_zero (slice_get text p)) back
 
-loaded-is : (file : List ℕ) (l : Layout) (text bytes : List ℕ) (marks : List TextMark) → IsFile file l text bytes marks → (at : ℕ)
+loaded-is : (file : List ℕ) (l : Layout) (text bytes : List ℕ) (mappings : List TextMapping) → IsFile file l text bytes mappings → (at : ℕ)
     → at + 4 ≤ length text → loaded_word file (text_address + at) ≡ text_word text at
 unfolding loaded_word
-loaded-is file l text bytes marks is at h =
-    (λ i. little_number (byte-is file l text bytes marks is (text_address + at) (at + 0) (omega arith) (omega arith) i
-    ∷ byte-is file l text bytes marks is (text_address + at + 1) (at + 1) (omega arith) (omega arith) i
-    ∷ byte-is file l text bytes marks is (text_address + at + 2) (at + 2) (omega arith) (omega arith) i
-    ∷ byte-is file l text bytes marks is (text_address + at + 3) (at + 3) (omega arith) (omega arith) i ∷ []))
+loaded-is file l text bytes mappings is at h =
+    (λ i. little_number (byte-is file l text bytes mappings is (text_address + at) (at + 0) (omega arith) (omega arith) i
+    ∷ byte-is file l text bytes mappings is (text_address + at + 1) (at + 1) (omega arith) (omega arith) i
+    ∷ byte-is file l text bytes mappings is (text_address + at + 2) (at + 2) (omega arith) (omega arith) i
+    ∷ byte-is file l text bytes mappings is (text_address + at + 3) (at + 3) (omega arith) (omega arith) i ∷ []))
     ∙ word-is text at h
 
 -- ---- which words are code
@@ -118,14 +119,15 @@ six_tests test a c d e f = rw (a, c, d, e, f) (alone (test 1))
     alone false = refl
 
 no_code : (file : List ℕ) (a i : ℕ) (s : SectionHeader) → section_of file i ≡ s → is_code_section s ≡ false → is_code_in file a i ≡ false
-no_code file a i s e h = ap (λ (x : SectionHeader). is_code_section x && has_word x a && is_code_at (marks_of file) i a) e ∙ rw h refl
+no_code file a i s e h =
+    ap (λ (x : SectionHeader). is_code_section x && has_word x a && is_code_at (mapping_symbols_of file) i a) e ∙ rw h refl
 
-text_code : (file : List ℕ) (l : Layout) (text bytes : List ℕ) (marks : List TextMark) → IsFile file l text bytes marks → (a : ℕ)
+text_code : (file : List ℕ) (l : Layout) (text bytes : List ℕ) (mappings : List TextMapping) → IsFile file l text bytes mappings → (a : ℕ)
     → code.is_code_word file a ≡ (nat_le text_address a && nat_le (a + 4) (text_address + l.text_size)
-    && is_code_at (map read_mark marks) 1 a)
+    && is_code_at (map as_mapping_symbol mappings) 1 a)
 unfolding code.is_code_word text_section data_section symbols_section strings_section
-text_code file l text bytes marks is a =
-    let r : Reads file l = reads file l text bytes marks is in
+text_code file l text bytes mappings is a =
+    let r : Reads file l = reads file l text bytes mappings is in
     ap (any_below (is_code_in file a)) (section_count-is file l r)
     ∙ six_tests (is_code_in file a) (no_code file a 0 no_section (section_of-0 file l r) refl)
     (no_code file a 2 (data_section l) (section_of-data file l is.small r) refl)
@@ -133,7 +135,7 @@ text_code file l text bytes marks is a =
     (no_code file a 4 (strings_section 560 7) (section_of-strings file l r) refl)
     (no_code file a 5 (strings_section 568 39) (section_of-names file l r) refl)
     ∙ (λ i. is_code_section (section_of-text file l is.small r i) && has_word (section_of-text file l is.small r i) a
-    && is_code_at (marks_of-is file l text bytes marks is i) 1 a)
+    && is_code_at (mapping_symbols_of-is file l text bytes mappings is i) 1 a)
 
 outside : (x y : Bool) → (x ≡ false) ⊎ (y ≡ false) → (z : Bool) → (x && y && z) ≡ false
 outside x y (inl e) z = rw e refl
@@ -145,19 +147,20 @@ no_word : (file : List ℕ) (n : ℕ) → code.is_code_word file (4 * n) ≡ fal
 unfolding code_word
 no_word file n h = rw h refl
 
-word-outside : (file : List ℕ) (l : Layout) (text bytes : List ℕ) (marks : List TextMark) → IsFile file l text bytes marks → (n : ℕ)
+word-outside : (file : List ℕ) (l : Layout) (text bytes : List ℕ) (mappings : List TextMapping) → IsFile file l text bytes mappings
+    → (n : ℕ)
     → (n < 1048576) ⊎ (1048576 + l.text_size / 4 ≤ n) → code_word file n ≡ None
-word-outside file l text bytes marks is n (inl h) =
+word-outside file l text bytes mappings is n (inl h) =
     let t : nat_le text_address (4 * n) ≡ false = grind (arith, nat_tests) in
-    no_word file n (text_code file l text bytes marks is (4 * n)
+    no_word file n (text_code file l text bytes mappings is (4 * n)
     ∙ outside (nat_le text_address (4 * n)) (nat_le (4 * n + 4) (text_address + l.text_size)) (inl t)
-    (is_code_at (map read_mark marks) 1 (4 * n)))
-word-outside file l text bytes marks is n (inr h) =
+    (is_code_at (map as_mapping_symbol mappings) 1 (4 * n)))
+word-outside file l text bytes mappings is n (inr h) =
     let far : text_address + l.text_size < 4 * n + 4 = omega arith in
     let t : nat_le (4 * n + 4) (text_address + l.text_size) ≡ false = grind (arith, nat_tests) in
-    no_word file n (text_code file l text bytes marks is (4 * n)
+    no_word file n (text_code file l text bytes mappings is (4 * n)
     ∙ outside (nat_le text_address (4 * n)) (nat_le (4 * n + 4) (text_address + l.text_size)) (inr t)
-    (is_code_at (map read_mark marks) 1 (4 * n)))
+    (is_code_at (map as_mapping_symbol mappings) 1 (4 * n)))
 
 inside : (x y z : Bool) → x ≡ true → y ≡ true → (x && y && z) ≡ z
 inside x y z a b = rw (a, b) refl
@@ -167,7 +170,7 @@ word-by : (test : ℕ → Bool) (read : ℕ → ℕ) (a b word : ℕ) (code : Bo
     → cond {A = Option (ℕ × ℕ)} (test a) (Some (a, read a)) None ≡ cond code (Some (b, word)) None
 word-by test read a b word code e t r = rw (e, t, r) refl
 
-word-inside : (o : Object) (file : List ℕ) (l : Layout) → IsFile file l o.text_bytes.items o.data_bytes.items (text_marks o) → (k : ℕ)
+word-inside : (o : Object) (file : List ℕ) (l : Layout) → IsFile file l o.text_bytes.items o.data_bytes.items (text_mappings o) → (k : ℕ)
     → k < length o.text_bytes.items / 4 → code_word file (1048576 + k) ≡ object_word o k
 unfolding code_word object_word is_code_word
 word-inside o file l is k h =
@@ -176,28 +179,28 @@ word-inside o file l is k h =
     let ends : text_address + 4 * k + 4 ≤ text_address + l.text_size = omega (arith, is.text_size) in
     let u : nat_le (text_address + 4 * k + 4) (text_address + l.text_size) ≡ true = grind (arith, nat_tests) in
     let is_code : code.is_code_word file (text_address + 4 * k) ≡ is_code_word o k =
-    text_code file l o.text_bytes.items o.data_bytes.items (text_marks o) is (text_address + 4 * k)
+    text_code file l o.text_bytes.items o.data_bytes.items (text_mappings o) is (text_address + 4 * k)
     ∙ inside (nat_le text_address (text_address + 4 * k)) (nat_le (text_address + 4 * k + 4) (text_address + l.text_size))
-    (is_code_at (map read_mark (text_marks o)) 1 (text_address + 4 * k)) t u
-    ∙ marks_say o k h in
+    (is_code_at (map as_mapping_symbol (text_mappings o)) 1 (text_address + 4 * k)) t u
+    ∙ mappings_say o k h in
     let word : loaded_word file (text_address + 4 * k) ≡ text_word o.text_bytes.items (4 * k) =
-    loaded-is file l o.text_bytes.items o.data_bytes.items (text_marks o) is (4 * k) (omega arith) in
+    loaded-is file l o.text_bytes.items o.data_bytes.items (text_mappings o) is (4 * k) (omega arith) in
     word-by (code.is_code_word file) (loaded_word file) (4 * (1048576 + k)) (text_address + 4 * k) (text_word o.text_bytes.items (4 * k))
     (is_code_word o k) at is_code word
 
 has_table : (file : List ℕ) (l : Layout) → Reads file l → has_sections file ≡ true
-has_table file l r = rw (sections_at-is file l r) refl
+has_table file l r = rw (section_headers_offset-is file l r) refl
 
-pub code_words-are : (o : Object) (file : List ℕ) (l : Layout) → IsFile file l o.text_bytes.items o.data_bytes.items (text_marks o)
+pub code_words-are : (o : Object) (file : List ℕ) (l : Layout) → IsFile file l o.text_bytes.items o.data_bytes.items (text_mappings o)
     → code_words file ≡ object_code o
 unfolding code_words object_code
 code_words-are o file l is =
-    let r : Reads file l = reads file l o.text_bytes.items o.data_bytes.items (text_marks o) is in
+    let r : Reads file l = reads file l o.text_bytes.items o.data_bytes.items (text_mappings o) is in
     let count : ℕ = length o.text_bytes.items / 4 in
     let past : (k : ℕ) → 1048576 + length o.text_bytes.items / 4 ≤ k → code_word file k ≡ None =
-    λ k h. word-outside file l o.text_bytes.items o.data_bytes.items (text_marks o) is k (inr (omega (arith, is.text_size))) in
+    λ k h. word-outside file l o.text_bytes.items o.data_bytes.items (text_mappings o) is k (inr (omega (arith, is.text_size))) in
     let below : (k : ℕ) → k < 1048576 → code_word file k ≡ None =
-    λ k h. word-outside file l o.text_bytes.items o.data_bytes.items (text_marks o) is k (inl h) in
+    λ k h. word-outside file l o.text_bytes.items o.data_bytes.items (text_mappings o) is k (inl h) in
     ap (λ b. cond b (answers_below (code_word file) (2 ^ 45)) []) (has_table file l r)
     ∙ answers_below-gap (code_word file) (1048576 + length o.text_bytes.items / 4) (2 ^ 45) (omega (arith, is.text_size, is.small.text))
     (λ k a b. past k a)

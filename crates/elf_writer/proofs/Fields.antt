@@ -18,10 +18,10 @@ unfolding number_at
 number_at-past xs ys k n = ap (little_number n) (drop-past xs ys k)
 
 -- where field number k begins, its width and its value
-abbrev pub place : List (ℕ × ℕ) → ℕ → ℕ
-place [] k = 0
-place (f ∷ fs) zero = 0
-place (f ∷ fs) (suc k) = f.0 + place fs k
+abbrev pub offset : List (ℕ × ℕ) → ℕ → ℕ
+offset [] k = 0
+offset (f ∷ fs) zero = 0
+offset (f ∷ fs) (suc k) = f.0 + offset fs k
 
 abbrev pub width : List (ℕ × ℕ) → ℕ → ℕ
 width [] k = 0
@@ -38,15 +38,15 @@ div_one x = let e : x / 1 ≡ x = omega arith in e
 
 -- field k is read where it was written
 pub read_field : (fs : List (ℕ × ℕ)) (k : ℕ) (rest : List ℕ)
-    → number_at (fields_bytes fs ++ rest) (place fs k) (width fs k) ≡ value fs k % 256 ^ width fs k
+    → number_at (fields_bytes fs ++ rest) (offset fs k) (width fs k) ≡ value fs k % 256 ^ width fs k
 unfolding number_at
 read_field [] k rest = refl
 read_field (f ∷ fs) zero rest =
     rw append_assoc (little_from-bytes f.0 0 f.1 (fields_bytes fs ++ rest) ∙ ap (λ x. x % 256 ^ f.0) (div_one f.1))
 read_field (f ∷ fs) (suc k) rest =
-    let all : drop (length (little_bytes f.0 f.1) + place fs k) (little_bytes f.0 f.1 ++ (fields_bytes fs ++ rest))
-    ≡ drop (place fs k) (fields_bytes fs ++ rest) = drop-past (little_bytes f.0 f.1) (fields_bytes fs ++ rest) (place fs k) in
-    let here : drop (f.0 + place fs k) (little_bytes f.0 f.1 ++ fields_bytes fs ++ rest) ≡ drop (place fs k) (fields_bytes fs ++ rest) =
+    let all : drop (length (little_bytes f.0 f.1) + offset fs k) (little_bytes f.0 f.1 ++ (fields_bytes fs ++ rest))
+    ≡ drop (offset fs k) (fields_bytes fs ++ rest) = drop-past (little_bytes f.0 f.1) (fields_bytes fs ++ rest) (offset fs k) in
+    let here : drop (f.0 + offset fs k) (little_bytes f.0 f.1 ++ fields_bytes fs ++ rest) ≡ drop (offset fs k) (fields_bytes fs ++ rest) =
     rw (append_assoc) (rw (length-bytes_low_first 0 f.0 f.1) at all) in
     ap (little_number (width fs k)) here ∙ read_field fs k rest
 

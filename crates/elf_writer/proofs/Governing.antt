@@ -1,4 +1,4 @@
--- The mark that governs a word is its own, or that of the word before.
+-- The mapping symbol that governs a word is its own, or that of the word before.
 use Rattle.std.proofs.Common.{◌≡◌, ℕ, zero, suc, ◌/◌, ◌<◌, ◌≤◌, ◌⊎◌, inl, inr, Bool, true, false, cond, List, [], ◌∷◌, length, get_or}
 use Rattle.std.proofs.Common.{Option, Some, None, refl, ap, sym, ◌∙◌, arith, add-one, length-append}
 use Rattle.std.specs.Prelude.{◌==◌, ◌&&◌, nat_le}
@@ -8,11 +8,11 @@ use Rattle.sm_types.specs.declared.object.Object.{Object}
 use Rattle.sm_types.specs.Objects.{Mapping, mappings_of, later_mapping, governing_mapping, mapping_says_code, is_text_code}
 use Rattle.elf_headers.specs.Below.{answers, answers_below}
 use Rattle.elf_headers.proofs.Below.{answers_below-zero, answers_below-next, answers_below-same}
-use Rattle.elf_writer.specs.declared.marks.TextMark.{TextMark}
-use Rattle.elf_writer.specs.TextMarks.{word_address, begins, mark_at, is_code_word, text_marks}
-use Rattle.elf_writer.specs.Slots.{mapping_if, newer, word_from, kept_at, says_word, slots_say, AreSlots}
+use Rattle.elf_writer.specs.declared.mapping_symbols.TextMapping.{TextMapping}
+use Rattle.elf_writer.specs.TextMappings.{word_address, begins, text_mapping_at, is_code_word, text_mappings}
+use Rattle.elf_writer.specs.Slots.{as_mapping_if, newer, word_from, kept_at, says_word, slots_say, AreSlots}
 
--- a mark's address is past a, or is not
+-- a mapping symbol's address is past a, or is not
 abbrev IsPast : ℕ → Option Mapping → Type 0
 IsPast a None = Unit {0}
 IsPast a (Some m) = a < m.address
@@ -138,27 +138,27 @@ governing_zero g (m ∷ ms) =
     ap (λ o. governing_mapping (word_address 0) o ms) (step_zero (word_from m.address == 0) (word_address 0) g m (same_test m.address))
     ∙ governing_zero (cond (word_from m.address == 0) (Some (newer g m)) g) ms
 
--- ---- what the kept marks say
+-- ---- what the kept mapping symbols say
 
-says_first : (slot : Option TextMark) → says_word None slot ≡ mapping_says_code (mapping_if slot)
+says_first : (slot : Option TextMapping) → says_word None slot ≡ mapping_says_code (as_mapping_if slot)
 says_first None = refl
 says_first (Some m) = refl
 
-says_next : (code : Bool) (slot : Option TextMark) (g : Option Mapping) → code ≡ mapping_says_code g
-    → says_word (Some code) slot ≡ mapping_says_code (or_else (mapping_if slot) g)
+says_next : (code : Bool) (slot : Option TextMapping) (g : Option Mapping) → code ≡ mapping_says_code g
+    → says_word (Some code) slot ≡ mapping_says_code (or_else (as_mapping_if slot) g)
 says_next code None g e = e
 says_next code (Some m) g e = refl
 
-slots_say-first : (slots : List (Option TextMark)) → slots_say slots 0 ≡ says_word None (get_or slots 0 None)
+slots_say-first : (slots : List (Option TextMapping)) → slots_say slots 0 ≡ says_word None (get_or slots 0 None)
 unfolding slots_say
 slots_say-first slots = refl
 
-slots_say-next : (slots : List (Option TextMark)) (n : ℕ)
+slots_say-next : (slots : List (Option TextMapping)) (n : ℕ)
     → slots_say slots (suc n) ≡ says_word (Some (slots_say slots n)) (get_or slots (suc n) None)
 unfolding slots_say
 slots_say-next slots n = refl
 
-slots_govern : (slots : List (Option TextMark)) (all : List Mapping) (n : ℕ) → AreSlots slots [] all → n < length slots
+slots_govern : (slots : List (Option TextMapping)) (all : List Mapping) (n : ℕ) → AreSlots slots [] all → n < length slots
     → slots_say slots n ≡ mapping_says_code (governing_mapping (word_address n) None all)
 slots_govern slots all zero are l =
     slots_say-first slots ∙ says_first (get_or slots 0 None) ∙ ap mapping_says_code (are 0 l ∙ sym (governing_zero None all))
@@ -168,25 +168,27 @@ slots_govern slots all (suc n) are l =
     ∙ ap (λ o. mapping_says_code (or_else o (governing_mapping (word_address n) None all))) (are (suc n) l)
     ∙ ap mapping_says_code (sym (governing_more n None None all tt tt))
 
-slots_code : (o : Object) (slots : List (Option TextMark)) (n : ℕ) → AreSlots slots [] (mappings_of o.symbols.items) → n < length slots
+slots_code : (o : Object) (slots : List (Option TextMapping)) (n : ℕ) → AreSlots slots [] (mappings_of o.symbols.items) → n < length slots
     → slots_say slots n ≡ is_code_word o n
 unfolding is_code_word is_text_code
 slots_code o slots n are l = slots_govern slots (mappings_of o.symbols.items) n are l
 
-mark_at-same : (one two : ℕ → Bool) (count n : ℕ) → ((k : ℕ) → k < count → one k ≡ two k) → n < count → mark_at one n ≡ mark_at two n
-unfolding mark_at
-mark_at-same one two count zero h l = ap (λ c. cond (begins None c) (Some (record { address = word_address 0; code = c })) None) (h 0 l)
-mark_at-same one two count (suc n) h l =
+text_mapping_at-same : (one two : ℕ → Bool) (count n : ℕ) → ((k : ℕ) → k < count → one k ≡ two k) → n < count
+    → text_mapping_at one n ≡ text_mapping_at two n
+unfolding text_mapping_at
+text_mapping_at-same one two count zero h l =
+    ap (λ c. cond (begins None c) (Some (record { address = word_address 0; code = c })) None) (h 0 l)
+text_mapping_at-same one two count (suc n) h l =
     λ i. cond (begins (Some (h n (omega arith) i)) (h (suc n) l i)) (Some (record { address = word_address (suc n); code = h (suc n) l i }))
     None
 
-pub marks_listed : (o : Object) (slots : List (Option TextMark)) → length slots ≡ length o.text_bytes.items / 4
-    → AreSlots slots [] (mappings_of o.symbols.items) → answers_below (mark_at (slots_say slots)) (length slots) ≡ text_marks o
-unfolding text_marks
-marks_listed o slots e are =
-    answers_below-same (mark_at (slots_say slots)) (mark_at (is_code_word o)) (length slots)
-    (λ n b. mark_at-same (slots_say slots) (is_code_word o) (length slots) n (λ k l. slots_code o slots k are l) b)
-    ∙ ap (answers_below (mark_at (is_code_word o))) e
+pub mappings_listed : (o : Object) (slots : List (Option TextMapping)) → length slots ≡ length o.text_bytes.items / 4
+    → AreSlots slots [] (mappings_of o.symbols.items) → answers_below (text_mapping_at (slots_say slots)) (length slots) ≡ text_mappings o
+unfolding text_mappings
+mappings_listed o slots e are =
+    answers_below-same (text_mapping_at (slots_say slots)) (text_mapping_at (is_code_word o)) (length slots)
+    (λ n b. text_mapping_at-same (slots_say slots) (is_code_word o) (length slots) n (λ k l. slots_code o slots k are l) b)
+    ∙ ap (answers_below (text_mapping_at (is_code_word o))) e
 
 one_answer : {A : Type 0} (o : Option A) → length (answers o) ≤ 1
 one_answer None = omega arith
@@ -198,6 +200,6 @@ answers_few answer (suc n) =
     rw (← add-one, answers_below-next answer n, length-append (answers_below answer n) (answers (answer n)))
     (omega (arith, answers_few answer n, one_answer (answer n)))
 
-pub few_marks : (o : Object) → length (text_marks o) ≤ length o.text_bytes.items / 4
-unfolding text_marks
-few_marks o = answers_few (mark_at (is_code_word o)) (length o.text_bytes.items / 4)
+pub few_mappings : (o : Object) → length (text_mappings o) ≤ length o.text_bytes.items / 4
+unfolding text_mappings
+few_mappings o = answers_few (text_mapping_at (is_code_word o)) (length o.text_bytes.items / 4)

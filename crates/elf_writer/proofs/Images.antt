@@ -5,15 +5,15 @@ use Rattle.std.specs.Prelude.{◌==◌, cond}
 use Rattle.std.proofs.lemmas.Bool.Decides.{nat_tests}
 use Rattle.sm_types.specs.Objects.{text_address, data_address}
 use Rattle.paged_memory.specs.Image.{Extent}
-use Rattle.elf_headers.specs.declared.header.ProgramHeader.{ProgramHeader}
+use Rattle.elf_headers.specs.declared.program_header.ProgramHeader.{ProgramHeader}
 use Rattle.elf_headers.specs.Below.{answers_below}
 use Rattle.elf_headers.specs.Segments.{segment_of, is_load}
 use Rattle.elf_headers.specs.Loads.{load_of, loads_of, extent_of_load, extents_of}
 use Rattle.elf_writer.specs.declared.layout.Layout.{Layout}
-use Rattle.elf_writer.specs.declared.marks.TextMark.{TextMark}
+use Rattle.elf_writer.specs.declared.mapping_symbols.TextMapping.{TextMapping}
 use Rattle.elf_writer.specs.Layout.{text_segment, full_data_segment, IsSmall}
 use Rattle.elf_writer.proofs.Reading.{IsFile, Reads, reads, text-bytes, data-bytes}
-use Rattle.elf_writer.proofs.Headers.{segment_count-is, segment_of-text, segment_of-data}
+use Rattle.elf_writer.proofs.Headers.{program_header_count-is, segment_of-text, segment_of-data}
 
 -- ---- the parts in memory
 
@@ -75,34 +75,36 @@ loads_by file l false e s r h =
 pub loads_of-is : (file : List ℕ) (l : Layout) → IsSmall l → Reads file l → 0 < l.text_size → loads_of file ≡ text_segment l
     ∷ cond (l.data_size == 0) [] (full_data_segment l ∷ [])
 unfolding loads_of
-loads_of-is file l s r h = ap (answers_below (load_of file)) (segment_count-is file l r) ∙ loads_by file l (l.data_size == 0) refl s r h
+loads_of-is file l s r h =
+    ap (answers_below (load_of file)) (program_header_count-is file l r) ∙ loads_by file l (l.data_size == 0) refl s r h
 
 -- ---- and what they take into memory
 
-extent-text : (file : List ℕ) (l : Layout) (text bytes : List ℕ) (marks : List TextMark) → IsFile file l text bytes marks
+extent-text : (file : List ℕ) (l : Layout) (text bytes : List ℕ) (mappings : List TextMapping) → IsFile file l text bytes mappings
     → extent_of_load file (text_segment l) ≡ text_image text
 unfolding extent_of_load text_segment
-extent-text file l text bytes marks is =
-    λ i. record { address = text_address; size = sym is.text_size i; flags = 5; bytes = text-bytes file l text bytes marks is i }
+extent-text file l text bytes mappings is =
+    λ i. record { address = text_address; size = sym is.text_size i; flags = 5; bytes = text-bytes file l text bytes mappings is i }
 
-extent-data : (file : List ℕ) (l : Layout) (text bytes : List ℕ) (marks : List TextMark) → IsFile file l text bytes marks
+extent-data : (file : List ℕ) (l : Layout) (text bytes : List ℕ) (mappings : List TextMapping) → IsFile file l text bytes mappings
     → extent_of_load file (full_data_segment l) ≡ data_image text bytes
 unfolding extent_of_load
-extent-data file l text bytes marks is =
+extent-data file l text bytes mappings is =
     λ i. record {
       address = data_address (sym is.text_size i);
       size = sym is.data_size i;
       flags = 6;
-      bytes = data-bytes file l text bytes marks is i;
+      bytes = data-bytes file l text bytes mappings is i;
     }
 
 map_cond : (f : ProgramHeader → Extent) (b : Bool) (s : ProgramHeader) → map f (cond b [] (s ∷ [])) ≡ cond b [] (f s ∷ [])
 map_cond f true s = refl
 map_cond f false s = refl
 
-pub extents_of-is : (file : List ℕ) (l : Layout) (text bytes : List ℕ) (marks : List TextMark) → IsFile file l text bytes marks
+pub extents_of-is : (file : List ℕ) (l : Layout) (text bytes : List ℕ) (mappings : List TextMapping) → IsFile file l text bytes mappings
     → 0 < l.text_size → extents_of file ≡ images text bytes
-extents_of-is file l text bytes marks is h =
-    ap (map (extent_of_load file)) (loads_of-is file l is.small (reads file l text bytes marks is) h)
+extents_of-is file l text bytes mappings is h =
+    ap (map (extent_of_load file)) (loads_of-is file l is.small (reads file l text bytes mappings is) h)
     ∙ ap (λ es. extent_of_load file (text_segment l) ∷ es) (map_cond (extent_of_load file) (l.data_size == 0) (full_data_segment l))
-    ∙ (λ i. extent-text file l text bytes marks is i ∷ cond (sym is.data_size i == 0) [] (extent-data file l text bytes marks is i ∷ []))
+    ∙ (λ i. extent-text file l text bytes mappings is i ∷ cond (sym is.data_size i == 0) []
+    (extent-data file l text bytes mappings is i ∷ []))

@@ -1,15 +1,15 @@
 -- The headers of a file that is written: its own, its program headers and its section headers.
--- Source: ELF-64 Object File Format, the tables of Elf64_Ehdr, Elf64_Phdr and Elf64_Shdr; the places are
+-- Source: ELF-64 Object File Format, the tables of Elf64_Ehdr, Elf64_Phdr and Elf64_Shdr; the offsets are
 -- this project's own.
 use Rattle.std.specs.Prelude.{ℕ, ◌+◌, ◌*◌, ◌/◌, ◌≤◌, ◌<◌, ◌^◌, Bool, true, cond, List, [], ◌∷◌, ◌++◌, ◌==◌}
 use Rattle.std.specs.Prelude.{◌&&◌, nat_le}
 use Rattle.byteorder.specs.Endian.{little_bytes}
 use Rattle.sm_types.specs.Objects.{text_address, data_address, page_after}
-use Rattle.elf_headers.specs.declared.header.ProgramHeader.{ProgramHeader}
+use Rattle.elf_headers.specs.declared.program_header.ProgramHeader.{ProgramHeader}
 use Rattle.elf_sections.specs.declared.section.SectionHeader.{SectionHeader}
 use Rattle.elf_writer.specs.declared.layout.Layout.{Layout}
 
--- fields of a width in bytes and a value, the low byte first
+-- fields of a width in bytes and a value, little-endian
 abbrev pub fields_bytes : List (ℕ × ℕ) → List ℕ
 fields_bytes [] = []
 fields_bytes (field ∷ fields) = little_bytes field.0 field.1 ++ fields_bytes fields
@@ -20,25 +20,25 @@ are_narrow [] = true
 are_narrow (field ∷ fields) = nat_le field.0 8 && are_narrow fields
 
 -- where the text, its section table and its string tables stand in the file
-abbrev pub text_place : ℕ
-text_place = 4096
+abbrev pub text_offset : ℕ
+text_offset = 4096
 
-abbrev pub sections_place : ℕ
-sections_place = 176
+abbrev pub section_table_offset : ℕ
+section_table_offset = 176
 
-abbrev pub strings_place : ℕ
-strings_place = 560
+abbrev pub strings_offset : ℕ
+strings_offset = 560
 
-abbrev pub names_place : ℕ
-names_place = 568
+abbrev pub names_offset : ℕ
+names_offset = 568
 
 -- where the data stands in the file: at the first page after the text
-unfoldable pub data_place : Layout → ℕ
-data_place l = page_after (text_place + l.text_size)
+unfoldable pub data_offset : Layout → ℕ
+data_offset l = page_after (text_offset + l.text_size)
 
 -- where the symbols stand in the file: at the first multiple of 8 after the data
-unfoldable pub symbols_place : Layout → ℕ
-symbols_place l = (data_place l + l.data_size + 7) / 8 * 8
+unfoldable pub symbols_offset : Layout → ℕ
+symbols_offset l = (data_offset l + l.data_size + 7) / 8 * 8
 
 -- at most 4 MiB of text and as much data; the symbols are at most one for each word of the text, and the
 -- null symbol
@@ -59,7 +59,7 @@ text_segment l =
     record {
       kind = 1;
       flags = 5;
-      offset = text_place;
+      offset = text_offset;
       address = text_address;
       file_size = l.text_size;
       memory_size = l.text_size;
@@ -70,7 +70,7 @@ full_data_segment l =
     record {
       kind = 1;
       flags = 6;
-      offset = data_place l;
+      offset = data_offset l;
       address = data_address l.text_size;
       file_size = l.data_size;
       memory_size = l.data_size;
@@ -99,7 +99,7 @@ text_section l =
       kind = 1;
       flags = 6;
       address = text_address;
-      offset = text_place;
+      offset = text_offset;
       size = l.text_size;
       link = 0;
       entry_size = 0;
@@ -112,7 +112,7 @@ data_section l =
       kind = 1;
       flags = 3;
       address = data_address l.text_size;
-      offset = data_place l;
+      offset = data_offset l;
       size = l.data_size;
       link = 0;
       entry_size = 0;
@@ -125,7 +125,7 @@ symbols_section l =
       kind = 2;
       flags = 0;
       address = 0;
-      offset = symbols_place l;
+      offset = symbols_offset l;
       size = 24
           * l.symbol_count;
       link = 4;
@@ -134,16 +134,18 @@ symbols_section l =
 
 -- SHT_STRTAB
 unfoldable pub strings_section : ℕ → ℕ → SectionHeader
-strings_section place size =
-    record { kind = 3; flags = 0; address = 0; offset = place; size = size; link = 0; entry_size = 0 }
+strings_section offset size =
+    record { kind = 3; flags = 0; address = 0; offset = offset; size = size; link = 0; entry_size = 0 }
 
 -- ---- the fields
 
--- ELF64, low byte first, version 1; an executable of AArch64; its entry, its tables and their sizes
+-- e_ident (ELF64, little-endian, version 1, and zeros), e_type (an executable), e_machine (AArch64),
+-- e_version, e_entry, e_phoff, e_shoff, e_flags, e_ehsize, e_phentsize, e_phnum, e_shentsize, e_shnum,
+-- e_shstrndx
 unfoldable pub header_fields : Layout → List (ℕ × ℕ)
 header_fields l =
     (4, 0x464C457F) ∷ (2, 0x0102) ∷ (1, 1) ∷ (1, 0) ∷ (8, 0)
-    ∷ (2, 2) ∷ (2, 183) ∷ (4, 1) ∷ (8, l.entry) ∷ (8, 64) ∷ (8, sections_place) ∷ (4, 0)
+    ∷ (2, 2) ∷ (2, 183) ∷ (4, 1) ∷ (8, l.entry) ∷ (8, 64) ∷ (8, section_table_offset) ∷ (4, 0)
     ∷ (2, 64) ∷ (2, 56) ∷ (2, load_count l) ∷ (2, 64) ∷ (2, 6) ∷ (2, 5)
     ∷ []
 
@@ -175,8 +177,8 @@ part_sections_fields l =
 unfoldable pub table_sections_fields : Layout → List (ℕ × ℕ)
 table_sections_fields l =
     section_fields 13 (symbols_section l) l.symbol_count 8
-    ++ (section_fields 21 (strings_section strings_place 7) 0 1
-    ++ section_fields 29 (strings_section names_place 39) 0 1)
+    ++ (section_fields 21 (strings_section strings_offset 7) 0 1
+    ++ section_fields 29 (strings_section names_offset 39) 0 1)
 
 -- all header fields
 unfoldable pub all_fields : Layout → List (ℕ × ℕ)

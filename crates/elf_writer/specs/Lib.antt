@@ -1,4 +1,4 @@
-pub mod TextMarks
+pub mod TextMappings
 pub mod Slots
 pub mod Layout
 pub mod File

@@ -1,11 +1,11 @@
 //! The file of an object.
 ghost use Rattle.std.specs.Prelude.{◌≡◌, ◌≤◌, ◌++◌, suc, length, replicate, IfOk, OnOk};
 ghost use Rattle.elf_writer.specs.Layout.{fields_bytes, IsSmall};
-ghost use Rattle.elf_writer.specs.File.{symbol_fields, marks_bytes, symbols_bytes, front_bytes, text_part};
+ghost use Rattle.elf_writer.specs.File.{symbol_fields, mapping_bytes, symbols_bytes, front_bytes, text_part};
 ghost use Rattle.elf_writer.specs.File.{data_part, file_bytes, file_of};
 
-use crate::layout::{Layout, TEXT_PLACE, put_fields, put_headers};
-use crate::marks::{TextMark, text_marks};
+use crate::layout::{Layout, TEXT_INDEX, TEXT_OFFSET, put_fields, put_headers};
+use crate::mapping_symbols::{TextMapping, text_mappings};
 use sm_types::Object;
 use std::alloc::{AllocError, Global};
 
@@ -15,9 +15,9 @@ const STRINGS: &[u8] = b"\0$x\0$d\0";
 const SECTION_NAMES: &[u8] = b"\0.text\0.data\0.symtab\0.strtab\0.shstrtab\0";
 /// How many zeros stand between the names of sections and the text.
 const FRONT_ZEROS: usize = 3489;
-/// The place of `$x` in the names of symbols.
+/// The offset of `$x` in the names of symbols.
 const CODE_NAME: u64 = 1;
-/// The place of `$d` in the names of symbols.
+/// The offset of `$d` in the names of symbols.
 const DATA_NAME: u64 = 4;
 
 /// Appends zeros.
@@ -30,32 +30,39 @@ fn put_zeros(out: &mut Vec<u8>, count: usize) -> Result<(), AllocError>
     Ok(())
 }
 
-/// Appends the symbol of a mark.
+/// Appends the symbol of a mapping symbol.
 #[tactic(auto, unfolding(crate::specs::File::symbol_fields))]
-fn put_mark(out: &mut Vec<u8>, mark: &TextMark) -> Result<(), AllocError>
-    ensures { OnOk result (out.new.items ≡ out.old.items ++ fields_bytes (symbol_fields mark.now)) }
+fn put_mapping(out: &mut Vec<u8>, mapping: &TextMapping) -> Result<(), AllocError>
+    ensures { OnOk result (out.new.items ≡ out.old.items ++ fields_bytes (symbol_fields mapping.now)) }
 {
-    let name = if mark.code { CODE_NAME } else { DATA_NAME };
-    let fields = [(4, name), (1, 0), (1, 0), (2, 1), (8, mark.address), (8, 0)];
+    let name = if mapping.code { CODE_NAME } else { DATA_NAME };
+    let fields = [
+        (4, name), // st_name
+        (1, 0), // st_info: STB_LOCAL, STT_NOTYPE
+        (1, 0), // st_other
+        (2, TEXT_INDEX), // st_shndx
+        (8, mapping.address), // st_value
+        (8, 0), // st_size
+    ];
     put_fields(out, &fields)
 }
 
-/// Appends the symbols of marks.
-fn put_marks(out: &mut Vec<u8>, marks: &[TextMark]) -> Result<(), AllocError>
-    ensures { OnOk result (out.new.items ≡ out.old.items ++ marks_bytes marks.now) }
+/// Appends the symbols of mapping symbols.
+fn put_mappings(out: &mut Vec<u8>, mappings: &[TextMapping]) -> Result<(), AllocError>
+    ensures { OnOk result (out.new.items ≡ out.old.items ++ mapping_bytes mappings.now) }
 {
-    for mark in marks {
-        put_mark(out, mark)?;
+    for mapping in mappings {
+        put_mapping(out, mapping)?;
     }
     Ok(())
 }
 
 /// Appends the symbol table.
-fn put_symbols(out: &mut Vec<u8>, marks: &[TextMark]) -> Result<(), AllocError>
-    ensures { OnOk result (out.new.items ≡ out.old.items ++ symbols_bytes marks.now) }
+fn put_symbols(out: &mut Vec<u8>, mappings: &[TextMapping]) -> Result<(), AllocError>
+    ensures { OnOk result (out.new.items ≡ out.old.items ++ symbols_bytes mappings.now) }
 {
     put_zeros(out, 24)?;
-    put_marks(out, marks)
+    put_mappings(out, mappings)
 }
 
 /// Appends what stands before the text.
@@ -76,7 +83,7 @@ fn put_text(out: &mut Vec<u8>, layout: &Layout, text: &[u8]) -> Result<(), Alloc
     ensures { OnOk result (out.new.items ≡ out.old.items ++ text_part layout.now text.now) }
 {
     out.extend_from_slice(text)?;
-    let zeros = layout.data_place() - (TEXT_PLACE + layout.text_size);
+    let zeros = layout.data_offset() - (TEXT_OFFSET + layout.text_size);
     put_zeros(out, zeros as usize)
 }
 
@@ -86,7 +93,7 @@ fn put_data(out: &mut Vec<u8>, layout: &Layout, bytes: &[u8]) -> Result<(), Allo
     ensures { OnOk result (out.new.items ≡ out.old.items ++ data_part layout.now bytes.now) }
 {
     out.extend_from_slice(bytes)?;
-    let zeros = layout.symbols_place() - (layout.data_place() + layout.data_size);
+    let zeros = layout.symbols_offset() - (layout.data_offset() + layout.data_size);
     put_zeros(out, zeros as usize)
 }
 
@@ -95,16 +102,16 @@ fn put_file(
     out: &mut Vec<u8>,
     layout: &Layout,
     object: &Object,
-    marks: &[TextMark],
+    mappings: &[TextMapping],
 ) -> Result<(), AllocError>
     requires { IsSmall layout.now }
     ensures { OnOk result (out.new.items ≡ out.old.items
-        ++ file_bytes layout.now object.now.text_bytes.items object.now.data_bytes.items marks.now) }
+        ++ file_bytes layout.now object.now.text_bytes.items object.now.data_bytes.items mappings.now) }
 {
     put_front(out, layout)?;
     put_text(out, layout, object.text_bytes.as_slice())?;
     put_data(out, layout, object.data_bytes.as_slice())?;
-    put_symbols(out, marks)
+    put_symbols(out, mappings)
 }
 
 /// The bytes of an ELF64 executable with the object's parts, each a load of its own, and its mapping symbols.
@@ -113,15 +120,15 @@ pub fn write_file(alloc: Global, object: &Object) -> Result<Vec<u8>, AllocError>
     requires data_size { length object.now.data_bytes.items ≤ 4194304 }
     ensures { IfOk result (λ file. file.items ≡ file_of object.now) }
 {
-    let marks = text_marks(alloc, object)?;
+    let mappings = text_mappings(alloc, object)?;
     let layout = Layout {
         entry: object.entry,
         text_size: object.text_bytes.len() as u64,
         data_size: object.data_bytes.len() as u64,
-        symbol_count: marks.len() as u64 + 1,
+        symbol_count: mappings.len() as u64 + 1,
     };
-    let size = layout.symbols_place() + 24 * layout.symbol_count;
+    let size = layout.symbols_offset() + 24 * layout.symbol_count;
     let mut out = Vec::with_capacity(alloc, size as usize)?;
-    put_file(&mut out, &layout, object, marks.as_slice())?;
+    put_file(&mut out, &layout, object, mappings.as_slice())?;
     Ok(out)
 }

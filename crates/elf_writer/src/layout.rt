@@ -2,33 +2,60 @@
 ghost use Rattle.std.specs.Prelude.{◌≡◌, ◌+◌, ◌*◌, ◌≤◌, ◌++◌, true, OnOk};
 ghost use Rattle.byteorder.specs.Endian.{little_bytes};
 ghost use Rattle.sm_types.specs.Objects.{page_after, data_address};
-ghost use Rattle.elf_writer.specs.Layout.{are_narrow, fields_bytes, data_place, symbols_place, load_count};
+ghost use Rattle.elf_writer.specs.Layout.{are_narrow, fields_bytes, data_offset, symbols_offset, load_count};
 ghost use Rattle.elf_writer.specs.Layout.{text_segment, data_segment, segment_align, text_section};
 ghost use Rattle.elf_writer.specs.Layout.{data_section, symbols_section, strings_section, header_fields};
 ghost use Rattle.elf_writer.specs.Layout.{segment_fields, section_fields, segments_fields};
 ghost use Rattle.elf_writer.specs.Layout.{part_sections_fields, table_sections_fields, all_fields, IsSmall};
 
-use elf_headers::ProgramHeader;
-use elf_sections::SectionHeader;
+use elf_headers::{
+    E_HEADER_SIZE, ELF_CLASS_AND_DATA, ELF_MAGIC, EM_AARCH64, ET_EXEC, EV_CURRENT, PF_R, PF_W,
+    PF_X, PROGRAM_HEADER_SIZE, PT_LOAD, PT_NULL, ProgramHeader,
+};
+use elf_sections::{
+    SECTION_HEADER_SIZE, SHF_ALLOC, SHF_EXECINSTR, SHF_WRITE, SHT_NULL, SHT_PROGBITS, SHT_STRTAB,
+    SHT_SYMTAB, SYMBOL_SIZE, SectionHeader,
+};
 use sm_types::TEXT_ADDRESS;
 use std::alloc::AllocError;
 
 /// Where the text stands in the file.
-pub const TEXT_PLACE: u64 = 4096;
+pub const TEXT_OFFSET: u64 = 4096;
+/// Where the program headers stand in the file: after its header.
+const PROGRAM_HEADERS_OFFSET: u64 = 64;
 /// Where the section table stands in the file.
-const SECTIONS_PLACE: u64 = 176;
+const SECTION_TABLE_OFFSET: u64 = 176;
 /// Where the names of symbols stand in the file.
-const STRINGS_PLACE: u64 = 560;
+const STRINGS_OFFSET: u64 = 560;
 /// The size of the names of symbols.
 const STRINGS_SIZE: u64 = 7;
 /// Where the names of sections stand in the file.
-const NAMES_PLACE: u64 = 568;
+const NAMES_OFFSET: u64 = 568;
 /// The size of the names of sections.
 const NAMES_SIZE: u64 = 39;
 
+/// The number of sections, the null section among them.
+const SECTION_COUNT: u64 = 6;
+/// The number of the text among the sections.
+pub const TEXT_INDEX: u64 = 1;
+/// The number of the names of symbols among the sections.
+const STRINGS_INDEX: u32 = 4;
+/// The number of the names of sections among the sections.
+const NAMES_INDEX: u64 = 5;
+/// The offset of `.text` in the names of sections.
+const TEXT_NAME: u64 = 1;
+/// The offset of `.data` in the names of sections.
+const DATA_NAME: u64 = 7;
+/// The offset of `.symtab` in the names of sections.
+const SYMTAB_NAME: u64 = 13;
+/// The offset of `.strtab` in the names of sections.
+const STRTAB_NAME: u64 = 21;
+/// The offset of `.shstrtab` in the names of sections.
+const SHSTRTAB_NAME: u64 = 29;
+
 /// The header of no section.
 const NO_SECTION: SectionHeader = SectionHeader {
-    kind: 0,
+    kind: SHT_NULL,
     flags: 0,
     address: 0,
     offset: 0,
@@ -48,24 +75,24 @@ pub struct Layout {
     pub symbol_count: u64,
 }
 
-/// The first multiple of 4096 that is not below the place.
-fn next_page(place: u64) -> u64
-    requires { place ≤ 16777216 }
-    ensures { result ≡ page_after place }
+/// The first multiple of 4096 that is not below the offset or address.
+fn next_page(offset: u64) -> u64
+    requires { offset ≤ 16777216 }
+    ensures { result ≡ page_after offset }
 {
-    (place + 4095) / 4096 * 4096
+    (offset + 4095) / 4096 * 4096
 }
 
 impl Layout {
     /// Where the data stands in the file.
-    #[tactic(auto, unfolding(crate::specs::Layout::data_place))]
-    pub fn data_place(&self) -> u64
+    #[tactic(auto, unfolding(crate::specs::Layout::data_offset))]
+    pub fn data_offset(&self) -> u64
         requires { IsSmall self.now }
-        ensures place { result ≡ data_place self.now }
+        ensures offset { result ≡ data_offset self.now }
         ensures after { 4096 + self.now.text_size ≤ result }
         ensures near { result ≤ 8192 + self.now.text_size }
     {
-        next_page(TEXT_PLACE + self.text_size)
+        next_page(TEXT_OFFSET + self.text_size)
     }
 
     /// The address of the data.
@@ -77,15 +104,15 @@ impl Layout {
     }
 
     /// Where the symbols stand in the file.
-    #[tactic(auto, unfolding(crate::specs::Layout::symbols_place))]
-    pub fn symbols_place(&self) -> u64
+    #[tactic(auto, unfolding(crate::specs::Layout::symbols_offset))]
+    pub fn symbols_offset(&self) -> u64
         requires { IsSmall self.now }
-        ensures place { result ≡ symbols_place self.now }
-        ensures after { data_place self.now + self.now.data_size ≤ result }
-        ensures near { result ≤ data_place self.now + self.now.data_size + 7 }
+        ensures offset { result ≡ symbols_offset self.now }
+        ensures after { data_offset self.now + self.now.data_size ≤ result }
+        ensures near { result ≤ data_offset self.now + self.now.data_size + 7 }
         ensures low { result ≤ 16777216 }
     {
-        (self.data_place() + self.data_size + 7) / 8 * 8
+        (self.data_offset() + self.data_size + 7) / 8 * 8
     }
 
     /// How many loads there are.
@@ -101,9 +128,9 @@ impl Layout {
         ensures { result ≡ text_segment self.now }
     {
         ProgramHeader {
-            kind: 1,
-            flags: 5,
-            offset: TEXT_PLACE,
+            kind: PT_LOAD,
+            flags: PF_R + PF_X,
+            offset: TEXT_OFFSET,
             address: TEXT_ADDRESS,
             file_size: self.text_size,
             memory_size: self.text_size,
@@ -118,7 +145,7 @@ impl Layout {
     {
         if self.data_size == 0 {
             ProgramHeader {
-                kind: 0,
+                kind: PT_NULL,
                 flags: 0,
                 offset: 0,
                 address: 0,
@@ -127,9 +154,9 @@ impl Layout {
             }
         } else {
             ProgramHeader {
-                kind: 1,
-                flags: 6,
-                offset: self.data_place(),
+                kind: PT_LOAD,
+                flags: PF_R + PF_W,
+                offset: self.data_offset(),
                 address: self.data_address(),
                 file_size: self.data_size,
                 memory_size: self.data_size,
@@ -143,10 +170,10 @@ impl Layout {
         ensures { result ≡ text_section self.now }
     {
         SectionHeader {
-            kind: 1,
-            flags: 6,
+            kind: SHT_PROGBITS,
+            flags: SHF_ALLOC + SHF_EXECINSTR,
             address: TEXT_ADDRESS,
-            offset: TEXT_PLACE,
+            offset: TEXT_OFFSET,
             size: self.text_size,
             link: 0,
             entry_size: 0,
@@ -160,10 +187,10 @@ impl Layout {
         ensures { result ≡ data_section self.now }
     {
         SectionHeader {
-            kind: 1,
-            flags: 3,
+            kind: SHT_PROGBITS,
+            flags: SHF_WRITE + SHF_ALLOC,
             address: self.data_address(),
-            offset: self.data_place(),
+            offset: self.data_offset(),
             size: self.data_size,
             link: 0,
             entry_size: 0,
@@ -177,34 +204,34 @@ impl Layout {
         ensures { result ≡ symbols_section self.now }
     {
         SectionHeader {
-            kind: 2,
+            kind: SHT_SYMTAB,
             flags: 0,
             address: 0,
-            offset: self.symbols_place(),
-            size: 24 * self.symbol_count,
-            link: 4,
-            entry_size: 24,
+            offset: self.symbols_offset(),
+            size: SYMBOL_SIZE * self.symbol_count,
+            link: STRINGS_INDEX,
+            entry_size: SYMBOL_SIZE,
         }
     }
 }
 
 /// A string table.
 #[tactic(auto, unfolding(crate::specs::Layout::strings_section))]
-fn strings_section(place: u64, size: u64) -> SectionHeader
-    ensures { result ≡ strings_section place size }
+fn strings_section(offset: u64, size: u64) -> SectionHeader
+    ensures { result ≡ strings_section offset size }
 {
     SectionHeader {
-        kind: 3,
+        kind: SHT_STRTAB,
         flags: 0,
         address: 0,
-        offset: place,
+        offset: offset,
         size,
         link: 0,
         entry_size: 0,
     }
 }
 
-/// Appends the low bytes of a value, the lowest first.
+/// Appends the low bytes of a value, little-endian.
 fn put(out: &mut Vec<u8>, width: usize, value: u64) -> Result<(), AllocError>
     requires { width ≤ 8 }
     ensures { OnOk result (out.new.items ≡ out.old.items ++ little_bytes width value) }
@@ -231,24 +258,24 @@ fn put_header(out: &mut Vec<u8>, layout: &Layout) -> Result<(), AllocError>
     ensures { OnOk result (out.new.items ≡ out.old.items ++ fields_bytes (header_fields layout.now)) }
 {
     let fields = [
-        (4, 0x464C457F),
-        (2, 0x0102),
-        (1, 1),
-        (1, 0),
+        (4, u64::from(ELF_MAGIC)),
+        (2, u64::from(ELF_CLASS_AND_DATA)),
+        (1, u64::from(EV_CURRENT)),
+        (1, 0), // the rest of e_ident
         (8, 0),
-        (2, 2),
-        (2, 183),
-        (4, 1),
+        (2, u64::from(ET_EXEC)),
+        (2, u64::from(EM_AARCH64)),
+        (4, u64::from(EV_CURRENT)),
         (8, layout.entry),
-        (8, 64),
-        (8, SECTIONS_PLACE),
-        (4, 0),
-        (2, 64),
-        (2, 56),
+        (8, PROGRAM_HEADERS_OFFSET),
+        (8, SECTION_TABLE_OFFSET),
+        (4, 0), // e_flags
+        (2, E_HEADER_SIZE as u64),
+        (2, u64::from(PROGRAM_HEADER_SIZE)),
         (2, layout.load_count()),
-        (2, 64),
-        (2, 6),
-        (2, 5),
+        (2, u64::from(SECTION_HEADER_SIZE)),
+        (2, SECTION_COUNT),
+        (2, NAMES_INDEX),
     ];
     put_fields(out, &fields)
 }
@@ -258,7 +285,7 @@ fn put_header(out: &mut Vec<u8>, layout: &Layout) -> Result<(), AllocError>
 fn put_segment(out: &mut Vec<u8>, segment: &ProgramHeader) -> Result<(), AllocError>
     ensures { OnOk result (out.new.items ≡ out.old.items ++ fields_bytes (segment_fields segment.now)) }
 {
-    let align = if segment.kind == 0 { 0 } else { 4096 };
+    let align = if segment.kind == PT_NULL { 0 } else { 4096 };
     let fields = [
         (4, u64::from(segment.kind)),
         (4, u64::from(segment.flags)),
@@ -314,8 +341,8 @@ fn put_part_sections(out: &mut Vec<u8>, layout: &Layout) -> Result<(), AllocErro
     ensures { OnOk result (out.new.items ≡ out.old.items ++ fields_bytes (part_sections_fields layout.now)) }
 {
     put_section(out, 0, &NO_SECTION, 0, 0)?;
-    put_section(out, 1, &layout.text_section(), 0, 4)?;
-    put_section(out, 7, &layout.data_section(), 0, 8)
+    put_section(out, TEXT_NAME, &layout.text_section(), 0, 4)?;
+    put_section(out, DATA_NAME, &layout.data_section(), 0, 8)
 }
 
 /// Appends the headers of the symbol table and the string tables.
@@ -323,11 +350,17 @@ fn put_table_sections(out: &mut Vec<u8>, layout: &Layout) -> Result<(), AllocErr
     requires { IsSmall layout.now }
     ensures { OnOk result (out.new.items ≡ out.old.items ++ fields_bytes (table_sections_fields layout.now)) }
 {
-    put_section(out, 13, &layout.symbols_section(), layout.symbol_count, 8)?;
-    let strings = strings_section(STRINGS_PLACE, STRINGS_SIZE);
-    put_section(out, 21, &strings, 0, 1)?;
-    let names = strings_section(NAMES_PLACE, NAMES_SIZE);
-    put_section(out, 29, &names, 0, 1)
+    put_section(
+        out,
+        SYMTAB_NAME,
+        &layout.symbols_section(),
+        layout.symbol_count,
+        8,
+    )?;
+    let strings = strings_section(STRINGS_OFFSET, STRINGS_SIZE);
+    put_section(out, STRTAB_NAME, &strings, 0, 1)?;
+    let names = strings_section(NAMES_OFFSET, NAMES_SIZE);
+    put_section(out, SHSTRTAB_NAME, &names, 0, 1)
 }
 
 /// Appends all headers.

@@ -20,7 +20,7 @@ use Rattle.a64_table.specs.declared.operation.AddressForm.TheVariants.{Offset, U
 use Rattle.a64_table.specs.Conditions.{is_below_width, has_load, is_address_option, is_apart, are_two, is_pair_apart, fits_of}
 use Rattle.insn_text.specs.declared.item.Kind.{Kind}
 use Rattle.insn_text.specs.declared.item.Kind.TheVariants as kind
-use Rattle.insn_text.specs.declared.item.Kind.TheVariants.{Mark, Named, Unsigned, Signed, Distance, Mask, SignedMask, ShiftLeft, Opposite}
+use Rattle.insn_text.specs.declared.item.Kind.TheVariants.{Punctuation, Keyword, Unsigned, Signed, Distance, Mask, SignedMask, ShiftLeft, Opposite}
 use Rattle.insn_text.specs.declared.item.Kind.TheVariants.{Halfword, Sized, SliceRegister, Index, Pattern, Descending}
 use Rattle.insn_text.specs.declared.item.Rule.{Rule}
 use Rattle.insn_text.specs.declared.item.Rule.TheVariants.{Free, SecondApart, BaseApart, BasePairApart, OffsetGiven}
@@ -37,7 +37,7 @@ same false b = not b
 
 -- the region fixes the bit at this value
 unfoldable pub fixed : ℕ → ℕ → ℕ → Bool → Bool
-fixed mask value place b = bit_of mask place && same b (bit_of value place)
+fixed mask value bit b = bit_of mask bit && same b (bit_of value bit)
 
 from_same : (a b : Bool) → same a b ≡ true → b ≡ a
 unfolding same
@@ -45,25 +45,25 @@ from_same true b e = e
 from_same false true e = cc
 from_same false false e = refl
 
-fixed_bit : (word mask value place : ℕ) (b : Bool) → bit_and word mask ≡ value → fixed mask value place b ≡ true → bit_of word place ≡ b
+fixed_bit : (word mask value bit : ℕ) (b : Bool) → bit_and word mask ≡ value → fixed mask value bit b ≡ true → bit_of word bit ≡ b
 unfolding fixed bit_of
-fixed_bit word mask value place b m e =
-    let parts = and_parts (field_of mask place 1 == 1) (same b (field_of value place 1 == 1)) e in
-    ap (λ n. n == 1) (fixed_field word mask value place 1 m (eqb-true _ _ parts.0)) ∙ from_same b _ parts.1
+fixed_bit word mask value bit b m e =
+    let parts = and_parts (field_of mask bit 1 == 1) (same b (field_of value bit 1 == 1)) e in
+    ap (λ n. n == 1) (fixed_field word mask value bit 1 m (eqb-true _ _ parts.0)) ∙ from_same b _ parts.1
 
-one_at : (word place : ℕ) → bit_of word place ≡ true → field_of word place 1 ≡ 1
+one_at : (word bit : ℕ) → bit_of word bit ≡ true → field_of word bit 1 ≡ 1
 unfolding bit_of
-one_at word place e = eqb-true _ _ e
+one_at word bit e = eqb-true _ _ e
 
 not_both : (b : Bool) → not b ≡ true → b ≡ true → ⊥
 not_both true x y = cc
 not_both false x y = cc
 
-zero_at : (word place : ℕ) → bit_of word place ≡ false → field_of word place 1 ≡ 0
+zero_at : (word bit : ℕ) → bit_of word bit ≡ false → field_of word bit 1 ≡ 0
 unfolding bit_of
-zero_at word place e =
-    let lt = field_below word place 1 in
-    let ne : field_of word place 1 ≢ 1 = λ f. both_ways _ e (eq-eqb _ _ f) in
+zero_at word bit e =
+    let lt = field_below word bit 1 in
+    let ne : field_of word bit 1 ≢ 1 = λ f. both_ways _ e (eq-eqb _ _ f) in
     omega arith
 
 either_true : (a b : Bool) → (a || b) ≡ true → (a ≡ true) ⊎ (b ≡ true)
@@ -325,8 +325,8 @@ is_mask_field false m v i = is_field i 10 12 && (fixed m v 31 false && fixed m v
 
 -- each word of the region that meets the group's condition has a text of the kind for the number of the operand's field
 unfoldable pub says_kind : Operation → ℕ → ℕ → Item → Kind → Bool
-says_kind g m v i (Mark c) = true
-says_kind g m v i (Named first count) =
+says_kind g m v i (Punctuation c) = true
+says_kind g m v i (Keyword first count) =
     nat_le (2 ^ bits_of i) count || (count == 3
     && ((has_three_shifts g && is_field i 22 2) || (is_field i 13 2 && (fixed m v 13 false || fixed m v 14 false))))
 says_kind g m v i (kind.Register file last) = true
@@ -549,8 +549,8 @@ mask_within false word m v i r h e =
 kind_within : (g : Operation) (word m v : ℕ) (i : Item) (kind : Kind) → bit_and word m ≡ v → fits_of g (numbers_in word) ≡ true
     → says_kind g m v i kind ≡ true → is_within kind (field_in i word) ≡ true
 unfolding says_kind is_within
-kind_within g word m v i (Mark c) r f e = refl
-kind_within g word m v i (Named first count) r f e = lt-ltb (field_in i word) count (named_within g word m v i count r f e)
+kind_within g word m v i (Punctuation c) r f e = refl
+kind_within g word m v i (Keyword first count) r f e = lt-ltb (field_in i word) count (named_within g word m v i count r f e)
 kind_within g word m v i (kind.Register file last) r f e = refl
 kind_within g word m v i (Unsigned base scale most) r f e =
     elim (either_true (nat_le (2 ^ bits_of i) (most + 1)) (has_amounts g && (is_field i 10 3 && most == 4)) e) [

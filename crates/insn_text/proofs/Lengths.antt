@@ -18,7 +18,7 @@ use Rattle.bit_ops.proofs.MaskBits.{bool_number-lt}
 use Rattle.insn_forms.specs.Fields.{field_of}
 use Rattle.insn_forms.proofs.Bits.{field_in-lt}
 use Rattle.insn_text.specs.declared.item.Kind.{Kind}
-use Rattle.insn_text.specs.declared.item.Kind.TheVariants.{Mark, Named, Register, Unsigned, Signed, Distance, Mask, SignedMask, ShiftLeft}
+use Rattle.insn_text.specs.declared.item.Kind.TheVariants.{Punctuation, Keyword, Register, Unsigned, Signed, Distance, Mask, SignedMask, ShiftLeft}
 use Rattle.insn_text.specs.declared.item.Kind.TheVariants.{Opposite, Halfword, Sized, SliceRegister, Index, Pattern, Descending}
 use Rattle.insn_text.specs.declared.item.VectorFile.{VectorFile}
 use Rattle.insn_text.specs.declared.item.VectorFile.TheVariants as vector
@@ -27,15 +27,15 @@ use Rattle.insn_text.specs.declared.item.RegisterFile.TheVariants.{X, W}
 use Rattle.insn_text.specs.declared.item.Item.{Item}
 use Rattle.insn_text.specs.declared.item.Shape.{Shape}
 use Rattle.insn_text.specs.declared.item.Text.{Text}
-use Rattle.insn_text.specs.declared.words.TheConstants.{WORDS, NAMES, SUFFIXES}
+use Rattle.insn_text.specs.declared.keywords.TheConstants.{KEYWORDS, MNEMONICS, SUFFIXES}
 use Rattle.insn_text.specs.declared.item.ItemList.{ItemList}
 use Rattle.insn_text.specs.declared.item.ItemList.TheVariants as list
 use Rattle.insn_text.specs.declared.shapes.TheConstants.{SHAPES}
 use Rattle.insn_text.specs.Texts.{text_in, text_at, is_positive, size_of, hexadecimal, mask_in, mask_text, signed_text, distance_text}
-use Rattle.insn_text.specs.Texts.{file_text, register_text, vector_file_text, sized_text, is_named_pattern, pattern_place, pattern_text}
-use Rattle.insn_text.specs.Texts.{kind_text, bits_of, field_in, item_text, is_mark, is_comma, gap, items_text}
+use Rattle.insn_text.specs.Texts.{file_text, register_text, vector_file_text, sized_text, is_named_pattern, pattern_index, pattern_text}
+use Rattle.insn_text.specs.Texts.{kind_text, bits_of, field_in, item_text, is_punctuation, is_comma, gap, items_text}
 use Rattle.insn_text.specs.Texts.{items_in, items_of, shape_text, prints, printed_shape}
-use Rattle.insn_text.specs.Places.{is_sized}
+use Rattle.insn_text.specs.Indices.{is_sized}
 use Rattle.insn_text.proofs.Sizes.{sizes}
 use Rattle.insn_text.proofs.Tables.{all_take, all_drop, all_get, items_sized}
 
@@ -44,25 +44,25 @@ use Rattle.insn_text.proofs.Tables.{all_take, all_drop, all_get, items_sized}
 unfoldable is_short_text : Text → Bool
 is_short_text t = nat_le (length (take t.length t.bytes)) 10
 
-words_short : list_all is_short_text WORDS ≡ true
+words_short : list_all is_short_text KEYWORDS ≡ true
 unfolding is_short_text
 words_short = refl
 
-names_short : list_all is_short_text NAMES ≡ true
+names_short : list_all is_short_text MNEMONICS ≡ true
 unfolding is_short_text
 names_short = refl
 
-short_in : (texts : List Text) (place : ℕ) (o : Option Text) → slice_get texts place ≡ o → list_all is_short_text texts ≡ true
+short_in : (texts : List Text) (index : ℕ) (o : Option Text) → slice_get texts index ≡ o → list_all is_short_text texts ≡ true
     → length (text_in o) ≤ 10
 unfolding text_in is_short_text
-short_in texts place None g e = omega arith
-short_in texts place (Some t) g e = leb-true (length (take t.length t.bytes)) 10 (all_get is_short_text texts place t e g)
+short_in texts index None g e = omega arith
+short_in texts index (Some t) g e = leb-true (length (take t.length t.bytes)) 10 (all_get is_short_text texts index t e g)
 
-word_short : (place : ℕ) → length (text_at WORDS place) ≤ 10
-word_short place = short_in WORDS place (slice_get WORDS place) refl words_short
+word_short : (index : ℕ) → length (text_at KEYWORDS index) ≤ 10
+word_short index = short_in KEYWORDS index (slice_get KEYWORDS index) refl words_short
 
-name_short : (place : ℕ) → length (text_at NAMES place) ≤ 10
-name_short place = short_in NAMES place (slice_get NAMES place) refl names_short
+name_short : (index : ℕ) → length (text_at MNEMONICS index) ≤ 10
+name_short index = short_in MNEMONICS index (slice_get MNEMONICS index) refl names_short
 
 -- ---- numbers
 
@@ -154,8 +154,8 @@ mask_in_small wide field m e =
 
 -- the numbers of a kind with so many bits are those of 16 bits, and those of registers and slices have two digits
 unfoldable is_small : Kind → ℕ → Bool
-is_small (Mark c) bits = true
-is_small (Named first count) bits = true
+is_small (Punctuation c) bits = true
+is_small (Keyword first count) bits = true
 is_small (Register file last) bits = nat_le bits 5
 is_small (Sized file number_bits suffix) bits = nat_le number_bits 5
 is_small SliceRegister bits = nat_le bits 2
@@ -173,9 +173,9 @@ is_small (Halfword wide inverted) bits = true
 
 -- the most bytes of an operand's text
 unfoldable room_of : Kind → ℕ → ℕ
-room_of (Mark c) bits = 1
-room_of (Named first count) bits = cond (bits == 0) (length (text_at WORDS first)) 10
-room_of (Register file last) bits = max 3 (length (text_at WORDS last))
+room_of (Punctuation c) bits = 1
+room_of (Keyword first count) bits = cond (bits == 0) (length (text_at KEYWORDS first)) 10
+room_of (Register file last) bits = max 3 (length (text_at KEYWORDS last))
 room_of (Sized file number_bits suffix) bits = 7
 room_of SliceRegister bits = 3
 room_of Index bits = 2
@@ -224,11 +224,11 @@ below_bits bits most field le lt =
     grow a (suc b) h = omega arith
 
 register_length : (file : RegisterFile) (last number : ℕ) → number < 32
-    → length (register_text file last number) ≤ max 3 (length (text_at WORDS last))
+    → length (register_text file last number) ≤ max 3 (length (text_at KEYWORDS last))
 unfolding register_text
 register_length file last number lt =
-    cond_both (number == 31) (text_at WORDS last) (file_text file ++ decimal number)
-    (λ (t : List ℕ). length t ≤ max 3 (length (text_at WORDS last)))
+    cond_both (number == 31) (text_at KEYWORDS last) (file_text file ++ decimal number)
+    (λ (t : List ℕ). length t ≤ max 3 (length (text_at KEYWORDS last)))
     (λ _. omega arith)
     (λ _. omega (arith, length-append (file_text file) (decimal number), file_length file, two_digits number (omega arith)))
 
@@ -249,13 +249,13 @@ suffixes_short : list_all is_short_suffix SUFFIXES ≡ true
 unfolding is_short_suffix
 suffixes_short = refl
 
-suffix_by : (place : ℕ) (o : Option Text) → slice_get SUFFIXES place ≡ o → length (text_in o) ≤ 3
+suffix_by : (index : ℕ) (o : Option Text) → slice_get SUFFIXES index ≡ o → length (text_in o) ≤ 3
 unfolding text_in is_short_suffix
-suffix_by place None g = omega arith
-suffix_by place (Some t) g = leb-true (length (take t.length t.bytes)) 3 (all_get is_short_suffix SUFFIXES place t suffixes_short g)
+suffix_by index None g = omega arith
+suffix_by index (Some t) g = leb-true (length (take t.length t.bytes)) 3 (all_get is_short_suffix SUFFIXES index t suffixes_short g)
 
-suffix_length : (place : ℕ) → length (text_at SUFFIXES place) ≤ 3
-suffix_length place = suffix_by place (slice_get SUFFIXES place) refl
+suffix_length : (index : ℕ) → length (text_at SUFFIXES index) ≤ 3
+suffix_length index = suffix_by index (slice_get SUFFIXES index) refl
 
 sized_length : (file : VectorFile) (number suffix : ℕ) → number < 32 → length (sized_text file number suffix) ≤ 7
 unfolding sized_text
@@ -274,23 +274,23 @@ number_length number_bits field le =
     below_bits number_bits 5 (field % 2 ^ number_bits) le (mod_below field (2 ^ number_bits) (pow_pos number_bits))
 
 named_length : (first bits field : ℕ) → field < 2 ^ bits
-    → length (text_at WORDS (first + field)) ≤ cond (bits == 0) (length (text_at WORDS first)) 10
+    → length (text_at KEYWORDS (first + field)) ≤ cond (bits == 0) (length (text_at KEYWORDS first)) 10
 named_length first bits field f =
-    cond_both (bits == 0) (length (text_at WORDS first)) 10 (λ room. length (text_at WORDS (first + field)) ≤ room)
+    cond_both (bits == 0) (length (text_at KEYWORDS first)) 10 (λ room. length (text_at KEYWORDS (first + field)) ≤ room)
     (λ z. alone (eqb-true bits 0 z)) (λ _. word_short (first + field))
   where
-    alone : bits ≡ 0 → length (text_at WORDS (first + field)) ≤ length (text_at WORDS first)
+    alone : bits ≡ 0 → length (text_at KEYWORDS (first + field)) ≤ length (text_at KEYWORDS first)
     alone z =
         let none : field < 2 ^ 0 = subst (λ n. field < 2 ^ n) z f in
         let same : first + field ≡ first = omega arith in
-        omega (arith, ap (λ n. length (text_at WORDS n)) same)
+        omega (arith, ap (λ n. length (text_at KEYWORDS n)) same)
 
 pattern_length : (first field : ℕ) → field < 32 → length (pattern_text first field) ≤ 10
 unfolding pattern_text
 pattern_length first field lt =
     let room = two_digits field (omega arith) in
-    cond_both (is_named_pattern field) (text_at WORDS (first + pattern_place field)) (codes "#" ++ decimal field)
-    (λ (t : List ℕ). length t ≤ 10) (λ _. word_short (first + pattern_place field)) (λ _. omega (arith, room))
+    cond_both (is_named_pattern field) (text_at KEYWORDS (first + pattern_index field)) (codes "#" ++ decimal field)
+    (λ (t : List ℕ). length t ≤ 10) (λ _. word_short (first + pattern_index field)) (λ _. omega (arith, room))
 
 descending_length : (from field : ℕ) → from < 100 → length (codes "#" ++ decimal (from - field)) ≤ 3
 descending_length from field lt =
@@ -323,8 +323,8 @@ under_31 bits field b f = let most = pow_below bits 31 b in omega arith
 kind_length : (kind : Kind) (bits field : ℕ) → is_small kind bits ≡ true → bits < 31 → field < 2 ^ bits
     → length (kind_text kind bits field) ≤ room_of kind bits
 unfolding kind_text room_of is_small
-kind_length (Mark c) bits field e b f = omega arith
-kind_length (Named first count) bits field e b f = named_length first bits field f
+kind_length (Punctuation c) bits field e b f = omega arith
+kind_length (Keyword first count) bits field e b f = named_length first bits field f
 kind_length (Register file last) bits field e b f =
     register_length file last field (below_bits bits 5 field (leb-true bits 5 e) f)
 kind_length (Sized file number_bits suffix) bits field e b f =
@@ -363,7 +363,7 @@ item_length i word e s = kind_length i.kind (bits_of i) (field_in i word) s (siz
 gap_length : (before after : Kind) → length (gap before after) ≤ 1
 unfolding gap
 gap_length before after =
-    cond_both (is_comma before || (not (is_mark before) && not (is_mark after))) (32 ∷ []) [] (λ (xs : List ℕ). length xs ≤ 1)
+    cond_both (is_comma before || (not (is_punctuation before) && not (is_punctuation after))) (32 ∷ []) [] (λ (xs : List ℕ). length xs ≤ 1)
     (λ _. omega arith) (λ _. omega arith)
 
 -- the most bytes of operands, each with a space before it
@@ -409,11 +409,11 @@ shape_length s word e =
     let all = items_in s.list in
     let is = take s.count (drop s.first all) in
     let short : 10 + items_room is < 96 = ltb-true (10 + items_room is) 96 e in
-    let rest = items_length word (Mark 44) is
+    let rest = items_length word (Punctuation 44) is
     (all_take is_sized s.count (drop s.first all) (all_drop is_sized s.first all (items_sized s.list)))
     (all_take (λ i. is_small i.kind (bits_of i)) s.count (drop s.first all)
     (all_drop (λ i. is_small i.kind (bits_of i)) s.first all (items_small s.list))) in
-    omega (arith, rest, name_short s.name, length-append (text_at NAMES s.name) (items_text word (Mark 44) is))
+    omega (arith, rest, name_short s.mnemonic, length-append (text_at MNEMONICS s.mnemonic) (items_text word (Punctuation 44) is))
 
 find_passes : (p q : Shape → Bool) (ss : List Shape) (s : Shape) → list_all q ss ≡ true → find p ss ≡ Some s → q s ≡ true
 find_passes p q [] s e f = cc

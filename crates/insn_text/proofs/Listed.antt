@@ -11,7 +11,7 @@ use Rattle.insn_text.specs.declared.item.Shape.{Shape}
 use Rattle.insn_text.specs.declared.shapes.TheConstants.{SHAPES}
 use Rattle.insn_text.specs.declared.printed.TheConstants.{PRINTED, ROOTS}
 use Rattle.insn_text.specs.Texts.{prints, printed_shape}
-use Rattle.insn_text.specs.Places.{if_printed, first_at, part_of}
+use Rattle.insn_text.specs.Indices.{if_printed, first_at, part_of}
 
 -- the bits that a word's top eight are
 abbrev top_bits : ℕ
@@ -26,34 +26,35 @@ unfoldable pub candidates : ℕ → ℕ → List Shape → List ℕ
 candidates top at [] = []
 candidates top at (s ∷ ss) = cond (may_begin top s) (at ∷ candidates top (suc at) ss) (candidates top (suc at) ss)
 
-unfoldable pub same_places : List ℕ → List ℕ → Bool
-same_places [] [] = true
-same_places [] (y ∷ ys) = false
-same_places (x ∷ xs) [] = false
-same_places (x ∷ xs) (y ∷ ys) = (x == y) && same_places xs ys
+unfoldable pub same_indices : List ℕ → List ℕ → Bool
+same_indices [] [] = true
+same_indices [] (y ∷ ys) = false
+same_indices (x ∷ xs) [] = false
+same_indices (x ∷ xs) (y ∷ ys) = (x == y) && same_indices xs ys
 
 -- the table lists them for the values of the top byte below a limit
 unfoldable pub lists_all : ℕ → Bool
 lists_all zero = true
-lists_all (suc top) = same_places (part_of PRINTED ROOTS top) (candidates top 0 SHAPES) && lists_all top
+lists_all (suc top) = same_indices (part_of PRINTED ROOTS top) (candidates top 0 SHAPES) && lists_all top
 
 all_listed : lists_all 256 ≡ true
-unfolding part_of may_begin candidates same_places lists_all
+unfolding part_of may_begin candidates same_indices lists_all
 all_listed = refl
 
-places-same : (xs ys : List ℕ) → same_places xs ys ≡ true → xs ≡ ys
-unfolding same_places
-places-same [] [] e = refl
-places-same [] (y ∷ ys) e = cc
-places-same (x ∷ xs) [] e = cc
-places-same (x ∷ xs) (y ∷ ys) e =
-    let p = and_parts (x == y) (same_places xs ys) e in ap₂ (λ (a : ℕ) (rest : List ℕ). a ∷ rest) (eqb-true x y p.0) (places-same xs ys p.1)
+indices-same : (xs ys : List ℕ) → same_indices xs ys ≡ true → xs ≡ ys
+unfolding same_indices
+indices-same [] [] e = refl
+indices-same [] (y ∷ ys) e = cc
+indices-same (x ∷ xs) [] e = cc
+indices-same (x ∷ xs) (y ∷ ys) e =
+    let p = and_parts (x == y) (same_indices xs ys) e in
+    ap₂ (λ (a : ℕ) (rest : List ℕ). a ∷ rest) (eqb-true x y p.0) (indices-same xs ys p.1)
 
 listed_at : (limit top : ℕ) → lists_all limit ≡ true → top < limit → part_of PRINTED ROOTS top ≡ candidates top 0 SHAPES
 unfolding lists_all
 listed_at zero top e lt = absurd (omega arith)
 listed_at (suc limit) top e lt =
-    by_test (λ below. listed_at limit top (and_parts (same_places (part_of PRINTED ROOTS limit) (candidates limit 0 SHAPES))
+    by_test (λ below. listed_at limit top (and_parts (same_indices (part_of PRINTED ROOTS limit) (candidates limit 0 SHAPES))
     (lists_all limit) e).1 below) (nat_lt top limit) refl
   where
     by_test : (top < limit → part_of PRINTED ROOTS top ≡ candidates top 0 SHAPES) → (b : Bool) → nat_lt top limit ≡ b
@@ -63,7 +64,7 @@ listed_at (suc limit) top e lt =
         let le = ltb-false top limit b in
         let same : limit ≡ top = omega arith in
         subst (λ (n : ℕ). part_of PRINTED ROOTS n ≡ candidates n 0 SHAPES) same
-        (places-same _ _ (and_parts (same_places (part_of PRINTED ROOTS limit) (candidates limit 0 SHAPES)) (lists_all limit) e).0)
+        (indices-same _ _ (and_parts (same_indices (part_of PRINTED ROOTS limit) (candidates limit 0 SHAPES)) (lists_all limit) e).0)
 
 -- ---- a word's shapes are among them
 

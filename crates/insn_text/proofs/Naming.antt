@@ -1,4 +1,4 @@
--- The name in which a word is printed is that of its operation.
+-- The mnemonic in which a word is printed is that of its operation.
 use Rattle.std.proofs.Common.{◌≡◌, ℕ, zero, suc, ◌==◌, ◌&&◌, ◌||◌, not, Bool, true, false, cond, bit_and, List, [], ◌∷◌, slice_get, Option}
 use Rattle.std.proofs.Common.{Some, refl, sym, ap, ◌∙◌, subst, eqb-true, eq-eqb}
 use Rattle.std.specs.List.{list_all, find}
@@ -21,12 +21,12 @@ use Rattle.a64_table.specs.declared.operation.AtomicForm.TheVariants as form
 use Rattle.a64_table.specs.declared.rows.TheConstants.{SCALAR_LINES}
 use Rattle.insn_text.specs.declared.item.Shape.{Shape}
 use Rattle.insn_text.specs.declared.shapes.TheConstants.{SHAPES}
-use Rattle.insn_text.specs.declared.words.TheConstants.{NAMES}
+use Rattle.insn_text.specs.declared.keywords.TheConstants.{MNEMONICS}
 use Rattle.insn_text.specs.Texts.{text_in, text_at, prints, printed_shape}
-use Rattle.insn_text.specs.Names.{text_or_none, nth, condition_name, add_sub_name, carry_name, logical_name, move_name, bitfield_name}
-use Rattle.insn_text.specs.Names.{relative_name, branch_name, jump_name, select_name, compare_name, one_source_name, two_source_name}
-use Rattle.insn_text.specs.Names.{multiply_name, size_letter, unscaled_letter, access_name, literal_name, pair_name, order_letters}
-use Rattle.insn_text.specs.Names.{atomic_name, form_name, call_name, system_name, name_of}
+use Rattle.insn_text.specs.Mnemonics.{text_or_none, nth, condition_name, add_sub_name, carry_name, logical_name, move_name, bitfield_name}
+use Rattle.insn_text.specs.Mnemonics.{relative_name, branch_name, jump_name, select_name, compare_name, one_source_name, two_source_name}
+use Rattle.insn_text.specs.Mnemonics.{multiply_name, size_letter, unscaled_letter, access_name, literal_name, pair_name, order_letters}
+use Rattle.insn_text.specs.Mnemonics.{atomic_name, form_name, call_name, system_name, mnemonic_of}
 use Rattle.insn_text.specs.Cited.{is_set}
 
 -- ---- the fields that a name looks at
@@ -59,8 +59,8 @@ form_name-same form.Cas n m e = rw (e.0, e.1.0, e.1.1.0) refl
 form_name-same form.Swap n m e = rw (e.0, e.1.0, e.1.1.0) refl
 form_name-same (form.Update op) n m e = rw (e.0, e.1.0, e.1.1.0) refl
 
-name-same : (o : Operation) (n m : Field → ℕ) → Same n m (naming_fields o) → name_of o n ≡ name_of o m
-unfolding name_of naming_fields branch_name
+name-same : (o : Operation) (n m : Field → ℕ) → Same n m (naming_fields o) → mnemonic_of o n ≡ mnemonic_of o m
+unfolding mnemonic_of naming_fields branch_name
 name-same (G10 branch.BCond) n m e = rw e.0 refl
 name-same (G10 branch.B) n m e = refl
 name-same (G10 branch.Bl) n m e = refl
@@ -120,7 +120,7 @@ numbers-same s w (f ∷ fs) matches e =
 unfoldable pub is_named_by : Shape → Line Operation → Bool
 is_named_by s line =
     not (bit_and line.value s.mask == bit_and s.value line.mask)
-    || (bytes_eq (text_at NAMES s.name) (name_of line.operation (numbers_in s.value))
+    || (bytes_eq (text_at MNEMONICS s.mnemonic) (mnemonic_of line.operation (numbers_in s.value))
     && list_all (is_set_whole s.mask) (naming_fields line.operation))
 
 unfoldable pub is_named : Shape → Bool
@@ -129,7 +129,7 @@ is_named s = s.alias || list_all (is_named_by s) SCALAR_LINES
 all_named : list_all is_named SHAPES ≡ true
 unfolding text_in field_of field_in mask_of is_set is_set_whole text_or_none nth condition_name add_sub_name carry_name logical_name
     move_name bitfield_name relative_name branch_name jump_name select_name compare_name one_source_name two_source_name multiply_name
-    size_letter unscaled_letter access_name literal_name pair_name order_letters atomic_name form_name call_name system_name name_of
+    size_letter unscaled_letter access_name literal_name pair_name order_letters atomic_name form_name call_name system_name mnemonic_of
     atomic_fields naming_fields is_named_by is_named
 all_named = refl
 
@@ -162,22 +162,22 @@ pub swap : (w m n : ℕ) → bit_and (bit_and w m) n ≡ bit_and (bit_and w n) m
 swap w m n = and_assoc n w m ∙ ap (bit_and w) (and_comm m n) ∙ sym (and_assoc m w n)
 
 named_by : (s : Shape) (w : ℕ) (line : Line Operation) → bit_and w s.mask ≡ s.value → bit_and w line.mask ≡ line.value
-    → is_named_by s line ≡ true → text_at NAMES s.name ≡ name_of line.operation (numbers_in w)
+    → is_named_by s line ≡ true → text_at MNEMONICS s.mnemonic ≡ mnemonic_of line.operation (numbers_in w)
 unfolding is_named_by
 named_by s w line ms ml e =
     let common : bit_and line.value s.mask ≡ bit_and s.value line.mask =
     ap (λ v. bit_and v s.mask) (sym ml) ∙ swap w line.mask s.mask ∙ ap (λ v. bit_and v line.mask) ms in
     let parts =
-    and_parts (bytes_eq (text_at NAMES s.name) (name_of line.operation (numbers_in s.value)))
+    and_parts (bytes_eq (text_at MNEMONICS s.mnemonic) (mnemonic_of line.operation (numbers_in s.value)))
     (list_all (is_set_whole s.mask) (naming_fields line.operation)) (when _ _ (eq-eqb _ _ common) e) in
-    (bytes_eq-Decides (text_at NAMES s.name) (name_of line.operation (numbers_in s.value))).0 parts.0
+    (bytes_eq-Decides (text_at MNEMONICS s.mnemonic) (mnemonic_of line.operation (numbers_in s.value))).0 parts.0
     ∙ name-same line.operation (numbers_in s.value) (numbers_in w) (numbers-same s w (naming_fields line.operation) ms parts.1)
 
 -- the name of the shape in which a word is printed is that of the operation of each line that the word matches
-pub named : (w place : ℕ) (line : Line Operation) (s : Shape) → slice_get SCALAR_LINES place ≡ Some line → bit_and w line.mask ≡ line.value
-    → printed_shape w ≡ Some s → text_at NAMES s.name ≡ name_of line.operation (numbers_in w)
+pub named : (w index : ℕ) (line : Line Operation) (s : Shape) → slice_get SCALAR_LINES index ≡ Some line → bit_and w line.mask ≡ line.value
+    → printed_shape w ≡ Some s → text_at MNEMONICS s.mnemonic ≡ mnemonic_of line.operation (numbers_in w)
 unfolding printed_shape prints is_named
-named w place line s listed matches e =
+named w index line s listed matches e =
     let f = found (λ x. not x.alias && (bit_and w x.mask == x.value)) is_named SHAPES s all_named e in
     let p = and_parts (not s.alias) (bit_and w s.mask == s.value) f.0 in
-    named_by s w line (eqb-true _ _ p.1) matches (all_get (is_named_by s) SCALAR_LINES place line (unless s.alias _ p.0 f.1) listed)
+    named_by s w line (eqb-true _ _ p.1) matches (all_get (is_named_by s) SCALAR_LINES index line (unless s.alias _ p.0 f.1) listed)

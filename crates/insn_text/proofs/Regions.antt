@@ -72,10 +72,10 @@ pub data IsBit (word bit : ℕ) : Type 0 where
   clear : bit_and word bit ≡ 0 → IsBit word bit
   is_set : bit_and word bit ≡ bit → IsBit word bit
 
-pub one_bit : (word place : ℕ) → IsBit word (2 ^ place)
-one_bit word place = by_value (bit_at word place) (bit_at-lt word place) (and_pow word place)
+pub one_bit : (word bit : ℕ) → IsBit word (2 ^ bit)
+one_bit word bit = by_value (bit_at word bit) (bit_at-lt word bit) (and_pow word bit)
   where
-    by_value : (n : ℕ) → n < 2 → bit_and word (2 ^ place) ≡ n * 2 ^ place → IsBit word (2 ^ place)
+    by_value : (n : ℕ) → n < 2 → bit_and word (2 ^ bit) ≡ n * 2 ^ bit → IsBit word (2 ^ bit)
     by_value zero lt e = clear (e ∙ (omega arith))
     by_value (suc zero) lt e = is_set (e ∙ (omega arith))
     by_value (suc (suc n)) lt e = absurd (omega arith)

@@ -13,7 +13,7 @@ use Rattle.insn_text.specs.declared.item.Kind.{Kind}
 use Rattle.insn_text.specs.declared.item.Item.{Item}
 use Rattle.insn_text.specs.declared.item.Shape.{Shape}
 use Rattle.insn_text.specs.Texts.{gap, item_text, items_text}
-use Rattle.insn_text.specs.Places.{if_printed, first_at}
+use Rattle.insn_text.specs.Indices.{if_printed, first_at}
 
 -- ---- bytes
 
@@ -26,28 +26,29 @@ room-byte out start bytes i lt e room =
 
 -- ---- places
 
-places-at : (places : List ℕ) (i : ℕ) → i < length places → drop i places ≡ get_or places i 0 ∷ drop (i + 1) places
-places-at places i lt = rw (add-one, drop-cons places i 0) refl
+indices-at : (indices : List ℕ) (i : ℕ) → i < length indices → drop i indices ≡ get_or indices i 0 ∷ drop (i + 1) indices
+indices-at indices i lt = rw (add-one, drop-cons indices i 0) refl
 
-pub first-none : (word : ℕ) (shapes : List Shape) (places : List ℕ) (i : ℕ) → i < length places
-    → None ≡ if_printed word (slice_get shapes (get_or places i 0))
-    → first_at word shapes (drop i places) ≡ first_at word shapes (drop (i + 1) places)
+pub first-none : (word : ℕ) (shapes : List Shape) (indices : List ℕ) (i : ℕ) → i < length indices
+    → None ≡ if_printed word (slice_get shapes (get_or indices i 0))
+    → first_at word shapes (drop i indices) ≡ first_at word shapes (drop (i + 1) indices)
 unfolding first_at
-first-none word shapes places i lt e =
-    ap (first_at word shapes) (places-at places i lt)
-    ∙ ap (λ (o : Option Shape). option_or o (first_at word shapes (drop (i + 1) places))) (sym e)
+first-none word shapes indices i lt e =
+    ap (first_at word shapes) (indices-at indices i lt)
+    ∙ ap (λ (o : Option Shape). option_or o (first_at word shapes (drop (i + 1) indices))) (sym e)
 
-pub first-some : (word : ℕ) (shapes : List Shape) (places : List ℕ) (i : ℕ) (s : Shape) → i < length places
-    → Some s ≡ if_printed word (slice_get shapes (get_or places i 0))
-    → first_at word shapes (drop i places) ≡ Some s
+pub first-some : (word : ℕ) (shapes : List Shape) (indices : List ℕ) (i : ℕ) (s : Shape) → i < length indices
+    → Some s ≡ if_printed word (slice_get shapes (get_or indices i 0))
+    → first_at word shapes (drop i indices) ≡ Some s
 unfolding first_at
-first-some word shapes places i s lt e =
-    ap (first_at word shapes) (places-at places i lt)
-    ∙ ap (λ (o : Option Shape). option_or o (first_at word shapes (drop (i + 1) places))) (sym e)
+first-some word shapes indices i s lt e =
+    ap (first_at word shapes) (indices-at indices i lt)
+    ∙ ap (λ (o : Option Shape). option_or o (first_at word shapes (drop (i + 1) indices))) (sym e)
 
-pub first-end : (word : ℕ) (shapes : List Shape) (places : List ℕ) (i : ℕ) → length places ≤ i → first_at word shapes (drop i places) ≡ None
+pub first-end : (word : ℕ) (shapes : List Shape) (indices : List ℕ) (i : ℕ) → length indices ≤ i
+    → first_at word shapes (drop i indices) ≡ None
 unfolding first_at
-first-end word shapes places i le = ap (first_at word shapes) (drop_of_length-le places le)
+first-end word shapes indices i le = ap (first_at word shapes) (drop_of_length-le indices le)
 
 -- ---- digits
 

@@ -8,15 +8,15 @@ use Rattle.std.proofs.lemmas.Str.{IsAscii-take}
 use Rattle.std.proofs.lemmas.Str.Ascii.{IsAscii-nil}
 use Rattle.insn_forms.specs.Fields.{mask_of, is_field}
 use Rattle.insn_text.specs.declared.item.Kind.{Kind}
-use Rattle.insn_text.specs.declared.item.Kind.TheVariants.{Mark, Sized}
+use Rattle.insn_text.specs.declared.item.Kind.TheVariants.{Punctuation, Sized}
 use Rattle.insn_text.specs.declared.item.VectorFile.{VectorFile}
 use Rattle.insn_text.specs.declared.item.Text.{Text}
-use Rattle.insn_text.specs.declared.words.TheConstants.{WORDS, NAMES, SUFFIXES}
+use Rattle.insn_text.specs.declared.keywords.TheConstants.{KEYWORDS, MNEMONICS, SUFFIXES}
 use Rattle.insn_text.specs.declared.items.TheConstants.{ITEMS, MATRIX_ITEMS, VECTOR_ITEMS}
 use Rattle.insn_text.specs.declared.item.ItemList.{ItemList}
 use Rattle.insn_text.specs.declared.item.ItemList.TheVariants as list
 use Rattle.insn_text.specs.Texts.{text_in, text_at, items_in}
-use Rattle.insn_text.specs.Places.{is_writable, is_sized}
+use Rattle.insn_text.specs.Indices.{is_writable, is_sized}
 
 pub all_take : {X : Type 0} (p : X → Bool) (n : ℕ) (xs : List X) → list_all p xs ≡ true → list_all p (take n xs) ≡ true
 all_take p zero xs e = refl
@@ -56,11 +56,11 @@ sized_run list first count =
 unfoldable is_ascii_text : Text → Bool
 is_ascii_text t = list_all (λ b. nat_lt b 128) t.bytes
 
-words_ascii : list_all is_ascii_text WORDS ≡ true
+words_ascii : list_all is_ascii_text KEYWORDS ≡ true
 unfolding is_ascii_text
 words_ascii = refl
 
-names_ascii : list_all is_ascii_text NAMES ≡ true
+names_ascii : list_all is_ascii_text MNEMONICS ≡ true
 unfolding is_ascii_text
 names_ascii = refl
 
@@ -69,31 +69,31 @@ bytes_ascii [] e i = IsAscii-nil i
 bytes_ascii (b ∷ bs) e zero = ltb-true b 128 (and_parts (nat_lt b 128) (list_all (λ c. nat_lt c 128) bs) e).0
 bytes_ascii (b ∷ bs) e (suc i) = bytes_ascii bs (and_parts (nat_lt b 128) (list_all (λ c. nat_lt c 128) bs) e).1 i
 
-ascii_in : (texts : List Text) (place : ℕ) (o : Option Text) → slice_get texts place ≡ o → list_all is_ascii_text texts ≡ true
+ascii_in : (texts : List Text) (index : ℕ) (o : Option Text) → slice_get texts index ≡ o → list_all is_ascii_text texts ≡ true
     → IsAscii (text_in o)
 unfolding text_in is_ascii_text
-ascii_in texts place None g e = IsAscii-nil
-ascii_in texts place (Some t) g e = IsAscii-take t.bytes t.length (bytes_ascii t.bytes (all_get is_ascii_text texts place t e g))
+ascii_in texts index None g e = IsAscii-nil
+ascii_in texts index (Some t) g e = IsAscii-take t.bytes t.length (bytes_ascii t.bytes (all_get is_ascii_text texts index t e g))
 
-pub word_ascii : (place : ℕ) → IsAscii (text_at WORDS place)
-word_ascii place = ascii_in WORDS place (slice_get WORDS place) refl words_ascii
+pub word_ascii : (index : ℕ) → IsAscii (text_at KEYWORDS index)
+word_ascii index = ascii_in KEYWORDS index (slice_get KEYWORDS index) refl words_ascii
 
 suffixes_ascii : list_all is_ascii_text SUFFIXES ≡ true
 unfolding is_ascii_text
 suffixes_ascii = refl
 
-pub suffix_ascii : (place : ℕ) → IsAscii (text_at SUFFIXES place)
-suffix_ascii place = ascii_in SUFFIXES place (slice_get SUFFIXES place) refl suffixes_ascii
+pub suffix_ascii : (index : ℕ) → IsAscii (text_at SUFFIXES index)
+suffix_ascii index = ascii_in SUFFIXES index (slice_get SUFFIXES index) refl suffixes_ascii
 
-pub name_ascii : (place : ℕ) → IsAscii (text_at NAMES place)
-name_ascii place = ascii_in NAMES place (slice_get NAMES place) refl names_ascii
+pub name_ascii : (index : ℕ) → IsAscii (text_at MNEMONICS index)
+name_ascii index = ascii_in MNEMONICS index (slice_get MNEMONICS index) refl names_ascii
 
 pub few_bits : (kind : Kind) (file : VectorFile) (bits suffix : ℕ) → kind ≡ Sized file bits suffix → is_writable kind ≡ true → bits < 32
 unfolding is_writable
 few_bits kind file bits suffix e h = ltb-true bits 32 (sym (ap is_writable e) ∙ h)
 
-pub mark_ascii : (kind : Kind) (c : ℕ) → kind ≡ Mark c → is_writable kind ≡ true → IsAscii (c ∷ [])
+pub punctuation_ascii : (kind : Kind) (c : ℕ) → kind ≡ Punctuation c → is_writable kind ≡ true → IsAscii (c ∷ [])
 unfolding is_writable
-mark_ascii kind c e h =
+punctuation_ascii kind c e h =
     let test : nat_lt c 128 ≡ true = sym (ap is_writable e) ∙ h in
     bytes_ascii (c ∷ []) (ap (λ b. b && true) test)

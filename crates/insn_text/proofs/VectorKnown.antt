@@ -97,17 +97,17 @@ has_none o mask value =
 -- so for each number of the bits at the places that the region does not fix
 unfoldable pub ends_by : VectorOperation → List ℕ → ℕ → ℕ → Bool
 ends_by o [] mask value = has_none o mask value
-ends_by o (place ∷ places) mask value =
-    cond (bit_of mask place) (ends_by o places mask value)
-    (ends_by o places (bit_or mask (2 ^ place)) value
-    && ends_by o places (bit_or mask (2 ^ place)) (bit_or value (2 ^ place)))
+ends_by o (bit ∷ bits) mask value =
+    cond (bit_of mask bit) (ends_by o bits mask value)
+    (ends_by o bits (bit_or mask (2 ^ bit)) value
+    && ends_by o bits (bit_or mask (2 ^ bit)) (bit_or value (2 ^ bit)))
 
 -- the places of the bits that tell sizes
-abbrev size_places : List ℕ
-size_places = 13 ∷ 21 ∷ 22 ∷ 23 ∷ 24 ∷ []
+abbrev size_bits : List ℕ
+size_bits = 13 ∷ 21 ∷ 22 ∷ 23 ∷ 24 ∷ []
 
 unfoldable pub vector_ends : VectorOperation → ℕ → ℕ → Bool
-vector_ends o mask value = ends_by o size_places mask value
+vector_ends o mask value = ends_by o size_bits mask value
 
 not_both : (b : Bool) → not b ≡ true → b ≡ true → ⊥
 not_both true x y = cc
@@ -130,38 +130,38 @@ never_here o word mask value m e f =
     not_both (size_of_word o value) p.1 (same ∙ has-size o word f)
 
 -- from the halves of a region, where the bit at a place is not fixed, or from the region
-by_halves : (o : VectorOperation) (word place : ℕ) (places : List ℕ) (mask value : ℕ) → bit_and word mask ≡ value
-    → ((m v : ℕ) → bit_and word m ≡ v → ends_by o places m v ≡ true → ⊥) → (b : Bool)
-    → cond b (ends_by o places mask value)
-    (ends_by o places (bit_or mask (2 ^ place)) value
-    && ends_by o places (bit_or mask (2 ^ place)) (bit_or value (2 ^ place))) ≡ true → ⊥
-by_halves o word place places mask value m go true h = go mask value m h
-by_halves o word place places mask value m go false h =
-    let p = and_parts (ends_by o places (bit_or mask (2 ^ place)) value)
-    (ends_by o places (bit_or mask (2 ^ place)) (bit_or value (2 ^ place))) h in
-    elim (one_bit word place) [
-      | clear z ↦ go (bit_or mask (2 ^ place)) value (half_clear word mask value (2 ^ place) m z) p.0
+by_halves : (o : VectorOperation) (word bit : ℕ) (bits : List ℕ) (mask value : ℕ) → bit_and word mask ≡ value
+    → ((m v : ℕ) → bit_and word m ≡ v → ends_by o bits m v ≡ true → ⊥) → (b : Bool)
+    → cond b (ends_by o bits mask value)
+    (ends_by o bits (bit_or mask (2 ^ bit)) value
+    && ends_by o bits (bit_or mask (2 ^ bit)) (bit_or value (2 ^ bit))) ≡ true → ⊥
+by_halves o word bit bits mask value m go true h = go mask value m h
+by_halves o word bit bits mask value m go false h =
+    let p = and_parts (ends_by o bits (bit_or mask (2 ^ bit)) value)
+    (ends_by o bits (bit_or mask (2 ^ bit)) (bit_or value (2 ^ bit))) h in
+    elim (one_bit word bit) [
+      | clear z ↦ go (bit_or mask (2 ^ bit)) value (half_clear word mask value (2 ^ bit) m z) p.0
       | is_set z ↦
-          go (bit_or mask (2 ^ place)) (bit_or value (2 ^ place)) (half_set word mask value (2 ^ place) m z) p.1
+          go (bit_or mask (2 ^ bit)) (bit_or value (2 ^ bit)) (half_set word mask value (2 ^ bit) m z) p.1
     ]
 
-never_by : (o : VectorOperation) (word : ℕ) → fits_of o (numbers_in word) ≡ true → (places : List ℕ) (mask value : ℕ)
-    → bit_and word mask ≡ value → ends_by o places mask value ≡ true → ⊥
+never_by : (o : VectorOperation) (word : ℕ) → fits_of o (numbers_in word) ≡ true → (bits : List ℕ) (mask value : ℕ)
+    → bit_and word mask ≡ value → ends_by o bits mask value ≡ true → ⊥
 unfolding ends_by
 never_by o word f [] mask value m e = never_here o word mask value m e f
-never_by o word f (place ∷ places) mask value m e =
-    by_halves o word place places mask value m (λ n v r h. never_by o word f places n v r h) (bit_of mask place) e
+never_by o word f (bit ∷ bits) mask value m e =
+    by_halves o word bit bits mask value m (λ n v r h. never_by o word f bits n v r h) (bit_of mask bit) e
 
 pub vector_never : (o : VectorOperation) (word m v : ℕ) → bit_and word m ≡ v → vector_ends o m v ≡ true
     → fits_of o (numbers_in word) ≡ true → ⊥
 unfolding vector_ends
-vector_never o word m v r e f = never_by o word f size_places m v r e
+vector_never o word m v r e f = never_by o word f size_bits m v r e
 
 -- ---- operands
 
 -- the kind has a text for each number of the operand's field
 unfoldable pub says_each : Item → Kind → Bool
-says_each i (kind.Named first count) = nat_le (2 ^ bits_of i) count
+says_each i (kind.Keyword first count) = nat_le (2 ^ bits_of i) count
 says_each i (kind.Unsigned base scale most) = nat_le (2 ^ bits_of i) (most + 1)
 says_each i (kind.Pattern first) = nat_le (2 ^ bits_of i) 32
 says_each i (kind.Descending from) = nat_le (2 ^ bits_of i) from
@@ -193,7 +193,7 @@ field_bound i word = field_in-lt i.field word
 
 each_within : (i : Item) (k : Kind) (word : ℕ) → says_each i k ≡ true → is_within k (field_in i word) ≡ true
 unfolding says_each is_within
-each_within i (kind.Named first count) word e =
+each_within i (kind.Keyword first count) word e =
     let le = leb-true (2 ^ bits_of i) count e in let lt = field_bound i word in lt-ltb (field_in i word) count (omega arith)
 each_within i (kind.Unsigned base scale most) word e =
     let le = leb-true (2 ^ bits_of i) (most + 1) e in let lt = field_bound i word in le-leb (field_in i word) most (omega arith)

@@ -1,4 +1,4 @@
--- The name in which a word of a vector instruction is printed is that of its operation.
+-- The mnemonic in which a word of a vector instruction is printed is that of its operation.
 use Rattle.std.proofs.Common.{◌≡◌, ℕ, ◌==◌, ◌&&◌, ◌||◌, not, Bool, true, bit_and, List, [], ◌∷◌, slice_get, Some, refl, sym, ap, ◌∙◌}
 use Rattle.std.proofs.Common.{eqb-true, eq-eqb}
 use Rattle.std.specs.List.{list_all}
@@ -21,15 +21,15 @@ use Rattle.sm_types.specs.declared.vector.PredicateLogicalOp.TheVariants.{And, B
 use Rattle.sve_table.specs.declared.rows.TheConstants.{VECTOR_LINES}
 use Rattle.insn_text.specs.declared.item.Shape.{Shape}
 use Rattle.insn_text.specs.declared.shapes.TheConstants.{SHAPES}
-use Rattle.insn_text.specs.declared.words.TheConstants.{NAMES}
+use Rattle.insn_text.specs.declared.keywords.TheConstants.{MNEMONICS}
 use Rattle.insn_text.specs.Texts.{text_in, text_at, prints, printed_shape}
-use Rattle.insn_text.specs.Names.{text_or_none, nth}
-use Rattle.insn_text.specs.VectorNames.{arithmetic_name, vector_logical_name, binary_name, multiply_add_name, unary_name}
-use Rattle.insn_text.specs.VectorNames.{vector_shift_name, immediate_name, interleave_name, reduction_name, compare_vectors_name}
-use Rattle.insn_text.specs.VectorNames.{compare_immediate_name, predicate_name, vector_multiply_name, ternary_name, widening_name}
-use Rattle.insn_text.specs.VectorNames.{element_letter, elem_letter, copy_name, permute_name, reduced_name, comparison_name}
-use Rattle.insn_text.specs.VectorNames.{predicate_form_name, count_name, element_name, memory_letters, transfer_name}
-use Rattle.insn_text.specs.VectorNames.{vector_access_name, sve2_name, array_name, signs_name, streaming_name, vector_name_of}
+use Rattle.insn_text.specs.Mnemonics.{text_or_none, nth}
+use Rattle.insn_text.specs.VectorMnemonics.{arithmetic_name, vector_logical_name, binary_name, multiply_add_name, unary_name}
+use Rattle.insn_text.specs.VectorMnemonics.{vector_shift_name, immediate_name, interleave_name, reduction_name, compare_vectors_name}
+use Rattle.insn_text.specs.VectorMnemonics.{compare_immediate_name, predicate_name, vector_multiply_name, ternary_name, widening_name}
+use Rattle.insn_text.specs.VectorMnemonics.{element_letter, elem_letter, copy_name, permute_name, reduced_name, comparison_name}
+use Rattle.insn_text.specs.VectorMnemonics.{predicate_form_name, count_name, element_name, memory_letters, transfer_name}
+use Rattle.insn_text.specs.VectorMnemonics.{vector_access_name, sve2_name, array_name, signs_name, streaming_name, vector_mnemonic_of}
 use Rattle.insn_text.specs.Cited.{is_set}
 use Rattle.insn_text.proofs.Naming.{Same, is_set_whole, numbers-same, found, when, unless, swap, all_get}
 
@@ -44,8 +44,9 @@ vector_naming_fields (G37 access.StoreVectors) = MEMORY_SIZE ∷ []
 vector_naming_fields (G44 op wide) = SUBTRACT ∷ []
 vector_naming_fields operation = []
 
-vector_name-same : (o : VectorOperation) (n m : Field → ℕ) → Same n m (vector_naming_fields o) → vector_name_of o n ≡ vector_name_of o m
-unfolding vector_name_of vector_naming_fields predicate_form_name element_name vector_access_name
+vector_name-same : (o : VectorOperation) (n m : Field → ℕ) → Same n m (vector_naming_fields o)
+    → vector_mnemonic_of o n ≡ vector_mnemonic_of o m
+unfolding vector_mnemonic_of vector_naming_fields predicate_form_name element_name vector_access_name
 vector_name-same (G24 op) n m e = refl
 vector_name-same (G25 op) n m e = refl
 vector_name-same (G26 op) n m e = refl
@@ -87,7 +88,7 @@ vector_name-same (G45 form) n m e = refl
 unfoldable pub is_vector_named_by : Shape → Line VectorOperation → Bool
 is_vector_named_by s line =
     not (bit_and line.value s.mask == bit_and s.value line.mask)
-    || (bytes_eq (text_at NAMES s.name) (vector_name_of line.operation (numbers_in s.value))
+    || (bytes_eq (text_at MNEMONICS s.mnemonic) (vector_mnemonic_of line.operation (numbers_in s.value))
     && list_all (is_set_whole s.mask) (vector_naming_fields line.operation))
 
 unfoldable pub is_vector_named : Shape → Bool
@@ -98,29 +99,29 @@ unfolding text_in field_of field_in mask_of is_set is_set_whole text_or_none nth
     multiply_add_name unary_name vector_shift_name immediate_name interleave_name reduction_name compare_vectors_name compare_immediate_name
     predicate_name vector_multiply_name ternary_name widening_name element_letter elem_letter copy_name permute_name reduced_name
     comparison_name predicate_form_name count_name element_name memory_letters transfer_name vector_access_name sve2_name array_name
-    signs_name streaming_name vector_name_of vector_naming_fields is_vector_named_by is_vector_named
+    signs_name streaming_name vector_mnemonic_of vector_naming_fields is_vector_named_by is_vector_named
 all_vectors_named = refl
 
 vector_named_by : (s : Shape) (w : ℕ) (line : Line VectorOperation) → bit_and w s.mask ≡ s.value → bit_and w line.mask ≡ line.value
-    → is_vector_named_by s line ≡ true → text_at NAMES s.name ≡ vector_name_of line.operation (numbers_in w)
+    → is_vector_named_by s line ≡ true → text_at MNEMONICS s.mnemonic ≡ vector_mnemonic_of line.operation (numbers_in w)
 unfolding is_vector_named_by
 vector_named_by s w line ms ml e =
     let common : bit_and line.value s.mask ≡ bit_and s.value line.mask =
     ap (λ v. bit_and v s.mask) (sym ml) ∙ swap w line.mask s.mask ∙ ap (λ v. bit_and v line.mask) ms in
     let parts =
-    and_parts (bytes_eq (text_at NAMES s.name) (vector_name_of line.operation (numbers_in s.value)))
+    and_parts (bytes_eq (text_at MNEMONICS s.mnemonic) (vector_mnemonic_of line.operation (numbers_in s.value)))
     (list_all (is_set_whole s.mask) (vector_naming_fields line.operation)) (when _ _ (eq-eqb _ _ common) e) in
-    (bytes_eq-Decides (text_at NAMES s.name) (vector_name_of line.operation (numbers_in s.value))).0 parts.0
+    (bytes_eq-Decides (text_at MNEMONICS s.mnemonic) (vector_mnemonic_of line.operation (numbers_in s.value))).0 parts.0
     ∙ vector_name-same line.operation (numbers_in s.value) (numbers_in w)
     (numbers-same s w (vector_naming_fields line.operation) ms parts.1)
 
 -- the name of the shape in which a word is printed is that of the operation of each vector line that the word matches
-pub vector_named : (w place : ℕ) (line : Line VectorOperation) (s : Shape) → slice_get VECTOR_LINES place ≡ Some line
+pub vector_named : (w index : ℕ) (line : Line VectorOperation) (s : Shape) → slice_get VECTOR_LINES index ≡ Some line
     → bit_and w line.mask ≡ line.value
-    → printed_shape w ≡ Some s → text_at NAMES s.name ≡ vector_name_of line.operation (numbers_in w)
+    → printed_shape w ≡ Some s → text_at MNEMONICS s.mnemonic ≡ vector_mnemonic_of line.operation (numbers_in w)
 unfolding printed_shape prints is_vector_named
-vector_named w place line s listed matches e =
+vector_named w index line s listed matches e =
     let f = found (λ x. not x.alias && (bit_and w x.mask == x.value)) is_vector_named SHAPES s all_vectors_named e in
     let p = and_parts (not s.alias) (bit_and w s.mask == s.value) f.0 in
     vector_named_by s w line (eqb-true _ _ p.1) matches
-    (all_get (is_vector_named_by s) VECTOR_LINES place line (unless s.alias _ p.0 f.1) listed)
+    (all_get (is_vector_named_by s) VECTOR_LINES index line (unless s.alias _ p.0 f.1) listed)

@@ -16,7 +16,7 @@ use Rattle.a64_table.specs.declared.operation.Operation.TheVariants.{G1, G2, G3,
 use Rattle.a64_table.specs.declared.operation.Operation.TheVariants.{G16, G17, G22}
 use Rattle.a64_table.specs.declared.operation.MultiplyOp.TheVariants as multiply
 use Rattle.a64_table.specs.declared.operation.SystemOp.TheVariants as call
-use Rattle.insn_text.specs.Names.{name_of}
+use Rattle.insn_text.specs.Mnemonics.{mnemonic_of}
 use Rattle.insn_text.specs.Operands.{words_of, last_register, frames_of, Way, Own, Opposed, ShiftedLeft}
 use Rattle.insn_text.specs.Operands.{Moved}
 
@@ -28,10 +28,10 @@ pub record Fixed : Type 0 where
 abbrev pub at : Field → ℕ → Fixed
 at f number = record { field = f; number = number }
 
--- a name, the fields that it fixes, the words that stand beside the others, where they and the operands
+-- a mnemonic, the fields that it fixes, the words that stand beside the others, where they and the operands
 -- stand, and how numbers are written
 pub record Naming : Type 0 where
-  pub name : List ℕ
+  pub mnemonic : List ℕ
   pub fixed : List Fixed
   pub words : List (List ℕ)
   pub frames : List (List ℕ)
@@ -39,17 +39,24 @@ pub record Naming : Type 0 where
 
 abbrev pub printed_naming : Operation → (Field → ℕ) → (Field → Bool) → Naming
 printed_naming o n set =
-    record { name = name_of o n; fixed = []; words = words_of o n set; frames = frames_of o; way = Own }
+    record {
+      mnemonic = mnemonic_of o n;
+      fixed = [];
+      words = words_of o n set;
+      frames = frames_of o;
+      way =
+          Own;
+    }
 
 -- an alias that writes numbers as the fields have them
 abbrev alias : List ℕ → List Fixed → List (List ℕ) → List (List ℕ) → Naming
-alias name fixed words frames =
-    record { name = name; fixed = fixed; words = words; frames = frames; way = Own }
+alias mnemonic fixed words frames =
+    record { mnemonic = mnemonic; fixed = fixed; words = words; frames = frames; way = Own }
 
 -- one that writes them otherwise, with no words beside them
 abbrev alias_by : Way → List ℕ → List Fixed → List ℕ → Naming
-alias_by way name fixed frame =
-    record { name = name; fixed = fixed; words = []; frames = frame ∷ []; way = way }
+alias_by way mnemonic fixed frame =
+    record { mnemonic = mnemonic; fixed = fixed; words = []; frames = frame ∷ []; way = way }
 
 -- two operands, the last one shifted or not
 abbrev shifted_last : List (List ℕ)

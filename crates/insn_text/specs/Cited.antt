@@ -19,7 +19,7 @@ use Rattle.insn_text.specs.declared.item.Kind.{Kind}
 use Rattle.insn_text.specs.declared.item.Kind.TheVariants as kind
 use Rattle.insn_text.specs.declared.item.Item.{Item}
 use Rattle.insn_text.specs.declared.item.Shape.{Shape}
-use Rattle.insn_text.specs.declared.words.TheConstants.{WORDS, NAMES}
+use Rattle.insn_text.specs.declared.keywords.TheConstants.{KEYWORDS, MNEMONICS}
 use Rattle.insn_text.specs.Texts.{text_at, items_of}
 use Rattle.insn_text.specs.Operands.{is, is_operand, number_text, same_texts, says_field, frame, Way}
 use Rattle.insn_text.specs.Aliases.{Fixed, Naming, printed_naming, aliases_of}
@@ -63,7 +63,7 @@ module _ (way : Way) (o : Operation) (n : Field → ℕ) (mask : ℕ) where
 -- ---- the words that stand beside them
 
 unfoldable pub constant : Kind → Option (List ℕ)
-constant (kind.Named first count) = Some (text_at WORDS first)
+constant (kind.Keyword first count) = Some (text_at KEYWORDS first)
 constant (kind.Unsigned base scale most) = Some (number_text base)
 constant other = None
 
@@ -113,7 +113,7 @@ is_fixed_in s x = is_set s.mask x.field && (field_in x.field s.value == x.number
 -- the shape is this text of the line
 unfoldable pub is_text : Shape → Line Operation → Naming → Bool
 is_text s line t =
-    bytes_eq (text_at NAMES s.name) t.name
+    bytes_eq (text_at MNEMONICS s.mnemonic) t.mnemonic
     && list_all (set_well s line.operation t.fixed) (list_of line.fields)
     && list_all (is_fixed_in s) t.fixed
     && said t.way line.operation (numbers_in s.value) s.mask 0
@@ -138,10 +138,10 @@ is_cited s = list_any (is_cited_by s) SCALAR_LINES || is_vector_cited s
 
 -- ---- the order of the shapes
 
--- no word is printed in the second of two shapes of a name, since all its words are printed in the first
+-- no word is printed in the second of two shapes of a mnemonic, since all its words are printed in the first
 unfoldable pub hides : Shape → Shape → Bool
 hides s t =
-    (s.name == t.name) && not s.alias && not t.alias
+    (s.mnemonic == t.mnemonic) && not s.alias && not t.alias
     && (bit_and t.mask s.mask == s.mask) && (bit_and t.value s.mask == s.value)
 
 -- none is hidden by one before it: so of two texts of a word that is printed which leaves out what is 0

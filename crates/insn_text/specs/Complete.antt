@@ -141,8 +141,8 @@ aliases_in line x =
     filter (is_in_form x) (aliases_of line.operation (numbers_in x.value) (is_set x.mask))
 
 -- the frame has a place for each word that stands beside the operands, and no more
-unfoldable pub has_places : Naming → List ℕ → Bool
-has_places t f = length (filter (λ c. c == 119) f) == length t.words
+unfoldable pub has_slots : Naming → List ℕ → Bool
+has_slots t f = length (filter (λ c. c == 119) f) == length t.words
 
 -- the shape is that text of the row, an alias or not, in the form and the frame
 unfoldable pub is_text_in : Bool → Line Operation → ℕ → Form → Naming → List ℕ → Shape → Bool
@@ -156,8 +156,8 @@ has_shape alias line bits x t f = list_any (is_text_in alias line bits x t f) SH
 -- the text has a frame for its words, and in each such a shape
 unfoldable pub has_shapes : Bool → Line Operation → ℕ → Form → Naming → Bool
 has_shapes alias line bits x t =
-    list_any (has_places t) t.frames
-    && list_all (has_shape alias line bits x t) (filter (has_places t) t.frames)
+    list_any (has_slots t) t.frames
+    && list_all (has_shape alias line bits x t) (filter (has_slots t) t.frames)
 
 unfoldable pub has_aliases_in : Line Operation → ℕ → Form → Bool
 has_aliases_in line bits x = list_all (has_shapes true line bits x) (aliases_in line x)

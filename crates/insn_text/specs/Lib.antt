@@ -1,8 +1,8 @@
 pub mod Texts
 pub mod Rules
-pub mod Places
-pub mod Names
-pub mod VectorNames
+pub mod Indices
+pub mod Mnemonics
+pub mod VectorMnemonics
 pub mod Operands
 pub mod Aliases
 pub mod Templates

@@ -41,11 +41,11 @@ use Rattle.insn_text.specs.declared.item.Kind.{Kind}
 use Rattle.insn_text.specs.declared.item.Kind.TheVariants as kind
 use Rattle.insn_text.specs.declared.item.RegisterFile.{RegisterFile}
 use Rattle.insn_text.specs.declared.item.RegisterFile.TheVariants as file
-use Rattle.insn_text.specs.declared.words.TheConstants.{WORDS}
+use Rattle.insn_text.specs.declared.keywords.TheConstants.{KEYWORDS}
 use Rattle.insn_text.specs.Texts.{text_at}
-use Rattle.insn_text.specs.Names.{nth, condition_name}
+use Rattle.insn_text.specs.Mnemonics.{nth, condition_name}
 
--- the two are one place
+-- the two are one field
 unfoldable pub is : Field → Field → Bool
 is f g =
     (f.low == g.low) && (f.width == g.width) && (f.upper_low == g.upper_low)
@@ -173,10 +173,10 @@ same_texts [] [] = true
 same_texts (s ∷ ss) (t ∷ ts) = bytes_eq s t && same_texts ss ts
 same_texts ss ts = false
 
--- the words from a place of the table on are these, and there is one
+-- the keywords from an index of the table on are these, and there is one
 unfoldable pub are_words : ℕ → ℕ → List (List ℕ) → Bool
 are_words first count [] = false
-are_words first count (t ∷ ts) = same_texts (names_from (text_at WORDS) first count) (t ∷ ts)
+are_words first count (t ∷ ts) = same_texts (names_from (text_at KEYWORDS) first count) (t ∷ ts)
 
 -- the greatest number of a field of so many bits: a shift of an extended register is by at most 4
 unfoldable pub greatest : Operation → Field → ℕ → ℕ
@@ -252,11 +252,11 @@ is_plain o n f =
 
 -- the field, of which the operand holds so many bits, is written so
 unfoldable pub is_written : Way → Operation → (Field → ℕ) → Field → ℕ → Kind → Bool
-is_written way o n f bits (kind.Mark c) = false
-is_written way o n f bits (kind.Named first count) = is_own way && are_words first count (words_in o n f)
+is_written way o n f bits (kind.Punctuation c) = false
+is_written way o n f bits (kind.Keyword first count) = is_own way && are_words first count (words_in o n f)
 is_written way o n f bits (kind.Register file last) =
     is_register o f && same (is_long file) (is_wide o n f)
-    && bytes_eq (text_at WORDS last) (last_register (is_wide o n f) (has_sp o f))
+    && bytes_eq (text_at KEYWORDS last) (last_register (is_wide o n f) (has_sp o f))
 is_written way o n f bits (kind.Unsigned base scale most) =
     is_own way && is_plain o n f && (base == 0) && (scale == unit_of o n f) && (most == greatest o f bits)
 is_written way o n f bits (kind.Signed scale) = is_own way && (scale == unit_of o n f) && is_offset_field f
@@ -298,14 +298,14 @@ words_of (G18 address.Register) n set = address_words (n OPTION) (n SCALED) (n S
 words_of (G23 op register) n set = system_register_name register ∷ []
 words_of operation n set = []
 
--- ---- where the operands, the words beside them and the marks stand: o is an operand with a field, w one
--- without
+-- ---- where the operands, the words beside them and the punctuation stand: o is an operand with a field, w
+-- one without
 
 unfoldable pub says_field : Item → Bool
 says_field i = not (bits_of i.field == 0)
 
 unfoldable pub letter : Kind → Bool → ℕ
-letter (kind.Mark c) says = c
+letter (kind.Punctuation c) says = c
 letter other says = if says then 111 else 119
 
 unfoldable pub frame : List Item → List ℕ

@@ -7,7 +7,7 @@ use Rattle.std.specs.List.{list_all}
 use Rattle.insn_forms.specs.Fields.{field_of}
 use Rattle.bit_ops.specs.Masks.{are_mask_fields}
 use Rattle.insn_text.specs.declared.item.Kind.{Kind}
-use Rattle.insn_text.specs.declared.item.Kind.TheVariants.{Mark, Named, Register, Sized, Unsigned, Mask}
+use Rattle.insn_text.specs.declared.item.Kind.TheVariants.{Punctuation, Keyword, Register, Sized, Unsigned, Mask}
 use Rattle.insn_text.specs.declared.item.Kind.TheVariants.{Pattern, Descending, SignedMask, ShiftLeft}
 use Rattle.insn_text.specs.declared.item.Kind.TheVariants.{Opposite, Halfword}
 use Rattle.insn_text.specs.declared.item.Rule.{Rule}
@@ -20,7 +20,7 @@ use Rattle.insn_text.specs.Texts.{bits_of, field_in, items_of, printed_shape}
 -- the kind has a text for the number of the field: one of its words, a number up to its greatest or not above
 -- that from which it counts down, a pattern of five bits, or a mask
 unfoldable pub is_within : Kind → ℕ → Bool
-is_within (Named first count) field = nat_lt field count
+is_within (Keyword first count) field = nat_lt field count
 is_within (Unsigned base scale most) field = nat_le field most
 is_within (Pattern first) field = nat_lt field 32
 is_within (Descending from) field = nat_lt field from
@@ -29,10 +29,11 @@ is_within (Mask wide) field =
 is_within other field = true
 
 -- a field of so many bits has a number for each word, register and number that a text may have for the kind,
--- and there is one: so an operand without a field is one word or one number alone, and a mark has no field
+-- and there is one: so an operand without a field is one word or one number alone, and punctuation has no
+-- field
 unfoldable pub has_room : Kind → ℕ → Bool
-has_room (Mark c) bits = bits == 0
-has_room (Named first count) bits = nat_lt 0 count && nat_le count (2 ^ bits)
+has_room (Punctuation c) bits = bits == 0
+has_room (Keyword first count) bits = nat_lt 0 count && nat_le count (2 ^ bits)
 has_room (Register file last) bits = nat_le 5 bits
 has_room (Sized file number_bits suffix) bits = nat_le number_bits bits
 has_room (Pattern first) bits = nat_le 5 bits

@@ -62,11 +62,11 @@ use Rattle.insn_text.specs.declared.item.Rule.{Rule}
 use Rattle.insn_text.specs.declared.item.Rule.TheVariants.{Free, OffsetGiven}
 use Rattle.insn_text.specs.declared.item.Item.{Item}
 use Rattle.insn_text.specs.declared.item.Shape.{Shape}
-use Rattle.insn_text.specs.declared.words.TheConstants.{WORDS, NAMES, SUFFIXES}
+use Rattle.insn_text.specs.declared.keywords.TheConstants.{KEYWORDS, MNEMONICS, SUFFIXES}
 use Rattle.insn_text.specs.declared.shapes.TheConstants.{SHAPES}
 use Rattle.insn_text.specs.Texts.{file_text, vector_file_text, text_at, gap, items_of}
-use Rattle.insn_text.specs.Names.{nth}
-use Rattle.insn_text.specs.VectorNames.{vector_name_of}
+use Rattle.insn_text.specs.Mnemonics.{nth}
+use Rattle.insn_text.specs.VectorMnemonics.{vector_mnemonic_of}
 use Rattle.insn_text.specs.Operands.{is, names_from, same_texts, number_text}
 
 -- ---- the fields of a row
@@ -106,8 +106,8 @@ is_of_row line f other = (bits_of f == 0) || has line f
 -- ---- the template of a shape
 
 -- the lowest bit of a field
-abbrev place : Field → List ℕ
-place f = decimal f.low
+abbrev low_bit : Field → List ℕ
+low_bit f = decimal f.low
 
 -- the suffix of a register whose elements have this size, where the instruction tells one: a vector of
 -- elements of that size, or of half of it
@@ -140,30 +140,31 @@ unfoldable pub number_symbol : ℕ → ℕ → ℕ → ℕ → Field → List �
 number_symbol base scale most bits f =
     if bits == 0 then number_text base
     else if not (scale == 1) || not (most + 1 == 2 ^ bits) then codes "?"
-    else if base == 0 then codes "#" ++ place f
-    else codes "#" ++ (decimal base ++ (codes "+" ++ place f))
+    else if base == 0 then codes "#" ++ low_bit f
+    else codes "#" ++ (decimal base ++ (codes "+" ++ low_bit f))
 
 module _ (line : Line VectorOperation) (value : ℕ) (sized : Bool) (size : ℕ) where
   -- what stands for an operand at a value of the fields that choose, in an instruction that tells a size of
   -- elements or does not
   unfoldable pub symbol : Item → Kind → List ℕ
-  symbol i (kind.Mark c) = c ∷ []
-  symbol i (kind.Named first count) = if bits_of i.field == 0 then text_at WORDS first else codes "?"
+  symbol i (kind.Punctuation c) = c ∷ []
+  symbol i (kind.Keyword first count) = if bits_of i.field == 0 then text_at KEYWORDS first else codes "?"
   symbol i (kind.Register file last) =
-      file_text file ++ (place i.field ++ (last_symbol file (text_at WORDS last) ++ rule_symbol i.rule))
+      file_text file ++ (low_bit i.field ++ (last_symbol file (text_at KEYWORDS last) ++ rule_symbol i.rule))
   symbol i (kind.Sized file bits suffix) =
-      vector_file_text file ++ (place i.field
+      vector_file_text file ++ (low_bit i.field
       ++ suffix_symbol (sized && nat_lt 0 suffix) size (suffix + field_in i.field value / 2 ^ bits))
-  symbol i kind.SliceRegister = codes "w" ++ place i.field
-  symbol i kind.Index = if bits_of i.field == 0 then codes "0" else codes "i" ++ place i.field
+  symbol i kind.SliceRegister = codes "w" ++ low_bit i.field
+  symbol i kind.Index = if bits_of i.field == 0 then codes "0" else codes "i" ++ low_bit i.field
   symbol i (kind.Pattern first) =
-      if same_texts (names_from (text_at WORDS) first 17) pattern_words then codes "pattern" ++ place i.field
+      if same_texts (names_from (text_at KEYWORDS) first 17) pattern_words then codes "pattern"
+      ++ low_bit i.field
       else codes "?"
   symbol i (kind.Descending from) =
-      if from == 2 ^ bits_of i.field then codes "#" ++ (decimal from ++ (codes "-" ++ place i.field))
+      if from == 2 ^ bits_of i.field then codes "#" ++ (decimal from ++ (codes "-" ++ low_bit i.field))
       else codes "?"
   symbol i (kind.Unsigned base scale most) = number_symbol base scale most (bits_of i.field) i.field
-  symbol i (kind.Signed scale) = if scale == 1 then codes "#-" ++ place i.field else codes "?"
+  symbol i (kind.Signed scale) = if scale == 1 then codes "#-" ++ low_bit i.field else codes "?"
   symbol i other = codes "?"
 
   -- those of operands, with the spaces between them
@@ -176,10 +177,10 @@ module _ (line : Line VectorOperation) (value : ℕ) (sized : Bool) (size : ℕ)
 -- by the field that tells the size of elements, where the row has one: of a store it is its own
 unfoldable pub template_by : Line VectorOperation → ℕ → Shape → List ℕ
 template_by line value s =
-    if has line SIZE then template line value true (field_in SIZE value) (kind.Mark 32) (items_of s)
+    if has line SIZE then template line value true (field_in SIZE value) (kind.Punctuation 32) (items_of s)
     else if has line ELEMENT_SIZE
-    then template line value true (field_in ELEMENT_SIZE value) (kind.Mark 32) (items_of s)
-    else template line value false 0 (kind.Mark 32) (items_of s)
+    then template line value true (field_in ELEMENT_SIZE value) (kind.Punctuation 32) (items_of s)
+    else template line value false 0 (kind.Punctuation 32) (items_of s)
 
 -- ---- the templates of a row
 
@@ -424,10 +425,11 @@ is_set_well s f =
 unfoldable pub fixes_row : Line VectorOperation → Shape → Bool
 fixes_row line s = (bit_and s.mask line.mask == line.mask) && (bit_and s.value line.mask == line.value)
 
--- the shape has the line's name at a value of the fields that choose, and sets no other field
+-- the shape has the line's mnemonic at a value of the fields that choose, and sets no other field
 unfoldable pub has_name : Line VectorOperation → Shape → ℕ → Bool
 has_name line s value =
-    not s.alias && bytes_eq (text_at NAMES s.name) (vector_name_of line.operation (numbers_in value))
+    not s.alias && bytes_eq (text_at MNEMONICS s.mnemonic)
+    (vector_mnemonic_of line.operation (numbers_in value))
     && list_all (is_set_well s) (list_of line.fields)
 
 -- the shape is a text of the line at the value

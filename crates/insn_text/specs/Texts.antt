@@ -1,4 +1,4 @@
--- The text of an instruction: its name, and the numbers of its fields as registers, words, numbers and
+-- The text of an instruction: its mnemonic, and the numbers of its fields as registers, words, numbers and
 -- distances.
 -- Source: DDI 0487, C1.2 (assembly language symbols) and the pages of C6.2; which text is printed, and that
 -- distances are in bytes from the instruction, is this project's own.
@@ -11,7 +11,7 @@ use Rattle.bit_ops.specs.Masks.{bit_mask_of}
 use Rattle.insn_forms.specs.Fields as fields
 use Rattle.insn_forms.specs.Fields.{field_of}
 use Rattle.insn_text.specs.declared.item.Kind.{Kind}
-use Rattle.insn_text.specs.declared.item.Kind.TheVariants.{Mark, Named, Register, Unsigned, Signed, Distance}
+use Rattle.insn_text.specs.declared.item.Kind.TheVariants.{Punctuation, Keyword, Register, Unsigned, Signed, Distance}
 use Rattle.insn_text.specs.declared.item.Kind.TheVariants.{Mask, SignedMask, ShiftLeft, Opposite, Halfword}
 use Rattle.insn_text.specs.declared.item.Kind.TheVariants.{Sized, SliceRegister, Index, Pattern, Descending}
 use Rattle.insn_text.specs.declared.item.VectorFile.{VectorFile}
@@ -23,7 +23,7 @@ use Rattle.insn_text.specs.declared.item.ItemList.{ItemList}
 use Rattle.insn_text.specs.declared.item.ItemList.TheVariants as list
 use Rattle.insn_text.specs.declared.item.Shape.{Shape}
 use Rattle.insn_text.specs.declared.item.Text.{Text}
-use Rattle.insn_text.specs.declared.words.TheConstants.{WORDS, NAMES, SUFFIXES}
+use Rattle.insn_text.specs.declared.keywords.TheConstants.{KEYWORDS, MNEMONICS, SUFFIXES}
 use Rattle.insn_text.specs.declared.items.TheConstants.{ITEMS, MATRIX_ITEMS, VECTOR_ITEMS}
 use Rattle.insn_text.specs.declared.shapes.TheConstants.{SHAPES}
 
@@ -33,9 +33,9 @@ unfoldable pub text_in : Option Text → List ℕ
 text_in None = []
 text_in (Some t) = take t.length t.bytes
 
--- the text at a place of a table
+-- the text of an index in a table
 abbrev pub text_at : List Text → ℕ → List ℕ
-text_at texts place = text_in (slice_get texts place)
+text_at texts index = text_in (slice_get texts index)
 
 -- ---- numbers
 
@@ -72,9 +72,10 @@ unfoldable pub file_text : RegisterFile → List ℕ
 file_text X = codes "x"
 file_text W = codes "w"
 
--- a register: the letter of its file and its number, and for number 31 the word at a place
+-- a register: the letter of its file and its number, and for number 31 the keyword of an index
 unfoldable pub register_text : RegisterFile → ℕ → ℕ → List ℕ
-register_text file last number = if number == 31 then text_at WORDS last else file_text file ++ decimal number
+register_text file last number =
+    if number == 31 then text_at KEYWORDS last else file_text file ++ decimal number
 
 -- the letters of a file of vectors, predicates or ZA
 unfoldable pub vector_file_text : VectorFile → List ℕ
@@ -86,7 +87,7 @@ vector_file_text vector.S = codes "s"
 vector_file_text vector.D = codes "d"
 vector_file_text vector.Za = codes "za"
 
--- such a register: the letters of its file, its number, and the suffix at a place
+-- such a register: the letters of its file, its number, and the suffix of an index
 unfoldable pub sized_text : VectorFile → ℕ → ℕ → List ℕ
 sized_text file number suffix =
     vector_file_text file ++ (decimal number ++ text_at SUFFIXES suffix)
@@ -95,18 +96,19 @@ sized_text file number suffix =
 unfoldable pub is_named_pattern : ℕ → Bool
 is_named_pattern field = nat_lt field 14 || nat_lt 28 field
 
--- its place among the words: those from 29 on follow that of 13
-unfoldable pub pattern_place : ℕ → ℕ
-pattern_place field = if nat_lt field 14 then field else field - 15
+-- its index among the keywords: those from 29 on follow that of 13
+unfoldable pub pattern_index : ℕ → ℕ
+pattern_index field = if nat_lt field 14 then field else field - 15
 
 unfoldable pub pattern_text : ℕ → ℕ → List ℕ
 pattern_text first field =
-    if is_named_pattern field then text_at WORDS (first + pattern_place field) else codes "#" ++ decimal field
+    if is_named_pattern field then text_at KEYWORDS (first + pattern_index field) else codes "#"
+    ++ decimal field
 
 -- the text of a field of so many bits; the kinds of aliases are never printed
 unfoldable pub kind_text : Kind → ℕ → ℕ → List ℕ
-kind_text (Mark c) bits field = c ∷ []
-kind_text (Named first count) bits field = text_at WORDS (first + field)
+kind_text (Punctuation c) bits field = c ∷ []
+kind_text (Keyword first count) bits field = text_at KEYWORDS (first + field)
 kind_text (Register file last) bits field = register_text file last field
 kind_text (Sized file number_bits suffix) bits field =
     sized_text file (field % 2 ^ number_bits) (suffix + field / 2 ^ number_bits)
@@ -135,17 +137,18 @@ field_in i word = fields.field_in i.field word
 unfoldable pub item_text : ℕ → Item → List ℕ
 item_text word i = kind_text i.kind (bits_of i) (field_in i word)
 
-unfoldable pub is_mark : Kind → Bool
-is_mark (Mark c) = true
-is_mark other = false
+unfoldable pub is_punctuation : Kind → Bool
+is_punctuation (Punctuation c) = true
+is_punctuation other = false
 
 unfoldable pub is_comma : Kind → Bool
-is_comma (Mark c) = c == 44
+is_comma (Punctuation c) = c == 44
 is_comma other = false
 
--- a space stands after a comma, and between two operands with no mark between them
+-- a space stands after a comma, and between two operands with no punctuation between them
 unfoldable pub gap : Kind → Kind → List ℕ
-gap before after = if is_comma before || (not (is_mark before) && not (is_mark after)) then codes " " else []
+gap before after =
+    if is_comma before || (not (is_punctuation before) && not (is_punctuation after)) then codes " " else []
 
 -- the operands that follow one of that kind
 unfoldable pub items_text : ℕ → Kind → List Item → List ℕ
@@ -164,9 +167,9 @@ items_in list.Matrix = MATRIX_ITEMS
 unfoldable pub items_of : Shape → List Item
 items_of s = take s.count (drop s.first (items_in s.list))
 
--- the text of a word of the shape; a space stands after the name, as after a comma
+-- the text of a word of the shape; a space stands after the mnemonic, as after a comma
 unfoldable pub shape_text : Shape → ℕ → List ℕ
-shape_text s word = text_at NAMES s.name ++ items_text word (Mark 44) (items_of s)
+shape_text s word = text_at MNEMONICS s.mnemonic ++ items_text word (Punctuation 44) (items_of s)
 
 -- the word has the fixed bits of the shape, which is no alias
 unfoldable pub prints : ℕ → Shape → Bool

@@ -1,4 +1,4 @@
--- The shapes are the texts of the table: each has the name, the operands and the bits of its text.
+-- The shapes are the texts of the table: each has the mnemonic, the operands and the bits of its text.
 -- Source: DDI 0487, C6.2: the operands of each page, and the fields that its forms fix.
 use Rattle.std.specs.Prelude.{ℕ, ◌+◌, ◌-◌, ◌^◌, ◌==◌, ◌&&◌, ◌||◌, Bool, true, false, not, nat_lt, List, []}
 use Rattle.std.specs.Prelude.{◌∷◌, ◌++◌, length, Option, Some, None, slice_get, bit_and, bit_or}
@@ -29,7 +29,7 @@ use Rattle.insn_text.specs.declared.vector_texts.TheConstants.{EACH_SIZE, NOT_BY
 use Rattle.insn_text.specs.declared.vector_texts.TheConstants.{BY_REGISTER, LOW_PARTS, WITH_FLAGS, COUNTS}
 use Rattle.insn_text.specs.declared.vector_texts.TheConstants.{LOADS, STORES, WHOLE_REGISTERS, SLICES, MOVES}
 use Rattle.insn_text.specs.declared.vector_texts.TheConstants.{PRODUCTS, PLAIN}
-use Rattle.insn_text.specs.declared.words.TheConstants.{NAMES}
+use Rattle.insn_text.specs.declared.keywords.TheConstants.{MNEMONICS}
 use Rattle.insn_text.specs.Texts.{text_in, text_at, items_of}
 use Rattle.insn_text.specs.Operands.{is, is_long, rule_number, same}
 
@@ -45,7 +45,7 @@ vector_texts =
 
 -- ---- what a text sets and what its operands hold
 
--- the operands at the places before the first 0
+-- the operands at the indices before the first 0
 unfoldable pub operands_of : {O : Type 0} → Wording O → List Item
 operands_of w = filter_map (slice_get OPERANDS) (take_while (nat_lt 0) w.operands)
 
@@ -60,7 +60,7 @@ unfoldable pub held : List Item → ℕ
 held [] = 0
 held (i ∷ is) = bit_or (mask_of i.field) (held is)
 
--- the numbers that are set, at their places
+-- the numbers that are set, in their fields
 unfoldable pub set_bits : List Setting → ℕ
 set_bits [] = 0
 set_bits (x ∷ xs) = bit_or (placed x.field x.number) (set_bits xs)
@@ -99,10 +99,10 @@ unfoldable pub is_of_line : {O : Type 0} → (O → ℕ) → Wording O → Shape
 is_of_line number w s line =
     (number line.operation == number w.operation) && is_whole w line && fixes w line s
 
--- the text of a vector instruction at a place after those of the scalar ones
+-- the text of a vector instruction of an index after those of the scalar ones
 unfoldable pub vector_text_at
     : List (Wording Operation) → List (Wording VectorOperation) → ℕ → Option (Wording VectorOperation)
-vector_text_at ws vs place = slice_get vs (place - length ws)
+vector_text_at ws vs index = slice_get vs (index - length ws)
 
 unfoldable pub flag : Bool → ℕ
 flag b = if b then 1 else 0
@@ -118,8 +118,8 @@ file_number vector.Za = 6
 
 -- a kind by numbers
 unfoldable pub kind_numbers : Kind → List ℕ
-kind_numbers (kind.Mark c) = 0 ∷ c ∷ []
-kind_numbers (kind.Named first count) = 1 ∷ first ∷ count ∷ []
+kind_numbers (kind.Punctuation c) = 0 ∷ c ∷ []
+kind_numbers (kind.Keyword first count) = 1 ∷ first ∷ count ∷ []
 kind_numbers (kind.Register file last) = 2 ∷ flag (is_long file) ∷ last ∷ []
 kind_numbers (kind.Unsigned base scale most) = 3 ∷ base ∷ scale ∷ most ∷ []
 kind_numbers (kind.Signed scale) = 4 ∷ scale ∷ []
@@ -149,18 +149,18 @@ same_items (i ∷ is) (j ∷ js) = same_item i j && same_items is js
 -- the shape is that of the text
 unfoldable pub is_shape_of : {O : Type 0} → (O → ℕ) → List (Line O) → Wording O → Shape → Bool
 is_shape_of number lines w s =
-    bytes_eq (text_at NAMES s.name) (text_in (Some w.name)) && same s.alias w.alias
+    bytes_eq (text_at MNEMONICS s.mnemonic) (text_in (Some w.mnemonic)) && same s.alias w.alias
     && same_items (items_of s) (operands_of w)
     && list_any (is_of_line number w s) lines
 
--- the shape is that of the text at a place, which is one of the scalar instructions, or after these one of
+-- the shape is that of the text of an index, which is one of the scalar instructions, or after these one of
 -- the vectors'
 unfoldable pub is_shape_at : Option (Wording Operation) → Option (Wording VectorOperation) → Shape → Bool
 is_shape_at None None s = false
 is_shape_at None (Some w) s = is_shape_of vector_number_of VECTOR_LINES w s
 is_shape_at (Some w) other s = is_shape_of number_of SCALAR_LINES w s
 
--- each shape is that of the text at its place
+-- each shape is that of the text of its index
 unfoldable pub are_shapes
     : List (Wording Operation) → List (Wording VectorOperation) → List ℕ → List Shape → Bool
 are_shapes ws vs [] [] = true
@@ -171,9 +171,9 @@ are_shapes ws vs (p ∷ ps) (s ∷ ss) =
 
 -- ---- the order of the shapes
 
--- they stand in the order of names, and those of a name in that of the texts
+-- they stand in the order of mnemonics, and those of a mnemonic in that of the texts
 unfoldable pub is_before : Shape → ℕ → Shape → ℕ → Bool
-is_before s p t q = nat_lt s.name t.name || ((s.name == t.name) && nat_lt p q)
+is_before s p t q = nat_lt s.mnemonic t.mnemonic || ((s.mnemonic == t.mnemonic) && nat_lt p q)
 
 unfoldable pub stand_after : Shape → ℕ → List Shape → List ℕ → Bool
 stand_after s p [] [] = true
@@ -188,4 +188,4 @@ stand_in_order (s ∷ ss) (p ∷ ps) = stand_after s p ss ps
 
 -- each of so many texts has a shape
 unfoldable pub have_shapes : ℕ → List ℕ → Bool
-have_shapes count places = list_all (λ place. list_any (λ p. p == place) places) (range_with_len 0 count)
+have_shapes count indices = list_all (λ index. list_any (λ p. p == index) indices) (range_with_len 0 count)

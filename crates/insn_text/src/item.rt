@@ -32,20 +32,20 @@ pub enum VectorFile {
 /// How the number of a field is written.
 #[derive(Clone, Copy)]
 pub enum Kind {
-    /// This character, with no field.
-    Mark(u8),
-    /// One of `count` words of the table from place `first` on, in the order of their numbers.
-    Named {
+    /// Punctuation: this character, with no field.
+    Punctuation(u8),
+    /// One of `count` keywords of the table from index `first` on, in the order of their numbers.
+    Keyword {
         first: u16,
         count: u16,
     },
-    /// A register of a file: its letter and its number, and for number 31 the word at `last`.
+    /// A register of a file: its letter and its number, and for number 31 the keyword at `last`.
     Register {
         file: RegisterFile,
         last: u16,
     },
     /// A register of vectors, predicates or ZA: the letters of its file, its number, which is in the lowest
-    /// `bits` bits of the field, and one of the suffixes from place `suffix` of their table on, which the
+    /// `bits` bits of the field, and one of the suffixes from index `suffix` of their table on, which the
     /// bits above give: the size of its elements, or none, and of a slice its direction.
     Sized {
         file: VectorFile,
@@ -56,7 +56,7 @@ pub enum Kind {
     SliceRegister,
     /// The number of the field, with no `#`.
     Index,
-    /// A pattern: one of 17 words from place `first` on, or `#n` for the numbers that have none.
+    /// A pattern: one of 17 keywords from index `first` on, or `#n` for the numbers that have none.
     Pattern {
         first: u16,
     },
@@ -90,13 +90,13 @@ pub enum Kind {
     ShiftLeft {
         wide: bool,
     },
-    /// Of an alias: one of `count` conditions from place `first` on; the field has its opposite.
+    /// Of an alias: one of `count` conditions from index `first` on; the field has its opposite.
     Opposite {
         first: u16,
         count: u16,
     },
     /// Of an alias: `#n`, a number with one halfword that is not zero, or not all ones where it is
-    /// inverted; the field has the halfword's place above its bits.
+    /// inverted; the field has the halfword's index above its bits.
     Halfword {
         wide: bool,
         inverted: bool,
@@ -135,13 +135,13 @@ pub enum ItemList {
     Matrix,
 }
 
-/// One text of an instruction, without optional parts: the bits that it fixes, the place of its name, and
-/// its operands, so many from a place of a list on. An alias is read and never printed.
+/// One text of an instruction, without optional parts: the bits that it fixes, the index of its
+/// mnemonic, and its operands, so many from an index of a list on. An alias is read and never printed.
 #[derive(Clone, Copy)]
 pub struct Shape {
     pub mask: u32,
     pub value: u32,
-    pub name: u16,
+    pub mnemonic: u16,
     pub list: ItemList,
     pub first: u16,
     pub count: u8,
@@ -162,12 +162,12 @@ pub struct Setting {
     pub number: u32,
 }
 
-/// One text of an operation, as a table of texts has it: whether it is an alias, its name, the fields
-/// that it sets, and the places of its operands in `OPERANDS`, up to the first 0.
+/// One text of an operation, as a table of texts has it: whether it is an alias, its mnemonic, the
+/// fields that it sets, and the indices of its operands in `OPERANDS`, up to the first 0.
 #[derive(Clone, Copy)]
 pub struct Wording<O> {
     pub alias: bool,
-    pub name: Text,
+    pub mnemonic: Text,
     pub operation: O,
     pub set: [Option<Setting>; 4],
     pub operands: [u8; 24],

@@ -18,7 +18,7 @@ macro_rules! items {
     };
 }
 
-/// The operands of the shapes of `ItemList::Scalar`, one list after another; beside a list is its place.
+/// The operands of the shapes of `ItemList::Scalar`, one list after another; beside a list is its index.
 pub static ITEMS: [Item; 1227] = items! {
     xd comma xn comma xm; // 0
     wd comma wn comma wm; // 5
@@ -212,7 +212,7 @@ pub static ITEMS: [Item; 1227] = items! {
     udf_imm16; // 1226
 };
 
-/// The operands of the shapes of `ItemList::Vector`, one list after another; beside a list is its place.
+/// The operands of the shapes of `ItemList::Vector`, one list after another; beside a list is its index.
 pub static VECTOR_ITEMS: [Item; 730] = items! {
     zd_t comma pg slash m comma zn_t; // 0
     zd_t comma zn_t comma zm_t; // 7
@@ -317,7 +317,7 @@ pub static VECTOR_ITEMS: [Item; 730] = items! {
     pn_b; // 729
 };
 
-/// The operands of the shapes of `ItemList::Matrix`, one list after another; beside a list is its place.
+/// The operands of the shapes of `ItemList::Matrix`, one list after another; beside a list is its index.
 pub static MATRIX_ITEMS: [Item; 866] = items! {
     za_s comma row_pn slash m comma column_pm slash m comma zn_s; // 0
     za_d comma row_pn slash m comma column_pm slash m comma zn_d; // 11

@@ -6,8 +6,9 @@
 
 mod item;
 mod items;
+mod keywords;
 mod laws;
-mod names;
+mod mnemonics;
 mod operand_items;
 mod operands;
 mod print;
@@ -19,12 +20,12 @@ mod shapes_m_to_z;
 mod texts;
 mod vector_operands;
 mod vector_texts;
-mod words;
 
 pub use item::{
     Item, ItemList, Kind, RegisterFile, Rule, Setting, Shape, Text, VectorFile, Wording,
 };
 pub use items::{ITEMS, MATRIX_ITEMS, VECTOR_ITEMS};
+pub use keywords::{KEYWORDS, MNEMONICS, SUFFIXES};
 pub use laws::{
     every_word_is_printed, names_are_those_of_operations, shapes_are_texts, texts_are_those_of_rows,
 };
@@ -38,4 +39,3 @@ pub use vector_texts::{
     BY_REGISTER, COUNTS, EACH_SIZE, LOADS, LOW_PARTS, MOVES, NOT_BYTES, PLAIN, PRODUCTS, SLICES,
     STORES, WHOLE_REGISTERS, WITH_FLAGS, WORDS_AND_DOUBLEWORDS,
 };
-pub use words::{NAMES, SUFFIXES, WORDS};

@@ -18,7 +18,7 @@ macro_rules! items {
     };
 }
 
-// The place of an operand in `OPERANDS`, by its name.
+// The index of an operand in `OPERANDS`, by its name.
 macro_rules! place {
     (none) => { 0 };
     (comma) => { 1 };

@@ -59,7 +59,7 @@ pub const SHORT_SHIFT: Field = Field {
     upper_width: IMMR.width - 1,
 };
 
-/// A halfword with its place right above.
+/// A halfword with its index right above.
 pub const HW_IMM16: Field = Field {
     low: IMM16.low,
     width: IMM16.width + HW.width,
@@ -67,7 +67,7 @@ pub const HW_IMM16: Field = Field {
     upper_width: 0,
 };
 
-/// The same with a place of one bit.
+/// The same with an index of one bit.
 pub const SHORT_HW_IMM16: Field = Field {
     low: IMM16.low,
     width: IMM16.width + HW.width - 1,
@@ -98,12 +98,12 @@ macro_rules! operand_of {
 // The item of an operand's name.
 macro_rules! operand {
     // none: the end of a text's operands
-    (none) => { operand_of!(Kind::Mark(0), scalar_fields::NONE) };
-    // marks
-    (comma) => { operand_of!(Kind::Mark(b','), scalar_fields::NONE) };
-    (open) => { operand_of!(Kind::Mark(b'['), scalar_fields::NONE) };
-    (close) => { operand_of!(Kind::Mark(b']'), scalar_fields::NONE) };
-    (bang) => { operand_of!(Kind::Mark(b'!'), scalar_fields::NONE) };
+    (none) => { operand_of!(Kind::Punctuation(0), scalar_fields::NONE) };
+    // punctuation
+    (comma) => { operand_of!(Kind::Punctuation(b','), scalar_fields::NONE) };
+    (open) => { operand_of!(Kind::Punctuation(b'['), scalar_fields::NONE) };
+    (close) => { operand_of!(Kind::Punctuation(b']'), scalar_fields::NONE) };
+    (bang) => { operand_of!(Kind::Punctuation(b'!'), scalar_fields::NONE) };
     // X registers
     (xd) => { operand_of!(X, scalar_fields::RD) };
     (xd_sp) => { operand_of!(X_SP, scalar_fields::RD) };
@@ -129,24 +129,24 @@ macro_rules! operand {
     (ws) => { operand_of!(W, scalar_fields::RS) };
     (wa) => { operand_of!(W, scalar_fields::RA) };
     // words
-    (sp) => { operand_of!(Kind::Named { first: 1, count: 1 }, scalar_fields::NONE) };
-    (wsp) => { operand_of!(Kind::Named { first: 3, count: 1 }, scalar_fields::NONE) };
-    (lsl) => { operand_of!(Kind::Named { first: 4, count: 1 }, scalar_fields::NONE) };
-    (shift3) => { operand_of!(Kind::Named { first: 4, count: 3 }, scalar_fields::SHIFT) };
-    (shift4) => { operand_of!(Kind::Named { first: 4, count: 4 }, scalar_fields::SHIFT) };
-    (extend) => { operand_of!(Kind::Named { first: 8, count: 8 }, scalar_fields::OPTION) };
-    (uxtb_to_uxtw) => { operand_of!(Kind::Named { first: 8, count: 3 }, short!(OPTION)) };
-    (sxtb_to_sxtw) => { operand_of!(Kind::Named { first: 12, count: 3 }, short!(OPTION)) };
-    (uxtw) => { operand_of!(Kind::Named { first: 10, count: 1 }, scalar_fields::NONE) };
-    (uxtx) => { operand_of!(Kind::Named { first: 11, count: 1 }, scalar_fields::NONE) };
-    (sxtw) => { operand_of!(Kind::Named { first: 14, count: 1 }, scalar_fields::NONE) };
-    (sxtx) => { operand_of!(Kind::Named { first: 15, count: 1 }, scalar_fields::NONE) };
-    (condition) => { operand_of!(Kind::Named { first: 16, count: 16 }, scalar_fields::COND) };
+    (sp) => { operand_of!(Kind::Keyword { first: 1, count: 1 }, scalar_fields::NONE) };
+    (wsp) => { operand_of!(Kind::Keyword { first: 3, count: 1 }, scalar_fields::NONE) };
+    (lsl) => { operand_of!(Kind::Keyword { first: 4, count: 1 }, scalar_fields::NONE) };
+    (shift3) => { operand_of!(Kind::Keyword { first: 4, count: 3 }, scalar_fields::SHIFT) };
+    (shift4) => { operand_of!(Kind::Keyword { first: 4, count: 4 }, scalar_fields::SHIFT) };
+    (extend) => { operand_of!(Kind::Keyword { first: 8, count: 8 }, scalar_fields::OPTION) };
+    (uxtb_to_uxtw) => { operand_of!(Kind::Keyword { first: 8, count: 3 }, short!(OPTION)) };
+    (sxtb_to_sxtw) => { operand_of!(Kind::Keyword { first: 12, count: 3 }, short!(OPTION)) };
+    (uxtw) => { operand_of!(Kind::Keyword { first: 10, count: 1 }, scalar_fields::NONE) };
+    (uxtx) => { operand_of!(Kind::Keyword { first: 11, count: 1 }, scalar_fields::NONE) };
+    (sxtw) => { operand_of!(Kind::Keyword { first: 14, count: 1 }, scalar_fields::NONE) };
+    (sxtx) => { operand_of!(Kind::Keyword { first: 15, count: 1 }, scalar_fields::NONE) };
+    (condition) => { operand_of!(Kind::Keyword { first: 16, count: 16 }, scalar_fields::COND) };
     (opposite) => { operand_of!(Kind::Opposite { first: 16, count: 14 }, scalar_fields::COND) };
-    (nzcv) => { operand_of!(Kind::Named { first: 32, count: 1 }, scalar_fields::NONE) };
-    (tpidr_el0) => { operand_of!(Kind::Named { first: 33, count: 1 }, scalar_fields::NONE) };
-    (tpidr2_el0) => { operand_of!(Kind::Named { first: 34, count: 1 }, scalar_fields::NONE) };
-    (svcr) => { operand_of!(Kind::Named { first: 35, count: 1 }, scalar_fields::NONE) };
+    (nzcv) => { operand_of!(Kind::Keyword { first: 32, count: 1 }, scalar_fields::NONE) };
+    (tpidr_el0) => { operand_of!(Kind::Keyword { first: 33, count: 1 }, scalar_fields::NONE) };
+    (tpidr2_el0) => { operand_of!(Kind::Keyword { first: 34, count: 1 }, scalar_fields::NONE) };
+    (svcr) => { operand_of!(Kind::Keyword { first: 35, count: 1 }, scalar_fields::NONE) };
     // numbers
     (imm12) => { operand_of!(Kind::Unsigned { base: 0, scale: 1, most: 4095 }, scalar_fields::IMM12) };
     (imm12_2) => { operand_of!(Kind::Unsigned { base: 0, scale: 2, most: 4095 }, scalar_fields::IMM12) };

@@ -5,18 +5,18 @@ ghost use Rattle.std.specs.Fmt.{digit_glyph};
 ghost use Rattle.std.specs.List.{list_all};
 ghost use Rattle.std.specs.Str.{IsAscii};
 ghost use Rattle.a64_encode.specs.Either.{MeansEither};
-ghost use Rattle.insn_text.specs.declared.item.Kind.TheVariants.{Mark};
-ghost use Rattle.insn_text.specs.Places.{is_writable, is_sized};
+ghost use Rattle.insn_text.specs.declared.item.Kind.TheVariants.{Punctuation};
+ghost use Rattle.insn_text.specs.Indices.{is_writable, is_sized};
 ghost use Rattle.insn_text.specs.Texts.{bits_of, distance_text, field_in, gap, hexadecimal, is_comma};
-ghost use Rattle.insn_text.specs.Texts.{is_mark, is_positive, item_text, items_text, kind_text, mask_in};
+ghost use Rattle.insn_text.specs.Texts.{is_punctuation, is_positive, item_text, items_text, kind_text, mask_in};
 ghost use Rattle.insn_text.specs.Texts.{mask_text, register_text, file_text, shape_text, signed_text};
-ghost use Rattle.insn_text.specs.Texts.{vector_file_text, sized_text, is_named_pattern, pattern_place};
+ghost use Rattle.insn_text.specs.Texts.{vector_file_text, sized_text, is_named_pattern, pattern_index};
 ghost use Rattle.insn_text.specs.Texts.{pattern_text};
 ghost use Rattle.insn_text.specs.Texts.{size_of, text_at, text_of};
-ghost use Rattle.insn_text.specs.declared.words.TheConstants.{WORDS};
+ghost use Rattle.insn_text.specs.declared.keywords.TheConstants.{KEYWORDS};
 
 use crate::item::{Item, Kind, RegisterFile, Shape, VectorFile};
-use crate::shape::{name_at, operands_of, shape_of, suffix_at, word_at};
+use crate::shape::{keyword_at, mnemonic_at, operands_of, shape_of, suffix_at};
 use a64_encode::encode;
 use arrayvec::ArrayString;
 use bit_ops::bit_mask;
@@ -54,17 +54,17 @@ fn push_shape(out: &mut ArrayString<96>, shape: &Shape, word: u32)
     requires { length out.old.bytes + length (shape_text shape.now word) ≤ 96 }
     ensures { out.new.bytes ≡ out.old.bytes ++ shape_text shape.now word }
 {
-    push_bytes(out, name_at(shape.name as usize));
+    push_bytes(out, mnemonic_at(shape.mnemonic as usize));
     push_items(out, operands_of(shape), word);
 }
 
 /// Appends the texts of operands, with the spaces between them.
 fn push_items(out: &mut ArrayString<96>, items: &[Item], word: u32)
     requires sized { list_all is_sized items.now ≡ true }
-    requires room { length out.old.bytes + length (items_text word (Mark 44) items.now) ≤ 96 }
-    ensures { out.new.bytes ≡ out.old.bytes ++ items_text word (Mark 44) items.now }
+    requires room { length out.old.bytes + length (items_text word (Punctuation 44) items.now) ≤ 96 }
+    ensures { out.new.bytes ≡ out.old.bytes ++ items_text word (Punctuation 44) items.now }
 {
-    let mut before = Kind::Mark(b',');
+    let mut before = Kind::Punctuation(b',');
     for item in items {
         push_gap(out, before, item.kind);
         push_item(out, item, word);
@@ -78,17 +78,17 @@ fn push_gap(out: &mut ArrayString<96>, before: Kind, after: Kind)
     requires { length out.old.bytes + length (gap before after) ≤ 96 }
     ensures { out.new.bytes ≡ out.old.bytes ++ gap before after }
 {
-    if is_comma(before) || !is_mark(before) && !is_mark(after) {
+    if is_comma(before) || !is_punctuation(before) && !is_punctuation(after) {
         out.push_str(" ");
     }
 }
 
-/// Whether the operand is a mark.
-#[tactic(auto, unfolding(crate::specs::Texts::is_mark))]
-fn is_mark(kind: Kind) -> bool
-    ensures { result ≡ is_mark kind }
+/// Whether the operand is punctuation.
+#[tactic(auto, unfolding(crate::specs::Texts::is_punctuation))]
+fn is_punctuation(kind: Kind) -> bool
+    ensures { result ≡ is_punctuation kind }
 {
-    matches!(kind, Kind::Mark(_))
+    matches!(kind, Kind::Punctuation(_))
 }
 
 /// Whether the operand is a comma.
@@ -96,7 +96,7 @@ fn is_mark(kind: Kind) -> bool
 fn is_comma(kind: Kind) -> bool
     ensures { result ≡ is_comma kind }
 {
-    matches!(kind, Kind::Mark(b','))
+    matches!(kind, Kind::Punctuation(b','))
 }
 
 /// Appends the text of an operand of a word.
@@ -127,7 +127,7 @@ fn number_in(item: &Item, word: u32) -> u64
 /// Appends the text of a field of so many bits.
 #[tactic(auto, unfolding(crate::specs::Texts::kind_text))]
 fn push_kind(out: &mut ArrayString<96>, kind: Kind, bits: u32, field: u64)
-    requires mark { is_writable kind ≡ true }
+    requires character { is_writable kind ≡ true }
     requires bits { bits < 32 }
     requires field { field < 2 ^ bits }
     requires below { field < 2 ^ 31 }
@@ -135,8 +135,8 @@ fn push_kind(out: &mut ArrayString<96>, kind: Kind, bits: u32, field: u64)
     ensures { out.new.bytes ≡ out.old.bytes ++ kind_text kind bits field }
 {
     match kind {
-        Kind::Mark(mark) => push_bytes(out, &[mark]),
-        Kind::Named { first, .. } => push_word(out, first as usize + field as usize),
+        Kind::Punctuation(character) => push_bytes(out, &[character]),
+        Kind::Keyword { first, .. } => push_keyword(out, first as usize + field as usize),
         Kind::Register { file, last } => push_register(out, file, last, field),
         Kind::Sized { file, bits, suffix } => push_sized_field(out, file, bits, suffix, field),
         Kind::SliceRegister => push_slice_register(out, field),
@@ -166,11 +166,11 @@ fn push_kind(out: &mut ArrayString<96>, kind: Kind, bits: u32, field: u64)
 }
 
 /// Appends the word of an operand.
-fn push_word(out: &mut ArrayString<96>, place: usize)
-    requires { length out.old.bytes + length (text_at WORDS place) ≤ 96 }
-    ensures { out.new.bytes ≡ out.old.bytes ++ text_at WORDS place }
+fn push_keyword(out: &mut ArrayString<96>, index: usize)
+    requires { length out.old.bytes + length (text_at KEYWORDS index) ≤ 96 }
+    ensures { out.new.bytes ≡ out.old.bytes ++ text_at KEYWORDS index }
 {
-    push_bytes(out, word_at(place));
+    push_bytes(out, keyword_at(index));
 }
 
 /// Appends the letter of a file of registers.
@@ -192,7 +192,7 @@ fn push_register(out: &mut ArrayString<96>, file: RegisterFile, last: u16, numbe
     ensures { out.new.bytes ≡ out.old.bytes ++ register_text file last number }
 {
     if number == 31 {
-        push_word(out, last as usize);
+        push_keyword(out, last as usize);
     } else {
         push_file(out, file);
         push_number(out, number);
@@ -216,7 +216,7 @@ fn push_vector_file(out: &mut ArrayString<96>, file: VectorFile)
     }
 }
 
-/// Appends such a register: its file, its number and the suffix at a place.
+/// Appends such a register: its file, its number and the suffix of an index.
 #[tactic(auto, unfolding(crate::specs::Texts::sized_text))]
 fn push_sized(out: &mut ArrayString<96>, file: VectorFile, number: u64, suffix: usize)
     requires { length out.old.bytes + length (sized_text file number suffix) ≤ 96 }
@@ -263,10 +263,10 @@ fn is_named_pattern(field: u64) -> bool
     field < 14 || 28 < field
 }
 
-/// The place of its word.
-#[tactic(auto, unfolding(crate::specs::Texts::pattern_place))]
-fn pattern_place(field: u64) -> u64
-    ensures value { result ≡ pattern_place field }
+/// The index of its keyword, after the first of them.
+#[tactic(auto, unfolding(crate::specs::Texts::pattern_index))]
+fn pattern_index(field: u64) -> u64
+    ensures value { result ≡ pattern_index field }
     ensures small { result ≤ field }
 {
     if field < 14 {
@@ -284,7 +284,7 @@ fn push_pattern(out: &mut ArrayString<96>, first: u16, field: u64)
     ensures { out.new.bytes ≡ out.old.bytes ++ pattern_text first field }
 {
     if is_named_pattern(field) {
-        push_word(out, first as usize + pattern_place(field) as usize);
+        push_keyword(out, first as usize + pattern_index(field) as usize);
     } else {
         push_unsigned(out, field);
     }

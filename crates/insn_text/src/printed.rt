@@ -1,6 +1,6 @@
 //! Which shapes the words of each top byte may have, as `make_table.py` writes them.
 
-/// Where the places in `PRINTED` begin for each value of the top byte of a word, and the end.
+/// Where the indices in `PRINTED` begin for each value of the top byte of a word, and the end.
 pub static ROOTS: [u16; 257] = [
     0, 1, 1, 1, 1, 139, 175, 175, 175, 181, 181, 185, 189, 189, 189, 189, 189, 190, 192, 195, 197,
     198, 199, 200, 201, 202, 202, 211, 213, 213, 213, 213, 213, 213, 213, 213, 213, 219, 264, 264,
@@ -18,7 +18,7 @@ pub static ROOTS: [u16; 257] = [
     1000, 1004, 1007, 1007, 1007, 1007, 1007, 1007,
 ];
 
-/// The places of the shapes that are no aliases and that a word with the top byte may have, in order.
+/// The indices of the shapes that are no aliases and that a word with the top byte may have, in order.
 pub static PRINTED: [u16; 1007] = [
     1018, 0, 23, 24, 30, 49, 50, 53, 62, 64, 72, 73, 74, 75, 80, 81, 82, 83, 84, 104, 111, 113,
     123, 154, 157, 206, 207, 208, 209, 210, 211, 212, 213, 215, 216, 236, 237, 238, 239, 240, 241,

@@ -1,16 +1,16 @@
-//! The shape in which a word is printed, its name and its operands.
+//! The shape in which a word is printed, its mnemonic and its operands.
 ghost use Rattle.std.specs.Prelude.{◌≡◌, ℕ, ◌+◌, ◌-◌, ◌<◌, List, length, drop, slice_get, slice_index, take};
 ghost use Rattle.std.specs.List.{list_all};
 ghost use Rattle.std.specs.Prelude.{true};
 ghost use Rattle.std.specs.Str.{IsAscii};
-ghost use Rattle.insn_text.specs.Places.{first_at, if_printed, is_sized, part_of};
+ghost use Rattle.insn_text.specs.Indices.{first_at, if_printed, is_sized, part_of};
 ghost use Rattle.insn_text.specs.Texts.{items_of, printed_shape, prints, text_at};
 
 use crate::item::{Item, ItemList, Shape, Text};
 use crate::items::{ITEMS, MATRIX_ITEMS, VECTOR_ITEMS};
+use crate::keywords::{KEYWORDS, MNEMONICS, SUFFIXES};
 use crate::printed::{PRINTED, ROOTS};
 use crate::shapes::SHAPES;
-use crate::words::{NAMES, SUFFIXES, WORDS};
 
 /// The shape in which a word is printed, if it has a text.
 pub fn shape_of(word: u32) -> Option<Shape>
@@ -23,12 +23,12 @@ pub fn shape_of(word: u32) -> Option<Shape>
     )
 }
 
-/// The first of the shapes at these places in which the word is printed.
-fn first_at(shapes: &[Shape], places: &[u16], word: u32) -> Option<Shape>
-    ensures { result ≡ first_at word shapes.now places.now }
+/// The first of the shapes of these indices in which the word is printed.
+fn first_at(shapes: &[Shape], indices: &[u16], word: u32) -> Option<Shape>
+    ensures { result ≡ first_at word shapes.now indices.now }
 {
-    for place in places {
-        match printed_at(shapes, *place as usize, word) {
+    for index in indices {
+        match printed_at(shapes, *index as usize, word) {
             Some(shape) => return Some(shape),
             None => {}
         }
@@ -36,13 +36,13 @@ fn first_at(shapes: &[Shape], places: &[u16], word: u32) -> Option<Shape>
     None
 }
 
-/// The shape at a place, if the word is printed in it.
-#[tactic(auto, unfolding(crate::specs::Places::if_printed))]
-fn printed_at(shapes: &[Shape], place: usize, word: u32) -> Option<Shape>
-    ensures { result ≡ if_printed word (slice_get shapes.now place) }
+/// The shape of an index, if the word is printed in it.
+#[tactic(auto, unfolding(crate::specs::Indices::if_printed))]
+fn printed_at(shapes: &[Shape], index: usize, word: u32) -> Option<Shape>
+    ensures { result ≡ if_printed word (slice_get shapes.now index) }
 {
-    if place < shapes.len() && prints(&shapes[place], word) {
-        Some(shapes[place])
+    if index < shapes.len() && prints(&shapes[index], word) {
+        Some(shapes[index])
     } else {
         None
     }
@@ -56,37 +56,37 @@ fn prints(shape: &Shape, word: u32) -> bool
     !shape.alias && word & shape.mask == shape.value
 }
 
-/// The places from one start to the next.
-#[tactic(auto, unfolding(crate::specs::Places::part_of))]
-fn part_of<'a>(places: &'a [u16], starts: &[u16], at: usize) -> &'a [u16]
-    requires { at < 256 }
-    ensures { result.now ≡ part_of places.now starts.now at }
+/// The indices from one start to the next.
+#[tactic(auto, unfolding(crate::specs::Indices::part_of))]
+fn part_of<'a>(indices: &'a [u16], starts: &[u16], byte: usize) -> &'a [u16]
+    requires { byte < 256 }
+    ensures { result.now ≡ part_of indices.now starts.now byte }
 {
-    let start = start_at(starts, at);
-    run_of_places(
-        places,
+    let start = start_at(starts, byte);
+    run_of_indices(
+        indices,
         start,
-        start_at(starts, at + 1).saturating_sub(start),
+        start_at(starts, byte + 1).saturating_sub(start),
     )
 }
 
-/// The start at a place, and 0 past the end.
-fn start_at(starts: &[u16], at: usize) -> usize
-    ensures { result ≡ slice_index starts.now at }
+/// The start of an index, and 0 past the end.
+fn start_at(starts: &[u16], index: usize) -> usize
+    ensures { result ≡ slice_index starts.now index }
 {
-    if at < starts.len() {
-        starts[at] as usize
+    if index < starts.len() {
+        starts[index] as usize
     } else {
         0
     }
 }
 
-/// So many places, or as many as there are, from the first on.
-fn run_of_places(places: &[u16], first: usize, count: usize) -> &[u16]
-    ensures { result.now ≡ take count (drop first places.now) }
+/// So many indices, or as many as there are, from the first on.
+fn run_of_indices(indices: &[u16], first: usize, count: usize) -> &[u16]
+    ensures { result.now ≡ take count (drop first indices.now) }
 {
-    let start = first.min(places.len());
-    let rest = &places[start..];
+    let start = first.min(indices.len());
+    let rest = &indices[start..];
     &rest[..count.min(rest.len())]
 }
 
@@ -115,36 +115,36 @@ fn run_of_items(items: &[Item], first: usize, count: usize) -> &[Item]
 }
 
 /// The word of an operand.
-pub fn word_at(place: usize) -> &'static [u8]
-    ensures value { result.now ≡ text_at WORDS place }
+pub fn keyword_at(index: usize) -> &'static [u8]
+    ensures value { result.now ≡ text_at KEYWORDS index }
     ensures ascii { IsAscii result.now }
 {
-    text_at(&WORDS, place)
+    text_at(&KEYWORDS, index)
 }
 
 /// The suffix of a register of vectors, predicates or ZA.
-pub fn suffix_at(place: usize) -> &'static [u8]
-    ensures value { result.now ≡ text_at SUFFIXES place }
+pub fn suffix_at(index: usize) -> &'static [u8]
+    ensures value { result.now ≡ text_at SUFFIXES index }
     ensures ascii { IsAscii result.now }
 {
-    text_at(&SUFFIXES, place)
+    text_at(&SUFFIXES, index)
 }
 
-/// The name of an instruction.
-pub fn name_at(place: usize) -> &'static [u8]
-    ensures value { result.now ≡ text_at NAMES place }
+/// The mnemonic of an instruction.
+pub fn mnemonic_at(index: usize) -> &'static [u8]
+    ensures value { result.now ≡ text_at MNEMONICS index }
     ensures ascii { IsAscii result.now }
 {
-    text_at(&NAMES, place)
+    text_at(&MNEMONICS, index)
 }
 
-/// The text at a place of a table, and none past its end.
+/// The text of an index in a table, and none past its end.
 #[tactic(auto, unfolding(crate::specs::Texts::text_in))]
-fn text_at(texts: &[Text], place: usize) -> &[u8]
-    ensures { result.now ≡ text_at texts.now place }
+fn text_at(texts: &[Text], index: usize) -> &[u8]
+    ensures { result.now ≡ text_at texts.now index }
 {
-    if place < texts.len() {
-        let text = &texts[place];
+    if index < texts.len() {
+        let text = &texts[index];
         let length = text.length as usize;
         if length < 12 {
             &text.bytes[..length]

@@ -5,24 +5,25 @@ use crate::shapes_m_to_z::shapes_m_to_z;
 
 macro_rules! shapes {
     ($(
-        $mask:literal $value:literal $name:literal $list:ident $first:literal $count:literal $alias:literal;
+        $mask:literal $value:literal $mnemonic:literal $list:ident $first:literal $count:literal
+        $alias:literal;
     )*) => {
         [$(Shape {
-            mask: $mask, value: $value, name: $name,
+            mask: $mask, value: $value, mnemonic: $mnemonic,
             list: ItemList::$list, first: $first, count: $count, alias: $alias,
         }),*]
     };
 }
 
-// The shapes of the names from m on, after the lines given.
+// The shapes of the mnemonics from m on, after the lines given.
 macro_rules! shapes_to_z {
     ($($lines:tt)*) => { shapes_m_to_z! { shapes { $($lines)* } } };
 }
 
-/// The shapes of the texts, by name.
+/// The shapes of the texts, by mnemonic.
 pub static SHAPES: [Shape; 1073] = shapes_a_to_l! { shapes_to_z {} };
 
-/// The places of their texts, the lists of texts.rt one after another.
+/// The indices of their texts, the lists of texts.rt one after another.
 pub static ORDER: [u16; 1073] = [
     709, 130, 131, 132, 133, 0, 1, 2, 3, 24, 25, 26, 27, 272, 273, 274, 275, 276, 277, 278, 279,
     280, 281, 682, 688, 720, 765, 766, 1066, 1068, 1051, 4, 5, 6, 7, 28, 29, 30, 31, 282, 283, 284,
@@ -83,7 +84,7 @@ pub static ORDER: [u16; 1073] = [
     750, 747, 748, 1048, 1061, 725, 726,
 ];
 
-/// Where the shapes of each name begin, and the end.
+/// Where the shapes of each mnemonic begin, and the end.
 pub static STARTS: [u16; 379] = [
     0, 1, 3, 5, 28, 30, 31, 49, 50, 51, 53, 54, 55, 56, 65, 72, 76, 85, 87, 88, 89, 90, 91, 92, 93,
     94, 95, 96, 97, 98, 99, 100, 101, 102, 103, 104, 105, 107, 114, 119, 120, 121, 122, 123, 124,

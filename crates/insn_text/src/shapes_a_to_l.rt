@@ -1,7 +1,7 @@
-//! The shapes of the names from a to l, as `make_table.py` writes them.
+//! The shapes of the mnemonics from a to l, as `make_table.py` writes them.
 
-// Writes a table with the lines given and those of these shapes, by name: mask, value, the place of the
-// name, the list and the place of the operands and their number, and whether the shape is an alias.
+// Writes a table with the lines given and those of these shapes, by mnemonic: mask, value, the index of the
+// mnemonic, the list and the index of the operands and their number, and whether the shape is an alias.
 macro_rules! shapes_a_to_l {
     ($table:ident { $($lines:tt)* }) => {
         $table! {

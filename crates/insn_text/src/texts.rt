@@ -1,11 +1,11 @@
 //! The texts of the operations, a line each: whether words are printed so or the text is an alias, its
-//! name, the operation, the fields that it sets, and its operands, which hold the other fields. A set
+//! mnemonic, the operation, the fields that it sets, and its operands, which hold the other fields. A set
 //! number gives the bits of its field that no operand holds.
 //!
-//! Where a word has two texts of a name the first is printed, and of two that take the same tokens the
+//! Where a word has two texts of a mnemonic the first is printed, and of two that take the same tokens the
 //! first is read.
 use crate::item::{Setting, Text, Wording};
-use crate::names::name;
+use crate::mnemonics::mnemonic;
 use crate::operand_items::place;
 use a64_table::fields::{
     ACQUIRE, BRANCH_COND, CAS_ACQUIRE, CAS_RELEASE, HINT, HW, IMM3, IMM6, IMM7, IMM9, IMM12, IMMS,
@@ -62,7 +62,7 @@ macro_rules! in_w {
     ($other:ident) => { place!($other) };
 }
 
-// The places of the operands of these names, and 0 up to 24.
+// The indices of the operands of these names, and 0 up to 24.
 macro_rules! twenty_four {
     ($of:ident [$($done:expr),*] [$none:literal $($nones:literal)*] $name:ident $($names:ident)*) => {
         twenty_four!($of [$($done,)* $of!($name)] [$($nones)*] $($names)*)
@@ -82,7 +82,8 @@ macro_rules! four {
     };
 }
 
-// A text: what reads the names of its operands, whether it is printed, the parts of its name, and the rest.
+// A text: what reads the names of its operands, whether it is printed, the parts of its mnemonic, and the
+// rest.
 macro_rules! text {
     (
         $of:ident $kind:ident [$($name:tt)*] $group:ident($($op:tt)*) [$($set:tt)*]
@@ -90,7 +91,7 @@ macro_rules! text {
     ) => {
         Wording {
             alias: is_alias!($kind),
-            name: name!($($name)*),
+            mnemonic: mnemonic!($($name)*),
             operation: Operation::$group($($op)*),
             set: four!([] [None None None None] $($set)*),
             operands: twenty_four!(
@@ -412,7 +413,8 @@ pub static EXTENDED: [Wording<Operation>; 60] = extended! {
     alias cmp: G4(AddSub::Subs) [RD=31] (rn_sp);
 };
 
-/// The loads and stores of one register: the name, the name without a scale, and what tells the offset.
+/// The loads and stores of one register: the mnemonic, the mnemonic without a scale, and what tells the
+/// offset.
 pub static ACCESSES: [Wording<Operation>; 182] = accesses! {
     strb sturb [SIZE=0 OPC=0] (wt) imm12 amount_is_0;
     ldrb ldurb [SIZE=0 OPC=1] (wt) imm12 amount_is_0;

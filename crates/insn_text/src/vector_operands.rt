@@ -97,19 +97,19 @@ macro_rules! index {
     };
 }
 
-// A word of operands by its place.
+// A keyword of operands by its index.
 macro_rules! word {
     ($place:literal) => {
-        operand_of!(Kind::Named { first: $place, count: 1 }, scalar_fields::NONE)
+        operand_of!(Kind::Keyword { first: $place, count: 1 }, scalar_fields::NONE)
     };
 }
 
 // The item of an operand's name.
 macro_rules! vector_operand {
-    // marks
-    (brace) => { operand_of!(Kind::Mark(b'{'), scalar_fields::NONE) };
-    (brace_end) => { operand_of!(Kind::Mark(b'}'), scalar_fields::NONE) };
-    (slash) => { operand_of!(Kind::Mark(b'/'), scalar_fields::NONE) };
+    // punctuation
+    (brace) => { operand_of!(Kind::Punctuation(b'{'), scalar_fields::NONE) };
+    (brace_end) => { operand_of!(Kind::Punctuation(b'}'), scalar_fields::NONE) };
+    (slash) => { operand_of!(Kind::Punctuation(b'/'), scalar_fields::NONE) };
     // vectors
     (zd_t) => { vector!(1, by_size!(ZD)) };
     (zn_t) => { vector!(1, by_size!(ZN)) };

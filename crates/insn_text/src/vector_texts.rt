@@ -1,6 +1,6 @@
 //! The texts of the vector instructions' operations, in the form of those of texts.rt.
 use crate::item::{Setting, Text, Wording};
-use crate::names::name;
+use crate::mnemonics::mnemonic;
 use crate::operand_items::place;
 use crate::texts::{four, is_alias, text, twenty_four};
 use sm_types::{
@@ -413,7 +413,7 @@ pub static COUNTS: [Wording<Operation>; 24] = counts! {
     decb dech decw decd: G36(ElementForm::Change(true));
 };
 
-/// The texts of loads of vectors: name, DTYPE, the vector, and the shift of a register.
+/// The texts of loads of vectors: mnemonic, DTYPE, the vector, and the shift of a register.
 pub static LOADS: [Wording<Operation>; 48] = loads! {
     ld1b 0 (zd_b) ();
     ld1b 1 (zd_h) ();

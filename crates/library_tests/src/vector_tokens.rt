@@ -30,7 +30,7 @@ fn sized(file: VectorFile, number: u8, suffix: u16) -> Token {
 }
 
 fn mark(c: u8) -> Token {
-    Token::Mark(c)
+    Token::Punctuation(c)
 }
 
 fn number(size: u64) -> Token {
@@ -137,7 +137,7 @@ fn words(rt: HostRuntime) -> Result<(), Fail> {
         ("za", 58),
     ] {
         assert!(rt;
-            tokens(&rt, text)?.as_slice() == [Token::Word(place)].as_slice(),
+            tokens(&rt, text)?.as_slice() == [Token::Keyword(place)].as_slice(),
             "{text}"
         );
     }
@@ -158,7 +158,7 @@ fn a_merging_instruction(rt: HostRuntime) -> Result<(), Fail> {
         mark(b','),
         sized(VectorFile::P, 0, 0),
         mark(b'/'),
-        Token::Word(53),
+        Token::Keyword(53),
         mark(b','),
         sized(VectorFile::Z, 1, 1),
         mark(b','),
@@ -186,7 +186,7 @@ fn a_load_of_a_slice(rt: HostRuntime) -> Result<(), Fail> {
         mark(b','),
         sized(VectorFile::P, 3, 0),
         mark(b'/'),
-        Token::Word(54),
+        Token::Keyword(54),
         mark(b','),
         mark(b'['),
         Token::Register {
@@ -194,9 +194,9 @@ fn a_load_of_a_slice(rt: HostRuntime) -> Result<(), Fail> {
             number: 23,
         },
         mark(b','),
-        Token::Word(0),
+        Token::Keyword(0),
         mark(b','),
-        Token::Word(4),
+        Token::Keyword(4),
         number(3),
         mark(b']'),
     ];
@@ -208,7 +208,7 @@ fn a_load_of_a_slice(rt: HostRuntime) -> Result<(), Fail> {
 fn the_array_and_its_offset(rt: HostRuntime) -> Result<(), Fail> {
     let found = tokens(&rt, "za[w12, 3], [x0, #3, mul vl]")?;
     let want = [
-        Token::Word(58),
+        Token::Keyword(58),
         mark(b'['),
         Token::Register {
             file: RegisterFile::W,
@@ -226,8 +226,8 @@ fn the_array_and_its_offset(rt: HostRuntime) -> Result<(), Fail> {
         mark(b','),
         number(3),
         mark(b','),
-        Token::Word(55),
-        Token::Word(56),
+        Token::Keyword(55),
+        Token::Keyword(56),
         mark(b']'),
     ];
     assert!(rt; found.as_slice() == want.as_slice());

@@ -3,7 +3,7 @@ use Rattle.std.specs.Prelude.{option_map}
 use Rattle.std.proofs.lemmas.Result.{on_ok_weaker}
 use Rattle.asm_parser.specs.Statements.{target_said, value_of, Aligns, Globals, Nothing, IntoText, IntoData}
 use Rattle.asm_core.specs.Layout.{here, size_of, address_in}
-use Rattle.asm_core.specs.Assembly.{quad_number, numbers_bytes, aimed}
+use Rattle.asm_core.specs.Assembly.{quad_number, numbers_bytes, resolved}
 use Rattle.asm_core.specs.Emitted.{IsPiece, IsWordAfter}
 use Rattle.asm_core.proofs.Pieces.{adds_word, adds_quads, adds_words, adds_bytes, adds_zeros, adds_padding, adds_nothing}
 use Rattle.asm_core.proofs.emit_bytes.put_statement.Goals as goal
@@ -11,23 +11,23 @@ use Rattle.asm_core.proofs.emit_bytes.put_statement.Goals as goal
 pub put_zeros-requires : goal.put_zeros-requires
 unfolding size_of
 put_zeros-requires c =
-    let size : length c.args.bytes.now.items ≡ here c.args.place.now = c.requires.size in
-    let fits : here c.args.place.now + c.in-Zero.count ≤ 4194304 = rw c.in-Zero.is at c.requires.fits in
+    let size : length c.args.bytes.now.items ≡ here c.args.counter.now = c.requires.size in
+    let fits : here c.args.counter.now + c.in-Zero.count ≤ 4194304 = rw c.in-Zero.is at c.requires.fits in
     omega arith
 
 pub returns-in-Instruction-clause-bytes : goal.returns-in-Instruction-clause-bytes
 returns-in-Instruction-clause-bytes c = λ list knows.
     let T = c.args.addresses.now.text_size in
-    let p = c.args.place.now in
+    let p = c.args.counter.now in
     let word = c.in-Instruction.word in
     let target = option_map target_said c.in-Instruction.target in
     let from : c.address_in-from.result ≡ address_in T p.part (here p) =
     c.address_in-from.ensures.value ∙ ap (address_in T p.part) c.here.ensures in
     rw c.in-Instruction.is
     (on_ok_weaker c.put_instruction.result
-    (λ (h : IsWordAfter (aimed T list c.address_in-from.result word target) c.args.bytes.now.items c.put_instruction.new.bytes.items).
+    (λ (h : IsWordAfter (resolved T list c.address_in-from.result word target) c.args.bytes.now.items c.put_instruction.new.bytes.items).
     adds_word T list p word target c.in-Instruction.column c.args.bytes.now.items c.put_instruction.new.bytes.items
-    (subst (λ n. IsWordAfter (aimed T list n word target) c.args.bytes.now.items c.put_instruction.new.bytes.items) from h))
+    (subst (λ n. IsWordAfter (resolved T list n word target) c.args.bytes.now.items c.put_instruction.new.bytes.items) from h))
     (c.put_instruction.ensures.bytes list knows))
 
 pub returns-in-Quad-clause-bytes : goal.returns-in-Quad-clause-bytes
@@ -38,7 +38,7 @@ returns-in-Quad-clause-bytes c = λ list knows.
     rw c.in-Quad.is
     (on_ok_weaker c.put_quads.result
     (λ (e : new ≡ old ++ numbers_bytes 8 (map (quad_number T list) (map value_of c.deref.result.now))).
-    adds_quads T list c.args.place.now (map value_of c.in-Quad.values.items) old new
+    adds_quads T list c.args.counter.now (map value_of c.in-Quad.values.items) old new
     (e ∙ ap (λ x. old ++ numbers_bytes 8 (map (quad_number T list) (map value_of x))) c.deref.ensures.value))
     (c.put_quads.ensures.bytes list knows))
 
@@ -49,7 +49,7 @@ returns-in-Word-clause-bytes c = λ list knows.
     rw c.in-Word.is
     (on_ok_weaker c.put_words.result
     (λ (e : new ≡ old ++ numbers_bytes 4 c.deref-in-Word.result.now).
-    adds_words c.args.addresses.now.text_size list c.args.place.now c.in-Word.numbers.items old new
+    adds_words c.args.addresses.now.text_size list c.args.counter.now c.in-Word.numbers.items old new
     (e ∙ ap (λ x. old ++ numbers_bytes 4 x) c.deref-in-Word.ensures.value))
     c.put_words.ensures.ok)
 
@@ -60,7 +60,7 @@ returns-in-Byte-clause-bytes c = λ list knows.
     rw c.in-Byte.is
     (on_ok_weaker c.put_all.result
     (λ (e : new ≡ old ++ c.deref-in-Byte.result.now).
-    adds_bytes c.args.addresses.now.text_size list c.args.place.now c.in-Byte.numbers.items old new
+    adds_bytes c.args.addresses.now.text_size list c.args.counter.now c.in-Byte.numbers.items old new
     (e ∙ ap (λ x. old ++ x) c.deref-in-Byte.ensures.value))
     c.put_all.ensures.ok)
 
@@ -70,13 +70,13 @@ returns-in-Zero-clause-bytes c = λ list knows.
     let new = c.put_zeros.new.bytes.items in
     rw c.in-Zero.is
     (on_ok_weaker c.put_zeros.result (λ (e : new ≡ old ++ replicate c.in-Zero.count 0). adds_zeros c.args.addresses.now.text_size list
-    c.args.place.now c.in-Zero.count old new e) c.put_zeros.ensures.ok)
+    c.args.counter.now c.in-Zero.count old new e) c.put_zeros.ensures.ok)
 
 pub returns-in-Align-clause-bytes : goal.returns-in-Align-clause-bytes
 returns-in-Align-clause-bytes c = λ list knows.
     let old = c.args.bytes.now.items in
     let new = c.put_zeros-in-Align.new.bytes.items in
-    let p = c.args.place.now in
+    let p = c.args.counter.now in
     let size : c.size_of.result ≡ size_of (Aligns c.in-Align.field-0) (here p) =
     rw (c.in-Align.is, c.here-in-Align.ensures) at c.size_of.ensures.value in
     rw c.in-Align.is
@@ -88,23 +88,23 @@ returns-in-Align-clause-bytes c = λ list knows.
 pub returns-in-Empty-clause-bytes : goal.returns-in-Empty-clause-bytes
 unfolding size_of IsPiece
 returns-in-Empty-clause-bytes c =
-    λ list knows. rw c.in-Empty.is (adds_nothing c.args.addresses.now.text_size list c.args.place.now c.args.bytes.now.items Nothing refl
+    λ list knows. rw c.in-Empty.is (adds_nothing c.args.addresses.now.text_size list c.args.counter.now c.args.bytes.now.items Nothing refl
     tt)
 
 pub returns-in-Text-clause-bytes : goal.returns-in-Text-clause-bytes
 unfolding size_of IsPiece
 returns-in-Text-clause-bytes c =
-    λ list knows. rw c.in-Text.is (adds_nothing c.args.addresses.now.text_size list c.args.place.now c.args.bytes.now.items IntoText refl
+    λ list knows. rw c.in-Text.is (adds_nothing c.args.addresses.now.text_size list c.args.counter.now c.args.bytes.now.items IntoText refl
     tt)
 
 pub returns-in-Data-clause-bytes : goal.returns-in-Data-clause-bytes
 unfolding size_of IsPiece
 returns-in-Data-clause-bytes c =
-    λ list knows. rw c.in-Data.is (adds_nothing c.args.addresses.now.text_size list c.args.place.now c.args.bytes.now.items IntoData refl
+    λ list knows. rw c.in-Data.is (adds_nothing c.args.addresses.now.text_size list c.args.counter.now c.args.bytes.now.items IntoData refl
     tt)
 
 pub returns-in-Global-clause-bytes : goal.returns-in-Global-clause-bytes
 unfolding size_of IsPiece
 returns-in-Global-clause-bytes c =
-    λ list knows. rw c.in-Global.is (adds_nothing c.args.addresses.now.text_size list c.args.place.now c.args.bytes.now.items
+    λ list knows. rw c.in-Global.is (adds_nothing c.args.addresses.now.text_size list c.args.counter.now c.args.bytes.now.items
     (Globals c.in-Global.field-0.now) refl tt)

@@ -4,8 +4,8 @@ use Rattle.asm_core.proofs.HasWords.{line_word}
 use Rattle.asm_core.proofs.Accepted.{fine_fits, fits_here}
 use Rattle.asm_core.proofs.emit_lines.emit_line.Goals as goal
 
-pub place_after-requires-clause-align : goal.place_after-requires-clause-align
-place_after-requires-clause-align c = small_align c.args.text.now (line_said c.in-Ok.line) c.in-Ok.ensures.ok
+pub counter_after-requires-clause-align : goal.counter_after-requires-clause-align
+counter_after-requires-clause-align c = small_align c.args.text.now (line_said c.in-Ok.line) c.in-Ok.ensures.ok
 
 pub put_line-requires-clause-align : goal.put_line-requires-clause-align
 put_line-requires-clause-align c = small_align c.args.text.now (line_said c.in-Ok.line) c.in-Ok.ensures.ok
@@ -15,8 +15,8 @@ put_line-requires-clause-has_word c = line_word c.args.text.now (line_said c.in-
 
 pub put_line-requires-clause-fits : goal.put_line-requires-clause-fits
 put_line-requires-clause-fits c =
-    fits_here c.args.emission.now.place (line_said c.in-Ok.line).says
-    (fine_fits c.args.emission.now.place c.args.text.now (line_said c.in-Ok.line) c.requires.fine c.in-Ok.ensures.ok)
+    fits_here c.args.emission.now.counter (line_said c.in-Ok.line).says
+    (fine_fits c.args.emission.now.counter c.args.text.now (line_said c.in-Ok.line) c.requires.fine c.in-Ok.ensures.ok)
 
 pub text_is-emission-requires : goal.text_is-emission-requires
 text_is-emission-requires c = small_align c.args.text.now (line_said c.in-Ok.line) c.in-Ok.ensures.ok

@@ -5,7 +5,7 @@ use Rattle.asm_core.proofs.lines.line_length.Goals as goal
 
 pub returns-in-Some-clause-value : goal.returns-in-Some-clause-value
 returns-in-Some-clause-value c =
-    found_length (position_or_len (λ c. c == 10) c.args.text.now) (length c.args.text.now) c.in-Some.at c.in-Some.ensures
+    found_length (position_or_len (λ c. c == 10) c.args.text.now) (length c.args.text.now) c.in-Some.offset c.in-Some.ensures
 
 pub returns-in-None-clause-value : goal.returns-in-None-clause-value
 returns-in-None-clause-value c =

@@ -6,8 +6,8 @@ use Rattle.asm_operands.proofs.faults.furthest.Goals as goal
 pub loop-shape-preserved : goal.loop-shape-preserved
 loop-shape-preserved c =
     ap (λ n. max n (furthest (drop (c.loop-shape.shape-index + 1) c.args.shapes.now) c.args.tokens.now)) c.max-most.ensures
-    ∙ furthest-step c.args.shapes.now c.args.tokens.now c.loop-shape.shape-index c.loop-shape.most c.reach_in.result _ _
-    c.loop-shape-test.true c.reach_in.ensures c.loop-shape.invariant
+    ∙ furthest-step c.args.shapes.now c.args.tokens.now c.loop-shape.shape-index c.loop-shape.most c.taken_count_in.result _ _
+    c.loop-shape-test.true c.taken_count_in.ensures c.loop-shape.invariant
 
 pub returns : goal.returns
 returns c =

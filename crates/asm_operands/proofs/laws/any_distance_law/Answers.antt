@@ -1,5 +1,5 @@
-use Rattle.asm_operands.proofs.Aimed.{aimed-means}
+use Rattle.asm_operands.proofs.AnyDistance.{resolved-means}
 use Rattle.asm_operands.proofs.laws.any_distance_law.Goals as goal
 
 pub returns : goal.returns
-returns c = aimed-means
+returns c = resolved-means

@@ -1,5 +1,5 @@
-use Rattle.asm_operands.proofs.GoesOn.{goes-on}
-use Rattle.asm_operands.proofs.Stops.{stops}
+use Rattle.asm_operands.proofs.Completions.{goes-on}
+use Rattle.asm_operands.proofs.FaultStops.{stops}
 use Rattle.asm_operands.proofs.laws.first_fault_law.Goals as goal
 
 pub returns-clause-goes_on : goal.returns-clause-goes_on

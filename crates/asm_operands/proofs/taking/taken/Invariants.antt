@@ -1,7 +1,8 @@
 use Rattle.std.proofs.Common.{◌≡◌, drop}
 use Rattle.asm_operands.specs.Operands.{taken}
-use Rattle.asm_operands.specs.Views.{known_of}
+use Rattle.asm_operands.specs.Views.{partial_of}
 use Rattle.asm_operands.proofs.taking.taken.Given as goal
 
-abbrev pub invariant-loop-at : goal.invariant-loop-at
-invariant-loop-at l = taken (drop l.at l.items) (known_of l.known) (drop l.at l.tokens) ≡ taken l.items (known_of l.fn.known) l.tokens
+abbrev pub invariant-loop-index : goal.invariant-loop-index
+invariant-loop-index l =
+    taken (drop l.index l.items) (partial_of l.partial) (drop l.index l.tokens) ≡ taken l.items (partial_of l.fn.partial) l.tokens

@@ -6,7 +6,7 @@ use Rattle.asm_parser.proofs.instructions.first_tokens.Given as goal
 abbrev pub invariant-loop-count : goal.invariant-loop-count
 invariant-loop-count l = record {
   so_far : l.tokens.items ++ take (24 - l.count) (tokens_of (lexemes_from l.text l.from))
-      ≡ take 24 (tokens_of (lexemes_from l.text l.fn.at));
+      ≡ take 24 (tokens_of (lexemes_from l.text l.fn.offset));
   taken : length l.tokens.items ≡ l.count;
   within : l.from ≤ length l.text;
 }

@@ -4,6 +4,6 @@ use Rattle.asm_parser.proofs.instructions.lexeme_after.Given as goal
 
 abbrev pub invariant-loop-skipped : goal.invariant-loop-skipped
 invariant-loop-skipped l = record {
-  so_far : slice_get (lexemes_from l.text l.from) (l.count - l.skipped) ≡ slice_get (lexemes_from l.text l.fn.at) l.count;
+  so_far : slice_get (lexemes_from l.text l.from) (l.count - l.skipped) ≡ slice_get (lexemes_from l.text l.fn.offset) l.count;
   within : l.from ≤ length l.text;
 }

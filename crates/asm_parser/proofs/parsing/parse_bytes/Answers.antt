@@ -12,10 +12,10 @@ pub returns-in-Err-clause-err : goal.returns-in-Err-clause-err
 returns-in-Err-clause-err c =
     line-err c.args.line.now c.before_comment-text.result.now _ c.label_of-label.result.end c.before_comment-text.ensures
     c.label_of-label.ensures.name c.label_of-label.ensures.end
-    c.in-Err.stop c.fault_of.result c.fault_of.ensures c.in-Err.ensures.said
+    c.in-Err.fault c.fault_of.result c.fault_of.ensures c.in-Err.ensures.said
 
 pub returns-in-Err-clause-memory : goal.returns-in-Err-clause-memory
 returns-in-Err-clause-memory c =
     line-memory c.args.line.now c.before_comment-text.result.now _ c.label_of-label.result.end c.before_comment-text.ensures
     c.label_of-label.ensures.name c.label_of-label.ensures.end
-    c.in-Err.stop c.fault_of.result c.fault_of.ensures c.in-Err.ensures.memory
+    c.in-Err.fault c.fault_of.result c.fault_of.ensures c.in-Err.ensures.memory

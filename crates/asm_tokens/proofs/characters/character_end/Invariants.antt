@@ -4,4 +4,4 @@ use Rattle.asm_tokens.proofs.characters.character_end.Given as goal
 
 abbrev pub invariant-loop-end : goal.invariant-loop-end
 invariant-loop-end l =
-    l.end + length (front is_continuation (drop l.end l.text)) ≡ l.fn.at + length (front is_continuation (drop l.fn.at l.text))
+    l.end + length (front is_continuation (drop l.end l.text)) ≡ l.fn.offset + length (front is_continuation (drop l.fn.offset l.text))

@@ -3,15 +3,16 @@ use Rattle.std.proofs.Math.Seq.{take-length}
 use Rattle.asm_tokens.proofs.Steps.{comment-more, comment-here, comment-end}
 use Rattle.asm_tokens.proofs.characters.cut_comment.Goals as goal
 
-pub loop-at-preserved : goal.loop-at-preserved
-loop-at-preserved c = comment-more c.args.line.now _ c.loop-at.at c.loop-at-test.true c.if-starts_comment.ensures c.loop-at.invariant
+pub loop-offset-preserved : goal.loop-offset-preserved
+loop-offset-preserved c =
+    comment-more c.args.line.now _ c.loop-offset.offset c.loop-offset-test.true c.if-starts_comment.ensures c.loop-offset.invariant
 
 pub returns-then-starts_comment : goal.returns-then-starts_comment
 returns-then-starts_comment c =
-    comment-here c.args.line.now _ c.loop-at.at c.loop-at-test.true c.if-starts_comment.ensures c.loop-at.invariant
+    comment-here c.args.line.now _ c.loop-offset.offset c.loop-offset-test.true c.if-starts_comment.ensures c.loop-offset.invariant
 
 pub returns : goal.returns
 returns c =
-    let e : c.loop-at.at ≡ length c.args.line.now = omega arith in
+    let e : c.loop-offset.offset ≡ length c.args.line.now = omega arith in
     sym (take-length c.args.line.now) ∙ ap (λ (n : ℕ). take n c.args.line.now) (sym e)
-    ∙ comment-end c.args.line.now _ c.loop-at.at (omega arith) c.loop-at.invariant
+    ∙ comment-end c.args.line.now _ c.loop-offset.offset (omega arith) c.loop-offset.invariant

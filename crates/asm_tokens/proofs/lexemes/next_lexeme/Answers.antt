@@ -7,8 +7,8 @@ use Rattle.asm_tokens.proofs.lexemes.next_lexeme.Goals as goal
 pub returns-then-start-text-clause-first : goal.returns-then-start-text-clause-first
 returns-then-start-text-clause-first c =
     let P : Lexeme → Type 0 =
-    λ l. lexemes_of c.args.at (drop c.args.at c.args.text.now) ≡ l ∷ lexemes_of l.end (drop l.end c.args.text.now) in
-    subst P (sym c.lexeme_at.ensures.value) (lexemes-some c.args.text.now c.args.at c.skip_blanks-start.result
+    λ l. lexemes_of c.args.offset (drop c.args.offset c.args.text.now) ≡ l ∷ lexemes_of l.end (drop l.end c.args.text.now) in
+    subst P (sym c.lexeme_at.ensures.value) (lexemes-some c.args.text.now c.args.offset c.skip_blanks-start.result
     c.skip_blanks-start.ensures.value c.if-start-text.true)
 
 pub returns-then-start-text-clause-some : goal.returns-then-start-text-clause-some
@@ -19,4 +19,4 @@ returns-then-start-text-clause-some c =
 
 pub returns-else-start-text-clause-first : goal.returns-else-start-text-clause-first
 returns-else-start-text-clause-first c =
-    lexemes-none c.args.text.now c.args.at c.skip_blanks-start.result c.skip_blanks-start.ensures.value c.if-start-text.false
+    lexemes-none c.args.text.now c.args.offset c.skip_blanks-start.result c.skip_blanks-start.ensures.value c.if-start-text.false

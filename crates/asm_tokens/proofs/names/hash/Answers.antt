@@ -2,16 +2,18 @@ use Rattle.std.proofs.Common.{◌≤◌, length, sym, ◌∙◌, arith}
 use Rattle.asm_tokens.proofs.Steps.{hash-more, hash-end}
 use Rattle.asm_tokens.proofs.names.hash.Goals as goal
 
-pub loop-at-preserved : goal.loop-at-preserved
-loop-at-preserved c = record {
-  way = sym (hash-more c.args.factor c.args.size c.loop-at.hash c.args.text.now c.loop-at.at c.loop-at-test.true) ∙ c.loop-at.invariant.way;
+pub loop-offset-preserved : goal.loop-offset-preserved
+loop-offset-preserved c = record {
+  way = sym (hash-more c.args.factor c.args.size c.loop-offset.hash c.args.text.now c.loop-offset.offset c.loop-offset-test.true)
+      ∙ c.loop-offset.invariant.way;
   below = omega arith;
 }
 
 pub returns : goal.returns
 returns c =
-    let le : length c.args.text.now ≤ c.loop-at.at = omega arith in
+    let le : length c.args.text.now ≤ c.loop-offset.offset = omega arith in
     record {
-      value = sym (hash-end c.args.factor c.args.size c.loop-at.hash c.args.text.now c.loop-at.at le) ∙ c.loop-at.invariant.way;
-      small = c.loop-at.invariant.below;
+      value =
+          sym (hash-end c.args.factor c.args.size c.loop-offset.hash c.args.text.now c.loop-offset.offset le) ∙ c.loop-offset.invariant.way;
+      small = c.loop-offset.invariant.below;
     }

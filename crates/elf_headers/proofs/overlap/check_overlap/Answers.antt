@@ -1,6 +1,6 @@
 use Rattle.std.proofs.Common.{◌≡◌, ◌<◌, Some, arith, rules}
 use Rattle.elf_headers.specs.Below.{first_below}
-use Rattle.elf_headers.specs.Header.{segment_count}
+use Rattle.elf_headers.specs.Header.{program_header_count}
 use Rattle.elf_headers.specs.Loads.{overlap_at, overlap_fault}
 use Rattle.elf_headers.proofs.Below.{first_below-none, first_below-found}
 use Rattle.elf_headers.proofs.Apart.{rows_clear}
@@ -12,9 +12,9 @@ loop-i-init c = rows_clear c.args.file.now c.args.spans.now _ c.requires.all c.l
 pub returns-in_err-check_pairs_of : goal.returns-in_err-check_pairs_of
 unfolding overlap_fault
 returns-in_err-check_pairs_of c =
-    let below : c.loop-i.i < segment_count c.args.file.now = omega arith in
-    let found : first_below (λ i. first_below (overlap_at c.args.file.now i) (segment_count c.args.file.now))
-    (segment_count c.args.file.now) ≡ Some c.in_err-check_pairs_of.field-0.0 =
+    let below : c.loop-i.i < program_header_count c.args.file.now = omega arith in
+    let found : first_below (λ i. first_below (overlap_at c.args.file.now i) (program_header_count c.args.file.now))
+    (program_header_count c.args.file.now) ≡ Some c.in_err-check_pairs_of.field-0.0 =
     first_below-found _ _ _ _ c.loop-i.invariant c.in_err-check_pairs_of.ensures below in
     search rules
 

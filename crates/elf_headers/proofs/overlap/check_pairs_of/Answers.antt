@@ -1,6 +1,6 @@
 use Rattle.std.proofs.Common.{◌≡◌, ◌<◌, Some, arith, rules}
 use Rattle.elf_headers.specs.Below.{first_below}
-use Rattle.elf_headers.specs.Header.{segment_count}
+use Rattle.elf_headers.specs.Header.{program_header_count}
 use Rattle.elf_headers.specs.Loads.{overlap_at}
 use Rattle.elf_headers.proofs.Below.{first_below-none, first_below-found}
 use Rattle.elf_headers.proofs.Apart.{row_begins}
@@ -11,8 +11,9 @@ loop-j-init c = row_begins _ _
 
 pub returns-in_err-check_pair : goal.returns-in_err-check_pair
 returns-in_err-check_pair c =
-    let below : c.loop-j.j < segment_count c.args.file.now = omega arith in
-    let found : first_below (overlap_at c.args.file.now c.args.i) (segment_count c.args.file.now) ≡ Some c.in_err-check_pair.field-0.0 =
+    let below : c.loop-j.j < program_header_count c.args.file.now = omega arith in
+    let found : first_below (overlap_at c.args.file.now c.args.i) (program_header_count c.args.file.now)
+    ≡ Some c.in_err-check_pair.field-0.0 =
     first_below-found _ _ _ _ c.loop-j.invariant c.in_err-check_pair.ensures below in
     search rules
 

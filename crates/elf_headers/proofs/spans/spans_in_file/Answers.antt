@@ -1,6 +1,6 @@
 use Rattle.std.proofs.Common.{◌≡◌, ◌∙◌, sym, ap, arith, List, [], ◌∷◌, ◌++◌}
 use Rattle.elf_headers.specs.declared.spans.Span.{Span}
-use Rattle.elf_headers.specs.Header.{segment_count}
+use Rattle.elf_headers.specs.Header.{program_header_count}
 use Rattle.elf_headers.specs.Spans.{span_at, spans_of}
 use Rattle.elf_headers.proofs.Below.{answers_below-zero, answers_below-none, answers_below-some}
 use Rattle.elf_headers.proofs.spans.spans_in_file.Goals as goal
@@ -21,4 +21,4 @@ loop-header-preserved c = elim c.match-span_of.branch [
 
 pub returns : goal.returns
 unfolding spans_of
-returns c = let all : c.loop-header.header ≡ segment_count c.args.file.now = omega arith in rw (← all) c.loop-header.invariant
+returns c = let all : c.loop-header.header ≡ program_header_count c.args.file.now = omega arith in rw (← all) c.loop-header.invariant

@@ -30,11 +30,11 @@ returns-in_err-check_sections-clause-refused c =
     c.in_err-check_sections.ensures in
     search rules
 
-pub returns-in-Ok-code_of-clause-accepted : goal.returns-in-Ok-code_of-clause-accepted
-returns-in-Ok-code_of-clause-accepted c =
+pub returns-clause-accepted : goal.returns-clause-accepted
+returns-clause-accepted c =
     section_refused c.args.file.now None (sym c.has_section_table.ensures ∙ c.if-not-has_section_table.false)
     c.in_ok-check_section_table.ensures.tells c.in_ok-check_sections.ensures
 
-pub returns-in-Ok-code_of-clause-code : goal.returns-in-Ok-code_of-clause-code
-returns-in-Ok-code_of-clause-code c =
-    c.in-Ok-code_of.ensures ∙ all_code c.args.file.now (sym c.has_section_table.ensures ∙ c.if-not-has_section_table.false)
+pub returns-clause-code : goal.returns-clause-code
+returns-clause-code c =
+    c.in_ok-code.ensures ∙ all_code c.args.file.now (sym c.has_section_table.ensures ∙ c.if-not-has_section_table.false)

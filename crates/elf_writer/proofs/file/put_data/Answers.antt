@@ -7,6 +7,6 @@ pub returns : goal.returns
 unfolding data_part
 returns c =
     appended_last c.put_zeros.result c.put_zeros.new.out.items c.extend_from_slice.new.self.items c.args.out.now.items c.args.bytes.now
-    (replicate (c.symbols_place.result - (c.data_place.result + c.args.layout.now.data_size)) 0)
+    (replicate (c.symbols_offset.result - (c.data_offset.result + c.args.layout.now.data_size)) 0)
     (data_part c.args.layout.now c.args.bytes.now) c.in_ok-extend_from_slice.ensures.items
-    (rw (c.symbols_place.ensures.place, c.data_place.ensures.place) refl) c.put_zeros.ensures
+    (rw (c.symbols_offset.ensures.offset, c.data_offset.ensures.offset) refl) c.put_zeros.ensures

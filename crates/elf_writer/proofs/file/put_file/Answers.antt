@@ -8,8 +8,8 @@ unfolding file_bytes
 returns c =
     appended_last c.put_symbols.result c.put_symbols.new.out.items c.put_data.new.out.items c.args.out.now.items
     ((front_bytes c.args.layout.now ++ text_part c.args.layout.now c.as_slice.result.now)
-    ++ data_part c.args.layout.now c.as_slice-2.result.now) (symbols_bytes c.args.marks.now)
-    (file_bytes c.args.layout.now c.args.object.now.text_bytes.items c.args.object.now.data_bytes.items c.args.marks.now)
+    ++ data_part c.args.layout.now c.as_slice-2.result.now) (symbols_bytes c.args.mappings.now)
+    (file_bytes c.args.layout.now c.args.object.now.text_bytes.items c.args.object.now.data_bytes.items c.args.mappings.now)
     (appended c.put_data.new.out.items c.put_text.new.out.items c.args.out.now.items
     (front_bytes c.args.layout.now ++ text_part c.args.layout.now c.as_slice.result.now)
     (data_part c.args.layout.now c.as_slice-2.result.now)
@@ -18,4 +18,4 @@ returns c =
     c.in_ok-put_data.ensures)
     (rw (c.as_slice.ensures.value, c.as_slice-2.ensures.value)
     (file_joined (front_bytes c.args.layout.now) (text_part c.args.layout.now c.args.object.now.text_bytes.items)
-    (data_part c.args.layout.now c.args.object.now.data_bytes.items) (symbols_bytes c.args.marks.now))) c.put_symbols.ensures
+    (data_part c.args.layout.now c.args.object.now.data_bytes.items) (symbols_bytes c.args.mappings.now))) c.put_symbols.ensures

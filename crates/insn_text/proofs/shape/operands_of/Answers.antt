@@ -2,7 +2,7 @@ use Rattle.std.proofs.Common.{◌≡◌, ◌∙◌, ap, take, drop, true, List, 
 use Rattle.std.specs.List.{list_all}
 use Rattle.insn_text.specs.declared.item.Item.{Item}
 use Rattle.insn_text.specs.declared.item.ItemList.TheVariants as list
-use Rattle.insn_text.specs.Places.{is_sized}
+use Rattle.insn_text.specs.Indices.{is_sized}
 use Rattle.insn_text.specs.Texts.{items_in, items_of}
 use Rattle.insn_text.proofs.Tables.{sized_run}
 use Rattle.insn_text.proofs.shape.operands_of.Goals as goal

@@ -4,4 +4,5 @@ use Rattle.asm_core.proofs.labels.Labels.add.Goals as goal
 
 pub returns-in-Ok : goal.returns-in-Ok
 returns-in-Ok c =
-    λ other. hash_map_updates_str c.args.name.now c.args.self.now.places c.insert.new.self (Some c.args.place) c.in-Ok.ensures.updates other
+    λ other. hash_map_updates_str c.args.name.now c.args.self.now.positions c.insert.new.self (Some c.args.position) c.in-Ok.ensures.updates
+    other

@@ -1,0 +1,356 @@
+-- What the mapping symbols of a source's lines say of each byte of its text: whether an instruction put it.
+use Rattle.std.proofs.Common.{◌≡◌, ℕ, suc, ◌+◌, ◌<◌, ◌≤◌, ◌⊎◌, inl, inr, Bool, true, false, not, cond, ◌&&◌, List, [], ◌∷◌, ◌++◌, take, map}
+use Rattle.std.proofs.Common.{Option, Some, None, nat_lt, nat_le, refl, sym, ap, ◌∙◌, subst, arith}
+use Rattle.std.specs.Prelude.{slice_get, is_none}
+use Rattle.std.specs.List.{filter_map, cons_option}
+use Rattle.std.proofs.lemmas.Bool.Decides.{nat_tests}
+use Rattle.sm_types.specs.declared.object.Section.{Section}
+use Rattle.sm_types.specs.declared.object.Section.TheVariants.{Text, Data}
+use Rattle.sm_types.specs.declared.object.Symbol.{Symbol}
+use Rattle.sm_types.specs.Objects.{text_address, Mapping, mapping_at, says_in, name_says, symbol_says, mapping_of, mappings_of}
+use Rattle.sm_types.specs.Objects.{later_mapping, governing_mapping, mapping_says_code}
+use Rattle.asm_parser.specs.Statements.{Says, SourceLine}
+use Rattle.asm_core.specs.declared.location_counter.LocationCounter.{LocationCounter}
+use Rattle.asm_core.specs.Layout.{here_in, here, grown_in, size_of, counter_after, counter_past, address_in, address_here}
+use Rattle.asm_core.specs.Assembly.{SymbolSaid, symbol_said, label_symbol, is_instruction, fills_in, fills_text, text_is, is_same}
+use Rattle.asm_core.specs.Assembly.{mapping_name, mapping_symbol, symbols_from}
+
+-- ---- from symbols to mapping symbols
+
+abbrev pub mapping_said : SymbolSaid → Option Mapping
+mapping_said s = mapping_at s.address (says_in s.section (name_says s.name))
+
+of_said : (s : Symbol) → mapping_of s ≡ mapping_said (symbol_said s)
+unfolding symbol_says
+of_said s = refl
+
+mapped_said : (symbols : List Symbol) → filter_map mapping_of symbols ≡ filter_map mapping_said (map symbol_said symbols)
+mapped_said [] = refl
+mapped_said (s ∷ symbols) = λ i. cons_option (of_said s i) (mapped_said symbols i)
+
+pub mappings_said : (symbols : List Symbol) → mappings_of symbols ≡ filter_map mapping_said (map symbol_said symbols)
+unfolding mappings_of
+mappings_said symbols = mapped_said symbols
+
+cons_join : (o : Option Mapping) (xs ys : List Mapping) → cons_option o xs ++ ys ≡ cons_option o (xs ++ ys)
+cons_join None xs ys = refl
+cons_join (Some m) xs ys = refl
+
+mapped_join : (xs ys : List SymbolSaid) → filter_map mapping_said (xs ++ ys) ≡ filter_map mapping_said xs ++ filter_map mapping_said ys
+mapped_join [] ys = refl
+mapped_join (x ∷ xs) ys =
+    ap (cons_option (mapping_said x)) (mapped_join xs ys)
+    ∙ sym (cons_join (mapping_said x) (filter_map mapping_said xs) (filter_map mapping_said ys))
+
+-- the mapping symbol of a line: where the text changes between code and data with it
+abbrev mapping_if : Bool → ℕ → Bool → List Mapping
+mapping_if true address code = record { address = address; code = code } ∷ []
+mapping_if false address code = []
+
+abbrev line_mapping : LocationCounter → Says → Option Bool → List Mapping
+line_mapping p says before =
+    mapping_if (fills_text p says && not (is_same before (is_instruction says))) (text_address + p.text_size) (is_instruction says)
+
+-- the mapping symbols of lines, the first of which stands at a location counter
+unfoldable pub mappings_from : LocationCounter → Option Bool → List SourceLine → List Mapping
+mappings_from p before [] = []
+mappings_from p before (line ∷ lines) =
+    line_mapping p line.says before ++ mappings_from (counter_after p line.says) (text_is p line.says before) lines
+
+-- a label that has a symbol is no mapping symbol
+no_mapping : (section : Section) (address : ℕ) (o : Option Bool) → is_none o ≡ true → mapping_at address (says_in section o) ≡ None
+no_mapping Text address None e = refl
+no_mapping Data address None e = refl
+no_mapping section address (Some b) e = cc
+
+no_label_mapping : (tl : ℕ) (p : LocationCounter) (label : Option (List ℕ)) → filter_map mapping_said (label_symbol tl p label) ≡ []
+unfolding label_symbol
+no_label_mapping tl p None = refl
+no_label_mapping tl p (Some name) =
+    elim (is_none (name_says name)) as (λ b. is_none (name_says name) ≡ b
+    → filter_map mapping_said (cond b (record { name = name; address = address_here tl p; section = p.part } ∷ []) []) ≡ []) [
+      | true ↦ λ e. ap (λ o. cons_option o []) (no_mapping p.part (address_here tl p) (name_says name) e)
+      | false ↦ λ e. refl
+    ] refl
+
+named_mapping : (address : ℕ) (code : Bool)
+    → mapping_at address (name_says (mapping_name code)) ≡ Some (record { address = address; code = code })
+named_mapping address true = refl
+named_mapping address false = refl
+
+text_mapping : (b : Bool) (address : ℕ) (code : Bool)
+    → filter_map mapping_said (cond b (record { name = mapping_name code; address = address; section = Text } ∷ []) [])
+    ≡ mapping_if b address code
+text_mapping true address code = ap (λ o. cons_option o []) (named_mapping address code)
+text_mapping false address code = refl
+
+symbol_mapping_in : (part : Section) (tl : ℕ) (p : LocationCounter) (size : ℕ) (c code : Bool)
+    → filter_map mapping_said (cond (fills_in part size && c)
+    (record { name = mapping_name code; address = address_in tl part (here_in part p); section = part } ∷ []) [])
+    ≡ mapping_if (fills_in part size && c) (text_address + p.text_size) code
+symbol_mapping_in Text tl p size c code = text_mapping (fills_in Text size && c) (text_address + p.text_size) code
+symbol_mapping_in Data tl p size c code = refl
+
+symbol_mapping : (tl : ℕ) (p : LocationCounter) (says : Says) (before : Option Bool)
+    → filter_map mapping_said (mapping_symbol tl p says before) ≡ line_mapping p says before
+unfolding mapping_symbol fills_text
+symbol_mapping tl p says before =
+    symbol_mapping_in p.part tl p (size_of says (here p)) (not (is_same before (is_instruction says))) (is_instruction says)
+
+-- the mapping symbols of a source's symbols are those of its lines
+pub line_mappings_said : (tl : ℕ) (p : LocationCounter) (before : Option Bool) (lines : List SourceLine)
+    → filter_map mapping_said (symbols_from tl p before lines) ≡ mappings_from p before lines
+unfolding symbols_from mappings_from
+line_mappings_said tl p before [] = refl
+line_mappings_said tl p before (line ∷ lines) =
+    mapped_join (label_symbol tl p line.label) _
+    ∙ ap (λ ms. ms ++ filter_map mapping_said
+    (mapping_symbol tl p line.says before ++ symbols_from tl (counter_after p line.says) (text_is p line.says before) lines))
+    (no_label_mapping tl p line.label)
+    ∙ mapped_join (mapping_symbol tl p line.says before) _
+    ∙ (λ i. symbol_mapping tl p line.says before i ++ line_mappings_said tl (counter_after p line.says) (text_is p line.says before) lines
+    i)
+
+-- ---- how the text grows
+
+grows_in : (part : Section) (p : LocationCounter) (size : ℕ) → p.text_size ≤ (grown_in part p size).text_size
+grows_in Text p size = omega arith
+grows_in Data p size = omega arith
+
+text_grows : (p : LocationCounter) (says : Says) → p.text_size ≤ (counter_after p says).text_size
+unfolding counter_after
+text_grows p says = grows_in p.part p (size_of says (here p))
+
+positive : (n : ℕ) → nat_lt 0 n ≡ true → 0 < n
+positive n e = grind (arith, nat_tests)
+
+nothing : (n : ℕ) → nat_lt 0 n ≡ false → n ≡ 0
+nothing n e = grind (arith, nat_tests)
+
+-- a line that fills the text stands in it
+record Fills (p : LocationCounter) (says : Says) : Type 0 where
+  in_text : p.part ≡ Text
+  grown : (counter_after p says).text_size ≡ p.text_size + size_of says (here p)
+
+fills_part : (part : Section) (size : ℕ) → fills_in part size ≡ true → part ≡ Text
+fills_part Text size e = refl
+fills_part Data size e = cc
+
+filled_in : (part : Section) (p : LocationCounter) (size : ℕ) → part ≡ Text → (grown_in part p size).text_size ≡ p.text_size + size
+filled_in Text p size e = refl
+filled_in Data p size e = cc
+
+filled : (p : LocationCounter) (says : Says) → fills_text p says ≡ true → Fills p says
+unfolding fills_text counter_after
+filled p says e =
+    let t = fills_part p.part (size_of says (here p)) e in record { in_text = t; grown = filled_in p.part p (size_of says (here p)) t }
+
+unfilled_in : (part : Section) (p : LocationCounter) (size : ℕ) → fills_in part size ≡ false
+    → (grown_in part p size).text_size ≡ p.text_size
+unfilled_in Text p size e = let z : size ≡ 0 = nothing size e in omega arith
+unfilled_in Data p size e = refl
+
+unfilled : (p : LocationCounter) (says : Says) → fills_text p says ≡ false → (counter_after p says).text_size ≡ p.text_size
+unfolding fills_text counter_after
+unfilled p says e = unfilled_in p.part p (size_of says (here p)) e
+
+-- ---- which mapping symbol governs
+
+above_no : (m a : ℕ) → a < m → nat_le m a ≡ false
+above_no m a l = grind (arith, nat_tests)
+
+below_yes : (m a : ℕ) → m ≤ a → nat_le m a ≡ true
+below_yes m a l = grind (arith, nat_tests)
+
+-- a mapping symbol past an address says nothing of it
+passed_over : (a : ℕ) (best : Option Mapping) (m : Mapping) → a < m.address → later_mapping a best m ≡ best
+passed_over a None m l = rw (above_no m.address a l) refl
+passed_over a (Some b) m l = rw (above_no m.address a l) refl
+
+over_mapping : (a : ℕ) (best : Option Mapping) (b : Bool) (address : ℕ) (code : Bool) (rest : List Mapping) → a < address
+    → governing_mapping a best (mapping_if b address code ++ rest) ≡ governing_mapping a best rest
+over_mapping a best true address code rest l =
+    ap (λ o. governing_mapping a o rest) (passed_over a best (record { address = address; code = code }) l)
+over_mapping a best false address code rest l = refl
+
+-- the mapping symbols of later lines say nothing of an address before them
+later_mappings : (lines : List SourceLine) (p : LocationCounter) (before : Option Bool) (best : Option Mapping) (a : ℕ)
+    → a < text_address + p.text_size
+    → governing_mapping a best (mappings_from p before lines) ≡ best
+unfolding mappings_from
+later_mappings [] p before best a l = refl
+later_mappings (line ∷ lines) p before best a l =
+    over_mapping a best (fills_text p line.says && not (is_same before (is_instruction line.says))) (text_address + p.text_size)
+    (is_instruction line.says) (mappings_from (counter_after p line.says) (text_is p line.says before) lines) l
+    ∙ later_mappings lines (counter_after p line.says) (text_is p line.says before) best a (let g = text_grows p line.says in omega arith)
+
+-- the mapping symbol so far agrees with what the text is so far
+abbrev Agrees : Option Bool → Option Mapping → ℕ → Type 0
+Agrees None best limit = best ≡ None
+Agrees (Some code) best limit = (m : Mapping) × (best ≡ Some m) × (m.code ≡ code) × (m.address ≤ limit)
+
+agrees_further : (before : Option Bool) (best : Option Mapping) (m n : ℕ) → m ≤ n → Agrees before best m → Agrees before best n
+agrees_further None best m n l h = h
+agrees_further (Some code) best m n l h = let low : h.0.address ≤ m = h.3 in (h.0, h.1, h.2, omega arith)
+
+same_code : (before : Option Bool) (code : Bool) → is_same before code ≡ true → before ≡ Some code
+same_code None code e = cc
+same_code (Some true) true e = refl
+same_code (Some true) false e = cc
+same_code (Some false) true e = cc
+same_code (Some false) false e = refl
+
+-- a mapping symbol at an address that is not below those so far governs what follows
+taken_mapping : (a address : ℕ) (code : Bool) (before : Option Bool) (best : Option Mapping) → Agrees before best address → address ≤ a
+    → later_mapping a best (record { address = address; code = code }) ≡ Some (record { address = address; code = code })
+taken_mapping a address code None best h l =
+    ap (λ o. later_mapping a o (record { address = address; code = code })) h ∙ rw (below_yes address a l) refl
+taken_mapping a address code (Some c) best h l =
+    ap (λ o. later_mapping a o (record { address = address; code = code })) h.1
+    ∙ rw (below_yes address a l, below_yes h.0.address address h.3) refl
+
+-- the mapping symbol that governs once a line has filled the text agrees with it
+record Mapped (a : ℕ) (best : Option Mapping) (mappings rest : List Mapping) (code : Bool) (limit : ℕ) : Type 0 where
+  now : Option Mapping
+  agrees : Agrees (Some code) now limit
+  governs : governing_mapping a best (mappings ++ rest) ≡ governing_mapping a now rest
+
+mapped : (a address : ℕ) (code : Bool) (before : Option Bool) (best : Option Mapping) (rest : List Mapping) (same : Bool)
+    → is_same before code ≡ same → Agrees before best address → address ≤ a
+    → Mapped a best (mapping_if (not same) address code) rest code address
+mapped a address code before best rest true e h l =
+    record { now = best; agrees = subst (λ (o : Option Bool). Agrees o best address) (same_code before code e) h; governs = refl }
+mapped a address code before best rest false e h l = record {
+  now = Some (record { address = address; code = code });
+  agrees = (record { address = address; code = code }, refl, refl, omega arith);
+  governs = ap (λ o. governing_mapping a o rest) (taken_mapping a address code before best h l);
+}
+
+-- ---- the line that put a byte
+
+-- line number k of some lines, the first of which stands at a location counter, put the byte of the text at an offset
+pub record Put (p : LocationCounter) (lines : List SourceLine) (offset : ℕ) : Type 0 where
+  pub k : ℕ
+  pub line : SourceLine
+  pub listed : slice_get lines k ≡ Some line
+  pub in_text : (counter_past p (take k lines)).part ≡ Text
+  pub from : (counter_past p (take k lines)).text_size ≤ offset
+  pub to : offset < (counter_past p (take k lines)).text_size + size_of line.says (here (counter_past p (take k lines)))
+
+past_none : (p : LocationCounter) → counter_past p [] ≡ p
+unfolding counter_past
+past_none p = refl
+
+past_cons : (p : LocationCounter) (line : SourceLine) (lines : List SourceLine)
+    → counter_past p (line ∷ lines) ≡ counter_past (counter_after p line.says) lines
+unfolding counter_past
+past_cons p line lines = refl
+
+first_put : (p : LocationCounter) (line : SourceLine) (lines : List SourceLine) (offset : ℕ) → p.part ≡ Text → p.text_size ≤ offset
+    → offset < p.text_size + size_of line.says (here p) → Put p (line ∷ lines) offset
+first_put p line lines offset in_text from to = record {
+  k = 0;
+  line = line;
+  listed = refl;
+  in_text = subst (λ (q : LocationCounter). q.part ≡ Text) (sym (past_none p)) in_text;
+  from = subst (λ (q : LocationCounter). q.text_size ≤ offset) (sym (past_none p)) from;
+  to = subst (λ (q : LocationCounter). offset < q.text_size + size_of line.says (here q)) (sym (past_none p)) to;
+}
+
+next_put : (p : LocationCounter) (line : SourceLine) (lines : List SourceLine) (offset : ℕ) → Put (counter_after p line.says) lines offset
+    → Put p (line ∷ lines) offset
+next_put p line lines offset h =
+    let same : counter_past (counter_after p line.says) (take h.k lines) ≡ counter_past p (line ∷ take h.k lines) =
+    sym (past_cons p line (take h.k lines)) in
+    record {
+      k = suc h.k;
+      line = h.line;
+      listed = h.listed;
+      in_text = subst (λ (q : LocationCounter). q.part ≡ Text) same h.in_text;
+      from = subst (λ (q : LocationCounter). q.text_size ≤ offset) same h.from;
+      to = subst (λ (q : LocationCounter). offset < q.text_size + size_of h.line.says (here q)) same h.to;
+    }
+
+-- the line that put a byte, and that the mapping symbols say of the byte whether the line is an instruction
+pub record Told (p : LocationCounter) (before : Option Bool) (best : Option Mapping) (lines : List SourceLine) (offset : ℕ) : Type 0 where
+  pub put : Put p lines offset
+  pub kind : mapping_says_code (governing_mapping (text_address + offset) best (mappings_from p before lines))
+      ≡ is_instruction put.line.says
+
+low_or : (a b : ℕ) → (a < b) ⊎ (b ≤ a)
+low_or a b = grind arith
+
+text_is-filled : (p : LocationCounter) (says : Says) (before : Option Bool) → fills_text p says ≡ true
+    → text_is p says before ≡ Some (is_instruction says)
+unfolding text_is
+text_is-filled p says before e = rw e refl
+
+text_is-unfilled : (p : LocationCounter) (says : Says) (before : Option Bool) → fills_text p says ≡ false → text_is p says before ≡ before
+unfolding text_is
+text_is-unfilled p says before e = rw e refl
+
+mappings_cons : (p : LocationCounter) (before : Option Bool) (line : SourceLine) (lines : List SourceLine)
+    → mappings_from p before (line ∷ lines) ≡ line_mapping p line.says before
+    ++ mappings_from (counter_after p line.says) (text_is p line.says before) lines
+unfolding mappings_from
+mappings_cons p before line lines = refl
+
+no_counter_left : (p : LocationCounter) (offset : ℕ) → p.text_size ≤ offset → offset < (counter_past p []).text_size → ⊥
+unfolding counter_past
+no_counter_left p offset from to = omega arith
+
+says_of_agreed : (code : Bool) (now : Option Mapping) (limit : ℕ) → Agrees (Some code) now limit → mapping_says_code now ≡ code
+says_of_agreed code now limit h = ap mapping_says_code h.1 ∙ h.2
+
+-- each byte of the text was put by a line, and the mapping symbols say which
+pub told : (lines : List SourceLine) (p : LocationCounter) (before : Option Bool) (best : Option Mapping) (offset : ℕ)
+    → Agrees before best (text_address + p.text_size) → p.text_size ≤ offset → offset < (counter_past p lines).text_size
+    → Told p before best lines offset
+unfolding next_put first_put
+told [] p before best offset h from to = absurd (no_counter_left p offset from to)
+told (line ∷ lines) p before best offset h from to =
+    let next = counter_after p line.says in
+    let a = text_address + offset in
+    let after : offset < (counter_past next lines).text_size =
+    subst (λ (q : LocationCounter). offset < q.text_size) (past_cons p line lines) to in
+    elim (fills_text p line.says) as (λ b. fills_text p line.says ≡ b → Told p before best (line ∷ lines) offset) [
+      | true ↦ λ e.
+          let fills = filled p line.says e in
+          let code = is_instruction line.says in
+          let rest = mappings_from next (Some code) lines in
+          let m = mapped a (text_address + p.text_size) code before best rest (is_same before code) refl h (omega arith) in
+          let mappings : mappings_from p before (line ∷ lines) ≡ mapping_if (not (is_same before code)) (text_address + p.text_size) code
+          ++ rest =
+          mappings_cons p before line lines ∙ (λ i. mapping_if (e i && not (is_same before code)) (text_address + p.text_size) code
+          ++ mappings_from next (text_is-filled p line.says before e i) lines) in
+          let governs : governing_mapping a best (mappings_from p before (line ∷ lines)) ≡ governing_mapping a m.now rest =
+          ap (governing_mapping a best) mappings ∙ m.governs in
+          elim (low_or offset next.text_size) [
+            | inl here_put ↦
+                let over : governing_mapping a m.now rest ≡ m.now = later_mappings lines next (Some code) m.now a (omega arith) in
+                record {
+                  put = first_put p line lines offset fills.in_text from (subst (λ n. offset < n) fills.grown here_put);
+                  kind = ap mapping_says_code (governs ∙ over) ∙ says_of_agreed code m.now (text_address + p.text_size) m.agrees;
+                }
+            | inr past ↦
+                let g = text_grows p line.says in
+                let t =
+                told lines next (Some code) m.now offset
+                (agrees_further (Some code) m.now (text_address + p.text_size) (text_address + next.text_size) (omega arith) m.agrees)
+                past after in
+                record { put = next_put p line lines offset t.put; kind = ap mapping_says_code governs ∙ t.kind }
+          ]
+      | false ↦ λ e.
+          let same = unfilled p line.says e in
+          let t =
+          told lines next before best offset (subst (λ n. Agrees before best (text_address + n)) (sym same) h)
+          (subst (λ n. n ≤ offset) (sym same) from) after in
+          let mappings : mappings_from p before (line ∷ lines) ≡ mappings_from next before lines =
+          mappings_cons p before line lines ∙ (λ i. mapping_if (e i && not (is_same before (is_instruction line.says)))
+          (text_address + p.text_size) (is_instruction line.says) ++ mappings_from next (text_is-unfilled p line.says before e i) lines) in
+          record {
+            put = next_put p line lines offset t.put;
+            kind = ap (λ ms. mapping_says_code (governing_mapping a best ms)) mappings
+                ∙ t.kind;
+          }
+    ] refl

@@ -1,8 +1,0 @@
-use Rattle.asm_core.specs.Layout.{label_at}
-use Rattle.asm_core.proofs.Surveying.{knows_more, doubled_name}
-use Rattle.asm_core.proofs.survey.add_label.Goals as goal
-
-pub returns-in-Ok-clause-ok : goal.returns-in-Ok-clause-ok
-returns-in-Ok-clause-ok c =
-    λ list knows. rw c.in-Some.is (λ new. knows_more c.args.labels.now c.add.new.self list (label_at c.args.place.now c.in-Some.name.now)
-    knows (doubled_name list c.in-Some.name.now new) (rw c.here.ensures at c.in-Ok.ensures))

@@ -1,7 +1,0 @@
-use Rattle.std.proofs.Common.{sym}
-use Rattle.asm_operands.specs.Views.{known_of}
-use Rattle.asm_operands.proofs.Bare.{with_bare}
-use Rattle.asm_operands.proofs.known.Known.with.Goals as goal
-
-pub returns-then-is_bare : goal.returns-then-is_bare
-returns-then-is_bare c = with_bare c.args.item.now (known_of c.args.self) c.args.field (sym c.if-is_bare.ensures)

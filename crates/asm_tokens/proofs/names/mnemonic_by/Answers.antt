@@ -1,0 +1,9 @@
+use Rattle.std.proofs.Common.{ℕ, ◌∙◌, ap}
+use Rattle.insn_text.specs.declared.keywords.TheConstants.{MNEMONICS}
+use Rattle.asm_tokens.specs.declared.slots.TheConstants.{MNEMONIC_SLOTS}
+use Rattle.asm_tokens.specs.Slots.{probed, index_by}
+use Rattle.asm_tokens.proofs.names.mnemonic_by.Goals as goal
+
+pub returns : goal.returns
+unfolding index_by
+returns c = c.probed.ensures ∙ ap (λ (k : ℕ). probed MNEMONICS MNEMONIC_SLOTS 1024 c.args.text.now 16 k) c.hash.ensures.value

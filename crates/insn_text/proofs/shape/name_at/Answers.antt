@@ -1,7 +1,0 @@
-use Rattle.std.proofs.Common.{ℕ, List, sym, subst}
-use Rattle.std.specs.Str.{IsAscii}
-use Rattle.insn_text.proofs.Tables.{name_ascii}
-use Rattle.insn_text.proofs.shape.name_at.Goals as goal
-
-pub returns-clause-ascii : goal.returns-clause-ascii
-returns-clause-ascii c = subst (λ (bs : List ℕ). IsAscii bs) (sym c.text_at.ensures) (name_ascii c.args.place)
