@@ -5,5 +5,6 @@ pub mod Faults
 pub mod Restored
 pub mod Parts
 pub mod Round
+pub mod ReadBack
 pub mod Putting
 pub mod Fetching

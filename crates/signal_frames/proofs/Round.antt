@@ -99,7 +99,7 @@ pub frame_numbers : (vl signal : ℕ) (s : ProcessorState) → frame_bytes vl si
 unfolding frame_bytes
 frame_numbers vl signal s = refl
 
-size_low : (l n : ℕ) (za_on : Bool) → l ≤ 256 → n ≤ 256 → frame_size l n za_on < 2 ^ 32
+pub size_low : (l n : ℕ) (za_on : Bool) → l ≤ 256 → n ≤ 256 → frame_size l n za_on < 2 ^ 32
 size_low l n true h k =
     let one : n * n ≤ 256 * n = mul-le-mul_right n k in
     omega arith

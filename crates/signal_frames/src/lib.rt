@@ -11,5 +11,5 @@ mod restore;
 mod writing;
 
 pub use delivery::{FrameStop, deliver};
-pub use laws::{frame_brings_back, return_sees_no_mode};
+pub use laws::{delivery_leaves_its_frame, frame_brings_back, return_sees_no_mode};
 pub use restore::{FrameFault, return_from};
