@@ -3,3 +3,4 @@ pub mod Bits
 pub mod Powers
 pub mod Loops
 pub mod Differences
+pub mod Gathered

@@ -6,10 +6,11 @@ ghost use Rattle.predicates.specs.Flags.{flags_of};
 ghost use Rattle.predicates.specs.Compare.{compared, compared_with, vectors_compared, immediate_compared};
 
 use crate::flags::result_flags;
-use crate::truths::{Truth, put_truths};
+use crate::marks::put_governed;
+use crate::truths::Truth;
 use bit_ops::Nzcv;
 use sm_types::{CompareImmediateOp, CompareVectorsOp};
-use vector_elements::{Size, bit, element, signed};
+use vector_elements::{Size, element, signed};
 
 /// How two elements compare.
 #[inline(always)]
@@ -48,55 +49,48 @@ fn compared_with(op: CompareImmediateOp, size: Size, a: u64, imm: i32) -> bool
     }
 }
 
-/// The comparison of the active elements of two vectors.
+/// The comparison of the elements of two vectors.
 #[derive(Clone, Copy)]
 struct OfVectors<'a> {
     op: CompareVectorsOp,
-    pg: &'a [u8],
     n: &'a [u8],
     m: &'a [u8],
 }
 
 impl<'a> Truth for OfVectors<'a> {
-    ghost can = { λ s size i. (bytes_in size * i < 8 * length s.pg.now)
-        × (bytes_in size * i + bytes_in size ≤ length s.n.now)
+    ghost can = { λ s size i. (bytes_in size * i + bytes_in size ≤ length s.n.now)
         × (bytes_in size * i + bytes_in size ≤ length s.m.now) };
 
-    ghost gives = { λ s size i. is_active (bytes_in size) s.pg.now i && compared s.op size
+    ghost gives = { λ s size i. compared s.op size
         (element_of (bytes_in size) s.n.now i) (element_of (bytes_in size) s.m.now i) };
 
     #[inline(always)]
     fn holds(&self, size: Size, place: usize) -> bool {
-        let holds = compared(
+        compared(
             self.op,
             size,
             element(self.n, size, place),
             element(self.m, size, place),
-        );
-        bit(self.pg, size.bytes() * place) & holds
+        )
     }
 }
 
-/// The comparison of the active elements of a vector with a signed number.
+/// The comparison of the elements of a vector with a signed number.
 #[derive(Clone, Copy)]
 struct WithNumber<'a> {
     op: CompareImmediateOp,
-    pg: &'a [u8],
     n: &'a [u8],
     imm: i32,
 }
 
 impl<'a> Truth for WithNumber<'a> {
-    ghost can = { λ s size i. (bytes_in size * i < 8 * length s.pg.now)
-        × (bytes_in size * i + bytes_in size ≤ length s.n.now) };
+    ghost can = { λ s size i. bytes_in size * i + bytes_in size ≤ length s.n.now };
 
-    ghost gives = { λ s size i. is_active (bytes_in size) s.pg.now i
-        && compared_with s.op size (element_of (bytes_in size) s.n.now i) s.imm };
+    ghost gives = { λ s size i. compared_with s.op size (element_of (bytes_in size) s.n.now i) s.imm };
 
     #[inline(always)]
     fn holds(&self, size: Size, place: usize) -> bool {
-        let holds = compared_with(self.op, size, element(self.n, size, place), self.imm);
-        bit(self.pg, size.bytes() * place) & holds
+        compared_with(self.op, size, element(self.n, size, place), self.imm)
     }
 }
 
@@ -110,7 +104,7 @@ fn known_vectors(op: CompareVectorsOp, size: Size, pd: &mut [u8], pg: &[u8], n: 
     requires m { length m.now ≡ 8 * length pd.old }
     ensures { pd.new ≡ vectors_compared op size (length pd.old) pg.now n.now m.now }
 {
-    put_truths(&OfVectors { op, pg, n, m }, size, pd);
+    put_governed(&OfVectors { op, n, m }, size, pd, pg);
 }
 
 /// Makes the active elements true whose elements of `n` and `m` compare so, and all others false; with the
@@ -152,7 +146,7 @@ fn known_immediate(op: CompareImmediateOp, size: Size, pd: &mut [u8], pg: &[u8],
     requires n { length n.now ≡ 8 * length pd.old }
     ensures { pd.new ≡ immediate_compared op size (length pd.old) pg.now n.now imm }
 {
-    put_truths(&WithNumber { op, pg, n, imm }, size, pd);
+    put_governed(&WithNumber { op, n, imm }, size, pd, pg);
 }
 
 /// Makes the active elements true whose elements of `n`, as signed numbers, compare so with a number, and all

@@ -14,6 +14,6 @@ mod size;
 pub use access::{bit, element, set_element};
 pub use laws::{change_gives_elements, change_keeps_inactive};
 pub use loops::{Change, change_active, change_each, change_or_zero};
-pub use mask::are_active;
+pub use mask::{are_active, element_bits};
 pub use number::{low_bits, signed, wrapped};
 pub use size::Size;

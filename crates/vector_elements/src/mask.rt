@@ -49,7 +49,7 @@ pub fn expand(p: &[u8], mask: &mut [u8])
 
 /// The bits of a byte of a predicate that are of elements.
 #[inline(always)]
-fn element_bits(size: Size) -> u8
+pub fn element_bits(size: Size) -> u8
     ensures { result ≡ element_bits size }
 {
     match size {
