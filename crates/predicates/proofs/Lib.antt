@@ -4,3 +4,4 @@ pub mod Powers
 pub mod Loops
 pub mod Differences
 pub mod Gathered
+pub mod Whole

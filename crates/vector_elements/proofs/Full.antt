@@ -35,7 +35,7 @@ next_bits bits p i so_far k below =
     let new : bit_at (slice_index p i) k ≡ 1 = all i (omega arith) in
     omega (arith, both, old, new))
 
-all_below-from : (test : ℕ → Bool) (n : ℕ) → ((k : ℕ) → k < n → test k ≡ true) → all_below test n ≡ true
+pub all_below-from : (test : ℕ → Bool) (n : ℕ) → ((k : ℕ) → k < n → test k ≡ true) → all_below test n ≡ true
 unfolding all_below
 all_below-from test zero holds = refl
 all_below-from test (suc n) holds =
@@ -55,11 +55,11 @@ all_same H = refl
 all_same S = refl
 all_same D = refl
 
-after_or : (a b : Bool) → (not a || b) ≡ true → a ≡ true → b ≡ true
+pub after_or : (a b : Bool) → (not a || b) ≡ true → a ≡ true → b ≡ true
 after_or true b holds is = holds
 after_or false b holds is = absurd (cc)
 
-or_from : (a b : Bool) → (a ≡ true → b ≡ true) → (not a || b) ≡ true
+pub or_from : (a b : Bool) → (a ≡ true → b ≡ true) → (not a || b) ≡ true
 or_from true b from = from refl
 or_from false b from = refl
 
@@ -79,31 +79,31 @@ holds_if size n fits set =
     ∙ all_below-from (is_set_at size n) 8 (λ k below. or_from _ _ (λ element. eq-eqb _ _ (set k below (eqb-true _ _ element))))
 
 -- where element i stands in a predicate, and which element stands at a place
-place_of : (size : Size) (i n : ℕ) → i < 8 * n / bytes_in size → bytes_in size * i / 8 < n
+pub place_of : (size : Size) (i n : ℕ) → i < 8 * n / bytes_in size → bytes_in size * i / 8 < n
 place_of B i n within = omega arith
 place_of H i n within = omega arith
 place_of S i n within = omega arith
 place_of D i n within = omega arith
 
-lowest_of : (size : Size) (i : ℕ) → bytes_in size * i % 8 % bytes_in size ≡ 0
+pub lowest_of : (size : Size) (i : ℕ) → bytes_in size * i % 8 % bytes_in size ≡ 0
 lowest_of B i = omega arith
 lowest_of H i = omega arith
 lowest_of S i = omega arith
 lowest_of D i = omega arith
 
-element_at : (size : Size) (j k : ℕ) → k < 8 → k % bytes_in size ≡ 0 → bytes_in size * ((8 * j + k) / bytes_in size) ≡ 8 * j + k
+pub element_at : (size : Size) (j k : ℕ) → k < 8 → k % bytes_in size ≡ 0 → bytes_in size * ((8 * j + k) / bytes_in size) ≡ 8 * j + k
 element_at B j k below element = omega arith
 element_at H j k below element = omega arith
 element_at S j k below element = omega arith
 element_at D j k below element = omega arith
 
-element_within : (size : Size) (j k n : ℕ) → k < 8 → k % bytes_in size ≡ 0 → j < n → (8 * j + k) / bytes_in size < 8 * n / bytes_in size
+pub element_within : (size : Size) (j k n : ℕ) → k < 8 → k % bytes_in size ≡ 0 → j < n → (8 * j + k) / bytes_in size < 8 * n / bytes_in size
 element_within B j k n below element within = omega arith
 element_within H j k n below element within = omega arith
 element_within S j k n below element within = omega arith
 element_within D j k n below element within = omega arith
 
-bit_at_place : (p : List ℕ) (j k : ℕ) → k < 8 → bit_of p (8 * j + k) ≡ (slice_index p j / 2 ^ k % 2 == 1)
+pub bit_at_place : (p : List ℕ) (j k : ℕ) → k < 8 → bit_of p (8 * j + k) ≡ (slice_index p j / 2 ^ k % 2 == 1)
 unfolding bit_of
 bit_at_place p j k below =
     let byte : (8 * j + k) / 8 ≡ j = omega arith in
