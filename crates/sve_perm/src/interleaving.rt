@@ -4,7 +4,7 @@ ghost use Rattle.vector_elements.specs.Elements.{element_of};
 ghost use Rattle.vector_elements.specs.Numbers.{bytes_in};
 ghost use Rattle.sve_perm.specs.Permute.{count_of, by_turns, interleaved_at, interleaved};
 
-use crate::by_place::{Places, count, put_values};
+use crate::by_place::{Places, count, put_pairs};
 use sm_types::InterleaveOp;
 use vector_elements::{Size, element};
 
@@ -76,7 +76,7 @@ fn known_interleave(op: InterleaveOp, size: Size, d: &mut [u8], n: &[u8], m: &[u
     requires pairs { length d.old % (2 * bytes_in size) ≡ 0 }
     ensures { d.new ≡ interleaved op size n.now m.now }
 {
-    put_values(&Interleaved { op, n, m }, size, d);
+    put_pairs(&Interleaved { op, n, m }, size, d);
 }
 
 /// `d` becomes elements of `n` and `m`, all three of the same length and of an even number of elements: those
