@@ -4,11 +4,11 @@ use Rattle.std.proofs.Common.{◌==◌, ◌&&◌, Bool, true, false, List, [], �
 use Rattle.std.proofs.Common.{inl, inr, mod-eq_of_lt}
 use Rattle.std.specs.Int.{bit_at}
 use Rattle.std.specs.Simd.Lanes.{digits_l, mask_l, chunk, zip2, top}
-use Rattle.std.proofs.lemmas.Simd.{bitmask_splat, bit_mask_l, mask_l-lt, get_or-chunk, length-chunk}
+use Rattle.std.proofs.lemmas.Simd.{bitmask_splat, bit_mask_l, mask_l-lt, get_or-chunk}
 use Rattle.std.proofs.lemmas.List.{get_or-map, length-map, get_or-drop}
-use Rattle.std.proofs.lemmas.Grind.{elements, common_steps}
+use Rattle.std.proofs.lemmas.Grind.{common_steps}
 use Rattle.std.proofs.lemmas.Nat.Bits.{bit_at_and, bit_at-lt}
-use Rattle.std.proofs.lemmas.Bool.{cases_lt, cases_eq, eqb-true, eq-eqb}
+use Rattle.std.proofs.lemmas.Bool.{cases_lt, cases_eq, eq-eqb}
 use Rattle.vector_elements.specs.declared.size.Size.{Size}
 use Rattle.vector_elements.specs.declared.size.Size.TheVariants.{B, H, S, D}
 use Rattle.vector_elements.specs.Active.{element_bits}
@@ -193,7 +193,8 @@ marked_at size bytes f j whole below first =
     let n = length bytes / e in
     let g : ℕ → ℕ = λ i. mark_of size (f i) in
     let long = length-written e g n in
-    let room : e * (j / e) + e ≤ length (bytes_of e (listed g n)) = subst (λ k. e * (j / e) + e ≤ k) (sym long) (within size j (length bytes) whole below) in
+    let room : e * (j / e) + e ≤ length (bytes_of e (listed g n)) =
+    subst (λ k. e * (j / e) + e ≤ k) (sym long) (within size j (length bytes) whole below) in
     let back = read_back e g n (j / e) (inside size j (length bytes) whole below) in
     let low = lowest_byte size (bytes_of e (listed g n)) (j / e) room in
     let at : slice_index (bytes_of e (listed g n)) (e * (j / e)) ≡ slice_index (bytes_of e (listed g n)) j =

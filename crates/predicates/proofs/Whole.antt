@@ -1,6 +1,6 @@
 -- The flags of a result all of whose elements are active.
-use Rattle.std.proofs.Common.{◌≡◌, ℕ, zero, suc, ◌+◌, ◌-◌, ◌*◌, ◌/◌, ◌%◌, ◌^◌, ◌<◌, ◌≤◌, ◌==◌, ◌||◌, List, [], ◌∷◌, ◌++◌, length, slice_index, max}
-use Rattle.std.proofs.Common.{Bool, true, false, not, refl, ap, ap₂, sym, ◌∙◌, arith, inl, inr, bit_and, bit_or, ◌↔◌, subst, replicate, if◌then◌else◌}
+use Rattle.std.proofs.Common.{◌≡◌, ℕ, zero, suc, ◌+◌, ◌-◌, ◌*◌, ◌/◌, ◌%◌, ◌^◌, ◌<◌, ◌≤◌, ◌==◌, ◌||◌, List, [], ◌∷◌, ◌++◌, length, slice_index}
+use Rattle.std.proofs.Common.{Bool, true, false, not, refl, ap, ap₂, sym, ◌∙◌, arith, inl, inr, bit_and, bit_or, ◌↔◌, replicate}
 use Rattle.std.specs.Int.{bit_at}
 use Rattle.std.proofs.lemmas.Bool.{cases_lt, eqb-true, eq-eqb}
 use Rattle.std.proofs.lemmas.Nat.Bits.{bit_at_or, bit_at-lt, bit_at-zero}
@@ -27,16 +27,18 @@ pub next_some : (bits : ℕ) (p : List ℕ) (i : ℕ) → HasBitsOfFirst bits p 
 next_some bits p i so_far k below =
     let both = bit_at_or bits (slice_index p i) k in
     let one = bit_at-lt bits k in
-    let other = bit_at-lt (slice_index p i) k in
-    (λ clear j within. elim (cases_lt j i) [
-      | inl before ↦ (so_far k below).0 (omega (arith, both, one, other, clear)) j before
-      | inr last ↦
-          let here : j ≡ i = omega arith in
-          ap (λ n. bit_at (slice_index p n) k) here ∙ omega (arith, both, one, other, clear)
-    ], λ all.
-    let old : bit_at bits k ≡ 0 = (so_far k below).1 (λ j before. all j (omega arith)) in
-    let new : bit_at (slice_index p i) k ≡ 0 = all i (omega arith) in
-    omega (arith, both, old, new))
+    let other = bit_at-lt (slice_index p i) k in (
+      λ clear j within. elim (cases_lt j i) [
+        | inl before ↦ (so_far k below).0 (omega (arith, both, one, other, clear)) j before
+        | inr last ↦
+            let here : j ≡ i = omega arith in
+            ap (λ n. bit_at (slice_index p n) k) here ∙ omega (arith, both, one, other, clear)
+      ],
+      λ all.
+          let old : bit_at bits k ≡ 0 = (so_far k below).1 (λ j before. all j (omega arith)) in
+          let new : bit_at (slice_index p i) k ≡ 0 = all i (omega arith) in
+          omega (arith, both, old, new),
+    )
 
 -- the bit is clear, where it is an element's
 is_clear_at : Size → ℕ → ℕ → Bool
@@ -79,14 +81,16 @@ none_active : (size : Size) (bits : ℕ) (p : List ℕ) → bits < 256 → HasBi
     → ((bit_and bits (element_bits size) == 0) ≡ true)
     ↔ ((i : ℕ) → i < 8 * length p / bytes_in size → is_active (bytes_in size) p i ≡ false)
 unfolding bit_of
-none_active size bits p fits some =
-    (λ clear i within.
-    let low : bytes_in size * i % 8 < 8 = omega arith in
-    not_one _ ((some (bytes_in size * i % 8) low).0
-    (clear_bit size bits (bytes_in size * i % 8) fits clear low (lowest_of size i)) (bytes_in size * i / 8) (place_of size i (length p) within)),
-    λ none. none_if size bits fits (λ k below element. (some k below).1 (λ j within.
-    zero_from _ (bit_at-lt (slice_index p j) k) (sym (bit_at_place p j k below) ∙ sym (ap (bit_of p) (element_at size j k below element))
-    ∙ none ((8 * j + k) / bytes_in size) (element_within size j k (length p) below element within)))))
+none_active size bits p fits some = (
+  λ clear i within.
+      let low : bytes_in size * i % 8 < 8 = omega arith in
+      not_one _ ((some (bytes_in size * i % 8) low).0
+      (clear_bit size bits (bytes_in size * i % 8) fits clear low (lowest_of size i))
+      (bytes_in size * i / 8) (place_of size i (length p) within)),
+  λ none. none_if size bits fits (λ k below element. (some k below).1 (λ j within.
+      zero_from _ (bit_at-lt (slice_index p j) k) (sym (bit_at_place p j k below) ∙ sym (ap (bit_of p) (element_at size j k below element))
+      ∙ none ((8 * j + k) / bytes_in size) (element_within size j k (length p) below element within)))),
+)
 
 any_append : (xs : List Bool) (x : Bool) → any_true (xs ++ x ∷ []) ≡ (any_true xs || x)
 any_append [] true = refl
@@ -101,14 +105,16 @@ or_false false b is = (refl, is)
 none_listed : (f : ℕ → Bool) (n : ℕ) → (any_true (listed f n) ≡ false) ↔ ((i : ℕ) → i < n → f i ≡ false)
 unfolding listed
 none_listed f zero = (λ _ i none. absurd (omega arith), λ _. refl)
-none_listed f (suc n) =
-    (λ none i within.
-    let parts = or_false _ _ (sym (any_append (listed f n) (f n)) ∙ none) in
-    elim (cases_lt i n) [
-      | inl before ↦ (none_listed f n).0 parts.0 i before
-      | inr last ↦ (let here : i ≡ n = omega arith in ap f here ∙ parts.1)
-    ], λ all.
-    any_append (listed f n) (f n) ∙ ap₂ (λ a b. a || b) ((none_listed f n).1 (λ i within. all i (omega arith))) (all n (omega arith)))
+none_listed f (suc n) = (
+  λ none i within.
+      let parts = or_false _ _ (sym (any_append (listed f n) (f n)) ∙ none) in
+      elim (cases_lt i n) [
+        | inl before ↦ (none_listed f n).0 parts.0 i before
+        | inr last ↦ (let here : i ≡ n = omega arith in ap f here ∙ parts.1)
+      ],
+  λ all.
+      any_append (listed f n) (f n) ∙ ap₂ (λ a b. a || b) ((none_listed f n).1 (λ i within. all i (omega arith))) (all n (omega arith)),
+)
 
 both_false : (a b : Bool) → (a ≡ true) ↔ (b ≡ false) → not a ≡ b
 both_false true b is = sym (is.0 refl)
@@ -180,7 +186,8 @@ whole_flags size mask results some same_length least active is_some =
     let count : 8 * length mask / e ≡ n = ap (λ k. 8 * k / e) (sym same_length) in
     let least_here : 1 ≤ length results = omega arith in
     let next : n ≡ suc (n - 1) = count_of size (length results) least_here in
-    let all : listed (is_active e mask) (8 * length mask / e) ≡ replicate n true = listed_all (is_active e mask) (8 * length mask / e) active
+    let all : listed (is_active e mask) (8 * length mask / e) ≡ replicate n true =
+    listed_all (is_active e mask) (8 * length mask / e) active
     ∙ ap (λ k. replicate k true) count in
     let results_are : governed (listed (is_active e mask) (8 * length mask / e)) (listed f n) ≡ listed f n =
     ap (λ m. governed m (listed f n)) all ∙ governed_all (listed f n) n (length-listed f n) in

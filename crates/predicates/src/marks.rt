@@ -1,6 +1,6 @@
 //! Truth values as marks, a byte for each byte of a vector, and predicates of them.
-ghost use Rattle.std.specs.Prelude.{◌≡◌, ℕ, ◌+◌, ◌-◌, ◌*◌, ◌/◌, ◌%◌, ◌^◌, ◌<◌, ◌≤◌, ◌==◌, ◌&&◌, length, slice_index};
-ghost use Rattle.std.specs.Prelude.{if◌then◌else◌};
+ghost use Rattle.std.specs.Prelude.{◌≡◌, ℕ, ◌+◌, ◌-◌, ◌*◌, ◌/◌, ◌%◌, ◌^◌, ◌<◌, ◌≤◌, ◌==◌, ◌&&◌};
+ghost use Rattle.std.specs.Prelude.{if◌then◌else◌, length, slice_index};
 ghost use Rattle.vector_elements.specs.Elements.{bit_of, is_active};
 ghost use Rattle.vector_elements.specs.Numbers.{bytes_in, range_of};
 ghost use Rattle.predicates.specs.Predicates.{predicate_of};

@@ -1,9 +1,9 @@
 -- Vectors that are written two elements at a time.
-use Rattle.std.proofs.Common.{◌≡◌, ℕ, ◌+◌, ◌*◌, ◌/◌, ◌%◌, ◌<◌, List, ◌++◌, length, take, drop, ap, ◌∙◌, sym, arith, subst, refl}
+use Rattle.std.proofs.Common.{◌≡◌, ℕ, ◌+◌, ◌*◌, ◌/◌, ◌%◌, List, ◌++◌, length, take, drop, ap, ◌∙◌, sym, arith, subst}
 use Rattle.std.specs.Simd.Lanes.{digits_l}
 use Rattle.vector_elements.specs.declared.size.Size.{Size}
 use Rattle.vector_elements.specs.declared.size.Size.TheVariants.{B, H, S, D}
-use Rattle.vector_elements.specs.Elements.{listed, element_of, bytes_of, each_element}
+use Rattle.vector_elements.specs.Elements.{listed, bytes_of, each_element}
 use Rattle.vector_elements.specs.Numbers.{bytes_in}
 use Rattle.vector_elements.proofs.Lists.{written, finished, some_bytes}
 use Rattle.sve_perm.specs.Permute.{vector_like}

@@ -1,5 +1,6 @@
 //! The registers, a row of bytes each.
-ghost use Rattle.std.specs.Prelude.{◌≡◌, ℕ, ◌<◌, ◌≤◌, ◌/◌, ◌%◌, [], length, take, slice_index_or, false, IfOk};
+ghost use Rattle.std.specs.Prelude.{◌≡◌, ℕ, ◌<◌, ◌≤◌, ◌/◌, ◌%◌, [], length, take, false, IfOk};
+ghost use Rattle.std.specs.Prelude.{slice_index_or};
 ghost use Rattle.std.specs.Borrow.{sem};
 ghost use Rattle.sve_vectors.specs.Predicates.{truths_of};
 ghost use Rattle.sve_vectors.specs.Registers.{AreOfLength};

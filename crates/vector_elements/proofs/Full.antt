@@ -1,5 +1,5 @@
 -- Predicates whose elements are all active, by the bits that all their bytes have.
-use Rattle.std.proofs.Common.{◌≡◌, ℕ, zero, suc, ◌+◌, ◌*◌, ◌/◌, ◌%◌, ◌^◌, ◌<◌, ◌≤◌, ◌==◌, ◌||◌, List, length, slice_index, min}
+use Rattle.std.proofs.Common.{◌≡◌, ℕ, zero, suc, ◌+◌, ◌*◌, ◌/◌, ◌%◌, ◌^◌, ◌<◌, ◌==◌, ◌||◌, List, length, slice_index}
 use Rattle.std.proofs.Common.{Bool, true, false, not, refl, ap, sym, ◌∙◌, arith, inl, inr, bit_and, ◌↔◌, ◌&&◌, subst, if◌then◌else◌}
 use Rattle.std.specs.Int.{bit_at}
 use Rattle.std.proofs.lemmas.Bool.{cases_lt, eqb-true, eq-eqb}
@@ -24,16 +24,18 @@ pub next_bits : (bits : ℕ) (p : List ℕ) (i : ℕ) → HasBitsTo bits p i →
 next_bits bits p i so_far k below =
     let both = bit_at_and bits (slice_index p i) k in
     let one = bit_at-lt bits k in
-    let other = bit_at-lt (slice_index p i) k in
-    (λ set j within. elim (cases_lt j i) [
-      | inl before ↦ (so_far k below).0 (omega (arith, both, one, other, set)) j before
-      | inr last ↦
-          let here : j ≡ i = omega arith in
-          ap (λ n. bit_at (slice_index p n) k) here ∙ omega (arith, both, one, other, set)
-    ], λ all.
-    let old : bit_at bits k ≡ 1 = (so_far k below).1 (λ j before. all j (omega arith)) in
-    let new : bit_at (slice_index p i) k ≡ 1 = all i (omega arith) in
-    omega (arith, both, old, new))
+    let other = bit_at-lt (slice_index p i) k in (
+      λ set j within. elim (cases_lt j i) [
+        | inl before ↦ (so_far k below).0 (omega (arith, both, one, other, set)) j before
+        | inr last ↦
+            let here : j ≡ i = omega arith in
+            ap (λ n. bit_at (slice_index p n) k) here ∙ omega (arith, both, one, other, set)
+      ],
+      λ all.
+          let old : bit_at bits k ≡ 1 = (so_far k below).1 (λ j before. all j (omega arith)) in
+          let new : bit_at (slice_index p i) k ≡ 1 = all i (omega arith) in
+          omega (arith, both, old, new),
+    )
 
 pub all_below-from : (test : ℕ → Bool) (n : ℕ) → ((k : ℕ) → k < n → test k ≡ true) → all_below test n ≡ true
 unfolding all_below
@@ -113,14 +115,16 @@ bit_at_place p j k below =
 pub active_if : (size : Size) (bits : ℕ) (p : List ℕ) → bits < 256 → HasCommonBits bits p
     → ((bit_and bits (element_bits size) == element_bits size) ≡ true) ↔ AreActive size p
 unfolding bit_of HasElementBits
-active_if size bits p fits common =
-    (λ holds i within.
-    let low : bytes_in size * i % 8 < 8 = omega arith in
-    eq-eqb _ _ ((common (bytes_in size * i % 8) low).0
-    (tested size bits fits holds (bytes_in size * i % 8) low (lowest_of size i)) (bytes_in size * i / 8) (place_of size i (length p) within)),
-    λ active. holds_if size bits fits (λ k below element. (common k below).1 (λ j within.
-    eqb-true _ _ (sym (bit_at_place p j k below) ∙ sym (ap (bit_of p) (element_at size j k below element))
-    ∙ active ((8 * j + k) / bytes_in size) (element_within size j k (length p) below element within)))))
+active_if size bits p fits common = (
+  λ holds i within.
+      let low : bytes_in size * i % 8 < 8 = omega arith in
+      eq-eqb _ _ ((common (bytes_in size * i % 8) low).0
+      (tested size bits fits holds (bytes_in size * i % 8) low (lowest_of size i))
+      (bytes_in size * i / 8) (place_of size i (length p) within)),
+  λ active. holds_if size bits fits (λ k below element. (common k below).1 (λ j within.
+      eqb-true _ _ (sym (bit_at_place p j k below) ∙ sym (ap (bit_of p) (element_at size j k below element))
+      ∙ active ((8 * j + k) / bytes_in size) (element_within size j k (length p) below element within)))),
+)
 
 -- where all are active, a change of each is one of the active ones
 active_here : (size : Size) (p d : List ℕ) → AreActive size p → length d ≡ 8 * length p

@@ -6,8 +6,8 @@ ghost use Rattle.vector_elements.specs.Numbers.{bytes_in, range_of};
 
 use crate::size::Size;
 
-/// Element `i` of a vector. It is copied before it is read as a number, which becomes one load: of bytes that are
-/// put together, those whose use is seen apart, as the one of the sign, would be loaded apart too.
+/// Element `i` of a vector. It is copied before it is read as a number, so that it is one load: were its
+/// bytes put together, the one of the sign would be loaded apart, and no loop over elements vectorized.
 #[inline(always)]
 #[tactic(auto, unfolding(crate::specs::Elements::element_of))]
 pub fn element(bytes: &[u8], size: Size, i: usize) -> u64

@@ -73,7 +73,8 @@ fn change_marked<C: Change>(change: &C, size: Size, d: &mut [u8], p: &[u8])
     );
 }
 
-/// Changes the active elements of a vector; the others keep their value. Where all are active no mask is made.
+/// Changes the active elements of a vector; the others keep their value.
+/// Where all are active no mask is made.
 #[inline(always)]
 pub fn change_active<C: Change>(change: &C, size: Size, d: &mut [u8], p: &[u8])
     requires can { (i : ℕ) → bytes_in size * i + bytes_in size ≤ length d.old → C.can change.now size i }
@@ -110,7 +111,8 @@ fn change_marked_or_zero<C: Change>(change: &C, size: Size, d: &mut [u8], p: &[u
     );
 }
 
-/// Changes the active elements of a vector; the others become zero. Where all are active no mask is made.
+/// Changes the active elements of a vector; the others become zero.
+/// Where all are active no mask is made.
 #[inline(always)]
 pub fn change_or_zero<C: Change>(change: &C, size: Size, d: &mut [u8], p: &[u8])
     requires can { (i : ℕ) → bytes_in size * i + bytes_in size ≤ length d.old → C.can change.now size i }

@@ -45,13 +45,7 @@ fn change_in_room<C: VectorChange>(vectors: &mut Vectors, n: u8, d: u8, change: 
 /// The same as `change_vector`, in a row that is made the register's.
 #[inline(always)]
 #[tactic(auto, using(crate::proofs::Sizes::is_length))]
-fn change_in_row<C: VectorChange>(
-    vectors: &mut Vectors,
-    n: u8,
-    d: u8,
-    change: &C,
-    mut row: Vec<u8>,
-)
+fn change_in_row<C: VectorChange>(vectors: &mut Vectors, n: u8, d: u8, change: &C, mut row: Vec<u8>)
     requires n { n < 32 }
     requires d { d < 32 }
     requires can { C.can change.now }

@@ -1,4 +1,4 @@
-use Rattle.std.proofs.Common.{◌≡◌, ℕ, arith, length, subst}
+use Rattle.std.proofs.Common.{◌≡◌, arith, length, subst}
 use Rattle.predicates.proofs.Whole.{HasBitsOfFirst, begun_some, next_some}
 use Rattle.predicates.proofs.flags.bits_of_some.Goals as goal
 

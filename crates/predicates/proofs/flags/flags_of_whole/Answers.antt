@@ -8,4 +8,5 @@ returns c =
     let results = c.args.results.now in
     let last = c.bit-last_holds.ensures ∙ ap (λ (w : ℕ). bit_of results (8 * length results - w)) c.bytes-width.ensures in
     rw (c.bit-first_holds.ensures, last)
-    (whole_flags c.args.size c.args.mask.now results c.some_holds-any_holds.result c.requires.same c.requires.some c.requires.active c.some_holds-any_holds.ensures)
+    (whole_flags c.args.size c.args.mask.now results c.some_holds-any_holds.result c.requires.same c.requires.some
+    c.requires.active c.some_holds-any_holds.ensures)

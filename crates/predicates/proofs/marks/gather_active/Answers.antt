@@ -1,4 +1,4 @@
-use Rattle.std.proofs.Common.{◌≡◌, ℕ, ◌+◌, arith, subst, sym, set, get_or, bit_and}
+use Rattle.std.proofs.Common.{ℕ, ◌+◌, arith, subst, sym, set, get_or, bit_and}
 use Rattle.predicates.proofs.Gathered.{AreGatheredTo, gathered_next}
 use Rattle.predicates.proofs.marks.gather_active.Goals as goal
 

@@ -1,5 +1,4 @@
 use Rattle.std.proofs.Common.{arith, ap, ◌∙◌, ◌≡◌, ◌/◌, ◌*◌, length}
-use Rattle.vector_elements.specs.Numbers.{bytes_in}
 use Rattle.vector_elements.proofs.Lists.{begun}
 use Rattle.sve_perm.proofs.Pairs.{pair_written, pairs_done}
 use Rattle.sve_perm.proofs.by_place.put_pairs_of.Goals as goal

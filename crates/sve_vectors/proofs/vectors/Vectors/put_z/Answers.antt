@@ -1,4 +1,4 @@
-use Rattle.std.proofs.Common.{◌≡◌, ◌<◌, ℕ, ap, ◌∙◌, sym, arith, length, take}
+use Rattle.std.proofs.Common.{◌≡◌, ◌<◌, ℕ, ap, ◌∙◌, arith, length, take}
 use Rattle.sve_vectors.specs.Layout.{room_of}
 use Rattle.sve_vectors.specs.State.{SveState, with_vector, length_of}
 use Rattle.sve_vectors.proofs.Held.{room_at}

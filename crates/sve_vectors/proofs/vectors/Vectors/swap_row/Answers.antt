@@ -1,4 +1,4 @@
-use Rattle.std.proofs.Common.{◌≡◌, ◌<◌, ap, ◌∙◌, sym, arith, length, Vec, ℕ, Global}
+use Rattle.std.proofs.Common.{◌<◌, ap, ◌∙◌, sym, arith, length, Vec, ℕ, Global}
 use Rattle.sve_vectors.specs.Layout.{room_of}
 use Rattle.sve_vectors.specs.State.{SveState}
 use Rattle.sve_vectors.proofs.Lent.{vector_swapped, swapped_kept}
