@@ -62,7 +62,7 @@ pub record IsPredicateTo (e count : ℕ) (truth : ℕ → Bool) (p : List ℕ) :
   pub rest : (k : ℕ) → count ≤ k → bit_of p (e * k) ≡ false
   pub others : (j : ℕ) → j % e ≢ 0 → bit_of p j ≡ false
 
-not_zero : (n : ℕ) → n ≢ 0 → (n == 0) ≡ false
+pub not_zero : (n : ℕ) → n ≢ 0 → (n == 0) ≡ false
 not_zero n ne = grind (arith, nat_tests, ne)
 
 first_byte : (size : Size) (j : ℕ) → j % bytes_in size ≡ 0 → j ≡ bytes_in size * (j / bytes_in size)
@@ -90,26 +90,32 @@ same_truth : (p : List ℕ) (j : ℕ) → truth_at p j ≡ bit_of p j
 unfolding truth_at bit_of
 same_truth p j = refl
 
--- all elements are written
-pub is_whole : (size : Size) (p : List ℕ) (bytes count : ℕ) (truth : ℕ → Bool) → predicate_bytes (truths_of p) ≡ p
-    → length p ≡ bytes → count ≡ 8 * bytes / bytes_in size → IsPredicateTo (bytes_in size) count truth p
-    → p ≡ predicate_of (bytes_in size) bytes truth
+-- bytes all of whose bits are so
+pub are_bits : (e : ℕ) (p : List ℕ) (bytes : ℕ) (truth : ℕ → Bool) → predicate_bytes (truths_of p) ≡ p → length p ≡ bytes
+    → ((j : ℕ) → j < 8 * length p → bit_of p j ≡ bit_for e truth j) → p ≡ predicate_of e bytes truth
 unfolding predicate_of
-is_whole size p bytes count truth told long all is =
+are_bits e p bytes truth told long is =
     sym told ∙ ap predicate_bytes (same_lists (truths_of p) values same each)
-    ∙ ap (λ n. predicate_bytes (map (bit_for (bytes_in size) truth) (range_with_len 0 (8 * n)))) long
+    ∙ ap (λ n. predicate_bytes (map (bit_for e truth) (range_with_len 0 (8 * n)))) long
   where
     values : List Bool
-    values = map (bit_for (bytes_in size) truth) (range_with_len 0 (8 * length p))
+    values = map (bit_for e truth) (range_with_len 0 (8 * length p))
 
     same : length (truths_of p) ≡ length values
-    same = length-truths p ∙ sym (length-map-range_with_len (bit_for (bytes_in size) truth) 0 (8 * length p))
-
-    whole : IsPredicateTo (bytes_in size) (8 * length p / bytes_in size) truth p
-    whole = subst (λ n. IsPredicateTo (bytes_in size) n truth p) (all ∙ ap (λ n. 8 * n / bytes_in size) (sym long)) is
+    same = length-truths p ∙ sym (length-map-range_with_len (bit_for e truth) 0 (8 * length p))
 
     each : (j : ℕ) (d : Bool) → j < length (truths_of p) → get_or (truths_of p) j d ≡ get_or values j d
     each j d lt =
         let below : j < 8 * length p = omega (arith, lt, length-truths p) in
-        truths-at p j d below ∙ same_truth p j ∙ each_bit size p truth whole j below
-        ∙ sym (get_or-map-range_with_len (bit_for (bytes_in size) truth) 0 (8 * length p) j j d below (omega arith))
+        truths-at p j d below ∙ same_truth p j ∙ is j below
+        ∙ sym (get_or-map-range_with_len (bit_for e truth) 0 (8 * length p) j j d below (omega arith))
+
+-- all elements are written
+pub is_whole : (size : Size) (p : List ℕ) (bytes count : ℕ) (truth : ℕ → Bool) → predicate_bytes (truths_of p) ≡ p
+    → length p ≡ bytes → count ≡ 8 * bytes / bytes_in size → IsPredicateTo (bytes_in size) count truth p
+    → p ≡ predicate_of (bytes_in size) bytes truth
+is_whole size p bytes count truth told long all is =
+    are_bits (bytes_in size) p bytes truth told long (each_bit size p truth whole)
+  where
+    whole : IsPredicateTo (bytes_in size) (8 * length p / bytes_in size) truth p
+    whole = subst (λ n. IsPredicateTo (bytes_in size) n truth p) (all ∙ ap (λ n. 8 * n / bytes_in size) (sym long)) is

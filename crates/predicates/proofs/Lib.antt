@@ -3,3 +3,5 @@ pub mod Bits
 pub mod Powers
 pub mod Loops
 pub mod Differences
+pub mod Gathered
+pub mod Whole

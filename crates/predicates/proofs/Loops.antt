@@ -28,7 +28,7 @@ replicate-last : {X : Type 0} (n : ℕ) (x : X) → replicate n x ++ x ∷ [] �
 replicate-last zero x = refl
 replicate-last (suc n) x = ap (λ t. x ∷ t) (replicate-last n x)
 
-listed_all : (f : ℕ → Bool) (n : ℕ) → ((i : ℕ) → i < n → f i ≡ true) → listed f n ≡ replicate n true
+pub listed_all : (f : ℕ → Bool) (n : ℕ) → ((i : ℕ) → i < n → f i ≡ true) → listed f n ≡ replicate n true
 unfolding listed
 listed_all f zero all = refl
 listed_all f (suc n) all =

@@ -1,6 +1,8 @@
 -- The flags of a result that is governed by a mask.
 -- Source: DDI 0487, J1.1: PredTest, FirstActive, NoneActive, LastActive.
-use Rattle.std.specs.Prelude.{Bool, false, not, if◌then◌else◌, List, [], ◌∷◌}
+use Rattle.std.specs.Prelude.{◌≡◌, ℕ, ◌<◌, ◌↔◌, Bool, false, not, if◌then◌else◌, List, [], ◌∷◌, length}
+use Rattle.std.specs.Prelude.{slice_index}
+use Rattle.std.specs.Int.{bit_at}
 use Rattle.std.specs.List.{list_any}
 use Rattle.bit_ops.specs.declared.sums.Nzcv.{Nzcv}
 
@@ -31,3 +33,8 @@ flags_of mask results = record {
   c = not (last_or false (governed mask results));
   v = false;
 }
+
+-- a bit of a number is clear exactly where it is in each byte
+abbrev pub HasBitsOfSome : ℕ → List ℕ → Type 0
+HasBitsOfSome bits p =
+    (k : ℕ) → k < 8 → (bit_at bits k ≡ 0) ↔ ((j : ℕ) → j < length p → bit_at (slice_index p j) k ≡ 0)

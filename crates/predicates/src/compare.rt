@@ -1,116 +1,307 @@
 //! Comparisons of elements.
-ghost use Rattle.std.specs.Prelude.{◌≡◌, ◌+◌, ◌*◌, ◌≤◌, ◌<◌, ◌&&◌, length};
+ghost use Rattle.std.specs.Prelude.{◌≡◌, ℕ, ◌+◌, ◌*◌, ◌≤◌, ◌<◌, ◌&&◌, Bool, ℤ, length};
+ghost use Rattle.sm_types.specs.declared.vector.CompareVectorsOp.TheVariants as vectors;
+ghost use Rattle.sm_types.specs.declared.vector.CompareImmediateOp.TheVariants as immediate;
+ghost use Rattle.vector_elements.specs.declared.size.Size.{Size as ElementSize};
 ghost use Rattle.vector_elements.specs.Elements.{element_of, is_active, active_of};
 ghost use Rattle.vector_elements.specs.Numbers.{bytes_in, range_of};
 ghost use Rattle.predicates.specs.Flags.{flags_of};
+ghost use Rattle.predicates.specs.Predicates.{predicate_of};
 ghost use Rattle.predicates.specs.Compare.{compared, compared_with, vectors_compared, immediate_compared};
 
 use crate::flags::result_flags;
-use crate::truths::{Truth, put_truths};
+use crate::marks::put_governed;
+use crate::truths::Truth;
 use bit_ops::Nzcv;
 use sm_types::{CompareImmediateOp, CompareVectorsOp};
-use vector_elements::{Size, bit, element, signed};
+use vector_elements::{Size, element, signed};
 
-/// How two elements compare.
-#[inline(always)]
-#[tactic(auto, unfolding(crate::specs::Compare::compared))]
-fn compared(op: CompareVectorsOp, size: Size, a: u64, b: u64) -> bool
-    requires a { a < range_of size }
-    requires b { b < range_of size }
-    ensures { result ≡ compared op size a b }
-{
-    match op {
-        CompareVectorsOp::Hs => a >= b,
-        CompareVectorsOp::Hi => a > b,
-        CompareVectorsOp::Ge => signed(size, a) >= signed(size, b),
-        CompareVectorsOp::Gt => signed(size, a) > signed(size, b),
-        CompareVectorsOp::Eq => a == b,
-        CompareVectorsOp::Ne => a != b,
+/// How two elements compare, each way a type of its own: so each has a loop of its own too.
+trait Comparison: Copy {
+    /// Whether they do.
+    ghost holds: { Self → ElementSize → ℕ → ℕ → Bool };
+
+    /// Whether two elements compare so.
+    fn of_two(self, size: Size, a: u64, b: u64) -> bool
+        requires a { a < range_of size }
+        requires b { b < range_of size }
+        ensures { result ≡ holds self size a b };
+}
+
+/// At least as great, without signs.
+#[derive(Clone, Copy)]
+struct HigherOrSame;
+
+impl Comparison for HigherOrSame {
+    ghost holds = { λ s size a b. compared vectors.Hs size a b };
+
+    #[inline(always)]
+    #[tactic(auto, unfolding(crate::specs::Compare::compared))]
+    fn of_two(self, _size: Size, a: u64, b: u64) -> bool {
+        a >= b
+    }
+}
+
+/// Greater, without signs.
+#[derive(Clone, Copy)]
+struct Higher;
+
+impl Comparison for Higher {
+    ghost holds = { λ s size a b. compared vectors.Hi size a b };
+
+    #[inline(always)]
+    #[tactic(auto, unfolding(crate::specs::Compare::compared))]
+    fn of_two(self, _size: Size, a: u64, b: u64) -> bool {
+        a > b
+    }
+}
+
+/// At least as great, with signs.
+#[derive(Clone, Copy)]
+struct GreaterOrEqual;
+
+impl Comparison for GreaterOrEqual {
+    ghost holds = { λ s size a b. compared vectors.Ge size a b };
+
+    #[inline(always)]
+    #[tactic(auto, unfolding(crate::specs::Compare::compared))]
+    fn of_two(self, size: Size, a: u64, b: u64) -> bool {
+        signed(size, a) >= signed(size, b)
+    }
+}
+
+/// Greater, with signs.
+#[derive(Clone, Copy)]
+struct Greater;
+
+impl Comparison for Greater {
+    ghost holds = { λ s size a b. compared vectors.Gt size a b };
+
+    #[inline(always)]
+    #[tactic(auto, unfolding(crate::specs::Compare::compared))]
+    fn of_two(self, size: Size, a: u64, b: u64) -> bool {
+        signed(size, a) > signed(size, b)
+    }
+}
+
+/// Equal.
+#[derive(Clone, Copy)]
+struct Equal;
+
+impl Comparison for Equal {
+    ghost holds = { λ s size a b. compared vectors.Eq size a b };
+
+    #[inline(always)]
+    #[tactic(auto, unfolding(crate::specs::Compare::compared))]
+    fn of_two(self, _size: Size, a: u64, b: u64) -> bool {
+        a == b
+    }
+}
+
+/// Not equal.
+#[derive(Clone, Copy)]
+struct Unequal;
+
+impl Comparison for Unequal {
+    ghost holds = { λ s size a b. compared vectors.Ne size a b };
+
+    #[inline(always)]
+    #[tactic(auto, unfolding(crate::specs::Compare::compared))]
+    fn of_two(self, _size: Size, a: u64, b: u64) -> bool {
+        a != b
     }
 }
 
 /// How an element and a signed number compare.
-#[inline(always)]
-#[tactic(auto, unfolding(crate::specs::Compare::compared_with))]
-fn compared_with(op: CompareImmediateOp, size: Size, a: u64, imm: i32) -> bool
-    requires { a < range_of size }
-    ensures { result ≡ compared_with op size a imm }
-{
-    let a = signed(size, a);
-    let imm = i64::from(imm);
-    match op {
-        CompareImmediateOp::Ge => a >= imm,
-        CompareImmediateOp::Gt => a > imm,
-        CompareImmediateOp::Lt => a < imm,
-        CompareImmediateOp::Le => a <= imm,
-        CompareImmediateOp::Eq => a == imm,
-        CompareImmediateOp::Ne => a != imm,
+trait NumberComparison: Copy {
+    /// Whether they do.
+    ghost holds: { Self → ElementSize → ℕ → ℤ → Bool };
+
+    /// Whether an element and a number compare so.
+    fn with_number(self, size: Size, a: u64, imm: i64) -> bool
+        requires { a < range_of size }
+        ensures { result ≡ holds self size a imm };
+}
+
+/// At least as great as the number.
+#[derive(Clone, Copy)]
+struct NumberGreaterOrEqual;
+
+impl NumberComparison for NumberGreaterOrEqual {
+    ghost holds = { λ s size a imm. compared_with immediate.Ge size a imm };
+
+    #[inline(always)]
+    #[tactic(auto, unfolding(crate::specs::Compare::compared_with))]
+    fn with_number(self, size: Size, a: u64, imm: i64) -> bool {
+        signed(size, a) >= imm
     }
 }
 
-/// The comparison of the active elements of two vectors.
+/// Greater than the number.
 #[derive(Clone, Copy)]
-struct OfVectors<'a> {
-    op: CompareVectorsOp,
-    pg: &'a [u8],
+struct NumberGreater;
+
+impl NumberComparison for NumberGreater {
+    ghost holds = { λ s size a imm. compared_with immediate.Gt size a imm };
+
+    #[inline(always)]
+    #[tactic(auto, unfolding(crate::specs::Compare::compared_with))]
+    fn with_number(self, size: Size, a: u64, imm: i64) -> bool {
+        signed(size, a) > imm
+    }
+}
+
+/// Less than the number.
+#[derive(Clone, Copy)]
+struct NumberLess;
+
+impl NumberComparison for NumberLess {
+    ghost holds = { λ s size a imm. compared_with immediate.Lt size a imm };
+
+    #[inline(always)]
+    #[tactic(auto, unfolding(crate::specs::Compare::compared_with))]
+    fn with_number(self, size: Size, a: u64, imm: i64) -> bool {
+        signed(size, a) < imm
+    }
+}
+
+/// At most the number.
+#[derive(Clone, Copy)]
+struct NumberLessOrEqual;
+
+impl NumberComparison for NumberLessOrEqual {
+    ghost holds = { λ s size a imm. compared_with immediate.Le size a imm };
+
+    #[inline(always)]
+    #[tactic(auto, unfolding(crate::specs::Compare::compared_with))]
+    fn with_number(self, size: Size, a: u64, imm: i64) -> bool {
+        signed(size, a) <= imm
+    }
+}
+
+/// The number.
+#[derive(Clone, Copy)]
+struct NumberEqual;
+
+impl NumberComparison for NumberEqual {
+    ghost holds = { λ s size a imm. compared_with immediate.Eq size a imm };
+
+    #[inline(always)]
+    #[tactic(auto, unfolding(crate::specs::Compare::compared_with))]
+    fn with_number(self, size: Size, a: u64, imm: i64) -> bool {
+        signed(size, a) == imm
+    }
+}
+
+/// Not the number.
+#[derive(Clone, Copy)]
+struct NumberUnequal;
+
+impl NumberComparison for NumberUnequal {
+    ghost holds = { λ s size a imm. compared_with immediate.Ne size a imm };
+
+    #[inline(always)]
+    #[tactic(auto, unfolding(crate::specs::Compare::compared_with))]
+    fn with_number(self, size: Size, a: u64, imm: i64) -> bool {
+        signed(size, a) != imm
+    }
+}
+
+/// The comparison of the elements of two vectors.
+#[derive(Clone, Copy)]
+struct OfVectors<'a, O> {
+    op: O,
     n: &'a [u8],
     m: &'a [u8],
 }
 
-impl<'a> Truth for OfVectors<'a> {
-    ghost can = { λ s size i. (bytes_in size * i < 8 * length s.pg.now)
-        × (bytes_in size * i + bytes_in size ≤ length s.n.now)
+impl<'a, O: Comparison> Truth for OfVectors<'a, O> {
+    ghost can = { λ s size i. (bytes_in size * i + bytes_in size ≤ length s.n.now)
         × (bytes_in size * i + bytes_in size ≤ length s.m.now) };
 
-    ghost gives = { λ s size i. is_active (bytes_in size) s.pg.now i && compared s.op size
+    ghost gives = { λ s size i. O.holds s.op size
         (element_of (bytes_in size) s.n.now i) (element_of (bytes_in size) s.m.now i) };
 
     #[inline(always)]
     fn holds(&self, size: Size, place: usize) -> bool {
-        let holds = compared(
-            self.op,
+        self.op.of_two(
             size,
             element(self.n, size, place),
             element(self.m, size, place),
-        );
-        bit(self.pg, size.bytes() * place) & holds
+        )
     }
 }
 
-/// The comparison of the active elements of a vector with a signed number.
+/// The comparison of the elements of a vector with a signed number.
 #[derive(Clone, Copy)]
-struct WithNumber<'a> {
-    op: CompareImmediateOp,
-    pg: &'a [u8],
+struct WithNumber<'a, O> {
+    op: O,
     n: &'a [u8],
-    imm: i32,
+    imm: i64,
 }
 
-impl<'a> Truth for WithNumber<'a> {
-    ghost can = { λ s size i. (bytes_in size * i < 8 * length s.pg.now)
-        × (bytes_in size * i + bytes_in size ≤ length s.n.now) };
+impl<'a, O: NumberComparison> Truth for WithNumber<'a, O> {
+    ghost can = { λ s size i. bytes_in size * i + bytes_in size ≤ length s.n.now };
 
-    ghost gives = { λ s size i. is_active (bytes_in size) s.pg.now i
-        && compared_with s.op size (element_of (bytes_in size) s.n.now i) s.imm };
+    ghost gives = { λ s size i. O.holds s.op size (element_of (bytes_in size) s.n.now i) s.imm };
 
     #[inline(always)]
     fn holds(&self, size: Size, place: usize) -> bool {
-        let holds = compared_with(self.op, size, element(self.n, size, place), self.imm);
-        bit(self.pg, size.bytes() * place) & holds
+        self.op
+            .with_number(size, element(self.n, size, place), self.imm)
     }
 }
 
-/// The same as `compare_vectors`, for an operation that the caller knows.
-#[inline(always)]
+/// Makes the active elements true whose elements of `n` and `m` compare so, and all others false.
+#[inline]
+fn compare_by<O: Comparison>(op: O, size: Size, pd: &mut [u8], pg: &[u8], n: &[u8], m: &[u8])
+    requires small { length pd.old ≤ 32 }
+    requires g { length pg.now ≡ length pd.old }
+    requires n { length n.now ≡ 8 * length pd.old }
+    requires m { length m.now ≡ 8 * length pd.old }
+    ensures { pd.new ≡ predicate_of (bytes_in size) (length pd.old) (λ i. is_active (bytes_in size) pg.now i
+        && O.holds op size (element_of (bytes_in size) n.now i) (element_of (bytes_in size) m.now i)) }
+{
+    put_governed(&OfVectors { op, n, m }, size, pd, pg);
+}
+
+/// Makes the active elements true whose elements of `n` compare so with a number, and all others false.
+#[inline]
+fn compare_with<O: NumberComparison>(
+    op: O,
+    size: Size,
+    pd: &mut [u8],
+    pg: &[u8],
+    n: &[u8],
+    imm: i32,
+)
+    requires small { length pd.old ≤ 32 }
+    requires g { length pg.now ≡ length pd.old }
+    requires n { length n.now ≡ 8 * length pd.old }
+    ensures { pd.new ≡ predicate_of (bytes_in size) (length pd.old) (λ i. is_active (bytes_in size) pg.now i
+        && O.holds op size (element_of (bytes_in size) n.now i) imm) }
+{
+    let imm = i64::from(imm);
+    put_governed(&WithNumber { op, n, imm }, size, pd, pg);
+}
+
+/// The comparison of `compare_vectors`, without flags.
 #[tactic(auto, unfolding(crate::specs::Compare::vectors_compared))]
-fn known_vectors(op: CompareVectorsOp, size: Size, pd: &mut [u8], pg: &[u8], n: &[u8], m: &[u8])
+fn put_compared(op: CompareVectorsOp, size: Size, pd: &mut [u8], pg: &[u8], n: &[u8], m: &[u8])
     requires small { length pd.old ≤ 32 }
     requires g { length pg.now ≡ length pd.old }
     requires n { length n.now ≡ 8 * length pd.old }
     requires m { length m.now ≡ 8 * length pd.old }
     ensures { pd.new ≡ vectors_compared op size (length pd.old) pg.now n.now m.now }
 {
-    put_truths(&OfVectors { op, pg, n, m }, size, pd);
+    match op {
+        CompareVectorsOp::Hs => compare_by(HigherOrSame, size, pd, pg, n, m),
+        CompareVectorsOp::Hi => compare_by(Higher, size, pd, pg, n, m),
+        CompareVectorsOp::Ge => compare_by(GreaterOrEqual, size, pd, pg, n, m),
+        CompareVectorsOp::Gt => compare_by(Greater, size, pd, pg, n, m),
+        CompareVectorsOp::Eq => compare_by(Equal, size, pd, pg, n, m),
+        CompareVectorsOp::Ne => compare_by(Unequal, size, pd, pg, n, m),
+    }
 }
 
 /// Makes the active elements true whose elements of `n` and `m` compare so, and all others false; with the
@@ -132,27 +323,33 @@ pub fn compare_vectors(
     ensures flags { result ≡
         flags_of (active_of (bytes_in size) pg.now) (active_of (bytes_in size) pd.new) }
 {
-    match op {
-        CompareVectorsOp::Hs => known_vectors(CompareVectorsOp::Hs, size, pd, pg, n, m),
-        CompareVectorsOp::Hi => known_vectors(CompareVectorsOp::Hi, size, pd, pg, n, m),
-        CompareVectorsOp::Ge => known_vectors(CompareVectorsOp::Ge, size, pd, pg, n, m),
-        CompareVectorsOp::Gt => known_vectors(CompareVectorsOp::Gt, size, pd, pg, n, m),
-        CompareVectorsOp::Eq => known_vectors(CompareVectorsOp::Eq, size, pd, pg, n, m),
-        CompareVectorsOp::Ne => known_vectors(CompareVectorsOp::Ne, size, pd, pg, n, m),
-    }
+    put_compared(op, size, pd, pg, n, m);
     result_flags(size, pg, pd)
 }
 
-/// The same as `compare_immediate`, for an operation that the caller knows.
-#[inline(always)]
+/// The comparison of `compare_immediate`, without flags.
 #[tactic(auto, unfolding(crate::specs::Compare::immediate_compared))]
-fn known_immediate(op: CompareImmediateOp, size: Size, pd: &mut [u8], pg: &[u8], n: &[u8], imm: i32)
+fn put_compared_with(
+    op: CompareImmediateOp,
+    size: Size,
+    pd: &mut [u8],
+    pg: &[u8],
+    n: &[u8],
+    imm: i32,
+)
     requires small { length pd.old ≤ 32 }
     requires g { length pg.now ≡ length pd.old }
     requires n { length n.now ≡ 8 * length pd.old }
     ensures { pd.new ≡ immediate_compared op size (length pd.old) pg.now n.now imm }
 {
-    put_truths(&WithNumber { op, pg, n, imm }, size, pd);
+    match op {
+        CompareImmediateOp::Ge => compare_with(NumberGreaterOrEqual, size, pd, pg, n, imm),
+        CompareImmediateOp::Gt => compare_with(NumberGreater, size, pd, pg, n, imm),
+        CompareImmediateOp::Lt => compare_with(NumberLess, size, pd, pg, n, imm),
+        CompareImmediateOp::Le => compare_with(NumberLessOrEqual, size, pd, pg, n, imm),
+        CompareImmediateOp::Eq => compare_with(NumberEqual, size, pd, pg, n, imm),
+        CompareImmediateOp::Ne => compare_with(NumberUnequal, size, pd, pg, n, imm),
+    }
 }
 
 /// Makes the active elements true whose elements of `n`, as signed numbers, compare so with a number, and all
@@ -173,13 +370,6 @@ pub fn compare_immediate(
     ensures flags { result ≡
         flags_of (active_of (bytes_in size) pg.now) (active_of (bytes_in size) pd.new) }
 {
-    match op {
-        CompareImmediateOp::Ge => known_immediate(CompareImmediateOp::Ge, size, pd, pg, n, imm),
-        CompareImmediateOp::Gt => known_immediate(CompareImmediateOp::Gt, size, pd, pg, n, imm),
-        CompareImmediateOp::Lt => known_immediate(CompareImmediateOp::Lt, size, pd, pg, n, imm),
-        CompareImmediateOp::Le => known_immediate(CompareImmediateOp::Le, size, pd, pg, n, imm),
-        CompareImmediateOp::Eq => known_immediate(CompareImmediateOp::Eq, size, pd, pg, n, imm),
-        CompareImmediateOp::Ne => known_immediate(CompareImmediateOp::Ne, size, pd, pg, n, imm),
-    }
+    put_compared_with(op, size, pd, pg, n, imm);
     result_flags(size, pg, pd)
 }

@@ -13,6 +13,7 @@ mod element_count;
 mod flags;
 mod laws;
 mod logical;
+mod marks;
 mod pattern;
 mod pattern_predicate;
 mod truths;

@@ -7,7 +7,8 @@ use Rattle.vector_elements.specs.declared.size.Size.TheVariants.{B, H, S, D}
 use Rattle.vector_elements.specs.Elements.{is_active}
 use Rattle.vector_elements.specs.Numbers.{bytes_in}
 use Rattle.mem_access.specs.DataAccess.{run_of}
-use Rattle.sve_access.specs.Elements.{element_run, low_bytes, element_addresses, element_bytes, AreActive}
+use Rattle.sve_access.specs.Elements.{element_run, low_bytes, element_addresses, element_bytes}
+use Rattle.vector_elements.specs.Active.{AreActive}
 use Rattle.sve_access.proofs.Lists.{of_first, of_active, none_first}
 
 run_same : (a b n : ℕ) → a % 2 ^ 64 ≡ b % 2 ^ 64 → run_of a n ≡ run_of b n

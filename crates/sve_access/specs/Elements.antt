@@ -1,9 +1,9 @@
 -- The bytes of the active elements of a contiguous access, in the order of their transfer.
 -- Source: DDI 0487, C8.2, LD1B to ST1D: an element is accessed where its predicate's element is active; J1.1:
 -- Mem[], Elem[].
-use Rattle.std.specs.Prelude.{◌≡◌, ℕ, ◌+◌, ◌*◌, ◌/◌, ◌%◌, ◌^◌, ◌<◌, true, List, length, take, drop, flat_map}
+use Rattle.std.specs.Prelude.{◌≡◌, ℕ, ◌+◌, ◌*◌, ◌/◌, ◌%◌, ◌^◌, List, length, take, drop, flat_map}
 use Rattle.vector_elements.specs.declared.size.Size.{Size}
-use Rattle.vector_elements.specs.Elements.{is_active}
+use Rattle.vector_elements.specs.Active.{AreActive}
 use Rattle.vector_elements.specs.Numbers.{bytes_in}
 use Rattle.sve_perm.specs.Active.{active_places}
 use Rattle.mem_access.specs.DataAccess.{run_of}
@@ -27,11 +27,6 @@ element_addresses start memory element pg = flat_map (element_run start memory) 
 -- the bytes that they store
 unfoldable pub element_bytes : List ℕ → Size → Size → List ℕ → List ℕ
 element_bytes z memory element pg = flat_map (low_bytes z memory element) (places_of element pg)
-
--- all elements are active
-abbrev pub AreActive : Size → List ℕ → Type 0
-AreActive element pg =
-    (i : ℕ) → i < 8 * length pg / bytes_in element → is_active (bytes_in element) pg i ≡ true
 
 -- the elements are one run of bytes: each is as long in memory as in the register, and all are active
 pub record IsRun (memory element : Size) (pg : List ℕ) : Type 0 where

@@ -4,10 +4,10 @@ ghost use Rattle.std.specs.Prelude.{◌↔◌, IsTrue, length, flat_map};
 ghost use Rattle.std.specs.List.{find};
 ghost use Rattle.vector_elements.specs.Elements.{is_active};
 ghost use Rattle.vector_elements.specs.Numbers.{bytes_in};
-ghost use Rattle.sve_access.specs.Elements.{element_run, element_addresses, AreActive, IsRun};
+ghost use Rattle.sve_access.specs.Elements.{element_run, element_addresses, IsRun};
 
 use crate::places::{Bytes, Check, first_of};
-use vector_elements::{Size, bit};
+use vector_elements::{Size, are_active, bit};
 
 /// The active elements of an access.
 #[derive(Clone, Copy)]
@@ -54,28 +54,13 @@ impl<'a> Elements<'a> {
         bit(self.pg, self.element.bytes() * i)
     }
 
-    /// Whether all elements are active.
-    #[inline]
-    fn are_active(&self) -> bool
-        requires { length self.now.pg.now ≤ 32 }
-        ensures { IsTrue result ↔ AreActive self.now.element self.now.pg.now }
-    {
-        for i in 0..self.count() {
-            if !self.is_active(i) {
-                return false;
-            }
-        }
-        true
-    }
-
     /// Whether the elements are one run of bytes, in memory as in the register: each is as long in one as in
     /// the other, and all are active.
     #[inline]
     pub fn are_run(&self) -> bool
-        requires { length self.now.pg.now ≤ 32 }
         ensures { IsTrue result ↔ IsRun self.now.memory self.now.element self.now.pg.now }
     {
-        self.memory.bytes() == self.element.bytes() && self.are_active()
+        self.memory.bytes() == self.element.bytes() && are_active(self.pg, self.element)
     }
 
     /// The address of element `i`.

@@ -5,7 +5,7 @@ ghost use Rattle.paged_memory.specs.Memory.{first_without};
 ghost use Rattle.mem_access.specs.Checks.{lacks};
 ghost use Rattle.mem_access.specs.DataAccess.{run_of};
 ghost use Rattle.mem_access.specs.Values.{number_at};
-ghost use Rattle.vector_elements.specs.Elements.{element_of, is_active, each_or_zero};
+ghost use Rattle.vector_elements.specs.Elements.{element_of, is_active, each_element, each_or_zero};
 ghost use Rattle.vector_elements.specs.Numbers.{bytes_in};
 ghost use Rattle.sve_access.specs.Contiguous.{memory_size, element_size, loaded};
 ghost use Rattle.sve_access.specs.Elements.{element_run, element_addresses};
@@ -15,7 +15,7 @@ use crate::elements::Elements;
 use mem_access::read_number;
 use paged_memory::Pages;
 use sm_types::LoadType;
-use vector_elements::{Change, Size, change_each, change_or_zero, element};
+use vector_elements::{Change, Size, are_active, change_each, change_marked_or_zero, element};
 
 /// The element that a load makes of the bytes at an address, which can be read.
 #[inline]
@@ -81,7 +81,45 @@ impl<'a> Change for OfBytes<'a> {
     }
 }
 
-/// The same as `load_from`, for a load that the caller knows.
+/// The same as `load_all`, for a load that the caller knows.
+#[inline(always)]
+fn load_all_known(kind: LoadType, z: &mut [u8], bytes: &[u8])
+    requires whole { length z.old % bytes_in (element_size kind) ≡ 0 }
+    requires bytes { length bytes.now ≡ length z.old / bytes_in (element_size kind) * bytes_in (memory_size kind) }
+    ensures { z.new ≡ each_element (bytes_in (element_size kind)) z.old (λ i old.
+        loaded kind (element_of (bytes_in (memory_size kind)) bytes.now i)) }
+{
+    change_each(&OfBytes { kind, bytes }, element_size(kind), z);
+}
+
+/// Loads all elements of a vector from their bytes. With a loop for each load.
+fn load_all(kind: LoadType, z: &mut [u8], bytes: &[u8])
+    requires whole { length z.old % bytes_in (element_size kind) ≡ 0 }
+    requires bytes { length bytes.now ≡ length z.old / bytes_in (element_size kind) * bytes_in (memory_size kind) }
+    ensures { z.new ≡ each_element (bytes_in (element_size kind)) z.old (λ i old.
+        loaded kind (element_of (bytes_in (memory_size kind)) bytes.now i)) }
+{
+    match kind {
+        LoadType::ByteToB => load_all_known(LoadType::ByteToB, z, bytes),
+        LoadType::ByteToH => load_all_known(LoadType::ByteToH, z, bytes),
+        LoadType::ByteToS => load_all_known(LoadType::ByteToS, z, bytes),
+        LoadType::ByteToD => load_all_known(LoadType::ByteToD, z, bytes),
+        LoadType::SignedWordToD => load_all_known(LoadType::SignedWordToD, z, bytes),
+        LoadType::HalfwordToH => load_all_known(LoadType::HalfwordToH, z, bytes),
+        LoadType::HalfwordToS => load_all_known(LoadType::HalfwordToS, z, bytes),
+        LoadType::HalfwordToD => load_all_known(LoadType::HalfwordToD, z, bytes),
+        LoadType::SignedHalfwordToD => load_all_known(LoadType::SignedHalfwordToD, z, bytes),
+        LoadType::SignedHalfwordToS => load_all_known(LoadType::SignedHalfwordToS, z, bytes),
+        LoadType::WordToS => load_all_known(LoadType::WordToS, z, bytes),
+        LoadType::WordToD => load_all_known(LoadType::WordToD, z, bytes),
+        LoadType::SignedByteToD => load_all_known(LoadType::SignedByteToD, z, bytes),
+        LoadType::SignedByteToS => load_all_known(LoadType::SignedByteToS, z, bytes),
+        LoadType::SignedByteToH => load_all_known(LoadType::SignedByteToH, z, bytes),
+        LoadType::DoublewordToD => load_all_known(LoadType::DoublewordToD, z, bytes),
+    }
+}
+
+/// The same as `load_marked`, for a load that the caller knows.
 #[inline(always)]
 fn load_known(kind: LoadType, pg: &[u8], z: &mut [u8], bytes: &[u8])
     requires small { length pg.now ≤ 32 }
@@ -90,12 +128,12 @@ fn load_known(kind: LoadType, pg: &[u8], z: &mut [u8], bytes: &[u8])
     ensures { z.new ≡ each_or_zero (bytes_in (element_size kind)) pg.now z.old (λ i old.
         loaded kind (element_of (bytes_in (memory_size kind)) bytes.now i)) }
 {
-    change_or_zero(&OfBytes { kind, bytes }, element_size(kind), z, pg);
+    change_marked_or_zero(&OfBytes { kind, bytes }, element_size(kind), z, pg);
 }
 
-/// Loads the active elements of a vector from the bytes of all elements; the others become zero. With a loop
-/// for each load.
-fn load_from(kind: LoadType, pg: &[u8], z: &mut [u8], bytes: &[u8])
+/// Loads the active elements of a vector from the bytes of all elements, by a mask of the predicate; the others
+/// become zero. With a loop for each load.
+fn load_marked(kind: LoadType, pg: &[u8], z: &mut [u8], bytes: &[u8])
     requires small { length pg.now ≤ 32 }
     requires bits { length z.old ≡ 8 * length pg.now }
     requires bytes { length bytes.now ≡ length z.old / bytes_in (element_size kind) * bytes_in (memory_size kind) }
@@ -119,6 +157,23 @@ fn load_from(kind: LoadType, pg: &[u8], z: &mut [u8], bytes: &[u8])
         LoadType::SignedByteToS => load_known(LoadType::SignedByteToS, pg, z, bytes),
         LoadType::SignedByteToH => load_known(LoadType::SignedByteToH, pg, z, bytes),
         LoadType::DoublewordToD => load_known(LoadType::DoublewordToD, pg, z, bytes),
+    }
+}
+
+/// Loads the active elements of a vector from the bytes of all elements; the others become zero. Mostly all
+/// elements are active.
+#[inline]
+fn load_from(kind: LoadType, pg: &[u8], z: &mut [u8], bytes: &[u8])
+    requires small { length pg.now ≤ 32 }
+    requires bits { length z.old ≡ 8 * length pg.now }
+    requires bytes { length bytes.now ≡ length z.old / bytes_in (element_size kind) * bytes_in (memory_size kind) }
+    ensures { z.new ≡ each_or_zero (bytes_in (element_size kind)) pg.now z.old (λ i old.
+        loaded kind (element_of (bytes_in (memory_size kind)) bytes.now i)) }
+{
+    if are_active(pg, element_size(kind)) {
+        load_all(kind, z, bytes);
+    } else {
+        load_marked(kind, pg, z, bytes);
     }
 }
 

@@ -158,3 +158,17 @@ impl<'a, O: Ternary> Change for WithVectors<'a, O> {
         )
     }
 }
+
+/// Changes the active elements of `d` by those of `n` and `m`; the others keep their value.
+#[inline]
+pub fn active_with_both<O: Ternary>(op: O, size: Size, d: &mut [u8], p: &[u8], n: &[u8], m: &[u8])
+    requires n { length d.old ≡ length n.now }
+    requires m { length d.old ≡ length m.now }
+    requires whole { length d.old % bytes_in size ≡ 0 }
+    requires bits { length d.old ≡ 8 * length p.now }
+    requires small { length d.old ≤ 256 }
+    ensures { d.new ≡ each_active (bytes_in size) p.now d.old (λ i a. O.gives op size a
+        (element_of (bytes_in size) n.now i) (element_of (bytes_in size) m.now i)) }
+{
+    change_active(&WithVectors { op, n, m }, size, d, p);
+}

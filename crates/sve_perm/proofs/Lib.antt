@@ -1,2 +1,3 @@
 pub mod Permuted
 pub mod Sums
+pub mod Pairs

@@ -6,7 +6,7 @@ use Rattle.std.proofs.lemmas.List.{get_or-map, length-map, length-take-le, map-s
 use Rattle.sve_vectors.specs.Lengths.{current_bytes}
 use Rattle.sve_vectors.specs.Predicates.{truths_of}
 use Rattle.sve_vectors.specs.Registers.{VectorRegisters, AreOfLength}
-use Rattle.sve_vectors.specs.State.{SveState}
+use Rattle.sve_vectors.specs.State.{SveState, with_vector}
 use Rattle.sve_vectors.specs.Layout.{registers_of_rows, state_of_rows, room_of, items_of, AreRows, IsLaidOut}
 use Rattle.sve_vectors.specs.declared.vectors.Vectors.TheInside.{Inside}
 use Rattle.sve_vectors.specs.Lending.{overwritten, with_vector_bytes, with_predicate_bytes, with_ffr_bytes}
@@ -75,6 +75,23 @@ ffr-set bytes z p ffr w le =
     ap (λ (t : List Bool). record (registers_of_rows bytes z p ffr) { ffr = t })
     (ap truths_of (take-overwritten ffr w (bytes / 8) le) ∙ truths-overwritten (take (bytes / 8) ffr) w)
 
+-- the rows with another row in the place of one
+swapped_rows : (rows : List (List ℕ)) (m size n : ℕ) (row : List ℕ) → n < m → length row ≡ size → AreRows m size rows
+    → AreRows m size (set rows n row)
+swapped_rows rows m size n row lt is h = record { count = length-set rows n row ∙ h.count; long = long }
+  where
+    long : (k : ℕ) → k < m → length (get_or (set rows n row) k []) ≡ size
+    long k l = elim (cases_eq k n) [
+      | inl e ↦ rw e (ap length (get_or-set_same rows n row [] (omega (arith, h.count))) ∙ is)
+      | inr e ↦ ap length (get_or-set_other rows n k row [] e) ∙ h.long k l
+    ]
+
+registers-swapped : (bytes n : ℕ) (z p : List (List ℕ)) (ffr row : List ℕ) → registers_of_rows bytes (set z n row) p ffr
+    ≡ record (registers_of_rows bytes z p ffr) { vectors = set (registers_of_rows bytes z p ffr).vectors n (take bytes row) }
+unfolding registers_of_rows
+registers-swapped bytes n z p ffr row =
+    ap (λ (t : List (List ℕ)). record (registers_of_rows bytes z p ffr) { vectors = t }) (map-set (take bytes) z n row)
+
 -- v is what a `Vectors` has
 module _ (v : Inside)
     (h : IsLaidOut v.vl v.svl v.streaming v.current (items_of v.z.items) (items_of v.p.items) v.ffr.items) where
@@ -133,6 +150,22 @@ module _ (v : Inside)
     current = h.current;
     vectors = rw (lent_rows v.z.items n row w (omega (arith, h.vectors.count, length-items v.z.items)) is)
         (still_rows z 32 room n w lt h.vectors);
+    predicates = h.predicates;
+    first_fault = h.first_fault;
+  }
+
+  -- the same of another row in the place of one
+  pub vector_swapped : (n : ℕ) (row : Vec ℕ Global)
+      → state (items_of (set v.z.items n row)) p v.ffr.items ≡ with_vector (state z p v.ffr.items) n (take v.current row.items)
+  vector_swapped n row =
+      ap (λ t. state t p v.ffr.items) (items-set v.z.items n row)
+      ∙ ap with_registers (registers-swapped v.current n z p v.ffr.items row.items)
+
+  pub swapped_kept : (n : ℕ) (row : Vec ℕ Global) → n < 32 → length row.items ≡ room
+      → IsLaidOut v.vl v.svl v.streaming v.current (items_of (set v.z.items n row)) p v.ffr.items
+  swapped_kept n row lt is = record {
+    current = h.current;
+    vectors = rw (items-set v.z.items n row) (swapped_rows z 32 room n row.items lt is h.vectors);
     predicates = h.predicates;
     first_fault = h.first_fault;
   }

@@ -1,15 +1,18 @@
 //! The registers, a row of bytes each.
-ghost use Rattle.std.specs.Prelude.{◌≡◌, ℕ, ◌<◌, ◌≤◌, ◌/◌, ◌%◌, [], length, slice_index_or, false, IfOk};
+ghost use Rattle.std.specs.Prelude.{◌≡◌, ℕ, ◌<◌, ◌≤◌, ◌/◌, ◌%◌, [], length, take, false, IfOk};
+ghost use Rattle.std.specs.Prelude.{slice_index_or};
 ghost use Rattle.std.specs.Borrow.{sem};
 ghost use Rattle.sve_vectors.specs.Predicates.{truths_of};
 ghost use Rattle.sve_vectors.specs.Registers.{AreOfLength};
-ghost use Rattle.sve_vectors.specs.State.{length_of, with_streaming, zero_state};
+ghost use Rattle.sve_vectors.specs.Layout.{room_of};
+ghost use Rattle.sve_vectors.specs.State.{length_of, with_streaming, with_vector, zero_state};
 ghost use Rattle.sve_vectors.specs.Lending.{LendsVector, LendsPredicate, LendsFfr};
 
 use crate::rows::{clear, clear_rows, front, zero_row, zero_rows};
 use sm_types::{Memory, VecLen};
 use std::alloc::{AllocError, Global};
 use std::marker::Model;
+use std::mem;
 
 /// The vector and predicate registers of a guest thread, in and outside Streaming SVE mode.
 #[derive(Drop)]
@@ -23,6 +26,8 @@ pub struct Vectors {
     z: Vec<Vec<u8>>,
     p: Vec<Vec<u8>>,
     ffr: Vec<u8>,
+    /// A row that no register has, for the next vector that is written as a whole.
+    spare: Option<Vec<u8>>,
 }
 
 impl Model for Vectors {
@@ -61,6 +66,7 @@ impl Vectors {
             z: zero_rows(alloc, 32, room)?,
             p: zero_rows(alloc, 16, room / 8)?,
             ffr: zero_row(alloc, room / 8)?,
+            spare: Some(zero_row(alloc, room)?),
         })
     }
 
@@ -78,6 +84,17 @@ impl Vectors {
         ensures { result ≡ self.now.svl }
     {
         self.svl
+    }
+
+    /// Makes a row Z`n`'s, and keeps the one that it had.
+    #[inline]
+    fn swap_row(&mut self, n: u8, row: Vec<u8>)
+        requires n { n < 32 }
+        requires long { length row.items ≡ room_of self.old.vl self.old.svl }
+        ensures { self.new ≡ with_vector self.old n (take (length_of self.old) row.items) }
+    {
+        let old = mem::replace(&mut self.z[usize::from(n)], row);
+        self.spare = Some(old);
     }
 
     /// PSTATE.SM.
@@ -138,6 +155,30 @@ impl Vectors {
     {
         let bytes = self.current;
         self.z[usize::from(n)].slice_mut(..bytes)
+    }
+
+    /// A row for a vector that is to be written as a whole, if there is one: some bytes, mostly L or more.
+    #[inline]
+    pub fn take_spare(&mut self) -> Option<Vec<u8>>
+        ensures { self.new ≡ self.old }
+    {
+        self.spare.take()
+    }
+
+    /// Makes the first L bytes of a row Z`n`; mostly the row itself becomes the register's, and the row that
+    /// it had is the spare one.
+    #[inline]
+    pub fn put_z(&mut self, n: u8, row: Vec<u8>)
+        requires n { n < 32 }
+        requires long { length_of self.old ≤ length row.items }
+        ensures { self.new ≡ with_vector self.old n (take (length_of self.old) row.items) }
+    {
+        if row.len() == self.z[usize::from(n)].len() {
+            self.swap_row(n, row);
+        } else {
+            let bytes = self.current;
+            self.z_mut(n).copy_from_slice(&row[..bytes]);
+        }
     }
 
     /// P`n`, of L / 8 bytes: bit i % 8 of byte i / 8 is for byte i of a vector.

@@ -5,11 +5,11 @@ use Rattle.std.specs.Simd.Lanes.{digits_l}
 use Rattle.std.proofs.lemmas.Bool.{and_parts, cases_lt}
 use Rattle.vector_elements.specs.Spread.{IsSpread}
 
-all_below : (ℕ → Bool) → ℕ → Bool
+unfoldable pub all_below : (ℕ → Bool) → ℕ → Bool
 all_below test zero = true
 all_below test (suc n) = all_below test n && test n
 
-all_below-at : (test : ℕ → Bool) (n k : ℕ) → all_below test n ≡ true → k < n → test k ≡ true
+pub all_below-at : (test : ℕ → Bool) (n k : ℕ) → all_below test n ≡ true → k < n → test k ≡ true
 unfolding all_below
 all_below-at test zero k all none = absurd (omega arith)
 all_below-at test (suc n) k all below =
@@ -19,11 +19,11 @@ all_below-at test (suc n) k all below =
       | inr last ↦ (let here : k ≡ n = omega arith in ap test here ∙ parts.1)
     ]
 
-is_same : Bool → Bool → Bool
+unfoldable pub is_same : Bool → Bool → Bool
 is_same true b = b
 is_same false b = not b
 
-same : (a b : Bool) → is_same a b ≡ true → a ≡ b
+pub same : (a b : Bool) → is_same a b ≡ true → a ≡ b
 unfolding is_same
 same true true e = refl
 same true false e = sym e

@@ -2,3 +2,4 @@ pub mod Elements
 pub mod Numbers
 pub mod Laws
 pub mod Spread
+pub mod Active

@@ -6,7 +6,8 @@ ghost use Rattle.vector_elements.specs.Numbers.{bytes_in, range_of};
 
 use crate::size::Size;
 
-/// Element `i` of a vector.
+/// Element `i` of a vector. It is copied before it is read as a number, so that it is one load: were its
+/// bytes put together, the one of the sign would be loaded apart, and no loop over elements vectorized.
 #[inline(always)]
 #[tactic(auto, unfolding(crate::specs::Elements::element_of))]
 pub fn element(bytes: &[u8], size: Size, i: usize) -> u64
@@ -16,23 +17,21 @@ pub fn element(bytes: &[u8], size: Size, i: usize) -> u64
 {
     match size {
         Size::B => u64::from(bytes[i]),
-        Size::H => u64::from(u16::from_le_bytes([bytes[2 * i], bytes[2 * i + 1]])),
-        Size::S => u64::from(u32::from_le_bytes([
-            bytes[4 * i],
-            bytes[4 * i + 1],
-            bytes[4 * i + 2],
-            bytes[4 * i + 3],
-        ])),
-        Size::D => u64::from_le_bytes([
-            bytes[8 * i],
-            bytes[8 * i + 1],
-            bytes[8 * i + 2],
-            bytes[8 * i + 3],
-            bytes[8 * i + 4],
-            bytes[8 * i + 5],
-            bytes[8 * i + 6],
-            bytes[8 * i + 7],
-        ]),
+        Size::H => {
+            let mut halfword = [0u8; 2];
+            halfword.copy_from_slice(&bytes[2 * i..2 * i + 2]);
+            u64::from(u16::from_le_bytes(halfword))
+        }
+        Size::S => {
+            let mut word = [0u8; 4];
+            word.copy_from_slice(&bytes[4 * i..4 * i + 4]);
+            u64::from(u32::from_le_bytes(word))
+        }
+        Size::D => {
+            let mut doubleword = [0u8; 8];
+            doubleword.copy_from_slice(&bytes[8 * i..8 * i + 8]);
+            u64::from_le_bytes(doubleword)
+        }
     }
 }
 

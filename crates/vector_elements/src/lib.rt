@@ -13,6 +13,7 @@ mod size;
 
 pub use access::{bit, element, set_element};
 pub use laws::{change_gives_elements, change_keeps_inactive};
-pub use loops::{Change, change_active, change_each, change_or_zero};
+pub use loops::{Change, change_active, change_each, change_marked_or_zero, change_or_zero};
+pub use mask::{are_active, element_bits};
 pub use number::{low_bits, signed, wrapped};
 pub use size::Size;

@@ -6,7 +6,7 @@ ghost use Rattle.vector_elements.specs.Numbers.{bytes_in, range_of};
 
 use crate::access::{element, set_element};
 use crate::governed::{Merging, Zeroing};
-use crate::mask::expand;
+use crate::mask::{are_active, expand};
 use crate::size::Size;
 
 /// What an element of a vector becomes, by its place and by what it was.
@@ -52,9 +52,9 @@ pub fn change_each<C: Change>(change: &C, size: Size, d: &mut [u8])
     }
 }
 
-/// Changes the active elements of a vector; the others keep their value.
+/// Changes the elements of a vector that a mask of the predicate marks; the others keep their value.
 #[inline(always)]
-pub fn change_active<C: Change>(change: &C, size: Size, d: &mut [u8], p: &[u8])
+fn change_marked<C: Change>(change: &C, size: Size, d: &mut [u8], p: &[u8])
     requires can { (i : ℕ) → bytes_in size * i + bytes_in size ≤ length d.old → C.can change.now size i }
     requires whole { length d.old % bytes_in size ≡ 0 }
     requires bits { length d.old ≡ 8 * length p.now }
@@ -73,9 +73,27 @@ pub fn change_active<C: Change>(change: &C, size: Size, d: &mut [u8], p: &[u8])
     );
 }
 
-/// Changes the active elements of a vector; the others become zero.
+/// Changes the active elements of a vector; the others keep their value.
+/// Where all are active no mask is made.
 #[inline(always)]
-pub fn change_or_zero<C: Change>(change: &C, size: Size, d: &mut [u8], p: &[u8])
+pub fn change_active<C: Change>(change: &C, size: Size, d: &mut [u8], p: &[u8])
+    requires can { (i : ℕ) → bytes_in size * i + bytes_in size ≤ length d.old → C.can change.now size i }
+    requires whole { length d.old % bytes_in size ≡ 0 }
+    requires bits { length d.old ≡ 8 * length p.now }
+    requires small { length d.old ≤ 256 }
+    ensures { d.new ≡ each_active (bytes_in size) p.now d.old (C.gives change.now size) }
+{
+    if are_active(p, size) {
+        change_each(change, size, d);
+    } else {
+        change_marked(change, size, d, p);
+    }
+}
+
+/// Changes the elements of a vector that a mask of the predicate marks; the others become zero. For callers that
+/// ask whether all are active themselves.
+#[inline(always)]
+pub fn change_marked_or_zero<C: Change>(change: &C, size: Size, d: &mut [u8], p: &[u8])
     requires can { (i : ℕ) → bytes_in size * i + bytes_in size ≤ length d.old → C.can change.now size i }
     requires whole { length d.old % bytes_in size ≡ 0 }
     requires bits { length d.old ≡ 8 * length p.now }
@@ -92,4 +110,21 @@ pub fn change_or_zero<C: Change>(change: &C, size: Size, d: &mut [u8], p: &[u8])
         size,
         d,
     );
+}
+
+/// Changes the active elements of a vector; the others become zero.
+/// Where all are active no mask is made.
+#[inline(always)]
+pub fn change_or_zero<C: Change>(change: &C, size: Size, d: &mut [u8], p: &[u8])
+    requires can { (i : ℕ) → bytes_in size * i + bytes_in size ≤ length d.old → C.can change.now size i }
+    requires whole { length d.old % bytes_in size ≡ 0 }
+    requires bits { length d.old ≡ 8 * length p.now }
+    requires small { length d.old ≤ 256 }
+    ensures { d.new ≡ each_or_zero (bytes_in size) p.now d.old (C.gives change.now size) }
+{
+    if are_active(p, size) {
+        change_each(change, size, d);
+    } else {
+        change_marked_or_zero(change, size, d, p);
+    }
 }

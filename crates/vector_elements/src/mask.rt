@@ -1,7 +1,9 @@
 //! A predicate with a byte for each bit, so that a loop over elements reads both in the same way.
 ghost use Rattle.std.specs.Prelude.{◌≡◌, ℕ, ◌+◌, ◌*◌, ◌/◌, ◌%◌, ◌^◌, ◌<◌, ◌≤◌, ◌==◌, not, length, slice_index};
+ghost use Rattle.std.specs.Prelude.{◌↔◌, IsTrue};
 ghost use Rattle.std.specs.Simd.Lanes.{digits_l};
 ghost use Rattle.vector_elements.specs.Elements.{bit_of};
+ghost use Rattle.vector_elements.specs.Active.{AreActive, HasCommonBits, element_bits};
 ghost use Rattle.vector_elements.specs.Spread.{IsSpread};
 ghost use Rattle.vector_elements.specs.Numbers.{bytes_in};
 
@@ -44,6 +46,40 @@ pub fn expand(p: &[u8], mask: &mut [u8])
     for i in 0..p.len() {
         put_spread(mask, i, p[i]);
     }
+}
+
+/// The bits of a byte of a predicate that are of elements.
+#[inline(always)]
+pub fn element_bits(size: Size) -> u8
+    ensures { result ≡ element_bits size }
+{
+    match size {
+        Size::B => 0xff,
+        Size::H => 0x55,
+        Size::S => 0x11,
+        Size::D => 0x01,
+    }
+}
+
+/// The bits that are set in each byte.
+#[inline(always)]
+fn common_bits(p: &[u8]) -> u8
+    ensures { HasCommonBits result p.now }
+{
+    let mut bits = 0xff;
+    for i in 0..p.len() {
+        bits = bits & p[i];
+    }
+    bits
+}
+
+/// Whether all elements are active.
+#[inline(always)]
+pub fn are_active(p: &[u8], size: Size) -> bool
+    ensures { IsTrue result ↔ AreActive size p.now }
+{
+    let bits = element_bits(size);
+    common_bits(p) & bits == bits
 }
 
 /// Whether the lowest byte of element `i` of a mask is not zero.

@@ -1,5 +1,5 @@
 //! Vectors that are changed in a copy, whatever registers are read meanwhile.
-ghost use Rattle.std.specs.Prelude.{◌≡◌, ℕ, ◌<◌, List, length};
+ghost use Rattle.std.specs.Prelude.{◌≡◌, ℕ, ◌<◌, ◌≤◌, List, length};
 ghost use Rattle.sve_vectors.specs.Registers.{VectorRegisters};
 ghost use Rattle.sve_vectors.specs.State.{length_of};
 ghost use Rattle.vector_step.specs.Registers.{vector_at, vector_written, with_registers};
@@ -23,11 +23,11 @@ pub trait VectorChange {
         ensures { d.new ≡ gives self.now vectors.now.registers d.old };
 }
 
-/// Changes a copy of vector `n`, and writes it to vector `d`. The registers that the change reads may be
-/// `d` too.
-#[inline(always)]
+/// The same as `change_vector`, by a copy that is written back.
+#[cold]
+#[inline(never)]
 #[tactic(auto, using(sve_vectors::proofs::Whole::vector_whole, crate::proofs::Sizes::is_length))]
-pub fn change_vector<C: VectorChange>(vectors: &mut Vectors, n: u8, d: u8, change: &C)
+fn change_in_room<C: VectorChange>(vectors: &mut Vectors, n: u8, d: u8, change: &C)
     requires n { n < 32 }
     requires d { d < 32 }
     requires can { C.can change.now }
@@ -40,4 +40,43 @@ pub fn change_vector<C: VectorChange>(vectors: &mut Vectors, n: u8, d: u8, chang
     bytes.copy_from_slice(vectors.z(n));
     change.apply(vectors, bytes);
     vectors.z_mut(d).copy_from_slice(bytes);
+}
+
+/// The same as `change_vector`, in a row that is made the register's.
+#[inline(always)]
+#[tactic(auto, using(crate::proofs::Sizes::is_length))]
+fn change_in_row<C: VectorChange>(vectors: &mut Vectors, n: u8, d: u8, change: &C, mut row: Vec<u8>)
+    requires n { n < 32 }
+    requires d { d < 32 }
+    requires can { C.can change.now }
+    requires room { length_of vectors.old ≤ length row.items }
+    ensures { vectors.new ≡ with_registers vectors.old (vector_written vectors.old.registers d
+        (C.gives change.now vectors.old.registers (vector_at vectors.old.registers n))) }
+{
+    let length = vectors.length();
+    let front = row.slice_mut(..length);
+    front.copy_from_slice(vectors.z(n));
+    change.apply(vectors, front);
+    vectors.put_z(d, row);
+}
+
+/// Changes a copy of vector `n`, and makes it vector `d`. The registers that the change reads may be `d` too.
+#[inline(always)]
+pub fn change_vector<C: VectorChange>(vectors: &mut Vectors, n: u8, d: u8, change: &C)
+    requires n { n < 32 }
+    requires d { d < 32 }
+    requires can { C.can change.now }
+    ensures { vectors.new ≡ with_registers vectors.old (vector_written vectors.old.registers d
+        (C.gives change.now vectors.old.registers (vector_at vectors.old.registers n))) }
+{
+    match vectors.take_spare() {
+        Some(row) => {
+            if vectors.length() <= row.len() {
+                change_in_row(vectors, n, d, change, row);
+            } else {
+                change_in_room(vectors, n, d, change);
+            }
+        }
+        None => change_in_room(vectors, n, d, change),
+    }
 }

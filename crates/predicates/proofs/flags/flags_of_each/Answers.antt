@@ -2,7 +2,7 @@ use Rattle.std.proofs.Common.{◌≡◌, ◌*◌, ◌/◌, length, arith, ap, �
 use Rattle.vector_elements.specs.Numbers.{bytes_in}
 use Rattle.vector_elements.specs.Elements.{bit_of}
 use Rattle.predicates.proofs.Governed.{tells_none, tells_further, flags_are}
-use Rattle.predicates.proofs.flags.result_flags.Goals as goal
+use Rattle.predicates.proofs.flags.flags_of_each.Goals as goal
 
 pub loop-i-init : goal.loop-i-init
 loop-i-init c = tells_none _ _ _
