@@ -6,7 +6,7 @@ use Rattle.std.proofs.lemmas.List.{take_all}
 use Rattle.std.specs.List.{prefix_len, position_or_len, position}
 use Rattle.std.specs.Prelude.{option_map}
 use Rattle.report_reader.specs.Fields.{ended}
-use Rattle.report_reader.specs.Lines.{lines_of, words_in, onto_first}
+use Rattle.report_reader.specs.Lines.{lines_of, words_in, onto_first, with_first}
 
 -- ---- words
 
@@ -98,3 +98,54 @@ has_word a (b ∷ bs) = ap (λ ws. option_map (λ said. said.0) (ended a ws)) (w
     onto_some : {A : Type 0} (a : A) (b : ℕ) (ws : List (List ℕ)) → option_map (λ said. said.0) (ended a (onto_first b ws)) ≡ None
     onto_some a b [] = refl
     onto_some a b (w ∷ ws) = refl
+
+-- ---- lines
+
+line_cons : (b : ℕ) (bs : List ℕ) → lines_of (b ∷ bs) ≡ cond (b == 10) ((b ∷ []) ∷ lines_of bs) (onto_first b (lines_of bs))
+unfolding lines_of
+line_cons b bs = refl
+
+pub no_lines : lines_of [] ≡ []
+unfolding lines_of
+no_lines = refl
+
+cut_line : (text : List ℕ) → place (λ b. b == 10) text < length text → lines_of text
+    ≡ take (suc (place (λ b. b == 10) text)) text ∷ lines_of (drop (suc (place (λ b. b == 10) text)) text)
+cut_line [] l = absurd (omega arith)
+cut_line (b ∷ bs) l = line_cons b bs ∙ (
+    let k = place (λ b. b == 10) bs in
+    elim (b == 10) as (λ t. cond (not t) (1 + k) 0 < suc (length bs) → cond t ((b ∷ []) ∷ lines_of bs) (onto_first b (lines_of bs))
+    ≡ take (suc (cond (not t) (1 + k) 0)) (b ∷ bs) ∷ lines_of (drop (suc (cond (not t) (1 + k) 0)) (b ∷ bs))) [
+      | true ↦ λ l. refl
+      | false ↦ λ l. ap (onto_first b) (cut_line bs (more k (length bs) l))
+          ∙ ap (λ n. take (suc n) (b ∷ bs) ∷ lines_of (drop (suc n) (b ∷ bs))) (is_suc k)
+    ] l)
+
+one_line : (text : List ℕ) → length text ≤ place (λ b. b == 10) text → lines_of text ≡ with_first text []
+one_line [] l = no_lines
+one_line (b ∷ bs) l = line_cons b bs ∙ (
+    let k = place (λ b. b == 10) bs in
+    elim (b == 10) as (λ t. suc (length bs) ≤ cond (not t) (1 + k) 0 → cond t ((b ∷ []) ∷ lines_of bs) (onto_first b (lines_of bs))
+    ≡ (b ∷ bs) ∷ []) [
+      | true ↦ λ l. absurd (omega arith)
+      | false ↦ λ l. ap (onto_first b) (one_line bs (less k (length bs) l)) ∙ put_first b bs
+    ] l)
+  where
+    put_first : (b : ℕ) (bs : List ℕ) → onto_first b (with_first bs []) ≡ (b ∷ bs) ∷ []
+    put_first b [] = refl
+    put_first b (c ∷ cs) = refl
+
+first_is : (k : ℕ) (text : List ℕ) (lines : List (List ℕ)) → k < length text → take (suc k) text ∷ lines ≡ with_first (take (suc k) text) lines
+first_is k [] lines l = absurd (omega arith)
+first_is k (b ∷ bs) lines l = refl
+
+pub line_found : (text : List ℕ) (at : ℕ) → Some at ≡ position (λ b. b == 10) text
+    → lines_of text ≡ with_first (take (at + 1) text) (lines_of (drop (at + 1) text))
+line_found text at e =
+    let it = found_at (place (λ b. b == 10) text) (length text) at e in
+    let next : suc (place (λ b. b == 10) text) ≡ at + 1 = omega (arith, it.0) in
+    cut_line text it.1 ∙ first_is (place (λ b. b == 10) text) text _ it.1
+    ∙ ap (λ n. with_first (take n text) (lines_of (drop n text))) next
+
+pub line_alone : (text : List ℕ) → None ≡ position (λ b. b == 10) text → lines_of text ≡ with_first text (lines_of [])
+line_alone text e = one_line text (not_found (place (λ b. b == 10) text) (length text) e) ∙ ap (with_first text) (sym no_lines)

@@ -5,4 +5,5 @@ pub mod Forms
 pub mod Stops
 pub mod Events
 pub mod Header
+pub mod Reading
 pub mod Told

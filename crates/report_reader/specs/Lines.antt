@@ -1,5 +1,5 @@
 -- The lines of a text, and the words of a line.
-use Rattle.std.specs.Prelude.{ℕ, ◌-◌, ◌==◌, ◌||◌, Bool, List, [], ◌∷◌, length, take, slice_index, nat_le}
+use Rattle.std.specs.Prelude.{ℕ, ◌-◌, ◌==◌, ◌||◌, Bool, List, [], ◌∷◌, length, take, slice_index, nat_lt, not}
 use Rattle.std.specs.Prelude.{if◌then◌else◌}
 use Rattle.std.specs.List.{before_first}
 use Rattle.std.specs.Str.{bytes_eq}
@@ -34,4 +34,9 @@ begins_with name line = bytes_eq (before_first (λ b. (b == 32) || (b == 10)) li
 
 -- it is UTF-8
 unfoldable pub is_text : List ℕ → Bool
-is_text line = nat_le (length line) (utf8_valid_len line)
+is_text line = not (nat_lt (utf8_valid_len line) (length line))
+
+-- a line put before others, where it is not empty
+abbrev pub with_first : List ℕ → List (List ℕ) → List (List ℕ)
+with_first [] lines = lines
+with_first (b ∷ bs) lines = (b ∷ bs) ∷ lines

@@ -3,6 +3,8 @@
 #![tactic(auto)]
 
 mod numbers;
+mod fault;
+mod lines;
 mod fields;
 mod forms;
 mod stops;

@@ -1,0 +1,162 @@
+//! The lines of a report, read one after another.
+ghost use Rattle.std.specs.Prelude.{◌≡◌, ◌≢◌, ◌+◌, ◌≤◌, ◌<◌, ◌^◌, ◌==◌, ℕ, Some, length, true, is_some};
+ghost use Rattle.std.specs.List.{position};
+ghost use Rattle.report_reader.specs.Lines.{is_text, lines_of, with_first};
+
+use crate::fault::{ReportFault, ReportKind};
+use crate::forms::{LineKind, is_line};
+
+/// The lines of a report that are left.
+pub struct Lines<'a> {
+    /// The next line, with the line feed that ends it; empty where none is left.
+    line: &'a [u8],
+    /// What follows the next line.
+    rest: &'a [u8],
+    /// How many lines stand before the next.
+    number: u64,
+    /// How many bytes stand before it.
+    place: usize,
+    ghost whole: { length line.now ≡ 0 → length rest.now ≡ 0 },
+    ghost countable: { number + (length line.now + length rest.now) < 2 ^ 62 },
+    ghost inside: { place + (length line.now + length rest.now) < 2 ^ 62 },
+}
+
+/// The place of the first line feed.
+fn line_feed(text: &[u8]) -> Option<usize>
+    ensures { result ≡ position (λ b. b == 10) text.now }
+{
+    text.iter().position(|b| *b == b'\n')
+}
+
+/// The first line of a text, with the line feed that ends it, and what follows it.
+fn split_line(text: &[u8]) -> (&[u8], &[u8])
+    ensures lines { lines_of text.now ≡ with_first result.0.now (lines_of result.1.now) }
+    ensures lengths { length result.0.now + length result.1.now ≡ length text.now }
+    ensures whole { length result.0.now ≡ 0 → length result.1.now ≡ 0 }
+{
+    match line_feed(text) {
+        Some(at) => text.split_at(at + 1),
+        None => (text, &[]),
+    }
+}
+
+/// Tells whether a line is UTF-8.
+#[tactic(auto, unfolding(crate::specs::Lines::is_text))]
+fn is_text(line: &[u8]) -> bool
+    ensures { result ≡ is_text line.now }
+{
+    match str::from_utf8(line) {
+        Ok(_) => true,
+        Err(_) => false,
+    }
+}
+
+impl<'a> Lines<'a> {
+    ghost use Rattle.report_reader.specs.Forms as forms;
+    ghost use Rattle.report_reader.specs.Reading.{Reads, taken, said_if, past_line, past_all, fault_at, next_line};
+    ghost use Rattle.report_reader.specs.Told.{left_of};
+    ghost use Rattle.report_reader.specs.declared.fault.ReportFault.TheVariants.{Line};
+
+    /// The lines of a text.
+    pub fn of(text: &'a [u8]) -> Lines<'a>
+        requires { length text.now < 2 ^ 62 }
+        ensures { left_of result ≡ record { line = 0; place = 0; lines = lines_of text.now } }
+    {
+        let (line, rest) = split_line(text);
+        Lines {
+            line,
+            rest,
+            number: 0,
+            place: 0,
+        }
+    }
+
+    /// The next line, with the line feed that ends it; empty where none is left.
+    pub fn line(&self) -> &'a [u8]
+        ensures { result.now ≡ next_line (left_of self.now) }
+    {
+        self.line
+    }
+
+    /// How many lines stand before the next.
+    pub fn number(&self) -> u64
+        ensures { result ≡ (left_of self.now).line }
+    {
+        self.number
+    }
+
+    /// How many bytes stand before the next line.
+    pub fn place(&self) -> usize
+        ensures { result ≡ (left_of self.now).place }
+    {
+        self.place
+    }
+
+    /// Passes the next line, where one is left.
+    #[tactic(auto, unfolding(crate::specs::Reading::past_line))]
+    pub fn pass(&mut self)
+        ensures past { left_of self.new ≡ past_line (left_of self.old) }
+        ensures fewer { length self.old.line.now ≢ 0 → length self.new.line.now + length self.new.rest.now
+            < length self.old.line.now + length self.old.rest.now }
+    {
+        let size = self.line.len();
+        if size == 0 {
+            return;
+        }
+        let (line, rest) = split_line(self.rest);
+        self.line = line;
+        self.rest = rest;
+        self.number += 1;
+        self.place += size;
+    }
+
+    /// The fault of the next line, which should belong to that part.
+    #[tactic(auto, unfolding(crate::specs::Reading::fault_at))]
+    fn fault(&self, part: ReportKind) -> ReportFault
+        ensures { let fault = fault_at part (left_of self.now) in result ≡ Line fault.line fault.kind }
+    {
+        let line = self.number + 1;
+        if is_text(self.line()) {
+            ReportFault::Line { line, kind: part }
+        } else {
+            ReportFault::Line {
+                line,
+                kind: ReportKind::NotText,
+            }
+        }
+    }
+
+    /// Passes the next line, which says something; it is at fault where it does not.
+    pub fn take<T: Drop>(&mut self, part: ReportKind, said: Option<T>) -> Result<T, ReportFault>
+        ensures { Reads (taken part said (left_of self.old)) result (left_of self.new) }
+    {
+        match said {
+            Some(value) => {
+                self.pass();
+                Ok(value)
+            }
+            None => Err(self.fault(part)),
+        }
+    }
+
+    /// Passes the next line, which is as it should be; it is at fault where it is not.
+    pub fn expect(&mut self, part: ReportKind, holds: bool) -> Result<(), ReportFault>
+        ensures { Reads (taken part (said_if holds) (left_of self.old)) result (left_of self.new) }
+    {
+        if holds {
+            self.pass();
+            Ok(())
+        } else {
+            Err(self.fault(part))
+        }
+    }
+
+    /// Passes the lines of a kind that come next.
+    pub fn pass_all(&mut self, kind: LineKind)
+        ensures { left_of self.new ≡ past_all (forms.is_line kind) (left_of self.old) }
+    {
+        while is_line(kind, self.line()) {
+            self.pass();
+        }
+    }
+}
