@@ -2,3 +2,4 @@ pub mod Digits
 pub mod Cuts
 pub mod Rows
 pub mod Past
+pub mod Readings

@@ -11,16 +11,16 @@ use Rattle.report_reader.specs.Numbers.{is_hex}
 use Rattle.report_reader.specs.declared.events.Setting.{Setting}
 use Rattle.report_reader.specs.Fields.{Saying, ◌>>=◌, field, named, number, hex, ended, said_by}
 
--- a name and a number below the bound
-unfoldable pub number_line : List ℕ → ℕ → List ℕ → Option ℕ
-number_line name bound = said_by (do
+-- a name and a number below 2 ^ 32
+unfoldable pub number_line : List ℕ → List ℕ → Option ℕ
+number_line name = said_by (do
   _ ← named name
-  n ← number bound
+  n ← number (2 ^ 32)
   ended n)
 
 -- `thread` and that number
 unfoldable pub is_thread : ℕ → List ℕ → Bool
-is_thread thread line = option_map_or (λ n. n == thread) (number_line (codes "thread") (2 ^ 32) line) false
+is_thread thread line = option_map_or (λ n. n == thread) (number_line (codes "thread") line) false
 
 -- a string of so many bytes, two hexadecimal digits each
 unfoldable pub bytes_of : ℕ → List ℕ → Option (Unit {0})

@@ -6,4 +6,5 @@ pub mod Stops
 pub mod Events
 pub mod Header
 pub mod Reading
+pub mod Block
 pub mod Told

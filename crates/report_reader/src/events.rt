@@ -8,14 +8,14 @@ use crate::fields::{Fields, is_word};
 use crate::numbers::is_hex;
 use sm_types::{Event, OpKind, SharedOp};
 
-/// The number that a line with that name says, below the bound.
+/// The number that a line with that name says.
 #[tactic(auto, unfolding(crate::specs::Events::number_line, crate::specs::Fields::said_by))]
-pub fn number_line(name: &[u8], bound: u64, line: &[u8]) -> Option<u64>
-    ensures { result ≡ spec.number_line name.now bound line.now }
+pub fn number_line(name: &[u8], line: &[u8]) -> Option<u32>
+    ensures { result ≡ spec.number_line name.now line.now }
 {
     let mut words = Fields::of(line);
     words.named(name)?;
-    let number = words.number(bound)?;
+    let number = words.number(0x1_0000_0000)? as u32;
     words.end(number)
 }
 
@@ -24,8 +24,8 @@ pub fn number_line(name: &[u8], bound: u64, line: &[u8]) -> Option<u64>
 pub fn is_thread(thread: u32, line: &[u8]) -> bool
     ensures { result ≡ spec.is_thread thread line.now }
 {
-    match number_line(b"thread", 0x1_0000_0000, line) {
-        Some(number) => number == u64::from(thread),
+    match number_line(b"thread", line) {
+        Some(number) => number == thread,
         None => false,
     }
 }

@@ -10,3 +10,4 @@ mod forms;
 mod stops;
 mod events;
 mod header;
+mod block;

@@ -1,9 +1,10 @@
 //! The lines of a report, read one after another.
-ghost use Rattle.std.specs.Prelude.{◌≡◌, ◌≢◌, ◌+◌, ◌≤◌, ◌<◌, ◌^◌, ◌==◌, ℕ, Some, length, true, is_some};
+ghost use Rattle.std.specs.Prelude.{◌≡◌, ◌≢◌, ◌+◌, ◌≤◌, ◌<◌, ◌^◌, ◌==◌, ◌||◌, ℕ, Some, Ok, length, true, is_some};
 ghost use Rattle.std.specs.List.{position};
-ghost use Rattle.report_reader.specs.Lines.{is_text, lines_of, with_first};
+ghost use Rattle.report_reader.specs.Lines.{is_text, begins_with, lines_of, with_first};
 
 use crate::fault::{ReportFault, ReportKind};
+use crate::fields::is_word;
 use crate::forms::{LineKind, is_line};
 
 /// The lines of a report that are left.
@@ -40,6 +41,24 @@ fn split_line(text: &[u8]) -> (&[u8], &[u8])
     }
 }
 
+/// The place of the first space or line feed.
+fn word_end(line: &[u8]) -> Option<usize>
+    ensures { result ≡ position (λ b. (b == 32) || (b == 10)) line.now }
+{
+    line.iter().position(|b| *b == b' ' || *b == b'\n')
+}
+
+/// Tells whether the first word of a line is that one.
+#[tactic(auto, unfolding(crate::specs::Lines::begins_with))]
+pub fn begins_with(name: &[u8], line: &[u8]) -> bool
+    ensures { result ≡ begins_with name.now line.now }
+{
+    match word_end(line) {
+        Some(at) => is_word(&line[..at], name),
+        None => is_word(line, name),
+    }
+}
+
 /// Tells whether a line is UTF-8.
 #[tactic(auto, unfolding(crate::specs::Lines::is_text))]
 fn is_text(line: &[u8]) -> bool
@@ -54,6 +73,8 @@ fn is_text(line: &[u8]) -> bool
 impl<'a> Lines<'a> {
     ghost use Rattle.report_reader.specs.Forms as forms;
     ghost use Rattle.report_reader.specs.Reading.{Reads, taken, said_if, past_line, past_all, fault_at, next_line};
+    ghost use Rattle.report_reader.specs.Reading.{maybe_line};
+    ghost use Rattle.report_reader.specs.Block.{one};
     ghost use Rattle.report_reader.specs.Told.{left_of};
     ghost use Rattle.report_reader.specs.declared.fault.ReportFault.TheVariants.{Line};
 
@@ -148,6 +169,23 @@ impl<'a> Lines<'a> {
             Ok(())
         } else {
             Err(self.fault(part))
+        }
+    }
+
+    /// Passes one line of a block, of that kind.
+    pub fn pass_one(&mut self, kind: LineKind) -> Result<(), ReportFault>
+        ensures { Reads (one kind (left_of self.old)) result (left_of self.new) }
+    {
+        let holds = is_line(kind, self.line());
+        self.expect(ReportKind::Block, holds)
+    }
+
+    /// Passes a line of that kind, where one comes next.
+    pub fn pass_maybe(&mut self, kind: LineKind)
+        ensures { maybe_line (forms.is_line kind) (left_of self.old) ≡ Ok (tt, left_of self.new) }
+    {
+        if is_line(kind, self.line()) {
+            self.pass();
         }
     }
 
