@@ -7,4 +7,5 @@ pub mod Events
 pub mod Header
 pub mod Reading
 pub mod Block
+pub mod Report
 pub mod Told

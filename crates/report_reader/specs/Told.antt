@@ -1,10 +1,16 @@
 -- What the code's own types tell.
-use Rattle.std.specs.Prelude.{List, ℕ, option_map}
+use Rattle.std.specs.Prelude.{◌≡◌, List, ℕ, option_map, map, Result, Ok, Err}
 use Rattle.report_reader.specs.Fields.{words_left}
 use Rattle.report_reader.specs.Lines.{lines_of, with_first}
-use Rattle.report_reader.specs.Reading.{Left}
+use Rattle.report_reader.specs.Reading.{Left, Fault}
 use Rattle.report_reader.specs.Block.{Block}
 use Rattle.report_reader.specs.declared.block.ReportBlock.{ReportBlock}
+use Rattle.report_reader.specs.Header.{options_of}
+use Rattle.report_reader.specs.Report.{Report, SharedWords}
+use Rattle.report_reader.specs.declared.fault.ReportFault.{ReportFault}
+use Rattle.report_reader.specs.declared.fault.ReportFault.TheVariants as fault
+use Rattle.report_reader.specs.declared.report.Report as report
+use Rattle.sm_types.specs.declared.shared_words.Words.{Words}
 use Rattle.report_reader.specs.declared.fields.Fields.{Fields}
 use Rattle.report_reader.specs.declared.lines.Lines.{Lines}
 
@@ -32,3 +38,23 @@ block_said block =
       stop = block.stop;
       journal = block.journal.items;
     }
+
+-- what the words of the code say
+abbrev pub words_said : Words → SharedWords
+words_said words = record { shared = words.shared; pending = words.pending }
+
+-- what a report of the code says
+abbrev pub report_said : report.Report → Report
+report_said it =
+    record {
+      options = options_of it.config;
+      image = it.image;
+      blocks = map block_said it.blocks.items;
+      words = words_said it.words;
+    }
+
+-- the code answers what is so: the report, or the fault; want of memory says nothing of it
+abbrev pub Answers : Result Report Fault → Result report.Report ReportFault → Type 0
+Answers is (Ok it) = is ≡ Ok (report_said it)
+Answers is (Err (fault.Line line kind)) = is ≡ Err (record { line = line; kind = kind })
+Answers is (Err fault.Memory) = Unit {0}

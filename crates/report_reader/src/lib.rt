@@ -11,3 +11,8 @@ mod stops;
 mod events;
 mod header;
 mod block;
+mod report;
+
+pub use block::ReportBlock;
+pub use fault::{ReportFault, ReportKind};
+pub use report::{Report, read_report};

@@ -8,6 +8,7 @@ use crate::fields::is_word;
 use crate::forms::{LineKind, is_line};
 
 /// The lines of a report that are left.
+#[derive(Drop)]
 pub struct Lines<'a> {
     /// The next line, with the line feed that ends it; empty where none is left.
     line: &'a [u8],
@@ -75,6 +76,7 @@ impl<'a> Lines<'a> {
     ghost use Rattle.report_reader.specs.Reading.{Reads, taken, said_if, past_line, past_all, fault_at, next_line};
     ghost use Rattle.report_reader.specs.Reading.{maybe_line};
     ghost use Rattle.report_reader.specs.Block.{one};
+    ghost use Rattle.report_reader.specs.Report.{nothing};
     ghost use Rattle.report_reader.specs.Told.{left_of};
     ghost use Rattle.report_reader.specs.declared.fault.ReportFault.TheVariants.{Line};
 
@@ -169,6 +171,17 @@ impl<'a> Lines<'a> {
             Ok(())
         } else {
             Err(self.fault(part))
+        }
+    }
+
+    /// The lines end here; the next one is at fault where they do not.
+    pub fn end(&self) -> Result<(), ReportFault>
+        ensures { Reads (nothing (left_of self.now)) result (left_of self.now) }
+    {
+        if self.line.is_empty() {
+            Ok(())
+        } else {
+            Err(self.fault(ReportKind::End))
         }
     }
 
