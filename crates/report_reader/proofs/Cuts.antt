@@ -3,7 +3,7 @@ use Rattle.std.proofs.Common.{◌≡◌, ℕ, suc, ◌+◌, ◌-◌, ◌<◌, �
 use Rattle.std.proofs.Common.{Some, None, nat_lt, refl, sym, ap, ◌∙◌, arith, length-drop}
 use Rattle.std.proofs.lemmas.Bool.Decides.{nat_tests}
 use Rattle.std.proofs.lemmas.List.{take_all}
-use Rattle.std.specs.List.{prefix_len, position_or_len, position}
+use Rattle.std.specs.List.{prefix_len, position}
 use Rattle.std.specs.Prelude.{option_map}
 use Rattle.report_reader.specs.Fields.{ended}
 use Rattle.report_reader.specs.Lines.{lines_of, words_in, onto_first, with_first}
@@ -135,7 +135,8 @@ one_line (b ∷ bs) l = line_cons b bs ∙ (
     put_first b [] = refl
     put_first b (c ∷ cs) = refl
 
-first_is : (k : ℕ) (text : List ℕ) (lines : List (List ℕ)) → k < length text → take (suc k) text ∷ lines ≡ with_first (take (suc k) text) lines
+first_is : (k : ℕ) (text : List ℕ) (lines : List (List ℕ)) → k < length text
+    → take (suc k) text ∷ lines ≡ with_first (take (suc k) text) lines
 first_is k [] lines l = absurd (omega arith)
 first_is k (b ∷ bs) lines l = refl
 

@@ -11,7 +11,7 @@ use Rattle.std.proofs.lemmas.Bool.{le-ltb, and_parts}
 use Rattle.std.proofs.lemmas.Bool.Decides.{nat_tests}
 use Rattle.std.specs.Prelude.{IfSome}
 use Rattle.report_reader.specs.declared.numbers.Base.TheVariants.{Sixteen}
-use Rattle.report_reader.specs.Numbers.{if_fits, is_digit_of, digits_in, hex_number}
+use Rattle.report_reader.specs.Numbers.{if_fits, is_digit_of, digits_in}
 
 -- the number of digits that follow a number, if all of them are digits and it fits
 abbrev pub read_digits : (ℕ → Bool) → ℕ → ℕ → List ℕ → Option ℕ

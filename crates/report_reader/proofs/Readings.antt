@@ -1,5 +1,5 @@
 -- Readings one after another: lines of output, and so many of one kind.
-use Rattle.std.proofs.Common.{◌≡◌, ℕ, zero, suc, ◌+◌, ◌-◌, ◌/◌, ◌<◌, ◌≤◌, min, List, [], ◌∷◌, ◌++◌, Result, Ok, Err, refl, sym, ap, ◌∙◌, arith, append_assoc}
+use Rattle.std.proofs.Common.{◌≡◌, ℕ, suc, ◌+◌, ◌-◌, ◌/◌, ◌<◌, ◌≤◌, min, List, [], ◌∷◌, ◌++◌, Result, Ok, Err, refl, sym, ap, ◌∙◌, arith, append_assoc}
 use Rattle.std.proofs.lemmas.List.{append-nil}
 use Rattle.report_reader.specs.Reading.{Left, Fault, Reading, and_then, next_line, taken, each, IsFault}
 use Rattle.report_reader.specs.Events.{out_line}
@@ -55,7 +55,8 @@ pub each-more : {A : Type 0} (reads : ℕ → Reading A) (n k : ℕ) (left after
 unfolding each
 each-more reads n k left after before a l is =
     ap (λ m. onto before (each reads m k left)) (one_less n k l)
-    ∙ ap (λ r. onto before (and_then r (λ a after. and_then (each reads (n - (k + 1)) (k + 1) after) (λ others left. Ok (a ∷ others, left))))) is
+    ∙ ap (λ r. onto before (and_then r (λ a after.
+    and_then (each reads (n - (k + 1)) (k + 1) after) (λ others left. Ok (a ∷ others, left))))) is
     ∙ onto_more before a (each reads (n - (k + 1)) (k + 1) after)
 
 -- one is at fault
@@ -64,7 +65,8 @@ pub each-fault : {A : Type 0} (reads : ℕ → Reading A) (n k : ℕ) (left : Le
 unfolding each
 each-fault reads n k left before fault l is =
     ap (λ m. onto before (each reads m k left)) (one_less n k l)
-    ∙ ap (λ r. onto before (and_then r (λ a after. and_then (each reads (n - (k + 1)) (k + 1) after) (λ others left. Ok (a ∷ others, left))))) is
+    ∙ ap (λ r. onto before (and_then r (λ a after.
+    and_then (each reads (n - (k + 1)) (k + 1) after) (λ others left. Ok (a ∷ others, left))))) is
 
 -- all have been read
 pub each-end : {A : Type 0} (reads : ℕ → Reading A) (n k : ℕ) (left : Left) (before : List A) → n ≤ k

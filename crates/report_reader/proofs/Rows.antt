@@ -1,5 +1,5 @@
 -- The fields of a line, one after another.
-use Rattle.std.proofs.Common.{◌≡◌, ℕ, ◌+◌, ◌<◌, ◌≤◌, Bool, true, false, ◌&&◌, List, [], ◌∷◌, length, drop, get_or, Some, None, Option, refl, sym, ap, ◌∙◌}
+use Rattle.std.proofs.Common.{◌≡◌, ℕ, ◌+◌, ◌<◌, ◌≤◌, false, ◌&&◌, List, [], ◌∷◌, length, drop, get_or, refl, ap, ◌∙◌}
 use Rattle.std.specs.Prelude.{is_some, option_map}
 use Rattle.std.proofs.lemmas.List.{at_drop_more, at_drop_all}
 use Rattle.report_reader.specs.Fields.{ended}
@@ -7,8 +7,8 @@ use Rattle.report_reader.specs.Forms.{is_field, are_fields}
 use Rattle.report_reader.specs.declared.forms.Field.{Field}
 
 -- one field more
-pub row-more : (fields : List Field) (at : ℕ) (d : Field) (ahead : List (List ℕ)) (word : List ℕ) (words : List (List ℕ)) → at < length fields
-    → ahead ≡ word ∷ words
+pub row-more : (fields : List Field) (at : ℕ) (d : Field) (ahead : List (List ℕ)) (word : List ℕ) (words : List (List ℕ))
+    → at < length fields → ahead ≡ word ∷ words
     → are_fields (drop at fields) ahead ≡ is_field (get_or fields at d) word && are_fields (drop (at + 1) fields) words
 unfolding are_fields
 row-more fields at d ahead word words lt e =

@@ -1,6 +1,6 @@
 -- The lines of events, of shared words, and of numbers. Source: docs/REPORT.md.
-use Rattle.std.specs.Prelude.{ℕ, ◌^◌, ◌*◌, ◌==◌, ◌&&◌, Bool, false, List, ◌∷◌, length, codes, Option, Some, None}
-use Rattle.std.specs.Prelude.{is_some, if◌then◌else◌}
+use Rattle.std.specs.Prelude.{ℕ, ◌^◌, ◌*◌, ◌==◌, ◌&&◌, Bool, false, List, length, codes, Option, Some, None}
+use Rattle.std.specs.Prelude.{if◌then◌else◌}
 use Rattle.std.specs.Option.{option_map_or}
 use Rattle.std.specs.Str.{bytes_eq}
 use Rattle.sm_types.specs.declared.shared_op.OpKind.{OpKind}
@@ -9,7 +9,7 @@ use Rattle.sm_types.specs.declared.shared_op.OpKind.TheVariants.{Umax, Umin, Cas
 use Rattle.sm_types.specs.declared.shared_op.Event.{Event}
 use Rattle.report_reader.specs.Numbers.{is_hex}
 use Rattle.report_reader.specs.declared.events.Setting.{Setting}
-use Rattle.report_reader.specs.Fields.{Saying, ◌>>=◌, field, named, number, hex, ended, said_by}
+use Rattle.report_reader.specs.Fields.{◌>>=◌, field, named, number, hex, ended, said_by}
 
 -- a name and a number below 2 ^ 32
 unfoldable pub number_line : List ℕ → List ℕ → Option ℕ

@@ -1,5 +1,5 @@
 -- What the words of a line say, one after another.
-use Rattle.std.specs.Prelude.{◌≡◌, ℕ, Bool, List, [], ◌∷◌, Option, Some, None, option_map, if◌then◌else◌}
+use Rattle.std.specs.Prelude.{◌≡◌, ℕ, List, [], ◌∷◌, Option, Some, None, option_map, if◌then◌else◌}
 use Rattle.std.specs.Str.{bytes_eq}
 use Rattle.report_reader.specs.Lines.{words_of, words_in}
 use Rattle.report_reader.specs.Numbers.{number_below, hex_number}
@@ -9,7 +9,8 @@ abbrev pub Saying : Type 0 → Type 0
 Saying A = List (List ℕ) → Option (A × List (List ℕ))
 
 -- what two say, the second of what the first has left
-abbrev pub and_then : {A B : Type 0} → Option (A × List (List ℕ)) → (A → Saying B) → Option (B × List (List ℕ))
+abbrev pub and_then : {A B : Type 0}
+    → Option (A × List (List ℕ)) → (A → Saying B) → Option (B × List (List ℕ))
 and_then None next = None
 and_then (Some said) next = next said.0 said.1
 

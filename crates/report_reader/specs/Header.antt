@@ -1,5 +1,5 @@
 -- The lines of a report before its blocks. Source: docs/REPORT.md.
-use Rattle.std.specs.Prelude.{ℕ, ◌==◌, ◌&&◌, ◌||◌, nat_le, Bool, List, [], ◌∷◌, length, take, drop, codes}
+use Rattle.std.specs.Prelude.{ℕ, ◌==◌, ◌&&◌, ◌||◌, nat_le, Bool, List, length, take, drop, codes}
 use Rattle.std.specs.Prelude.{Option, Some, None, option_and_then, if◌then◌else◌}
 use Rattle.std.specs.Result.{result_ok}
 use Rattle.std.specs.Str.{bytes_eq}
@@ -7,7 +7,7 @@ use Rattle.hex.specs.Hex.{decode_sized}
 use Rattle.sm_types.specs.Length.{bits_of}
 use Rattle.sm_types.specs.declared.config.Config.{Config}
 use Rattle.report_reader.specs.Numbers.{decimal_number, is_hex}
-use Rattle.report_reader.specs.Fields.{Saying, ◌>>=◌, field, named, ended, said_by}
+use Rattle.report_reader.specs.Fields.{◌>>=◌, field, named, ended, said_by}
 
 -- the numbers of the options that a report names, the lengths in bits
 pub record Options : Type 0 where

@@ -1,7 +1,7 @@
 -- Reading a report line by line, up to the first line that is not in the format.
-use Rattle.std.specs.Prelude.{◌≡◌, ℕ, zero, suc, ◌+◌, Bool, List, [], ◌∷◌, length, Option, Some, None, is_some}
+use Rattle.std.specs.Prelude.{◌≡◌, ℕ, zero, suc, ◌+◌, Bool, List, [], ◌∷◌, length, Option, Some, None}
 use Rattle.std.specs.Prelude.{Result, Ok, Err, if◌then◌else◌}
-use Rattle.report_reader.specs.Lines.{lines_of, is_text}
+use Rattle.report_reader.specs.Lines.{is_text}
 use Rattle.report_reader.specs.declared.fault.ReportKind.{ReportKind}
 use Rattle.report_reader.specs.declared.fault.ReportKind.TheVariants.{NotText}
 use Rattle.report_reader.specs.declared.fault.ReportFault.{ReportFault}
@@ -59,7 +59,8 @@ past_line left = past_first left.line left.place left.lines
 
 -- the fault of the next line, which should belong to that part
 unfoldable pub fault_at : ReportKind → Left → Fault
-fault_at part left = record { line = left.line + 1; kind = if is_text (next_line left) then part else NotText }
+fault_at part left =
+    record { line = left.line + 1; kind = if is_text (next_line left) then part else NotText }
 
 -- the next line, where it says something; it is at fault where it does not
 abbrev pub taken : {A : Type 0} → ReportKind → Option A → Reading A

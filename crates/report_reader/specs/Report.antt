@@ -1,11 +1,11 @@
 -- A report as a whole, line by line. Source: docs/REPORT.md.
-use Rattle.std.specs.Prelude.{ℕ, ◌||◌, nat_lt, List, [], ◌∷◌, length, replicate, codes, Option, Result, Ok, Err}
+use Rattle.std.specs.Prelude.{ℕ, ◌||◌, nat_lt, List, [], ◌∷◌, length, replicate, codes, Result, Ok, Err}
 use Rattle.std.specs.Prelude.{is_some, slice_set, if◌then◌else◌}
 use Rattle.std.specs.Str.{bytes_eq}
 use Rattle.report_reader.specs.Lines.{lines_of, begins_with}
 use Rattle.report_reader.specs.Header.{Options, options_line, image_line}
 use Rattle.report_reader.specs.Events.{setting_line}
-use Rattle.report_reader.specs.Reading.{Left, Fault, Reading, ◌>>=◌, and_then, give, line, line_by, said_if}
+use Rattle.report_reader.specs.Reading.{Left, Fault, Reading, ◌>>=◌, give, line, line_by, said_if}
 use Rattle.report_reader.specs.Reading.{first_said, past_all, each, fault_at}
 use Rattle.report_reader.specs.Block.{Block, block}
 use Rattle.report_reader.specs.declared.events.Setting.{Setting}

@@ -1,5 +1,5 @@
 -- The line of a stop. Source: docs/REPORT.md.
-use Rattle.std.specs.Prelude.{ℕ, ◌^◌, List, ◌∷◌, codes, Option, Some, None, if◌then◌else◌}
+use Rattle.std.specs.Prelude.{ℕ, ◌^◌, List, codes, Option, Some, None, if◌then◌else◌}
 use Rattle.std.specs.Str.{bytes_eq}
 use Rattle.sm_types.specs.declared.stop.Access.{Access}
 use Rattle.sm_types.specs.declared.stop.Access.TheVariants.{Read, Write}

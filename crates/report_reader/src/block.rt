@@ -10,8 +10,8 @@ use crate::fields::is_word;
 use crate::forms::LineKind;
 use crate::lines::{Lines, begins_with};
 use crate::stops::stop_line;
-use std::alloc::Global;
 use sm_types::{Event, Stop};
+use std::alloc::Global;
 
 /// A thread's stop, and how far it came.
 #[derive(Clone, Copy)]

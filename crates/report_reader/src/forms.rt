@@ -61,23 +61,74 @@ fn form_of(kind: LineKind) -> Form
     ensures fields { result.fields.now ≡ spec.fields_of kind }
 {
     match kind {
-        LineKind::Turns => Form { name: b"turns", fields: &[Field::Long] },
-        LineKind::Pc => Form { name: b"pc", fields: &[Field::Value] },
-        LineKind::X => Form { name: b"x", fields: &[Field::Number, Field::Value] },
-        LineKind::Sp => Form { name: b"sp", fields: &[Field::Value] },
-        LineKind::Nzcv => Form { name: b"nzcv", fields: &[Field::Flags] },
-        LineKind::Tpidr => Form { name: b"tpidr", fields: &[Field::Value] },
-        LineKind::Tpidr2 => Form { name: b"tpidr2", fields: &[Field::Value] },
-        LineKind::Svcr => Form { name: b"svcr", fields: &[Field::Number] },
-        LineKind::Z => Form { name: b"z", fields: &[Field::Number, Field::Bytes] },
-        LineKind::P => Form { name: b"p", fields: &[Field::Number, Field::Bytes] },
-        LineKind::Ffr => Form { name: b"ffr", fields: &[Field::Bytes] },
-        LineKind::Za => Form { name: b"za", fields: &[Field::Number, Field::Bytes] },
-        LineKind::Memory => Form { name: b"memory", fields: &[Field::Number, Field::Digest] },
-        LineKind::Held => Form { name: b"held", fields: &[Field::Value] },
-        LineKind::Inside => Form { name: b"inside", fields: &[Field::Truth] },
-        LineKind::Polled => Form { name: b"polled", fields: &[Field::Truth] },
-        LineKind::Handler => Form { name: b"handler", fields: &[Field::Number, Field::Value] },
+        LineKind::Turns => Form {
+            name: b"turns",
+            fields: &[Field::Long],
+        },
+        LineKind::Pc => Form {
+            name: b"pc",
+            fields: &[Field::Value],
+        },
+        LineKind::X => Form {
+            name: b"x",
+            fields: &[Field::Number, Field::Value],
+        },
+        LineKind::Sp => Form {
+            name: b"sp",
+            fields: &[Field::Value],
+        },
+        LineKind::Nzcv => Form {
+            name: b"nzcv",
+            fields: &[Field::Flags],
+        },
+        LineKind::Tpidr => Form {
+            name: b"tpidr",
+            fields: &[Field::Value],
+        },
+        LineKind::Tpidr2 => Form {
+            name: b"tpidr2",
+            fields: &[Field::Value],
+        },
+        LineKind::Svcr => Form {
+            name: b"svcr",
+            fields: &[Field::Number],
+        },
+        LineKind::Z => Form {
+            name: b"z",
+            fields: &[Field::Number, Field::Bytes],
+        },
+        LineKind::P => Form {
+            name: b"p",
+            fields: &[Field::Number, Field::Bytes],
+        },
+        LineKind::Ffr => Form {
+            name: b"ffr",
+            fields: &[Field::Bytes],
+        },
+        LineKind::Za => Form {
+            name: b"za",
+            fields: &[Field::Number, Field::Bytes],
+        },
+        LineKind::Memory => Form {
+            name: b"memory",
+            fields: &[Field::Number, Field::Digest],
+        },
+        LineKind::Held => Form {
+            name: b"held",
+            fields: &[Field::Value],
+        },
+        LineKind::Inside => Form {
+            name: b"inside",
+            fields: &[Field::Truth],
+        },
+        LineKind::Polled => Form {
+            name: b"polled",
+            fields: &[Field::Truth],
+        },
+        LineKind::Handler => Form {
+            name: b"handler",
+            fields: &[Field::Number, Field::Value],
+        },
     }
 }
 

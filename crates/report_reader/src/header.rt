@@ -64,7 +64,8 @@ fn number_after(key: &[u8], word: &[u8]) -> Option<u64>
 
 /// Reads the next word, which is a number after a key.
 fn read_option(key: &[u8], words: &mut Fields) -> Option<u64>
-    ensures { Says (field (spec.number_after key.now) (words_ahead words.old)) result (words_ahead words.new) }
+    ensures { Says (field (spec.number_after key.now) (words_ahead words.old)) result
+        (words_ahead words.new) }
 {
     let word = words.next()?;
     number_after(key, word)

@@ -2,16 +2,16 @@
 //! its journal; or the first line that is not in the format, with the part to which it should belong.
 #![tactic(auto)]
 
-mod numbers;
+mod block;
+mod events;
 mod fault;
-mod lines;
 mod fields;
 mod forms;
-mod stops;
-mod events;
 mod header;
-mod block;
+mod lines;
+mod numbers;
 mod report;
+mod stops;
 
 pub use block::ReportBlock;
 pub use fault::{ReportFault, ReportKind};

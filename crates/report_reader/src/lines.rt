@@ -73,8 +73,8 @@ fn is_text(line: &[u8]) -> bool
 
 impl<'a> Lines<'a> {
     ghost use Rattle.report_reader.specs.Forms as forms;
-    ghost use Rattle.report_reader.specs.Reading.{Reads, taken, said_if, past_line, past_all, fault_at, next_line};
-    ghost use Rattle.report_reader.specs.Reading.{maybe_line};
+    ghost use Rattle.report_reader.specs.Reading.{Reads, taken, said_if, past_line, past_all, fault_at};
+    ghost use Rattle.report_reader.specs.Reading.{next_line, maybe_line};
     ghost use Rattle.report_reader.specs.Block.{one};
     ghost use Rattle.report_reader.specs.Report.{nothing};
     ghost use Rattle.report_reader.specs.Told.{left_of};

@@ -98,13 +98,7 @@ pub fn number_below(bound: u64, digits: &[u8]) -> Option<u64>
     ensures small { IfSome result (λ n. n < bound) }
 {
     match decimal_number(digits) {
-        Some(number) => {
-            if number < bound {
-                Some(number)
-            } else {
-                None
-            }
-        }
+        Some(number) => { if number < bound { Some(number) } else { None } }
         None => None,
     }
 }
@@ -127,7 +121,5 @@ pub fn hex_number(count: usize, digits: &[u8]) -> Option<u64>
 pub fn is_hex(digits: &[u8]) -> bool
     ensures { result ≡ spec.is_hex digits.now }
 {
-    digits
-        .iter()
-        .all(|c| digit_in(Base::Sixteen, *c).is_some())
+    digits.iter().all(|c| digit_in(Base::Sixteen, *c).is_some())
 }

@@ -33,9 +33,13 @@ pub struct Report {
 }
 
 /// Reads so many blocks, the first of them of thread 0.
-fn read_blocks(alloc: Global, lines: &mut Lines, threads: u32) -> Result<Vec<ReportBlock>, ReportFault>
-    ensures { ReadsAs (λ blocks. map block_said blocks.items) (each block threads 0 (left_of lines.old)) result
-        (left_of lines.new) }
+fn read_blocks(
+    alloc: Global,
+    lines: &mut Lines,
+    threads: u32,
+) -> Result<Vec<ReportBlock>, ReportFault>
+    ensures { ReadsAs (λ blocks. map block_said blocks.items) (each block threads 0 (left_of lines.old))
+        result (left_of lines.new) }
 {
     let mut blocks = Vec::new(alloc);
     for thread in 0..threads {

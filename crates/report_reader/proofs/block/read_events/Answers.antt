@@ -1,5 +1,5 @@
-use Rattle.std.proofs.Common.{◌≡◌, ℕ, Option, ◌+◌, ◌-◌, ◌∷◌, ◌++◌, [], rules, sym, ap, ◌∙◌, subst, Result, List}
-use Rattle.report_reader.specs.Reading.{Left, Fault, IsFault, each, line, taken, next_line}
+use Rattle.std.proofs.Common.{◌≡◌, ℕ, Option, ◌+◌, ◌-◌, rules, sym, ap, ◌∙◌, subst, List}
+use Rattle.report_reader.specs.Reading.{Left, IsFault, each, line, taken, next_line}
 use Rattle.sm_types.specs.declared.shared_op.Event.{Event}
 use Rattle.report_reader.specs.Block.{events}
 use Rattle.report_reader.specs.Events.{event_line}
@@ -31,7 +31,8 @@ loop-k-preserved c =
     let reads = λ (k : ℕ). line Journal event_line in
     let left = left_of c.loop-k.lines in
     let same = said_is left c.line.result.now c.event_line-event.result c.line.ensures c.event_line-event.ensures in
-    ap (λ items. onto items (each reads (c.args.count - (c.loop-k._k + 1)) (c.loop-k._k + 1) (left_of c.take.new.self))) c.in_ok-push.ensures.items
+    ap (λ items. onto items (each reads (c.args.count - (c.loop-k._k + 1)) (c.loop-k._k + 1) (left_of c.take.new.self)))
+    c.in_ok-push.ensures.items
     ∙ sym (each-more reads c.args.count c.loop-k._k left (left_of c.take.new.self) c.loop-k.events.items c.in_ok-event.event
     c.loop-k-test.true (ap (λ o. taken Journal o left) same ∙ c.in_ok-event.ensures))
     ∙ c.loop-k.invariant

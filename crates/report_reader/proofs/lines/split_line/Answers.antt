@@ -1,4 +1,4 @@
-use Rattle.std.proofs.Common.{◌≡◌, drop, ◌+◌, sym, ◌∙◌, ap, List, ℕ}
+use Rattle.std.proofs.Common.{drop, ◌+◌, sym, ◌∙◌, ap, List, ℕ}
 use Rattle.report_reader.specs.Lines.{lines_of, with_first}
 use Rattle.report_reader.proofs.Cuts.{line_found, line_alone}
 use Rattle.report_reader.proofs.lines.split_line.Goals as goal

@@ -1,7 +1,7 @@
-use Rattle.std.proofs.Common.{◌≡◌, ◌+◌, ◌-◌, ℕ, List, map, rules, sym, ap, ◌∙◌, subst}
+use Rattle.std.proofs.Common.{◌+◌, ◌-◌, map, rules, sym, ap, ◌∙◌, subst}
 use Rattle.std.proofs.lemmas.List.{map_push}
 use Rattle.report_reader.specs.Reading.{IsFault, each}
-use Rattle.report_reader.specs.Block.{Block, block}
+use Rattle.report_reader.specs.Block.{block}
 use Rattle.report_reader.specs.Told.{left_of, block_said}
 use Rattle.report_reader.proofs.Readings.{onto, each-more, each-end, fault_of_each}
 use Rattle.report_reader.proofs.report.read_blocks.Goals as goal
@@ -17,7 +17,8 @@ returns-in_err-block c =
 
 pub loop-thread-preserved : goal.loop-thread-preserved
 loop-thread-preserved c =
-    ap (λ blocks. onto blocks (each block (c.args.threads - (c.loop-thread.thread + 1)) (c.loop-thread.thread + 1) (left_of c.read_block.new.lines)))
+    let k = c.loop-thread.thread + 1 in
+    ap (λ blocks. onto blocks (each block (c.args.threads - k) k (left_of c.read_block.new.lines)))
     (ap (map block_said) c.in_ok-push.ensures.items ∙ map_push block_said c.loop-thread.blocks.items c.in_ok-block.block)
     ∙ sym (each-more block c.args.threads c.loop-thread.thread (left_of c.loop-thread.lines) (left_of c.read_block.new.lines)
     (map block_said c.loop-thread.blocks.items) (block_said c.in_ok-block.block) c.loop-thread-test.true c.in_ok-block.ensures)

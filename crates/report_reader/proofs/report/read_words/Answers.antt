@@ -1,4 +1,4 @@
-use Rattle.std.proofs.Common.{◌≡◌, ◌≢◌, ℕ, Bool, List, length, Option, Some, None, Result, Ok, true, false, sym, ap, ◌∙◌}
+use Rattle.std.proofs.Common.{◌≡◌, ℕ, List, length, Some, None, Result, Ok, sym, ap, ◌∙◌}
 use Rattle.std.specs.Prelude.{is_some, slice_set}
 use Rattle.report_reader.specs.Reading.{Left, Fault, next_line, first_said, past_all, past_line}
 use Rattle.report_reader.specs.Events.{setting_line}
@@ -26,14 +26,15 @@ read_more name bound words left after setting text past first says =
     let here : setting_line name bound (next_line left) ≡ Some setting = ap (setting_line name bound) (sym first) ∙ sym says in
     let some = some_setting name bound (next_line left) setting (sym here) in (
       ap (λ (l : Left). with_settings (slice_set words setting.place setting.value) (first_said (setting_line name bound) l.lines)) past
-      ∙ sym (ap (with_settings words) (said-more (setting_line name bound) left setting some here)),
+          ∙ sym (ap (with_settings words) (said-more (setting_line name bound) left setting some here)),
       ap (past_all (λ text. is_some (setting_line name bound text))) past
-      ∙ sym (all-more (λ text. is_some (setting_line name bound text)) left (ap is_some here)),
+          ∙ sym (all-more (λ text. is_some (setting_line name bound text)) left (ap is_some here)),
     )
 
 pub loop-setting-preserved : goal.loop-setting-preserved
 loop-setting-preserved c =
-    let more = read_more c.args.name.now (length c.args.words.now) c.loop-setting.words (left_of c.loop-setting.lines) (left_of c.pass.new.self)
+    let more = read_more c.args.name.now (length c.args.words.now) c.loop-setting.words (left_of c.loop-setting.lines)
+    (left_of c.pass.new.self)
     c.in-Some.setting c.line.result.now c.pass.ensures.past c.line.ensures c.in-Some.ensures.says in
     record { values = more.0 ∙ c.loop-setting.invariant.values; past = more.1 ∙ c.loop-setting.invariant.past }
 

@@ -1,6 +1,6 @@
-use Rattle.std.proofs.Common.{◌≡◌, ◌==◌, length, arith}
+use Rattle.std.proofs.Common.{◌≡◌, length, arith}
 use Rattle.std.proofs.lemmas.Bool.Decides.{nat_tests}
-use Rattle.report_reader.proofs.Past.{ends, goes_on}
+use Rattle.report_reader.proofs.Past.{ends}
 use Rattle.report_reader.proofs.lines.Lines.end.Goals as goal
 
 pub returns-then-is_empty : goal.returns-then-is_empty

@@ -1,4 +1,4 @@
-use Rattle.std.proofs.Common.{◌≡◌, true, ap, sym, ◌∙◌}
+use Rattle.std.proofs.Common.{ap, sym, ◌∙◌}
 use Rattle.report_reader.specs.Forms.{is_line}
 use Rattle.report_reader.specs.Reading.{past_all}
 use Rattle.report_reader.specs.Told.{left_of}
