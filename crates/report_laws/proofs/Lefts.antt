@@ -1,5 +1,5 @@
 -- What is left of a report between two of its lines, and readings of one text after another.
-use Rattle.std.proofs.Common.{◌≡◌, ℕ, zero, suc, ◌+◌, Bool, true, false, not, ◌==◌, ◌&&◌, cond, List, [], ◌∷◌, ◌++◌, length, refl, sym, ap, ◌∙◌, arith, append_assoc, Option, Some, None, Result, Ok, Err, nat_lt, add_assoc, length-append}
+use Rattle.std.proofs.Common.{◌≡◌, ℕ, zero, suc, ◌+◌, Bool, true, false, not, ◌==◌, ◌&&◌, cond, List, [], ◌∷◌, ◌++◌, length, refl, sym, ap, ◌∙◌, arith, append_assoc, Option, Some, None, Result, Ok, Err, nat_lt, add_assoc, subst, length-append}
 use Rattle.std.specs.List.{list_all}
 use Rattle.std.proofs.lemmas.Bool.{and_parts}
 use Rattle.std.proofs.lemmas.Bool.Decides.{nat_tests}
@@ -99,29 +99,49 @@ past_is words before rest e =
 -- ---- readings of texts
 
 -- wherever the text stands and is followed so, the reading reads it
-abbrev pub Gives : {A : Type 0} → (List ℕ → Type 0) → Reading A → List ℕ → A → Type 0
-Gives Follows reads text a =
-    (before rest : List ℕ) → Follows rest → reads (left_at before (text ++ rest)) ≡ Ok (a, left_at (before ++ text) rest)
+pub record Gives {A : Type 0} (Follows : List ℕ → Type 0) (reads : Reading A) (text : List ℕ) (a : A) : Type 0 where
+  pub gives : (before rest : List ℕ) → Follows rest → reads (left_at before (text ++ rest)) ≡ Ok (a, left_at (before ++ text) rest)
 
 -- whatever follows
 abbrev pub Anything : List ℕ → Type 0
 Anything rest = Unit {0}
 
-pub and_gives : {A B : Type 0} (P Q : List ℕ → Type 0) (reads : Reading A) (next : A → Reading B) (text others : List ℕ) (a : A) (b : B)
+pub and_gives : {A B : Type 0} {P Q : List ℕ → Type 0} {reads : Reading A} (next : A → Reading B) {text others : List ℕ} {a : A} {b : B}
     → Gives P reads text a → Gives Q (next a) others b → ((rest : List ℕ) → Q rest → P (others ++ rest))
-    → Gives Q (reads >>= next) (text ++ others) b
-and_gives {A} {B} P Q reads next text others a b first second follows = λ before rest q.
-    ap (λ ts. and_then (reads (left_at before ts)) next) (append_assoc text others rest)
-    ∙ ap (λ r. and_then r next) (first before (others ++ rest) (follows rest q))
-    ∙ second (before ++ text) rest q
-    ∙ ap (λ ts. let r : Result (B × Left) Fault = Ok (b, left_at ts rest) in r) (append_assoc before text others)
+    → Gives Q (λ left. and_then (reads left) next) (text ++ others) b
+and_gives {A} {B} {P} {Q} {reads} next {text} {others} {a} {b} first second follows = record {
+  gives = λ before rest q.
+      ap (λ ts. and_then (reads (left_at before ts)) next) (append_assoc text others rest)
+      ∙ ap (λ r. and_then r next) (first.gives before (others ++ rest) (follows rest q))
+      ∙ second.gives (before ++ text) rest q
+      ∙ ap (λ ts. let r : Result (B × Left) Fault = Ok (b, left_at ts rest) in r) (append_assoc before text others);
+}
+
+-- where anything may follow the first
+pub then_gives : {A B : Type 0} {Q : List ℕ → Type 0} {reads : Reading A} (next : A → Reading B) {text others : List ℕ} {a : A} {b : B}
+    → Gives Anything reads text a → Gives Q (next a) others b → Gives Q (λ left. and_then (reads left) next) (text ++ others) b
+then_gives next first second = and_gives next first second (λ rest q. tt)
 
 pub give_gives : {A : Type 0} (P : List ℕ → Type 0) (a : A) → Gives P (give a) [] a
-give_gives {A} P a = λ before rest p. ap (λ ts. let r : Result (A × Left) Fault = Ok (a, left_at ts rest) in r) (sym (append-nil before))
+give_gives {A} P a = record {
+  gives = λ before rest p. ap (λ ts. let r : Result (A × Left) Fault = Ok (a, left_at ts rest) in r) (sym (append-nil before));
+}
 
 pub line_gives : {A : Type 0} (P : List ℕ → Type 0) (part : ReportKind) (says : List ℕ → Option A) (words : List (List ℕ)) (a : A)
     → list_all is_plain words ≡ true → says (line_text words) ≡ Some a → Gives P (line part says) (line_text words) a
-line_gives {A} P part says words a plain said = λ before rest p.
-    ap (λ text. taken part (says text) (left_at before (line_text words ++ rest))) (next_is words before rest plain)
-    ∙ ap (λ o. taken part o (left_at before (line_text words ++ rest))) said
-    ∙ ap (λ l. let r : Result (A × Left) Fault = Ok (a, l) in r) (past_is words before rest plain)
+line_gives {A} P part says words a plain said = record {
+  gives = λ before rest p.
+      ap (λ text. taken part (says text) (left_at before (line_text words ++ rest))) (next_is words before rest plain)
+      ∙ ap (λ o. taken part o (left_at before (line_text words ++ rest))) said
+      ∙ ap (λ l. let r : Result (A × Left) Fault = Ok (a, l) in r) (past_is words before rest plain);
+}
+
+-- the text with nothing put behind it
+pub alone : {A : Type 0} {P : List ℕ → Type 0} {reads : Reading A} {text : List ℕ} {a : A} → Gives P reads text a
+    → Gives P reads (text ++ []) a
+alone {A} {P} {reads} {text} {a} it = subst (λ ts. Gives P reads ts a) (sym (append-nil text)) it
+
+-- what was read, said otherwise
+pub map_gives : {A B : Type 0} {P : List ℕ → Type 0} {reads : Reading A} (f : A → B) {text : List ℕ} {a : A} → Gives P reads text a
+    → Gives P (λ left. and_then (reads left) (λ x. give (f x))) text (f a)
+map_gives f it = record { gives = λ before rest p. ap (λ r. and_then r (λ x. give (f x))) (it.gives before rest p) }

@@ -150,7 +150,7 @@ are_64 n =
     rw (one_byte (n / 256 ^ 7), one_byte (n / 256 ^ 6), one_byte (n / 256 ^ 5), one_byte (n / 256 ^ 4), one_byte (n / 256 ^ 3),
     one_byte (n / 256 ^ 2), one_byte (n / 256 ^ 1), one_byte n) refl
 
-are_32 : (n : ℕ) → are_bytes (to_be_bytes w32 n) ≡ true
+pub are_32 : (n : ℕ) → are_bytes (to_be_bytes w32 n) ≡ true
 are_32 n = rw (one_byte (n / 256 ^ 3), one_byte (n / 256 ^ 2), one_byte (n / 256 ^ 1), one_byte n) refl
 
 plain_hex : (c : ℕ) → is_digit_of Sixteen c ≡ true → nat_lt 32 c ≡ true
