@@ -11,7 +11,7 @@ use Rattle.hex.proofs.HexLemmas.{length-encode_with}
 use Rattle.report_reader.specs.Lines.{lines_of}
 use Rattle.report_reader.specs.Forms.{is_line, has_form, are_fields, is_field, is_bytes, name_of, fields_of}
 use Rattle.report_reader.specs.Numbers.{is_hex}
-use Rattle.report_reader.specs.Reading.{Left, Fault, first_of, past_all, past_line, said_if, maybe_line, any_lines}
+use Rattle.report_reader.specs.Reading.{Left, Fault, Reading, first_of, next_line, past_all, past_line, said_if, maybe_line, any_lines}
 use Rattle.report_reader.specs.Block.{one, any}
 use Rattle.report_reader.specs.declared.forms.Field.TheVariants as field
 use Rattle.report_reader.specs.declared.forms.LineKind.{LineKind}
@@ -23,7 +23,7 @@ use Rattle.report_text.specs.Bank.{bytes_line, bytes_lines}
 use Rattle.report_laws.specs.Fits.{are_bytes, AllBelow}
 use Rattle.report_laws.proofs.Spaced.{is_plain, line_text, line_words}
 use Rattle.report_laws.proofs.Numerals.{decimal_plain, decimal_read, below_read, hex64_plain, hex64_read, hex_digits, bytes_plain}
-use Rattle.report_laws.proofs.Lefts.{left_at, line_first, next_is, past_is, Gives, line_gives}
+use Rattle.report_laws.proofs.Lefts.{left_at, line_first, next_is, past_is, Gives, and_gives, line_gives}
 
 name_good : (kind : LineKind) → (is_plain (name_of kind) && bytes_eq (name_of kind) (name_of kind)) ≡ true
 name_good kind.Turns = refl
@@ -126,6 +126,12 @@ any_gives kind lines good = record {
       ap (λ l. let r : Result (Unit {0} × Left) Fault = Ok (tt, l) in r) (past_lines kind lines before rest good other);
 }
 
+-- those lines, and what follows them
+pub any_then : {B : Type 0} {Q : List ℕ → Type 0} {next : Reading B} {others : List ℕ} {b : B} (kind : LineKind) (lines : List (List (List ℕ)))
+    → AllGood kind lines → Gives Q next others b → ((rest : List ℕ) → Q rest → Unlike kind (others ++ rest))
+    → Gives Q (λ left. next (past_all (is_line kind) left)) (named_text (name_of kind) lines ++ others) b
+any_then {B} {Q} {next} kind lines good second follows = and_gives (λ u. next) (any_gives kind lines good) second follows
+
 pub unlike_lines : (kind other : LineKind) (lines : List (List (List ℕ))) (rest : List ℕ) → AllGood other lines
     → bytes_eq (name_of other) (name_of kind) ≡ false → Unlike kind rest → Unlike kind (named_text (name_of other) lines ++ rest)
 unlike_lines kind other [] rest good differ unlike = unlike
@@ -156,10 +162,13 @@ maybe_gives kind (words ∷ []) l good = record {
 }
 maybe_gives kind (words ∷ more ∷ lines) l good = absurd (omega arith)
 
--- ---- fields
+-- that line, and what follows it
+pub maybe_then : {B : Type 0} {Q : List ℕ → Type 0} {next : Reading B} {others : List ℕ} {b : B} (kind : LineKind) (lines : List (List (List ℕ)))
+    → length lines ≤ 1 → AllGood kind lines → Gives Q next others b → ((rest : List ℕ) → Q rest → Unlike kind (others ++ rest))
+    → Gives Q (λ left. next (cond (is_line kind (next_line left)) (past_line left) left)) (named_text (name_of kind) lines ++ others) b
+maybe_then {B} {Q} {next} kind lines l good second follows = and_gives (λ u. next) (maybe_gives kind lines l good) second follows
 
-some_said : {A : Type 0} (o : Option A) (a : A) → o ≡ Some a → is_some o ≡ true
-some_said o a e = ap is_some e
+-- ---- fields
 
 pub number_field : (n : ℕ) → n < 2 ^ 32 → is_field field.Number (decimal n) ≡ true
 unfolding is_field

@@ -6,3 +6,4 @@ pub mod Lefts
 pub mod KindLines
 pub mod Rows
 pub mod Parts
+pub mod Wholes
