@@ -295,7 +295,7 @@ hash_small h (suc n) =
     list_all-append (λ b. nat_lt b 256) (digest_bytes h n) (to_be_bytes w32 (slice_index h n))
     ∙ rw (hash_small h n, are_32 (slice_index h n)) refl
 
-sha_small : (text : List ℕ) → are_bytes (sha256 text) ≡ true
+pub sha_small : (text : List ℕ) → are_bytes (sha256 text) ≡ true
 unfolding sha256
 sha_small text = hash_small (final_hash initial_hash_256 text) 8
 

@@ -1,5 +1,5 @@
 use Rattle.report_laws.proofs.Parts.{journal_gives}
-use Rattle.report_laws.proofs.Wholes.{block_behind}
+use Rattle.report_laws.proofs.Wholes.{block_read}
 use Rattle.std.proofs.Common.{refl}
 use Rattle.report_laws.proofs.lines.scratch.Goals as goal
 
