@@ -3,6 +3,7 @@ use Rattle.std.proofs.Common.{◌≡◌, ℕ, zero, suc, ◌^◌, ◌<◌, ◌�
 use Rattle.std.specs.Prelude.{decimal, codes, option_map, option_and_then, nat_le, nat_lt, slice_index}
 use Rattle.std.specs.List.{list_all}
 use Rattle.std.specs.Result.{result_ok}
+use Rattle.std.specs.Str.{bytes_eq}
 use Rattle.std.proofs.lemmas.Bool.{and_parts, ltb-true}
 use Rattle.std.proofs.lemmas.Bool.Decides.{nat_tests}
 use Rattle.hex.specs.Hex.{encode_lower, decode_sized, IsBytes}
@@ -51,28 +52,41 @@ options_good config small =
     between 1 4294967295 config.budget config.budget_in_range (omega arith),
     between 1 32 config.threads config.threads_in_range.0 config.threads_in_range.1) refl
 
-pub options_read : (config : Config) → config.budget < 2 ^ 32 → reader.options_line (writer.options_line config) ≡ Some (options_of config)
-unfolding reader.options_line writer.options_line named is_name number_after
-options_read config small =
-    let vl = decimal (bits_of config.vl) in
-    let svl = decimal (bits_of config.svl) in
-    let plain : list_all is_plain (codes "options" ∷ (codes "vl=" ++ vl) ∷ (codes "svl=" ++ svl) ∷ (codes "slice=" ++ decimal config.slice)
-    ∷ (codes "budget=" ++ decimal config.budget) ∷ (codes "threads=" ++ decimal config.threads) ∷ []) ≡ true =
+-- the words of the line of options
+pub options_words : Config → List (List ℕ)
+options_words config =
+    (codes "vl=" ++ decimal (bits_of config.vl)) ∷ (codes "svl=" ++ decimal (bits_of config.svl)) ∷ (codes "slice=" ++ decimal config.slice)
+    ∷ (codes "budget=" ++ decimal config.budget) ∷ (codes "threads=" ++ decimal config.threads) ∷ []
+
+slice_small : (config : Config) → config.slice < 2 ^ 64
+slice_small config = omega (arith, config.slice_in_range.1)
+
+threads_small : (config : Config) → config.threads < 2 ^ 64
+threads_small config = omega (arith, config.threads_in_range.1)
+
+pub options_plain : (config : Config) → config.budget < 2 ^ 32 → list_all is_plain (codes "options" ∷ options_words config) ≡ true
+unfolding options_words
+options_plain config small =
+    let budget : config.budget < 2 ^ 64 = omega (arith, small) in
     rw (decimal_plain (bits_of config.vl) (length_small config.vl), decimal_plain (bits_of config.svl) (length_small config.svl),
-    decimal_plain config.slice slice_small, decimal_plain config.budget budget_small, decimal_plain config.threads threads_small) refl in
-    ap (option_and_then if_options) (said_of _ (codes "options") ((codes "vl=" ++ vl) ∷ (codes "svl=" ++ svl)
-    ∷ (codes "slice=" ++ decimal config.slice)
-    ∷ (codes "budget=" ++ decimal config.budget) ∷ (codes "threads=" ++ decimal config.threads) ∷ []) plain)
+    decimal_plain config.slice (slice_small config), decimal_plain config.budget budget, decimal_plain config.threads (threads_small config)) refl
+
+pub options_text : (config : Config) → writer.options_line config ≡ line_text (codes "options" ∷ options_words config)
+unfolding options_words writer.options_line
+options_text config = refl
+
+pub options_said : (config : Config) → config.budget < 2 ^ 32
+    → reader.options_line (line_text (codes "options" ∷ options_words config)) ≡ Some (options_of config)
+unfolding options_words reader.options_line named is_name number_after
+options_said config small =
+    let budget : config.budget < 2 ^ 64 = omega (arith, small) in
+    ap (option_and_then if_options) (said_of _ (codes "options") (options_words config) (options_plain config small))
     ∙ rw (decimal_read (bits_of config.vl) (length_small config.vl), decimal_read (bits_of config.svl) (length_small config.svl),
-    decimal_read config.slice slice_small, decimal_read config.budget budget_small, decimal_read config.threads threads_small,
+    decimal_read config.slice (slice_small config), decimal_read config.budget budget, decimal_read config.threads (threads_small config),
     options_good config small) refl
-  where
-    slice_small : config.slice < 2 ^ 64
-    slice_small = omega (arith, config.slice_in_range.1)
-    budget_small : config.budget < 2 ^ 64
-    budget_small = omega (arith, small)
-    threads_small : config.threads < 2 ^ 64
-    threads_small = omega (arith, config.threads_in_range.1)
+
+pub options_read : (config : Config) → config.budget < 2 ^ 32 → reader.options_line (writer.options_line config) ≡ Some (options_of config)
+options_read config small = ap reader.options_line (options_text config) ∙ options_said config small
 
 -- ---- the digest
 
@@ -88,11 +102,16 @@ digest_read digest size bytes =
     ap (λ b. cond b (result_ok (decode_sized (encode_lower digest) 32)) None) (hex_digits digest bytes)
     ∙ ap result_ok (decode_sized-encode_lower digest 32 size (all_bytes digest bytes))
 
+pub image_said : (digest : List ℕ) → length digest ≡ 32 → are_bytes digest ≡ true
+    → reader.image_line (line_text (codes "image" ∷ encode_lower digest ∷ [])) ≡ Some digest
+unfolding reader.image_line named is_name
+image_said digest size bytes =
+    said_of _ (codes "image") (encode_lower digest ∷ []) (rw (bytes_plain digest bytes) refl) ∙ rw (digest_read digest size bytes) refl
+
 pub image_read : (digest : List ℕ) → length digest ≡ 32 → are_bytes digest ≡ true
     → reader.image_line (writer.image_line digest) ≡ Some digest
-unfolding reader.image_line writer.image_line named is_name
-image_read digest size bytes =
-    said_of _ (codes "image") (encode_lower digest ∷ []) (rw (bytes_plain digest bytes) refl) ∙ rw (digest_read digest size bytes) refl
+unfolding writer.image_line
+image_read digest size bytes = image_said digest size bytes
 
 -- ---- numbers, and words that are not zero
 
@@ -110,3 +129,9 @@ unfolding events.setting_line named number hex
 setting_read name bound k value plain same most low small =
     said_of _ name (decimal k ∷ hex64 value ∷ []) (rw (plain, decimal_plain k (omega arith), hex64_plain value) refl)
     ∙ rw (same, below_read bound k most low, hex64_read value small) refl
+
+-- a line of another name says no word
+pub other_setting : (name : List ℕ) (bound : ℕ) (word : List ℕ) (words : List (List ℕ)) → list_all is_plain (word ∷ words) ≡ true
+    → bytes_eq word name ≡ false → events.setting_line name bound (line_text (word ∷ words)) ≡ None
+unfolding events.setting_line named is_name
+other_setting name bound word words plain other = said_of _ word words plain ∙ rw other refl

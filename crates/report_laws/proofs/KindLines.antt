@@ -23,7 +23,8 @@ use Rattle.report_text.specs.Bank.{bytes_line, bytes_lines}
 use Rattle.report_laws.specs.Fits.{are_bytes, AllBelow}
 use Rattle.report_laws.proofs.Spaced.{is_plain, line_text, line_words}
 use Rattle.report_laws.proofs.Numerals.{decimal_plain, decimal_read, below_read, hex64_plain, hex64_read, hex_digits, bytes_plain}
-use Rattle.report_laws.proofs.Lefts.{left_at, line_first, next_is, past_is, Gives, and_gives, line_gives}
+use Rattle.report_laws.specs.Ends.{left_at}
+use Rattle.report_laws.proofs.Lefts.{line_first, next_is, past_is, Gives, and_gives, line_gives}
 
 name_good : (kind : LineKind) → (is_plain (name_of kind) && bytes_eq (name_of kind) (name_of kind)) ≡ true
 name_good kind.Turns = refl

@@ -7,16 +7,8 @@ use Rattle.std.proofs.lemmas.List.{append-nil}
 use Rattle.report_reader.specs.Lines.{lines_of, onto_first}
 use Rattle.report_reader.specs.Reading.{Left, Fault, Reading, ◌>>=◌, and_then, give, first_of, next_line, past_first, past_line, taken, line}
 use Rattle.report_reader.specs.declared.fault.ReportKind.{ReportKind}
+use Rattle.report_laws.specs.Ends.{line_count, left_at}
 use Rattle.report_laws.proofs.Spaced.{is_plain, spaced, line_text, ends}
-
--- how many line feeds a text has
-abbrev pub feeds : List ℕ → ℕ
-feeds [] = 0
-feeds (b ∷ bs) = cond (b == 10) 1 0 + feeds bs
-
--- what is left where this text stands before and that text follows
-abbrev pub left_at : List ℕ → List ℕ → Left
-left_at before rest = record { line = feeds before; place = length before; lines = lines_of rest }
 
 -- it has no line feed
 abbrev is_free : List ℕ → Bool
@@ -35,18 +27,18 @@ cut_first (b ∷ bs) rest e =
     ap (λ t. cond t ((b ∷ []) ∷ lines_of ((bs ++ 10 ∷ []) ++ rest)) (onto_first b (lines_of ((bs ++ 10 ∷ []) ++ rest)))) (not_feed b parts.0)
     ∙ ap (onto_first b) (cut_first bs rest parts.1)
 
-feeds-append : (xs ys : List ℕ) → feeds (xs ++ ys) ≡ feeds xs + feeds ys
+feeds-append : (xs ys : List ℕ) → line_count (xs ++ ys) ≡ line_count xs + line_count ys
 feeds-append [] ys = omega arith
 feeds-append (x ∷ xs) ys =
-    ap (λ n. cond (x == 10) 1 0 + n) (feeds-append xs ys) ∙ sym (add_assoc (cond (x == 10) 1 0) (feeds xs) (feeds ys))
+    ap (λ n. cond (x == 10) 1 0 + n) (feeds-append xs ys) ∙ sym (add_assoc (cond (x == 10) 1 0) (line_count xs) (line_count ys))
 
-no_feeds : (text : List ℕ) → is_free text ≡ true → feeds text ≡ 0
+no_feeds : (text : List ℕ) → is_free text ≡ true → line_count text ≡ 0
 no_feeds [] e = refl
 no_feeds (b ∷ bs) e =
     let parts = and_parts (not (b == 10)) (is_free bs) e in
-    ap (λ t. cond t 1 0 + feeds bs) (not_feed b parts.0) ∙ ap (λ n. 0 + n) (no_feeds bs parts.1)
+    ap (λ t. cond t 1 0 + line_count bs) (not_feed b parts.0) ∙ ap (λ n. 0 + n) (no_feeds bs parts.1)
 
-one_feed : (text : List ℕ) → is_free text ≡ true → feeds (text ++ 10 ∷ []) ≡ 1
+one_feed : (text : List ℕ) → is_free text ≡ true → line_count (text ++ 10 ∷ []) ≡ 1
 one_feed text e = feeds-append text (10 ∷ []) ∙ ap (λ n. n + 1) (no_feeds text e)
 
 -- ---- lines of words
@@ -74,8 +66,8 @@ line_first words rest e =
     ap (λ text. lines_of (text ++ rest)) (ends words) ∙ cut_first (spaced words) rest (free_words words e)
     ∙ ap (λ text. text ∷ lines_of rest) (sym (ends words))
 
-pub line_feeds : (words : List (List ℕ)) → list_all is_plain words ≡ true → feeds (line_text words) ≡ 1
-line_feeds words e = ap feeds (ends words) ∙ one_feed (spaced words) (free_words words e)
+pub line_feeds : (words : List (List ℕ)) → list_all is_plain words ≡ true → line_count (line_text words) ≡ 1
+line_feeds words e = ap line_count (ends words) ∙ one_feed (spaced words) (free_words words e)
 
 pub next_is : (words : List (List ℕ)) (before rest : List ℕ) → list_all is_plain words ≡ true
     → next_line (left_at before (line_text words ++ rest)) ≡ line_text words
@@ -88,13 +80,13 @@ pub past_is : (words : List (List ℕ)) (before rest : List ℕ) → list_all is
     → past_line (left_at before (line_text words ++ rest)) ≡ left_at (before ++ line_text words) rest
 unfolding past_line left_of
 past_is words before rest e =
-    let line : feeds before + 1 ≡ feeds (before ++ line_text words) =
-    ap (λ n. feeds before + n) (sym (line_feeds words e)) ∙ sym (feeds-append before (line_text words)) in
+    let line : line_count before + 1 ≡ line_count (before ++ line_text words) =
+    ap (λ n. line_count before + n) (sym (line_feeds words e)) ∙ sym (feeds-append before (line_text words)) in
     let place : length before + length (line_text words) ≡ length (before ++ line_text words) =
     sym (length-append before (line_text words)) in
-    ap (past_first (feeds before) (length before)) (line_first words rest e)
+    ap (past_first (line_count before) (length before)) (line_first words rest e)
     ∙ ap (λ n. left_of n (length before + length (line_text words)) rest) line
-    ∙ ap (λ n. left_of (feeds (before ++ line_text words)) n rest) place
+    ∙ ap (λ n. left_of (line_count (before ++ line_text words)) n rest) place
 
 -- ---- readings of texts
 

@@ -7,3 +7,5 @@ pub mod KindLines
 pub mod Rows
 pub mod Parts
 pub mod Wholes
+pub mod SharedLines
+pub mod WholeReports

@@ -47,7 +47,8 @@ use Rattle.report_laws.proofs.Spaced.{is_plain, line_text}
 use Rattle.report_laws.proofs.Numerals.{decimal_plain, hex64_plain, bytes_plain, are_32}
 use Rattle.report_laws.proofs.Values.{IsStopLine, stop_is}
 use Rattle.report_laws.proofs.Heads.{number_read}
-use Rattle.report_laws.proofs.Lefts.{left_at, next_is, past_is, Gives, Anything, and_gives, then_gives, give_gives, line_gives, map_gives, alone}
+use Rattle.report_laws.specs.Ends.{left_at}
+use Rattle.report_laws.proofs.Lefts.{next_is, past_is, Gives, Anything, and_gives, then_gives, give_gives, line_gives, map_gives, alone}
 use Rattle.report_laws.proofs.KindLines.{AreGood, AllGood, Unlike, named_text, unlike_line, unlike_lines, one_gives, any_gives, any_then, maybe_then, number_field, long_field, value_field, digest_field}
 use Rattle.report_laws.proofs.Rows.{value_tails, value_rows, values_good, bytes_tails, bytes_rows, rows_good, single_tails, single_row, single_good, handler_tails, handler_rows, handlers_good, out_lines_give, number_gives, events_give}
 

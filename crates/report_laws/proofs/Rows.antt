@@ -31,7 +31,8 @@ use Rattle.report_laws.proofs.Spaced.{is_plain, line_text}
 use Rattle.report_laws.proofs.Numerals.{decimal_plain, hex64_plain, hex_digits, bytes_plain}
 use Rattle.report_laws.proofs.Values.{said_of, event_read, event_plain, event_words}
 use Rattle.report_laws.proofs.Heads.{number_read}
-use Rattle.report_laws.proofs.Lefts.{left_at, next_is, past_is, Gives, Anything, then_gives, give_gives, line_gives, map_gives}
+use Rattle.report_laws.specs.Ends.{left_at}
+use Rattle.report_laws.proofs.Lefts.{next_is, past_is, Gives, Anything, then_gives, give_gives, line_gives, map_gives}
 use Rattle.report_laws.proofs.KindLines.{AreGood, AllGood, named_text, number_field, value_field, bytes_field}
 
 -- ---- values by their numbers

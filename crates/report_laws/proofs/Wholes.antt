@@ -23,7 +23,9 @@ use Rattle.report_text.specs.Output as output
 use Rattle.report_laws.specs.Fits.{AllFit, StopFits, StateFits}
 use Rattle.report_laws.proofs.Spaced.{is_plain, line_text}
 use Rattle.report_laws.proofs.Numerals.{decimal_plain, bytes_plain}
-use Rattle.report_laws.proofs.Lefts.{left_at, feeds, Gives}
+use Rattle.report_laws.specs.Ends.{line_count, block_behind, Stopped, StoppedFits}
+use Rattle.report_laws.specs.Ends.{left_at}
+use Rattle.report_laws.proofs.Lefts.{Gives}
 use Rattle.report_laws.proofs.KindLines.{Unlike}
 use Rattle.report_laws.proofs.Parts.{head_gives, register_gives, bank_gives, signals_text, signals_give, output_gives, journal_gives, unlike_first, sha_small, IsPastVectors}
 
@@ -39,18 +41,6 @@ spread h r v s o j rest = simp append_assoc
 
 join : (before h r v s o j : List ℕ) → (((((before ++ h) ++ r) ++ v) ++ s) ++ o) ++ j ≡ before ++ (h ++ (r ++ (v ++ (s ++ (o ++ j)))))
 join before h r v s o j = simp append_assoc
-
--- the block of a thread that stopped so, which stands behind that text
-abbrev pub block_behind : List ℕ → List ℕ → Stop → State → List Event → Block
-block_behind before text stop s journal =
-    record {
-      start = length before;
-      end = length (before ++ text);
-      first_line = feeds before + 1;
-      count = s.count;
-      stop = stop;
-      journal = journal;
-    }
 
 past_vectors : (s : State) (rest : List ℕ) → len s.core.memory.perm < 2 ^ 32 → IsPastVectors (signals_text s ++ rest)
 unfolding signals_text memory_line
@@ -86,7 +76,7 @@ parts_are thread stop s journal =
 
 parts_read : (thread : ℕ) (stop : Stop) (s : State) (journal : List Event) → thread < 2 ^ 32 → StopFits stop → StateFits s → AllFit journal
     → length journal < 2 ^ 32 → (before rest : List ℕ) → reader.block thread (left_at before (parts_text thread stop s journal ++ rest))
-    ≡ Ok (block_behind before (parts_text thread stop s journal) stop s journal, left_at (before ++ parts_text thread stop s journal) rest)
+    ≡ Ok (block_behind before (parts_text thread stop s journal) (record { state = s; stop = stop; journal = journal }), left_at (before ++ parts_text thread stop s journal) rest)
 unfolding parts_text reader.block
 parts_read thread stop s journal small stops fits events few before rest =
     let h = writer.head_text thread (Some stop) s in
@@ -111,7 +101,7 @@ parts_read thread stop s journal small stops fits events few before rest =
       ap (λ ts. let read : Result (Block × Left) Fault = Ok (record {
         start = length before;
         end = length ts;
-        first_line = feeds before + 1;
+        first_line = line_count before + 1;
         count = s.count;
         stop = stop;
         journal = journal;
@@ -119,8 +109,15 @@ parts_read thread stop s journal small stops fits events few before rest =
 
 pub block_read : (thread : ℕ) (stop : Stop) (s : State) (journal : List Event) → thread < 2 ^ 32 → StopFits stop → StateFits s → AllFit journal
     → length journal < 2 ^ 32 → (before rest : List ℕ) → reader.block thread (left_at before (writer.block_text thread s (Some stop) journal ++ rest))
-    ≡ Ok (block_behind before (writer.block_text thread s (Some stop) journal) stop s journal,
+    ≡ Ok (block_behind before (writer.block_text thread s (Some stop) journal) (record { state = s; stop = stop; journal = journal }),
     left_at (before ++ writer.block_text thread s (Some stop) journal) rest)
 block_read thread stop s journal small stops fits events few before rest =
-    subst (λ text. reader.block thread (left_at before (text ++ rest)) ≡ Ok (block_behind before text stop s journal, left_at (before ++ text) rest))
+    subst (λ text. reader.block thread (left_at before (text ++ rest)) ≡ Ok (block_behind before text (record { state = s; stop = stop; journal = journal }), left_at (before ++ text) rest))
     (sym (parts_are thread stop s journal)) (parts_read thread stop s journal small stops fits events few before rest)
+
+pub stopped_read : (thread : ℕ) (it : Stopped) (before rest : List ℕ) → thread < 2 ^ 32 → StoppedFits it
+    → reader.block thread (left_at before (writer.block_text thread it.state (Some it.stop) it.journal ++ rest))
+    ≡ Ok (block_behind before (writer.block_text thread it.state (Some it.stop) it.journal) it,
+    left_at (before ++ writer.block_text thread it.state (Some it.stop) it.journal) rest)
+stopped_read thread it before rest l fits =
+    block_read thread it.stop it.state it.journal l fits.stop fits.state fits.journal fits.journal_few before rest
