@@ -1,6 +1,6 @@
 -- Printed lines of a kind are read, and others are not taken for them.
-use Rattle.std.proofs.Common.{◌≡◌, ℕ, zero, suc, ◌+◌, ◌*◌, ◌%◌, ◌^◌, ◌<◌, ◌≤◌, Bool, true, false, not, ◌==◌, ◌&&◌, cond, List, [], ◌∷◌, ◌++◌, length, refl, sym, ap, ◌∙◌, arith, append_assoc, Option, Some, None, Result, Ok, Err, nat_lt, lt-ltb}
-use Rattle.std.specs.Prelude.{decimal, codes, is_some}
+use Rattle.std.proofs.Common.{◌≡◌, ℕ, ◌*◌, ◌%◌, ◌^◌, ◌<◌, ◌≤◌, true, false, ◌==◌, ◌&&◌, cond, List, [], ◌∷◌, ◌++◌, length, refl, sym, ap, ◌∙◌, arith, append_assoc, Result, Ok, lt-ltb}
+use Rattle.std.specs.Prelude.{decimal, is_some}
 use Rattle.std.specs.List.{list_all}
 use Rattle.std.specs.Str.{bytes_eq}
 use Rattle.std.proofs.lemmas.Bool.{and_parts}
@@ -11,18 +11,17 @@ use Rattle.hex.proofs.HexLemmas.{length-encode_with}
 use Rattle.report_reader.specs.Lines.{lines_of}
 use Rattle.report_reader.specs.Forms.{is_line, has_form, are_fields, is_field, is_bytes, name_of, fields_of}
 use Rattle.report_reader.specs.Numbers.{is_hex}
-use Rattle.report_reader.specs.Reading.{Left, Fault, Reading, first_of, next_line, past_all, past_line, said_if, maybe_line, any_lines}
+use Rattle.report_reader.specs.Reading.{Left, Fault, Reading, first_of, next_line, past_all, past_line, said_if, maybe_line}
 use Rattle.report_reader.specs.Block.{one, any}
 use Rattle.report_reader.specs.declared.forms.Field.TheVariants as field
 use Rattle.report_reader.specs.declared.forms.LineKind.{LineKind}
 use Rattle.report_reader.specs.declared.forms.LineKind.TheVariants as kind
 use Rattle.report_reader.specs.declared.fault.ReportKind.TheVariants.{Block}
 use Rattle.report_reader.proofs.Past.{all-more, all-end}
-use Rattle.report_text.specs.Lines.{hex64, value_line, value_lines}
-use Rattle.report_text.specs.Bank.{bytes_line, bytes_lines}
-use Rattle.report_laws.specs.Fits.{are_bytes, AllBelow}
+use Rattle.report_text.specs.Lines.{hex64}
+use Rattle.report_laws.specs.Fits.{are_bytes}
 use Rattle.report_laws.proofs.Spaced.{is_plain, line_text, line_words}
-use Rattle.report_laws.proofs.Numerals.{decimal_plain, decimal_read, below_read, hex64_plain, hex64_read, hex_digits, bytes_plain}
+use Rattle.report_laws.proofs.Numerals.{decimal_read, below_read, hex64_read, hex_digits}
 use Rattle.report_laws.specs.Ends.{left_at}
 use Rattle.report_laws.proofs.Lefts.{line_first, next_is, past_is, Gives, and_gives, line_gives}
 
@@ -106,7 +105,8 @@ AllGood kind [] = Unit {0}
 AllGood kind (words ∷ lines) = AreGood kind words × AllGood kind lines
 
 past_lines : (kind : LineKind) (lines : List (List (List ℕ))) (before rest : List ℕ) → AllGood kind lines → Unlike kind rest
-    → past_all (is_line kind) (left_at before (named_text (name_of kind) lines ++ rest)) ≡ left_at (before ++ named_text (name_of kind) lines) rest
+    → past_all (is_line kind) (left_at before (named_text (name_of kind) lines ++ rest))
+    ≡ left_at (before ++ named_text (name_of kind) lines) rest
 past_lines kind [] before rest good other =
     all-end (is_line kind) (left_at before rest) other ∙ ap (λ ts. left_at ts rest) (sym (append-nil before))
 past_lines kind (words ∷ lines) before rest good other =
@@ -128,8 +128,8 @@ any_gives kind lines good = record {
 }
 
 -- those lines, and what follows them
-pub any_then : {B : Type 0} {Q : List ℕ → Type 0} {next : Reading B} {others : List ℕ} {b : B} (kind : LineKind) (lines : List (List (List ℕ)))
-    → AllGood kind lines → Gives Q next others b → ((rest : List ℕ) → Q rest → Unlike kind (others ++ rest))
+pub any_then : {B : Type 0} {Q : List ℕ → Type 0} {next : Reading B} {others : List ℕ} {b : B}
+    (kind : LineKind) (lines : List (List (List ℕ))) → AllGood kind lines → Gives Q next others b → ((rest : List ℕ) → Q rest → Unlike kind (others ++ rest))
     → Gives Q (λ left. next (past_all (is_line kind) left)) (named_text (name_of kind) lines ++ others) b
 any_then {B} {Q} {next} kind lines good second follows = and_gives (λ u. next) (any_gives kind lines good) second follows
 
@@ -137,7 +137,8 @@ pub unlike_lines : (kind other : LineKind) (lines : List (List (List ℕ))) (res
     → bytes_eq (name_of other) (name_of kind) ≡ false → Unlike kind rest → Unlike kind (named_text (name_of other) lines ++ rest)
 unlike_lines kind other [] rest good differ unlike = unlike
 unlike_lines kind other (words ∷ lines) rest good differ unlike =
-    ap (λ ts. is_line kind (first_of (lines_of ts))) (append_assoc (line_text (name_of other ∷ words)) (named_text (name_of other) lines) rest)
+    ap (λ ts. is_line kind (first_of (lines_of ts)))
+    (append_assoc (line_text (name_of other ∷ words)) (named_text (name_of other) lines) rest)
     ∙ unlike_line kind (name_of other) words (named_text (name_of other) lines ++ rest) (kind_plain other words good.0) differ
 
 -- ---- one line or none
@@ -156,16 +157,19 @@ maybe_gives kind (words ∷ []) l good = record {
       let here : is_line kind (first_of (lines_of (text ++ rest))) ≡ true =
       ap (is_line kind) (next_is (name_of kind ∷ words) before rest plain) ∙ is_kind kind words good.0 in
       ap (λ ts. maybe_line (is_line kind) (left_at before (ts ++ rest))) (append-nil text)
-      ∙ ap (λ b. let r : Result (Unit {0} × Left) Fault = Ok (tt, cond b (past_line (left_at before (text ++ rest)))
-      (left_at before (text ++ rest))) in r) here
+      ∙ ap (λ b. let r : Result (Unit {0} × Left) Fault = Ok (
+        tt,
+        cond b (past_line (left_at before (text ++ rest)))
+            (left_at before (text ++ rest)),
+      ) in r) here
       ∙ ap (λ l. let r : Result (Unit {0} × Left) Fault = Ok (tt, l) in r) (past_is (name_of kind ∷ words) before rest plain)
       ∙ ap (λ ts. let r : Result (Unit {0} × Left) Fault = Ok (tt, left_at (before ++ ts) rest) in r) (sym (append-nil text));
 }
 maybe_gives kind (words ∷ more ∷ lines) l good = absurd (omega arith)
 
 -- that line, and what follows it
-pub maybe_then : {B : Type 0} {Q : List ℕ → Type 0} {next : Reading B} {others : List ℕ} {b : B} (kind : LineKind) (lines : List (List (List ℕ)))
-    → length lines ≤ 1 → AllGood kind lines → Gives Q next others b → ((rest : List ℕ) → Q rest → Unlike kind (others ++ rest))
+pub maybe_then : {B : Type 0} {Q : List ℕ → Type 0} {next : Reading B} {others : List ℕ} {b : B}
+    (kind : LineKind) (lines : List (List (List ℕ))) → length lines ≤ 1 → AllGood kind lines → Gives Q next others b → ((rest : List ℕ) → Q rest → Unlike kind (others ++ rest))
     → Gives Q (λ left. next (cond (is_line kind (next_line left)) (past_line left) left)) (named_text (name_of kind) lines ++ others) b
 maybe_then {B} {Q} {next} kind lines l good second follows = and_gives (λ u. next) (maybe_gives kind lines l good) second follows
 

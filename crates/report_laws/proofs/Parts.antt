@@ -1,8 +1,8 @@
 -- The parts of a printed block are read, one after another.
-use Rattle.std.proofs.Common.{◌≡◌, ℕ, zero, suc, ◌+◌, ◌-◌, ◌*◌, ◌/◌, ◌^◌, ◌<◌, ◌≤◌, Bool, true, false, ◌==◌, ◌&&◌, ◌||◌, cond, List, [], ◌∷◌, ◌++◌, length, map, take, drop, refl, sym, ap, ◌∙◌, arith, subst, append_assoc, Option, Some, None, Result, Ok, Err, nat_lt, lt-ltb, lit<}
-use Rattle.std.specs.Prelude.{decimal, codes, is_some, option_map, slice_index}
+use Rattle.std.proofs.Common.{◌≡◌, ℕ, zero, suc, ◌+◌, ◌*◌, ◌/◌, ◌^◌, ◌<◌, ◌≤◌, Bool, true, false, ◌==◌, ◌&&◌, cond, List, [], ◌∷◌, ◌++◌, length, map, take, drop, refl, sym, ap, ◌∙◌, arith, subst, append_assoc, Some, Result, Ok, nat_lt, lt-ltb, lit<}
+use Rattle.std.specs.Prelude.{decimal, codes, slice_index}
 use Rattle.std.specs.Option.{option_map_or}
-use Rattle.std.specs.List.{list_all, concat, range_with_len}
+use Rattle.std.specs.List.{list_all, range_with_len}
 use Rattle.std.specs.Str.{bytes_eq}
 use Rattle.std.specs.Int.{w32, to_be_bytes}
 use Rattle.std.specs.FinMap.{entries, len}
@@ -22,33 +22,30 @@ use Rattle.machine_step.specs.ProcessorState.{ProcessorState, VectorState}
 use Rattle.machine_step.specs.System.{svcr_of}
 use Rattle.bit_ops.specs.Sums.{bool_number}
 use Rattle.kernel_contexts.specs.State.{State}
-use Rattle.paged_memory.specs.Memory.{AddressSpace}
-use Rattle.report_reader.specs.Fields.{named, is_name}
+use Rattle.report_reader.specs.Fields.{is_name}
 use Rattle.report_reader.specs.Forms.{are_fields, is_field, is_bit, name_of, fields_of}
-use Rattle.report_reader.specs.Reading.{Left, Fault, Reading, and_then, give, each, line, line_by, next_line, said_if, taken}
-use Rattle.report_reader.specs.Events as events
+use Rattle.report_reader.specs.Reading.{Left, Fault, Reading, line, line_by, next_line, said_if, taken}
 use Rattle.report_reader.specs.Events.{is_thread}
 use Rattle.report_reader.specs.Stops as stops
 use Rattle.report_reader.specs.Block as reader
-use Rattle.report_reader.specs.declared.block.Head.{Head}
 use Rattle.report_reader.specs.declared.forms.Field.TheVariants as field
 use Rattle.report_reader.specs.declared.forms.LineKind.{LineKind}
 use Rattle.report_reader.specs.declared.forms.LineKind.TheVariants as kind
 use Rattle.report_reader.specs.declared.fault.ReportKind.{ReportKind}
 use Rattle.report_reader.specs.declared.fault.ReportKind.TheVariants as part
-use Rattle.report_text.specs.Lines.{hex64, hex_line, number_line, flag_line, digit, value_lines}
-use Rattle.report_text.specs.Bank.{bytes_line, bytes_lines, bank_text}
+use Rattle.report_text.specs.Lines.{hex64, hex_line, number_line, flag_line, digit}
+use Rattle.report_text.specs.Bank.{bytes_lines, bank_text}
 use Rattle.report_text.specs.Digest.{memory_line, memory_text}
 use Rattle.report_text.specs.Words as words
 use Rattle.report_text.specs.Block as writer
 use Rattle.report_text.specs.Output as output
-use Rattle.report_laws.specs.Fits.{are_bytes, AllBytes, AllBelow, AllFit, StopFits, StateFits}
+use Rattle.report_laws.specs.Fits.{are_bytes, AllBytes, AllFit, StopFits, StateFits}
 use Rattle.report_laws.proofs.Spaced.{is_plain, line_text}
 use Rattle.report_laws.proofs.Numerals.{decimal_plain, hex64_plain, bytes_plain, are_32}
-use Rattle.report_laws.proofs.Values.{IsStopLine, stop_is}
+use Rattle.report_laws.proofs.Values.{stop_is}
 use Rattle.report_laws.proofs.Heads.{number_read}
 use Rattle.report_laws.specs.Ends.{left_at}
-use Rattle.report_laws.proofs.Lefts.{next_is, past_is, Gives, Anything, and_gives, then_gives, give_gives, line_gives, map_gives, alone}
+use Rattle.report_laws.proofs.Lefts.{next_is, past_is, Gives, Anything, then_gives, give_gives, line_gives, alone}
 use Rattle.report_laws.proofs.KindLines.{AreGood, AllGood, Unlike, named_text, unlike_line, unlike_lines, one_gives, any_gives, any_then, maybe_then, number_field, long_field, value_field, digest_field}
 use Rattle.report_laws.proofs.Rows.{value_tails, value_rows, values_good, bytes_tails, bytes_rows, rows_good, single_tails, single_row, single_good, handler_tails, handler_rows, handlers_good, out_lines_give, number_gives, events_give}
 
@@ -66,7 +63,8 @@ thread_gives P thread l =
     (ap (λ o. said_if (option_map_or (λ n. n == thread) o false)) (number_read (codes "thread") thread refl refl l)
     ∙ ap said_if (same_number thread))
 
-stop_gives : (P : List ℕ → Type 0) (stop : Stop) → StopFits stop → Gives P (line part.Block stops.stop_line) (words.stop_line (Some stop)) stop
+stop_gives : (P : List ℕ → Type 0) (stop : Stop) → StopFits stop
+    → Gives P (line part.Block stops.stop_line) (words.stop_line (Some stop)) stop
 stop_gives P stop fits =
     let is = stop_is stop fits in
     subst (λ text. Gives P (line part.Block stops.stop_line) text stop) (sym is.text)
@@ -160,11 +158,13 @@ registers_are : (core : ProcessorState) → writer.register_text core ≡ regist
 unfolding registers_text writer.register_text writer.system_text
 registers_are core =
     ap (λ ts. ts ++ (hex_line (codes "sp") core.scalars.sp ++ (writer.nzcv_line core.scalars
-    ++ ((hex_line (codes "tpidr") core.tpidr ++ (hex_line (codes "tpidr2") core.tpidr2 ++ (number_line (codes "svcr") (svcr_of core) ++ []))) ++ []))))
+    ++ ((hex_line (codes "tpidr") core.tpidr ++ (hex_line (codes "tpidr2") core.tpidr2 ++ (number_line (codes "svcr")
+    (svcr_of core) ++ []))) ++ []))))
     (value_rows (codes "x") 0 core.scalars.x)
     ∙ ap (λ ts. named_text (codes "x") (value_tails 0 core.scalars.x) ++ (hex_line (codes "sp") core.scalars.sp
     ++ (writer.nzcv_line core.scalars ++ ts)))
-    (append-nil (hex_line (codes "tpidr") core.tpidr ++ (hex_line (codes "tpidr2") core.tpidr2 ++ (number_line (codes "svcr") (svcr_of core) ++ [])))
+    (append-nil (hex_line (codes "tpidr") core.tpidr ++ (hex_line (codes "tpidr2") core.tpidr2 ++ (number_line (codes "svcr")
+    (svcr_of core) ++ [])))
     ∙ ap (λ ts. hex_line (codes "tpidr") core.tpidr ++ (hex_line (codes "tpidr2") core.tpidr2 ++ ts))
     (append-nil (number_line (codes "svcr") (svcr_of core))))
 
@@ -247,8 +247,12 @@ za_rows bank false = refl
 vectors_are : (bank : VectorState) (za_on : Bool) → bank_text bank za_on ≡ vectors_text bank za_on
 unfolding vectors_text bank_text
 vectors_are bank za_on =
-    rw (bytes_rows (codes "z") 0 bank.registers.vectors, bytes_rows (codes "p") 0 (map predicate_bytes bank.registers.predicates),
-    single_row (codes "ffr") (predicate_bytes bank.registers.ffr), za_rows bank za_on) refl
+    rw (
+      bytes_rows (codes "z") 0 bank.registers.vectors,
+      bytes_rows (codes "p") 0 (map predicate_bytes bank.registers.predicates),
+      single_row (codes "ffr") (predicate_bytes bank.registers.ffr),
+      za_rows bank za_on,
+    ) refl
 
 za_good : (s : State) → StateFits s → AllGood kind.Za (za_tails s.core.bank s.core.za_on)
 unfolding za_tails

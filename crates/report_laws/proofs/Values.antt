@@ -1,5 +1,5 @@
 -- The printed lines of stops and events are read back.
-use Rattle.std.proofs.Common.{◌≡◌, ℕ, ◌^◌, ◌<◌, ◌≤◌, Bool, true, ◌&&◌, List, [], ◌∷◌, ◌++◌, refl, sym, ap, ◌∙◌, arith, Option, Some, None}
+use Rattle.std.proofs.Common.{◌≡◌, ℕ, ◌^◌, true, List, [], ◌∷◌, ◌++◌, refl, ap, ◌∙◌, arith, Some}
 use Rattle.std.specs.Prelude.{decimal, codes, option_map}
 use Rattle.std.specs.List.{list_all}
 use Rattle.sm_types.specs.declared.shared_op.OpKind.{OpKind}
@@ -8,7 +8,6 @@ use Rattle.sm_types.specs.declared.shared_op.OpKind.TheVariants.{Umax, Umin, Cas
 use Rattle.sm_types.specs.declared.shared_op.Event.{Event}
 use Rattle.sm_types.specs.declared.stop.Access.{Access}
 use Rattle.sm_types.specs.declared.stop.Access.TheVariants.{Read, Write}
-use Rattle.sm_types.specs.declared.stop.Exception.{Exception}
 use Rattle.sm_types.specs.declared.stop.Exception.TheVariants.{Undefined, PcAlign, Fetch, Data, SpAlign}
 use Rattle.sm_types.specs.declared.stop.Exception.TheVariants.{Align, IllegalStreaming, NotStreaming}
 use Rattle.sm_types.specs.declared.stop.Exception.TheVariants.{ZaInactive, Breakpoint, Shared}
@@ -19,8 +18,6 @@ use Rattle.std.proofs.lemmas.List.{append-nil}
 use Rattle.std.proofs.Common.{append_assoc}
 use Rattle.report_reader.specs.Stops as stops
 use Rattle.report_reader.specs.Stops.{access_of, exception_of, exception_values, stop_of, stop_values}
-use Rattle.report_reader.specs.Lines.{words_of}
-use Rattle.report_reader.specs.Numbers.{hex_number, number_below}
 use Rattle.report_reader.specs.Fields.{Saying, ◌>>=◌, and_then, field, ended, said_by, named, is_name, number, hex}
 use Rattle.report_reader.specs.Events as reader
 use Rattle.report_reader.specs.Events.{kind_of}
@@ -28,9 +25,9 @@ use Rattle.report_text.specs.Block as writer
 use Rattle.report_text.specs.Lines.{hex64, hex32}
 use Rattle.report_text.specs.Words as words
 use Rattle.report_text.specs.Words.{kind_word, access_word, exception_name, stop_words}
-use Rattle.report_laws.specs.Fits.{EventFits, ExceptionFits, StopFits}
+use Rattle.report_laws.specs.Fits.{EventFits, StopFits}
 use Rattle.report_laws.proofs.Spaced.{is_plain, line_text, line_words}
-use Rattle.report_laws.proofs.Numerals.{decimal_plain, decimal_read, below_read, hex64_plain, hex64_read, hex32_plain, hex32_read}
+use Rattle.report_laws.proofs.Numerals.{decimal_plain, below_read, hex64_plain, hex64_read, hex32_plain, hex32_read}
 
 -- what a line of those words says
 pub said_of : {A : Type 0} (saying : Saying A) (word : List ℕ) (words : List (List ℕ)) → list_all is_plain (word ∷ words) ≡ true
@@ -77,16 +74,23 @@ event_words event =
 pub event_plain : (event : Event) → EventFits event → list_all is_plain (event_words event) ≡ true
 event_plain event fits =
     let op = event.op in
-    rw (kind_plain op.kind, decimal_plain op.place (omega (arith, fits.place)), hex64_plain op.a, hex64_plain op.b, hex64_plain event.answer)
+    rw (kind_plain op.kind, decimal_plain op.place (omega (arith, fits.place)), hex64_plain op.a, hex64_plain op.b,
+    hex64_plain event.answer)
     refl
 
 pub event_read : (event : Event) → EventFits event → reader.event_line (writer.event_line event) ≡ Some event
 unfolding reader.event_line writer.event_line named is_name number hex
 event_read event fits =
     let op = event.op in
-    said_of _ (codes "e") (kind_word op.kind ∷ decimal op.place ∷ hex64 op.a ∷ hex64 op.b ∷ hex64 event.answer ∷ []) (event_plain event fits)
-    ∙ rw (kind_read op.kind, below_read (2 ^ 32) op.place (omega arith) fits.place, hex64_read op.a fits.a, hex64_read op.b fits.b,
-    hex64_read event.answer fits.answer) refl
+    said_of _ (codes "e") (kind_word op.kind ∷ decimal op.place ∷ hex64 op.a ∷ hex64 op.b ∷ hex64 event.answer ∷ [])
+    (event_plain event fits)
+    ∙ rw (
+      kind_read op.kind,
+      below_read (2 ^ 32) op.place (omega arith) fits.place,
+      hex64_read op.a fits.a,
+      hex64_read op.b fits.b,
+      hex64_read event.answer fits.answer,
+    ) refl
 
 -- ---- stops
 
@@ -134,13 +138,16 @@ value_text pc value = two_texts pc (32 ∷ (value ++ [])) ∙ ap (λ text. pc ++
 pub stop_is : (stop : Stop) → StopFits stop → IsStopLine stop
 unfolding words.stop_line stop_words exception_name words.exception_values stop_of stop_values exception_of exception_values number hex
 stop_is (Exited status) l =
-    line_read (Exited status) (codes "exited" ∷ decimal status ∷ []) (ap (λ text. codes "stop exited " ++ text) (last_text (decimal status)))
+    line_read (Exited status) (codes "exited" ∷ decimal status ∷ [])
+    (ap (λ text. codes "stop exited " ++ text) (last_text (decimal status)))
     (rw (decimal_plain status (omega arith)) refl) (rw (below_read (2 ^ 8) status (omega arith) l) refl)
 stop_is (Killed signal) l =
-    line_read (Killed signal) (codes "killed" ∷ decimal signal ∷ []) (ap (λ text. codes "stop killed " ++ text) (last_text (decimal signal)))
+    line_read (Killed signal) (codes "killed" ∷ decimal signal ∷ [])
+    (ap (λ text. codes "stop killed " ++ text) (last_text (decimal signal)))
     (rw (decimal_plain signal (omega arith)) refl) (rw (below_read (2 ^ 32) signal (omega arith) l) refl)
 stop_is (BadFrame address) l =
-    line_read (BadFrame address) (codes "badframe" ∷ hex64 address ∷ []) (ap (λ text. codes "stop badframe " ++ text) (last_text (hex64 address)))
+    line_read (BadFrame address) (codes "badframe" ∷ hex64 address ∷ [])
+    (ap (λ text. codes "stop badframe " ++ text) (last_text (hex64 address)))
     (rw (hex64_plain address) refl) (rw (hex64_read address l) refl)
 stop_is Budget l = line_read Budget (codes "budget" ∷ []) refl refl refl
 stop_is TraceFull l = line_read TraceFull (codes "tracefull" ∷ []) refl refl refl
@@ -156,7 +163,8 @@ stop_is (Raised SpAlign pc) l =
     (ap (λ text. codes "stop raised spalign " ++ text) (last_text (hex64 pc))) (rw (hex64_plain pc) refl) (rw (hex64_read pc l.1) refl)
 stop_is (Raised IllegalStreaming pc) l =
     line_read (Raised IllegalStreaming pc) (codes "raised" ∷ codes "illegalstreaming" ∷ hex64 pc ∷ [])
-    (ap (λ text. codes "stop raised illegalstreaming " ++ text) (last_text (hex64 pc))) (rw (hex64_plain pc) refl) (rw (hex64_read pc l.1) refl)
+    (ap (λ text. codes "stop raised illegalstreaming " ++ text) (last_text (hex64 pc)))
+    (rw (hex64_plain pc) refl) (rw (hex64_read pc l.1) refl)
 stop_is (Raised NotStreaming pc) l =
     line_read (Raised NotStreaming pc) (codes "raised" ∷ codes "notstreaming" ∷ hex64 pc ∷ [])
     (ap (λ text. codes "stop raised notstreaming " ++ text) (last_text (hex64 pc))) (rw (hex64_plain pc) refl) (rw (hex64_read pc l.1) refl)

@@ -34,7 +34,12 @@ pub record Stopped : Type 0 where
 abbrev pub ends_from : ℕ → List Stopped → List ThreadEnd
 ends_from k [] = []
 ends_from k (it ∷ others) =
-    record { thread = k; state = it.state; stop = Some it.stop; journal = it.journal } ∷ ends_from (k + 1) others
+    record { thread = k; state = it.state; stop = Some it.stop; journal = it.journal }
+    ∷ ends_from (k + 1) others
+
+-- the text of the block of such a thread
+abbrev pub text_of : ℕ → Stopped → List ℕ
+text_of thread it = block_text thread it.state (Some it.stop) it.journal
 
 -- the block with that text, behind another text
 abbrev pub block_behind : List ℕ → List ℕ → Stopped → Block
@@ -52,8 +57,7 @@ block_behind before text it =
 abbrev pub blocks_behind : List ℕ → ℕ → List Stopped → List Block
 blocks_behind before k [] = []
 blocks_behind before k (it ∷ others) =
-    let text = block_text k it.state (Some it.stop) it.journal in
-    block_behind before text it ∷ blocks_behind (before ++ text) (k + 1) others
+    block_behind before (text_of k it) it ∷ blocks_behind (before ++ text_of k it) (k + 1) others
 
 -- what is printed of such threads fits
 pub record StoppedFits (it : Stopped) : Type 0 where

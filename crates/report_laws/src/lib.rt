@@ -1,5 +1,5 @@
-//! The laws of the report's writer and its reader: what the one prints the other reads back, the lines that say
-//! a value, the block of a thread, and a report as a whole.
+//! The laws of the report's writer and its reader: what the one prints the other reads back, the lines that
+//! say a value, the block of a thread, and a report as a whole.
 #![tactic(auto)]
 
 mod lines;
