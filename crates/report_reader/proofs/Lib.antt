@@ -3,3 +3,5 @@ pub mod Cuts
 pub mod Rows
 pub mod Past
 pub mod Readings
+pub mod Weights
+pub mod Standing

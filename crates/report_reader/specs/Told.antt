@@ -1,15 +1,15 @@
 -- What the code's own types tell.
-use Rattle.std.specs.Prelude.{◌≡◌, List, ℕ, option_map, map, Result, Ok, Err}
+use Rattle.std.specs.Prelude.{◌≡◌, ◌≤◌, List, ℕ, length, option_map, map, Result, Ok, Err}
 use Rattle.report_reader.specs.Fields.{words_left}
 use Rattle.report_reader.specs.Lines.{lines_of, with_first}
 use Rattle.report_reader.specs.Reading.{Left, Fault}
 use Rattle.report_reader.specs.Block.{Block}
-use Rattle.report_reader.specs.declared.block.ReportBlock.{ReportBlock}
+use Rattle.report_reader.specs.declared.parts.ReportBlock.{ReportBlock}
 use Rattle.report_reader.specs.Header.{options_of}
 use Rattle.report_reader.specs.Report.{Report, SharedWords}
 use Rattle.report_reader.specs.declared.fault.ReportFault.{ReportFault}
 use Rattle.report_reader.specs.declared.fault.ReportFault.TheVariants as fault
-use Rattle.report_reader.specs.declared.report.Report as report
+use Rattle.report_reader.specs.declared.parts.Report as report
 use Rattle.sm_types.specs.declared.shared_words.Words.{Words}
 use Rattle.report_reader.specs.declared.fields.Fields.{Fields}
 use Rattle.report_reader.specs.declared.lines.Lines.{Lines}
@@ -38,6 +38,11 @@ block_said block =
       stop = block.stop;
       journal = block.journal.items;
     }
+
+-- a block stands in a text
+pub record StandsIn (text : List ℕ) (block : ReportBlock) : Type 0 where
+  pub ordered : block.start ≤ block.end
+  pub inside : block.end ≤ length text
 
 -- what the words of the code say
 abbrev pub words_said : Words → SharedWords

@@ -1,5 +1,5 @@
 //! The block of a guest thread, read line by line.
-ghost use Rattle.std.specs.Prelude.{◌≡◌, ◌+◌, ◌/◌, Ok};
+ghost use Rattle.std.specs.Prelude.{◌≡◌, ◌+◌, ◌/◌, ◌^◌, ◌<◌, ◌≤◌, Ok, IfOk, vec_len};
 ghost use Rattle.report_reader.specs.Block as spec;
 ghost use Rattle.report_reader.specs.Reading.{Reads, ReadsAs};
 ghost use Rattle.report_reader.specs.Told.{left_of, block_said};
@@ -9,6 +9,7 @@ use crate::fault::{ReportFault, ReportKind};
 use crate::fields::is_word;
 use crate::forms::LineKind;
 use crate::lines::{Lines, begins_with};
+use crate::parts::ReportBlock;
 use crate::stops::stop_line;
 use sm_types::{Event, Stop};
 use std::alloc::Global;
@@ -18,23 +19,6 @@ use std::alloc::Global;
 pub struct Head {
     pub stop: Stop,
     pub count: u32,
-}
-
-/// The block of a guest thread in a report.
-#[derive(Drop)]
-pub struct ReportBlock {
-    /// The place of its first byte in the file.
-    pub start: usize,
-    /// The place of the byte past its last one.
-    pub end: usize,
-    /// The number of its first line, counted from 1.
-    pub first_line: u64,
-    /// Instructions executed.
-    pub count: u32,
-    /// Why the thread stopped.
-    pub stop: Stop,
-    /// The answers of its shared operations, the oldest first.
-    pub journal: Vec<Event>,
 }
 
 /// Reads the thread, its stop and its count.
@@ -116,8 +100,9 @@ fn pass_output(lines: &mut Lines) -> Result<(), ReportFault>
 
 /// Reads so many events; room for one is taken when its line has been read.
 fn read_events(alloc: Global, lines: &mut Lines, count: u32) -> Result<Vec<Event>, ReportFault>
-    ensures { ReadsAs (λ events. events.items) (spec.events count (left_of lines.old)) result
+    ensures read { ReadsAs (λ events. events.items) (spec.events count (left_of lines.old)) result
         (left_of lines.new) }
+    ensures few { IfOk result (λ events. vec_len events ≤ count) }
 {
     let mut events = Vec::new(alloc);
     for _k in 0..count {
@@ -143,7 +128,9 @@ fn part_at_end(line: &[u8]) -> ReportKind
 /// Reads the journal and the end of the block.
 #[tactic(auto, unfolding(crate::specs::Block::journal))]
 fn read_journal(alloc: Global, lines: &mut Lines) -> Result<Vec<Event>, ReportFault>
-    ensures { ReadsAs (λ events. events.items) (spec.journal (left_of lines.old)) result (left_of lines.new) }
+    ensures read { ReadsAs (λ events. events.items) (spec.journal (left_of lines.old)) result
+        (left_of lines.new) }
+    ensures few { IfOk result (λ events. vec_len events < 2 ^ 32) }
 {
     let count = number_line(b"journal", lines.line());
     let count = lines.take(ReportKind::Journal, count)?;

@@ -10,9 +10,10 @@ mod forms;
 mod header;
 mod lines;
 mod numbers;
+mod parts;
 mod report;
 mod stops;
 
-pub use block::ReportBlock;
 pub use fault::{ReportFault, ReportKind};
-pub use report::{Report, read_report};
+pub use parts::{Report, ReportBlock};
+pub use report::read_report;

@@ -1,36 +1,24 @@
 //! A report, read line by line.
-ghost use Rattle.std.specs.Prelude.{◌≡◌, ◌≤◌, ◌<◌, ◌^◌, IfOk, map, length, Ok};
+ghost use Rattle.std.specs.Prelude.{◌≡◌, ◌≤◌, ◌<◌, ◌^◌, IfOk, map, length, vec_len, All, Ok};
 ghost use Rattle.report_reader.specs.Header.{options_of, options_line};
 ghost use Rattle.report_reader.specs.Report as spec;
 ghost use Rattle.report_reader.specs.Block.{block};
 ghost use Rattle.report_reader.specs.Reading.{Reads, ReadsAs, each, line};
-ghost use Rattle.report_reader.specs.Told.{left_of, block_said, words_said, report_said, Answers};
+ghost use Rattle.report_reader.specs.Told.{left_of, block_said, words_said, report_said, Answers, StandsIn};
 ghost use Rattle.report_reader.specs.declared.fault.ReportKind.TheVariants as part;
 
-use crate::block::{ReportBlock, read_block};
+use crate::block::read_block;
 use crate::events::setting_line;
 use crate::fault::{ReportFault, ReportKind};
 use crate::fields::is_word;
 use crate::header::{image_line, options_line};
 use crate::lines::{Lines, begins_with};
+use crate::parts::{Report, ReportBlock};
 use sm_types::{Config, Words};
 use std::alloc::Global;
 
 /// The most bytes that a report may have.
 const LARGEST_FILE: usize = 1_073_741_824;
-
-/// A report.
-#[derive(Drop)]
-pub struct Report {
-    /// The options; the number of cores is 1, as a report does not tell it.
-    pub config: Config,
-    /// SHA-256 of the program file.
-    pub image: [u8; 32],
-    /// A block for each thread, in order of their numbers.
-    pub blocks: Vec<ReportBlock>,
-    /// The shared words and pending signals after the run.
-    pub words: Words,
-}
 
 /// Reads so many blocks, the first of them of thread 0.
 fn read_blocks(
@@ -38,8 +26,9 @@ fn read_blocks(
     lines: &mut Lines,
     threads: u32,
 ) -> Result<Vec<ReportBlock>, ReportFault>
-    ensures { ReadsAs (λ blocks. map block_said blocks.items) (each block threads 0 (left_of lines.old))
+    ensures read { ReadsAs (λ blocks. map block_said blocks.items) (each block threads 0 (left_of lines.old))
         result (left_of lines.new) }
+    ensures count { IfOk result (λ blocks. vec_len blocks ≡ threads) }
 {
     let mut blocks = Vec::new(alloc);
     for thread in 0..threads {
@@ -123,11 +112,12 @@ fn read_lines(alloc: Global, lines: &mut Lines) -> Result<Report, ReportFault>
 
 /// Reads a report back. `Line` is exactly the first line that is not in the format, counted from 1, with the
 /// part to which it should belong; a file of more than 1,073,741,824 bytes is `TooLong` at line 0. `Memory`
-/// is want of memory.
+/// is want of memory. Each block stands in the file.
 #[tactic(auto, unfolding(crate::specs::Report::report_in))]
 pub fn read_report(alloc: Global, bytes: &[u8]) -> Result<Report, ReportFault>
     ensures read { Answers (spec.report_in bytes.now) result }
     ensures cores { IfOk result (λ report. report.config.cores ≡ 1) }
+    ensures places { IfOk result (λ report. All (StandsIn bytes.now) report.blocks.items) }
 {
     if bytes.len() > LARGEST_FILE {
         return Err(ReportFault::Line {
