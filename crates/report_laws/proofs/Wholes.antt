@@ -61,14 +61,17 @@ past_handlers s rest l =
 -- what is read where the block stands between these texts
 abbrev block_to : List ℕ → Stopped → List ℕ → List ℕ → Result (Block × Left) Fault
 block_to before it rest past =
-    Ok (record {
-      start = length before;
-      end = length past;
-      first_line = line_count before + 1;
-      count = it.state.count;
-      stop = it.stop;
-      journal = it.journal;
-    }, left_at past rest)
+    Ok (
+      record {
+        start = length before;
+        end = length past;
+        first_line = line_count before + 1;
+        count = it.state.count;
+        stop = it.stop;
+        journal = it.journal;
+      },
+      left_at past rest,
+    )
 
 -- the text of a block, with its parts one after another
 parts_text : ℕ → Stopped → List ℕ

@@ -159,8 +159,9 @@ pub blocks_within : (text : List ℕ) (report : Report) → report_in text ≡ O
     → AllByRecursion (IsWithin (length text)) report.blocks
 unfolding report_in
 blocks_within text report e =
-    elim (nat_lt 1073741824 (length text)) as (λ b. cond b (Err (record { line = 0; kind = part.TooLong })) (outcome (report_lines (all_lines text)))
-    ≡ Ok report → AllByRecursion (IsWithin (length text)) report.blocks) [
+    elim (nat_lt 1073741824 (length text)) as (λ b.
+    cond b (Err (record { line = 0; kind = part.TooLong })) (outcome (report_lines (all_lines text))) ≡ Ok report
+    → AllByRecursion (IsWithin (length text)) report.blocks) [
       | true ↦ λ none. cc
       | false ↦ λ read. let is = outcome_is (report_lines (all_lines text)) report read in lines_within text report is.after is.is
     ] e

@@ -30,7 +30,8 @@ moves_on left mid after first second = record {
 
 -- ---- one line
 
-first_moves : (line place : ℕ) (lines : List (List ℕ)) → Moves (record { line = line; place = place; lines = lines }) (past_first line place lines)
+first_moves : (line place : ℕ) (lines : List (List ℕ))
+    → Moves (record { line = line; place = place; lines = lines }) (past_first line place lines)
 unfolding weight
 first_moves line place [] = record { behind = omega arith; same = refl }
 first_moves line place (text ∷ lines) = record { behind = omega arith; same = omega arith }
@@ -40,7 +41,8 @@ unfolding past_line
 line_moves left = first_moves left.line left.place left.lines
 
 -- the two parts of what is read
-pub read_is : {A : Type 0} (a b : A) (left after : Left) → ◌≡◌ {A = Result (A × Left) Fault} (Ok (a, left)) (Ok (b, after)) → (a ≡ b) × (left ≡ after)
+pub read_is : {A : Type 0} (a b : A) (left after : Left)
+    → ◌≡◌ {A = Result (A × Left) Fault} (Ok (a, left)) (Ok (b, after)) → (a ≡ b) × (left ≡ after)
 read_is {A} a b left after e = (ap (value_of a) e, ap (left_of left) e)
   where
     value_of : A → Result (A × Left) Fault → A
