@@ -1,6 +1,6 @@
 //! Tests of the libraries by their public calls: words, tokens and lines of sources, memory, vectors,
 //! predicates, permutations and reductions, vector instructions, slices of tiles, outer products, the lines
-//! of stops, the shared words, and the object of a source.
+//! of stops, reports that are read back, the shared words, and the object of a source.
 #![tactic(auto)]
 
 #[cfg(test)]
@@ -17,6 +17,10 @@ mod lines;
 mod memory;
 #[cfg(test)]
 mod permutes;
+#[cfg(test)]
+mod report_cases;
+#[cfg(test)]
+mod reports;
 #[cfg(test)]
 mod shared_words;
 #[cfg(test)]

@@ -1,0 +1,11 @@
+pub mod Lines
+pub mod Numbers
+pub mod Fields
+pub mod Forms
+pub mod Stops
+pub mod Events
+pub mod Header
+pub mod Reading
+pub mod Block
+pub mod Report
+pub mod Told

@@ -1,0 +1,165 @@
+//! The block of a guest thread, read line by line.
+ghost use Rattle.std.specs.Prelude.{◌≡◌, ◌+◌, ◌/◌, ◌^◌, ◌<◌, ◌≤◌, Ok, IfOk, vec_len};
+ghost use Rattle.report_reader.specs.Block as spec;
+ghost use Rattle.report_reader.specs.Reading.{Reads, ReadsAs};
+ghost use Rattle.report_reader.specs.Told.{left_of, block_said};
+
+use crate::events::{event_line, is_thread, number_line, out_line};
+use crate::fault::{ReportFault, ReportKind};
+use crate::fields::is_word;
+use crate::forms::LineKind;
+use crate::lines::{Lines, begins_with};
+use crate::parts::ReportBlock;
+use crate::stops::stop_line;
+use sm_types::{Event, Stop};
+use std::alloc::Global;
+
+/// A thread's stop, and how far it came.
+#[derive(Clone, Copy)]
+pub struct Head {
+    pub stop: Stop,
+    pub count: u32,
+}
+
+/// Reads the thread, its stop and its count.
+#[tactic(auto, unfolding(crate::specs::Block::head))]
+fn read_head(lines: &mut Lines, thread: u32) -> Result<Head, ReportFault>
+    ensures { Reads (spec.head thread (left_of lines.old)) result (left_of lines.new) }
+{
+    let is_thread = is_thread(thread, lines.line());
+    lines.expect(ReportKind::Block, is_thread)?;
+    let stop = stop_line(lines.line());
+    let stop = lines.take(ReportKind::Block, stop)?;
+    let count = number_line(b"count", lines.line());
+    let count = lines.take(ReportKind::Block, count)?;
+    lines.pass_one(LineKind::Turns)?;
+    lines.pass_one(LineKind::Pc)?;
+    Ok(Head { stop, count })
+}
+
+/// Passes the lines of the registers.
+#[tactic(auto, unfolding(crate::specs::Block::registers))]
+fn pass_registers(lines: &mut Lines) -> Result<(), ReportFault>
+    ensures { Reads (spec.registers (left_of lines.old)) result (left_of lines.new) }
+{
+    lines.pass_all(LineKind::X);
+    lines.pass_one(LineKind::Sp)?;
+    lines.pass_one(LineKind::Nzcv)?;
+    lines.pass_one(LineKind::Tpidr)?;
+    lines.pass_one(LineKind::Tpidr2)?;
+    lines.pass_one(LineKind::Svcr)
+}
+
+/// Passes the lines of vectors, predicates, FFR and ZA.
+#[tactic(auto, unfolding(crate::specs::Block::vectors))]
+fn pass_vectors(lines: &mut Lines)
+    ensures { spec.vectors (left_of lines.old) ≡ Ok (tt, left_of lines.new) }
+{
+    lines.pass_all(LineKind::Z);
+    lines.pass_all(LineKind::P);
+    lines.pass_maybe(LineKind::Ffr);
+    lines.pass_all(LineKind::Za);
+}
+
+/// Passes the lines of memory and signals.
+#[tactic(auto, unfolding(crate::specs::Block::signals))]
+fn pass_signals(lines: &mut Lines) -> Result<(), ReportFault>
+    ensures { Reads (spec.signals (left_of lines.old)) result (left_of lines.new) }
+{
+    lines.pass_one(LineKind::Memory)?;
+    lines.pass_one(LineKind::Held)?;
+    lines.pass_one(LineKind::Inside)?;
+    lines.pass_one(LineKind::Polled)?;
+    lines.pass_all(LineKind::Handler);
+    Ok(())
+}
+
+/// Passes the lines of so many bytes of output.
+fn pass_out_lines(lines: &mut Lines, size: u32) -> Result<(), ReportFault>
+    ensures { Reads (spec.out_lines ((size + 31) / 32) size (left_of lines.old)) result (left_of lines.new) }
+{
+    let mut left = size;
+    while left > 0 {
+        let part = left.min(32);
+        let said = out_line(part, lines.line());
+        lines.take(ReportKind::Block, said)?;
+        left -= part;
+    }
+    Ok(())
+}
+
+/// Passes the lines of what the thread has written.
+#[tactic(auto, unfolding(crate::specs::Block::output))]
+fn pass_output(lines: &mut Lines) -> Result<(), ReportFault>
+    ensures { Reads (spec.output (left_of lines.old)) result (left_of lines.new) }
+{
+    let size = number_line(b"output", lines.line());
+    let size = lines.take(ReportKind::Block, size)?;
+    pass_out_lines(lines, size)
+}
+
+/// Reads so many events; room for one is taken when its line has been read.
+fn read_events(alloc: Global, lines: &mut Lines, count: u32) -> Result<Vec<Event>, ReportFault>
+    ensures read { ReadsAs (λ events. events.items) (spec.events count (left_of lines.old)) result
+        (left_of lines.new) }
+    ensures few { IfOk result (λ events. vec_len events ≤ count) }
+{
+    let mut events = Vec::new(alloc);
+    for _k in 0..count {
+        let event = event_line(lines.line());
+        let event = lines.take(ReportKind::Journal, event)?;
+        events.push(event)?;
+    }
+    Ok(events)
+}
+
+/// The part to which a line belongs where the block should end.
+#[tactic(auto, unfolding(crate::specs::Block::part_at_end))]
+fn part_at_end(line: &[u8]) -> ReportKind
+    ensures { result ≡ spec.part_at_end line.now }
+{
+    if begins_with(b"e", line) {
+        ReportKind::Journal
+    } else {
+        ReportKind::Block
+    }
+}
+
+/// Reads the journal and the end of the block.
+#[tactic(auto, unfolding(crate::specs::Block::journal))]
+fn read_journal(alloc: Global, lines: &mut Lines) -> Result<Vec<Event>, ReportFault>
+    ensures read { ReadsAs (λ events. events.items) (spec.journal (left_of lines.old)) result
+        (left_of lines.new) }
+    ensures few { IfOk result (λ events. vec_len events < 2 ^ 32) }
+{
+    let count = number_line(b"journal", lines.line());
+    let count = lines.take(ReportKind::Journal, count)?;
+    let events = read_events(alloc, lines, count)?;
+    let part = part_at_end(lines.line());
+    let is_end = is_word(lines.line(), b"end-thread\n");
+    lines.expect(part, is_end)?;
+    Ok(events)
+}
+
+/// Reads the block of that thread.
+#[tactic(auto, unfolding(crate::specs::Block::block))]
+pub fn read_block(alloc: Global, lines: &mut Lines, thread: u32) -> Result<ReportBlock, ReportFault>
+    ensures { ReadsAs block_said (spec.block thread (left_of lines.old)) result (left_of lines.new) }
+{
+    let start = lines.place();
+    let first_line = lines.number() + 1;
+    let head = read_head(lines, thread)?;
+    pass_registers(lines)?;
+    pass_vectors(lines);
+    pass_signals(lines)?;
+    pass_output(lines)?;
+    let journal = read_journal(alloc, lines)?;
+    Ok(ReportBlock {
+        start,
+        end: lines.place(),
+        first_line,
+        count: head.count,
+        stop: head.stop,
+        journal,
+    })
+}

@@ -1,0 +1,123 @@
+//! The lines of a report before its blocks.
+ghost use Rattle.std.specs.Prelude.{◌≡◌, true, false, MatchOption, IfSome, option_map};
+ghost use Rattle.sm_types.specs.Length.{bits_of};
+ghost use Rattle.report_reader.specs.Header as spec;
+ghost use Rattle.report_reader.specs.Fields.{field, Says};
+ghost use Rattle.report_reader.specs.Told.{words_ahead};
+
+use crate::fields::Fields;
+use crate::numbers::{decimal_number, is_hex};
+use sm_types::{Config, VecLen};
+
+/// The vector length of so many bits.
+fn length_of(bits: u64) -> Option<VecLen>
+    ensures { MatchOption result (spec.is_length bits ≡ false)
+        (λ length. (spec.is_length bits ≡ true) × (bits_of length ≡ bits)) }
+{
+    match bits {
+        128 => Some(VecLen::Bits128),
+        256 => Some(VecLen::Bits256),
+        512 => Some(VecLen::Bits512),
+        1024 => Some(VecLen::Bits1024),
+        2048 => Some(VecLen::Bits2048),
+        _ => None,
+    }
+}
+
+/// The options of those numbers, where each is one that its option takes.
+#[tactic(auto, unfolding(crate::specs::Header::are_options))]
+fn config_of(vl: u64, svl: u64, slice: u64, budget: u64, threads: u64) -> Option<Config>
+    ensures options { option_map spec.options_of result ≡ spec.if_options
+        (record { vl = vl; svl = svl; slice = slice; budget = budget; threads = threads }) }
+    ensures cores { IfSome result (λ config. config.cores ≡ 1) }
+{
+    let vl = length_of(vl)?;
+    let svl = length_of(svl)?;
+    if 1 <= slice
+        && slice <= 1_000_000
+        && 1 <= budget
+        && budget <= 0xFFFF_FFFF
+        && 1 <= threads
+        && threads <= 32
+    {
+        Some(Config {
+            vl,
+            svl,
+            slice: slice as u32,
+            budget: budget as u32,
+            threads: threads as u32,
+            cores: 1,
+        })
+    } else {
+        None
+    }
+}
+
+/// The number after a key.
+#[tactic(auto, unfolding(crate::specs::Header::number_after))]
+fn number_after(key: &[u8], word: &[u8]) -> Option<u64>
+    ensures { result ≡ spec.number_after key.now word.now }
+{
+    let word = word.strip_prefix(key)?;
+    decimal_number(word)
+}
+
+/// Reads the next word, which is a number after a key.
+fn read_option(key: &[u8], words: &mut Fields) -> Option<u64>
+    ensures { Says (field (spec.number_after key.now) (words_ahead words.old)) result
+        (words_ahead words.new) }
+{
+    let word = words.next()?;
+    number_after(key, word)
+}
+
+/// The options that a line says; of cores it says nothing.
+#[tactic(auto, unfolding(crate::specs::Header::options_line, crate::specs::Fields::said_by))]
+pub fn options_line(line: &[u8]) -> Option<Config>
+    ensures options { option_map spec.options_of result ≡ spec.options_line line.now }
+    ensures cores { IfSome result (λ config. config.cores ≡ 1) }
+{
+    let mut words = Fields::of(line);
+    words.named(b"options")?;
+    let vl = read_option(b"vl=", &mut words)?;
+    let svl = read_option(b"svl=", &mut words)?;
+    let slice = read_option(b"slice=", &mut words)?;
+    let budget = read_option(b"budget=", &mut words)?;
+    let threads = read_option(b"threads=", &mut words)?;
+    words.end(())?;
+    config_of(vl, svl, slice, budget, threads)
+}
+
+/// The 32 bytes that a word writes.
+#[tactic(auto, unfolding(crate::specs::Header::digest_of))]
+fn digest_of(word: &[u8]) -> Option<[u8; 32]>
+    ensures { result ≡ spec.digest_of word.now }
+{
+    if !is_hex(word) {
+        return None;
+    }
+    let mut digest = [0u8; 32];
+    match hex::decode_to_slice(word, &mut digest) {
+        Ok(()) => Some(digest),
+        Err(_) => None,
+    }
+}
+
+/// Reads the next word, which is a digest.
+fn read_digest(words: &mut Fields) -> Option<[u8; 32]>
+    ensures { Says (field spec.digest_of (words_ahead words.old)) result (words_ahead words.new) }
+{
+    let word = words.next()?;
+    digest_of(word)
+}
+
+/// The digest that a line says.
+#[tactic(auto, unfolding(crate::specs::Header::image_line, crate::specs::Fields::said_by))]
+pub fn image_line(line: &[u8]) -> Option<[u8; 32]>
+    ensures { result ≡ spec.image_line line.now }
+{
+    let mut words = Fields::of(line);
+    words.named(b"image")?;
+    let digest = read_digest(&mut words)?;
+    words.end(digest)
+}
