@@ -66,9 +66,7 @@ fn step(alloc: Global, word: u32, state: &mut State) -> StepEnd {
     let mut port = ReplayPort::new();
     let mut ticket = ReplayTicket::new(0, Vec::new(alloc));
     if sees_no_bank(word) {
-        return state
-            .machine
-            .step(None, &mut port, &mut ticket, 0, false);
+        return state.machine.step(None, &mut port, &mut ticket, 0, false);
     }
     // both are in the modes that the line says
     state.machine.streaming = state.bank.vectors.streaming();
