@@ -20,18 +20,18 @@ fn assembled(alloc: Global, source: &str) -> Result<MemFiles, Fail> {
 
 /// What the command writes for the file `--vl`.
 fn written(alloc: Global, command: &str, files: &mut MemFiles) -> Result<MemSink, Fail> {
-    written_within(alloc, 4000, command, files)
+    written_within(alloc, 4000, &[command, "--vl"], files)
 }
 
-/// The same, of at most so many bytes.
+/// What the command of the words writes, of at most so many bytes.
 fn written_within(
     alloc: Global,
     room: usize,
-    command: &str,
+    words: &[&str],
     files: &mut MemFiles,
 ) -> Result<MemSink, Fail> {
     let mut out = MemSink::new(alloc, room)?;
-    if status_of(alloc, &[command, "--vl"], files, &mut out)? != Status::Done {
+    if status_of(alloc, words, files, &mut out)? != Status::Done {
         return Err("a program that is refused".into());
     }
     Ok(out)
@@ -147,12 +147,27 @@ fn output_stands_in_lines_of_32_bytes(rt: HostRuntime) -> Result<(), Fail> {
 
 #[test]
 fn a_journal_that_is_full(rt: HostRuntime) -> Result<(), Fail> {
-    let source = "_start: movz x0, #32512, lsl #32\nagain: ldr x1, [x0]\n cbz x1, again\n";
-    let mut files = assembled(rt.alloc(), source)?;
-    let out = written_within(rt.alloc(), 20_000_000, "run", &mut files)?;
-    let report = std::str::from_utf8(out.bytes()).map_err(|_| "not text")?;
-    assert!(rt; report.contains("\nstop tracefull\ncount 524289\nturns 524289\n"));
-    assert!(rt; report.contains("\njournal 262144\ne ld 0 0000000000000000 "));
-    assert!(rt; report.ends_with(" 0000000000000000\nend-thread\nshared\nend\n"));
+    let load = "_start: movz x0, #32512, lsl #32\nagain: ldr x1, [x0]\n cbz x1, again\n";
+    let post = "_start: mov x0, #0\n mov x1, #5\n mov x8, #131\nagain: svc #0\n b again\n";
+    let cases = [
+        (load, "1000000", "count 524289\nturns 524289\n", "e ld 0 "),
+        (post, "1000000", "count 524291\nturns 524291\n", "e post 0 "),
+        (
+            "_start: b _start\n",
+            "1",
+            "count 262145\nturns 524289\n",
+            "e poll 0 ",
+        ),
+    ];
+    for (source, slice, counts, event) in cases {
+        let mut files = assembled(rt.alloc(), source)?;
+        let words = ["run", "--vl", "--slice", slice];
+        let out = written_within(rt.alloc(), 20_000_000, &words, &mut files)?;
+        let report = std::str::from_utf8(out.bytes()).map_err(|_| "not text")?;
+        let stop = format!(in rt.alloc(); "\nstop tracefull\n{counts}")?;
+        let journal = format!(in rt.alloc(); "\njournal 262144\n{event}")?;
+        assert!(rt; report.contains(stop.as_str()), "{source}");
+        assert!(rt; report.contains(journal.as_str()), "{source}");
+    }
     Ok(())
 }
