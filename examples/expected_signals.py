@@ -1,4 +1,4 @@
-"""Signals for expected.py: the frame that a delivery writes below SP, and the return that reads it, as docs/SIGNALS.md lays it out."""
+"""Signals for expected.py: the frame that a delivery writes below SP, and the return that reads it, as docs/KERNEL.md lays it out."""
 import struct
 
 from expected_vectors import MASK, Vectors

@@ -662,7 +662,7 @@ def assemblies():
 
 VECTOR_EXAMPLES = ("saturate", "strlen")
 # VL and SVL of the other runs of programs with ZA
-MATRIX_RUNS = {"matmul": [(128, 128), (2048, 512), (128, 2048)], "transpose": [(256, 128), (128, 512), (512, 2048)], "outer": [(128, 128)], "za-modes": [(2048, 128)],
+MATRIX_RUNS = {"matmul": [(128, 128), (2048, 512), (128, 2048)], "transpose": [(256, 128), (128, 512), (512, 2048)], "outer": [(128, 128)], "signals": [(128, 128), (2048, 2048)], "za-modes": [(2048, 128)],
                "za-slices": [(256, 128), (128, 2048)], "za-loads": [(2048, 128), (512, 512), (128, 2048)],
                "za-products": [(128, 128), (128, 2048)], "za-sums": [(256, 128)], "za-zero": [(128, 512)], "za-stack": [(128, 1024)],
                "za-calls": [(1024, 128)], "za-vectors": [(128, 2048)], "za-load-fault": [(128, 2048)]}
