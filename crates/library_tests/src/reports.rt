@@ -115,8 +115,9 @@ fn options_digest_and_words(rt: HostRuntime) -> Result<(), Fail> {
     assert_eq!(rt; report.config.budget, 10_000_000);
     assert_eq!(rt; report.config.threads, 2);
     assert_eq!(rt; report.config.cores, 1);
-    assert_eq!(rt; report.image[0], 0x80);
-    assert_eq!(rt; report.image[31], 0x9f);
+    let image = report.image;
+    assert_eq!(rt; image[0], 0x80);
+    assert_eq!(rt; image[31], 0x9f);
     for (place, value) in report.words.shared.iter().enumerate() {
         let wanted = match place {
             0 => 2000,
