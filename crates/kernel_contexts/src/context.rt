@@ -24,7 +24,7 @@ pub enum Turn {
     /// The turn asks an operation, and the next event of the port's journal has another; nothing has changed.
     TraceDiffers,
     /// There was no memory for the thread's output, for a page that it writes, or for an event; nothing has
-    /// changed.
+    /// changed, but that more pages may be owned.
     Memory,
 }
 

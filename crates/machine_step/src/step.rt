@@ -33,7 +33,8 @@ pub enum StepEnd {
     TraceEnds,
     /// The next event of the port's journal has another operation; nothing has changed.
     TraceDiffers,
-    /// There was no memory for a page that is written, or for an event; nothing has changed.
+    /// There was no memory for a page that is written, or for an event; nothing has changed, but that more
+    /// pages may be owned.
     Memory,
 }
 
