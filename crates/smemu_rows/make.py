@@ -3,8 +3,8 @@
 
     crates/smemu_rows/make.py
 
-The reports come from examples/expected.py, which shares nothing with the emulator; the refusals are written out here. The files real-*.elf
-come from real/make.sh, which runs an assembler and two linkers.
+The reports come from examples/expected.py and the interpreters beside it, which share nothing with the emulator; the refusals, and the
+listings but one, are written out here. The files real-*.elf come from real/make.sh, which runs an assembler and two linkers.
 """
 import pathlib
 import sys
