@@ -43,7 +43,8 @@ pub enum Stop {
     Raised { exception: Exception, pc: u64 },
     /// By a signal that has no handler.
     Killed(u32),
-    /// A signal frame could not be written or read: the address of the first such byte.
+    /// A delivery's frame may not be written, or a return's cannot be read: the address of the first such
+    /// byte. Or a return is from no frame, outside a handler or from fields that are not a frame's: SP.
     BadFrame(u64),
     /// The options' budget of counted instructions is used up.
     Budget,
