@@ -1,5 +1,6 @@
 -- The finite checks of the table, and its laws.
-use Rattle.std.proofs.Common.{◌≡◌, ℕ, suc, ◌==◌, not, Bool, true, false, cond, refl, sym, ap, ◌∙◌, eq-eqb, bit_and, List, [], ◌∷◌, slice_get, Option, Some, None, subst}
+use Rattle.std.proofs.Common.{◌≡◌, ℕ, suc, ◌==◌, not, Bool, true, false, cond, refl, sym, ap, ◌∙◌, eq-eqb, bit_and, List, [], ◌∷◌}
+use Rattle.std.proofs.Common.{slice_get, Option, Some, None, subst}
 use Rattle.std.specs.List.{list_all}
 use Rattle.std.specs.Prelude.{option_map}
 use Rattle.std.proofs.lemmas.Bool.{both_ways}
@@ -15,11 +16,16 @@ use Rattle.insn_forms.proofs.Tables.{IsTable, differ, not_alike}
 use Rattle.sm_types.specs.declared.insn as types
 use types.BitfieldOp.TheVariants.{Sbfm, Bfm, Ubfm}
 use types.Logical.TheVariants.{And, Orr, Eor, Ands}
-use types.{AddSub.TheVariants.Add, BranchRegisterOp.TheVariants.Br, CompareOp.TheVariants.Ccmn, CompareOp.TheVariants.Ccmp, LoadLiteralOp.TheVariants.Word, MoveOp.TheVariants.Movn, OneSourceOp.TheVariants.Rbit, PairIndex.TheVariants.Offset, PairOp.TheVariants.Stp, PairOp.TheVariants.Ldp, PcRelativeOp.TheVariants.Adr, SelectOp.TheVariants.Csel, SystemMoveOp.TheVariants.Mrs, SystemMoveOp.TheVariants.Msr, SystemRegister.TheVariants.Nzcv, TwoSourceOp.TheVariants.Udiv}
+use types.{AddSub.TheVariants.Add, BranchRegisterOp.TheVariants.Br, CompareOp.TheVariants.Ccmn, CompareOp.TheVariants.Ccmp}
+use types.{LoadLiteralOp.TheVariants.Word, MoveOp.TheVariants.Movn, OneSourceOp.TheVariants.Rbit, PairIndex.TheVariants.Offset}
+use types.{PairOp.TheVariants.Stp, PairOp.TheVariants.Ldp, PcRelativeOp.TheVariants.Adr, SelectOp.TheVariants.Csel}
+use types.{SystemMoveOp.TheVariants.Mrs, SystemMoveOp.TheVariants.Msr, SystemRegister.TheVariants.Nzcv, TwoSourceOp.TheVariants.Udiv}
 use types.AtomicOp.TheVariants as atomic_ops
 use Rattle.a64_table.specs.declared.operation as operations
-use operations.Operation.TheVariants.{G1, G2, G3, G4, G5, G6, G7, G8, G9, G10, G11, G12, G13, G14, G15, G16, G17, G18, G19, G20, G21, G22, G23}
-use operations.{Operation.Operation, AtomicForm.TheVariants.Update, BranchOp.TheVariants.B, MultiplyOp.TheVariants.Madd, SystemOp.TheVariants.Svc}
+use operations.Operation.TheVariants.{G1, G2, G3, G4, G5, G6, G7, G8, G9, G10, G11, G12, G13, G14, G15, G16, G17, G18, G19, G20, G21, G22}
+use operations.Operation.TheVariants.{G23}
+use operations.{Operation.Operation, AtomicForm.TheVariants.Update, BranchOp.TheVariants.B, MultiplyOp.TheVariants.Madd}
+use operations.{SystemOp.TheVariants.Svc}
 use operations.AddressForm.TheVariants as address_form
 use Rattle.a64_table.specs.declared.rows.TheConstants.{SCALAR_LINES}
 use Rattle.a64_table.specs.Numbers.{form_number, number_of}

@@ -4,9 +4,11 @@ use Rattle.insn_forms.specs.declared.field.Field.{Field}
 use Rattle.insn_forms.specs.declared.number.Parts.{Parts}
 use Rattle.insn_forms.specs.Forms.{padded}
 use Rattle.insn_forms.proofs.Laws.{Take, taken, are_small, agrees}
-use Rattle.insn_forms.proofs.Ways.{Slot, flag, cut, code, signed, take_of, field_of_slot, takes_of, fields_of, pass, eight, passed, one, cuts}
+use Rattle.insn_forms.proofs.Ways.{Slot, flag, cut, code, signed, take_of, field_of_slot, takes_of, fields_of, pass, eight, passed, one}
+use Rattle.insn_forms.proofs.Ways.{cuts}
 use Rattle.sm_types.specs.declared.insn as types
-use types.{Insn.Insn, CompareOperand.CompareOperand, ConditionalCompare.ConditionalCompare, OneSource.OneSource, OneSourceOp.OneSourceOp, OneSourceOp.TheVariants.Rbit, OneSourceOp.TheVariants.Rev64, Address.Address, LoadStore.LoadStore}
+use types.{Insn.Insn, CompareOperand.CompareOperand, ConditionalCompare.ConditionalCompare, OneSource.OneSource, OneSourceOp.OneSourceOp}
+use types.{OneSourceOp.TheVariants.Rbit, OneSourceOp.TheVariants.Rev64, Address.Address, LoadStore.LoadStore}
 use types.Insn.TheVariants as insn
 use types.Branch.TheVariants as branch
 use types.CompareOperand.TheVariants as operand
@@ -14,19 +16,27 @@ use types.Multiply.TheVariants as multiply
 use types.Address.TheVariants as address
 use types.Atomic.TheVariants as atomic
 use types.System.TheVariants as system
-use Rattle.a64_table.specs.declared.fields.TheConstants.{ACQUIRE, BIT, BRANCH_COND, CAS_ACQUIRE, CAS_RELEASE, COND, CRM, HINT, HW, IMM12, IMM14, IMM16, IMM19, IMM21, IMM26, IMM3, IMM5, IMM6, IMM7, IMM9, IMMR, IMMS, N, NZCV, OPC, OPTION, RA, RD, RELEASE, RM, RN, RS, RT, RT2, SCALED, SF, SH, SHIFT, SIZE, UDF_IMM16}
+use Rattle.a64_table.specs.declared.fields.TheConstants.{ACQUIRE, BIT, BRANCH_COND, CAS_ACQUIRE, CAS_RELEASE, COND, CRM, HINT, HW, IMM12}
+use Rattle.a64_table.specs.declared.fields.TheConstants.{IMM14, IMM16, IMM19, IMM21, IMM26, IMM3, IMM5, IMM6, IMM7, IMM9, IMMR, IMMS, N}
+use Rattle.a64_table.specs.declared.fields.TheConstants.{NZCV, OPC, OPTION, RA, RD, RELEASE, RM, RN, RS, RT, RT2, SCALED, SF, SH, SHIFT}
+use Rattle.a64_table.specs.declared.fields.TheConstants.{SIZE, UDF_IMM16}
 use Rattle.a64_table.specs.declared.operation as operations
-use operations.Operation.TheVariants.{G1, G2, G3, G4, G5, G6, G7, G8, G9, G10, G11, G12, G13, G14, G15, G16, G17, G18, G19, G20, G21, G22, G23}
+use operations.Operation.TheVariants.{G1, G2, G3, G4, G5, G6, G7, G8, G9, G10, G11, G12, G13, G14, G15, G16, G17, G18, G19, G20, G21, G22}
+use operations.Operation.TheVariants.{G23}
 use operations.BranchOp.TheVariants.{B, Bl, BCond, Cbz, Cbnz, Tbz, Tbnz}
 use operations.MultiplyOp.TheVariants.{Madd, Msub, Smulh, Umulh}
 use operations.AtomicForm.TheVariants.{Ldar, Stlr, Cas}
 use operations.SystemOp.TheVariants.{Svc, Brk, Udf, Hint}
 use operations.{Operation.Operation}
 use operations.AddressForm.TheVariants as form
-use Rattle.a64_table.specs.Values.{condition_of, condition_number, shift_of, shift_number, extend_of, extend_number, access_size_of, access_size_number, load_store_op_of, load_store_op_number}
-use Rattle.a64_table.specs.Named.{shifted_register, extended_register, named_branch, compare_operand, is_wide_source, named_multiply, named_address, named_atomic, named_system, named}
-use Rattle.a64_table.specs.Parts.{branch_parts, compare_says, compare_parts, doubleword_parts, one_source_parts, multiply_parts, load_store_says, load_store_parts, atomic_parts, system_parts, parts_of}
-use Rattle.a64_table.proofs.Numbers.{condition_back, shift_back, extend_back, access_size_back, load_store_op_back, condition_is, shift_is, extend_is, access_size_is, load_store_op_is}
+use Rattle.a64_table.specs.Values.{condition_of, condition_number, shift_of, shift_number, extend_of, extend_number, access_size_of}
+use Rattle.a64_table.specs.Values.{access_size_number, load_store_op_of, load_store_op_number}
+use Rattle.a64_table.specs.Named.{shifted_register, extended_register, named_branch, compare_operand, is_wide_source, named_multiply}
+use Rattle.a64_table.specs.Named.{named_address, named_atomic, named_system, named}
+use Rattle.a64_table.specs.Parts.{branch_parts, compare_says, compare_parts, doubleword_parts, one_source_parts, multiply_parts}
+use Rattle.a64_table.specs.Parts.{load_store_says, load_store_parts, atomic_parts, system_parts, parts_of}
+use Rattle.a64_table.proofs.Numbers.{condition_back, shift_back, extend_back, access_size_back, load_store_op_back, condition_is, shift_is}
+use Rattle.a64_table.proofs.Numbers.{extend_is, access_size_is, load_store_op_is}
 
 -- how an instruction keeps the numbers of its operation's fields
 abbrev r : Field → Slot

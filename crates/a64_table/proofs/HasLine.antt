@@ -1,5 +1,6 @@
 -- An instruction whose fields are in their ranges is in its row: its numbers are in the row's fields, and meet its condition.
-use Rattle.std.proofs.Common.{◌≡◌, ◌≢◌, ℕ, ◌<◌, ◌==◌, Bool, true, false, not, ◌||◌, nat_lt, refl, sym, ap, ap₂, ◌∙◌, subst, arith, eqb-true, List, Some, ℤ}
+use Rattle.std.proofs.Common.{◌≡◌, ◌≢◌, ℕ, ◌<◌, ◌==◌, Bool, true, false, not, ◌||◌, nat_lt, refl, sym, ap, ap₂, ◌∙◌, subst, arith, eqb-true}
+use Rattle.std.proofs.Common.{List, Some, ℤ}
 use Rattle.std.proofs.lemmas.Bool.{lt-ltb}
 use Rattle.bit_ops.specs.Masks.{are_mask_fields}
 use Rattle.insn_forms.specs.declared.field.Field.{Field}
@@ -14,7 +15,10 @@ use types.Extend.TheVariants.{Uxtw, Uxtx, Sxtw, Sxtx}
 use types.AccessSize.TheVariants.{Byte, Word, Doubleword}
 use types.LoadStoreOp.TheVariants.{Store, Load, LoadSignedTo64, LoadSignedTo32}
 use types.PairIndex.TheVariants.{Offset, PostIndex, PreIndex}
-use types.{Insn.Insn, ShiftKind.ShiftKind, ShiftKind.TheVariants.Ror, Extend.Extend, AccessSize.AccessSize, LoadStoreOp.LoadStoreOp, CompareOperand.CompareOperand, ConditionalCompare.ConditionalCompare, OneSource.OneSource, OneSourceOp.OneSourceOp, OneSourceOp.TheVariants.Rev64, Address.Address, LoadStore.LoadStore, PairOp.PairOp, PairOp.TheVariants.Stp, PairOp.TheVariants.Ldp, PairIndex.PairIndex}
+use types.{Insn.Insn, ShiftKind.ShiftKind, ShiftKind.TheVariants.Ror, Extend.Extend, AccessSize.AccessSize, LoadStoreOp.LoadStoreOp}
+use types.{CompareOperand.CompareOperand, ConditionalCompare.ConditionalCompare, OneSource.OneSource, OneSourceOp.OneSourceOp}
+use types.{OneSourceOp.TheVariants.Rev64, Address.Address, LoadStore.LoadStore, PairOp.PairOp, PairOp.TheVariants.Stp}
+use types.{PairOp.TheVariants.Ldp, PairIndex.PairIndex}
 use types.Insn.TheVariants as insn
 use types.Branch.TheVariants as branch
 use types.CompareOperand.TheVariants as operand
@@ -26,9 +30,11 @@ use Rattle.sm_types.specs.contracts.insn as enums
 use Rattle.a64_table.specs.declared.operation.Operation.{Operation}
 use Rattle.a64_table.specs.Values.{shift_number, extend_number, access_size_number, load_store_op_number}
 use Rattle.a64_table.specs.Conditions.{fits_of, is_below_width, has_load, is_address_option, is_apart, are_two, is_pair_apart}
-use Rattle.a64_table.specs.Parts.{branch_parts, compare_says, compare_parts, doubleword_parts, one_source_parts, multiply_parts, load_store_says, load_store_parts, atomic_parts, system_parts, parts_of}
+use Rattle.a64_table.specs.Parts.{branch_parts, compare_says, compare_parts, doubleword_parts, one_source_parts, multiply_parts}
+use Rattle.a64_table.specs.Parts.{load_store_says, load_store_parts, atomic_parts, system_parts, parts_of}
 use Rattle.bit_ops.specs.Bits.{width_of}
-use Rattle.a64_table.specs.Ranges.{IsInRow, is_address_extend, has_size, IsAddress, writes_base, IsCompareOperand, IsConditionalCompare, IsOneSource, IsLoadStore}
+use Rattle.a64_table.specs.Ranges.{IsInRow, is_address_extend, has_size, IsAddress, writes_base, IsCompareOperand, IsConditionalCompare}
+use Rattle.a64_table.specs.Ranges.{IsOneSource, IsLoadStore}
 use Rattle.a64_table.specs.Table.{scalar}
 use Rattle.a64_table.proofs.Checks.{has_row, row-format}
 use Rattle.a64_table.proofs.Groups.{format, slots, kept}

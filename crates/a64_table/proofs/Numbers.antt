@@ -1,9 +1,12 @@
 -- The number of what a number stands for is that number.
 use Rattle.std.proofs.Common.{◌≡◌, ℕ, ◌<◌, refl, ap}
 use Rattle.insn_forms.proofs.Numbers.{all_below, same_below}
-use Rattle.a64_table.specs.Values.{access_size_number, access_size_of, condition_number, condition_of, extend_number, extend_of, load_store_op_number, load_store_op_of, shift_number, shift_of}
+use Rattle.a64_table.specs.Values.{access_size_number, access_size_of, condition_number, condition_of, extend_number, extend_of}
+use Rattle.a64_table.specs.Values.{load_store_op_number, load_store_op_of, shift_number, shift_of}
 use Rattle.sm_types.specs.declared.insn as types
-use types.{Condition.Condition, Condition.TheVariants.Eq, ShiftKind.ShiftKind, ShiftKind.TheVariants.Lsl, Extend.Extend, Extend.TheVariants.Uxtb, AccessSize.AccessSize, AccessSize.TheVariants.Byte, LoadStoreOp.LoadStoreOp, LoadStoreOp.TheVariants.Store}
+use types.{Condition.Condition, Condition.TheVariants.Eq, ShiftKind.ShiftKind, ShiftKind.TheVariants.Lsl, Extend.Extend}
+use types.{Extend.TheVariants.Uxtb, AccessSize.AccessSize, AccessSize.TheVariants.Byte, LoadStoreOp.LoadStoreOp}
+use types.{LoadStoreOp.TheVariants.Store}
 
 pub condition_back : (n : ℕ) → n < 16 → condition_number (condition_of n) ≡ n
 unfolding condition_of all_below

@@ -1,5 +1,6 @@
 -- The fields of an instruction that a row gives are in their ranges.
-use Rattle.std.proofs.Common.{◌≡◌, ◌≢◌, ℕ, ◌%◌, ◌<◌, ◌^◌, ◌==◌, Bool, true, false, not, ◌&&◌, ◌||◌, nat_lt, refl, sym, ap, ap₂, ◌∙◌, subst, arith, eqb-true, eq-eqb}
+use Rattle.std.proofs.Common.{◌≡◌, ◌≢◌, ℕ, ◌%◌, ◌<◌, ◌^◌, ◌==◌, Bool, true, false, not, ◌&&◌, ◌||◌, nat_lt, refl, sym, ap, ap₂, ◌∙◌, subst}
+use Rattle.std.proofs.Common.{arith, eqb-true, eq-eqb}
 use Rattle.std.proofs.lemmas.Bool.{ltb-true, and_parts, both_ways}
 use Rattle.bit_ops.specs.Masks.{are_mask_fields}
 use Rattle.insn_forms.specs.declared.field.Field.{Field}
@@ -9,19 +10,26 @@ use Rattle.insn_forms.proofs.Bits.{field_in-lt}
 use Rattle.insn_forms.proofs.Numbers.{all_below, below, small, half_small, cut_below, uncut, signed_ranged as signed_small}
 use Rattle.sm_types.specs.declared.insn as types
 use types.PairIndex.TheVariants.{Offset, PostIndex, PreIndex}
-use types.{Insn.Insn, ShiftKind.TheVariants.Ror, OneSourceOp.OneSourceOp, OneSourceOp.TheVariants.Rev64, PairOp.PairOp, PairOp.TheVariants.Stp, PairOp.TheVariants.Ldp, PairIndex.PairIndex}
-use Rattle.a64_table.specs.declared.fields.TheConstants.{BIT, CRM, HINT, HW, IMM12, IMM14, IMM16, IMM19, IMM21, IMM26, IMM5, IMM7, IMM9, IMMR, IMMS, N, NZCV, OPC, OPTION, RA, RD, RM, RN, RS, RT, RT2, SF, SHIFT, SIZE, UDF_IMM16}
+use types.{Insn.Insn, ShiftKind.TheVariants.Ror, OneSourceOp.OneSourceOp, OneSourceOp.TheVariants.Rev64, PairOp.PairOp}
+use types.{PairOp.TheVariants.Stp, PairOp.TheVariants.Ldp, PairIndex.PairIndex}
+use Rattle.a64_table.specs.declared.fields.TheConstants.{BIT, CRM, HINT, HW, IMM12, IMM14, IMM16, IMM19, IMM21, IMM26, IMM5, IMM7, IMM9}
+use Rattle.a64_table.specs.declared.fields.TheConstants.{IMMR, IMMS, N, NZCV, OPC, OPTION, RA, RD, RM, RN, RS, RT, RT2, SF, SHIFT, SIZE}
+use Rattle.a64_table.specs.declared.fields.TheConstants.{UDF_IMM16}
 use Rattle.a64_table.specs.declared.operation as operations
-use operations.Operation.TheVariants.{G1, G2, G3, G4, G5, G6, G7, G8, G9, G10, G11, G12, G13, G14, G15, G16, G17, G18, G19, G20, G21, G22, G23}
+use operations.Operation.TheVariants.{G1, G2, G3, G4, G5, G6, G7, G8, G9, G10, G11, G12, G13, G14, G15, G16, G17, G18, G19, G20, G21, G22}
+use operations.Operation.TheVariants.{G23}
 use operations.BranchOp.TheVariants.{B, Bl, BCond, Cbz, Cbnz, Tbz, Tbnz}
 use operations.SystemOp.TheVariants.{Svc, Brk, Udf, Hint}
-use operations.{Operation.Operation, BranchOp.BranchOp, MultiplyOp.MultiplyOp, MultiplyOp.TheVariants.Smulh, MultiplyOp.TheVariants.Umulh, AddressForm.AddressForm, AtomicForm.AtomicForm, AtomicForm.TheVariants.Ldar, AtomicForm.TheVariants.Stlr, SystemOp.SystemOp}
+use operations.{Operation.Operation, BranchOp.BranchOp, MultiplyOp.MultiplyOp, MultiplyOp.TheVariants.Smulh, MultiplyOp.TheVariants.Umulh}
+use operations.{AddressForm.AddressForm, AtomicForm.AtomicForm, AtomicForm.TheVariants.Ldar, AtomicForm.TheVariants.Stlr, SystemOp.SystemOp}
 use operations.AddressForm.TheVariants as form
 use Rattle.a64_table.specs.Values.{shift_of, shift_number, extend_of, access_size_of, load_store_op_of}
 use Rattle.a64_table.specs.Conditions.{fits_of, is_below_width, has_load, is_address_option, is_apart, are_two, is_pair_apart}
-use Rattle.a64_table.specs.Named.{shifted_register, extended_register, named_branch, compare_operand, is_wide_source, named_multiply, named_address, named_atomic, named_system, named}
+use Rattle.a64_table.specs.Named.{shifted_register, extended_register, named_branch, compare_operand, is_wide_source, named_multiply}
+use Rattle.a64_table.specs.Named.{named_address, named_atomic, named_system, named}
 use Rattle.bit_ops.specs.Bits.{width_of}
-use Rattle.a64_table.specs.Ranges.{IsInRow, is_address_extend, has_size, IsAddress, writes_base, IsBranch, IsMultiply, IsAtomic, IsSystem, IsCompareOperand}
+use Rattle.a64_table.specs.Ranges.{IsInRow, is_address_extend, has_size, IsAddress, writes_base, IsBranch, IsMultiply, IsAtomic, IsSystem}
+use Rattle.a64_table.specs.Ranges.{IsCompareOperand}
 use Rattle.a64_table.specs.Table.{scalar}
 use Rattle.a64_table.proofs.Numbers.{shift_back}
 

@@ -1,5 +1,15 @@
 //! The conditions on a word that has a row's fixed bits.
-#![tactic(auto, unfolding(insn_forms::specs::Tables::fits_with, crate::specs::Table::scalar, crate::specs::Conditions::fits_of, crate::specs::Conditions::is_below_width, crate::specs::Conditions::has_load, crate::specs::Conditions::is_address_option, crate::specs::Conditions::is_apart, crate::specs::Conditions::are_two, crate::specs::Conditions::is_pair_apart, insn_forms::specs::Fields::is_field, insn_forms::specs::Fields::mask_of))]
+#![tactic(auto, unfolding(
+// The table and its conditions.
+crate::specs::Table::scalar, crate::specs::Conditions::fits_of, insn_forms::specs::Tables::fits_with,
+// The fields of a word.
+insn_forms::specs::Fields::is_field, insn_forms::specs::Fields::mask_of,
+// The conditions on widths and loads.
+crate::specs::Conditions::is_below_width, crate::specs::Conditions::has_load,
+// Those on addresses.
+crate::specs::Conditions::is_address_option, crate::specs::Conditions::is_apart,
+// Those on pairs.
+crate::specs::Conditions::are_two, crate::specs::Conditions::is_pair_apart))]
 
 ghost use Rattle.std.specs.Prelude.{◌≡◌, ◌<◌, ◌^◌, ◌&&◌, ◌==◌};
 ghost use Rattle.bit_ops.specs.Masks.{are_mask_fields};

@@ -1,5 +1,17 @@
 //! The instruction of an operation with a word's fields.
-#![tactic(auto, unfolding(crate::specs::Table::scalar, crate::specs::Conditions::fits_of, crate::specs::Named::named, crate::specs::Named::shifted_register, crate::specs::Named::extended_register, crate::specs::Named::named_branch, crate::specs::Named::compare_operand, crate::specs::Named::is_wide_source, crate::specs::Named::named_multiply, crate::specs::Named::named_address, crate::specs::Named::named_atomic, crate::specs::Named::named_system, insn_forms::specs::Fields::is_field, insn_forms::specs::Fields::mask_of))]
+#![tactic(auto, unfolding(
+// The table and its conditions.
+crate::specs::Table::scalar, crate::specs::Conditions::fits_of,
+// The fields of a word.
+insn_forms::specs::Fields::is_field, insn_forms::specs::Fields::mask_of,
+// The instruction of each group, and what its operands are.
+crate::specs::Named::named, crate::specs::Named::shifted_register, crate::specs::Named::extended_register,
+// Those that go by a form.
+crate::specs::Named::named_branch, crate::specs::Named::compare_operand, crate::specs::Named::is_wide_source,
+// Those of two or more shapes.
+crate::specs::Named::named_multiply, crate::specs::Named::named_address,
+// Those of atomic accesses and of the system.
+crate::specs::Named::named_atomic, crate::specs::Named::named_system))]
 
 ghost use Rattle.std.specs.Prelude.{◌≡◌, Option, Some, None, if◌then◌else◌};
 ghost use Rattle.insn_forms.specs.Tables.{given, numbers_in, signed_numbers_in};

@@ -1,5 +1,15 @@
 //! The operation of an instruction and the numbers of its row's fields.
-#![tactic(auto, unfolding(crate::specs::Parts::parts_of, insn_forms::specs::Forms::padded, crate::specs::Parts::branch_parts, crate::specs::Parts::compare_parts, crate::specs::Parts::compare_says, crate::specs::Parts::one_source_parts, crate::specs::Parts::doubleword_parts, crate::specs::Parts::multiply_parts, crate::specs::Parts::load_store_parts, crate::specs::Parts::load_store_says, crate::specs::Parts::atomic_parts, crate::specs::Parts::system_parts))]
+#![tactic(auto, unfolding(
+// The parts of an instruction, with zeros up to eight numbers.
+crate::specs::Parts::parts_of, insn_forms::specs::Forms::padded,
+// Those of branches and compares.
+crate::specs::Parts::branch_parts, crate::specs::Parts::compare_parts, crate::specs::Parts::compare_says,
+// Those of operations on one register.
+crate::specs::Parts::one_source_parts, crate::specs::Parts::doubleword_parts,
+// Those of multiplications, and of atomic accesses and the system.
+crate::specs::Parts::multiply_parts, crate::specs::Parts::atomic_parts, crate::specs::Parts::system_parts,
+// Those of loads and stores.
+crate::specs::Parts::load_store_parts, crate::specs::Parts::load_store_says))]
 
 ghost use Rattle.std.specs.Prelude.{◌≡◌};
 ghost use Rattle.insn_forms.specs.declared.number.Number.TheVariants.{Unsigned};
@@ -24,6 +34,13 @@ macro_rules! says {
     ($group:ident($($op:expr),*); $($number:expr),*) => { says!($group($($op),*); $($number,)* NO) };
 }
 
+// The groups that have no rows here, and then a line for each of the others.
+macro_rules! by_group {
+    ($insn:expr; none: $($none:ident),*; $($group:ident($x:ident) => $parts:expr,)*) => {
+        match $insn { $(Insn::$group($x) => $parts,)* $(Insn::$none(_))|* => None }
+    };
+}
+
 // A line for each case of an instruction: its operation and its numbers.
 macro_rules! by_case {
     ($it:expr; $($case:pat => $group:ident($op:expr): $($number:expr),*;)*) => {
@@ -44,64 +61,42 @@ fn wide_count(it: u16) -> Number
 pub fn parts_of(insn: &Insn) -> Option<Parts<Operation>>
     ensures { result ≡ parts_of insn.now }
 {
-    match insn {
-        Insn::AddSubImmediate(x) =>
+    by_group!(insn;
+        none: VectorArithmetic, VectorLogical, PredicatedBinary, MultiplyAdd, PredicatedUnary, VectorShift,
+            VectorCopy, VectorPermute, VectorReduction, VectorCompare, Predicate, PredicateCount,
+            ElementCount, VectorAccess, Sve2, Mode, ArrayAccess, TileAccess, TileMove, TileAdd, OuterProduct,
+            StreamingLength;
+        AddSubImmediate(x) =>
             says!(G1(x.op); flag(x.wide), count(x.rd), count(x.rn), wide_count(x.imm), flag(x.shifted)),
-        Insn::AddSubRegister(x) => says!(G2(x.op); flag(x.wide), count(x.rd), count(x.rn),
+        AddSubRegister(x) => says!(G2(x.op); flag(x.wide), count(x.rd), count(x.rn),
                 count(x.operand.rm), count(x.operand.shift as u8), count(x.operand.amount)),
-        Insn::LogicalRegister(x) =>
-            says!(G3(x.op, x.inverted); flag(x.wide), count(x.rd), count(x.rn),
+        LogicalRegister(x) => says!(G3(x.op, x.inverted); flag(x.wide), count(x.rd), count(x.rn),
                 count(x.operand.rm), count(x.operand.shift as u8), count(x.operand.amount)),
-        Insn::AddSubExtended(x) => says!(G4(x.op); flag(x.wide), count(x.rd), count(x.rn),
+        AddSubExtended(x) => says!(G4(x.op); flag(x.wide), count(x.rd), count(x.rn),
                 count(x.operand.rm), count(x.operand.extend as u8), count(x.operand.amount)),
-        Insn::LogicalImmediate(x) =>
+        LogicalImmediate(x) =>
             says!(G5(x.op); flag(x.wide), count(x.rd), count(x.rn), flag(x.n), count(x.immr), count(x.imms)),
-        Insn::MoveWide(x) =>
-            says!(G6(x.op); flag(x.wide), count(x.rd), wide_count(x.imm), count(x.hw)),
-        Insn::BitfieldMove(x) =>
-            says!(G7(x.op, x.wide); count(x.rd), count(x.rn), count(x.immr), count(x.imms)),
-        Insn::Extract(x) => says!(G8(x.wide); count(x.rd), count(x.rn), count(x.rm), count(x.lsb)),
-        Insn::PcRelative(x) => says!(G9(x.op); count(x.rd), Number::Signed(x.imm)),
-        Insn::Branch(x) => branch_parts(x),
-        Insn::BranchRegister(x) => says!(G11(x.op); count(x.rn)),
-        Insn::AddSubCarry(x) =>
-            says!(G12(x.op); flag(x.wide), count(x.rd), count(x.rn), count(x.rm)),
-        Insn::ConditionalSelect(x) =>
+        MoveWide(x) => says!(G6(x.op); flag(x.wide), count(x.rd), wide_count(x.imm), count(x.hw)),
+        BitfieldMove(x) => says!(G7(x.op, x.wide); count(x.rd), count(x.rn), count(x.immr), count(x.imms)),
+        Extract(x) => says!(G8(x.wide); count(x.rd), count(x.rn), count(x.rm), count(x.lsb)),
+        PcRelative(x) => says!(G9(x.op); count(x.rd), Number::Signed(x.imm)),
+        Branch(x) => branch_parts(x),
+        BranchRegister(x) => says!(G11(x.op); count(x.rn)),
+        AddSubCarry(x) => says!(G12(x.op); flag(x.wide), count(x.rd), count(x.rn), count(x.rm)),
+        ConditionalSelect(x) =>
             says!(G13(x.op); flag(x.wide), count(x.rd), count(x.rn), count(x.rm), count(x.condition as u8)),
-        Insn::ConditionalCompare(x) => compare_parts(x, x.operand),
-        Insn::OneSource(x) => one_source_parts(x, x.op),
-        Insn::TwoSource(x) => says!(G16(x.op); flag(x.wide), count(x.rd), count(x.rn), count(x.rm)),
-        Insn::Multiply(x) => multiply_parts(x),
-        Insn::LoadStore(x) => load_store_parts(x, x.address),
-        Insn::LoadLiteral(x) => says!(G19(x.op); count(x.rt), Number::Signed(x.words)),
-        Insn::LoadStorePair(x) => says!(G20(x.op, x.wide, x.index);
+        ConditionalCompare(x) => compare_parts(x, x.operand),
+        OneSource(x) => one_source_parts(x, x.op),
+        TwoSource(x) => says!(G16(x.op); flag(x.wide), count(x.rd), count(x.rn), count(x.rm)),
+        Multiply(x) => multiply_parts(x),
+        LoadStore(x) => load_store_parts(x, x.address),
+        LoadLiteral(x) => says!(G19(x.op); count(x.rt), Number::Signed(x.words)),
+        LoadStorePair(x) => says!(G20(x.op, x.wide, x.index);
                 count(x.rt), count(x.rt2), count(x.rn), Number::Signed(x.offset)),
-        Insn::Atomic(x) => atomic_parts(x),
-        Insn::System(x) => system_parts(x),
-        Insn::SystemMove(x) => says!(G23(x.op, x.register); count(x.rt)),
-        Insn::VectorArithmetic(_)
-        | Insn::VectorLogical(_)
-        | Insn::PredicatedBinary(_)
-        | Insn::MultiplyAdd(_)
-        | Insn::PredicatedUnary(_)
-        | Insn::VectorShift(_)
-        | Insn::VectorCopy(_)
-        | Insn::VectorPermute(_)
-        | Insn::VectorReduction(_)
-        | Insn::VectorCompare(_)
-        | Insn::Predicate(_)
-        | Insn::PredicateCount(_)
-        | Insn::ElementCount(_)
-        | Insn::VectorAccess(_)
-        | Insn::Sve2(_)
-        | Insn::Mode(_)
-        | Insn::ArrayAccess(_)
-        | Insn::TileAccess(_)
-        | Insn::TileMove(_)
-        | Insn::TileAdd(_)
-        | Insn::OuterProduct(_)
-        | Insn::StreamingLength(_) => None,
-    }
+        Atomic(x) => atomic_parts(x),
+        System(x) => system_parts(x),
+        SystemMove(x) => says!(G23(x.op, x.register); count(x.rt)),
+    )
 }
 
 /// The same of a branch.

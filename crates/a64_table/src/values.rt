@@ -1,6 +1,4 @@
 //! What the number of a field stands for.
-#![tactic(auto, unfolding(crate::specs::Values::condition_of, crate::specs::Values::shift_of, crate::specs::Values::extend_of, crate::specs::Values::access_size_of, crate::specs::Values::load_store_op_of))]
-
 ghost use Rattle.std.specs.Prelude.{◌≡◌, true};
 ghost use Rattle.insn_forms.specs.Fields.{field_in, is_field};
 ghost use Rattle.a64_table.specs.Values.{access_size_of, condition_of, extend_of, load_store_op_of, shift_of};
@@ -17,6 +15,7 @@ macro_rules! variant {
 
 /// The condition of a field of 4 bits.
 #[inline(always)]
+#[tactic(auto, unfolding(crate::specs::Values::condition_of))]
 pub fn condition_of(it: Field, word: u32) -> Condition
     requires { is_field it ≡ true }
     ensures { result ≡ condition_of (field_in it word) }
@@ -29,6 +28,7 @@ pub fn condition_of(it: Field, word: u32) -> Condition
 
 /// The shift of a field of 2 bits.
 #[inline(always)]
+#[tactic(auto, unfolding(crate::specs::Values::shift_of))]
 pub fn shift_of(it: Field, word: u32) -> ShiftKind
     requires { is_field it ≡ true }
     ensures { result ≡ shift_of (field_in it word) }
@@ -38,6 +38,7 @@ pub fn shift_of(it: Field, word: u32) -> ShiftKind
 
 /// The extension of a field of 3 bits.
 #[inline(always)]
+#[tactic(auto, unfolding(crate::specs::Values::extend_of))]
 pub fn extend_of(it: Field, word: u32) -> Extend
     requires { is_field it ≡ true }
     ensures { result ≡ extend_of (field_in it word) }
@@ -47,6 +48,7 @@ pub fn extend_of(it: Field, word: u32) -> Extend
 
 /// The size of an access from its logarithm, 2 bits.
 #[inline(always)]
+#[tactic(auto, unfolding(crate::specs::Values::access_size_of))]
 pub fn access_size_of(it: Field, word: u32) -> AccessSize
     requires { is_field it ≡ true }
     ensures { result ≡ access_size_of (field_in it word) }
@@ -56,6 +58,7 @@ pub fn access_size_of(it: Field, word: u32) -> AccessSize
 
 /// The operation of opc, 2 bits, in loads and stores of one register.
 #[inline(always)]
+#[tactic(auto, unfolding(crate::specs::Values::load_store_op_of))]
 pub fn load_store_op_of(it: Field, word: u32) -> LoadStoreOp
     requires { is_field it ≡ true }
     ensures { result ≡ load_store_op_of (field_in it word) }

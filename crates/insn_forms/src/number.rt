@@ -48,7 +48,11 @@ fn below(n: i32, width: u32) -> bool
 }
 
 /// Whether the number is one that the field can have.
-#[tactic(auto, unfolding(crate::specs::Forms::is_in, crate::specs::Forms::is_signed, crate::specs::Fields::is_field))]
+#[tactic(auto, unfolding(
+// The numbers that a field can have.
+crate::specs::Forms::is_in, crate::specs::Forms::is_signed,
+// The bits of the field.
+crate::specs::Fields::is_field))]
 fn is_in(it: &Field, number: Number) -> bool
     requires { is_field it.now ≡ true }
     ensures { result ≡ is_in it.now number }
