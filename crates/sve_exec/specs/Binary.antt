@@ -6,7 +6,8 @@ use Rattle.std.specs.Prelude.{int_lt, int_div, unsigned_abs, bit_and, bit_or, bi
 use Rattle.std.specs.Int.{abs_diff, int_div_euclid}
 use Rattle.sm_types.specs.declared.vector.PredicatedBinaryOp.{PredicatedBinaryOp}
 use Rattle.sm_types.specs.declared.vector.PredicatedBinaryOp.TheVariants.{Add, Sub, Subr, Smax, Umax, Smin}
-use Rattle.sm_types.specs.declared.vector.PredicatedBinaryOp.TheVariants.{Umin, Sabd, Uabd, Mul, Smulh, Umulh, Sdiv}
+use Rattle.sm_types.specs.declared.vector.PredicatedBinaryOp.TheVariants.{Umin, Sabd, Uabd, Mul, Smulh, Umulh}
+use Rattle.sm_types.specs.declared.vector.PredicatedBinaryOp.TheVariants.{Sdiv}
 use Rattle.sm_types.specs.declared.vector.PredicatedBinaryOp.TheVariants.{Udiv, Orr, Eor, And, Bic, Asr, Lsr}
 use Rattle.sm_types.specs.declared.vector.PredicatedBinaryOp.TheVariants.{Lsl}
 use Rattle.vector_elements.specs.declared.size.Size.{Size}

@@ -63,7 +63,9 @@ pub fn vector_add_immediate(op: AddImmediateOp, size: Size, imm: u8, shifted: bo
 }
 
 /// Multiplies each element of `d` by a signed immediate. Source: DDI 0487, C8.2, MUL (immediate).
-#[tactic(auto, unfolding(crate::specs::Copies::vector_multiply_immediate, crate::specs::Multiply::multiply_of))]
+#[tactic(auto, unfolding(
+// The vector, and each of its elements.
+crate::specs::Copies::vector_multiply_immediate, crate::specs::Multiply::multiply_of))]
 pub fn vector_multiply_immediate(size: Size, imm: i32, d: &mut [u8])
     requires { length d.old % bytes_in size ≡ 0 }
     ensures { d.new ≡ vector_multiply_immediate size imm d.old }

@@ -90,8 +90,8 @@ pub fn change_active<C: Change>(change: &C, size: Size, d: &mut [u8], p: &[u8])
     }
 }
 
-/// Changes the elements of a vector that a mask of the predicate marks; the others become zero. For callers that
-/// ask whether all are active themselves.
+/// Changes the elements of a vector that a mask of the predicate marks; the others become zero. For callers
+/// that ask whether all are active themselves.
 #[inline(always)]
 pub fn change_marked_or_zero<C: Change>(change: &C, size: Size, d: &mut [u8], p: &[u8])
     requires can { (i : ℕ) → bytes_in size * i + bytes_in size ≤ length d.old → C.can change.now size i }
