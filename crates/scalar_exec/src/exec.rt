@@ -50,34 +50,7 @@ pub fn exec_scalar(s: &mut Scalars, insn: &Insn) -> Flow
         Insn::OneSource(x) => exec_one_source(s, x),
         Insn::TwoSource(x) => exec_two_source(s, x),
         Insn::Multiply(x) => exec_multiply(s, x),
-        Insn::LoadStore(_)
-        | Insn::LoadLiteral(_)
-        | Insn::LoadStorePair(_)
-        | Insn::Atomic(_)
-        | Insn::System(_)
-        | Insn::SystemMove(_)
-        | Insn::VectorArithmetic(_)
-        | Insn::VectorLogical(_)
-        | Insn::PredicatedBinary(_)
-        | Insn::MultiplyAdd(_)
-        | Insn::PredicatedUnary(_)
-        | Insn::VectorShift(_)
-        | Insn::VectorCopy(_)
-        | Insn::VectorPermute(_)
-        | Insn::VectorReduction(_)
-        | Insn::VectorCompare(_)
-        | Insn::Predicate(_)
-        | Insn::PredicateCount(_)
-        | Insn::ElementCount(_)
-        | Insn::VectorAccess(_)
-        | Insn::Sve2(_)
-        | Insn::Mode(_)
-        | Insn::ArrayAccess(_)
-        | Insn::TileAccess(_)
-        | Insn::TileMove(_)
-        | Insn::TileAdd(_)
-        | Insn::OuterProduct(_)
-        | Insn::StreamingLength(_) => {}
+        _ => {}
     }
     Flow::Next
 }
