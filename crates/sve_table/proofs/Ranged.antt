@@ -45,7 +45,8 @@ use Rattle.sve_table.specs.Sizes.{is_between, least_binary, least_unary, least_s
 use Rattle.sve_table.specs.Conditions.{fits_of, is_from, is_up_to, is_offset}
 use Rattle.sve_table.specs.Named.{named_copy, named_permute, named_reduction, named_compare, named_predicate, named_count, named_element}
 use Rattle.sve_table.specs.Named.{named_access, named_sve2, named_array, named_streaming, named_slice, moved_slice, moved_vector, named}
-use Rattle.sve_table.specs.Ranges.{IsInVectorRow, IsAmount, IsMultiplier, IsSliceRegister, IsTileSlice, bits_of_elem, sum_tiles, IsVectorCopy}
+use Rattle.sve_table.specs.Ranges.{IsInVectorRow, IsAmount, IsMultiplier, IsSliceRegister, IsTileSlice, bits_of_elem, sum_tiles}
+use Rattle.sve_table.specs.Ranges.{IsVectorCopy}
 use Rattle.sve_table.specs.Ranges.{IsVectorPermute, IsVectorReduction, IsVectorCompare, IsPredicate, IsPredicateCount, IsElementCount}
 use Rattle.sve_table.specs.Ranges.{IsVectorAccess, IsSve2, IsArrayAccess, IsStreamingLength}
 use Rattle.sve_table.specs.Table.{vector}

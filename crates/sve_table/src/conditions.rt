@@ -1,5 +1,15 @@
 //! The conditions on a word that has a row's fixed bits.
-#![tactic(auto, unfolding(insn_forms::specs::Tables::fits_with, crate::specs::Table::vector, crate::specs::Conditions::fits_of, crate::specs::Conditions::is_from, crate::specs::Conditions::is_up_to, crate::specs::Conditions::is_offset, crate::specs::Sizes::least_binary, crate::specs::Sizes::least_unary, crate::specs::Sizes::least_shifted, crate::specs::Sizes::widest_reduced, insn_forms::specs::Fields::is_field, insn_forms::specs::Fields::mask_of))]
+#![tactic(auto, unfolding(
+// The table and its conditions.
+crate::specs::Table::vector, crate::specs::Conditions::fits_of, insn_forms::specs::Tables::fits_with,
+// The fields of a word.
+insn_forms::specs::Fields::is_field, insn_forms::specs::Fields::mask_of,
+// The bounds of a field.
+crate::specs::Conditions::is_from, crate::specs::Conditions::is_up_to, crate::specs::Conditions::is_offset,
+// The least and greatest elements of the operations.
+crate::specs::Sizes::least_binary, crate::specs::Sizes::least_unary,
+// Those of shifted immediates and of reductions.
+crate::specs::Sizes::least_shifted, crate::specs::Sizes::widest_reduced))]
 
 ghost use Rattle.std.specs.Prelude.{◌≡◌};
 ghost use Rattle.insn_forms.specs.Tables.{numbers_in};

@@ -1,5 +1,27 @@
 //! The instruction of an operation with a word's fields.
-#![tactic(auto, unfolding(crate::specs::Table::vector, crate::specs::Conditions::fits_of, crate::specs::Named::named_copy, crate::specs::Named::named_permute, crate::specs::Named::named_reduction, crate::specs::Named::named_compare, crate::specs::Named::named_predicate, crate::specs::Named::named_count, crate::specs::Named::named_element, crate::specs::Named::named_access, crate::specs::Named::named_sve2, crate::specs::Named::named_array, crate::specs::Named::named_streaming, crate::specs::Named::named_slice, crate::specs::Named::moved_slice, crate::specs::Named::moved_vector, crate::specs::Named::named, crate::specs::Values::shift_elem, crate::specs::Values::shift_width, crate::specs::Values::amount_field, crate::specs::Values::tile_field, crate::specs::Values::offset_field, crate::specs::Values::source_tile_field, crate::specs::Values::source_offset_field, crate::specs::Values::sum_field, insn_forms::specs::Fields::is_field, insn_forms::specs::Fields::mask_of))]
+#![tactic(auto, unfolding(
+// The table and its conditions.
+crate::specs::Table::vector, crate::specs::Conditions::fits_of,
+// The fields of a word.
+insn_forms::specs::Fields::is_field, insn_forms::specs::Fields::mask_of,
+// The fields that go by the size of elements.
+crate::specs::Values::shift_elem, crate::specs::Values::shift_width, crate::specs::Values::amount_field,
+// Those of tiles and slices.
+crate::specs::Values::tile_field, crate::specs::Values::offset_field, crate::specs::Values::sum_field,
+// Those of slices that are moved to vectors.
+crate::specs::Values::source_tile_field, crate::specs::Values::source_offset_field,
+// The instruction of each group, and of copies and permutations.
+crate::specs::Named::named, crate::specs::Named::named_copy, crate::specs::Named::named_permute,
+// Of reductions and comparisons.
+crate::specs::Named::named_reduction, crate::specs::Named::named_compare,
+// Of predicates and counts.
+crate::specs::Named::named_predicate, crate::specs::Named::named_count, crate::specs::Named::named_element,
+// Of accesses, of SVE2 and of ZA.
+crate::specs::Named::named_access, crate::specs::Named::named_sve2, crate::specs::Named::named_array,
+// Of slices and their moves.
+crate::specs::Named::named_slice, crate::specs::Named::moved_slice, crate::specs::Named::moved_vector,
+// Of the streaming length.
+crate::specs::Named::named_streaming))]
 
 ghost use Rattle.std.specs.Prelude.{◌≡◌, true, Option, Some, None, if◌then◌else◌};
 ghost use Rattle.sm_types.specs.declared.vector.IndexPart.TheVariants as part;

@@ -1,5 +1,19 @@
 //! The operation of an instruction and the numbers of its row's fields.
-#![tactic(auto, unfolding(crate::specs::Parts::parts_of, crate::specs::Parts::shift_parts, crate::specs::Parts::slice_numbers, crate::specs::Parts::move_parts, crate::specs::Parts::number_from, crate::specs::Parts::shift_number, crate::specs::Parts::copy_parts, crate::specs::Parts::permute_parts, crate::specs::Parts::reduction_parts, crate::specs::Parts::compare_parts, crate::specs::Parts::predicate_parts, crate::specs::Parts::count_parts, crate::specs::Parts::element_parts, crate::specs::Parts::access_parts, crate::specs::Parts::sve2_parts, crate::specs::Parts::array_parts, crate::specs::Parts::streaming_parts, insn_forms::specs::Forms::padded))]
+#![tactic(auto, unfolding(
+// The parts of an instruction, with zeros up to eight numbers.
+crate::specs::Parts::parts_of, insn_forms::specs::Forms::padded,
+// The numbers that are not those of the instruction.
+crate::specs::Parts::number_from, crate::specs::Parts::shift_number, crate::specs::Parts::slice_numbers,
+// The parts of shifts, moves and copies.
+crate::specs::Parts::shift_parts, crate::specs::Parts::move_parts, crate::specs::Parts::copy_parts,
+// Those of permutations, reductions and comparisons.
+crate::specs::Parts::permute_parts, crate::specs::Parts::reduction_parts, crate::specs::Parts::compare_parts,
+// Those of predicates and counts.
+crate::specs::Parts::predicate_parts, crate::specs::Parts::count_parts, crate::specs::Parts::element_parts,
+// Those of accesses, SVE2 and ZA.
+crate::specs::Parts::access_parts, crate::specs::Parts::sve2_parts, crate::specs::Parts::array_parts,
+// Those of the streaming length.
+crate::specs::Parts::streaming_parts))]
 
 ghost use Rattle.std.specs.Prelude.{◌≡◌, ◌<◌};
 ghost use Rattle.insn_forms.specs.declared.number.Number.TheVariants.{Unsigned};

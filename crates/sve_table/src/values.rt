@@ -1,5 +1,5 @@
 //! What the number of a field stands for.
-#![tactic(auto, unfolding(crate::specs::Values::elem_of, crate::specs::Values::load_type_of, crate::specs::Values::shift_amount, insn_forms::specs::Fields::is_field, insn_forms::specs::Fields::mask_of))]
+#![tactic(auto, unfolding(insn_forms::specs::Fields::is_field, insn_forms::specs::Fields::mask_of))]
 
 ghost use Rattle.std.specs.Prelude.{◌≡◌, ◌<◌, ◌≤◌, ◌+◌, true};
 ghost use Rattle.insn_forms.specs.Fields.{field_in, is_field};
@@ -20,6 +20,7 @@ macro_rules! variant {
 
 /// The elements of a field of 2 bits.
 #[inline(always)]
+#[tactic(auto, unfolding(crate::specs::Values::elem_of))]
 pub fn elem_of(it: Field, word: u32) -> Elem
     requires { is_field it ≡ true }
     ensures { result ≡ elem_of (field_in it word) }
@@ -29,6 +30,7 @@ pub fn elem_of(it: Field, word: u32) -> Elem
 
 /// The load of a field of 4 bits.
 #[inline(always)]
+#[tactic(auto, unfolding(crate::specs::Values::load_type_of))]
 pub fn load_type_of(it: Field, word: u32) -> LoadType
     requires { is_field it ≡ true }
     ensures { result ≡ load_type_of (field_in it word) }
@@ -58,6 +60,7 @@ pub fn slice_register(word: u32) -> u8
 
 /// The amount of a shift of elements of so many bits, by its field.
 #[inline(always)]
+#[tactic(auto, unfolding(crate::specs::Values::shift_amount))]
 pub fn shift_amount(op: VectorShiftOp, width: u32, number: u32) -> u8
     requires small { width ≤ 64 }
     requires below { number < width }
