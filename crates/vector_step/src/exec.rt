@@ -46,36 +46,6 @@ pub fn exec_vector(scalars: &mut Scalars, vectors: &mut Vectors, insn: &Insn)
         Insn::PredicateCount(x) => exec_predicate_count(scalars, vectors, x),
         Insn::ElementCount(x) => exec_element_count(scalars, vectors.length() as u64, x),
         Insn::Sve2(x) => exec_sve2(vectors, x),
-        Insn::AddSubImmediate(_)
-        | Insn::AddSubRegister(_)
-        | Insn::LogicalRegister(_)
-        | Insn::AddSubExtended(_)
-        | Insn::LogicalImmediate(_)
-        | Insn::MoveWide(_)
-        | Insn::BitfieldMove(_)
-        | Insn::Extract(_)
-        | Insn::PcRelative(_)
-        | Insn::Branch(_)
-        | Insn::BranchRegister(_)
-        | Insn::AddSubCarry(_)
-        | Insn::ConditionalSelect(_)
-        | Insn::ConditionalCompare(_)
-        | Insn::OneSource(_)
-        | Insn::TwoSource(_)
-        | Insn::Multiply(_)
-        | Insn::LoadStore(_)
-        | Insn::LoadLiteral(_)
-        | Insn::LoadStorePair(_)
-        | Insn::Atomic(_)
-        | Insn::System(_)
-        | Insn::SystemMove(_)
-        | Insn::VectorAccess(_)
-        | Insn::Mode(_)
-        | Insn::ArrayAccess(_)
-        | Insn::TileAccess(_)
-        | Insn::TileMove(_)
-        | Insn::TileAdd(_)
-        | Insn::OuterProduct(_)
-        | Insn::StreamingLength(_) => {}
+        _ => {}
     }
 }

@@ -1,4 +1,8 @@
 //! Permutations and reductions of vectors.
+#![tactic(auto, unfolding(crate::specs::Permutes::after_permute),
+// Elements that are unpacked are wider than a byte.
+using(crate::proofs::Sizes::wider_than_byte))]
+
 ghost use Rattle.std.specs.Prelude.{◌≡◌, ◌≢◌, ◌<◌};
 ghost use Rattle.vector_elements.specs.declared.size.Size.TheVariants.{B};
 ghost use Rattle.sve_perm.specs.Permute.{interleaved, reversed, table_of, extracted, unpacked};
@@ -23,19 +27,19 @@ use sve_vectors::Vectors;
 struct Interleaved {
     op: InterleaveOp,
     size: Elem,
-    n: u8,
-    m: u8,
+    zn: u8,
+    zm: u8,
 }
 
 impl VectorChange for Interleaved {
-    ghost can = { λ s. (s.n < 32) × (s.m < 32) };
+    ghost can = { λ s. (s.zn < 32) × (s.zm < 32) };
 
-    ghost gives = { λ s r d. interleaved s.op (element_size s.size) (vector_at r s.n) (vector_at r s.m) };
+    ghost gives = { λ s r d. interleaved s.op (element_size s.size) (vector_at r s.zn) (vector_at r s.zm) };
 
     #[inline(always)]
     fn apply(&self, vectors: &Vectors, d: &mut [u8]) {
-        let n = vectors.z(self.n);
-        interleave(self.op, element_size(self.size), d, n, vectors.z(self.m));
+        let n = vectors.z(self.zn);
+        interleave(self.op, element_size(self.size), d, n, vectors.z(self.zm));
     }
 }
 
@@ -43,17 +47,17 @@ impl VectorChange for Interleaved {
 #[derive(Clone, Copy)]
 struct Reversed {
     size: Elem,
-    n: u8,
+    zn: u8,
 }
 
 impl VectorChange for Reversed {
-    ghost can = { λ s. s.n < 32 };
+    ghost can = { λ s. s.zn < 32 };
 
-    ghost gives = { λ s r d. reversed (element_size s.size) (vector_at r s.n) };
+    ghost gives = { λ s r d. reversed (element_size s.size) (vector_at r s.zn) };
 
     #[inline(always)]
     fn apply(&self, vectors: &Vectors, d: &mut [u8]) {
-        reverse(element_size(self.size), d, vectors.z(self.n));
+        reverse(element_size(self.size), d, vectors.z(self.zn));
     }
 }
 
@@ -61,19 +65,19 @@ impl VectorChange for Reversed {
 #[derive(Clone, Copy)]
 struct LookedUp {
     size: Elem,
-    n: u8,
-    m: u8,
+    zn: u8,
+    zm: u8,
 }
 
 impl VectorChange for LookedUp {
-    ghost can = { λ s. (s.n < 32) × (s.m < 32) };
+    ghost can = { λ s. (s.zn < 32) × (s.zm < 32) };
 
-    ghost gives = { λ s r d. table_of (element_size s.size) (vector_at r s.n) (vector_at r s.m) };
+    ghost gives = { λ s r d. table_of (element_size s.size) (vector_at r s.zn) (vector_at r s.zm) };
 
     #[inline(always)]
     fn apply(&self, vectors: &Vectors, d: &mut [u8]) {
-        let n = vectors.z(self.n);
-        table(element_size(self.size), d, n, vectors.z(self.m));
+        let n = vectors.z(self.zn);
+        table(element_size(self.size), d, n, vectors.z(self.zm));
     }
 }
 
@@ -81,19 +85,19 @@ impl VectorChange for LookedUp {
 #[derive(Clone, Copy)]
 struct Extracted {
     amount: u8,
-    n: u8,
-    m: u8,
+    zdn: u8,
+    zm: u8,
 }
 
 impl VectorChange for Extracted {
-    ghost can = { λ s. (s.n < 32) × (s.m < 32) };
+    ghost can = { λ s. (s.zdn < 32) × (s.zm < 32) };
 
-    ghost gives = { λ s r d. extracted s.amount (vector_at r s.n) (vector_at r s.m) };
+    ghost gives = { λ s r d. extracted s.amount (vector_at r s.zdn) (vector_at r s.zm) };
 
     #[inline(always)]
     fn apply(&self, vectors: &Vectors, d: &mut [u8]) {
-        let n = vectors.z(self.n);
-        extract(self.amount, d, n, vectors.z(self.m));
+        let n = vectors.z(self.zdn);
+        extract(self.amount, d, n, vectors.z(self.zm));
     }
 }
 
@@ -103,23 +107,22 @@ struct Unpacked {
     signed: bool,
     high: bool,
     size: Elem,
-    n: u8,
+    zn: u8,
 }
 
 impl VectorChange for Unpacked {
-    ghost can = { λ s. (element_size s.size ≢ B) × (s.n < 32) };
+    ghost can = { λ s. (element_size s.size ≢ B) × (s.zn < 32) };
 
-    ghost gives = { λ s r d. unpacked s.signed s.high (element_size s.size) (vector_at r s.n) };
+    ghost gives = { λ s r d. unpacked s.signed s.high (element_size s.size) (vector_at r s.zn) };
 
     #[inline(always)]
     fn apply(&self, vectors: &Vectors, d: &mut [u8]) {
-        let n = vectors.z(self.n);
+        let n = vectors.z(self.zn);
         unpack(self.signed, self.high, element_size(self.size), d, n);
     }
 }
 
 /// Moves the elements of vectors.
-#[tactic(auto, unfolding(crate::specs::Permutes::after_permute), using(crate::proofs::Sizes::wider_than_byte))]
 pub fn exec_permute(vectors: &mut Vectors, x: &VectorPermute)
     requires { IsVectorPermute x.now }
     ensures { vectors.new ≡ with_registers vectors.old (after_permute x.now vectors.old.registers) }
@@ -131,28 +134,15 @@ pub fn exec_permute(vectors: &mut Vectors, x: &VectorPermute)
             zm,
             zn,
             zd,
-        } => {
-            let change = Interleaved {
-                op,
-                size,
-                n: zn,
-                m: zm,
-            };
-            change_vector(vectors, zd, zd, &change);
-        }
+        } => change_vector(vectors, zd, zd, &Interleaved { op, size, zn, zm }),
         VectorPermute::Reverse { size, zn, zd } => {
-            change_vector(vectors, zd, zd, &Reversed { size, n: zn });
+            change_vector(vectors, zd, zd, &Reversed { size, zn });
         }
         VectorPermute::Table { size, zm, zn, zd } => {
-            change_vector(vectors, zd, zd, &LookedUp { size, n: zn, m: zm });
+            change_vector(vectors, zd, zd, &LookedUp { size, zn, zm });
         }
         VectorPermute::Extract { amount, zm, zdn } => {
-            let change = Extracted {
-                amount,
-                n: zdn,
-                m: zm,
-            };
-            change_vector(vectors, zdn, zdn, &change);
+            change_vector(vectors, zdn, zdn, &Extracted { amount, zdn, zm });
         }
         VectorPermute::Unpack {
             signed,
@@ -165,7 +155,7 @@ pub fn exec_permute(vectors: &mut Vectors, x: &VectorPermute)
                 signed,
                 high,
                 size,
-                n: zn,
+                zn,
             };
             change_vector(vectors, zd, zd, &change);
         }
