@@ -1,4 +1,8 @@
 //! Sums and differences of two vectors.
+#![tactic(auto, unfolding(
+// The vector, and each of its elements.
+crate::specs::Arithmetic::vector_arithmetic, crate::specs::Arithmetic::arithmetic_of))]
+
 ghost use Rattle.std.specs.Prelude.{◌≡◌, ◌%◌, length};
 ghost use Rattle.vector_elements.specs.Numbers.{bytes_in};
 ghost use Rattle.sve_exec.specs.Arithmetic.{vector_arithmetic};
@@ -13,9 +17,6 @@ use vector_elements::Size;
 
 /// Adds the elements of `m` to those of `d`, or subtracts them; with a loop for each operation and size.
 /// Source: DDI 0487, C8.2, ADD, SUB, SQADD, UQADD, SQSUB, UQSUB (vectors, unpredicated).
-#[tactic(auto, unfolding(
-// The vector, and each of its elements.
-crate::specs::Arithmetic::vector_arithmetic, crate::specs::Arithmetic::arithmetic_of))]
 pub fn vector_arithmetic(op: VectorArithmeticOp, size: Size, d: &mut [u8], m: &[u8])
     requires same { length d.old ≡ length m.now }
     requires whole { length d.old % bytes_in size ≡ 0 }

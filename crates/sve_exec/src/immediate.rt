@@ -1,4 +1,8 @@
 //! Sums, differences and products of a vector and an immediate.
+#![tactic(auto, unfolding(
+// The vector, and each of its elements.
+crate::specs::Copies::vector_multiply_immediate, crate::specs::Multiply::multiply_of))]
+
 ghost use Rattle.std.specs.Prelude.{◌≡◌, ◌%◌, ◌<◌, length};
 ghost use Rattle.vector_elements.specs.Numbers.{bytes_in, range_of};
 ghost use Rattle.sve_exec.specs.Copies.{unsigned_immediate, add_immediate_of, vector_add_immediate};
@@ -63,9 +67,6 @@ pub fn vector_add_immediate(op: AddImmediateOp, size: Size, imm: u8, shifted: bo
 }
 
 /// Multiplies each element of `d` by a signed immediate. Source: DDI 0487, C8.2, MUL (immediate).
-#[tactic(auto, unfolding(
-// The vector, and each of its elements.
-crate::specs::Copies::vector_multiply_immediate, crate::specs::Multiply::multiply_of))]
 pub fn vector_multiply_immediate(size: Size, imm: i32, d: &mut [u8])
     requires { length d.old % bytes_in size ≡ 0 }
     ensures { d.new ≡ vector_multiply_immediate size imm d.old }

@@ -1,4 +1,8 @@
 //! Logical operations on two vectors.
+#![tactic(auto, unfolding(
+// The vector, and each of its elements.
+crate::specs::Logical::vector_logical, crate::specs::Logical::logical_of, crate::specs::Binary::binary_of))]
+
 ghost use Rattle.std.specs.Prelude.{◌≡◌, ◌%◌, length};
 ghost use Rattle.sve_exec.specs.Logical.{vector_logical};
 
@@ -9,9 +13,6 @@ use vector_elements::Size;
 
 /// Joins the bits of `d` with those of `m`; with a loop for each operation.
 /// Source: DDI 0487, C8.2, AND, ORR, EOR, BIC (vectors, unpredicated).
-#[tactic(auto, unfolding(
-// The vector, and each of its elements.
-crate::specs::Logical::vector_logical, crate::specs::Logical::logical_of, crate::specs::Binary::binary_of))]
 pub fn vector_logical(op: VectorLogicalOp, d: &mut [u8], m: &[u8])
     requires same { length d.old ≡ length m.now }
     requires whole { length d.old % 8 ≡ 0 }

@@ -62,13 +62,13 @@ pub fn saturating_sum(size: Size, a: u64, b: u64) -> u64
     a.saturating_add(b).min(all_ones(size))
 }
 
-/// The sum of two signed elements, saturated.
-#[inline(always)]
 #[tactic(auto, unfolding(
 // The signed number of bits, and the bits of a number.
 vector_elements::specs::Numbers::signed_of, vector_elements::specs::Numbers::wrapped,
 // The nearest number that the bits can have.
 crate::specs::Numbers::signed_saturated))]
+/// The sum of two signed elements, saturated.
+#[inline(always)]
 pub fn saturating_signed_sum(size: Size, a: u64, b: u64) -> u64
     requires a { a < range_of size }
     requires b { b < range_of size }
@@ -100,13 +100,13 @@ pub fn saturating_signed_sum(size: Size, a: u64, b: u64) -> u64
     }
 }
 
-/// The difference of two signed elements, saturated.
-#[inline(always)]
 #[tactic(auto, unfolding(
 // The signed number of bits, and the bits of a number.
 vector_elements::specs::Numbers::signed_of, vector_elements::specs::Numbers::wrapped,
 // The nearest number that the bits can have.
 crate::specs::Numbers::signed_saturated))]
+/// The difference of two signed elements, saturated.
+#[inline(always)]
 pub fn saturating_signed_difference(size: Size, a: u64, b: u64) -> u64
     requires a { a < range_of size }
     requires b { b < range_of size }

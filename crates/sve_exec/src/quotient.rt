@@ -1,4 +1,8 @@
 //! Quotients of elements.
+#![tactic(auto, unfolding(
+// The signed number of bits, and the bits of a number.
+vector_elements::specs::Numbers::signed_of, vector_elements::specs::Numbers::wrapped))]
+
 ghost use Rattle.std.specs.Prelude.{◌≡◌, ◌<◌};
 ghost use Rattle.vector_elements.specs.Numbers.{range_of};
 ghost use Rattle.sve_exec.specs.Binary.{signed_quotient, quotient};
@@ -15,9 +19,6 @@ pub fn quotient(a: u64, b: u64) -> u64
 
 /// The quotient of two signed elements, rounded towards zero; 0 where the divisor is 0.
 #[inline(always)]
-#[tactic(auto, unfolding(
-// The signed number of bits, and the bits of a number.
-vector_elements::specs::Numbers::signed_of, vector_elements::specs::Numbers::wrapped))]
 pub fn signed_quotient(size: Size, a: u64, b: u64) -> u64
     requires a { a < range_of size }
     requires b { b < range_of size }
