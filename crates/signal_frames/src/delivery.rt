@@ -85,7 +85,7 @@ fn put_vector_state(pages: &mut Pages, address: u64, bank: &Bank, za_on: bool) -
     }
 }
 
-/// A flag as a bit at a place.
+/// The flags N, Z, C and V in bits 31 to 28.
 #[tactic(auto, unfolding(machine_step::specs::System::nzcv_of))]
 fn read_nzcv(s: &Scalars) -> u64
     ensures { result ≡ nzcv_of s.now }
