@@ -19,6 +19,19 @@ pub record IsOfKind (x y : Atomic) (at : MemoryAccess) (s : Scalars) (n : ℕ) (
   pub writes : (atomic_access y s).writes ≡ write
   pub size : (atomic_access y s).size ≡ n
 
+-- by its fields in turn
+pub of_kind : {x y : Atomic} {at : MemoryAccess} {s : Scalars} {n : ℕ} {read write : Bool} → x ≡ y → at ≡ atomic_access x s
+    → None ≡ place_fault at s → (atomic_access y s).reads ≡ read → (atomic_access y s).writes ≡ write
+    → (atomic_access y s).size ≡ n → IsOfKind x y at s n read write
+of_kind kind access placed reads writes size = record {
+  kind = kind;
+  access = access;
+  placed = placed;
+  reads = reads;
+  writes = writes;
+  size = size;
+}
+
 after_kind : (x y : Atomic) (s : Scalars) (m : AddressSpace) (made : ℕ → AfterAccess) → x ≡ y → ((a : ℕ) → after_atomic y a s m ≡ made a)
     → (a : ℕ) → after_atomic x a s m ≡ made a
 after_kind x y s m made is h a = ap (λ k. after_atomic k a s m) is ∙ h a

@@ -29,7 +29,10 @@ fn load_ordered(
 ) -> Result<(), AccessStop>
     requires { rt < 32 }
     ensures made { Transfers (denied_read pages.now.memory address (bytes_in size))
-        (record { scalars = with_x s.old rt (number_in pages.now.memory address (bytes_in size)); memory = pages.now.memory })
+        (record {
+          scalars = with_x s.old rt (number_in pages.now.memory address (bytes_in size));
+          memory = pages.now.memory;
+        })
         (contents_of s.old pages.now) (contents_of s.new pages.now) result }
     ensures room { result ≢ Err AccessStop.Memory }
 {
@@ -52,7 +55,10 @@ fn store_ordered(
 ) -> Result<(), AccessStop>
     requires { rt < 32 }
     ensures made { Transfers (denied_write pages.old.memory address (bytes_in size))
-        (record { scalars = s.now; memory = with_number pages.old.memory address (bytes_in size) (x_of s.now rt) })
+        (record {
+          scalars = s.now;
+          memory = with_number pages.old.memory address (bytes_in size) (x_of s.now rt);
+        })
         (contents_of s.now pages.old) (contents_of s.now pages.new) result }
     ensures room { AreOwned pages.old address (bytes_in size) → result ≢ Err AccessStop.Memory }
     ensures kept { KeepsOwned pages.old pages.new }
@@ -72,7 +78,13 @@ fn swap_where_equal(
     requires rs { rs < 32 }
     requires rt { rt < 32 }
     ensures made { Transfers (denied_update pages.old.memory address (bytes_in size))
-        (record { scalars = with_x s.old rs (number_in pages.old.memory address (bytes_in size)); memory = cond (number_in pages.old.memory address (bytes_in size) == low_bytes (bytes_in size) (x_of s.old rs)) (with_number pages.old.memory address (bytes_in size) (x_of s.old rt)) pages.old.memory })
+        (record {
+          scalars = with_x s.old rs (number_in pages.old.memory address (bytes_in size));
+          memory = cond
+              (number_in pages.old.memory address (bytes_in size)
+              == low_bytes (bytes_in size) (x_of s.old rs))
+              (with_number pages.old.memory address (bytes_in size) (x_of s.old rt)) pages.old.memory;
+        })
         (contents_of s.old pages.old) (contents_of s.new pages.new) result }
     ensures room { AreOwned pages.old address (bytes_in size) → result ≢ Err AccessStop.Memory }
     ensures kept { KeepsOwned pages.old pages.new }
@@ -99,7 +111,10 @@ fn swap_register(
     requires rs { rs < 32 }
     requires rt { rt < 32 }
     ensures made { Transfers (denied_update pages.old.memory address (bytes_in size))
-        (record { scalars = with_x s.old rt (number_in pages.old.memory address (bytes_in size)); memory = with_number pages.old.memory address (bytes_in size) (x_of s.old rs) })
+        (record {
+          scalars = with_x s.old rt (number_in pages.old.memory address (bytes_in size));
+          memory = with_number pages.old.memory address (bytes_in size) (x_of s.old rs);
+        })
         (contents_of s.old pages.old) (contents_of s.new pages.new) result }
     ensures room { AreOwned pages.old address (bytes_in size) → result ≢ Err AccessStop.Memory }
     ensures kept { KeepsOwned pages.old pages.new }
@@ -126,7 +141,12 @@ fn update_by_register(
     requires rs { rs < 32 }
     requires rt { rt < 32 }
     ensures made { Transfers (denied_update pages.old.memory address (bytes_in size))
-        (record { scalars = with_x s.old rt (number_in pages.old.memory address (bytes_in size)); memory = with_number pages.old.memory address (bytes_in size) (updated op (bytes_in size) (number_in pages.old.memory address (bytes_in size)) (low_bytes (bytes_in size) (x_of s.old rs))) })
+        (record {
+          scalars = with_x s.old rt (number_in pages.old.memory address (bytes_in size));
+          memory = with_number pages.old.memory address (bytes_in size)
+              (updated op (bytes_in size) (number_in pages.old.memory address (bytes_in size))
+              (low_bytes (bytes_in size) (x_of s.old rs)));
+        })
         (contents_of s.old pages.old) (contents_of s.new pages.new) result }
     ensures room { AreOwned pages.old address (bytes_in size) → result ≢ Err AccessStop.Memory }
     ensures kept { KeepsOwned pages.old pages.new }

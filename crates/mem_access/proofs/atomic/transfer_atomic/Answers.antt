@@ -5,7 +5,7 @@ use Rattle.mem_access.specs.Transfer.{AfterAccess}
 use Rattle.mem_access.specs.Values.{low_bytes, updated}
 use Rattle.mem_access.specs.Runs.{after_atomic, number_in, with_number}
 use Rattle.mem_access.proofs.Faults.{raised}
-use Rattle.mem_access.proofs.Atomics.{atomic_read, atomic_written, atomic_updated}
+use Rattle.mem_access.proofs.Atomics.{of_kind, atomic_read, atomic_written, atomic_updated}
 use Rattle.mem_access.proofs.Room.{owned_bytes}
 use Rattle.mem_access.proofs.atomic.transfer_atomic.Goals as goal
 
@@ -24,14 +24,7 @@ returns-in-Ldar-clause-made c =
     let n = bytes_in c.in-Ldar.size in
     let made : ℕ → AfterAccess = λ a. record { scalars = with_x s c.in-Ldar.rt (number_in m a n); memory = m } in
     atomic_read c.args.x.now _ _ s m n made _ _ c.load_ordered.result
-    (record {
-      kind = c.in-Ldar.is;
-      access = c.atomic_access-access.ensures.value;
-      placed = c.in-None.ensures;
-      reads = refl;
-      writes = refl;
-      size = refl;
-    }) (λ a. refl) c.load_ordered.ensures.made
+    (of_kind c.in-Ldar.is c.atomic_access-access.ensures.value c.in-None.ensures refl refl refl) (λ a. refl) c.load_ordered.ensures.made
 
 pub returns-in-Stlr-clause-made : goal.returns-in-Stlr-clause-made
 unfolding atomic_access after_atomic
@@ -41,14 +34,7 @@ returns-in-Stlr-clause-made c =
     let n = bytes_in c.in-Stlr.size in
     let made : ℕ → AfterAccess = λ a. record { scalars = s; memory = with_number m a n (x_of s c.in-Stlr.rt) } in
     atomic_written c.args.x.now _ _ s m n made _ _ c.store_ordered.result
-    (record {
-      kind = c.in-Stlr.is;
-      access = c.atomic_access-access.ensures.value;
-      placed = c.in-None.ensures;
-      reads = refl;
-      writes = refl;
-      size = refl;
-    }) (λ a. refl) c.store_ordered.ensures.made
+    (of_kind c.in-Stlr.is c.atomic_access-access.ensures.value c.in-None.ensures refl refl refl) (λ a. refl) c.store_ordered.ensures.made
 
 pub returns-in-Cas-clause-made : goal.returns-in-Cas-clause-made
 unfolding atomic_access after_atomic
@@ -62,14 +48,7 @@ returns-in-Cas-clause-made c =
       memory = cond (number_in m a n == low_bytes n (x_of s c.in-Cas.rs)) (with_number m a n (x_of s c.in-Cas.rt)) m;
     } in
     atomic_updated c.args.x.now _ _ s m n made _ _ c.swap_where_equal.result
-    (record {
-      kind = c.in-Cas.is;
-      access = c.atomic_access-access.ensures.value;
-      placed = c.in-None.ensures;
-      reads = refl;
-      writes = refl;
-      size = refl;
-    }) (λ a. refl) c.swap_where_equal.ensures.made
+    (of_kind c.in-Cas.is c.atomic_access-access.ensures.value c.in-None.ensures refl refl refl) (λ a. refl) c.swap_where_equal.ensures.made
 
 pub returns-in-Swap-clause-made : goal.returns-in-Swap-clause-made
 unfolding atomic_access after_atomic
@@ -80,14 +59,7 @@ returns-in-Swap-clause-made c =
     let made : ℕ → AfterAccess =
     λ a. record { scalars = with_x s c.in-Swap.rt (number_in m a n); memory = with_number m a n (x_of s c.in-Swap.rs) } in
     atomic_updated c.args.x.now _ _ s m n made _ _ c.swap_register.result
-    (record {
-      kind = c.in-Swap.is;
-      access = c.atomic_access-access.ensures.value;
-      placed = c.in-None.ensures;
-      reads = refl;
-      writes = refl;
-      size = refl;
-    }) (λ a. refl) c.swap_register.ensures.made
+    (of_kind c.in-Swap.is c.atomic_access-access.ensures.value c.in-None.ensures refl refl refl) (λ a. refl) c.swap_register.ensures.made
 
 pub returns-in-Update-clause-made : goal.returns-in-Update-clause-made
 unfolding atomic_access after_atomic
@@ -101,14 +73,8 @@ returns-in-Update-clause-made c =
       memory = with_number m a n (updated c.in-Update.op n (number_in m a n) (low_bytes n (x_of s c.in-Update.rs)));
     } in
     atomic_updated c.args.x.now _ _ s m n made _ _ c.update_by_register.result
-    (record {
-      kind = c.in-Update.is;
-      access = c.atomic_access-access.ensures.value;
-      placed = c.in-None.ensures;
-      reads = refl;
-      writes = refl;
-      size = refl;
-    }) (λ a. refl) c.update_by_register.ensures.made
+    (of_kind c.in-Update.is c.atomic_access-access.ensures.value c.in-None.ensures refl refl refl) (λ a. refl)
+    c.update_by_register.ensures.made
 
 pub returns-in-Stlr-clause-room : goal.returns-in-Stlr-clause-room
 unfolding atomic_access
