@@ -2,7 +2,7 @@
 -- bytes. The scalar registers stay as they are; PC is moved by the machine.
 -- Source: DDI 0487, C8.2: LD1B to LD1D, ST1B to ST1D (contiguous), LDR and STR (vector, predicate).
 use Rattle.std.specs.Prelude.{◌≡◌, ℕ, ◌/◌, Bool, true, false, not, List, [], Option, Some, None}
-use Rattle.std.specs.Prelude.{slice_index_or, slice_set, unwrap_or}
+use Rattle.std.specs.Prelude.{slice_index_or, slice_set, unwrap_or, Result}
 use Rattle.sm_types.specs.declared.scalars.Scalars.{Scalars}
 use Rattle.sm_types.specs.declared.vector as types
 use types.{VectorOffset.VectorOffset, VectorAccess.VectorAccess}
@@ -13,7 +13,7 @@ use Rattle.vector_elements.specs.Elements.{each_or_zero}
 use Rattle.vector_elements.specs.Numbers.{bytes_in}
 use Rattle.sve_vectors.specs.Predicates.{truths_of, predicate_bytes}
 use Rattle.sve_vectors.specs.Registers.{VectorRegisters}
-use Rattle.sve_vectors.specs.State.{SveState}
+use Rattle.sve_vectors.specs.State.{SveState, length_of}
 use Rattle.scalar_exec.specs.Registers.{x_or_sp}
 use Rattle.paged_memory.specs.Memory.{AddressSpace}
 use Rattle.paged_memory.specs.PageTable.{PageTable}
@@ -21,8 +21,10 @@ use Rattle.mem_access.specs.Access.{is_sp}
 use Rattle.mem_access.specs.DataAccess.{DataAccess, run_of}
 use Rattle.mem_access.specs.Checks.{access_fault}
 use Rattle.mem_access.specs.Values.{bytes_at, number_at}
-use Rattle.mem_access.specs.Transfer.{written}
-use Rattle.sve_access.specs.Contiguous.{size_of, memory_size, element_size, loaded, multiple_from, first_address}
+use Rattle.mem_access.specs.Transfer.{written, Transfers, HasRoom}
+use Rattle.mem_access.specs.declared.stop.AccessStop.{AccessStop}
+use Rattle.sve_access.specs.Contiguous.{size_of, memory_size, element_size, loaded, multiple_from}
+use Rattle.sve_access.specs.Contiguous.{first_address}
 use Rattle.sve_access.specs.Elements.{element_run, element_addresses, element_bytes}
 
 -- what an access leaves
@@ -126,6 +128,18 @@ after_access x s l r m = record {
 -- what registers and pages hold
 abbrev pub contents_of : VectorRegisters → PageTable → AfterVectorAccess
 contents_of r pages = record { registers = r; memory = pages.memory }
+
+-- the answer of an instruction: its access is made after Ok, and else all stays
+abbrev pub IsMade : VectorAccess → Scalars → SveState → SveState → PageTable → PageTable
+    → Result (Unit {0}) AccessStop → Type 0
+IsMade x s old new before after result =
+    Transfers (vector_fault x s (length_of old) old.registers before.memory)
+    (after_access x s (length_of old) old.registers before.memory)
+    (contents_of old.registers before) (contents_of new.registers after) result
+
+-- the pages that it stores to are owned
+abbrev pub HasInstructionRoom : VectorAccess → Scalars → SveState → PageTable → Type 0
+HasInstructionRoom x s v pages = HasRoom (access_of x s (length_of v) v.registers) pages
 
 -- the lengths and the mode of vectors stay
 pub record KeepsLengths (old new : SveState) : Type 0 where

@@ -37,7 +37,8 @@ impl<'a> Elements<'a> {
     pub fn size(&self) -> u64
         requires few { length self.now.pg.now ≤ 32 }
         requires some { 2 ≤ length self.now.pg.now }
-        ensures value { result ≡ 8 * length self.now.pg.now / bytes_in self.now.element * bytes_in self.now.memory }
+        ensures value { result
+            ≡ 8 * length self.now.pg.now / bytes_in self.now.element * bytes_in self.now.memory }
         ensures some { 1 ≤ result }
         ensures small { result ≤ 2048 }
     {

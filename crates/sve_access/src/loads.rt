@@ -1,5 +1,6 @@
 //! Loads of the elements of a vector.
-ghost use Rattle.std.specs.Prelude.{◌≡◌, ◌+◌, ◌*◌, ◌/◌, ◌%◌, ◌^◌, ◌<◌, ◌≤◌, true, None, length, if◌then◌else◌};
+ghost use Rattle.std.specs.Prelude.{◌≡◌, ◌+◌, ◌*◌, ◌/◌, ◌%◌, ◌^◌, ◌<◌, ◌≤◌, true, None, length};
+ghost use Rattle.std.specs.Prelude.{if◌then◌else◌};
 ghost use Rattle.std.specs.List.{find};
 ghost use Rattle.paged_memory.specs.Memory.{first_without};
 ghost use Rattle.mem_access.specs.Checks.{lacks};
@@ -40,7 +41,8 @@ struct OfMemory<'a> {
 
 impl<'a> Change for OfMemory<'a> {
     ghost can = { λ s size i. (size ≡ s.elements.now.element) × (s.elements.now.memory ≡ memory_size s.kind)
-        × (i ≤ 256) × (length s.elements.now.pg.now ≤ 32) × (bytes_in size * i < 8 * length s.elements.now.pg.now)
+        × (i ≤ 256) × (length s.elements.now.pg.now ≤ 32)
+        × (bytes_in size * i < 8 * length s.elements.now.pg.now)
         × (is_active (bytes_in size) s.elements.now.pg.now i ≡ true →
         first_without 4 s.pages.now.memory
         ((s.elements.now.start + i * bytes_in (memory_size s.kind)) % 2 ^ 64)
@@ -70,7 +72,8 @@ struct OfBytes<'a> {
 impl<'a> Change for OfBytes<'a> {
     ghost can = { λ s size i. let e = bytes_in (memory_size s.kind) in e * i + e ≤ length s.bytes.now };
 
-    ghost gives = { λ s size i old. loaded s.kind (element_of (bytes_in (memory_size s.kind)) s.bytes.now i) };
+    ghost gives = { λ s size i old.
+        loaded s.kind (element_of (bytes_in (memory_size s.kind)) s.bytes.now i) };
 
     #[inline(always)]
     fn apply(&self, _size: Size, place: usize, _old: u64) -> u64 {
@@ -85,7 +88,8 @@ impl<'a> Change for OfBytes<'a> {
 #[inline(always)]
 fn load_all_known(kind: LoadType, z: &mut [u8], bytes: &[u8])
     requires whole { length z.old % bytes_in (element_size kind) ≡ 0 }
-    requires bytes { length bytes.now ≡ length z.old / bytes_in (element_size kind) * bytes_in (memory_size kind) }
+    requires bytes { length bytes.now
+        ≡ length z.old / bytes_in (element_size kind) * bytes_in (memory_size kind) }
     ensures { z.new ≡ each_element (bytes_in (element_size kind)) z.old (λ i old.
         loaded kind (element_of (bytes_in (memory_size kind)) bytes.now i)) }
 {
@@ -95,7 +99,8 @@ fn load_all_known(kind: LoadType, z: &mut [u8], bytes: &[u8])
 /// Loads all elements of a vector from their bytes. With a loop for each load.
 fn load_all(kind: LoadType, z: &mut [u8], bytes: &[u8])
     requires whole { length z.old % bytes_in (element_size kind) ≡ 0 }
-    requires bytes { length bytes.now ≡ length z.old / bytes_in (element_size kind) * bytes_in (memory_size kind) }
+    requires bytes { length bytes.now
+        ≡ length z.old / bytes_in (element_size kind) * bytes_in (memory_size kind) }
     ensures { z.new ≡ each_element (bytes_in (element_size kind)) z.old (λ i old.
         loaded kind (element_of (bytes_in (memory_size kind)) bytes.now i)) }
 {
@@ -124,19 +129,21 @@ fn load_all(kind: LoadType, z: &mut [u8], bytes: &[u8])
 fn load_known(kind: LoadType, pg: &[u8], z: &mut [u8], bytes: &[u8])
     requires small { length pg.now ≤ 32 }
     requires bits { length z.old ≡ 8 * length pg.now }
-    requires bytes { length bytes.now ≡ length z.old / bytes_in (element_size kind) * bytes_in (memory_size kind) }
+    requires bytes { length bytes.now
+        ≡ length z.old / bytes_in (element_size kind) * bytes_in (memory_size kind) }
     ensures { z.new ≡ each_or_zero (bytes_in (element_size kind)) pg.now z.old (λ i old.
         loaded kind (element_of (bytes_in (memory_size kind)) bytes.now i)) }
 {
     change_marked_or_zero(&OfBytes { kind, bytes }, element_size(kind), z, pg);
 }
 
-/// Loads the active elements of a vector from the bytes of all elements, by a mask of the predicate; the others
-/// become zero. With a loop for each load.
+/// Loads the active elements of a vector from the bytes of all elements, by a mask of the predicate; the
+/// others become zero. With a loop for each load.
 fn load_marked(kind: LoadType, pg: &[u8], z: &mut [u8], bytes: &[u8])
     requires small { length pg.now ≤ 32 }
     requires bits { length z.old ≡ 8 * length pg.now }
-    requires bytes { length bytes.now ≡ length z.old / bytes_in (element_size kind) * bytes_in (memory_size kind) }
+    requires bytes { length bytes.now
+        ≡ length z.old / bytes_in (element_size kind) * bytes_in (memory_size kind) }
     ensures { z.new ≡ each_or_zero (bytes_in (element_size kind)) pg.now z.old (λ i old.
         loaded kind (element_of (bytes_in (memory_size kind)) bytes.now i)) }
 {
@@ -166,7 +173,8 @@ fn load_marked(kind: LoadType, pg: &[u8], z: &mut [u8], bytes: &[u8])
 fn load_from(kind: LoadType, pg: &[u8], z: &mut [u8], bytes: &[u8])
     requires small { length pg.now ≤ 32 }
     requires bits { length z.old ≡ 8 * length pg.now }
-    requires bytes { length bytes.now ≡ length z.old / bytes_in (element_size kind) * bytes_in (memory_size kind) }
+    requires bytes { length bytes.now
+        ≡ length z.old / bytes_in (element_size kind) * bytes_in (memory_size kind) }
     ensures { z.new ≡ each_or_zero (bytes_in (element_size kind)) pg.now z.old (λ i old.
         loaded kind (element_of (bytes_in (memory_size kind)) bytes.now i)) }
 {

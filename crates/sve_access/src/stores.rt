@@ -1,5 +1,6 @@
 //! Stores of the elements of a vector.
-ghost use Rattle.std.specs.Prelude.{◌≡◌, ℕ, ◌+◌, ◌*◌, ◌/◌, ◌%◌, ◌^◌, ◌<◌, ◌≤◌, true, None, Some, List, [], ◌∷◌, if◌then◌else◌};
+ghost use Rattle.std.specs.Prelude.{◌≡◌, ℕ, ◌+◌, ◌*◌, ◌/◌, ◌%◌, ◌^◌, ◌<◌, ◌≤◌, true, None, Some, List, []};
+ghost use Rattle.std.specs.Prelude.{◌∷◌, if◌then◌else◌};
 ghost use Rattle.std.specs.Prelude.{length, flat_map};
 ghost use Rattle.std.specs.Prelude.{OnOk, IsTrue, is_ok};
 ghost use Rattle.std.specs.List.{find};

@@ -15,6 +15,7 @@ ghost use Rattle.mem_access.specs.Values.{number_at};
 ghost use Rattle.mem_access.specs.Transfer.{Transfers, HasRoom, written};
 ghost use Rattle.sve_access.specs.After.{access_of, vector_fault, after_access, contents_of, z_of, p_of};
 ghost use Rattle.sve_access.specs.After.{at_base, elements_stored, read_bytes, with_elements, KeepsLengths};
+ghost use Rattle.sve_access.specs.After.{IsMade, HasInstructionRoom};
 ghost use Rattle.sve_access.specs.Contiguous.{memory_size, element_size, loaded, multiple_from};
 ghost use Rattle.sve_access.specs.Elements.{element_run, element_addresses};
 
@@ -81,7 +82,11 @@ fn load_z(kind: LoadType, elements: &Elements, vectors: &mut Vectors, zt: u8, pa
 
 /// Loads the active elements of a vector, if no check fails.
 #[inline]
-#[tactic(auto, unfolding(crate::specs::After::access_of, crate::specs::After::registers_after, crate::specs::After::stored), using(crate::proofs::Faults::can_read))]
+#[tactic(auto, unfolding(
+// The access, the registers after it and the memory.
+crate::specs::After::access_of, crate::specs::After::registers_after, crate::specs::After::stored),
+// Where its bytes can be read.
+using(crate::proofs::Faults::can_read))]
 fn transfer_load(
     kind: LoadType,
     offset: &VectorOffset,
@@ -93,11 +98,8 @@ fn transfer_load(
     pages: &Pages,
 ) -> Result<(), AccessStop>
     requires { IsVectorAccess (form.Load kind offset.now pg rn zt) }
-    ensures made { let x = form.Load kind offset.now pg rn zt in
-        let l = length_of vectors.old in
-        Transfers (vector_fault x s.now l vectors.old.registers pages.now.memory)
-        (after_access x s.now l vectors.old.registers pages.now.memory)
-        (contents_of vectors.old.registers pages.now) (contents_of vectors.new.registers pages.now) result }
+    ensures made { IsMade (form.Load kind offset.now pg rn zt) s.now
+        vectors.old vectors.new pages.now pages.now result }
     ensures room { result ≢ Err AccessStop.Memory }
     ensures lengths { KeepsLengths vectors.old vectors.new }
 {
@@ -191,7 +193,9 @@ pub fn store_elements(
 
 /// Stores the low bytes of the active elements of a vector, if no check fails.
 #[inline]
-#[tactic(auto, unfolding(crate::specs::After::access_of, crate::specs::After::registers_after, crate::specs::After::stored))]
+#[tactic(auto, unfolding(
+// The access, the registers after it and the memory.
+crate::specs::After::access_of, crate::specs::After::registers_after, crate::specs::After::stored))]
 fn transfer_store(
     memory: Elem,
     element: Elem,
@@ -204,15 +208,10 @@ fn transfer_store(
     pages: &mut Pages,
 ) -> Result<(), AccessStop>
     requires { IsVectorAccess (form.Store memory element offset.now pg rn zt) }
-    ensures made { let x = form.Store memory element offset.now pg rn zt in
-        let l = length_of vectors.now in
-        Transfers (vector_fault x s.now l vectors.now.registers pages.old.memory)
-        (after_access x s.now l vectors.now.registers pages.old.memory)
-        (contents_of vectors.now.registers pages.old) (contents_of vectors.now.registers pages.new) result }
-    ensures room { HasRoom (access_of (form.Store memory element offset.now pg rn zt) s.now
-        (length_of vectors.now)
-        vectors.now.registers) pages.old
-        → result ≢ Err AccessStop.Memory }
+    ensures made { IsMade (form.Store memory element offset.now pg rn zt) s.now
+        vectors.now vectors.now pages.old pages.new result }
+    ensures room { HasInstructionRoom (form.Store memory element offset.now pg rn zt) s.now
+        vectors.now pages.old → result ≢ Err AccessStop.Memory }
     ensures kept { KeepsOwned pages.old pages.new }
 {
     let (memory, element) = (size_of(memory), size_of(element));
@@ -280,7 +279,11 @@ fn read_to_p(pages: &Pages, address: u64, vectors: &mut Vectors, pt: u8)
 
 /// Loads a vector, if no check fails.
 #[inline]
-#[tactic(auto, unfolding(crate::specs::After::access_of, crate::specs::After::registers_after, crate::specs::After::stored), using(crate::proofs::Faults::can_read_run))]
+#[tactic(auto, unfolding(
+// The access, the registers after it and the memory.
+crate::specs::After::access_of, crate::specs::After::registers_after, crate::specs::After::stored),
+// Where its bytes can be read.
+using(crate::proofs::Faults::can_read_run))]
 fn load_vector(
     times: i32,
     rn: u8,
@@ -290,11 +293,8 @@ fn load_vector(
     pages: &Pages,
 ) -> Result<(), AccessStop>
     requires { IsVectorAccess (form.Vector false times rn zt) }
-    ensures made { let x = form.Vector false times rn zt in
-        let l = length_of vectors.old in
-        Transfers (vector_fault x s.now l vectors.old.registers pages.now.memory)
-        (after_access x s.now l vectors.old.registers pages.now.memory)
-        (contents_of vectors.old.registers pages.now) (contents_of vectors.new.registers pages.now) result }
+    ensures made { IsMade (form.Vector false times rn zt) s.now
+        vectors.old vectors.new pages.now pages.now result }
     ensures room { result ≢ Err AccessStop.Memory }
     ensures lengths { KeepsLengths vectors.old vectors.new }
 {
@@ -310,7 +310,11 @@ fn load_vector(
 
 /// Loads a predicate, if no check fails.
 #[inline]
-#[tactic(auto, unfolding(crate::specs::After::access_of, crate::specs::After::registers_after, crate::specs::After::stored), using(crate::proofs::Faults::can_read_run))]
+#[tactic(auto, unfolding(
+// The access, the registers after it and the memory.
+crate::specs::After::access_of, crate::specs::After::registers_after, crate::specs::After::stored),
+// Where its bytes can be read.
+using(crate::proofs::Faults::can_read_run))]
 fn load_predicate(
     times: i32,
     rn: u8,
@@ -320,11 +324,8 @@ fn load_predicate(
     pages: &Pages,
 ) -> Result<(), AccessStop>
     requires { IsVectorAccess (form.Predicate false times rn pt) }
-    ensures made { let x = form.Predicate false times rn pt in
-        let l = length_of vectors.old in
-        Transfers (vector_fault x s.now l vectors.old.registers pages.now.memory)
-        (after_access x s.now l vectors.old.registers pages.now.memory)
-        (contents_of vectors.old.registers pages.now) (contents_of vectors.new.registers pages.now) result }
+    ensures made { IsMade (form.Predicate false times rn pt) s.now
+        vectors.old vectors.new pages.now pages.now result }
     ensures room { result ≢ Err AccessStop.Memory }
     ensures lengths { KeepsLengths vectors.old vectors.new }
 {
@@ -365,7 +366,9 @@ pub fn store_run(
 
 /// Stores a vector, if no check fails.
 #[inline]
-#[tactic(auto, unfolding(crate::specs::After::access_of, crate::specs::After::registers_after, crate::specs::After::stored))]
+#[tactic(auto, unfolding(
+// The access, the registers after it and the memory.
+crate::specs::After::access_of, crate::specs::After::registers_after, crate::specs::After::stored))]
 fn store_vector(
     times: i32,
     rn: u8,
@@ -375,13 +378,9 @@ fn store_vector(
     pages: &mut Pages,
 ) -> Result<(), AccessStop>
     requires { IsVectorAccess (form.Vector true times rn zt) }
-    ensures made { let x = form.Vector true times rn zt in
-        let l = length_of vectors.now in
-        Transfers (vector_fault x s.now l vectors.now.registers pages.old.memory)
-        (after_access x s.now l vectors.now.registers pages.old.memory)
-        (contents_of vectors.now.registers pages.old) (contents_of vectors.now.registers pages.new) result }
-    ensures room { HasRoom (access_of (form.Vector true times rn zt) s.now (length_of vectors.now)
-        vectors.now.registers) pages.old
+    ensures made { IsMade (form.Vector true times rn zt) s.now
+        vectors.now vectors.now pages.old pages.new result }
+    ensures room { HasInstructionRoom (form.Vector true times rn zt) s.now vectors.now pages.old
         → result ≢ Err AccessStop.Memory }
     ensures kept { KeepsOwned pages.old pages.new }
 {
@@ -391,7 +390,9 @@ fn store_vector(
 
 /// Stores a predicate, if no check fails.
 #[inline]
-#[tactic(auto, unfolding(crate::specs::After::access_of, crate::specs::After::registers_after, crate::specs::After::stored))]
+#[tactic(auto, unfolding(
+// The access, the registers after it and the memory.
+crate::specs::After::access_of, crate::specs::After::registers_after, crate::specs::After::stored))]
 fn store_predicate(
     times: i32,
     rn: u8,
@@ -401,13 +402,9 @@ fn store_predicate(
     pages: &mut Pages,
 ) -> Result<(), AccessStop>
     requires { IsVectorAccess (form.Predicate true times rn pt) }
-    ensures made { let x = form.Predicate true times rn pt in
-        let l = length_of vectors.now in
-        Transfers (vector_fault x s.now l vectors.now.registers pages.old.memory)
-        (after_access x s.now l vectors.now.registers pages.old.memory)
-        (contents_of vectors.now.registers pages.old) (contents_of vectors.now.registers pages.new) result }
-    ensures room { HasRoom (access_of (form.Predicate true times rn pt) s.now (length_of vectors.now)
-        vectors.now.registers) pages.old
+    ensures made { IsMade (form.Predicate true times rn pt) s.now
+        vectors.now vectors.now pages.old pages.new result }
+    ensures room { HasInstructionRoom (form.Predicate true times rn pt) s.now vectors.now pages.old
         → result ≢ Err AccessStop.Memory }
     ensures kept { KeepsOwned pages.old pages.new }
 {
@@ -427,13 +424,9 @@ fn transfer_vector_bytes(
     pages: &mut Pages,
 ) -> Result<(), AccessStop>
     requires { IsVectorAccess (form.Vector store times rn zt) }
-    ensures made { let x = form.Vector store times rn zt in
-        let l = length_of vectors.old in
-        Transfers (vector_fault x s.now l vectors.old.registers pages.old.memory)
-        (after_access x s.now l vectors.old.registers pages.old.memory)
-        (contents_of vectors.old.registers pages.old) (contents_of vectors.new.registers pages.new) result }
-    ensures room { HasRoom (access_of (form.Vector store times rn zt) s.now (length_of vectors.old)
-        vectors.old.registers) pages.old
+    ensures made { IsMade (form.Vector store times rn zt) s.now
+        vectors.old vectors.new pages.old pages.new result }
+    ensures room { HasInstructionRoom (form.Vector store times rn zt) s.now vectors.old pages.old
         → result ≢ Err AccessStop.Memory }
     ensures kept { KeepsOwned pages.old pages.new }
     ensures lengths { KeepsLengths vectors.old vectors.new }
@@ -457,13 +450,9 @@ fn transfer_predicate_bytes(
     pages: &mut Pages,
 ) -> Result<(), AccessStop>
     requires { IsVectorAccess (form.Predicate store times rn pt) }
-    ensures made { let x = form.Predicate store times rn pt in
-        let l = length_of vectors.old in
-        Transfers (vector_fault x s.now l vectors.old.registers pages.old.memory)
-        (after_access x s.now l vectors.old.registers pages.old.memory)
-        (contents_of vectors.old.registers pages.old) (contents_of vectors.new.registers pages.new) result }
-    ensures room { HasRoom (access_of (form.Predicate store times rn pt) s.now (length_of vectors.old)
-        vectors.old.registers) pages.old
+    ensures made { IsMade (form.Predicate store times rn pt) s.now
+        vectors.old vectors.new pages.old pages.new result }
+    ensures room { HasInstructionRoom (form.Predicate store times rn pt) s.now vectors.old pages.old
         → result ≢ Err AccessStop.Memory }
     ensures kept { KeepsOwned pages.old pages.new }
     ensures lengths { KeepsLengths vectors.old vectors.new }
