@@ -1,6 +1,7 @@
 -- The elements of a slice that is loaded.
 use Rattle.std.proofs.Common.{◌≡◌, ℕ, zero, suc, ◌+◌, ◌-◌, ◌*◌, ◌/◌, ◌%◌, ◌^◌, ◌<◌, ◌≤◌, Bool, true, if◌then◌else◌, List, [], ◌∷◌, ◌++◌}
-use Rattle.std.proofs.Common.{length, take, drop, replicate, refl, ap, ap₂, sym, ◌∙◌, arith, Some, None, inl, inr, append-nil, length-append}
+use Rattle.std.proofs.Common.{length, take, drop, replicate, refl, ap, ap₂, sym, ◌∙◌, arith, Some, None, inl, inr, append-nil}
+use Rattle.std.proofs.Common.{length-append}
 use Rattle.std.specs.Prelude.{flat_map, unwrap_or}
 use Rattle.std.specs.List.{find, concat}
 use Rattle.std.proofs.lemmas.List.{take-replicate, drop-replicate, length-replicate}

@@ -55,7 +55,13 @@ fn load_to(slice: SliceAt, elements: &SliceElements, za: &mut Za, pages: &Pages)
 }
 
 /// Loads a slice, if no check fails.
-#[tactic(auto, unfolding(crate::specs::Slices::slice_access, crate::specs::Slices::slice_array_after, crate::specs::Slices::slice_stored), using(sve_access::proofs::Faults::can_read))]
+#[tactic(auto, unfolding(
+// The access of a slice.
+crate::specs::Slices::slice_access,
+// The array and the memory after it.
+crate::specs::Slices::slice_array_after, crate::specs::Slices::slice_stored),
+// Where its bytes can be read.
+using(sve_access::proofs::Faults::can_read))]
 fn load_slice(
     insn: &TileAccess,
     s: &Scalars,
@@ -88,7 +94,11 @@ fn load_slice(
 }
 
 /// Stores the active elements of a slice, if no check fails.
-#[tactic(auto, unfolding(crate::specs::Slices::slice_access, crate::specs::Slices::slice_array_after, crate::specs::Slices::slice_stored))]
+#[tactic(auto, unfolding(
+// The access of a slice.
+crate::specs::Slices::slice_access,
+// The array and the memory after it.
+crate::specs::Slices::slice_array_after, crate::specs::Slices::slice_stored))]
 fn store_slice(
     insn: &TileAccess,
     s: &Scalars,

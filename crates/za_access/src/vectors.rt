@@ -48,7 +48,13 @@ fn read_vector(pages: &Pages, address: u64, za: &mut Za, n: usize)
 
 /// Loads a vector of the array, if no check fails.
 #[inline]
-#[tactic(auto, unfolding(crate::specs::Vectors::vector_access, crate::specs::Vectors::array_after, crate::specs::Vectors::stored), using(sve_access::proofs::Faults::can_read_run))]
+#[tactic(auto, unfolding(
+// The access of a vector of the array.
+crate::specs::Vectors::vector_access,
+// The array and the memory after it.
+crate::specs::Vectors::array_after, crate::specs::Vectors::stored),
+// Where its bytes can be read.
+using(sve_access::proofs::Faults::can_read_run))]
 fn load_vector(
     rv: u8,
     offset: u8,
@@ -82,7 +88,11 @@ fn load_vector(
 
 /// Stores a vector of the array, if no check fails.
 #[inline]
-#[tactic(auto, unfolding(crate::specs::Vectors::vector_access, crate::specs::Vectors::array_after, crate::specs::Vectors::stored))]
+#[tactic(auto, unfolding(
+// The access of a vector of the array.
+crate::specs::Vectors::vector_access,
+// The array and the memory after it.
+crate::specs::Vectors::array_after, crate::specs::Vectors::stored))]
 fn store_vector(
     rv: u8,
     offset: u8,
@@ -126,7 +136,8 @@ pub fn transfer_array_vector(
     requires { IsArrayAccess (form.Transfer store rv offset rn) }
     ensures made { Transfers
         (vector_fault store offset rn scalars.now (vector_bytes za.old.svl) pages.old.memory)
-        (after_vector store rv offset rn scalars.now (vector_bytes za.old.svl) za.old.vectors pages.old.memory)
+        (after_vector store rv offset rn scalars.now (vector_bytes za.old.svl)
+        za.old.vectors pages.old.memory)
         (contents_of za.old pages.old) (contents_of za.new pages.new) result }
     ensures room { HasRoom (vector_access store offset rn scalars.now (vector_bytes za.old.svl)) pages.old
         → result ≢ Err AccessStop.Memory }
