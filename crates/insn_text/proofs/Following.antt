@@ -8,8 +8,10 @@ use Rattle.sve_table.specs.Numbers.{number_of as vector_number_of}
 use Rattle.insn_text.specs.declared.shapes.TheConstants.{ORDER, SHAPES}
 use Rattle.insn_text.specs.Texts.{text_in, items_in, items_of}
 use Rattle.insn_text.specs.Operands.{is, is_long, rule_number, same}
-use Rattle.insn_text.specs.Wordings.{texts, vector_texts, operands_of, settings_of, held, set_bits, has_bits, is_set_of, is_said, is_whole, fixes}
-use Rattle.insn_text.specs.Wordings.{is_of_line, flag, vector_text_at, file_number, kind_numbers, same_item, same_items, is_shape_of, is_shape_at, are_shapes, is_before}
+use Rattle.insn_text.specs.Wordings.{texts, vector_texts, operands_of, settings_of, held, set_bits, has_bits, is_set_of, is_said, is_whole}
+use Rattle.insn_text.specs.Wordings.{fixes}
+use Rattle.insn_text.specs.Wordings.{is_of_line, flag, vector_text_at, file_number, kind_numbers, same_item, same_items, is_shape_of}
+use Rattle.insn_text.specs.Wordings.{is_shape_at, are_shapes, is_before}
 use Rattle.insn_text.specs.Wordings.{stand_after, stand_in_order, have_shapes}
 
 pub all_shapes : are_shapes texts vector_texts ORDER SHAPES ≡ true

@@ -20,7 +20,8 @@ use Rattle.a64_table.specs.declared.operation.AddressForm.TheVariants.{Offset, U
 use Rattle.a64_table.specs.Conditions.{is_below_width, has_load, is_address_option, is_apart, are_two, is_pair_apart, fits_of}
 use Rattle.insn_text.specs.declared.item.Kind.{Kind}
 use Rattle.insn_text.specs.declared.item.Kind.TheVariants as kind
-use Rattle.insn_text.specs.declared.item.Kind.TheVariants.{Punctuation, Keyword, Unsigned, Signed, Distance, Mask, SignedMask, ShiftLeft, Opposite}
+use Rattle.insn_text.specs.declared.item.Kind.TheVariants.{Punctuation, Keyword, Unsigned, Signed, Distance, Mask, SignedMask, ShiftLeft}
+use Rattle.insn_text.specs.declared.item.Kind.TheVariants.{Opposite}
 use Rattle.insn_text.specs.declared.item.Kind.TheVariants.{Halfword, Sized, SliceRegister, Index, Pattern, Descending}
 use Rattle.insn_text.specs.declared.item.Rule.{Rule}
 use Rattle.insn_text.specs.declared.item.Rule.TheVariants.{Free, SecondApart, BaseApart, BasePairApart, OffsetGiven}
@@ -459,51 +460,23 @@ mask_within true word m v i r h e =
     let f = field_in i word in
     let is_13 : f ≡ field_of word 10 13 = field_is i word 10 13 p.0 in
     let small = field_below word 10 13 in
+    let whole = split word 10 13 in
+    let low = split word 10 6 in
+    let high = split word 16 6 in
+    let top = split word 22 1 in
+    let f_low = split f 0 6 in
+    let f_high = split f 6 6 in
+    let f_top = split f 12 1 in
+    let low_below = field_below word 10 6 in
+    let high_below = field_below word 16 6 in
+    let f_low_below = field_below f 0 6 in
+    let f_high_below = field_below f 6 6 in
     let n : field_of word 22 1 ≡ field_of f 12 1 =
-    omega (
-      arith,
-      split word 10 13,
-      split word 10 6,
-      split word 16 6,
-      split word 22 1,
-      split f 0 6,
-      split f 6 6,
-      split f 12 1,
-      field_below word 10 6,
-      field_below word 16 6,
-      field_below f 0 6,
-      field_below f 6 6,
-    ) in
+    omega (arith, whole, low, high, top, f_low, f_high, f_top, low_below, high_below, f_low_below, f_high_below) in
     let immr : field_of word 16 6 ≡ field_of f 6 6 =
-    omega (
-      arith,
-      split word 10 13,
-      split word 10 6,
-      split word 16 6,
-      split word 22 1,
-      split f 0 6,
-      split f 6 6,
-      split f 12 1,
-      field_below word 10 6,
-      field_below word 16 6,
-      field_below f 0 6,
-      field_below f 6 6,
-    ) in
+    omega (arith, whole, low, high, top, f_low, f_high, f_top, low_below, high_below, f_low_below, f_high_below) in
     let imms : field_of word 10 6 ≡ field_of f 0 6 =
-    omega (
-      arith,
-      split word 10 13,
-      split word 10 6,
-      split word 16 6,
-      split word 22 1,
-      split f 0 6,
-      split f 6 6,
-      split f 12 1,
-      field_below word 10 6,
-      field_below word 16 6,
-      field_below f 0 6,
-      field_below f 6 6,
-    ) in
+    omega (arith, whole, low, high, top, f_low, f_high, f_top, low_below, high_below, f_low_below, f_high_below) in
     mask_same (field_of word 31 1 == 1) true (field_of word 22 1 == 1) (field_of f 12 1 == 1) (field_of word 16 6) (field_of f 6 6)
     (field_of word 10 6) (field_of f 0 6)
     (fixed_bit word m v 31 true r p.1) (ap (λ x. x == 1) n) immr imms h
@@ -513,35 +486,21 @@ mask_within false word m v i r h e =
     let f = field_in i word in
     let is_12 : f ≡ field_of word 10 12 = field_is i word 10 12 p.0 in
     let small = field_below word 10 12 in
-    let n : 0 ≡ field_of f 12 1 = omega (arith, split f 12 1) in
+    let whole = split word 10 12 in
+    let low = split word 10 6 in
+    let high = split word 16 6 in
+    let f_low = split f 0 6 in
+    let f_high = split f 6 6 in
+    let f_top = split f 12 1 in
+    let low_below = field_below word 10 6 in
+    let high_below = field_below word 16 6 in
+    let f_low_below = field_below f 0 6 in
+    let f_high_below = field_below f 6 6 in
+    let n : 0 ≡ field_of f 12 1 = omega (arith, f_top) in
     let immr : field_of word 16 6 ≡ field_of f 6 6 =
-    omega (
-      arith,
-      split word 10 12,
-      split word 10 6,
-      split word 16 6,
-      split f 0 6,
-      split f 6 6,
-      split f 12 1,
-      field_below word 10 6,
-      field_below word 16 6,
-      field_below f 0 6,
-      field_below f 6 6,
-    ) in
+    omega (arith, whole, low, high, f_low, f_high, f_top, low_below, high_below, f_low_below, f_high_below) in
     let imms : field_of word 10 6 ≡ field_of f 0 6 =
-    omega (
-      arith,
-      split word 10 12,
-      split word 10 6,
-      split word 16 6,
-      split f 0 6,
-      split f 6 6,
-      split f 12 1,
-      field_below word 10 6,
-      field_below word 16 6,
-      field_below f 0 6,
-      field_below f 6 6,
-    ) in
+    omega (arith, whole, low, high, f_low, f_high, f_top, low_below, high_below, f_low_below, f_high_below) in
     mask_same (field_of word 31 1 == 1) false (field_of word 22 1 == 1) (field_of f 12 1 == 1) (field_of word 16 6) (field_of f 6 6)
     (field_of word 10 6) (field_of f 0 6)
     t.first (t.second ∙ ap (λ x. x == 1) n) immr imms h

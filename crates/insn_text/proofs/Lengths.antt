@@ -1,6 +1,7 @@
 -- No text passes 95 bytes.
 use Rattle.std.proofs.Common.{◌≡◌, ℕ, zero, suc, ◌+◌, ◌-◌, ◌*◌, ◌/◌, ◌%◌, ◌^◌, ◌<◌, ◌≤◌, Bool, true, false, not, ◌&&◌, ◌||◌, ◌==◌, nat_lt}
-use Rattle.std.proofs.Common.{nat_le, cond, max, List, [], ◌∷◌, ◌++◌, Option, Some, None, slice_get, length, take, drop, decimal, refl, sym, ap}
+use Rattle.std.proofs.Common.{nat_le, cond, max, List, [], ◌∷◌, ◌++◌, Option, Some, None, slice_get, length, take, drop, decimal, refl, sym}
+use Rattle.std.proofs.Common.{ap}
 use Rattle.std.proofs.Common.{◌∙◌, arith, subst, lit<, ltb-true, leb-true, eq-eqb, eqb-true, length-append}
 use Rattle.std.specs.List.{find, list_all}
 use Rattle.std.specs.Str.{IsAscii}
@@ -18,7 +19,8 @@ use Rattle.bit_ops.proofs.MaskBits.{bool_number-lt}
 use Rattle.insn_forms.specs.Fields.{field_of}
 use Rattle.insn_forms.proofs.Bits.{field_in-lt}
 use Rattle.insn_text.specs.declared.item.Kind.{Kind}
-use Rattle.insn_text.specs.declared.item.Kind.TheVariants.{Punctuation, Keyword, Register, Unsigned, Signed, Distance, Mask, SignedMask, ShiftLeft}
+use Rattle.insn_text.specs.declared.item.Kind.TheVariants.{Punctuation, Keyword, Register, Unsigned, Signed, Distance, Mask, SignedMask}
+use Rattle.insn_text.specs.declared.item.Kind.TheVariants.{ShiftLeft}
 use Rattle.insn_text.specs.declared.item.Kind.TheVariants.{Opposite, Halfword, Sized, SliceRegister, Index, Pattern, Descending}
 use Rattle.insn_text.specs.declared.item.VectorFile.{VectorFile}
 use Rattle.insn_text.specs.declared.item.VectorFile.TheVariants as vector

@@ -15,7 +15,8 @@ use Rattle.insn_text.specs.VectorMnemonics.{compare_immediate_name, predicate_na
 use Rattle.insn_text.specs.VectorMnemonics.{element_letter, elem_letter, copy_name, permute_name, reduced_name, comparison_name}
 use Rattle.insn_text.specs.VectorMnemonics.{predicate_form_name, count_name, element_name, memory_letters, transfer_name}
 use Rattle.insn_text.specs.VectorMnemonics.{vector_access_name, sve2_name, array_name, signs_name, streaming_name, vector_mnemonic_of}
-use Rattle.insn_text.specs.Templates.{is_of_row, suffix_symbol, last_symbol, rule_symbol, pattern_words, number_symbol, symbol, template, has}
+use Rattle.insn_text.specs.Templates.{is_of_row, suffix_symbol, last_symbol, rule_symbol, pattern_words, number_symbol, symbol, template}
+use Rattle.insn_text.specs.Templates.{has}
 use Rattle.insn_text.specs.Templates.{template_by, loaded, load_shift, width_letter, shifted, shift_letter, shift_width}
 use Rattle.insn_text.specs.Templates.{shifted_vectors, copy_templates, permute_templates, reduced_letter, reduction_templates}
 use Rattle.insn_text.specs.Templates.{compare_templates, predicate_templates, count_templates, element_templates, with_lengths}

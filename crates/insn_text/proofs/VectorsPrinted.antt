@@ -16,7 +16,8 @@ use Rattle.insn_text.specs.Texts.{items_in, items_of, printed_shape}
 use Rattle.insn_text.specs.Rules.{IsPrinted}
 use Rattle.insn_text.proofs.Tables.{all_get}
 use Rattle.insn_text.proofs.Regions.{is_apart, is_inside, free_bit, covers_at, covers, keep_unless, kept, find-kept, covers-printed}
-use Rattle.insn_text.proofs.VectorKnown.{has_size, size_of_word, is_known, has_none, ends_by, vector_ends, vector_never, says_each, gives_offset}
+use Rattle.insn_text.proofs.VectorKnown.{has_size, size_of_word, is_known, has_none, ends_by, vector_ends, vector_never, says_each}
+use Rattle.insn_text.proofs.VectorKnown.{gives_offset}
 use Rattle.insn_text.proofs.VectorKnown.{vector_rule, says_vector_item, vector_says, vector_said}
 
 -- each word that matches the row and meets its condition is printed

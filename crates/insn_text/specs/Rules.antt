@@ -7,7 +7,8 @@ use Rattle.std.specs.List.{list_all}
 use Rattle.insn_forms.specs.Fields.{field_of}
 use Rattle.bit_ops.specs.Masks.{are_mask_fields}
 use Rattle.insn_text.specs.declared.item.Kind.{Kind}
-use Rattle.insn_text.specs.declared.item.Kind.TheVariants.{Punctuation, Keyword, Register, Sized, Unsigned, Mask}
+use Rattle.insn_text.specs.declared.item.Kind.TheVariants.{Punctuation, Keyword, Register, Sized, Unsigned}
+use Rattle.insn_text.specs.declared.item.Kind.TheVariants.{Mask}
 use Rattle.insn_text.specs.declared.item.Kind.TheVariants.{Pattern, Descending, SignedMask, ShiftLeft}
 use Rattle.insn_text.specs.declared.item.Kind.TheVariants.{Opposite, Halfword}
 use Rattle.insn_text.specs.declared.item.Rule.{Rule}

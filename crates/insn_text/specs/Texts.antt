@@ -2,7 +2,8 @@
 -- distances.
 -- Source: DDI 0487, C1.2 (assembly language symbols) and the pages of C6.2; which text is printed, and that
 -- distances are in bytes from the instruction, is this project's own.
-use Rattle.std.specs.Prelude.{ℕ, ◌+◌, ◌-◌, ◌*◌, ◌/◌, ◌%◌, ◌^◌, Bool, true, false, not, ◌&&◌, ◌||◌, ◌==◌, nat_lt, List}
+use Rattle.std.specs.Prelude.{ℕ, ◌+◌, ◌-◌, ◌*◌, ◌/◌, ◌%◌, ◌^◌, Bool, true, false, not, ◌&&◌, ◌||◌, ◌==◌}
+use Rattle.std.specs.Prelude.{nat_lt, List}
 use Rattle.std.specs.Prelude.{[], ◌∷◌, ◌++◌, Option, Some, None, bit_and, slice_get, take, drop}
 use Rattle.std.specs.Prelude.{if◌then◌else◌, decimal, codes}
 use Rattle.std.specs.List.{find}
@@ -11,7 +12,8 @@ use Rattle.bit_ops.specs.Masks.{bit_mask_of}
 use Rattle.insn_forms.specs.Fields as fields
 use Rattle.insn_forms.specs.Fields.{field_of}
 use Rattle.insn_text.specs.declared.item.Kind.{Kind}
-use Rattle.insn_text.specs.declared.item.Kind.TheVariants.{Punctuation, Keyword, Register, Unsigned, Signed, Distance}
+use Rattle.insn_text.specs.declared.item.Kind.TheVariants.{Punctuation, Keyword, Register, Unsigned, Signed}
+use Rattle.insn_text.specs.declared.item.Kind.TheVariants.{Distance}
 use Rattle.insn_text.specs.declared.item.Kind.TheVariants.{Mask, SignedMask, ShiftLeft, Opposite, Halfword}
 use Rattle.insn_text.specs.declared.item.Kind.TheVariants.{Sized, SliceRegister, Index, Pattern, Descending}
 use Rattle.insn_text.specs.declared.item.VectorFile.{VectorFile}

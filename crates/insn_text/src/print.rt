@@ -1,5 +1,6 @@
 //! Printing a word.
-ghost use Rattle.std.specs.Prelude.{◌≡◌, ℕ, ◌+◌, ◌-◌, ◌*◌, ◌/◌, ◌%◌, ◌^◌, ◌<◌, ◌≤◌, ◌++◌, true, false, length, drop};
+ghost use Rattle.std.specs.Prelude.{◌≡◌, ℕ, ◌+◌, ◌-◌, ◌*◌, ◌/◌, ◌%◌, ◌^◌, ◌<◌, ◌≤◌, ◌++◌, true, false};
+ghost use Rattle.std.specs.Prelude.{length, drop};
 ghost use Rattle.std.specs.Prelude.{decimal, codes};
 ghost use Rattle.std.specs.Fmt.{digit_glyph};
 ghost use Rattle.std.specs.List.{list_all};
@@ -8,7 +9,8 @@ ghost use Rattle.a64_encode.specs.Either.{MeansEither};
 ghost use Rattle.insn_text.specs.declared.item.Kind.TheVariants.{Punctuation};
 ghost use Rattle.insn_text.specs.Indices.{is_writable, is_sized};
 ghost use Rattle.insn_text.specs.Texts.{bits_of, distance_text, field_in, gap, hexadecimal, is_comma};
-ghost use Rattle.insn_text.specs.Texts.{is_punctuation, is_positive, item_text, items_text, kind_text, mask_in};
+ghost use Rattle.insn_text.specs.Texts.{is_punctuation, is_positive, item_text, items_text, kind_text};
+ghost use Rattle.insn_text.specs.Texts.{mask_in};
 ghost use Rattle.insn_text.specs.Texts.{mask_text, register_text, file_text, shape_text, signed_text};
 ghost use Rattle.insn_text.specs.Texts.{vector_file_text, sized_text, is_named_pattern, pattern_index};
 ghost use Rattle.insn_text.specs.Texts.{pattern_text};
