@@ -82,7 +82,11 @@ fn register_of(file: RegisterFile, number: Option<u64>) -> Option<Token>
 }
 
 /// The register that a name is.
-#[tactic(auto, unfolding(crate::specs::Tokens::register_in, crate::specs::Tokens::register_of), using(crate::proofs::Registers::none_empty))]
+#[tactic(auto, unfolding(
+// The register that a name says.
+crate::specs::Tokens::register_in, crate::specs::Tokens::register_of),
+// An empty name is no register.
+using(crate::proofs::Registers::none_empty))]
 fn register_in(name: &[u8]) -> Option<Token>
     ensures { result ≡ register_in name.now }
 {
@@ -173,7 +177,11 @@ fn begins_za(name: &[u8]) -> bool
 }
 
 /// The register of vectors, predicates or ZA that a name is.
-#[tactic(auto, unfolding(crate::specs::Tokens::sized_in, crate::specs::Tokens::sized_after), using(crate::proofs::Registers::none_sized))]
+#[tactic(auto, unfolding(
+// The register with a size that a name says.
+crate::specs::Tokens::sized_in, crate::specs::Tokens::sized_after),
+// An empty name is no register.
+using(crate::proofs::Registers::none_sized))]
 fn sized_in(name: &[u8]) -> Option<Token>
     ensures { result ≡ sized_in name.now }
 {
