@@ -19,7 +19,8 @@ use Rattle.insn_text.specs.Texts.{bits_of, items_of}
 use Rattle.insn_text.specs.Wordings.{file_number}
 use Rattle.asm_tokens.specs.declared.token.Token.{Token}
 use Rattle.asm_tokens.specs.declared.token.Token.TheVariants.{Register, Keyword, Number, Punctuation, Sized, Bare, Other}
-use Rattle.asm_operands.specs.Fields.{on_punctuation, on_keyword, on_register, on_number, on_sized, on_bare, keyword_field, same_file, slice_field}
+use Rattle.asm_operands.specs.Fields.{on_punctuation, on_keyword, on_register, on_number, on_sized, on_bare, keyword_field, same_file}
+use Rattle.asm_operands.specs.Fields.{slice_field}
 use Rattle.asm_operands.specs.Fields.{same_vector_file, sized_field, index_field, descending_field, unsigned_field, field_said}
 use Rattle.asm_operands.specs.Sound.{has_factor, is_sound}
 use Rattle.asm_operands.proofs.Tables.{items_of-sound}

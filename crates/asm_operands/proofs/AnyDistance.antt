@@ -31,7 +31,8 @@ use Rattle.asm_tokens.specs.declared.token.Token.{Token}
 use Rattle.asm_tokens.specs.declared.token.Token.TheVariants.{Distance}
 use Rattle.asm_operands.specs.Fields.{field_said}
 use Rattle.asm_operands.specs.declared.operands.Target.{Target}
-use Rattle.asm_operands.specs.Operands.{PartialWord, mask_of, placed, with_field, agrees, partial_with, partial_after, taken_on, taken, fixed}
+use Rattle.asm_operands.specs.Operands.{PartialWord, mask_of, placed, with_field, agrees, partial_with, partial_after, taken_on, taken}
+use Rattle.asm_operands.specs.Operands.{fixed}
 use Rattle.asm_operands.specs.Operands.{word_in, shapes_of, first_of_words, first_word, is_distance, names, is_name_token, target_in}
 use Rattle.asm_operands.specs.Operands.{target_of, if_meant, word_said, operand_fault, OperandsSaid, Says, Fails, said_or, operands_said}
 use Rattle.asm_operands.specs.Distances.{with_distance}

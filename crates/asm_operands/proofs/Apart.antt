@@ -1,5 +1,6 @@
 -- Shapes that no tokens of another shape are taken by.
-use Rattle.std.proofs.Common.{◌≡◌, ℕ, ◌+◌, ◌-◌, ◌*◌, ◌/◌, ◌%◌, ◌^◌, ◌<◌, ◌≤◌, ◌==◌, ◌&&◌, ◌||◌, not, Bool, true, false, nat_lt, nat_le, bit_and, List}
+use Rattle.std.proofs.Common.{◌≡◌, ℕ, ◌+◌, ◌-◌, ◌*◌, ◌/◌, ◌%◌, ◌^◌, ◌<◌, ◌≤◌, ◌==◌, ◌&&◌, ◌||◌, not, Bool, true, false, nat_lt, nat_le}
+use Rattle.std.proofs.Common.{bit_and, List}
 use Rattle.std.proofs.Common.{[], ◌∷◌, map, Option, Some, None, cond, refl, ap, ◌∙◌, arith, inl, inr, ltb-true, leb-true}
 use Rattle.std.specs.Prelude.{bit_or, option_map, bit_xor}
 use Rattle.std.specs.List.{list_all}
@@ -16,7 +17,8 @@ use Rattle.insn_text.specs.Texts.{bits_of, field_in, items_of, mask_in, is_posit
 use Rattle.insn_text.specs.Rules.{is_within, meets, is_sayable}
 use Rattle.asm_tokens.specs.declared.token.Token.TheVariants.{Register, Keyword, Number, Distance, Punctuation, Other}
 use Rattle.asm_tokens.specs.declared.token.Token.TheVariants.{Sized, Bare}
-use Rattle.asm_operands.specs.Fields.{on_punctuation, on_keyword, on_register, on_number, on_target, keyword_field, same_file, register_field}
+use Rattle.asm_operands.specs.Fields.{on_punctuation, on_keyword, on_register, on_number, on_target, keyword_field, same_file}
+use Rattle.asm_operands.specs.Fields.{register_field}
 use Rattle.asm_operands.specs.Fields.{last_field, field_said, on_sized, on_bare, on_pattern, same_vector_file, sized_field}
 use Rattle.asm_operands.specs.Fields.{slice_field, pattern_after, pattern_of_keyword}
 use Rattle.asm_operands.specs.Operands.{PartialWord, partial_with, partial_after, taken_on, taken, fixed, word_in, mask_of}

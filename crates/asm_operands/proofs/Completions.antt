@@ -26,8 +26,10 @@ use Rattle.asm_tokens.specs.declared.token.Token.{Token}
 use Rattle.asm_operands.specs.Fields.{field_said}
 use Rattle.asm_operands.specs.Shown.{token_said}
 use Rattle.asm_operands.specs.Sound.{is_free}
-use Rattle.asm_operands.specs.Operands.{PartialWord, mask_of, placed, with_field, agrees, partial_with, partial_after, taken_on, taken, count_on}
-use Rattle.asm_operands.specs.Operands.{taken_count, fixed, word_in, taken_count_in, shapes_of, first_of_words, first_word, furthest, is_number_kind}
+use Rattle.asm_operands.specs.Operands.{PartialWord, mask_of, placed, with_field, agrees, partial_with, partial_after, taken_on, taken}
+use Rattle.asm_operands.specs.Operands.{count_on}
+use Rattle.asm_operands.specs.Operands.{taken_count, fixed, word_in, taken_count_in, shapes_of, first_of_words, first_word, furthest}
+use Rattle.asm_operands.specs.Operands.{is_number_kind}
 use Rattle.asm_operands.specs.Operands.{is_number_item, wants_number}
 use Rattle.asm_operands.proofs.Bare.{free}
 use Rattle.asm_operands.proofs.PrintedTokens.{said-heard}

@@ -5,7 +5,8 @@ use Rattle.asm_tokens.specs.declared.token.Token.{Token}
 use Rattle.insn_text.specs.declared.item.Item.{Item}
 use Rattle.insn_text.specs.declared.item.Shape.{Shape}
 use Rattle.insn_text.specs.Texts.{items_of}
-use Rattle.asm_operands.specs.Operands.{PartialWord, partial_after, taken_on, taken, count_on, taken_count, fixed, word_in, taken_count_in, shapes_of}
+use Rattle.asm_operands.specs.Operands.{PartialWord, partial_after, taken_on, taken, count_on, taken_count, fixed, word_in, taken_count_in}
+use Rattle.asm_operands.specs.Operands.{shapes_of}
 use Rattle.asm_operands.specs.Operands.{first_of_words, first_word, furthest}
 
 stop_on : (is : List Item) (ts rest : List Token) (m : ℕ)

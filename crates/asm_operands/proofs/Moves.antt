@@ -22,10 +22,12 @@ use Rattle.insn_text.specs.Texts.{text_in, bits_of, items_in, items_of}
 use Rattle.insn_text.specs.Rules.{meets}
 use Rattle.asm_tokens.specs.declared.token.Token.{Token}
 use Rattle.asm_tokens.specs.declared.token.Token.TheVariants.{Register, Number, Punctuation}
-use Rattle.asm_operands.specs.Fields.{on_punctuation, on_register, on_number, on_keyword, register_field, same_file, inverted_if, halfword_field}
+use Rattle.asm_operands.specs.Fields.{on_punctuation, on_register, on_number, on_keyword, register_field, same_file, inverted_if}
+use Rattle.asm_operands.specs.Fields.{halfword_field}
 use Rattle.asm_operands.specs.Fields.{mask_field}
 use Rattle.asm_operands.specs.Fields.{immediate_of, field_said}
-use Rattle.asm_operands.specs.Operands.{PartialWord, mask_of, placed, with_field, agrees, partial_with, partial_after, taken_on, taken, fixed}
+use Rattle.asm_operands.specs.Operands.{PartialWord, mask_of, placed, with_field, agrees, partial_with, partial_after, taken_on, taken}
+use Rattle.asm_operands.specs.Operands.{fixed}
 use Rattle.asm_operands.specs.Operands.{word_in}
 use Rattle.asm_operands.specs.Operands.{shapes_of, first_of_words, first_word}
 use Rattle.asm_operands.specs.Moves.{index_of, file_of, move_tokens, movz, movn, orr, halfword_index, mask_index, word_with, moved}

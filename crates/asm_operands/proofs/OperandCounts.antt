@@ -9,7 +9,8 @@ use Rattle.insn_text.specs.declared.item.Item.{Item}
 use Rattle.insn_text.specs.declared.item.Shape.{Shape}
 use Rattle.insn_text.specs.Texts.{items_in, items_of}
 use Rattle.asm_tokens.specs.declared.token.Token.{Token}
-use Rattle.asm_operands.specs.Operands.{PartialWord, partial_after, taken_on, taken, count_on, taken_count, fixed, word_in, taken_count_in, shapes_of}
+use Rattle.asm_operands.specs.Operands.{PartialWord, partial_after, taken_on, taken, count_on, taken_count, fixed, word_in, taken_count_in}
+use Rattle.asm_operands.specs.Operands.{shapes_of}
 use Rattle.asm_operands.specs.Operands.{first_of_words, first_word, furthest, is_number_item, wants_number, is_whole, kind_at, Fault}
 use Rattle.asm_operands.specs.Operands.{operand_fault, names, target_in, target_of, if_meant, word_said, said_or, Fails, operands_said}
 use Rattle.asm_operands.proofs.Tables.{all-take, all-drop}

@@ -10,7 +10,8 @@ use Rattle.insn_text.specs.declared.item.Shape.{Shape}
 use Rattle.insn_text.specs.Texts.{bits_of, field_in, items_of}
 use Rattle.insn_text.specs.Rules.{is_within, meets, is_sayable}
 use Rattle.asm_operands.specs.Fields.{field_said}
-use Rattle.asm_operands.specs.Operands.{PartialWord, mask_of, placed, with_field, agrees, partial_with, partial_after, taken_on, taken, fixed}
+use Rattle.asm_operands.specs.Operands.{PartialWord, mask_of, placed, with_field, agrees, partial_with, partial_after, taken_on, taken}
+use Rattle.asm_operands.specs.Operands.{fixed}
 use Rattle.asm_operands.specs.Operands.{word_in}
 use Rattle.asm_operands.specs.Shown.{item_token, tokens_shown}
 use Rattle.insn_forms.proofs.Bits.{or_of_ands, field_in-lt, placed-field}

@@ -29,7 +29,8 @@ use Rattle.asm_operands.proofs.Failing.{failing_below, none-below}
 use Rattle.asm_operands.proofs.WordBits.{has_register, covers}
 use Rattle.asm_operands.proofs.PrintedTokens.{is_printed_kind}
 use Rattle.asm_operands.proofs.OwnTokens.{is_printed_item, says_rest, word-shown}
-use Rattle.asm_operands.proofs.Apart.{is_said_by_punctuation, is_said_by_number, is_said_by_distance, is_said_by_register, is_apart_from_words}
+use Rattle.asm_operands.proofs.Apart.{is_said_by_punctuation, is_said_by_number, is_said_by_distance, is_said_by_register}
+use Rattle.asm_operands.proofs.Apart.{is_apart_from_words}
 use Rattle.asm_operands.proofs.Apart.{is_said_by_bare, is_apart_from_sized, kinds_apart, apart, shapes-apart}
 
 -- ---- the table

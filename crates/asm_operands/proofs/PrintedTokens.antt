@@ -1,5 +1,6 @@
 -- A token that is printed says the field that it is printed for.
-use Rattle.std.proofs.Common.{◌≡◌, ℕ, zero, suc, ◌+◌, ◌-◌, ◌*◌, ◌/◌, ◌%◌, ◌^◌, ◌<◌, ◌≤◌, ◌==◌, ◌&&◌, ◌||◌, not, Bool, true, false, nat_lt, nat_le}
+use Rattle.std.proofs.Common.{◌≡◌, ℕ, zero, suc, ◌+◌, ◌-◌, ◌*◌, ◌/◌, ◌%◌, ◌^◌, ◌<◌, ◌≤◌, ◌==◌, ◌&&◌, ◌||◌, not, Bool, true, false, nat_lt}
+use Rattle.std.proofs.Common.{nat_le}
 use Rattle.std.proofs.Common.{Some, None, cond, refl, sym, ap, ap₂, ◌∙◌, subst, arith, inl, inr, eqb-true, eq-eqb, lt-ltb, ltb-true, le-leb}
 use Rattle.std.proofs.Common.{leb-true, mod-eq_of_lt}
 use Rattle.std.proofs.lemmas.Bool.{and_parts, cases_lt, le-ltb}
@@ -17,7 +18,8 @@ use Rattle.insn_text.specs.declared.item.Kind.TheVariants as kind
 use Rattle.insn_text.specs.Texts.{is_positive, size_of, mask_in, is_named_pattern, pattern_index}
 use Rattle.insn_text.specs.Wordings.{file_number}
 use Rattle.insn_text.specs.Rules.{is_within}
-use Rattle.asm_operands.specs.Fields.{on_punctuation, on_keyword, on_register, on_number, on_target, keyword_field, same_file, register_field}
+use Rattle.asm_operands.specs.Fields.{on_punctuation, on_keyword, on_register, on_number, on_target, keyword_field, same_file}
+use Rattle.asm_operands.specs.Fields.{register_field}
 use Rattle.asm_operands.specs.Fields.{last_field, unsigned_field, signed_field, mask_field, field_said}
 use Rattle.asm_operands.specs.Fields.{on_sized, on_bare, on_pattern, same_vector_file, sized_field, slice_field, index_field}
 use Rattle.asm_operands.specs.Fields.{pattern_after, pattern_of_keyword, pattern_of_number, descending_field}

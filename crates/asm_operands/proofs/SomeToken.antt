@@ -21,7 +21,8 @@ use Rattle.asm_tokens.specs.Tokens.{is_number_token}
 use Rattle.asm_tokens.specs.declared.token.Token.{Token}
 use Rattle.asm_tokens.specs.declared.token.Token.TheVariants.{Register, Keyword, Name, Number, Distance, Punctuation}
 use Rattle.asm_tokens.specs.declared.token.Token.TheVariants.{Sized, Bare}
-use Rattle.asm_operands.specs.Fields.{is_field_of, on_punctuation, on_keyword, on_register, on_number, on_target, keyword_field, unsigned_field}
+use Rattle.asm_operands.specs.Fields.{is_field_of, on_punctuation, on_keyword, on_register, on_number, on_target, keyword_field}
+use Rattle.asm_operands.specs.Fields.{unsigned_field}
 use Rattle.asm_operands.specs.Fields.{signed_field, mask_field, immediate_of, shift_left_field, is_halfword_at, halfword_field, inverted_if}
 use Rattle.asm_operands.specs.Fields.{on_sized, on_bare, on_pattern, same_file, same_vector_file, sized_field, slice_field, index_field}
 use Rattle.asm_operands.specs.Fields.{pattern_of_number, descending_field, field_said}

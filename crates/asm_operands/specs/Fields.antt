@@ -15,7 +15,8 @@ use Rattle.insn_text.specs.declared.item.Kind.TheVariants as kind
 use Rattle.insn_text.specs.Texts.{mask_in, is_named_pattern}
 use Rattle.insn_text.specs.Wordings.{file_number}
 use Rattle.asm_tokens.specs.declared.token.Token.{Token}
-use Rattle.asm_tokens.specs.declared.token.Token.TheVariants.{Register, Keyword, Name, Number, Distance, Punctuation}
+use Rattle.asm_tokens.specs.declared.token.Token.TheVariants.{Register, Keyword, Name, Number, Distance}
+use Rattle.asm_tokens.specs.declared.token.Token.TheVariants.{Punctuation}
 use Rattle.asm_tokens.specs.declared.token.Token.TheVariants.{Sized, Bare}
 
 -- ---- tokens of each sort

@@ -1,6 +1,7 @@
 -- The tokens in which the operands of a word are printed.
 -- Source: DDI 0487, C1.2, C6.2 and C8.2.
-use Rattle.std.specs.Prelude.{ℕ, ◌+◌, ◌-◌, ◌*◌, ◌/◌, ◌%◌, ◌^◌, ◌==◌, if◌then◌else◌, false, not, List, map, Option, Some, None}
+use Rattle.std.specs.Prelude.{ℕ, ◌+◌, ◌-◌, ◌*◌, ◌/◌, ◌%◌, ◌^◌, ◌==◌, if◌then◌else◌, false, not, List, map}
+use Rattle.std.specs.Prelude.{Option, Some, None}
 use Rattle.insn_text.specs.declared.item.Kind.{Kind}
 use Rattle.insn_text.specs.declared.item.Kind.TheVariants as kind
 use Rattle.insn_text.specs.declared.item.Item.{Item}
@@ -9,7 +10,8 @@ use Rattle.insn_text.specs.Texts.{bits_of, field_in, items_of, is_positive, size
 use Rattle.insn_text.specs.Texts.{is_named_pattern, pattern_index}
 use Rattle.insn_text.specs.declared.item.RegisterFile.TheVariants.{W}
 use Rattle.asm_tokens.specs.declared.token.Token.{Token}
-use Rattle.asm_tokens.specs.declared.token.Token.TheVariants.{Register, Keyword, Number, Distance, Punctuation, Other}
+use Rattle.asm_tokens.specs.declared.token.Token.TheVariants.{Register, Keyword, Number, Distance}
+use Rattle.asm_tokens.specs.declared.token.Token.TheVariants.{Punctuation, Other}
 use Rattle.asm_tokens.specs.declared.token.Token.TheVariants.{Sized, Bare}
 
 -- the token of a mask, if the fields have one

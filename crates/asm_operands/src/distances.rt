@@ -1,4 +1,10 @@
 //! A word with a distance in the field of its last operand.
+#![tactic(auto, unfolding(
+// The word with another distance.
+crate::specs::Distances::with_distance,
+// The field that holds it.
+crate::specs::Sound::is_sound, insn_forms::specs::Fields::is_field))]
+
 ghost use Rattle.std.specs.Prelude.{◌≡◌, true};
 ghost use Rattle.asm_operands.specs.Distances as distances;
 ghost use Rattle.asm_operands.specs.Sound.{is_sound};
@@ -21,7 +27,6 @@ pub fn unit_of(kind: Kind) -> u16
 
 /// A word whose operand has the distance 0, with a distance of so many bytes, forward or back; `None`
 /// exactly where the operand does not hold it.
-#[tactic(auto, unfolding(crate::specs::Distances::with_distance, crate::specs::Sound::is_sound, insn_forms::specs::Fields::is_field))]
 pub fn with_distance(operand: &Item, word: u32, back: bool, size: u64) -> Option<u32>
     requires { is_sound operand.now ≡ true }
     ensures { result ≡ distances.with_distance operand.now word back size }

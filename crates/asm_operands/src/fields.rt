@@ -1,10 +1,20 @@
 //! The number of a field that a token says.
+#![tactic(auto, unfolding(
+// What a token says of a field, whose factor is not 0.
+crate::specs::Fields::field_said, crate::specs::Sound::has_factor,
+// By the token: punctuation, words and registers.
+crate::specs::Fields::on_punctuation, crate::specs::Fields::on_keyword, crate::specs::Fields::on_register,
+// Registers with a size, numbers and distances.
+crate::specs::Fields::on_sized, crate::specs::Fields::on_number, crate::specs::Fields::on_target,
+// Numbers without `#`, and patterns.
+crate::specs::Fields::on_bare, crate::specs::Fields::on_pattern))]
 
 ghost use Rattle.std.specs.Prelude.{ℕ, ◌≡◌, ◌+◌, ◌-◌, ◌*◌, ◌<◌, ◌^◌, ◌==◌, ◌&&◌, ◌≤◌, true, Option, IfSome};
 ghost use Rattle.std.specs.Prelude.{IsTrue, bit_xor, option_map, option_and_then, None, if◌then◌else◌};
 ghost use Rattle.std.specs.List.{find, range_with_len};
 ghost use Rattle.bit_ops.specs.Bits.{width_of};
-ghost use Rattle.asm_tokens.specs.declared.token.Token.TheVariants.{Register, Keyword, Name, Number, Distance};
+ghost use Rattle.asm_tokens.specs.declared.token.Token.TheVariants.{Register, Keyword, Name, Number};
+ghost use Rattle.asm_tokens.specs.declared.token.Token.TheVariants.{Distance};
 ghost use Rattle.asm_tokens.specs.declared.token.Token.TheVariants.{Punctuation, Sized, Bare};
 ghost use Rattle.asm_operands.specs.Fields.{keyword_field, same_file, register_field, last_field};
 ghost use Rattle.asm_operands.specs.Fields.{unsigned_field, signed_field, mask_field, immediate_of};
@@ -391,7 +401,6 @@ fn opposite_field(first: u16, count: u16, index: u16) -> Option<u32>
 
 /// The number of a field of so many bits that a number says.
 #[inline(always)]
-#[tactic(auto, unfolding(crate::specs::Fields::field_said, crate::specs::Fields::on_punctuation, crate::specs::Fields::on_keyword, crate::specs::Fields::on_register, crate::specs::Fields::on_number, crate::specs::Fields::on_target, crate::specs::Fields::on_sized, crate::specs::Fields::on_bare, crate::specs::Fields::on_pattern, crate::specs::Sound::has_factor))]
 fn number_said(kind: Kind, bits: u32, negative: bool, size: u64) -> Option<u32>
     requires few { bits < 32 }
     requires factor { has_factor kind bits ≡ true }
@@ -419,7 +428,6 @@ fn number_said(kind: Kind, bits: u32, negative: bool, size: u64) -> Option<u32>
 
 /// The number of a field that the keyword of an index says: any name stands for a distance.
 #[inline(always)]
-#[tactic(auto, unfolding(crate::specs::Fields::field_said, crate::specs::Fields::on_punctuation, crate::specs::Fields::on_keyword, crate::specs::Fields::on_register, crate::specs::Fields::on_number, crate::specs::Fields::on_target, crate::specs::Fields::on_sized, crate::specs::Fields::on_bare, crate::specs::Fields::on_pattern))]
 fn keyword_said(kind: Kind, index: u16) -> Option<u32>
     ensures { (bits : ℕ) → result ≡ field_said kind bits (Keyword index) }
 {
@@ -445,7 +453,6 @@ fn keyword_said(kind: Kind, index: u16) -> Option<u32>
 
 /// The number of a field that a register says: any name stands for a distance.
 #[inline(always)]
-#[tactic(auto, unfolding(crate::specs::Fields::field_said, crate::specs::Fields::on_punctuation, crate::specs::Fields::on_keyword, crate::specs::Fields::on_register, crate::specs::Fields::on_number, crate::specs::Fields::on_target, crate::specs::Fields::on_sized, crate::specs::Fields::on_bare, crate::specs::Fields::on_pattern))]
 fn register_said(kind: Kind, bits: u32, file: RegisterFile, number: u8) -> Option<u32>
     requires { bits < 32 }
     ensures { result ≡ field_said kind bits (Register file number) }
@@ -460,7 +467,6 @@ fn register_said(kind: Kind, bits: u32, file: RegisterFile, number: u8) -> Optio
 
 /// The number of a field of so many bits that a register with a size says: any name stands for a distance.
 #[inline(always)]
-#[tactic(auto, unfolding(crate::specs::Fields::field_said, crate::specs::Fields::on_punctuation, crate::specs::Fields::on_keyword, crate::specs::Fields::on_register, crate::specs::Fields::on_number, crate::specs::Fields::on_target, crate::specs::Fields::on_sized, crate::specs::Fields::on_bare, crate::specs::Fields::on_pattern, crate::specs::Sound::has_factor))]
 fn sized_said(kind: Kind, bits: u32, file: VectorFile, number: u8, suffix: u16) -> Option<u32>
     requires few { bits < 32 }
     requires factor { has_factor kind bits ≡ true }
@@ -478,7 +484,6 @@ fn sized_said(kind: Kind, bits: u32, file: VectorFile, number: u8, suffix: u16) 
 }
 
 /// The number of a field of so many bits that a number without `#` says.
-#[tactic(auto, unfolding(crate::specs::Fields::field_said, crate::specs::Fields::on_punctuation, crate::specs::Fields::on_keyword, crate::specs::Fields::on_register, crate::specs::Fields::on_number, crate::specs::Fields::on_target, crate::specs::Fields::on_sized, crate::specs::Fields::on_bare, crate::specs::Fields::on_pattern))]
 fn bare_said(kind: Kind, bits: u32, size: u64) -> Option<u32>
     requires { bits < 32 }
     ensures { result ≡ field_said kind bits (Bare size) }
@@ -490,7 +495,6 @@ fn bare_said(kind: Kind, bits: u32, size: u64) -> Option<u32>
 }
 
 /// The number of a field that a name says that is no keyword: any stands for a distance.
-#[tactic(auto, unfolding(crate::specs::Fields::field_said, crate::specs::Fields::on_punctuation, crate::specs::Fields::on_keyword, crate::specs::Fields::on_register, crate::specs::Fields::on_number, crate::specs::Fields::on_target, crate::specs::Fields::on_sized, crate::specs::Fields::on_bare, crate::specs::Fields::on_pattern))]
 fn name_said(kind: Kind) -> Option<u32>
     ensures { (bits : ℕ) → result ≡ field_said kind bits Name }
 {
@@ -501,7 +505,6 @@ fn name_said(kind: Kind) -> Option<u32>
 }
 
 /// The number of a field of so many bits that a distance says.
-#[tactic(auto, unfolding(crate::specs::Fields::field_said, crate::specs::Fields::on_punctuation, crate::specs::Fields::on_keyword, crate::specs::Fields::on_register, crate::specs::Fields::on_number, crate::specs::Fields::on_target, crate::specs::Fields::on_sized, crate::specs::Fields::on_bare, crate::specs::Fields::on_pattern, crate::specs::Sound::has_factor))]
 fn distance_said(kind: Kind, bits: u32, back: bool, size: u64) -> Option<u32>
     requires few { bits < 32 }
     requires factor { has_factor kind bits ≡ true }
@@ -515,7 +518,6 @@ fn distance_said(kind: Kind, bits: u32, back: bool, size: u64) -> Option<u32>
 
 /// The number of a field that punctuation says: 0 where it is the one.
 #[inline(always)]
-#[tactic(auto, unfolding(crate::specs::Fields::field_said, crate::specs::Fields::on_punctuation, crate::specs::Fields::on_keyword, crate::specs::Fields::on_register, crate::specs::Fields::on_number, crate::specs::Fields::on_target, crate::specs::Fields::on_sized, crate::specs::Fields::on_bare, crate::specs::Fields::on_pattern))]
 fn punctuation_said(kind: Kind, character: u8) -> Option<u32>
     ensures { (bits : ℕ) → result ≡ field_said kind bits (Punctuation character) }
 {
@@ -527,7 +529,6 @@ fn punctuation_said(kind: Kind, character: u8) -> Option<u32>
 
 /// The number of a field of so many bits that the token says.
 #[inline(always)]
-#[tactic(auto, unfolding(crate::specs::Fields::field_said, crate::specs::Fields::on_punctuation, crate::specs::Fields::on_keyword, crate::specs::Fields::on_register, crate::specs::Fields::on_number, crate::specs::Fields::on_target, crate::specs::Fields::on_sized, crate::specs::Fields::on_bare, crate::specs::Fields::on_pattern, crate::specs::Sound::has_factor))]
 pub(crate) fn field_said(kind: Kind, bits: u32, token: Token) -> Option<u32>
     requires few { bits < 32 }
     requires factor { has_factor kind bits ≡ true }

@@ -98,7 +98,11 @@ impl PartialWord {
     /// What is known with a field, where it agrees with what is known and meets the operand's rule: the
     /// same for an operand that holds none and has no rule, as punctuation.
     #[inline(always)]
-    #[tactic(auto, unfolding(crate::specs::Operands::partial_with, crate::specs::Operands::agrees, crate::specs::Operands::with_field))]
+    #[tactic(auto, unfolding(
+    // The word with a field.
+    crate::specs::Operands::partial_with, crate::specs::Operands::with_field,
+    // Where it agrees with what is known.
+    crate::specs::Operands::agrees))]
     fn with(self, item: &Item, field: u32) -> Option<PartialWord>
         requires { is_field item.now.field ≡ true }
         ensures { option_map partial_of result ≡ partial_with item.now (partial_of self) (Some field) }
@@ -121,7 +125,11 @@ impl PartialWord {
 
     /// What is known once the token is read as an operand.
     #[inline(always)]
-    #[tactic(auto, unfolding(crate::specs::Operands::partial_after, crate::specs::Operands::partial_with, crate::specs::Sound::is_sound))]
+    #[tactic(auto, unfolding(
+    // The word after a token.
+    crate::specs::Operands::partial_after, crate::specs::Operands::partial_with,
+    // The field of a sound operand.
+    crate::specs::Sound::is_sound))]
     pub(crate) fn after(self, item: &Item, token: Token) -> Option<PartialWord>
         requires { is_sound item.now ≡ true }
         ensures { option_map partial_of result ≡ partial_after item.now (partial_of self) token }

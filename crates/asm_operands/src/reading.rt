@@ -86,9 +86,11 @@ fn is_instruction(word: u32) -> bool
     decode(word).is_some()
 }
 
+#[tactic(auto, unfolding(
+// What the tokens say, and the word that it means.
+crate::specs::Operands::operands_said, crate::specs::Operands::word_said, crate::specs::Operands::if_meant))]
 /// What the tokens after a mnemonic say: the word, with the token that names its target, or the first fault;
 /// `mnemonic` is an index in `insn_text::MNEMONICS`.
-#[tactic(auto, unfolding(crate::specs::Operands::operands_said, crate::specs::Operands::word_said, crate::specs::Operands::if_meant))]
 pub fn read_operands(mnemonic: u16, tokens: &[Token]) -> Result<Operands, OperandFault>
     ensures { said_by result ≡ operands_said mnemonic tokens.now }
 {
