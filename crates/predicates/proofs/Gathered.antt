@@ -1,6 +1,7 @@
 -- Predicates that are gathered from marks.
 use Rattle.std.proofs.Common.{◌≡◌, if◌then◌else◌, ℕ, zero, suc, ◌+◌, ◌-◌, ◌*◌, ◌/◌, ◌%◌, ◌^◌, ◌<◌, ◌≤◌, min, ◌∙◌, sym, ap, ap₂, arith}
-use Rattle.std.proofs.Common.{◌==◌, ◌&&◌, Bool, true, false, List, [], ◌∷◌, ◌++◌, length, map, take, drop, refl, cond, bit_and, slice_index, replicate, subst, get_or, eqb, w8, get_or-take, set, slice_set, get_or-set_same, get_or-set_other, ◌≢◌}
+use Rattle.std.proofs.Common.{◌==◌, ◌&&◌, Bool, true, false, List, [], ◌∷◌, ◌++◌, length, map, take, drop, refl, cond, bit_and, slice_index}
+use Rattle.std.proofs.Common.{replicate, subst, get_or, eqb, w8, get_or-take, set, slice_set, get_or-set_same, get_or-set_other, ◌≢◌}
 use Rattle.std.proofs.Common.{inl, inr, mod-eq_of_lt}
 use Rattle.std.specs.Int.{bit_at}
 use Rattle.std.specs.Simd.Lanes.{digits_l, mask_l, chunk, zip2, top}
