@@ -81,7 +81,8 @@ no_number true S = refl
 no_number true D = refl
 no_number false size = refl
 
-kept_number : (b signed : Bool) (size : Size) (x : ℕ) → number_of signed size (if b then x else 0) ≡ (if b then number_of signed size x else pos 0)
+kept_number : (b signed : Bool) (size : Size) (x : ℕ) → number_of signed size (if b then x else 0)
+    ≡ (if b then number_of signed size x else pos 0)
 kept_number true signed size x = refl
 kept_number false signed size x = no_number signed size
 
@@ -103,16 +104,19 @@ module _ (size : Size) (s : Source) (bytes : AreBytes s.vector) where
       element_written size s.vector (λ k old. if is_active (bytes_in size) s.predicate k then old else 0) i below (fits i)
     where
       fits : (i : ℕ) → kept i < range_of size
-      fits i = kept_fits (is_source_active size s i) _ _ (subst (λ m. element_of (bytes_in size) s.vector i < m) (values_of size) (element_fits (bytes_in size) s.vector i bytes))
+      fits i = kept_fits (is_source_active size s i) _ _
+          (subst (λ m. element_of (bytes_in size) s.vector i < m) (values_of size) (element_fits (bytes_in size) s.vector i bytes))
 
   pub active_fits : (i : ℕ) → i < length s.vector / bytes_in size → element_of (bytes_in size) active_bytes i < range_of size
   unfolding kept
   active_fits i below =
       subst (λ x. x < range_of size) (sym (kept_is i below))
-      (kept_fits (is_source_active size s i) _ _ (subst (λ m. element_of (bytes_in size) s.vector i < m) (values_of size) (element_fits (bytes_in size) s.vector i bytes)))
+      (kept_fits (is_source_active size s i) _ _
+      (subst (λ m. element_of (bytes_in size) s.vector i < m) (values_of size) (element_fits (bytes_in size) s.vector i bytes)))
 
   pub active_is : (i : ℕ) → i < length s.vector / bytes_in size
       → number_of s.signed size (element_of (bytes_in size) active_bytes i) ≡ active_number size s i
   unfolding kept
   active_is i below =
-      ap (number_of s.signed size) (kept_is i below) ∙ kept_number (is_source_active size s i) s.signed size (element_of (bytes_in size) s.vector i)
+      ap (number_of s.signed size) (kept_is i below) ∙ kept_number (is_source_active size s i) s.signed size
+      (element_of (bytes_in size) s.vector i)

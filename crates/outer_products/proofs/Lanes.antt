@@ -17,7 +17,8 @@ sum w x y = (x + y) % 2 ^ bits w
 product_is : (wide w : Width) (a b : ℤ) → FitsSigned w a → FitsSigned w b → FitsSigned wide a → FitsSigned wide b
     → to_z wide (product wide w a b) ≡ int_wrap wide (a *ℤ b)
 product_is wide w a b fa fb ga gb =
-    ap₂ (λ x y. to_z wide ((of_z wide x * of_z wide y) % 2 ^ bits wide)) (to_z-of_z w a fa) (to_z-of_z w b fb) ∙ wrapping_mul_is wide a b ga gb
+    ap₂ (λ x y. to_z wide ((of_z wide x * of_z wide y) % 2 ^ bits wide)) (to_z-of_z w a fa) (to_z-of_z w b fb)
+    ∙ wrapping_mul_is wide a b ga gb
 
 added : (w : Width) (x y : ℕ) (p q : ℤ) → x < 2 ^ bits w → y < 2 ^ bits w
     → to_z w x ≡ int_wrap w p → to_z w y ≡ int_wrap w q → to_z w (sum w x y) ≡ int_wrap w (p +ℤ q)
@@ -64,7 +65,8 @@ pub word_dot : (n m : List ℤ) → AllFit w16 n → AllFit w16 m → (c j0 j1 j
     ≡ int_wrap w32 (dot_at n m c)
 unfolding dot_at
 word_dot n m a b c j0 j1 j2 j3 e0 e1 e2 e3 =
-    rw (e0, e1, e2, e3) (word_lane (number n 0) (number m (4 * c)) (number n 1) (number m (4 * c + 1)) (number n 2) (number m (4 * c + 2)) (number n 3) (number m (4 * c + 3))
+    rw (e0, e1, e2, e3) (word_lane (number n 0) (number m (4 * c)) (number n 1) (number m (4 * c + 1)) (number n 2) (number m (4 * c + 2))
+    (number n 3) (number m (4 * c + 3))
     (a 0) (b (4 * c)) (a 1) (b (4 * c + 1)) (a 2) (b (4 * c + 2)) (a 3) (b (4 * c + 3)))
 
 pub doubleword_dot : (n m : List ℤ) → AllFit w32 n → AllFit w32 m → (c j0 j1 j2 j3 : ℕ)
@@ -74,7 +76,8 @@ pub doubleword_dot : (n m : List ℤ) → AllFit w32 n → AllFit w32 m → (c j
     ≡ int_wrap w64 (dot_at n m c)
 unfolding dot_at
 doubleword_dot n m a b c j0 j1 j2 j3 e0 e1 e2 e3 =
-    rw (e0, e1, e2, e3) (doubleword_lane (number n 0) (number m (4 * c)) (number n 1) (number m (4 * c + 1)) (number n 2) (number m (4 * c + 2)) (number n 3) (number m (4 * c + 3))
+    rw (e0, e1, e2, e3) (doubleword_lane (number n 0) (number m (4 * c)) (number n 1) (number m (4 * c + 1))
+    (number n 2) (number m (4 * c + 2)) (number n 3) (number m (4 * c + 3))
     (a 0) (b (4 * c)) (a 1) (b (4 * c + 1)) (a 2) (b (4 * c + 2)) (a 3) (b (4 * c + 3)))
 
 pub two_lanes : {A : Type 0} → {a b c d : A} → a ≡ c → b ≡ d → a ∷ b ∷ [] ≡ c ∷ d ∷ []
@@ -99,4 +102,5 @@ pub read_four : (w : Width) (n : List ℤ) (r : ℕ) → AllFit w n
     → to_z w (of_z w (number n (4 * r))) ∷ to_z w (of_z w (number n (4 * r + 1)))
     ∷ to_z w (of_z w (number n (4 * r + 2))) ∷ to_z w (of_z w (number n (4 * r + 3))) ∷ [] ≡ four_of n r
 read_four w n r fit =
-    four_lanes (to_z-of_z w _ (fit (4 * r))) (to_z-of_z w _ (fit (4 * r + 1))) (to_z-of_z w _ (fit (4 * r + 2))) (to_z-of_z w _ (fit (4 * r + 3)))
+    four_lanes (to_z-of_z w _ (fit (4 * r))) (to_z-of_z w _ (fit (4 * r + 1))) (to_z-of_z w _ (fit (4 * r + 2)))
+    (to_z-of_z w _ (fit (4 * r + 3)))

@@ -23,13 +23,15 @@ listed_same f g (suc n) same =
 
 -- two changes that agree on each vector of the array
 tile_same : (e tile : ℕ) (f g : ℕ → List ℕ → List ℕ) (za : List (List ℕ))
-    → ((v : ℕ) → v < length za → f (v / e) (get_or za v []) ≡ g (v / e) (get_or za v [])) → changed_tile e tile f za ≡ changed_tile e tile g za
+    → ((v : ℕ) → v < length za → f (v / e) (get_or za v []) ≡ g (v / e) (get_or za v []))
+    → changed_tile e tile f za ≡ changed_tile e tile g za
 unfolding changed_tile
 tile_same e tile f g za same =
     listed_same _ _ (length za) (λ v below. ap (λ t. if v % e == tile then t else get_or za v []) (same v below))
 
 -- the places of source elements and of rows
-four_places : (halves : Bool) (size r k : ℕ) → k < 4 → r < size / bytes_in (sum_size halves) → 4 * r + k < size / bytes_in (source_size halves)
+four_places : (halves : Bool) (size r k : ℕ) → k < 4 → r < size / bytes_in (sum_size halves)
+    → 4 * r + k < size / bytes_in (source_size halves)
 four_places true size r k four lt = omega (arith, four, lt)
 four_places false size r k four lt = omega (arith, four, lt)
 
@@ -89,13 +91,15 @@ module _ (halves negative : Bool) (n m : Source) (nb : AreBytes n.vector) (mb : 
 
   row_same : AreReady → (r : ℕ) (row : List ℕ) → r < size / bytes_in (sum_size halves) → length row ≡ size
       → row_of_sums (sum_size halves) ns ms r row
-      ≡ each_element (bytes_in (sum_size halves)) row (λ c old. changed (sum_size halves) negative old (sum_of (source_size halves) n m r c))
+      ≡ each_element (bytes_in (sum_size halves)) row (λ c old. changed (sum_size halves) negative old
+      (sum_of (source_size halves) n m r c))
   unfolding row_of_sums
   row_same is r row lt long =
       each_same _ row _ _ (λ c below old. element_same is r c old lt (same_count _ _ (bytes_in (sum_size halves)) c long below))
 
 -- numbers of a source whose elements' size is known
-pub ready : (e : Size) (halves : Bool) (s : Source) (bytes : AreBytes s.vector) (negative : Bool) (active : List ℕ) (xs : List ℤ) → e ≡ source_size halves
+pub ready : (e : Size) (halves : Bool) (s : Source) (bytes : AreBytes s.vector) (negative : Bool) (active : List ℕ) (xs : List ℤ)
+    → e ≡ source_size halves
     → xs ≡ numbers_of e s.signed negative active → active ≡ active_bytes e s bytes
     → xs ≡ numbers_of (source_size halves) s.signed negative (active_bytes (source_size halves) s bytes)
 ready e halves s bytes negative active xs same is from =

@@ -43,16 +43,20 @@ word_sum : (old : ℕ) (z : ℤ) → (old + short_part z) % 2 ^ 32 ≡ wrapped S
 unfolding wrapped
 word_sum old (pos n) = omega arith
 word_sum old (negsuc n) = elim (cases_lt n old) [
-  | inl lt ↦ (let e : (old + (2 ^ 32 - 1 - n % 2 ^ 32)) % 2 ^ 32 ≡ (old - n - 1) % 2 ^ 32 = omega (arith, lt) in e ∙ sym (ap (wrapped S) (above old n lt)))
-  | inr le ↦ (let e : (old + (2 ^ 32 - 1 - n % 2 ^ 32)) % 2 ^ 32 ≡ 2 ^ 32 - 1 - (n - old) % 2 ^ 32 = omega (arith, le) in e ∙ sym (ap (wrapped S) (below old n le)))
+  | inl lt ↦ (let e : (old + (2 ^ 32 - 1 - n % 2 ^ 32)) % 2 ^ 32 ≡ (old - n - 1) % 2 ^ 32 = omega (arith, lt) in
+      e ∙ sym (ap (wrapped S) (above old n lt)))
+  | inr le ↦ (let e : (old + (2 ^ 32 - 1 - n % 2 ^ 32)) % 2 ^ 32 ≡ 2 ^ 32 - 1 - (n - old) % 2 ^ 32 = omega (arith, le) in
+      e ∙ sym (ap (wrapped S) (below old n le)))
 ]
 
 doubleword_sum : (old : ℕ) (z : ℤ) → (old + long_part z) % 2 ^ 64 ≡ wrapped D (pos old +ℤ z)
 unfolding wrapped
 doubleword_sum old (pos n) = omega arith
 doubleword_sum old (negsuc n) = elim (cases_lt n old) [
-  | inl lt ↦ (let e : (old + (2 ^ 64 - 1 - n % 2 ^ 64)) % 2 ^ 64 ≡ (old - n - 1) % 2 ^ 64 = omega (arith, lt) in e ∙ sym (ap (wrapped D) (above old n lt)))
-  | inr le ↦ (let e : (old + (2 ^ 64 - 1 - n % 2 ^ 64)) % 2 ^ 64 ≡ 2 ^ 64 - 1 - (n - old) % 2 ^ 64 = omega (arith, le) in e ∙ sym (ap (wrapped D) (below old n le)))
+  | inl lt ↦ (let e : (old + (2 ^ 64 - 1 - n % 2 ^ 64)) % 2 ^ 64 ≡ (old - n - 1) % 2 ^ 64 = omega (arith, lt) in
+      e ∙ sym (ap (wrapped D) (above old n lt)))
+  | inr le ↦ (let e : (old + (2 ^ 64 - 1 - n % 2 ^ 64)) % 2 ^ 64 ≡ 2 ^ 64 - 1 - (n - old) % 2 ^ 64 = omega (arith, le) in
+      e ∙ sym (ap (wrapped D) (below old n le)))
 ]
 
 -- an element and a sum that wrapped

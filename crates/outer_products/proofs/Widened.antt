@@ -40,7 +40,8 @@ numbers_fit size w fits none signed negative bytes are k =
     elim (cases_lt k n) [
       | inl below ↦
           let small = subst (λ m. x < m) (values_of size) (element_fits (bytes_in size) bytes k are) in
-          subst (FitsSigned w) (sym (listed-at f n k (pos 0) below)) (fits (f k) (negated_within negative _ _ (number_within signed size x small)))
+          subst (FitsSigned w) (sym (listed-at f n k (pos 0) below))
+          (fits (f k) (negated_within negative _ _ (number_within signed size x small)))
       | inr past ↦ subst (FitsSigned w) (sym (get_or_past (listed f n) k (pos 0) (subst (λ m. m ≤ k) (sym (length-listed f n)) past))) none
     ]
 
@@ -55,6 +56,7 @@ module _ (size : Size) (negative : Bool) (s : Source) (bytes : AreBytes s.vector
   pub read_number : (i : ℕ) → i < length s.vector / bytes_in size
       → number (numbers_of size s.signed negative (active_bytes size s bytes)) i ≡ negated negative (active_number size s i)
   read_number i below =
-      listed-at (number_at size s.signed negative (active_bytes size s bytes)) (length (active_bytes size s bytes) / bytes_in size) i (pos 0)
+      listed-at (number_at size s.signed negative (active_bytes size s bytes)) (length (active_bytes size s bytes) / bytes_in size) i
+      (pos 0)
       (subst (λ n. i < n) (sym active_count) below)
       ∙ ap (negated negative) (active_is size s bytes i below)

@@ -57,11 +57,13 @@ summed_more size sums old row new c k is next =
     let all : bytes_of e (listed f (c + k)) ≡ bytes_of e (listed f c) ++ bytes_of e (listed (λ j. f (c + j)) k) =
     ap (bytes_of e) (listed-more f c k) ∙ bytes-append e (listed f c) (listed (λ j. f (c + j)) k) in
     let back = kept e f old c k row is in
-    next ∙ rw (front, same, back, all) (sym (append_assoc (bytes_of e (listed f c)) (bytes_of e (listed (λ j. f (c + j)) k)) (drop (e * (c + k)) old)))
+    next ∙ rw (front, same, back, all) (sym (append_assoc (bytes_of e (listed f c)) (bytes_of e (listed (λ j. f (c + j)) k))
+    (drop (e * (c + k)) old)))
 
 -- a number's digits, of which the low ones are those of a part
 low_digits : (n m x y : ℕ) → x < 256 ^ n → digits_l 256 (n + m) (x + 256 ^ n * y) ≡ digits_l 256 n x ++ digits_l 256 m y
-low_digits zero m x y small = let none : x + 256 ^ 0 * y ≡ y = omega (arith, small) in ap₂ (digits_l 256) (let same : 0 + m ≡ m = omega arith in same) none
+low_digits zero m x y small = let none : x + 256 ^ 0 * y ≡ y = omega (arith, small) in
+    ap₂ (digits_l 256) (let same : 0 + m ≡ m = omega arith in same) none
 low_digits (suc n) m x y small =
     let power = pow-suc 256 n in
     let upper = 256 ^ n * y in
@@ -107,5 +109,6 @@ stored size sums row xs at c k begin all room is =
     let long : length (bytes_of e xs) ≡ 16 = length-bytes e xs ∙ ap (λ n. e * n) count ∙ all in
     let far : e * (c + k) ≡ e * c + e * k = omega arith in
     ap (put_chunk at row) bytes ∙ put_chunk_is at row (bytes_of e xs) (omega (arith, long, room))
-    ∙ ap₂ (λ a b. take a row ++ (bytes_of e xs ++ b)) begin (drop_twice row at (length (bytes_of e xs)) (e * (c + k)) (omega (arith, long, far, all, begin)))
+    ∙ ap₂ (λ a b. take a row ++ (bytes_of e xs ++ b)) begin (drop_twice row at (length (bytes_of e xs)) (e * (c + k))
+    (omega (arith, long, far, all, begin)))
     ∙ ap (λ ys. take (e * c) row ++ (bytes_of e ys ++ drop (e * (c + k)) row)) is

@@ -17,11 +17,15 @@ returns c =
     let mb : AreBytes c.args.zm.now = λ k. (c.type_inv.zm k).fits in
     let n = source kind.n_signed c.args.pn.now c.args.zn.now in
     let m = source kind.m_signed c.args.pm.now c.args.zm.now in
-    let is : c.change_tile.new.za ≡ record za { vectors = changed_tile 8 c.from.result (row_of_sums D _ _) za.vectors } = c.change_tile.ensures in
+    let is : c.change_tile.new.za ≡ record za {
+      vectors = changed_tile 8 c.from.result (row_of_sums D _ _) za.vectors;
+    } = c.change_tile.ensures in
     array_is kind c.args.tile c.args.pn.now c.args.pm.now _ _ nb mb size _ _ D 8 _ za _ is (ap sum_size (sym c.requires.halfwords)) refl
     c.from.ensures c.size-size.ensures.whole c.size-size.ensures.square (record {
       n_long = c.requires.zn;
       m_long = c.requires.zm;
-      n_is = ready H kind.halves n nb kind.subtract _ _ (ap source_size (sym c.requires.halfwords)) c.write_halfwords.ensures.value c.write_active.ensures;
-      m_is = ready H kind.halves m mb false _ _ (ap source_size (sym c.requires.halfwords)) c.write_halfwords-2.ensures.value c.write_active-2.ensures;
+      n_is = ready H kind.halves n nb kind.subtract _ _ (ap source_size (sym c.requires.halfwords)) c.write_halfwords.ensures.value
+          c.write_active.ensures;
+      m_is = ready H kind.halves m mb false _ _ (ap source_size (sym c.requires.halfwords)) c.write_halfwords-2.ensures.value
+          c.write_active-2.ensures;
     })

@@ -28,4 +28,5 @@ returns-clause-value c =
 pub returns-clause-fit : goal.returns-clause-fit
 returns-clause-fit c =
     subst (AllFit w32) (sym (returns-clause-value c))
-    (numbers_fit H w32 halfword_fits (record { sfits = omega arith }) c.args.signed c.args.negative c.args.bytes.now (λ k. (c.type_inv.bytes k).fits))
+    (numbers_fit H w32 halfword_fits (record { sfits = omega arith }) c.args.signed c.args.negative c.args.bytes.now
+    (λ k. (c.type_inv.bytes k).fits))
