@@ -1,7 +1,8 @@
 -- The scalar registers, the vectors and ZA after an instruction of ZA or of the streaming vector length that
 -- accesses no memory, but for PC. S, the streaming vector length in bytes, is the number of vectors of ZA.
 -- Source: DDI 0487, C9.2: ZERO, MOVA, ADDHA, ADDVA, SMOPA to UMOPS, RDSVL, ADDSVL, ADDSPL.
-use Rattle.std.specs.Prelude.{ℕ, ◌/◌, ◌%◌, ◌^◌, ◌==◌, Bool, true, false, if◌then◌else◌, List, length, replicate}
+use Rattle.std.specs.Prelude.{ℕ, ◌/◌, ◌%◌, ◌^◌, ◌==◌, Bool, true, false, if◌then◌else◌, List, length}
+use Rattle.std.specs.Prelude.{replicate}
 use Rattle.sm_types.specs.declared.scalars.Scalars.{Scalars}
 use Rattle.sm_types.specs.declared.insn.Insn.{Insn}
 use Rattle.sm_types.specs.declared.insn.Insn.TheVariants as insn

@@ -1,6 +1,7 @@
 //! The pages of a guest thread.
 ghost use Rattle.std.specs.Prelude.{◌≡◌, ◌≢◌, ℕ, ◌+◌, ◌*◌, ◌/◌, ◌%◌, ◌^◌, ◌<◌, ◌≤◌, ◌↔◌, length, slice_get};
-ghost use Rattle.std.specs.Prelude.{IsSome, IfSome, IfNone, IfOk, IfErr, OnOk, OnErr, Some, None, IsTrue, is_ok};
+ghost use Rattle.std.specs.Prelude.{IsSome, IfSome, IfNone, IfOk, IfErr, OnOk, OnErr, Some, None, IsTrue};
+ghost use Rattle.std.specs.Prelude.{is_ok};
 ghost use Rattle.std.specs.FinMap.{get, entries, len};
 ghost use Rattle.paged_memory.specs.Memory.{IsWhole, with_stack, with_zero_pages, no_memory, bytes_from};
 ghost use Rattle.paged_memory.specs.Memory.{byte_with, bytes_with, first_without, word_at, set_bytes};

@@ -1,5 +1,6 @@
 -- Numbers of lists with one element more.
-use Rattle.std.proofs.Common.{◌≡◌, ℕ, zero, suc, ◌+◌, ◌-◌, ◌*◌, ◌/◌, ◌%◌, ◌^◌, ◌<◌, ◌≤◌, Bool, true, false, if◌then◌else◌, List, [], ◌∷◌, ◌++◌}
+use Rattle.std.proofs.Common.{◌≡◌, ℕ, zero, suc, ◌+◌, ◌-◌, ◌*◌, ◌/◌, ◌%◌, ◌^◌, ◌<◌, ◌≤◌, Bool, true, false, if◌then◌else◌, List, [], ◌∷◌}
+use Rattle.std.proofs.Common.{◌++◌}
 use Rattle.std.proofs.Common.{map, replicate, bit_or, bit_xor, ap, ap₂, append-nil, ◌∙◌, sym, arith, refl, inl, inr}
 use Rattle.std.specs.Prelude.{filter, fold, ℤ, pos, negsuc, ◌+ℤ◌}
 use Rattle.std.specs.List.{range_with_len}

@@ -1,6 +1,7 @@
 //! The operations of reductions, each a type of its own: so each has a loop of its own too.
 ghost use Rattle.std.specs.Prelude.{◌≡◌, ◌-◌, ◌<◌};
-ghost use Rattle.sm_types.specs.declared.vector.ReductionOp.TheVariants.{Saddv, Uaddv, Smaxv, Umaxv, Sminv, Uminv};
+ghost use Rattle.sm_types.specs.declared.vector.ReductionOp.TheVariants.{Saddv, Uaddv, Smaxv, Umaxv, Sminv};
+ghost use Rattle.sm_types.specs.declared.vector.ReductionOp.TheVariants.{Uminv};
 ghost use Rattle.sm_types.specs.declared.vector.ReductionOp.TheVariants.{Orv, Eorv, Andv};
 ghost use Rattle.vector_elements.specs.declared.size.Size.TheVariants.{D};
 ghost use Rattle.vector_elements.specs.Numbers.{range_of, half_of, signed_of, wrapped};

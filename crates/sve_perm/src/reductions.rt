@@ -1,5 +1,6 @@
 //! Reductions of a vector to one number.
-ghost use Rattle.std.specs.Prelude.{◌≡◌, ℕ, ◌+◌, ◌*◌, ◌%◌, ◌≤◌, ◌<◌, List, [], ◌∷◌, ◌++◌, if◌then◌else◌, length};
+ghost use Rattle.std.specs.Prelude.{◌≡◌, ℕ, ◌+◌, ◌*◌, ◌%◌, ◌≤◌, ◌<◌, List, [], ◌∷◌, ◌++◌, if◌then◌else◌};
+ghost use Rattle.std.specs.Prelude.{length};
 ghost use Rattle.vector_elements.specs.declared.size.Size.{Size as ElementSize};
 ghost use Rattle.vector_elements.specs.Numbers.{bytes_in, range_of};
 ghost use Rattle.sve_perm.specs.Active.{active_elements};

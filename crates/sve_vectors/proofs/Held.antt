@@ -1,5 +1,6 @@
 -- Rows, and the registers in them.
-use Rattle.std.proofs.Common.{◌≡◌, ℕ, ◌+◌, ◌<◌, ◌≤◌, ◌/◌, ◌%◌, Bool, true, false, List, [], length, take, set, replicate, get_or, refl, ap, ◌∙◌, sym, inl, inr, arith, Vec, Global}
+use Rattle.std.proofs.Common.{◌≡◌, ℕ, ◌+◌, ◌<◌, ◌≤◌, ◌/◌, ◌%◌, Bool, true, false, List, [], length, take, set, replicate, get_or, refl, ap}
+use Rattle.std.proofs.Common.{◌∙◌, sym, inl, inr, arith, Vec, Global}
 use Rattle.std.proofs.lemmas.List.{get_or-map, length-map, map-set, get_or-set_same, get_or-set_other}
 use Rattle.std.proofs.lemmas.Bool.{cases_eq}
 use Rattle.sm_types.specs.declared.length.VecLen.{VecLen}

@@ -1,5 +1,6 @@
 -- What the registers are once a slice of a row was written.
-use Rattle.std.proofs.Common.{◌≡◌, ℕ, ◌*◌, ◌<◌, ◌≤◌, ◌/◌, Bool, List, [], length, take, map, set, get_or, ap, ◌∙◌, sym, inl, inr, arith, Vec, Global, length-set}
+use Rattle.std.proofs.Common.{◌≡◌, ℕ, ◌*◌, ◌<◌, ◌≤◌, ◌/◌, Bool, List, [], length, take, map, set, get_or, ap, ◌∙◌, sym, inl, inr, arith}
+use Rattle.std.proofs.Common.{Vec, Global, length-set}
 use Rattle.std.specs.Vec.{with_items_from}
 use Rattle.std.proofs.lemmas.Bool.{cases_eq}
 use Rattle.std.proofs.lemmas.List.{get_or-map, length-map, length-take-le, map-set, get_or-set_same, get_or-set_other}

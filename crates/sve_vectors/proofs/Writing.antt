@@ -1,6 +1,8 @@
 -- What is left of a list, of a row and of a register where bytes were written over it.
-use Rattle.std.proofs.Common.{◌≡◌, ℕ, ◌-◌, ◌*◌, ◌<◌, ◌≤◌, ◌/◌, ◌%◌, Bool, false, List, ◌++◌, length, take, drop, replicate, get_or, refl, ap, ◌∙◌, sym, inl, inr, ◌^◌, ◌==◌, arith}
-use Rattle.std.proofs.lemmas.List.{length-take, length-take-le, length-append, length-drop, take-append-le, take_at, same_lists, get_or-take, get_or_append_left, get_or-append_right, get_or-drop, length-replicate, get_or-replicate}
+use Rattle.std.proofs.Common.{◌≡◌, ℕ, ◌-◌, ◌*◌, ◌<◌, ◌≤◌, ◌/◌, ◌%◌, Bool, false, List, ◌++◌, length, take, drop, replicate, get_or, refl}
+use Rattle.std.proofs.Common.{ap, ◌∙◌, sym, inl, inr, ◌^◌, ◌==◌, arith}
+use Rattle.std.proofs.lemmas.List.{length-take, length-take-le, length-append, length-drop, take-append-le, take_at, same_lists}
+use Rattle.std.proofs.lemmas.List.{get_or-take, get_or_append_left, get_or-append_right, get_or-drop, length-replicate, get_or-replicate}
 use Rattle.std.proofs.lemmas.Bool.{cases_lt}
 use Rattle.std.proofs.lemmas.List.FromFn.{length-map-range_with_len, get_or-map-range_with_len}
 use Rattle.std.proofs.Math.Nat.{zero-div}

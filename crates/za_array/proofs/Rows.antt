@@ -2,7 +2,8 @@
 use Rattle.std.proofs.Common.{◌≡◌, ℕ, ◌<◌, List, [], length, set, get_or, replicate, ap, ◌∙◌, sym, inl, inr, arith, Vec, Global, length-set}
 use Rattle.std.specs.Vec.{with_items_from}
 use Rattle.std.proofs.lemmas.Bool.{cases_eq}
-use Rattle.std.proofs.lemmas.List.{get_or_default, get_or-set_same, get_or-set_other, get_or-replicate, length-replicate, same_lists, take_all}
+use Rattle.std.proofs.lemmas.List.{get_or_default, get_or-set_same, get_or-set_other, get_or-replicate, length-replicate, same_lists}
+use Rattle.std.proofs.lemmas.List.{take_all}
 use Rattle.sm_types.specs.declared.length.VecLen.{VecLen}
 use Rattle.sve_vectors.specs.Layout.{items_of, ClearedRows}
 use Rattle.sve_vectors.specs.Lending.{overwritten}

@@ -2,7 +2,8 @@
 -- ZA has as many tiles of such elements as an element has bytes, and each has as many rows, and columns, as a
 -- vector of the array has elements.
 -- Source: DDI 0487, B1.4 (ZA tiles, ZA tile slices), J1.1: ZAtile, ZAhslice, ZAvslice.
-use Rattle.std.specs.Prelude.{ℕ, ◌+◌, ◌*◌, ◌/◌, ◌%◌, ◌==◌, if◌then◌else◌, List, [], length, take, drop, slice_index_or}
+use Rattle.std.specs.Prelude.{ℕ, ◌+◌, ◌*◌, ◌/◌, ◌%◌, ◌==◌, if◌then◌else◌, List, [], length, take, drop}
+use Rattle.std.specs.Prelude.{slice_index_or}
 use Rattle.std.specs.Simd.Lanes.{number_l}
 use Rattle.vector_elements.specs.Elements.{listed}
 
