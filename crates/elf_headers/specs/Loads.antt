@@ -10,7 +10,8 @@ use Rattle.elf_headers.specs.declared.fault.LoadFault.TheVariants.{Overlap, TooM
 use Rattle.elf_headers.specs.declared.program_header.ProgramHeader.{ProgramHeader}
 use Rattle.elf_headers.specs.Below.{first_below, any_below, answers_below}
 use Rattle.sm_types.specs.Checks.{first_fault, fault_when}
-use Rattle.elf_headers.specs.Header.{header_entry, program_header_count, length_fault, kind_fault, table_fault}
+use Rattle.elf_headers.specs.Header.{header_entry, program_header_count, length_fault, kind_fault}
+use Rattle.elf_headers.specs.Header.{table_fault}
 use Rattle.elf_headers.specs.Segments.{segment_of, is_load, segments_fault}
 
 -- program header number i, where it is a load

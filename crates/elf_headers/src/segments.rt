@@ -2,7 +2,8 @@
 ghost use Rattle.std.specs.Prelude.{◌≡◌, ◌+◌, ◌*◌, ◌≤◌, ◌<◌, length};
 ghost use Rattle.elf_headers.specs.Fault.{Tells};
 ghost use Rattle.elf_headers.specs.Header.{program_header_count, HasTable};
-ghost use Rattle.elf_headers.specs.Segments.{program_header_offset, segment_of, program_header, load_fault_of};
+ghost use Rattle.elf_headers.specs.Segments.{program_header_offset, segment_of, program_header};
+ghost use Rattle.elf_headers.specs.Segments.{load_fault_of};
 ghost use Rattle.elf_headers.specs.Segments.{segment_fault, segments_fault};
 
 use crate::elf::{E_PHNUM, E_PHOFF};
@@ -60,8 +61,8 @@ pub fn read_program_header(file: &[u8], index: u16) -> ProgramHeader
     program_header_at(file, program_header_offset(file, index))
 }
 
-/// Checks a load of a file of that size, whose program header is number `index` and stands at an offset in the
-/// file.
+/// Checks a load of a file of that size, whose program header is number `index` and stands at an offset in
+/// the file.
 #[tactic(auto, unfolding(crate::specs::Segments::load_fault_of))]
 fn check_load(size: u64, offset: u64, index: u16, header: &ProgramHeader) -> Result<(), LoadFault>
     ensures { Tells result (load_fault_of size offset index header.now) }

@@ -1,6 +1,7 @@
 -- Mapping symbols: which bytes of a section are code, and which are data.
 -- Source: ELF for the Arm 64-bit Architecture (AArch64), mapping symbols `$x` and `$d`, by name alone.
-use Rattle.std.specs.Prelude.{◌≡◌, ◌<◌, ◌≤◌, length, ℕ, zero, suc, ◌+◌, Bool, true, false, cond, List, [], ◌∷◌}
+use Rattle.std.specs.Prelude.{◌≡◌, ◌<◌, ◌≤◌, length, ℕ, zero, suc, ◌+◌, Bool, true, false, cond, List, []}
+use Rattle.std.specs.Prelude.{◌∷◌}
 use Rattle.std.specs.Prelude.{◌++◌, drop, Option, Some, None, option_map, ◌==◌}
 use Rattle.std.specs.List.{filter_map}
 use Rattle.sm_types.specs.Objects.{name_says, Mapping, governing_mapping, mapping_says_code}
@@ -8,7 +9,8 @@ use Rattle.elf_headers.specs.Below.{answers_below}
 use Rattle.elf_headers.specs.Header.{number_at}
 use Rattle.elf_sections.specs.declared.section.SectionHeader.{SectionHeader}
 use Rattle.elf_sections.specs.declared.mapping_symbols.MappingSymbol.{MappingSymbol}
-use Rattle.elf_sections.specs.Sections.{section_of, section_count, is_symbol_table, symbol_count, symbol_offset}
+use Rattle.elf_sections.specs.Sections.{section_of, section_count, is_symbol_table, symbol_count}
+use Rattle.elf_sections.specs.Sections.{symbol_offset}
 use Rattle.elf_sections.specs.Sections.{strings_of}
 
 -- the bytes before the first zero

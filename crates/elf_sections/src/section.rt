@@ -1,7 +1,8 @@
 //! The section table, its headers, and the checks on it and on each section.
 ghost use Rattle.std.specs.Prelude.{◌≡◌, ◌+◌, ◌*◌, ◌≤◌, ◌<◌, length, OnOk, true};
 ghost use Rattle.elf_headers.specs.Fault.{Tells};
-ghost use Rattle.elf_sections.specs.Sections.{section_header, section_of, section_header_offset, section_count};
+ghost use Rattle.elf_sections.specs.Sections.{section_header, section_of, section_header_offset};
+ghost use Rattle.elf_sections.specs.Sections.{section_count};
 ghost use Rattle.elf_sections.specs.Sections.{section_headers_offset, section_table_fault, is_symbol_table};
 ghost use Rattle.elf_sections.specs.Sections.{is_code_section, has_sections, HasSectionTable};
 ghost use Rattle.elf_sections.specs.Repeats.{is_same_table, repeats_table};
