@@ -1,12 +1,14 @@
 -- The text of a printed word is read as the tokens of its operands.
-use Rattle.std.proofs.Common.{◌≡◌, ℕ, ◌+◌, ◌-◌, ◌*◌, ◌/◌, ◌%◌, ◌^◌, ◌<◌, ◌≤◌, Bool, true, false, not, ◌&&◌, ◌||◌, ◌==◌, nat_lt, nat_le, List, [], ◌∷◌}
+use Rattle.std.proofs.Common.{◌≡◌, ℕ, ◌+◌, ◌-◌, ◌*◌, ◌/◌, ◌%◌, ◌^◌, ◌<◌, ◌≤◌, Bool, true, false, not, ◌&&◌, ◌||◌, ◌==◌, nat_lt, nat_le}
+use Rattle.std.proofs.Common.{List, [], ◌∷◌}
 use Rattle.std.proofs.Common.{◌++◌, Option, Some, None, length, map, cond, refl, sym, ap, ap₂, ◌∙◌, arith, subst, eqb-true, ltb-true}
 use Rattle.std.proofs.Common.{leb-true, lit<, inl, inr}
 use Rattle.std.specs.Prelude.{is_some, decimal}
 use Rattle.std.specs.List.{list_all}
 use Rattle.std.proofs.Math.Nat.{mul-le-mul_right}
 use Rattle.std.proofs.Math.Pow.{pow_mono}
-use Rattle.std.proofs.lemmas.Bool.{and_parts, and_from, cond_both, not-true, not_from_false, or_cases, or_left, or_right, cases_Bool, eqb-false}
+use Rattle.std.proofs.lemmas.Bool.{and_parts, and_from, cond_both, not-true, not_from_false, or_cases, or_left, or_right, cases_Bool}
+use Rattle.std.proofs.lemmas.Bool.{eqb-false}
 use Rattle.bit_ops.specs.Bits.{width_of}
 use Rattle.bit_ops.specs.Masks.{is_reserved, mask_of, bit_mask_of}
 use Rattle.bit_ops.specs.Sums.{bool_number}
@@ -22,7 +24,8 @@ use Rattle.insn_text.specs.declared.item.Shape.{Shape}
 use Rattle.insn_text.specs.declared.shapes.TheConstants.{SHAPES}
 use Rattle.insn_text.specs.declared.keywords.TheConstants.{KEYWORDS, MNEMONICS}
 use Rattle.insn_text.specs.Texts.{text_in, text_at, is_positive, size_of, mask_in, mask_text, signed_text, distance_text, file_text}
-use Rattle.insn_text.specs.Texts.{register_text, kind_text, bits_of, field_in, item_text, is_punctuation, is_comma, gap, items_text, items_in, items_of}
+use Rattle.insn_text.specs.Texts.{register_text, kind_text, bits_of, field_in, item_text, is_punctuation, is_comma, gap, items_text}
+use Rattle.insn_text.specs.Texts.{items_in, items_of}
 use Rattle.insn_text.specs.Texts.{sized_text, is_named_pattern, pattern_index, pattern_text}
 use Rattle.insn_text.specs.Rules.{is_within, meets, is_sayable}
 use Rattle.asm_tokens.specs.declared.token.Token.TheVariants as token
@@ -37,7 +40,8 @@ use Rattle.asm_operands.proofs.Failing.{failing, none-failing}
 use Rattle.insn_forms.proofs.Bits.{field_in-lt}
 use Rattle.asm_parser.proofs.Operands.{tokens_of}
 use Rattle.asm_parser.proofs.Reading.{opens, no_slash, IsRead, lexemes-read, is_plain, word-read, register-is-read, number-is-read}
-use Rattle.asm_parser.proofs.Reading.{negative-is-read, forward-is-read, back-is-read, mask-is-read, is_clean_punctuation, clean_punctuation}
+use Rattle.asm_parser.proofs.Reading.{negative-is-read, forward-is-read, back-is-read, mask-is-read, is_clean_punctuation}
+use Rattle.asm_parser.proofs.Reading.{clean_punctuation}
 use Rattle.asm_parser.proofs.Reading.{character-is-read, bare-is-read}
 use Rattle.asm_operands.proofs.Registers.{sized-parts}
 use Rattle.asm_operands.proofs.Apart.{pattern-lt}

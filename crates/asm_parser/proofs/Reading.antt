@@ -24,7 +24,8 @@ use Rattle.asm_tokens.specs.Tokens.{token_of_name, number_token, distance_token,
 use Rattle.asm_tokens.specs.Tokens.{read_token, lexemes_of}
 use Rattle.asm_tokens.proofs.Following.{lexemes-token}
 use Rattle.asm_tokens.proofs.Naming.{read-name, name_no_blank}
-use Rattle.asm_parser.proofs.Numerals.{decimal-read, decimal-names, decimal-digits, number-read, no_minus, hexadecimal-read, hexadecimal-names}
+use Rattle.asm_parser.proofs.Numerals.{decimal-read, decimal-names, decimal-digits, number-read, no_minus, hexadecimal-read}
+use Rattle.asm_parser.proofs.Numerals.{hexadecimal-names}
 
 -- no character of a name stands first
 unfoldable pub opens : List ℕ → Bool

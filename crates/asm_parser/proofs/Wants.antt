@@ -18,7 +18,8 @@ use Rattle.asm_tokens.specs.declared.token.Token.{Token}
 use Rattle.asm_tokens.specs.declared.token.Token.TheVariants.{Register, Keyword, Punctuation, Sized}
 use Rattle.asm_operands.specs.Fields.{on_punctuation, on_keyword, on_register, on_sized, field_said}
 use Rattle.asm_operands.specs.Operands.{PartialWord, partial_with, partial_after, taken_on, taken, count_on, taken_count, fixed}
-use Rattle.asm_operands.specs.Operands.{word_in, taken_count_in, shapes_of, first_of_words, first_word, furthest, is_number_kind, is_number_item}
+use Rattle.asm_operands.specs.Operands.{word_in, taken_count_in, shapes_of, first_of_words, first_word, furthest, is_number_kind}
+use Rattle.asm_operands.specs.Operands.{is_number_item}
 use Rattle.asm_operands.specs.Operands.{wants_number, is_whole, OperandsSaid, Fails, Fault, said_or, if_meant, word_said}
 use Rattle.asm_operands.specs.Operands.{operand_fault, operands_said, target_of}
 

@@ -23,7 +23,8 @@ use Rattle.elf_writer.specs.declared.mapping_symbols.TextMapping.{TextMapping}
 use Rattle.elf_writer.specs.Layout.{no_section, text_section, data_section, symbols_section, strings_section}
 use Rattle.elf_writer.specs.TextMappings.{is_code_word, text_mappings}
 use Rattle.elf_writer.proofs.Reading.{IsFile, Reads, reads}
-use Rattle.elf_writer.proofs.Headers.{section_headers_offset-is, section_count-is, section_of-0, section_of-text, section_of-data, section_of-symbols}
+use Rattle.elf_writer.proofs.Headers.{section_headers_offset-is, section_count-is, section_of-0, section_of-text, section_of-data}
+use Rattle.elf_writer.proofs.Headers.{section_of-symbols}
 use Rattle.elf_writer.proofs.Headers.{section_of-strings, section_of-names}
 use Rattle.elf_writer.proofs.Images.{extents_of-is}
 use Rattle.elf_writer.proofs.SectionsPass.{byte_of_text}

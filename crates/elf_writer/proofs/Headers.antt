@@ -3,7 +3,8 @@ use Rattle.std.proofs.Common.{◌≡◌, ℕ, ◌+◌, ◌*◌, ◌%◌, ◌^◌
 use Rattle.std.specs.Prelude.{◌==◌, cond}
 use Rattle.sm_types.specs.Objects.{data_address}
 use Rattle.elf_headers.specs.declared.program_header.ProgramHeader.{ProgramHeader}
-use Rattle.elf_headers.specs.Header.{number_at, header_type, header_machine, header_entry, program_headers_offset, program_header_size, program_header_count}
+use Rattle.elf_headers.specs.Header.{number_at, header_type, header_machine, header_entry, program_headers_offset, program_header_size}
+use Rattle.elf_headers.specs.Header.{program_header_count}
 use Rattle.elf_headers.specs.Segments.{program_header, segment_of}
 use Rattle.elf_sections.specs.declared.section.SectionHeader.{SectionHeader}
 use Rattle.elf_sections.specs.Sections.{section_header, section_of, section_headers_offset, section_header_size, section_count}

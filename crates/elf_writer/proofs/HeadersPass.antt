@@ -21,7 +21,8 @@ use Rattle.elf_writer.specs.declared.mapping_symbols.TextMapping.{TextMapping}
 use Rattle.elf_writer.specs.Layout.{text_segment, full_data_segment, data_offset, symbols_offset, load_count, IsSmall}
 use Rattle.elf_writer.proofs.Reading.{IsFile, Reads, reads, file-length, data_offset-after, data_offset-near, symbols_offset-after}
 use Rattle.elf_writer.proofs.Reading.{symbols_offset-near}
-use Rattle.elf_writer.proofs.Headers.{magic-is, class-is, version-is, type-is, machine-is, entry-is, program_headers_offset-is, program_header_size-is}
+use Rattle.elf_writer.proofs.Headers.{magic-is, class-is, version-is, type-is, machine-is, entry-is, program_headers_offset-is}
+use Rattle.elf_writer.proofs.Headers.{program_header_size-is}
 use Rattle.elf_writer.proofs.Headers.{program_header_count-is, segment_of-text, segment_of-data}
 use Rattle.elf_writer.proofs.Images.{images, text_image, data_image, extents_of-is, one_of_two, text-is_load}
 use Rattle.elf_writer.proofs.Touched.{touched-part, touched-two}

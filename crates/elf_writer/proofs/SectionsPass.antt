@@ -13,14 +13,16 @@ use Rattle.sm_types.specs.Checks.{first_fault, fault_when, fault_only}
 use Rattle.elf_headers.specs.Header.{number_at}
 use Rattle.elf_headers.proofs.Below.{any_below-found, all_below-all}
 use Rattle.elf_sections.specs.declared.section.SectionHeader.{SectionHeader}
-use Rattle.elf_sections.specs.Sections.{section_of, section_header_offset, section_count, section_table_fault, is_symbol_table, is_code_section}
+use Rattle.elf_sections.specs.Sections.{section_of, section_header_offset, section_count, section_table_fault, is_symbol_table}
+use Rattle.elf_sections.specs.Sections.{is_code_section}
 use Rattle.elf_sections.specs.Sections.{is_good_table, is_all_loaded, is_loaded, is_in_file, ends_inside, has_names, strings_of}
 use Rattle.elf_sections.specs.Sections.{section_fault, has_sections, sections_fault}
 use Rattle.elf_writer.specs.declared.layout.Layout.{Layout}
 use Rattle.elf_writer.specs.declared.mapping_symbols.TextMapping.{TextMapping}
 use Rattle.elf_writer.specs.Layout.{no_section, text_section, data_section, symbols_section, strings_section, symbols_offset}
 use Rattle.elf_writer.proofs.Reading.{IsFile, Reads, reads, file-length, data_offset-after, symbols_offset-after}
-use Rattle.elf_writer.proofs.Headers.{section_headers_offset-is, section_header_size-is, section_count-is, section_of-0, section_of-text, section_of-data}
+use Rattle.elf_writer.proofs.Headers.{section_headers_offset-is, section_header_size-is, section_count-is, section_of-0, section_of-text}
+use Rattle.elf_writer.proofs.Headers.{section_of-data}
 use Rattle.elf_writer.proofs.Headers.{section_of-symbols, section_of-strings, section_of-names}
 use Rattle.elf_writer.proofs.Images.{images, extents_of-is}
 use Rattle.elf_writer.proofs.Symbols.{IsSymbol, HasNames, symbol_is, null_is}
