@@ -12,7 +12,8 @@ use Rattle.asm_core.specs.declared.location_counter.LocationCounter.{LocationCou
 use Rattle.asm_core.specs.declared.object_parts.Parts.{Parts}
 use Rattle.asm_core.specs.declared.emit_lines.Emission.{Emission}
 use Rattle.asm_core.specs.Source.{said_lines}
-use Rattle.asm_core.specs.Layout.{Label, first_counter, here, here_in, grown_in, size_of, counter_after, counter_past, counter_of, labels_of}
+use Rattle.asm_core.specs.Layout.{Label, first_counter, here, here_in, grown_in, size_of, counter_after, counter_past, counter_of}
+use Rattle.asm_core.specs.Layout.{labels_of}
 use Rattle.asm_core.specs.Faults.{target_fault, targets_fault, labels_after, lines_fault, text_length_of}
 use Rattle.asm_core.specs.Limits.{IsInLimits}
 use Rattle.asm_core.specs.Assembly.{Puts, SymbolSaid, symbol_said, text_is, label_symbol, mapping_symbol, symbols_from}

@@ -45,7 +45,8 @@ use Rattle.asm_tokens.specs.declared.token.Token.{Token}
 use Rattle.asm_tokens.specs.declared.token.Token.TheVariants.{Keyword, Distance}
 use Rattle.asm_operands.specs.declared.operands.Target.{Target}
 use Rattle.asm_operands.specs.Fields.{on_target, signed_field, field_said}
-use Rattle.asm_operands.specs.Operands.{PartialWord, with_field, agrees, partial_with, partial_after, taken_on, taken, fixed, word_in, shapes_of}
+use Rattle.asm_operands.specs.Operands.{PartialWord, with_field, agrees, partial_with, partial_after, taken_on, taken, fixed, word_in}
+use Rattle.asm_operands.specs.Operands.{shapes_of}
 use Rattle.asm_operands.specs.Operands.{first_of_words, first_word, is_distance, is_name_token, names, target_in, target_of, operands_said}
 use Rattle.asm_operands.specs.Operands.{Says}
 use Rattle.asm_operands.specs.Operands as operands

@@ -17,7 +17,8 @@ use Rattle.asm_parser.specs.Statements.{IntoData, Quads, Words, Bytes, Zeros, Al
 use Rattle.asm_parser.specs.Statements.{SourceLine}
 use Rattle.asm_core.specs.Source.{lines_of, said_lines}
 use Rattle.asm_core.specs.declared.location_counter.LocationCounter.{LocationCounter}
-use Rattle.asm_core.specs.Layout.{first_counter, here, size_of, counter_after, counter_past, counter_of, Label}
+use Rattle.asm_core.specs.Layout.{first_counter, here, size_of, counter_after, counter_past, counter_of}
+use Rattle.asm_core.specs.Layout.{Label}
 use Rattle.asm_core.specs.Layout.{labels_of, label_named, label_address, address_here}
 use Rattle.insn_text.specs.declared.item.Item.{Item}
 use Rattle.asm_core.specs.Targets.{word_to}

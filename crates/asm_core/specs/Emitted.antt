@@ -16,7 +16,8 @@ use Rattle.asm_core.specs.declared.target_addresses.Addresses.{Addresses}
 use Rattle.asm_core.specs.declared.labels.LabelPosition.{LabelPosition}
 use Rattle.asm_core.specs.declared.object_parts.Parts.{Parts}
 use Rattle.asm_core.specs.Layout.{Label, here, size_of, address_here}
-use Rattle.asm_core.specs.Assembly.{numbers_bytes, quad_number, resolved, SymbolSaid, symbol_said, label_symbol}
+use Rattle.asm_core.specs.Assembly.{numbers_bytes, quad_number, resolved, SymbolSaid, symbol_said}
+use Rattle.asm_core.specs.Assembly.{label_symbol}
 use Rattle.asm_core.specs.Assembly.{mapping_symbol}
 use Rattle.asm_core.specs.Faults.{is_too_large}
 use Rattle.asm_core.specs.Known.{known}

@@ -42,16 +42,20 @@ returns-in-Some-start_of-clause-assembles c =
     let source = c.args.source.now in
     let lines = said_lines (lines_of source) in
     let short : nat_lt 67108864 (length source) ≡ false = grind (arith, nat_tests) in
-    let size : c.in_ok-first_pass.first_pass.end.text_size ≡ text_length_of lines = ap (λ (p : LocationCounter). p.text_size) c.in_ok-first_pass.ensures.end in
+    let size : c.in_ok-first_pass.first_pass.end.text_size ≡ text_length_of lines =
+    ap (λ (p : LocationCounter). p.text_size) c.in_ok-first_pass.ensures.end in
     let starts : start_of (text_length_of lines) (labels_of lines) ≡ Some c.in-Some-start_of.entry =
-    ap (λ n. start_of n (labels_of lines)) (sym size) ∙ sym (c.in-Some-start_of.ensures (labels_of lines) c.in_ok-first_pass.ensures.knows) in
+    ap (λ n. start_of n (labels_of lines)) (sym size)
+    ∙ sym (c.in-Some-start_of.ensures (labels_of lines) c.in_ok-first_pass.ensures.knows) in
     assembled source c.in_ok-parts.parts c.in-Some-start_of.entry
-    (no_fault_is source short c.in_default.ensures c.in_ok-first_pass.ensures.accepted c.in-Some-start_of.entry c.in_ok-parts.ensures.ok starts)
+    (no_fault_is source short c.in_default.ensures c.in_ok-first_pass.ensures.accepted c.in-Some-start_of.entry
+    c.in_ok-parts.ensures.ok starts)
     c.in_ok-parts.ensures.parts starts
 
 pub returns-in-Some-start_of-clause-sound : goal.returns-in-Some-start_of-clause-sound
 returns-in-Some-start_of-clause-sound c =
-    sound_object c.args.source.now _ c.in_ok-first_pass.first_pass.end c.in_ok-first_pass.ensures.accepted (returns-in-Some-start_of-clause-assembles c)
+    sound_object c.args.source.now _ c.in_ok-first_pass.first_pass.end c.in_ok-first_pass.ensures.accepted
+    (returns-in-Some-start_of-clause-assembles c)
     c.in_ok-first_pass.ensures.end c.in_ok-first_pass.ensures.limits
 
 pub returns-in-Some-start_of-clause-code : goal.returns-in-Some-start_of-clause-code
@@ -62,6 +66,7 @@ returns-clause-fault c = λ other.
     let source = c.args.source.now in
     let lines = said_lines (lines_of source) in
     let short : nat_lt 67108864 (length source) ≡ false = grind (arith, nat_tests) in
-    let size : c.in_ok-first_pass.first_pass.end.text_size ≡ text_length_of lines = ap (λ (p : LocationCounter). p.text_size) c.in_ok-first_pass.ensures.end in
+    let size : c.in_ok-first_pass.first_pass.end.text_size ≡ text_length_of lines =
+    ap (λ (p : LocationCounter). p.text_size) c.in_ok-first_pass.ensures.end in
     no_start_is source short c.in_default.ensures c.in_ok-first_pass.ensures.accepted c.in_ok-parts.ensures.ok
     (ap (λ n. start_of n (labels_of lines)) (sym size) ∙ sym (c.in-None.ensures (labels_of lines) c.in_ok-first_pass.ensures.knows))
