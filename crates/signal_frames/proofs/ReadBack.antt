@@ -7,7 +7,8 @@ use Rattle.std.specs.Prelude.{IsSome}
 use Rattle.std.specs.FinMap.{FinMap, get, insert, get-insert}
 use Rattle.std.specs.Ordering.{nat_cmp}
 use Rattle.std.specs.Cmp.{nat_cmp_total}
-use Rattle.paged_memory.specs.Memory.{AddressSpace, byte_with, bytes_with, and_byte, permits, permitted, unless_there, first_without, set_bytes}
+use Rattle.paged_memory.specs.Memory.{AddressSpace, byte_with, bytes_with, and_byte, permits, permitted, unless_there, first_without}
+use Rattle.paged_memory.specs.Memory.{set_bytes}
 use Rattle.paged_memory.proofs.Over.{eq_by_cmp-nat}
 use Rattle.mem_access.specs.Runs.{with_bytes}
 use Rattle.signal_frames.proofs.Putting.{neither}

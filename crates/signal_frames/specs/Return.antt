@@ -1,6 +1,7 @@
 -- The return from a handler: which bytes it reads, when it is refused, and the state after it. VL and SVL are
 -- so many bytes.
-use Rattle.std.specs.Prelude.{◌≡◌, ℕ, ◌&&◌, Bool, if◌then◌else◌, List, [], length, Option, Some, None, unwrap_or}
+use Rattle.std.specs.Prelude.{◌≡◌, ℕ, ◌&&◌, Bool, if◌then◌else◌, List, [], length, Option, Some, None}
+use Rattle.std.specs.Prelude.{unwrap_or}
 use Rattle.std.specs.Prelude.{Result, Ok, Err}
 use Rattle.paged_memory.specs.Memory.{AddressSpace, bytes_with, first_without}
 use Rattle.machine_step.specs.ProcessorState.{ProcessorState}
