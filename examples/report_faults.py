@@ -245,8 +245,8 @@ def main():
     print("/// A report of two threads.")
     print('pub const REPORT: &[u8] = b"\\')
     print(SAMPLE.decode() + '";\n')
-    print("/// The cases: a range of the report's bytes, the bytes that take its place, or `-`, and the first line at fault")
-    print("/// with its part, or `read`.")
+    print("/// The cases: a range of the report's bytes, the bytes that take its place, or `-`, and the first line at")
+    print("/// fault with its part, or `read`.")
     print('pub const CASES: &str = "')
     row = ""
     for line in lines:

@@ -22,19 +22,34 @@ macro_rules! words {
 fn data_processing(rt: HostRuntime) {
     for (word, want) in words! {
         // sub w0, wsp, #0, lsl #12
-        0x514003E0 Insn::AddSubImmediate(AddSubImmediate { op: AddSub::Sub, wide: false, shifted: true, imm: 0, rn: 31, rd: 0 });
+        0x514003E0 Insn::AddSubImmediate(AddSubImmediate {
+            op: AddSub::Sub, wide: false, shifted: true, imm: 0, rn: 31, rd: 0,
+        });
         // sub x26, xzr, x13, lsl #37
-        0xCB0D97FA Insn::AddSubRegister(AddSubRegister { op: AddSub::Sub, wide: true, operand: ShiftedRegister { rm: 13, shift: ShiftKind::Lsl, amount: 37 }, rn: 31, rd: 26 });
+        0xCB0D97FA Insn::AddSubRegister(AddSubRegister {
+            op: AddSub::Sub, wide: true,
+            operand: ShiftedRegister { rm: 13, shift: ShiftKind::Lsl, amount: 37 }, rn: 31, rd: 26,
+        });
         // eon x10, x24, x20, ror #18
-        0xCAF44B0A Insn::LogicalRegister(LogicalRegister { op: Logical::Eor, wide: true, inverted: true, operand: ShiftedRegister { rm: 20, shift: ShiftKind::Ror, amount: 18 }, rn: 24, rd: 10 });
+        0xCAF44B0A Insn::LogicalRegister(LogicalRegister {
+            op: Logical::Eor, wide: true, inverted: true,
+            operand: ShiftedRegister { rm: 20, shift: ShiftKind::Ror, amount: 18 }, rn: 24, rd: 10,
+        });
         // sub w18, w21, w15, uxtw #2
-        0x4B2F4AB2 Insn::AddSubExtended(AddSubExtended { op: AddSub::Sub, wide: false, operand: ExtendedRegister { rm: 15, extend: Extend::Uxtw, amount: 2 }, rn: 21, rd: 18 });
+        0x4B2F4AB2 Insn::AddSubExtended(AddSubExtended {
+            op: AddSub::Sub, wide: false,
+            operand: ExtendedRegister { rm: 15, extend: Extend::Uxtw, amount: 2 }, rn: 21, rd: 18,
+        });
         // eor x22, xzr, #0xfc0003ffffffffff
-        0xD246BFF6 Insn::LogicalImmediate(LogicalImmediate { op: Logical::Eor, wide: true, n: true, immr: 6, imms: 47, rn: 31, rd: 22 });
+        0xD246BFF6 Insn::LogicalImmediate(LogicalImmediate {
+            op: Logical::Eor, wide: true, n: true, immr: 6, imms: 47, rn: 31, rd: 22,
+        });
         // movz x21, #27095, lsl #16
         0xD2AD3AF5 Insn::MoveWide(MoveWide { op: MoveOp::Movz, wide: true, hw: 1, imm: 27095, rd: 21 });
         // sbfm x0, x17, #38, #63
-        0x9366FE20 Insn::BitfieldMove(BitfieldMove { op: BitfieldOp::Sbfm, wide: true, immr: 38, imms: 63, rn: 17, rd: 0 });
+        0x9366FE20 Insn::BitfieldMove(BitfieldMove {
+            op: BitfieldOp::Sbfm, wide: true, immr: 38, imms: 63, rn: 17, rd: 0,
+        });
         // extr xzr, x6, x10, #30
         0x93CA78DF Insn::Extract(Extract { wide: true, rm: 10, lsb: 30, rn: 6, rd: 31 });
         // adr x0, .-754095
@@ -42,17 +57,27 @@ fn data_processing(rt: HostRuntime) {
         // adcs w24, w16, wzr
         0x3A1F0218 Insn::AddSubCarry(AddSubCarry { op: AddSub::Adds, wide: false, rm: 31, rn: 16, rd: 24 });
         // csneg w2, w0, w0, lt
-        0x5A80B402 Insn::ConditionalSelect(ConditionalSelect { op: SelectOp::Csneg, wide: false, condition: Condition::Lt, rm: 0, rn: 0, rd: 2 });
+        0x5A80B402 Insn::ConditionalSelect(ConditionalSelect {
+            op: SelectOp::Csneg, wide: false, condition: Condition::Lt, rm: 0, rn: 0, rd: 2,
+        });
         // ccmn x1, x15, #3, pl
-        0xBA4F5023 Insn::ConditionalCompare(ConditionalCompare { op: CompareOp::Ccmn, wide: true, operand: CompareOperand::Register(15), condition: Condition::Pl, nzcv: 3, rn: 1 });
+        0xBA4F5023 Insn::ConditionalCompare(ConditionalCompare {
+            op: CompareOp::Ccmn, wide: true, operand: CompareOperand::Register(15), condition: Condition::Pl,
+            nzcv: 3, rn: 1,
+        });
         // ccmn w26, #31, #1, vs
-        0x3A5F6B41 Insn::ConditionalCompare(ConditionalCompare { op: CompareOp::Ccmn, wide: false, operand: CompareOperand::Immediate(31), condition: Condition::Vs, nzcv: 1, rn: 26 });
+        0x3A5F6B41 Insn::ConditionalCompare(ConditionalCompare {
+            op: CompareOp::Ccmn, wide: false, operand: CompareOperand::Immediate(31),
+            condition: Condition::Vs, nzcv: 1, rn: 26,
+        });
         // rev32 x9, x0
         0xDAC00809 Insn::OneSource(OneSource { op: OneSourceOp::Rev32, wide: true, rn: 0, rd: 9 });
         // lsrv x0, x18, x7
         0x9AC72640 Insn::TwoSource(TwoSource { op: TwoSourceOp::Lsrv, wide: true, rm: 7, rn: 18, rd: 0 });
         // smsubl x8, w24, w0, x7
-        0x9B209F08 Insn::Multiply(Multiply::Long { subtract: true, signed: true, rm: 0, ra: 7, rn: 24, rd: 8 });
+        0x9B209F08 Insn::Multiply(Multiply::Long {
+            subtract: true, signed: true, rm: 0, ra: 7, rn: 24, rd: 8,
+        });
         // smulh x24, x28, x26
         0x9B5A7F98 Insn::Multiply(Multiply::High { signed: true, rm: 26, rn: 28, rd: 24 });
     } {
@@ -78,7 +103,9 @@ fn branches_and_the_system(rt: HostRuntime) {
         // udf #55112
         0x0000D748 Insn::System(System::Udf(55112));
         // msr svcr, x14
-        0xD51B424E Insn::SystemMove(SystemMove { op: SystemMoveOp::Msr, register: SystemRegister::Svcr, rt: 14 });
+        0xD51B424E Insn::SystemMove(SystemMove {
+            op: SystemMoveOp::Msr, register: SystemRegister::Svcr, rt: 14,
+        });
     } {
         assert!(rt; decode_scalar(word) == Some(want), "at {word:#x}");
     }
@@ -88,27 +115,49 @@ fn branches_and_the_system(rt: HostRuntime) {
 fn loads_and_stores(rt: HostRuntime) {
     for (word, want) in words! {
         // sturb w0, [x0, #41]
-        0x38029000 Insn::LoadStore(LoadStore { op: LoadStoreOp::Store, size: AccessSize::Byte, address: Address::Unscaled { offset: 41 }, rn: 0, rt: 0 });
+        0x38029000 Insn::LoadStore(LoadStore {
+            op: LoadStoreOp::Store, size: AccessSize::Byte, address: Address::Unscaled { offset: 41 }, rn: 0,
+            rt: 0,
+        });
         // ldrsb wzr, [x6, #-19]!
-        0x38DEDCDF Insn::LoadStore(LoadStore { op: LoadStoreOp::LoadSignedTo32, size: AccessSize::Byte, address: Address::PreIndex { offset: -19 }, rn: 6, rt: 31 });
+        0x38DEDCDF Insn::LoadStore(LoadStore {
+            op: LoadStoreOp::LoadSignedTo32, size: AccessSize::Byte,
+            address: Address::PreIndex { offset: -19 }, rn: 6, rt: 31,
+        });
         // str w8, [x0], #179
-        0xB80B3408 Insn::LoadStore(LoadStore { op: LoadStoreOp::Store, size: AccessSize::Word, address: Address::PostIndex { offset: 179 }, rn: 0, rt: 8 });
+        0xB80B3408 Insn::LoadStore(LoadStore {
+            op: LoadStoreOp::Store, size: AccessSize::Word, address: Address::PostIndex { offset: 179 },
+            rn: 0, rt: 8,
+        });
         // str w8, [x25, x2, lsl #2]
-        0xB8227B28 Insn::LoadStore(LoadStore { op: LoadStoreOp::Store, size: AccessSize::Word, address: Address::Register { rm: 2, extend: Extend::Uxtx, scaled: true }, rn: 25, rt: 8 });
+        0xB8227B28 Insn::LoadStore(LoadStore {
+            op: LoadStoreOp::Store, size: AccessSize::Word,
+            address: Address::Register { rm: 2, extend: Extend::Uxtx, scaled: true }, rn: 25, rt: 8,
+        });
         // ldr w20, .-220676
         0x18E50FF4 Insn::LoadLiteral(LoadLiteral { op: LoadLiteralOp::Word, words: -55169, rt: 20 });
         // stp w0, w25, [x27], #104
-        0x288D6760 Insn::LoadStorePair(LoadStorePair { op: PairOp::Stp, wide: false, index: PairIndex::PostIndex, offset: 26, rn: 27, rt: 0, rt2: 25 });
+        0x288D6760 Insn::LoadStorePair(LoadStorePair {
+            op: PairOp::Stp, wide: false, index: PairIndex::PostIndex, offset: 26, rn: 27, rt: 0, rt2: 25,
+        });
         // ldp x2, x1, [x9, #-16]!
-        0xA9FF0522 Insn::LoadStorePair(LoadStorePair { op: PairOp::Ldp, wide: true, index: PairIndex::PreIndex, offset: -2, rn: 9, rt: 2, rt2: 1 });
+        0xA9FF0522 Insn::LoadStorePair(LoadStorePair {
+            op: PairOp::Ldp, wide: true, index: PairIndex::PreIndex, offset: -2, rn: 9, rt: 2, rt2: 1,
+        });
         // stlrb wzr, [x17]
         0x089FFE3F Insn::Atomic(Atomic::Stlr { size: AccessSize::Byte, rn: 17, rt: 31 });
         // casl x24, xzr, [x2]
-        0xC8B8FC5F Insn::Atomic(Atomic::Cas { size: AccessSize::Doubleword, acquire: false, release: true, rs: 24, rn: 2, rt: 31 });
+        0xC8B8FC5F Insn::Atomic(Atomic::Cas {
+            size: AccessSize::Doubleword, acquire: false, release: true, rs: 24, rn: 2, rt: 31,
+        });
         // swpa wzr, w21, [sp]
-        0xB8BF83F5 Insn::Atomic(Atomic::Swap { size: AccessSize::Word, acquire: true, release: false, rs: 31, rn: 31, rt: 21 });
+        0xB8BF83F5 Insn::Atomic(Atomic::Swap {
+            size: AccessSize::Word, acquire: true, release: false, rs: 31, rn: 31, rt: 21,
+        });
         // ldumin wzr, w0, [x2]
-        0xB83F7040 Insn::Atomic(Atomic::Update { op: AtomicOp::Umin, size: AccessSize::Word, acquire: false, release: false, rs: 31, rn: 2, rt: 0 });
+        0xB83F7040 Insn::Atomic(Atomic::Update {
+            op: AtomicOp::Umin, size: AccessSize::Word, acquire: false, release: false, rs: 31, rn: 2, rt: 0,
+        });
     } {
         assert!(rt; decode_scalar(word) == Some(want), "at {word:#x}");
     }
@@ -119,10 +168,13 @@ fn words_of_no_row(rt: HostRuntime) {
     for word in [
         0x00190239, 0x0019A3FF, 0x1E604000, 0xD4000002, 0x54000010, // no row's fixed bits
         0x0BCC7CCE, 0x0B0CFCCE, 0x0B20145F, // add with shift 3, a shift by 63 of 32 bits, a shift by 5
-        0x1242C1D9, 0x9240FC00, 0x1202F000, // masks of 32 bits with N, of ones alone, with a rotation by 2 of 2 bits
-        0x52C00000, 0x534C541F, 0x13988363, // movz of 32 bits to halfword 2, ubfm of 32 bits with N, extr of 32 bits by 32
+        0x1242C1D9, 0x9240FC00, // masks of 32 bits with N, of ones alone
+        0x1202F000, // a mask with a rotation by 2 of 2 bits
+        0x52C00000, 0x534C541F, // movz of 32 bits to halfword 2, ubfm of 32 bits with N
+        0x13988363, // extr of 32 bits by 32
         0x5AC00C00, 0x9B400000, // rev of 64 bits without sf, smulh with Ra 0
-        0xF9800000, 0xB9C00000, 0xB8221B28, // prfm, a word with its sign to 32 bits, str with a byte as an offset
+        0xF9800000, 0xB9C00000, // prfm, a word with its sign to 32 bits
+        0xB8221B28, // str with a byte as an offset
         0xB80B3400, 0x29400000, 0xA9FF0529, // str w0, [x0], #179, ldp w0, w0, [x0], ldp x9, x1, [x9, #-16]!
         0x53028020, 0xB80B3C00, 0xB84B3C00, // ubfm with imms 32, str and ldr w0, [x0, #179]!
         0xB8223B28, 0xB8228B28, 0xB822AB28, // str with options 1, 4 and 5

@@ -59,8 +59,8 @@ pending 1 0000000000000008
 end
 ";
 
-/// The cases: a range of the report's bytes, the bytes that take its place, or `-`, and the first line at fault
-/// with its part, or `read`.
+/// The cases: a range of the report's bytes, the bytes that take its place, or `-`, and the first line at
+/// fault with its part, or `read`.
 pub const CASES: &str = "
 0 0 - read; 0 1310 - 1 header; 0 15 - 1 header; 0 0 736d656d752d7265706f727420310a 2 options;
 0 75 6f7074696f6e7320766c3d3132382073766c3d32353620736c6963653d31303030206275646765743d313030303030303020746872656164733d320a736d656d752d7265706f727420310a 1 header;
