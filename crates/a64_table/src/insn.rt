@@ -6,11 +6,11 @@ crate::specs::Table::scalar, crate::specs::Conditions::fits_of,
 insn_forms::specs::Fields::is_field, insn_forms::specs::Fields::mask_of,
 // The instruction of each group, and what its operands are.
 crate::specs::Named::named, crate::specs::Named::shifted_register, crate::specs::Named::extended_register,
-// Those that go by a form.
+// Branches, second operands of compares, and the width of operations on one register.
 crate::specs::Named::named_branch, crate::specs::Named::compare_operand, crate::specs::Named::is_wide_source,
-// Those of two or more shapes.
+// Multiplications, and addresses of loads and stores.
 crate::specs::Named::named_multiply, crate::specs::Named::named_address,
-// Those of atomic accesses and of the system.
+// Atomic accesses and the system.
 crate::specs::Named::named_atomic, crate::specs::Named::named_system))]
 
 ghost use Rattle.std.specs.Prelude.{◌≡◌, Option, Some, None, if◌then◌else◌};
