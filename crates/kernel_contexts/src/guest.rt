@@ -10,9 +10,9 @@ mod signals;
 mod watch;
 
 use crate::context::Turn;
-use crate::guest::watch::watch_after;
+use crate::guest::watch::{watch_after, watch_past};
 use crate::handlers::{Addresses, no_handlers};
-use machine_step::{Machine, StepEnd, write_streaming};
+use machine_step::{Decoder, Machine, StepEnd, write_streaming};
 use mem_access::Bank;
 use paged_memory::{Image, Pages};
 use shared_region::Port;
@@ -25,6 +25,7 @@ use std::alloc::Global;
 pub struct GuestThread {
     pub machine: Machine,
     pub bank: Bank,
+    pub decoder: Decoder,
     pub config: Config,
     pub number: u32,
     pub handlers: Addresses,
@@ -83,7 +84,7 @@ impl GuestThread {
     ghost use Rattle.machine_step.specs.Step.{events_of, entries_of};
     ghost use Rattle.shared_region.specs.Chain.{Chain};
 
-    /// A thread before its first turn, with its pages and its save area taken at once.
+    /// A thread before its first turn, with its pages, its save area and its decoder taken at once.
     #[tactic(auto, unfolding(crate::specs::State::start_state, mem_access::specs::VectorState::zero_bank))]
     pub fn start(
         alloc: Global,
@@ -100,6 +101,7 @@ impl GuestThread {
     {
         let pages = Pages::from_image(alloc, image)?;
         let bank = Bank::new(alloc, config.vl, config.svl)?;
+        let decoder = Decoder::new(alloc)?;
         let machine = Machine {
             scalars: start_registers(image.entry(), number, config.threads),
             streaming: false,
@@ -111,6 +113,7 @@ impl GuestThread {
         Ok(GuestThread {
             machine,
             bank,
+            decoder,
             config: *config,
             number,
             handlers: no_handlers(),
@@ -235,7 +238,11 @@ impl GuestThread {
         }
         let room = self.journal.len() < JOURNAL_LIMIT;
         let bank = Some(&mut self.bank);
-        match self.machine.step(bank, port, ticket, self.number, room) {
+        let decoder = &mut self.decoder;
+        match self
+            .machine
+            .step_with(decoder, bank, port, ticket, self.number, room)
+        {
             StepEnd::Next(event) => self.go_on(event),
             StepEnd::Call(_) => self.call(port, ticket),
             StepEnd::Raise(exception) => {
@@ -285,9 +292,7 @@ impl GuestThread {
         ensures stop { self.new.stop ≡ self.old.stop }
         ensures same { IsQuietGuest self.old self.new }
     {
-        if self.count == self.watch {
-            self.watch = watch_after(&self.config, self.count);
-        }
+        self.watch = watch_past(&self.config, self.count, self.watch);
         self.count += 1;
         self.turns += 1;
         self.polled = false;

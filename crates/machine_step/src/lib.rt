@@ -4,6 +4,7 @@
 #![tactic(auto)]
 
 mod array;
+mod decoder;
 mod executed;
 mod machine;
 mod mode;
@@ -12,6 +13,7 @@ mod step;
 mod system;
 mod vector;
 
+pub use decoder::Decoder;
 pub use machine::Machine;
 pub use mode::write_streaming;
 pub use step::StepEnd;

@@ -4,16 +4,17 @@ ghost use Rattle.a64_encode.specs.Either.{instruction_of};
 ghost use Rattle.paged_memory.specs.PageTable.{KeepsOwned};
 ghost use Rattle.machine_step.specs.Effect.{effect_of};
 ghost use Rattle.machine_step.specs.Needs.{needs_bank};
-ghost use Rattle.machine_step.specs.Execution.{effect_of_meaning, needs_of_meaning};
-ghost use Rattle.machine_step.specs.Machine.{HasRoomIn, HasRoomToStep, IsFetched, StepsAlone, StepsOn};
+ghost use Rattle.mem_access.specs.Transfer.{HasRoomFor};
+ghost use Rattle.machine_step.specs.Execution.{effect_of_insn, needs_of_insn};
+ghost use Rattle.machine_step.specs.Machine.{HasRoomOn, HasRoomToStep, IsFetched, StepsAlone, StepsOn};
 ghost use Rattle.machine_step.specs.Machine.{IsInMode, IsSameBank};
 
+use crate::decoder::Decoded;
 use crate::executed::Executed;
-use a64_decode::decode_scalar;
 use mem_access::Bank;
 use paged_memory::Pages;
-use sm_types::{Exception, Scalars};
-use sve_decode::decode_vector;
+use sm_types::{Exception, Insn, Scalars};
+use sve_table::is_vector;
 
 /// What an instruction reads and writes, but for the vectors, the predicates, FFR and ZA.
 #[derive(Drop)]
@@ -31,8 +32,8 @@ pub struct Machine {
 }
 
 impl Machine {
-    /// Executes the instruction at PC on a bank.
-    pub(crate) fn execute_on_bank(&mut self, bank: &mut Bank) -> Executed
+    /// Executes the instruction at PC on a bank; it may be known.
+    pub(crate) fn execute_on_bank(&mut self, known: &mut Decoded, bank: &mut Bank) -> Executed
         requires { IsInMode bank.old self.old }
         ensures effect { StepsOn effect_of self.old bank.old self.new bank.new result }
         ensures same { IsSameBank bank.old bank.new }
@@ -41,19 +42,25 @@ impl Machine {
         ensures kept { KeepsOwned self.old.pages self.new.pages }
     {
         match self.fetch_word() {
-            Ok(word) => self.execute_on(word, bank),
+            Ok(word) => match known.instruction(word) {
+                Some(insn) => self.execute_on(word, insn, bank),
+                None => Executed::Raise(Exception::Undefined(word)),
+            },
             Err(exception) => Executed::Raise(exception),
         }
     }
 
-    /// Executes the instruction at PC without a bank.
-    pub(crate) fn execute_without_bank(&mut self) -> Executed
+    /// Executes the instruction at PC without a bank; it may be known.
+    pub(crate) fn execute_without_bank(&mut self, known: &mut Decoded) -> Executed
         ensures effect { StepsAlone needs_bank effect_of self.old self.new result }
         ensures room { HasRoomToStep self.old None → result ≢ Executed.Memory }
         ensures kept { KeepsOwned self.old.pages self.new.pages }
     {
         match self.fetch_word() {
-            Ok(word) => self.execute_alone(word),
+            Ok(word) => match known.instruction(word) {
+                Some(insn) => self.execute_alone(word, insn),
+                None => Executed::Raise(Exception::Undefined(word)),
+            },
             Err(exception) => Executed::Raise(exception),
         }
     }
@@ -73,40 +80,35 @@ impl Machine {
         }
     }
 
-    /// Executes the instruction of a word on a bank, by either table.
-    #[tactic(auto, unfolding(a64_encode::specs::Either::instruction_of))]
-    fn execute_on(&mut self, word: u32, bank: &mut Bank) -> Executed
-        requires { IsInMode bank.old self.old }
-        ensures effect { StepsOn (effect_of_meaning word (instruction_of word)) self.old bank.old self.new
-            bank.new result }
+    /// Executes the instruction of a word on a bank.
+    fn execute_on(&mut self, word: u32, insn: &Insn, bank: &mut Bank) -> Executed
+        requires means { instruction_of word ≡ Some insn.now }
+        requires mode { IsInMode bank.old self.old }
+        ensures effect { StepsOn (effect_of_insn word insn.now) self.old bank.old self.new bank.new result }
         ensures same { IsSameBank bank.old bank.new }
         ensures mode { IsInMode bank.new self.new }
-        ensures room { HasRoomIn self.old (Some bank.old) (instruction_of word) → result ≢ Executed.Memory }
+        ensures room { HasRoomOn self.old bank.old insn.now → result ≢ Executed.Memory }
         ensures kept { KeepsOwned self.old.pages self.new.pages }
     {
-        match decode_scalar(word) {
-            Some(insn) => self.execute_scalar_on(word, &insn, bank),
-            None => match decode_vector(word) {
-                Some(insn) => self.execute_vector(&insn, bank),
-                None => Executed::Raise(Exception::Undefined(word)),
-            },
+        if is_vector(insn) {
+            self.execute_vector(insn, bank)
+        } else {
+            self.execute_scalar_on(word, insn, bank)
         }
     }
 
-    /// Executes the instruction of a word without a bank, by either table.
-    #[tactic(auto, unfolding(a64_encode::specs::Either::instruction_of))]
-    fn execute_alone(&mut self, word: u32) -> Executed
-        ensures effect { StepsAlone (needs_of_meaning (instruction_of word))
-            (effect_of_meaning word (instruction_of word)) self.old self.new result }
-        ensures room { HasRoomIn self.old None (instruction_of word) → result ≢ Executed.Memory }
+    /// Executes the instruction of a word without a bank.
+    fn execute_alone(&mut self, word: u32, insn: &Insn) -> Executed
+        requires { instruction_of word ≡ Some insn.now }
+        ensures effect { StepsAlone (needs_of_insn insn.now) (effect_of_insn word insn.now)
+            self.old self.new result }
+        ensures room { HasRoomFor insn.now self.old.scalars self.old.pages → result ≢ Executed.Memory }
         ensures kept { KeepsOwned self.old.pages self.new.pages }
     {
-        match decode_scalar(word) {
-            Some(insn) => self.execute_scalar_alone(word, &insn),
-            None => match decode_vector(word) {
-                Some(insn) => self.refuse_vector(&insn),
-                None => Executed::Raise(Exception::Undefined(word)),
-            },
+        if is_vector(insn) {
+            self.refuse_vector(insn)
+        } else {
+            self.execute_scalar_alone(word, insn)
         }
     }
 }

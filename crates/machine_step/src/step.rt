@@ -10,6 +10,7 @@ ghost use Rattle.machine_step.specs.Machine.{IsAsked, AsksWell};
 ghost use Rattle.machine_step.specs.Step.{Tells, TellsOn, TellsAlone, events_in, entries_of};
 ghost use Rattle.machine_step.specs.Lent.{lent_before, lent_after, IsLentInMode, Answers, ComesBack};
 
+use crate::decoder::{Decoded, Decoder};
 use crate::executed::Executed;
 use crate::machine::Machine;
 use mem_access::{Bank, write_answer};
@@ -70,15 +71,56 @@ impl Machine {
         ensures belongs { P.ticket_name ticket.new ≡ P.name port.new }
     {
         match bank {
-            Some(bank) => self.step_on(bank, port, ticket, thread, room),
-            None => self.step_alone(port, ticket, thread, room),
+            Some(bank) => self.step_on(&mut Decoded::nop(), bank, port, ticket, thread, room),
+            None => self.step_alone(&mut Decoded::nop(), port, ticket, thread, room),
         }
     }
 
-    /// Executes the instruction at PC on a bank.
+    /// The same, by a decoder that keeps the instruction for the next time.
+    pub fn step_with<P: Port>(
+        &mut self,
+        decoder: &mut Decoder,
+        bank: Option<&mut Bank>,
+        port: &mut P,
+        ticket: &mut P::Ticket,
+        thread: u32,
+        room: bool,
+    ) -> StepEnd
+        requires mode { IsLentInMode (lent_before bank) self.old }
+        requires number { P.number ticket.old ≡ Some thread }
+        requires belongs { P.ticket_name ticket.old ≡ P.name port.old }
+        ensures effect { Answers (lent_before bank.entry) (lent_after bank.exit)
+            (record {
+              ends = P.ends port.old ticket.old;
+              strays = P.strays port.old ticket.old;
+              takes_memory = P.takes_memory;
+            }) room self.old self.new result }
+        ensures bank { ComesBack (lent_before bank.entry) (lent_after bank.exit) self.new }
+        ensures memory { HasRoomToStep self.old (lent_before bank.entry) → result ≡ StepEnd.Memory
+            → P.takes_memory }
+        ensures kept { KeepsOwned self.old.pages self.new.pages }
+        ensures gives { Chain P.gives port.old ticket.old (entries_of thread (events_in result)) port.new ticket.new }
+        ensures events { P.events ticket.new ≡ P.events ticket.old ++ events_in result }
+        ensures number { P.number ticket.new ≡ Some thread }
+        ensures belongs { P.ticket_name ticket.new ≡ P.name port.new }
+    {
+        match bank {
+            Some(bank) => {
+                let known = decoder.place(self.scalars.pc);
+                self.step_on(known, bank, port, ticket, thread, room)
+            }
+            None => {
+                let known = decoder.place(self.scalars.pc);
+                self.step_alone(known, port, ticket, thread, room)
+            }
+        }
+    }
+
+    /// Executes the instruction at PC, which may be known, on a bank.
     #[inline]
     fn step_on<P: Port>(
         &mut self,
+        known: &mut Decoded,
         bank: &mut Bank,
         port: &mut P,
         ticket: &mut P::Ticket,
@@ -103,13 +145,14 @@ impl Machine {
         ensures number { P.number ticket.new ≡ Some thread }
         ensures belongs { P.ticket_name ticket.new ≡ P.name port.new }
     {
-        let executed = self.execute_on_bank(bank);
+        let executed = self.execute_on_bank(known, bank);
         self.finish(executed, port, ticket, thread, room)
     }
 
-    /// Executes the instruction at PC without a bank.
+    /// Executes the instruction at PC, which may be known, without a bank.
     fn step_alone<P: Port>(
         &mut self,
+        known: &mut Decoded,
         port: &mut P,
         ticket: &mut P::Ticket,
         thread: u32,
@@ -130,7 +173,7 @@ impl Machine {
         ensures number { P.number ticket.new ≡ Some thread }
         ensures belongs { P.ticket_name ticket.new ≡ P.name port.new }
     {
-        let executed = self.execute_without_bank();
+        let executed = self.execute_without_bank(known);
         self.finish(executed, port, ticket, thread, room)
     }
 

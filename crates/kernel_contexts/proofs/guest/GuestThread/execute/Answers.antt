@@ -38,7 +38,7 @@ returns-in-Raise-clause-turn g c =
     (made_nothing t.journal.items _ (stop.ensures.same.journal ∙ c.reserve.ensures.items))
     (stops_so _ (held_state t) (held_state stop.new.self) _ stop.result _ stop.ensures.answer
     (executes_raises t.config t.number (length t.journal.items) (held_state t) _ _ (its_effect t ∙ h.0) h.1
-    ∙ ap (λ s. Ends s (Raised c.in-Raise.exception c.step.new.self.scalars.pc)) (sym stop.ensures.state))
+    ∙ ap (λ s. Ends s (Raised c.in-Raise.exception c.step_with.new.self.scalars.pc)) (sym stop.ensures.state))
     stop.ensures.stop)
 
 pub returns-in-NoRoom-clause-turn : goal.returns-in-NoRoom-clause-turn
