@@ -86,7 +86,7 @@ pub under_way_yields : (config : Config) (thread : ℕ) (from now new : State) (
 under_way_yields config thread from now new journal h is =
     record { turns = suc h.turns; at = next config thread from now journal [] (length journal) h.turns (Yields new) h.at is }
 
-same_kind : (op : SharedOp) → is_same_op op op ≡ true
+pub same_kind : (op : SharedOp) → is_same_op op op ≡ true
 unfolding is_same_op
 same_kind op = rw (eq-eqb (kind_number op.kind) _ refl, eq-eqb op.place _ refl, eq-eqb op.a _ refl, eq-eqb op.b _ refl) refl
 

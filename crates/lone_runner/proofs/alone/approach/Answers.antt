@@ -1,0 +1,76 @@
+use Rattle.std.proofs.Common.{rules, ◌≢◌, ◌≤◌, ◌<◌, ◌∙◌, sym, ap, refl, subst}
+use Rattle.kernel_contexts.specs.Context.{state_of, config_of, image_of, thread_of}
+use Rattle.lone_runner.specs.Parting.{IsPartingBefore}
+use Rattle.lone_runner.specs.Replayed.{place_of}
+use Rattle.lone_runner.specs.declared.fault.AloneFault.TheVariants.{Memory, EndsEarly}
+use Rattle.lone_runner.proofs.Shown.{before_starts, before_on, before_strays, before_ends, shown_here, shown_ended}
+use Rattle.lone_runner.proofs.alone.approach.Goals as goal
+
+pub turns-init : goal.turns-init
+turns-init c = record {
+  before = before_starts c.args.count c.args.context.now c.args.ticket.now c.requires;
+  held = c.requires.held;
+  runs = c.requires.runs;
+  same = record { config = refl; thread = refl; image = refl };
+}
+
+pub returns-in_err-stop-clause-parts : goal.returns-in_err-stop-clause-parts
+returns-in_err-stop-clause-parts c =
+    let h = c.turns.invariant in
+    let start = c.args.context.now in
+    let fault = c.in_err-stop.field-0.0 in
+    let less : (state_of c.turns.context).count < c.args.count = subst (λ n. n < c.args.count) c.count.ensures c.turns-test.true in
+    let parts : fault ≢ Memory
+    → IsPartingBefore (image_of start) (config_of start) (thread_of start) c.args.ticket.now.ahead c.args.count fault =
+    λ told. before_strays _ _ _ _ _ c.turns.context c.turns.ticket h.same.config h.same.thread h.before less fault
+    (c.in_err-stop.ensures.astray told) in
+    search rules
+
+pub turns-preserved : goal.turns-preserved
+turns-preserved c =
+    let h = c.turns.invariant in
+    let e = c.in_ok-stop.ensures in
+    let less : (state_of c.turns.context).count < c.args.count = subst (λ n. n < c.args.count) c.count.ensures c.turns-test.true in
+    record {
+      before = before_on _ _ _ _ _ c.turns.context c.turns.ticket h.same.config h.same.thread h.before less c.make_turn.new.context
+          c.make_turn.new.ticket (e.turn ∙ ap (place_of c.make_turn.new.context c.make_turn.new.ticket) c.in_default.is) e.journal;
+      held = e.ticket;
+      runs = e.stop ∙ c.in_default.is;
+      same = record {
+        config = e.same.config ∙ h.same.config;
+        thread = e.same.thread ∙ h.same.thread;
+        image = e.same.image ∙ h.same.image;
+      };
+    }
+
+pub returns-then-made-count-clause-parts : goal.returns-then-made-count-clause-parts
+returns-then-made-count-clause-parts c = λ _.
+    let h = c.turns.invariant in
+    let e = c.in_ok-stop.ensures in
+    let less : (state_of c.turns.context).count < c.args.count = subst (λ n. n < c.args.count) c.count.ensures c.turns-test.true in
+    let start = c.args.context.now in
+    subst
+    (λ n. IsPartingBefore (image_of start) (config_of start) (thread_of start) c.args.ticket.now.ahead c.args.count
+    (EndsEarly n c.in-Some.stop))
+    (sym c.count-made.ensures)
+    (before_ends _ _ _ _ _ c.turns.context c.turns.ticket h.same.config h.same.thread h.before less c.make_turn.new.context
+    c.make_turn.new.ticket c.in-Some.stop
+    (e.turn ∙ ap (place_of c.make_turn.new.context c.make_turn.new.ticket) c.in-Some.is)
+    (subst (λ n. n < c.args.count) c.count-made.ensures c.if-made-count.true))
+
+pub returns-in-turns-clause-shown : goal.returns-in-turns-clause-shown
+returns-in-turns-clause-shown c =
+    let h = c.turns.invariant in
+    let e = c.in_ok-stop.ensures in
+    let less : (state_of c.turns.context).count < c.args.count = subst (λ n. n < c.args.count) c.count.ensures c.turns-test.true in
+    shown_ended _ _ _ _ _ c.turns.context c.turns.ticket h.same.config h.same.thread h.before less c.make_turn.new.context
+    c.make_turn.new.ticket c.in-Some.stop
+    (e.turn ∙ ap (place_of c.make_turn.new.context c.make_turn.new.ticket) c.in-Some.is) e.journal (e.stop ∙ c.in-Some.is)
+    (e.same.thread ∙ h.same.thread)
+    (subst (λ n. c.args.count ≤ n) c.count-made.ensures c.if-made-count.false)
+
+pub returns-clause-shown : goal.returns-clause-shown
+returns-clause-shown c =
+    let h = c.turns.invariant in
+    shown_here _ _ _ _ _ c.turns.context c.turns.ticket h.before h.same.thread h.runs
+    (subst (λ n. c.args.count ≤ n) c.count.ensures c.turns-test.false)

@@ -1,0 +1,71 @@
+use Rattle.std.proofs.Common.{rules, ◌≢◌, ◌∙◌, sym, ap, refl}
+use Rattle.kernel_contexts.specs.Context.{config_of, image_of, thread_of}
+use Rattle.lone_runner.specs.Parting.{IsParting, parting_at}
+use Rattle.lone_runner.specs.Replayed.{place_of}
+use Rattle.lone_runner.specs.declared.fault.AloneFault.TheVariants.{Memory}
+use Rattle.lone_runner.proofs.Ways.{way_starts, way_parts, way_strays, way_on, ended, none_of, some_of}
+use Rattle.lone_runner.proofs.alone.follow.Goals as goal
+
+pub turns-init : goal.turns-init
+turns-init c = record {
+  way = way_starts c.args.count c.args.context.now c.args.ticket.now c.requires;
+  held = c.requires.held;
+  runs = c.requires.runs;
+  same = record { config = refl; thread = refl; image = refl };
+}
+
+pub returns-in_err-stop-clause-parts : goal.returns-in_err-stop-clause-parts
+returns-in_err-stop-clause-parts c =
+    let h = c.turns.invariant in
+    let start = c.args.context.now in
+    let fault = c.in_err-stop.field-0.0 in
+    let parts : fault ≢ Memory
+    → IsParting (image_of start) (config_of start) (thread_of start) c.args.ticket.now.ahead c.args.count fault =
+    λ told. way_strays _ _ _ _ _ c.turns.context c.turns.ticket h.same.config h.same.thread h.way fault
+    (c.in_err-stop.ensures.astray told) in
+    search rules
+
+pub returns-in-Some-clause-parts : goal.returns-in-Some-clause-parts
+returns-in-Some-clause-parts c = λ _.
+    let h = c.turns.invariant in
+    way_parts _ _ _ _ _ c.turns.context c.turns.ticket h.same.config h.same.thread h.way _ c.in-Some.fault c.in_ok-stop.ensures.turn
+    (sym c.parting.ensures ∙ c.in-Some.is)
+
+pub returns-then-is_some : goal.returns-then-is_some
+returns-then-is_some c =
+    let h = c.turns.invariant in
+    let e = c.in_ok-stop.ensures in
+    let end =
+    ended _ _ _ _ _ c.turns.context c.turns.ticket h.same.config h.same.thread h.way c.make_turn.new.context c.make_turn.new.ticket _
+    (some_of _ (sym c.is_some.ensures ∙ c.if-is_some.true)) e.turn e.journal (sym c.parting.ensures ∙ c.in-None.is) e.stop
+    (e.same.thread ∙ h.same.thread) in
+    record {
+      run = end.alone;
+      journal = end.events;
+      count = end.counts;
+      parts = tt;
+      same = record {
+        config = e.same.config ∙ h.same.config;
+        thread = e.same.thread ∙ h.same.thread;
+        image = e.same.image ∙ h.same.image;
+      };
+    }
+
+pub turns-preserved : goal.turns-preserved
+turns-preserved c =
+    let h = c.turns.invariant in
+    let e = c.in_ok-stop.ensures in
+    let none = none_of _ (sym c.is_some.ensures ∙ c.if-is_some.false) in
+    record {
+      way = way_on _ _ _ _ _ c.turns.context c.turns.ticket h.same.config h.same.thread h.way c.make_turn.new.context c.make_turn.new.ticket
+          (e.turn ∙ ap (place_of c.make_turn.new.context c.make_turn.new.ticket) none) e.journal
+          (ap (λ o. parting_at c.args.count (place_of c.make_turn.new.context c.make_turn.new.ticket o)) (sym none)
+          ∙ sym c.parting.ensures ∙ c.in-None.is);
+      held = e.ticket;
+      runs = e.stop ∙ none;
+      same = record {
+        config = e.same.config ∙ h.same.config;
+        thread = e.same.thread ∙ h.same.thread;
+        image = e.same.image ∙ h.same.image;
+      };
+    }

@@ -1,0 +1,38 @@
+-- A context and the ticket whose journal answers it, as the code goes through its turns.
+use Rattle.std.specs.Prelude.{◌≡◌, ◌+◌, ◌<◌, ◌^◌, [], length, Option, None}
+use Rattle.sm_types.specs.declared.stop.Stop.{Stop}
+use Rattle.shared_region.specs.Ports.{ReplayEvents}
+use Rattle.kernel_contexts.specs.State.{start_state}
+use Rattle.kernel_contexts.specs.Run.{Reached, Strays, turned}
+use Rattle.kernel_contexts.specs.Context.{state_of, config_of, image_of, thread_of, stop_of, journal_of}
+use Rattle.kernel_contexts.specs.declared.context.Context.{Context}
+use Rattle.lone_runner.specs.Parting.{standing, unanswered}
+use Rattle.lone_runner.specs.declared.fault.AloneFault.{AloneFault}
+
+-- the ticket is that of the context's thread, and the events that it answered are the context's; the journal
+-- has fewer than 2^32
+pub record HasTicket (context : Context) (ticket : ReplayEvents) : Type 0 where
+  pub number : ticket.thread ≡ thread_of context
+  pub events : ticket.answered ≡ journal_of context
+  pub fits : length (journal_of context) + length ticket.ahead < 2 ^ 32
+
+-- the thread has made no turn
+pub record IsAtStart (context : Context) (ticket : ReplayEvents) : Type 0 where
+  pub held : HasTicket context ticket
+  pub state : state_of context ≡ start_state (image_of context) (config_of context) (thread_of context)
+  pub runs : stop_of context ≡ None
+  pub journal : journal_of context ≡ []
+
+-- the place that they have reached
+abbrev pub place_of : Context → ReplayEvents → Option Stop → Reached
+place_of context ticket stop = standing (state_of context) stop (length (journal_of context)) ticket.ahead
+
+-- the next one, of a thread that goes on
+abbrev pub next_place : Context → ReplayEvents → Reached
+next_place context ticket = turned (config_of context) (thread_of context) (place_of context ticket None)
+
+-- the turn asks an operation that no event answers
+pub record IsAstray (context : Context) (ticket : ReplayEvents) (fault : AloneFault) : Type 0 where
+  pub strays : next_place context ticket
+      ≡ Strays (state_of context) (length (journal_of context)) ticket.ahead
+  pub told : fault ≡ unanswered (state_of context) (length (journal_of context)) ticket.ahead
