@@ -74,8 +74,8 @@ impl Context {
     }
 
     /// Makes one turn, in which the port answers what it asks of the shared words; a thread that has stopped
-    /// answers its stop, and nothing changes. `TraceEnds` and `TraceDiffers` come exactly where the turn asks
-    /// an operation that the port refuses so.
+    /// answers its stop, and nothing changes. `TraceEnds` and `TraceDiffers` come only where the turn asks an
+    /// operation that the port refuses so, and there nothing else comes but `Memory`.
     #[inline]
     pub fn advance<P: Port>(&mut self, port: &mut P, ticket: &mut P::Ticket) -> Turn
         requires number { P.number ticket.old ≡ Some (thread_of self.old) }
@@ -189,7 +189,8 @@ impl Context {
         handler_of(&self.guest.handlers, signal)
     }
 
-    /// The addresses of the handlers of signals 0 to 62, by their numbers; 0 where none is set.
+    /// An address for each of the numbers 0 to 62, of which 0 is no signal: that of the signal's handler, or
+    /// 0 where none is set.
     pub fn handlers(&self) -> &[u64]
         ensures { handlers_of result.now ≡ (state_of self.now).handlers }
     {
