@@ -1,5 +1,6 @@
 //! Contexts and their turns.
 ghost use Rattle.std.specs.Prelude.{◌≡◌, ◌+◌, ◌*◌, ◌<◌, ◌≤◌, ◌++◌, [], None, Some, IfOk};
+ghost use Rattle.kernel_contexts.specs.Guest.{IsGuestRun, IsGuestRun-prop};
 
 use crate::guest::GuestThread;
 use crate::handlers::handler_of;
@@ -28,11 +29,13 @@ pub enum Turn {
     Memory,
 }
 
-/// One guest thread, with the image from which it started.
+/// One guest thread, with the image from which it started: always a run of that image over its journal
+/// (`IsRun`).
 #[derive(Drop)]
 pub struct Context {
     guest: GuestThread,
     image: Image,
+    pub ghost is_run: { IsGuestRun image guest } by { IsGuestRun-prop image guest },
 }
 
 /// What a run ends with: a context for each guest thread, in order, and the words that they share.
