@@ -29,7 +29,7 @@ turns_from end end' s t new stopped TraceEnds e same h = absurd h
 turns_from end end' s t new stopped TraceDiffers e same h = absurd h
 turns_from end end' s t new stopped Memory e same h = (h.0 ∙ same, h.1)
 
-asked_turned : (config : Config) (thread events : ℕ) (old new : State) (refusals : Refusals) (made : List Event)
+pub asked_turned : (config : Config) (thread events : ℕ) (old new : State) (refusals : Refusals) (made : List Event)
     → GoesOn refusals (turn_of config thread events old) new made → new.turns ≡ old.turns + 1
 asked_turned config thread events old new refusals [] h = goes_turned config thread events old new h
 asked_turned config thread events old new refusals (event ∷ []) h =

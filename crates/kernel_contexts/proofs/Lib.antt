@@ -4,3 +4,5 @@ pub mod Answered
 pub mod Over
 pub mod Watched
 pub mod Calls
+pub mod Runs
+pub mod Kept

@@ -1,5 +1,5 @@
 -- From what a step over a port answers to what a turn over it does.
-use Rattle.std.proofs.Common.{◌≡◌, ℕ, Bool, true, false, List, Option, Some, None, length, ap, sym, ◌∙◌, subst, arith}
+use Rattle.std.proofs.Common.{◌≡◌, ℕ, ◌+◌, ◌≤◌, Bool, true, false, List, Option, Some, None, length, ap, sym, ◌∙◌, subst, arith}
 use Rattle.std.specs.Prelude.{nat_lt, nat_le, Ok, Err}
 use Rattle.std.proofs.lemmas.Bool.Decides.{nat_tests}
 use Rattle.sm_types.specs.declared.config.Config.{Config}
@@ -29,6 +29,14 @@ room_left n m is e = grind (arith, nat_tests)
 
 pub room_full : (n m : ℕ) → n ≡ m → nat_lt n 262144 ≡ false → nat_le journal_limit m ≡ true
 room_full n m is e = grind (arith, nat_tests)
+
+-- the journal has room for the event of a step
+pub event_fits : (refusals : Refusals) (room : Bool) (effect : Effect) (old new : ProcessorState) (event : Option Event) (n m : ℕ)
+    → n ≡ m → n ≤ 262144 → (room ≡ true → nat_le journal_limit m ≡ false) → Tells refusals room effect old new (Next event)
+    → n + length (events_of event) ≤ 262144
+event_fits refusals room effect old new None n m is few left h = omega arith
+event_fits refusals room effect old new (Some event) n m is few left h =
+    let more : nat_le journal_limit m ≡ false = left h.has_room in grind (arith, nat_tests)
 
 module _ (config : Config) (thread events : ℕ) (s : State) (refusals : Refusals) (room : Bool)
     (effect : Effect) (is : effect_of (vector_bytes config.vl) s.core ≡ effect) where

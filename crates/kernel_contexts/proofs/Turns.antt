@@ -8,6 +8,7 @@ use Rattle.std.specs.FinMap.{get}
 use Rattle.sm_types.specs.declared.config.Config.{Config}
 use Rattle.sm_types.specs.declared.shared_op.SharedOp.{SharedOp}
 use Rattle.sm_types.specs.declared.stop.Exception.{Exception}
+use Rattle.sm_types.specs.declared.stop.Stop.{Stop}
 use Rattle.sm_types.specs.declared.stop.Stop.TheVariants.{Budget, Raised, TraceFull}
 use Rattle.machine_step.specs.ProcessorState.{ProcessorState, vector_bytes}
 use Rattle.machine_step.specs.Effect.{Effect, Raises, Calls, Becomes, effect_of}
@@ -251,3 +252,9 @@ asks_turned config thread events s t op next answer e made =
     let more : CountsOne s (Asks op next) = subst (CountsOne s) e (turn_counts config thread events s) in
     let one : IsTurned s (next answer) = more answer in
     ap (λ (u : State). u.turns) made ∙ one.turns
+
+pub ends_turned : (config : Config) (thread events : ℕ) (s t : State) (stop : Stop) → turn_of config thread events s ≡ Ends t stop
+    → (t.turns ≡ s.turns) ⊎ (t.turns ≡ s.turns + 1)
+ends_turned config thread events s t stop e =
+    let more : CountsOne s (Ends t stop) = subst (CountsOne s) e (turn_counts config thread events s) in
+    elim more [ inl same ↦ inl same | inr one ↦ inr one.turns ]

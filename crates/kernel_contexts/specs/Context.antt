@@ -8,11 +8,11 @@ use Rattle.paged_memory.specs.Image.{Program}
 use Rattle.mem_access.specs.Bank.{bank_state}
 use Rattle.mem_access.specs.declared.bank.Bank.{Bank}
 use Rattle.machine_step.specs.ProcessorState.{VectorState}
-use Rattle.machine_step.specs.Machine.{core_of}
 use Rattle.machine_step.specs.Step.{Refusals}
 use Rattle.machine_step.specs.declared.machine.Machine.{Machine}
 use Rattle.kernel_contexts.specs.State.{State}
-use Rattle.kernel_contexts.specs.HandlerTable.{handlers_of}
+pub use Rattle.kernel_contexts.specs.Guest.{guest_state, held_state}
+use Rattle.kernel_contexts.specs.Standing.{IsRunOf}
 use Rattle.kernel_contexts.specs.Call.{TurnEnd, Goes, Yields, Asks, Ends, call_of}
 use Rattle.kernel_contexts.specs.Turn.{turn_of, instruction_of, outside_streaming}
 use Rattle.kernel_contexts.specs.declared.guest.GuestThread.{GuestThread}
@@ -20,23 +20,6 @@ use Rattle.kernel_contexts.specs.declared.context.Context.{Context}
 use Rattle.kernel_contexts.specs.declared.context.Turn.{Turn}
 use Rattle.kernel_contexts.specs.declared.context.Turn.TheVariants.{Ran, Yielded, Stopped, TraceEnds, TraceDiffers}
 use Rattle.kernel_contexts.specs.declared.context.Turn.TheVariants.{Memory}
-
--- the plain state of a guest thread with a bank
-abbrev pub guest_state : GuestThread → VectorState → State
-guest_state g bank = record {
-  core = core_of g.machine bank;
-  handlers = handlers_of g.handlers;
-  held = g.held;
-  inside = g.inside;
-  polled = g.polled;
-  output = g.output.items;
-  count = g.count;
-  turns = g.turns;
-}
-
--- with the vectors of its save area
-abbrev pub held_state : GuestThread → State
-held_state g = guest_state g (bank_state g.bank)
 
 -- the plain state of a context with a bank
 abbrev pub state_with : Context → VectorState → State
@@ -77,6 +60,10 @@ thread_of c = c.guest.number
 -- why it stopped, if it has
 abbrev pub stop_of : Context → Option Stop
 stop_of c = c.guest.stop
+
+-- a context is a run of its image: its state and its stop are those to which its turns come over its journal
+abbrev pub IsRun : Context → Type 0
+IsRun c = IsRunOf (image_of c) (config_of c) (thread_of c) (journal_of c) (state_of c) (stop_of c)
 
 -- the answer of a turn that asks no operation, of a thread that had not stopped, and the state and the stop
 -- after it, are those of the turn; want of memory changes nothing

@@ -5,6 +5,8 @@ pub mod SaveArea
 pub mod Call
 pub mod Turn
 pub mod Run
+pub mod Standing
+pub mod Guest
 pub mod Context
 pub mod Output
 pub mod Watch

@@ -1,5 +1,6 @@
 //! Contexts and their turns.
 ghost use Rattle.std.specs.Prelude.{◌≡◌, ◌+◌, ◌*◌, ◌<◌, ◌≤◌, ◌++◌, [], None, Some, IfOk};
+ghost use Rattle.kernel_contexts.specs.Guest.{IsGuestRun, IsGuestRun-prop};
 
 use crate::guest::GuestThread;
 use crate::handlers::handler_of;
@@ -28,11 +29,13 @@ pub enum Turn {
     Memory,
 }
 
-/// One guest thread, with the image from which it started.
+/// One guest thread, with the image from which it started: always a run of that image over its journal
+/// (`IsRun`).
 #[derive(Drop)]
 pub struct Context {
     guest: GuestThread,
     image: Image,
+    pub ghost is_run: { IsGuestRun image guest } by { IsGuestRun-prop image guest },
 }
 
 /// What a run ends with: a context for each guest thread, in order, and the words that they share.
@@ -74,8 +77,8 @@ impl Context {
     }
 
     /// Makes one turn, in which the port answers what it asks of the shared words; a thread that has stopped
-    /// answers its stop, and nothing changes. `TraceEnds` and `TraceDiffers` come exactly where the turn asks
-    /// an operation that the port refuses so.
+    /// answers its stop, and nothing changes. `TraceEnds` and `TraceDiffers` come only where the turn asks an
+    /// operation that the port refuses so, and there nothing else comes but `Memory`.
     #[inline]
     pub fn advance<P: Port>(&mut self, port: &mut P, ticket: &mut P::Ticket) -> Turn
         requires number { P.number ticket.old ≡ Some (thread_of self.old) }
@@ -189,7 +192,8 @@ impl Context {
         handler_of(&self.guest.handlers, signal)
     }
 
-    /// The addresses of the handlers of signals 0 to 62, by their numbers; 0 where none is set.
+    /// An address for each of the numbers 0 to 62, of which 0 is no signal: that of the signal's handler, or
+    /// 0 where none is set.
     pub fn handlers(&self) -> &[u64]
         ensures { handlers_of result.now ≡ (state_of self.now).handlers }
     {

@@ -1,5 +1,5 @@
 //! A guest thread as the kernel keeps it, and its turns.
-ghost use Rattle.std.specs.Prelude.{◌≡◌, ◌+◌, ◌*◌, ◌<◌, ◌≤◌, ◌^◌, ◌++◌, vec_len, vec_capacity, None, Some, IfOk, []};
+ghost use Rattle.std.specs.Prelude.{◌≡◌, ◌+◌, ◌*◌, ◌<◌, ◌≤◌, ◌^◌, ◌++◌, vec_len, vec_capacity, length, None, Some, IfOk, []};
 ghost use Rattle.kernel_contexts.specs.SaveArea.{IsSaveArea};
 ghost use Rattle.kernel_contexts.specs.State.{start_scalars};
 ghost use Rattle.kernel_contexts.specs.Watch.{IsWatched, waiting};
@@ -49,6 +49,7 @@ pub struct GuestThread {
     ghost turns_within: { turns ≤ 3 * config.budget },
     ghost within_budget: { count ≤ config.budget },
     ghost output_within: { vec_len output ≤ 1048576 },
+    ghost journal_within: { vec_len journal ≤ 262144 },
 }
 
 /// The events that a journal may hold.
@@ -262,6 +263,7 @@ impl GuestThread {
     fn go_on(&mut self, event: Option<Event>) -> Turn
         requires count { self.old.count < self.old.config.budget }
         requires room { vec_len self.old.journal < vec_capacity self.old.journal }
+        requires within { vec_len self.old.journal + length (events_of event) ≤ 262144 }
         ensures answer { result ≡ Turn.Ran }
         ensures state { held_state self.new ≡ counted (held_state self.old) (held_state self.old).core }
         ensures journal { self.new.journal.items ≡ self.old.journal.items ++ events_of event }

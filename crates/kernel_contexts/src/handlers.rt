@@ -4,7 +4,8 @@ ghost use Rattle.std.specs.FinMap.{empty, get};
 ghost use Rattle.kernel_contexts.specs.Handlers.{with_handler};
 ghost use Rattle.kernel_contexts.specs.HandlerTable.{handlers_of};
 
-/// The address of each signal's handler by its number, of 0 to 62, and 0 where none is set.
+/// An address for each of the numbers 0 to 62, of which 0 is no signal: that of the signal's handler, or 0
+/// where none is set.
 pub type Addresses = [u64; 63];
 
 /// A table in which no handler is set.

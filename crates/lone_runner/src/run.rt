@@ -1,9 +1,9 @@
 //! A thread from its start to its stop.
 ghost use Rattle.std.specs.Prelude.{◌≡◌, [], ◌∷◌, None, Some, IfOk};
 ghost use Rattle.machine_step.specs.Step.{entries_of};
-ghost use Rattle.kernel_contexts.specs.Context.{state_of, config_of, thread_of, stop_of, journal_of};
+ghost use Rattle.kernel_contexts.specs.Context.{image_of, state_of, config_of, thread_of, stop_of, journal_of};
 ghost use Rattle.kernel_contexts.specs.Context.{IsSameThread};
-ghost use Rattle.lone_runner.specs.LoneRun.{HaveRun, EndsFrom};
+ghost use Rattle.lone_runner.specs.LoneRun.{HaveRun, IsLoneRun};
 
 use kernel_contexts::{Context, Finished, Turn};
 use paged_memory::Image;
@@ -23,8 +23,8 @@ fn run(
     requires events { ticket.old.events ≡ [] }
     requires number { ticket.old.thread ≡ thread_of context.old }
     requires history { port.old.history ≡ [] }
-    ensures ends { IfOk result (λ stop. EndsFrom (config_of context.old) (thread_of context.old)
-        (state_of context.old) (journal_of context.new) (state_of context.new) stop) }
+    ensures ends { IfOk result (λ stop. IsLoneRun (image_of context.old) (config_of context.old)
+        (thread_of context.old) (journal_of context.new) (state_of context.new) stop) }
     ensures stop { IfOk result (λ stop. stop_of context.new ≡ Some stop) }
     ensures history { IfOk result (λ stop. port.new.history ≡
         entries_of (thread_of context.old) (journal_of context.new)) }

@@ -55,80 +55,39 @@ pub struct Form {
     pub fields: &'static [Field],
 }
 
+impl Form {
+    /// The form of a name and the fields after it.
+    fn new(name: &'static [u8], fields: &'static [Field]) -> Form
+        ensures name { result.name.now ≡ name.now }
+        ensures fields { result.fields.now ≡ fields.now }
+    {
+        Form { name, fields }
+    }
+}
+
 /// The form of a kind of line.
 fn form_of(kind: LineKind) -> Form
     ensures name { result.name.now ≡ spec.name_of kind }
     ensures fields { result.fields.now ≡ spec.fields_of kind }
 {
     match kind {
-        LineKind::Turns => Form {
-            name: b"turns",
-            fields: &[Field::Long],
-        },
-        LineKind::Pc => Form {
-            name: b"pc",
-            fields: &[Field::Value],
-        },
-        LineKind::X => Form {
-            name: b"x",
-            fields: &[Field::Number, Field::Value],
-        },
-        LineKind::Sp => Form {
-            name: b"sp",
-            fields: &[Field::Value],
-        },
-        LineKind::Nzcv => Form {
-            name: b"nzcv",
-            fields: &[Field::Flags],
-        },
-        LineKind::Tpidr => Form {
-            name: b"tpidr",
-            fields: &[Field::Value],
-        },
-        LineKind::Tpidr2 => Form {
-            name: b"tpidr2",
-            fields: &[Field::Value],
-        },
-        LineKind::Svcr => Form {
-            name: b"svcr",
-            fields: &[Field::Number],
-        },
-        LineKind::Z => Form {
-            name: b"z",
-            fields: &[Field::Number, Field::Bytes],
-        },
-        LineKind::P => Form {
-            name: b"p",
-            fields: &[Field::Number, Field::Bytes],
-        },
-        LineKind::Ffr => Form {
-            name: b"ffr",
-            fields: &[Field::Bytes],
-        },
-        LineKind::Za => Form {
-            name: b"za",
-            fields: &[Field::Number, Field::Bytes],
-        },
-        LineKind::Memory => Form {
-            name: b"memory",
-            fields: &[Field::Number, Field::Digest],
-        },
-        LineKind::Held => Form {
-            name: b"held",
-            fields: &[Field::Value],
-        },
-        LineKind::Inside => Form {
-            name: b"inside",
-            fields: &[Field::Truth],
-        },
-        LineKind::Polled => Form {
-            name: b"polled",
-            fields: &[Field::Truth],
-        },
-        LineKind::Handler => Form {
-            name: b"handler",
-            fields: &[Field::Number, Field::Value],
-        },
+        LineKind::Turns => Form::new(b"turns", &[Field::Long]),
+        LineKind::Pc => Form::new(b"pc", &[Field::Value]),
+        LineKind::X => Form::new(b"x", &[Field::Number, Field::Value]),
+        LineKind::Sp => Form::new(b"sp", &[Field::Value]),
+        LineKind::Nzcv => Form::new(b"nzcv", &[Field::Flags]),
+        LineKind::Tpidr => Form::new(b"tpidr", &[Field::Value]),
+        LineKind::Tpidr2 => Form::new(b"tpidr2", &[Field::Value]),
+        LineKind::Svcr => Form::new(b"svcr", &[Field::Number]),
+        LineKind::Z => Form::new(b"z", &[Field::Number, Field::Bytes]),
+        LineKind::P => Form::new(b"p", &[Field::Number, Field::Bytes]),
+        LineKind::Ffr => Form::new(b"ffr", &[Field::Bytes]),
+        LineKind::Za => Form::new(b"za", &[Field::Number, Field::Bytes]),
+        LineKind::Memory => Form::new(b"memory", &[Field::Number, Field::Digest]),
+        LineKind::Held => Form::new(b"held", &[Field::Value]),
+        LineKind::Inside => Form::new(b"inside", &[Field::Truth]),
+        LineKind::Polled => Form::new(b"polled", &[Field::Truth]),
+        LineKind::Handler => Form::new(b"handler", &[Field::Number, Field::Value]),
     }
 }
 

@@ -1,13 +1,12 @@
 use Rattle.std.proofs.Common.{◌++◌, ℕ, refl, sym, ap, ◌∙◌}
 use Rattle.machine_step.specs.Step.{entries_of}
 use Rattle.kernel_contexts.specs.Context.{journal_of, thread_of, made_by}
-use Rattle.lone_runner.proofs.Runs.{under_way_start}
-use Rattle.lone_runner.proofs.Turned.{turned, goes_on, yields, ends, made_none, history_on, never, same_some}
+use Rattle.lone_runner.proofs.Runs.{has_run, run_of}
+use Rattle.lone_runner.proofs.Turned.{turned, history_on, never, same_some}
 use Rattle.lone_runner.proofs.run.run.Goals as goal
 
 pub turns-init : goal.turns-init
 turns-init c = record {
-  under_way = under_way_start _ _ _ _ c.requires.journal;
   runs = c.requires.runs;
   same = record { config = refl; thread = refl; image = refl };
   events = c.requires.events ∙ sym c.requires.journal;
@@ -24,7 +23,6 @@ turns-preserved-in-Ran c =
     let thread = thread_of c.args.context.now in
     let turn = turned _ _ old new _ h.runs e.turn in
     record {
-      under_way = goes_on _ thread _ old new h.same.config h.same.thread h.under_way _ (made_by old new) turn.0 e.grows;
       runs = turn.1;
       same = record {
         config = e.same.config ∙ h.same.config;
@@ -46,9 +44,7 @@ turns-preserved c =
     let new = c.advance.new.self in
     let thread = thread_of c.args.context.now in
     let turn = turned _ _ old new _ h.runs e.turn in
-    let stays = made_none (journal_of old) (journal_of new) (made_by old new) e.grows turn.1 in
     record {
-      under_way = yields _ thread _ old new h.same.config h.same.thread h.under_way turn.0 stays;
       runs = turn.2;
       same = record {
         config = e.same.config ∙ h.same.config;
@@ -66,11 +62,10 @@ pub returns-in-Stopped-clause-ends : goal.returns-in-Stopped-clause-ends
 returns-in-Stopped-clause-ends c =
     let h = c.turns.invariant in
     let e = c.in-Stopped.ensures in
-    let old = c.turns.context in
     let new = c.advance.new.self in
-    let turn = turned _ _ old new _ h.runs e.turn in
-    ends _ _ _ old new h.same.config h.same.thread h.under_way _ turn.0
-    (made_none (journal_of old) (journal_of new) (made_by old new) e.grows turn.1)
+    let turn = turned _ _ c.turns.context new _ h.runs e.turn in
+    run_of _ _ _ _ _ _ _ _ _ (e.same.image ∙ h.same.image) (e.same.config ∙ h.same.config) (e.same.thread ∙ h.same.thread)
+    (has_run new _ turn.2)
 
 pub returns-in-Stopped-clause-stop : goal.returns-in-Stopped-clause-stop
 returns-in-Stopped-clause-stop c =

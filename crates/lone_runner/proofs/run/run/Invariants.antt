@@ -1,13 +1,10 @@
 use Rattle.std.proofs.Common.{◌≡◌, ◌-◌, ◌*◌, None}
 use Rattle.machine_step.specs.Step.{entries_of}
 use Rattle.kernel_contexts.specs.Context.{state_of, config_of, thread_of, stop_of, journal_of, IsSameThread}
-use Rattle.lone_runner.proofs.Runs.{IsUnderWay}
 use Rattle.lone_runner.proofs.run.run.Given as goal
 
 abbrev pub invariant-turns : goal.invariant-turns
 invariant-turns l = record {
-  under_way : IsUnderWay (config_of l.initial.context) (thread_of l.initial.context) (state_of l.initial.context) (journal_of l.context)
-      (state_of l.context);
   runs : stop_of l.context ≡ None;
   same : IsSameThread l.initial.context l.context;
   events : l.ticket.events ≡ journal_of l.context;

@@ -4,7 +4,7 @@ use Rattle.shared_region.specs.History.{AreOneHistory}
 use Rattle.sm_types.specs.declared.shared_words.Words.{Words}
 use Rattle.kernel_contexts.specs.Context.{journal_of}
 use Rattle.lone_runner.specs.LoneRun.{HasRunAlone}
-use Rattle.lone_runner.proofs.Runs.{lone_run}
+use Rattle.lone_runner.proofs.Runs.{run_of}
 use Rattle.lone_runner.proofs.Threads.{one_history, have_run}
 use Rattle.lone_runner.proofs.run.run_to_stop.Goals as goal
 
@@ -20,7 +20,7 @@ returns c =
       number = run.same.thread ∙ start.thread;
       stop = c.in_ok-run.field-0;
       stopped = run.stop;
-      run = lone_run program config 0 _ _ _ _ _ _ start.config start.thread start.state run.ends;
+      run = run_of program _ config _ 0 _ _ _ _ start.image start.config start.thread run.ends;
     } in
     let history = run.history ∙ ap (λ (n : ℕ). entries_of n (journal_of context)) start.thread in
     have_run program config context _ _ c.in_ok-finished.ensures.contexts c.requires alone

@@ -1,4 +1,4 @@
-use Rattle.std.proofs.Common.{◌≡◌, ◌++◌, length, ap, sym, ◌∙◌, arith}
+use Rattle.std.proofs.Common.{◌≡◌, ◌++◌, length, vec_len, refl, ap, sym, ◌∙◌, arith}
 use Rattle.sm_types.specs.declared.length.VecLen.{VecLen}
 use Rattle.sm_types.specs.declared.stop.Stop.TheVariants.{Raised, TraceFull}
 use Rattle.machine_step.specs.ProcessorState.{ProcessorState, vector_bytes}
@@ -9,13 +9,21 @@ use Rattle.kernel_contexts.specs.Call.{Ends}
 use Rattle.kernel_contexts.specs.Context.{held_state}
 use Rattle.kernel_contexts.proofs.Turns.{executes_raises}
 use Rattle.kernel_contexts.proofs.Answered.{stops_so, asked_nothing, made_nothing, made_events}
-use Rattle.kernel_contexts.proofs.Over.{room_left, room_full, goes_over, full_over, refused_over}
+use Rattle.kernel_contexts.proofs.Over.{event_fits, room_left, room_full, goes_over, full_over, refused_over}
 use Rattle.kernel_contexts.proofs.guest.GuestThread.execute.Goals as goal
 
 -- VL of the options is that of the save area
 its_effect : (g : GuestThread)
     → effect_of (vector_bytes g.config.vl) (held_state g).core ≡ effect_of (vector_bytes g.bank.vectors.vl) (held_state g).core
 its_effect g = ap (λ (l : VecLen). effect_of (vector_bytes l) (held_state g).core) (sym g.save_area.vl)
+
+pub go_on-requires-clause-within : goal.go_on-requires-clause-within
+go_on-requires-clause-within g c =
+    let t = c.args.self.now in
+    let n = vec_len c.reserve.new.self in
+    let count : c.len-room.result ≡ n = omega arith in
+    event_fits _ _ (effect_of (vector_bytes t.bank.vectors.vl) (held_state t).core) (held_state t).core _ c.in-Next.event n n refl
+    (omega (arith, t.journal_within, c.reserve.ensures.len)) (room_left c.len-room.result n count) c.in-Next.ensures.effect
 
 pub returns-in-Next-clause-turn : goal.returns-in-Next-clause-turn
 returns-in-Next-clause-turn g c =
