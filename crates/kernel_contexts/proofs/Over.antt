@@ -116,7 +116,8 @@ pub refused_after : (refusals : Refusals) (journal mid last : List Event) (old b
     → last ≡ mid → between ≡ old → Refuses refusal between new stopped turn
     → TurnsOver refusals (asking (length journal) old op next) old new (made_since journal last) stopped turn
 refused_after refusals journal mid last old between new op next refusal stopped turn h same before g =
-    subst (λ (l : List Event). TurnsOver refusals (asking (length journal) old op next) old new (made_since journal l) stopped turn) (sym same)
+    subst (λ (l : List Event). TurnsOver refusals (asking (length journal) old op next) old new (made_since journal l) stopped turn)
+    (sym same)
     (refused_so refusals journal (made_since journal mid) old new op next refusal stopped turn h
     (subst (λ (s : State). Refuses refusal s new stopped turn) before g))
 

@@ -87,7 +87,8 @@ pub record IsUnderWay (config : Config) (thread : ℕ) (from : State) (journal :
 pub under_way_start : (config : Config) (thread : ℕ) (from : State) (journal : List Event) → journal ≡ []
     → IsUnderWay config thread from journal from
 unfolding reach_from
-under_way_start config thread from journal empty = record { turns = 0; at = ap (At from 0) empty ∙ ap (λ (l : List Event). At from (length l) []) (sym empty) }
+under_way_start config thread from journal empty = record { turns = 0; at = ap (At from 0) empty
+    ∙ ap (λ (l : List Event). At from (length l) []) (sym empty) }
 
 pub under_way_on : (config : Config) (thread : ℕ) (from now new : State) (journal : List Event)
     → IsUnderWay config thread from journal now → turn_of config thread (length journal) now ≡ Goes new

@@ -11,7 +11,8 @@ use Rattle.kernel_contexts.specs.Call.{journal_limit}
 use Rattle.kernel_contexts.specs.declared.context.Turn.{Turn}
 use Rattle.kernel_contexts.specs.declared.context.Turn.TheVariants as turns
 use Rattle.kernel_contexts.specs.declared.guest.asking.Refusal.{Refusal}
-use Rattle.kernel_contexts.specs.declared.guest.asking.Refusal.TheVariants.{Full, TraceEnds, TraceDiffers, Memory}
+use Rattle.kernel_contexts.specs.declared.guest.asking.Refusal.TheVariants.{Full, TraceEnds, TraceDiffers}
+use Rattle.kernel_contexts.specs.declared.guest.asking.Refusal.TheVariants.{Memory}
 
 -- it is answered where the journal has room and the port does not refuse it, and makes one event; else it
 -- makes none

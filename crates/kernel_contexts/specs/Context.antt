@@ -18,7 +18,8 @@ use Rattle.kernel_contexts.specs.Turn.{turn_of, instruction_of, outside_streamin
 use Rattle.kernel_contexts.specs.declared.guest.GuestThread.{GuestThread}
 use Rattle.kernel_contexts.specs.declared.context.Context.{Context}
 use Rattle.kernel_contexts.specs.declared.context.Turn.{Turn}
-use Rattle.kernel_contexts.specs.declared.context.Turn.TheVariants.{Ran, Yielded, Stopped, TraceEnds, TraceDiffers}
+use Rattle.kernel_contexts.specs.declared.context.Turn.TheVariants.{Ran, Yielded, Stopped, TraceEnds}
+use Rattle.kernel_contexts.specs.declared.context.Turn.TheVariants.{TraceDiffers}
 use Rattle.kernel_contexts.specs.declared.context.Turn.TheVariants.{Memory}
 
 -- the plain state of a context with a bank

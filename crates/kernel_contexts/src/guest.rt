@@ -1,5 +1,6 @@
 //! A guest thread as the kernel keeps it, and its turns.
-ghost use Rattle.std.specs.Prelude.{◌≡◌, ◌+◌, ◌*◌, ◌<◌, ◌≤◌, ◌^◌, ◌++◌, vec_len, vec_capacity, length, None, Some, IfOk, []};
+ghost use Rattle.std.specs.Prelude.{◌≡◌, ◌+◌, ◌*◌, ◌<◌, ◌≤◌, ◌^◌, ◌++◌, vec_len, vec_capacity, length, None};
+ghost use Rattle.std.specs.Prelude.{Some, IfOk, []};
 ghost use Rattle.kernel_contexts.specs.SaveArea.{IsSaveArea};
 ghost use Rattle.kernel_contexts.specs.State.{start_scalars};
 ghost use Rattle.kernel_contexts.specs.Watch.{IsWatched, waiting};

@@ -37,7 +37,8 @@ module _ (config : Config) (thread : ℕ) (from : State) (old new : Context) (sa
       → journal_of new ≡ journal_of old ++ made → IsUnderWay config thread from (journal_of new) (state_of new)
   goes_on refusals [] goes grows =
       subst (λ (j : List Event). IsUnderWay config thread from j (state_of new)) (sym (grows ∙ append-nil (journal_of old)))
-      (under_way_on config thread from (state_of old) (state_of new) (journal_of old) h (its_turn config thread old (Goes (state_of new)) same is goes))
+      (under_way_on config thread from (state_of old) (state_of new) (journal_of old) h (its_turn config thread old (Goes
+      (state_of new)) same is goes))
   goes_on refusals (event ∷ []) goes grows =
       subst (λ (j : List Event). IsUnderWay config thread from j (state_of new)) (sym grows)
       (under_way_asks config thread from (state_of old) (state_of new) (journal_of old) event goes.next h

@@ -1,7 +1,8 @@
 //! A thread from its start to its stop.
 ghost use Rattle.std.specs.Prelude.{◌≡◌, [], ◌∷◌, None, Some, IfOk};
 ghost use Rattle.machine_step.specs.Step.{entries_of};
-ghost use Rattle.kernel_contexts.specs.Context.{image_of, state_of, config_of, thread_of, stop_of, journal_of};
+ghost use Rattle.kernel_contexts.specs.Context.{image_of, state_of, config_of, thread_of, stop_of};
+ghost use Rattle.kernel_contexts.specs.Context.{journal_of};
 ghost use Rattle.kernel_contexts.specs.Context.{IsSameThread};
 ghost use Rattle.lone_runner.specs.LoneRun.{HaveRun, IsLoneRun};
 
@@ -11,8 +12,8 @@ use shared_region::{PlainPort, PlainTicket, plain_history_grows};
 use sm_types::{Config, Memory, Stop};
 use std::alloc::Global;
 
-/// Makes turns until the thread stops; `Memory` where there is none for its output, for a page that it writes,
-/// or for an event.
+/// Makes turns until the thread stops; `Memory` where there is none for its output, for a page that it
+/// writes, or for an event.
 fn run(
     context: &mut Context,
     port: &mut PlainPort,
@@ -58,7 +59,8 @@ fn finish(alloc: Global, context: Context, port: &PlainPort) -> Result<Finished,
     }
 }
 
-/// Starts the one thread of a run of the image and makes its turns until it stops; `Memory` is want of memory.
+/// Starts the one thread of a run of the image and makes its turns until it stops; `Memory` is want of
+/// memory.
 pub fn run_to_stop(alloc: Global, image: &Image, config: &Config) -> Result<Finished, Memory>
     requires { config.now.threads ≡ 1 }
     ensures { IfOk result (λ run. HaveRun image.now config.now run.contexts.items run.words) }

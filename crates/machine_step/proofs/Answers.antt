@@ -33,7 +33,8 @@ use Rattle.mem_access.specs.VectorState.{VectorState}
 use Rattle.machine_step.specs.ProcessorState.{ProcessorState, vector_bytes}
 use Rattle.machine_step.specs.System.{system_move, core_past, moved}
 use Rattle.machine_step.specs.Effect.{Effect, Raises, Calls, Becomes, Asks, word_of, insn_at, is_executed, next_of, unless_fault}
-use Rattle.machine_step.specs.Effect.{fault_of, effect_of, perform, row_fault, data_fault, memory_fault, accessed, accesses, with_access, computed, vector_computed, with_core}
+use Rattle.machine_step.specs.Effect.{fault_of, effect_of, perform, row_fault, data_fault, memory_fault, accessed, accesses, with_access}
+use Rattle.machine_step.specs.Effect.{computed, vector_computed, with_core}
 use Rattle.machine_step.specs.Effect.{mode_fault, illegal_fault, early_fault}
 use Rattle.machine_step.specs.Needs.{is_call, uses_bank, uses_bank_where, needs_unless, needs_bank}
 use Rattle.machine_step.specs.Execution.{effect_of_insn, effect_of_meaning, unless_raised, unless_refused, needs_of_insn, needs_of_meaning}

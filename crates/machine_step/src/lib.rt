@@ -1,6 +1,6 @@
 //! One instruction of the machine: `Machine::step` answers with the effect of the instruction at PC, and
-//! all its answers but `Next` leave the machine as it was. A port answers an access to a word that the threads
-//! share.
+//! all its answers but `Next` leave the machine as it was. A port answers an access to a word that the
+//! threads share.
 #![tactic(auto)]
 
 mod array;

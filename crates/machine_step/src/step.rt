@@ -28,7 +28,8 @@ pub enum StepEnd {
     Raise(Exception),
     /// The instruction needs a bank, and none was given; nothing has changed.
     NeedsBank,
-    /// The instruction accesses a shared word, and the journal has no room for its event; nothing has changed.
+    /// The instruction accesses a shared word, and the journal has no room for its event; nothing has
+    /// changed.
     NoRoom,
     /// The port's journal has no event left for the access; nothing has changed.
     TraceEnds,
@@ -41,9 +42,9 @@ pub enum StepEnd {
 
 impl Machine {
     /// Executes the instruction at PC, on the bank where one is given; the port answers its access to a
-    /// shared word. `room` says that the journal has a place for the event. `NeedsBank` comes only where there
-    /// is no bank, and `Memory` only where the instruction writes a page that is not owned, or where the port
-    /// takes memory.
+    /// shared word. `room` says that the journal has a place for the event. `NeedsBank` comes only where
+    /// there is no bank, and `Memory` only where the instruction writes a page that is not owned, or where
+    /// the port takes memory.
     pub fn step<P: Port>(
         &mut self,
         bank: Option<&mut Bank>,
@@ -65,7 +66,8 @@ impl Machine {
         ensures memory { HasRoomToStep self.old (lent_before bank.entry) → result ≡ StepEnd.Memory
             → P.takes_memory }
         ensures kept { KeepsOwned self.old.pages self.new.pages }
-        ensures gives { Chain P.gives port.old ticket.old (entries_of thread (events_in result)) port.new ticket.new }
+        ensures gives { Chain P.gives port.old ticket.old (entries_of thread
+            (events_in result)) port.new ticket.new }
         ensures events { P.events ticket.new ≡ P.events ticket.old ++ events_in result }
         ensures number { P.number ticket.new ≡ Some thread }
         ensures belongs { P.ticket_name ticket.new ≡ P.name port.new }
@@ -99,7 +101,8 @@ impl Machine {
         ensures memory { HasRoomToStep self.old (lent_before bank.entry) → result ≡ StepEnd.Memory
             → P.takes_memory }
         ensures kept { KeepsOwned self.old.pages self.new.pages }
-        ensures gives { Chain P.gives port.old ticket.old (entries_of thread (events_in result)) port.new ticket.new }
+        ensures gives { Chain P.gives port.old ticket.old (entries_of thread
+            (events_in result)) port.new ticket.new }
         ensures events { P.events ticket.new ≡ P.events ticket.old ++ events_in result }
         ensures number { P.number ticket.new ≡ Some thread }
         ensures belongs { P.ticket_name ticket.new ≡ P.name port.new }
@@ -140,7 +143,8 @@ impl Machine {
         ensures mode { IsInMode bank.new self.new }
         ensures memory { HasRoomToStep self.old (Some bank.old) → result ≡ StepEnd.Memory → P.takes_memory }
         ensures kept { KeepsOwned self.old.pages self.new.pages }
-        ensures gives { Chain P.gives port.old ticket.old (entries_of thread (events_in result)) port.new ticket.new }
+        ensures gives { Chain P.gives port.old ticket.old (entries_of thread
+            (events_in result)) port.new ticket.new }
         ensures events { P.events ticket.new ≡ P.events ticket.old ++ events_in result }
         ensures number { P.number ticket.new ≡ Some thread }
         ensures belongs { P.ticket_name ticket.new ≡ P.name port.new }
@@ -168,7 +172,8 @@ impl Machine {
             }) room self.old self.new result }
         ensures memory { HasRoomToStep self.old None → result ≡ StepEnd.Memory → P.takes_memory }
         ensures kept { KeepsOwned self.old.pages self.new.pages }
-        ensures gives { Chain P.gives port.old ticket.old (entries_of thread (events_in result)) port.new ticket.new }
+        ensures gives { Chain P.gives port.old ticket.old (entries_of thread
+            (events_in result)) port.new ticket.new }
         ensures events { P.events ticket.new ≡ P.events ticket.old ++ events_in result }
         ensures number { P.number ticket.new ≡ Some thread }
         ensures belongs { P.ticket_name ticket.new ≡ P.name port.new }
@@ -201,7 +206,8 @@ impl Machine {
         ensures memory { result ≡ StepEnd.Memory → executed ≢ Executed.Memory → P.takes_memory }
         ensures pages { self.new.pages ≡ self.old.pages }
         ensures mode { KeepsMode self.old self.new }
-        ensures gives { Chain P.gives port.old ticket.old (entries_of thread (events_in result)) port.new ticket.new }
+        ensures gives { Chain P.gives port.old ticket.old (entries_of thread
+            (events_in result)) port.new ticket.new }
         ensures events { P.events ticket.new ≡ P.events ticket.old ++ events_in result }
         ensures number { P.number ticket.new ≡ Some thread }
         ensures belongs { P.ticket_name ticket.new ≡ P.name port.new }
@@ -239,7 +245,8 @@ impl Machine {
         ensures memory { result ≡ StepEnd.Memory → P.takes_memory }
         ensures pages { self.new.pages ≡ self.old.pages }
         ensures mode { KeepsMode self.old self.new }
-        ensures gives { Chain P.gives port.old ticket.old (entries_of thread (events_in result)) port.new ticket.new }
+        ensures gives { Chain P.gives port.old ticket.old (entries_of thread
+            (events_in result)) port.new ticket.new }
         ensures events { P.events ticket.new ≡ P.events ticket.old ++ events_in result }
         ensures number { P.number ticket.new ≡ Some thread }
         ensures belongs { P.ticket_name ticket.new ≡ P.name port.new }

@@ -104,7 +104,8 @@ fn put_kernel<K: Sink>(piece: &mut Piece, out: &mut K, context: &Context) -> Res
 /// The block of a thread.
 pub fn put_block<K: Sink>(piece: &mut Piece, out: &mut K, context: &Context) -> Result<(), PutFault>
     ensures { Gathers (gathered (K.view out.old) piece.old) (gathered (K.view out.new) piece.new) result
-        (block_text (thread_of context.now) (state_of context.now) (stop_of context.now) (journal_of context.now)) }
+        (block_text (thread_of context.now) (state_of context.now) (stop_of context.now)
+        (journal_of context.now)) }
 {
     let machine = context.machine();
     let bank = context.bank();
@@ -119,7 +120,8 @@ pub fn put_block<K: Sink>(piece: &mut Piece, out: &mut K, context: &Context) -> 
 /// written.
 pub fn write_block<K: Sink>(context: &Context, out: &mut K) -> Result<(), PutFault>
     ensures { Writes (K.view out.old) (K.view out.new) result
-        (block_text (thread_of context.now) (state_of context.now) (stop_of context.now) (journal_of context.now)) }
+        (block_text (thread_of context.now) (state_of context.now) (stop_of context.now)
+        (journal_of context.now)) }
 {
     let mut piece = Piece::new();
     put_block(&mut piece, out, context)?;

@@ -25,7 +25,8 @@ pub enum Refusal {
 impl GuestThread {
     ghost use Rattle.kernel_contexts.specs.Turn.{poll_of};
     ghost use Rattle.kernel_contexts.specs.Asked.{Asked, Refuses};
-    ghost use Rattle.kernel_contexts.specs.Context.{held_state, made_since, TurnsOver, IsSameGuest, IsQuietGuest};
+    ghost use Rattle.kernel_contexts.specs.Context.{held_state, made_since, TurnsOver, IsSameGuest};
+    ghost use Rattle.kernel_contexts.specs.Context.{IsQuietGuest};
 
     /// Makes an operation, where the journal has room for its event, and keeps that.
     pub(super) fn ask<P: Port>(
@@ -101,7 +102,8 @@ impl GuestThread {
           strays = P.strays port.old ticket.old;
           takes_memory = P.takes_memory;
         })
-            (poll_of self.old.number (length self.old.journal.items) (held_state self.old)) (held_state self.old) (held_state self.new)
+            (poll_of self.old.number (length self.old.journal.items) (held_state self.old))
+            (held_state self.old) (held_state self.new)
             (made_since self.old.journal.items self.new.journal.items) self.new.stop result }
         ensures grows { self.new.journal.items ≡
             self.old.journal.items ++ made_since self.old.journal.items self.new.journal.items }

@@ -1,5 +1,6 @@
 //! The calls of the kernel.
-ghost use Rattle.std.specs.Prelude.{◌≡◌, ◌≢◌, ◌+◌, ◌-◌, ◌<◌, ◌≤◌, ◌^◌, ◌++◌, length, vec_len, None, Some, take, drop};
+ghost use Rattle.std.specs.Prelude.{◌≡◌, ◌≢◌, ◌+◌, ◌-◌, ◌<◌, ◌≤◌, ◌^◌, ◌++◌, length, vec_len, None, Some};
+ghost use Rattle.std.specs.Prelude.{take, drop};
 ghost use Rattle.std.specs.Prelude.{slice_index};
 ghost use Rattle.std.specs.Prelude.{true, false};
 ghost use Rattle.paged_memory.specs.Memory.{bytes_with};
@@ -166,7 +167,8 @@ impl GuestThread {
           takes_memory = P.takes_memory;
         })
             (post_of self.old.config (length self.old.journal.items) (held_state self.old)
-            (outside_streaming self.old.config (held_state self.old))) (held_state self.old) (held_state self.new)
+            (outside_streaming self.old.config (held_state self.old))) (held_state self.old)
+            (held_state self.new)
             (made_since self.old.journal.items self.new.journal.items) self.new.stop result }
         ensures grows { self.new.journal.items ≡
             self.old.journal.items ++ made_since self.old.journal.items self.new.journal.items }

@@ -46,7 +46,8 @@ returns-in-Err-clause-turn g c =
     turned_so _ (asking events (held_state t) op (λ answer. returned s 0)) (post_of t.config events (held_state t) s) _ _ _ _ _
     (post_asks t.config events (held_state t) s may)
     (refused_after _ t.journal.items c.ask.new.self.journal.items _ (held_state t) _ _ op (λ answer. returned s 0) c.in-Err.refusal _ _
-    (subst (λ (o : SharedOp). Asked refusals o t.journal.items (made_since t.journal.items c.ask.new.self.journal.items) (Err c.in-Err.refusal))
+    (subst (λ (o : SharedOp). Asked refusals o t.journal.items (made_since t.journal.items c.ask.new.self.journal.items)
+    (Err c.in-Err.refusal))
     c.post_op-op.ensures c.in-Err.ensures.made) c.refuse.ensures.same.journal c.in-Err.ensures.state c.refuse.ensures.turn)
 
 pub returns-then-not-may_post-clause-turn : goal.returns-then-not-may_post-clause-turn

@@ -34,5 +34,6 @@ returns-in-Err-Memory-clause-effect c word vl bank =
     let fault = c.in-Err-Memory.ensures.made.0 ∙ ap raised_by c.in-Err-Memory.field-0-is in
     let none = no_operation it s.scalars s.memory c.touched_is_shared.ensures fault in (
       ap (λ (after : AfterAccess). record s { scalars = after.scalars; memory = after.memory }) c.in-Err-Memory.ensures.made.1,
-      becomes _ (accessed it s) (private_effect word vl it s c.requires.access none ∙ ap (λ f. unless_raised f (Becomes (accessed it s))) fault),
+      becomes _ (accessed it s) (private_effect word vl it s c.requires.access none
+      ∙ ap (λ f. unless_raised f (Becomes (accessed it s))) fault),
     )
