@@ -33,7 +33,8 @@ run_begins program config thread journal s stop same empty runs = rw (same, empt
 
 -- an end stays
 ended_on : (config : Config) (thread : ℕ) (from s : State) (journal : List Event) (stop : Stop) (done n : ℕ)
-    → reach_from config thread from 0 journal n ≡ Ended s stop done [] → reach_from config thread from 0 journal (suc n) ≡ Ended s stop done []
+    → reach_from config thread from 0 journal n ≡ Ended s stop done []
+    → reach_from config thread from 0 journal (suc n) ≡ Ended s stop done []
 unfolding reach_from
 ended_on config thread from s journal stop done n ends = ap (turned config thread) ends
 
@@ -96,8 +97,9 @@ module _ (config : Config) (thread : ℕ) (from old new : State) (journal : List
 
 -- ---- one turn of a run
 
-pub run_goes_on : (program : Program) (config : Config) (thread : ℕ) (refusals : Refusals) (old new : State) (before after made : List Event)
-    (stop stopped : Option Stop) (turn : Turn) → IsRunOf program config thread before old stop → stop ≡ None → after ≡ before ++ made
+pub run_goes_on : (program : Program) (config : Config) (thread : ℕ) (refusals : Refusals) (old new : State)
+    (before after made : List Event) (stop stopped : Option Stop) (turn : Turn) → IsRunOf program config thread before old stop
+    → stop ≡ None → after ≡ before ++ made
     → TurnsOver refusals (turn_of config thread (length before) old) old new made stopped turn
     → IsRunOf program config thread after new stopped
 unfolding reach
