@@ -98,8 +98,8 @@ module _ (config : Config) (thread : ℕ) (from old new : State) (journal : List
 -- ---- one turn of a run
 
 pub run_goes_on : (program : Program) (config : Config) (thread : ℕ) (refusals : Refusals) (old new : State)
-    (before after made : List Event)
-    (stop stopped : Option Stop) (turn : Turn) → IsRunOf program config thread before old stop → stop ≡ None → after ≡ before ++ made
+    (before after made : List Event) (stop stopped : Option Stop) (turn : Turn) → IsRunOf program config thread before old stop
+    → stop ≡ None → after ≡ before ++ made
     → TurnsOver refusals (turn_of config thread (length before) old) old new made stopped turn
     → IsRunOf program config thread after new stopped
 unfolding reach

@@ -1,5 +1,5 @@
 //! Contexts and their turns.
-ghost use Rattle.std.specs.Prelude.{◌≡◌, ◌+◌, ◌*◌, ◌<◌, ◌≤◌, ◌++◌, [], None, Some, IfOk};
+ghost use Rattle.std.specs.Prelude.{◌≡◌, ◌+◌, ◌*◌, ◌<◌, ◌≤◌, ◌++◌, [], length, None, Some, IfOk};
 ghost use Rattle.kernel_contexts.specs.Guest.{IsGuestRun, IsGuestRun-prop};
 
 use crate::guest::GuestThread;
@@ -195,7 +195,8 @@ impl Context {
     /// An address for each of the numbers 0 to 62, of which 0 is no signal: that of the signal's handler, or
     /// 0 where none is set.
     pub fn handlers(&self) -> &[u64]
-        ensures { handlers_of result.now ≡ (state_of self.now).handlers }
+        ensures value { handlers_of result.now ≡ (state_of self.now).handlers }
+        ensures count { length result.now ≡ 63 }
     {
         &self.guest.handlers
     }

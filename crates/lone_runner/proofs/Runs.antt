@@ -7,7 +7,7 @@ use Rattle.paged_memory.specs.Image.{Program}
 use Rattle.kernel_contexts.specs.State.{State, start_state}
 use Rattle.kernel_contexts.specs.Call.{Ends}
 use Rattle.kernel_contexts.specs.Turn.{turn_of}
-use Rattle.kernel_contexts.specs.Run.{Reached, Ended, turned, reach_from, reach}
+use Rattle.kernel_contexts.specs.Run.{Reached, Ended, reach_from, reach}
 use Rattle.kernel_contexts.specs.Standing.{IsRunOf}
 use Rattle.kernel_contexts.specs.Context.{state_of, stop_of, config_of, image_of, thread_of, journal_of}
 use Rattle.kernel_contexts.specs.declared.context.Context.{Context}

@@ -2,7 +2,7 @@ use Rattle.std.proofs.Common.{◌++◌, ℕ, refl, sym, ap, ◌∙◌}
 use Rattle.machine_step.specs.Step.{entries_of}
 use Rattle.kernel_contexts.specs.Context.{journal_of, thread_of, made_by}
 use Rattle.lone_runner.proofs.Runs.{has_run, run_of}
-use Rattle.lone_runner.proofs.Turned.{turned, history_on, never, same_some}
+use Rattle.lone_runner.proofs.Turned.{turned, history_on, same_some}
 use Rattle.lone_runner.proofs.run.run.Goals as goal
 
 pub turns-init : goal.turns-init

@@ -1,7 +1,5 @@
-use Rattle.std.proofs.Common.{◌∙◌, sym, ap, subst, ℕ}
+use Rattle.std.proofs.Common.{◌∙◌, sym, ap, ℕ}
 use Rattle.machine_step.specs.Step.{entries_of}
-use Rattle.shared_region.specs.History.{AreOneHistory}
-use Rattle.sm_types.specs.declared.shared_words.Words.{Words}
 use Rattle.kernel_contexts.specs.Context.{journal_of}
 use Rattle.lone_runner.specs.LoneRun.{HasRunAlone}
 use Rattle.lone_runner.proofs.Runs.{run_of}

@@ -23,9 +23,8 @@ invariant_of-self g c =
     let new = c.make_turn.new.self in
     let turn = c.make_turn.ensures in
     record {
-      is_run = run_kept before.image old.config new.config old.number new.number new.journal.items
-      (held_state new) new.stop turn.same.config
-          turn.same.number
+      is_run = run_kept before.image old.config new.config old.number new.number new.journal.items (held_state new) new.stop
+          turn.same.config turn.same.number
           (run_goes_on before.image old.config old.number _ (held_state old) (held_state new) old.journal.items new.journal.items _ old.stop
           new.stop c.make_turn.result before.is_run c.in-None.is turn.grows turn.turn);
     }
