@@ -447,16 +447,12 @@ class Thread:
         return after
 
 
-def report(file, vl=128, svl=256, budget=10_000_000, slice=1000):
-    thread, stop = Thread(file, budget, vl, svl, slice), None
-    while stop is None:
-        stop = thread.turn()
+def block(thread, stop, number=0):
+    """The lines of the block of a thread that stopped so."""
     digest = hashlib.sha256()
-    for number, (flags, content) in sorted(thread.pages.items()):
-        digest.update(struct.pack("<QB", number * 4096, flags) + content)
-    lines = ["smemu-report 1", f"options vl={vl} svl={svl} slice={slice} budget={budget} threads=1",
-             f"image {hashlib.sha256(file).hexdigest()}", "thread 0", f"stop {stop}", f"count {thread.count}",
-             f"turns {thread.turns}", f"pc {thread.pc:016x}"]
+    for page, (flags, content) in sorted(thread.pages.items()):
+        digest.update(struct.pack("<QB", page * 4096, flags) + content)
+    lines = [f"thread {number}", f"stop {stop}", f"count {thread.count}", f"turns {thread.turns}", f"pc {thread.pc:016x}"]
     lines += [f"x {i} {value:016x}" for i, value in enumerate(thread.x) if value]
     lines += [f"sp {thread.sp:016x}", "nzcv " + "".join(map(str, thread.flags)), f"tpidr {thread.tpidr:016x}", f"tpidr2 {thread.tpidr2:016x}",
               f"svcr {thread.matrix.svcr()}", *thread.vectors.lines(), *thread.matrix.lines(),
@@ -465,7 +461,15 @@ def report(file, vl=128, svl=256, budget=10_000_000, slice=1000):
     lines += [f"handler {signal} {address:016x}" for signal, address in sorted(thread.handlers.items()) if address]
     lines += [f"output {len(thread.output)}"]
     lines += [f"out {thread.output[i:i + 32].hex()}" for i in range(0, len(thread.output), 32)]
-    lines += [f"journal {len(thread.journal)}", *thread.journal, "end-thread", "shared"]
+    return lines + [f"journal {len(thread.journal)}", *thread.journal, "end-thread"]
+
+
+def report(file, vl=128, svl=256, budget=10_000_000, slice=1000):
+    thread, stop = Thread(file, budget, vl, svl, slice), None
+    while stop is None:
+        stop = thread.turn()
+    lines = ["smemu-report 1", f"options vl={vl} svl={svl} slice={slice} budget={budget} threads=1",
+             f"image {hashlib.sha256(file).hexdigest()}", *block(thread, stop), "shared"]
     lines += [f"w {place} {word:016x}" for place, word in enumerate(thread.words) if word]
     lines += [f"pending 0 {thread.pending:016x}"] * bool(thread.pending)
     return "\n".join(lines + ["end"]) + "\n"

@@ -7,6 +7,7 @@ The reports come from examples/expected.py and the interpreters beside it, which
 listings but one, are written out here. The files real-*.elf come from real/make.sh, which runs an assembler and two linkers.
 """
 import pathlib
+import re
 import sys
 
 HERE = pathlib.Path(__file__).resolve().parent
@@ -15,6 +16,7 @@ sys.path.insert(0, str(TOP / "examples"))
 from elf import (ALLOC, DYNAMIC, EXECINSTR, INTERP, LOAD, NOTE, STACK, STRTAB, SYMTAB, TLS, Section, Segment, assembled, build, elf,
                  mapping_symbols, sections_of, symbols, text_of)
 from expected import report
+from expected_replay import replay
 
 MOVZ, ADD, SUBS, B, SVC = 0xD2800000, 0x91000000, 0xF1000000, 0x54000000, 0xD4000001
 WIDE = 1 << 31
@@ -682,6 +684,59 @@ def runs(programs):
             yield f"{name}-until-{budget}", file, {"svl": svl, "budget": budget}
 
 
+def replaced(old, new):
+    """The report with the first such part replaced."""
+    return lambda text: text.replace(old, new, 1)
+
+
+def events_of(text):
+    return [line for line in text.splitlines() if line.startswith("e ")]
+
+
+def without_last_event(text):
+    events = events_of(text)
+    return text.replace(f"journal {len(events)}\n", f"journal {len(events) - 1}\n").replace(events[-1] + "\n", "", 1)
+
+
+def with_one_event_more(text):
+    events = events_of(text)
+    return text.replace(f"journal {len(events)}\n", f"journal {len(events) + 1}\n").replace("end-thread", f"{events[-1]}\nend-thread")
+
+
+def with_other_answer(text):
+    last = events_of(text)[-1]
+    return text.replace(last, last[:-16] + "00000000000000aa")
+
+
+def with_other_place(text):
+    first = events_of(text)[0]
+    kind, place = first.split()[1:3]
+    return text.replace(first, first.replace(f"{kind} {place}", f"{kind} 31"), 1)
+
+
+def replays(programs):
+    """Reports of programs, as they are and altered: the name of the report, the program, the report and the thread."""
+    same = lambda text: text
+    everywhere = {"as-it-is": same, "with-another-sp": replaced("\nsp 0", "\nsp 1"), "with-a-turn-more": replaced("\nturns ", "\nturns 1"),
+                  "with-a-count-more": replaced("\ncount ", "\ncount 1"), "with-count-2": lambda text: re.sub("\ncount .*", "\ncount 2", text)}
+    shared = {"without-its-last-event": without_last_event, "with-an-event-more": with_one_event_more, "with-another-answer": with_other_answer,
+              "with-another-place": with_other_place}
+    named = dict(programs)
+    for name, file, options in named["answer"], named["signal-in-streaming-mode-2048"], named["shared-cas"], named["signals-one-after-the-other"]:
+        text = report(file, **options)
+        for how, alter in {**everywhere, **(shared if events_of(text) else {})}.items():
+            yield f"{name}-{how}", name, alter(text), 0, *replay(file, alter(text))
+    name, file, options = named["answer"]
+    text = report(file, **options)
+    for how, program, altered, number in ("of-thread-1", name, text, 1), ("of-thread-31", name, text, 31), ("of-another-program", "shared-cas", text, 0):
+        yield f"{name}-{how}", program, altered, number, *replay(named[program][1], altered, number)
+    for how, altered, line in (("first-line-alone", "smemu-report 1\n", "2: options"), ("empty", "", "1: header"), ("end-missing", text[:-4], f"{text.count(chr(10))}: end"),
+                               ("no-text", text.replace("svcr", "\udcff"), f"{text[:text.index('svcr')].count(chr(10)) + 1}: nottext")):
+        yield f"{name}-{how}", name, altered, 0, 9, f"bad report: line {line}\n"
+    # the program is read, and refused, before the report
+    yield "of-no-program", "refused-empty", "", 0, 6, "bad file: truncated 0\n"
+
+
 def main():
     data = HERE / "data"
     rows = [(name, elf(words), {"slice": 1_000_000} if name == "loops" else {}) for name, words in REPORTS.items()] + list(loaded()) + [(name, file, {}) for name, file in [*accesses(), *shared_operations()]]
@@ -692,7 +747,11 @@ def main():
     rows += [(f"listing-{name}.elf", status, file, text, {"dis": ""}) for name, file, status, text in listings()]
     rows += [(f"source-{name}.s", 7, source, text, {"asm": ""}) for name, source, text in source_refusals()]
     rows += [(f"{name}.s", 0, source, file, {"asm": ""}) for name, source, file in programs]
-    for old in [*data.glob("*.txt"), *data.glob("*.s")]:
+    runnable = [(name.removesuffix(".elf"), (name.removesuffix(".elf"), file, {k: v for k, v in options.items() if v})) for name, status, file, _, options in rows
+                if status == 0 and "run" in options]
+    rows += [(f"replay-{name}.report", status, text.encode(errors="surrogateescape"), out, {"replay": "", f"{program}.elf": "", str(number): ""})
+             for name, program, text, number, status, out in replays(runnable)]
+    for old in [*data.glob("*.txt"), *data.glob("*.s"), *data.glob("*.report")]:
         old.unlink()
     for old in data.glob("*.elf"):
         if not old.name.startswith("real-"):

@@ -8,12 +8,12 @@ use Rattle.cmd_words.specs.Words.{usage_fault, command_of}
 use Rattle.cmd_words.specs.declared.command.UsageKind.{UsageKind}
 use Rattle.cmd_words.specs.declared.command.UsageKind.TheVariants.{Unknown}
 use Rattle.cmd_words.specs.declared.form.Operand.{Operand}
-use Rattle.cmd_words.specs.declared.form.Operand.TheVariants.{Name}
+use Rattle.cmd_words.specs.declared.form.Operand.TheVariants.{Name, Thread}
 use Rattle.cmd_words.specs.declared.verb.Verb.{Verb}
-use Rattle.cmd_words.specs.declared.verb.Verb.TheVariants.{Run, Dis, Asm, Help, Version}
+use Rattle.cmd_words.specs.declared.verb.Verb.TheVariants.{Run, Dis, Asm, Replay, Help, Version}
 use Rattle.sm_types.proofs.Places.{none-find, find-passes}
 use Rattle.cmd_words.proofs.Faults.{fault_at-operand}
-use Rattle.cmd_words.proofs.Reading.{asked_of, sound_first}
+use Rattle.cmd_words.proofs.Reading.{asked_of, some_inside, sound_first}
 
 none_if_not : {A : Type 0} (o : Option A) → is_some o ≡ false → o ≡ None
 none_if_not None e = refl
@@ -52,12 +52,38 @@ operand_stands : (operand : Operand) (word : Option (List ℕ)) → operand_faul
 operand_stands operand None e = cc
 operand_stands operand (Some word) e = refl
 
+-- an operand of a command stands, where there are words up to it
+operand_there : (words : List (List ℕ)) (form : Form) (k : ℕ) (operand : Operand) → usage_fault words ≡ None
+    → form_asked words ≡ Some form → slice_get form.operands k ≡ Some operand → k + 1 ≤ length words → IsSome (slice_get words (k + 1))
+operand_there words form k operand none asked at l =
+    operand_stands operand (slice_get words (k + 1))
+    (sym (fault_at-operand words form k operand asked at) ∙ no_place words none (k + 1) (omega arith))
+
 -- the first operand of a command stands
 first_stands : (words : List (List ℕ)) (form : Form) (operand : Operand) → usage_fault words ≡ None → form_asked words ≡ Some form
     → slice_get form.operands 0 ≡ Some operand → IsSome (slice_get words 1)
 first_stands words form operand none asked at =
-    let l : 1 ≤ length words = (sound_first words form asked).inside in
-    operand_stands operand (slice_get words 1) (sym (fault_at-operand words form 0 operand asked at) ∙ no_place words none 1 (omega arith))
+    operand_there words form 0 operand none asked at (sound_first words form asked).inside
+
+-- and the next one
+next_stands : (words : List (List ℕ)) (form : Form) (k : ℕ) (operand : Operand) → usage_fault words ≡ None → form_asked words ≡ Some form
+    → slice_get form.operands (k + 1) ≡ Some operand → IsSome (slice_get words (k + 1)) → IsSome (slice_get words (k + 1 + 1))
+next_stands words form k operand none asked at before =
+    let l : k + 1 < length words = some_inside words (k + 1) before in
+    operand_there words form (k + 1) operand none asked at (omega arith)
+
+and_then_some : {A B : Type 0} (f : A → Option B) (o : Option A) → IsSome o → ((a : A) → IsSome (f a)) → IsSome (option_and_then f o)
+and_then_some f None e h = cc
+and_then_some f (Some a) e h = h a
+
+replay_stands : (words : List (List ℕ)) → usage_fault words ≡ None → form_asked words ≡ Some (form_of Replay)
+    → IsSome (request_for words Replay)
+replay_stands words none asked =
+    let first = first_stands words (form_of Replay) Name none asked refl in
+    let second = next_stands words (form_of Replay) 0 Name none asked refl first in
+    let third = next_stands words (form_of Replay) 1 Thread none asked refl second in
+    and_then_some _ (slice_get words 1) first (λ program. and_then_some _ (slice_get words 2) second
+    (λ report. map_is_some _ (slice_get words 3) third))
 
 -- a command that stands asks for something
 requested : (words : List (List ℕ)) (verb : Verb) → usage_fault words ≡ None → option_and_then verb_of (slice_get words 0) ≡ Some verb
@@ -65,6 +91,7 @@ requested : (words : List (List ℕ)) (verb : Verb) → usage_fault words ≡ No
 requested words Run none is = map_is_some _ (slice_get words 1) (first_stands words (form_of Run) Name none (asked_of words Run is) refl)
 requested words Dis none is = map_is_some _ (slice_get words 1) (first_stands words (form_of Dis) Name none (asked_of words Dis is) refl)
 requested words Asm none is = map_is_some _ (slice_get words 1) (first_stands words (form_of Asm) Name none (asked_of words Asm is) refl)
+requested words Replay none is = replay_stands words none (asked_of words Replay is)
 requested words Help none is = refl
 requested words Version none is = refl
 

@@ -11,6 +11,7 @@ use Rattle.std.proofs.lemmas.Slice.Eq.{bytes_eq-Decides}
 use Rattle.cmd_words.specs.Forms.{Form, form_of, options_from}
 use Rattle.cmd_words.specs.Numbers.{is_number, number_of}
 use Rattle.cmd_words.specs.Options.{Options, default_options, word_of, setting_in, takes, default_of}
+use Rattle.cmd_words.specs.Words.{AsksReplay, thread_fault}
 use Rattle.cmd_words.specs.Words.{Request, AsksRun, verb_of, form_asked, command_fault, operand_fault, no_option, request_for, stands_at}
 use Rattle.cmd_words.specs.Words.{option_place, option_fault, value_fault, fault_at, usage_fault, value_below, number_given, options_given}
 use Rattle.cmd_words.specs.Words.{command_of}
@@ -18,11 +19,12 @@ use Rattle.cmd_words.specs.Given.{given_of, IsSoundTo, IsReadTo}
 use Rattle.cmd_words.specs.declared.command.UsageKind.{UsageKind}
 use Rattle.cmd_words.specs.declared.command.UsageKind.TheVariants.{Unknown, Repeated}
 use Rattle.cmd_words.specs.declared.form.Operand.{Operand}
+use Rattle.cmd_words.specs.declared.form.Operand.TheVariants.{Thread}
 use Rattle.cmd_words.specs.declared.given.Given.{Given}
 use Rattle.cmd_words.specs.declared.setting.Setting.{Setting}
 use Rattle.cmd_words.specs.declared.setting.Setting.TheVariants.{Vl, Svl, Slice, Budget}
 use Rattle.cmd_words.specs.declared.verb.Verb.{Verb}
-use Rattle.cmd_words.specs.declared.verb.Verb.TheVariants.{Run}
+use Rattle.cmd_words.specs.declared.verb.Verb.TheVariants.{Run, Replay}
 use Rattle.sm_types.proofs.Places.{or_next, find-more, find-none}
 use Rattle.cmd_words.proofs.Faults.{get_past, at_option, at_value, fault_at-operand, fault_at-option, fault_at-value, usage_at, usage_none}
 
@@ -336,7 +338,7 @@ stands_there : (operand : Operand) (word : Option (List ℕ)) → operand_fault 
 stands_there operand None e = cc
 stands_there operand (Some word) e = refl
 
-some_inside : (words : List (List ℕ)) (i : ℕ) → IsSome (slice_get words i) → i < length words
+pub some_inside : (words : List (List ℕ)) (i : ℕ) → IsSome (slice_get words i) → i < length words
 some_inside [] i e = cc
 some_inside (w ∷ ws) zero e = omega arith
 some_inside (w ∷ ws) (suc i) e = let l : i < length ws = some_inside ws i e in omega arith
@@ -444,3 +446,21 @@ pub asked_for : (words : List (List ℕ)) (given : Given) (verb : Verb) (request
     → request_for words verb ≡ request → command_of words ≡ request
 asked_for words given verb request n e h is asks =
     read_end words (form_of verb) given (to_end words (form_of verb) given n e h) verb request is asks
+
+replay_of : (program report : List ℕ) (thread : ℕ) (word : Option (List ℕ)) → option_map number_of word ≡ Some thread
+    → option_map (λ w. AsksReplay program report (number_of w)) word ≡ Some (AsksReplay program report thread)
+replay_of program report thread None e = cc
+replay_of program report thread (Some w) e = ap (λ n. Some (AsksReplay program report n)) (same_number (number_of w) thread e)
+
+-- the last operand of `replay` is the number of a guest thread
+pub thread_stands : (words : List (List ℕ)) (given : Given) (n : ℕ) → IsReadTo words (form_of Replay) n given
+    → ForSome (slice_get words 3) (λ word. thread_fault word ≡ None)
+thread_stands words given n h = λ word at.
+    let l : 4 ≤ n = h.past in
+    ap (operand_fault Thread) (sym at) ∙ sym (fault_at-operand words (form_of Replay) 2 Thread h.asked refl) ∙ h.sound 3 (omega arith)
+
+-- the replay that is asked for
+pub replay_asked : (words : List (List ℕ)) (program report : List ℕ) (thread : ℕ) → slice_get words 1 ≡ Some program
+    → slice_get words 2 ≡ Some report → option_map number_of (slice_get words 3) ≡ Some thread
+    → request_for words Replay ≡ Some (AsksReplay program report thread)
+replay_asked words program report thread first second third = rw (first, second) (replay_of program report thread (slice_get words 3) third)

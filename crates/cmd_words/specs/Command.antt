@@ -2,8 +2,8 @@
 use Rattle.std.specs.Prelude.{◌≡◌, ℕ, List, Some}
 use Rattle.std.specs.String.{string_bytes}
 use Rattle.cmd_words.specs.Options.{options_of}
-use Rattle.cmd_words.specs.Words.{Request, AsksRun, AsksListing, AsksAssembly, AsksHelp, AsksVersion}
-use Rattle.cmd_words.specs.Words.{usage_fault}
+use Rattle.cmd_words.specs.Words.{Request, AsksRun, AsksListing, AsksAssembly, AsksReplay, AsksHelp}
+use Rattle.cmd_words.specs.Words.{AsksVersion, usage_fault}
 use Rattle.cmd_words.specs.declared.command.Command.{Command}
 use Rattle.cmd_words.specs.declared.command.Command.TheVariants as command
 use Rattle.cmd_words.specs.declared.command.WordsFault.{WordsFault}
@@ -14,6 +14,8 @@ abbrev pub request_of : Command → Request
 request_of (command.Run program config) = AsksRun (string_bytes program) (options_of config)
 request_of (command.Dis program) = AsksListing (string_bytes program)
 request_of (command.Asm source) = AsksAssembly (string_bytes source)
+request_of (command.Replay program report thread) =
+    AsksReplay (string_bytes program) (string_bytes report) thread
 request_of command.Help = AsksHelp
 request_of command.Version = AsksVersion
 

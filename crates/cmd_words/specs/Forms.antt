@@ -1,11 +1,11 @@
 -- The forms of the commands: what stands after each of them. Source: this project's own command line.
 use Rattle.std.specs.Prelude.{ℕ, ◌+◌, List, [], ◌∷◌, length}
 use Rattle.cmd_words.specs.declared.form.Operand.{Operand}
-use Rattle.cmd_words.specs.declared.form.Operand.TheVariants.{Name}
+use Rattle.cmd_words.specs.declared.form.Operand.TheVariants.{Name, Thread}
 use Rattle.cmd_words.specs.declared.setting.Setting.{Setting}
 use Rattle.cmd_words.specs.declared.setting.Setting.TheVariants.{Vl, Svl, Slice, Budget}
 use Rattle.cmd_words.specs.declared.verb.Verb.{Verb}
-use Rattle.cmd_words.specs.declared.verb.Verb.TheVariants.{Run, Dis, Asm, Help, Version}
+use Rattle.cmd_words.specs.declared.verb.Verb.TheVariants.{Run, Dis, Asm, Replay, Help, Version}
 
 -- what must stand after a command, in order, and the options that may follow then, each with its value as the
 -- next word
@@ -18,6 +18,7 @@ abbrev pub form_of : Verb → Form
 form_of Run = record { operands = Name ∷ []; options = Vl ∷ Svl ∷ Slice ∷ Budget ∷ [] }
 form_of Dis = record { operands = Name ∷ []; options = [] }
 form_of Asm = record { operands = Name ∷ []; options = [] }
+form_of Replay = record { operands = Name ∷ Name ∷ Thread ∷ []; options = [] }
 form_of Help = record { operands = []; options = [] }
 form_of Version = record { operands = []; options = [] }
 

@@ -1,6 +1,6 @@
 -- The words of the command line, without the program's name: what they ask for, or which is the first at
 -- fault and why. Places count words from 0. Source: this project's own command line.
-use Rattle.std.specs.Prelude.{ℕ, ◌+◌, ◌-◌, ◌%◌, ◌==◌, ◌&&◌, nat_le, Bool, false, List, [], ◌∷◌, length}
+use Rattle.std.specs.Prelude.{ℕ, ◌+◌, ◌-◌, ◌%◌, ◌==◌, ◌&&◌, nat_le, nat_lt, Bool, false, List, [], ◌∷◌, length}
 use Rattle.std.specs.Prelude.{slice_get, Option, Some, None, is_some, is_none, option_map, option_and_then}
 use Rattle.std.specs.Prelude.{unwrap_or, codes, if◌then◌else◌}
 use Rattle.std.specs.List.{find, range_with_len}
@@ -14,10 +14,10 @@ use Rattle.cmd_words.specs.declared.command.UsageKind.{UsageKind}
 use Rattle.cmd_words.specs.declared.command.UsageKind.TheVariants.{Unknown, Missing, Repeated, BadNumber}
 use Rattle.cmd_words.specs.declared.command.UsageKind.TheVariants.{OutOfRange, Extra}
 use Rattle.cmd_words.specs.declared.form.Operand.{Operand}
-use Rattle.cmd_words.specs.declared.form.Operand.TheVariants.{Name}
+use Rattle.cmd_words.specs.declared.form.Operand.TheVariants.{Name, Thread}
 use Rattle.cmd_words.specs.declared.setting.Setting.{Setting}
 use Rattle.cmd_words.specs.declared.verb.Verb.{Verb}
-use Rattle.cmd_words.specs.declared.verb.Verb.TheVariants.{Run, Dis, Asm, Help, Version}
+use Rattle.cmd_words.specs.declared.verb.Verb.TheVariants.{Run, Dis, Asm, Replay, Help, Version}
 
 -- the command of a word
 unfoldable pub verb_of : List ℕ → Option Verb
@@ -25,9 +25,10 @@ verb_of word =
     if bytes_eq word (codes "run") then Some Run
     else (if bytes_eq word (codes "dis") then Some Dis
     else (if bytes_eq word (codes "asm") then Some Asm
+    else (if bytes_eq word (codes "replay") then Some Replay
     else (if bytes_eq word (codes "--help") then Some Help
     else (if bytes_eq word (codes "--version") then Some Version
-    else None))))
+    else None)))))
 
 -- the form of the command that the first word is
 abbrev pub form_asked : List (List ℕ) → Option Form
@@ -58,10 +59,17 @@ abbrev pub command_fault : Option (List ℕ) → Option UsageKind
 command_fault None = Some Missing
 command_fault (Some word) = if is_some (verb_of word) then None else Some Unknown
 
+-- a word is to be the number of a guest thread, of which a run has at most 32
+abbrev pub thread_fault : List ℕ → Option UsageKind
+thread_fault word =
+    if is_number word then (if nat_lt (number_of word) 32 then None else Some OutOfRange)
+    else Some BadNumber
+
 -- an operand is to stand
 abbrev pub operand_fault : Operand → Option (List ℕ) → Option UsageKind
 operand_fault operand None = Some Missing
 operand_fault Name (Some word) = None
+operand_fault Thread (Some word) = thread_fault word
 
 -- what a word is that is none of the options: one too many, where the command takes none
 abbrev pub no_option : List Setting → UsageKind
@@ -143,6 +151,8 @@ pub data Request : Type 0 where
   AsksListing : List ℕ → Request
   -- the program that the source of that name is assembled to
   AsksAssembly : List ℕ → Request
+  -- the block of a guest thread of a report: the program's name, the report's name, and the thread's number
+  AsksReplay : List ℕ → List ℕ → ℕ → Request
   -- the text of help
   AsksHelp : Request
   -- the version
@@ -154,6 +164,10 @@ request_for words Run =
     option_map (λ name. AsksRun name (options_given (form_of Run) words)) (slice_get words 1)
 request_for words Dis = option_map AsksListing (slice_get words 1)
 request_for words Asm = option_map AsksAssembly (slice_get words 1)
+request_for words Replay =
+    option_and_then (λ program. option_and_then (λ report.
+    option_map (λ word. AsksReplay program report (number_of word)) (slice_get words 3)) (slice_get words 2))
+    (slice_get words 1)
 request_for words Help = Some AsksHelp
 request_for words Version = Some AsksVersion
 

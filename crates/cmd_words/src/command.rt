@@ -11,6 +11,12 @@ pub enum Command {
     Dis { program: String },
     /// Assembles the source file of that name.
     Asm { source: String },
+    /// Runs one thread of a report alone, on the program file of that name.
+    Replay {
+        program: String,
+        report: String,
+        thread: u32,
+    },
     /// Tells how the command is used.
     Help,
     /// Tells the version.

@@ -11,6 +11,8 @@ use crate::verb::Verb;
 pub enum Operand {
     /// Any word, as the name of a file.
     Name,
+    /// The number of a guest thread.
+    Thread,
 }
 
 /// What stands after a command: its operands, and then options, each with its value as the next word.
@@ -33,6 +35,10 @@ pub fn form_of(verb: Verb) -> Form
         },
         Verb::Dis | Verb::Asm => Form {
             operands: &[Operand::Name],
+            options: &[],
+        },
+        Verb::Replay => Form {
+            operands: &[Operand::Name, Operand::Name, Operand::Thread],
             options: &[],
         },
         Verb::Help | Verb::Version => Form {

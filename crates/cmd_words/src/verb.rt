@@ -8,6 +8,7 @@ pub enum Verb {
     Run,
     Dis,
     Asm,
+    Replay,
     Help,
     Version,
 }
@@ -23,6 +24,8 @@ pub fn verb_of(word: &str) -> Option<Verb>
         Some(Verb::Dis)
     } else if word == "asm" {
         Some(Verb::Asm)
+    } else if word == "replay" {
+        Some(Verb::Replay)
     } else if word == "--help" {
         Some(Verb::Help)
     } else if word == "--version" {

@@ -1,6 +1,7 @@
 //! The words of a command line, read into a command.
 ghost use Rattle.std.specs.Prelude.{◌≡◌, ◌<◌, ◌≤◌, ◌+◌, true, map, slice_get, length, Option, Some, None};
 ghost use Rattle.std.specs.Prelude.{option_map, option_and_then, IfOk, IfErr, OnOk, IsSome, MatchOption};
+ghost use Rattle.std.specs.Option.{ForSome};
 ghost use Rattle.std.specs.String.{string_bytes};
 ghost use Rattle.cmd_words.specs.Forms as forms;
 ghost use Rattle.cmd_words.specs.Numbers as numbers;
@@ -35,6 +36,17 @@ fn usage(place: usize, kind: UsageKind) -> WordsFault
     WordsFault::Usage { place, kind }
 }
 
+/// What is wrong with a word that is to be the number of a guest thread.
+fn thread_fault(word: &str) -> Option<UsageKind>
+    ensures { result ≡ spec.thread_fault word.now }
+{
+    match number_of(word) {
+        Some(number) if number < 32 => None,
+        Some(_) => Some(UsageKind::OutOfRange),
+        None => Some(UsageKind::BadNumber),
+    }
+}
+
 /// What is wrong where an operand is to stand.
 fn operand_fault(operand: Operand, word: Option<&str>) -> Option<UsageKind>
     ensures { result ≡ spec.operand_fault operand (option_map (λ word. word.now) word.entry) }
@@ -42,6 +54,7 @@ fn operand_fault(operand: Operand, word: Option<&str>) -> Option<UsageKind>
     match (operand, word) {
         (_, None) => Some(UsageKind::Missing),
         (Operand::Name, Some(_)) => None,
+        (Operand::Thread, Some(word)) => thread_fault(word),
     }
 }
 
@@ -167,6 +180,20 @@ fn name_at(alloc: Global, words: &[String], place: usize) -> Result<String, Word
     }
 }
 
+/// The number of the guest thread at a place.
+fn thread_at(words: &[String], place: usize) -> u32
+    requires stands { place < length words.now }
+    requires number { ForSome (slice_get (map string_bytes words.now) place)
+        (λ word. spec.thread_fault word ≡ None) }
+    ensures number { option_map numbers.number_of (slice_get (map string_bytes words.now) place)
+        ≡ Some result }
+{
+    match number_of(words[place].as_str()) {
+        Some(number) => number as u32,
+        None => unreachable!(),
+    }
+}
+
 /// The command of words without a fault.
 fn make_command(
     alloc: Global,
@@ -190,6 +217,11 @@ fn make_command(
         }),
         Verb::Asm => Ok(Command::Asm {
             source: name_at(alloc, words, 1)?,
+        }),
+        Verb::Replay => Ok(Command::Replay {
+            program: name_at(alloc, words, 1)?,
+            report: name_at(alloc, words, 2)?,
+            thread: thread_at(words, 3),
         }),
         Verb::Help => Ok(Command::Help),
         Verb::Version => Ok(Command::Version),

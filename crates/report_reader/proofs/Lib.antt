@@ -5,3 +5,4 @@ pub mod Past
 pub mod Readings
 pub mod Weights
 pub mod Standing
+pub mod Differences

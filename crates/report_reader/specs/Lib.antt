@@ -8,4 +8,5 @@ pub mod Header
 pub mod Reading
 pub mod Block
 pub mod Report
+pub mod Difference
 pub mod Told

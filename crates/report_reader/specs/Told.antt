@@ -4,6 +4,8 @@ use Rattle.report_reader.specs.Fields.{words_left}
 use Rattle.report_reader.specs.Lines.{lines_of, with_first}
 use Rattle.report_reader.specs.Reading.{Left, Fault}
 use Rattle.report_reader.specs.Block.{Block}
+use Rattle.report_reader.specs.Difference.{Difference}
+use Rattle.report_reader.specs.declared.difference.Difference as difference
 use Rattle.report_reader.specs.declared.parts.ReportBlock.{ReportBlock}
 use Rattle.report_reader.specs.Header.{options_of}
 use Rattle.report_reader.specs.Report.{Report, SharedWords}
@@ -26,6 +28,10 @@ left_of lines =
       place = lines.place;
       lines = with_first lines.line.now (lines_of lines.rest.now);
     }
+
+-- what a difference of the code says
+abbrev pub difference_said : difference.Difference → Difference
+difference_said it = record { line = it.line; first = it.first.now; second = it.second.now }
 
 -- what a block of the code says
 abbrev pub block_said : ReportBlock → Block

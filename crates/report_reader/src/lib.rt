@@ -3,6 +3,7 @@
 #![tactic(auto)]
 
 mod block;
+mod difference;
 mod events;
 mod fault;
 mod fields;
@@ -14,6 +15,7 @@ mod parts;
 mod report;
 mod stops;
 
+pub use difference::{Difference, first_difference};
 pub use fault::{ReportFault, ReportKind};
 pub use parts::{Report, ReportBlock};
 pub use report::read_report;

@@ -31,7 +31,7 @@ fn line_feed(text: &[u8]) -> Option<usize>
 }
 
 /// The first line of a text, with the line feed that ends it, and what follows it.
-fn split_line(text: &[u8]) -> (&[u8], &[u8])
+pub fn split_line(text: &[u8]) -> (&[u8], &[u8])
     ensures lines { lines_of text.now ≡ with_first result.0.now (lines_of result.1.now) }
     ensures lengths { length result.0.now + length result.1.now ≡ length text.now }
     ensures whole { length result.0.now ≡ 0 → length result.1.now ≡ 0 }

@@ -19,6 +19,7 @@ pub struct ReportBlock {
     /// The answers of its shared operations, the oldest first.
     pub journal: Vec<Event>,
     pub ghost few_events: { vec_len journal < 2 ^ 32 },
+    pub ghost few_lines: { first_line < 2 ^ 63 },
 }
 
 /// A report.

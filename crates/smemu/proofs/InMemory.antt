@@ -2,9 +2,9 @@
 use Rattle.std.proofs.Common.{◌≡◌, ◌⊎◌, inl, inr, ℕ, List, Option, Some, None, refl, false, true}
 use Rattle.std.specs.Prelude.{IfSome, IsTrue}
 use Rattle.smemu.specs.Ends.{Call, IsRefused, IsComplete, MayCome, HasRoom, LacksMemoryAlone}
-use Rattle.smemu.specs.Requests.{due_status}
+use Rattle.smemu.specs.Requests.{IsDue}
 use Rattle.smemu.specs.declared.status.Status.{Status}
-use Rattle.smemu.specs.declared.status.Status.TheVariants.{Done, Usage, Absent, ReadFault, WriteFault, BadFile, BadSource, OutOfMemory}
+use Rattle.smemu.specs.declared.status.Status.TheVariants.{Done, Usage, Absent, ReadFault, WriteFault, BadFile, BadSource, OutOfMemory, BadReport, Differs}
 
 module _ (c : Call) (reliable : IsTrue c.files.before.reliable) (room : HasRoom c) (files : List ℕ → Option (List ℕ)) where
   only_memory : (s : Status) → IsRefused c s → MayCome files c.words s → s ≡ OutOfMemory
@@ -16,9 +16,11 @@ module _ (c : Call) (reliable : IsTrue c.files.before.reliable) (room : HasRoom 
   only_memory Absent h m = absurd m
   only_memory BadFile h m = absurd m
   only_memory BadSource h m = absurd m
+  only_memory BadReport h m = absurd m
+  only_memory Differs h m = absurd m
 
-  due_or_memory : (s : Status) → IsRefused c s → (s ≡ due_status files c.words) ⊎ MayCome files c.words s
-      → (s ≡ due_status files c.words) ⊎ (s ≡ OutOfMemory)
+  due_or_memory : (s : Status) → IsRefused c s → IsDue files c.words s ⊎ MayCome files c.words s
+      → IsDue files c.words s ⊎ (s ≡ OutOfMemory)
   due_or_memory s h e = elim e [
     | inl due ↦ inl due
     | inr other ↦ inr (only_memory s h other)
@@ -27,7 +29,7 @@ module _ (c : Call) (reliable : IsTrue c.files.before.reliable) (room : HasRoom 
 pub lacks_memory_alone : (c : Call) (s : Status) → IsRefused c s → IsComplete c s → LacksMemoryAlone c s
 lacks_memory_alone c s h complete = λ reliable room.
     elim c.files.before.told as (λ told. c.files.before.told ≡ told
-    → IfSome told (λ files. (s ≡ due_status files c.words) ⊎ (s ≡ OutOfMemory))) [
+    → IfSome told (λ files. IsDue files c.words s ⊎ (s ≡ OutOfMemory))) [
       | None ↦ λ e. tt
       | Some files ↦ λ e. due_or_memory c reliable room files s h (complete files e)
     ] refl

@@ -1,6 +1,7 @@
 pub mod Whole
 pub mod Requests
 pub mod Ends
+pub mod Replays
 pub mod Words
 pub mod OneAnswer
 pub mod InMemory

@@ -1,5 +1,5 @@
 -- Two texts that answer the same request over the same files are equal.
-use Rattle.std.proofs.Common.{◌≡◌, ℕ, zero, suc, ◌≤◌, List, [], ◌∷◌, length, cond, Option, Some, None, refl, sym, ◌∙◌, ap, subst, arith}
+use Rattle.std.proofs.Common.{◌≡◌, ℕ, zero, suc, ◌≤◌, List, [], ◌∷◌, length, cond, Option, Some, None, Result, Ok, refl, sym, ◌∙◌, ap, subst, arith}
 use Rattle.std.specs.Prelude.{◌==◌, slice_get, if◌then◌else◌}
 use mathlib.Core.HLevel.{Σ_prop_path}
 use native.Mathlib.Bridge.{le_prop}
@@ -16,7 +16,7 @@ use Rattle.sm_types.specs.Objects.{text_address, data_address}
 use Rattle.asm_core.specs.Assembly.{IsSameObject}
 use Rattle.asm_core.proofs.OneObject.{one_object, same_code}
 use Rattle.cmd_words.specs.Options.{Options, options_of}
-use Rattle.cmd_words.specs.Words.{Request, command_of, AsksRun, AsksListing, AsksHelp, AsksVersion, AsksAssembly}
+use Rattle.cmd_words.specs.Words.{Request, command_of, AsksRun, AsksListing, AsksReplay, AsksHelp, AsksVersion, AsksAssembly}
 use Rattle.code_listing.specs.Listing.{listing_text}
 use Rattle.elf_sections.specs.Code.{code_words}
 use Rattle.elf_loader.specs.Loading.{Loads}
@@ -27,6 +27,11 @@ use Rattle.lone_runner.proofs.Runs.{one_state, one_stop}
 use Rattle.lone_runner.proofs.OneRun.{one_journal, one_words}
 use Rattle.paged_memory.specs.Image.{Extent, IsMemoryOf, Program}
 use Rattle.report_text.specs.Report.{ThreadEnd, report_text}
+use Rattle.report_reader.specs.Block.{Block}
+use Rattle.report_reader.specs.Header as header
+use Rattle.report_reader.specs.Reading.{Fault}
+use Rattle.report_reader.specs.Report.{Report, report_in}
+use Rattle.smemu.specs.Replay.{IsBlockIn, IsReplayOf, text_in}
 use Rattle.smemu.proofs.Words.{one_run}
 use Rattle.smemu.specs.Answers.{IsEndOf, journals_of, IsReportOf, IsReport, IsListing, IsProgramOf, IsAnswer, AreLoadedAsOne, AreOneAnswer}
 
@@ -162,6 +167,43 @@ one_assembly source text other h g =
     h.written.image g.written.image in
     (g.written.program, subst (λ (p : Program). Loads text p) same h.written.loads, g.written.loads)
 
+-- ---- the replays of a thread
+
+said_options : (a b : Config) → header.options_of a ≡ header.options_of b → a.cores ≡ b.cores → a ≡ b
+said_options a b e cores =
+    let vl : a.vl ≡ b.vl = sym (length-bits a.vl) ∙ ap (λ (o : header.Options). length_of o.vl) e ∙ length-bits b.vl in
+    let svl : a.svl ≡ b.svl = sym (length-bits a.svl) ∙ ap (λ (o : header.Options). length_of o.svl) e ∙ length-bits b.svl in
+    let numbers : numbers_of a ≡ numbers_of b = λ i. (vl i, svl i, (e i).slice, (e i).budget, (e i).threads, cores i) in
+    same_numbers a b numbers
+
+same_said : (read : Result Report Fault) (a b : Report) → read ≡ Ok a → read ≡ Ok b → a ≡ b
+same_said read a b e h = cc
+
+same_block : (o : Option Block) (a b : Block) → o ≡ Some a → o ≡ Some b → a ≡ b
+same_block o a b e h = cc
+
+-- a thread has one block in a report, with one program and one set of options
+pub record IsOneBlock {file report : List ℕ} {thread : ℕ} (a b : IsBlockIn file report thread) : Type 0 where
+  pub program : a.program ≡ b.program
+  pub config : a.config ≡ b.config
+  pub block : a.block ≡ b.block
+
+one_block : (file report : List ℕ) (thread : ℕ) (a b : IsBlockIn file report thread) → IsOneBlock a b
+one_block file report thread a b =
+    let said = same_said (report_in report) a.said b.said a.reads b.reads in
+    let options = a.given ∙ ap (λ (r : Report). r.options) said ∙ sym b.given in
+    record {
+      program = one_program file a.program b.program a.loads b.loads;
+      config = said_options a.config b.config options (a.one_core ∙ sym b.one_core);
+      block =
+          same_block (slice_get a.said.blocks thread) a.block b.block a.stands (ap (λ (r : Report). slice_get r.blocks thread) said ∙ b.stands);
+    }
+
+one_replay : (file report : List ℕ) (thread : ℕ) (text other : List ℕ) → IsReplayOf file report thread text
+    → IsReplayOf file report thread other → text ≡ other
+one_replay file report thread text other h g =
+    sym h.same ∙ ap (text_in report) (one_block file report thread h.at g.at).block ∙ g.same
+
 pub one_text : (files : List ℕ → Option (List ℕ)) (words : List (List ℕ)) (request : Request) (text other : List ℕ)
     → command_of words ≡ Some request → IsAnswer (Some files) request text
     → IsAnswer (Some files) request other → AreOneAnswer request text other
@@ -179,5 +221,11 @@ one_text files words (AsksListing name) text other asked h g =
 one_text files words (AsksAssembly name) text other asked h g =
     let source = same_file (files name) h.source g.source h.is_file g.is_file in
     one_assembly g.source text other (subst (λ (f : List ℕ). IsProgramOf f text) source h.program) g.program
+one_text files words (AsksReplay program report thread) text other asked h g =
+    let file = same_file (files program) h.file g.file h.is_file g.is_file in
+    let second = same_file (files report) h.second g.second h.is_second g.is_second in
+    let of_file = subst (λ (f : List ℕ). IsReplayOf f h.second thread text) file h.holds in
+    let of_second = subst (λ (b : List ℕ). IsReplayOf g.file b thread text) second of_file in
+    one_replay g.file g.second thread text other of_second g.holds
 one_text files words AsksHelp text other asked h g = h ∙ sym g
 one_text files words AsksVersion text other asked h g = h ∙ sym g

@@ -1,4 +1,4 @@
--- What is fetched of a file, with a limit of one byte more than a program file or a source may have, stands for the whole file.
+-- What is fetched of a file, with a limit of one byte more than it may have, stands for the whole file.
 use Rattle.std.proofs.Common.{◌≡◌, ℕ, ◌<◌, ◌≤◌, ◌⊎◌, inl, inr, List, take, length, true, Option, Some, None, refl, sym, ◌∙◌, ap, arith}
 use Rattle.std.proofs.lemmas.Bool.Decides.{nat_tests}
 use Rattle.std.proofs.lemmas.Grind.{common_steps}
@@ -9,7 +9,9 @@ use Rattle.elf_headers.specs.declared.fault.LoadFault.TheVariants as load
 use Rattle.elf_loader.proofs.Checks.{long_refused}
 use Rattle.edge_io.specs.Files.{Told}
 use Rattle.smemu.specs.Answers.{IsFile}
-use Rattle.smemu.specs.Requests.{Kind, IsProgram, IsSource, Rejection, NoProgram, NoSource, rejection_of}
+use Rattle.report_reader.specs.Report.{report_in}
+use Rattle.report_reader.specs.declared.fault.ReportKind.TheVariants as part
+use Rattle.smemu.specs.Requests.{Kind, IsProgram, IsSource, IsReport, Rejection, NoProgram, NoSource, NoReport, fault_in, rejection_of}
 
 low_or : (a b : ℕ) → (a < b) ⊎ (b ≤ a)
 low_or a b = grind arith
@@ -40,7 +42,8 @@ pub record IsFaulty {F : Type 0} (fault_of : List ℕ → Option F) (told : Told
 -- ---- files of a kind, of which those that are too long have a fault of their own
 
 module _ {F : Type 0} (fault_of : List ℕ → Option F) (too_long : F)
-    (long_fault : (file : List ℕ) → 67108864 < length file → fault_of file ≡ Some too_long) where
+    (largest : ℕ)
+    (long_fault : (file : List ℕ) → largest < length file → fault_of file ≡ Some too_long) where
   faulty_or_not : (o : Option F) (f : F) → o ≡ None → o ≡ Some f → ⊥
   faulty_or_not o f e h = cc
 
@@ -48,14 +51,14 @@ module _ {F : Type 0} (fault_of : List ℕ → Option F) (too_long : F)
   same_fault f g e = cc
 
   -- a file without a fault is short enough
-  pub sound_short : (file : List ℕ) → fault_of file ≡ None → length file ≤ 67108864
+  pub sound_short : (file : List ℕ) → fault_of file ≡ None → length file ≤ largest
   sound_short file h =
-      elim (low_or 67108864 (length file)) [
+      elim (low_or largest (length file)) [
         | inl long ↦ absurd (faulty_or_not (fault_of file) too_long h (long_fault file long))
         | inr short ↦ short
       ]
 
-  faulty_whole : (n : ℕ) (file fetched : List ℕ) (fault : F) → 67108864 < n → take n file ≡ fetched → fault_of fetched ≡ Some fault
+  faulty_whole : (n : ℕ) (file fetched : List ℕ) (fault : F) → largest < n → take n file ≡ fetched → fault_of fetched ≡ Some fault
       → fault_of file ≡ Some fault
   faulty_whole n file fetched fault l e h =
       elim (low_or (length file) n) [
@@ -67,7 +70,7 @@ module _ {F : Type 0} (fault_of : List ℕ → Option F) (too_long : F)
       ]
 
   -- the file of the name, where what was fetched has no fault
-  sound_file : (told : Told) (n : ℕ) (name fetched : List ℕ) → 67108864 < n
+  sound_file : (told : Told) (n : ℕ) (name fetched : List ℕ) → largest < n
       → IfSome told (λ files. option_map (take n) (files name) ≡ Some fetched) → fault_of fetched ≡ None → IsFile told name fetched
   sound_file None n name fetched l e h = tt
   sound_file (Some files) n name fetched l e h =
@@ -78,7 +81,7 @@ module _ {F : Type 0} (fault_of : List ℕ → Option F) (too_long : F)
       ] e
 
   -- the file of the name, where what was fetched has a fault
-  faulty_file : (told : Told) (n : ℕ) (name fetched : List ℕ) (fault : F) → 67108864 < n
+  faulty_file : (told : Told) (n : ℕ) (name fetched : List ℕ) (fault : F) → largest < n
       → IfSome told (λ files. option_map (take n) (files name) ≡ Some fetched) → fault_of fetched ≡ Some fault
       → IsFaulty fault_of told name fault
   faulty_file None n name fetched fault l e h = record { file = fetched; is_file = tt; faulty = h }
@@ -92,7 +95,7 @@ module _ {F : Type 0} (fault_of : List ℕ → Option F) (too_long : F)
         }
       ] refl e
 
--- ---- program files, and sources
+-- ---- program files, sources, and reports
 
 is_long : (source : List ℕ) → 67108864 < length source → nat_lt 67108864 (length source) ≡ true
 is_long source h = grind (arith, nat_tests)
@@ -102,22 +105,38 @@ long_source : (source : List ℕ) → 67108864 < length source → asm_fault sou
 unfolding asm_fault
 long_source source h = rw (is_long source h) refl
 
+is_long_report : (file : List ℕ) → 1073741824 < length file → nat_lt 1073741824 (length file) ≡ true
+is_long_report file h = grind (arith, nat_tests)
+
+-- and so is a report of more than 1 GiB
+long_report : (file : List ℕ) → 1073741824 < length file → fault_in (report_in file) ≡ Some (record { line = 0; kind = part.TooLong })
+unfolding report_in
+long_report file h = rw (is_long_report file h) refl
+
 too_long : Kind → Rejection
 too_long IsProgram = NoProgram load.TooLong
 too_long IsSource = NoSource asm.TooLong
+too_long IsReport = NoReport (record { line = 0; kind = part.TooLong })
 
-long_rejected : (kind : Kind) (file : List ℕ) → 67108864 < length file → rejection_of kind file ≡ Some (too_long kind)
+-- the most bytes that a file of a kind may have
+abbrev pub largest_of : Kind → ℕ
+largest_of IsProgram = 67108864
+largest_of IsSource = 67108864
+largest_of IsReport = 1073741824
+
+long_rejected : (kind : Kind) (file : List ℕ) → largest_of kind < length file → rejection_of kind file ≡ Some (too_long kind)
 unfolding too_long
 long_rejected IsProgram file h = ap (option_map NoProgram) (long_refused file h)
 long_rejected IsSource file h = ap (option_map NoSource) (long_source file h)
+long_rejected IsReport file h = ap (option_map NoReport) (long_report file h)
 
 -- what was fetched is the file, where it is accepted
-pub accepted_file : (kind : Kind) (told : Told) (n : ℕ) (name fetched : List ℕ) → 67108864 < n
+pub accepted_file : (kind : Kind) (told : Told) (n : ℕ) (name fetched : List ℕ) → largest_of kind < n
     → IfSome told (λ files. option_map (take n) (files name) ≡ Some fetched) → rejection_of kind fetched ≡ None → IsFile told name fetched
-accepted_file kind = sound_file (rejection_of kind) (too_long kind) (long_rejected kind)
+accepted_file kind = sound_file (rejection_of kind) (too_long kind) (largest_of kind) (long_rejected kind)
 
 -- the file is not accepted, where what was fetched is not
-pub rejected_file : (kind : Kind) (told : Told) (n : ℕ) (name fetched : List ℕ) (fault : Rejection) → 67108864 < n
+pub rejected_file : (kind : Kind) (told : Told) (n : ℕ) (name fetched : List ℕ) (fault : Rejection) → largest_of kind < n
     → IfSome told (λ files. option_map (take n) (files name) ≡ Some fetched) → rejection_of kind fetched ≡ Some fault
     → IsFaulty (rejection_of kind) told name fault
-rejected_file kind = faulty_file (rejection_of kind) (too_long kind) (long_rejected kind)
+rejected_file kind = faulty_file (rejection_of kind) (too_long kind) (largest_of kind) (long_rejected kind)

@@ -2,10 +2,11 @@
 use Rattle.std.proofs.Common.{◌≡◌, ℕ, Bool, true, false, cond, List, Option, Some, None, refl, sym, ◌∙◌, ap}
 use Rattle.std.specs.Prelude.{slice_get, is_none, option_and_then, option_map}
 use Rattle.cmd_words.specs.Forms.{form_of}
+use Rattle.cmd_words.specs.Numbers.{number_of}
 use Rattle.cmd_words.specs.Options.{Options}
-use Rattle.cmd_words.specs.Words.{Request, AsksRun, AsksListing, AsksAssembly, verb_of, options_given, request_for, usage_fault, command_of}
+use Rattle.cmd_words.specs.Words.{Request, AsksRun, AsksListing, AsksAssembly, AsksReplay, verb_of, options_given, request_for, usage_fault, command_of}
 use Rattle.cmd_words.specs.declared.verb.Verb.{Verb}
-use Rattle.cmd_words.specs.declared.verb.Verb.TheVariants.{Run, Dis, Asm, Help, Version}
+use Rattle.cmd_words.specs.declared.verb.Verb.TheVariants.{Run, Dis, Asm, Replay, Help, Version}
 
 one_given : (words : List (List ℕ)) → (options_given (form_of Run) words).threads ≡ 1
 unfolding options_given
@@ -26,12 +27,22 @@ no_run : (word : Option (List ℕ)) (make : List ℕ → Request) (name : List �
 no_run None make name options other e = cc
 no_run (Some n) make name options other e = other n e
 
+no_replay : (program report word : Option (List ℕ)) (number : List ℕ → ℕ) (name : List ℕ) (options : Options)
+    → option_and_then (λ p. option_and_then (λ r. option_map (λ w. AsksReplay p r (number w)) word) report) program
+    ≡ Some (AsksRun name options) → ⊥
+no_replay None report word number name options e = cc
+no_replay (Some p) None word number name options e = cc
+no_replay (Some p) (Some r) None number name options e = cc
+no_replay (Some p) (Some r) (Some w) number name options e = cc
+
 one_asked : (words : List (List ℕ)) (verb : Option Verb) (name : List ℕ) (options : Options)
     → option_and_then (request_for words) verb ≡ Some (AsksRun name options) → options.threads ≡ 1
 one_asked words None name options e = cc
 one_asked words (Some Run) name options e = one_named words (slice_get words 1) name options e
 one_asked words (Some Dis) name options e = absurd (no_run (slice_get words 1) AsksListing name options (λ n h. cc) e)
 one_asked words (Some Asm) name options e = absurd (no_run (slice_get words 1) AsksAssembly name options (λ n h. cc) e)
+one_asked words (Some Replay) name options e =
+    absurd (no_replay (slice_get words 1) (slice_get words 2) (slice_get words 3) number_of name options e)
 one_asked words (Some Help) name options e = cc
 one_asked words (Some Version) name options e = cc
 

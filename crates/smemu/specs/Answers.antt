@@ -1,5 +1,5 @@
--- What the command writes for a request: the report of a run, a listing, a program's file, or a text of its
--- own.
+-- What the command writes for a request: the report of a run, a listing, a program's file, the block of a
+-- thread that is replayed, or a text of its own.
 use Rattle.std.specs.Prelude.{◌≡◌, ℕ, [], List, Some, IfSome, length, map, slice_get}
 use Rattle.sha2.specs.Sha256.{sha256}
 use Rattle.sm_types.specs.declared.config.Config.{Config}
@@ -10,7 +10,8 @@ use Rattle.sm_types.specs.declared.stop.Stop.{Stop}
 use Rattle.shared_region.specs.History.{AreOneHistory}
 use Rattle.edge_io.specs.Files.{Told}
 use Rattle.cmd_words.specs.Options.{Options, options_of}
-use Rattle.cmd_words.specs.Words.{Request, AsksRun, AsksListing, AsksAssembly, AsksHelp, AsksVersion}
+use Rattle.cmd_words.specs.Words.{Request, AsksRun, AsksListing, AsksAssembly, AsksReplay, AsksHelp}
+use Rattle.cmd_words.specs.Words.{AsksVersion}
 use Rattle.asm_core.specs.Assembly.{Assembles}
 use Rattle.code_listing.specs.Listing.{listing_text}
 use Rattle.paged_memory.specs.Image.{Program}
@@ -18,6 +19,7 @@ use Rattle.elf_loader.specs.Loading.{Loads}
 use Rattle.elf_loader.specs.Objects.{IsFileOf}
 use Rattle.lone_runner.specs.LoneRun.{IsLoneRun}
 use Rattle.report_text.specs.Report.{ThreadEnd, report_text}
+use Rattle.smemu.specs.Replay.{IsReplayOf, OfTwoFiles}
 use Rattle.smemu.specs.Texts.{help_text, version_text}
 
 -- the file of that name, as far as the files are told
@@ -86,6 +88,8 @@ abbrev pub IsAnswer : Told → Request → List ℕ → Type 0
 IsAnswer told (AsksRun name options) text = IsReport told name options text
 IsAnswer told (AsksListing name) text = IsListing told name text
 IsAnswer told (AsksAssembly name) text = IsAssembly told name text
+IsAnswer told (AsksReplay program report thread) text =
+    OfTwoFiles told program report (λ file bytes. IsReplayOf file bytes thread text)
 IsAnswer told AsksHelp text = text ≡ help_text
 IsAnswer told AsksVersion text = text ≡ version_text
 

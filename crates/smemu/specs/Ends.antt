@@ -9,16 +9,20 @@ use Rattle.edge_io.specs.Files.{Told, FilesView}
 use Rattle.edge_io.specs.Sink.{SinkView, Writes}
 use Rattle.edge_io.specs.declared.sink.PutFault.{PutFault}
 use Rattle.edge_io.specs.declared.sink.PutFault.TheVariants.{Failed}
-use Rattle.cmd_words.specs.Words.{Fault, Request, usage_fault, command_of}
+use Rattle.cmd_words.specs.Words.{Fault, Request, AsksReplay, usage_fault, command_of}
+use Rattle.report_reader.specs.Reading as reading
 use Rattle.smemu.specs.Answers.{IsFile, IsAnswer}
+use Rattle.smemu.specs.DifferLines.{report_line}
 use Rattle.smemu.specs.FaultLines.{fault_line}
-use Rattle.smemu.specs.Requests.{Named, Rejection, NoProgram, NoSource, files_named, files_asked, limit_of}
-use Rattle.smemu.specs.Requests.{rejection_of, reached_of, IsReached, due_status}
+use Rattle.smemu.specs.Replay.{IsMismatched, DiffersSo, OfTwoFiles}
+use Rattle.smemu.specs.Requests.{Named, Rejection, NoProgram, NoSource, NoReport, files_named, files_asked}
+use Rattle.smemu.specs.Requests.{limit_of, rejection_of, reached_of, IsReached, IsDue}
 use Rattle.smemu.specs.SourceLines.{source_line}
 use Rattle.smemu.specs.Texts.{usage_line}
 use Rattle.smemu.specs.declared.status.Status.{Status}
 use Rattle.smemu.specs.declared.status.Status.TheVariants.{Done, Usage, Absent, ReadFault, WriteFault}
-use Rattle.smemu.specs.declared.status.Status.TheVariants.{BadFile, BadSource, OutOfMemory}
+use Rattle.smemu.specs.declared.status.Status.TheVariants.{BadFile, BadSource, OutOfMemory, BadReport}
+use Rattle.smemu.specs.declared.status.Status.TheVariants.{Differs}
 
 -- something before a call and after it
 pub record Change (A : Type 0) : Type 0 where
@@ -72,6 +76,19 @@ pub record IsRejection {A : Type 0} (rejected : A → Rejection) (line : A → L
   pub rejects : rejection_of named.kind file ≡ Some (rejected fault)
   pub is_text : text ≡ line fault
 
+-- the report of a replay is of another program, or has no such thread, and the text is the line of that
+abbrev pub MismatchStands : Request → Told → List ℕ → Type 0
+MismatchStands (AsksReplay program report thread) told text =
+    OfTwoFiles told program report (λ file bytes. (fault : reading.Fault) × IsMismatched file bytes thread fault
+    × (text ≡ report_line fault))
+MismatchStands other told text = ⊥
+
+-- the thread of a replay and its report part, as the text says
+abbrev pub DifferenceStands : Request → Told → List ℕ → Type 0
+DifferenceStands (AsksReplay program report thread) told text =
+    OfTwoFiles told program report (λ file bytes. DiffersSo file bytes thread text)
+DifferenceStands other told text = ⊥
+
 -- the text that goes with a status, where the request stands
 abbrev pub Stands : Request → Change FilesView → Status → List ℕ → Type 0
 Stands request files Done text = IsAnswer files.before.told request text
@@ -81,6 +98,10 @@ Stands request files BadFile text =
     IsRejection NoProgram fault_line files.before.told (files_named request) text
 Stands request files BadSource text =
     IsRejection NoSource source_line files.before.told (files_named request) text
+Stands request files BadReport text =
+    IsRejection NoReport report_line files.before.told (files_named request) text
+    ⊎ MismatchStands request files.before.told text
+Stands request files Differs text = DifferenceStands request files.before.told text
 Stands request files Usage text = ⊥
 Stands request files WriteFault text = ⊥
 Stands request files OutOfMemory text = ⊥
@@ -140,7 +161,7 @@ MayCome files words other = ⊥
 abbrev pub IsComplete : Call → Status → Type 0
 IsComplete c result =
     (files : List ℕ → Option (List ℕ)) → c.files.before.told ≡ Some files
-    → (result ≡ due_status files c.words) ⊎ MayCome files c.words result
+    → IsDue files c.words result ⊎ MayCome files c.words result
 
 -- ---- what is fetched
 
@@ -150,15 +171,15 @@ AreFetched fetched [] old new = new ≡ old
 AreFetched {F} fetched (named ∷ rest) old new =
     (now : F) × fetched old named.name (limit_of named.kind) now × AreFetched fetched rest now new
 
--- The files that are reached were fetched; where memory was wanting, perhaps not the last of them. Of files
--- that tell nothing the first that is named was fetched, but where memory was wanting, and with Done all of
--- them were.
-pub record FetchesReached {F : Type 0} (fetched : F → List ℕ → ℕ → F → Type 0) (told : Told)
+-- The files that are reached were fetched; where memory was wanting, or one of them could not be read, perhaps
+-- not the last of them. Of files that tell nothing the first that is named was fetched, but where memory was
+-- wanting, and with Done all of them were.
+pub record FetchesReached {F : Type 0} (fetched : F → List ℕ → ℕ → F → Type 0) (told : Told) (unread : Type 0)
     (names : List Named) (old new : F) (status : Status) : Type 0 where
   pub front : List Named
   pub rest : List Named
   pub part : reached_of told names ≡ front ++ rest
-  pub all : (status ≡ OutOfMemory → ⊥) → IfSome told (λ files. rest ≡ [])
+  pub all : (status ≡ OutOfMemory → ⊥) → IfSome told (λ files. (rest ≡ []) ⊎ unread)
   pub first : (status ≡ OutOfMemory → ⊥) → front ≡ [] → rest ≡ []
   pub done : status ≡ Done → rest ≡ []
   pub each : AreFetched fetched front old new
@@ -168,7 +189,8 @@ abbrev pub Fetches :
     {F Z : Type 0} → (F → List ℕ → ℕ → F → Type 0) → (F → FilesView) → List (String Z) → F → F → Status
     → Type 0
 Fetches fetched view words old new status =
-    FetchesReached fetched (view old).told (files_asked (command_of (map string_bytes words))) old new status
+    FetchesReached fetched (view old).told (Rose (view old).faults (view new).faults)
+    (files_asked (command_of (map string_bytes words))) old new status
 
 -- ---- where nothing fails
 
@@ -182,4 +204,4 @@ HasRoom c =
 abbrev pub LacksMemoryAlone : Call → Status → Type 0
 LacksMemoryAlone c result =
     IsTrue c.files.before.reliable → HasRoom c
-    → IfSome c.files.before.told (λ files. (result ≡ due_status files c.words) ⊎ (result ≡ OutOfMemory))
+    → IfSome c.files.before.told (λ files. IsDue files c.words result ⊎ (result ≡ OutOfMemory))

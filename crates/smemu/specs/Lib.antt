@@ -4,6 +4,8 @@ pub mod FaultLines
 pub mod SourceLines
 pub mod Foreign
 pub mod Requests
+pub mod DifferLines
+pub mod Replay
 pub mod Answers
 pub mod Ends
 pub mod Views

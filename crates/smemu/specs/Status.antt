@@ -2,7 +2,8 @@
 use Rattle.std.specs.Prelude.{ℕ}
 use Rattle.smemu.specs.declared.status.Status.{Status}
 use Rattle.smemu.specs.declared.status.Status.TheVariants.{Done, Usage, Absent, ReadFault, WriteFault}
-use Rattle.smemu.specs.declared.status.Status.TheVariants.{BadFile, BadSource, OutOfMemory}
+use Rattle.smemu.specs.declared.status.Status.TheVariants.{BadFile, BadSource, OutOfMemory, BadReport}
+use Rattle.smemu.specs.declared.status.Status.TheVariants.{Differs}
 
 abbrev pub code_of : Status → ℕ
 code_of Done = 0
@@ -13,3 +14,5 @@ code_of WriteFault = 5
 code_of BadFile = 6
 code_of BadSource = 7
 code_of OutOfMemory = 8
+code_of BadReport = 9
+code_of Differs = 10

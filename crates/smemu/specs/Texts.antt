@@ -12,7 +12,8 @@ use Rattle.cmd_words.specs.declared.setting.Setting.TheVariants.{Vl, Svl, Slice,
 use Rattle.smemu.specs.declared.help.TheConstants.{HELP, VERSION}
 use Rattle.smemu.specs.declared.status.Status.{Status}
 use Rattle.smemu.specs.declared.status.Status.TheVariants.{Done, Usage, Absent, ReadFault, WriteFault}
-use Rattle.smemu.specs.declared.status.Status.TheVariants.{BadFile, BadSource, OutOfMemory}
+use Rattle.smemu.specs.declared.status.Status.TheVariants.{BadFile, BadSource, OutOfMemory, BadReport}
+use Rattle.smemu.specs.declared.status.Status.TheVariants.{Differs}
 use Rattle.smemu.specs.Status.{code_of}
 
 -- what is wrong with a word
@@ -84,6 +85,8 @@ status_words WriteFault = codes "the output could not be written\n"
 status_words BadFile = codes "bad file: "
 status_words BadSource = codes "bad source: line "
 status_words OutOfMemory = codes "there was no memory\n"
+status_words BadReport = codes "bad report: line "
+status_words Differs = codes "differs: "
 
 -- what the text of help says of a status, from the end of the line before: the number that the process
 -- ends with, and those words

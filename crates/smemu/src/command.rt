@@ -4,18 +4,20 @@ ghost use Rattle.std.specs.String.{string_bytes};
 ghost use Rattle.asm_core.specs.Assembly.{Assembles};
 ghost use Rattle.a64_encode.specs.Writable.{IsWritable};
 ghost use Rattle.cmd_words.specs.Options.{options_of};
-ghost use Rattle.cmd_words.specs.Words.{AsksRun, AsksListing, AsksAssembly};
+ghost use Rattle.cmd_words.specs.Words.{AsksRun, AsksListing, AsksAssembly, AsksReplay};
+ghost use Rattle.edge_io.specs.Cause.{Rose};
 ghost use Rattle.edge_io.specs.Files.{IsKept};
 ghost use Rattle.edge_io.specs.Sink.{Writes};
 ghost use Rattle.elf_loader.specs.Loading.{Loads};
 ghost use Rattle.smemu.specs.Answers.{IsReportOf, IsProgramOf};
-ghost use Rattle.smemu.specs.Ends.{change, call, IsDone, IsRefused, IsComplete, Fetches};
-ghost use Rattle.smemu.specs.Requests.{IsProgram, IsSource};
+ghost use Rattle.smemu.specs.Ends.{change, call, IsDone, IsRefused, IsComplete, Fetches, FetchesReached};
+ghost use Rattle.smemu.specs.Requests.{IsProgram, IsSource, files_named};
 ghost use Rattle.smemu.specs.Views.{run_text, end_text, end_status, IsFront, IsUnread, IsRejected};
 ghost use Rattle.smemu.specs.Views.{EndsRequest, EndsWords};
 
 use crate::answer::{Answer, RunReport, write_answer};
 use crate::refusal::{Refusal, status_of, write_refusal};
+use crate::replay::replay_report;
 use crate::status::Status;
 use asm_core::{AsmFault, assemble};
 use cmd_words::{Command, WordsFault, read_words};
@@ -31,14 +33,23 @@ use std::alloc::Global;
 /// A file of more bytes than a program file or a source may have is fetched up to its first byte too many.
 const FETCH_LIMIT: u64 = 67_108_865;
 
-/// The bytes of the file of that name, or those of its front.
-fn fetch_file<F: Files>(alloc: Global, name: String, files: &mut F) -> Result<Vec<u8>, Refusal>
-    ensures front { IfOk result (λ file. IsFront (F.view files.old).told (string_bytes name) file.items) }
+/// The same of a report.
+const REPORT_LIMIT: u64 = 1_073_741_825;
+
+/// The bytes of the file of that name, or those of its front, as far as the limit.
+fn fetch_file<F: Files>(
+    alloc: Global,
+    name: String,
+    limit: u64,
+    files: &mut F,
+) -> Result<Vec<u8>, Refusal>
+    ensures front { IfOk result (λ file.
+        IsFront (F.view files.old).told limit (string_bytes name) file.items) }
     ensures unread { IfErr result (IsUnread (change F.view files.old files.new) (string_bytes name)) }
     ensures kept { IsKept (F.view files.old) (F.view files.new) }
-    ensures fetched { F.fetched files.old (string_bytes name) FETCH_LIMIT files.new }
+    ensures fetched { F.fetched files.old (string_bytes name) limit files.new }
 {
-    match files.fetch(alloc, name.as_str(), FETCH_LIMIT) {
+    match files.fetch(alloc, name.as_str(), limit) {
         Ok(file) => Ok(file),
         Err(FileFault::Absent) => Err(Refusal::Absent(name)),
         Err(FileFault::Failed) => Err(Refusal::ReadFault(name)),
@@ -117,7 +128,7 @@ fn run_program<F: Files>(
     ensures kept { IsKept (F.view files.old) (F.view files.new) }
     ensures fetched { F.fetched files.old (string_bytes program) FETCH_LIMIT files.new }
 {
-    let file = fetch_file(alloc, program, files)?;
+    let file = fetch_file(alloc, program, FETCH_LIMIT, files)?;
     let image = load_file(alloc, file.as_slice())?;
     match run_image(alloc, file.as_slice(), config, &image) {
         Ok(report) => Ok(Answer::Report(report)),
@@ -132,7 +143,7 @@ fn list_program<F: Files>(alloc: Global, program: String, files: &mut F) -> Resu
     ensures kept { IsKept (F.view files.old) (F.view files.new) }
     ensures fetched { F.fetched files.old (string_bytes program) FETCH_LIMIT files.new }
 {
-    let file = fetch_file(alloc, program, files)?;
+    let file = fetch_file(alloc, program, FETCH_LIMIT, files)?;
     let image = load_file(alloc, file.as_slice())?;
     Ok(Answer::Listing(image))
 }
@@ -148,9 +159,31 @@ fn assemble_source<F: Files>(
     ensures kept { IsKept (F.view files.old) (F.view files.new) }
     ensures fetched { F.fetched files.old (string_bytes source) FETCH_LIMIT files.new }
 {
-    let file = fetch_file(alloc, source, files)?;
+    let file = fetch_file(alloc, source, FETCH_LIMIT, files)?;
     let program = assemble_file(alloc, file.as_slice())?;
     Ok(Answer::Program(program))
+}
+
+/// `replay PROGRAM REPORT THREAD`: the block of that thread of the report, from running it alone.
+fn replay_thread<F: Files>(
+    alloc: Global,
+    program: String,
+    report: String,
+    thread: u32,
+    files: &mut F,
+) -> Result<Answer, Refusal>
+    ensures ends { EndsRequest (AsksReplay (string_bytes program) (string_bytes report) thread)
+        (change F.view files.old files.new) result }
+    ensures kept { IsKept (F.view files.old) (F.view files.new) }
+    ensures fetched { FetchesReached F.fetched (F.view files.old).told
+        (Rose (F.view files.old).faults (F.view files.new).faults)
+        (files_named (AsksReplay (string_bytes program) (string_bytes report) thread)) files.old files.new
+        (end_status result) }
+{
+    let file = fetch_file(alloc, program, FETCH_LIMIT, files)?;
+    let image = load_file(alloc, file.as_slice())?;
+    let bytes = fetch_file(alloc, report, REPORT_LIMIT, files)?;
+    replay_report(alloc, file.as_slice(), &image, bytes.as_slice(), thread)
 }
 
 /// All that comes before the writing.
@@ -163,6 +196,11 @@ fn answer_words<F: Files>(alloc: Global, words: &[String], files: &mut F) -> Res
         Ok(Command::Run { program, config }) => run_program(alloc, program, &config, files),
         Ok(Command::Dis { program }) => list_program(alloc, program, files),
         Ok(Command::Asm { source }) => assemble_source(alloc, source, files),
+        Ok(Command::Replay {
+            program,
+            report,
+            thread,
+        }) => replay_thread(alloc, program, report, thread, files),
         Ok(Command::Help) => Ok(Answer::Help),
         Ok(Command::Version) => Ok(Answer::Version),
         Err(WordsFault::Usage { place, kind }) => Err(Refusal::Usage { place, kind }),
@@ -192,9 +230,9 @@ fn status_of_end(end: &Result<Answer, Refusal>) -> Status
 
 /// Carries out the command of the words, which are the command line without the program's name: `run
 /// PROGRAM` with its options runs the program file of that name and writes the report of its run, `dis
-/// PROGRAM` writes its listing,
-/// `asm SOURCE` assembles the source file of that name and writes the program file, `--help` and
-/// `--version` write their texts, and other words are answered by the line of their first fault.
+/// PROGRAM` writes its listing, `asm SOURCE` assembles the source file of that name and writes the program
+/// file, `replay PROGRAM REPORT THREAD` runs a thread of the report of that name alone and writes its block,
+/// `--help` and `--version` write their texts, and other words are answered by the line of their first fault.
 pub fn smemu_main<F: Files, K: Sink>(
     alloc: Global,
     words: &[String],

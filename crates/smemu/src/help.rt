@@ -8,6 +8,8 @@ commands:
   run PROGRAM   runs the ELF64 file PROGRAM and writes the report of its run
   dis PROGRAM   lists the code words of the ELF64 file PROGRAM: address, word and text
   asm SOURCE    assembles SOURCE and writes the ELF64 file of the program
+  replay PROGRAM REPORT THREAD
+                runs thread THREAD of the report REPORT of PROGRAM alone and writes its block
   --help        writes this text
   --version     writes the version
 
@@ -26,6 +28,8 @@ statuses:
   6   bad file: KIND VALUES, where the file is no program that is loaded
   7   bad source: line L: KIND VALUES, where the file is no source that is assembled
   8   there was no memory
+  9   bad report: line L: KIND, where the file is no report of PROGRAM with that thread
+  10   differs: where the thread and its report part: a line of both, or KIND VALUES
 ";
 
 /// The version of the command.

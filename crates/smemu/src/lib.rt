@@ -11,12 +11,14 @@
 
 mod answer;
 mod command;
+mod differ_line;
 mod fault_line;
 mod foreign;
 mod help;
 mod in_memory;
 mod laws;
 mod refusal;
+mod replay;
 mod source_line;
 mod status;
 

@@ -21,6 +21,10 @@ pub enum Status {
     BadSource,
     /// There was no memory; nothing was written.
     OutOfMemory,
+    /// The file is no report of the program that is replayed, or has no such thread.
+    BadReport,
+    /// The thread that is replayed and its report part.
+    Differs,
 }
 
 impl Status {
@@ -37,6 +41,8 @@ impl Status {
             Status::BadFile => 6,
             Status::BadSource => 7,
             Status::OutOfMemory => 8,
+            Status::BadReport => 9,
+            Status::Differs => 10,
         }
     }
 }

@@ -1,48 +1,60 @@
 //! Gives the files of a list to the emulator, each in memory, and compares what is written, and the status,
-//! with what the list says. Each line of `rows.txt` has a file's name, a status, a command and its options;
-//! the text that is to be written stands in the file of that name with `.txt` behind it.
+//! with what the list says. Each line of `rows.txt` has a file's name, a status, a command and its other words;
+//! the text that is to be written stands in the file of that name with `.txt` behind it. Before the file stand
+//! the programs among the words, which are names of files in `.elf`.
 #![tactic(auto)]
 
 use anyhow::{Context, Result};
 use edge_io::{MemFiles, MemSink};
 use smemu::smemu_main;
-use std::alloc::Global;
 use std::fs;
 use std::rt::Files;
 
-/// The status of the command on the bytes with the options, and what it wrote into a sink with room for so
-/// many.
-fn answer(
-    alloc: Global,
-    command: &str,
-    bytes: &[u8],
-    options: &str,
-    room: usize,
-) -> Result<(u8, MemSink)> {
-    let mut files = MemFiles::new(alloc);
+/// Adds a file to those in memory, under a name.
+fn add<R: Files + AllocGlobal>(rt: &R, files: &mut MemFiles, name: &str, path: &str) -> Result<()> {
+    let bytes = fs::read(rt, path).context("a file")?;
     files
-        .add("file", bytes)
-        .map_err(|_| anyhow::anyhow!("memory"))?;
-    let mut out = MemSink::new(alloc, room).map_err(|_| anyhow::anyhow!("memory"))?;
-    let mut words = vec![in alloc;
-        String::from_str(alloc, command)?,
-        String::from_str(alloc, "file")?,
-    ]?;
-    for option in options.split_whitespace() {
-        words.push(String::from_str(alloc, option)?)?;
+        .add(name, bytes.as_slice())
+        .map_err(|_| anyhow::anyhow!("memory"))
+}
+
+/// The words of the command line and the files that they name: the row's is `file`.
+fn asked<R: Files + AllocGlobal>(
+    rt: &R,
+    name: &str,
+    words: &str,
+) -> Result<(Vec<String>, MemFiles)> {
+    let alloc = rt.alloc();
+    let mut files = MemFiles::new(alloc);
+    add(rt, &mut files, "file", name)?;
+    let mut names = vec![in alloc;]?;
+    let mut others = vec![in alloc;]?;
+    for word in words.split_whitespace() {
+        if word.ends_with(".elf") {
+            add(rt, &mut files, word, word)?;
+            names.push(String::from_str(alloc, word)?)?;
+        } else {
+            others.push(String::from_str(alloc, word)?)?;
+        }
     }
-    let status = smemu_main(alloc, words.as_slice(), &mut files, &mut out);
-    Ok((status.code(), out))
+    names.push(String::from_str(alloc, "file")?)?;
+    for other in others {
+        names.push(other)?;
+    }
+    Ok((names, files))
 }
 
 /// Tells whether a row agrees.
 fn agrees<R: Files + AllocGlobal>(rt: &R, name: &str, wanted: u8, words: &str) -> Result<bool> {
-    let (command, options) = words.split_once(' ').unwrap_or((words, ""));
-    let bytes = fs::read(rt, name).context("the file")?;
+    let (command, rest) = words.split_once(' ').unwrap_or((words, ""));
+    let (mut names, mut files) = asked(rt, name, rest)?;
+    names.insert(0, String::from_str(rt.alloc(), command)?)?;
     let text_name = format!(in rt.alloc(); "{name}.txt")?;
     let text = fs::read(rt, text_name.as_str()).context("the text that is to be written")?;
-    let (status, out) = answer(rt.alloc(), command, bytes.as_slice(), options, text.len())?;
-    Ok(status == wanted && out.bytes() == text.as_slice())
+    let mut out =
+        MemSink::new(rt.alloc(), text.len()).map_err(|_| anyhow::anyhow!("memory"))?;
+    let status = smemu_main(rt.alloc(), names.as_slice(), &mut files, &mut out);
+    Ok(status.code() == wanted && out.bytes() == text.as_slice())
 }
 
 fn main(rt: HostRuntime) -> Result<()> {

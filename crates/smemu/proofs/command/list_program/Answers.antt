@@ -1,4 +1,4 @@
-use Rattle.std.proofs.Common.{rules, lit<, refl, Err}
+use Rattle.std.proofs.Common.{rules, lit<, [], refl, Err}
 use Rattle.std.specs.String.{string_bytes}
 use Rattle.cmd_words.specs.Words.{AsksListing}
 use Rattle.smemu.specs.Ends.{change}
@@ -6,6 +6,7 @@ use Rattle.smemu.specs.Requests.{IsProgram}
 use Rattle.smemu.specs.Views.{EndsRequest}
 use Rattle.smemu.specs.declared.command.TheConstants.{FETCH_LIMIT}
 use Rattle.smemu.proofs.Ends.{unread_ends, rejected_ends, program_file}
+use Rattle.smemu.proofs.Requests.{front_reached}
 use Rattle.smemu.proofs.command.list_program.Goals as goal
 
 pub returns-in_err-file-clause-ends : goal.returns-in_err-file-clause-ends
@@ -13,7 +14,7 @@ returns-in_err-file-clause-ends g c =
     let files = change g.F.Files.view c.args.files.now c.fetch_file.new.files in
     let ends : EndsRequest (AsksListing (string_bytes c.args.program)) files (Err c.in_err-file.field-0.0) =
     unread_ends (AsksListing (string_bytes c.args.program)) (record { name = string_bytes c.args.program; kind = IsProgram }) files
-    c.in_err-file.field-0.0 refl c.in_err-file.ensures.unread in
+    c.in_err-file.field-0.0 (front_reached (g.F.Files.view c.args.files.now).told (record { name = string_bytes c.args.program; kind = IsProgram }) []) c.in_err-file.ensures.unread in
     search rules
 
 pub returns-in_err-image-clause-ends : goal.returns-in_err-image-clause-ends
@@ -21,7 +22,7 @@ returns-in_err-image-clause-ends g c =
     let files = change g.F.Files.view c.args.files.now c.fetch_file.new.files in
     let ends : EndsRequest (AsksListing (string_bytes c.args.program)) files (Err c.in_err-image.field-0.0) =
     rejected_ends (AsksListing (string_bytes c.args.program)) (record { name = string_bytes c.args.program; kind = IsProgram }) files
-    FETCH_LIMIT c.in_ok-file.file.items c.in_err-image.field-0.0 refl (lit< tt) c.in_ok-file.ensures.front
+    FETCH_LIMIT c.in_ok-file.file.items c.in_err-image.field-0.0 (front_reached (g.F.Files.view c.args.files.now).told (record { name = string_bytes c.args.program; kind = IsProgram }) []) (lit< tt) c.in_ok-file.ensures.front
     (rw c.as_slice.ensures.value at c.in_err-image.ensures.rejected) in
     search rules
 

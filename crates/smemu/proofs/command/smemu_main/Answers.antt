@@ -1,6 +1,7 @@
 use Rattle.std.proofs.Common.{map}
 use Rattle.std.specs.String.{string_bytes}
 use Rattle.cmd_words.specs.Words.{command_of}
+use Rattle.edge_io.specs.Cause.{Rose}
 use Rattle.smemu.specs.Ends.{call, change}
 use Rattle.smemu.specs.Requests.{files_asked}
 use Rattle.smemu.specs.Views.{end_status}
@@ -27,7 +28,8 @@ returns-clause-refused g c =
 
 pub returns-clause-fetched : goal.returns-clause-fetched
 returns-clause-fetched g c =
-    fetches_as g.F.Files.fetched (g.F.Files.view c.args.files.now).told (files_asked (command_of (map string_bytes c.args.words.now)))
+    fetches_as g.F.Files.fetched (g.F.Files.view c.args.files.now).told
+    (Rose (g.F.Files.view c.args.files.now).faults (g.F.Files.view c.answer_words-end.new.files).faults) (files_asked (command_of (map string_bytes c.args.words.now)))
     c.args.files.now c.answer_words-end.new.files (end_status c.answer_words-end.result) WriteFault
     (failed_status (g.K.Sink.view c.args.out.now) (g.K.Sink.view c.write_end.new.out) c.in-Err.field-0 c.answer_words-end.result
     c.in-Err.ensures) (λ is. cc) c.answer_words-end.ensures.fetched

@@ -5,4 +5,4 @@ use Rattle.smemu.proofs.Whole.{sound_short}
 use Rattle.smemu.proofs.in_memory.longest_program.Goals as goal
 
 pub returns : goal.returns
-returns c = λ told source text h. sound_short load_fault load.TooLong long_refused text h.program.written.loads.accepted
+returns c = λ told source text h. sound_short load_fault load.TooLong 67108864 long_refused text h.program.written.loads.accepted

@@ -1,0 +1,128 @@
+-- The replay of a thread of a report, from what its parts say.
+use Rattle.std.proofs.Common.{◌≡◌, ◌⊎◌, inl, inr, ℕ, zero, suc, ◌<◌, ◌≤◌, Bool, true, false, cond, List, [], ◌∷◌, length, map, get_or, refl, sym, ap}
+use Rattle.std.proofs.Common.{◌∙◌, subst, arith, Option, Some, None, Result, Ok, Err}
+use Rattle.std.specs.Prelude.{slice_get, nat_lt}
+use Rattle.std.proofs.lemmas.Bool.Decides.{nat_tests}
+use Rattle.sha2.specs.Sha256.{sha256}
+use Rattle.sm_types.specs.declared.config.Config.{Config}
+use Rattle.sm_types.specs.declared.shared_op.Event.{Event}
+use Rattle.sm_types.specs.declared.stop.Stop.{Stop}
+use Rattle.elf_loader.specs.Loading.{Loads}
+use Rattle.kernel_contexts.specs.Context.{state_of, stop_of, thread_of, journal_of}
+use Rattle.kernel_contexts.specs.State.{State}
+use Rattle.kernel_contexts.specs.declared.context.Context.{Context}
+use Rattle.lone_runner.specs.LoneRun.{IsLoneRun, HasRunAlone}
+use Rattle.paged_memory.specs.Image.{Program}
+use Rattle.report_reader.specs.Block.{Block}
+use Rattle.report_reader.specs.Difference.{first_difference}
+use Rattle.report_reader.specs.Header.{options_of}
+use Rattle.report_reader.specs.Lines.{lines_of}
+use Rattle.report_reader.specs.Reading.{Fault}
+use Rattle.report_reader.specs.Report.{Report, report_in}
+use Rattle.report_reader.specs.Told.{block_said}
+use Rattle.report_reader.specs.declared.parts.ReportBlock.{ReportBlock}
+use Rattle.report_text.specs.Block.{block_text}
+use Rattle.smemu.specs.DifferLines.{difference_lines}
+use Rattle.smemu.specs.Replay.{mismatch, text_in, text_of, EndsAsSaid, IsBlockIn}
+use Rattle.smemu.specs.Views.{answer_text, ComparesSo, EndsReplay, IsPartedRefusal, IsUnmatched}
+use Rattle.smemu.specs.declared.answer.Answer.{Answer}
+use Rattle.smemu.specs.declared.refusal.Difference.TheVariants as difference
+use Rattle.smemu.specs.declared.refusal.Refusal.{Refusal}
+use Rattle.smemu.specs.declared.refusal.Refusal.TheVariants as refusal
+
+-- a report that is read is not too long
+no_report : (long : Bool) (fault : Fault) (read : Result Report Fault) (said : Report) → cond long (Err fault) read ≡ Ok said → long ≡ false
+no_report true fault read said e = cc
+no_report false fault read said e = refl
+
+short_enough : (most n : ℕ) → nat_lt most n ≡ false → n ≤ most
+short_enough most n e = grind (arith, nat_tests)
+
+pub report_size : (bytes : List ℕ) (said : Report) → report_in bytes ≡ Ok said → length bytes ≤ 1073741824
+unfolding report_in
+report_size bytes said e = short_enough 1073741824 (length bytes) (no_report (nat_lt 1073741824 (length bytes)) _ _ said e)
+
+-- the block of a thread of the code's report
+pub said_at : (blocks : List ReportBlock) (i : ℕ) (b : ReportBlock) → b ≡ get_or blocks i b → i < length blocks
+    → slice_get (map block_said blocks) i ≡ Some (block_said b)
+said_at [] i b is l = absurd (omega arith)
+said_at (x ∷ xs) zero b is l = ap (λ (y : ReportBlock). Some (block_said y)) (sym is)
+said_at (x ∷ xs) (suc i) b is l = said_at xs i b is (omega arith)
+
+-- a report of another program, or without the thread
+pub unmatched_ends : (file bytes : List ℕ) (thread : ℕ) (program : Program) (said : Report) (r : Refusal) → Loads file program
+    → report_in bytes ≡ Ok said → IsUnmatched file thread said r → EndsReplay file bytes thread (Err r)
+unmatched_ends file bytes thread program said (refusal.BadReport line kind) loads reads h =
+    inr (record { program = program; loads = loads; said = said; reads = reads; is_fault = h })
+unmatched_ends file bytes thread program said (refusal.Usage place kind) loads reads h = absurd h
+unmatched_ends file bytes thread program said (refusal.Absent name) loads reads h = absurd h
+unmatched_ends file bytes thread program said (refusal.ReadFault name) loads reads h = absurd h
+unmatched_ends file bytes thread program said (refusal.BadFile fault) loads reads h = absurd h
+unmatched_ends file bytes thread program said (refusal.BadSource fault) loads reads h = absurd h
+unmatched_ends file bytes thread program said (refusal.Differs it) loads reads h = absurd h
+unmatched_ends file bytes thread program said refusal.Memory loads reads h = absurd h
+
+module _ (file bytes : List ℕ) (thread : ℕ) (program : Program) (config : Config) (said : Report) (block : Block) (loads : Loads file program)
+    (reads : report_in bytes ≡ Ok said) (matches : mismatch (sha256 file) thread said ≡ None) (given : options_of config ≡ said.options)
+    (one_core : config.cores ≡ 1) (stands : slice_get said.blocks thread ≡ Some block) where
+  abbrev at : IsBlockIn file bytes thread
+  at = record {
+    program = program;
+    loads = loads;
+    said = said;
+    reads = reads;
+    matches = matches;
+    config = config;
+    given = given;
+    one_core = one_core;
+    block = block;
+    stands = stands;
+  }
+
+  -- the thread parts from the journal or the count
+  pub parted_ends : (r : Refusal) → IsPartedRefusal program config thread block r → EndsReplay file bytes thread (Err r)
+  parted_ends (refusal.Differs (difference.Parts fault)) h = inl (record { at = at; fault = fault; parts = h; is_text = refl })
+  parted_ends (refusal.Differs (difference.Lines line report replay)) h = absurd h
+  parted_ends refusal.Memory h = tt
+  parted_ends (refusal.Usage place kind) h = absurd h
+  parted_ends (refusal.Absent name) h = absurd h
+  parted_ends (refusal.ReadFault name) h = absurd h
+  parted_ends (refusal.BadFile fault) h = absurd h
+  parted_ends (refusal.BadSource fault) h = absurd h
+  parted_ends (refusal.BadReport line kind) h = absurd h
+
+  -- the thread ends as the block says
+  module _ (context : Context) (alone : HasRunAlone program config thread context) (journal : journal_of context ≡ block.journal)
+      (count : (state_of context).count ≡ block.count) where
+    abbrev ending : EndsAsSaid program config thread block
+    ending = record {
+      state = state_of context;
+      stop = alone.stop;
+      run = subst (λ (j : List Event). IsLoneRun program config thread j (state_of context) alone.stop) journal alone.run;
+      count = count;
+    }
+
+    its_text : block_text (thread_of context) (state_of context) (stop_of context) (journal_of context) ≡ text_of ending
+    its_text = λ i. block_text (alone.number i) (state_of context) (alone.stopped i) (journal i)
+
+    pub compared_ends : (end : Result Answer Refusal)
+        → ComparesSo (text_in bytes block) block.first_line
+        (block_text (thread_of context) (state_of context) (stop_of context) (journal_of context)) end
+        → EndsReplay file bytes thread end
+    compared_ends (Ok a) h =
+        record { at = at; end = ending; is_text = h.0 ∙ its_text; same = h.1 ∙ sym h.0 }
+    compared_ends (Err (refusal.Differs (difference.Lines line report replay))) h = inr (record {
+      at = at;
+      end = ending;
+      it = h.0;
+      first = subst (λ (text : List ℕ). first_difference 0 (lines_of (text_in bytes block)) (lines_of text) ≡ Some h.0) its_text h.1;
+      is_text = λ i. difference_lines (h.2.0 i) (h.2.1 i) (h.2.2 i);
+    })
+    compared_ends (Err (refusal.Differs (difference.Parts fault))) h = absurd h.2
+    compared_ends (Err refusal.Memory) h = tt
+    compared_ends (Err (refusal.Usage place kind)) h = absurd h
+    compared_ends (Err (refusal.Absent name)) h = absurd h
+    compared_ends (Err (refusal.ReadFault name)) h = absurd h
+    compared_ends (Err (refusal.BadFile fault)) h = absurd h
+    compared_ends (Err (refusal.BadSource fault)) h = absurd h
+    compared_ends (Err (refusal.BadReport line kind)) h = absurd h

@@ -1,0 +1,6 @@
+use Rattle.smemu.specs.DifferLines.{parting_words}
+use Rattle.smemu.proofs.differ_line.put_parting_words.Goals as goal
+
+pub returns-in-JournalLong : goal.returns-in-JournalLong
+unfolding parting_words
+returns-in-JournalLong g c = rw (c.in-JournalLong.is, ← c.from-in-JournalLong.ensures) c.put_counted-in-JournalLong.ensures

@@ -1,0 +1,153 @@
+//! The replay of a guest thread of a report: the thread is run alone, answered by its journal, and its block
+//! is compared with the report's.
+ghost use Rattle.std.specs.Prelude.{◌≡◌, ◌≤◌, ◌<◌, IfOk, IfErr, OnOk, All, Ok, None, length};
+ghost use Rattle.sha2.specs.Sha256.{sha256};
+ghost use Rattle.elf_loader.specs.Loading.{Loads};
+ghost use Rattle.kernel_contexts.specs.Context.{journal_of, state_of, stop_of, thread_of};
+ghost use Rattle.lone_runner.specs.LoneRun.{HasRunAlone};
+ghost use Rattle.report_reader.specs.Report.{report_in};
+ghost use Rattle.report_reader.specs.Told.{block_said, report_said, StandsIn};
+ghost use Rattle.report_text.specs.Block.{block_text};
+ghost use Rattle.smemu.specs.Replay as spec;
+ghost use Rattle.smemu.specs.Requests.{IsReport};
+ghost use Rattle.smemu.specs.Views.{IsUnmatched};
+ghost use Rattle.smemu.specs.declared.refusal.Refusal.TheVariants as refusals;
+ghost use Rattle.smemu.specs.Views.{ComparesSo, EndsReplay, IsOtherLine, IsPartedRefusal, IsRejected};
+
+use crate::answer::Answer;
+use crate::refusal::{Difference, Refusal};
+use edge_io::MemSink;
+use kernel_contexts::Context;
+use lone_runner::{AloneFault, run_alone};
+use paged_memory::Image;
+use report_reader::{Report, ReportBlock, ReportFault, ReportKind, first_difference, read_report};
+use report_text::write_block;
+use sha2::{Digest, Sha256};
+use sm_types::Config;
+use std::alloc::Global;
+
+/// Room for the block of a thread: 262,144 events and 1,048,576 bytes of output take less than half of it.
+const BLOCK_ROOM: usize = 67_108_864;
+
+/// Reads a report.
+fn read_file(alloc: Global, bytes: &[u8]) -> Result<Report, Refusal>
+    ensures reads { IfOk result (λ report. report_in bytes.now ≡ Ok (report_said report)) }
+    ensures cores { IfOk result (λ report. report.config.cores ≡ 1) }
+    ensures places { IfOk result (λ report. All (StandsIn bytes.now) report.blocks.items) }
+    ensures rejected { IfErr result (IsRejected IsReport bytes.now) }
+{
+    match read_report(alloc, bytes) {
+        Ok(report) => Ok(report),
+        Err(ReportFault::Line { line, kind }) => Err(Refusal::BadReport { line, kind }),
+        Err(ReportFault::Memory) => Err(Refusal::Memory),
+    }
+}
+
+/// Checks that a report is of this program, and has that thread.
+fn check_match(file: &[u8], thread: u32, report: &Report) -> Result<(), Refusal>
+    ensures ok { OnOk result (spec.mismatch (sha256 file.now) thread (report_said report.now) ≡ None) }
+    ensures err { IfErr result (IsUnmatched file.now thread (report_said report.now)) }
+{
+    if report.image != Sha256::digest(file) {
+        return Err(Refusal::BadReport {
+            line: 3,
+            kind: ReportKind::Image,
+        });
+    }
+    if thread >= report.config.threads {
+        return Err(Refusal::BadReport {
+            line: 2,
+            kind: ReportKind::NoThread,
+        });
+    }
+    Ok(())
+}
+
+/// Runs the thread of a block alone, over its journal, to its count.
+fn run_block(
+    alloc: Global,
+    image: &Image,
+    config: &Config,
+    thread: u32,
+    block: &ReportBlock,
+) -> Result<Context, Refusal>
+    requires { thread < config.now.threads }
+    ensures run { IfOk result (λ context. HasRunAlone image.now config.now thread context) }
+    ensures journal { IfOk result (λ context. journal_of context ≡ block.now.journal.items) }
+    ensures count { IfOk result (λ context. (state_of context).count ≡ block.now.count) }
+    ensures parted { IfErr result (IsPartedRefusal image.now config.now thread (block_said block.now)) }
+{
+    match run_alone(
+        alloc,
+        image,
+        config,
+        thread,
+        block.journal.as_slice(),
+        block.count,
+    ) {
+        Ok(context) => Ok(context),
+        Err(AloneFault::Memory) => Err(Refusal::Memory),
+        Err(fault) => Err(Refusal::Differs(Difference::Parts(fault))),
+    }
+}
+
+/// A line of the report that is another in the replay.
+fn other_line(
+    alloc: Global,
+    line: u64,
+    report: &[u8],
+    replay: &[u8],
+) -> Result<Difference, Refusal>
+    ensures line { IfOk result (λ it. IsOtherLine line report.now replay.now it) }
+    ensures memory { IfErr result (λ refusal. refusal ≡ refusals.Memory) }
+{
+    Ok(Difference::Lines {
+        line,
+        report: Vec::from_slice(alloc, report)?,
+        replay: Vec::from_slice(alloc, replay)?,
+    })
+}
+
+/// Compares a block of the report with that of the thread that was run alone.
+fn compare(
+    alloc: Global,
+    report: &[u8],
+    block: &ReportBlock,
+    context: &Context,
+) -> Result<Answer, Refusal>
+    requires places { StandsIn report.now block.now }
+    requires size { length report.now ≤ 1073741824 }
+    ensures { ComparesSo (spec.text_in report.now (block_said block.now)) block.now.first_line
+        (block_text (thread_of context.now) (state_of context.now) (stop_of context.now)
+        (journal_of context.now)) result }
+{
+    let mut text = MemSink::new(alloc, BLOCK_ROOM)?;
+    if write_block(context, &mut text).is_err() {
+        return Err(Refusal::Memory);
+    }
+    if let Some(it) = first_difference(&report[block.start..block.end], text.bytes()) {
+        let line = block.first_line + it.line as u64;
+        let other = other_line(alloc, line, it.first, it.second)?;
+        return Err(Refusal::Differs(other));
+    }
+    Ok(Answer::Block(text))
+}
+
+/// The replay of a thread of a report: its block, where running it alone comes to the block that stands in the
+/// report.
+pub fn replay_report(
+    alloc: Global,
+    file: &[u8],
+    image: &Image,
+    bytes: &[u8],
+    thread: u32,
+) -> Result<Answer, Refusal>
+    requires { Loads file.now image.now }
+    ensures { EndsReplay file.now bytes.now thread result }
+{
+    let report = read_file(alloc, bytes)?;
+    check_match(file, thread, &report)?;
+    let block = &report.blocks[thread as usize];
+    let context = run_block(alloc, image, &report.config, thread, block)?;
+    compare(alloc, bytes, block, &context)
+}

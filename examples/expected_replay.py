@@ -1,0 +1,77 @@
+#!/usr/bin/env python3
+"""Prints what `replay` is to write of a program file, a report of one thread that is in the format, and a thread; the status is that of the
+process. The thread runs on the interpreter of expected.py, and each operation on a shared word is answered by the report's journal.
+
+    examples/expected_replay.py FILE REPORT THREAD
+"""
+import hashlib
+import itertools
+import re
+import sys
+
+from expected import SHARED, Raised, Thread, block
+
+
+class Parts(Exception):
+    """The thread asks what the journal does not answer."""
+
+
+class Replayed(Thread):
+    def __init__(self, file, options, events):
+        super().__init__(file, options["budget"], options["vl"], options["svl"], options["slice"])
+        self.events = events
+
+    def answer(self, kind, place, a, b=0):
+        self.need_room()
+        used = len(self.journal)
+        if used == len(self.events):
+            raise Parts(f"journalshort {self.count}")
+        *asked, answer = self.events[used].split()
+        if asked != ["e", kind, str(place), f"{a:016x}", f"{b:016x}"]:
+            raise Parts(f"journaldiffers {used}")
+        return self.keep(kind, place, a, b, int(answer, 16))
+
+    def ask(self, kind, address, base, a=0, b=0):
+        if base == 31 and self.sp % 16:
+            raise Raised("spalign", "")
+        return self.answer(kind, (address - SHARED.start) // 8, a, b)
+
+    def ask_signals(self, kind, a=0):
+        return self.answer(kind, 0, a)
+
+
+def replay(file, report, number=0):
+    """The status and the text."""
+    lines = report.splitlines()
+    options = {name: int(value) for name, value in re.findall(r"(\w+)=(\d+)", lines[1])}
+    if lines[2] != f"image {hashlib.sha256(file).hexdigest()}":
+        return 9, "bad report: line 3: image\n"
+    if number >= options["threads"]:
+        return 9, "bad report: line 2: nothread\n"
+    start = lines.index(f"thread {number}")
+    theirs = lines[start:lines.index("end-thread", start) + 1]
+    events = [line for line in theirs if line.startswith("e ")]
+    count, thread, stop = int(theirs[2].split()[1]), Replayed(file, options, events), None
+    while stop is None:
+        try:
+            stop = thread.turn()
+        except Parts as parts:
+            return 10, f"differs: {parts}\n"
+        if thread.count > count:
+            return 10, f"differs: goeson {count}\n"
+    if thread.count < count:
+        return 10, f"differs: endsearly {thread.count} {stop}\n"
+    if len(thread.journal) < len(events):
+        return 10, f"differs: journallong {len(events) - len(thread.journal)}\n"
+    ours = block(thread, stop, number)
+    for line, (a, b) in enumerate(itertools.zip_longest(theirs, ours, fillvalue=""), start + 1):
+        if a != b:
+            return 10, f"differs: line {line}\n{a}\n{b}\n"
+    return 0, "".join(line + "\n" for line in ours)
+
+
+if __name__ == "__main__":
+    with open(sys.argv[1], "rb") as program, open(sys.argv[2]) as report:
+        status, text = replay(program.read(), report.read(), int(sys.argv[3]))
+    sys.stdout.write(text)
+    sys.exit(status)
