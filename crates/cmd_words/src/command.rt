@@ -6,11 +6,18 @@ use sm_types::Config;
 #[derive(Drop)]
 pub enum Command {
     /// Runs the program file of that name.
-    Run { program: String, config: Config },
+    Run {
+        program: String,
+        config: Config,
+    },
     /// Lists the code words of the program file of that name.
-    Dis { program: String },
+    Dis {
+        program: String,
+    },
     /// Assembles the source file of that name.
-    Asm { source: String },
+    Asm {
+        source: String,
+    },
     /// Runs one thread of a report alone, on the program file of that name.
     Replay {
         program: String,

@@ -1,19 +1,15 @@
 -- That a run ends at most once, and what a context that has stopped says of it.
-use Rattle.std.proofs.Common.{◌≡◌, ℕ, zero, suc, ◌+◌, List, [], length, Option, Some, refl, ap, sym, ◌∙◌, arith, subst}
+use Rattle.std.proofs.Common.{◌≡◌, ℕ, zero, suc, ◌+◌, List, [], length, Option, Some, refl, sym, ◌∙◌, arith, subst}
 use Rattle.sm_types.specs.declared.config.Config.{Config}
 use Rattle.sm_types.specs.declared.shared_op.Event.{Event}
 use Rattle.sm_types.specs.declared.stop.Stop.{Stop}
 use Rattle.paged_memory.specs.Image.{Program}
 use Rattle.kernel_contexts.specs.State.{State, start_state}
-use Rattle.kernel_contexts.specs.Call.{Ends}
-use Rattle.kernel_contexts.specs.Turn.{turn_of}
 use Rattle.kernel_contexts.specs.Run.{Reached, Ended, reach_from, reach}
 use Rattle.kernel_contexts.specs.Standing.{IsRunOf}
 use Rattle.kernel_contexts.specs.Context.{state_of, stop_of, config_of, image_of, thread_of, journal_of}
 use Rattle.kernel_contexts.specs.declared.context.Context.{Context}
-use Rattle.kernel_contexts.proofs.Runs.{next}
-pub use Rattle.kernel_contexts.proofs.Runs.{IsUnderWay, under_way_start, under_way_on, under_way_yields, under_way_asks}
-use Rattle.lone_runner.specs.LoneRun.{EndsFrom, IsLoneRun}
+use Rattle.lone_runner.specs.LoneRun.{IsLoneRun}
 
 -- a context that has stopped is at the end of its lone run, as its type keeps it
 ended_run : (program : Program) (config : Config) (thread : ℕ) (journal : List Event) (s : State) (now : Option Stop) (stop : Stop)
@@ -38,29 +34,6 @@ run_of program given config other thread number journal s stop image same is h =
     subst (λ (n : ℕ). IsLoneRun program config n journal s stop) is
     (subst (λ (k : Config). IsLoneRun program k number journal s stop) same
     (subst (λ (p : Program). IsLoneRun p other number journal s stop) image h))
-
-pub under_way_ends : (config : Config) (thread : ℕ) (from now new : State) (journal : List Event) (stop : Stop)
-    → IsUnderWay config thread from journal now → turn_of config thread (length journal) now ≡ Ends new stop
-    → EndsFrom config thread from journal new stop
-under_way_ends config thread from now new journal stop h is =
-    record {
-      turns = suc h.turns;
-      used = length journal;
-      ends = next config thread from now journal [] (length journal) h.turns (Ends new stop) h.at is;
-    }
-
-pub lone_run : (program : Program) (config : Config) (thread : ℕ) (given : Config) (number : ℕ) (from to : State) (journal : List Event)
-    (stop : Stop) → given ≡ config → number ≡ thread → from ≡ start_state program config thread
-    → EndsFrom given number from journal to stop → IsLoneRun program config thread journal to stop
-unfolding reach
-lone_run program config thread given number from to journal stop same is e h = record {
-  turns = h.turns;
-  used = h.used;
-  ends =
-      ap (λ k. reach_from k thread (start_state program config thread) 0 journal h.turns) (sym same)
-      ∙ ap (λ n. reach_from given n (start_state program config thread) 0 journal h.turns) (sym is)
-      ∙ ap (λ s. reach_from given number s 0 journal h.turns) (sym e) ∙ h.ends;
-}
 
 stays : (config : Config) (thread : ℕ) (from s : State) (stop : Stop) (used : ℕ) (journal left : List Event) (m k : ℕ)
     → reach_from config thread from 0 journal m ≡ Ended s stop used left

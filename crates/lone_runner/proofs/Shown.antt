@@ -13,7 +13,8 @@ use Rattle.kernel_contexts.specs.State.{State, start_state}
 use Rattle.kernel_contexts.specs.Run.{Reached, At, Ended, Strays, turned, reach}
 use Rattle.kernel_contexts.specs.Context.{state_of, config_of, image_of, thread_of, stop_of, journal_of}
 use Rattle.kernel_contexts.specs.declared.context.Context.{Context}
-use Rattle.lone_runner.specs.Parting.{IsShown, IsPartingBefore, IsEarly, parting_at, left_over, unanswered, state_at, standing}
+use Rattle.kernel_contexts.specs.Standing.{standing}
+use Rattle.lone_runner.specs.Parting.{IsShown, IsPartingBefore, IsEarly, parting_at, left_over, unanswered, state_at}
 use Rattle.lone_runner.specs.Replayed.{IsAtStart, IsAstray, place_of, next_place}
 use Rattle.lone_runner.specs.declared.fault.AloneFault.{AloneFault}
 use Rattle.lone_runner.specs.declared.fault.AloneFault.TheVariants.{EndsEarly, GoesOn}

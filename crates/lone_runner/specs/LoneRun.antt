@@ -7,18 +7,9 @@ use Rattle.sm_types.specs.declared.stop.Stop.{Stop}
 use Rattle.paged_memory.specs.Image.{Program}
 use Rattle.shared_region.specs.History.{AreOneHistory}
 use Rattle.kernel_contexts.specs.State.{State}
-use Rattle.kernel_contexts.specs.Run.{reach, reach_from, Ended}
-use Rattle.kernel_contexts.specs.Context.{state_of, stop_of, config_of, thread_of, journal_of}
+use Rattle.kernel_contexts.specs.Run.{reach, Ended}
+use Rattle.kernel_contexts.specs.Context.{state_of, stop_of, thread_of, journal_of}
 use Rattle.kernel_contexts.specs.declared.context.Context.{Context}
-
--- from a state the turns of the thread of that number over this journal end so, and exactly the journal's
--- events are used
-pub record EndsFrom (config : Config) (thread : ℕ) (from : State) (journal : List Event) (state : State)
-    (stop : Stop)
-    : Type 0 where
-  pub turns : ℕ
-  pub used : ℕ
-  pub ends : reach_from config thread from 0 journal turns ≡ Ended state stop used []
 
 -- the thread's run over this journal ends in this state with this stop, and exactly the journal's events are
 -- used

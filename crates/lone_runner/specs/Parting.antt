@@ -7,6 +7,7 @@ use Rattle.sm_types.specs.declared.shared_op.Event.{Event}
 use Rattle.sm_types.specs.declared.stop.Stop.{Stop}
 use Rattle.paged_memory.specs.Image.{Program}
 use Rattle.kernel_contexts.specs.State.{State}
+use Rattle.kernel_contexts.specs.Standing.{standing}
 use Rattle.kernel_contexts.specs.Run.{Reached, At, Ended, Strays, reach}
 use Rattle.kernel_contexts.specs.Context.{state_of, stop_of, thread_of, journal_of}
 use Rattle.kernel_contexts.specs.declared.context.Context.{Context}
@@ -56,11 +57,6 @@ abbrev pub state_at : Reached → State
 state_at (At s used left) = s
 state_at (Ended s stop used left) = s
 state_at (Strays s used left) = s
-
--- a thread that goes on, or has stopped
-abbrev pub standing : State → Option Stop → ℕ → List Event → Reached
-standing s None used left = At s used left
-standing s (Some stop) used left = Ended s stop used left
 
 -- the context is the thread of that number, over a journal that begins with its own, after the fewest turns
 -- by which so many instructions are counted; where the last of them ended the run, it has stopped

@@ -6,7 +6,8 @@ use Rattle.kernel_contexts.specs.State.{start_state}
 use Rattle.kernel_contexts.specs.Run.{Reached, Strays, turned}
 use Rattle.kernel_contexts.specs.Context.{state_of, config_of, image_of, thread_of, stop_of, journal_of}
 use Rattle.kernel_contexts.specs.declared.context.Context.{Context}
-use Rattle.lone_runner.specs.Parting.{standing, unanswered}
+use Rattle.kernel_contexts.specs.Standing.{standing}
+use Rattle.lone_runner.specs.Parting.{unanswered}
 use Rattle.lone_runner.specs.declared.fault.AloneFault.{AloneFault}
 
 -- the ticket is that of the context's thread, and the events that it answered are the context's; the journal

@@ -16,7 +16,8 @@ use Rattle.edge_io.specs.declared.sink.PutFault.TheVariants.{Failed}
 use Rattle.elf_loader.specs.Loading.{load_fault}
 use Rattle.paged_memory.specs.Image.{Program}
 use Rattle.smemu.specs.Answers.{IsFile, IsAnswer}
-use Rattle.smemu.specs.Ends.{Change, Call, IsUsage, IsDone, IsRefused, MayCome, FetchesReached, MismatchStands, DifferenceStands}
+use Rattle.smemu.specs.DifferLines.{report_line}
+use Rattle.smemu.specs.Ends.{Change, IsRejection, Call, IsUsage, IsDone, IsRefused, MayCome, FetchesReached, MismatchStands, DifferenceStands}
 use Rattle.smemu.specs.Replay.{IsBlockIn, IsReplayOf, IsMismatched, DiffersSo}
 use Rattle.smemu.specs.declared.refusal.Difference.{Difference}
 use Rattle.report_reader.specs.declared.fault.ReportKind.{ReportKind}
@@ -75,9 +76,12 @@ pub unread_later : (old now new : FilesView) (name : List ℕ) (r : Refusal) →
     → IsUnread (record { before = now; after = new }) name r → IsUnread (record { before = old; after = new }) name r
 unread_later old now new name (refusal.Absent shown) k l h =
     (h.0, subst (λ (t : Told). IfSome t (λ told. told name ≡ None)) k.same h.1, rose_on old.absences now.absences new.absences k.absences h.2 l.absences)
-unread_later old now new name (refusal.ReadFault shown) k l h =
-    (h.0, subst (λ (t : Told). IfSome t (λ told. IsSome (told name))) k.same h.1,
-    rose_on old.faults now.faults new.faults k.faults h.2 l.faults, λ some. h.3 (k.reliable some))
+unread_later old now new name (refusal.ReadFault shown) k l h = (
+  h.0,
+  subst (λ (t : Told). IfSome t (λ told. IsSome (told name))) k.same h.1,
+  rose_on old.faults now.faults new.faults k.faults h.2 l.faults,
+  λ some. h.3 (k.reliable some),
+)
 unread_later old now new name refusal.Memory k l h = tt
 unread_later old now new name (refusal.Usage place kind) k l h = absurd h
 unread_later old now new name (refusal.BadFile fault) k l h = absurd h
@@ -147,7 +151,7 @@ report_unread program report thread files file r is accepted h =
     unread_ends (AsksReplay program report thread) (record { name = report; kind = IsReport }) files r
     (report_reached program report thread files.before.told file is accepted) h
 
-block_of : (file report : List ℕ) (thread : ℕ) (text : List ℕ) → DiffersSo file report thread text → IsBlockIn file report thread
+pub block_of : (file report : List ℕ) (thread : ℕ) (text : List ℕ) → DiffersSo file report thread text → IsBlockIn file report thread
 block_of file report thread text (inl parted) = parted.at
 block_of file report thread text (inr another) = another.at
 
@@ -380,7 +384,7 @@ fetches_as fetched told unread names old new s t some refused h = record {
 
 -- ---- the status that is due
 
-there : (told : Told) (files : List ℕ → Option (List ℕ)) (name file : List ℕ) → told ≡ Some files → IsFile told name file
+pub there : (told : Told) (files : List ℕ → Option (List ℕ)) (name file : List ℕ) → told ≡ Some files → IsFile told name file
     → files name ≡ Some file
 there told files name file e h = subst (λ (t : Told). IfSome t (λ known. known name ≡ Some file)) e h
 
@@ -392,7 +396,7 @@ source_due : (files : List ℕ → Option (List ℕ)) (name source : List ℕ) �
     → due_of_files files (record { name = name; kind = IsSource } ∷ []) ≡ Done
 source_due files name source e h = rw (e, h) refl
 
-two_due : (files : List ℕ → Option (List ℕ)) (program report file bytes : List ℕ) (said : Report) → files program ≡ Some file
+pub two_due : (files : List ℕ → Option (List ℕ)) (program report file bytes : List ℕ) (said : Report) → files program ≡ Some file
     → load_fault file ≡ None → files report ≡ Some bytes → report_in bytes ≡ Ok said
     → due_of_files files (record { name = program; kind = IsProgram } ∷ record { name = report; kind = IsReport } ∷ []) ≡ Done
 two_due files program report file bytes said e h g reads = rw (e, h, g, reads) refl
@@ -421,6 +425,16 @@ missing_due kind file e rest = rw e refl
 rejected_due : (kind : Kind) (file : Option (List ℕ)) (whole : List ℕ) (rejection : Rejection) → file ≡ Some whole
     → rejection_of kind whole ≡ Some rejection → (rest : Status) → due_of_file kind file rest ≡ due_of_rejection (Some rejection) rest
 rejected_due kind file whole rejection e h rest = ap (λ o. due_of_file kind o rest) e ∙ ap (λ r. due_of_rejection r rest) h
+
+-- that of a report that is not in its format
+pub rejected_status : (files : List ℕ → Option (List ℕ)) (change : Change FilesView) → change.before.told ≡ Some files
+    → (request : Request) (text : List ℕ) → IsRejection NoReport report_line change.before.told (files_named request) text
+    → due_of_files files (files_named request) ≡ BadReport
+rejected_status files change tells request text h =
+    let whole = there change.before.told files h.named.name h.file tells h.is_file in
+    let at = told_reached change.before.told files (files_named request) h.named tells h.reached in
+    due_reached files (files_named request) at.0 h.named BadReport at.1
+    (λ rest. rejected_due h.named.kind (files h.named.name) h.file (NoReport h.fault) whole h.rejects rest)
 
 -- a status that is due is so
 same_due : (o : Option Request) (s : Status) → IsDueOf o s s

@@ -8,3 +8,4 @@ pub mod InMemory
 pub mod HelpLines
 pub mod ForeignWords
 pub mod Threads
+pub mod OneEnding

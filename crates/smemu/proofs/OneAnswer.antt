@@ -93,7 +93,7 @@ same_config a b e =
 
 -- ---- files
 
-same_file : (o : Option (List ℕ)) (file other : List ℕ) → o ≡ Some file → o ≡ Some other → file ≡ other
+pub same_file : (o : Option (List ℕ)) (file other : List ℕ) → o ≡ Some file → o ≡ Some other → file ≡ other
 same_file o file other e h = cc
 
 -- ---- the ends of threads
@@ -176,7 +176,7 @@ said_options a b e cores =
     let numbers : numbers_of a ≡ numbers_of b = λ i. (vl i, svl i, (e i).slice, (e i).budget, (e i).threads, cores i) in
     same_numbers a b numbers
 
-same_said : (read : Result Report Fault) (a b : Report) → read ≡ Ok a → read ≡ Ok b → a ≡ b
+pub same_said : (read : Result Report Fault) (a b : Report) → read ≡ Ok a → read ≡ Ok b → a ≡ b
 same_said read a b e h = cc
 
 same_block : (o : Option Block) (a b : Block) → o ≡ Some a → o ≡ Some b → a ≡ b
@@ -188,7 +188,7 @@ pub record IsOneBlock {file report : List ℕ} {thread : ℕ} (a b : IsBlockIn f
   pub config : a.config ≡ b.config
   pub block : a.block ≡ b.block
 
-one_block : (file report : List ℕ) (thread : ℕ) (a b : IsBlockIn file report thread) → IsOneBlock a b
+pub one_block : (file report : List ℕ) (thread : ℕ) (a b : IsBlockIn file report thread) → IsOneBlock a b
 one_block file report thread a b =
     let said = same_said (report_in report) a.said b.said a.reads b.reads in
     let options = a.given ∙ ap (λ (r : Report). r.options) said ∙ sym b.given in

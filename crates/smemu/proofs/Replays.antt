@@ -20,6 +20,8 @@ use Rattle.report_reader.specs.Lines.{lines_of}
 use Rattle.report_reader.specs.Reading.{Fault}
 use Rattle.report_reader.specs.Report.{Report, report_in}
 use Rattle.report_reader.specs.Told.{block_said}
+use Rattle.report_reader.specs.declared.fault.ReportKind.TheVariants.{Image, NoThread}
+use Rattle.std.specs.Str.{bytes_eq}
 use Rattle.report_reader.specs.declared.parts.ReportBlock.{ReportBlock}
 use Rattle.report_text.specs.Block.{block_text}
 use Rattle.smemu.specs.DifferLines.{difference_lines}
@@ -41,6 +43,17 @@ short_enough most n e = grind (arith, nat_tests)
 pub report_size : (bytes : List ℕ) (said : Report) → report_in bytes ≡ Ok said → length bytes ≤ 1073741824
 unfolding report_in
 report_size bytes said e = short_enough 1073741824 (length bytes) (no_report (nat_lt 1073741824 (length bytes)) _ _ said e)
+
+-- and has the thread, where it is one of the program
+below : (t n : ℕ) (same lower : Bool) (f g : Fault) → nat_lt t n ≡ lower → cond same (cond lower None (Some f)) (Some g) ≡ None → t < n
+below t n true true f g is e = grind (arith, nat_tests)
+below t n true false f g is e = cc
+below t n false lower f g is e = cc
+
+pub thread_there : (digest : List ℕ) (thread : ℕ) (said : Report) → mismatch digest thread said ≡ None → thread < said.options.threads
+thread_there digest thread said e =
+    below thread said.options.threads (bytes_eq said.image digest) (nat_lt thread said.options.threads) (record { line = 2; kind = NoThread })
+    (record { line = 3; kind = Image }) refl e
 
 -- the block of a thread of the code's report
 pub said_at : (blocks : List ReportBlock) (i : ℕ) (b : ReportBlock) → b ≡ get_or blocks i b → i < length blocks

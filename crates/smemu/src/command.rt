@@ -196,11 +196,13 @@ fn answer_words<F: Files>(alloc: Global, words: &[String], files: &mut F) -> Res
         Ok(Command::Run { program, config }) => run_program(alloc, program, &config, files),
         Ok(Command::Dis { program }) => list_program(alloc, program, files),
         Ok(Command::Asm { source }) => assemble_source(alloc, source, files),
-        Ok(Command::Replay {
-            program,
-            report,
-            thread,
-        }) => replay_thread(alloc, program, report, thread, files),
+        Ok(
+            Command::Replay {
+                program,
+                report,
+                thread,
+            },
+        ) => replay_thread(alloc, program, report, thread, files),
         Ok(Command::Help) => Ok(Answer::Help),
         Ok(Command::Version) => Ok(Answer::Version),
         Err(WordsFault::Usage { place, kind }) => Err(Refusal::Usage { place, kind }),

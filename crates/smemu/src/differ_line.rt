@@ -34,11 +34,7 @@ fn part_word(kind: ReportKind) -> &'static [u8]
 
 /// Writes the line of a fault of a report.
 #[tactic(auto, unfolding(crate::specs::DifferLines::report_line))]
-pub fn write_report_fault<K: Sink>(
-    out: &mut K,
-    line: u64,
-    kind: ReportKind,
-) -> Result<(), PutFault>
+pub fn write_report_fault<K: Sink>(out: &mut K, line: u64, kind: ReportKind) -> Result<(), PutFault>
     ensures { Writes (K.view out.old) (K.view out.new) result
         (spec.report_line (record { line = line; kind = kind })) }
 {
@@ -134,7 +130,13 @@ fn write_lines<K: Sink>(
     let digits = buffer.format(line).as_bytes();
     write_parts(
         out,
-        &[b"differs: line ", digits, b"\n", shown(report), shown(replay)],
+        &[
+            b"differs: line ",
+            digits,
+            b"\n",
+            shown(report),
+            shown(replay),
+        ],
     )
 }
 

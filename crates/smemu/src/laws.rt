@@ -2,11 +2,11 @@
 //! of the statuses is so.
 ghost use Rattle.std.specs.Prelude.{◌≡◌, ◌≢◌, ℕ, List, Option, Some};
 ghost use Rattle.cmd_words.specs.Options.{takes};
-ghost use Rattle.cmd_words.specs.Words.{Request, command_of};
+ghost use Rattle.cmd_words.specs.Words.{Request, AsksReplay, command_of};
 ghost use Rattle.cmd_words.specs.declared.setting.Setting.{Setting};
 ghost use Rattle.smemu.specs.Answers.{AreOneAnswer, IsAnswer};
 ghost use Rattle.edge_io.specs.Files.{FilesView};
-ghost use Rattle.smemu.specs.Ends.{Change, Defined};
+ghost use Rattle.smemu.specs.Ends.{Change, Defined, Stands};
 ghost use Rattle.smemu.specs.Texts.{has_number, help_text, numbers_of, option_line, HasFront, HasPart};
 ghost use Rattle.smemu.specs.Texts.{status_line, status_words};
 ghost use Rattle.smemu.specs.declared.status.Status.{Status};
@@ -29,4 +29,21 @@ pub fn help_is_true()
     ensures statuses { (status : Status) → HasPart help_text (status_line status) }
     ensures begins { (words : List (List ℕ)) (files : Change FilesView) (status : Status) (text : List ℕ)
         → status ≢ Status.Done → Defined words files status text → HasFront text (status_words status) }
+{}
+
+/// Over files that are told, a replay has one ending: where its block is written, neither is its report
+/// refused, nor does its thread part from it, and a report that is refused is not compared.
+pub fn one_ending()
+    ensures done { (files : List ℕ → Option (List ℕ)) (program report : List ℕ) (thread : ℕ)
+        (change : Change FilesView) → change.before.told ≡ Some files → (text other : List ℕ)
+        → Stands (AsksReplay program report thread) change Status.Done text
+        → ¬ Stands (AsksReplay program report thread) change Status.Differs other }
+    ensures refused { (files : List ℕ → Option (List ℕ)) (program report : List ℕ) (thread : ℕ)
+        (change : Change FilesView) → change.before.told ≡ Some files → (text other : List ℕ)
+        → Stands (AsksReplay program report thread) change Status.Done text
+        → ¬ Stands (AsksReplay program report thread) change Status.BadReport other }
+    ensures compared { (files : List ℕ → Option (List ℕ)) (program report : List ℕ) (thread : ℕ)
+        (change : Change FilesView) → change.before.told ≡ Some files → (text other : List ℕ)
+        → Stands (AsksReplay program report thread) change Status.Differs text
+        → ¬ Stands (AsksReplay program report thread) change Status.BadReport other }
 {}

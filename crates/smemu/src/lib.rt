@@ -25,5 +25,5 @@ mod status;
 pub use command::smemu_main;
 pub use foreign::refuse_foreign_word;
 pub use in_memory::{longest_program, smemu_in_memory};
-pub use laws::{help_is_true, one_answer};
+pub use laws::{help_is_true, one_answer, one_ending};
 pub use status::Status;

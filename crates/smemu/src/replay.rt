@@ -92,12 +92,7 @@ fn run_block(
 }
 
 /// A line of the report that is another in the replay.
-fn other_line(
-    alloc: Global,
-    line: u64,
-    report: &[u8],
-    replay: &[u8],
-) -> Result<Difference, Refusal>
+fn other_line(alloc: Global, line: u64, report: &[u8], replay: &[u8]) -> Result<Difference, Refusal>
     ensures line { IfOk result (λ it. IsOtherLine line report.now replay.now it) }
     ensures memory { IfErr result (λ refusal. refusal ≡ refusals.Memory) }
 {

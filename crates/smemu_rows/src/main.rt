@@ -51,8 +51,7 @@ fn agrees<R: Files + AllocGlobal>(rt: &R, name: &str, wanted: u8, words: &str) -
     names.insert(0, String::from_str(rt.alloc(), command)?)?;
     let text_name = format!(in rt.alloc(); "{name}.txt")?;
     let text = fs::read(rt, text_name.as_str()).context("the text that is to be written")?;
-    let mut out =
-        MemSink::new(rt.alloc(), text.len()).map_err(|_| anyhow::anyhow!("memory"))?;
+    let mut out = MemSink::new(rt.alloc(), text.len()).map_err(|_| anyhow::anyhow!("memory"))?;
     let status = smemu_main(rt.alloc(), names.as_slice(), &mut files, &mut out);
     Ok(status.code() == wanted && out.bytes() == text.as_slice())
 }

@@ -32,7 +32,7 @@ turns-preserved-in-Ran c =
       events = e.journal;
       number = same_some _ _ e.number ∙ h.same.thread;
       history = history_on thread (journal_of old) (journal_of new)
-      (made_by old new) c.turns.port.history c.advance.new.port.history h.history
+          (made_by old new) c.turns.port.history c.advance.new.port.history h.history
           (c.plain_history_grows.ensures.history _ _ _ _ _ e.gives
           ∙ ap (λ (n : ℕ). c.turns.port.history ++ entries_of n (made_by old new)) h.same.thread) e.grows;
     }
@@ -55,7 +55,7 @@ turns-preserved c =
       events = e.journal;
       number = same_some _ _ e.number ∙ h.same.thread;
       history = history_on thread (journal_of old) (journal_of new)
-      (made_by old new) c.turns.port.history c.advance.new.port.history h.history
+          (made_by old new) c.turns.port.history c.advance.new.port.history h.history
           (c.plain_history_grows.ensures.history _ _ _ _ _ e.gives
           ∙ ap (λ (n : ℕ). c.turns.port.history ++ entries_of n (made_by old new)) h.same.thread) e.grows;
     }

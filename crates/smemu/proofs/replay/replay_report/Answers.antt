@@ -1,7 +1,8 @@
-use Rattle.std.proofs.Common.{rules, ◌<◌, length, refl, Err}
+use Rattle.std.proofs.Common.{rules, ◌<◌, length, refl, arith, Err}
+use Rattle.sha2.specs.Sha256.{sha256}
 use Rattle.report_reader.specs.Told.{block_said, report_said}
 use Rattle.smemu.specs.Views.{EndsReplay}
-use Rattle.smemu.proofs.Replays.{report_size, said_at, unmatched_ends, parted_ends, compared_ends}
+use Rattle.smemu.proofs.Replays.{report_size, thread_there, said_at, unmatched_ends, parted_ends, compared_ends}
 use Rattle.smemu.proofs.replay.replay_report.Goals as goal
 
 pub returns-in_err-check_match : goal.returns-in_err-check_match
@@ -13,7 +14,8 @@ returns-in_err-check_match c =
 
 pub returns-in_err-context : goal.returns-in_err-context
 returns-in_err-context c =
-    let inside : c.args.thread < length c.in_ok-report.report.blocks.items = search rules in
+    let there = thread_there (sha256 c.args.file.now) c.args.thread (report_said c.in_ok-report.report) c.in_ok-check_match.ensures.ok in
+    let inside : c.args.thread < length c.in_ok-report.report.blocks.items = omega (arith, there, c.in_ok-report.report.one_each) in
     let ends : EndsReplay c.args.file.now c.args.bytes.now c.args.thread (Err c.in_err-context.field-0.0) =
     parted_ends c.args.file.now c.args.bytes.now c.args.thread c.args.image.now c.in_ok-report.report.config (report_said c.in_ok-report.report)
     (block_said c.index-block.result.now) c.requires c.in_ok-report.ensures.reads c.in_ok-check_match.ensures.ok refl
@@ -23,7 +25,8 @@ returns-in_err-context c =
 
 pub returns : goal.returns
 returns c =
-    let inside : c.args.thread < length c.in_ok-report.report.blocks.items = search rules in
+    let there = thread_there (sha256 c.args.file.now) c.args.thread (report_said c.in_ok-report.report) c.in_ok-check_match.ensures.ok in
+    let inside : c.args.thread < length c.in_ok-report.report.blocks.items = omega (arith, there, c.in_ok-report.report.one_each) in
     compared_ends c.args.file.now c.args.bytes.now c.args.thread c.args.image.now c.in_ok-report.report.config (report_said c.in_ok-report.report)
     (block_said c.index-block.result.now) c.requires c.in_ok-report.ensures.reads c.in_ok-check_match.ensures.ok refl
     c.in_ok-report.ensures.cores (said_at c.in_ok-report.report.blocks.items c.args.thread c.index-block.result.now c.index-block.ensures inside)

@@ -1,0 +1,102 @@
+//! A thread alone, over a journal, and where it and a report part.
+ghost use Rattle.std.specs.Prelude.{◌<◌, ◌^◌, length};
+
+use crate::memory::FILE;
+use elf_loader::load;
+use kernel_contexts::Context;
+use lone_runner::{AloneFault, run_alone, run_to};
+use report_reader::first_difference;
+use sm_types::{Config, Event, Exception, OpKind, SharedOp, Stop};
+use std::alloc::Global;
+use std::process::Abort as Stops;
+
+/// The stop of the file's thread: after its three instructions there is no code.
+const STOP: Stop = Stop::Raised {
+    exception: Exception::Undefined(0),
+    pc: 0x40000c,
+};
+
+/// The journal of a thread that polled once, which the file's thread does not.
+const POLL: [Event; 1] = [Event {
+    op: SharedOp {
+        kind: OpKind::Poll,
+        place: 0,
+        a: 0,
+        b: 0,
+    },
+    answer: 0,
+}];
+
+/// Runs the file's thread to its stop, which is to come at the count.
+fn alone(
+    rt: &impl Stops,
+    alloc: Global,
+    journal: &[Event],
+    count: u32,
+) -> Result<Context, AloneFault>
+    requires { length journal.now < 2 ^ 32 }
+{
+    let image = load(alloc, &FILE).ok().expect(rt, "an accepted file");
+    run_alone(alloc, &image, &Config::defaults(), 0, journal, count)
+}
+
+#[test]
+fn a_thread_runs_alone_to_its_count(rt: HostRuntime) {
+    let alloc = rt.alloc();
+    let context = alone(&rt, alloc, &[], 3).ok().expect(&rt, "a run");
+    assert_eq!(rt; context.count(), 3);
+    assert_eq!(rt; context.stop(), Some(STOP));
+    assert_eq!(rt;
+        alone(&rt, alloc, &[], 2).err(),
+        Some(AloneFault::GoesOn(2))
+    );
+    let early = AloneFault::EndsEarly {
+        count: 3,
+        stop: STOP,
+    };
+    assert_eq!(rt; alone(&rt, alloc, &[], 4).err(), Some(early));
+    assert_eq!(rt;
+        alone(&rt, alloc, &POLL, 3).err(),
+        Some(AloneFault::JournalLong(1))
+    );
+}
+
+#[test]
+fn a_thread_runs_to_a_count(rt: HostRuntime) {
+    let alloc = rt.alloc();
+    let image = load(alloc, &FILE).ok().expect(&rt, "an accepted file");
+    let config = Config::defaults();
+    let context = run_to(alloc, &image, &config, 0, &[], 2)
+        .ok()
+        .expect(&rt, "a run");
+    assert_eq!(rt; context.count(), 2);
+    assert_eq!(rt; context.stop(), None);
+    assert_eq!(rt; context.machine().scalars.pc, 0x400008);
+    assert_eq!(rt; context.machine().scalars.x[0], 3);
+    let early = AloneFault::EndsEarly {
+        count: 3,
+        stop: STOP,
+    };
+    assert_eq!(rt;
+        run_to(alloc, &image, &config, 0, &[], 4).err(),
+        Some(early)
+    );
+}
+
+#[test]
+fn texts_differ_in_a_line(rt: HostRuntime) {
+    let cases = [
+        ("a\nb\n", "a\nc\n", 1, "b\n", "c\n"),
+        ("a\n", "a\nb\n", 1, "", "b\n"),
+        ("a\nb", "a\nb\n", 1, "b", "b\n"),
+        ("\n", "", 0, "\n", ""),
+    ];
+    for (first, second, line, one, other) in cases {
+        let it = first_difference(first.as_bytes(), second.as_bytes()).expect(&rt, "a difference");
+        assert_eq!(rt; it.line, line, "{first}");
+        assert_eq!(rt; it.first, one.as_bytes(), "{first}");
+        assert_eq!(rt; it.second, other.as_bytes(), "{first}");
+    }
+    assert!(rt; first_difference(b"a\nb\n", b"a\nb\n").is_none());
+    assert!(rt; first_difference(b"", b"").is_none());
+}
