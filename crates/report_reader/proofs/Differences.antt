@@ -1,5 +1,27 @@
 -- The first line in which two texts differ.
-use Rattle.std.proofs.Common.{◌≡◌, ◌≢◌, ℕ, ◌+◌, ◌≤◌, ◌==◌, Bool, true, false, cond, List, [], ◌∷◌, ◌++◌, length, refl, sym, ap, ◌∙◌, subst, arith}
+use Rattle.std.proofs.Common.{
+  ◌≡◌,
+  ◌≢◌,
+  ℕ,
+  ◌+◌,
+  ◌≤◌,
+  ◌==◌,
+  Bool,
+  true,
+  false,
+  cond,
+  List,
+  [],
+  ◌∷◌,
+  ◌++◌,
+  length,
+  refl,
+  sym,
+  ap,
+  ◌∙◌,
+  subst,
+  arith,
+}
 use Rattle.std.proofs.Common.{Option, Some, None}
 use Rattle.std.specs.List.{concat}
 use Rattle.std.specs.Str.{bytes_eq}
@@ -99,9 +121,11 @@ no_difference line [] [] e = refl
 no_difference line [] (y ∷ ys) e = cc
 no_difference line (x ∷ xs) [] e = cc
 no_difference line (x ∷ xs) (y ∷ ys) e =
-    elim (bytes_eq x y) as (λ t. bytes_eq x y ≡ t → cond t (first_difference (line + 1) xs ys) (Some (record { line = line; first = x; second = y })) ≡ None
+    elim (bytes_eq x y) as (λ t. bytes_eq x y ≡ t
+    → cond t (first_difference (line + 1) xs ys) (Some (record { line = line; first = x; second = y })) ≡ None
     → ◌≡◌ {A = List (List ℕ)} (x ∷ xs) (y ∷ ys)) [
-      | true ↦ λ is h. ap (λ (l : List ℕ). l ∷ xs) ((bytes_eq-Decides x y).0 is) ∙ ap (λ (ls : List (List ℕ)). y ∷ ls) (no_difference (line + 1) xs ys h)
+      | true ↦ λ is h. ap (λ (l : List ℕ). l ∷ xs) ((bytes_eq-Decides x y).0 is)
+          ∙ ap (λ (ls : List (List ℕ)). y ∷ ls) (no_difference (line + 1) xs ys h)
       | false ↦ λ is h. cc
     ] refl e
 

@@ -1,5 +1,6 @@
 -- From what a command's functions say to what the command promises.
-use Rattle.std.proofs.Common.{◌≡◌, ◌⊎◌, inl, inr, ℕ, ◌<◌, ◌≤◌, zero, suc, List, [], ◌∷◌, take, false, true, refl, sym, ◌∙◌, ap, subst, arith}
+use Rattle.std.proofs.Common.{◌≡◌, ◌⊎◌, inl, inr, ℕ, ◌<◌, ◌≤◌, zero, suc, List, [], ◌∷◌, take, false, true, refl, sym, ◌∙◌, ap, subst}
+use Rattle.std.proofs.Common.{arith}
 use Rattle.std.proofs.Common.{Option, Some, None, Result, Ok, Err}
 use Rattle.std.specs.Prelude.{IfSome, IsSome, option_map, codes, slice_get}
 use Rattle.std.specs.List.{concat}
@@ -17,17 +18,20 @@ use Rattle.elf_loader.specs.Loading.{load_fault}
 use Rattle.paged_memory.specs.Image.{Program}
 use Rattle.smemu.specs.Answers.{IsFile, IsAnswer}
 use Rattle.smemu.specs.DifferLines.{report_line}
-use Rattle.smemu.specs.Ends.{Change, IsRejection, Call, IsUsage, IsDone, IsRefused, MayCome, FetchesReached, MismatchStands, DifferenceStands}
+use Rattle.smemu.specs.Ends.{Change, IsRejection, Call, IsUsage, IsDone, IsRefused, MayCome, FetchesReached, MismatchStands}
+use Rattle.smemu.specs.Ends.{DifferenceStands}
 use Rattle.smemu.specs.Replay.{IsBlockIn, IsReplayOf, IsMismatched, DiffersSo}
 use Rattle.smemu.specs.declared.refusal.Difference.{Difference}
 use Rattle.report_reader.specs.declared.fault.ReportKind.{ReportKind}
 use Rattle.report_reader.specs.Reading.{Fault}
 use Rattle.report_reader.specs.Report.{Report, report_in}
 use Rattle.edge_io.specs.Cause.{Rose}
-use Rattle.smemu.specs.Requests.{Kind, IsProgram, IsSource, IsReport, Named, Rejection, NoProgram, NoSource, NoReport, files_named, files_asked}
+use Rattle.smemu.specs.Requests.{Kind, IsProgram, IsSource, IsReport, Named, Rejection, NoProgram, NoSource, NoReport, files_named}
+use Rattle.smemu.specs.Requests.{files_asked}
 use Rattle.smemu.specs.Requests.{limit_of, rejection_of, reached_of, IsReached, due_of_rejection, due_of_file, due_of_files, due_of_request}
 use Rattle.smemu.specs.Requests.{IsDueOf, IsDue, fault_in}
-use Rattle.smemu.specs.Views.{difference_text, refusal_status, answer_text, refusal_text, end_text, end_status, IsUnread, IsRejected, EndsRequest, EndsWords}
+use Rattle.smemu.specs.Views.{difference_text, refusal_status, answer_text, refusal_text, end_text, end_status, IsUnread, IsRejected}
+use Rattle.smemu.specs.Views.{EndsRequest, EndsWords}
 use Rattle.smemu.specs.Views.{EndsReplay, IsFront}
 use Rattle.smemu.specs.declared.answer.Answer.{Answer}
 use Rattle.smemu.specs.declared.refusal.Refusal.{Refusal}
@@ -74,8 +78,12 @@ rose_on a b c l (inr last) m = grind arith
 -- the file of the name was not fetched, after other files were
 pub unread_later : (old now new : FilesView) (name : List ℕ) (r : Refusal) → IsKept old now → IsKept now new
     → IsUnread (record { before = now; after = new }) name r → IsUnread (record { before = old; after = new }) name r
-unread_later old now new name (refusal.Absent shown) k l h =
-    (h.0, subst (λ (t : Told). IfSome t (λ told. told name ≡ None)) k.same h.1, rose_on old.absences now.absences new.absences k.absences h.2 l.absences)
+unread_later old now new name (refusal.Absent shown) k l h = (
+  h.0,
+  subst (λ (t : Told). IfSome t
+      (λ told. told name ≡ None)) k.same h.1,
+  rose_on old.absences now.absences new.absences k.absences h.2 l.absences,
+)
 unread_later old now new name (refusal.ReadFault shown) k l h = (
   h.0,
   subst (λ (t : Told). IfSome t (λ told. IsSome (told name))) k.same h.1,
@@ -103,10 +111,26 @@ pub rejected_ends : (request : Request) (named : Named) (files : Change FilesVie
 unfolding refusal_text
 rejected_ends request named files n fetched (refusal.BadFile fault) at l front h =
     let whole = rejected_file named.kind files.before.told n named.name fetched (NoProgram fault) l front h in
-    record { named = named; reached = at; file = whole.file; fault = fault; is_file = whole.is_file; rejects = whole.faulty; is_text = refl }
+    record {
+      named = named;
+      reached = at;
+      file = whole.file;
+      fault = fault;
+      is_file = whole.is_file;
+      rejects = whole.faulty;
+      is_text = refl;
+    }
 rejected_ends request named files n fetched (refusal.BadSource fault) at l front h =
     let whole = rejected_file named.kind files.before.told n named.name fetched (NoSource fault) l front h in
-    record { named = named; reached = at; file = whole.file; fault = fault; is_file = whole.is_file; rejects = whole.faulty; is_text = refl }
+    record {
+      named = named;
+      reached = at;
+      file = whole.file;
+      fault = fault;
+      is_file = whole.is_file;
+      rejects = whole.faulty;
+      is_text = refl;
+    }
 rejected_ends request named files n fetched (refusal.BadReport line part) at l front h =
     let fault : Fault = record { line = line; kind = part } in
     let whole = rejected_file named.kind files.before.told n named.name fetched (NoReport fault) l front h in
@@ -161,7 +185,8 @@ module _ (program report : List ℕ) (thread : ℕ) (files : Change FilesView) (
   -- a report that is read is the whole file
   whole_report : (said : Report) → report_in bytes ≡ Ok said → IsFile files.before.told report bytes
   whole_report said reads =
-      accepted_file IsReport files.before.told n report bytes l front (ap (λ (r : Result Report Fault). option_map NoReport (fault_in r)) reads)
+      accepted_file IsReport files.before.told n report bytes l front (ap (λ (r : Result Report Fault). option_map NoReport
+      (fault_in r)) reads)
 
   matched : (a : Answer) → IsReplayOf file bytes thread (answer_text a) → EndsRequest (AsksReplay program report thread) files (Ok a)
   matched a h = record { file = file; second = bytes; is_file = is_file; is_second = whole_report h.at.said h.at.reads; holds = h }
@@ -223,7 +248,8 @@ some_request o request e = rw e refl
 some_fault : (o : Option usage.Fault) (fault : usage.Fault) → o ≡ None → o ≡ Some fault → ⊥
 some_fault o fault e h = cc
 
-none_or : (words : List (List ℕ)) (fault : usage.Fault) (o : Option Request) → command_of words ≡ o → usage_fault words ≡ Some fault → o ≡ None
+none_or : (words : List (List ℕ)) (fault : usage.Fault) (o : Option Request) → command_of words ≡ o → usage_fault words ≡ Some fault
+    → o ≡ None
 none_or words fault None e h = refl
 none_or words fault (Some request) e h =
     absurd (some_fault (usage_fault words) fault ((reading words).0 (some_request (command_of words) request e)) h)
@@ -241,7 +267,8 @@ usage_stands words place kind e = record { fault = record { place = place; kind 
 -- ---- what was fetched
 
 -- all was fetched
-all_of : (told : Told) (unread : Type 0) (rest : List Named) → IfSome told (λ files. rest ≡ []) → IfSome told (λ files. (rest ≡ []) ⊎ unread)
+all_of : (told : Told) (unread : Type 0) (rest : List Named) → IfSome told (λ files. rest ≡ [])
+    → IfSome told (λ files. (rest ≡ []) ⊎ unread)
 all_of None unread rest h = tt
 all_of (Some files) unread rest h = inl h
 
@@ -257,7 +284,8 @@ module _ {F : Type 0} (fetched : F → List ℕ → ℕ → F → Type 0) (told 
     front = named ∷ [];
     rest = [];
     part = ap (reached_of told) (ap files_asked e ∙ one) ∙ reached_one told named;
-    all = λ some. all_of told unread [] (elim told as (λ t. IfSome t (λ files. ◌≡◌ {A = List Named} [] [])) [ None ↦ tt | Some files ↦ refl ]);
+    all = λ some. all_of told unread [] (elim told as (λ t. IfSome t
+        (λ files. ◌≡◌ {A = List Named} [] [])) [ None ↦ tt | Some files ↦ refl ]);
     first = λ some is. refl;
     done = λ is. refl;
     each = (new, h, refl);
@@ -268,7 +296,8 @@ module _ {F : Type 0} (fetched : F → List ℕ → ℕ → F → Type 0) (told 
     front = [];
     rest = [];
     part = ap (reached_of told) e ∙ reached_none told;
-    all = λ some. all_of told unread [] (elim told as (λ t. IfSome t (λ files. ◌≡◌ {A = List Named} [] [])) [ None ↦ tt | Some files ↦ refl ]);
+    all = λ some. all_of told unread [] (elim told as (λ t. IfSome t
+        (λ files. ◌≡◌ {A = List Named} [] [])) [ None ↦ tt | Some files ↦ refl ]);
     first = λ some is. refl;
     done = λ is. refl;
     each = same;
@@ -312,7 +341,8 @@ module _ {F : Type 0} (fetched : F → List ℕ → ℕ → F → Type 0) (told 
 -- why the second of two files was not fetched, where the first was not
 pub fetches_unread : {F : Type 0} (fetched : F → List ℕ → ℕ → F → Type 0) (files : Change FilesView) (old new : F) (first second : Named)
     (r : Refusal) → fetched old first.name (limit_of first.kind) new → IsUnread files first.name r
-    → FetchesReached fetched files.before.told (Rose files.before.faults files.after.faults) (first ∷ second ∷ []) old new (refusal_status r)
+    → FetchesReached fetched files.before.told (Rose files.before.faults files.after.faults) (first ∷ second ∷ []) old new
+    (refusal_status r)
 fetches_unread fetched files old new first second (refusal.Absent shown) one h =
     fetches_first fetched files.before.told (Rose files.before.faults files.after.faults) old new Absent first second one (λ is. cc)
     (λ some. all_of files.before.told (Rose files.before.faults files.after.faults) (rest_of files.before.told first (second ∷ []))
@@ -362,7 +392,8 @@ fetches_two fetched told unread old now new status first second file one two is 
   front = first ∷ second ∷ [];
   rest = [];
   part = reached_first told first (second ∷ []) ∙ ap (λ (ns : List Named). first ∷ ns) (rest_accepted first second told file is h);
-  all = λ some. all_of told unread [] (elim told as (λ t. IfSome t (λ files. ◌≡◌ {A = List Named} [] [])) [ None ↦ tt | Some files ↦ refl ]);
+  all = λ some. all_of told unread [] (elim told as (λ t. IfSome t
+      (λ files. ◌≡◌ {A = List Named} [] [])) [ None ↦ tt | Some files ↦ refl ]);
   first = λ some is. refl;
   done = λ is. refl;
   each = (now, one, (new, two, refl));
@@ -464,7 +495,8 @@ mismatch_due : (told : Told) (files : List ℕ → Option (List ℕ)) (request :
 mismatch_due told files (AsksReplay program report thread) text e h =
     let it = h.holds.1 in
     subst (λ d. IsDueOf (Some (AsksReplay program report thread)) d BadReport) (sym (two_due files program report h.file h.second it.said
-    (there told files program h.file e h.is_file) it.loads.accepted (there told files report h.second e h.is_second) it.reads)) (inr (inl refl))
+    (there told files program h.file e h.is_file) it.loads.accepted (there told files report h.second e h.is_second) it.reads)) (inr
+    (inl refl))
 mismatch_due told files (AsksRun name options) text e h = absurd h
 mismatch_due told files (AsksListing name) text e h = absurd h
 mismatch_due told files (AsksAssembly name) text e h = absurd h
@@ -477,7 +509,8 @@ difference_due : (told : Told) (files : List ℕ → Option (List ℕ)) (request
 difference_due told files (AsksReplay program report thread) text e h =
     let at = block_of h.file h.second thread text h.holds in
     subst (λ d. IsDueOf (Some (AsksReplay program report thread)) d Differs) (sym (two_due files program report h.file h.second at.said
-    (there told files program h.file e h.is_file) at.loads.accepted (there told files report h.second e h.is_second) at.reads)) (inr (inr refl))
+    (there told files program h.file e h.is_file) at.loads.accepted (there told files report h.second e h.is_second) at.reads)) (inr
+    (inr refl))
 difference_due told files (AsksRun name options) text e h = absurd h
 difference_due told files (AsksListing name) text e h = absurd h
 difference_due told files (AsksAssembly name) text e h = absurd h
@@ -533,7 +566,8 @@ module _ (words : List (List ℕ)) (files : Change FilesView) (told : List ℕ �
     | inr s ↦ request_due h.request BadReport h.asked (mismatch_due files.before.told told h.request _ tells s)
   ])
   completed (Err (refusal.Differs it)) h =
-      inl (request_due h.request Differs h.asked (difference_due files.before.told told h.request (refusal_text (refusal.Differs it)) tells h.stands))
+      inl (request_due h.request Differs h.asked (difference_due files.before.told told h.request (refusal_text
+      (refusal.Differs it)) tells h.stands))
 
 -- ---- the writing
 

@@ -72,8 +72,11 @@ bad_begun AsksVersion files text (inr h) = absurd h
 so_begun : (file report : List ℕ) (thread : ℕ) (text : List ℕ) → DiffersSo file report thread text → HasFront text (status_words Differs)
 unfolding parting_line difference_lines
 so_begun file report thread text (inl h) = (concat (parting_words h.fault ∷ codes "\n" ∷ []), h.is_text)
-so_begun file report thread text (inr h) =
-    (concat (codes "line " ∷ decimal (h.at.block.first_line + h.it.line) ∷ codes "\n" ∷ shown h.it.first ∷ shown h.it.second ∷ []), h.is_text)
+so_begun file report thread text (inr h) = (
+  concat (codes "line " ∷ decimal
+      (h.at.block.first_line + h.it.line) ∷ codes "\n" ∷ shown h.it.first ∷ shown h.it.second ∷ []),
+  h.is_text,
+)
 
 differ_begun : (request : Request) (told : Told) (text : List ℕ) → DifferenceStands request told text → HasFront text (status_words Differs)
 differ_begun (AsksReplay program report thread) told text h = so_begun h.file h.second thread text h.holds

@@ -1,5 +1,6 @@
 -- Two texts that answer the same request over the same files are equal.
-use Rattle.std.proofs.Common.{◌≡◌, ℕ, zero, suc, ◌≤◌, List, [], ◌∷◌, length, cond, Option, Some, None, Result, Ok, refl, sym, ◌∙◌, ap, subst, arith}
+use Rattle.std.proofs.Common.{◌≡◌, ℕ, zero, suc, ◌≤◌, List, [], ◌∷◌, length, cond, Option, Some, None, Result, Ok, refl, sym, ◌∙◌, ap}
+use Rattle.std.proofs.Common.{subst, arith}
 use Rattle.std.specs.Prelude.{◌==◌, slice_get, if◌then◌else◌}
 use mathlib.Core.HLevel.{Σ_prop_path}
 use native.Mathlib.Bridge.{le_prop}
@@ -196,7 +197,8 @@ one_block file report thread a b =
       program = one_program file a.program b.program a.loads b.loads;
       config = said_options a.config b.config options (a.one_core ∙ sym b.one_core);
       block =
-          same_block (slice_get a.said.blocks thread) a.block b.block a.stands (ap (λ (r : Report). slice_get r.blocks thread) said ∙ b.stands);
+          same_block (slice_get a.said.blocks thread) a.block b.block a.stands (ap (λ (r : Report). slice_get r.blocks thread) said
+          ∙ b.stands);
     }
 
 one_replay : (file report : List ℕ) (thread : ℕ) (text other : List ℕ) → IsReplayOf file report thread text

@@ -57,7 +57,8 @@ module _ (program p : Program) (config k : Config) (thread : ℕ) (block b : Blo
   no_parting fault h =
       let there = subst (λ (q : Program). IsParting q k thread b.journal b.count fault) (sym is) h in
       let here = subst (λ (q : Config). IsParting program q thread b.journal b.count fault) (sym same) there in
-      ends_whole program config thread block.journal block.count fault (record { state = a.state; stop = a.stop; run = a.run; counts = a.count })
+      ends_whole program config thread block.journal block.count fault
+      (record { state = a.state; stop = a.stop; run = a.run; counts = a.count })
       (subst (λ (q : Block). IsParting program config thread q.journal q.count fault) (sym one) here)
 
   same_end : (end : EndsAsSaid p k thread b) → text_of a ≡ text_of end
@@ -75,13 +76,15 @@ done_differs file report thread text other h (inl g) =
     g.fault g.parts
 done_differs file report thread text other h (inr g) =
     let one = one_block file report thread h.at g.at in
-    let same = same_end h.at.program g.at.program h.at.config g.at.config thread h.at.block g.at.block one.program one.config one.block h.end g.end in
+    let same = same_end h.at.program g.at.program h.at.config g.at.config thread h.at.block g.at.block one.program one.config one.block
+    h.end g.end in
     let texts : text_in report g.at.block ≡ text_of g.end = ap (text_in report) (sym one.block) ∙ h.same ∙ h.is_text ∙ same in
     none_some (first_difference 0 (lines_of (text_in report g.at.block)) (lines_of (text_of g.end))) g.it
     (ap (λ (t : List ℕ). first_difference 0 (lines_of t) (lines_of (text_of g.end))) texts ∙ no_line 0 (lines_of (text_of g.end))) g.first
 
 -- a report that is one of the program, with the thread, is not one of another
-matched : (file report : List ℕ) (thread : ℕ) (at : IsBlockIn file report thread) (fault : Fault) → IsMismatched file report thread fault → ⊥
+matched : (file report : List ℕ) (thread : ℕ) (at : IsBlockIn file report thread) (fault : Fault) → IsMismatched file report thread fault
+    → ⊥
 matched file report thread at fault h =
     no_fault (mismatch (sha256 file) thread at.said) fault at.matches
     (ap (mismatch (sha256 file) thread) (same_said (report_in report) at.said h.said at.reads h.reads) ∙ h.is_fault)

@@ -1,5 +1,6 @@
 -- The replay of a thread of a report, from what its parts say.
-use Rattle.std.proofs.Common.{◌≡◌, ◌⊎◌, inl, inr, ℕ, zero, suc, ◌<◌, ◌≤◌, Bool, true, false, cond, List, [], ◌∷◌, length, map, get_or, refl, sym, ap}
+use Rattle.std.proofs.Common.{◌≡◌, ◌⊎◌, inl, inr, ℕ, zero, suc, ◌<◌, ◌≤◌, Bool, true, false, cond, List, [], ◌∷◌, length, map, get_or, refl}
+use Rattle.std.proofs.Common.{sym, ap}
 use Rattle.std.proofs.Common.{◌∙◌, subst, arith, Option, Some, None, Result, Ok, Err}
 use Rattle.std.specs.Prelude.{slice_get, nat_lt}
 use Rattle.std.proofs.lemmas.Bool.Decides.{nat_tests}
@@ -52,7 +53,8 @@ below t n false lower f g is e = cc
 
 pub thread_there : (digest : List ℕ) (thread : ℕ) (said : Report) → mismatch digest thread said ≡ None → thread < said.options.threads
 thread_there digest thread said e =
-    below thread said.options.threads (bytes_eq said.image digest) (nat_lt thread said.options.threads) (record { line = 2; kind = NoThread })
+    below thread said.options.threads (bytes_eq said.image digest) (nat_lt thread said.options.threads)
+    (record { line = 2; kind = NoThread })
     (record { line = 3; kind = Image }) refl e
 
 -- the block of a thread of the code's report
@@ -75,7 +77,8 @@ unmatched_ends file bytes thread program said (refusal.BadSource fault) loads re
 unmatched_ends file bytes thread program said (refusal.Differs it) loads reads h = absurd h
 unmatched_ends file bytes thread program said refusal.Memory loads reads h = absurd h
 
-module _ (file bytes : List ℕ) (thread : ℕ) (program : Program) (config : Config) (said : Report) (block : Block) (loads : Loads file program)
+module _ (file bytes : List ℕ) (thread : ℕ) (program : Program) (config : Config) (said : Report) (block : Block)
+    (loads : Loads file program)
     (reads : report_in bytes ≡ Ok said) (matches : mismatch (sha256 file) thread said ≡ None) (given : options_of config ≡ said.options)
     (one_core : config.cores ≡ 1) (stands : slice_get said.blocks thread ≡ Some block) where
   abbrev at : IsBlockIn file bytes thread

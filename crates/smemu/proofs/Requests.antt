@@ -72,8 +72,11 @@ module _ (first second : Named) where
 
   pub second_reached : (told : Told) (file : List ℕ) → IsFile told first.name file → rejection_of first.kind file ≡ None
       → IsReached told (first ∷ second ∷ []) second
-  second_reached told file is h =
-      (1, ap (λ ns. slice_get ns 1) (reached_first told first (second ∷ []) ∙ ap (λ (ns : List Named). first ∷ ns) (rest_accepted told file is h)))
+  second_reached told file is h = (
+    1,
+    ap (λ ns. slice_get ns 1) (reached_first told first (second ∷ [])
+        ∙ ap (λ (ns : List Named). first ∷ ns) (rest_accepted told file is h)),
+  )
 
 -- the first file of a request is reached
 pub front_reached : (told : Told) (first : Named) (names : List Named) → IsReached told (first ∷ names) first

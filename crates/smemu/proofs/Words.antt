@@ -4,7 +4,8 @@ use Rattle.std.specs.Prelude.{slice_get, is_none, option_and_then, option_map}
 use Rattle.cmd_words.specs.Forms.{form_of}
 use Rattle.cmd_words.specs.Numbers.{number_of}
 use Rattle.cmd_words.specs.Options.{Options}
-use Rattle.cmd_words.specs.Words.{Request, AsksRun, AsksListing, AsksAssembly, AsksReplay, verb_of, options_given, request_for, usage_fault, command_of}
+use Rattle.cmd_words.specs.Words.{Request, AsksRun, AsksListing, AsksAssembly, AsksReplay, verb_of, options_given, request_for, usage_fault}
+use Rattle.cmd_words.specs.Words.{command_of}
 use Rattle.cmd_words.specs.declared.verb.Verb.{Verb}
 use Rattle.cmd_words.specs.declared.verb.Verb.TheVariants.{Run, Dis, Asm, Replay, Help, Version}
 

@@ -26,7 +26,8 @@ part_word part.NoThread = codes "nothread"
 -- the line that is written for a fault of a report
 unfoldable pub report_line : Fault → List ℕ
 report_line fault =
-    concat (codes "bad report: line " ∷ decimal fault.line ∷ codes ": " ∷ part_word fault.kind ∷ codes "\n" ∷ [])
+    concat (codes "bad report: line " ∷ decimal fault.line ∷ codes ": " ∷ part_word fault.kind ∷ codes "\n" ∷
+    [])
 
 -- how a thread parts from its journal and count, with the values of the fault in their order
 unfoldable pub parting_words : AloneFault → List ℕ

@@ -79,7 +79,8 @@ pub record IsRejection {A : Type 0} (rejected : A → Rejection) (line : A → L
 -- the report of a replay is of another program, or has no such thread, and the text is the line of that
 abbrev pub MismatchStands : Request → Told → List ℕ → Type 0
 MismatchStands (AsksReplay program report thread) told text =
-    OfTwoFiles told program report (λ file bytes. (fault : reading.Fault) × IsMismatched file bytes thread fault
+    OfTwoFiles told program report (λ file bytes.
+    (fault : reading.Fault) × IsMismatched file bytes thread fault
     × (text ≡ report_line fault))
 MismatchStands other told text = ⊥
 
@@ -171,9 +172,9 @@ AreFetched fetched [] old new = new ≡ old
 AreFetched {F} fetched (named ∷ rest) old new =
     (now : F) × fetched old named.name (limit_of named.kind) now × AreFetched fetched rest now new
 
--- The files that are reached were fetched; where memory was wanting, or one of them could not be read, perhaps
--- not the last of them. Of files that tell nothing the first that is named was fetched, but where memory was
--- wanting, and with Done all of them were.
+-- The files that are reached were fetched; where memory was wanting, or one of them could not be read,
+-- perhaps not the last of them. Of files that tell nothing the first that is named was fetched, but where
+-- memory was wanting, and with Done all of them were.
 pub record FetchesReached {F : Type 0} (fetched : F → List ℕ → ℕ → F → Type 0) (told : Told) (unread : Type 0)
     (names : List Named) (old new : F) (status : Status) : Type 0 where
   pub front : List Named

@@ -1,6 +1,7 @@
 -- The texts that do not depend on a program: the line of a fault of the words, the text of help, and the
 -- version.
-use Rattle.std.specs.Prelude.{◌≡◌, ℕ, ◌++◌, ◌==◌, ◌&&◌, ◌||◌, nat_le, ◌∷◌, [], Bool, false, List, decimal, codes}
+use Rattle.std.specs.Prelude.{◌≡◌, ℕ, ◌++◌, ◌==◌, ◌&&◌, ◌||◌, nat_le, ◌∷◌, [], Bool, false, List, decimal}
+use Rattle.std.specs.Prelude.{codes}
 use Rattle.std.specs.List.{concat}
 use Rattle.cmd_words.specs.Options.{default_of}
 use Rattle.cmd_words.specs.Words.{Fault}

@@ -128,8 +128,8 @@ fn compare(
     Ok(Answer::Block(text))
 }
 
-/// The replay of a thread of a report: its block, where running it alone comes to the block that stands in the
-/// report.
+/// The replay of a thread of a report: its block, where running it alone comes to the block that stands in
+/// the report.
 pub fn replay_report(
     alloc: Global,
     file: &[u8],

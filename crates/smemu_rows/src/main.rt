@@ -1,7 +1,7 @@
 //! Gives the files of a list to the emulator, each in memory, and compares what is written, and the status,
-//! with what the list says. Each line of `rows.txt` has a file's name, a status, a command and its other words;
-//! the text that is to be written stands in the file of that name with `.txt` behind it. Before the file stand
-//! the programs among the words, which are names of files in `.elf`.
+//! with what the list says. Each line of `rows.txt` has a file's name, a status, a command and its other
+//! words; the text that is to be written stands in the file of that name with `.txt` behind it. Before the
+//! file stand the programs among the words, which are names of files in `.elf`.
 #![tactic(auto)]
 
 use anyhow::{Context, Result};

@@ -27,7 +27,8 @@ returns-in-Ok-Run-clause-fetched g c =
 pub returns-in-Ok-Dis-clause-fetched : goal.returns-in-Ok-Dis-clause-fetched
 returns-in-Ok-Dis-clause-fetched g c =
     fetches_one g.F.Files.fetched (g.F.Files.view c.args.files.now).told
-    (Rose (g.F.Files.view c.args.files.now).faults (g.F.Files.view c.list_program.new.files).faults) c.args.files.now c.list_program.new.files
+    (Rose (g.F.Files.view c.args.files.now).faults
+    (g.F.Files.view c.list_program.new.files).faults) c.args.files.now c.list_program.new.files
     (end_status c.list_program.result) (command_of (map string_bytes c.args.words.now)) (AsksListing (string_bytes c.in-Ok-Dis.program))
     (record { name = string_bytes c.in-Ok-Dis.program; kind = IsProgram }) (rw c.in-Ok-Dis.field-0-is at c.in-Ok-Dis.ensures.command) refl
     c.list_program.ensures.fetched
@@ -35,7 +36,8 @@ returns-in-Ok-Dis-clause-fetched g c =
 pub returns-in-Ok-Asm-clause-fetched : goal.returns-in-Ok-Asm-clause-fetched
 returns-in-Ok-Asm-clause-fetched g c =
     fetches_one g.F.Files.fetched (g.F.Files.view c.args.files.now).told
-    (Rose (g.F.Files.view c.args.files.now).faults (g.F.Files.view c.assemble_source.new.files).faults) c.args.files.now c.assemble_source.new.files
+    (Rose (g.F.Files.view c.args.files.now).faults
+    (g.F.Files.view c.assemble_source.new.files).faults) c.args.files.now c.assemble_source.new.files
     (end_status c.assemble_source.result) (command_of (map string_bytes c.args.words.now))
     (AsksAssembly (string_bytes c.in-Ok-Asm.source))
     (record { name = string_bytes c.in-Ok-Asm.source; kind = IsSource }) (rw c.in-Ok-Asm.field-0-is at c.in-Ok-Asm.ensures.command) refl

@@ -15,7 +15,9 @@ returns-in_err-file-clause-ends g c =
     let files = change g.F.Files.view c.args.files.now c.fetch_file.new.files in
     let ends : EndsRequest (AsksRun (string_bytes c.args.program) (options_of c.args.config.now)) files (Err c.in_err-file.field-0.0) =
     unread_ends (AsksRun (string_bytes c.args.program) (options_of c.args.config.now))
-    (record { name = string_bytes c.args.program; kind = IsProgram }) files c.in_err-file.field-0.0 (front_reached (g.F.Files.view c.args.files.now).told (record { name = string_bytes c.args.program; kind = IsProgram }) []) c.in_err-file.ensures.unread in
+    (record { name = string_bytes c.args.program; kind = IsProgram }) files c.in_err-file.field-0.0 (front_reached
+    (g.F.Files.view c.args.files.now).told
+    (record { name = string_bytes c.args.program; kind = IsProgram }) []) c.in_err-file.ensures.unread in
     search rules
 
 pub returns-in_err-image-clause-ends : goal.returns-in_err-image-clause-ends
@@ -24,7 +26,8 @@ returns-in_err-image-clause-ends g c =
     let ends : EndsRequest (AsksRun (string_bytes c.args.program) (options_of c.args.config.now)) files (Err c.in_err-image.field-0.0) =
     rejected_ends (AsksRun (string_bytes c.args.program) (options_of c.args.config.now))
     (record { name = string_bytes c.args.program; kind = IsProgram }) files FETCH_LIMIT c.in_ok-file.file.items c.in_err-image.field-0.0
-    (front_reached (g.F.Files.view c.args.files.now).told (record { name = string_bytes c.args.program; kind = IsProgram }) []) (lit< tt) c.in_ok-file.ensures.front (rw c.as_slice.ensures.value at c.in_err-image.ensures.rejected) in
+    (front_reached (g.F.Files.view c.args.files.now).told (record { name = string_bytes c.args.program; kind = IsProgram }) [])
+    (lit< tt) c.in_ok-file.ensures.front (rw c.as_slice.ensures.value at c.in_err-image.ensures.rejected) in
     search rules
 
 pub returns-in-Ok-clause-ends : goal.returns-in-Ok-clause-ends

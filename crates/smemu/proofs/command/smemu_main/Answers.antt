@@ -29,7 +29,8 @@ returns-clause-refused g c =
 pub returns-clause-fetched : goal.returns-clause-fetched
 returns-clause-fetched g c =
     fetches_as g.F.Files.fetched (g.F.Files.view c.args.files.now).told
-    (Rose (g.F.Files.view c.args.files.now).faults (g.F.Files.view c.answer_words-end.new.files).faults) (files_asked (command_of (map string_bytes c.args.words.now)))
+    (Rose (g.F.Files.view c.args.files.now).faults (g.F.Files.view c.answer_words-end.new.files).faults) (files_asked (command_of
+    (map string_bytes c.args.words.now)))
     c.args.files.now c.answer_words-end.new.files (end_status c.answer_words-end.result) WriteFault
     (failed_status (g.K.Sink.view c.args.out.now) (g.K.Sink.view c.write_end.new.out) c.in-Err.field-0 c.answer_words-end.result
     c.in-Err.ensures) (λ is. cc) c.answer_words-end.ensures.fetched

@@ -17,9 +17,11 @@ returns-in_err-context c =
     let there = thread_there (sha256 c.args.file.now) c.args.thread (report_said c.in_ok-report.report) c.in_ok-check_match.ensures.ok in
     let inside : c.args.thread < length c.in_ok-report.report.blocks.items = omega (arith, there, c.in_ok-report.report.one_each) in
     let ends : EndsReplay c.args.file.now c.args.bytes.now c.args.thread (Err c.in_err-context.field-0.0) =
-    parted_ends c.args.file.now c.args.bytes.now c.args.thread c.args.image.now c.in_ok-report.report.config (report_said c.in_ok-report.report)
+    parted_ends c.args.file.now c.args.bytes.now c.args.thread c.args.image.now c.in_ok-report.report.config
+    (report_said c.in_ok-report.report)
     (block_said c.index-block.result.now) c.requires c.in_ok-report.ensures.reads c.in_ok-check_match.ensures.ok refl
-    c.in_ok-report.ensures.cores (said_at c.in_ok-report.report.blocks.items c.args.thread c.index-block.result.now c.index-block.ensures inside)
+    c.in_ok-report.ensures.cores
+    (said_at c.in_ok-report.report.blocks.items c.args.thread c.index-block.result.now c.index-block.ensures inside)
     c.in_err-context.field-0.0 c.in_err-context.ensures.parted in
     search rules
 
@@ -27,9 +29,11 @@ pub returns : goal.returns
 returns c =
     let there = thread_there (sha256 c.args.file.now) c.args.thread (report_said c.in_ok-report.report) c.in_ok-check_match.ensures.ok in
     let inside : c.args.thread < length c.in_ok-report.report.blocks.items = omega (arith, there, c.in_ok-report.report.one_each) in
-    compared_ends c.args.file.now c.args.bytes.now c.args.thread c.args.image.now c.in_ok-report.report.config (report_said c.in_ok-report.report)
+    compared_ends c.args.file.now c.args.bytes.now c.args.thread c.args.image.now c.in_ok-report.report.config
+    (report_said c.in_ok-report.report)
     (block_said c.index-block.result.now) c.requires c.in_ok-report.ensures.reads c.in_ok-check_match.ensures.ok refl
-    c.in_ok-report.ensures.cores (said_at c.in_ok-report.report.blocks.items c.args.thread c.index-block.result.now c.index-block.ensures inside)
+    c.in_ok-report.ensures.cores
+    (said_at c.in_ok-report.report.blocks.items c.args.thread c.index-block.result.now c.index-block.ensures inside)
     c.in_ok-context.context c.in_ok-context.ensures.run c.in_ok-context.ensures.journal c.in_ok-context.ensures.count c.compare.result
     c.compare.ensures
 
