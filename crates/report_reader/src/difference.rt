@@ -17,7 +17,7 @@ pub struct Difference<'a> {
     pub second: &'a [u8],
 }
 
-/// The first line in which two texts differ; `None` exactly where they are the same.
+/// The first line in which two texts differ; `None` only where they are the same.
 pub fn first_difference<'a>(first: &'a [u8], second: &'a [u8]) -> Option<Difference<'a>>
     ensures line { option_map difference_said result
         ≡ spec.first_difference 0 (lines_of first.now) (lines_of second.now) }

@@ -1,12 +1,14 @@
 //! The emulator's command: `smemu_main` runs a program file with the options of the words and writes the
-//! report of its run, lists its code words, or assembles a source and writes the program file.
+//! report of its run, lists its code words, assembles a source and writes the program file, or runs a thread
+//! of a report alone and writes its block.
 //!
 //! Its contract says, for all words, files and sinks: with `Done` what the words ask for was written,
 //! which is the report of the lone run of the program that the file stands for, its listing, the file of
-//! the program that the source is assembled to, or the text of help or of the version; every other status
-//! but `OutOfMemory` comes for its cause alone, with its line, or with `WriteFault` a part of a text; what
-//! is due is answered, where the outside does not fail and there is memory; and each file that is reached
-//! was fetched once, but where memory was wanting perhaps not the last, and nothing else was.
+//! the program that the source is assembled to, the block of a thread whose lone run comes to it, or the
+//! text of help or of the version; every other status but `OutOfMemory` comes for its cause alone, with its
+//! line, or with `WriteFault` a part of a text; what is due is answered, where the outside does not fail and
+//! there is memory; and each file that is reached was fetched once, but where memory was wanting or a file
+//! could not be read perhaps not the last, and nothing else was.
 #![tactic(auto)]
 
 mod answer;

@@ -64,6 +64,14 @@ mod tests {
 2: extra|asm|s|--budget|1
 2: extra|asm|s|t|u
 0: unknown|Asm|s
+1: missing|replay
+2: missing|replay|p
+3: missing|replay|p|r
+3: badnumber|replay|p|r|
+3: badnumber|replay|p|r|00
+3: outofrange|replay|p|r|32
+3: outofrange|replay|p|r|18446744073709551616
+4: extra|replay|p|r|31|--vl
 1: extra|--version|--help
 ";
 
@@ -227,6 +235,7 @@ mod tests {
             "\n  run PROGRAM ",
             "\n  dis PROGRAM ",
             "\n  asm SOURCE ",
+            "\n  replay PROGRAM REPORT THREAD\n",
             "\n  --vl BITS ",
             "\n  --svl BITS ",
             "\n  --budget N ",
@@ -237,6 +246,8 @@ mod tests {
             "read fault: NAME",
             "bad file: KIND VALUES",
             "bad source: line L: KIND VALUES",
+            "bad report: line L: KIND",
+            "differs: ",
         ] {
             assert!(rt; help.contains(part), "{part}");
         }
@@ -258,6 +269,29 @@ mod tests {
             let mut out = MemSink::new(rt.alloc(), 1000)?;
             assert_eq!(rt;
                 status_of(rt.alloc(), &["run", name], &mut files, &mut out)?.code(),
+                status
+            );
+            assert!(rt; out.bytes() == line.as_bytes());
+        }
+        Ok(())
+    }
+
+    #[test]
+    fn a_program_or_its_report_is_absent_or_cannot_be_read(rt: HostRuntime) -> Result<(), Fail> {
+        let mut files = answer_file(rt.alloc())?;
+        files.fail(4)?;
+        files.fail(5)?;
+        let wanted: [(&str, &str, u8, &str); 4] = [
+            ("answer", "question", 3, "absent: question\n"),
+            ("answer", "run", 4, "read fault: run\n"),
+            ("answer", "question", 4, "read fault: answer\n"),
+            ("question", "run", 3, "absent: question\n"),
+        ];
+        for (program, report, status, line) in wanted {
+            let mut out = MemSink::new(rt.alloc(), 1000)?;
+            let texts = ["replay", program, report, "0"];
+            assert_eq!(rt;
+                status_of(rt.alloc(), &texts, &mut files, &mut out)?.code(),
                 status
             );
             assert!(rt; out.bytes() == line.as_bytes());

@@ -146,7 +146,7 @@ fn output_stands_in_lines_of_32_bytes(rt: HostRuntime) -> Result<(), Fail> {
 }
 
 #[test]
-fn a_journal_that_is_full(rt: HostRuntime) -> Result<(), Fail> {
+fn a_journal_that_is_full_and_is_replayed(rt: HostRuntime) -> Result<(), Fail> {
     let load = "_start: movz x0, #32512, lsl #32\nagain: ldr x1, [x0]\n cbz x1, again\n";
     let post = "_start: mov x0, #0\n mov x1, #5\n mov x8, #131\nagain: svc #0\n b again\n";
     let cases = [
@@ -168,6 +168,12 @@ fn a_journal_that_is_full(rt: HostRuntime) -> Result<(), Fail> {
         let journal = format!(in rt.alloc(); "\njournal 262144\n{event}")?;
         assert!(rt; report.contains(stop.as_str()), "{source}");
         assert!(rt; report.contains(journal.as_str()), "{source}");
+        files.add("report", out.bytes())?;
+        let words = ["replay", "--vl", "report", "0"];
+        let block = written_within(rt.alloc(), 20_000_000, &words, &mut files)?;
+        let block = std::str::from_utf8(block.bytes()).map_err(|_| "not text")?;
+        assert!(rt; report.contains(block), "{source}");
+        assert!(rt; block.ends_with("\nend-thread\n"), "{source}");
     }
     Ok(())
 }
