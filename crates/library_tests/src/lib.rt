@@ -13,6 +13,7 @@ mod elements;
 mod encodings;
 #[cfg(test)]
 mod lines;
+#[cfg(test)]
 mod lone_runs;
 #[cfg(test)]
 mod memory;
