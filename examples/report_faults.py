@@ -238,6 +238,15 @@ def cases():
         yield at, at + len(old), new
 
 
+def put(row):
+    """Prints a row of the table, which goes on in the next line where it is long."""
+    while len(row) > 110:
+        cut = max(i for i in range(1, 110) if row[i] != " ")
+        print(row[:cut] + "\\")
+        row = row[cut:]
+    print(row)
+
+
 def main():
     lines = [f"{start} {end} {text.hex() or '-'} {found(SAMPLE[:start] + text + SAMPLE[end:])}" for start, end, text in cases()]
     lines = list(dict.fromkeys(lines))
@@ -251,10 +260,10 @@ def main():
     row = ""
     for line in lines:
         if row and len(row) + len(line) > 107:
-            print(row + ";")
+            put(row + ";")
             row = ""
         row += ("; " if row else "") + line
-    print(row + '";')
+    put(row + '";')
 
 
 if __name__ == "__main__":
