@@ -1,5 +1,5 @@
 -- What the second pass has put after each line, and at the end.
-use Rattle.std.proofs.Common.{◌≡◌, ℕ, zero, suc, ◌+◌, ◌<◌, ◌≤◌, Bool, List, [], ◌∷◌, ◌++◌, length, take, drop, map, slice_get, Option, Some}
+use Rattle.std.proofs.Common.{◌≡◌, ℕ, zero, suc, ◌+◌, ◌<◌, ◌≤◌, List, [], ◌∷◌, ◌++◌, length, take, drop, map, slice_get, Option, Some}
 use Rattle.std.proofs.Common.{None, Ok, refl, sym, ap, ap₂, ◌∙◌, subst, arith, length-append, append_assoc, below_more}
 use Rattle.std.proofs.lemmas.List.{append-nil, take_all}
 use Rattle.std.proofs.lemmas.Option.{slice_get_within}
@@ -11,6 +11,7 @@ use Rattle.asm_core.specs.declared.fault.AsmFault.{AsmFault}
 use Rattle.asm_core.specs.declared.location_counter.LocationCounter.{LocationCounter}
 use Rattle.asm_core.specs.declared.object_parts.Parts.{Parts}
 use Rattle.asm_core.specs.declared.emit_lines.Emission.{Emission}
+use Rattle.asm_core.specs.declared.symbols.Content.{Content}
 use Rattle.asm_core.specs.Source.{said_lines}
 use Rattle.asm_core.specs.Layout.{Label, first_counter, here, here_in, grown_in, size_of, counter_after, counter_past, counter_of}
 use Rattle.asm_core.specs.Layout.{labels_of}
@@ -96,37 +97,37 @@ sizes_in Data p old new piece size h a o s =
     }
 
 module _ (T : ℕ) (L : List Label) where
-  grown_sizes : (p : LocationCounter) (code : Option Bool) (line : SourceLine) (old new : Parts) → HasSizes p old
-      → HaveGrown T L p code line old new
+  grown_sizes : (p : LocationCounter) (content : Option Content) (line : SourceLine) (old new : Parts) → HasSizes p old
+      → HaveGrown T L p content line old new
       → HasSizes (counter_after p line.says) new
   unfolding counter_after
-  grown_sizes p code line old new h g =
+  grown_sizes p content line old new h g =
       let s =
       sizes_in p.part p old new g.bytes.piece (size_of line.says (here p)) h g.bytes.added g.others g.bytes.size in
       record { text = s.text; data_part = s.data_part }
 
-  put_now : (p : LocationCounter) (code : Option Bool) (line : SourceLine) (old new : Parts) → HasSizes p old
-      → HaveGrown T L p code line old new
+  put_now : (p : LocationCounter) (content : Option Content) (line : SourceLine) (old new : Parts) → HasSizes p old
+      → HaveGrown T L p content line old new
       → Puts T L (bytes_in new p.part) p line.says
-  put_now p code line old new h g =
+  put_now p content line old new h g =
       subst (λ (bytes : List ℕ). Puts T L bytes p line.says) (sym g.bytes.added)
       (piece_puts T L p line.says (bytes_in old p.part) g.bytes.piece (size_here p old h.text h.data_part) g.bytes.piece_is)
 
-  put_before : (p : LocationCounter) (code : Option Bool) (line : SourceLine) (old new : Parts) (q : LocationCounter) (says : Says)
-      → HaveGrown T L p code line old new → Puts T L (bytes_in old q.part) q says → Puts T L (bytes_in new q.part) q says
-  put_before p code line old new q says g h =
+  put_before : (p : LocationCounter) (content : Option Content) (line : SourceLine) (old new : Parts) (q : LocationCounter) (says : Says)
+      → HaveGrown T L p content line old new → Puts T L (bytes_in old q.part) q says → Puts T L (bytes_in new q.part) q says
+  put_before p content line old new q says g h =
       let more = any_part q.part p.part old new g.bytes.piece g.bytes.added g.others in
       subst (λ (bytes : List ℕ). Puts T L bytes q says) (sym more.1) (puts_kept T L q says (bytes_in old q.part) more.0 h)
 
-  symbols_next : (p : LocationCounter) (code : Option Bool) (line : SourceLine) (rest : List SourceLine) (old new : Parts)
-      → HaveGrown T L p code line old new
-      → map symbol_said new.symbols.items ++ symbols_from T (counter_after p line.says) (text_is p line.says code) rest
-      ≡ map symbol_said old.symbols.items ++ symbols_from T p code (line ∷ rest)
+  symbols_next : (p : LocationCounter) (content : Option Content) (line : SourceLine) (rest : List SourceLine) (old new : Parts)
+      → HaveGrown T L p content line old new
+      → map symbol_said new.symbols.items ++ symbols_from T (counter_after p line.says) (text_is p line.says content) rest
+      ≡ map symbol_said old.symbols.items ++ symbols_from T p content (line ∷ rest)
   unfolding symbols_from line_symbols
-  symbols_next p code line rest old new g =
+  symbols_next p content line rest old new g =
       let label = label_symbol T p line.label in
-      let mapping = mapping_symbol T p line.says code in
-      let after = symbols_from T (counter_after p line.says) (text_is p line.says code) rest in
+      let mapping = mapping_symbol T p line.says content in
+      let after = symbols_from T (counter_after p line.says) (text_is p line.says content) rest in
       let before = map symbol_said old.symbols.items in
       ap (λ x. x ++ after) g.symbols ∙ append_assoc before (label ++ mapping) after
       ∙ ap (λ x. before ++ x) (append_assoc label mapping after)
@@ -153,16 +154,16 @@ module _ (T : ℕ) (L : List Label) where
     pub puts : (k : ℕ) → k < done → (line : SourceLine) → slice_get ls k ≡ Some line
         → Puts T L (bytes_in e.parts (counter_of ls k).part) (counter_of ls k) line.says
     pub symbols : map symbol_said e.parts.symbols.items
-        ++ symbols_from T e.counter e.code (said_lines texts) ≡ symbols_from T first_counter None ls
+        ++ symbols_from T e.counter e.content (said_lines texts) ≡ symbols_from T first_counter None ls
     pub targets : targets_fault n T L e.counter (said_lines texts) ≡ targets_fault 1 T L first_counter ls
 
   -- a line is put
   pub at_next : (ls : List SourceLine) (text : List ℕ) (texts : List (List ℕ)) (n : ℕ) (old new : Emission) (line : SourceLine)
       → line_of text ≡ Ok line → IsAt ls (text ∷ texts) n old
-      → HaveGrown T L old.counter old.code line old.parts new.parts → new.counter ≡ counter_after old.counter line.says
-      → new.code ≡ text_is old.counter line.says old.code
+      → HaveGrown T L old.counter old.content line old.parts new.parts → new.counter ≡ counter_after old.counter line.says
+      → new.content ≡ text_is old.counter line.says old.content
       → target_fault n T L old.counter line.says ≡ None → IsAt ls texts (n + 1) new
-  at_next ls text texts n old new line says h g counter code fine =
+  at_next ls text texts n old new line says h g counter content fine =
       let a = accepted_first n old.counter h.known text texts h.accepted in
       let same : a.line ≡ line = one_line text a.line line a.says says in
       let said : said_lines (text ∷ texts) ≡ line ∷ said_lines texts = said_first text texts line says in
@@ -173,7 +174,7 @@ module _ (T : ℕ) (L : List Label) where
       let P : ℕ → Type 0 =
       λ k. (l : SourceLine) → slice_get ls k ≡ Some l → Puts T L (bytes_in new.parts (counter_of ls k).part) (counter_of ls k) l.says in
       let now : Puts T L (bytes_in new.parts old.counter.part) old.counter line.says =
-      put_now old.counter old.code line old.parts new.parts h.sizes g in
+      put_now old.counter old.content line old.parts new.parts h.sizes g in
       record {
         done = suc h.done;
         known = labels_after old.counter h.known line;
@@ -187,19 +188,19 @@ module _ (T : ℕ) (L : List Label) where
             subst IsInLimits (sym counter) (subst (λ (l : SourceLine). IsInLimits (counter_after old.counter l.says)) same
             (limits_after old.counter a.line.says a.fits));
         sizes = subst (λ (p : LocationCounter). HasSizes p new.parts) (sym counter)
-            (grown_sizes old.counter old.code line old.parts new.parts h.sizes g);
+            (grown_sizes old.counter old.content line old.parts new.parts h.sizes g);
         puts = λ k lt. below_more P h.done
-            (λ j less l is. put_before old.counter old.code line old.parts new.parts (counter_of ls j) l.says g (h.puts j less l is))
+            (λ j less l is. put_before old.counter old.content line old.parts new.parts (counter_of ls j) l.says g (h.puts j less l is))
             (λ l is.
             let one : line ≡ l = let found = get_next ls h.done line (said_lines texts) left in cc in
             subst (λ (x : SourceLine). Puts T L (bytes_in new.parts (counter_of ls h.done).part) (counter_of ls h.done) x.says) one
             (subst (λ (p : LocationCounter). Puts T L (bytes_in new.parts p.part) p line.says) h.counter now))
             k (omega arith);
         symbols =
-            ap₂ (λ (p : LocationCounter) (c : Option Bool). map symbol_said new.parts.symbols.items
-            ++ symbols_from T p c (said_lines texts)) counter code
-            ∙ symbols_next old.counter old.code line (said_lines texts) old.parts new.parts g
-            ∙ ap (λ (l : List SourceLine). map symbol_said old.parts.symbols.items ++ symbols_from T old.counter old.code l) (sym said)
+            ap₂ (λ (p : LocationCounter) (c : Option Content). map symbol_said new.parts.symbols.items
+            ++ symbols_from T p c (said_lines texts)) counter content
+            ∙ symbols_next old.counter old.content line (said_lines texts) old.parts new.parts g
+            ∙ ap (λ (l : List SourceLine). map symbol_said old.parts.symbols.items ++ symbols_from T old.counter old.content l) (sym said)
             ∙ h.symbols;
         targets =
             ap (λ (p : LocationCounter). targets_fault (n + 1) T L p (said_lines texts)) counter
@@ -217,10 +218,10 @@ module _ (T : ℕ) (L : List Label) where
 
   -- before the first line
   pub at_start : (texts : List (List ℕ)) (e : Emission) → lines_fault 1 first_counter [] texts ≡ None → e.parts.text_bytes.items ≡ []
-      → e.parts.data_bytes.items ≡ [] → e.parts.symbols.items ≡ [] → e.counter ≡ first_counter → e.code ≡ None
+      → e.parts.data_bytes.items ≡ [] → e.parts.symbols.items ≡ [] → e.counter ≡ first_counter → e.content ≡ None
       → IsAt (said_lines texts) texts 1 e
   unfolding counter_past
-  at_start texts e accepted text data_part symbols counter code = record {
+  at_start texts e accepted text data_part symbols counter content = record {
     done = zero;
     known = [];
     rest = refl;
@@ -236,7 +237,7 @@ module _ (T : ℕ) (L : List Label) where
     puts = λ k lt. absurd (omega arith);
     symbols =
         ap₂ (λ (x : List SymbolSaid) (y : List SymbolSaid). x ++ y) (ap (map symbol_said) symbols)
-        (ap₂ (λ (p : LocationCounter) (c : Option Bool). symbols_from T p c (said_lines texts)) counter code);
+        (ap₂ (λ (p : LocationCounter) (c : Option Content). symbols_from T p c (said_lines texts)) counter content);
     targets = ap (λ (p : LocationCounter). targets_fault 1 T L p (said_lines texts)) counter;
   }
 

@@ -11,9 +11,11 @@ use Rattle.sm_types.specs.Objects.{text_address, Mapping, mapping_at, says_in, n
 use Rattle.sm_types.specs.Objects.{later_mapping, governing_mapping, mapping_says_code}
 use Rattle.asm_parser.specs.Statements.{Says, SourceLine}
 use Rattle.asm_core.specs.declared.location_counter.LocationCounter.{LocationCounter}
+use Rattle.asm_core.specs.declared.symbols.Content.{Content}
+use Rattle.asm_core.specs.declared.symbols.Content.TheVariants as content
 use Rattle.asm_core.specs.Layout.{here_in, here, grown_in, size_of, counter_after, counter_past, address_in, address_here}
-use Rattle.asm_core.specs.Assembly.{SymbolSaid, symbol_said, label_symbol, is_instruction, fills_in, fills_text, text_is, is_same}
-use Rattle.asm_core.specs.Assembly.{mapping_name, mapping_symbol, symbols_from}
+use Rattle.asm_core.specs.Assembly.{SymbolSaid, symbol_said, label_symbol, is_instruction, content_of, fills_in, fills_text, text_is}
+use Rattle.asm_core.specs.Assembly.{is_same, mapping_name, mapping_symbol, symbols_from}
 
 -- ---- from symbols to mapping symbols
 
@@ -42,17 +44,32 @@ mapped_join (x ∷ xs) ys =
     ap (cons_option (mapping_said x)) (mapped_join xs ys)
     ∙ sym (cons_join (mapping_said x) (filter_map mapping_said xs) (filter_map mapping_said ys))
 
--- the mapping symbol of a line: where the text changes between code and data with it
-abbrev mapping_if : Bool → ℕ → Bool → List Mapping
-mapping_if true address code = record { address = address; code = code } ∷ []
-mapping_if false address code = []
+abbrev is_code : Content → Bool
+is_code content.Code = true
+is_code content.Data = false
 
-abbrev line_mapping : LocationCounter → Says → Option Bool → List Mapping
+code_content : (says : Says) → is_code (content_of says) ≡ is_instruction says
+unfolding content_of
+code_content says =
+    elim (is_instruction says) as (λ b. is_code (cond b content.Code content.Data) ≡ b) [
+      | true ↦ refl
+      | false ↦ refl
+    ]
+
+abbrev mapping_to : ℕ → Content → Mapping
+mapping_to address content = record { address = address; code = is_code content }
+
+-- the mapping symbol of a line: where the text changes between code and data with it
+abbrev mapping_if : Bool → ℕ → Content → List Mapping
+mapping_if true address content = mapping_to address content ∷ []
+mapping_if false address content = []
+
+abbrev line_mapping : LocationCounter → Says → Option Content → List Mapping
 line_mapping p says before =
-    mapping_if (fills_text p says && not (is_same before (is_instruction says))) (text_address + p.text_size) (is_instruction says)
+    mapping_if (fills_text p says && not (is_same before (content_of says))) (text_address + p.text_size) (content_of says)
 
 -- the mapping symbols of lines, the first of which stands at a location counter
-unfoldable pub mappings_from : LocationCounter → Option Bool → List SourceLine → List Mapping
+unfoldable pub mappings_from : LocationCounter → Option Content → List SourceLine → List Mapping
 mappings_from p before [] = []
 mappings_from p before (line ∷ lines) =
     line_mapping p line.says before ++ mappings_from (counter_after p line.says) (text_is p line.says before) lines
@@ -73,32 +90,31 @@ no_label_mapping tl p (Some name) =
       | false ↦ λ e. refl
     ] refl
 
-named_mapping : (address : ℕ) (code : Bool)
-    → mapping_at address (name_says (mapping_name code)) ≡ Some (record { address = address; code = code })
-named_mapping address true = refl
-named_mapping address false = refl
+named_mapping : (address : ℕ) (c : Content) → mapping_at address (name_says (mapping_name c)) ≡ Some (mapping_to address c)
+named_mapping address content.Code = refl
+named_mapping address content.Data = refl
 
-text_mapping : (b : Bool) (address : ℕ) (code : Bool)
-    → filter_map mapping_said (cond b (record { name = mapping_name code; address = address; section = Text } ∷ []) [])
-    ≡ mapping_if b address code
-text_mapping true address code = ap (λ o. cons_option o []) (named_mapping address code)
-text_mapping false address code = refl
+text_mapping : (b : Bool) (address : ℕ) (c : Content)
+    → filter_map mapping_said (cond b (record { name = mapping_name c; address = address; section = Text } ∷ []) [])
+    ≡ mapping_if b address c
+text_mapping true address c = ap (λ o. cons_option o []) (named_mapping address c)
+text_mapping false address c = refl
 
-symbol_mapping_in : (part : Section) (tl : ℕ) (p : LocationCounter) (size : ℕ) (c code : Bool)
-    → filter_map mapping_said (cond (fills_in part size && c)
-    (record { name = mapping_name code; address = address_in tl part (here_in part p); section = part } ∷ []) [])
-    ≡ mapping_if (fills_in part size && c) (text_address + p.text_size) code
-symbol_mapping_in Text tl p size c code = text_mapping (fills_in Text size && c) (text_address + p.text_size) code
-symbol_mapping_in Data tl p size c code = refl
+symbol_mapping_in : (part : Section) (tl : ℕ) (p : LocationCounter) (size : ℕ) (b : Bool) (c : Content)
+    → filter_map mapping_said (cond (fills_in part size && b)
+    (record { name = mapping_name c; address = address_in tl part (here_in part p); section = part } ∷ []) [])
+    ≡ mapping_if (fills_in part size && b) (text_address + p.text_size) c
+symbol_mapping_in Text tl p size b c = text_mapping (fills_in Text size && b) (text_address + p.text_size) c
+symbol_mapping_in Data tl p size b c = refl
 
-symbol_mapping : (tl : ℕ) (p : LocationCounter) (says : Says) (before : Option Bool)
+symbol_mapping : (tl : ℕ) (p : LocationCounter) (says : Says) (before : Option Content)
     → filter_map mapping_said (mapping_symbol tl p says before) ≡ line_mapping p says before
 unfolding mapping_symbol fills_text
 symbol_mapping tl p says before =
-    symbol_mapping_in p.part tl p (size_of says (here p)) (not (is_same before (is_instruction says))) (is_instruction says)
+    symbol_mapping_in p.part tl p (size_of says (here p)) (not (is_same before (content_of says))) (content_of says)
 
 -- the mapping symbols of a source's symbols are those of its lines
-pub line_mappings_said : (tl : ℕ) (p : LocationCounter) (before : Option Bool) (lines : List SourceLine)
+pub line_mappings_said : (tl : ℕ) (p : LocationCounter) (before : Option Content) (lines : List SourceLine)
     → filter_map mapping_said (symbols_from tl p before lines) ≡ mappings_from p before lines
 unfolding symbols_from mappings_from
 line_mappings_said tl p before [] = refl
@@ -167,63 +183,62 @@ passed_over : (a : ℕ) (best : Option Mapping) (m : Mapping) → a < m.address 
 passed_over a None m l = rw (above_no m.address a l) refl
 passed_over a (Some b) m l = rw (above_no m.address a l) refl
 
-over_mapping : (a : ℕ) (best : Option Mapping) (b : Bool) (address : ℕ) (code : Bool) (rest : List Mapping) → a < address
-    → governing_mapping a best (mapping_if b address code ++ rest) ≡ governing_mapping a best rest
-over_mapping a best true address code rest l =
-    ap (λ o. governing_mapping a o rest) (passed_over a best (record { address = address; code = code }) l)
-over_mapping a best false address code rest l = refl
+over_mapping : (a : ℕ) (best : Option Mapping) (b : Bool) (address : ℕ) (c : Content) (rest : List Mapping) → a < address
+    → governing_mapping a best (mapping_if b address c ++ rest) ≡ governing_mapping a best rest
+over_mapping a best true address c rest l = ap (λ o. governing_mapping a o rest) (passed_over a best (mapping_to address c) l)
+over_mapping a best false address c rest l = refl
 
 -- the mapping symbols of later lines say nothing of an address before them
-later_mappings : (lines : List SourceLine) (p : LocationCounter) (before : Option Bool) (best : Option Mapping) (a : ℕ)
+later_mappings : (lines : List SourceLine) (p : LocationCounter) (before : Option Content) (best : Option Mapping) (a : ℕ)
     → a < text_address + p.text_size
     → governing_mapping a best (mappings_from p before lines) ≡ best
 unfolding mappings_from
 later_mappings [] p before best a l = refl
 later_mappings (line ∷ lines) p before best a l =
-    over_mapping a best (fills_text p line.says && not (is_same before (is_instruction line.says))) (text_address + p.text_size)
-    (is_instruction line.says) (mappings_from (counter_after p line.says) (text_is p line.says before) lines) l
+    over_mapping a best (fills_text p line.says && not (is_same before (content_of line.says))) (text_address + p.text_size)
+    (content_of line.says) (mappings_from (counter_after p line.says) (text_is p line.says before) lines) l
     ∙ later_mappings lines (counter_after p line.says) (text_is p line.says before) best a (let g = text_grows p line.says in omega arith)
 
 -- the mapping symbol so far agrees with what the text is so far
-abbrev Agrees : Option Bool → Option Mapping → ℕ → Type 0
+abbrev Agrees : Option Content → Option Mapping → ℕ → Type 0
 Agrees None best limit = best ≡ None
-Agrees (Some code) best limit = (m : Mapping) × (best ≡ Some m) × (m.code ≡ code) × (m.address ≤ limit)
+Agrees (Some c) best limit = (m : Mapping) × (best ≡ Some m) × (m.code ≡ is_code c) × (m.address ≤ limit)
 
-agrees_further : (before : Option Bool) (best : Option Mapping) (m n : ℕ) → m ≤ n → Agrees before best m → Agrees before best n
+agrees_further : (before : Option Content) (best : Option Mapping) (m n : ℕ) → m ≤ n → Agrees before best m → Agrees before best n
 agrees_further None best m n l h = h
-agrees_further (Some code) best m n l h = let low : h.0.address ≤ m = h.3 in (h.0, h.1, h.2, omega arith)
+agrees_further (Some c) best m n l h = let low : h.0.address ≤ m = h.3 in (h.0, h.1, h.2, omega arith)
 
-same_code : (before : Option Bool) (code : Bool) → is_same before code ≡ true → before ≡ Some code
-same_code None code e = cc
-same_code (Some true) true e = refl
-same_code (Some true) false e = cc
-same_code (Some false) true e = cc
-same_code (Some false) false e = refl
+same_content : (before : Option Content) (c : Content) → is_same before c ≡ true → before ≡ Some c
+same_content None c e = cc
+same_content (Some content.Code) content.Code e = refl
+same_content (Some content.Code) content.Data e = cc
+same_content (Some content.Data) content.Code e = cc
+same_content (Some content.Data) content.Data e = refl
 
 -- a mapping symbol at an address that is not below those so far governs what follows
-taken_mapping : (a address : ℕ) (code : Bool) (before : Option Bool) (best : Option Mapping) → Agrees before best address → address ≤ a
-    → later_mapping a best (record { address = address; code = code }) ≡ Some (record { address = address; code = code })
-taken_mapping a address code None best h l =
-    ap (λ o. later_mapping a o (record { address = address; code = code })) h ∙ rw (below_yes address a l) refl
-taken_mapping a address code (Some c) best h l =
-    ap (λ o. later_mapping a o (record { address = address; code = code })) h.1
+taken_mapping : (a address : ℕ) (c : Content) (before : Option Content) (best : Option Mapping) → Agrees before best address → address ≤ a
+    → later_mapping a best (mapping_to address c) ≡ Some (mapping_to address c)
+taken_mapping a address c None best h l =
+    ap (λ o. later_mapping a o (mapping_to address c)) h ∙ rw (below_yes address a l) refl
+taken_mapping a address c (Some was) best h l =
+    ap (λ o. later_mapping a o (mapping_to address c)) h.1
     ∙ rw (below_yes address a l, below_yes h.0.address address h.3) refl
 
 -- the mapping symbol that governs once a line has filled the text agrees with it
-record Mapped (a : ℕ) (best : Option Mapping) (mappings rest : List Mapping) (code : Bool) (limit : ℕ) : Type 0 where
+record Mapped (a : ℕ) (best : Option Mapping) (mappings rest : List Mapping) (c : Content) (limit : ℕ) : Type 0 where
   now : Option Mapping
-  agrees : Agrees (Some code) now limit
+  agrees : Agrees (Some c) now limit
   governs : governing_mapping a best (mappings ++ rest) ≡ governing_mapping a now rest
 
-mapped : (a address : ℕ) (code : Bool) (before : Option Bool) (best : Option Mapping) (rest : List Mapping) (same : Bool)
-    → is_same before code ≡ same → Agrees before best address → address ≤ a
-    → Mapped a best (mapping_if (not same) address code) rest code address
-mapped a address code before best rest true e h l =
-    record { now = best; agrees = subst (λ (o : Option Bool). Agrees o best address) (same_code before code e) h; governs = refl }
-mapped a address code before best rest false e h l = record {
-  now = Some (record { address = address; code = code });
-  agrees = (record { address = address; code = code }, refl, refl, omega arith);
-  governs = ap (λ o. governing_mapping a o rest) (taken_mapping a address code before best h l);
+mapped : (a address : ℕ) (c : Content) (before : Option Content) (best : Option Mapping) (rest : List Mapping) (same : Bool)
+    → is_same before c ≡ same → Agrees before best address → address ≤ a
+    → Mapped a best (mapping_if (not same) address c) rest c address
+mapped a address c before best rest true e h l =
+    record { now = best; agrees = subst (λ (o : Option Content). Agrees o best address) (same_content before c e) h; governs = refl }
+mapped a address c before best rest false e h l = record {
+  now = Some (mapping_to address c);
+  agrees = (mapping_to address c, refl, refl, omega arith);
+  governs = ap (λ o. governing_mapping a o rest) (taken_mapping a address c before best h l);
 }
 
 -- ---- the line that put a byte
@@ -272,7 +287,7 @@ next_put p line lines offset h =
     }
 
 -- the line that put a byte, and that the mapping symbols say of the byte whether the line is an instruction
-pub record Told (p : LocationCounter) (before : Option Bool) (best : Option Mapping) (lines : List SourceLine) (offset : ℕ) : Type 0 where
+pub record Told (p : LocationCounter) (before : Option Content) (best : Option Mapping) (lines : List SourceLine) (offset : ℕ) : Type 0 where
   pub put : Put p lines offset
   pub kind : mapping_says_code (governing_mapping (text_address + offset) best (mappings_from p before lines))
       ≡ is_instruction put.line.says
@@ -280,16 +295,16 @@ pub record Told (p : LocationCounter) (before : Option Bool) (best : Option Mapp
 low_or : (a b : ℕ) → (a < b) ⊎ (b ≤ a)
 low_or a b = grind arith
 
-text_is-filled : (p : LocationCounter) (says : Says) (before : Option Bool) → fills_text p says ≡ true
-    → text_is p says before ≡ Some (is_instruction says)
+text_is-filled : (p : LocationCounter) (says : Says) (before : Option Content) → fills_text p says ≡ true
+    → text_is p says before ≡ Some (content_of says)
 unfolding text_is
 text_is-filled p says before e = rw e refl
 
-text_is-unfilled : (p : LocationCounter) (says : Says) (before : Option Bool) → fills_text p says ≡ false → text_is p says before ≡ before
+text_is-unfilled : (p : LocationCounter) (says : Says) (before : Option Content) → fills_text p says ≡ false → text_is p says before ≡ before
 unfolding text_is
 text_is-unfilled p says before e = rw e refl
 
-mappings_cons : (p : LocationCounter) (before : Option Bool) (line : SourceLine) (lines : List SourceLine)
+mappings_cons : (p : LocationCounter) (before : Option Content) (line : SourceLine) (lines : List SourceLine)
     → mappings_from p before (line ∷ lines) ≡ line_mapping p line.says before
     ++ mappings_from (counter_after p line.says) (text_is p line.says before) lines
 unfolding mappings_from
@@ -299,11 +314,11 @@ no_counter_left : (p : LocationCounter) (offset : ℕ) → p.text_size ≤ offse
 unfolding counter_past
 no_counter_left p offset from to = omega arith
 
-says_of_agreed : (code : Bool) (now : Option Mapping) (limit : ℕ) → Agrees (Some code) now limit → mapping_says_code now ≡ code
-says_of_agreed code now limit h = ap mapping_says_code h.1 ∙ h.2
+says_of_agreed : (c : Content) (now : Option Mapping) (limit : ℕ) → Agrees (Some c) now limit → mapping_says_code now ≡ is_code c
+says_of_agreed c now limit h = ap mapping_says_code h.1 ∙ h.2
 
 -- each byte of the text was put by a line, and the mapping symbols say which
-pub told : (lines : List SourceLine) (p : LocationCounter) (before : Option Bool) (best : Option Mapping) (offset : ℕ)
+pub told : (lines : List SourceLine) (p : LocationCounter) (before : Option Content) (best : Option Mapping) (offset : ℕ)
     → Agrees before best (text_address + p.text_size) → p.text_size ≤ offset → offset < (counter_past p lines).text_size
     → Told p before best lines offset
 unfolding next_put first_put
@@ -316,27 +331,29 @@ told (line ∷ lines) p before best offset h from to =
     elim (fills_text p line.says) as (λ b. fills_text p line.says ≡ b → Told p before best (line ∷ lines) offset) [
       | true ↦ λ e.
           let fills = filled p line.says e in
-          let code = is_instruction line.says in
-          let rest = mappings_from next (Some code) lines in
-          let m = mapped a (text_address + p.text_size) code before best rest (is_same before code) refl h (omega arith) in
-          let mappings : mappings_from p before (line ∷ lines) ≡ mapping_if (not (is_same before code)) (text_address + p.text_size) code
+          let c = content_of line.says in
+          let rest = mappings_from next (Some c) lines in
+          let m = mapped a (text_address + p.text_size) c before best rest (is_same before c) refl h (omega arith) in
+          let mappings : mappings_from p before (line ∷ lines) ≡ mapping_if (not (is_same before c)) (text_address + p.text_size) c
           ++ rest =
-          mappings_cons p before line lines ∙ (λ i. mapping_if (e i && not (is_same before code)) (text_address + p.text_size) code
+          mappings_cons p before line lines ∙ (λ i. mapping_if (e i && not (is_same before c)) (text_address + p.text_size) c
           ++ mappings_from next (text_is-filled p line.says before e i) lines) in
           let governs : governing_mapping a best (mappings_from p before (line ∷ lines)) ≡ governing_mapping a m.now rest =
           ap (governing_mapping a best) mappings ∙ m.governs in
           elim (low_or offset next.text_size) [
             | inl here_put ↦
-                let over : governing_mapping a m.now rest ≡ m.now = later_mappings lines next (Some code) m.now a (omega arith) in
+                let over : governing_mapping a m.now rest ≡ m.now = later_mappings lines next (Some c) m.now a (omega arith) in
                 record {
                   put = first_put p line lines offset fills.in_text from (subst (λ n. offset < n) fills.grown here_put);
-                  kind = ap mapping_says_code (governs ∙ over) ∙ says_of_agreed code m.now (text_address + p.text_size) m.agrees;
+                  kind =
+                      ap mapping_says_code (governs ∙ over) ∙ says_of_agreed c m.now (text_address + p.text_size) m.agrees
+                      ∙ code_content line.says;
                 }
             | inr past ↦
                 let g = text_grows p line.says in
                 let t =
-                told lines next (Some code) m.now offset
-                (agrees_further (Some code) m.now (text_address + p.text_size) (text_address + next.text_size) (omega arith) m.agrees)
+                told lines next (Some c) m.now offset
+                (agrees_further (Some c) m.now (text_address + p.text_size) (text_address + next.text_size) (omega arith) m.agrees)
                 past after in
                 record { put = next_put p line lines offset t.put; kind = ap mapping_says_code governs ∙ t.kind }
           ]
@@ -346,8 +363,8 @@ told (line ∷ lines) p before best offset h from to =
           told lines next before best offset (subst (λ n. Agrees before best (text_address + n)) (sym same) h)
           (subst (λ n. n ≤ offset) (sym same) from) after in
           let mappings : mappings_from p before (line ∷ lines) ≡ mappings_from next before lines =
-          mappings_cons p before line lines ∙ (λ i. mapping_if (e i && not (is_same before (is_instruction line.says)))
-          (text_address + p.text_size) (is_instruction line.says) ++ mappings_from next (text_is-unfilled p line.says before e i) lines) in
+          mappings_cons p before line lines ∙ (λ i. mapping_if (e i && not (is_same before (content_of line.says)))
+          (text_address + p.text_size) (content_of line.says) ++ mappings_from next (text_is-unfilled p line.says before e i) lines) in
           record {
             put = next_put p line lines offset t.put;
             kind = ap (λ ms. mapping_says_code (governing_mapping a best ms)) mappings

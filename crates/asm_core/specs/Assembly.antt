@@ -15,6 +15,8 @@ use Rattle.a64_encode.specs.Either.{instruction_of}
 use Rattle.asm_parser.specs.Statements.{QuadValue, IsNumber, IsAddressOf, TargetSaid, Says, Nothing, IntoText}
 use Rattle.asm_parser.specs.Statements.{IntoData, Quads, Words, Bytes, Zeros, Aligns, Globals, Instructs}
 use Rattle.asm_parser.specs.Statements.{SourceLine}
+use Rattle.asm_core.specs.declared.symbols.Content.{Content}
+use Rattle.asm_core.specs.declared.symbols.Content.TheVariants as content
 use Rattle.asm_core.specs.Source.{lines_of, said_lines}
 use Rattle.asm_core.specs.declared.location_counter.LocationCounter.{LocationCounter}
 use Rattle.asm_core.specs.Layout.{first_counter, here, size_of, counter_after, counter_past, counter_of}
@@ -125,31 +127,36 @@ fills_in Data size = false
 unfoldable pub fills_text : LocationCounter → Says → Bool
 fills_text p says = fills_in p.part (size_of says (here p))
 
+-- what the bytes of a line are: those of an instruction are code, all others data
+unfoldable pub content_of : Says → Content
+content_of says = if is_instruction says then content.Code else content.Data
+
 -- what the text is after a line: code, data, or nothing yet
-unfoldable pub text_is : LocationCounter → Says → Option Bool → Option Bool
-text_is p says before = if fills_text p says then Some (is_instruction says) else before
+unfoldable pub text_is : LocationCounter → Says → Option Content → Option Content
+text_is p says before = if fills_text p says then Some (content_of says) else before
 
-abbrev pub is_same : Option Bool → Bool → Bool
-is_same None b = false
-is_same (Some a) b = if a then b else not b
+abbrev pub is_same : Option Content → Content → Bool
+is_same (Some content.Code) content.Code = true
+is_same (Some content.Data) content.Data = true
+is_same before now = false
 
-abbrev pub mapping_name : Bool → List ℕ
-mapping_name true = codes "$x"
-mapping_name false = codes "$d"
+abbrev pub mapping_name : Content → List ℕ
+mapping_name content.Code = codes "$x"
+mapping_name content.Data = codes "$d"
 
 -- the mapping symbol of a line, where the text changes between code and data with it
-unfoldable pub mapping_symbol : ℕ → LocationCounter → Says → Option Bool → List SymbolSaid
+unfoldable pub mapping_symbol : ℕ → LocationCounter → Says → Option Content → List SymbolSaid
 mapping_symbol text_length p says before =
-    if fills_text p says && not (is_same before (is_instruction says))
+    if fills_text p says && not (is_same before (content_of says))
     then record {
-      name = mapping_name (is_instruction says);
+      name = mapping_name (content_of says);
       address = address_here text_length p;
       section = p.part;
     } ∷ []
     else []
 
 -- the symbols of lines in their order: of each line that of its label and then its mapping symbol
-unfoldable pub symbols_from : ℕ → LocationCounter → Option Bool → List SourceLine → List SymbolSaid
+unfoldable pub symbols_from : ℕ → LocationCounter → Option Content → List SourceLine → List SymbolSaid
 symbols_from text_length p before [] = []
 symbols_from text_length p before (line ∷ lines) =
     label_symbol text_length p line.label ++ (mapping_symbol text_length p line.says before

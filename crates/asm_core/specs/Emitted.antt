@@ -15,6 +15,7 @@ use Rattle.asm_core.specs.declared.location_counter.LocationCounter.{LocationCou
 use Rattle.asm_core.specs.declared.target_addresses.Addresses.{Addresses}
 use Rattle.asm_core.specs.declared.labels.LabelPosition.{LabelPosition}
 use Rattle.asm_core.specs.declared.object_parts.Parts.{Parts}
+use Rattle.asm_core.specs.declared.symbols.Content.{Content}
 use Rattle.asm_core.specs.Layout.{Label, here, size_of, address_here}
 use Rattle.asm_core.specs.Assembly.{numbers_bytes, quad_number, resolved, SymbolSaid, symbol_said}
 use Rattle.asm_core.specs.Assembly.{label_symbol}
@@ -116,12 +117,12 @@ abbrev pub one_symbol : List ℕ → ℕ → Section → List SymbolSaid
 one_symbol name address section = record { name = name; address = address; section = section } ∷ []
 
 -- the symbols of a line
-unfoldable pub line_symbols : ℕ → LocationCounter → Option Bool → SourceLine → List SymbolSaid
+unfoldable pub line_symbols : ℕ → LocationCounter → Option Content → SourceLine → List SymbolSaid
 line_symbols text_length p before line =
     label_symbol text_length p line.label ++ mapping_symbol text_length p line.says before
 
 -- the parts have grown by a line at a location counter: by its bytes, and by its symbols
-pub record HaveGrown (text_length : ℕ) (labels : List Label) (p : LocationCounter) (before : Option Bool)
+pub record HaveGrown (text_length : ℕ) (labels : List Label) (p : LocationCounter) (before : Option Content)
     (line : SourceLine) (old new : Parts) : Type 0 where
   pub bytes : Adds text_length labels p line.says (bytes_in old p.part) (bytes_in new p.part)
   pub others : bytes_in new (other p.part) ≡ bytes_in old (other p.part)

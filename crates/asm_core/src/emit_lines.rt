@@ -16,7 +16,7 @@ use crate::fault::AsmFault;
 use crate::kept_words::{KeptWord, line_again};
 use crate::location_counter::{LocationCounter, counter_after, first_counter};
 use crate::object_parts::Parts;
-use crate::symbols::{put_symbols, text_is};
+use crate::symbols::{Content, put_symbols, text_is};
 use crate::target_addresses::Addresses;
 use asm_parser::{Line, Statement};
 use sm_types::Section;
@@ -28,7 +28,7 @@ use std::alloc::Global;
 pub struct Emission {
     pub parts: Parts,
     pub counter: LocationCounter,
-    pub code: Option<bool>,
+    pub content: Option<Content>,
 }
 
 /// What no line has put.
@@ -37,7 +37,7 @@ pub fn new_emission(alloc: Global) -> Emission
     ensures data_bytes { result.parts.data_bytes.items ≡ [] }
     ensures symbols { result.parts.symbols.items ≡ [] }
     ensures counter { result.counter ≡ layout.first_counter }
-    ensures code { result.code ≡ None }
+    ensures content { result.content ≡ None }
 {
     Emission {
         parts: Parts {
@@ -46,7 +46,7 @@ pub fn new_emission(alloc: Global) -> Emission
             symbols: Vec::new(alloc),
         },
         counter: first_counter(),
-        code: None,
+        content: None,
     }
 }
 
@@ -103,7 +103,7 @@ fn put_line(
     alloc: Global,
     number: u32,
     counter: &LocationCounter,
-    code: Option<bool>,
+    content: Option<Content>,
     line: &Line<'_>,
     addresses: &Addresses<'_, '_>,
 ) -> Result<(), AsmFault>
@@ -117,7 +117,7 @@ fn put_line(
         → OnOk result (target_fault number addresses.now.text_size list counter.now
         (says_of line.now.statement) ≡ None) }
     ensures grown { (list : List layout.Label) → Knows addresses.now.labels.now list
-        → OnOk result (HaveGrown addresses.now.text_size list counter.now code (line_said line.now)
+        → OnOk result (HaveGrown addresses.now.text_size list counter.now content (line_said line.now)
         parts.old parts.new) }
     ensures err { (list : List layout.Label) → Knows addresses.now.labels.now list
         → IfErr result (λ fault. fault ≢ AsmFault.Memory
@@ -129,7 +129,7 @@ fn put_line(
         alloc,
         counter,
         line,
-        code,
+        content,
         addresses.text_size,
     )?;
     put_bytes(parts, number, counter, &line.statement, addresses)
@@ -158,13 +158,13 @@ pub fn emit_line(
         ≡ None) }
     ensures grown { (list : List layout.Label) → Knows addresses.now.labels.now list → (line : SourceLine)
         → line_of text.now ≡ Ok line
-        → OnOk result (HaveGrown addresses.now.text_size list emission.old.counter emission.old.code line
+        → OnOk result (HaveGrown addresses.now.text_size list emission.old.counter emission.old.content line
         emission.old.parts emission.new.parts) }
     ensures counter { (line : SourceLine) → line_of text.now ≡ Ok line
         → OnOk result (emission.new.counter ≡ layout.counter_after emission.old.counter line.says) }
-    ensures code { (line : SourceLine) → line_of text.now ≡ Ok line
-        → OnOk result (emission.new.code
-        ≡ assembly.text_is emission.old.counter line.says emission.old.code) }
+    ensures content { (line : SourceLine) → line_of text.now ≡ Ok line
+        → OnOk result (emission.new.content
+        ≡ assembly.text_is emission.old.counter line.says emission.old.content) }
     ensures err { (list : List layout.Label) → Knows addresses.now.labels.now list → (line : SourceLine)
         → line_of text.now ≡ Ok line
         → IfErr result (λ fault. fault ≢ AsmFault.Memory
@@ -174,7 +174,7 @@ pub fn emit_line(
         return Err(AsmFault::Memory);
     };
     let counter = emission.counter;
-    let code = emission.code;
+    let content = emission.content;
     let Some(after) = counter_after(&counter, &line.statement) else {
         unreachable!()
     };
@@ -183,11 +183,11 @@ pub fn emit_line(
         alloc,
         number,
         &counter,
-        code,
+        content,
         &line,
         addresses,
     )?;
-    emission.code = text_is(&counter, &line.statement, code);
+    emission.content = text_is(&counter, &line.statement, content);
     emission.counter = after;
     Ok(())
 }

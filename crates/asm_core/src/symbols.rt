@@ -16,6 +16,13 @@ use asm_parser::{Line, Statement};
 use sm_types::{Section, Symbol, Symbols, name_says};
 use std::alloc::Global;
 
+/// What bytes of the text are, as a mapping symbol tells it: code (`$x`) or data (`$d`).
+#[derive(Clone, Copy, PartialEq, Eq)]
+pub enum Content {
+    Code,
+    Data,
+}
+
 /// Tells whether a name is a mapping symbol's.
 fn is_mapping_name(name: &[u8]) -> bool
     ensures { result ≡ is_some (name_says name.now) }
@@ -23,12 +30,15 @@ fn is_mapping_name(name: &[u8]) -> bool
     name_says(name).is_some()
 }
 
-/// Tells whether a statement is an instruction.
-#[tactic(auto, unfolding(crate::specs::Assembly::is_instruction))]
-fn is_instruction(statement: &Statement<'_>) -> bool
-    ensures { result ≡ assembly.is_instruction (says_of statement.now) }
+/// What a statement's bytes are.
+#[tactic(auto, unfolding(crate::specs::Assembly::content_of, crate::specs::Assembly::is_instruction))]
+fn content_of(statement: &Statement<'_>) -> Content
+    ensures { result ≡ assembly.content_of (says_of statement.now) }
 {
-    matches!(statement, Statement::Instruction { .. })
+    match statement {
+        Statement::Instruction { .. } => Content::Code,
+        _ => Content::Data,
+    }
 }
 
 /// Tells whether a statement puts bytes into the text.
@@ -48,33 +58,33 @@ fn fills_text(counter: &LocationCounter, statement: &Statement<'_>) -> bool
 pub fn text_is(
     counter: &LocationCounter,
     statement: &Statement<'_>,
-    before: Option<bool>,
-) -> Option<bool>
+    before: Option<Content>,
+) -> Option<Content>
     requires { HasSmallAlign (says_of statement.now) }
     ensures { result ≡ assembly.text_is counter.now (says_of statement.now) before }
 {
     if fills_text(counter, statement) {
-        Some(is_instruction(statement))
+        Some(content_of(statement))
     } else {
         before
     }
 }
 
-/// Tells whether the text is code already, or data already.
-fn is_same(before: Option<bool>, code: bool) -> bool
-    ensures { result ≡ assembly.is_same before code }
+/// Tells whether the text is already what the next bytes are.
+fn is_same(before: Option<Content>, now: Content) -> bool
+    ensures { result ≡ assembly.is_same before now }
 {
-    match before {
-        Some(was) => was == code,
-        None => false,
-    }
+    before == Some(now)
 }
 
 /// The name of the mapping symbol of code or of data.
-fn mapping_name(code: bool) -> &'static [u8]
-    ensures { result.now ≡ assembly.mapping_name code }
+fn mapping_name(content: Content) -> &'static [u8]
+    ensures { result.now ≡ assembly.mapping_name content }
 {
-    if code { b"$x" } else { b"$d" }
+    match content {
+        Content::Code => b"$x",
+        Content::Data => b"$d",
+    }
 }
 
 /// Appends a symbol.
@@ -132,7 +142,7 @@ fn put_mapping(
     alloc: Global,
     counter: &LocationCounter,
     statement: &Statement<'_>,
-    before: Option<bool>,
+    before: Option<Content>,
     text_size: u64,
 ) -> Result<(), AsmFault>
     requires text { text_size ≤ 4194304 }
@@ -143,12 +153,12 @@ fn put_mapping(
         ++ assembly.mapping_symbol text_size counter.now (says_of statement.now) before) }
     ensures err { IfErr result (λ fault. fault ≡ AsmFault.Memory) }
 {
-    let code = is_instruction(statement);
-    if !fills_text(counter, statement) || is_same(before, code) {
+    let content = content_of(statement);
+    if !fills_text(counter, statement) || is_same(before, content) {
         return Ok(());
     }
     let address = address_in(counter.part, here(counter), text_size);
-    put_symbol(symbols, alloc, mapping_name(code), address, counter.part)
+    put_symbol(symbols, alloc, mapping_name(content), address, counter.part)
 }
 
 /// Appends the symbols of a line at a location counter.
@@ -158,7 +168,7 @@ pub fn put_symbols(
     alloc: Global,
     counter: &LocationCounter,
     line: &Line<'_>,
-    before: Option<bool>,
+    before: Option<Content>,
     text_size: u64,
 ) -> Result<(), AsmFault>
     requires text { text_size ≤ 4194304 }

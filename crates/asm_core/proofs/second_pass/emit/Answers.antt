@@ -16,7 +16,7 @@ loop-text-init c = record {
   at =
       let e = c.new_emission-emission.ensures in
       at_start c.args.text_size (labels_of (said_lines (lines_of c.args.source.now))) (lines_of c.args.source.now)
-      c.new_emission-emission.result c.requires.accepted e.text_bytes e.data_bytes e.symbols e.counter e.code;
+      c.new_emission-emission.result c.requires.accepted e.text_bytes e.data_bytes e.symbols e.counter e.content;
   kept = c.requires.kept;
 }
 
@@ -65,7 +65,7 @@ loop-text-preserved c = record {
       let e = c.in_ok-emit_line.ensures in
       at_next c.args.text_size L ls c.in-Some.text.now (lines_of c.in-Some.after.now) c.loop-text.number c.loop-text.emission
       c.emit_line.new.emission fine.line fine.says at
-      (e.grown L c.requires.knows fine.line fine.says) (e.counter fine.line fine.says) (e.code fine.line fine.says)
+      (e.grown L c.requires.knows fine.line fine.says) (e.counter fine.line fine.says) (e.content fine.line fine.says)
       (e.ok L c.requires.knows fine.line fine.says);
   kept =
       rw c.after_first-kept_rest.ensures (kept_after c.loop-text.kept_rest.now c.in-Some.text.now (lines_of c.in-Some.after.now)
