@@ -110,7 +110,7 @@ def given(text, match):
     return text
 
 
-WIDTHS = {of: dict(re.findall(r"\((\w+)\) => \{ place!\((\w+)\) \};", body))
+WIDTHS = {of: dict(re.findall(r"\((\w+)\) => \{ index_of!\((\w+)\) \};", body))
           for of, body in re.findall(r"macro_rules! (in_\w+) \{(.*?)\n\}", SCALAR_TEXTS + VECTOR_TEXTS, re.S)}
 
 
@@ -229,8 +229,8 @@ def main():
              "use a64_table::fields as scalar_fields;", "use insn_forms::Field;", "use sve_table::fields as vector_fields;", "",
              "macro_rules! items {", "    ($($($item:ident)+;)*) => {", "        [$($(operand!($item)),+),*]", "    };", "}", ""]
     write(src / "operand_items.rt", f"//! The operands of texts, {by}them from those of operands.rt and vector_operands.rt.", *heads,
-          "// The index of an operand in `OPERANDS`, by its name.", "macro_rules! place {", *[f"    ({name}) => {{ {place} }};" for place, name in enumerate(OPERANDS)], "}", "",
-          "pub(crate) use place;", "", "/// The operands of texts, each once.", f"pub static OPERANDS: [Item; {len(OPERANDS)}] = items! {{", *lines_of(OPERANDS), "};")
+          "// The index of an operand in `OPERANDS`, by its name.", "macro_rules! index_of {", *[f"    ({name}) => {{ {index} }};" for index, name in enumerate(OPERANDS)], "}", "",
+          "pub(crate) use index_of;", "", "/// The operands of texts, each once.", f"pub static OPERANDS: [Item; {len(OPERANDS)}] = items! {{", *lines_of(OPERANDS), "};")
     write(src / "items.rt", f"//! The operands of the shapes, {by}them.", *heads,
           *[line for of, ident in (("Scalar", "ITEMS"), ("Vector", "VECTOR_ITEMS"), ("Matrix", "MATRIX_ITEMS"))
             for line in (f"/// The operands of the shapes of `ItemList::{of}`, one list after another; beside a list is its index.",

@@ -19,7 +19,7 @@ macro_rules! items {
 }
 
 // The index of an operand in `OPERANDS`, by its name.
-macro_rules! place {
+macro_rules! index_of {
     (none) => { 0 };
     (comma) => { 1 };
     (open) => { 2 };
@@ -219,7 +219,7 @@ macro_rules! place {
     (signed9) => { 196 };
 }
 
-pub(crate) use place;
+pub(crate) use index_of;
 
 /// The operands of texts, each once.
 pub static OPERANDS: [Item; 197] = items! {

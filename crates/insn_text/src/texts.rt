@@ -6,7 +6,7 @@
 //! first is read.
 use crate::item::{Setting, Text, Wording};
 use crate::mnemonics::mnemonic;
-use crate::operand_items::place;
+use crate::operand_items::index_of;
 use a64_table::fields::{
     ACQUIRE, BRANCH_COND, CAS_ACQUIRE, CAS_RELEASE, HINT, HW, IMM3, IMM6, IMM7, IMM9, IMM12, IMMS,
     N, OPC, OPTION, RA, RD, RELEASE, RM, RN, SCALED, SF, SH, SHIFT, SIZE,
@@ -27,39 +27,39 @@ macro_rules! is_alias {
 
 // An operand of X registers, by its name without the width.
 macro_rules! in_x {
-    (rd) => { place!(xd) };
-    (rd_sp) => { place!(xd_sp) };
-    (rn) => { place!(xn) };
-    (rn_sp) => { place!(xn_sp) };
-    (rm) => { place!(xm) };
-    (ra) => { place!(xa) };
-    (rt) => { place!(xt) };
-    (amount) => { place!(amount6) };
-    (mask) => { place!(xmask) };
-    (mask_or_negative) => { place!(xmask_or_negative) };
-    (halfword) => { place!(xhalfword) };
-    (inverted_halfword) => { place!(xinverted_halfword) };
-    (halfword_shift) => { place!(halfword_shift64) };
-    ($other:ident) => { place!($other) };
+    (rd) => { index_of!(xd) };
+    (rd_sp) => { index_of!(xd_sp) };
+    (rn) => { index_of!(xn) };
+    (rn_sp) => { index_of!(xn_sp) };
+    (rm) => { index_of!(xm) };
+    (ra) => { index_of!(xa) };
+    (rt) => { index_of!(xt) };
+    (amount) => { index_of!(amount6) };
+    (mask) => { index_of!(xmask) };
+    (mask_or_negative) => { index_of!(xmask_or_negative) };
+    (halfword) => { index_of!(xhalfword) };
+    (inverted_halfword) => { index_of!(xinverted_halfword) };
+    (halfword_shift) => { index_of!(halfword_shift64) };
+    ($other:ident) => { index_of!($other) };
 }
 
 // The same of W registers.
 macro_rules! in_w {
-    (rd) => { place!(wd) };
-    (rd_sp) => { place!(wd_sp) };
-    (rn) => { place!(wn) };
-    (rn_sp) => { place!(wn_sp) };
-    (rm) => { place!(wm) };
-    (ra) => { place!(wa) };
-    (rt) => { place!(wt) };
-    (sp) => { place!(wsp) };
-    (amount) => { place!(amount5) };
-    (mask) => { place!(wmask) };
-    (mask_or_negative) => { place!(wmask_or_negative) };
-    (halfword) => { place!(whalfword) };
-    (inverted_halfword) => { place!(winverted_halfword) };
-    (halfword_shift) => { place!(halfword_shift32) };
-    ($other:ident) => { place!($other) };
+    (rd) => { index_of!(wd) };
+    (rd_sp) => { index_of!(wd_sp) };
+    (rn) => { index_of!(wn) };
+    (rn_sp) => { index_of!(wn_sp) };
+    (rm) => { index_of!(wm) };
+    (ra) => { index_of!(wa) };
+    (rt) => { index_of!(wt) };
+    (sp) => { index_of!(wsp) };
+    (amount) => { index_of!(amount5) };
+    (mask) => { index_of!(wmask) };
+    (mask_or_negative) => { index_of!(wmask_or_negative) };
+    (halfword) => { index_of!(whalfword) };
+    (inverted_halfword) => { index_of!(winverted_halfword) };
+    (halfword_shift) => { index_of!(halfword_shift32) };
+    ($other:ident) => { index_of!($other) };
 }
 
 // The indices of the operands of these names, and 0 up to 24.
@@ -115,7 +115,7 @@ macro_rules! both {
 macro_rules! single {
     ($($kind:ident $($name:ident).+: $group:ident($($op:tt)*) [$($set:tt)*] ($($item:tt)*);)*) => {
         [$(
-            text!(place $kind [$($name).+] $group($($op)*) [$($set)*] ($($item)*))
+            text!(index_of $kind [$($name).+] $group($($op)*) [$($set)*] ($($item)*))
         ),*]
     };
 }
@@ -146,13 +146,13 @@ macro_rules! extended {
 macro_rules! pairs {
     ($($name:ident: $op:ident $wide:literal ($($item:tt)*) $offset:ident;)*) => {
         [$(
-            text!(place print [$name] G20(PairOp::$op, $wide, PairIndex::Offset) [IMM7=0]
+            text!(index_of print [$name] G20(PairOp::$op, $wide, PairIndex::Offset) [IMM7=0]
                 ($($item)*, open xn_sp close)),
-            text!(place print [$name] G20(PairOp::$op, $wide, PairIndex::Offset) []
+            text!(index_of print [$name] G20(PairOp::$op, $wide, PairIndex::Offset) []
                 ($($item)*, open xn_sp, $offset close)),
-            text!(place print [$name] G20(PairOp::$op, $wide, PairIndex::PostIndex) []
+            text!(index_of print [$name] G20(PairOp::$op, $wide, PairIndex::PostIndex) []
                 ($($item)*, open xn_sp_alone close, $offset)),
-            text!(place print [$name] G20(PairOp::$op, $wide, PairIndex::PreIndex) []
+            text!(index_of print [$name] G20(PairOp::$op, $wide, PairIndex::PreIndex) []
                 ($($item)*, open xn_sp_alone, $offset close bang))
         ),*]
     };
@@ -161,31 +161,32 @@ macro_rules! pairs {
 macro_rules! accesses {
     ($($name:ident $unscaled:ident [$($set:tt)*] ($rt:ident) $offset:ident $amount:ident;)*) => {
         [$(
-            text!(place print [$name] G18(AddressForm::Offset) [IMM12=0 $($set)*] ($rt, open xn_sp close)),
-            text!(place print [$name] G18(AddressForm::Offset) [$($set)*] ($rt, open xn_sp, $offset close)),
-            text!(place print [$unscaled] G18(AddressForm::Unscaled) [IMM9=0 $($set)*]
+            text!(index_of print [$name] G18(AddressForm::Offset) [IMM12=0 $($set)*] ($rt, open xn_sp close)),
+            text!(index_of print [$name] G18(AddressForm::Offset) [$($set)*]
+                ($rt, open xn_sp, $offset close)),
+            text!(index_of print [$unscaled] G18(AddressForm::Unscaled) [IMM9=0 $($set)*]
                 ($rt, open xn_sp close)),
-            text!(place print [$unscaled] G18(AddressForm::Unscaled) [$($set)*]
+            text!(index_of print [$unscaled] G18(AddressForm::Unscaled) [$($set)*]
                 ($rt, open xn_sp, imm9 close)),
-            text!(place print [$name] G18(AddressForm::PostIndex) [$($set)*]
+            text!(index_of print [$name] G18(AddressForm::PostIndex) [$($set)*]
                 ($rt, open xn_sp_not_t close, imm9)),
-            text!(place print [$name] G18(AddressForm::PreIndex) [$($set)*]
+            text!(index_of print [$name] G18(AddressForm::PreIndex) [$($set)*]
                 ($rt, open xn_sp_not_t, imm9 close bang)),
-            text!(place print [$name] G18(AddressForm::Register) [OPTION=3 SCALED=0 $($set)*]
+            text!(index_of print [$name] G18(AddressForm::Register) [OPTION=3 SCALED=0 $($set)*]
                 ($rt, open xn_sp, xm close)),
-            text!(place print [$name] G18(AddressForm::Register) [OPTION=3 SCALED=1 $($set)*]
+            text!(index_of print [$name] G18(AddressForm::Register) [OPTION=3 SCALED=1 $($set)*]
                 ($rt, open xn_sp, xm, lsl $amount close)),
-            text!(place print [$name] G18(AddressForm::Register) [OPTION=2 SCALED=0 $($set)*]
+            text!(index_of print [$name] G18(AddressForm::Register) [OPTION=2 SCALED=0 $($set)*]
                 ($rt, open xn_sp, wm, uxtw close)),
-            text!(place print [$name] G18(AddressForm::Register) [OPTION=2 SCALED=1 $($set)*]
+            text!(index_of print [$name] G18(AddressForm::Register) [OPTION=2 SCALED=1 $($set)*]
                 ($rt, open xn_sp, wm, uxtw $amount close)),
-            text!(place print [$name] G18(AddressForm::Register) [OPTION=6 SCALED=0 $($set)*]
+            text!(index_of print [$name] G18(AddressForm::Register) [OPTION=6 SCALED=0 $($set)*]
                 ($rt, open xn_sp, wm, sxtw close)),
-            text!(place print [$name] G18(AddressForm::Register) [OPTION=6 SCALED=1 $($set)*]
+            text!(index_of print [$name] G18(AddressForm::Register) [OPTION=6 SCALED=1 $($set)*]
                 ($rt, open xn_sp, wm, sxtw $amount close)),
-            text!(place print [$name] G18(AddressForm::Register) [OPTION=7 SCALED=0 $($set)*]
+            text!(index_of print [$name] G18(AddressForm::Register) [OPTION=7 SCALED=0 $($set)*]
                 ($rt, open xn_sp, xm, sxtx close)),
-            text!(place print [$name] G18(AddressForm::Register) [OPTION=7 SCALED=1 $($set)*]
+            text!(index_of print [$name] G18(AddressForm::Register) [OPTION=7 SCALED=1 $($set)*]
                 ($rt, open xn_sp, xm, sxtx $amount close))
         ),*]
     };
@@ -194,10 +195,10 @@ macro_rules! accesses {
 macro_rules! sized {
     ($($name:ident: $group:ident($($op:tt)*);)*) => {
         [$(
-            text!(place print [$name b] $group($($op)*) [SIZE=0] (wt, open xn_sp close)),
-            text!(place print [$name h] $group($($op)*) [SIZE=1] (wt, open xn_sp close)),
-            text!(place print [$name] $group($($op)*) [SIZE=2] (wt, open xn_sp close)),
-            text!(place print [$name] $group($($op)*) [SIZE=3] (xt, open xn_sp close))
+            text!(index_of print [$name b] $group($($op)*) [SIZE=0] (wt, open xn_sp close)),
+            text!(index_of print [$name h] $group($($op)*) [SIZE=1] (wt, open xn_sp close)),
+            text!(index_of print [$name] $group($($op)*) [SIZE=2] (wt, open xn_sp close)),
+            text!(index_of print [$name] $group($($op)*) [SIZE=3] (xt, open xn_sp close))
         ),*]
     };
 }
@@ -205,22 +206,22 @@ macro_rules! sized {
 macro_rules! ordered {
     ($($name:ident: $group:ident($($op:tt)*) $a:ident $l:ident;)*) => {
         [$(
-            text!(place print [$name b] $group($($op)*) [SIZE=0 $a=0 $l=0] (ws, wt, open xn_sp close)),
-            text!(place print [$name h] $group($($op)*) [SIZE=1 $a=0 $l=0] (ws, wt, open xn_sp close)),
-            text!(place print [$name] $group($($op)*) [SIZE=2 $a=0 $l=0] (ws, wt, open xn_sp close)),
-            text!(place print [$name] $group($($op)*) [SIZE=3 $a=0 $l=0] (xs, xt, open xn_sp close)),
-            text!(place print [$name a b] $group($($op)*) [SIZE=0 $a=1 $l=0] (ws, wt, open xn_sp close)),
-            text!(place print [$name a h] $group($($op)*) [SIZE=1 $a=1 $l=0] (ws, wt, open xn_sp close)),
-            text!(place print [$name a] $group($($op)*) [SIZE=2 $a=1 $l=0] (ws, wt, open xn_sp close)),
-            text!(place print [$name a] $group($($op)*) [SIZE=3 $a=1 $l=0] (xs, xt, open xn_sp close)),
-            text!(place print [$name l b] $group($($op)*) [SIZE=0 $a=0 $l=1] (ws, wt, open xn_sp close)),
-            text!(place print [$name l h] $group($($op)*) [SIZE=1 $a=0 $l=1] (ws, wt, open xn_sp close)),
-            text!(place print [$name l] $group($($op)*) [SIZE=2 $a=0 $l=1] (ws, wt, open xn_sp close)),
-            text!(place print [$name l] $group($($op)*) [SIZE=3 $a=0 $l=1] (xs, xt, open xn_sp close)),
-            text!(place print [$name al b] $group($($op)*) [SIZE=0 $a=1 $l=1] (ws, wt, open xn_sp close)),
-            text!(place print [$name al h] $group($($op)*) [SIZE=1 $a=1 $l=1] (ws, wt, open xn_sp close)),
-            text!(place print [$name al] $group($($op)*) [SIZE=2 $a=1 $l=1] (ws, wt, open xn_sp close)),
-            text!(place print [$name al] $group($($op)*) [SIZE=3 $a=1 $l=1] (xs, xt, open xn_sp close))
+            text!(index_of print [$name b] $group($($op)*) [SIZE=0 $a=0 $l=0] (ws, wt, open xn_sp close)),
+            text!(index_of print [$name h] $group($($op)*) [SIZE=1 $a=0 $l=0] (ws, wt, open xn_sp close)),
+            text!(index_of print [$name] $group($($op)*) [SIZE=2 $a=0 $l=0] (ws, wt, open xn_sp close)),
+            text!(index_of print [$name] $group($($op)*) [SIZE=3 $a=0 $l=0] (xs, xt, open xn_sp close)),
+            text!(index_of print [$name a b] $group($($op)*) [SIZE=0 $a=1 $l=0] (ws, wt, open xn_sp close)),
+            text!(index_of print [$name a h] $group($($op)*) [SIZE=1 $a=1 $l=0] (ws, wt, open xn_sp close)),
+            text!(index_of print [$name a] $group($($op)*) [SIZE=2 $a=1 $l=0] (ws, wt, open xn_sp close)),
+            text!(index_of print [$name a] $group($($op)*) [SIZE=3 $a=1 $l=0] (xs, xt, open xn_sp close)),
+            text!(index_of print [$name l b] $group($($op)*) [SIZE=0 $a=0 $l=1] (ws, wt, open xn_sp close)),
+            text!(index_of print [$name l h] $group($($op)*) [SIZE=1 $a=0 $l=1] (ws, wt, open xn_sp close)),
+            text!(index_of print [$name l] $group($($op)*) [SIZE=2 $a=0 $l=1] (ws, wt, open xn_sp close)),
+            text!(index_of print [$name l] $group($($op)*) [SIZE=3 $a=0 $l=1] (xs, xt, open xn_sp close)),
+            text!(index_of print [$name al b] $group($($op)*) [SIZE=0 $a=1 $l=1] (ws, wt, open xn_sp close)),
+            text!(index_of print [$name al h] $group($($op)*) [SIZE=1 $a=1 $l=1] (ws, wt, open xn_sp close)),
+            text!(index_of print [$name al] $group($($op)*) [SIZE=2 $a=1 $l=1] (ws, wt, open xn_sp close)),
+            text!(index_of print [$name al] $group($($op)*) [SIZE=3 $a=1 $l=1] (xs, xt, open xn_sp close))
         ),*]
     };
 }

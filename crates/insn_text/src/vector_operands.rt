@@ -99,8 +99,8 @@ macro_rules! index {
 
 // A keyword of operands by its index.
 macro_rules! word {
-    ($place:literal) => {
-        operand_of!(Kind::Keyword { first: $place, count: 1 }, scalar_fields::NONE)
+    ($index:literal) => {
+        operand_of!(Kind::Keyword { first: $index, count: 1 }, scalar_fields::NONE)
     };
 }
 

@@ -1,7 +1,7 @@
 //! The texts of the vector instructions' operations, in the form of those of texts.rt.
 use crate::item::{Setting, Text, Wording};
 use crate::mnemonics::mnemonic;
-use crate::operand_items::place;
+use crate::operand_items::index_of;
 use crate::texts::{four, is_alias, text, twenty_four};
 use sm_types::{
     AddImmediateOp, CompareImmediateOp, CompareVectorsOp, Elem, InterleaveOp, ModePart,
@@ -21,76 +21,76 @@ use sve_table::{
 // ---- an operand by its name without the size of its elements
 
 macro_rules! in_t {
-    (zd) => { place!(zd_t) };
-    (zn) => { place!(zn_t) };
-    (zm) => { place!(zm_t) };
-    (pd) => { place!(pd_t) };
-    (pn) => { place!(pn_t) };
-    ($other:ident) => { place!($other) };
+    (zd) => { index_of!(zd_t) };
+    (zn) => { index_of!(zn_t) };
+    (zm) => { index_of!(zm_t) };
+    (pd) => { index_of!(pd_t) };
+    (pn) => { index_of!(pn_t) };
+    ($other:ident) => { index_of!($other) };
 }
 
 macro_rules! in_b {
-    (zd) => { place!(zd_b) };
-    (zn) => { place!(zn_b) };
-    (zm) => { place!(zm_b) };
-    (vd) => { place!(vd_b) };
-    ($other:ident) => { place!($other) };
+    (zd) => { index_of!(zd_b) };
+    (zn) => { index_of!(zn_b) };
+    (zm) => { index_of!(zm_b) };
+    (vd) => { index_of!(vd_b) };
+    ($other:ident) => { index_of!($other) };
 }
 
 // halfwords, and their halves
 macro_rules! in_h {
-    (zd) => { place!(zd_h) };
-    (zn) => { place!(zn_h) };
-    (zm) => { place!(zm_h) };
-    (zn_u) => { place!(zn_b) };
-    (zm_u) => { place!(zm_b) };
-    (vd) => { place!(vd_h) };
-    ($other:ident) => { place!($other) };
+    (zd) => { index_of!(zd_h) };
+    (zn) => { index_of!(zn_h) };
+    (zm) => { index_of!(zm_h) };
+    (zn_u) => { index_of!(zn_b) };
+    (zm_u) => { index_of!(zm_b) };
+    (vd) => { index_of!(vd_h) };
+    ($other:ident) => { index_of!($other) };
 }
 
 // words, with W registers
 macro_rules! in_s {
-    (zd) => { place!(zd_s) };
-    (zn) => { place!(zn_s) };
-    (vd) => { place!(vd_s) };
-    (rd) => { place!(wd) };
-    (rn) => { place!(wn) };
-    (rn_sp) => { place!(wn_sp) };
-    (rm) => { place!(wm) };
-    ($other:ident) => { place!($other) };
+    (zd) => { index_of!(zd_s) };
+    (zn) => { index_of!(zn_s) };
+    (vd) => { index_of!(vd_s) };
+    (rd) => { index_of!(wd) };
+    (rn) => { index_of!(wn) };
+    (rn_sp) => { index_of!(wn_sp) };
+    (rm) => { index_of!(wm) };
+    ($other:ident) => { index_of!($other) };
 }
 
 // doublewords, with X registers
 macro_rules! in_d {
-    (zd) => { place!(zd_d) };
-    (zn) => { place!(zn_d) };
-    (zm) => { place!(zm_d) };
-    (vd) => { place!(vd_d) };
-    (rd) => { place!(xd) };
-    (rn) => { place!(xn) };
-    (rn_sp) => { place!(xn_sp) };
-    (rm) => { place!(xm) };
-    ($other:ident) => { place!($other) };
+    (zd) => { index_of!(zd_d) };
+    (zn) => { index_of!(zn_d) };
+    (zm) => { index_of!(zm_d) };
+    (vd) => { index_of!(vd_d) };
+    (rd) => { index_of!(xd) };
+    (rn) => { index_of!(xn) };
+    (rn_sp) => { index_of!(xn_sp) };
+    (rm) => { index_of!(xm) };
+    ($other:ident) => { index_of!($other) };
 }
 
 // bytes and halfwords, with W registers
 macro_rules! in_bh {
-    (zd) => { place!(zd_bh) };
-    (zn) => { place!(zn_bh) };
-    (rd) => { place!(wd) };
-    (rn) => { place!(wn) };
-    (rn_sp) => { place!(wn_sp) };
-    (rm) => { place!(wm) };
-    ($other:ident) => { place!($other) };
+    (zd) => { index_of!(zd_bh) };
+    (zn) => { index_of!(zn_bh) };
+    (rd) => { index_of!(wd) };
+    (rn) => { index_of!(wn) };
+    (rn_sp) => { index_of!(wn_sp) };
+    (rm) => { index_of!(wm) };
+    ($other:ident) => { index_of!($other) };
 }
 
 // words and doublewords, and their halves
 macro_rules! in_sd {
-    (zd) => { place!(zd_sd) };
-    (zn) => { place!(zn_sd) };
-    (zn_u) => { place!(zn_half) };
-    (zm_u) => { place!(zm_half) };
-    ($other:ident) => { place!($other) };
+    (zd) => { index_of!(zd_sd) };
+    (zn) => { index_of!(zn_sd) };
+    (zn_u) => { index_of!(zn_half) };
+    (zm_u) => { index_of!(zm_half) };
+    ($other:ident) => { index_of!($other) };
 }
 
 // ---- the forms of a line
@@ -147,9 +147,9 @@ macro_rules! low_parts {
 macro_rules! with_flags {
     ($($name:ident $flagged:ident $op:ident;)*) => {
         [$(
-            text!(place print [$name] G34(PredicateForm::Logical(PredicateLogicalOp::$op)) [FLAGS=0]
+            text!(index_of print [$name] G34(PredicateForm::Logical(PredicateLogicalOp::$op)) [FLAGS=0]
                 (pd_b, pg4 slash z, pn_b, pm_b)),
-            text!(place print [$flagged] G34(PredicateForm::Logical(PredicateLogicalOp::$op)) [FLAGS=1]
+            text!(index_of print [$flagged] G34(PredicateForm::Logical(PredicateLogicalOp::$op)) [FLAGS=1]
                 (pd_b, pg4 slash z, pn_b, pm_b))
         ),*]
     };
@@ -158,14 +158,14 @@ macro_rules! with_flags {
 macro_rules! counts {
     ($($b:ident $h:ident $w:ident $d:ident: $group:ident($($op:tt)*);)*) => {
         [$(
-            text!(place print [$b] $group($($op)*) [SIZE=0 MULTIPLIER=0] (xd, pattern)),
-            text!(place print [$b] $group($($op)*) [SIZE=0] (xd, pattern, mul multiplier)),
-            text!(place print [$h] $group($($op)*) [SIZE=1 MULTIPLIER=0] (xd, pattern)),
-            text!(place print [$h] $group($($op)*) [SIZE=1] (xd, pattern, mul multiplier)),
-            text!(place print [$w] $group($($op)*) [SIZE=2 MULTIPLIER=0] (xd, pattern)),
-            text!(place print [$w] $group($($op)*) [SIZE=2] (xd, pattern, mul multiplier)),
-            text!(place print [$d] $group($($op)*) [SIZE=3 MULTIPLIER=0] (xd, pattern)),
-            text!(place print [$d] $group($($op)*) [SIZE=3] (xd, pattern, mul multiplier))
+            text!(index_of print [$b] $group($($op)*) [SIZE=0 MULTIPLIER=0] (xd, pattern)),
+            text!(index_of print [$b] $group($($op)*) [SIZE=0] (xd, pattern, mul multiplier)),
+            text!(index_of print [$h] $group($($op)*) [SIZE=1 MULTIPLIER=0] (xd, pattern)),
+            text!(index_of print [$h] $group($($op)*) [SIZE=1] (xd, pattern, mul multiplier)),
+            text!(index_of print [$w] $group($($op)*) [SIZE=2 MULTIPLIER=0] (xd, pattern)),
+            text!(index_of print [$w] $group($($op)*) [SIZE=2] (xd, pattern, mul multiplier)),
+            text!(index_of print [$d] $group($($op)*) [SIZE=3 MULTIPLIER=0] (xd, pattern)),
+            text!(index_of print [$d] $group($($op)*) [SIZE=3] (xd, pattern, mul multiplier))
         ),*]
     };
 }
@@ -173,11 +173,11 @@ macro_rules! counts {
 macro_rules! loads {
     ($($name:ident $dtype:literal ($zt:ident) ($($shift:tt)*);)*) => {
         [$(
-            text!(place print [$name] G37(AccessForm::LoadVectors) [DTYPE=$dtype IMM4=0]
+            text!(index_of print [$name] G37(AccessForm::LoadVectors) [DTYPE=$dtype IMM4=0]
                 (brace $zt brace_end, pg slash z, open xn_sp close)),
-            text!(place print [$name] G37(AccessForm::LoadVectors) [DTYPE=$dtype]
+            text!(index_of print [$name] G37(AccessForm::LoadVectors) [DTYPE=$dtype]
                 (brace $zt brace_end, pg slash z, open xn_sp, signed4, mul vl close)),
-            text!(place print [$name] G37(AccessForm::LoadRegister) [DTYPE=$dtype]
+            text!(index_of print [$name] G37(AccessForm::LoadRegister) [DTYPE=$dtype]
                 (brace $zt brace_end, pg slash z, open xn_sp, xm_given $($shift)* close))
         ),*]
     };
@@ -186,11 +186,11 @@ macro_rules! loads {
 macro_rules! stores {
     ($($name:ident $form:ident [$($memory:tt)*] [$($set:tt)*] ($zt:ident) ($($shift:tt)*);)*) => {
         [$(
-            text!(place print [$name] G37(AccessForm::StoreVectors) [$($memory)* IMM4=0]
+            text!(index_of print [$name] G37(AccessForm::StoreVectors) [$($memory)* IMM4=0]
                 (brace $zt brace_end, pg, open xn_sp close)),
-            text!(place print [$name] G37(AccessForm::StoreVectors) [$($memory)*]
+            text!(index_of print [$name] G37(AccessForm::StoreVectors) [$($memory)*]
                 (brace $zt brace_end, pg, open xn_sp, signed4, mul vl close)),
-            text!(place print [$name] G37(AccessForm::$form) [$($set)*]
+            text!(index_of print [$name] G37(AccessForm::$form) [$($set)*]
                 (brace $zt brace_end, pg, open xn_sp, xm_given $($shift)* close))
         ),*]
     };
@@ -199,8 +199,8 @@ macro_rules! stores {
 macro_rules! whole_registers {
     ($($name:ident $form:ident $store:literal ($rt:ident);)*) => {
         [$(
-            text!(place print [$name] G37(AccessForm::$form($store)) [IMM9=0] ($rt, open xn_sp close)),
-            text!(place print [$name] G37(AccessForm::$form($store)) []
+            text!(index_of print [$name] G37(AccessForm::$form($store)) [IMM9=0] ($rt, open xn_sp close)),
+            text!(index_of print [$name] G37(AccessForm::$form($store)) []
                 ($rt, open xn_sp, signed9, mul vl close))
         ),*]
     };
@@ -209,13 +209,13 @@ macro_rules! whole_registers {
 macro_rules! slices {
     ($($load:ident $store:ident $size:ident ($h:ident $v:ident) $index:ident ($($shift:tt)*);)*) => {
         [$(
-            text!(place print [$load] G41(false, Elem::$size) [VERTICAL=0]
+            text!(index_of print [$load] G41(false, Elem::$size) [VERTICAL=0]
                 (brace $h open rv, $index close brace_end, pg slash z, open xn_sp, xm $($shift)* close)),
-            text!(place print [$load] G41(false, Elem::$size) [VERTICAL=1]
+            text!(index_of print [$load] G41(false, Elem::$size) [VERTICAL=1]
                 (brace $v open rv, $index close brace_end, pg slash z, open xn_sp, xm $($shift)* close)),
-            text!(place print [$store] G41(true, Elem::$size) [VERTICAL=0]
+            text!(index_of print [$store] G41(true, Elem::$size) [VERTICAL=0]
                 (brace $h open rv, $index close brace_end, pg, open xn_sp, xm $($shift)* close)),
-            text!(place print [$store] G41(true, Elem::$size) [VERTICAL=1]
+            text!(index_of print [$store] G41(true, Elem::$size) [VERTICAL=1]
                 (brace $v open rv, $index close brace_end, pg, open xn_sp, xm $($shift)* close))
         ),*]
     };
@@ -225,13 +225,13 @@ macro_rules! moves {
     ($($size:ident $zd:ident $zn:ident ($h:ident $v:ident) $index:ident
         ($source_h:ident $source_v:ident) $source:ident;)*) => {
         [$(
-            text!(place print [mova] G42(true, Elem::$size) [VERTICAL=0]
+            text!(index_of print [mova] G42(true, Elem::$size) [VERTICAL=0]
                 ($h open rv, $index close, pg slash m, $zn)),
-            text!(place print [mova] G42(true, Elem::$size) [VERTICAL=1]
+            text!(index_of print [mova] G42(true, Elem::$size) [VERTICAL=1]
                 ($v open rv, $index close, pg slash m, $zn)),
-            text!(place print [mova] G42(false, Elem::$size) [VERTICAL=0]
+            text!(index_of print [mova] G42(false, Elem::$size) [VERTICAL=0]
                 ($zd, pg slash m, $source_h open rv, $source close)),
-            text!(place print [mova] G42(false, Elem::$size) [VERTICAL=1]
+            text!(index_of print [mova] G42(false, Elem::$size) [VERTICAL=1]
                 ($zd, pg slash m, $source_v open rv, $source close))
         ),*]
     };
@@ -240,13 +240,13 @@ macro_rules! moves {
 macro_rules! products {
     ($($sum:ident $difference:ident $op:ident;)*) => {
         [$(
-            text!(place print [$sum] G44(OuterProductOp::$op, false) [SUBTRACT=0]
+            text!(index_of print [$sum] G44(OuterProductOp::$op, false) [SUBTRACT=0]
                 (za_s, row_pn slash m, column_pm slash m, zn_b, zm_b)),
-            text!(place print [$difference] G44(OuterProductOp::$op, false) [SUBTRACT=1]
+            text!(index_of print [$difference] G44(OuterProductOp::$op, false) [SUBTRACT=1]
                 (za_s, row_pn slash m, column_pm slash m, zn_b, zm_b)),
-            text!(place print [$sum] G44(OuterProductOp::$op, true) [SUBTRACT=0]
+            text!(index_of print [$sum] G44(OuterProductOp::$op, true) [SUBTRACT=0]
                 (za_d, row_pn slash m, column_pm slash m, zn_h, zm_h)),
-            text!(place print [$difference] G44(OuterProductOp::$op, true) [SUBTRACT=1]
+            text!(index_of print [$difference] G44(OuterProductOp::$op, true) [SUBTRACT=1]
                 (za_d, row_pn slash m, column_pm slash m, zn_h, zm_h))
         ),*]
     };
@@ -255,7 +255,7 @@ macro_rules! products {
 macro_rules! plain {
     ($($name:ident: $group:ident($($op:tt)*) [$($set:tt)*] ($($item:tt)*);)*) => {
         [$(
-            text!(place print [$name] $group($($op)*) [$($set)*] ($($item)*))
+            text!(index_of print [$name] $group($($op)*) [$($set)*] ($($item)*))
         ),*]
     };
 }
