@@ -178,37 +178,71 @@ SAMPLE = "\n".join([
 ]).encode()
 
 
+# what may stand after `stop`, and what may not
+STOP_WORDS = [
+    b"exited 255", b"exited 256", b"none", b"killed 4294967295", b"killed 4294967296", b"badframe " + ZERO.encode(), b"budget", b"budget 1",
+    b"tracefull", b"outputfull",
+    *(f"raised {name} {h(4)}{value}".encode() for name, values in {
+        "undefined": ["", " 00000000", " 0000000", " 1e604000 "], "pcalign": ["", " 0"], "fetch": ["", f" {ZERO}"],
+        "data": ["", f" {ZERO}", f" {ZERO} read", f" {ZERO} none"], "spalign": [""], "align": ["", f" {ZERO}"],
+        "illegalstreaming": [""], "notstreaming": [""], "zainactive": [""], "breakpoint": ["", " 65535", " 65536"],
+        "shared": ["", f" {ZERO}"], "unaligned": [""]}.items() for value in values),
+]
 # where the second block begins, and where it ends
 SECOND = SAMPLE.index(b"thread 1")
 SHARED = SAMPLE.index(b"shared")
 
 
-def cases():
-    """Each line removed, doubled and swapped with the next, the report cut after it, its line feed taken away, a byte of it changed, and
-    fields that are just inside or outside of what they may be."""
-    starts = [0] + [i + 1 for i, byte in enumerate(SAMPLE) if byte == 10]
-    spans = list(zip(starts, starts[1:]))
+def line_moves(report, spans, k):
+    """The line removed, doubled and swapped with the next."""
+    start, end = spans[k]
+    yield start, end, b""
+    yield start, start, report[start:end]
+    if k + 1 < len(spans):
+        yield start, spans[k + 1][1], report[end:spans[k + 1][1]] + report[start:end]
+
+
+def line_ends(report, start, end):
+    """The report cut after the line, its line feed taken away, and bytes put into it."""
+    yield end, len(report), b""
+    yield end - 1, len(report), b""
+    yield start, start, b"\xff"
+    yield end - 1, end - 1, b" "
+    yield end - 1, end - 1, b"\xc3\xa9"
+
+
+def byte_changes(line, start):
+    """The bytes of the line at which something begins, and its last one, each changed."""
+    for i, byte in enumerate(line[:-1]):
+        if i == 0 or line[i - 1:i] in b" =-" or line[i:i + 1] in b" =" or i + 2 == len(line):
+            yield start + i, start + i + 1, {32: b"  ", 61: b":"}.get(byte, b"0" if byte not in b"0" else b"7")
+            if byte in b"0123456789abcdef":
+                yield start + i, start + i + 1, bytes([byte]).upper() if byte > 57 else b"g"
+                yield start + i, start + i, b"0"
+
+
+def spans_of(report):
+    """Where the lines of a report begin and end."""
+    starts = [0] + [i + 1 for i, byte in enumerate(report) if byte == 10]
+    return list(zip(starts, starts[1:]))
+
+
+def changes(report, kept=range(0)):
+    """Of each line of a report its changes; no byte is changed of those that begin in `kept`."""
+    spans = spans_of(report)
     yield 0, 0, b""
-    yield 0, len(SAMPLE), b""
+    yield 0, len(report), b""
     for k, (start, end) in enumerate(spans):
-        line = SAMPLE[start:end]
-        yield start, end, b""
-        yield start, start, line
-        if k + 1 < len(spans):
-            yield start, spans[k + 1][1], SAMPLE[end:spans[k + 1][1]] + line
-        yield end, len(SAMPLE), b""
-        yield end - 1, len(SAMPLE), b""
-        yield start, start, b"\xff"
-        yield end - 1, end - 1, b" "
-        yield end - 1, end - 1, b"\xc3\xa9"
-        if SECOND <= start < SHARED:
-            continue
-        for i, byte in enumerate(line[:-1]):
-            if i == 0 or line[i - 1:i] in b" =-" or line[i:i + 1] in b" =" or i + 2 == len(line):
-                yield start + i, start + i + 1, {32: b"  ", 61: b":"}.get(byte, b"0" if byte not in b"0" else b"7")
-                if byte in b"0123456789abcdef":
-                    yield start + i, start + i + 1, bytes([byte]).upper() if byte > 57 else b"g"
-                    yield start + i, start + i, b"0"
+        yield from line_moves(report, spans, k)
+        yield from line_ends(report, start, end)
+        if start not in kept:
+            yield from byte_changes(report[start:end], start)
+
+
+def cases():
+    """The changes of the sample, of whose second block no byte is changed, and fields that are just inside or outside of what they may
+    be."""
+    yield from changes(SAMPLE, range(SECOND, SHARED))
     fields = [
         (b"vl=128", b"vl=384"), (b"svl=256", b"svl=2048"), (b"slice=1000", b"slice=1000000"), (b"slice=1000", b"slice=1000001"),
         (b"budget=10000000", b"budget=4294967295"), (b"budget=10000000", b"budget=4294967296"), (b"budget=10000000", b"budget=0"),
@@ -224,14 +258,7 @@ def cases():
         (b"e cas", b"e mul"), (b"w 511", b"w 512"), (b"w 511", b"w 0"), (b"pending 1", b"pending 31"), (b"pending 1", b"pending 32"),
         (b"end-thread", b"end"), (b"end-thread", b"event"), (b"w 0", b"wx 0"), (b"pending 1", b"pendings 1"),
         (b"count 70\nturns 72", b"count 070\nturns \xff"), (b"count 70\nturns 72", b"count \xff\nturns 072"),
-        (b"exited 42", b"exited 255"), (b"exited 42", b"exited 256"), (b"exited 42", b"none"), (b"exited 42", b"killed 4294967295"),
-        (b"exited 42", b"killed 4294967296"), (b"exited 42", b"badframe " + ZERO.encode()), (b"exited 42", b"budget"),
-        (b"exited 42", b"budget 1"), (b"exited 42", b"tracefull"), (b"exited 42", b"outputfull"),
-        *((b"exited 42", f"raised {name} {h(4)}{value}".encode()) for name, values in {
-            "undefined": ["", " 00000000", " 0000000", " 1e604000 "], "pcalign": ["", " 0"], "fetch": ["", f" {ZERO}"],
-            "data": ["", f" {ZERO}", f" {ZERO} read", f" {ZERO} none"], "spalign": [""], "align": ["", f" {ZERO}"],
-            "illegalstreaming": [""], "notstreaming": [""], "zainactive": [""], "breakpoint": ["", " 65535", " 65536"],
-            "shared": ["", f" {ZERO}"], "unaligned": [""]}.items() for value in values),
+        *((b"exited 42", stop) for stop in STOP_WORDS),
     ]
     for old, new in fields:
         at = SAMPLE.index(old)

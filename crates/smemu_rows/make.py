@@ -1,5 +1,5 @@
 #!/usr/bin/env python3
-"""Makes the program files and the sources of data/, the texts that they are to give, and the list of them.
+"""Makes the program files and the sources of data/, the texts that they are to give, the list of them, and that of altered reports.
 
     crates/smemu_rows/make.py
 
@@ -17,6 +17,7 @@ from elf import (ALLOC, DYNAMIC, EXECINSTR, INTERP, LOAD, NOTE, STACK, STRTAB, S
                  mapping_symbols, sections_of, symbols, text_of)
 from expected import report
 from expected_replay import replay
+from altered import altered_list
 
 MOVZ, ADD, SUBS, B, SVC = 0xD2800000, 0x91000000, 0xF1000000, 0x54000000, 0xD4000001
 WIDE = 1 << 31
@@ -403,6 +404,12 @@ def signals():
     again = [0xF9002421, *RETURN]  # the X7 that the frame keeps is its address
     # after the return the frame is still there, and the thread is inside no handler
     yield "return-twice", handled(again, 0xB4000007, add(31, 7, 0), *RETURN), soon  # cbz x7, .
+    shares = [AT_SHARED, movz(4, 5), movz(5, 12), at_x3(STR, 4), at_x3(CAS, 5, 4), at_x3(LDR, 7), 0xB4FFFFE7,  # cbz x7, .-4
+              at_x3(LDADD, 9, 4), at_x3(SWP, 10, 5), at_x3(STR, 4) | 511 << 10, *call(64, (1, 0), AT_TEXT, (40, 0))]
+    keeps = [0xD503427F, 0x2538C122, 0x2518E3E1, 0x252C9000]  # smstop sm, dup z2.b, #9, ptrue p1.b, setffr
+    # it stops after the return of the lower signal: the other one is held, and another is pending
+    yield "shared-signals", handled([*call(131, (0, 0), (5, 0)), *RETURN], *shares, *modes, *keeps, posts=(5, 62), handlers=(5, 62),
+                                    end=(add(11, 11, 1), branch(14, -1))), {"slice": 40, "budget": 90, "svl": 128}
 
 
 # the words of vectors; the base of an access is X2, X3 or SP, its index X0 or X3, which are zero, and Z3 is not zero before it
@@ -743,6 +750,7 @@ def main():
     programs = list(assemblies())
     rows += [*signals(), *runs(programs), *vector_accesses(), *((name, file, {}) for name, file in matrix_stops())]
     rows = [(f"{name}.elf", 0, file, report(file, **options), {"run": "", **options}) for name, file, options in rows]
+    altered = altered_list({name.removesuffix(".elf"): (file, text.encode()) for name, _, file, text, _ in rows})
     rows += [(f"{name}.elf", 6, file, text, {"run": ""}) for name, file, text in refusals()]
     rows += [(f"listing-{name}.elf", status, file, text, {"dis": ""}) for name, file, status, text in listings()]
     rows += [(f"source-{name}.s", 7, source, text, {"asm": ""}) for name, source, text in source_refusals()]
@@ -761,8 +769,10 @@ def main():
         (data / f"{name}.txt").write_bytes(text if isinstance(text, bytes) else text.encode())
     words = lambda options: "".join(f" --{name} {value}" if value else f" {name}" for name, value in options.items())
     (data / "rows.txt").write_text("".join(f"{name} {status}{words(options)}\n" for name, status, _, _, options in rows))
-    (HERE / "stdout").write_text("".join(f"{name} agrees\n" for name, _, _, _, _ in rows))
-    print(f"{len(rows)} rows")
+    (data / "altered.txt").write_text(altered)
+    cases = altered.count("\t")
+    (HERE / "stdout").write_text("".join(f"{name} agrees\n" for name, _, _, _, _ in rows) + f"altered.txt: {cases} of {cases} altered reports agree\n")
+    print(f"{len(rows)} rows, {cases} altered reports")
 
 
 if __name__ == "__main__":

@@ -1,9 +1,13 @@
 //! Gives the files of a list to the emulator, each in memory, and compares what is written, and the status,
 //! with what the list says. Each line of `rows.txt` has a file's name, a status, a command and its other
 //! words; the text that is to be written stands in the file of that name with `.txt` behind it. Before the
-//! file stand the programs among the words, which are names of files in `.elf`.
+//! file stand the programs among the words, which are names of files in `.elf`. The reports of `altered.txt`
+//! are replayed after the rows.
 #![tactic(auto)]
 
+mod altered;
+
+use crate::altered::compare_altered;
 use anyhow::{Context, Result};
 use edge_io::{MemFiles, MemSink};
 use smemu::smemu_main;
@@ -56,9 +60,9 @@ fn agrees<R: Files + AllocGlobal>(rt: &R, name: &str, wanted: u8, words: &str) -
     Ok(status.code() == wanted && out.bytes() == text.as_slice())
 }
 
-fn main(rt: HostRuntime) -> Result<()> {
-    let rows = fs::read_to_string(&rt, "rows.txt").context("the list of rows")?;
-    for row in rows.as_str().lines() {
+/// Tells of each row of the list whether it agrees.
+fn compare_rows<R: Files + Print + AllocGlobal>(rt: &R, rows: &str) -> Result<()> {
+    for row in rows.lines() {
         let Some((name, rest)) = row.split_once(' ') else {
             println!(rt; "{row}: no status")?;
             continue;
@@ -68,11 +72,18 @@ fn main(rt: HostRuntime) -> Result<()> {
             continue;
         };
         let wanted = status.parse::<u8>().context("the status")?;
-        if agrees(&rt, name, wanted, words)? {
+        if agrees(rt, name, wanted, words)? {
             println!(rt; "{name} agrees")?;
         } else {
             println!(rt; "{name} DIFFERS")?;
         }
     }
     Ok(())
+}
+
+fn main(rt: HostRuntime) -> Result<()> {
+    let rows = fs::read_to_string(&rt, "rows.txt").context("the list of rows")?;
+    let altered = fs::read_to_string(&rt, "altered.txt").context("the list of altered reports")?;
+    compare_rows(&rt, rows.as_str())?;
+    compare_altered(&rt, altered.as_str())
 }
