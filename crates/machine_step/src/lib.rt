@@ -8,6 +8,7 @@ mod decoder;
 mod executed;
 mod machine;
 mod mode;
+mod registers;
 mod scalar;
 mod step;
 mod system;

@@ -149,8 +149,18 @@ impl Machine {
         ensures number { P.number ticket.new ≡ Some thread }
         ensures belongs { P.ticket_name ticket.new ≡ P.name port.new }
     {
-        let executed = self.execute_on_bank(known, bank);
-        self.finish(executed, port, ticket, thread, room)
+        let word = match self.fetch_word() {
+            Ok(word) => word,
+            Err(exception) => return StepEnd::Raise(exception),
+        };
+        let Some(insn) = known.instruction(word) else {
+            return StepEnd::Raise(Exception::Undefined(word));
+        };
+        if self.compute(word, insn, bank) {
+            return StepEnd::Next(None);
+        }
+        let executed = self.execute_on(word, insn, bank);
+        self.finish(&executed, port, ticket, thread, room)
     }
 
     /// Executes the instruction at PC, which may be known, without a bank.
@@ -179,31 +189,31 @@ impl Machine {
         ensures belongs { P.ticket_name ticket.new ≡ P.name port.new }
     {
         let executed = self.execute_without_bank(known);
-        self.finish(executed, port, ticket, thread, room)
+        self.finish(&executed, port, ticket, thread, room)
     }
 
     /// What a step answers whose instruction came to this; the port is asked where that asks an operation.
     #[inline]
     fn finish<P: Port>(
         &mut self,
-        executed: Executed,
+        executed: &Executed,
         port: &mut P,
         ticket: &mut P::Ticket,
         thread: u32,
         room: bool,
     ) -> StepEnd
-        requires asked { AsksWell self.old executed }
+        requires asked { AsksWell self.old executed.now }
         requires number { P.number ticket.old ≡ Some thread }
         requires belongs { P.ticket_name ticket.old ≡ P.name port.old }
         ensures tells { (bank : VectorState) (effect : Effect) (old : ProcessorState)
-            → Steps effect old (core_of self.old bank) executed
+            → Steps effect old (core_of self.old bank) executed.now
             → Tells (record {
               ends = P.ends port.old ticket.old;
               strays = P.strays port.old ticket.old;
               takes_memory = P.takes_memory;
             }) room effect old (core_of self.new bank) result }
-        ensures needs { executed ≡ Executed.NeedsBank → (result ≡ StepEnd.NeedsBank) × (self.new ≡ self.old) }
-        ensures memory { result ≡ StepEnd.Memory → executed ≢ Executed.Memory → P.takes_memory }
+        ensures needs { executed.now ≡ Executed.NeedsBank → (result ≡ StepEnd.NeedsBank) × (self.new ≡ self.old) }
+        ensures memory { result ≡ StepEnd.Memory → executed.now ≢ Executed.Memory → P.takes_memory }
         ensures pages { self.new.pages ≡ self.old.pages }
         ensures mode { KeepsMode self.old self.new }
         ensures gives { Chain P.gives port.old ticket.old (entries_of thread
@@ -214,9 +224,9 @@ impl Machine {
     {
         match executed {
             Executed::Next => StepEnd::Next(None),
-            Executed::Call(number) => StepEnd::Call(number),
-            Executed::Raise(exception) => StepEnd::Raise(exception),
-            Executed::Ask(insn, op) => self.ask(&insn, op, port, ticket, thread, room),
+            Executed::Call(number) => StepEnd::Call(*number),
+            Executed::Raise(exception) => StepEnd::Raise(*exception),
+            Executed::Ask(insn, op) => self.ask(insn, *op, port, ticket, thread, room),
             Executed::NeedsBank => StepEnd::NeedsBank,
             Executed::Memory => StepEnd::Memory,
         }
