@@ -287,7 +287,8 @@ next_put p line lines offset h =
     }
 
 -- the line that put a byte, and that the mapping symbols say of the byte whether the line is an instruction
-pub record Told (p : LocationCounter) (before : Option Content) (best : Option Mapping) (lines : List SourceLine) (offset : ℕ) : Type 0 where
+pub record Told (p : LocationCounter) (before : Option Content) (best : Option Mapping) (lines : List SourceLine)
+    (offset : ℕ) : Type 0 where
   pub put : Put p lines offset
   pub kind : mapping_says_code (governing_mapping (text_address + offset) best (mappings_from p before lines))
       ≡ is_instruction put.line.says
@@ -300,7 +301,8 @@ text_is-filled : (p : LocationCounter) (says : Says) (before : Option Content) �
 unfolding text_is
 text_is-filled p says before e = rw e refl
 
-text_is-unfilled : (p : LocationCounter) (says : Says) (before : Option Content) → fills_text p says ≡ false → text_is p says before ≡ before
+text_is-unfilled : (p : LocationCounter) (says : Says) (before : Option Content) → fills_text p says ≡ false
+    → text_is p says before ≡ before
 unfolding text_is
 text_is-unfilled p says before e = rw e refl
 

@@ -1,5 +1,5 @@
-//! The instructions that read and write registers alone. They neither raise nor ask, once the modes allow them,
-//! so that a step does not look at what they came to.
+//! The instructions that read and write registers alone. Once the modes allow them they neither raise nor ask,
+//! and so a step looks at what they came to no further.
 ghost use Rattle.std.specs.Prelude.{ℕ, ◌≡◌, Some, true, false};
 ghost use Rattle.a64_encode.specs.Either.{instruction_of};
 ghost use Rattle.a64_table.specs.Ranges.{IsInRow};
@@ -21,8 +21,8 @@ impl Machine {
     pub(crate) fn compute(&mut self, word: u32, insn: &Insn, bank: &mut Bank) -> bool
         requires means { instruction_of word ≡ Some insn.now }
         requires mode { IsInMode bank.old self.old }
-        ensures done { result ≡ true → StepsOn (effect_of_insn word insn.now) self.old bank.old self.new bank.new
-            Executed.Next }
+        ensures done { result ≡ true
+            → StepsOn (effect_of_insn word insn.now) self.old bank.old self.new bank.new Executed.Next }
         ensures waits { result ≡ false → (self.new ≡ self.old) × (bank.new ≡ bank.old) }
         ensures same { IsSameBank bank.old bank.new }
         ensures mode { IsInMode bank.new self.new }

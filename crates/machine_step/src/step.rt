@@ -212,7 +212,8 @@ impl Machine {
               strays = P.strays port.old ticket.old;
               takes_memory = P.takes_memory;
             }) room effect old (core_of self.new bank) result }
-        ensures needs { executed.now ≡ Executed.NeedsBank → (result ≡ StepEnd.NeedsBank) × (self.new ≡ self.old) }
+        ensures needs { executed.now ≡ Executed.NeedsBank
+            → (result ≡ StepEnd.NeedsBank) × (self.new ≡ self.old) }
         ensures memory { result ≡ StepEnd.Memory → executed.now ≢ Executed.Memory → P.takes_memory }
         ensures pages { self.new.pages ≡ self.old.pages }
         ensures mode { KeepsMode self.old self.new }
