@@ -11,7 +11,7 @@ use Rattle.asm_core.specs.declared.fault.AsmFault.{AsmFault}
 use Rattle.asm_core.specs.declared.location_counter.LocationCounter.{LocationCounter}
 use Rattle.asm_core.specs.declared.object_parts.Parts.{Parts}
 use Rattle.asm_core.specs.declared.emit_lines.Emission.{Emission}
-use Rattle.asm_core.specs.declared.symbols.Content.{Content}
+use Rattle.sm_types.specs.declared.object.Content.{Content}
 use Rattle.asm_core.specs.Source.{said_lines}
 use Rattle.asm_core.specs.Layout.{Label, first_counter, here, here_in, grown_in, size_of, counter_after, counter_past, counter_of}
 use Rattle.asm_core.specs.Layout.{labels_of}

@@ -9,7 +9,7 @@ use Rattle.sm_types.specs.declared.object.Object.{Object}
 use Rattle.sm_types.specs.declared.object.Section.{Section}
 use Rattle.sm_types.specs.declared.object.Section.TheVariants.{Text}
 use Rattle.sm_types.specs.Bytes.{little_number as little}
-use Rattle.sm_types.specs.Objects.{text_address, mappings_of, governing_mapping, mapping_says_code, is_text_code, text_word, object_word}
+use Rattle.sm_types.specs.Objects.{text_address, mappings_of, governing_mapping, mapping_says, is_code, text_content, is_text_code, text_word, object_word}
 use Rattle.sm_types.specs.Objects.{object_code}
 use Rattle.a64_encode.specs.Either.{instruction_of}
 use Rattle.asm_parser.specs.declared.line.LineFault.{LineFault}
@@ -174,7 +174,7 @@ module _ (texts : List (List ℕ)) (accepted : lines_fault 1 first_counter [] te
   code_listed : (n : ℕ) → 4 * n < length object.text_bytes.items
       → is_text_code (mappings_of object.symbols.items) (text_address + 4 * n) ≡ true
       → is_some (instruction_of (text_word object.text_bytes.items (4 * n))) ≡ true
-  unfolding is_text_code
+  unfolding is_text_code text_content
   code_listed n l code =
       let lines = said_lines texts in
       let inside : 4 * n < (counter_past first_counter lines).text_size = subst (λ m. 4 * n < m) is.text_size l in
@@ -184,7 +184,7 @@ module _ (texts : List (List ℕ)) (accepted : lines_fault 1 first_counter [] te
       mappings_said object.symbols.items ∙ ap (filter_map _) is.symbols
       ∙ line_mappings_said (text_length_of lines) first_counter None lines in
       let instruction : is_instruction t.put.line.says ≡ true =
-      sym t.kind ∙ sym (ap (λ ms. mapping_says_code (governing_mapping (text_address + 4 * n) None ms)) mappings) ∙ code in
+      sym t.kind ∙ sym (ap (λ ms. is_code (mapping_says (governing_mapping (text_address + 4 * n) None ms))) mappings) ∙ code in
       let puts : Puts (text_length_of lines) (labels_of lines) object.text_bytes.items p t.put.line.says =
       subst (λ (part : Section). Puts (text_length_of lines) (labels_of lines) (part_bytes object part) p t.put.line.says) t.put.in_text
       (is.puts t.put.k t.put.line t.put.listed) in

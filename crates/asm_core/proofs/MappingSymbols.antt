@@ -8,14 +8,14 @@ use Rattle.sm_types.specs.declared.object.Section.{Section}
 use Rattle.sm_types.specs.declared.object.Section.TheVariants.{Text, Data}
 use Rattle.sm_types.specs.declared.object.Symbol.{Symbol}
 use Rattle.sm_types.specs.Objects.{text_address, Mapping, mapping_at, says_in, name_says, symbol_says, mapping_of, mappings_of}
-use Rattle.sm_types.specs.Objects.{later_mapping, governing_mapping, mapping_says_code}
+use Rattle.sm_types.specs.Objects.{later_mapping, governing_mapping, mapping_says, is_code, is_same}
 use Rattle.asm_parser.specs.Statements.{Says, SourceLine}
 use Rattle.asm_core.specs.declared.location_counter.LocationCounter.{LocationCounter}
-use Rattle.asm_core.specs.declared.symbols.Content.{Content}
-use Rattle.asm_core.specs.declared.symbols.Content.TheVariants as content
+use Rattle.sm_types.specs.declared.object.Content.{Content}
+use Rattle.sm_types.specs.declared.object.Content.TheVariants as content
 use Rattle.asm_core.specs.Layout.{here_in, here, grown_in, size_of, counter_after, counter_past, address_in, address_here}
 use Rattle.asm_core.specs.Assembly.{SymbolSaid, symbol_said, label_symbol, is_instruction, content_of, fills_in, fills_text, text_is}
-use Rattle.asm_core.specs.Assembly.{is_same, mapping_name, mapping_symbol, symbols_from}
+use Rattle.asm_core.specs.Assembly.{mapping_name, mapping_symbol, symbols_from}
 
 -- ---- from symbols to mapping symbols
 
@@ -44,10 +44,6 @@ mapped_join (x ∷ xs) ys =
     ap (cons_option (mapping_said x)) (mapped_join xs ys)
     ∙ sym (cons_join (mapping_said x) (filter_map mapping_said xs) (filter_map mapping_said ys))
 
-abbrev is_code : Content → Bool
-is_code content.Code = true
-is_code content.Data = false
-
 code_content : (says : Says) → is_code (content_of says) ≡ is_instruction says
 unfolding content_of
 code_content says =
@@ -57,7 +53,7 @@ code_content says =
     ]
 
 abbrev mapping_to : ℕ → Content → Mapping
-mapping_to address content = record { address = address; code = is_code content }
+mapping_to address content = record { address = address; content = content }
 
 -- the mapping symbol of a line: where the text changes between code and data with it
 abbrev mapping_if : Bool → ℕ → Content → List Mapping
@@ -75,7 +71,7 @@ mappings_from p before (line ∷ lines) =
     line_mapping p line.says before ++ mappings_from (counter_after p line.says) (text_is p line.says before) lines
 
 -- a label that has a symbol is no mapping symbol
-no_mapping : (section : Section) (address : ℕ) (o : Option Bool) → is_none o ≡ true → mapping_at address (says_in section o) ≡ None
+no_mapping : (section : Section) (address : ℕ) (o : Option Content) → is_none o ≡ true → mapping_at address (says_in section o) ≡ None
 no_mapping Text address None e = refl
 no_mapping Data address None e = refl
 no_mapping section address (Some b) e = cc
@@ -202,7 +198,7 @@ later_mappings (line ∷ lines) p before best a l =
 -- the mapping symbol so far agrees with what the text is so far
 abbrev Agrees : Option Content → Option Mapping → ℕ → Type 0
 Agrees None best limit = best ≡ None
-Agrees (Some c) best limit = (m : Mapping) × (best ≡ Some m) × (m.code ≡ is_code c) × (m.address ≤ limit)
+Agrees (Some c) best limit = (m : Mapping) × (best ≡ Some m) × (m.content ≡ c) × (m.address ≤ limit)
 
 agrees_further : (before : Option Content) (best : Option Mapping) (m n : ℕ) → m ≤ n → Agrees before best m → Agrees before best n
 agrees_further None best m n l h = h
@@ -290,7 +286,7 @@ next_put p line lines offset h =
 pub record Told (p : LocationCounter) (before : Option Content) (best : Option Mapping) (lines : List SourceLine)
     (offset : ℕ) : Type 0 where
   pub put : Put p lines offset
-  pub kind : mapping_says_code (governing_mapping (text_address + offset) best (mappings_from p before lines))
+  pub kind : is_code (mapping_says (governing_mapping (text_address + offset) best (mappings_from p before lines)))
       ≡ is_instruction put.line.says
 
 low_or : (a b : ℕ) → (a < b) ⊎ (b ≤ a)
@@ -316,8 +312,8 @@ no_counter_left : (p : LocationCounter) (offset : ℕ) → p.text_size ≤ offse
 unfolding counter_past
 no_counter_left p offset from to = omega arith
 
-says_of_agreed : (c : Content) (now : Option Mapping) (limit : ℕ) → Agrees (Some c) now limit → mapping_says_code now ≡ is_code c
-says_of_agreed c now limit h = ap mapping_says_code h.1 ∙ h.2
+says_of_agreed : (c : Content) (now : Option Mapping) (limit : ℕ) → Agrees (Some c) now limit → mapping_says now ≡ c
+says_of_agreed c now limit h = ap mapping_says h.1 ∙ h.2
 
 -- each byte of the text was put by a line, and the mapping symbols say which
 pub told : (lines : List SourceLine) (p : LocationCounter) (before : Option Content) (best : Option Mapping) (offset : ℕ)
@@ -348,8 +344,8 @@ told (line ∷ lines) p before best offset h from to =
                 record {
                   put = first_put p line lines offset fills.in_text from (subst (λ n. offset < n) fills.grown here_put);
                   kind =
-                      ap mapping_says_code (governs ∙ over) ∙ says_of_agreed c m.now (text_address + p.text_size) m.agrees
-                      ∙ code_content line.says;
+                      ap (λ o. is_code (mapping_says o)) (governs ∙ over)
+                      ∙ ap is_code (says_of_agreed c m.now (text_address + p.text_size) m.agrees) ∙ code_content line.says;
                 }
             | inr past ↦
                 let g = text_grows p line.says in
@@ -357,7 +353,7 @@ told (line ∷ lines) p before best offset h from to =
                 told lines next (Some c) m.now offset
                 (agrees_further (Some c) m.now (text_address + p.text_size) (text_address + next.text_size) (omega arith) m.agrees)
                 past after in
-                record { put = next_put p line lines offset t.put; kind = ap mapping_says_code governs ∙ t.kind }
+                record { put = next_put p line lines offset t.put; kind = ap (λ o. is_code (mapping_says o)) governs ∙ t.kind }
           ]
       | false ↦ λ e.
           let same = unfilled p line.says e in
@@ -369,7 +365,7 @@ told (line ∷ lines) p before best offset h from to =
           (text_address + p.text_size) (content_of line.says) ++ mappings_from next (text_is-unfilled p line.says before e i) lines) in
           record {
             put = next_put p line lines offset t.put;
-            kind = ap (λ ms. mapping_says_code (governing_mapping a best ms)) mappings
+            kind = ap (λ ms. is_code (mapping_says (governing_mapping a best ms))) mappings
                 ∙ t.kind;
           }
     ] refl

@@ -10,13 +10,13 @@ use Rattle.sm_types.specs.declared.object.Section.{Section}
 use Rattle.sm_types.specs.declared.object.Section.TheVariants.{Text, Data}
 use Rattle.sm_types.specs.declared.object.Symbol.{Symbol}
 use Rattle.sm_types.specs.declared.object.Object.{Object}
-use Rattle.sm_types.specs.Objects.{name_says}
+use Rattle.sm_types.specs.declared.object.Content.{Content}
+use Rattle.sm_types.specs.declared.object.Content.TheVariants as content
+use Rattle.sm_types.specs.Objects.{name_says, is_same}
 use Rattle.a64_encode.specs.Either.{instruction_of}
 use Rattle.asm_parser.specs.Statements.{QuadValue, IsNumber, IsAddressOf, TargetSaid, Says, Nothing, IntoText}
 use Rattle.asm_parser.specs.Statements.{IntoData, Quads, Words, Bytes, Zeros, Aligns, Globals, Instructs}
 use Rattle.asm_parser.specs.Statements.{SourceLine}
-use Rattle.asm_core.specs.declared.symbols.Content.{Content}
-use Rattle.asm_core.specs.declared.symbols.Content.TheVariants as content
 use Rattle.asm_core.specs.Source.{lines_of, said_lines}
 use Rattle.asm_core.specs.declared.location_counter.LocationCounter.{LocationCounter}
 use Rattle.asm_core.specs.Layout.{first_counter, here, size_of, counter_after, counter_past, counter_of}
@@ -134,11 +134,6 @@ content_of says = if is_instruction says then content.Code else content.Data
 -- what the text is after a line: code, data, or nothing yet
 unfoldable pub text_is : LocationCounter → Says → Option Content → Option Content
 text_is p says before = if fills_text p says then Some (content_of says) else before
-
-abbrev pub is_same : Option Content → Content → Bool
-is_same (Some content.Code) content.Code = true
-is_same (Some content.Data) content.Data = true
-is_same before now = false
 
 abbrev pub mapping_name : Content → List ℕ
 mapping_name content.Code = codes "$x"

@@ -15,7 +15,7 @@ use Rattle.asm_core.specs.declared.location_counter.LocationCounter.{LocationCou
 use Rattle.asm_core.specs.declared.target_addresses.Addresses.{Addresses}
 use Rattle.asm_core.specs.declared.labels.LabelPosition.{LabelPosition}
 use Rattle.asm_core.specs.declared.object_parts.Parts.{Parts}
-use Rattle.asm_core.specs.declared.symbols.Content.{Content}
+use Rattle.sm_types.specs.declared.object.Content.{Content}
 use Rattle.asm_core.specs.Layout.{Label, here, size_of, address_here}
 use Rattle.asm_core.specs.Assembly.{numbers_bytes, quad_number, resolved, SymbolSaid, symbol_said}
 use Rattle.asm_core.specs.Assembly.{label_symbol}

@@ -16,10 +16,10 @@ use crate::fault::AsmFault;
 use crate::kept_words::{KeptWord, line_again};
 use crate::location_counter::{LocationCounter, counter_after, first_counter};
 use crate::object_parts::Parts;
-use crate::symbols::{Content, put_symbols, text_is};
+use crate::symbols::{put_symbols, text_is};
 use crate::target_addresses::Addresses;
 use asm_parser::{Line, Statement};
-use sm_types::Section;
+use sm_types::{Content, Section};
 use std::alloc::Global;
 
 /// What some lines have put: the parts, the location counter of the next line, and what the text is so far:

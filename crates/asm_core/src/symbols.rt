@@ -2,7 +2,7 @@
 //! and data.
 ghost use Rattle.std.specs.Prelude.{◌≡◌, ◌≤◌, ◌++◌, true, false, Some, None, map, is_some, OnOk, IfErr};
 ghost use Rattle.std.specs.Prelude.{option_map};
-ghost use Rattle.sm_types.specs.Objects.{name_says};
+ghost use Rattle.sm_types.specs.Objects.{is_same, name_says};
 ghost use Rattle.asm_parser.specs.Statements.{line_said, says_of};
 ghost use Rattle.asm_core.specs.Layout as layout;
 ghost use Rattle.asm_core.specs.Assembly as assembly;
@@ -13,15 +13,8 @@ use crate::fault::AsmFault;
 use crate::location_counter::{LocationCounter, here, size_of};
 use crate::target_addresses::address_in;
 use asm_parser::{Line, Statement};
-use sm_types::{Section, Symbol, Symbols, name_says};
+use sm_types::{Content, Section, Symbol, Symbols, name_says};
 use std::alloc::Global;
-
-/// What bytes of the text are, as a mapping symbol tells it: code (`$x`) or data (`$d`).
-#[derive(Clone, Copy, PartialEq, Eq)]
-pub enum Content {
-    Code,
-    Data,
-}
 
 /// Tells whether a name is a mapping symbol's.
 fn is_mapping_name(name: &[u8]) -> bool
@@ -72,7 +65,7 @@ pub fn text_is(
 
 /// Tells whether the text is already what the next bytes are.
 fn is_same(before: Option<Content>, now: Content) -> bool
-    ensures { result ≡ assembly.is_same before now }
+    ensures { result ≡ is_same before now }
 {
     before == Some(now)
 }

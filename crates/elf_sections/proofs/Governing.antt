@@ -1,7 +1,7 @@
 -- The mapping symbol that governs an address of a section, among the mapping symbols of all sections.
 use Rattle.std.proofs.Common.{◌≡◌, ℕ, ◌==◌, ◌&&◌, nat_le, Bool, true, false, cond, List, [], ◌∷◌, Option, Some, None, refl, sym, ap, ◌∙◌}
 use Rattle.std.specs.List.{filter_map, cons_option}
-use Rattle.sm_types.specs.Objects.{Mapping, later_mapping, governing_mapping, mapping_says_code}
+use Rattle.sm_types.specs.Objects.{Mapping, later_mapping, governing_mapping, mapping_says, is_code}
 use Rattle.elf_sections.specs.declared.mapping_symbols.MappingSymbol.{MappingSymbol}
 use Rattle.elf_sections.specs.MappingSymbols.{mapping_in, is_code_at}
 
@@ -17,10 +17,10 @@ governing section a best (m ∷ symbols) = governing section a (later section a 
 
 abbrev pub says_code : Option MappingSymbol → Bool
 says_code None = true
-says_code (Some m) = m.code
+says_code (Some m) = is_code m.content
 
 abbrev mapping_of : MappingSymbol → Mapping
-mapping_of m = record { address = m.value; code = m.code }
+mapping_of m = record { address = m.value; content = m.content }
 
 abbrev mapping_if : Option MappingSymbol → Option Mapping
 mapping_if None = None
@@ -55,10 +55,10 @@ governs s a best (m ∷ ms) = go (m.section == s) refl (λ o. governs s a o ms)
     go true e rest = ap (λ o. governing_mapping a o (filter_map (mapping_in s) ms)) (of_section s a best m e) ∙ rest (later s a best m)
     go false e rest = rest best ∙ ap (λ o. mapping_if (governing s a o ms)) (sym (of_other s a best m e))
 
-says : (o : Option MappingSymbol) → mapping_says_code (mapping_if o) ≡ says_code o
+says : (o : Option MappingSymbol) → is_code (mapping_says (mapping_if o)) ≡ says_code o
 says None = refl
 says (Some m) = refl
 
 pub code_at : (symbols : List MappingSymbol) (s a : ℕ) → is_code_at symbols s a ≡ says_code (governing s a None symbols)
 unfolding is_code_at
-code_at symbols s a = ap mapping_says_code (governs s a None symbols) ∙ says (governing s a None symbols)
+code_at symbols s a = ap (λ o. is_code (mapping_says o)) (governs s a None symbols) ∙ says (governing s a None symbols)

@@ -1,4 +1,4 @@
--- Marks sorted by section and value.
+-- Mapping symbols sorted by section and value.
 use Rattle.std.proofs.Common.{◌⊎◌, inl, inr, ◌≡◌, ℕ, ◌<◌, ◌≤◌, Bool, true, false, not, List, [], ◌∷◌, length, get_or, Option, Some, None}
 use Rattle.std.proofs.Common.{refl, ap, sym, ◌∙◌, arith}
 use Rattle.std.specs.Prelude.{◌==◌, ◌&&◌, filter}
@@ -10,6 +10,7 @@ use Rattle.std.proofs.lemmas.List.Elements.{filter_agree}
 use Rattle.std.proofs.lemmas.Bool.{cases_Bool}
 use Rattle.std.proofs.lemmas.Bool.Decides.{nat_tests}
 use Rattle.std.specs.Option.{option_or}
+use Rattle.sm_types.specs.declared.object.Content.TheVariants.{Code}
 use Rattle.elf_sections.specs.declared.mapping_symbols.MappingSymbol.{MappingSymbol}
 use Rattle.elf_sections.specs.SymbolOrder.{is_symbol_of, last_symbol, SayTheSame, AreSymbolsInOrder}
 
@@ -63,7 +64,7 @@ last_symbol-filter s v (m ∷ symbols) =
 -- a stable sort keeps the last mapping symbol of each section and value
 pub same-sorted : (old new : List MappingSymbol) → IsStableBy is_before old new → SayTheSame new old
 same-sorted old new stable = λ s v.
-    let x : MappingSymbol = record { section = s; value = v; code = true } in
+    let x : MappingSymbol = record { section = s; value = v; content = Code } in
     let agree : (m : MappingSymbol) → is_symbol_of s v m ≡ ties is_before x m = λ m. sym (ties_test s v m.section m.value) in
     last_symbol-filter s v new ∙ ap last_of (filter_agree (is_symbol_of s v) (ties is_before x) agree new ∙ stable x
     ∙ sym (filter_agree (is_symbol_of s v) (ties is_before x) agree old)) ∙ sym (last_symbol-filter s v old)

@@ -8,6 +8,8 @@ use Rattle.std.proofs.lemmas.Bool.Decides.{nat_tests}
 use Rattle.std.proofs.lemmas.List.{get_or-take, get_or-drop, length-take, length-drop, take-append-drop, get_or_default}
 use Rattle.std.proofs.lemmas.List.Folds.{list_any-append}
 use Rattle.std.specs.Option.{option_or}
+use Rattle.sm_types.specs.declared.object.Content.TheVariants.{Code}
+use Rattle.sm_types.specs.Objects.{is_code}
 use Rattle.elf_sections.specs.declared.mapping_symbols.MappingSymbol.{MappingSymbol}
 use Rattle.elf_sections.specs.declared.word_ranges.WordRange.{WordRange}
 use Rattle.elf_sections.specs.MappingSymbols.{is_code_at}
@@ -20,7 +22,7 @@ use Rattle.elf_sections.proofs.Saying.{last_symbol-append}
 
 -- the default that a read of a mapping symbol has
 abbrev pub no_symbol : MappingSymbol
-no_symbol = record { section = 0; value = 0; code = false }
+no_symbol = record { section = 0; value = 0; content = Code }
 
 or_none : (o : Option MappingSymbol) → option_or o None ≡ o
 or_none None = refl
@@ -93,7 +95,7 @@ code_from best [] (suc k) = says_code best
 code_from best (m ∷ symbols) (suc k) = code_from (Some m) symbols k
 
 pub code_from-next : (best : Option MappingSymbol) (symbols : List MappingSymbol) (k : ℕ) (d : MappingSymbol) → k < length symbols
-    → code_from best symbols (suc k) ≡ (get_or symbols k d).code
+    → code_from best symbols (suc k) ≡ is_code (get_or symbols k d).content
 code_from-next best [] k d l = absurd (omega arith)
 code_from-next best (m ∷ symbols) zero d l = refl
 code_from-next best (m ∷ symbols) (suc k) d l = code_from-next (Some m) symbols k d (omega arith)

@@ -4,7 +4,7 @@ use Rattle.std.specs.Prelude.{◌≡◌, ◌<◌, ◌≤◌, length, ℕ, zero, 
 use Rattle.std.specs.Prelude.{◌∷◌}
 use Rattle.std.specs.Prelude.{◌++◌, drop, Option, Some, None, option_map, ◌==◌}
 use Rattle.std.specs.List.{filter_map}
-use Rattle.sm_types.specs.Objects.{name_says, Mapping, governing_mapping, mapping_says_code}
+use Rattle.sm_types.specs.Objects.{name_says, Mapping, governing_mapping, mapping_says, is_code}
 use Rattle.elf_headers.specs.Below.{answers_below}
 use Rattle.elf_headers.specs.Header.{number_at}
 use Rattle.elf_sections.specs.declared.section.SectionHeader.{SectionHeader}
@@ -33,10 +33,10 @@ name_offset file strings offset = strings.offset + number_at file offset 4
 -- the symbol at an offset, by its st_shndx and st_value, where its name is a mapping symbol's
 unfoldable pub mapping_symbol_at : List ℕ → SectionHeader → ℕ → Option MappingSymbol
 mapping_symbol_at file strings offset =
-    option_map (λ code. record {
+    option_map (λ says. record {
       section = number_at file (offset + 6) 2;
       value = number_at file (offset + 8) 8;
-      code = code;
+      content = says;
     })
     (name_says (name_in file (name_offset file strings offset)))
 
@@ -62,9 +62,10 @@ mapping_symbols_of file = mapping_symbols_below file (section_count file)
 -- what a mapping symbol says of the section: code or data from its value on; one of another section says
 -- nothing
 abbrev pub mapping_in : ℕ → MappingSymbol → Option Mapping
-mapping_in section m = cond (m.section == section) (Some (record { address = m.value; code = m.code })) None
+mapping_in section m =
+    cond (m.section == section) (Some (record { address = m.value; content = m.content })) None
 
 -- by these mapping symbols the byte at an address of the section begins code
 unfoldable pub is_code_at : List MappingSymbol → ℕ → ℕ → Bool
 is_code_at symbols section a =
-    mapping_says_code (governing_mapping a None (filter_map (mapping_in section) symbols))
+    is_code (mapping_says (governing_mapping a None (filter_map (mapping_in section) symbols)))

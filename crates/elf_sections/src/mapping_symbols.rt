@@ -14,14 +14,15 @@ ghost use Rattle.elf_sections.specs.FirstBytes.{is_mapping_name};
 use crate::elf::SYMBOL_SIZE;
 use crate::section::{SectionHeader, count_sections, read_section, repeats_before};
 use elf_headers::{u8_at, u16_at, u32_at, u64_at};
+use sm_types::Content;
 use std::alloc::{AllocError, Global};
 
-/// A mapping symbol: code or data begins at its value, in the section of that number.
+/// A mapping symbol: its content begins at its value, in the section of that number.
 #[derive(Clone, Copy, Drop)]
 pub struct MappingSymbol {
     pub section: u16,
     pub value: u64,
-    pub code: bool,
+    pub content: Content,
 }
 
 /// Tells whether the name at an offset is `$` and the letter, or these followed by `.` and a suffix.
@@ -38,14 +39,14 @@ fn names_mapping(file: &[u8], offset: usize, letter: u8) -> bool
 
 /// What the name at an offset says of the bytes from its symbol's address on.
 #[tactic(auto, using(crate::proofs::MappingNames::name_says_at))]
-fn name_says(file: &[u8], offset: usize) -> Option<bool>
+fn name_says(file: &[u8], offset: usize) -> Option<Content>
     requires ends { HasEnd file.now offset }
     ensures { result ≡ name_says (name_in file.now offset) }
 {
     if names_mapping(file, offset, b'x') {
-        Some(true)
+        Some(Content::Code)
     } else if names_mapping(file, offset, b'd') {
-        Some(false)
+        Some(Content::Data)
     } else {
         None
     }
@@ -61,10 +62,10 @@ fn read_mapping_symbol(file: &[u8], strings: &SectionHeader, offset: usize) -> O
 {
     let name = strings.offset as usize + u32_at(file, offset) as usize;
     match name_says(file, name) {
-        Some(code) => Some(MappingSymbol {
+        Some(content) => Some(MappingSymbol {
             section: u16_at(file, offset + 6),
             value: u64_at(file, offset + 8),
-            code,
+            content,
         }),
         None => None,
     }

@@ -75,7 +75,7 @@ fn add_code(
         let next = symbol.value.div_ceil(4);
         push_code(code, start, next.min(words.end), ranges)?;
         start = start.max(next);
-        code = symbol.code;
+        code = symbol.content.is_code();
     }
     push_code(code, start, words.end, ranges)
 }

@@ -7,7 +7,7 @@ use Rattle.std.proofs.lemmas.Bool.Decides.{nat_tests}
 use Rattle.std.proofs.lemmas.List.Elements.{filter_map-append}
 use Rattle.sm_types.specs.declared.object.Object.{Object}
 use Rattle.sm_types.specs.Bytes.{little_number as little}
-use Rattle.sm_types.specs.Objects.{text_address, text_word, object_word, object_code}
+use Rattle.sm_types.specs.Objects.{text_address, text_word, mappings_of, is_text_code, object_word, object_code}
 use Rattle.sm_types.specs.Bytes.{little_number}
 use Rattle.paged_memory.specs.Image.{or_zero, parts_byte}
 use Rattle.elf_headers.specs.Below.{answers, answers_below, any_below}
@@ -21,7 +21,7 @@ use Rattle.elf_sections.proofs.AnswersBelow.{answers_below-gap}
 use Rattle.elf_writer.specs.declared.layout.Layout.{Layout}
 use Rattle.elf_writer.specs.declared.mapping_symbols.TextMapping.{TextMapping}
 use Rattle.elf_writer.specs.Layout.{no_section, text_section, data_section, symbols_section, strings_section}
-use Rattle.elf_writer.specs.TextMappings.{is_code_word, text_mappings}
+use Rattle.elf_writer.specs.TextMappings.{text_mappings}
 use Rattle.elf_writer.proofs.Reading.{IsFile, Reads, reads}
 use Rattle.elf_writer.proofs.Headers.{section_headers_offset-is, section_count-is, section_of-0, section_of-text, section_of-data}
 use Rattle.elf_writer.proofs.Headers.{section_of-symbols}
@@ -173,13 +173,13 @@ word-by test read a b word code e t r = rw (e, t, r) refl
 
 word-inside : (o : Object) (file : List ℕ) (l : Layout) → IsFile file l o.text_bytes.items o.data_bytes.items (text_mappings o) → (k : ℕ)
     → k < length o.text_bytes.items / 4 → code_word file (1048576 + k) ≡ object_word o k
-unfolding code_word object_word is_code_word
+unfolding code_word object_word
 word-inside o file l is k h =
     let at : 4 * (1048576 + k) ≡ text_address + 4 * k = omega arith in
     let t : nat_le text_address (text_address + 4 * k) ≡ true = grind (arith, nat_tests) in
     let ends : text_address + 4 * k + 4 ≤ text_address + l.text_size = omega (arith, is.text_size) in
     let u : nat_le (text_address + 4 * k + 4) (text_address + l.text_size) ≡ true = grind (arith, nat_tests) in
-    let is_code : code.is_code_word file (text_address + 4 * k) ≡ is_code_word o k =
+    let is_code : code.is_code_word file (text_address + 4 * k) ≡ is_text_code (mappings_of o.symbols.items) (text_address + 4 * k) =
     text_code file l o.text_bytes.items o.data_bytes.items (text_mappings o) is (text_address + 4 * k)
     ∙ inside (nat_le text_address (text_address + 4 * k)) (nat_le (text_address + 4 * k + 4) (text_address + l.text_size))
     (is_code_at (map as_mapping_symbol (text_mappings o)) 1 (text_address + 4 * k)) t u
@@ -187,7 +187,7 @@ word-inside o file l is k h =
     let word : loaded_word file (text_address + 4 * k) ≡ text_word o.text_bytes.items (4 * k) =
     loaded-is file l o.text_bytes.items o.data_bytes.items (text_mappings o) is (4 * k) (omega arith) in
     word-by (code.is_code_word file) (loaded_word file) (4 * (1048576 + k)) (text_address + 4 * k) (text_word o.text_bytes.items (4 * k))
-    (is_code_word o k) at is_code word
+    (is_text_code (mappings_of o.symbols.items) (text_address + 4 * k)) at is_code word
 
 has_table : (file : List ℕ) (l : Layout) → Reads file l → has_sections file ≡ true
 has_table file l r = rw (section_headers_offset-is file l r) refl

@@ -4,12 +4,13 @@ use Rattle.std.proofs.Common.{Option, Some, None, refl, ap, sym, ◌∙◌, arit
 use Rattle.std.specs.Prelude.{◌==◌, ◌&&◌, nat_le}
 use Rattle.std.proofs.lemmas.Bool.Decides.{nat_tests}
 use Rattle.std.specs.Option.{option_or as or_else}
+use Rattle.sm_types.specs.declared.object.Content.{Content}
 use Rattle.sm_types.specs.declared.object.Object.{Object}
-use Rattle.sm_types.specs.Objects.{Mapping, mappings_of, later_mapping, governing_mapping, mapping_says_code, is_text_code}
+use Rattle.sm_types.specs.Objects.{Mapping, mappings_of, later_mapping, governing_mapping, mapping_says, text_content, is_same}
 use Rattle.elf_headers.specs.Below.{answers, answers_below}
 use Rattle.elf_headers.proofs.Below.{answers_below-zero, answers_below-next, answers_below-same}
 use Rattle.elf_writer.specs.declared.mapping_symbols.TextMapping.{TextMapping}
-use Rattle.elf_writer.specs.TextMappings.{word_address, begins, text_mapping_at, is_code_word, text_mappings}
+use Rattle.elf_writer.specs.TextMappings.{word_address, text_mapping_at, word_content, text_mappings}
 use Rattle.elf_writer.specs.Slots.{as_mapping_if, newer, word_from, kept_at, says_word, slots_say, AreSlots}
 
 -- a mapping symbol's address is past a, or is not
@@ -140,14 +141,14 @@ governing_zero g (m ∷ ms) =
 
 -- ---- what the kept mapping symbols say
 
-says_first : (slot : Option TextMapping) → says_word None slot ≡ mapping_says_code (as_mapping_if slot)
+says_first : (slot : Option TextMapping) → says_word None slot ≡ mapping_says (as_mapping_if slot)
 says_first None = refl
 says_first (Some m) = refl
 
-says_next : (code : Bool) (slot : Option TextMapping) (g : Option Mapping) → code ≡ mapping_says_code g
-    → says_word (Some code) slot ≡ mapping_says_code (or_else (as_mapping_if slot) g)
-says_next code None g e = e
-says_next code (Some m) g e = refl
+says_next : (says : Content) (slot : Option TextMapping) (g : Option Mapping) → says ≡ mapping_says g
+    → says_word (Some says) slot ≡ mapping_says (or_else (as_mapping_if slot) g)
+says_next says None g e = e
+says_next says (Some m) g e = refl
 
 slots_say-first : (slots : List (Option TextMapping)) → slots_say slots 0 ≡ says_word None (get_or slots 0 None)
 unfolding slots_say
@@ -159,36 +160,36 @@ unfolding slots_say
 slots_say-next slots n = refl
 
 slots_govern : (slots : List (Option TextMapping)) (all : List Mapping) (n : ℕ) → AreSlots slots [] all → n < length slots
-    → slots_say slots n ≡ mapping_says_code (governing_mapping (word_address n) None all)
+    → slots_say slots n ≡ mapping_says (governing_mapping (word_address n) None all)
 slots_govern slots all zero are l =
-    slots_say-first slots ∙ says_first (get_or slots 0 None) ∙ ap mapping_says_code (are 0 l ∙ sym (governing_zero None all))
+    slots_say-first slots ∙ says_first (get_or slots 0 None) ∙ ap mapping_says (are 0 l ∙ sym (governing_zero None all))
 slots_govern slots all (suc n) are l =
     slots_say-next slots n ∙ says_next (slots_say slots n) (get_or slots (suc n) None) (governing_mapping (word_address n) None all)
     (slots_govern slots all n are (omega arith))
-    ∙ ap (λ o. mapping_says_code (or_else o (governing_mapping (word_address n) None all))) (are (suc n) l)
-    ∙ ap mapping_says_code (sym (governing_more n None None all tt tt))
+    ∙ ap (λ o. mapping_says (or_else o (governing_mapping (word_address n) None all))) (are (suc n) l)
+    ∙ ap mapping_says (sym (governing_more n None None all tt tt))
 
-slots_code : (o : Object) (slots : List (Option TextMapping)) (n : ℕ) → AreSlots slots [] (mappings_of o.symbols.items) → n < length slots
-    → slots_say slots n ≡ is_code_word o n
-unfolding is_code_word is_text_code
-slots_code o slots n are l = slots_govern slots (mappings_of o.symbols.items) n are l
+slots_content : (o : Object) (slots : List (Option TextMapping)) (n : ℕ) → AreSlots slots [] (mappings_of o.symbols.items)
+    → n < length slots → slots_say slots n ≡ word_content o n
+unfolding word_content text_content
+slots_content o slots n are l = slots_govern slots (mappings_of o.symbols.items) n are l
 
-text_mapping_at-same : (one two : ℕ → Bool) (count n : ℕ) → ((k : ℕ) → k < count → one k ≡ two k) → n < count
+text_mapping_at-same : (one two : ℕ → Content) (count n : ℕ) → ((k : ℕ) → k < count → one k ≡ two k) → n < count
     → text_mapping_at one n ≡ text_mapping_at two n
 unfolding text_mapping_at
 text_mapping_at-same one two count zero h l =
-    ap (λ c. cond (begins None c) (Some (record { address = word_address 0; code = c })) None) (h 0 l)
+    ap (λ c. cond (is_same None c) None (Some (record { address = word_address 0; content = c }))) (h 0 l)
 text_mapping_at-same one two count (suc n) h l =
-    λ i. cond (begins (Some (h n (omega arith) i)) (h (suc n) l i)) (Some (record { address = word_address (suc n); code = h (suc n) l i }))
-    None
+    λ i. cond (is_same (Some (h n (omega arith) i)) (h (suc n) l i)) None
+    (Some (record { address = word_address (suc n); content = h (suc n) l i }))
 
 pub mappings_listed : (o : Object) (slots : List (Option TextMapping)) → length slots ≡ length o.text_bytes.items / 4
     → AreSlots slots [] (mappings_of o.symbols.items) → answers_below (text_mapping_at (slots_say slots)) (length slots) ≡ text_mappings o
 unfolding text_mappings
 mappings_listed o slots e are =
-    answers_below-same (text_mapping_at (slots_say slots)) (text_mapping_at (is_code_word o)) (length slots)
-    (λ n b. text_mapping_at-same (slots_say slots) (is_code_word o) (length slots) n (λ k l. slots_code o slots k are l) b)
-    ∙ ap (answers_below (text_mapping_at (is_code_word o))) e
+    answers_below-same (text_mapping_at (slots_say slots)) (text_mapping_at (word_content o)) (length slots)
+    (λ n b. text_mapping_at-same (slots_say slots) (word_content o) (length slots) n (λ k l. slots_content o slots k are l) b)
+    ∙ ap (answers_below (text_mapping_at (word_content o))) e
 
 one_answer : {A : Type 0} (o : Option A) → length (answers o) ≤ 1
 one_answer None = omega arith
@@ -202,4 +203,4 @@ answers_few answer (suc n) =
 
 pub few_mappings : (o : Object) → length (text_mappings o) ≤ length o.text_bytes.items / 4
 unfolding text_mappings
-few_mappings o = answers_few (text_mapping_at (is_code_word o)) (length o.text_bytes.items / 4)
+few_mappings o = answers_few (text_mapping_at (word_content o)) (length o.text_bytes.items / 4)

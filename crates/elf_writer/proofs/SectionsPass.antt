@@ -1,5 +1,7 @@
 -- The sections of a file that was written pass all checks.
 use Rattle.sm_types.specs.Objects.{text_address}
+use Rattle.sm_types.specs.declared.object.Content.{Content}
+use Rattle.sm_types.specs.declared.object.Content.TheVariants as content
 use Rattle.std.proofs.Common.{◌≡◌, ℕ, zero, suc, ◌+◌, ◌-◌, ◌*◌, ◌/◌, ◌<◌, ◌≤◌, ◌⊎◌, inl, inr, Bool, true, false, List, [], ◌∷◌, length}
 use Rattle.std.proofs.Common.{get_or, Option, Some, None, refl, ap, ◌∙◌, arith}
 use Rattle.std.specs.Prelude.{◌==◌, ◌&&◌, ◌||◌, not, cond, nat_lt, nat_le, is_some, slice_get}
@@ -19,6 +21,7 @@ use Rattle.elf_sections.specs.Sections.{is_good_table, is_all_loaded, is_loaded,
 use Rattle.elf_sections.specs.Sections.{section_fault, has_sections, sections_fault}
 use Rattle.elf_writer.specs.declared.layout.Layout.{Layout}
 use Rattle.elf_writer.specs.declared.mapping_symbols.TextMapping.{TextMapping}
+use Rattle.elf_writer.specs.File.{name_index}
 use Rattle.elf_writer.specs.Layout.{no_section, text_section, data_section, symbols_section, strings_section, symbols_offset}
 use Rattle.elf_writer.proofs.Reading.{IsFile, Reads, reads, file-length, data_offset-after, symbols_offset-after}
 use Rattle.elf_writer.proofs.Headers.{section_headers_offset-is, section_header_size-is, section_count-is, section_of-0, section_of-text}
@@ -57,9 +60,9 @@ text_loaded file l text bytes mappings is =
 
 -- ---- the symbol table
 
-small_name : (b : Bool) → cond b 1 4 ≤ 6
-small_name true = omega arith
-small_name false = omega arith
+small_name : (c : Content) → name_index c ≤ 6
+small_name content.Code = omega arith
+small_name content.Data = omega arith
 
 name_low : (file : List ℕ) (l : Layout) (text bytes : List ℕ) (mappings : List TextMapping) → IsFile file l text bytes mappings
     → (k : ℕ) (d : TextMapping) → k < suc (length mappings) → number_at file (symbols_offset l + 24 * k) 4 ≤ 6
@@ -67,7 +70,7 @@ name_low file l text bytes mappings is zero d h = omega (arith, null_is file l t
 name_low file l text bytes mappings is (suc k) d h =
     let s : IsSymbol file (symbols_offset l + 24 * suc k) (get_or mappings k d) =
     symbol_is file l text bytes mappings is k d (omega arith) in
-    omega (arith, s.name, small_name (get_or mappings k d).code)
+    omega (arith, s.name, small_name (get_or mappings k d).content)
 
 name_ends : (file : List ℕ) (name : ℕ) → HasNames file → name ≤ 6 → ends_inside file (strings_section 560 7) name ≡ true
 unfolding ends_inside strings_section
@@ -76,7 +79,7 @@ name_ends file name h low =
     any_below-found (λ p. nat_le name p && (number_at file (560 + p) 1 == 0)) 6 7 (rw (t, h.b6) refl) (omega arith)
 
 no_mapping : TextMapping
-no_mapping = record { address = 0; code = true }
+no_mapping = record { address = 0; content = content.Code }
 
 names_end : (file : List ℕ) (l : Layout) (text bytes : List ℕ) (mappings : List TextMapping) → IsFile file l text bytes mappings
     → strings_of file (symbols_section l) ≡ strings_section 560 7 → has_names file (symbols_section l) ≡ true

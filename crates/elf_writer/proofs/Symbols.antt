@@ -9,6 +9,8 @@ use Rattle.elf_headers.proofs.Below.{answers_below-zero}
 use Rattle.elf_sections.specs.declared.section.SectionHeader.{SectionHeader}
 use Rattle.elf_sections.specs.declared.mapping_symbols.MappingSymbol.{MappingSymbol}
 use Rattle.elf_sections.specs.Sections.{section_of, is_symbol_table}
+use Rattle.sm_types.specs.declared.object.Content.{Content}
+use Rattle.sm_types.specs.declared.object.Content.TheVariants as content
 use Rattle.sm_types.specs.Objects.{name_says}
 use Rattle.elf_sections.specs.MappingSymbols.{name_in, mapping_symbol_at, table_mapping_symbols, mapping_symbols_below, mapping_symbols_of}
 use Rattle.elf_sections.specs.FirstBytes.{is_mapping_name}
@@ -17,7 +19,7 @@ use Rattle.elf_writer.specs.declared.layout.Layout.{Layout}
 use Rattle.elf_writer.specs.declared.mapping_symbols.TextMapping.{TextMapping}
 use Rattle.elf_writer.specs.declared.file.TheConstants.{STRINGS}
 use Rattle.elf_writer.specs.Layout.{fields_bytes, text_section, data_section, symbols_section, strings_section, symbols_offset}
-use Rattle.elf_writer.specs.File.{symbol_fields, mapping_bytes, symbols_bytes}
+use Rattle.elf_writer.specs.File.{name_index, symbol_fields, mapping_bytes, symbols_bytes}
 use Rattle.elf_writer.proofs.Fields.{drop-past, offset, value, read_field}
 use Rattle.elf_writer.proofs.Reading.{IsFile, Reads, reads, names, past-data, drop-more}
 use Rattle.elf_writer.proofs.Headers.{section_count-is, section_of-0, section_of-text, section_of-data, section_of-symbols}
@@ -61,16 +63,16 @@ symbol_read file l text bytes mappings is k d q n h =
     ∙ ap (λ f. number_at f q n) (drop-more (24 * suc k) file (symbols_offset l)
     ∙ ap (drop (24 * suc k)) (past-data file l text bytes mappings is) ∙ symbol_from mappings k d h)
 
-name_by : (b : Bool) → cond b 1 4 % 256 ^ 4 ≡ cond b 1 4
-name_by true = refl
-name_by false = refl
+name_by : (c : Content) → name_index c % 256 ^ 4 ≡ name_index c
+name_by content.Code = refl
+name_by content.Data = refl
 
 low8 : (x : ℕ) → x < 2 ^ 64 → x % 256 ^ 8 ≡ x
 low8 x h = omega arith
 
-name_of : (m : TextMapping) (rest : List ℕ) → number_at (fields_bytes (symbol_fields m) ++ rest) 0 4 ≡ cond m.code 1 4
+name_of : (m : TextMapping) (rest : List ℕ) → number_at (fields_bytes (symbol_fields m) ++ rest) 0 4 ≡ name_index m.content
 unfolding symbol_fields
-name_of m rest = read_field (symbol_fields m) 0 rest ∙ name_by m.code
+name_of m rest = read_field (symbol_fields m) 0 rest ∙ name_by m.content
 
 section_number_of : (m : TextMapping) (rest : List ℕ) → number_at (fields_bytes (symbol_fields m) ++ rest) 6 2 ≡ 1
 unfolding symbol_fields
@@ -82,7 +84,7 @@ address_of m rest h = read_field (symbol_fields m) 4 rest ∙ low8 m.address h
 
 -- the numbers of symbol number k + 1, which is of mapping symbol number k
 pub record IsSymbol (file : List ℕ) (at : ℕ) (m : TextMapping) : Type 0 where
-  pub name : number_at file at 4 ≡ cond m.code 1 4
+  pub name : number_at file at 4 ≡ name_index m.content
   pub number : number_at file (at + 6) 2 ≡ 1
   pub address : number_at file (at + 8) 8 ≡ m.address
 
@@ -133,18 +135,18 @@ no_name : (file : List ℕ) → HasNames file → name_says (name_in file 560) �
 unfolding is_mapping_name
 no_name file h = name_says_at file 560 ∙ rw h.b0 refl
 
-code_name : (file : List ℕ) → HasNames file → name_says (name_in file 561) ≡ Some true
+code_name : (file : List ℕ) → HasNames file → name_says (name_in file 561) ≡ Some content.Code
 unfolding is_mapping_name
 code_name file h = name_says_at file 561 ∙ rw (h.b1, h.b2, h.b3) refl
 
-data_name : (file : List ℕ) → HasNames file → name_says (name_in file 564) ≡ Some false
+data_name : (file : List ℕ) → HasNames file → name_says (name_in file 564) ≡ Some content.Data
 unfolding is_mapping_name
 data_name file h = name_says_at file 564 ∙ rw (h.b4, h.b5, h.b6) refl
 
 -- ---- the mapping symbols that a reader finds
 
 abbrev pub as_mapping_symbol : TextMapping → MappingSymbol
-as_mapping_symbol m = record { section = 1; value = m.address; code = m.code }
+as_mapping_symbol m = record { section = 1; value = m.address; content = m.content }
 
 mapping_none : (file : List ℕ) (offset at : ℕ) → HasNames file → number_at file at 4 ≡ 0
     → mapping_symbol_at file (strings_section 560 7) at ≡ None
@@ -153,14 +155,14 @@ mapping_none file offset at h n =
     let e : 560 + number_at file at 4 ≡ 560 = omega arith in
     rw (e, no_name file h) refl
 
-mapping_some : (file : List ℕ) (at : ℕ) (address : ℕ) (code : Bool) → HasNames file
-    → IsSymbol file at (record { address = address; code = code })
-    → mapping_symbol_at file (strings_section 560 7) at ≡ Some (as_mapping_symbol (record { address = address; code = code }))
+mapping_some : (file : List ℕ) (at : ℕ) (address : ℕ) (says : Content) → HasNames file
+    → IsSymbol file at (record { address = address; content = says })
+    → mapping_symbol_at file (strings_section 560 7) at ≡ Some (as_mapping_symbol (record { address = address; content = says }))
 unfolding mapping_symbol_at strings_section
-mapping_some file at address true h s =
+mapping_some file at address content.Code h s =
     let e : 560 + number_at file at 4 ≡ 561 = omega (arith, s.name) in
     rw (e, code_name file h, s.number, s.address) refl
-mapping_some file at address false h s =
+mapping_some file at address content.Data h s =
     let e : 560 + number_at file at 4 ≡ 564 = omega (arith, s.name) in
     rw (e, data_name file h, s.number, s.address) refl
 
@@ -196,7 +198,7 @@ table_mapping_symbols-is file l text bytes mappings is =
     (length mappings))
     (mapping_none file 0 (symbols_offset l + 24 * 0) h (null_is file l text bytes mappings is))
     ∙ listed (λ k. mapping_symbol_at file (strings_section 560 7) (symbols_offset l + 24 * suc k)) as_mapping_symbol mappings
-    (λ k d b. mapping_some file (symbols_offset l + 24 * suc k) (get_or mappings k d).address (get_or mappings k d).code h
+    (λ k d b. mapping_some file (symbols_offset l + 24 * suc k) (get_or mappings k d).address (get_or mappings k d).content h
     (symbol_is file l text bytes mappings is k d b))
 
 mappings_six : (file : List ℕ) (s : SectionHeader) → is_symbol_table (section_of file 0) ≡ false

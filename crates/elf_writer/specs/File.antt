@@ -1,7 +1,9 @@
 -- The file of an object.
 -- Source: ELF-64 Object File Format, Elf64_Sym; ELF for the Arm 64-bit Architecture (AArch64), mapping
 -- symbols; the offsets are this project's own.
-use Rattle.std.specs.Prelude.{ℕ, suc, ◌+◌, ◌-◌, cond, List, [], ◌∷◌, ◌++◌, length, replicate, codes}
+use Rattle.std.specs.Prelude.{ℕ, suc, ◌+◌, ◌-◌, List, [], ◌∷◌, ◌++◌, length, replicate, codes}
+use Rattle.sm_types.specs.declared.object.Content.{Content}
+use Rattle.sm_types.specs.declared.object.Content.TheVariants as content
 use Rattle.sm_types.specs.declared.object.Object.{Object}
 use Rattle.elf_writer.specs.declared.layout.Layout.{Layout}
 use Rattle.elf_writer.specs.declared.mapping_symbols.TextMapping.{TextMapping}
@@ -18,9 +20,14 @@ section_names =
     0 ∷ (codes ".text" ++ (0 ∷ (codes ".data"
     ++ (0 ∷ (codes ".symtab" ++ (0 ∷ (codes ".strtab" ++ (0 ∷ (codes ".shstrtab" ++ (0 ∷ []))))))))))
 
--- a local symbol of section 1 without a type: `$x` stands at 1 in the string table, `$d` at 4
+-- where the name of a mapping symbol stands in the string table: `$x` at 1, `$d` at 4
+abbrev pub name_index : Content → ℕ
+name_index content.Code = 1
+name_index content.Data = 4
+
+-- a local symbol of section 1 without a type
 unfoldable pub symbol_fields : TextMapping → List (ℕ × ℕ)
-symbol_fields m = (4, cond m.code 1 4) ∷ (1, 0) ∷ (1, 0) ∷ (2, 1) ∷ (8, m.address) ∷ (8, 0) ∷ []
+symbol_fields m = (4, name_index m.content) ∷ (1, 0) ∷ (1, 0) ∷ (2, 1) ∷ (8, m.address) ∷ (8, 0) ∷ []
 
 -- the symbols of mapping symbols
 abbrev pub mapping_bytes : List TextMapping → List ℕ

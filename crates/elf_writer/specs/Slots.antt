@@ -1,15 +1,17 @@
 -- How the mapping symbols of a text are found: each mapping symbol is kept at the first word that it is for,
 -- and what a word's own does not say was said before.
 -- Source: ELF for the Arm 64-bit Architecture (AArch64), mapping symbols `$x` and `$d`.
-use Rattle.std.specs.Prelude.{◌≡◌, ℕ, zero, suc, ◌+◌, ◌-◌, ◌/◌, ◌<◌, Bool, true, cond, List, [], ◌∷◌, length}
+use Rattle.std.specs.Prelude.{◌≡◌, ℕ, zero, suc, ◌+◌, ◌-◌, ◌/◌, ◌<◌, cond, List, [], ◌∷◌, length}
 use Rattle.std.specs.Prelude.{get_or, Option, Some, None, ◌==◌, nat_le}
+use Rattle.sm_types.specs.declared.object.Content.{Content}
+use Rattle.sm_types.specs.declared.object.Content.TheVariants as content
 use Rattle.sm_types.specs.declared.object.Symbol.{Symbol}
 use Rattle.sm_types.specs.Objects.{text_address, Mapping, mappings_of}
 use Rattle.elf_writer.specs.declared.mapping_symbols.TextMapping.{TextMapping}
 
 -- a mapping symbol of the text as one of an object
 abbrev pub as_mapping : TextMapping → Mapping
-as_mapping m = record { address = m.address; code = m.code }
+as_mapping m = record { address = m.address; content = m.content }
 
 abbrev pub as_mapping_if : Option TextMapping → Option Mapping
 as_mapping_if None = None
@@ -50,12 +52,12 @@ KeepsSymbol old new s =
     → AreSlots new (mappings_of rest) all
 
 -- what a word's own mapping symbol says, else what was said before, else that it is code
-abbrev pub says_word : Option Bool → Option TextMapping → Bool
-says_word before (Some m) = m.code
+abbrev pub says_word : Option Content → Option TextMapping → Content
+says_word before (Some m) = m.content
 says_word (Some before) None = before
-says_word None None = true
+says_word None None = content.Code
 
 -- what mapping symbols, each at the first word that it is for, say of word number n
-unfoldable pub slots_say : List (Option TextMapping) → ℕ → Bool
+unfoldable pub slots_say : List (Option TextMapping) → ℕ → Content
 slots_say slots zero = says_word None (get_or slots 0 None)
 slots_say slots (suc n) = says_word (Some (slots_say slots n)) (get_or slots (suc n) None)

@@ -6,7 +6,7 @@ ghost use Rattle.elf_writer.specs.File.{data_part, file_bytes, file_of};
 
 use crate::layout::{Layout, TEXT_INDEX, TEXT_OFFSET, put_fields, put_headers};
 use crate::mapping_symbols::{TextMapping, text_mappings};
-use sm_types::Object;
+use sm_types::{Content, Object};
 use std::alloc::{AllocError, Global};
 
 /// The names of symbols.
@@ -35,7 +35,10 @@ fn put_zeros(out: &mut Vec<u8>, count: usize) -> Result<(), AllocError>
 fn put_mapping(out: &mut Vec<u8>, mapping: &TextMapping) -> Result<(), AllocError>
     ensures { OnOk result (out.new.items ≡ out.old.items ++ fields_bytes (symbol_fields mapping.now)) }
 {
-    let name = if mapping.code { CODE_NAME } else { DATA_NAME };
+    let name = match mapping.content {
+        Content::Code => CODE_NAME,
+        Content::Data => DATA_NAME,
+    };
     let fields = [
         (4, name), // st_name
         (1, 0), // st_info: STB_LOCAL, STT_NOTYPE

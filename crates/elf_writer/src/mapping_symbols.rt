@@ -1,24 +1,24 @@
 //! The mapping symbols that are written of an object's text.
 ghost use Rattle.std.specs.Prelude.{◌≡◌, ◌≤◌, ◌+◌, ◌*◌, ◌/◌, ◌++◌, length, cond, IfOk, OnOk, Some, None, []};
-ghost use Rattle.sm_types.specs.Objects.{symbol_says, mappings_of, mapping_of};
+ghost use Rattle.sm_types.specs.Objects.{symbol_says, mappings_of, mapping_of, is_same};
 ghost use Rattle.elf_headers.specs.Below.{answers, answers_below};
-ghost use Rattle.elf_writer.specs.TextMappings.{begins, text_mapping_at, word_address, text_mappings};
+ghost use Rattle.elf_writer.specs.TextMappings.{text_mapping_at, word_address, text_mappings};
 ghost use Rattle.elf_writer.specs.Slots.{as_mapping, as_mapping_if, newer, word_from, says_word, slots_say};
 ghost use Rattle.elf_writer.specs.Slots.{AreSlots, KeepsMapping, KeepsSymbol};
 
-use sm_types::{Object, Section, Symbol, TEXT_ADDRESS, name_says};
+use sm_types::{Content, Object, Section, Symbol, TEXT_ADDRESS, name_says};
 use std::alloc::{AllocError, Global};
 
-/// A mapping symbol of the text: code or data begins at the address.
+/// A mapping symbol of the text: its content begins at the address.
 #[derive(Clone, Copy, Drop)]
 pub struct TextMapping {
     pub address: u64,
-    pub code: bool,
+    pub content: Content,
 }
 
 /// What a symbol says of the bytes of the text from its address on.
 #[tactic(auto, unfolding(sm_types::specs::Objects::symbol_says))]
-fn symbol_says(symbol: &Symbol) -> Option<bool>
+fn symbol_says(symbol: &Symbol) -> Option<Content>
     ensures { result ≡ symbol_says symbol.now }
 {
     match symbol.section {
@@ -32,9 +32,9 @@ fn mapping_of(symbol: &Symbol) -> Option<TextMapping>
     ensures { as_mapping_if result ≡ mapping_of symbol.now }
 {
     match symbol_says(symbol) {
-        Some(code) => Some(TextMapping {
+        Some(content) => Some(TextMapping {
             address: symbol.address,
-            code,
+            content,
         }),
         None => None,
     }
@@ -104,29 +104,28 @@ fn fill_slots(
 }
 
 /// What a word's own mapping symbol says, else what was said before, else that it is code.
-fn says_word(before: Option<bool>, slot: Option<TextMapping>) -> bool
+fn says_word(before: Option<Content>, slot: Option<TextMapping>) -> Content
     ensures { result ≡ says_word before slot }
 {
     match slot {
-        Some(mapping) => mapping.code,
-        None => before.unwrap_or(true),
+        Some(mapping) => mapping.content,
+        None => before.unwrap_or(Content::Code),
     }
 }
 
 /// The mapping symbol that is written of word number `n`, where it says other than what was said before.
-fn mapping_where(before: Option<bool>, code: bool, n: usize) -> Option<TextMapping>
+fn mapping_where(before: Option<Content>, content: Content, n: usize) -> Option<TextMapping>
     requires { n ≤ 1048576 }
-    ensures { result ≡ cond (begins before code) (Some
-        (record { address = word_address n; code = code })) None }
+    ensures { result ≡ cond (is_same before content) None (Some
+        (record { address = word_address n; content = content })) }
 {
-    let mapping = TextMapping {
-        address: TEXT_ADDRESS + 4 * n as u64,
-        code,
-    };
-    match before {
-        Some(before) if before == code => None,
-        _ => Some(mapping),
+    if before == Some(content) {
+        return None;
     }
+    Some(TextMapping {
+        address: TEXT_ADDRESS + 4 * n as u64,
+        content,
+    })
 }
 
 /// Adds the mapping symbol, if there is one.
@@ -155,9 +154,9 @@ fn list_mappings(
     let mut mappings = Vec::new(alloc);
     let mut before = None;
     for (n, slot) in slots.iter().enumerate() {
-        let code = says_word(before, *slot);
-        push_mapping(mapping_where(before, code, n), &mut mappings)?;
-        before = Some(code);
+        let content = says_word(before, *slot);
+        push_mapping(mapping_where(before, content, n), &mut mappings)?;
+        before = Some(content);
     }
     Ok(mappings)
 }

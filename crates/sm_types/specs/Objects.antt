@@ -7,6 +7,8 @@ use Rattle.std.specs.List.{filter_map, range_with_len}
 use Rattle.sm_types.specs.Bytes.{little_number}
 use Rattle.sm_types.specs.declared.object.Section.{Section}
 use Rattle.sm_types.specs.declared.object.Section.TheVariants.{Text, Data}
+use Rattle.sm_types.specs.declared.object.Content.{Content}
+use Rattle.sm_types.specs.declared.object.Content.TheVariants as content
 use Rattle.sm_types.specs.declared.object.Symbol.{Symbol}
 use Rattle.sm_types.specs.declared.object.Object.{Object}
 
@@ -42,34 +44,38 @@ abbrev pub is_suffix : List ℕ → Bool
 is_suffix [] = true
 is_suffix (c ∷ cs) = c == dot
 
--- what a name says of the bytes from its address on, after `$`: `x` that they are code, `d` that they are
--- data
-abbrev pub letter_says : List ℕ → Option Bool
+-- what the letter after `$` says of the bytes from the symbol's address on: `x` that they are code, `d` that
+-- they are data
+abbrev pub letter_means : ℕ → Option Content
+letter_means c =
+    cond (c == code_letter) (Some content.Code) (cond (c == data_letter) (Some content.Data) None)
+
+-- what a name says of the bytes from its address on, after `$`: the letter alone, or with `.` and a suffix
+abbrev pub letter_says : List ℕ → Option Content
 letter_says [] = None
-letter_says (c ∷ cs) =
-    cond (is_suffix cs) (cond (c == code_letter) (Some true) (cond (c == data_letter) (Some false) None)) None
+letter_says (c ∷ cs) = cond (is_suffix cs) (letter_means c) None
 
 -- what a name says of the bytes from its address on; one that is no mapping symbol's says nothing
-abbrev pub name_says : List ℕ → Option Bool
+abbrev pub name_says : List ℕ → Option Content
 name_says [] = None
 name_says (c ∷ cs) = cond (c == dollar) (letter_says cs) None
 
 -- what a symbol says of the bytes of the text; one of the data says nothing
-abbrev pub says_in : Section → Option Bool → Option Bool
+abbrev pub says_in : Section → Option Content → Option Content
 says_in Text says = says
 says_in Data says = None
 
-unfoldable pub symbol_says : Symbol → Option Bool
+unfoldable pub symbol_says : Symbol → Option Content
 symbol_says s = says_in s.section (name_says s.name.items)
 
--- a mapping symbol: its address, and whether it begins code
+-- a mapping symbol: its address, and what begins there
 pub record Mapping : Type 0 where
   pub address : ℕ
-  pub code : Bool
+  pub content : Content
 
-abbrev pub mapping_at : ℕ → Option Bool → Option Mapping
+abbrev pub mapping_at : ℕ → Option Content → Option Mapping
 mapping_at address None = None
-mapping_at address (Some code) = Some (record { address = address; code = code })
+mapping_at address (Some says) = Some (record { address = address; content = says })
 
 abbrev pub mapping_of : Symbol → Option Mapping
 mapping_of s = mapping_at s.address (symbol_says s)
@@ -90,14 +96,29 @@ abbrev pub governing_mapping : ℕ → Option Mapping → List Mapping → Optio
 governing_mapping a best [] = best
 governing_mapping a best (m ∷ ms) = governing_mapping a (later_mapping a best m) ms
 
+-- what was said before, if anything was, is what is said now
+abbrev pub is_same : Option Content → Content → Bool
+is_same (Some content.Code) content.Code = true
+is_same (Some content.Data) content.Data = true
+is_same before now = false
+
+-- the bytes are instructions
+abbrev pub is_code : Content → Bool
+is_code content.Code = true
+is_code content.Data = false
+
 -- code where no mapping symbol says otherwise
-abbrev pub mapping_says_code : Option Mapping → Bool
-mapping_says_code None = true
-mapping_says_code (Some m) = m.code
+abbrev pub mapping_says : Option Mapping → Content
+mapping_says None = content.Code
+mapping_says (Some m) = m.content
+
+-- what begins at the byte of the text at an address
+unfoldable pub text_content : List Mapping → ℕ → Content
+text_content mappings a = mapping_says (governing_mapping a None mappings)
 
 -- the byte of the text at an address begins code
 unfoldable pub is_text_code : List Mapping → ℕ → Bool
-is_text_code mappings a = mapping_says_code (governing_mapping a None mappings)
+is_text_code mappings a = is_code (text_content mappings a)
 
 -- ---- code words
 

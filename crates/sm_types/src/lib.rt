@@ -80,6 +80,7 @@ pub use matrix::TileAdd;
 pub use matrix::TileMove;
 pub use matrix::TileSlice;
 pub use object::Bytes;
+pub use object::Content;
 pub use object::Object;
 pub use object::Section;
 pub use object::Symbol;

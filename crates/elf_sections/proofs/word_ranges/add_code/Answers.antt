@@ -30,7 +30,7 @@ loop-symbol-preserved c =
       passed =
           rw c.max-start.ensures (passed_more c.args.own.now k c.loop-symbol.start next no_symbol c.loop-symbol-test.true
           c.loop-symbol.invariant.passed (omega (arith, c.div_ceil-next.ensures)));
-      code = rw add-one (sym (code_from-next None c.args.own.now k no_symbol c.loop-symbol-test.true));
+      code = c.is_code-code.ensures ∙ rw add-one (sym (code_from-next None c.args.own.now k no_symbol c.loop-symbol-test.true));
     }
 
 pub returns-clause-words : goal.returns-clause-words

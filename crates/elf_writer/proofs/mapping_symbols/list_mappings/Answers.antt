@@ -1,7 +1,9 @@
-use Rattle.std.proofs.Common.{◌≡◌, Option, Some, None, Bool, ℕ, get_or, sym, ◌∙◌, ap, refl, add-one, cond, ◌++◌}
+use Rattle.std.proofs.Common.{◌≡◌, Option, Some, None, ℕ, get_or, sym, ◌∙◌, ap, refl, add-one, cond, ◌++◌}
+use Rattle.sm_types.specs.declared.object.Content.{Content}
+use Rattle.sm_types.specs.Objects.{is_same}
 use Rattle.elf_headers.specs.Below.{answers}
 use Rattle.elf_headers.proofs.Below.{answers_below-zero, answers_below-next}
-use Rattle.elf_writer.specs.TextMappings.{text_mapping_at, said_before, begins, word_address}
+use Rattle.elf_writer.specs.TextMappings.{text_mapping_at, said_before, word_address}
 use Rattle.elf_writer.specs.Slots.{slots_say, says_word}
 use Rattle.elf_writer.proofs.Slots.{slots_say-at}
 use Rattle.elf_writer.proofs.mapping_symbols.list_mappings.Goals as goal
@@ -14,21 +16,21 @@ loop-n-init c =
           ∙ sym (answers_below-zero (text_mapping_at (slots_say c.args.slots.now)));
     }
 
-text_mapping_at-is : (code : ℕ → Bool) (n : ℕ) (before : Option Bool) (now : Bool) → before ≡ said_before code n → now ≡ code n
-    → cond (begins before now) (Some (record { address = word_address n; code = now })) None ≡ text_mapping_at code n
+text_mapping_at-is : (says : ℕ → Content) (n : ℕ) (before : Option Content) (now : Content) → before ≡ said_before says n → now ≡ says n
+    → cond (is_same before now) None (Some (record { address = word_address n; content = now })) ≡ text_mapping_at says n
 unfolding text_mapping_at
-text_mapping_at-is code n before now b e = λ i. cond (begins (b i) (e i)) (Some (record { address = word_address n; code = e i })) None
+text_mapping_at-is says n before now b e = λ i. cond (is_same (b i) (e i)) None (Some (record { address = word_address n; content = e i }))
 
 pub loop-n-preserved : goal.loop-n-preserved
 loop-n-preserved c =
-    let now : c.says_word-code.result ≡ slots_say c.args.slots.now c.loop-n.n =
-    c.says_word-code.ensures ∙ (λ i. says_word (c.loop-n.invariant.before i) (get_or c.args.slots.now c.loop-n.n None))
+    let now : c.says_word-content.result ≡ slots_say c.args.slots.now c.loop-n.n =
+    c.says_word-content.ensures ∙ (λ i. says_word (c.loop-n.invariant.before i) (get_or c.args.slots.now c.loop-n.n None))
     ∙ sym (slots_say-at c.args.slots.now c.loop-n.n) in
     record {
       before = rw add-one (ap Some now);
       mappings =
           c.in_ok-push_mapping.ensures ∙ (λ i. c.loop-n.invariant.mappings i
           ++ answers ((c.mapping_where.ensures ∙ text_mapping_at-is (slots_say c.args.slots.now) c.loop-n.n c.loop-n.before
-          c.says_word-code.result
+          c.says_word-content.result
           c.loop-n.invariant.before now) i)) ∙ sym (answers_below-next (text_mapping_at (slots_say c.args.slots.now)) c.loop-n.n);
     }
