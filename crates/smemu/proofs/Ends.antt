@@ -26,7 +26,7 @@ use Rattle.report_reader.specs.declared.fault.ReportKind.{ReportKind}
 use Rattle.report_reader.specs.Reading.{Fault}
 use Rattle.report_reader.specs.Report.{Report, report_in}
 use Rattle.edge_io.specs.Cause.{Rose}
-use Rattle.smemu.specs.Requests.{Kind, IsProgram, IsSource, IsReport, Named, Rejection, NoProgram, NoSource, NoReport, files_named}
+use Rattle.smemu.specs.Requests.{Kind, ProgramFile, SourceFile, ReportFile, Named, Rejection, NoProgram, NoSource, NoReport, files_named}
 use Rattle.smemu.specs.Requests.{files_asked}
 use Rattle.smemu.specs.Requests.{limit_of, rejection_of, reached_of, IsReached, due_of_rejection, due_of_file, due_of_files, due_of_request}
 use Rattle.smemu.specs.Requests.{IsDueOf, IsDue, fault_in}
@@ -152,19 +152,19 @@ rejected_ends request named files n fetched (refusal.ReadFault shown) at l front
 -- what was fetched of a file is the whole file, where it is accepted
 pub program_file : (told : Told) (n : ℕ) (name fetched : List ℕ) → 67108864 < n
     → IfSome told (λ files. option_map (take n) (files name) ≡ Some fetched) → load_fault fetched ≡ None → IsFile told name fetched
-program_file told n name fetched l front e = accepted_file IsProgram told n name fetched l front (ap (option_map NoProgram) e)
+program_file told n name fetched l front e = accepted_file ProgramFile told n name fetched l front (ap (option_map NoProgram) e)
 
 pub source_file : (told : Told) (n : ℕ) (name fetched : List ℕ) → 67108864 < n
     → IfSome told (λ files. option_map (take n) (files name) ≡ Some fetched) → asm_fault fetched ≡ None → IsFile told name fetched
-source_file told n name fetched l front e = accepted_file IsSource told n name fetched l front (ap (option_map NoSource) e)
+source_file told n name fetched l front e = accepted_file SourceFile told n name fetched l front (ap (option_map NoSource) e)
 
 -- ---- a replay
 
 -- its report is reached where its program is accepted
 report_reached : (program report : List ℕ) (thread : ℕ) (told : Told) (file : List ℕ) → IsFile told program file → load_fault file ≡ None
-    → IsReached told (files_named (AsksReplay program report thread)) (record { name = report; kind = IsReport })
+    → IsReached told (files_named (AsksReplay program report thread)) (record { name = report; kind = ReportFile })
 report_reached program report thread told file is accepted =
-    second_reached (record { name = program; kind = IsProgram }) (record { name = report; kind = IsReport }) told file is
+    second_reached (record { name = program; kind = ProgramFile }) (record { name = report; kind = ReportFile }) told file is
     (ap (option_map NoProgram) accepted)
 
 -- and could not be fetched
@@ -172,7 +172,7 @@ pub report_unread : (program report : List ℕ) (thread : ℕ) (files : Change F
     → IsFile files.before.told program file → load_fault file ≡ None → IsUnread files report r
     → EndsRequest (AsksReplay program report thread) files (Err r)
 report_unread program report thread files file r is accepted h =
-    unread_ends (AsksReplay program report thread) (record { name = report; kind = IsReport }) files r
+    unread_ends (AsksReplay program report thread) (record { name = report; kind = ReportFile }) files r
     (report_reached program report thread files.before.told file is accepted) h
 
 pub block_of : (file report : List ℕ) (thread : ℕ) (text : List ℕ) → DiffersSo file report thread text → IsBlockIn file report thread
@@ -185,7 +185,7 @@ module _ (program report : List ℕ) (thread : ℕ) (files : Change FilesView) (
   -- a report that is read is the whole file
   whole_report : (said : Report) → report_in bytes ≡ Ok said → IsFile files.before.told report bytes
   whole_report said reads =
-      accepted_file IsReport files.before.told n report bytes l front (ap (λ (r : Result Report Fault). option_map NoReport
+      accepted_file ReportFile files.before.told n report bytes l front (ap (λ (r : Result Report Fault). option_map NoReport
       (fault_in r)) reads)
 
   matched : (a : Answer) → IsReplayOf file bytes thread (answer_text a) → EndsRequest (AsksReplay program report thread) files (Ok a)
@@ -215,7 +215,7 @@ module _ (program report : List ℕ) (thread : ℕ) (files : Change FilesView) (
       → EndsRequest (AsksReplay program report thread) files end
   replay_ends (Ok a) h = matched a h
   replay_ends (Err (refusal.BadReport line part)) h = elim h [
-    | inl rejects ↦ rejected_ends (AsksReplay program report thread) (record { name = report; kind = IsReport }) files n bytes
+    | inl rejects ↦ rejected_ends (AsksReplay program report thread) (record { name = report; kind = ReportFile }) files n bytes
         (refusal.BadReport line part) (report_reached program report thread files.before.told file is_file accepted) l front rejects
     | inr other ↦ unmatched line part other
   ]
@@ -420,16 +420,16 @@ pub there : (told : Told) (files : List ℕ → Option (List ℕ)) (name file : 
 there told files name file e h = subst (λ (t : Told). IfSome t (λ known. known name ≡ Some file)) e h
 
 program_due : (files : List ℕ → Option (List ℕ)) (name file : List ℕ) → files name ≡ Some file → load_fault file ≡ None
-    → due_of_files files (record { name = name; kind = IsProgram } ∷ []) ≡ Done
+    → due_of_files files (record { name = name; kind = ProgramFile } ∷ []) ≡ Done
 program_due files name file e h = rw (e, h) refl
 
 source_due : (files : List ℕ → Option (List ℕ)) (name source : List ℕ) → files name ≡ Some source → asm_fault source ≡ None
-    → due_of_files files (record { name = name; kind = IsSource } ∷ []) ≡ Done
+    → due_of_files files (record { name = name; kind = SourceFile } ∷ []) ≡ Done
 source_due files name source e h = rw (e, h) refl
 
 pub two_due : (files : List ℕ → Option (List ℕ)) (program report file bytes : List ℕ) (said : Report) → files program ≡ Some file
     → load_fault file ≡ None → files report ≡ Some bytes → report_in bytes ≡ Ok said
-    → due_of_files files (record { name = program; kind = IsProgram } ∷ record { name = report; kind = IsReport } ∷ []) ≡ Done
+    → due_of_files files (record { name = program; kind = ProgramFile } ∷ record { name = report; kind = ReportFile } ∷ []) ≡ Done
 two_due files program report file bytes said e h g reads = rw (e, h, g, reads) refl
 
 done_due : (told : Told) (files : List ℕ → Option (List ℕ)) (request : Request) (text : List ℕ) → told ≡ Some files

@@ -11,7 +11,7 @@ use Rattle.edge_io.specs.Files.{Told}
 use Rattle.smemu.specs.Answers.{IsFile}
 use Rattle.report_reader.specs.Report.{report_in}
 use Rattle.report_reader.specs.declared.fault.ReportKind.TheVariants as part
-use Rattle.smemu.specs.Requests.{Kind, IsProgram, IsSource, IsReport, Rejection, NoProgram, NoSource, NoReport, fault_in, rejection_of}
+use Rattle.smemu.specs.Requests.{Kind, ProgramFile, SourceFile, ReportFile, Rejection, NoProgram, NoSource, NoReport, fault_in, rejection_of}
 
 low_or : (a b : ℕ) → (a < b) ⊎ (b ≤ a)
 low_or a b = grind arith
@@ -114,21 +114,21 @@ unfolding report_in
 long_report file h = rw (is_long_report file h) refl
 
 too_long : Kind → Rejection
-too_long IsProgram = NoProgram load.TooLong
-too_long IsSource = NoSource asm.TooLong
-too_long IsReport = NoReport (record { line = 0; kind = part.TooLong })
+too_long ProgramFile = NoProgram load.TooLong
+too_long SourceFile = NoSource asm.TooLong
+too_long ReportFile = NoReport (record { line = 0; kind = part.TooLong })
 
 -- the most bytes that a file of a kind may have
 abbrev pub largest_of : Kind → ℕ
-largest_of IsProgram = 67108864
-largest_of IsSource = 67108864
-largest_of IsReport = 1073741824
+largest_of ProgramFile = 67108864
+largest_of SourceFile = 67108864
+largest_of ReportFile = 1073741824
 
 long_rejected : (kind : Kind) (file : List ℕ) → largest_of kind < length file → rejection_of kind file ≡ Some (too_long kind)
 unfolding too_long
-long_rejected IsProgram file h = ap (option_map NoProgram) (long_refused file h)
-long_rejected IsSource file h = ap (option_map NoSource) (long_source file h)
-long_rejected IsReport file h = ap (option_map NoReport) (long_report file h)
+long_rejected ProgramFile file h = ap (option_map NoProgram) (long_refused file h)
+long_rejected SourceFile file h = ap (option_map NoSource) (long_source file h)
+long_rejected ReportFile file h = ap (option_map NoReport) (long_report file h)
 
 -- what was fetched is the file, where it is accepted
 pub accepted_file : (kind : Kind) (told : Told) (n : ℕ) (name fetched : List ℕ) → largest_of kind < n

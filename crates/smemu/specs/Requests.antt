@@ -18,11 +18,11 @@ use Rattle.smemu.specs.declared.status.Status.TheVariants.{BadReport, Differs}
 -- what a file is to be
 pub data Kind : Type 0 where
   -- a program, which the loader accepts
-  IsProgram : Kind
+  ProgramFile : Kind
   -- a source, which the assembler accepts
-  IsSource : Kind
+  SourceFile : Kind
   -- a report, which is in its format
-  IsReport : Kind
+  ReportFile : Kind
 
 -- a file that is named
 pub record Named : Type 0 where
@@ -31,11 +31,11 @@ pub record Named : Type 0 where
 
 -- the files that a request names, in the order of the words
 abbrev pub files_named : Request → List Named
-files_named (AsksRun name options) = record { name = name; kind = IsProgram } ∷ []
-files_named (AsksListing name) = record { name = name; kind = IsProgram } ∷ []
-files_named (AsksAssembly name) = record { name = name; kind = IsSource } ∷ []
+files_named (AsksRun name options) = record { name = name; kind = ProgramFile } ∷ []
+files_named (AsksListing name) = record { name = name; kind = ProgramFile } ∷ []
+files_named (AsksAssembly name) = record { name = name; kind = SourceFile } ∷ []
 files_named (AsksReplay program report thread) =
-    record { name = program; kind = IsProgram } ∷ record { name = report; kind = IsReport } ∷ []
+    record { name = program; kind = ProgramFile } ∷ record { name = report; kind = ReportFile } ∷ []
 files_named AsksHelp = []
 files_named AsksVersion = []
 
@@ -46,9 +46,9 @@ files_asked (Some request) = files_named request
 
 -- how many bytes are fetched: one more than a program, a source or a report may have
 abbrev pub limit_of : Kind → ℕ
-limit_of IsProgram = 67108865
-limit_of IsSource = 67108865
-limit_of IsReport = 1073741825
+limit_of ProgramFile = 67108865
+limit_of SourceFile = 67108865
+limit_of ReportFile = 1073741825
 
 -- why a file is not accepted
 pub data Rejection : Type 0 where
@@ -62,9 +62,9 @@ fault_in (Ok report) = None
 fault_in (Err fault) = Some fault
 
 abbrev pub rejection_of : Kind → List ℕ → Option Rejection
-rejection_of IsProgram file = option_map NoProgram (load_fault file)
-rejection_of IsSource file = option_map NoSource (asm_fault file)
-rejection_of IsReport file = option_map NoReport (fault_in (report_in file))
+rejection_of ProgramFile file = option_map NoProgram (load_fault file)
+rejection_of SourceFile file = option_map NoSource (asm_fault file)
+rejection_of ReportFile file = option_map NoReport (fault_in (report_in file))
 
 -- ---- how far the files are read: a file is reached where each before it is there and accepted
 

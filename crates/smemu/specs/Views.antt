@@ -23,7 +23,7 @@ use Rattle.edge_io.specs.MemSink as mem_sink
 use Rattle.smemu.specs.DifferLines.{report_line, parting_line, difference_lines}
 use Rattle.smemu.specs.FaultLines.{fault_line}
 use Rattle.smemu.specs.Replay.{mismatch, IsReplayOf, IsMismatched, DiffersSo}
-use Rattle.smemu.specs.Requests.{Kind, IsReport, NoProgram, NoSource, NoReport, rejection_of}
+use Rattle.smemu.specs.Requests.{Kind, ReportFile, NoProgram, NoSource, NoReport, rejection_of}
 use Rattle.smemu.specs.SourceLines.{source_line}
 use Rattle.smemu.specs.Texts.{usage_line, help_text, version_text}
 use Rattle.smemu.specs.declared.answer.Answer.{Answer}
@@ -146,7 +146,7 @@ ComparesSo report line replay (Err other) = ⊥
 abbrev pub EndsReplay : List ℕ → List ℕ → ℕ → Result Answer Refusal → Type 0
 EndsReplay file report thread (Ok a) = IsReplayOf file report thread (answer_text a)
 EndsReplay file report thread (Err (refusal.BadReport line kind)) =
-    (rejection_of IsReport report ≡ Some (NoReport (record { line = line; kind = kind })))
+    (rejection_of ReportFile report ≡ Some (NoReport (record { line = line; kind = kind })))
     ⊎ IsMismatched file report thread (record { line = line; kind = kind })
 EndsReplay file report thread (Err (refusal.Differs it)) = DiffersSo file report thread (difference_text it)
 EndsReplay file report thread (Err refusal.Memory) = Unit {0}

@@ -11,7 +11,7 @@ ghost use Rattle.edge_io.specs.Sink.{Writes};
 ghost use Rattle.elf_loader.specs.Loading.{Loads};
 ghost use Rattle.smemu.specs.Answers.{IsReportOf, IsProgramOf};
 ghost use Rattle.smemu.specs.Ends.{change, call, IsDone, IsRefused, IsComplete, Fetches, FetchesReached};
-ghost use Rattle.smemu.specs.Requests.{IsProgram, IsSource, files_named};
+ghost use Rattle.smemu.specs.Requests.{ProgramFile, SourceFile, files_named};
 ghost use Rattle.smemu.specs.Views.{run_text, end_text, end_status, IsFront, IsUnread, IsRejected};
 ghost use Rattle.smemu.specs.Views.{EndsRequest, EndsWords};
 
@@ -60,7 +60,7 @@ fn fetch_file<F: Files>(
 /// The image of a program file.
 fn load_file(alloc: Global, file: &[u8]) -> Result<Image, Refusal>
     ensures loads { IfOk result (λ image. Loads file.now image) }
-    ensures rejected { IfErr result (IsRejected IsProgram file.now) }
+    ensures rejected { IfErr result (IsRejected ProgramFile file.now) }
 {
     match load(alloc, file) {
         Ok(image) => Ok(image),
@@ -93,7 +93,7 @@ fn run_image(
 /// The program file that a source is assembled to.
 fn assemble_file(alloc: Global, source: &[u8]) -> Result<Vec<u8>, Refusal>
     ensures program { IfOk result (λ file. IsProgramOf source.now file.items) }
-    ensures rejected { IfErr result (IsRejected IsSource source.now) }
+    ensures rejected { IfErr result (IsRejected SourceFile source.now) }
 {
     match assemble(alloc, source) {
         Ok(object) => write_object(alloc, source, &object),
@@ -107,7 +107,7 @@ fn write_object(alloc: Global, source: &[u8], object: &Object) -> Result<Vec<u8>
     requires assembles { Assembles source.now object.now }
     requires sound { IsWritable object.now }
     ensures program { IfOk result (λ file. IsProgramOf source.now file.items) }
-    ensures rejected { IfErr result (IsRejected IsSource source.now) }
+    ensures rejected { IfErr result (IsRejected SourceFile source.now) }
 {
     match write_elf(alloc, object) {
         Ok(file) => Ok(file),

@@ -9,7 +9,7 @@ ghost use Rattle.report_reader.specs.Report.{report_in};
 ghost use Rattle.report_reader.specs.Told.{block_said, report_said, StandsIn};
 ghost use Rattle.report_text.specs.Block.{block_text};
 ghost use Rattle.smemu.specs.Replay as spec;
-ghost use Rattle.smemu.specs.Requests.{IsReport};
+ghost use Rattle.smemu.specs.Requests.{ReportFile};
 ghost use Rattle.smemu.specs.Views.{IsUnmatched};
 ghost use Rattle.smemu.specs.declared.refusal.Refusal.TheVariants as refusals;
 ghost use Rattle.smemu.specs.Views.{ComparesSo, EndsReplay, IsOtherLine, IsPartedRefusal, IsRejected};
@@ -34,7 +34,7 @@ fn read_file(alloc: Global, bytes: &[u8]) -> Result<Report, Refusal>
     ensures reads { IfOk result (λ report. report_in bytes.now ≡ Ok (report_said report)) }
     ensures cores { IfOk result (λ report. report.config.cores ≡ 1) }
     ensures places { IfOk result (λ report. All (StandsIn bytes.now) report.blocks.items) }
-    ensures rejected { IfErr result (IsRejected IsReport bytes.now) }
+    ensures rejected { IfErr result (IsRejected ReportFile bytes.now) }
 {
     match read_report(alloc, bytes) {
         Ok(report) => Ok(report),

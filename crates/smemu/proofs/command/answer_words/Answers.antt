@@ -3,7 +3,7 @@ use Rattle.std.specs.String.{string_bytes}
 use Rattle.cmd_words.specs.Options.{options_of}
 use Rattle.cmd_words.specs.Words.{AsksRun, AsksListing, AsksAssembly, AsksReplay, usage_fault, command_of}
 use Rattle.edge_io.specs.Cause.{Rose}
-use Rattle.smemu.specs.Requests.{IsProgram, IsSource, files_asked}
+use Rattle.smemu.specs.Requests.{ProgramFile, SourceFile, files_asked}
 use Rattle.smemu.specs.Views.{end_status}
 use Rattle.smemu.specs.declared.status.Status.TheVariants.{Usage}
 use Rattle.smemu.proofs.Ends.{fetches_one, fetches_asked, fetches_none, no_request, usage_stands}
@@ -21,7 +21,7 @@ returns-in-Ok-Run-clause-fetched g c =
     (Rose (g.F.Files.view c.args.files.now).faults (g.F.Files.view c.run_program.new.files).faults) c.args.files.now c.run_program.new.files
     (end_status c.run_program.result) (command_of (map string_bytes c.args.words.now))
     (AsksRun (string_bytes c.in-Ok-Run.program) (options_of c.in-Ok-Run.config))
-    (record { name = string_bytes c.in-Ok-Run.program; kind = IsProgram }) (rw c.in-Ok-Run.field-0-is at c.in-Ok-Run.ensures.command) refl
+    (record { name = string_bytes c.in-Ok-Run.program; kind = ProgramFile }) (rw c.in-Ok-Run.field-0-is at c.in-Ok-Run.ensures.command) refl
     c.run_program.ensures.fetched
 
 pub returns-in-Ok-Dis-clause-fetched : goal.returns-in-Ok-Dis-clause-fetched
@@ -30,7 +30,7 @@ returns-in-Ok-Dis-clause-fetched g c =
     (Rose (g.F.Files.view c.args.files.now).faults
     (g.F.Files.view c.list_program.new.files).faults) c.args.files.now c.list_program.new.files
     (end_status c.list_program.result) (command_of (map string_bytes c.args.words.now)) (AsksListing (string_bytes c.in-Ok-Dis.program))
-    (record { name = string_bytes c.in-Ok-Dis.program; kind = IsProgram }) (rw c.in-Ok-Dis.field-0-is at c.in-Ok-Dis.ensures.command) refl
+    (record { name = string_bytes c.in-Ok-Dis.program; kind = ProgramFile }) (rw c.in-Ok-Dis.field-0-is at c.in-Ok-Dis.ensures.command) refl
     c.list_program.ensures.fetched
 
 pub returns-in-Ok-Asm-clause-fetched : goal.returns-in-Ok-Asm-clause-fetched
@@ -40,7 +40,7 @@ returns-in-Ok-Asm-clause-fetched g c =
     (g.F.Files.view c.assemble_source.new.files).faults) c.args.files.now c.assemble_source.new.files
     (end_status c.assemble_source.result) (command_of (map string_bytes c.args.words.now))
     (AsksAssembly (string_bytes c.in-Ok-Asm.source))
-    (record { name = string_bytes c.in-Ok-Asm.source; kind = IsSource }) (rw c.in-Ok-Asm.field-0-is at c.in-Ok-Asm.ensures.command) refl
+    (record { name = string_bytes c.in-Ok-Asm.source; kind = SourceFile }) (rw c.in-Ok-Asm.field-0-is at c.in-Ok-Asm.ensures.command) refl
     c.assemble_source.ensures.fetched
 
 pub returns-in-Ok-Replay-clause-fetched : goal.returns-in-Ok-Replay-clause-fetched

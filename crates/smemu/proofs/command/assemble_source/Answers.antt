@@ -2,7 +2,7 @@ use Rattle.std.proofs.Common.{rules, lit<, [], refl, Err}
 use Rattle.std.specs.String.{string_bytes}
 use Rattle.cmd_words.specs.Words.{AsksAssembly}
 use Rattle.smemu.specs.Ends.{change}
-use Rattle.smemu.specs.Requests.{IsSource}
+use Rattle.smemu.specs.Requests.{SourceFile}
 use Rattle.smemu.specs.Views.{EndsRequest}
 use Rattle.smemu.specs.declared.command.TheConstants.{FETCH_LIMIT}
 use Rattle.smemu.proofs.Ends.{unread_ends, rejected_ends, source_file}
@@ -13,18 +13,18 @@ pub returns-in_err-file-clause-ends : goal.returns-in_err-file-clause-ends
 returns-in_err-file-clause-ends g c =
     let files = change g.F.Files.view c.args.files.now c.fetch_file.new.files in
     let ends : EndsRequest (AsksAssembly (string_bytes c.args.source)) files (Err c.in_err-file.field-0.0) =
-    unread_ends (AsksAssembly (string_bytes c.args.source)) (record { name = string_bytes c.args.source; kind = IsSource }) files
+    unread_ends (AsksAssembly (string_bytes c.args.source)) (record { name = string_bytes c.args.source; kind = SourceFile }) files
     c.in_err-file.field-0.0 (front_reached (g.F.Files.view c.args.files.now).told
-    (record { name = string_bytes c.args.source; kind = IsSource }) []) c.in_err-file.ensures.unread in
+    (record { name = string_bytes c.args.source; kind = SourceFile }) []) c.in_err-file.ensures.unread in
     search rules
 
 pub returns-in_err-program-clause-ends : goal.returns-in_err-program-clause-ends
 returns-in_err-program-clause-ends g c =
     let files = change g.F.Files.view c.args.files.now c.fetch_file.new.files in
     let ends : EndsRequest (AsksAssembly (string_bytes c.args.source)) files (Err c.in_err-program.field-0.0) =
-    rejected_ends (AsksAssembly (string_bytes c.args.source)) (record { name = string_bytes c.args.source; kind = IsSource }) files
+    rejected_ends (AsksAssembly (string_bytes c.args.source)) (record { name = string_bytes c.args.source; kind = SourceFile }) files
     FETCH_LIMIT c.in_ok-file.file.items c.in_err-program.field-0.0 (front_reached (g.F.Files.view c.args.files.now).told
-    (record { name = string_bytes c.args.source; kind = IsSource }) []) (lit< tt) c.in_ok-file.ensures.front
+    (record { name = string_bytes c.args.source; kind = SourceFile }) []) (lit< tt) c.in_ok-file.ensures.front
     (rw c.as_slice.ensures.value at c.in_err-program.ensures.rejected) in
     search rules
 

@@ -2,7 +2,7 @@ use Rattle.std.proofs.Common.{rules, lit<, [], refl, Err}
 use Rattle.std.specs.String.{string_bytes}
 use Rattle.cmd_words.specs.Words.{AsksListing}
 use Rattle.smemu.specs.Ends.{change}
-use Rattle.smemu.specs.Requests.{IsProgram}
+use Rattle.smemu.specs.Requests.{ProgramFile}
 use Rattle.smemu.specs.Views.{EndsRequest}
 use Rattle.smemu.specs.declared.command.TheConstants.{FETCH_LIMIT}
 use Rattle.smemu.proofs.Ends.{unread_ends, rejected_ends, program_file}
@@ -13,18 +13,18 @@ pub returns-in_err-file-clause-ends : goal.returns-in_err-file-clause-ends
 returns-in_err-file-clause-ends g c =
     let files = change g.F.Files.view c.args.files.now c.fetch_file.new.files in
     let ends : EndsRequest (AsksListing (string_bytes c.args.program)) files (Err c.in_err-file.field-0.0) =
-    unread_ends (AsksListing (string_bytes c.args.program)) (record { name = string_bytes c.args.program; kind = IsProgram }) files
+    unread_ends (AsksListing (string_bytes c.args.program)) (record { name = string_bytes c.args.program; kind = ProgramFile }) files
     c.in_err-file.field-0.0 (front_reached (g.F.Files.view c.args.files.now).told
-    (record { name = string_bytes c.args.program; kind = IsProgram }) []) c.in_err-file.ensures.unread in
+    (record { name = string_bytes c.args.program; kind = ProgramFile }) []) c.in_err-file.ensures.unread in
     search rules
 
 pub returns-in_err-image-clause-ends : goal.returns-in_err-image-clause-ends
 returns-in_err-image-clause-ends g c =
     let files = change g.F.Files.view c.args.files.now c.fetch_file.new.files in
     let ends : EndsRequest (AsksListing (string_bytes c.args.program)) files (Err c.in_err-image.field-0.0) =
-    rejected_ends (AsksListing (string_bytes c.args.program)) (record { name = string_bytes c.args.program; kind = IsProgram }) files
+    rejected_ends (AsksListing (string_bytes c.args.program)) (record { name = string_bytes c.args.program; kind = ProgramFile }) files
     FETCH_LIMIT c.in_ok-file.file.items c.in_err-image.field-0.0 (front_reached (g.F.Files.view c.args.files.now).told
-    (record { name = string_bytes c.args.program; kind = IsProgram }) []) (lit< tt) c.in_ok-file.ensures.front
+    (record { name = string_bytes c.args.program; kind = ProgramFile }) []) (lit< tt) c.in_ok-file.ensures.front
     (rw c.as_slice.ensures.value at c.in_err-image.ensures.rejected) in
     search rules
 

@@ -4,7 +4,7 @@ use Rattle.std.specs.String.{string_bytes}
 use Rattle.cmd_words.specs.Words.{AsksReplay}
 use Rattle.edge_io.specs.Cause.{Rose}
 use Rattle.smemu.specs.Ends.{change, FetchesReached}
-use Rattle.smemu.specs.Requests.{IsProgram, IsReport, NoProgram, files_named}
+use Rattle.smemu.specs.Requests.{ProgramFile, ReportFile, NoProgram, files_named}
 use Rattle.smemu.specs.Views.{EndsRequest, refusal_status}
 use Rattle.smemu.specs.declared.command.TheConstants.{FETCH_LIMIT, REPORT_LIMIT}
 use Rattle.smemu.proofs.Ends.{unread_ends, rejected_ends, program_file, unread_later, front_later, report_unread, replay_ends}
@@ -18,9 +18,9 @@ returns-in_err-file-clause-ends g c =
     let request = AsksReplay program (string_bytes c.args.report) c.args.thread in
     let files = change g.F.Files.view c.args.files.now c.fetch_file.new.files in
     let ends : EndsRequest request files (Err c.in_err-file.field-0.0) =
-    unread_ends request (record { name = program; kind = IsProgram }) files c.in_err-file.field-0.0
-    (front_reached files.before.told (record { name = program; kind = IsProgram })
-    (record { name = string_bytes c.args.report; kind = IsReport } ∷ [])) c.in_err-file.ensures.unread in
+    unread_ends request (record { name = program; kind = ProgramFile }) files c.in_err-file.field-0.0
+    (front_reached files.before.told (record { name = program; kind = ProgramFile })
+    (record { name = string_bytes c.args.report; kind = ReportFile } ∷ [])) c.in_err-file.ensures.unread in
     search rules
 
 pub returns-in_err-file-clause-fetched : goal.returns-in_err-file-clause-fetched
@@ -28,7 +28,7 @@ returns-in_err-file-clause-fetched g c =
     let files = change g.F.Files.view c.args.files.now c.fetch_file.new.files in
     let fetched =
     fetches_unread g.F.Files.fetched files c.args.files.now c.fetch_file.new.files
-    (record { name = string_bytes c.args.program; kind = IsProgram }) (record { name = string_bytes c.args.report; kind = IsReport })
+    (record { name = string_bytes c.args.program; kind = ProgramFile }) (record { name = string_bytes c.args.report; kind = ReportFile })
     c.in_err-file.field-0.0 c.fetch_file.ensures.fetched c.in_err-file.ensures.unread in
     search rules
 
@@ -38,9 +38,9 @@ returns-in_err-image-clause-ends g c =
     let request = AsksReplay program (string_bytes c.args.report) c.args.thread in
     let files = change g.F.Files.view c.args.files.now c.fetch_file.new.files in
     let ends : EndsRequest request files (Err c.in_err-image.field-0.0) =
-    rejected_ends request (record { name = program; kind = IsProgram }) files FETCH_LIMIT c.in_ok-file.file.items c.in_err-image.field-0.0
-    (front_reached files.before.told (record { name = program; kind = IsProgram })
-    (record { name = string_bytes c.args.report; kind = IsReport } ∷ [])) (lit< tt) c.in_ok-file.ensures.front
+    rejected_ends request (record { name = program; kind = ProgramFile }) files FETCH_LIMIT c.in_ok-file.file.items c.in_err-image.field-0.0
+    (front_reached files.before.told (record { name = program; kind = ProgramFile })
+    (record { name = string_bytes c.args.report; kind = ReportFile } ∷ [])) (lit< tt) c.in_ok-file.ensures.front
     (rw c.as_slice.ensures.value at c.in_err-image.ensures.rejected) in
     search rules
 
@@ -49,8 +49,8 @@ returns-in_err-image-clause-fetched g c =
     let old = g.F.Files.view c.args.files.now in
     let fetched =
     fetches_rejected g.F.Files.fetched old.told (Rose old.faults (g.F.Files.view c.fetch_file.new.files).faults) c.args.files.now
-    c.fetch_file.new.files (record { name = string_bytes c.args.program; kind = IsProgram })
-    (record { name = string_bytes c.args.report; kind = IsReport }) c.fetch_file.ensures.fetched FETCH_LIMIT c.in_ok-file.file.items
+    c.fetch_file.new.files (record { name = string_bytes c.args.program; kind = ProgramFile })
+    (record { name = string_bytes c.args.report; kind = ReportFile }) c.fetch_file.ensures.fetched FETCH_LIMIT c.in_ok-file.file.items
     (lit< tt) c.in_ok-file.ensures.front c.in_err-image.field-0.0 (rw c.as_slice.ensures.value at c.in_err-image.ensures.rejected) in
     search rules
 
@@ -75,8 +75,8 @@ returns-in_err-bytes-clause-fetched g c =
     let loads = rw c.as_slice.ensures.value at c.in_ok-image.ensures.loads in
     let is_file = program_file old.told FETCH_LIMIT program c.in_ok-file.file.items (lit< tt) c.in_ok-file.ensures.front loads.accepted in
     fetches_two g.F.Files.fetched old.told (Rose old.faults (g.F.Files.view c.fetch_file-2.new.files).faults) c.args.files.now
-    c.fetch_file.new.files c.fetch_file-2.new.files _ (record { name = program; kind = IsProgram })
-    (record { name = string_bytes c.args.report; kind = IsReport }) c.in_ok-file.file.items c.fetch_file.ensures.fetched
+    c.fetch_file.new.files c.fetch_file-2.new.files _ (record { name = program; kind = ProgramFile })
+    (record { name = string_bytes c.args.report; kind = ReportFile }) c.in_ok-file.file.items c.fetch_file.ensures.fetched
     c.fetch_file-2.ensures.fetched is_file (ap (option_map NoProgram) loads.accepted)
 
 pub returns-clause-ends : goal.returns-clause-ends
@@ -99,6 +99,6 @@ returns-clause-fetched g c =
     let loads = rw c.as_slice.ensures.value at c.in_ok-image.ensures.loads in
     let is_file = program_file old.told FETCH_LIMIT program c.in_ok-file.file.items (lit< tt) c.in_ok-file.ensures.front loads.accepted in
     fetches_two g.F.Files.fetched old.told (Rose old.faults (g.F.Files.view c.fetch_file-2.new.files).faults) c.args.files.now
-    c.fetch_file.new.files c.fetch_file-2.new.files _ (record { name = program; kind = IsProgram })
-    (record { name = string_bytes c.args.report; kind = IsReport }) c.in_ok-file.file.items c.fetch_file.ensures.fetched
+    c.fetch_file.new.files c.fetch_file-2.new.files _ (record { name = program; kind = ProgramFile })
+    (record { name = string_bytes c.args.report; kind = ReportFile }) c.in_ok-file.file.items c.fetch_file.ensures.fetched
     c.fetch_file-2.ensures.fetched is_file (ap (option_map NoProgram) loads.accepted)
