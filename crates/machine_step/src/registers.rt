@@ -1,5 +1,6 @@
-//! The instructions that read and write registers alone. Once the modes allow them they neither raise nor
-//! ask, and so a step looks at what they came to no further.
+//! Instructions of registers alone, executed at once: once the modes allow them they neither raise nor ask,
+//! and so a step looks at what they came to no further. Those of the system, such as MRS and SMSTART, are
+//! executed with the others, by `execute_on`.
 ghost use Rattle.std.specs.Prelude.{ℕ, ◌≡◌, Some, true, false};
 ghost use Rattle.a64_encode.specs.Either.{instruction_of};
 ghost use Rattle.a64_table.specs.Ranges.{IsInRow};
