@@ -1,7 +1,6 @@
 -- The symbols of a file that was written are the mapping symbols.
 use Rattle.std.proofs.Common.{◌≡◌, ℕ, zero, suc, ◌+◌, ◌*◌, ◌/◌, ◌%◌, ◌^◌, ◌<◌, Bool, true, false, List, [], ◌∷◌, ◌++◌, length, get_or, drop}
 use Rattle.std.proofs.Common.{map, replicate, Option, Some, None, refl, ap, ◌∙◌, arith, append_assoc}
-use Rattle.std.specs.Prelude.{cond, if◌then◌else◌}
 use Rattle.byteorder.specs.Endian.{little_number}
 use Rattle.elf_headers.specs.Below.{answers, answers_below}
 use Rattle.elf_headers.specs.Header.{number_at}
@@ -20,7 +19,7 @@ use Rattle.elf_writer.specs.declared.mapping_symbols.TextMapping.{TextMapping}
 use Rattle.elf_writer.specs.declared.file.TheConstants.{STRINGS}
 use Rattle.elf_writer.specs.Layout.{fields_bytes, text_section, data_section, symbols_section, strings_section, symbols_offset}
 use Rattle.elf_writer.specs.File.{name_index, symbol_fields, mapping_bytes, symbols_bytes}
-use Rattle.elf_writer.proofs.Fields.{drop-past, offset, value, read_field}
+use Rattle.elf_writer.proofs.Fields.{drop-past, offset, read_field}
 use Rattle.elf_writer.proofs.Reading.{IsFile, Reads, reads, names, past-data, drop-more}
 use Rattle.elf_writer.proofs.Headers.{section_count-is, section_of-0, section_of-text, section_of-data, section_of-symbols}
 use Rattle.elf_writer.proofs.Headers.{section_of-strings, section_of-names}

@@ -16,8 +16,8 @@ use sm_types::Insn;
 use sve_table::is_vector;
 
 impl Machine {
-    /// Executes the instruction of a word, where it reads and writes registers alone and the modes allow it,
-    /// and tells whether it did. Else nothing has changed.
+    /// Executes the instruction of a word, where it is one of these and the modes allow it, and tells whether it
+    /// did. Else nothing has changed.
     #[inline]
     pub(crate) fn compute(&mut self, word: u32, insn: &Insn, bank: &mut Bank) -> bool
         requires means { instruction_of word ≡ Some insn.now }
