@@ -96,7 +96,7 @@ abbrev pub governing_mapping : ℕ → Option Mapping → List Mapping → Optio
 governing_mapping a best [] = best
 governing_mapping a best (m ∷ ms) = governing_mapping a (later_mapping a best m) ms
 
--- what was said before, if anything was, is what is said now
+-- something was said before, and it is what is said now
 abbrev pub is_same : Option Content → Content → Bool
 is_same (Some content.Code) content.Code = true
 is_same (Some content.Data) content.Data = true

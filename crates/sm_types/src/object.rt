@@ -12,7 +12,7 @@ pub enum Section {
     Data,
 }
 
-/// What bytes of a text are, as a mapping symbol tells it (ELF for the Arm 64-bit Architecture).
+/// What bytes of a section are, as a mapping symbol tells it (ELF for the Arm 64-bit Architecture).
 #[derive(Clone, Copy, Debug, PartialEq, Eq)]
 pub enum Content {
     /// Instructions, from the mapping symbol `$x` on.
