@@ -1,14 +1,15 @@
 -- What a context is, and what its turns are.
-use Rattle.std.specs.Prelude.{◌≡◌, ℕ, List, [], ◌∷◌, Option, Some, None, length, drop}
+use Rattle.std.specs.Prelude.{◌≡◌, ℕ, List, [], ◌∷◌, ◌++◌, Option, Some, None, length, drop}
 use Rattle.sm_types.specs.declared.config.Config.{Config}
 use Rattle.sm_types.specs.declared.shared_op.SharedOp.{SharedOp}
 use Rattle.sm_types.specs.declared.shared_op.Event.{Event}
+use Rattle.sm_types.specs.declared.shared_words.Entry.{Entry}
 use Rattle.sm_types.specs.declared.stop.Stop.{Stop}
 use Rattle.paged_memory.specs.Image.{Program}
 use Rattle.mem_access.specs.Bank.{bank_state}
 use Rattle.mem_access.specs.declared.bank.Bank.{Bank}
 use Rattle.machine_step.specs.ProcessorState.{VectorState}
-use Rattle.machine_step.specs.Step.{Refusals}
+use Rattle.machine_step.specs.Step.{Refusals, entries_of}
 use Rattle.machine_step.specs.declared.machine.Machine.{Machine}
 use Rattle.kernel_contexts.specs.State.{State}
 pub use Rattle.kernel_contexts.specs.Guest.{guest_state, held_state}
@@ -111,6 +112,19 @@ TurnsOver refusals end old new made stopped TraceDiffers =
     AsksFor end refusals.strays × (new ≡ old) × (made ≡ []) × (stopped ≡ None)
 TurnsOver refusals end old new made stopped Memory = (new ≡ old) × (made ≡ []) × (stopped ≡ None)
 
+-- the events at the end of a journal that were not in it before
+abbrev pub made_since : List Event → List Event → List Event
+made_since old new = drop (length old) new
+
+-- the events that a guest thread made
+abbrev pub guest_made : GuestThread → GuestThread → List Event
+guest_made old new = made_since old.journal.items new.journal.items
+
+-- the answer of a guest thread's turn, its state, the events that it made and its stop are those of the turn
+abbrev pub GuestTurns : Refusals → TurnEnd → GuestThread → GuestThread → Turn → Type 0
+GuestTurns refusals end old new turn =
+    TurnsOver refusals end (held_state old) (held_state new) (guest_made old new) new.stop turn
+
 -- the turn of a guest thread
 abbrev pub guest_turn : GuestThread → TurnEnd
 guest_turn g = turn_of g.config g.number (length g.journal.items) (held_state g)
@@ -128,10 +142,6 @@ guest_instruction g = instruction_of g.config g.number (length g.journal.items) 
 -- a turn that asks nothing, of a guest thread before and after
 abbrev pub Takes : TurnEnd → GuestThread → GuestThread → Turn → Type 0
 Takes end old new turn = Turns end (held_state old) (held_state new) new.stop turn
-
--- the events at the end of a journal that were not in it before
-abbrev pub made_since : List Event → List Event → List Event
-made_since old new = drop (length old) new
 
 -- a context that is stopped answers its stop and stays as it is
 abbrev pub Stays : Stop → Context → Context → Turn → Type 0
@@ -158,7 +168,13 @@ pub record IsSameGuest (old new : GuestThread) : Type 0 where
   pub config : new.config ≡ old.config
   pub number : new.number ≡ old.number
 
--- and its journal is the same
+-- and its journal grows by the events that it made, each given as an entry of a history
+pub record Grows (gives : List Entry → Type 0) (old new : GuestThread) : Type 0 where
+  pub same : IsSameGuest old new
+  pub journal : new.journal.items ≡ old.journal.items ++ guest_made old new
+  pub given : gives (entries_of old.number (guest_made old new))
+
+-- or its journal is the same
 pub record IsQuietGuest (old new : GuestThread) : Type 0 where
   pub config : new.config ≡ old.config
   pub number : new.number ≡ old.number
@@ -169,3 +185,11 @@ pub record IsSameThread (old new : Context) : Type 0 where
   pub config : config_of new ≡ config_of old
   pub thread : thread_of new ≡ thread_of old
   pub image : image_of new ≡ image_of old
+
+-- a ticket is the guest thread's: it has this number, it tells these events, and it belongs to a port of its
+-- own name
+pub record IsTicketOf (number : Option ℕ) (events : List Event) (port_of_ticket port : List ℕ)
+    (g : GuestThread) : Type 0 where
+  pub has_number : number ≡ Some g.number
+  pub has_journal : events ≡ g.journal.items
+  pub belongs : port_of_ticket ≡ port

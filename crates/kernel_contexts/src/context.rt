@@ -51,7 +51,7 @@ impl Context {
     ghost use Rattle.kernel_contexts.specs.HandlerTable.{handlers_of};
     ghost use Rattle.kernel_contexts.specs.Context.{state_of, config_of, thread_of, stop_of, machine_of};
     ghost use Rattle.kernel_contexts.specs.Context.{save_area_of, image_of, journal_of, made_by};
-    ghost use Rattle.machine_step.specs.Step.{entries_of};
+    ghost use Rattle.machine_step.specs.Step.{entries_of, refusing};
     ghost use Rattle.kernel_contexts.specs.Context.{TurnsOrStays, IsSameThread};
     ghost use Rattle.shared_region.specs.Chain.{Chain};
 
@@ -84,12 +84,8 @@ impl Context {
         requires number { P.number ticket.old ≡ Some (thread_of self.old) }
         requires belongs { P.ticket_name ticket.old ≡ P.name port.old }
         requires journal { P.events ticket.old ≡ journal_of self.old }
-        ensures turn { TurnsOrStays (stop_of self.old) (record {
-          ends = P.ends port.old ticket.old;
-          strays = P.strays port.old ticket.old;
-          takes_memory = P.takes_memory;
-        })
-            self.old self.new result }
+        ensures turn { TurnsOrStays (stop_of self.old) (refusing (P.ends port.old ticket.old)
+            (P.strays port.old ticket.old) P.takes_memory) self.old self.new result }
         ensures grows { journal_of self.new ≡ journal_of self.old ++ made_by self.old self.new }
         ensures gives { Chain P.gives port.old ticket.old
             (entries_of (thread_of self.old) (made_by self.old self.new)) port.new ticket.new }

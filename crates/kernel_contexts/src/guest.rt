@@ -82,8 +82,8 @@ impl GuestThread {
     ghost use Rattle.kernel_contexts.specs.Context.{held_state, guest_turn, guest_instruction};
     ghost use Rattle.kernel_contexts.specs.Context.{IsSameGuest, IsQuietGuest};
     ghost use Rattle.kernel_contexts.specs.Turn as turn;
-    ghost use Rattle.kernel_contexts.specs.Context.{TurnsOver, made_since};
-    ghost use Rattle.machine_step.specs.Step.{events_of, entries_of};
+    ghost use Rattle.kernel_contexts.specs.Context.{GuestTurns, Grows, IsTicketOf};
+    ghost use Rattle.machine_step.specs.Step.{events_of, refusing};
     ghost use Rattle.shared_region.specs.Chain.{Chain};
 
     /// A thread before its first turn, with its pages, its save area and its decoder taken at once.
@@ -135,24 +135,14 @@ impl GuestThread {
     #[inline]
     pub fn make_turn<P: Port>(&mut self, port: &mut P, ticket: &mut P::Ticket) -> Turn
         requires runs { self.old.stop ≡ None }
-        requires number { P.number ticket.old ≡ Some self.old.number }
-        requires belongs { P.ticket_name ticket.old ≡ P.name port.old }
-        requires journal { P.events ticket.old ≡ self.old.journal.items }
-        ensures turn { TurnsOver (record {
-          ends = P.ends port.old ticket.old;
-          strays = P.strays port.old ticket.old;
-          takes_memory = P.takes_memory;
-        })
-            (guest_turn self.old) (held_state self.old) (held_state self.new)
-            (made_since self.old.journal.items self.new.journal.items) self.new.stop result }
-        ensures grows { self.new.journal.items ≡
-            self.old.journal.items ++ made_since self.old.journal.items self.new.journal.items }
-        ensures gives { Chain P.gives port.old ticket.old (entries_of self.old.number
-            (made_since self.old.journal.items self.new.journal.items)) port.new ticket.new }
-        ensures journal { P.events ticket.new ≡ self.new.journal.items }
-        ensures number { P.number ticket.new ≡ Some self.old.number }
-        ensures belongs { P.ticket_name ticket.new ≡ P.name port.new }
-        ensures same { IsSameGuest self.old self.new }
+        requires ticket { IsTicketOf (P.number ticket.old) (P.events ticket.old) (P.ticket_name ticket.old)
+            (P.name port.old) self.old }
+        ensures turn { GuestTurns (refusing (P.ends port.old ticket.old) (P.strays port.old ticket.old)
+            P.takes_memory) (guest_turn self.old) self.old self.new result }
+        ensures grows { Grows (λ entries. Chain P.gives port.old ticket.old entries port.new ticket.new)
+            self.old self.new }
+        ensures ticket { IsTicketOf (P.number ticket.new) (P.events ticket.new) (P.ticket_name ticket.new)
+            (P.name port.new) self.new }
     {
         if self.count < self.watch {
             self.execute(port, ticket)
@@ -166,24 +156,14 @@ impl GuestThread {
     fn make_watched_turn<P: Port>(&mut self, port: &mut P, ticket: &mut P::Ticket) -> Turn
         requires runs { self.old.stop ≡ None }
         requires watched { self.old.count ≡ self.old.watch }
-        requires number { P.number ticket.old ≡ Some self.old.number }
-        requires belongs { P.ticket_name ticket.old ≡ P.name port.old }
-        requires journal { P.events ticket.old ≡ self.old.journal.items }
-        ensures turn { TurnsOver (record {
-          ends = P.ends port.old ticket.old;
-          strays = P.strays port.old ticket.old;
-          takes_memory = P.takes_memory;
-        })
-            (guest_turn self.old) (held_state self.old) (held_state self.new)
-            (made_since self.old.journal.items self.new.journal.items) self.new.stop result }
-        ensures grows { self.new.journal.items ≡
-            self.old.journal.items ++ made_since self.old.journal.items self.new.journal.items }
-        ensures gives { Chain P.gives port.old ticket.old (entries_of self.old.number
-            (made_since self.old.journal.items self.new.journal.items)) port.new ticket.new }
-        ensures journal { P.events ticket.new ≡ self.new.journal.items }
-        ensures number { P.number ticket.new ≡ Some self.old.number }
-        ensures belongs { P.ticket_name ticket.new ≡ P.name port.new }
-        ensures same { IsSameGuest self.old self.new }
+        requires ticket { IsTicketOf (P.number ticket.old) (P.events ticket.old) (P.ticket_name ticket.old)
+            (P.name port.old) self.old }
+        ensures turn { GuestTurns (refusing (P.ends port.old ticket.old) (P.strays port.old ticket.old)
+            P.takes_memory) (guest_turn self.old) self.old self.new result }
+        ensures grows { Grows (λ entries. Chain P.gives port.old ticket.old entries port.new ticket.new)
+            self.old self.new }
+        ensures ticket { IsTicketOf (P.number ticket.new) (P.events ticket.new) (P.ticket_name ticket.new)
+            (P.name port.new) self.new }
     {
         if self.count == self.config.budget {
             return self.stop_with(Stop::Budget);
@@ -216,24 +196,14 @@ impl GuestThread {
     fn execute<P: Port>(&mut self, port: &mut P, ticket: &mut P::Ticket) -> Turn
         requires runs { self.old.stop ≡ None }
         requires count { self.old.count < self.old.config.budget }
-        requires number { P.number ticket.old ≡ Some self.old.number }
-        requires belongs { P.ticket_name ticket.old ≡ P.name port.old }
-        requires journal { P.events ticket.old ≡ self.old.journal.items }
-        ensures turn { TurnsOver (record {
-          ends = P.ends port.old ticket.old;
-          strays = P.strays port.old ticket.old;
-          takes_memory = P.takes_memory;
-        })
-            (guest_instruction self.old) (held_state self.old) (held_state self.new)
-            (made_since self.old.journal.items self.new.journal.items) self.new.stop result }
-        ensures grows { self.new.journal.items ≡
-            self.old.journal.items ++ made_since self.old.journal.items self.new.journal.items }
-        ensures gives { Chain P.gives port.old ticket.old (entries_of self.old.number
-            (made_since self.old.journal.items self.new.journal.items)) port.new ticket.new }
-        ensures journal { P.events ticket.new ≡ self.new.journal.items }
-        ensures number { P.number ticket.new ≡ Some self.old.number }
-        ensures belongs { P.ticket_name ticket.new ≡ P.name port.new }
-        ensures same { IsSameGuest self.old self.new }
+        requires ticket { IsTicketOf (P.number ticket.old) (P.events ticket.old) (P.ticket_name ticket.old)
+            (P.name port.old) self.old }
+        ensures turn { GuestTurns (refusing (P.ends port.old ticket.old) (P.strays port.old ticket.old)
+            P.takes_memory) (guest_instruction self.old) self.old self.new result }
+        ensures grows { Grows (λ entries. Chain P.gives port.old ticket.old entries port.new ticket.new)
+            self.old self.new }
+        ensures ticket { IsTicketOf (P.number ticket.new) (P.events ticket.new) (P.ticket_name ticket.new)
+            (P.name port.new) self.new }
     {
         if self.journal.reserve(1).is_err() {
             return Turn::Memory;

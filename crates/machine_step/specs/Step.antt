@@ -20,6 +20,11 @@ pub record Refusals : Type 1 where
   pub strays : SharedOp → Type 0
   pub takes_memory : Type 0
 
+-- those of a port that refuses these operations, each for its reason, and may take memory
+abbrev pub refusing : (SharedOp → Type 0) → (SharedOp → Type 0) → Type 0 → Refusals
+refusing ends strays takes_memory =
+    record { ends = ends; strays = strays; takes_memory = takes_memory }
+
 -- no event, or one
 abbrev pub events_of : Option Event → List Event
 events_of None = []

@@ -7,7 +7,7 @@ ghost use Rattle.machine_step.specs.Effect.{Effect, Asks, answered, effect_of};
 ghost use Rattle.machine_step.specs.Needs.{needs_bank};
 ghost use Rattle.machine_step.specs.Machine.{core_of, HasRoomToStep, IsInMode, IsSameBank, KeepsMode, Steps};
 ghost use Rattle.machine_step.specs.Machine.{IsAsked, AsksWell};
-ghost use Rattle.machine_step.specs.Step.{Tells, TellsOn, TellsAlone, events_in, entries_of};
+ghost use Rattle.machine_step.specs.Step.{Tells, TellsOn, TellsAlone, events_in, entries_of, refusing};
 ghost use Rattle.machine_step.specs.Lent.{lent_before, lent_after, IsLentInMode, Answers, ComesBack};
 
 use crate::decoder::{Decoded, Decoder};
@@ -57,11 +57,8 @@ impl Machine {
         requires number { P.number ticket.old ≡ Some thread }
         requires belongs { P.ticket_name ticket.old ≡ P.name port.old }
         ensures effect { Answers (lent_before bank.entry) (lent_after bank.exit)
-            (record {
-              ends = P.ends port.old ticket.old;
-              strays = P.strays port.old ticket.old;
-              takes_memory = P.takes_memory;
-            }) room self.old self.new result }
+            (refusing (P.ends port.old ticket.old) (P.strays port.old ticket.old) P.takes_memory)
+            room self.old self.new result }
         ensures bank { ComesBack (lent_before bank.entry) (lent_after bank.exit) self.new }
         ensures memory { HasRoomToStep self.old (lent_before bank.entry) → result ≡ StepEnd.Memory
             → P.takes_memory }
@@ -92,11 +89,8 @@ impl Machine {
         requires number { P.number ticket.old ≡ Some thread }
         requires belongs { P.ticket_name ticket.old ≡ P.name port.old }
         ensures effect { Answers (lent_before bank.entry) (lent_after bank.exit)
-            (record {
-              ends = P.ends port.old ticket.old;
-              strays = P.strays port.old ticket.old;
-              takes_memory = P.takes_memory;
-            }) room self.old self.new result }
+            (refusing (P.ends port.old ticket.old) (P.strays port.old ticket.old) P.takes_memory)
+            room self.old self.new result }
         ensures bank { ComesBack (lent_before bank.entry) (lent_after bank.exit) self.new }
         ensures memory { HasRoomToStep self.old (lent_before bank.entry) → result ≡ StepEnd.Memory
             → P.takes_memory }
@@ -134,11 +128,8 @@ impl Machine {
         requires number { P.number ticket.old ≡ Some thread }
         requires belongs { P.ticket_name ticket.old ≡ P.name port.old }
         ensures effect { TellsOn effect_of
-            (record {
-              ends = P.ends port.old ticket.old;
-              strays = P.strays port.old ticket.old;
-              takes_memory = P.takes_memory;
-            }) room self.old bank.old self.new bank.new result }
+            (refusing (P.ends port.old ticket.old) (P.strays port.old ticket.old) P.takes_memory)
+            room self.old bank.old self.new bank.new result }
         ensures same { IsSameBank bank.old bank.new }
         ensures mode { IsInMode bank.new self.new }
         ensures memory { HasRoomToStep self.old (Some bank.old) → result ≡ StepEnd.Memory → P.takes_memory }
@@ -175,11 +166,8 @@ impl Machine {
         requires number { P.number ticket.old ≡ Some thread }
         requires belongs { P.ticket_name ticket.old ≡ P.name port.old }
         ensures effect { TellsAlone needs_bank effect_of
-            (record {
-              ends = P.ends port.old ticket.old;
-              strays = P.strays port.old ticket.old;
-              takes_memory = P.takes_memory;
-            }) room self.old self.new result }
+            (refusing (P.ends port.old ticket.old) (P.strays port.old ticket.old) P.takes_memory)
+            room self.old self.new result }
         ensures memory { HasRoomToStep self.old None → result ≡ StepEnd.Memory → P.takes_memory }
         ensures kept { KeepsOwned self.old.pages self.new.pages }
         ensures gives { Chain P.gives port.old ticket.old (entries_of thread
@@ -207,11 +195,8 @@ impl Machine {
         requires belongs { P.ticket_name ticket.old ≡ P.name port.old }
         ensures tells { (bank : VectorState) (effect : Effect) (old : ProcessorState)
             → Steps effect old (core_of self.old bank) executed.now
-            → Tells (record {
-              ends = P.ends port.old ticket.old;
-              strays = P.strays port.old ticket.old;
-              takes_memory = P.takes_memory;
-            }) room effect old (core_of self.new bank) result }
+            → Tells (refusing (P.ends port.old ticket.old) (P.strays port.old ticket.old) P.takes_memory)
+            room effect old (core_of self.new bank) result }
         ensures needs { executed.now ≡ Executed.NeedsBank
             → (result ≡ StepEnd.NeedsBank) × (self.new ≡ self.old) }
         ensures memory { result ≡ StepEnd.Memory → executed.now ≢ Executed.Memory → P.takes_memory }
@@ -246,11 +231,8 @@ impl Machine {
         requires asked { IsAsked insn.now op self.old.scalars }
         requires number { P.number ticket.old ≡ Some thread }
         requires belongs { P.ticket_name ticket.old ≡ P.name port.old }
-        ensures tells { (bank : VectorState) → Tells (record {
-          ends = P.ends port.old ticket.old;
-          strays = P.strays port.old ticket.old;
-          takes_memory = P.takes_memory;
-        }) room
+        ensures tells { (bank : VectorState) → Tells
+            (refusing (P.ends port.old ticket.old) (P.strays port.old ticket.old) P.takes_memory) room
             (Asks op (answered insn.now (core_of self.old bank)))
             (core_of self.old bank) (core_of self.new bank) result }
         ensures memory { result ≡ StepEnd.Memory → P.takes_memory }

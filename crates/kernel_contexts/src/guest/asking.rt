@@ -1,6 +1,6 @@
 //! Operations that the kernel itself asks of a port: polls and posts.
-ghost use Rattle.std.specs.Prelude.{◌≡◌, ◌<◌, ◌++◌, length, None, Some, false};
-ghost use Rattle.machine_step.specs.Step.{entries_of};
+ghost use Rattle.std.specs.Prelude.{◌≡◌, ◌<◌, length, None, false};
+ghost use Rattle.machine_step.specs.Step.{refusing};
 ghost use Rattle.shared_region.specs.Chain.{Chain};
 ghost use Rattle.shared_region.specs.WordRule.{HasWord};
 
@@ -25,8 +25,8 @@ pub enum Refusal {
 impl GuestThread {
     ghost use Rattle.kernel_contexts.specs.Turn.{poll_of};
     ghost use Rattle.kernel_contexts.specs.Asked.{Asked, Refuses};
-    ghost use Rattle.kernel_contexts.specs.Context.{held_state, made_since, TurnsOver, IsSameGuest};
-    ghost use Rattle.kernel_contexts.specs.Context.{IsQuietGuest};
+    ghost use Rattle.kernel_contexts.specs.Context.{held_state, guest_made, GuestTurns, IsQuietGuest};
+    ghost use Rattle.kernel_contexts.specs.Context.{Grows, IsTicketOf};
 
     /// Makes an operation, where the journal has room for its event, and keeps that.
     pub(super) fn ask<P: Port>(
@@ -36,26 +36,17 @@ impl GuestThread {
         ticket: &mut P::Ticket,
     ) -> Result<u64, Refusal>
         requires place { HasWord op }
-        requires number { P.number ticket.old ≡ Some self.old.number }
-        requires belongs { P.ticket_name ticket.old ≡ P.name port.old }
-        requires journal { P.events ticket.old ≡ self.old.journal.items }
-        ensures made { Asked (record {
-          ends = P.ends port.old ticket.old;
-          strays = P.strays port.old ticket.old;
-          takes_memory = P.takes_memory;
-        }) op self.old.journal.items
-            (made_since self.old.journal.items self.new.journal.items) result }
+        requires ticket { IsTicketOf (P.number ticket.old) (P.events ticket.old) (P.ticket_name ticket.old)
+            (P.name port.old) self.old }
+        ensures made { Asked (refusing (P.ends port.old ticket.old) (P.strays port.old ticket.old)
+            P.takes_memory) op self.old.journal.items (guest_made self.old self.new) result }
         ensures state { held_state self.new ≡ held_state self.old }
         ensures stop { self.new.stop ≡ self.old.stop }
         ensures watch { self.new.watch ≡ self.old.watch }
-        ensures grows { self.new.journal.items ≡
-            self.old.journal.items ++ made_since self.old.journal.items self.new.journal.items }
-        ensures gives { Chain P.gives port.old ticket.old (entries_of self.old.number
-            (made_since self.old.journal.items self.new.journal.items)) port.new ticket.new }
-        ensures journal { P.events ticket.new ≡ self.new.journal.items }
-        ensures number { P.number ticket.new ≡ Some self.old.number }
-        ensures belongs { P.ticket_name ticket.new ≡ P.name port.new }
-        ensures same { IsSameGuest self.old self.new }
+        ensures grows { Grows (λ entries. Chain P.gives port.old ticket.old entries port.new ticket.new)
+            self.old self.new }
+        ensures ticket { IsTicketOf (P.number ticket.new) (P.events ticket.new) (P.ticket_name ticket.new)
+            (P.name port.new) self.new }
     {
         if self.journal.len() >= JOURNAL_LIMIT {
             return Err(Refusal::Full);
@@ -94,25 +85,15 @@ impl GuestThread {
         requires watched { self.old.count ≡ self.old.watch }
         requires count { self.old.count < self.old.config.budget }
         requires polled { self.old.polled ≡ false }
-        requires number { P.number ticket.old ≡ Some self.old.number }
-        requires belongs { P.ticket_name ticket.old ≡ P.name port.old }
-        requires journal { P.events ticket.old ≡ self.old.journal.items }
-        ensures turn { TurnsOver (record {
-          ends = P.ends port.old ticket.old;
-          strays = P.strays port.old ticket.old;
-          takes_memory = P.takes_memory;
-        })
-            (poll_of self.old.number (length self.old.journal.items) (held_state self.old))
-            (held_state self.old) (held_state self.new)
-            (made_since self.old.journal.items self.new.journal.items) self.new.stop result }
-        ensures grows { self.new.journal.items ≡
-            self.old.journal.items ++ made_since self.old.journal.items self.new.journal.items }
-        ensures gives { Chain P.gives port.old ticket.old (entries_of self.old.number
-            (made_since self.old.journal.items self.new.journal.items)) port.new ticket.new }
-        ensures journal { P.events ticket.new ≡ self.new.journal.items }
-        ensures number { P.number ticket.new ≡ Some self.old.number }
-        ensures belongs { P.ticket_name ticket.new ≡ P.name port.new }
-        ensures same { IsSameGuest self.old self.new }
+        requires ticket { IsTicketOf (P.number ticket.old) (P.events ticket.old) (P.ticket_name ticket.old)
+            (P.name port.old) self.old }
+        ensures turn { GuestTurns (refusing (P.ends port.old ticket.old) (P.strays port.old ticket.old)
+            P.takes_memory) (poll_of self.old.number (length self.old.journal.items) (held_state self.old))
+            self.old self.new result }
+        ensures grows { Grows (λ entries. Chain P.gives port.old ticket.old entries port.new ticket.new)
+            self.old self.new }
+        ensures ticket { IsTicketOf (P.number ticket.new) (P.events ticket.new) (P.ticket_name ticket.new)
+            (P.name port.new) self.new }
     {
         let op = SharedOp {
             kind: OpKind::Poll,

@@ -101,32 +101,22 @@ impl GuestThread {
     ghost use Rattle.kernel_contexts.specs.Call.{returned, Yields};
     ghost use Rattle.kernel_contexts.specs.Turn.{outside_streaming};
     ghost use Rattle.kernel_contexts.specs.Context.{held_state, guest_call, Takes, IsQuietGuest};
-    ghost use Rattle.kernel_contexts.specs.Context.{TurnsOver, made_since, IsSameGuest};
-    ghost use Rattle.machine_step.specs.Step.{entries_of};
+    ghost use Rattle.kernel_contexts.specs.Context.{GuestTurns, Grows, IsTicketOf};
+    ghost use Rattle.machine_step.specs.Step.{refusing};
     ghost use Rattle.shared_region.specs.Chain.{Chain};
 
     /// The call of the number in X8.
     pub(super) fn call<P: Port>(&mut self, port: &mut P, ticket: &mut P::Ticket) -> Turn
         requires room { self.old.count < self.old.config.budget }
         requires runs { self.old.stop ≡ None }
-        requires number { P.number ticket.old ≡ Some self.old.number }
-        requires belongs { P.ticket_name ticket.old ≡ P.name port.old }
-        requires journal { P.events ticket.old ≡ self.old.journal.items }
-        ensures turn { TurnsOver (record {
-          ends = P.ends port.old ticket.old;
-          strays = P.strays port.old ticket.old;
-          takes_memory = P.takes_memory;
-        })
-            (guest_call self.old) (held_state self.old) (held_state self.new)
-            (made_since self.old.journal.items self.new.journal.items) self.new.stop result }
-        ensures grows { self.new.journal.items ≡
-            self.old.journal.items ++ made_since self.old.journal.items self.new.journal.items }
-        ensures gives { Chain P.gives port.old ticket.old (entries_of self.old.number
-            (made_since self.old.journal.items self.new.journal.items)) port.new ticket.new }
-        ensures journal { P.events ticket.new ≡ self.new.journal.items }
-        ensures number { P.number ticket.new ≡ Some self.old.number }
-        ensures belongs { P.ticket_name ticket.new ≡ P.name port.new }
-        ensures same { IsSameGuest self.old self.new }
+        requires ticket { IsTicketOf (P.number ticket.old) (P.events ticket.old) (P.ticket_name ticket.old)
+            (P.name port.old) self.old }
+        ensures turn { GuestTurns (refusing (P.ends port.old ticket.old) (P.strays port.old ticket.old)
+            P.takes_memory) (guest_call self.old) self.old self.new result }
+        ensures grows { Grows (λ entries. Chain P.gives port.old ticket.old entries port.new ticket.new)
+            self.old self.new }
+        ensures ticket { IsTicketOf (P.number ticket.new) (P.events ticket.new) (P.ticket_name ticket.new)
+            (P.name port.new) self.new }
     {
         match self.machine.scalars.x[8] {
             POST => self.post(port, ticket),
@@ -158,26 +148,15 @@ impl GuestThread {
     fn post<P: Port>(&mut self, port: &mut P, ticket: &mut P::Ticket) -> Turn
         requires room { self.old.count < self.old.config.budget }
         requires runs { self.old.stop ≡ None }
-        requires number { P.number ticket.old ≡ Some self.old.number }
-        requires belongs { P.ticket_name ticket.old ≡ P.name port.old }
-        requires journal { P.events ticket.old ≡ self.old.journal.items }
-        ensures turn { TurnsOver (record {
-          ends = P.ends port.old ticket.old;
-          strays = P.strays port.old ticket.old;
-          takes_memory = P.takes_memory;
-        })
-            (post_of self.old.config (length self.old.journal.items) (held_state self.old)
-            (outside_streaming self.old.config (held_state self.old))) (held_state self.old)
-            (held_state self.new)
-            (made_since self.old.journal.items self.new.journal.items) self.new.stop result }
-        ensures grows { self.new.journal.items ≡
-            self.old.journal.items ++ made_since self.old.journal.items self.new.journal.items }
-        ensures gives { Chain P.gives port.old ticket.old (entries_of self.old.number
-            (made_since self.old.journal.items self.new.journal.items)) port.new ticket.new }
-        ensures journal { P.events ticket.new ≡ self.new.journal.items }
-        ensures number { P.number ticket.new ≡ Some self.old.number }
-        ensures belongs { P.ticket_name ticket.new ≡ P.name port.new }
-        ensures same { IsSameGuest self.old self.new }
+        requires ticket { IsTicketOf (P.number ticket.old) (P.events ticket.old) (P.ticket_name ticket.old)
+            (P.name port.old) self.old }
+        ensures turn { GuestTurns (refusing (P.ends port.old ticket.old) (P.strays port.old ticket.old)
+            P.takes_memory) (post_of self.old.config (length self.old.journal.items) (held_state self.old)
+            (outside_streaming self.old.config (held_state self.old))) self.old self.new result }
+        ensures grows { Grows (λ entries. Chain P.gives port.old ticket.old entries port.new ticket.new)
+            self.old self.new }
+        ensures ticket { IsTicketOf (P.number ticket.new) (P.events ticket.new) (P.ticket_name ticket.new)
+            (P.name port.new) self.new }
     {
         if !self.may_post() {
             return self.return_with(BAD_ARGUMENT);

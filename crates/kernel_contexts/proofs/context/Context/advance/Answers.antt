@@ -24,7 +24,7 @@ invariant_of-self g c =
     let turn = c.make_turn.ensures in
     record {
       is_run = run_kept before.image old.config new.config old.number new.number new.journal.items (held_state new) new.stop
-          turn.same.config turn.same.number
+          turn.grows.same.config turn.grows.same.number
           (run_goes_on before.image old.config old.number _ (held_state old) (held_state new) old.journal.items new.journal.items _ old.stop
-          new.stop c.make_turn.result before.is_run c.in-None.is turn.grows turn.turn);
+          new.stop c.make_turn.result before.is_run c.in-None.is turn.grows.journal turn.turn);
     }

@@ -3,7 +3,7 @@ use Rattle.std.specs.Prelude.{Err}
 use Rattle.sm_types.specs.declared.config.Config.{Config}
 use Rattle.sm_types.specs.declared.shared_op.SharedOp.{SharedOp}
 use Rattle.kernel_contexts.specs.Asked.{Asked}
-use Rattle.machine_step.specs.Step.{Refusals}
+use Rattle.machine_step.specs.Step.{refusing}
 use Rattle.kernel_contexts.specs.State.{State}
 use Rattle.kernel_contexts.specs.Turn.{outside_streaming}
 use Rattle.kernel_contexts.specs.Call.{Goes, asking, may_post, post_op, post_of, returned}
@@ -26,18 +26,15 @@ returns-in-Ok-clause-turn g c =
     (answered_after _ t.journal.items c.ask.new.self.journal.items _ (held_state t) _ op (λ answer. returned s 0) c.in-Ok.field-0 _ _
     (rw c.post_op-op.ensures at c.in-Ok.ensures.made) c.return_with-in-Ok.ensures.same.journal
     (c.return_with-in-Ok.ensures.state
-    ∙ ap (λ (k : Config). returned (outside_streaming k (held_state c.ask.new.self)) 0) c.in-Ok.ensures.same.config
+    ∙ ap (λ (k : Config). returned (outside_streaming k (held_state c.ask.new.self)) 0) c.in-Ok.ensures.grows.same.config
     ∙ ap (λ (k : State). returned (outside_streaming t.config k) 0) c.in-Ok.ensures.state)
     c.return_with-in-Ok.ensures.answer c.return_with-in-Ok.ensures.stop)
 
 pub returns-in-Err-clause-turn : goal.returns-in-Err-clause-turn
 returns-in-Err-clause-turn g c =
     let t = c.args.self.now in
-    let refusals : Refusals = record {
-      ends = g.P.Port.ends c.args.port.now c.args.ticket.now;
-      strays = g.P.Port.strays c.args.port.now c.args.ticket.now;
-      takes_memory = g.P.Port.takes_memory;
-    } in
+    let refusals = refusing (g.P.Port.ends c.args.port.now c.args.ticket.now) (g.P.Port.strays c.args.port.now c.args.ticket.now)
+    g.P.Port.takes_memory in
     let s = outside_streaming t.config (held_state t) in
     let x = t.machine.scalars.x in
     let may : may_post t.config x ≡ true = sym c.may_post.ensures.value ∙ c.if-not-may_post.false in
