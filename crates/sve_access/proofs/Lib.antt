@@ -4,3 +4,4 @@ pub mod Kept
 pub mod Stored
 pub mod Spans
 pub mod Whole
+pub mod Registers

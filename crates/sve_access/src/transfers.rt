@@ -1,12 +1,11 @@
 //! The contiguous loads and stores.
-ghost use Rattle.std.specs.Prelude.{◌≡◌, ◌≢◌, ◌*◌, ◌/◌, ◌≤◌, ◌<◌, false, true, Err, Some, None, length, take};
+ghost use Rattle.std.specs.Prelude.{◌≡◌, ◌≢◌, ◌*◌, ◌≤◌, ◌<◌, false, true, Err, Some, None, length, take};
 ghost use Rattle.std.specs.List.{find};
 ghost use Rattle.sm_types.specs.declared.vector.VectorAccess.TheVariants as form;
 ghost use Rattle.sve_table.specs.Ranges.{IsVectorAccess};
 ghost use Rattle.vector_elements.specs.Elements.{each_or_zero};
 ghost use Rattle.vector_elements.specs.Numbers.{bytes_in};
-ghost use Rattle.sve_vectors.specs.Predicates.{truths_of};
-ghost use Rattle.sve_vectors.specs.State.{length_of, with_vector, with_predicate};
+ghost use Rattle.sve_vectors.specs.State.{length_of, with_vector};
 ghost use Rattle.paged_memory.specs.Memory.{first_without};
 ghost use Rattle.paged_memory.specs.PageTable.{AreOwned, KeepsOwned};
 ghost use Rattle.mem_access.specs.DataAccess.{run_of};
@@ -18,6 +17,8 @@ ghost use Rattle.sve_access.specs.After.{at_base, elements_stored, read_bytes, w
 ghost use Rattle.sve_access.specs.After.{IsMade, HasInstructionRoom};
 ghost use Rattle.sve_access.specs.Contiguous.{memory_size, element_size, loaded, multiple_from};
 ghost use Rattle.sve_access.specs.Elements.{element_run, element_addresses};
+ghost use Rattle.sve_access.specs.Registers.{IsRegister, register_access, register_size, register_bytes};
+ghost use Rattle.sve_access.specs.Registers.{with_register};
 
 use crate::addresses::{element_size, first_address, memory_size, multiple_from, size_of};
 use crate::checks::{load_fault, store_fault};
@@ -253,87 +254,86 @@ fn run_from(base: u64, times: i32, bytes: usize) -> Run
     }
 }
 
-/// Loads all bytes of a vector, which can be read.
-#[inline]
-#[tactic(auto, using(sve_vectors::proofs::Whole::vector_whole))]
-fn read_z(pages: &Pages, address: u64, vectors: &mut Vectors, zt: u8)
-    requires zt { zt < 32 }
-    requires readable { first_without 4 pages.now.memory address (length_of vectors.old) ≡ None }
-    ensures { vectors.new ≡
-        with_vector vectors.old zt (read_bytes pages.now.memory (run_of address (length_of vectors.old))) }
-{
-    read_run(pages, address, vectors.z_mut(zt));
+/// A register that is loaded and stored whole, by its number.
+#[derive(Clone, Copy)]
+enum Register {
+    Vector(u8),
+    Predicate(u8),
 }
 
-/// Loads all bytes of a predicate, which can be read.
-#[inline]
-#[tactic(auto, using(sve_vectors::proofs::Whole::predicate_whole))]
-fn read_to_p(pages: &Pages, address: u64, vectors: &mut Vectors, pt: u8)
-    requires pt { pt < 16 }
-    requires readable { first_without 4 pages.now.memory address (length_of vectors.old / 8) ≡ None }
-    ensures { vectors.new ≡ with_predicate vectors.old pt
-        (truths_of (read_bytes pages.now.memory (run_of address (length_of vectors.old / 8)))) }
-{
-    read_run(pages, address, vectors.p_mut(pt));
-}
+impl Register {
+    /// How many bytes it has.
+    #[inline]
+    fn size(self, vectors: &Vectors) -> usize
+        ensures value { result ≡ register_size self (length_of vectors.now) }
+        ensures some { 1 ≤ result }
+        ensures small { result ≤ 256 }
+    {
+        match self {
+            Register::Vector(_) => vectors.length(),
+            Register::Predicate(_) => vectors.length() / 8,
+        }
+    }
 
-/// Loads a vector, if no check fails.
-#[inline]
-#[tactic(auto, unfolding(
-// The access, the registers after it and the memory.
-crate::specs::After::access_of, crate::specs::After::registers_after, crate::specs::After::stored),
-// Where its bytes can be read.
-using(crate::proofs::Faults::can_read_run))]
-fn load_vector(
-    times: i32,
-    rn: u8,
-    zt: u8,
-    s: &Scalars,
-    vectors: &mut Vectors,
-    pages: &Pages,
-) -> Result<(), AccessStop>
-    requires { IsVectorAccess (form.Vector false times rn zt) }
-    ensures made { IsMade (form.Vector false times rn zt) s.now
-        vectors.old vectors.new pages.now pages.now result }
-    ensures room { result ≢ Err AccessStop.Memory }
-    ensures lengths { KeepsLengths vectors.old vectors.new }
-{
-    let run = run_from(read_x_or_sp(s, rn), times, vectors.length());
-    match load_fault(&run, rn, s, pages) {
-        Some(exception) => Err(AccessStop::Raise(exception)),
-        None => {
-            read_z(pages, run.address, vectors, zt);
-            Ok(())
+    /// Its bytes.
+    #[inline]
+    fn bytes(self, vectors: &Vectors) -> &[u8]
+        requires { IsRegister self }
+        ensures value { result.now ≡ register_bytes self vectors.now.registers }
+        ensures long { length result.now ≡ register_size self (length_of vectors.now) }
+    {
+        match self {
+            Register::Vector(zt) => vectors.z(zt),
+            Register::Predicate(pt) => read_p(vectors, pt),
+        }
+    }
+
+    /// Fills it with the bytes from an address on, which can be read.
+    #[inline]
+    #[tactic(auto, using(
+    // A slice that is written as a whole.
+    sve_vectors::proofs::Whole::vector_whole, sve_vectors::proofs::Whole::predicate_whole))]
+    fn fill(self, pages: &Pages, address: u64, vectors: &mut Vectors)
+        requires register { IsRegister self }
+        requires readable { first_without 4 pages.now.memory address
+            (register_size self (length_of vectors.old)) ≡ None }
+        ensures { vectors.new ≡ with_register vectors.old self
+            (read_bytes pages.now.memory (run_of address (register_size self (length_of vectors.old)))) }
+    {
+        match self {
+            Register::Vector(zt) => read_run(pages, address, vectors.z_mut(zt)),
+            Register::Predicate(pt) => read_run(pages, address, vectors.p_mut(pt)),
         }
     }
 }
 
-/// Loads a predicate, if no check fails.
+/// Loads a register, if no check fails.
 #[inline]
-#[tactic(auto, unfolding(
-// The access, the registers after it and the memory.
-crate::specs::After::access_of, crate::specs::After::registers_after, crate::specs::After::stored),
+#[tactic(auto, using(
+// What the instruction accesses, and the lengths after it.
+crate::proofs::Registers::access_is, crate::proofs::Registers::lengths_kept,
 // Where its bytes can be read.
-using(crate::proofs::Faults::can_read_run))]
-fn load_predicate(
+crate::proofs::Faults::can_read_run))]
+fn load_register(
+    register: Register,
     times: i32,
     rn: u8,
-    pt: u8,
     s: &Scalars,
     vectors: &mut Vectors,
     pages: &Pages,
 ) -> Result<(), AccessStop>
-    requires { IsVectorAccess (form.Predicate false times rn pt) }
-    ensures made { IsMade (form.Predicate false times rn pt) s.now
+    requires register { IsRegister register }
+    requires rn { rn < 32 }
+    ensures made { IsMade (register_access register false times rn) s.now
         vectors.old vectors.new pages.now pages.now result }
     ensures room { result ≢ Err AccessStop.Memory }
     ensures lengths { KeepsLengths vectors.old vectors.new }
 {
-    let run = run_from(read_x_or_sp(s, rn), times, vectors.length() / 8);
+    let run = run_from(read_x_or_sp(s, rn), times, register.size(vectors));
     match load_fault(&run, rn, s, pages) {
         Some(exception) => Err(AccessStop::Raise(exception)),
         None => {
-            read_to_p(pages, run.address, vectors, pt);
+            register.fill(pages, run.address, vectors);
             Ok(())
         }
     }
@@ -364,103 +364,57 @@ pub fn store_run(
     }
 }
 
-/// Stores a vector, if no check fails.
+/// Stores a register, if no check fails.
 #[inline]
-#[tactic(auto, unfolding(
-// The access, the registers after it and the memory.
-crate::specs::After::access_of, crate::specs::After::registers_after, crate::specs::After::stored))]
-fn store_vector(
+#[tactic(auto, using(
+// What the instruction accesses, and what it stores.
+crate::proofs::Registers::access_is, crate::proofs::Registers::stored_is,
+// The registers after it.
+crate::proofs::Registers::registers_kept))]
+fn store_register(
+    register: Register,
     times: i32,
     rn: u8,
-    zt: u8,
     s: &Scalars,
     vectors: &Vectors,
     pages: &mut Pages,
 ) -> Result<(), AccessStop>
-    requires { IsVectorAccess (form.Vector true times rn zt) }
-    ensures made { IsMade (form.Vector true times rn zt) s.now
+    requires register { IsRegister register }
+    requires rn { rn < 32 }
+    ensures made { IsMade (register_access register true times rn) s.now
         vectors.now vectors.now pages.old pages.new result }
-    ensures room { HasInstructionRoom (form.Vector true times rn zt) s.now vectors.now pages.old
+    ensures room { HasInstructionRoom (register_access register true times rn) s.now vectors.now pages.old
         → result ≢ Err AccessStop.Memory }
     ensures kept { KeepsOwned pages.old pages.new }
 {
-    let run = run_from(read_x_or_sp(s, rn), times, vectors.length());
-    store_run(&run, rn, vectors.z(zt), s, pages)
+    let run = run_from(read_x_or_sp(s, rn), times, register.size(vectors));
+    store_run(&run, rn, register.bytes(vectors), s, pages)
 }
 
-/// Stores a predicate, if no check fails.
+/// Loads or stores all bytes of a register, if no check fails.
 #[inline]
-#[tactic(auto, unfolding(
-// The access, the registers after it and the memory.
-crate::specs::After::access_of, crate::specs::After::registers_after, crate::specs::After::stored))]
-fn store_predicate(
-    times: i32,
-    rn: u8,
-    pt: u8,
-    s: &Scalars,
-    vectors: &Vectors,
-    pages: &mut Pages,
-) -> Result<(), AccessStop>
-    requires { IsVectorAccess (form.Predicate true times rn pt) }
-    ensures made { IsMade (form.Predicate true times rn pt) s.now
-        vectors.now vectors.now pages.old pages.new result }
-    ensures room { HasInstructionRoom (form.Predicate true times rn pt) s.now vectors.now pages.old
-        → result ≢ Err AccessStop.Memory }
-    ensures kept { KeepsOwned pages.old pages.new }
-{
-    let run = run_from(read_x_or_sp(s, rn), times, vectors.length() / 8);
-    store_run(&run, rn, read_p(vectors, pt), s, pages)
-}
-
-/// Loads or stores all bytes of a vector, if no check fails.
-#[inline]
-fn transfer_vector_bytes(
+fn transfer_register(
+    register: Register,
     store: bool,
     times: i32,
     rn: u8,
-    zt: u8,
     s: &Scalars,
     vectors: &mut Vectors,
     pages: &mut Pages,
 ) -> Result<(), AccessStop>
-    requires { IsVectorAccess (form.Vector store times rn zt) }
-    ensures made { IsMade (form.Vector store times rn zt) s.now
+    requires register { IsRegister register }
+    requires rn { rn < 32 }
+    ensures made { IsMade (register_access register store times rn) s.now
         vectors.old vectors.new pages.old pages.new result }
-    ensures room { HasInstructionRoom (form.Vector store times rn zt) s.now vectors.old pages.old
+    ensures room { HasInstructionRoom (register_access register store times rn) s.now vectors.old pages.old
         → result ≢ Err AccessStop.Memory }
     ensures kept { KeepsOwned pages.old pages.new }
     ensures lengths { KeepsLengths vectors.old vectors.new }
 {
     if store {
-        store_vector(times, rn, zt, s, vectors, pages)
+        store_register(register, times, rn, s, vectors, pages)
     } else {
-        load_vector(times, rn, zt, s, vectors, pages)
-    }
-}
-
-/// Loads or stores all bytes of a predicate, if no check fails.
-#[inline]
-fn transfer_predicate_bytes(
-    store: bool,
-    times: i32,
-    rn: u8,
-    pt: u8,
-    s: &Scalars,
-    vectors: &mut Vectors,
-    pages: &mut Pages,
-) -> Result<(), AccessStop>
-    requires { IsVectorAccess (form.Predicate store times rn pt) }
-    ensures made { IsMade (form.Predicate store times rn pt) s.now
-        vectors.old vectors.new pages.old pages.new result }
-    ensures room { HasInstructionRoom (form.Predicate store times rn pt) s.now vectors.old pages.old
-        → result ≢ Err AccessStop.Memory }
-    ensures kept { KeepsOwned pages.old pages.new }
-    ensures lengths { KeepsLengths vectors.old vectors.new }
-{
-    if store {
-        store_predicate(times, rn, pt, s, vectors, pages)
-    } else {
-        load_predicate(times, rn, pt, s, vectors, pages)
+        load_register(register, times, rn, s, vectors, pages)
     }
 }
 
@@ -509,12 +463,18 @@ pub fn transfer_vector(
             vectors: times,
             rn,
             zt,
-        } => transfer_vector_bytes(*store, *times, *rn, *zt, scalars, vectors, pages),
+        } => {
+            let register = Register::Vector(*zt);
+            transfer_register(register, *store, *times, *rn, scalars, vectors, pages)
+        }
         VectorAccess::Predicate {
             store,
             vectors: times,
             rn,
             pt,
-        } => transfer_predicate_bytes(*store, *times, *rn, *pt, scalars, vectors, pages),
+        } => {
+            let register = Register::Predicate(*pt);
+            transfer_register(register, *store, *times, *rn, scalars, vectors, pages)
+        }
     }
 }
