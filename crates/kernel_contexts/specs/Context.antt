@@ -168,7 +168,7 @@ pub record IsSameGuest (old new : GuestThread) : Type 0 where
   pub config : new.config ≡ old.config
   pub number : new.number ≡ old.number
 
--- and its journal grows by the events that it made, each given as an entry of a history
+-- and its journal grows by the events that it made, of whose entries in a history this holds
 pub record Grows (gives : List Entry → Type 0) (old new : GuestThread) : Type 0 where
   pub same : IsSameGuest old new
   pub journal : new.journal.items ≡ old.journal.items ++ guest_made old new

@@ -34,7 +34,7 @@ pub record SharedWords : Type 0 where
   pub shared : List ℕ
   pub pending : List ℕ
 
--- the words that are not zero, and the end of the report
+-- the words that lines give, all others being zero, and the end of the report
 unfoldable pub shared_words : Reading SharedWords
 shared_words = do
   _ ← line part.Shared (λ text. said_if (bytes_eq text (codes "shared\n")))

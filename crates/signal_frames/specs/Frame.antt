@@ -64,7 +64,7 @@ abbrev pub byte_of : FrameStop → Option ℕ
 byte_of (BadFrame address) = Some address
 byte_of Memory = None
 
--- the answer of a delivery: it is made where each byte of the frame may be written, and else all stays
+-- the answer of a delivery: where a byte of the frame may not be written, or memory is wanting, all stays
 abbrev pub Delivers : ℕ → ℕ → ℕ → ProcessorState → ProcessorState → Result (Unit {0}) FrameStop → Type 0
 Delivers vl signal handler old new (Ok done) =
     (frame_fault vl old ≡ None) × (new ≡ delivered vl signal handler old)
