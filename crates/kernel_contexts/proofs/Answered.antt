@@ -27,7 +27,7 @@ turns_from end end' s t new stopped Yielded e same h = (e ∙ h.0, h.1)
 turns_from end end' s t new stopped (Stopped stop) e same h = (e ∙ h.0, h.1)
 turns_from end end' s t new stopped TraceEnds e same h = absurd h
 turns_from end end' s t new stopped TraceDiffers e same h = absurd h
-turns_from end end' s t new stopped Memory e same h = (h.0 ∙ same, h.1)
+turns_from end end' s t new stopped Memory e same h = (rw e h.0, h.1 ∙ same, h.2)
 
 pub asked_turned : (config : Config) (thread events : ℕ) (old new : State) (refusals : Refusals) (made : List Event)
     → GoesOn refusals (turn_of config thread events old) new made → new.turns ≡ old.turns + 1
@@ -64,7 +64,7 @@ asked_nothing refusals end old new made stopped Yielded none h = (h.0, none, h.1
 asked_nothing refusals end old new made stopped (Stopped stop) none h = (h.0, none, h.1)
 asked_nothing refusals end old new made stopped TraceEnds none h = absurd h
 asked_nothing refusals end old new made stopped TraceDiffers none h = absurd h
-asked_nothing refusals end old new made stopped Memory none h = (h.0, none, h.1)
+asked_nothing refusals end old new made stopped Memory none h = (h.1, none, h.2)
 
 -- the events at the end of a journal
 pub made_events : (old new events : List Event) → new ≡ old ++ events → made_since old new ≡ events

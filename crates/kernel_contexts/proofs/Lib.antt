@@ -6,3 +6,4 @@ pub mod Watched
 pub mod Calls
 pub mod Runs
 pub mod Kept
+pub mod Wanting

@@ -1,5 +1,6 @@
 -- What a context is, and what its turns are.
-use Rattle.std.specs.Prelude.{◌≡◌, ℕ, List, [], ◌∷◌, ◌++◌, Option, Some, None, length, drop}
+use Rattle.std.specs.Prelude.{◌≡◌, ℕ, List, [], ◌∷◌, ◌++◌, ◌<◌, Option, Some, None, length, drop}
+use Rattle.std.specs.Prelude.{vec_len, vec_capacity}
 use Rattle.sm_types.specs.declared.config.Config.{Config}
 use Rattle.sm_types.specs.declared.shared_op.SharedOp.{SharedOp}
 use Rattle.sm_types.specs.declared.shared_op.Event.{Event}
@@ -67,15 +68,23 @@ stop_of c = c.guest.stop
 abbrev pub IsRun : Context → Type 0
 IsRun c = IsRunOf (image_of c) (config_of c) (thread_of c) (journal_of c) (state_of c) (stop_of c)
 
+-- how a turn ends for which memory was wanting though the journal's list had a place that was not used: the
+-- thread would go on, or the turn asks an operation of a port that takes memory
+abbrev pub MayWantMemory : Type 0 → TurnEnd → Type 0
+MayWantMemory takes_memory (Goes s) = Unit {0}
+MayWantMemory takes_memory (Yields s) = ⊥
+MayWantMemory takes_memory (Asks op next) = takes_memory
+MayWantMemory takes_memory (Ends s stop) = ⊥
+
 -- the answer of a turn that asks no operation, of a thread that had not stopped, and the state and the stop
--- after it, are those of the turn; want of memory changes nothing
+-- after it, are those of the turn; want of memory comes where the thread would go on, and changes nothing
 abbrev pub Turns : TurnEnd → State → State → Option Stop → Turn → Type 0
 Turns end old new stopped Ran = (end ≡ Goes new) × (stopped ≡ None)
 Turns end old new stopped Yielded = (end ≡ Yields new) × (stopped ≡ None)
 Turns end old new stopped (Stopped stop) = (end ≡ Ends new stop) × (stopped ≡ Some stop)
 Turns end old new stopped TraceEnds = ⊥
 Turns end old new stopped TraceDiffers = ⊥
-Turns end old new stopped Memory = (new ≡ old) × (stopped ≡ None)
+Turns end old new stopped Memory = MayWantMemory ⊥ end × (new ≡ old) × (stopped ≡ None)
 
 -- the turn asks an operation, of which this holds
 abbrev pub AsksFor : TurnEnd → (SharedOp → Type 0) → Type 0
@@ -129,6 +138,10 @@ GuestTurns refusals end old new turn =
 abbrev pub guest_turn : GuestThread → TurnEnd
 guest_turn g = turn_of g.config g.number (length g.journal.items) (held_state g)
 
+-- its journal's list has a place that is not used
+abbrev pub HasFreePlace : GuestThread → Type 0
+HasFreePlace g = vec_len g.journal < vec_capacity g.journal
+
 -- its call of the kernel, before which it leaves Streaming SVE mode
 abbrev pub guest_call : GuestThread → TurnEnd
 guest_call g =
@@ -152,6 +165,10 @@ Stays stop old new turn =
 -- the turn of a context
 abbrev pub turn_at : Context → TurnEnd
 turn_at c = turn_of (config_of c) (thread_of c) (length (journal_of c)) (state_of c)
+
+-- the list of a context's journal has a place that is not used
+abbrev pub IsPlaceFree : Context → Type 0
+IsPlaceFree c = HasFreePlace c.guest
 
 -- the events that a context made
 abbrev pub made_by : Context → Context → List Event

@@ -52,7 +52,8 @@ impl Context {
     ghost use Rattle.kernel_contexts.specs.Context.{state_of, config_of, thread_of, stop_of, machine_of};
     ghost use Rattle.kernel_contexts.specs.Context.{save_area_of, image_of, journal_of, made_by};
     ghost use Rattle.machine_step.specs.Step.{entries_of, refusing};
-    ghost use Rattle.kernel_contexts.specs.Context.{TurnsOrStays, IsSameThread};
+    ghost use Rattle.kernel_contexts.specs.Context.{TurnsOrStays, IsSameThread, MayWantMemory};
+    ghost use Rattle.kernel_contexts.specs.Context.{IsPlaceFree, turn_at};
     ghost use Rattle.shared_region.specs.Chain.{Chain};
 
     /// A thread before its first turn, with its pages and the save area of its vectors taken at once.
@@ -78,7 +79,9 @@ impl Context {
 
     /// Makes one turn, in which the port answers what it asks of the shared words; a thread that has stopped
     /// answers its stop, and nothing changes. `TraceEnds` and `TraceDiffers` come only where the turn asks an
-    /// operation that the port refuses so, and there nothing else comes but `Memory`.
+    /// operation that the port refuses so, and there nothing else comes but `Memory`. Where the list of the
+    /// journal has a place not used, `Memory` comes only where the thread would go on, or where the turn asks
+    /// an operation of a port that takes memory.
     #[inline]
     pub fn advance<P: Port>(&mut self, port: &mut P, ticket: &mut P::Ticket) -> Turn
         requires number { P.number ticket.old ≡ Some (thread_of self.old) }
@@ -86,6 +89,8 @@ impl Context {
         requires journal { P.events ticket.old ≡ journal_of self.old }
         ensures turn { TurnsOrStays (stop_of self.old) (refusing (P.ends port.old ticket.old)
             (P.strays port.old ticket.old) P.takes_memory) self.old self.new result }
+        ensures memory { result ≡ Turn.Memory → IsPlaceFree self.old → MayWantMemory P.takes_memory
+            (turn_at self.old) }
         ensures grows { journal_of self.new ≡ journal_of self.old ++ made_by self.old self.new }
         ensures gives { Chain P.gives port.old ticket.old
             (entries_of (thread_of self.old) (made_by self.old self.new)) port.new ticket.new }

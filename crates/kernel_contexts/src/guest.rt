@@ -82,7 +82,8 @@ impl GuestThread {
     ghost use Rattle.kernel_contexts.specs.Context.{held_state, guest_turn, guest_instruction};
     ghost use Rattle.kernel_contexts.specs.Context.{IsSameGuest, IsQuietGuest};
     ghost use Rattle.kernel_contexts.specs.Turn as turn;
-    ghost use Rattle.kernel_contexts.specs.Context.{GuestTurns, Grows, IsTicketOf};
+    ghost use Rattle.kernel_contexts.specs.Context.{GuestTurns, Grows, IsTicketOf, HasFreePlace};
+    ghost use Rattle.kernel_contexts.specs.Context.{MayWantMemory};
     ghost use Rattle.machine_step.specs.Step.{events_of, refusing};
     ghost use Rattle.shared_region.specs.Chain.{Chain};
 
@@ -139,6 +140,8 @@ impl GuestThread {
             (P.name port.old) self.old }
         ensures turn { GuestTurns (refusing (P.ends port.old ticket.old) (P.strays port.old ticket.old)
             P.takes_memory) (guest_turn self.old) self.old self.new result }
+        ensures memory { result ≡ Turn.Memory → HasFreePlace self.old → MayWantMemory P.takes_memory
+            (guest_turn self.old) }
         ensures grows { Grows (λ entries. Chain P.gives port.old ticket.old entries port.new ticket.new)
             self.old self.new }
         ensures ticket { IsTicketOf (P.number ticket.new) (P.events ticket.new) (P.ticket_name ticket.new)
@@ -160,6 +163,8 @@ impl GuestThread {
             (P.name port.old) self.old }
         ensures turn { GuestTurns (refusing (P.ends port.old ticket.old) (P.strays port.old ticket.old)
             P.takes_memory) (guest_turn self.old) self.old self.new result }
+        ensures memory { result ≡ Turn.Memory → HasFreePlace self.old → MayWantMemory P.takes_memory
+            (guest_turn self.old) }
         ensures grows { Grows (λ entries. Chain P.gives port.old ticket.old entries port.new ticket.new)
             self.old self.new }
         ensures ticket { IsTicketOf (P.number ticket.new) (P.events ticket.new) (P.ticket_name ticket.new)
@@ -200,6 +205,8 @@ impl GuestThread {
             (P.name port.old) self.old }
         ensures turn { GuestTurns (refusing (P.ends port.old ticket.old) (P.strays port.old ticket.old)
             P.takes_memory) (guest_instruction self.old) self.old self.new result }
+        ensures memory { result ≡ Turn.Memory → HasFreePlace self.old → MayWantMemory P.takes_memory
+            (guest_instruction self.old) }
         ensures grows { Grows (λ entries. Chain P.gives port.old ticket.old entries port.new ticket.new)
             self.old self.new }
         ensures ticket { IsTicketOf (P.number ticket.new) (P.events ticket.new) (P.ticket_name ticket.new)

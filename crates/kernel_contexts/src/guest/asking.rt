@@ -1,5 +1,5 @@
 //! Operations that the kernel itself asks of a port: polls and posts.
-ghost use Rattle.std.specs.Prelude.{◌≡◌, ◌<◌, length, None, false};
+ghost use Rattle.std.specs.Prelude.{◌≡◌, ◌<◌, length, None, Err, false};
 ghost use Rattle.machine_step.specs.Step.{refusing};
 ghost use Rattle.shared_region.specs.Chain.{Chain};
 ghost use Rattle.shared_region.specs.WordRule.{HasWord};
@@ -26,7 +26,7 @@ impl GuestThread {
     ghost use Rattle.kernel_contexts.specs.Turn.{poll_of};
     ghost use Rattle.kernel_contexts.specs.Asked.{Asked, Refuses};
     ghost use Rattle.kernel_contexts.specs.Context.{held_state, guest_made, GuestTurns, IsQuietGuest};
-    ghost use Rattle.kernel_contexts.specs.Context.{Grows, IsTicketOf};
+    ghost use Rattle.kernel_contexts.specs.Context.{Grows, IsTicketOf, HasFreePlace, MayWantMemory};
 
     /// Makes an operation, where the journal has room for its event, and keeps that.
     pub(super) fn ask<P: Port>(
@@ -40,6 +40,7 @@ impl GuestThread {
             (P.name port.old) self.old }
         ensures made { Asked (refusing (P.ends port.old ticket.old) (P.strays port.old ticket.old)
             P.takes_memory) op self.old.journal.items (guest_made self.old self.new) result }
+        ensures memory { result ≡ Err Refusal.Memory → HasFreePlace self.old → P.takes_memory }
         ensures state { held_state self.new ≡ held_state self.old }
         ensures stop { self.new.stop ≡ self.old.stop }
         ensures watch { self.new.watch ≡ self.old.watch }
@@ -90,6 +91,8 @@ impl GuestThread {
         ensures turn { GuestTurns (refusing (P.ends port.old ticket.old) (P.strays port.old ticket.old)
             P.takes_memory) (poll_of self.old.number (length self.old.journal.items) (held_state self.old))
             self.old self.new result }
+        ensures memory { result ≡ Turn.Memory → HasFreePlace self.old → MayWantMemory P.takes_memory
+            (poll_of self.old.number (length self.old.journal.items) (held_state self.old)) }
         ensures grows { Grows (λ entries. Chain P.gives port.old ticket.old entries port.new ticket.new)
             self.old self.new }
         ensures ticket { IsTicketOf (P.number ticket.new) (P.events ticket.new) (P.ticket_name ticket.new)

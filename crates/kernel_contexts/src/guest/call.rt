@@ -101,7 +101,8 @@ impl GuestThread {
     ghost use Rattle.kernel_contexts.specs.Call.{returned, Yields};
     ghost use Rattle.kernel_contexts.specs.Turn.{outside_streaming};
     ghost use Rattle.kernel_contexts.specs.Context.{held_state, guest_call, Takes, IsQuietGuest};
-    ghost use Rattle.kernel_contexts.specs.Context.{GuestTurns, Grows, IsTicketOf};
+    ghost use Rattle.kernel_contexts.specs.Context.{GuestTurns, Grows, IsTicketOf, HasFreePlace};
+    ghost use Rattle.kernel_contexts.specs.Context.{MayWantMemory};
     ghost use Rattle.machine_step.specs.Step.{refusing};
     ghost use Rattle.shared_region.specs.Chain.{Chain};
 
@@ -113,6 +114,8 @@ impl GuestThread {
             (P.name port.old) self.old }
         ensures turn { GuestTurns (refusing (P.ends port.old ticket.old) (P.strays port.old ticket.old)
             P.takes_memory) (guest_call self.old) self.old self.new result }
+        ensures memory { result ≡ Turn.Memory → HasFreePlace self.old → MayWantMemory P.takes_memory
+            (guest_call self.old) }
         ensures grows { Grows (λ entries. Chain P.gives port.old ticket.old entries port.new ticket.new)
             self.old self.new }
         ensures ticket { IsTicketOf (P.number ticket.new) (P.events ticket.new) (P.ticket_name ticket.new)
@@ -153,6 +156,9 @@ impl GuestThread {
         ensures turn { GuestTurns (refusing (P.ends port.old ticket.old) (P.strays port.old ticket.old)
             P.takes_memory) (post_of self.old.config (length self.old.journal.items) (held_state self.old)
             (outside_streaming self.old.config (held_state self.old))) self.old self.new result }
+        ensures memory { result ≡ Turn.Memory → HasFreePlace self.old → MayWantMemory P.takes_memory
+            (post_of self.old.config (length self.old.journal.items) (held_state self.old)
+            (outside_streaming self.old.config (held_state self.old))) }
         ensures grows { Grows (λ entries. Chain P.gives port.old ticket.old entries port.new ticket.new)
             self.old self.new }
         ensures ticket { IsTicketOf (P.number ticket.new) (P.events ticket.new) (P.ticket_name ticket.new)

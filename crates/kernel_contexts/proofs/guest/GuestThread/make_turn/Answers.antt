@@ -2,6 +2,7 @@ use Rattle.std.proofs.Common.{length, arith}
 use Rattle.kernel_contexts.specs.Context.{guest_turn, guest_instruction, held_state}
 use Rattle.kernel_contexts.proofs.Over.{turned_so}
 use Rattle.kernel_contexts.proofs.Turns.{turn_executes}
+use Rattle.kernel_contexts.proofs.Wanting.{wants_so}
 use Rattle.kernel_contexts.proofs.Watched.{no_poll, no_delivery}
 use Rattle.kernel_contexts.proofs.guest.GuestThread.make_turn.Goals as goal
 
@@ -13,3 +14,12 @@ returns-then-self-clause-turn g c =
     (turn_executes t.config t.number (length t.journal.items) s (λ e. omega (arith, e, t.watched.budget, c.if-self.true))
     (no_poll t.config s t.watch t.watched c.if-self.true) (no_delivery t.config s t.watch t.watched c.if-self.true))
     c.execute.ensures.turn
+
+pub returns-then-self-clause-memory : goal.returns-then-self-clause-memory
+returns-then-self-clause-memory g c = λ wants free.
+    let t = c.args.self.now in
+    let s = held_state t in
+    wants_so g.P.Port.takes_memory (guest_instruction t) (guest_turn t)
+    (turn_executes t.config t.number (length t.journal.items) s (λ e. omega (arith, e, t.watched.budget, c.if-self.true))
+    (no_poll t.config s t.watch t.watched c.if-self.true) (no_delivery t.config s t.watch t.watched c.if-self.true))
+    (c.execute.ensures.memory wants free)

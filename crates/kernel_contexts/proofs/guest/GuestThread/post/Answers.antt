@@ -3,6 +3,8 @@ use Rattle.std.specs.Prelude.{Err}
 use Rattle.sm_types.specs.declared.config.Config.{Config}
 use Rattle.sm_types.specs.declared.shared_op.SharedOp.{SharedOp}
 use Rattle.kernel_contexts.specs.Asked.{Asked}
+use Rattle.kernel_contexts.specs.declared.guest.asking.Refusal.{Refusal}
+use Rattle.kernel_contexts.specs.declared.guest.asking.Refusal.TheVariants.{Memory}
 use Rattle.machine_step.specs.Step.{refusing}
 use Rattle.kernel_contexts.specs.State.{State}
 use Rattle.kernel_contexts.specs.Turn.{outside_streaming}
@@ -11,6 +13,7 @@ use Rattle.kernel_contexts.specs.Context.{held_state, made_since}
 use Rattle.kernel_contexts.proofs.Answered.{asked_nothing, made_nothing}
 use Rattle.kernel_contexts.proofs.Calls.{post_asks, post_fails}
 use Rattle.kernel_contexts.proofs.Over.{turned_so, answered_after, refused_after}
+use Rattle.kernel_contexts.proofs.Wanting.{wants_so, asking_wants, refusal_wants}
 use Rattle.kernel_contexts.proofs.guest.GuestThread.post.Goals as goal
 
 pub returns-in-Ok-clause-turn : goal.returns-in-Ok-clause-turn
@@ -59,3 +62,23 @@ returns-then-not-may_post-clause-turn g c =
           ∙ ap Goes (sym c.return_with.ensures.state),
       c.return_with.ensures.stop,
     ))
+
+pub returns-in-Err-clause-memory : goal.returns-in-Err-clause-memory
+returns-in-Err-clause-memory g c = λ wants free.
+    let t = c.args.self.now in
+    let refusals = refusing (g.P.Port.ends c.args.port.now c.args.ticket.now) (g.P.Port.strays c.args.port.now c.args.ticket.now)
+    g.P.Port.takes_memory in
+    let s = outside_streaming t.config (held_state t) in
+    let x = t.machine.scalars.x in
+    let may : may_post t.config x ≡ true = sym c.may_post.ensures.value ∙ c.if-not-may_post.false in
+    let events = length t.journal.items in
+    let op = post_op (slice_index x 0) (slice_index x 1) in
+    let is : c.in-Err.refusal ≡ Memory =
+    refusal_wants c.in-Err.refusal (held_state c.ask.new.self) (held_state c.refuse.new.self) c.refuse.new.self.stop c.refuse.result
+    c.refuse.ensures.turn wants in
+    let asked = subst (λ (r : Refusal). Asked refusals c.post_op-op.result t.journal.items
+    (made_since t.journal.items c.ask.new.self.journal.items) (Err r)) is c.in-Err.ensures.made in
+    wants_so g.P.Port.takes_memory (asking events (held_state t) op (λ answer. returned s 0)) (post_of t.config events (held_state t) s)
+    (post_asks t.config events (held_state t) s may)
+    (asking_wants g.P.Port.takes_memory events (held_state t) op (λ answer. returned s 0) asked.0
+    (c.in-Err.ensures.memory (ap Err is) free))
