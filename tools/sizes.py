@@ -1,5 +1,5 @@
 #!/usr/bin/env python3
-"""Prints the size of each crate: lines of its sources, definitions and proofs without blank lines, and its must-fail edits.
+"""Prints the size of each crate: lines of its sources, definitions and proofs without blank lines, and its wrong bodies, of must-fail/ and of wrong/.
 
     tools/sizes.py
 """
@@ -13,15 +13,16 @@ def lines(folder, pattern):
 
 
 def main():
-    print("| Crate | Sources | Definitions | Proofs | Edits |")
-    print("|---|---|---|---|---|")
-    totals = [0, 0, 0, 0]
+    print("| Crate | Sources | Definitions | Proofs | Tried by the gate | Other wrong bodies |")
+    print("|---|---|---|---|---|---|")
+    totals = [0, 0, 0, 0, 0]
     for crate in sorted(path for path in CRATES.iterdir() if (path / "src").is_dir()):
         row = [
             lines(crate / "src", "*.rt"),
             lines(crate / "specs", "*.antt"),
             lines(crate / "proofs", "*.antt"),
             len(list((crate / "must-fail").glob("*.edit"))),
+            len(list((crate / "wrong").glob("*.edit"))),
         ]
         totals = [a + b for a, b in zip(totals, row)]
         print(f"| {crate.name} | " + " | ".join(f"{n:,}" for n in row) + " |")

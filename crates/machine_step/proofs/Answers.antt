@@ -25,9 +25,9 @@ use Rattle.std.specs.Option.{option_or}
 use Rattle.scalar_exec.specs.Step.{is_scalar}
 use Rattle.std.specs.Prelude.{if◌then◌else◌}
 use Rattle.sve_vectors.specs.Lengths.{current_bytes}
-use Rattle.sve_vectors.specs.State.{SveState, length_of}
-use Rattle.vector_step.specs.Registers.{VectorCore, with_registers}
-use Rattle.vector_step.specs.Registers.{core_of as vector_registers}
+use Rattle.sve_vectors.specs.State.{SveState, length_of, with_registers}
+use Rattle.vector_step.specs.Core.{VectorCore}
+use Rattle.vector_step.specs.Core.{core_of as vector_registers}
 use Rattle.vector_step.specs.Step.{vector_step}
 use Rattle.mem_access.specs.VectorState.{VectorState}
 use Rattle.machine_step.specs.ProcessorState.{ProcessorState, vector_bytes}

@@ -14,7 +14,7 @@ use types.ArrayAccess.TheVariants.{Zero, Transfer}
 use Rattle.vector_elements.specs.declared.size.Size.{Size}
 use Rattle.vector_elements.specs.declared.size.Size.TheVariants.{S, D}
 use Rattle.vector_elements.specs.Numbers.{bytes_in}
-use Rattle.sve_vectors.specs.Registers.{VectorRegisters}
+use Rattle.sve_vectors.specs.Registers.{VectorRegisters, vector_at, predicate_at, vector_written}
 use Rattle.sve_vectors.specs.State.{SveState}
 use Rattle.za_array.specs.Array.{ArrayState}
 use Rattle.za_array.specs.Tiles.{changed_tile}
@@ -23,7 +23,6 @@ use Rattle.tile_ops.specs.Moves.{moved_to_tile, moved_to_vector}
 use Rattle.tile_ops.specs.Sums.{added_to_tile}
 use Rattle.outer_products.specs.declared.kind.MopaKind.{MopaKind}
 use Rattle.outer_products.specs.OuterProducts.{sum_size, outer_row}
-use Rattle.vector_step.specs.Registers.{vector_at, predicate_at, vector_written}
 use Rattle.matrix_step.specs.Lengths.{after_streaming_length}
 
 -- what such an instruction reads and writes

@@ -2,8 +2,7 @@
 ghost use Rattle.std.specs.Prelude.{◌≡◌, IsTrue};
 ghost use Rattle.sve_table.specs.Ranges.{IsInVectorRow};
 ghost use Rattle.sve_vectors.specs.Lengths.{vector_bytes};
-ghost use Rattle.sve_vectors.specs.State.{length_of};
-ghost use Rattle.vector_step.specs.Registers.{with_registers};
+ghost use Rattle.sve_vectors.specs.State.{length_of, with_registers};
 ghost use Rattle.matrix_step.specs.Step.{is_matrix_computed, is_tile_computed, matrix_step, core_of};
 
 use crate::lengths::exec_length;

@@ -2,16 +2,15 @@
 ghost use Rattle.std.specs.Prelude.{◌≡◌, ◌<◌};
 ghost use Rattle.sve_table.specs.Ranges.{IsTileMove};
 ghost use Rattle.sve_vectors.specs.Lengths.{vector_bytes};
-ghost use Rattle.sve_vectors.specs.State.{length_of};
+ghost use Rattle.sve_vectors.specs.State.{length_of, with_registers};
 ghost use Rattle.tile_ops.specs.Slices.{IsSliceOf};
 ghost use Rattle.tile_ops.specs.Moves.{moved_to_tile, moved_to_vector};
-ghost use Rattle.vector_step.specs.Registers.{vector_at, predicate_at, vector_written, with_registers};
+ghost use Rattle.sve_vectors.specs.Registers.{vector_at, predicate_at, vector_written};
 ghost use Rattle.matrix_step.specs.Step.{after_move, core_of};
 
 use sm_types::{Scalars, TileMove};
-use sve_vectors::Vectors;
+use sve_vectors::{Vectors, read_p};
 use tile_ops::{SliceAt, move_to_tile, move_to_vector, slice_of};
-use vector_step::read_p;
 use za_array::Za;
 
 /// Moves the active elements of a slice to a vector.

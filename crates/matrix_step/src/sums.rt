@@ -8,10 +8,9 @@ ghost use Rattle.matrix_step.specs.Step.{is_first_signed, is_second_signed};
 
 use outer_products::{MopaKind, mopa};
 use sm_types::{OuterProduct, OuterProductOp, Scalars, TileAdd};
-use sve_vectors::Vectors;
+use sve_vectors::{Vectors, read_p};
 use tile_ops::{TileSum, add_to_tile};
 use vector_elements::Size;
-use vector_step::read_p;
 use za_array::Za;
 
 /// Adds a vector to each row or each column of a tile.

@@ -2,7 +2,7 @@
 -- bytes. The scalar registers stay as they are; PC is moved by the machine.
 -- Source: DDI 0487, C8.2: LD1B to LD1D, ST1B to ST1D (contiguous), LDR and STR (vector, predicate).
 use Rattle.std.specs.Prelude.{◌≡◌, ℕ, ◌/◌, Bool, true, false, not, List, [], Option, Some, None}
-use Rattle.std.specs.Prelude.{slice_index_or, slice_set, unwrap_or, Result}
+use Rattle.std.specs.Prelude.{unwrap_or, Result}
 use Rattle.sm_types.specs.declared.scalars.Scalars.{Scalars}
 use Rattle.sm_types.specs.declared.vector as types
 use types.{VectorOffset.VectorOffset, VectorAccess.VectorAccess}
@@ -11,8 +11,9 @@ use Rattle.sm_types.specs.declared.stop.Exception.{Exception}
 use Rattle.vector_elements.specs.declared.size.Size.{Size}
 use Rattle.vector_elements.specs.Elements.{each_or_zero}
 use Rattle.vector_elements.specs.Numbers.{bytes_in}
-use Rattle.sve_vectors.specs.Predicates.{truths_of, predicate_bytes}
-use Rattle.sve_vectors.specs.Registers.{VectorRegisters}
+use Rattle.sve_vectors.specs.Predicates.{truths_of}
+use Rattle.sve_vectors.specs.Registers.{VectorRegisters, vector_at, predicate_at, vector_written}
+use Rattle.sve_vectors.specs.Registers.{predicate_written}
 use Rattle.sve_vectors.specs.State.{SveState, length_of}
 use Rattle.scalar_exec.specs.Registers.{x_or_sp}
 use Rattle.paged_memory.specs.Memory.{AddressSpace}
@@ -31,21 +32,6 @@ use Rattle.sve_access.specs.Elements.{element_run, element_addresses, element_by
 pub record AfterVectorAccess : Type 0 where
   pub registers : VectorRegisters
   pub memory : AddressSpace
-
--- a vector, and the bytes of a predicate
-abbrev pub z_of : VectorRegisters → ℕ → List ℕ
-z_of r n = slice_index_or r.vectors n []
-
-abbrev pub p_of : VectorRegisters → ℕ → List ℕ
-p_of r n = predicate_bytes (slice_index_or r.predicates n [])
-
--- with one vector written
-abbrev pub with_z : VectorRegisters → ℕ → List ℕ → VectorRegisters
-with_z r n bytes = record r { vectors = slice_set r.vectors n bytes }
-
--- with one predicate written
-abbrev pub with_p : VectorRegisters → ℕ → List Bool → VectorRegisters
-with_p r n truths = record r { predicates = slice_set r.predicates n truths }
 
 -- an access to bytes at a base register, none of which must be aligned
 abbrev pub at_base : ℕ → Bool → List ℕ → DataAccess
@@ -76,11 +62,11 @@ unfoldable pub access_of : VectorAccess → Scalars → ℕ → VectorRegisters 
 access_of (Load kind offset pg rn zt) s l r =
     at_base rn false
     (element_addresses (start_of offset (memory_size kind) (element_size kind) rn s l)
-    (memory_size kind) (element_size kind) (p_of r pg))
+    (memory_size kind) (element_size kind) (predicate_at r pg))
 access_of (Store memory element offset pg rn zt) s l r =
     at_base rn true
     (element_addresses (start_of offset (size_of memory) (size_of element) rn s l)
-    (size_of memory) (size_of element) (p_of r pg))
+    (size_of memory) (size_of element) (predicate_at r pg))
 access_of (Vector store vectors rn zt) s l r =
     at_base rn store (run_of (multiple_from (x_or_sp s rn) vectors l) l)
 access_of (Predicate store vectors rn pt) s l r =
@@ -97,25 +83,25 @@ read_bytes m addresses = unwrap_or (bytes_at m addresses) []
 -- the registers after it: a load makes each active element of what is read, and the others zero
 unfoldable pub registers_after : VectorAccess → Scalars → ℕ → VectorRegisters → AddressSpace → VectorRegisters
 registers_after (Load kind offset pg rn zt) s l r m =
-    with_z r zt (each_or_zero (bytes_in (element_size kind)) (p_of r pg) (z_of r zt) (λ i old.
+    vector_written r zt (each_or_zero (bytes_in (element_size kind)) (predicate_at r pg) (vector_at r zt) (λ i old.
     loaded kind (number_at m (element_run
     (start_of offset (memory_size kind) (element_size kind) rn s l) (memory_size kind) i))))
 registers_after (Store memory element offset pg rn zt) s l r m = r
 registers_after (Vector true vectors rn zt) s l r m = r
 registers_after (Vector false vectors rn zt) s l r m =
-    with_z r zt (read_bytes m (access_of (Vector false vectors rn zt) s l r).bytes)
+    vector_written r zt (read_bytes m (access_of (Vector false vectors rn zt) s l r).bytes)
 registers_after (Predicate true vectors rn pt) s l r m = r
 registers_after (Predicate false vectors rn pt) s l r m =
-    with_p r pt (truths_of (read_bytes m (access_of (Predicate false vectors rn pt) s l r).bytes))
+    predicate_written r pt (truths_of (read_bytes m (access_of (Predicate false vectors rn pt) s l r).bytes))
 
 -- the bytes that it stores, in the order of their transfer, where it stores any
 unfoldable pub stored : VectorAccess → VectorRegisters → Option (List ℕ)
 stored (Load kind offset pg rn zt) r = None
 stored (Store memory element offset pg rn zt) r =
-    Some (element_bytes (z_of r zt) (size_of memory) (size_of element) (p_of r pg))
-stored (Vector true vectors rn zt) r = Some (z_of r zt)
+    Some (element_bytes (vector_at r zt) (size_of memory) (size_of element) (predicate_at r pg))
+stored (Vector true vectors rn zt) r = Some (vector_at r zt)
 stored (Vector false vectors rn zt) r = None
-stored (Predicate true vectors rn pt) r = Some (p_of r pt)
+stored (Predicate true vectors rn pt) r = Some (predicate_at r pt)
 stored (Predicate false vectors rn pt) r = None
 
 -- what it leaves, where no check refuses it

@@ -4,11 +4,10 @@ use Rattle.std.specs.Prelude.{ℕ, ◌/◌, ◌<◌, Bool, List, ℤ}
 use Rattle.sm_types.specs.declared.vector.VectorAccess.{VectorAccess}
 use Rattle.sm_types.specs.declared.vector.VectorAccess.TheVariants as form
 use Rattle.sve_vectors.specs.Predicates.{truths_of}
-use Rattle.sve_vectors.specs.Registers.{VectorRegisters}
+use Rattle.sve_vectors.specs.Registers.{VectorRegisters, vector_at, predicate_at}
 use Rattle.sve_vectors.specs.State.{SveState, with_vector, with_predicate}
 use Rattle.sve_access.specs.declared.transfers.Register.{Register}
 use Rattle.sve_access.specs.declared.transfers.Register.TheVariants.{Vector, Predicate}
-use Rattle.sve_access.specs.After.{z_of, p_of}
 
 -- there is such a register
 abbrev pub IsRegister : Register → Type 0
@@ -27,8 +26,8 @@ register_size (Predicate pt) l = l / 8
 
 -- its bytes
 abbrev pub register_bytes : Register → VectorRegisters → List ℕ
-register_bytes (Vector zt) r = z_of r zt
-register_bytes (Predicate pt) r = p_of r pt
+register_bytes (Vector zt) r = vector_at r zt
+register_bytes (Predicate pt) r = predicate_at r pt
 
 -- with its bytes written
 abbrev pub with_register : SveState → Register → List ℕ → SveState

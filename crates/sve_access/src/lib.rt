@@ -15,4 +15,4 @@ pub use addresses::size_of;
 pub use checks::load_fault;
 pub use elements::Elements;
 pub use places::{Bytes, Check, Run};
-pub use transfers::{read_p, read_run, store_elements, store_run, transfer_vector};
+pub use transfers::{read_run, store_elements, store_run, transfer_vector};

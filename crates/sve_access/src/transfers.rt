@@ -12,7 +12,8 @@ ghost use Rattle.mem_access.specs.DataAccess.{run_of};
 ghost use Rattle.mem_access.specs.Checks.{lacks, access_fault};
 ghost use Rattle.mem_access.specs.Values.{number_at};
 ghost use Rattle.mem_access.specs.Transfer.{Transfers, HasRoom, written};
-ghost use Rattle.sve_access.specs.After.{access_of, vector_fault, after_access, contents_of, z_of, p_of};
+ghost use Rattle.sve_access.specs.After.{access_of, vector_fault, after_access, contents_of};
+ghost use Rattle.sve_vectors.specs.Registers.{vector_at, predicate_at};
 ghost use Rattle.sve_access.specs.After.{at_base, elements_stored, read_bytes, with_elements, KeepsLengths};
 ghost use Rattle.sve_access.specs.After.{IsMade, HasInstructionRoom};
 ghost use Rattle.sve_access.specs.Contiguous.{memory_size, element_size, loaded, multiple_from};
@@ -30,29 +31,14 @@ use mem_access::{AccessStop, write_bytes};
 use paged_memory::Pages;
 use scalar_exec::read_x_or_sp;
 use sm_types::{Elem, LoadType, Scalars, VectorAccess, VectorOffset};
-use sve_vectors::{Vectors, truths_tell_bytes};
-
-/// The bytes of a predicate.
-#[inline]
-pub fn read_p(vectors: &Vectors, n: u8) -> &[u8]
-    requires { n < 16 }
-    ensures value { result.now ≡ p_of vectors.now.registers n }
-    ensures long { length_of vectors.now ≡ 8 * length result.now }
-    ensures small { length result.now ≤ 32 }
-    ensures some { 2 ≤ length result.now }
-{
-    let _length = vectors.length();
-    let p = vectors.p(n);
-    truths_tell_bytes(p);
-    p
-}
+use sve_vectors::{Vectors, read_p};
 
 /// Copies the bytes of a predicate to the first bytes of a room, and says how many there are.
 #[inline]
 fn copy_p(vectors: &Vectors, n: u8, room: &mut [u8]) -> usize
     requires n { n < 16 }
     requires room { length room.old ≡ 32 }
-    ensures value { take result room.new ≡ p_of vectors.now.registers n }
+    ensures value { take result room.new ≡ predicate_at vectors.now.registers n }
     ensures long { length_of vectors.now ≡ 8 * result }
     ensures small { result ≤ 32 }
     ensures some { 2 ≤ result }
@@ -75,7 +61,7 @@ fn load_z(kind: LoadType, elements: &Elements, vectors: &mut Vectors, zt: u8, pa
     requires readable { find (lacks 4 pages.now.memory) (element_addresses elements.now.start
         (memory_size kind) (element_size kind) elements.now.pg.now) ≡ None }
     ensures { vectors.new ≡ with_vector vectors.old zt (each_or_zero (bytes_in (element_size kind))
-        elements.now.pg.now (z_of vectors.old.registers zt) (λ i old. loaded kind (number_at pages.now.memory
+        elements.now.pg.now (vector_at vectors.old.registers zt) (λ i old. loaded kind (number_at pages.now.memory
         (element_run elements.now.start (memory_size kind) i)))) }
 {
     load_elements(kind, elements, vectors.z_mut(zt), pages);

@@ -1,5 +1,7 @@
--- The SVE vector and predicate registers. Source: DDI 0487, B1.4 (SVE state).
-use Rattle.std.specs.Prelude.{ℕ, ◌≡◌, ◌<◌, Bool, false, List, [], length, replicate, slice_index_or}
+-- The SVE vector and predicate registers, and those of a number. Source: DDI 0487, B1.4 (SVE state), J1.1:
+-- Z[], P[], FFR[], and their writes.
+use Rattle.std.specs.Prelude.{ℕ, ◌≡◌, ◌<◌, Bool, false, List, [], length, replicate, slice_index_or, slice_set}
+use Rattle.sve_vectors.specs.Predicates.{predicate_bytes}
 
 -- L is the current vector length in bytes
 pub record VectorRegisters : Type 0 where
@@ -25,3 +27,26 @@ pub record AreOfLength (bytes : ℕ) (r : VectorRegisters) : Type 0 where
   pub predicate_count : length r.predicates ≡ 16
   pub predicate_length : (n : ℕ) → n < 16 → length (slice_index_or r.predicates n []) ≡ bytes
   pub ffr_length : length r.ffr ≡ bytes
+
+-- Z: a vector
+abbrev pub vector_at : VectorRegisters → ℕ → List ℕ
+vector_at r n = slice_index_or r.vectors n []
+
+-- P: a predicate, and its bytes
+abbrev pub truths_at : VectorRegisters → ℕ → List Bool
+truths_at r n = slice_index_or r.predicates n []
+
+abbrev pub predicate_at : VectorRegisters → ℕ → List ℕ
+predicate_at r n = predicate_bytes (truths_at r n)
+
+-- the registers after a write to a vector
+abbrev pub vector_written : VectorRegisters → ℕ → List ℕ → VectorRegisters
+vector_written r n bytes = record r { vectors = slice_set r.vectors n bytes }
+
+-- after a write to a predicate
+abbrev pub predicate_written : VectorRegisters → ℕ → List Bool → VectorRegisters
+predicate_written r n truths = record r { predicates = slice_set r.predicates n truths }
+
+-- after a write to FFR
+abbrev pub ffr_written : VectorRegisters → List Bool → VectorRegisters
+ffr_written r truths = record r { ffr = truths }

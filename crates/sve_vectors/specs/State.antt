@@ -1,10 +1,11 @@
 -- What a thread's vectors are, with their lengths and PSTATE.SM. Source: DDI 0487, B1.4 (SVE state, Streaming
 -- SVE mode).
-use Rattle.std.specs.Prelude.{ℕ, Bool, List, slice_set, if◌then◌else◌}
+use Rattle.std.specs.Prelude.{ℕ, Bool, List, if◌then◌else◌}
 use Rattle.std.specs.Bool.{beq}
 use Rattle.sm_types.specs.declared.length.VecLen.{VecLen}
 use Rattle.sve_vectors.specs.Lengths.{current_bytes}
-use Rattle.sve_vectors.specs.Registers.{VectorRegisters, zero_registers}
+use Rattle.sve_vectors.specs.Registers.{VectorRegisters, zero_registers, vector_written, predicate_written}
+use Rattle.sve_vectors.specs.Registers.{ffr_written}
 
 pub record SveState : Type 0 where
   pub vl : VecLen
@@ -30,16 +31,18 @@ zero_state vl svl streaming = record {
 abbrev pub with_streaming : SveState → Bool → SveState
 with_streaming s on = if beq s.streaming on then s else zero_state s.vl s.svl on
 
+-- with other registers, at the same lengths and in the same mode
+abbrev pub with_registers : SveState → VectorRegisters → SveState
+with_registers s registers = record s { registers = registers }
+
 -- with one vector written
 abbrev pub with_vector : SveState → ℕ → List ℕ → SveState
-with_vector s n bytes =
-    record s { registers = record s.registers { vectors = slice_set s.registers.vectors n bytes } }
+with_vector s n bytes = with_registers s (vector_written s.registers n bytes)
 
 -- with one predicate written
 abbrev pub with_predicate : SveState → ℕ → List Bool → SveState
-with_predicate s n truths =
-    record s { registers = record s.registers { predicates = slice_set s.registers.predicates n truths } }
+with_predicate s n truths = with_registers s (predicate_written s.registers n truths)
 
 -- with FFR written
 abbrev pub with_ffr : SveState → List Bool → SveState
-with_ffr s truths = record s { registers = record s.registers { ffr = truths } }
+with_ffr s truths = with_registers s (ffr_written s.registers truths)

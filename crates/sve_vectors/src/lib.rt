@@ -2,9 +2,11 @@
 #![tactic(auto)]
 
 mod laws;
+mod registers;
 mod rows;
 mod vectors;
 
 pub use laws::{bytes_tell_truths, truths_tell_bytes};
+pub use registers::{read_p, write_ffr, write_p, write_z};
 pub use rows::{clear_rows, zero_rows};
 pub use vectors::Vectors;

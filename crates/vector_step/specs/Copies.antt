@@ -11,9 +11,8 @@ use Rattle.vector_elements.specs.declared.size.Size.TheVariants.{D}
 use Rattle.vector_elements.specs.Numbers.{wrapped}
 use Rattle.sve_exec.specs.Copies.{duplicated, copied_merging, copied_zeroing, index_from, signed_immediate}
 use Rattle.sve_exec.specs.Copies.{vector_add_immediate, vector_multiply_immediate, selected}
-use Rattle.sve_vectors.specs.Registers.{VectorRegisters}
+use Rattle.sve_vectors.specs.Registers.{VectorRegisters, vector_at, predicate_at, vector_written}
 use Rattle.scalar_exec.specs.Registers.{x_of, x_or_sp}
-use Rattle.vector_step.specs.Registers.{vector_at, predicate_at, vector_written}
 use Rattle.vector_step.specs.Sizes.{element_size}
 
 -- the start or the step of INDEX: an immediate in two's complement, or a register, where number 31 is zero

@@ -1,4 +1,4 @@
-pub mod Registers
+pub mod Core
 pub mod Sizes
 pub mod Vectors
 pub mod Copies

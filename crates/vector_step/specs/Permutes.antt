@@ -5,12 +5,12 @@ use Rattle.sm_types.specs.declared.vector as types
 use types.{VectorPermute.VectorPermute, VectorReduction.VectorReduction}
 use types.VectorPermute.TheVariants as permute
 use types.VectorReduction.TheVariants as reduction
-use Rattle.sve_vectors.specs.Registers.{VectorRegisters}
+use Rattle.sve_vectors.specs.Registers.{VectorRegisters, vector_at, predicate_at, vector_written}
 use Rattle.sve_perm.specs.Permute.{interleaved, reversed, table_of, extracted, unpacked}
 use Rattle.sve_perm.specs.Active.{last_element_of}
 use Rattle.sve_perm.specs.Reduce.{reduced, scalar_vector}
 use Rattle.scalar_exec.specs.Registers.{with_x}
-use Rattle.vector_step.specs.Registers.{VectorCore, vector_at, predicate_at, vector_written}
+use Rattle.vector_step.specs.Core.{VectorCore}
 use Rattle.vector_step.specs.Sizes.{element_size}
 
 -- ZIP1 to TRN2; REV; TBL; EXT; SUNPKLO to UUNPKHI

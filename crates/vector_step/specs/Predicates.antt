@@ -17,8 +17,8 @@ use Rattle.predicates.specs.Flags.{flags_of, governed}
 use Rattle.predicates.specs.Logical.{pattern_predicate, no_elements, predicate_logical}
 use Rattle.predicates.specs.Loops.{while_predicate, true_count}
 use Rattle.scalar_exec.specs.Registers.{x_of, with_x, with_flags}
-use Rattle.vector_step.specs.Registers.{VectorCore, vector_at, truths_at, predicate_at, predicate_written}
-use Rattle.vector_step.specs.Registers.{ffr_written}
+use Rattle.vector_step.specs.Core.{VectorCore}
+use Rattle.sve_vectors.specs.Registers.{vector_at, truths_at, predicate_at, predicate_written, ffr_written}
 use Rattle.vector_step.specs.Sizes.{element_size}
 
 -- after a write of bytes to a predicate

@@ -6,7 +6,7 @@ use Rattle.sm_types.specs.declared.insn.Insn.{Insn}
 use Rattle.sm_types.specs.declared.insn.Insn.TheVariants as insn
 use Rattle.sve_table.specs.Groups.{is_vector_group}
 use Rattle.sve_vectors.specs.Registers.{VectorRegisters}
-use Rattle.vector_step.specs.Registers.{VectorCore}
+use Rattle.vector_step.specs.Core.{VectorCore}
 use Rattle.vector_step.specs.Vectors.{after_arithmetic, after_logical, after_binary, after_multiply_add}
 use Rattle.vector_step.specs.Vectors.{after_unary, after_shift, after_sve2}
 use Rattle.vector_step.specs.Copies.{after_copy}

@@ -13,8 +13,7 @@ use Rattle.sve_exec.specs.Shift.{vector_shift}
 use Rattle.sve_exec.specs.Multiply.{vector_multiply}
 use Rattle.sve_exec.specs.Ternary.{vector_ternary}
 use Rattle.sve_exec.specs.Widening.{vector_widening}
-use Rattle.sve_vectors.specs.Registers.{VectorRegisters}
-use Rattle.vector_step.specs.Registers.{vector_at, predicate_at, vector_written}
+use Rattle.sve_vectors.specs.Registers.{VectorRegisters, vector_at, predicate_at, vector_written}
 use Rattle.vector_step.specs.Sizes.{element_size}
 
 -- ADD, SUB, SQADD, UQADD, SQSUB, UQSUB (vectors, unpredicated)

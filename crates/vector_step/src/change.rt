@@ -1,8 +1,7 @@
 //! Vectors that are changed in a copy, whatever registers are read meanwhile.
 ghost use Rattle.std.specs.Prelude.{◌≡◌, ℕ, ◌<◌, ◌≤◌, List, length};
-ghost use Rattle.sve_vectors.specs.Registers.{VectorRegisters};
-ghost use Rattle.sve_vectors.specs.State.{length_of};
-ghost use Rattle.vector_step.specs.Registers.{vector_at, vector_written, with_registers};
+ghost use Rattle.sve_vectors.specs.Registers.{VectorRegisters, vector_at, vector_written};
+ghost use Rattle.sve_vectors.specs.State.{length_of, with_registers};
 ghost use Rattle.vector_step.specs.Sizes.{IsVectorLength};
 
 use sve_vectors::Vectors;

@@ -5,17 +5,16 @@ ghost use Rattle.vector_elements.specs.Numbers.{bytes_in};
 ghost use Rattle.predicates.specs.Compare.{vectors_compared, immediate_compared};
 ghost use Rattle.predicates.specs.Flags.{flags_of};
 ghost use Rattle.sve_table.specs.Ranges.{IsVectorCompare};
-ghost use Rattle.sve_vectors.specs.State.{length_of};
+ghost use Rattle.sve_vectors.specs.State.{length_of, with_registers};
 ghost use Rattle.vector_step.specs.Predicates.{after_compare};
-ghost use Rattle.vector_step.specs.Registers.{core_of, with_registers};
+ghost use Rattle.vector_step.specs.Core.{core_of};
 
-use crate::registers::{read_p, write_p};
 use crate::size::element_size;
 use bit_ops::Nzcv;
 use predicates::{compare_immediate, compare_vectors};
 use scalar_exec::write_flags;
 use sm_types::{Scalars, VectorCompare};
-use sve_vectors::Vectors;
+use sve_vectors::{Vectors, read_p, write_p};
 
 /// Compares two vectors, or a vector with an immediate, where a predicate is active.
 #[tactic(auto, unfolding(crate::specs::Predicates::after_compare))]

@@ -4,11 +4,11 @@ ghost use Rattle.sve_exec.specs.Copies.{duplicated, index_from, selected};
 ghost use Rattle.sve_exec.specs.Copies.{vector_add_immediate, vector_multiply_immediate};
 ghost use Rattle.sve_table.specs.Ranges.{IsVectorCopy, IsIndexPart};
 ghost use Rattle.vector_step.specs.Copies.{after_copy, copied_active, is_of_immediate, part_value};
-ghost use Rattle.vector_step.specs.Registers.{vector_at, predicate_at, vector_written, with_registers};
+ghost use Rattle.sve_vectors.specs.Registers.{vector_at, predicate_at, vector_written};
+ghost use Rattle.sve_vectors.specs.State.{with_registers};
 ghost use Rattle.vector_step.specs.Sizes.{element_size};
 
 use crate::change::{VectorChange, change_vector};
-use crate::registers::read_p;
 use crate::size::element_size;
 use scalar_exec::{read_x, read_x_or_sp};
 use sm_types::{AddImmediateOp, Elem, IndexPart, Scalars, VectorCopy};
@@ -16,7 +16,7 @@ use sve_exec::{
     copy_merging, copy_zeroing, duplicate, index, select, signed_immediate, vector_add_immediate,
     vector_multiply_immediate,
 };
-use sve_vectors::Vectors;
+use sve_vectors::{Vectors, read_p};
 use vector_elements::{Size, wrapped};
 
 /// The start or the step of `index`.

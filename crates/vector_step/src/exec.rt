@@ -1,8 +1,8 @@
 //! The vector instructions that access neither memory nor ZA.
 ghost use Rattle.std.specs.Prelude.{◌≡◌, IsTrue};
 ghost use Rattle.sve_table.specs.Ranges.{IsInVectorRow};
-ghost use Rattle.sve_vectors.specs.State.{length_of};
-ghost use Rattle.vector_step.specs.Registers.{core_of, with_registers};
+ghost use Rattle.sve_vectors.specs.State.{length_of, with_registers};
+ghost use Rattle.vector_step.specs.Core.{core_of};
 ghost use Rattle.vector_step.specs.Step.{is_vector_computed, vector_step};
 
 use crate::compare::exec_compare;

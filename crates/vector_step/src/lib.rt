@@ -11,10 +11,8 @@ mod exec;
 mod permute;
 mod predicate;
 mod predicate_count;
-mod registers;
 mod size;
 mod sve2;
 mod vector;
 
 pub use exec::exec_vector;
-pub use registers::read_p;

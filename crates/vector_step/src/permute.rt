@@ -7,20 +7,20 @@ ghost use Rattle.std.specs.Prelude.{◌≡◌, ◌≢◌, ◌<◌};
 ghost use Rattle.vector_elements.specs.declared.size.Size.TheVariants.{B};
 ghost use Rattle.sve_perm.specs.Permute.{interleaved, reversed, table_of, extracted, unpacked};
 ghost use Rattle.sve_table.specs.Ranges.{IsVectorPermute, IsVectorReduction};
-ghost use Rattle.sve_vectors.specs.State.{length_of};
+ghost use Rattle.sve_vectors.specs.State.{length_of, with_registers};
 ghost use Rattle.vector_step.specs.Permutes.{after_permute, after_reduction};
-ghost use Rattle.vector_step.specs.Registers.{core_of, vector_at, with_registers};
+ghost use Rattle.vector_step.specs.Core.{core_of};
+ghost use Rattle.sve_vectors.specs.Registers.{vector_at};
 ghost use Rattle.vector_step.specs.Sizes.{element_size};
 
 use crate::change::{VectorChange, change_vector};
-use crate::registers::{read_p, write_z};
 use crate::size::element_size;
 use scalar_exec::write_x;
 use sm_types::{Elem, InterleaveOp, ReductionOp, Scalars, VectorPermute, VectorReduction};
 use sve_perm::{
     extract, interleave, last_element, reduce, reverse, scalar_to_vector, table, unpack,
 };
-use sve_vectors::Vectors;
+use sve_vectors::{Vectors, read_p, write_z};
 
 /// Elements of two vectors by turns.
 #[derive(Clone, Copy)]

@@ -1,18 +1,17 @@
 //! Predicates of a pattern, and logical operations on predicates.
 ghost use Rattle.std.specs.Prelude.{◌≡◌, ◌/◌, ◌<◌};
 ghost use Rattle.sve_table.specs.Ranges.{IsPredicate};
-ghost use Rattle.sve_vectors.specs.State.{length_of};
+ghost use Rattle.sve_vectors.specs.State.{length_of, with_registers};
 ghost use Rattle.vector_step.specs.Predicates.{after_predicate};
-ghost use Rattle.vector_step.specs.Registers.{core_of, with_registers};
+ghost use Rattle.vector_step.specs.Core.{core_of};
 
-use crate::registers::{read_p, write_p};
 use crate::size::element_size;
 use predicates::{
     predicate_false, predicate_logical, predicate_logical_flags, predicate_test, predicate_true,
 };
 use scalar_exec::write_flags;
 use sm_types::{Predicate, Scalars};
-use sve_vectors::Vectors;
+use sve_vectors::{Vectors, read_p, write_p};
 
 /// Writes a predicate of a pattern, of no element, or of two predicates, or tests one.
 #[tactic(auto, unfolding(crate::specs::Predicates::after_predicate))]

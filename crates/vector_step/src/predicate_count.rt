@@ -2,16 +2,15 @@
 ghost use Rattle.std.specs.Prelude.{◌≡◌, ◌*◌, ◌/◌, ◌<◌, length, replicate, true};
 ghost use Rattle.sve_table.specs.Ranges.{IsPredicateCount};
 ghost use Rattle.sve_vectors.specs.Predicates.{truths_of};
-ghost use Rattle.sve_vectors.specs.State.{length_of};
+ghost use Rattle.sve_vectors.specs.State.{length_of, with_registers};
 ghost use Rattle.vector_step.specs.Predicates.{after_predicate_count};
-ghost use Rattle.vector_step.specs.Registers.{core_of, with_registers};
+ghost use Rattle.vector_step.specs.Core.{core_of};
 
-use crate::registers::{read_p, write_ffr, write_p};
 use crate::size::element_size;
 use predicates::{active_count, predicate_while};
 use scalar_exec::{read_x, write_flags, write_x};
 use sm_types::{PredicateCount, Scalars};
-use sve_vectors::Vectors;
+use sve_vectors::{Vectors, read_p, write_ffr, write_p};
 
 /// Sets all bits.
 #[inline]

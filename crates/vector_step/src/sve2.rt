@@ -5,7 +5,8 @@ ghost use Rattle.sve_exec.specs.Multiply.{vector_multiply};
 ghost use Rattle.sve_exec.specs.Ternary.{vector_ternary};
 ghost use Rattle.sve_exec.specs.Widening.{vector_widening};
 ghost use Rattle.sve_table.specs.Ranges.{IsSve2};
-ghost use Rattle.vector_step.specs.Registers.{vector_at, with_registers};
+ghost use Rattle.sve_vectors.specs.Registers.{vector_at};
+ghost use Rattle.sve_vectors.specs.State.{with_registers};
 ghost use Rattle.vector_step.specs.Vectors.{after_sve2};
 
 use crate::change::{VectorChange, change_vector};

@@ -8,13 +8,13 @@ ghost use Rattle.sve_exec.specs.Unary.{predicated_unary};
 ghost use Rattle.sve_exec.specs.Shift.{vector_shift};
 ghost use Rattle.sve_table.specs.Ranges.{IsVectorArithmetic, IsVectorLogical, IsPredicatedBinary};
 ghost use Rattle.sve_table.specs.Ranges.{IsMultiplyAdd, IsPredicatedUnary, IsVectorShift};
-ghost use Rattle.vector_step.specs.Registers.{vector_at, predicate_at, with_registers};
+ghost use Rattle.sve_vectors.specs.Registers.{vector_at, predicate_at};
+ghost use Rattle.sve_vectors.specs.State.{with_registers};
 ghost use Rattle.vector_step.specs.Sizes.{element_size};
 ghost use Rattle.vector_step.specs.Vectors.{after_arithmetic, after_logical, after_binary};
 ghost use Rattle.vector_step.specs.Vectors.{after_multiply_add, after_unary, after_shift};
 
 use crate::change::{VectorChange, change_vector};
-use crate::registers::read_p;
 use crate::size::element_size;
 use sm_types::{
     MultiplyAdd, PredicatedBinary, PredicatedUnary, VectorArithmetic, VectorLogical, VectorShift,
@@ -23,7 +23,7 @@ use sve_exec::{
     multiply_add, predicated_binary, predicated_unary, vector_arithmetic, vector_logical,
     vector_shift,
 };
-use sve_vectors::Vectors;
+use sve_vectors::{Vectors, read_p};
 
 impl VectorChange for VectorArithmetic {
     ghost can = { λ s. s.zm < 32 };

@@ -7,7 +7,7 @@ ghost use Rattle.sve_vectors.specs.State.{length_of};
 ghost use Rattle.paged_memory.specs.PageTable.{KeepsOwned};
 ghost use Rattle.mem_access.specs.Checks.{lacks};
 ghost use Rattle.mem_access.specs.Transfer.{Transfers, HasRoom};
-ghost use Rattle.sve_access.specs.After.{p_of};
+ghost use Rattle.sve_vectors.specs.Registers.{predicate_at};
 ghost use Rattle.tile_ops.specs.Slices.{IsSliceOf, with_slice};
 ghost use Rattle.za_access.specs.Contents.{contents_of};
 ghost use Rattle.tile_ops.specs.Named.{element_size};
@@ -19,8 +19,8 @@ use mem_access::AccessStop;
 use paged_memory::Pages;
 use scalar_exec::{read_x, read_x_or_sp};
 use sm_types::{Scalars, TileAccess};
-use sve_access::{load_fault, read_p};
-use sve_vectors::Vectors;
+use sve_access::load_fault;
+use sve_vectors::{Vectors, read_p};
 use tile_ops::{SliceAt, element_size, read_slice, slice_of, write_slice};
 use za_array::Za;
 
@@ -140,12 +140,12 @@ pub fn transfer_slice(
 ) -> Result<(), AccessStop>
     requires insn { IsTileAccess insn.now }
     requires streaming { length_of vectors.now ≡ vector_bytes za.old.svl }
-    ensures made { let pg = p_of vectors.now.registers insn.now.pg in
+    ensures made { let pg = predicate_at vectors.now.registers insn.now.pg in
         Transfers (slice_fault insn.now scalars.now pg pages.old.memory)
         (after_slice insn.now scalars.now pg (vector_bytes za.old.svl) za.old.vectors pages.old.memory)
         (contents_of za.old pages.old) (contents_of za.new pages.new) result }
     ensures room { HasRoom (slice_access insn.now scalars.now
-        (p_of vectors.now.registers insn.now.pg)) pages.old
+        (predicate_at vectors.now.registers insn.now.pg)) pages.old
         → result ≢ Err AccessStop.Memory }
     ensures kept { KeepsOwned pages.old pages.new }
     ensures svl { za.new.svl ≡ za.old.svl }
