@@ -25,7 +25,7 @@ use Rattle.elf_loader.specs.Objects.{IsObjectImage, object_extents, text_extent,
 use Rattle.elf_loader.proofs.Images.{one_memory, one_program}
 use Rattle.lone_runner.specs.LoneRun.{IsLoneRun}
 use Rattle.lone_runner.proofs.Runs.{one_state, one_stop}
-use Rattle.lone_runner.proofs.OneRun.{one_journal, one_words}
+use Rattle.run_laws.proofs.OneRun.{one_journal, one_words}
 use Rattle.paged_memory.specs.Image.{Extent, IsMemoryOf, Program}
 use Rattle.report_text.specs.Report.{ThreadEnd, report_text}
 use Rattle.report_reader.specs.Block.{Block}
