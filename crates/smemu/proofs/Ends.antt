@@ -17,8 +17,7 @@ use Rattle.edge_io.specs.declared.sink.PutFault.TheVariants.{Failed}
 use Rattle.elf_loader.specs.Loading.{load_fault}
 use Rattle.paged_memory.specs.Image.{Program}
 use Rattle.smemu.specs.Answers.{IsFile, IsAnswer}
-use Rattle.smemu.specs.DifferLines.{report_line}
-use Rattle.smemu.specs.Ends.{Change, IsRejection, Call, IsUsage, IsDone, IsRefused, MayCome, FetchesReached, MismatchStands}
+use Rattle.smemu.specs.Ends.{Change, Call, IsUsage, IsDone, IsRefused, MayCome, FetchesReached, MismatchStands}
 use Rattle.smemu.specs.Ends.{DifferenceStands}
 use Rattle.smemu.specs.Replay.{IsBlockIn, IsReplayOf, IsMismatched, DiffersSo}
 use Rattle.smemu.specs.declared.refusal.Difference.{Difference}
@@ -36,9 +35,9 @@ use Rattle.smemu.specs.Views.{EndsReplay, IsFront}
 use Rattle.smemu.specs.declared.answer.Answer.{Answer}
 use Rattle.smemu.specs.declared.refusal.Refusal.{Refusal}
 use Rattle.smemu.specs.declared.refusal.Refusal.TheVariants as refusal
-use Rattle.smemu.specs.declared.status.Status.{Status}
-use Rattle.smemu.specs.declared.status.Status.TheVariants.{Done, Usage, Absent, ReadFault, WriteFault, BadFile, BadSource, OutOfMemory}
-use Rattle.smemu.specs.declared.status.Status.TheVariants.{BadReport, Differs}
+use Rattle.command_lines.specs.declared.status.Status.{Status}
+use Rattle.command_lines.specs.declared.status.Status.TheVariants.{Done, Usage, Absent, ReadFault, WriteFault, BadFile, BadSource}
+use Rattle.command_lines.specs.declared.status.Status.TheVariants.{OutOfMemory, BadReport, Differs}
 use Rattle.smemu.proofs.Requests.{reached_one, reached_none, reached_first, rest_of, rest_accepted, none_after_absent, none_after_rejected}
 use Rattle.smemu.proofs.Requests.{due_reached, second_reached}
 use Rattle.smemu.proofs.Whole.{accepted_file, rejected_file, largest_of}
@@ -446,26 +445,16 @@ done_due told files (AsksReplay program report thread) text e h =
 done_due told files AsksHelp text e h = refl
 done_due told files AsksVersion text e h = refl
 
-told_reached : (told : Told) (files : List ℕ → Option (List ℕ)) (names : List Named) (named : Named) → told ≡ Some files
+pub told_reached : (told : Told) (files : List ℕ → Option (List ℕ)) (names : List Named) (named : Named) → told ≡ Some files
     → IsReached told names named → IsReached (Some files) names named
 told_reached told files names named e h = subst (λ (t : Told). IsReached t names named) e h
 
 missing_due : (kind : Kind) (file : Option (List ℕ)) → file ≡ None → (rest : Status) → due_of_file kind file rest ≡ Absent
 missing_due kind file e rest = rw e refl
 
-rejected_due : (kind : Kind) (file : Option (List ℕ)) (whole : List ℕ) (rejection : Rejection) → file ≡ Some whole
+pub rejected_due : (kind : Kind) (file : Option (List ℕ)) (whole : List ℕ) (rejection : Rejection) → file ≡ Some whole
     → rejection_of kind whole ≡ Some rejection → (rest : Status) → due_of_file kind file rest ≡ due_of_rejection (Some rejection) rest
 rejected_due kind file whole rejection e h rest = ap (λ o. due_of_file kind o rest) e ∙ ap (λ r. due_of_rejection r rest) h
-
--- that of a report that is not in its format
-pub rejected_status : (files : List ℕ → Option (List ℕ)) (change : Change FilesView) → change.before.told ≡ Some files
-    → (request : Request) (text : List ℕ) → IsRejection NoReport report_line change.before.told (files_named request) text
-    → due_of_files files (files_named request) ≡ BadReport
-rejected_status files change tells request text h =
-    let whole = there change.before.told files h.named.name h.file tells h.is_file in
-    let at = told_reached change.before.told files (files_named request) h.named tells h.reached in
-    due_reached files (files_named request) at.0 h.named BadReport at.1
-    (λ rest. rejected_due h.named.kind (files h.named.name) h.file (NoReport h.fault) whole h.rejects rest)
 
 -- a status that is due is so
 same_due : (o : Option Request) (s : Status) → IsDueOf o s s

@@ -3,9 +3,5 @@ pub mod Requests
 pub mod Ends
 pub mod Replays
 pub mod Words
-pub mod OneAnswer
 pub mod InMemory
-pub mod HelpLines
-pub mod ForeignWords
 pub mod Threads
-pub mod OneEnding

@@ -25,7 +25,7 @@ use Rattle.report_reader.specs.declared.fault.ReportKind.TheVariants.{Image, NoT
 use Rattle.std.specs.Str.{bytes_eq}
 use Rattle.report_reader.specs.declared.parts.ReportBlock.{ReportBlock}
 use Rattle.report_text.specs.Block.{block_text}
-use Rattle.smemu.specs.DifferLines.{difference_lines}
+use Rattle.command_lines.specs.ReportLines.{difference_lines}
 use Rattle.smemu.specs.Replay.{mismatch, text_in, text_of, EndsAsSaid, IsBlockIn}
 use Rattle.smemu.specs.Views.{answer_text, ComparesSo, EndsReplay, IsPartedRefusal, IsUnmatched}
 use Rattle.smemu.specs.declared.answer.Answer.{Answer}

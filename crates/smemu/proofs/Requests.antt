@@ -5,7 +5,7 @@ use Rattle.edge_io.specs.Files.{Told}
 use Rattle.smemu.specs.Answers.{IsFile}
 use Rattle.smemu.specs.Requests.{Kind, Named, Rejection, rejection_of, after_file, reached_in, reached_of, IsReached, due_of_rejection}
 use Rattle.smemu.specs.Requests.{due_of_file, due_of_files}
-use Rattle.smemu.specs.declared.status.Status.{Status}
+use Rattle.command_lines.specs.declared.status.Status.{Status}
 
 nothing_after : (b : Bool) → cond b (let none : List Named = [] in none) [] ≡ []
 nothing_after true = refl

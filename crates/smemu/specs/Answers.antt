@@ -20,7 +20,7 @@ use Rattle.elf_loader.specs.Objects.{IsFileOf}
 use Rattle.lone_runner.specs.LoneRun.{IsLoneRun}
 use Rattle.report_text.specs.Report.{ThreadEnd, report_text}
 use Rattle.smemu.specs.Replay.{IsReplayOf, OfTwoFiles}
-use Rattle.smemu.specs.Texts.{help_text, version_text}
+use Rattle.command_lines.specs.Texts.{help_text, version_text}
 
 -- the file of that name, as far as the files are told
 abbrev pub IsFile : Told → List ℕ → List ℕ → Type 0
@@ -92,12 +92,3 @@ IsAnswer told (AsksReplay program report thread) text =
     OfTwoFiles told program report (λ file bytes. IsReplayOf file bytes thread text)
 IsAnswer told AsksHelp text = text ≡ help_text
 IsAnswer told AsksVersion text = text ≡ version_text
-
--- two files are loaded as one program
-abbrev pub AreLoadedAsOne : List ℕ → List ℕ → Type 0
-AreLoadedAsOne file other = (program : Program) × Loads file program × Loads other program
-
--- two texts that answer a request are one; of an assembled program, two files that are loaded as one program
-abbrev pub AreOneAnswer : Request → List ℕ → List ℕ → Type 0
-AreOneAnswer (AsksAssembly name) text other = AreLoadedAsOne text other
-AreOneAnswer request text other = text ≡ other

@@ -12,17 +12,17 @@ use Rattle.edge_io.specs.declared.sink.PutFault.TheVariants.{Failed}
 use Rattle.cmd_words.specs.Words.{Fault, Request, AsksReplay, usage_fault, command_of}
 use Rattle.report_reader.specs.Reading as reading
 use Rattle.smemu.specs.Answers.{IsFile, IsAnswer}
-use Rattle.smemu.specs.DifferLines.{report_line}
-use Rattle.smemu.specs.FaultLines.{fault_line}
+use Rattle.command_lines.specs.ReportLines.{report_line}
+use Rattle.command_lines.specs.FaultLines.{fault_line}
 use Rattle.smemu.specs.Replay.{IsMismatched, DiffersSo, OfTwoFiles}
 use Rattle.smemu.specs.Requests.{Named, Rejection, NoProgram, NoSource, NoReport, files_named, files_asked}
 use Rattle.smemu.specs.Requests.{limit_of, rejection_of, reached_of, IsReached, IsDue}
-use Rattle.smemu.specs.SourceLines.{source_line}
-use Rattle.smemu.specs.Texts.{usage_line}
-use Rattle.smemu.specs.declared.status.Status.{Status}
-use Rattle.smemu.specs.declared.status.Status.TheVariants.{Done, Usage, Absent, ReadFault, WriteFault}
-use Rattle.smemu.specs.declared.status.Status.TheVariants.{BadFile, BadSource, OutOfMemory, BadReport}
-use Rattle.smemu.specs.declared.status.Status.TheVariants.{Differs}
+use Rattle.command_lines.specs.SourceLines.{source_line}
+use Rattle.command_lines.specs.Texts.{usage_line}
+use Rattle.command_lines.specs.declared.status.Status.{Status}
+use Rattle.command_lines.specs.declared.status.Status.TheVariants.{Done, Usage, Absent, ReadFault, WriteFault}
+use Rattle.command_lines.specs.declared.status.Status.TheVariants.{BadFile, BadSource, OutOfMemory, BadReport}
+use Rattle.command_lines.specs.declared.status.Status.TheVariants.{Differs}
 
 -- something before a call and after it
 pub record Change (A : Type 0) : Type 0 where

@@ -1,8 +1,3 @@
-pub mod Status
-pub mod Texts
-pub mod FaultLines
-pub mod SourceLines
-pub mod Foreign
 pub mod Requests
 pub mod DifferLines
 pub mod Replay

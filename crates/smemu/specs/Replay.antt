@@ -20,7 +20,8 @@ use Rattle.report_reader.specs.Reading.{Fault}
 use Rattle.report_reader.specs.Report.{Report, report_in}
 use Rattle.report_reader.specs.declared.fault.ReportKind.TheVariants.{Image, NoThread}
 use Rattle.report_text.specs.Block.{block_text}
-use Rattle.smemu.specs.DifferLines.{parting_line, difference_lines}
+use Rattle.command_lines.specs.ReportLines.{difference_lines}
+use Rattle.smemu.specs.DifferLines.{parting_line}
 
 -- the line of a report that says another program's digest, or options with no thread of that number
 abbrev pub mismatch : List ℕ → ℕ → Report → Option Fault

@@ -11,9 +11,9 @@ use Rattle.elf_headers.specs.declared.fault.LoadFault.{LoadFault}
 use Rattle.elf_loader.specs.Loading.{load_fault}
 use Rattle.report_reader.specs.Reading.{Fault}
 use Rattle.report_reader.specs.Report.{Report, report_in}
-use Rattle.smemu.specs.declared.status.Status.{Status}
-use Rattle.smemu.specs.declared.status.Status.TheVariants.{Done, Usage, Absent, BadFile, BadSource}
-use Rattle.smemu.specs.declared.status.Status.TheVariants.{BadReport, Differs}
+use Rattle.command_lines.specs.declared.status.Status.{Status}
+use Rattle.command_lines.specs.declared.status.Status.TheVariants.{Done, Usage, Absent, BadFile, BadSource}
+use Rattle.command_lines.specs.declared.status.Status.TheVariants.{BadReport, Differs}
 
 -- what a file is to be
 pub data Kind : Type 0 where

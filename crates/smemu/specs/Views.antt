@@ -20,12 +20,13 @@ use Rattle.report_text.specs.Ends.{ends_of}
 use Rattle.report_text.specs.Report.{report_text}
 use Rattle.smemu.specs.Ends.{Change, Stands, Defined}
 use Rattle.edge_io.specs.MemSink as mem_sink
-use Rattle.smemu.specs.DifferLines.{report_line, parting_line, difference_lines}
-use Rattle.smemu.specs.FaultLines.{fault_line}
+use Rattle.command_lines.specs.ReportLines.{report_line, difference_lines}
+use Rattle.smemu.specs.DifferLines.{parting_line}
+use Rattle.command_lines.specs.FaultLines.{fault_line}
 use Rattle.smemu.specs.Replay.{mismatch, IsReplayOf, IsMismatched, DiffersSo}
 use Rattle.smemu.specs.Requests.{Kind, ReportFile, NoProgram, NoSource, NoReport, rejection_of}
-use Rattle.smemu.specs.SourceLines.{source_line}
-use Rattle.smemu.specs.Texts.{usage_line, help_text, version_text}
+use Rattle.command_lines.specs.SourceLines.{source_line}
+use Rattle.command_lines.specs.Texts.{usage_line, help_text, version_text}
 use Rattle.smemu.specs.declared.answer.Answer.{Answer}
 use Rattle.smemu.specs.declared.answer.Answer.TheVariants as answer
 use Rattle.smemu.specs.declared.answer.RunReport.{RunReport}
@@ -33,8 +34,8 @@ use Rattle.smemu.specs.declared.refusal.Difference.{Difference}
 use Rattle.smemu.specs.declared.refusal.Difference.TheVariants as difference
 use Rattle.smemu.specs.declared.refusal.Refusal.{Refusal}
 use Rattle.smemu.specs.declared.refusal.Refusal.TheVariants as refusal
-use Rattle.smemu.specs.declared.status.Status.{Status}
-use Rattle.smemu.specs.declared.status.Status.TheVariants as status
+use Rattle.command_lines.specs.declared.status.Status.{Status}
+use Rattle.command_lines.specs.declared.status.Status.TheVariants as status
 
 -- the text of a report
 unfoldable pub run_text : RunReport → List ℕ

@@ -1,10 +1,9 @@
 //! What a command answers, and how it is written.
 ghost use Rattle.edge_io.specs.Sink.{Writes};
-ghost use Rattle.smemu.specs.Texts as text;
 ghost use Rattle.smemu.specs.Views.{answer_text, run_text};
 
-use crate::help::{HELP, VERSION};
 use code_listing::write_listing;
+use command_lines::{write_help, write_version};
 use edge_io::{MemSink, PutFault, Sink};
 use kernel_contexts::Finished;
 use paged_memory::Image;
@@ -40,22 +39,6 @@ fn write_run<K: Sink>(out: &mut K, report: &RunReport) -> Result<(), PutFault>
     ensures { Writes (K.view out.old) (K.view out.new) result (run_text report.now) }
 {
     write_report(&report.run, &report.head, out)
-}
-
-/// Writes the text of help.
-#[tactic(auto, unfolding(crate::specs::Texts::help_text))]
-fn write_help<K: Sink>(out: &mut K) -> Result<(), PutFault>
-    ensures { Writes (K.view out.old) (K.view out.new) result text.help_text }
-{
-    out.put(HELP)
-}
-
-/// Writes the line of the version.
-#[tactic(auto, unfolding(crate::specs::Texts::version_text))]
-fn write_version<K: Sink>(out: &mut K) -> Result<(), PutFault>
-    ensures { Writes (K.view out.old) (K.view out.new) result text.version_text }
-{
-    out.put(VERSION)
 }
 
 /// Writes an answer.

@@ -1,4 +1,4 @@
-//! The line of the fault for which a report is refused, and the lines that say where a thread parts from it.
+//! The lines that say where a thread parts from its report.
 ghost use Rattle.std.specs.Prelude.{◌≡◌, ◌∷◌, [], codes, decimal};
 ghost use Rattle.std.specs.List.{concat};
 ghost use Rattle.report_text.specs.Words.{stop_words};
@@ -8,43 +8,11 @@ ghost use Rattle.smemu.specs.DifferLines as spec;
 ghost use Rattle.smemu.specs.Views.{difference_text};
 
 use crate::refusal::Difference;
-use edge_io::{Piece, PutFault, Sink, write_parts};
+use command_lines::write_difference_lines;
+use edge_io::{Piece, PutFault, Sink};
 use lone_runner::AloneFault;
-use report_reader::ReportKind;
 use report_text::{put_counted, put_stop_words};
 use sm_types::Stop;
-
-/// The part of a report to which a line should belong, or what else is wrong with it.
-fn part_word(kind: ReportKind) -> &'static [u8]
-    ensures { result.now ≡ spec.part_word kind }
-{
-    match kind {
-        ReportKind::TooLong => b"toolong",
-        ReportKind::NotText => b"nottext",
-        ReportKind::Header => b"header",
-        ReportKind::Options => b"options",
-        ReportKind::Image => b"image",
-        ReportKind::Block => b"block",
-        ReportKind::Journal => b"journal",
-        ReportKind::Shared => b"shared",
-        ReportKind::End => b"end",
-        ReportKind::NoThread => b"nothread",
-    }
-}
-
-/// Writes the line of a fault of a report.
-#[tactic(auto, unfolding(crate::specs::DifferLines::report_line))]
-pub fn write_report_fault<K: Sink>(out: &mut K, line: u64, kind: ReportKind) -> Result<(), PutFault>
-    ensures { Writes (K.view out.old) (K.view out.new) result
-        (spec.report_line (record { line = line; kind = kind })) }
-{
-    let mut buffer = itoa::Buffer::new();
-    let digits = buffer.format(line).as_bytes();
-    write_parts(
-        out,
-        &[b"bad report: line ", digits, b": ", part_word(kind), b"\n"],
-    )
-}
 
 /// The end of a thread before its count.
 fn put_early_end<K: Sink>(
@@ -108,38 +76,6 @@ fn write_parting<K: Sink>(out: &mut K, fault: AloneFault) -> Result<(), PutFault
     piece.flush(out)
 }
 
-/// A line with the line feed that ends it; one that is not there is empty.
-fn shown(line: &[u8]) -> &[u8]
-    ensures { result.now ≡ spec.shown line.now }
-{
-    if line.is_empty() { b"\n" } else { line }
-}
-
-/// Writes the lines that say in which line a report and a replay differ.
-#[tactic(auto, unfolding(crate::specs::DifferLines::difference_lines))]
-fn write_lines<K: Sink>(
-    out: &mut K,
-    line: u64,
-    report: &[u8],
-    replay: &[u8],
-) -> Result<(), PutFault>
-    ensures { Writes (K.view out.old) (K.view out.new) result
-        (spec.difference_lines line report.now replay.now) }
-{
-    let mut buffer = itoa::Buffer::new();
-    let digits = buffer.format(line).as_bytes();
-    write_parts(
-        out,
-        &[
-            b"differs: line ",
-            digits,
-            b"\n",
-            shown(report),
-            shown(replay),
-        ],
-    )
-}
-
 /// Writes the lines that say where a thread and its report part.
 pub fn write_difference<K: Sink>(out: &mut K, it: &Difference) -> Result<(), PutFault>
     ensures { Writes (K.view out.old) (K.view out.new) result (difference_text it.now) }
@@ -150,6 +86,6 @@ pub fn write_difference<K: Sink>(out: &mut K, it: &Difference) -> Result<(), Put
             line,
             report,
             replay,
-        } => write_lines(out, *line, report.as_slice(), replay.as_slice()),
+        } => write_difference_lines(out, *line, report.as_slice(), replay.as_slice()),
     }
 }

@@ -1,16 +1,12 @@
 //! The command where nothing of the outside can fail.
-ghost use Rattle.std.specs.Prelude.{◌≤◌, ℕ, List, length};
-ghost use Rattle.cmd_words.specs.Words.{AsksAssembly};
-ghost use Rattle.edge_io.specs.Files.{Told};
 ghost use Rattle.edge_io.specs.MemFiles as mem_files;
 ghost use Rattle.edge_io.specs.MemSink as mem_sink;
 ghost use Rattle.edge_io.specs.Files.{IsKept};
 ghost use Rattle.edge_io.specs.MemFiles.{IsAfterFetch};
-ghost use Rattle.smemu.specs.Answers.{IsAnswer};
 ghost use Rattle.smemu.specs.Ends.{call, IsDone, IsRefused, Fetches, LacksMemoryAlone};
 
 use crate::command::smemu_main;
-use crate::status::Status;
+use command_lines::Status;
 use edge_io::{MemFiles, MemSink};
 use std::alloc::Global;
 
@@ -35,10 +31,3 @@ pub fn smemu_in_memory(
 {
     smemu_main(alloc, words, files, out)
 }
-
-/// The law of room: each file that `asm` may write has at most 64 MiB, as it is loaded. So who gives that
-/// much room gives enough, whichever file is written.
-pub fn longest_program()
-    ensures { (told : Told) (source text : List ℕ)
-        → IsAnswer told (AsksAssembly source) text → length text ≤ 67108864 }
-{}

@@ -14,18 +14,10 @@
 mod answer;
 mod command;
 mod differ_line;
-mod fault_line;
-mod foreign;
-mod help;
 mod in_memory;
-mod laws;
 mod refusal;
 mod replay;
-mod source_line;
-mod status;
 
 pub use command::smemu_main;
-pub use foreign::refuse_foreign_word;
-pub use in_memory::{longest_program, smemu_in_memory};
-pub use laws::{help_is_true, one_answer, one_ending};
-pub use status::Status;
+pub use command_lines::{Status, refuse_foreign_word};
+pub use in_memory::smemu_in_memory;

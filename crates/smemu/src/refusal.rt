@@ -1,16 +1,13 @@
 //! Why a command has no answer, and how that is written.
 ghost use Rattle.std.specs.Prelude.{◌≡◌};
 ghost use Rattle.edge_io.specs.Sink.{Writes};
-ghost use Rattle.smemu.specs.Texts as text;
 ghost use Rattle.smemu.specs.Views.{refusal_status, refusal_text};
 ghost use Rattle.smemu.specs.declared.refusal.Refusal.TheVariants as variants;
 
-use crate::differ_line::{write_difference, write_report_fault};
-use crate::fault_line::write_fault;
-use crate::source_line::write_source_fault;
-use crate::status::Status;
+use crate::differ_line::write_difference;
 use asm_core::AsmFault;
 use cmd_words::UsageKind;
+use command_lines::{Status, write_fault, write_report_fault, write_source_fault, write_usage};
 use edge_io::{PutFault, Sink, write_parts};
 use elf_loader::LoadFault;
 use lone_runner::AloneFault;
@@ -66,34 +63,6 @@ impl From<AllocError> for Refusal {
     fn from(_error: AllocError) -> Refusal {
         Refusal::Memory
     }
-}
-
-/// What is wrong with a word.
-fn kind_word(kind: UsageKind) -> &'static [u8]
-    ensures { result.now ≡ text.kind_word kind }
-{
-    match kind {
-        UsageKind::Unknown => b"unknown",
-        UsageKind::Missing => b"missing",
-        UsageKind::Repeated => b"repeated",
-        UsageKind::BadNumber => b"badnumber",
-        UsageKind::OutOfRange => b"outofrange",
-        UsageKind::Extra => b"extra",
-    }
-}
-
-/// Writes the line of a fault of the words.
-#[tactic(auto, unfolding(crate::specs::Texts::usage_line))]
-pub fn write_usage<K: Sink>(out: &mut K, place: usize, kind: UsageKind) -> Result<(), PutFault>
-    ensures { Writes (K.view out.old) (K.view out.new) result (text.usage_line
-        (record { place = place; kind = kind })) }
-{
-    let mut buffer = itoa::Buffer::new();
-    let place_digits = buffer.format(place).as_bytes();
-    write_parts(
-        out,
-        &[b"usage: word ", place_digits, b": ", kind_word(kind), b"\n"],
-    )
 }
 
 /// Writes the line of a refusal; want of memory has none.

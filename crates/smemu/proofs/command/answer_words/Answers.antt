@@ -5,7 +5,7 @@ use Rattle.cmd_words.specs.Words.{AsksRun, AsksListing, AsksAssembly, AsksReplay
 use Rattle.edge_io.specs.Cause.{Rose}
 use Rattle.smemu.specs.Requests.{ProgramFile, SourceFile, files_asked}
 use Rattle.smemu.specs.Views.{end_status}
-use Rattle.smemu.specs.declared.status.Status.TheVariants.{Usage}
+use Rattle.command_lines.specs.declared.status.Status.TheVariants.{Usage}
 use Rattle.smemu.proofs.Ends.{fetches_one, fetches_asked, fetches_none, no_request, usage_stands}
 use Rattle.smemu.proofs.Words.{one_run}
 use Rattle.smemu.proofs.command.answer_words.Goals as goal

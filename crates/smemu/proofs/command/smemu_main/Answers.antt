@@ -5,7 +5,7 @@ use Rattle.edge_io.specs.Cause.{Rose}
 use Rattle.smemu.specs.Ends.{call, change}
 use Rattle.smemu.specs.Requests.{files_asked}
 use Rattle.smemu.specs.Views.{end_status}
-use Rattle.smemu.specs.declared.status.Status.TheVariants.{WriteFault}
+use Rattle.command_lines.specs.declared.status.Status.TheVariants.{WriteFault}
 use Rattle.smemu.proofs.Ends.{completed, refused_of, cut_of, failed_status, fetches_as}
 use Rattle.smemu.proofs.command.smemu_main.Goals as goal
 

@@ -1,0 +1,2 @@
+pub mod HelpLines
+pub mod ForeignWords

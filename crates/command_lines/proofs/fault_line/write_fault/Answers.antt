@@ -1,0 +1,5 @@
+use Rattle.edge_io.proofs.Gathering.{flushed}
+use Rattle.command_lines.proofs.fault_line.write_fault.Goals as goal
+
+pub returns : goal.returns
+returns g c = flushed c.new-piece.ensures c.in_ok-put_fault.ensures c.flush.ensures.written

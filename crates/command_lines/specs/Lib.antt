@@ -1,0 +1,6 @@
+pub mod Status
+pub mod Texts
+pub mod FaultLines
+pub mod SourceLines
+pub mod ReportLines
+pub mod Foreign

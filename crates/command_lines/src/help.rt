@@ -1,0 +1,56 @@
+//! What the command says of itself.
+ghost use Rattle.edge_io.specs.Sink.{Writes};
+ghost use Rattle.command_lines.specs.Texts as text;
+
+use edge_io::{PutFault, Sink};
+
+/// The commands, their options and the statuses.
+pub const HELP: &[u8] = b"\
+smemu runs AArch64 programs and reports what they did, and assembles them.
+
+commands:
+  run PROGRAM   runs the ELF64 file PROGRAM and writes the report of its run
+  dis PROGRAM   lists the code words of the ELF64 file PROGRAM: address, word and text
+  asm SOURCE    assembles SOURCE and writes the ELF64 file of the program
+  replay PROGRAM REPORT THREAD
+                runs thread THREAD of the report REPORT of PROGRAM alone and writes its block
+  --help        writes this text
+  --version     writes the version
+
+options of run, in any order after PROGRAM, each at most once:
+  --vl BITS     vector length outside streaming mode: 128, 256, 512, 1024 or 2048; else 128
+  --svl BITS    vector length in streaming mode: 128, 256, 512, 1024 or 2048; else 256
+  --slice N     instructions between polls of the pending signals: 1 to 1000000; else 1000
+  --budget N    instructions after which a thread is stopped: 1 to 4294967295; else 10000000
+
+statuses:
+  0   the text was written
+  2   usage: word P: KIND, where the words are no command; P counts from 0
+  3   absent: NAME, where there is no file of that name
+  4   read fault: NAME, where the file could not be read
+  5   the output could not be written
+  6   bad file: KIND VALUES, where the file is no program that is loaded
+  7   bad source: line L: KIND VALUES, where the file is no source that is assembled
+  8   there was no memory
+  9   bad report: line L: KIND, where the file is no report of PROGRAM with that thread
+  10   differs: where the thread and its report part: a line of both, or KIND VALUES
+";
+
+/// The version of the command.
+pub const VERSION: &[u8] = b"smemu 0.1.0\n";
+
+/// Writes the text of help.
+#[tactic(auto, unfolding(crate::specs::Texts::help_text))]
+pub fn write_help<K: Sink>(out: &mut K) -> Result<(), PutFault>
+    ensures { Writes (K.view out.old) (K.view out.new) result text.help_text }
+{
+    out.put(HELP)
+}
+
+/// Writes the line of the version.
+#[tactic(auto, unfolding(crate::specs::Texts::version_text))]
+pub fn write_version<K: Sink>(out: &mut K) -> Result<(), PutFault>
+    ensures { Writes (K.view out.old) (K.view out.new) result text.version_text }
+{
+    out.put(VERSION)
+}

@@ -1,0 +1,25 @@
+//! The lines and the texts of the command: the line of the fault for which words, a program's file, a source
+//! or a report is refused, the lines that say in which line a report and a replay differ, the texts of help
+//! and of the version, and the status with its number. `refuse_foreign_word` answers words of which one is no
+//! text.
+#![tactic(auto)]
+
+mod difference_line;
+mod fault_line;
+mod foreign;
+mod help;
+mod laws;
+mod report_line;
+mod source_line;
+mod status;
+mod usage_line;
+
+pub use difference_line::write_difference_lines;
+pub use fault_line::write_fault;
+pub use foreign::refuse_foreign_word;
+pub use help::{write_help, write_version};
+pub use laws::help_is_true;
+pub use report_line::write_report_fault;
+pub use source_line::write_source_fault;
+pub use status::Status;
+pub use usage_line::write_usage;

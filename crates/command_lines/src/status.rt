@@ -1,0 +1,48 @@
+//! How a command ended.
+ghost use Rattle.std.specs.Prelude.{◌≡◌};
+ghost use Rattle.command_lines.specs.Status.{code_of};
+
+/// How a command ended.
+#[derive(Clone, Copy, Debug, PartialEq, Eq)]
+pub enum Status {
+    /// The command's text was written.
+    Done,
+    /// The words are no command.
+    Usage,
+    /// There is no file of the name.
+    Absent,
+    /// A file could not be read.
+    ReadFault,
+    /// The output could not be written; it holds a part of the text from the front.
+    WriteFault,
+    /// The file is no program that is loaded.
+    BadFile,
+    /// The file is no source that is assembled.
+    BadSource,
+    /// There was no memory; nothing was written.
+    OutOfMemory,
+    /// The file is no report of the program that is replayed, or has no such thread.
+    BadReport,
+    /// The thread that is replayed and its report part.
+    Differs,
+}
+
+impl Status {
+    /// The exit status of the process.
+    pub fn code(&self) -> u8
+        ensures { result ≡ code_of self.now }
+    {
+        match self {
+            Status::Done => 0,
+            Status::Usage => 2,
+            Status::Absent => 3,
+            Status::ReadFault => 4,
+            Status::WriteFault => 5,
+            Status::BadFile => 6,
+            Status::BadSource => 7,
+            Status::OutOfMemory => 8,
+            Status::BadReport => 9,
+            Status::Differs => 10,
+        }
+    }
+}

@@ -1,7 +1,0 @@
-use Rattle.smemu.specs.DifferLines.{difference_lines}
-use Rattle.smemu.proofs.differ_line.write_lines.Goals as goal
-
-pub returns : goal.returns
-unfolding difference_lines
-returns g c =
-    rw (← c.format.ensures.text, ← c.as_bytes-digits.ensures.value, ← c.shown.ensures, ← c.shown-2.ensures) c.write_parts.ensures

@@ -1,5 +1,0 @@
-use Rattle.smemu.proofs.OneAnswer.{one_text}
-use Rattle.smemu.proofs.laws.one_answer.Goals as goal
-
-pub returns : goal.returns
-returns c = λ files words request text other asked h g. one_text files words request text other asked h g

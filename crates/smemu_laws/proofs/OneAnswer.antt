@@ -1,0 +1,234 @@
+-- Two texts that answer the same request over the same files are equal.
+use Rattle.std.proofs.Common.{◌≡◌, ℕ, zero, suc, ◌≤◌, List, [], ◌∷◌, length, cond, Option, Some, None, Result, Ok, refl, sym, ◌∙◌, ap}
+use Rattle.std.proofs.Common.{subst, arith}
+use Rattle.std.specs.Prelude.{◌==◌, slice_get, if◌then◌else◌}
+use mathlib.Core.HLevel.{Σ_prop_path}
+use native.Mathlib.Bridge.{le_prop}
+use Rattle.sha2.specs.Sha256.{sha256}
+use Rattle.sm_types.specs.declared.config.Config.{Config}
+use Rattle.sm_types.specs.declared.length.VecLen.{VecLen}
+use Rattle.sm_types.specs.declared.length.VecLen.TheVariants.{Bits128, Bits256, Bits512, Bits1024, Bits2048}
+use Rattle.sm_types.specs.declared.shared_op.Event.{Event}
+use Rattle.sm_types.specs.declared.shared_words.Words.{Words}
+use Rattle.shared_region.specs.History.{AreOneHistory}
+use Rattle.sm_types.specs.Length.{bits_of}
+use Rattle.sm_types.specs.declared.object.Object.{Object}
+use Rattle.sm_types.specs.Objects.{text_address, data_address}
+use Rattle.asm_core.specs.Assembly.{IsSameObject}
+use Rattle.asm_core.proofs.OneObject.{one_object, same_code}
+use Rattle.cmd_words.specs.Options.{Options, options_of}
+use Rattle.cmd_words.specs.Words.{Request, command_of, AsksRun, AsksListing, AsksReplay, AsksHelp, AsksVersion, AsksAssembly}
+use Rattle.code_listing.specs.Listing.{listing_text}
+use Rattle.elf_sections.specs.Code.{code_words}
+use Rattle.elf_loader.specs.Loading.{Loads}
+use Rattle.elf_loader.specs.Objects.{IsObjectImage, object_extents, text_extent, data_extent}
+use Rattle.elf_loader.proofs.Images.{one_memory, one_program}
+use Rattle.lone_runner.specs.LoneRun.{IsLoneRun}
+use Rattle.lone_runner.proofs.Runs.{one_state, one_stop}
+use Rattle.run_laws.proofs.OneRun.{one_journal, one_words}
+use Rattle.paged_memory.specs.Image.{Extent, IsMemoryOf, Program}
+use Rattle.report_text.specs.Report.{ThreadEnd, report_text}
+use Rattle.report_reader.specs.Block.{Block}
+use Rattle.report_reader.specs.Header as header
+use Rattle.report_reader.specs.Reading.{Fault}
+use Rattle.report_reader.specs.Report.{Report, report_in}
+use Rattle.smemu.specs.Replay.{IsBlockIn, IsReplayOf, text_in}
+use Rattle.smemu.proofs.Words.{one_run}
+use Rattle.smemu.specs.Answers.{IsEndOf, journals_of, IsReportOf, IsReport, IsListing, IsProgramOf, IsAnswer}
+use Rattle.smemu_laws.specs.OneAnswer.{AreLoadedAsOne, AreOneAnswer}
+
+-- ---- options
+
+length_of : ℕ → VecLen
+length_of n =
+    if n == 128 then Bits128
+    else (if n == 256 then Bits256
+    else (if n == 512 then Bits512
+    else (if n == 1024 then Bits1024
+    else Bits2048)))
+
+length-bits : (v : VecLen) → length_of (bits_of v) ≡ v
+unfolding length_of
+length-bits Bits128 = refl
+length-bits Bits256 = refl
+length-bits Bits512 = refl
+length-bits Bits1024 = refl
+length-bits Bits2048 = refl
+
+abbrev Numbers : Type 0
+Numbers = VecLen × VecLen × ℕ × ℕ × ℕ × ℕ
+
+abbrev InRange : Numbers → Type 0
+InRange n = ((1 ≤ n.2) × (n.2 ≤ 1000000)) × ((1 ≤ n.3) × (((1 ≤ n.4) × (n.4 ≤ 32)) × ((1 ≤ n.5) × (n.5 ≤ 64))))
+
+in_range_prop : (n : Numbers) → IsProp (InRange n)
+in_range_prop n = hlevel le_prop
+
+abbrev numbers_of : Config → Numbers
+numbers_of c = (c.vl, c.svl, c.slice, c.budget, c.threads, c.cores)
+
+same_numbers : (a b : Config) → numbers_of a ≡ numbers_of b → a ≡ b
+same_numbers a b e =
+    let pairs : ◌≡◌ {A = (n : Numbers) × InRange n}
+    (numbers_of a, (a.slice_in_range, (a.budget_in_range, (a.threads_in_range, a.cores_in_range))))
+    (numbers_of b, (b.slice_in_range, (b.budget_in_range, (b.threads_in_range, b.cores_in_range)))) =
+    Σ_prop_path in_range_prop e in
+    λ i. record {
+      vl = (pairs i).0.0;
+      svl = (pairs i).0.1;
+      slice = (pairs i).0.2;
+      budget = (pairs i).0.3;
+      threads = (pairs i).0.4;
+      cores = (pairs i).0.5;
+      slice_in_range = (pairs i).1.0;
+      budget_in_range = (pairs i).1.1.0;
+      threads_in_range = (pairs i).1.1.1.0;
+      cores_in_range = (pairs i).1.1.1.1;
+    }
+
+same_config : (a b : Config) → options_of a ≡ options_of b → a ≡ b
+same_config a b e =
+    let vl : a.vl ≡ b.vl = sym (length-bits a.vl) ∙ ap (λ (o : Options). length_of o.vl) e ∙ length-bits b.vl in
+    let svl : a.svl ≡ b.svl = sym (length-bits a.svl) ∙ ap (λ (o : Options). length_of o.svl) e ∙ length-bits b.svl in
+    let numbers : numbers_of a ≡ numbers_of b = λ i. (vl i, svl i, (e i).slice, (e i).budget, (e i).threads, (e i).cores) in
+    same_numbers a b numbers
+
+-- ---- files
+
+pub same_file : (o : Option (List ℕ)) (file other : List ℕ) → o ≡ Some file → o ≡ Some other → file ≡ other
+same_file o file other e h = cc
+
+-- ---- the ends of threads
+
+-- one thread that ends, with words with which its journal is one history
+pub record IsOneEnd (program : Program) (config : Config) (ends : List ThreadEnd) (words : Words) : Type 0 where
+  pub end : ThreadEnd
+  pub alone : ends ≡ end ∷ []
+  pub is_end : IsEndOf program config 0 end
+  pub one_history : AreOneHistory (end.journal ∷ []) words
+
+one_end_of : (program : Program) (config : Config) (ends : List ThreadEnd) (words : Words) → length ends ≡ 1
+    → ((k : ℕ) (end : ThreadEnd) → slice_get ends k ≡ Some end → IsEndOf program config k end) → AreOneHistory (journals_of ends) words
+    → IsOneEnd program config ends words
+one_end_of program config [] words l each one = absurd (omega arith)
+one_end_of program config (end ∷ []) words l each one = record { end = end; alone = refl; is_end = each 0 end refl; one_history = one }
+one_end_of program config (end ∷ other ∷ ends) words l each one = absurd (omega arith)
+
+one_thread_end : (program : Program) (config : Config) (a b : ThreadEnd) (v w : Words) → IsEndOf program config 0 a
+    → IsEndOf program config 0 b → AreOneHistory (a.journal ∷ []) v → AreOneHistory (b.journal ∷ []) w → a ≡ b
+one_thread_end program config a b v w h g x y =
+    let number = h.number ∙ sym g.number in
+    let journal = one_journal program config a.journal b.journal a.state b.state h.stop g.stop v w h.run g.run x y in
+    let run : IsLoneRun program config 0 b.journal a.state h.stop =
+    subst (λ (j : List Event). IsLoneRun program config 0 j a.state h.stop) journal h.run in
+    let state = one_state program config 0 b.journal a.state b.state h.stop g.stop run g.run in
+    let same = one_stop program config 0 b.journal a.state b.state h.stop g.stop run g.run in
+    let stop = h.stopped ∙ ap Some same ∙ sym g.stopped in
+    λ i. record { thread = number i; state = state i; stop = stop i; journal = journal i }
+
+-- ---- the texts
+
+one_report : (file : List ℕ) (config : Config) (text other : List ℕ) → config.threads ≡ 1 → IsReportOf file config text
+    → IsReportOf file config other → text ≡ other
+one_report file config text other one h g =
+    let program = one_program file h.program g.program h.loads g.loads in
+    let each : (k : ℕ) (end : ThreadEnd) → slice_get h.ends k ≡ Some end → IsEndOf g.program config k end =
+    λ k end at. subst (λ (p : Program). IsEndOf p config k end) program (h.each k end at) in
+    let x = one_end_of g.program config h.ends h.words (h.threads ∙ one) each h.one_history in
+    let y = one_end_of g.program config g.ends g.words (g.threads ∙ one) g.each g.one_history in
+    let end = one_thread_end g.program config x.end y.end h.words g.words x.is_end y.is_end x.one_history y.one_history in
+    let words =
+    one_words g.program config x.end.journal y.end.journal x.end.state y.end.state x.is_end.stop y.is_end.stop h.words g.words
+    x.is_end.run y.is_end.run x.one_history y.one_history in
+    let ends : h.ends ≡ g.ends = x.alone ∙ ap (λ (e : ThreadEnd). e ∷ []) end ∙ sym y.alone in
+    h.is_text ∙ ap (λ (es : List ThreadEnd). report_text config (sha256 file) es h.words) ends
+    ∙ ap (report_text config (sha256 file) g.ends) words ∙ sym g.is_text
+
+-- ---- the files of a program
+
+same_extents : (o p : Object) → IsSameObject o p → object_extents o ≡ object_extents p
+unfolding object_extents text_extent data_extent
+same_extents o p h =
+    λ i. record { address = text_address; size = length (h.text_bytes i); flags = 5; bytes = h.text_bytes i }
+    ∷ cond (length (h.data_bytes i) == 0) []
+    (record { address = data_address (length (h.text_bytes i)); size = length (h.data_bytes i); flags = 6; bytes = h.data_bytes i } ∷ [])
+
+same_image : (o p : Object) (x y : Program) → IsSameObject o p → IsObjectImage o x → IsObjectImage p y → x ≡ y
+same_image o p x y s h g =
+    let memory =
+    one_memory (object_extents p) x.memory y.memory (subst (λ (es : List Extent). IsMemoryOf es x.memory) (same_extents o p s) h.memory)
+    g.memory in
+    let entry : x.entry ≡ y.entry = h.entry_is ∙ s.entry ∙ sym g.entry_is in
+    let code : x.code ≡ y.code = h.code_is ∙ same_code o p s ∙ sym g.code_is in
+    λ i. record { memory = memory i; entry = entry i; code = code i }
+
+one_assembly : (source text other : List ℕ) → IsProgramOf source text → IsProgramOf source other → AreLoadedAsOne text other
+one_assembly source text other h g =
+    let same =
+    same_image h.object g.object h.written.program g.written.program (one_object source h.object g.object h.assembles g.assembles)
+    h.written.image g.written.image in
+    (g.written.program, subst (λ (p : Program). Loads text p) same h.written.loads, g.written.loads)
+
+-- ---- the replays of a thread
+
+said_options : (a b : Config) → header.options_of a ≡ header.options_of b → a.cores ≡ b.cores → a ≡ b
+said_options a b e cores =
+    let vl : a.vl ≡ b.vl = sym (length-bits a.vl) ∙ ap (λ (o : header.Options). length_of o.vl) e ∙ length-bits b.vl in
+    let svl : a.svl ≡ b.svl = sym (length-bits a.svl) ∙ ap (λ (o : header.Options). length_of o.svl) e ∙ length-bits b.svl in
+    let numbers : numbers_of a ≡ numbers_of b = λ i. (vl i, svl i, (e i).slice, (e i).budget, (e i).threads, cores i) in
+    same_numbers a b numbers
+
+pub same_said : (read : Result Report Fault) (a b : Report) → read ≡ Ok a → read ≡ Ok b → a ≡ b
+same_said read a b e h = cc
+
+same_block : (o : Option Block) (a b : Block) → o ≡ Some a → o ≡ Some b → a ≡ b
+same_block o a b e h = cc
+
+-- a thread has one block in a report, with one program and one set of options
+pub record IsOneBlock {file report : List ℕ} {thread : ℕ} (a b : IsBlockIn file report thread) : Type 0 where
+  pub program : a.program ≡ b.program
+  pub config : a.config ≡ b.config
+  pub block : a.block ≡ b.block
+
+pub one_block : (file report : List ℕ) (thread : ℕ) (a b : IsBlockIn file report thread) → IsOneBlock a b
+one_block file report thread a b =
+    let said = same_said (report_in report) a.said b.said a.reads b.reads in
+    let options = a.given ∙ ap (λ (r : Report). r.options) said ∙ sym b.given in
+    record {
+      program = one_program file a.program b.program a.loads b.loads;
+      config = said_options a.config b.config options (a.one_core ∙ sym b.one_core);
+      block =
+          same_block (slice_get a.said.blocks thread) a.block b.block a.stands (ap (λ (r : Report). slice_get r.blocks thread) said
+          ∙ b.stands);
+    }
+
+one_replay : (file report : List ℕ) (thread : ℕ) (text other : List ℕ) → IsReplayOf file report thread text
+    → IsReplayOf file report thread other → text ≡ other
+one_replay file report thread text other h g =
+    sym h.same ∙ ap (text_in report) (one_block file report thread h.at g.at).block ∙ g.same
+
+pub one_text : (files : List ℕ → Option (List ℕ)) (words : List (List ℕ)) (request : Request) (text other : List ℕ)
+    → command_of words ≡ Some request → IsAnswer (Some files) request text
+    → IsAnswer (Some files) request other → AreOneAnswer request text other
+one_text files words (AsksRun name options) text other asked h g =
+    let file = same_file (files name) h.file g.file h.is_file g.is_file in
+    let config = same_config h.config g.config (h.given ∙ sym g.given) in
+    let of_file = subst (λ (f : List ℕ). IsReportOf f h.config text) file h.report in
+    let of_config = subst (λ (c : Config). IsReportOf g.file c text) config of_file in
+    let one : g.config.threads ≡ 1 = ap (λ (o : Options). o.threads) g.given ∙ one_run words name options asked in
+    one_report g.file g.config text other one of_config g.report
+one_text files words (AsksListing name) text other asked h g =
+    let file = same_file (files name) h.file g.file h.is_file g.is_file in
+    let code = h.listing.loads.code_is ∙ ap code_words file ∙ sym g.listing.loads.code_is in
+    h.listing.is_text ∙ ap listing_text code ∙ sym g.listing.is_text
+one_text files words (AsksAssembly name) text other asked h g =
+    let source = same_file (files name) h.source g.source h.is_file g.is_file in
+    one_assembly g.source text other (subst (λ (f : List ℕ). IsProgramOf f text) source h.program) g.program
+one_text files words (AsksReplay program report thread) text other asked h g =
+    let file = same_file (files program) h.file g.file h.is_file g.is_file in
+    let second = same_file (files report) h.second g.second h.is_second g.is_second in
+    let of_file = subst (λ (f : List ℕ). IsReplayOf f h.second thread text) file h.holds in
+    let of_second = subst (λ (b : List ℕ). IsReplayOf g.file b thread text) second of_file in
+    one_replay g.file g.second thread text other of_second g.holds
+one_text files words AsksHelp text other asked h g = h ∙ sym g
+one_text files words AsksVersion text other asked h g = h ∙ sym g
