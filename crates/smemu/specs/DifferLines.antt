@@ -8,7 +8,7 @@ use Rattle.lone_runner.specs.declared.fault.AloneFault.TheVariants.{EndsEarly, G
 use Rattle.report_reader.specs.Reading.{Fault}
 use Rattle.report_reader.specs.declared.fault.ReportKind.{ReportKind}
 use Rattle.report_reader.specs.declared.fault.ReportKind.TheVariants as part
-use Rattle.report_text.specs.Words.{stop_words}
+use Rattle.text_lines.specs.Words.{stop_words}
 
 -- the part of a report to which a line should belong, or what else is wrong with it
 abbrev pub part_word : ReportKind → List ℕ

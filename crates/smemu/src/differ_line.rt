@@ -1,7 +1,7 @@
 //! The line of the fault for which a report is refused, and the lines that say where a thread parts from it.
 ghost use Rattle.std.specs.Prelude.{◌≡◌, ◌∷◌, [], codes, decimal};
 ghost use Rattle.std.specs.List.{concat};
-ghost use Rattle.report_text.specs.Words.{stop_words};
+ghost use Rattle.text_lines.specs.Words.{stop_words};
 ghost use Rattle.edge_io.specs.Pieces.{gathered, Gathers};
 ghost use Rattle.edge_io.specs.Sink.{Writes};
 ghost use Rattle.smemu.specs.DifferLines as spec;
@@ -11,8 +11,8 @@ use crate::refusal::Difference;
 use edge_io::{Piece, PutFault, Sink, write_parts};
 use lone_runner::AloneFault;
 use report_reader::ReportKind;
-use report_text::{put_counted, put_stop_words};
 use sm_types::Stop;
+use text_lines::{put_counted, put_stop_words};
 
 /// The part of a report to which a line should belong, or what else is wrong with it.
 fn part_word(kind: ReportKind) -> &'static [u8]
