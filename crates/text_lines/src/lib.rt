@@ -1,5 +1,5 @@
-//! Lines and words that several texts are written with, gathered into pieces that are written to a sink, with no
-//! memory taken: numbers and lines of numbers, and the words of stops, exceptions and operations.
+//! Lines and words that several texts are written with, gathered into pieces that are written to a sink:
+//! numbers and lines of numbers, and the words of stops, exceptions and operations. No memory is taken.
 #![tactic(auto)]
 
 mod lines;
