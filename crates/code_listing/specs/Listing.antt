@@ -2,7 +2,7 @@
 use Rattle.std.specs.Prelude.{ℕ, ◌∷◌, [], List, codes}
 use Rattle.std.specs.List.{concat, flat_map}
 use Rattle.insn_text.specs.Texts.{text_of}
-use Rattle.report_text.specs.Lines.{hex64, hex32}
+use Rattle.text_lines.specs.Lines.{hex64, hex32}
 
 -- the line of a code word: its address in 16 hexadecimal digits, the word in 8, and its text
 unfoldable pub listing_line : ℕ × ℕ → List ℕ

@@ -7,7 +7,7 @@ ghost use Rattle.code_listing.specs.Listing.{listing_line, listing_text};
 use arrayvec::ArrayString;
 use edge_io::{Piece, PutFault, Sink};
 use insn_text::print_word;
-use report_text::{hex32_digits, hex64_digits};
+use text_lines::{hex32_digits, hex64_digits};
 
 /// The line of a code word.
 #[tactic(auto, unfolding(crate::specs::Listing::listing_line))]

@@ -7,7 +7,7 @@ use Rattle.elf_headers.specs.declared.fault.LoadFault.TheVariants.{TooLong, Trun
 use Rattle.elf_headers.specs.declared.fault.LoadFault.TheVariants.{NotStatic, BadTable, InShared, Overlap}
 use Rattle.elf_headers.specs.declared.fault.LoadFault.TheVariants.{TooManyPages, EntryOutside, Unlisted}
 use Rattle.elf_headers.specs.declared.fault.LoadFault.TheVariants.{Memory}
-use Rattle.report_text.specs.Lines.{hex64, hex32}
+use Rattle.text_lines.specs.Lines.{hex64, hex32}
 
 -- why a file is refused, with the values of the fault in their order
 unfoldable pub fault_words : LoadFault → List ℕ

@@ -3,12 +3,12 @@ ghost use Rattle.std.specs.Prelude.{◌≡◌, ◌∷◌, [], decimal, codes};
 ghost use Rattle.std.specs.List.{concat};
 ghost use Rattle.edge_io.specs.Pieces.{gathered, Gathers};
 ghost use Rattle.edge_io.specs.Sink.{Writes};
-ghost use Rattle.report_text.specs.Lines.{hex64, hex32};
+ghost use Rattle.text_lines.specs.Lines.{hex64, hex32};
 ghost use Rattle.command_lines.specs.FaultLines.{fault_words, fault_line};
 
 use edge_io::{Piece, PutFault, Sink};
 use elf_headers::LoadFault;
-use report_text::{hex32_digits, hex64_digits, put_counted};
+use text_lines::{hex32_digits, hex64_digits, put_counted};
 
 /// Two program headers that have an address in common.
 fn put_overlap<K: Sink>(

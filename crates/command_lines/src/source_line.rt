@@ -9,7 +9,7 @@ ghost use Rattle.command_lines.specs.SourceLines as spec;
 use asm_core::AsmFault;
 use asm_parser::LineFault;
 use edge_io::{Piece, PutFault, Sink};
-use report_text::put_counted;
+use text_lines::put_counted;
 
 /// What is wrong with a line by itself, and at which column.
 #[tactic(auto, unfolding(crate::specs::SourceLines::line_words))]

@@ -3,10 +3,10 @@
 use crate::report_cases::{CASES, REPORT};
 use edge_io::{MemSink, Piece};
 use report_reader::{Report, ReportFault, ReportKind, read_report};
-use report_text::put_stop_line;
 use sm_types::{Access, Event, Exception, OpKind, SharedOp, Stop, VecLen};
 use std::alloc::{AllocError, Global};
 use std::test::Fail;
+use text_lines::put_stop_line;
 
 /// The word of a part.
 fn part(kind: ReportKind) -> &'static str {

@@ -4,8 +4,9 @@ use crate::memory::FILE;
 use edge_io::{MemSink, Piece};
 use elf_loader::load;
 use kernel_contexts::Context;
-use report_text::{put_stop_line, write_block};
+use report_text::write_block;
 use sm_types::{Access, Config, Exception, Stop};
+use text_lines::put_stop_line;
 
 fn raised(exception: Exception) -> Stop {
     Stop::Raised {

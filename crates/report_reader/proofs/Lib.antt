@@ -1,8 +1,5 @@
-pub mod Digits
-pub mod Cuts
 pub mod Rows
-pub mod Past
+pub mod SomeLines
 pub mod Readings
 pub mod Weights
 pub mod Standing
-pub mod Differences

@@ -1,7 +1,8 @@
 -- Readings one after another: lines of output, and so many of one kind.
 use Rattle.std.proofs.Common.{◌≡◌, ℕ, suc, ◌+◌, ◌-◌, ◌/◌, ◌<◌, ◌≤◌, min, List, [], ◌∷◌, ◌++◌, Result, Ok, Err, refl, sym, ap, ◌∙◌, arith, append_assoc}
 use Rattle.std.proofs.lemmas.List.{append-nil}
-use Rattle.report_reader.specs.Reading.{Left, Fault, Reading, and_then, next_line, taken, each, IsFault}
+use Rattle.line_reader.specs.Reading.{Left, and_then, next_line, each}
+use Rattle.report_reader.specs.Reading.{Fault, Reading, taken, IsFault}
 use Rattle.report_reader.specs.Events.{out_line}
 use Rattle.report_reader.specs.Block.{out_lines}
 use Rattle.report_reader.specs.declared.fault.ReportFault.{ReportFault}

@@ -2,7 +2,7 @@
 use Rattle.std.proofs.Common.{◌≡◌, ℕ, ◌+◌, ◌<◌, ◌≤◌, false, ◌&&◌, List, [], ◌∷◌, length, drop, get_or, refl, ap, ◌∙◌}
 use Rattle.std.specs.Prelude.{is_some, option_map}
 use Rattle.std.proofs.lemmas.List.{at_drop_more, at_drop_all}
-use Rattle.report_reader.specs.Fields.{ended}
+use Rattle.line_reader.specs.Fields.{ended}
 use Rattle.report_reader.specs.Forms.{is_field, are_fields}
 use Rattle.report_reader.specs.declared.forms.Field.{Field}
 

@@ -2,8 +2,9 @@
 use Rattle.std.proofs.Common.{◌≡◌, ℕ, zero, suc, ◌+◌, ◌-◌, ◌/◌, ◌≤◌, min, nat_lt, cond, true, false, List, [], ◌∷◌, length, map, Result, Ok, Err, sym, ap, ◌∙◌, arith, subst, zero-add}
 use Rattle.std.specs.List.{AllByRecursion, All}
 use Rattle.std.proofs.lemmas.List.Elements.{All-from_recursion}
-use Rattle.report_reader.specs.Lines.{lines_of}
-use Rattle.report_reader.specs.Reading.{Left, Fault, each, line, said_if}
+use Rattle.line_reader.specs.Lines.{lines_of}
+use Rattle.line_reader.specs.Reading.{Left, each, said_if}
+use Rattle.report_reader.specs.Reading.{Fault, line}
 use Rattle.std.specs.Prelude.{codes, IfOk}
 use Rattle.std.specs.Str.{bytes_eq}
 use Rattle.report_reader.specs.Forms.{is_line}

@@ -1,8 +1,9 @@
 -- Reading passes no byte twice: where a reading ends, and where blocks stand.
 use Rattle.std.proofs.Common.{◌≡◌, ℕ, zero, suc, ◌+◌, ◌≤◌, Bool, true, false, ◌==◌, cond, List, [], ◌∷◌, length, Option, Some, None, Result, Ok, Err, refl, ap, ◌∙◌, arith, subst}
 use Rattle.std.specs.List.{AllByRecursion}
-use Rattle.report_reader.specs.Lines.{lines_of, onto_first}
-use Rattle.report_reader.specs.Reading.{Left, Fault, Reading, and_then, give, next_line, past_first, past_line, past_first_all, past_all, taken, line, line_by, said_if, any_lines, each}
+use Rattle.line_reader.specs.Lines.{lines_of, onto_first}
+use Rattle.line_reader.specs.Reading.{Left, and_then, give, next_line, past_first, past_line, past_first_all, past_all, said_if, any_lines, each}
+use Rattle.report_reader.specs.Reading.{Fault, Reading, taken, line, line_by}
 use Rattle.report_reader.specs.declared.fault.ReportKind.{ReportKind}
 
 -- the bytes of some lines

@@ -3,12 +3,13 @@ use Rattle.std.specs.Prelude.{ℕ, zero, suc, ◌+◌, ◌-◌, ◌/◌, min, Li
 use Rattle.std.specs.Str.{bytes_eq}
 use Rattle.sm_types.specs.declared.shared_op.Event.{Event}
 use Rattle.sm_types.specs.declared.stop.Stop.{Stop}
-use Rattle.report_reader.specs.Lines.{begins_with}
+use Rattle.line_reader.specs.Lines.{begins_with}
 use Rattle.report_reader.specs.Forms.{is_line}
 use Rattle.report_reader.specs.Stops.{stop_line}
 use Rattle.report_reader.specs.Events.{number_line, is_thread, out_line, event_line}
-use Rattle.report_reader.specs.Reading.{Reading, ◌>>=◌, give, here, line, line_by, said_if, any_lines}
-use Rattle.report_reader.specs.Reading.{maybe_line, each}
+use Rattle.line_reader.specs.Reading.{◌>>=◌, give, here, said_if, any_lines}
+use Rattle.report_reader.specs.Reading.{Reading, line, line_by}
+use Rattle.line_reader.specs.Reading.{maybe_line, each}
 use Rattle.report_reader.specs.declared.fault.ReportKind.{ReportKind}
 use Rattle.report_reader.specs.declared.fault.ReportKind.TheVariants as part
 use Rattle.report_reader.specs.declared.forms.LineKind.{LineKind}

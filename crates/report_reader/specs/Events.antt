@@ -7,9 +7,9 @@ use Rattle.sm_types.specs.declared.shared_op.OpKind.{OpKind}
 use Rattle.sm_types.specs.declared.shared_op.OpKind.TheVariants.{Load, Store, Swap, Add, Clear, Eor, Set}
 use Rattle.sm_types.specs.declared.shared_op.OpKind.TheVariants.{Umax, Umin, Cas, Post, Poll}
 use Rattle.sm_types.specs.declared.shared_op.Event.{Event}
-use Rattle.report_reader.specs.Numbers.{is_hex}
+use Rattle.line_reader.specs.Numbers.{is_hex}
 use Rattle.report_reader.specs.declared.events.Setting.{Setting}
-use Rattle.report_reader.specs.Fields.{◌>>=◌, field, named, number, hex, ended, said_by}
+use Rattle.line_reader.specs.Fields.{◌>>=◌, field, named, number, hex, ended, said_by}
 
 -- a name and a number below 2 ^ 32
 unfoldable pub number_line : List ℕ → List ℕ → Option ℕ

@@ -3,8 +3,8 @@ use Rattle.std.specs.Prelude.{ℕ, ◌^◌, ◌%◌, ◌==◌, ◌&&◌, ◌||�
 use Rattle.std.specs.Prelude.{is_some, codes}
 use Rattle.std.specs.List.{list_all}
 use Rattle.std.specs.Str.{bytes_eq}
-use Rattle.report_reader.specs.Lines.{words_of}
-use Rattle.report_reader.specs.Numbers.{decimal_number, number_below, hex_number, is_hex}
+use Rattle.line_reader.specs.Lines.{words_of}
+use Rattle.line_reader.specs.Numbers.{decimal_number, number_below, hex_number, is_hex}
 use Rattle.report_reader.specs.declared.forms.Field.{Field}
 use Rattle.report_reader.specs.declared.forms.Field.TheVariants as field
 use Rattle.report_reader.specs.declared.forms.LineKind.{LineKind}

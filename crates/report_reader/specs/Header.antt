@@ -6,8 +6,8 @@ use Rattle.std.specs.Str.{bytes_eq}
 use Rattle.hex.specs.Hex.{decode_sized}
 use Rattle.sm_types.specs.Length.{bits_of}
 use Rattle.sm_types.specs.declared.config.Config.{Config}
-use Rattle.report_reader.specs.Numbers.{decimal_number, is_hex}
-use Rattle.report_reader.specs.Fields.{◌>>=◌, field, named, ended, said_by}
+use Rattle.line_reader.specs.Numbers.{decimal_number, is_hex}
+use Rattle.line_reader.specs.Fields.{◌>>=◌, field, named, ended, said_by}
 
 -- the numbers of the options that a report names, the lengths in bits
 pub record Options : Type 0 where

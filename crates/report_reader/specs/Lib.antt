@@ -1,6 +1,3 @@
-pub mod Lines
-pub mod Numbers
-pub mod Fields
 pub mod Forms
 pub mod Stops
 pub mod Events
@@ -8,5 +5,4 @@ pub mod Header
 pub mod Reading
 pub mod Block
 pub mod Report
-pub mod Difference
 pub mod Told

@@ -2,11 +2,12 @@
 use Rattle.std.specs.Prelude.{ℕ, ◌||◌, nat_lt, List, [], ◌∷◌, length, replicate, codes, Result, Ok, Err}
 use Rattle.std.specs.Prelude.{is_some, slice_set, if◌then◌else◌}
 use Rattle.std.specs.Str.{bytes_eq}
-use Rattle.report_reader.specs.Lines.{lines_of, begins_with}
+use Rattle.line_reader.specs.Lines.{lines_of, begins_with}
 use Rattle.report_reader.specs.Header.{Options, options_line, image_line}
 use Rattle.report_reader.specs.Events.{setting_line}
-use Rattle.report_reader.specs.Reading.{Left, Fault, Reading, ◌>>=◌, give, line, line_by, said_if}
-use Rattle.report_reader.specs.Reading.{first_said, past_all, each, fault_at}
+use Rattle.line_reader.specs.Reading as reading
+use Rattle.line_reader.specs.Reading.{Left, ◌>>=◌, give, said_if, first_said, past_all, each}
+use Rattle.report_reader.specs.Reading.{Fault, Reading, line, line_by}
 use Rattle.report_reader.specs.Block.{Block, block}
 use Rattle.report_reader.specs.declared.events.Setting.{Setting}
 use Rattle.report_reader.specs.declared.fault.ReportKind.{ReportKind}
@@ -51,12 +52,8 @@ pub record Report : Type 0 where
   pub words : SharedWords
 
 -- no line is left
-abbrev pub nothing_of : List (List ℕ) → Reading (Unit {0})
-nothing_of [] left = Ok (tt, left)
-nothing_of (text ∷ lines) left = Err (fault_at part.End left)
-
 abbrev pub nothing : Reading (Unit {0})
-nothing left = nothing_of left.lines left
+nothing left = reading.nothing part.NotText part.End left
 
 -- the format, the options, the program's digest, a block for each thread by its number, and the words
 unfoldable pub report_lines : Reading Report

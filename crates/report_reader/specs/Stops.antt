@@ -10,7 +10,7 @@ use Rattle.sm_types.specs.declared.stop.Exception.TheVariants.{ZaInactive, Break
 use Rattle.sm_types.specs.declared.stop.Stop.{Stop}
 use Rattle.sm_types.specs.declared.stop.Stop.TheVariants.{Exited, Raised, Killed, BadFrame, Budget, TraceFull}
 use Rattle.sm_types.specs.declared.stop.Stop.TheVariants.{OutputFull}
-use Rattle.report_reader.specs.Fields.{Saying, ◌>>=◌, give, field, named, number, hex, ended, said_by}
+use Rattle.line_reader.specs.Fields.{Saying, ◌>>=◌, give, field, named, number, hex, ended, said_by}
 use Rattle.report_reader.specs.declared.stops.ExceptionName.{ExceptionName}
 use Rattle.report_reader.specs.declared.stops.ExceptionName.TheVariants as exception
 use Rattle.report_reader.specs.declared.stops.StopName.{StopName}

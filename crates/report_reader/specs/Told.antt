@@ -1,11 +1,7 @@
 -- What the code's own types tell.
-use Rattle.std.specs.Prelude.{◌≡◌, ◌≤◌, List, ℕ, length, option_map, map, Result, Ok, Err}
-use Rattle.report_reader.specs.Fields.{words_left}
-use Rattle.report_reader.specs.Lines.{lines_of, with_first}
-use Rattle.report_reader.specs.Reading.{Left, Fault}
+use Rattle.std.specs.Prelude.{◌≡◌, ◌≤◌, List, ℕ, length, map, Result, Ok, Err}
+use Rattle.report_reader.specs.Reading.{Fault}
 use Rattle.report_reader.specs.Block.{Block}
-use Rattle.report_reader.specs.Difference.{Difference}
-use Rattle.report_reader.specs.declared.difference.Difference as difference
 use Rattle.report_reader.specs.declared.parts.ReportBlock.{ReportBlock}
 use Rattle.report_reader.specs.Header.{options_of}
 use Rattle.report_reader.specs.Report.{Report, SharedWords}
@@ -13,25 +9,6 @@ use Rattle.report_reader.specs.declared.fault.ReportFault.{ReportFault}
 use Rattle.report_reader.specs.declared.fault.ReportFault.TheVariants as fault
 use Rattle.report_reader.specs.declared.parts.Report as report
 use Rattle.sm_types.specs.declared.shared_words.Words.{Words}
-use Rattle.report_reader.specs.declared.fields.Fields.{Fields}
-use Rattle.report_reader.specs.declared.lines.Lines.{Lines}
-
--- the words that are left
-abbrev pub words_ahead : Fields → List (List ℕ)
-words_ahead fields = words_left (option_map (λ text. text.now) fields.left)
-
--- what is left of a report
-abbrev pub left_of : Lines → Left
-left_of lines =
-    record {
-      line = lines.number;
-      place = lines.place;
-      lines = with_first lines.line.now (lines_of lines.rest.now);
-    }
-
--- what a difference of the code says
-abbrev pub difference_said : difference.Difference → Difference
-difference_said it = record { line = it.line; first = it.first.now; second = it.second.now }
 
 -- what a block of the code says
 abbrev pub block_said : ReportBlock → Block

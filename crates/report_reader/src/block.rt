@@ -2,15 +2,16 @@
 ghost use Rattle.std.specs.Prelude.{◌≡◌, ◌+◌, ◌/◌, ◌^◌, ◌<◌, ◌≤◌, Ok, IfOk, vec_len};
 ghost use Rattle.report_reader.specs.Block as spec;
 ghost use Rattle.report_reader.specs.Reading.{Reads, ReadsAs};
-ghost use Rattle.report_reader.specs.Told.{left_of, block_said};
+ghost use Rattle.line_reader.specs.Told.{left_of};
+ghost use Rattle.report_reader.specs.Told.{block_said};
 
 use crate::events::{event_line, is_thread, number_line, out_line};
 use crate::fault::{ReportFault, ReportKind};
-use crate::fields::is_word;
 use crate::forms::LineKind;
-use crate::lines::{Lines, begins_with};
+use crate::lines::{expect, pass_all, pass_maybe, pass_one, take};
 use crate::parts::ReportBlock;
 use crate::stops::stop_line;
+use line_reader::{Lines, begins_with, is_word};
 use sm_types::{Event, Stop};
 use std::alloc::Global;
 
@@ -27,13 +28,13 @@ fn read_head(lines: &mut Lines, thread: u32) -> Result<Head, ReportFault>
     ensures { Reads (spec.head thread (left_of lines.old)) result (left_of lines.new) }
 {
     let is_thread = is_thread(thread, lines.line());
-    lines.expect(ReportKind::Block, is_thread)?;
+    expect(lines, ReportKind::Block, is_thread)?;
     let stop = stop_line(lines.line());
-    let stop = lines.take(ReportKind::Block, stop)?;
+    let stop = take(lines, ReportKind::Block, stop)?;
     let count = number_line(b"count", lines.line());
-    let count = lines.take(ReportKind::Block, count)?;
-    lines.pass_one(LineKind::Turns)?;
-    lines.pass_one(LineKind::Pc)?;
+    let count = take(lines, ReportKind::Block, count)?;
+    pass_one(lines, LineKind::Turns)?;
+    pass_one(lines, LineKind::Pc)?;
     Ok(Head { stop, count })
 }
 
@@ -42,12 +43,12 @@ fn read_head(lines: &mut Lines, thread: u32) -> Result<Head, ReportFault>
 fn pass_registers(lines: &mut Lines) -> Result<(), ReportFault>
     ensures { Reads (spec.registers (left_of lines.old)) result (left_of lines.new) }
 {
-    lines.pass_all(LineKind::X);
-    lines.pass_one(LineKind::Sp)?;
-    lines.pass_one(LineKind::Nzcv)?;
-    lines.pass_one(LineKind::Tpidr)?;
-    lines.pass_one(LineKind::Tpidr2)?;
-    lines.pass_one(LineKind::Svcr)
+    pass_all(lines, LineKind::X);
+    pass_one(lines, LineKind::Sp)?;
+    pass_one(lines, LineKind::Nzcv)?;
+    pass_one(lines, LineKind::Tpidr)?;
+    pass_one(lines, LineKind::Tpidr2)?;
+    pass_one(lines, LineKind::Svcr)
 }
 
 /// Passes the lines of vectors, predicates, FFR and ZA.
@@ -55,10 +56,10 @@ fn pass_registers(lines: &mut Lines) -> Result<(), ReportFault>
 fn pass_vectors(lines: &mut Lines)
     ensures { spec.vectors (left_of lines.old) ≡ Ok (tt, left_of lines.new) }
 {
-    lines.pass_all(LineKind::Z);
-    lines.pass_all(LineKind::P);
-    lines.pass_maybe(LineKind::Ffr);
-    lines.pass_all(LineKind::Za);
+    pass_all(lines, LineKind::Z);
+    pass_all(lines, LineKind::P);
+    pass_maybe(lines, LineKind::Ffr);
+    pass_all(lines, LineKind::Za);
 }
 
 /// Passes the lines of memory and signals.
@@ -66,11 +67,11 @@ fn pass_vectors(lines: &mut Lines)
 fn pass_signals(lines: &mut Lines) -> Result<(), ReportFault>
     ensures { Reads (spec.signals (left_of lines.old)) result (left_of lines.new) }
 {
-    lines.pass_one(LineKind::Memory)?;
-    lines.pass_one(LineKind::Held)?;
-    lines.pass_one(LineKind::Inside)?;
-    lines.pass_one(LineKind::Polled)?;
-    lines.pass_all(LineKind::Handler);
+    pass_one(lines, LineKind::Memory)?;
+    pass_one(lines, LineKind::Held)?;
+    pass_one(lines, LineKind::Inside)?;
+    pass_one(lines, LineKind::Polled)?;
+    pass_all(lines, LineKind::Handler);
     Ok(())
 }
 
@@ -82,7 +83,7 @@ fn pass_out_lines(lines: &mut Lines, size: u32) -> Result<(), ReportFault>
     while left > 0 {
         let part = left.min(32);
         let said = out_line(part, lines.line());
-        lines.take(ReportKind::Block, said)?;
+        take(lines, ReportKind::Block, said)?;
         left -= part;
     }
     Ok(())
@@ -94,7 +95,7 @@ fn pass_output(lines: &mut Lines) -> Result<(), ReportFault>
     ensures { Reads (spec.output (left_of lines.old)) result (left_of lines.new) }
 {
     let size = number_line(b"output", lines.line());
-    let size = lines.take(ReportKind::Block, size)?;
+    let size = take(lines, ReportKind::Block, size)?;
     pass_out_lines(lines, size)
 }
 
@@ -107,7 +108,7 @@ fn read_events(alloc: Global, lines: &mut Lines, count: u32) -> Result<Vec<Event
     let mut events = Vec::new(alloc);
     for _k in 0..count {
         let event = event_line(lines.line());
-        let event = lines.take(ReportKind::Journal, event)?;
+        let event = take(lines, ReportKind::Journal, event)?;
         events.push(event)?;
     }
     Ok(events)
@@ -133,11 +134,11 @@ fn read_journal(alloc: Global, lines: &mut Lines) -> Result<Vec<Event>, ReportFa
     ensures few { IfOk result (λ events. vec_len events < 2 ^ 32) }
 {
     let count = number_line(b"journal", lines.line());
-    let count = lines.take(ReportKind::Journal, count)?;
+    let count = take(lines, ReportKind::Journal, count)?;
     let events = read_events(alloc, lines, count)?;
     let part = part_at_end(lines.line());
     let is_end = is_word(lines.line(), b"end-thread\n");
-    lines.expect(part, is_end)?;
+    expect(lines, part, is_end)?;
     Ok(events)
 }
 

@@ -1,15 +1,14 @@
 //! The lines of events, of shared words, and of numbers.
 ghost use Rattle.std.specs.Prelude.{◌≡◌, ◌<◌, ◌≤◌, ◌^◌, IfSome, option_map};
 ghost use Rattle.report_reader.specs.Events as spec;
-ghost use Rattle.report_reader.specs.Fields.{field, Says};
-ghost use Rattle.report_reader.specs.Told.{words_ahead};
+ghost use Rattle.line_reader.specs.Fields.{field, Says};
+ghost use Rattle.line_reader.specs.Told.{words_ahead};
 
-use crate::fields::{Fields, is_word};
-use crate::numbers::is_hex;
+use line_reader::{Fields, is_hex, is_word};
 use sm_types::{Event, OpKind, SharedOp};
 
 /// The number that a line with that name says.
-#[tactic(auto, unfolding(crate::specs::Events::number_line, crate::specs::Fields::said_by))]
+#[tactic(auto, unfolding(crate::specs::Events::number_line, line_reader::specs::Fields::said_by))]
 pub fn number_line(name: &[u8], line: &[u8]) -> Option<u32>
     ensures { result ≡ spec.number_line name.now line.now }
 {
@@ -51,7 +50,7 @@ fn read_bytes(size: u32, words: &mut Fields) -> Option<()>
 }
 
 /// A line is so many bytes of output.
-#[tactic(auto, unfolding(crate::specs::Events::out_line, crate::specs::Fields::said_by))]
+#[tactic(auto, unfolding(crate::specs::Events::out_line, line_reader::specs::Fields::said_by))]
 pub fn out_line(size: u32, line: &[u8]) -> Option<()>
     ensures { result ≡ spec.out_line size line.now }
 {
@@ -104,7 +103,7 @@ fn read_kind(words: &mut Fields) -> Option<OpKind>
 }
 
 /// The event that a line says.
-#[tactic(auto, unfolding(crate::specs::Events::event_line, crate::specs::Fields::said_by))]
+#[tactic(auto, unfolding(crate::specs::Events::event_line, line_reader::specs::Fields::said_by))]
 pub fn event_line(line: &[u8]) -> Option<Event>
     ensures { result ≡ spec.event_line line.now }
 {
@@ -127,7 +126,7 @@ pub struct Setting {
 }
 
 /// The word and its value that a line with that name says, the word below the bound.
-#[tactic(auto, unfolding(crate::specs::Events::setting_line, crate::specs::Fields::said_by))]
+#[tactic(auto, unfolding(crate::specs::Events::setting_line, line_reader::specs::Fields::said_by))]
 pub fn setting_line(name: &[u8], bound: usize, line: &[u8]) -> Option<Setting>
     ensures says { result ≡ spec.setting_line name.now bound line.now }
     ensures small { IfSome result (λ setting. setting.place < bound) }

@@ -1,7 +1,8 @@
 //! Why a file is no report.
 ghost use Rattle.std.specs.Prelude.{◌≡◌};
-ghost use Rattle.report_reader.specs.declared.fault.ReportFault.TheVariants.{Memory};
+ghost use Rattle.report_reader.specs.declared.fault.ReportFault.TheVariants.{Line, Memory};
 
+use line_reader::LineFault;
 use std::alloc::{AllocError, AllocFailed};
 
 /// What is wrong with a line: the part of a report to which it should belong, or that it is no text.
@@ -37,6 +38,17 @@ pub enum ReportFault {
     Line { line: u64, kind: ReportKind },
     /// There was no memory for the report.
     Memory,
+}
+
+impl From<LineFault<ReportKind>> for ReportFault {
+    ghost from_gives = { λ at fault. fault ≡ Line at.line at.kind };
+
+    fn from(at: LineFault<ReportKind>) -> ReportFault {
+        ReportFault::Line {
+            line: at.line,
+            kind: at.kind,
+        }
+    }
 }
 
 impl From<AllocError> for ReportFault {

@@ -2,10 +2,9 @@
 ghost use Rattle.std.specs.Prelude.{◌≡◌};
 ghost use Rattle.std.specs.List.{list_all};
 ghost use Rattle.report_reader.specs.Forms as spec;
-ghost use Rattle.report_reader.specs.Told.{words_ahead};
+ghost use Rattle.line_reader.specs.Told.{words_ahead};
 
-use crate::fields::{Fields, is_word};
-use crate::numbers::{decimal_number, hex_number, is_hex, number_below};
+use line_reader::{Fields, decimal_number, hex_number, is_hex, is_word, number_below};
 
 /// What may stand as a field.
 #[derive(Clone, Copy)]
@@ -96,7 +95,7 @@ fn form_of(kind: LineKind) -> Form
 fn are_bits(word: &[u8]) -> bool
     ensures { result ≡ list_all spec.is_bit word.now }
 {
-    word.iter().all(|c| *c == 48 || *c == 49)
+    word.iter().all(|c| *c == b'0' || *c == b'1')
 }
 
 /// Tells whether a word is bytes, two digits each.

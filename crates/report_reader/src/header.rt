@@ -2,11 +2,10 @@
 ghost use Rattle.std.specs.Prelude.{◌≡◌, true, false, MatchOption, IfSome, option_map};
 ghost use Rattle.sm_types.specs.Length.{bits_of};
 ghost use Rattle.report_reader.specs.Header as spec;
-ghost use Rattle.report_reader.specs.Fields.{field, Says};
-ghost use Rattle.report_reader.specs.Told.{words_ahead};
+ghost use Rattle.line_reader.specs.Fields.{field, Says};
+ghost use Rattle.line_reader.specs.Told.{words_ahead};
 
-use crate::fields::Fields;
-use crate::numbers::{decimal_number, is_hex};
+use line_reader::{Fields, decimal_number, is_hex};
 use sm_types::{Config, VecLen};
 
 /// The vector length of so many bits.
@@ -72,7 +71,7 @@ fn read_option(key: &[u8], words: &mut Fields) -> Option<u64>
 }
 
 /// The options that a line says; of cores it says nothing.
-#[tactic(auto, unfolding(crate::specs::Header::options_line, crate::specs::Fields::said_by))]
+#[tactic(auto, unfolding(crate::specs::Header::options_line, line_reader::specs::Fields::said_by))]
 pub fn options_line(line: &[u8]) -> Option<Config>
     ensures options { option_map spec.options_of result ≡ spec.options_line line.now }
     ensures cores { IfSome result (λ config. config.cores ≡ 1) }
@@ -112,7 +111,7 @@ fn read_digest(words: &mut Fields) -> Option<[u8; 32]>
 }
 
 /// The digest that a line says.
-#[tactic(auto, unfolding(crate::specs::Header::image_line, crate::specs::Fields::said_by))]
+#[tactic(auto, unfolding(crate::specs::Header::image_line, line_reader::specs::Fields::said_by))]
 pub fn image_line(line: &[u8]) -> Option<[u8; 32]>
     ensures { result ≡ spec.image_line line.now }
 {

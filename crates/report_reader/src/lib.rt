@@ -3,19 +3,15 @@
 #![tactic(auto)]
 
 mod block;
-mod difference;
 mod events;
 mod fault;
-mod fields;
 mod forms;
 mod header;
 mod lines;
-mod numbers;
 mod parts;
 mod report;
 mod stops;
 
-pub use difference::{Difference, first_difference};
 pub use fault::{ReportFault, ReportKind};
 pub use parts::{Report, ReportBlock};
 pub use report::read_report;

@@ -1,213 +1,60 @@
-//! The lines of a report, read one after another.
-ghost use Rattle.std.specs.Prelude.{◌≡◌, ◌≢◌, ◌+◌, ◌≤◌, ◌<◌, ◌^◌, ◌==◌, ◌||◌, ℕ, Some, Ok, length, true, is_some};
-ghost use Rattle.std.specs.List.{position};
-ghost use Rattle.report_reader.specs.Lines.{is_text, begins_with, lines_of, with_first};
+//! The lines of a report, read one after another, each with the part to which it should belong.
+ghost use Rattle.std.specs.Prelude.{◌≡◌, Ok};
+ghost use Rattle.line_reader.specs.Reading.{said_if, past_all, maybe_line};
+ghost use Rattle.line_reader.specs.Told.{left_of};
+ghost use Rattle.report_reader.specs.Block.{one};
+ghost use Rattle.report_reader.specs.Forms as forms;
+ghost use Rattle.report_reader.specs.Reading.{Reads, taken};
+ghost use Rattle.report_reader.specs.Report.{nothing};
 
 use crate::fault::{ReportFault, ReportKind};
-use crate::fields::is_word;
 use crate::forms::{LineKind, is_line};
+use line_reader::Lines;
 
-/// The lines of a report that are left.
-#[derive(Drop)]
-pub struct Lines<'a> {
-    /// The next line, with the line feed that ends it; empty where none is left.
-    line: &'a [u8],
-    /// What follows the next line.
-    rest: &'a [u8],
-    /// How many lines stand before the next.
-    number: u64,
-    /// How many bytes stand before it.
-    place: usize,
-    ghost whole: { length line.now ≡ 0 → length rest.now ≡ 0 },
-    ghost countable: { number + (length line.now + length rest.now) < 2 ^ 62 },
-    ghost inside: { place + (length line.now + length rest.now) < 2 ^ 62 },
-}
-
-/// The place of the first line feed.
-fn line_feed(text: &[u8]) -> Option<usize>
-    ensures { result ≡ position (λ b. b == 10) text.now }
+/// Passes the next line, which says something; it is at fault where it does not.
+pub fn take<T: Drop>(lines: &mut Lines, part: ReportKind, said: Option<T>) -> Result<T, ReportFault>
+    ensures { Reads (taken part said (left_of lines.old)) result (left_of lines.new) }
 {
-    text.iter().position(|b| *b == b'\n')
+    Ok(lines.take(ReportKind::NotText, part, said)?)
 }
 
-/// The first line of a text, with the line feed that ends it, and what follows it.
-pub fn split_line(text: &[u8]) -> (&[u8], &[u8])
-    ensures lines { lines_of text.now ≡ with_first result.0.now (lines_of result.1.now) }
-    ensures lengths { length result.0.now + length result.1.now ≡ length text.now }
-    ensures whole { length result.0.now ≡ 0 → length result.1.now ≡ 0 }
+/// Passes the next line, which is as it should be; it is at fault where it is not.
+pub fn expect(lines: &mut Lines, part: ReportKind, holds: bool) -> Result<(), ReportFault>
+    ensures { Reads (taken part (said_if holds) (left_of lines.old)) result (left_of lines.new) }
 {
-    match line_feed(text) {
-        Some(at) => text.split_at(at + 1),
-        None => (text, &[]),
-    }
+    Ok(lines.expect(ReportKind::NotText, part, holds)?)
 }
 
-/// The place of the first space or line feed.
-fn word_end(line: &[u8]) -> Option<usize>
-    ensures { result ≡ position (λ b. (b == 32) || (b == 10)) line.now }
+/// The lines end here; the next one is at fault where they do not.
+pub fn end(lines: &Lines) -> Result<(), ReportFault>
+    ensures { Reads (nothing (left_of lines.now)) result (left_of lines.now) }
 {
-    line.iter().position(|b| *b == b' ' || *b == b'\n')
+    Ok(lines.end(ReportKind::NotText, ReportKind::End)?)
 }
 
-/// Tells whether the first word of a line is that one.
-#[tactic(auto, unfolding(crate::specs::Lines::begins_with))]
-pub fn begins_with(name: &[u8], line: &[u8]) -> bool
-    ensures { result ≡ begins_with name.now line.now }
+/// Passes one line of a block, of that kind.
+pub fn pass_one(lines: &mut Lines, kind: LineKind) -> Result<(), ReportFault>
+    ensures { Reads (one kind (left_of lines.old)) result (left_of lines.new) }
 {
-    match word_end(line) {
-        Some(at) => is_word(&line[..at], name),
-        None => is_word(line, name),
-    }
+    let holds = is_line(kind, lines.line());
+    expect(lines, ReportKind::Block, holds)
 }
 
-/// Tells whether a line is UTF-8.
-#[tactic(auto, unfolding(crate::specs::Lines::is_text))]
-fn is_text(line: &[u8]) -> bool
-    ensures { result ≡ is_text line.now }
+/// Passes a line of that kind, where one comes next.
+pub fn pass_maybe(lines: &mut Lines, kind: LineKind)
+    ensures { maybe_line {K = ReportKind} (forms.is_line kind) (left_of lines.old)
+        ≡ Ok (tt, left_of lines.new) }
 {
-    match str::from_utf8(line) {
-        Ok(_) => true,
-        Err(_) => false,
+    if is_line(kind, lines.line()) {
+        lines.pass();
     }
 }
 
-impl<'a> Lines<'a> {
-    ghost use Rattle.report_reader.specs.Forms as forms;
-    ghost use Rattle.report_reader.specs.Reading.{Reads, taken, said_if, past_line, past_all, fault_at};
-    ghost use Rattle.report_reader.specs.Reading.{next_line, maybe_line};
-    ghost use Rattle.report_reader.specs.Block.{one};
-    ghost use Rattle.report_reader.specs.Report.{nothing};
-    ghost use Rattle.report_reader.specs.Told.{left_of};
-    ghost use Rattle.report_reader.specs.declared.fault.ReportFault.TheVariants.{Line};
-
-    /// The lines of a text.
-    pub fn of(text: &'a [u8]) -> Lines<'a>
-        requires { length text.now < 2 ^ 62 }
-        ensures { left_of result ≡ record { line = 0; place = 0; lines = lines_of text.now } }
-    {
-        let (line, rest) = split_line(text);
-        Lines {
-            line,
-            rest,
-            number: 0,
-            place: 0,
-        }
-    }
-
-    /// The next line, with the line feed that ends it; empty where none is left.
-    pub fn line(&self) -> &'a [u8]
-        ensures { result.now ≡ next_line (left_of self.now) }
-    {
-        self.line
-    }
-
-    /// How many lines stand before the next.
-    pub fn number(&self) -> u64
-        ensures { result ≡ (left_of self.now).line }
-    {
-        self.number
-    }
-
-    /// How many bytes stand before the next line.
-    pub fn place(&self) -> usize
-        ensures { result ≡ (left_of self.now).place }
-    {
-        self.place
-    }
-
-    /// Passes the next line, where one is left.
-    #[tactic(auto, unfolding(crate::specs::Reading::past_line))]
-    pub fn pass(&mut self)
-        ensures past { left_of self.new ≡ past_line (left_of self.old) }
-        ensures fewer { length self.old.line.now ≢ 0 → length self.new.line.now + length self.new.rest.now
-            < length self.old.line.now + length self.old.rest.now }
-    {
-        let size = self.line.len();
-        if size == 0 {
-            return;
-        }
-        let (line, rest) = split_line(self.rest);
-        self.line = line;
-        self.rest = rest;
-        self.number += 1;
-        self.place += size;
-    }
-
-    /// The fault of the next line, which should belong to that part.
-    #[tactic(auto, unfolding(crate::specs::Reading::fault_at))]
-    fn fault(&self, part: ReportKind) -> ReportFault
-        ensures { let fault = fault_at part (left_of self.now) in result ≡ Line fault.line fault.kind }
-    {
-        let line = self.number + 1;
-        if is_text(self.line()) {
-            ReportFault::Line { line, kind: part }
-        } else {
-            ReportFault::Line {
-                line,
-                kind: ReportKind::NotText,
-            }
-        }
-    }
-
-    /// Passes the next line, which says something; it is at fault where it does not.
-    pub fn take<T: Drop>(&mut self, part: ReportKind, said: Option<T>) -> Result<T, ReportFault>
-        ensures { Reads (taken part said (left_of self.old)) result (left_of self.new) }
-    {
-        match said {
-            Some(value) => {
-                self.pass();
-                Ok(value)
-            }
-            None => Err(self.fault(part)),
-        }
-    }
-
-    /// Passes the next line, which is as it should be; it is at fault where it is not.
-    pub fn expect(&mut self, part: ReportKind, holds: bool) -> Result<(), ReportFault>
-        ensures { Reads (taken part (said_if holds) (left_of self.old)) result (left_of self.new) }
-    {
-        if holds {
-            self.pass();
-            Ok(())
-        } else {
-            Err(self.fault(part))
-        }
-    }
-
-    /// The lines end here; the next one is at fault where they do not.
-    pub fn end(&self) -> Result<(), ReportFault>
-        ensures { Reads (nothing (left_of self.now)) result (left_of self.now) }
-    {
-        if self.line.is_empty() {
-            Ok(())
-        } else {
-            Err(self.fault(ReportKind::End))
-        }
-    }
-
-    /// Passes one line of a block, of that kind.
-    pub fn pass_one(&mut self, kind: LineKind) -> Result<(), ReportFault>
-        ensures { Reads (one kind (left_of self.old)) result (left_of self.new) }
-    {
-        let holds = is_line(kind, self.line());
-        self.expect(ReportKind::Block, holds)
-    }
-
-    /// Passes a line of that kind, where one comes next.
-    pub fn pass_maybe(&mut self, kind: LineKind)
-        ensures { maybe_line (forms.is_line kind) (left_of self.old) ≡ Ok (tt, left_of self.new) }
-    {
-        if is_line(kind, self.line()) {
-            self.pass();
-        }
-    }
-
-    /// Passes the lines of a kind that come next.
-    pub fn pass_all(&mut self, kind: LineKind)
-        ensures { left_of self.new ≡ past_all (forms.is_line kind) (left_of self.old) }
-    {
-        while is_line(kind, self.line()) {
-            self.pass();
-        }
+/// Passes the lines of a kind that come next.
+pub fn pass_all(lines: &mut Lines, kind: LineKind)
+    ensures { left_of lines.new ≡ past_all (forms.is_line kind) (left_of lines.old) }
+{
+    while is_line(kind, lines.line()) {
+        lines.pass();
     }
 }

@@ -3,17 +3,19 @@ ghost use Rattle.std.specs.Prelude.{◌≡◌, ◌≤◌, ◌<◌, ◌^◌, IfOk
 ghost use Rattle.report_reader.specs.Header.{options_of, options_line};
 ghost use Rattle.report_reader.specs.Report as spec;
 ghost use Rattle.report_reader.specs.Block.{block};
-ghost use Rattle.report_reader.specs.Reading.{Reads, ReadsAs, each, line};
-ghost use Rattle.report_reader.specs.Told.{left_of, block_said, words_said, report_said, Answers, StandsIn};
+ghost use Rattle.line_reader.specs.Reading.{each};
+ghost use Rattle.report_reader.specs.Reading.{Reads, ReadsAs, line};
+ghost use Rattle.line_reader.specs.Told.{left_of};
+ghost use Rattle.report_reader.specs.Told.{block_said, words_said, report_said, Answers, StandsIn};
 ghost use Rattle.report_reader.specs.declared.fault.ReportKind.TheVariants as part;
 
 use crate::block::read_block;
 use crate::events::setting_line;
 use crate::fault::{ReportFault, ReportKind};
-use crate::fields::is_word;
 use crate::header::{image_line, options_line};
-use crate::lines::{Lines, begins_with};
+use crate::lines::{end, expect, take};
 use crate::parts::{Report, ReportBlock};
+use line_reader::{Lines, begins_with, is_word};
 use sm_types::{Config, Words};
 use std::alloc::Global;
 
@@ -67,14 +69,14 @@ fn read_shared_words(lines: &mut Lines) -> Result<Words, ReportFault>
     ensures { ReadsAs words_said (spec.shared_words (left_of lines.old)) result (left_of lines.new) }
 {
     let is_shared = is_word(lines.line(), b"shared\n");
-    lines.expect(ReportKind::Shared, is_shared)?;
+    expect(lines, ReportKind::Shared, is_shared)?;
     let mut shared = [0u64; 512];
     read_words(lines, b"w", &mut shared);
     let mut pending = [0u64; 32];
     read_words(lines, b"pending", &mut pending);
     let part = part_at_end(lines.line());
     let is_end = is_word(lines.line(), b"end\n");
-    lines.expect(part, is_end)?;
+    expect(lines, part, is_end)?;
     Ok(Words { shared, pending })
 }
 
@@ -85,7 +87,7 @@ fn read_options(lines: &mut Lines) -> Result<Config, ReportFault>
     ensures cores { IfOk result (λ config. config.cores ≡ 1) }
 {
     let config = options_line(lines.line());
-    lines.take(ReportKind::Options, config)
+    take(lines, ReportKind::Options, config)
 }
 
 /// Reads a report from its first line to its last.
@@ -95,13 +97,13 @@ fn read_lines(alloc: Global, lines: &mut Lines) -> Result<Report, ReportFault>
     ensures cores { IfOk result (λ report. report.config.cores ≡ 1) }
 {
     let is_header = is_word(lines.line(), b"smemu-report 1\n");
-    lines.expect(ReportKind::Header, is_header)?;
+    expect(lines, ReportKind::Header, is_header)?;
     let config = read_options(lines)?;
     let image = image_line(lines.line());
-    let image = lines.take(ReportKind::Image, image)?;
+    let image = take(lines, ReportKind::Image, image)?;
     let blocks = read_blocks(alloc, lines, config.threads)?;
     let words = read_shared_words(lines)?;
-    lines.end()?;
+    end(lines)?;
     Ok(Report {
         config,
         image,

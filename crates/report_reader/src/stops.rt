@@ -1,10 +1,10 @@
 //! The line of a stop.
 ghost use Rattle.std.specs.Prelude.{◌≡◌};
 ghost use Rattle.report_reader.specs.Stops as spec;
-ghost use Rattle.report_reader.specs.Fields.{field, Says};
-ghost use Rattle.report_reader.specs.Told.{words_ahead};
+ghost use Rattle.line_reader.specs.Fields.{field, Says};
+ghost use Rattle.line_reader.specs.Told.{words_ahead};
 
-use crate::fields::{Fields, is_word};
+use line_reader::{Fields, is_word};
 use sm_types::{Access, Exception, Stop};
 
 /// The exceptions, before their values.
@@ -175,7 +175,7 @@ fn read_stop(name: StopName, words: &mut Fields) -> Option<Stop>
 }
 
 /// The stop that a line says.
-#[tactic(auto, unfolding(crate::specs::Stops::stop_line, crate::specs::Fields::said_by))]
+#[tactic(auto, unfolding(crate::specs::Stops::stop_line, line_reader::specs::Fields::said_by))]
 pub fn stop_line(line: &[u8]) -> Option<Stop>
     ensures { result ≡ spec.stop_line line.now }
 {

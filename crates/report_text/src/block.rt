@@ -11,13 +11,14 @@ ghost use Rattle.report_text.specs.Block.{kernel_text, block_text};
 use crate::bank::put_bank;
 use crate::digest::put_memory_line;
 use crate::journal::put_journal;
-use crate::lines::{flag_digit, put_flag_line, put_hex_line, put_number_line, put_value_lines};
 use crate::output::put_output;
-use crate::words::put_stop_line;
 use edge_io::{Piece, PutFault, Sink};
 use kernel_contexts::Context;
 use machine_step::{Machine, read_svcr};
 use sm_types::Scalars;
+use text_lines::{
+    flag_digit, put_flag_line, put_hex_line, put_number_line, put_stop_line, put_value_lines,
+};
 
 /// The thread, its stop where it has stopped, and how far it came.
 fn put_head<K: Sink>(piece: &mut Piece, out: &mut K, context: &Context) -> Result<(), PutFault>

@@ -7,10 +7,10 @@ ghost use Rattle.report_text.specs.Report.{report_text, blocks_text, words_text}
 
 use crate::block::put_block;
 use crate::header::put_header;
-use crate::lines::put_value_lines;
 use edge_io::{Piece, PutFault, Sink};
 use kernel_contexts::{Context, Finished};
 use sm_types::{Config, Words};
+use text_lines::put_value_lines;
 
 /// What stands before the blocks of a report.
 #[derive(Clone, Copy)]

@@ -15,9 +15,9 @@ use Rattle.kernel_contexts.specs.declared.context.Context.{Context}
 use Rattle.lone_runner.specs.LoneRun.{IsLoneRun, HasRunAlone}
 use Rattle.paged_memory.specs.Image.{Program}
 use Rattle.report_reader.specs.Block.{Block}
-use Rattle.report_reader.specs.Difference.{first_difference}
+use Rattle.line_reader.specs.Difference.{first_difference}
 use Rattle.report_reader.specs.Header.{options_of}
-use Rattle.report_reader.specs.Lines.{lines_of}
+use Rattle.line_reader.specs.Lines.{lines_of}
 use Rattle.report_reader.specs.Reading.{Fault}
 use Rattle.report_reader.specs.Report.{Report, report_in}
 use Rattle.report_reader.specs.Told.{block_said}

@@ -4,7 +4,7 @@ use Rattle.std.specs.List.{concat}
 use Rattle.lone_runner.specs.declared.fault.AloneFault.{AloneFault}
 use Rattle.lone_runner.specs.declared.fault.AloneFault.TheVariants.{JournalShort, JournalDiffers, JournalLong}
 use Rattle.lone_runner.specs.declared.fault.AloneFault.TheVariants.{EndsEarly, GoesOn, Memory}
-use Rattle.report_text.specs.Words.{stop_words}
+use Rattle.text_lines.specs.Words.{stop_words}
 
 -- how a thread parts from its journal and count, with the values of the fault in their order
 unfoldable pub parting_words : AloneFault → List ℕ

@@ -13,9 +13,9 @@ use Rattle.lone_runner.specs.LoneRun.{IsLoneRun}
 use Rattle.lone_runner.specs.Parting.{IsParting}
 use Rattle.lone_runner.specs.declared.fault.AloneFault.{AloneFault}
 use Rattle.report_reader.specs.Block.{Block}
-use Rattle.report_reader.specs.Difference.{Difference, first_difference}
+use Rattle.line_reader.specs.Difference.{Difference, first_difference}
 use Rattle.report_reader.specs.Header.{options_of}
-use Rattle.report_reader.specs.Lines.{lines_of}
+use Rattle.line_reader.specs.Lines.{lines_of}
 use Rattle.report_reader.specs.Reading.{Fault}
 use Rattle.report_reader.specs.Report.{Report, report_in}
 use Rattle.report_reader.specs.declared.fault.ReportKind.TheVariants.{Image, NoThread}

@@ -10,9 +10,9 @@ use Rattle.code_listing.specs.Listing.{listing_text}
 use Rattle.lone_runner.specs.Parting.{IsParting}
 use Rattle.paged_memory.specs.Image.{Program}
 use Rattle.report_reader.specs.Block.{Block}
-use Rattle.report_reader.specs.Difference.{first_difference}
-use Rattle.report_reader.specs.Difference as lines
-use Rattle.report_reader.specs.Lines.{lines_of}
+use Rattle.line_reader.specs.Difference.{first_difference}
+use Rattle.line_reader.specs.Difference as lines
+use Rattle.line_reader.specs.Lines.{lines_of}
 use Rattle.report_reader.specs.Report.{Report}
 use Rattle.sha2.specs.Sha256.{sha256}
 use Rattle.sm_types.specs.declared.config.Config.{Config}

@@ -1,7 +1,7 @@
 //! The lines that say where a thread parts from its report.
 ghost use Rattle.std.specs.Prelude.{◌≡◌, ◌∷◌, [], codes, decimal};
 ghost use Rattle.std.specs.List.{concat};
-ghost use Rattle.report_text.specs.Words.{stop_words};
+ghost use Rattle.text_lines.specs.Words.{stop_words};
 ghost use Rattle.edge_io.specs.Pieces.{gathered, Gathers};
 ghost use Rattle.edge_io.specs.Sink.{Writes};
 ghost use Rattle.smemu.specs.DifferLines as spec;
@@ -11,8 +11,8 @@ use crate::refusal::Difference;
 use command_lines::write_difference_lines;
 use edge_io::{Piece, PutFault, Sink};
 use lone_runner::AloneFault;
-use report_text::{put_counted, put_stop_words};
 use sm_types::Stop;
+use text_lines::{put_counted, put_stop_words};
 
 /// The end of a thread before its count.
 fn put_early_end<K: Sink>(

@@ -13,8 +13,8 @@ use Rattle.lone_runner.proofs.Partings.{ends_whole}
 use Rattle.lone_runner.proofs.Runs.{one_state, one_stop}
 use Rattle.paged_memory.specs.Image.{Program}
 use Rattle.report_reader.specs.Block.{Block}
-use Rattle.report_reader.specs.Difference.{Difference, first_difference}
-use Rattle.report_reader.specs.Lines.{lines_of}
+use Rattle.line_reader.specs.Difference.{Difference, first_difference}
+use Rattle.line_reader.specs.Lines.{lines_of}
 use Rattle.report_reader.specs.Reading.{Fault}
 use Rattle.report_reader.specs.Report.{Report, report_in}
 use Rattle.report_text.specs.Block.{block_text}

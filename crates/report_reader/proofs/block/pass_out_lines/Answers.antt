@@ -1,8 +1,9 @@
 use Rattle.std.proofs.Common.{◌≡◌, ℕ, ◌<◌, List, Option, ◌+◌, ◌-◌, ◌/◌, min, rules, sym, ap, ◌∙◌, subst, Result}
-use Rattle.report_reader.specs.Reading.{Left, Fault, IsFault, and_then, taken, next_line}
+use Rattle.line_reader.specs.Reading.{Left, and_then, next_line}
+use Rattle.report_reader.specs.Reading.{Fault, IsFault, taken}
 use Rattle.report_reader.specs.Block.{out_lines}
 use Rattle.report_reader.specs.Events.{out_line}
-use Rattle.report_reader.specs.Told.{left_of}
+use Rattle.line_reader.specs.Told.{left_of}
 use Rattle.report_reader.specs.declared.fault.ReportKind.TheVariants.{Block}
 use Rattle.report_reader.proofs.Readings.{out-more, out-end, fault_first}
 use Rattle.report_reader.proofs.block.pass_out_lines.Goals as goal
@@ -39,7 +40,7 @@ loop-left-preserved c =
     let left = left_of c.loop-left.lines in
     let step = read_line size c.min-part.result left c.line.result.now c.out_line-said.result _ c.loop-left-test.true c.loop-left.invariant
     c.min-part.ensures c.line.ensures c.out_line-said.ensures in
-    ap (λ p. out_lines ((size - p + 31) / 32) (size - p) (left_of c.take.new.self)) c.min-part.ensures
+    ap (λ p. out_lines ((size - p + 31) / 32) (size - p) (left_of c.take.new.lines)) c.min-part.ensures
     ∙ sym (step ∙ ap (λ r. and_then r (after size)) c.in_ok-take.ensures)
 
 pub returns : goal.returns

@@ -1,6 +1,6 @@
 use Rattle.std.proofs.Common.{◌≡◌, ◌+◌, ◌/◌}
 use Rattle.report_reader.specs.Block.{out_lines}
-use Rattle.report_reader.specs.Told.{left_of}
+use Rattle.line_reader.specs.Told.{left_of}
 use Rattle.report_reader.proofs.block.pass_out_lines.Given as goal
 
 abbrev pub invariant-loop-left : goal.invariant-loop-left

@@ -1,9 +1,10 @@
 use Rattle.std.proofs.Common.{◌≡◌, ℕ, Option, ◌+◌, ◌-◌, rules, sym, ap, ◌∙◌, arith, subst, List}
-use Rattle.report_reader.specs.Reading.{Left, IsFault, each, line, taken, next_line}
+use Rattle.line_reader.specs.Reading.{Left, each, next_line}
+use Rattle.report_reader.specs.Reading.{IsFault, line, taken}
 use Rattle.sm_types.specs.declared.shared_op.Event.{Event}
 use Rattle.report_reader.specs.Block.{events}
 use Rattle.report_reader.specs.Events.{event_line}
-use Rattle.report_reader.specs.Told.{left_of}
+use Rattle.line_reader.specs.Told.{left_of}
 use Rattle.report_reader.specs.declared.fault.ReportKind.TheVariants.{Journal}
 use Rattle.report_reader.proofs.Readings.{onto, each-more, each-end, fault_of_each}
 use Rattle.report_reader.proofs.block.read_events.Goals as goal
@@ -33,9 +34,9 @@ loop-k-preserved c =
     let same = said_is left c.line.result.now c.event_line-event.result c.line.ensures c.event_line-event.ensures in
     record {
       read =
-          ap (λ items. onto items (each reads (c.args.count - (c.loop-k._k + 1)) (c.loop-k._k + 1) (left_of c.take.new.self)))
+          ap (λ items. onto items (each reads (c.args.count - (c.loop-k._k + 1)) (c.loop-k._k + 1) (left_of c.take.new.lines)))
           c.in_ok-push.ensures.items
-          ∙ sym (each-more reads c.args.count c.loop-k._k left (left_of c.take.new.self) c.loop-k.events.items c.in_ok-event.event
+          ∙ sym (each-more reads c.args.count c.loop-k._k left (left_of c.take.new.lines) c.loop-k.events.items c.in_ok-event.event
           c.loop-k-test.true (ap (λ o. taken Journal o left) same ∙ c.in_ok-event.ensures))
           ∙ c.loop-k.invariant.read;
       few = omega (arith, c.in_ok-push.ensures.len, c.loop-k.invariant.few);

@@ -1,7 +1,8 @@
 use Rattle.std.proofs.Common.{◌≡◌, ◌-◌, vec_len}
-use Rattle.report_reader.specs.Reading.{each, line}
+use Rattle.line_reader.specs.Reading.{each}
+use Rattle.report_reader.specs.Reading.{line}
 use Rattle.report_reader.specs.Events.{event_line}
-use Rattle.report_reader.specs.Told.{left_of}
+use Rattle.line_reader.specs.Told.{left_of}
 use Rattle.report_reader.specs.declared.fault.ReportKind.TheVariants.{Journal}
 use Rattle.report_reader.proofs.Readings.{onto}
 use Rattle.report_reader.proofs.block.read_events.Given as goal

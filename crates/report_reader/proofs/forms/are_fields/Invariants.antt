@@ -1,6 +1,6 @@
 use Rattle.std.proofs.Common.{◌≡◌, drop}
 use Rattle.report_reader.specs.Forms.{are_fields}
-use Rattle.report_reader.specs.Told.{words_ahead}
+use Rattle.line_reader.specs.Told.{words_ahead}
 use Rattle.report_reader.proofs.forms.are_fields.Given as goal
 
 abbrev pub invariant-loop-field : goal.invariant-loop-field

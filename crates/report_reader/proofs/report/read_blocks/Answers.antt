@@ -1,8 +1,10 @@
 use Rattle.std.proofs.Common.{◌+◌, ◌-◌, map, rules, sym, ap, ◌∙◌, arith, subst}
 use Rattle.std.proofs.lemmas.List.{map_push}
-use Rattle.report_reader.specs.Reading.{IsFault, each}
+use Rattle.line_reader.specs.Reading.{each}
+use Rattle.report_reader.specs.Reading.{IsFault}
 use Rattle.report_reader.specs.Block.{block}
-use Rattle.report_reader.specs.Told.{left_of, block_said}
+use Rattle.line_reader.specs.Told.{left_of}
+use Rattle.report_reader.specs.Told.{block_said}
 use Rattle.report_reader.proofs.Readings.{onto, each-more, each-end, fault_of_each}
 use Rattle.report_reader.proofs.report.read_blocks.Goals as goal
 

@@ -1,7 +1,8 @@
 use Rattle.std.proofs.Common.{◌≡◌, ◌-◌, map, vec_len}
-use Rattle.report_reader.specs.Reading.{each}
+use Rattle.line_reader.specs.Reading.{each}
 use Rattle.report_reader.specs.Block.{block}
-use Rattle.report_reader.specs.Told.{left_of, block_said}
+use Rattle.line_reader.specs.Told.{left_of}
+use Rattle.report_reader.specs.Told.{block_said}
 use Rattle.report_reader.proofs.Readings.{onto}
 use Rattle.report_reader.proofs.report.read_blocks.Given as goal
 

@@ -1,11 +1,13 @@
 use Rattle.std.proofs.Common.{◌≡◌, ℕ, List, length, Some, None, Result, Ok, sym, ap, ◌∙◌}
 use Rattle.std.specs.Prelude.{is_some, slice_set}
-use Rattle.report_reader.specs.Reading.{Left, Fault, next_line, first_said, past_all, past_line}
+use Rattle.line_reader.specs.Reading.{Left, next_line, first_said, past_all, past_line}
+use Rattle.report_reader.specs.Reading.{Fault}
 use Rattle.report_reader.specs.Events.{setting_line}
 use Rattle.report_reader.specs.Report.{with_settings, word_lines}
 use Rattle.report_reader.specs.declared.events.Setting.{Setting}
-use Rattle.report_reader.specs.Told.{left_of}
-use Rattle.report_reader.proofs.Past.{first_is, some_setting, all-more, all-end, said-more, said-end}
+use Rattle.line_reader.specs.Told.{left_of}
+use Rattle.line_reader.proofs.Past.{first_is, all-more, all-end, said-more, said-end}
+use Rattle.report_reader.proofs.SomeLines.{some_setting}
 use Rattle.report_reader.proofs.report.read_words.Goals as goal
 
 pub loop-setting-smaller : goal.loop-setting-smaller

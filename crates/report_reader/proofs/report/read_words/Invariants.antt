@@ -1,9 +1,9 @@
 use Rattle.std.proofs.Common.{◌≡◌, ◌+◌, length}
 use Rattle.std.specs.Prelude.{is_some}
-use Rattle.report_reader.specs.Reading.{first_said, past_all}
+use Rattle.line_reader.specs.Reading.{first_said, past_all}
 use Rattle.report_reader.specs.Events.{setting_line}
 use Rattle.report_reader.specs.Report.{with_settings}
-use Rattle.report_reader.specs.Told.{left_of}
+use Rattle.line_reader.specs.Told.{left_of}
 use Rattle.report_reader.proofs.report.read_words.Given as goal
 
 abbrev pub invariant-loop-setting : goal.invariant-loop-setting

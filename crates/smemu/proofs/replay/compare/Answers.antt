@@ -1,8 +1,9 @@
 use Rattle.std.proofs.Common.{rules, ◌≡◌, Some}
 use Rattle.kernel_contexts.specs.Context.{journal_of, state_of, stop_of, thread_of}
-use Rattle.report_reader.specs.Difference.{first_difference}
-use Rattle.report_reader.specs.Lines.{lines_of}
-use Rattle.report_reader.specs.Told.{block_said, difference_said}
+use Rattle.line_reader.specs.Difference.{first_difference}
+use Rattle.line_reader.specs.Lines.{lines_of}
+use Rattle.line_reader.specs.Told.{difference_said}
+use Rattle.report_reader.specs.Told.{block_said}
 use Rattle.report_text.specs.Block.{block_text}
 use Rattle.smemu.specs.Replay.{text_in}
 use Rattle.smemu.proofs.replay.compare.Goals as goal

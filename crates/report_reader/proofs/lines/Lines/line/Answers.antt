@@ -1,5 +1,0 @@
-use Rattle.report_reader.proofs.Past.{first_is}
-use Rattle.report_reader.proofs.lines.Lines.line.Goals as goal
-
-pub returns : goal.returns
-returns c = first_is c.args.self.now.line.now c.args.self.now.rest.now c.args.self.now.whole

@@ -1,0 +1,12 @@
+//! Lines and words that several texts are written with, gathered into pieces that are written to a sink:
+//! numbers and lines of numbers, and the words of stops, exceptions and operations. No memory is taken.
+#![tactic(auto)]
+
+mod lines;
+mod words;
+
+pub use lines::{
+    flag_digit, hex32_digits, hex64_digits, put_counted, put_flag_line, put_hex_line,
+    put_number_line, put_value_lines,
+};
+pub use words::{kind_word, put_stop_line, put_stop_words};
