@@ -4,3 +4,4 @@ pub mod Fields
 pub mod Reading
 pub mod Difference
 pub mod Told
+pub mod Tables

@@ -4,7 +4,7 @@ ghost use Rattle.report_reader.specs.Events as spec;
 ghost use Rattle.line_reader.specs.Fields.{field, Says};
 ghost use Rattle.line_reader.specs.Told.{words_ahead};
 
-use line_reader::{Fields, is_hex, is_word};
+use line_reader::{Fields, found_in, is_hex};
 use sm_types::{Event, OpKind, SharedOp};
 
 /// The number that a line with that name says.
@@ -60,38 +60,28 @@ pub fn out_line(size: u32, line: &[u8]) -> Option<()>
     words.end(())
 }
 
+/// The operations by their words.
+const KINDS: [(&[u8], OpKind); 12] = [
+    (b"ld", OpKind::Load),
+    (b"st", OpKind::Store),
+    (b"swp", OpKind::Swap),
+    (b"add", OpKind::Add),
+    (b"clr", OpKind::Clear),
+    (b"eor", OpKind::Eor),
+    (b"set", OpKind::Set),
+    (b"umax", OpKind::Umax),
+    (b"umin", OpKind::Umin),
+    (b"cas", OpKind::Cas),
+    (b"post", OpKind::Post),
+    (b"poll", OpKind::Poll),
+];
+
 /// The operation of a word.
-#[tactic(auto, unfolding(crate::specs::Events::kind_of))]
+#[tactic(auto, unfolding(crate::specs::Events::kind_of, line_reader::specs::Tables::found))]
 fn kind_of(word: &[u8]) -> Option<OpKind>
     ensures { result ≡ spec.kind_of word.now }
 {
-    if is_word(word, b"ld") {
-        Some(OpKind::Load)
-    } else if is_word(word, b"st") {
-        Some(OpKind::Store)
-    } else if is_word(word, b"swp") {
-        Some(OpKind::Swap)
-    } else if is_word(word, b"add") {
-        Some(OpKind::Add)
-    } else if is_word(word, b"clr") {
-        Some(OpKind::Clear)
-    } else if is_word(word, b"eor") {
-        Some(OpKind::Eor)
-    } else if is_word(word, b"set") {
-        Some(OpKind::Set)
-    } else if is_word(word, b"umax") {
-        Some(OpKind::Umax)
-    } else if is_word(word, b"umin") {
-        Some(OpKind::Umin)
-    } else if is_word(word, b"cas") {
-        Some(OpKind::Cas)
-    } else if is_word(word, b"post") {
-        Some(OpKind::Post)
-    } else if is_word(word, b"poll") {
-        Some(OpKind::Poll)
-    } else {
-        None
-    }
+    found_in(&KINDS, word)
 }
 
 /// Reads the next word, which is that of an operation.

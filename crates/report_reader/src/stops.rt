@@ -4,7 +4,7 @@ ghost use Rattle.report_reader.specs.Stops as spec;
 ghost use Rattle.line_reader.specs.Fields.{field, Says};
 ghost use Rattle.line_reader.specs.Told.{words_ahead};
 
-use line_reader::{Fields, is_word};
+use line_reader::{Fields, found_in};
 use sm_types::{Access, Exception, Stop};
 
 /// The exceptions, before their values.
@@ -35,74 +35,57 @@ pub enum StopName {
     OutputFull,
 }
 
+/// The accesses by their words.
+const ACCESSES: [(&[u8], Access); 2] = [(b"read", Access::Read), (b"write", Access::Write)];
+
 /// The access of a word.
-#[tactic(auto, unfolding(crate::specs::Stops::access_of))]
+#[tactic(auto, unfolding(crate::specs::Stops::access_of, line_reader::specs::Tables::found))]
 fn access_of(word: &[u8]) -> Option<Access>
     ensures { result ≡ spec.access_of word.now }
 {
-    if is_word(word, b"read") {
-        Some(Access::Read)
-    } else if is_word(word, b"write") {
-        Some(Access::Write)
-    } else {
-        None
-    }
+    found_in(&ACCESSES, word)
 }
 
+/// The exceptions by their words.
+const EXCEPTIONS: [(&[u8], ExceptionName); 11] = [
+    (b"undefined", ExceptionName::Undefined),
+    (b"pcalign", ExceptionName::PcAlign),
+    (b"fetch", ExceptionName::Fetch),
+    (b"data", ExceptionName::Data),
+    (b"spalign", ExceptionName::SpAlign),
+    (b"align", ExceptionName::Align),
+    (b"illegalstreaming", ExceptionName::IllegalStreaming),
+    (b"notstreaming", ExceptionName::NotStreaming),
+    (b"zainactive", ExceptionName::ZaInactive),
+    (b"breakpoint", ExceptionName::Breakpoint),
+    (b"shared", ExceptionName::Shared),
+];
+
 /// The exception of a word.
-#[tactic(auto, unfolding(crate::specs::Stops::exception_of))]
+#[tactic(auto, unfolding(crate::specs::Stops::exception_of, line_reader::specs::Tables::found))]
 fn exception_of(word: &[u8]) -> Option<ExceptionName>
     ensures { result ≡ spec.exception_of word.now }
 {
-    if is_word(word, b"undefined") {
-        Some(ExceptionName::Undefined)
-    } else if is_word(word, b"pcalign") {
-        Some(ExceptionName::PcAlign)
-    } else if is_word(word, b"fetch") {
-        Some(ExceptionName::Fetch)
-    } else if is_word(word, b"data") {
-        Some(ExceptionName::Data)
-    } else if is_word(word, b"spalign") {
-        Some(ExceptionName::SpAlign)
-    } else if is_word(word, b"align") {
-        Some(ExceptionName::Align)
-    } else if is_word(word, b"illegalstreaming") {
-        Some(ExceptionName::IllegalStreaming)
-    } else if is_word(word, b"notstreaming") {
-        Some(ExceptionName::NotStreaming)
-    } else if is_word(word, b"zainactive") {
-        Some(ExceptionName::ZaInactive)
-    } else if is_word(word, b"breakpoint") {
-        Some(ExceptionName::Breakpoint)
-    } else if is_word(word, b"shared") {
-        Some(ExceptionName::Shared)
-    } else {
-        None
-    }
+    found_in(&EXCEPTIONS, word)
 }
 
+/// The stops by their words.
+const STOPS: [(&[u8], StopName); 7] = [
+    (b"exited", StopName::Exited),
+    (b"raised", StopName::Raised),
+    (b"killed", StopName::Killed),
+    (b"badframe", StopName::BadFrame),
+    (b"budget", StopName::Budget),
+    (b"tracefull", StopName::TraceFull),
+    (b"outputfull", StopName::OutputFull),
+];
+
 /// The stop of a word.
-#[tactic(auto, unfolding(crate::specs::Stops::stop_of))]
+#[tactic(auto, unfolding(crate::specs::Stops::stop_of, line_reader::specs::Tables::found))]
 fn stop_of(word: &[u8]) -> Option<StopName>
     ensures { result ≡ spec.stop_of word.now }
 {
-    if is_word(word, b"exited") {
-        Some(StopName::Exited)
-    } else if is_word(word, b"raised") {
-        Some(StopName::Raised)
-    } else if is_word(word, b"killed") {
-        Some(StopName::Killed)
-    } else if is_word(word, b"badframe") {
-        Some(StopName::BadFrame)
-    } else if is_word(word, b"budget") {
-        Some(StopName::Budget)
-    } else if is_word(word, b"tracefull") {
-        Some(StopName::TraceFull)
-    } else if is_word(word, b"outputfull") {
-        Some(StopName::OutputFull)
-    } else {
-        None
-    }
+    found_in(&STOPS, word)
 }
 
 /// Reads the next word, which is that of an access.
