@@ -1,4 +1,4 @@
--- Numbers in a report: decimal digits with no leading zero, and hexadecimal digits in lower case.
+-- Numbers in a text: decimal digits with no leading zero, and hexadecimal digits in lower case.
 use Rattle.std.specs.Prelude.{ℕ, ◌^◌, ◌==◌, ◌&&◌, ◌||◌, not, nat_lt, nat_le, Bool, List, length, slice_index}
 use Rattle.std.specs.Prelude.{Option, Some, None, option_and_then, if◌then◌else◌}
 use Rattle.std.specs.Char.{is_ascii_digit}
