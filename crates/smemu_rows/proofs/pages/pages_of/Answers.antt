@@ -1,6 +1,6 @@
 use Rattle.std.proofs.Common.{arith, inl, lit<}
 use Rattle.paged_memory.proofs.Count.{two_placed, placed_by_ends}
-use Rattle.smemu_vectors.proofs.pages.pages_of.Goals as goal
+use Rattle.smemu_rows.proofs.pages.pages_of.Goals as goal
 
 pub new-requires : goal.new-requires
 new-requires c =
