@@ -147,9 +147,9 @@ def linked(path):
 
 # movz x8, #93 and svc #0
 EXIT = [0xD2800BA8, 0xD4000001]
-# a text with a word of data in it and bytes past it, data, the entry, and where code and data begin
+# a text with a word of data in it and two bytes past it, data, the entry, and where words of code and of data begin
 WITH_DATA = (text_of([0xD2800020, 0xDEADBEEF, *EXIT]) + b"\xaa\xbb", b"hello", TEXT + 8,
-             [(TEXT, True), (TEXT + 4, False), (TEXT + 8, True), (TEXT + 16, False)])
+             [(TEXT, True), (TEXT + 4, False), (TEXT + 8, True)])
 
 
 def assemblies():
