@@ -126,7 +126,7 @@ def count_of(report):
 
 def listed_words():
     """The words of the rows, over and over."""
-    lines = (TOP / "crates" / "smemu_vectors" / "data" / "words.tsv").read_text().splitlines()
+    lines = (TOP / "crates" / "smemu_rows" / "data" / "words.tsv").read_text().splitlines()
     words = [int(line.split("\t")[0], 16) for line in lines]
     return [words[i % len(words)] for i in range(WORDS)]
 
@@ -152,7 +152,7 @@ def large(words):
 
 def source_of(count):
     """So many lines of mixed instructions, every eighth with a label and a branch to it or to an earlier one."""
-    texts = [line.split("\t")[1] for line in (TOP / "crates" / "smemu_vectors" / "data" / "words.tsv").read_text().splitlines()]
+    texts = [line.split("\t")[1] for line in (TOP / "crates" / "smemu_rows" / "data" / "words.tsv").read_text().splitlines()]
     lines = ["    .text", "_start:"]
     for i in range(count - 2):
         lines.append(f"label{i}: b.ne label{max(i - 64, 0) // 8 * 8}" if i % 8 == 0 else f"    {texts[i % len(texts)]}")

@@ -53,7 +53,8 @@ def signed(value, bits):
 
 
 class Thread:
-    def __init__(self, file, budget, vl, svl, interval):
+    def __init__(self, file, budget, vl, svl, interval, number=0, threads=1):
+        self.number, self.threads = number, threads
         self.pages, self.budget, self.interval = {}, budget, interval
         self.tpidr = self.tpidr2 = self.held = self.pending = self.turns = 0
         self.inside = self.polled = False
@@ -69,7 +70,7 @@ class Thread:
                     self.pages[(address + k) // 4096][1][(address + k) % 4096] = file[offset + k]
         for number in range(STACK // 4096, STACK // 4096 + 64):
             self.page(number, 6)
-        self.x = [0, 1] + [0] * 29
+        self.x = [self.number, self.threads] + [0] * 29
         self.sp = STACK + 64 * 4096
         self.pc = struct.unpack_from("<Q", file, 24)[0]
         self.flags = [0, 0, 0, 0]
@@ -120,12 +121,12 @@ class Thread:
         self.words[place] = OPERATIONS[kind](old, a, b)
         return self.keep(kind, place, a, b, 0 if kind == "st" else old)
 
-    def ask_signals(self, kind, a=0):
-        """A poll or a post of the one thread's pending signals."""
+    def ask_signals(self, kind, thread, a=0):
+        """A poll or a post of a thread's pending signals, which are those of the one thread."""
         self.need_room()
         old = self.pending
         self.pending = OPERATIONS[kind](old, a, 0)
-        return self.keep(kind, 0, a, 0, old)
+        return self.keep(kind, thread, a, 0, old)
 
     def check_all(self, addresses, count, kind, base):
         if base == 31 and self.sp % 16:
@@ -182,8 +183,8 @@ class Thread:
         if number == 131:
             target, signal = self.x[:2]
             answer = -22 & MASK
-            if target == 0 and 1 <= signal <= 62:
-                self.ask_signals("post", 1 << signal)
+            if target < self.threads and 1 <= signal <= 62:
+                self.ask_signals("post", target, 1 << signal)
                 answer = 0
         if number == 139:
             come_back(self)
@@ -194,7 +195,7 @@ class Thread:
             if answer == 0:
                 self.handlers[signal] = address
         if number == 178:
-            answer = 0
+            answer = self.number
         self.matrix.leave_streaming(self)
         self.x[0], self.pc = answer, self.pc + 4
         return self.counted()
@@ -216,7 +217,7 @@ class Thread:
         if self.count == self.budget:
             return "budget"
         if self.count and self.count % self.interval == 0 and not self.polled:
-            self.held |= self.ask_signals("poll")
+            self.held |= self.ask_signals("poll", self.number)
             self.polled, self.turns = True, self.turns + 1
             return None
         if self.polled and self.held and not self.inside:

@@ -1,5 +1,5 @@
 #!/usr/bin/env python3
-"""Prints what `replay` is to write of a program file, a report of one thread that is in the format, and a thread; the status is that of the
+"""Prints what `replay` is to write of a program file, a report that is in the format, and a thread; the status is that of the
 process. The thread runs on the interpreter of expected.py, and each operation on a shared word is answered by the report's journal.
 
     examples/expected_replay.py FILE REPORT THREAD
@@ -17,8 +17,8 @@ class Parts(Exception):
 
 
 class Replayed(Thread):
-    def __init__(self, file, options, events):
-        super().__init__(file, options["budget"], options["vl"], options["svl"], options["slice"])
+    def __init__(self, file, options, events, number):
+        super().__init__(file, options["budget"], options["vl"], options["svl"], options["slice"], number, options["threads"])
         self.events = events
 
     def answer(self, kind, place, a, b=0):
@@ -36,8 +36,8 @@ class Replayed(Thread):
             raise Raised("spalign", "")
         return self.answer(kind, (address - SHARED.start) // 8, a, b)
 
-    def ask_signals(self, kind, a=0):
-        return self.answer(kind, 0, a)
+    def ask_signals(self, kind, thread, a=0):
+        return self.answer(kind, thread, a)
 
 
 def replay(file, report, number=0):
@@ -51,7 +51,7 @@ def replay(file, report, number=0):
     start = lines.index(f"thread {number}")
     theirs = lines[start:lines.index("end-thread", start) + 1]
     events = [line for line in theirs if line.startswith("e ")]
-    count, thread, stop = int(theirs[2].split()[1]), Replayed(file, options, events), None
+    count, thread, stop = int(theirs[2].split()[1]), Replayed(file, options, events, number), None
     while stop is None:
         try:
             stop = thread.turn()

@@ -1,10 +1,8 @@
-#!/usr/bin/env python3
-"""Says of a report with one change which line is the first at fault, and which part of docs/REPORT.md it should belong to.
-
-    examples/report_faults.py > crates/library_tests/src/report_cases.rt
+"""Says of a report which line is the first at fault, and which part of docs/REPORT.md it should belong to, and which changes of a report
+to try; crates/smemu_rows/altered.py asks it.
 
 It shares nothing with the emulator: each kind of line is a regular expression, and a report is a walk through the kinds that may follow.
-A case is a range of bytes of the report, the bytes that take its place, and what is found then: a line and a part, or `read`.
+A change is a range of bytes of the report, and the bytes that take its place; what is found then is a line and a part, or `read`.
 """
 import re
 
@@ -160,22 +158,24 @@ def h(n):
 
 
 ZERO = h(0)
-SAMPLE = "\n".join([
-    "smemu-report 1",
-    "options vl=128 svl=256 slice=1000 budget=10000000 threads=2",
-    "image " + bytes(range(0x80, 0xA0)).hex(),
-    "thread 0",
-    f"stop raised data {h(0x400010)} {h(0x411000)} write",
-    "count 70", "turns 72", f"pc {h(0x400010)}", f"x 0 {h(0x2A)}", f"x 30 {h(2**64 - 1)}", f"sp {h(0x7E0000000000)}", "nzcv 0110",
-    f"tpidr {ZERO}", f"tpidr2 {h(0x4000)}", "svcr 3",
-    "z 0 " + bytes(range(1, 17)).hex(), "z 31 " + "ff" * 16, "p 15 0100", "ffr ffff", "za 2 " + "a0" * 32,
-    "memory 65 " + bytes(range(32)).hex(), f"held {h(0x20)}", "inside 0", "polled 1", f"handler 3 {h(0x400100)}", f"handler 62 {h(8)}",
-    "output 33", "out " + b"Hello, world. Hello, world. 1234".hex(), "out 0a",
-    "journal 2", f"e cas 511 {h(1)} {h(2)} {h(3)}", f"e poll 0 {ZERO} {ZERO} {h(0x28)}", "end-thread",
-    "thread 1", "stop exited 42", "count 3", "turns 3", f"pc {h(0x40000C)}", f"sp {h(0x7E0000000000)}", "nzcv 0000", f"tpidr {ZERO}",
-    f"tpidr2 {ZERO}", "svcr 0", "memory 65 " + "0c" * 32, f"held {ZERO}", "inside 0", "polled 0", "output 0", "journal 0", "end-thread",
-    "shared", f"w 0 {h(2000)}", f"w 511 {h(5)}", f"pending 1 {h(8)}", "end", "",
-]).encode()
+
+
+def of_two_threads(digest, second):
+    """A report of two threads, the first with each kind of line; the block of the second is given, as the digest of the program."""
+    return "\n".join([
+        "smemu-report 1",
+        "options vl=128 svl=256 slice=1000 budget=10000000 threads=2",
+        f"image {digest}",
+        "thread 0",
+        f"stop raised data {h(0x400010)} {h(0x411000)} write",
+        "count 70", "turns 72", f"pc {h(0x400010)}", f"x 0 {h(0x2A)}", f"x 30 {h(2**64 - 1)}", f"sp {h(0x7E0000000000)}", "nzcv 0110",
+        f"tpidr {ZERO}", f"tpidr2 {h(0x4000)}", "svcr 3",
+        "z 0 " + bytes(range(1, 17)).hex(), "z 31 " + "ff" * 16, "p 15 0100", "ffr ffff", "za 2 " + "a0" * 32,
+        "memory 65 " + bytes(range(32)).hex(), f"held {h(0x20)}", "inside 0", "polled 1", f"handler 3 {h(0x400100)}", f"handler 62 {h(8)}",
+        "output 33", "out " + b"Hello, world. Hello, world. 1234".hex(), "out 0a",
+        "journal 2", f"e cas 511 {h(1)} {h(2)} {h(3)}", f"e poll 0 {ZERO} {ZERO} {h(0x28)}", "end-thread",
+        *second, "shared", f"w 0 {h(2000)}", f"w 511 {h(5)}", f"pending 1 {h(8)}", "end", "",
+    ]).encode()
 
 
 # what may stand after `stop`, and what may not
@@ -188,10 +188,6 @@ STOP_WORDS = [
         "illegalstreaming": [""], "notstreaming": [""], "zainactive": [""], "breakpoint": ["", " 65535", " 65536"],
         "shared": ["", f" {ZERO}"], "unaligned": [""]}.items() for value in values),
 ]
-# where the second block begins, and where it ends
-SECOND = SAMPLE.index(b"thread 1")
-SHARED = SAMPLE.index(b"shared")
-
 
 def line_moves(report, spans, k):
     """The line removed, doubled and swapped with the next."""
@@ -239,10 +235,10 @@ def changes(report, kept=range(0)):
             yield from byte_changes(report[start:end], start)
 
 
-def cases():
-    """The changes of the sample, of whose second block no byte is changed, and fields that are just inside or outside of what they may
+def changes_of_two_threads(report):
+    """The changes of such a report, of whose second block no byte is changed, and fields that are just inside or outside of what they may
     be."""
-    yield from changes(SAMPLE, range(SECOND, SHARED))
+    yield from changes(report, range(report.index(b"thread 1"), report.index(b"shared")))
     fields = [
         (b"vl=128", b"vl=384"), (b"svl=256", b"svl=2048"), (b"slice=1000", b"slice=1000000"), (b"slice=1000", b"slice=1000001"),
         (b"budget=10000000", b"budget=4294967295"), (b"budget=10000000", b"budget=4294967296"), (b"budget=10000000", b"budget=0"),
@@ -261,37 +257,5 @@ def cases():
         *((b"exited 42", stop) for stop in STOP_WORDS),
     ]
     for old, new in fields:
-        at = SAMPLE.index(old)
+        at = report.index(old)
         yield at, at + len(old), new
-
-
-def put(row):
-    """Prints a row of the table, which goes on in the next line where it is long."""
-    while len(row) > 110:
-        cut = max(i for i in range(1, 110) if row[i] != " ")
-        print(row[:cut] + "\\")
-        row = row[cut:]
-    print(row)
-
-
-def main():
-    lines = [f"{start} {end} {text.hex() or '-'} {found(SAMPLE[:start] + text + SAMPLE[end:])}" for start, end, text in cases()]
-    lines = list(dict.fromkeys(lines))
-    print("//! A report, and cases of it with one change each; examples/report_faults.py writes this file.\n")
-    print("/// A report of two threads.")
-    print('pub const REPORT: &[u8] = b"\\')
-    print(SAMPLE.decode() + '";\n')
-    print("/// The cases: a range of the report's bytes, the bytes that take its place, or `-`, and the first line at")
-    print("/// fault with its part, or `read`.")
-    print('pub const CASES: &str = "')
-    row = ""
-    for line in lines:
-        if row and len(row) + len(line) > 107:
-            put(row + ";")
-            row = ""
-        row += ("; " if row else "") + line
-    put(row + '";')
-
-
-if __name__ == "__main__":
-    main()

@@ -4,13 +4,13 @@ word, and the groups whose rows its words have.
 
     tools/mnemonics.py
 
-The words and texts are those of crates/smemu_vectors/data, which other tools gave; the rows are those of the two tables.
+The words and texts are those of crates/smemu_rows/data, nearly all of which other tools gave; the rows are those of the two tables.
 """
 import pathlib
 import re
 
 TOP = pathlib.Path(__file__).resolve().parent.parent
-DATA = TOP / "crates" / "smemu_vectors" / "data"
+DATA = TOP / "crates" / "smemu_rows" / "data"
 ROW = re.compile(r"(0x\w{8}) (0x\w{8}) (G\d+)\(")
 
 

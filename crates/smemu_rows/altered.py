@@ -5,12 +5,16 @@ report's bytes that is changed, the bytes that take its place in hexadecimal or 
 line feed, or for status 0 `block`: the block of the thread in the report as it is then. What is at fault in a report, and how a thread runs
 over its journal, is said by examples/report_faults.py and expected_replay.py, which share nothing with the emulator.
 """
+import hashlib
 import re
 
+from expected import Thread, block
 from expected_replay import replay
-from report_faults import STOP_WORDS, changes, found, line_moves, spans_of
+from report_faults import STOP_WORDS, changes, changes_of_two_threads, found, line_moves, of_two_threads, spans_of
 
 DONE, BAD_REPORT = 0, 9
+# the report of two threads, which is a row too
+TWO_THREADS = "replay-of-two-threads.report"
 KINDS = b"ld st swp add clr eor set umax umin cas post poll".split()
 # what takes the place of a part of the report of the program with shared words and signals: fields just inside or outside of what they may
 # be, and others that stay in the format
@@ -76,15 +80,23 @@ def with_a_count_more(report):
 
 
 def of_each_stop(reports):
-    """For each kind of stop the report with the fewest instructions."""
+    """For each stop, whatever its addresses and its word, the report with the fewest instructions."""
     def count(name):
         return int(re.search(rb"^count ([0-9]+)$", reports[name][1], re.MULTILINE).group(1))
 
     names = {}
     for name in sorted(reports, key=count):
         stop = re.search(rb"^stop (.*)$", reports[name][1], re.MULTILINE).group(1)
-        names.setdefault(re.sub(rb" ([0-9a-f]{8}|[0-9a-f]{16}|[0-9]+)\b", b"", stop), name)
+        names.setdefault(re.sub(rb" ([0-9a-f]{8}|[0-9a-f]{16})\b", b"", stop), name)
     return names.values()
+
+
+def two_threads(file):
+    """A report of two threads of a program; the second is as it runs alone."""
+    thread, stop = Thread(file, 10_000_000, 128, 256, 1000, 1, 2), None
+    while stop is None:
+        stop = thread.turn()
+    return of_two_threads(hashlib.sha256(file).hexdigest(), block(thread, stop, 1))
 
 
 def groups(reports):
@@ -97,6 +109,7 @@ def groups(reports):
     yield "answer", "shared-cas", 31, moves(reports["shared-cas"][1])
     for name in of_each_stop(reports):
         yield name, name, 0, with_a_count_more(reports[name][1])
+    yield "answer", TWO_THREADS, 1, changes_of_two_threads(reports[TWO_THREADS][1])
 
 
 def case(file, report, number, start, end, new):
@@ -113,10 +126,10 @@ def case(file, report, number, start, end, new):
 
 
 def altered_list(reports):
-    """The list; `reports` has the program's file and the report of each row by its name."""
+    """The list; `reports` has the program's file and the report of each row by its name, and that of two threads by its file's."""
     lines = []
     for program, name, number, altered in groups(reports):
         file, report = reports[program][0], reports[name][1]
-        lines.append(f"{program}.elf {name}.elf.txt {number}\n")
+        lines.append(f"{program}.elf {name if name == TWO_THREADS else name + '.elf.txt'} {number}\n")
         lines += dict.fromkeys(case(file, report, number, *change) for change in altered)
     return "".join(lines)

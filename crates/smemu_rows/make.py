@@ -14,10 +14,11 @@ HERE = pathlib.Path(__file__).resolve().parent
 TOP = HERE.parent.parent
 sys.path.insert(0, str(TOP / "examples"))
 from elf import (ALLOC, DYNAMIC, EXECINSTR, INTERP, LOAD, NOTE, STACK, STRTAB, SYMTAB, TLS, Section, Segment, assembled, build, elf,
-                 mapping_symbols, sections_of, symbols, text_of)
+                 symbols, text_of)
 from expected import report
 from expected_replay import replay
-from altered import altered_list
+from altered import TWO_THREADS, altered_list, two_threads
+from sources import WITH_DATA, assemblies, source_refusals
 
 MOVZ, ADD, SUBS, B, SVC = 0xD2800000, 0x91000000, 0xF1000000, 0x54000000, 0xD4000001
 WIDE = 1 << 31
@@ -49,6 +50,8 @@ AT_TEXT = (0x40, 1)
 REPORTS = {
     "writes-5-bytes": [*call(64, (1, 0), AT_TEXT, (5, 0)), *EXIT],
     "writes-no-bytes-at-0": [*call(64, (2, 0), (0, 0), (0, 0)), *EXIT],
+    "writes-32-bytes": [*call(64, (1, 0), AT_TEXT, (32, 0)), *EXIT],
+    "writes-33-bytes": [*call(64, (1, 0), AT_TEXT, (33, 0)), *EXIT],
     "writes-33-and-then-to-2": [*call(64, (1, 0), AT_TEXT, (33, 0)), *call(64, (2, 0), AT_TEXT, (32, 0)), *EXIT],
     "bad-descriptor": [*call(64, (0, 0), AT_TEXT, (5, 0)), SVC, *EXIT],
     "bad-address": [*call(64, (1, 0), (0x80, 1), (5, 0)), *EXIT],
@@ -256,7 +259,11 @@ def loaded():
     """Files that are loaded, and the options of their runs."""
     text = text_of(ANSWER)
     yield "answer-with-budget-1", elf(ANSWER), {"budget": 1}
+    yield "answer-with-budget-3", elf(ANSWER), {"budget": 3}
+    yield "answer-with-the-greatest-budget", elf(ANSWER), {"budget": 4294967295, "vl": 2048}
     yield "answer-with-lengths", elf(ANSWER), {"vl": 2048, "svl": 512}
+    yield "answer-with-lengths-in-another-order", elf(ANSWER), {"svl": 2048, "vl": 512}
+    yield "answer-with-lengths-and-budget-1", elf(ANSWER), {"svl": 1024, "budget": 1, "vl": 512}
     yield "below-the-stack", elf(EXIT, 0x7DFFFFFC0000 - 4 * len(EXIT)), {}
     yield "above-the-shared-region", elf(EXIT, 0x7F0000001000), {}
     yield "at-the-top", elf(EXIT, 2**47 - 4 * len(EXIT)), {}
@@ -460,7 +467,7 @@ def listing(*lines):
 
 def listings():
     """Files, and the status and the text of their listings; the texts of words are those of other tools."""
-    words = [line.split("\t") for line in (HERE.parent / "smemu_vectors" / "data" / "words.tsv").read_text().splitlines()]
+    words = [line.split("\t") for line in (HERE / "data" / "words.tsv").read_text().splitlines()]
     words = [(int(word, 16), text) for word, text in words]
     code = text_of(word for word, _ in words)
     yield "words", with_code([Segment(TEXT, code)], code_section(len(code)))[0], 0, listing(*((TEXT + 4 * k, *line) for k, line in enumerate(words)))
@@ -471,6 +478,8 @@ def listings():
     parts = [Segment(later, text_of([0xD503201F])), Segment(TEXT, text_of(ANSWER))]
     yield "sections-out-of-order", with_code(parts, code_section(4, later), code_section(12))[0], 0, listing(*answer, (later, 0xD503201F, "hint #0"))
     yield "no-section-table", build([Segment(TEXT, text_of(ANSWER))])[0], 0, ""
+    yield "source-with-data-in-its-text", assembled(*WITH_DATA), 0, listing(
+        (TEXT, 0xD2800020, "movz x0, #1"), (TEXT + 8, 0xD2800BA8, "movz x8, #93"), (TEXT + 12, 0xD4000001, "svc #0"))
     yield "refused", elf(ANSWER + [UNLISTED]), 6, f"bad file: unlisted 0x000000000040000c 0x{UNLISTED:08x}\n"
     for name, file, text in [*marked_listings(), *table_listings()]:
         yield name, file, 0, text
@@ -527,146 +536,6 @@ def table_listings():
     yield "name-at-the-last-end", with_tables(code_section(32), Section(SYMTAB, data=last, link=3, entry_size=24), Section(STRTAB, data=names["$d"]))[0], hints(*range(8))
     zeros = [Segment(TEXT, text_of(HINTS)), Segment(0x500000, b"", memory=16)]
     yield "section-of-zeros", with_code(zeros, code_section(16, 0x500000))[0], listing(*((0x500000 + 4 * k, 0, "udf #0") for k in range(4)))
-
-
-def line_faults():
-    """Sources with a line that is not in the grammar: the line, its number and what is wrong there. Columns count characters from 1."""
-    # no instruction and no directive has the name
-    yield "unknown-first", "foo x0", 1, "unknownname 1"
-    yield "unknown-after-a-label", "_start: frob", 1, "unknownname 9"
-    yield "unknown-after-good-lines", "_start:\n svc #0\n\tsvc2 #0\n", 3, "unknownname 2"
-    yield "unknown-directive", "_start: svc #0\n  .long 1\n", 2, "unknownname 3"
-    yield "unknown-in-capitals", "_start: SVC #0\n", 1, "unknownname 9"
-    yield "unknown-with-a-bad-number", "frob #00\n", 1, "unknownname 1"
-    yield "unknown-name-before-its-colon", "loop : svc #0\n", 1, "unknownname 1"
-    yield "unknown-of-two-lines", "_start: svc #0\n\nfrob\nfrab\n", 3, "unknownname 1"
-    # a number of another form or in another range
-    yield "number-too-large", "_start: svc #65536\n", 1, "badnumber 13"
-    yield "number-without-its-sign", "_start: svc 0\n", 1, "badnumber 13"
-    yield "number-with-a-leading-zero", "_start: svc #00\n", 1, "badnumber 13"
-    yield "number-below-0", "_start: svc #-1\n", 1, "badnumber 13"
-    yield "number-without-digits", "_start: svc #\n", 1, "badnumber 13"
-    yield "number-of-64-bits-and-one", "_start: svc #18446744073709551616\n", 1, "badnumber 13"
-    yield "number-in-the-middle", "add x0, x1, #4096, lsl #12\n", 1, "badnumber 13"
-    yield "number-at-the-end", "add x0, x1, #1, lsl #13\n", 1, "badnumber 21"
-    yield "distance-of-no-multiple-of-4", "b .+3\n", 1, "badnumber 3"
-    yield "distance-too-far", "b .+134217728\n", 1, "badnumber 3"
-    yield "distance-without-its-point", "b 8\n", 1, "badnumber 3"
-    yield "byte-of-256", ".byte 256\n", 1, "badnumber 7"
-    yield "third-byte-of-300", ".byte 1, 2, 300, 400\n", 1, "badnumber 13"
-    yield "byte-with-a-sign-before", ".byte #1\n", 1, "badnumber 7"
-    yield "byte-of-no-digits", ".byte 0x\n", 1, "badnumber 7"
-    yield "word-of-33-bits", ".word 4294967296\n", 1, "badnumber 7"
-    yield "quad-of-65-bits", ".quad 0x10000000000000000\n", 1, "badnumber 7"
-    yield "zero-of-65-bits", ".zero 18446744073709551616\n", 1, "badnumber 7"
-    yield "align-of-13", ".align 13\n", 1, "badnumber 8"
-    # a whole line stands before it
-    yield "extra-first", "_start: svc #0\n5\n", 2, "extra 1"
-    yield "extra-comma-first", ", x0\n", 1, "extra 1"
-    yield "extra-after-an-instruction", "_start: svc #0 #1\n", 1, "extra 16"
-    yield "extra-after-a-register", "br x1 x2\n", 1, "extra 7"
-    yield "extra-carriage-return", "_start: svc #0\r\n", 1, "extra 15"
-    yield "extra-after-text", ".text 1\n", 1, "extra 7"
-    yield "extra-after-data", ".data x\n", 1, "extra 7"
-    yield "extra-after-a-byte", ".byte 1 2\n", 1, "extra 9"
-    yield "extra-after-zero", ".zero 1, 2\n", 1, "extra 8"
-    yield "extra-after-align", ".align 2 3\n", 1, "extra 10"
-    yield "extra-after-global", ".global _start, loop\n", 1, "extra 15"
-    yield "extra-comment-of-another-language", "# start\n", 1, "extra 1"
-    yield "extra-label-of-a-digit", "1loop: svc #0\n", 1, "extra 1"
-    # all else, and a token that is missing: just past the end of the line, with its comment
-    yield "operand-first", "add , x0, x1\n", 1, "badoperand 5"
-    yield "operand-of-no-register", "add x0, x32, #1\n", 1, "badoperand 9"
-    yield "operand-without-a-comma", "add x0 x1, #1\n", 1, "badoperand 8"
-    yield "operand-of-another-width", "add w0, x1, #1\n", 1, "badoperand 9"
-    yield "operand-second-label", "a: b: svc #0\n", 1, "badoperand 5"
-    yield "operand-of-byte", ".byte x0\n", 1, "badoperand 7"
-    yield "operand-of-zero-is-a-name", ".zero size\n", 1, "badoperand 7"
-    yield "operand-of-global-is-a-number", ".global 5\n", 1, "badoperand 9"
-    yield "operand-of-align-is-a-sign", ".align -1\n", 1, "badoperand 8"
-    yield "missing-all", "svc\n", 1, "badoperand 4"
-    yield "missing-last", "add x0, x1\n", 1, "badoperand 11"
-    yield "missing-after-a-comma", "add x0, x1,\n", 1, "badoperand 12"
-    yield "missing-before-a-comment", "add x0, x1, // sum\n", 1, "badoperand 19"
-    yield "missing-in-characters", "add x0, x1, // \u00e9\u4e00\n", 1, "badoperand 18"
-    yield "missing-in-the-last-line", "_start: svc #0\nadd x0, x1,", 2, "badoperand 12"
-    yield "missing-value-of-byte", ".byte\n", 1, "badoperand 6"
-    yield "missing-value-after-a-comma", ".byte 1,\n", 1, "badoperand 9"
-    yield "missing-value-of-zero", ".zero\n", 1, "badoperand 6"
-    yield "missing-value-of-align", ".align\n", 1, "badoperand 7"
-    yield "missing-value-of-global", ".global\n", 1, "badoperand 8"
-    # instructions at no multiple of 4
-    yield "instruction-after-a-byte", ".byte 1\n_start: svc #0\n", 2, "badoperand 9"
-    yield "instruction-after-6-bytes-of-data", "_start: svc #0\n.data\n.zero 6\nsvc #0\n", 4, "badoperand 1"
-    yield "instruction-misplaced-and-doubled", "_start: svc #0\n.byte 1\n_start: svc #0\n", 3, "badoperand 9"
-
-
-def source_faults():
-    """Sources that are refused for more than a line by itself."""
-    yield "empty", b"", 0, "nostart"
-    yield "no-start", b"begin: svc #0\n", 0, "nostart"
-    yield "start-past-the-text", b"svc #0\n_start:\n", 0, "nostart"
-    yield "start-alone", b"_start:\n", 0, "nostart"
-    yield "start-in-data", b"svc #0\n.data\n_start: .quad 0\n", 0, "nostart"
-    yield "start-at-no-multiple-of-4", b".byte 1\n_start: .byte 2\n", 0, "nostart"
-    yield "start-in-a-comment", b"svc #0 // _start:\n", 0, "nostart"
-    yield "doubled", b"_start: svc #0\n_start:\n", 2, "doubled"
-    yield "doubled-in-another-part", b"_start: svc #0\n.data\na: .byte 1\n.text\na: svc #0\n", 5, "doubled"
-    yield "doubled-and-too-large", b"_start: svc #0\n_start: .zero 5000000\n", 2, "doubled"
-    yield "doubled-before-a-bad-line", b"a: svc #0\na: svc #0\nfrob\n", 2, "doubled"
-    yield "undefined-target", b"_start: svc #0\n b nowhere\n", 2, "undefined"
-    yield "undefined-in-other-capitals", b"_start: b Loop\nloop: svc #0\n", 1, "undefined"
-    yield "undefined-value", b"_start: svc #0\n.quad 1, _start, nowhere\n", 2, "undefined"
-    yield "undefined-first-of-two", b"_start: svc #0\n.quad nowhere\n b nowhere\n", 2, "undefined"
-    yield "undefined-and-no-start", b"b nowhere\n", 1, "undefined"
-    yield "undefined-before-a-bad-line", b"_start: b nowhere\nfrob\n", 2, "line unknownname 1"
-    yield "undefined-before-a-doubled-label", b"_start: b nowhere\n_start:\n", 2, "doubled"
-    yield "tbz-too-far-forward", b"_start: tbz x0, #0, far\n.zero 32764\nfar: svc #0\n", 1, "toofar 32768"
-    yield "tbz-too-far-back", b"far: .zero 32772\n_start: tbz x0, #0, far\n", 2, "toofar -32772"
-    yield "cbz-too-far-forward", b"_start: cbz x0, far\n.zero 1048572\nfar: svc #0\n", 1, "toofar 1048576"
-    yield "cbz-too-far-back", b"far: .zero 1048580\n_start: cbz x0, far\n", 2, "toofar -1048580"
-    yield "condition-too-far-back", b"far: .zero 1048580\n_start: b.eq far\n", 2, "toofar -1048580"
-    yield "adr-too-far-forward", b"_start: adr x0, far\n.zero 1048572\nfar: svc #0\n", 1, "toofar 1048576"
-    yield "adr-too-far-back", b"far: .zero 1048580\n_start: adr x0, far\n", 2, "toofar -1048580"
-    yield "branch-to-no-multiple-of-4", b"_start: b odd\n.byte 1\nodd:\n", 1, "toofar 5"
-    yield "branch-back-to-no-multiple-of-4", b".byte 1\nodd: .byte 1, 1, 1\n_start: b odd\n", 3, "toofar -3"
-    yield "toofar-before-undefined", b"_start: b odd\n b nowhere\n.byte 1\nodd:\n", 1, "toofar 9"
-    yield "text-too-large", b"_start: svc #0\n.zero 4194301\n", 2, "toolarge"
-    yield "text-too-large-by-a-byte", b".zero 4194300\n_start: svc #0\n.byte 1\n", 3, "toolarge"
-    yield "text-too-large-by-an-instruction", b".zero 4194304\n_start: svc #0\n", 2, "toolarge"
-    yield "text-too-large-by-far", b".zero 18446744073709551615\n", 1, "toolarge"
-    yield "data-too-large", b"_start: svc #0\n.data\n.zero 4194305\n", 3, "toolarge"
-    yield "data-too-large-before-a-bad-line", b".data\n.zero 4194304\n.byte 0\n.text\nfrob\n", 3, "toolarge"
-    yield "not-text-at-0", b"\x80_start: svc #0\n", 0, "nottext 0"
-    yield "not-text-in-the-second-line", b"_start: svc #0\n\xff\n", 0, "nottext 15"
-    yield "not-text-cut-short", b"// \xe4\xb8", 0, "nottext 3"
-    yield "not-text-too-long-a-form", b"// \xc0\x80\n", 0, "nottext 3"
-    yield "not-text-half-a-pair", b"// \xc3\xa9 \xed\xa0\x80\n", 0, "nottext 6"
-    yield "not-text-after-a-bad-line", b"frob\n\xff", 0, "nottext 5"
-
-
-def source_refusals():
-    for name, source, line, fault in line_faults():
-        yield name, source.encode(), f"bad source: line {line}: line {fault}\n"
-    for name, source, line, fault in source_faults():
-        yield name, source, f"bad source: line {line}: {fault}\n"
-
-
-def linked(path):
-    """The text, the data, the entry and the mapping symbols of a file that a linker made."""
-    file = path.read_bytes()
-    sections = sections_of(file)
-    of = lambda name: sections[name][1] if name in sections else b""
-    return of(".text"), of(".data"), int.from_bytes(file[24:32], "little"), mapping_symbols(file)
-
-
-def assemblies():
-    """Sources and their files: the bytes are those that another assembler and linker put, laid out as docs/ASSEMBLY.md says."""
-    for path in sorted((HERE / "real" / "linked").glob("*.elf")):
-        example = TOP / "examples" / f"{path.stem}.s"
-        source = example if example.exists() else HERE / "real" / f"{path.stem}.s"
-        yield path.stem, source.read_bytes(), assembled(*linked(path))
-    yield "move-of-65536", b"_start:\n    mov x0, #65536\n", assembled(text_of([0xD2A00020]), b"", 0x400000, [(0x400000, True)])
 
 
 VECTOR_EXAMPLES = ("saturate", "strlen")
@@ -740,8 +609,25 @@ def replays(programs):
     for how, altered, line in (("first-line-alone", "smemu-report 1\n", "2: options"), ("empty", "", "1: header"), ("end-missing", text[:-4], f"{text.count(chr(10))}: end"),
                                ("no-text", text.replace("svcr", "\udcff"), f"{text[:text.index('svcr')].count(chr(10)) + 1}: nottext")):
         yield f"{name}-{how}", name, altered, 0, 9, f"bad report: line {line}\n"
+    yield "of-two-threads", name, two_threads(file).decode(), 1, *replay(file, two_threads(file).decode(), 1)
     # the program is read, and refused, before the report
     yield "of-no-program", "refused-empty", "", 0, 6, "bad file: truncated 0\n"
+
+
+def told(sort, name):
+    """What the program prints of a file of lines, of which each agrees."""
+    text = (HERE / "data" / name).read_text()
+    count = text.count("\n")
+    if sort == "rows":
+        return "".join(f"{row.split()[0]} agrees\n" for row in text.splitlines())
+    if sort == "altered":
+        cases = text.count("\t")
+        return f"altered.txt: {cases} of {cases} altered reports agree\n"
+    printed = text.count("\tprinted\t")
+    return {"words": f"words and texts, both ways: {count} agree\n",
+            "texts": f"texts: {printed} agree both ways, {count - printed} aliases are read\n",
+            "no-row": f"words of no row: {count} agree\n", "faults": f"lines at fault: {count} agree\n",
+            "steps": f"{name}: {count} agree\n", "differing": f"altered steps: {count} differ, as they must\n"}[sort]
 
 
 def main():
@@ -750,7 +636,8 @@ def main():
     programs = list(assemblies())
     rows += [*signals(), *runs(programs), *vector_accesses(), *((name, file, {}) for name, file in matrix_stops())]
     rows = [(f"{name}.elf", 0, file, report(file, **options), {"run": "", **options}) for name, file, options in rows]
-    altered = altered_list({name.removesuffix(".elf"): (file, text.encode()) for name, _, file, text, _ in rows})
+    reports = {name.removesuffix(".elf"): (file, text.encode()) for name, _, file, text, _ in rows}
+    altered = altered_list({**reports, TWO_THREADS: (reports["answer"][0], two_threads(reports["answer"][0]))})
     rows += [(f"{name}.elf", 6, file, text, {"run": ""}) for name, file, text in refusals()]
     rows += [(f"listing-{name}.elf", status, file, text, {"dis": ""}) for name, file, status, text in listings()]
     rows += [(f"source-{name}.s", 7, source, text, {"asm": ""}) for name, source, text in source_refusals()]
@@ -770,8 +657,8 @@ def main():
     words = lambda options: "".join(f" --{name} {value}" if value else f" {name}" for name, value in options.items())
     (data / "rows.txt").write_text("".join(f"{name} {status}{words(options)}\n" for name, status, _, _, options in rows))
     (data / "altered.txt").write_text(altered)
+    (HERE / "stdout").write_text("".join(told(*argument.split("=")) for argument in (HERE / "args").read_text().split()))
     cases = altered.count("\t")
-    (HERE / "stdout").write_text("".join(f"{name} agrees\n" for name, _, _, _, _ in rows) + f"altered.txt: {cases} of {cases} altered reports agree\n")
     print(f"{len(rows)} rows, {cases} altered reports")
 
 

@@ -1,89 +1,58 @@
-//! Gives the files of a list to the emulator, each in memory, and compares what is written, and the status,
-//! with what the list says. Each line of `rows.txt` has a file's name, a status, a command and its other
-//! words; the text that is to be written stands in the file of that name with `.txt` behind it. Before the
-//! file stand the programs among the words, which are names of files in `.elf`. The reports of `altered.txt`
-//! are replayed after the rows.
+//! Gives lines of data to the emulator, and compares what it makes of each with what the line says. Each
+//! argument is a sort of lines, `=` and the name of a file of them:
+//!
+//! - `rows`: files and sources, each with a command, and the text and the status that it is to answer;
+//! - `altered`: reports with one change, which are replayed;
+//! - `words`: words that mean instructions, each with its text, from which the word is read;
+//! - `texts`: words with texts from which they are read, and that are printed exactly where the line says so;
+//! - `no-row`: words that mean none;
+//! - `faults`: lines of sources that are refused, each with its fault;
+//! - `steps`: what a step of an instruction gives, with all registers and all of the data;
+//! - `differing`: steps that were altered by hand, each of which must differ.
+//!
+//! A line that cannot be read is shown as one that differs.
 #![tactic(auto)]
 
 mod altered;
+mod faults;
+mod fields;
+mod outcome;
+mod pages;
+mod rows;
+mod state;
+mod steps;
+mod words;
 
 use crate::altered::compare_altered;
-use anyhow::{Context, Result};
-use edge_io::{MemFiles, MemSink};
-use smemu::smemu_main;
-use std::fs;
-use std::rt::Files;
+use crate::faults::check_faults;
+use crate::rows::compare_rows;
+use crate::steps::{check_differing, check_steps};
+use crate::words::{check_no_row, check_texts, check_words};
+use anyhow::{Context, Result, anyhow};
+use std::{env, fs};
 
-/// Adds a file to those in memory, under a name.
-fn add<R: Files + AllocGlobal>(rt: &R, files: &mut MemFiles, name: &str, path: &str) -> Result<()> {
-    let bytes = fs::read(rt, path).context("a file")?;
-    files
-        .add(name, bytes.as_slice())
-        .map_err(|_| anyhow::anyhow!("memory"))
-}
-
-/// The words of the command line and the files that they name: the row's is `file`.
-fn asked<R: Files + AllocGlobal>(
-    rt: &R,
-    name: &str,
-    words: &str,
-) -> Result<(Vec<String>, MemFiles)> {
-    let alloc = rt.alloc();
-    let mut files = MemFiles::new(alloc);
-    add(rt, &mut files, "file", name)?;
-    let mut names = vec![in alloc;]?;
-    let mut others = vec![in alloc;]?;
-    for word in words.split_whitespace() {
-        if word.ends_with(".elf") {
-            add(rt, &mut files, word, word)?;
-            names.push(String::from_str(alloc, word)?)?;
-        } else {
-            others.push(String::from_str(alloc, word)?)?;
-        }
+/// Compares the lines of a file, which are of that sort.
+fn compare(rt: &HostRuntime, sort: &str, name: &str) -> Result<()> {
+    let file = fs::read_to_string(rt, name).context("a file of lines")?;
+    let text = file.as_str();
+    match sort {
+        "rows" => compare_rows(rt, text),
+        "altered" => compare_altered(rt, text),
+        "words" => check_words(rt, text),
+        "texts" => check_texts(rt, text),
+        "no-row" => check_no_row(rt, text),
+        "faults" => check_faults(rt, text),
+        "steps" => check_steps(rt, rt.alloc(), name, text),
+        "differing" => check_differing(rt, rt.alloc(), text),
+        _ => Err(anyhow!("no sort of lines: {sort}")),
     }
-    names.push(String::from_str(alloc, "file")?)?;
-    for other in others {
-        names.push(other)?;
-    }
-    Ok((names, files))
-}
-
-/// Tells whether a row agrees.
-fn agrees<R: Files + AllocGlobal>(rt: &R, name: &str, wanted: u8, words: &str) -> Result<bool> {
-    let (command, rest) = words.split_once(' ').unwrap_or((words, ""));
-    let (mut names, mut files) = asked(rt, name, rest)?;
-    names.insert(0, String::from_str(rt.alloc(), command)?)?;
-    let text_name = format!(in rt.alloc(); "{name}.txt")?;
-    let text = fs::read(rt, text_name.as_str()).context("the text that is to be written")?;
-    let mut out = MemSink::new(rt.alloc(), text.len()).map_err(|_| anyhow::anyhow!("memory"))?;
-    let status = smemu_main(rt.alloc(), names.as_slice(), &mut files, &mut out);
-    Ok(status.code() == wanted && out.bytes() == text.as_slice())
-}
-
-/// Tells of each row of the list whether it agrees.
-fn compare_rows<R: Files + Print + AllocGlobal>(rt: &R, rows: &str) -> Result<()> {
-    for row in rows.lines() {
-        let Some((name, rest)) = row.split_once(' ') else {
-            println!(rt; "{row}: no status")?;
-            continue;
-        };
-        let Some((status, words)) = rest.split_once(' ') else {
-            println!(rt; "{row}: no command")?;
-            continue;
-        };
-        let wanted = status.parse::<u8>().context("the status")?;
-        if agrees(rt, name, wanted, words)? {
-            println!(rt; "{name} agrees")?;
-        } else {
-            println!(rt; "{name} DIFFERS")?;
-        }
-    }
-    Ok(())
 }
 
 fn main(rt: HostRuntime) -> Result<()> {
-    let rows = fs::read_to_string(&rt, "rows.txt").context("the list of rows")?;
-    let altered = fs::read_to_string(&rt, "altered.txt").context("the list of altered reports")?;
-    compare_rows(&rt, rows.as_str())?;
-    compare_altered(&rt, altered.as_str())
+    let words: Vec<String> = env::args(&rt)?.skip(1).collect(rt.alloc())?;
+    for word in words {
+        let (sort, name) = word.split_once('=').context("no SORT=NAME")?;
+        compare(&rt, sort, name)?;
+    }
+    Ok(())
 }

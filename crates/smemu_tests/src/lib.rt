@@ -1,9 +1,7 @@
-//! Tests of the command: where the outside fails, its words, and programs that it assembles, lists and
-//! runs; and of the outside itself.
+//! Tests of the command, of what no row reaches: where the outside fails, its words, files that are too long,
+//! and programs that run until their journal is full; and of the outside itself.
 #![tactic(auto)]
 
-#[cfg(test)]
-mod instructions;
 #[cfg(test)]
 mod outside;
 #[cfg(test)]

@@ -1,0 +1,2 @@
+.byte 1
+	cbz w7, done

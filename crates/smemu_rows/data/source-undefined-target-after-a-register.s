@@ -1,0 +1,2 @@
+_start: svc #0
+	cbz w7, done

@@ -1,0 +1,77 @@
+//! Files that are given to the command, each in memory, and what it is to write, with its status. Each line of
+//! the list has a file's name, a status, a command and its other words; the text that is to be written stands in
+//! the file of that name with `.txt` behind it. Before the file stand the programs among the words, which are
+//! names of files in `.elf`.
+
+use anyhow::{Context, Result};
+use edge_io::{MemFiles, MemSink};
+use smemu::smemu_main;
+use std::fs;
+use std::rt::Files;
+
+/// Adds a file to those in memory, under a name.
+fn add<R: Files + AllocGlobal>(rt: &R, files: &mut MemFiles, name: &str, path: &str) -> Result<()> {
+    let bytes = fs::read(rt, path).context("a file")?;
+    files
+        .add(name, bytes.as_slice())
+        .map_err(|_| anyhow::anyhow!("memory"))
+}
+
+/// The words of the command line and the files that they name: the row's is `file`.
+fn asked<R: Files + AllocGlobal>(
+    rt: &R,
+    name: &str,
+    words: &str,
+) -> Result<(Vec<String>, MemFiles)> {
+    let alloc = rt.alloc();
+    let mut files = MemFiles::new(alloc);
+    add(rt, &mut files, "file", name)?;
+    let mut names = vec![in alloc;]?;
+    let mut others = vec![in alloc;]?;
+    for word in words.split_whitespace() {
+        if word.ends_with(".elf") {
+            add(rt, &mut files, word, word)?;
+            names.push(String::from_str(alloc, word)?)?;
+        } else {
+            others.push(String::from_str(alloc, word)?)?;
+        }
+    }
+    names.push(String::from_str(alloc, "file")?)?;
+    for other in others {
+        names.push(other)?;
+    }
+    Ok((names, files))
+}
+
+/// Tells whether a row agrees.
+fn agrees<R: Files + AllocGlobal>(rt: &R, name: &str, wanted: u8, words: &str) -> Result<bool> {
+    let (command, rest) = words.split_once(' ').unwrap_or((words, ""));
+    let (mut names, mut files) = asked(rt, name, rest)?;
+    names.insert(0, String::from_str(rt.alloc(), command)?)?;
+    let text_name = format!(in rt.alloc(); "{name}.txt")?;
+    let text = fs::read(rt, text_name.as_str()).context("the text that is to be written")?;
+    let mut out = MemSink::new(rt.alloc(), text.len()).map_err(|_| anyhow::anyhow!("memory"))?;
+    let status = smemu_main(rt.alloc(), names.as_slice(), &mut files, &mut out);
+    Ok(status.code() == wanted && out.bytes() == text.as_slice())
+}
+
+/// Tells of each row of the list whether it agrees.
+pub fn compare_rows<R: Files + Print + AllocGlobal>(rt: &R, rows: &str) -> Result<()> {
+    for row in rows.lines() {
+        let Some((name, rest)) = row.split_once(' ') else {
+            println!(rt; "{row}: no status")?;
+            continue;
+        };
+        let Some((status, words)) = rest.split_once(' ') else {
+            println!(rt; "{row}: no command")?;
+            continue;
+        };
+        let wanted = status.parse::<u8>().context("the status")?;
+        if agrees(rt, name, wanted, words)? {
+            println!(rt; "{name} agrees")?;
+        } else {
+            println!(rt; "{name} DIFFERS")?;
+        }
+    }
+    Ok(())
+}
