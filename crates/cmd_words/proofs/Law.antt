@@ -1,19 +1,19 @@
 -- Words ask for a command exactly where they have no fault.
-use Rattle.std.proofs.Common.{◌≡◌, ℕ, ◌+◌, ◌<◌, ◌≤◌, Bool, true, false, cond, List, length, Option, Some, None, refl, sym, ◌∙◌, arith}
+use Rattle.std.proofs.Common.{◌≡◌, ℕ, suc, ◌+◌, ◌-◌, ◌<◌, ◌≤◌, ◌⊎◌, inl, inr, Bool, true, false, cond, List, [], ◌∷◌, length, drop}
+use Rattle.std.proofs.Common.{get_or, Option, Some, None, refl, sym, ◌∙◌, ap, subst, arith}
 use Rattle.std.specs.Prelude.{◌↔◌, slice_get, is_some, is_none, IsSome, option_and_then, option_map}
 use Rattle.std.specs.List.{find, range_with_len}
 use Rattle.cmd_words.specs.Forms.{Form, form_of}
-use Rattle.cmd_words.specs.Words.{Fault, Request, verb_of, form_asked, command_fault, operand_fault, request_for, fault_at, place_fault}
-use Rattle.cmd_words.specs.Words.{usage_fault, command_of}
+use Rattle.cmd_words.specs.Words.{Fault, Request, verb_of, form_asked, command_fault, operand_fault, arguments_of, request_for}
+use Rattle.cmd_words.specs.Words.{fault_at, place_fault, usage_fault, command_of}
 use Rattle.cmd_words.specs.declared.command.UsageKind.{UsageKind}
 use Rattle.cmd_words.specs.declared.command.UsageKind.TheVariants.{Unknown}
 use Rattle.cmd_words.specs.declared.form.Operand.{Operand}
-use Rattle.cmd_words.specs.declared.form.Operand.TheVariants.{Name, Thread}
+use Rattle.cmd_words.specs.declared.form.Operand.TheVariants.{Name}
 use Rattle.cmd_words.specs.declared.verb.Verb.{Verb}
-use Rattle.cmd_words.specs.declared.verb.Verb.TheVariants.{Run, Dis, Asm, Replay, Help, Version}
 use Rattle.sm_types.proofs.Places.{none-find, find-passes}
-use Rattle.cmd_words.proofs.Faults.{fault_at-operand}
-use Rattle.cmd_words.proofs.Reading.{asked_of, some_inside, sound_first}
+use Rattle.cmd_words.proofs.Faults.{fault_at-operand, get_past}
+use Rattle.cmd_words.proofs.Reading.{asked_of, operand_at, sound_first}
 
 none_if_not : {A : Type 0} (o : Option A) → is_some o ≡ false → o ≡ None
 none_if_not None e = refl
@@ -48,63 +48,12 @@ map_is_some : {A B : Type 0} (f : A → B) (o : Option A) → IsSome o → IsSom
 map_is_some f None e = cc
 map_is_some f (Some x) e = refl
 
-operand_stands : (operand : Operand) (word : Option (List ℕ)) → operand_fault operand word ≡ None → IsSome word
-operand_stands operand None e = cc
-operand_stands operand (Some word) e = refl
-
--- an operand of a command stands, where there are words up to it
-operand_there : (words : List (List ℕ)) (form : Form) (k : ℕ) (operand : Operand) → usage_fault words ≡ None
-    → form_asked words ≡ Some form → slice_get form.operands k ≡ Some operand → k + 1 ≤ length words → IsSome (slice_get words (k + 1))
-operand_there words form k operand none asked at l =
-    operand_stands operand (slice_get words (k + 1))
-    (sym (fault_at-operand words form k operand asked at) ∙ no_place words none (k + 1) (omega arith))
-
--- the first operand of a command stands
-first_stands : (words : List (List ℕ)) (form : Form) (operand : Operand) → usage_fault words ≡ None → form_asked words ≡ Some form
-    → slice_get form.operands 0 ≡ Some operand → IsSome (slice_get words 1)
-first_stands words form operand none asked at =
-    operand_there words form 0 operand none asked at (sound_first words form asked).inside
-
--- and the next one
-next_stands : (words : List (List ℕ)) (form : Form) (k : ℕ) (operand : Operand) → usage_fault words ≡ None → form_asked words ≡ Some form
-    → slice_get form.operands (k + 1) ≡ Some operand → IsSome (slice_get words (k + 1)) → IsSome (slice_get words (k + 1 + 1))
-next_stands words form k operand none asked at before =
-    let l : k + 1 < length words = some_inside words (k + 1) before in
-    operand_there words form (k + 1) operand none asked at (omega arith)
-
-and_then_some : {A B : Type 0} (f : A → Option B) (o : Option A) → IsSome o → ((a : A) → IsSome (f a)) → IsSome (option_and_then f o)
-and_then_some f None e h = cc
-and_then_some f (Some a) e h = h a
-
-replay_stands : (words : List (List ℕ)) → usage_fault words ≡ None → form_asked words ≡ Some (form_of Replay)
-    → IsSome (request_for words Replay)
-replay_stands words none asked =
-    let first = first_stands words (form_of Replay) Name none asked refl in
-    let second = next_stands words (form_of Replay) 0 Name none asked refl first in
-    let third = next_stands words (form_of Replay) 1 Thread none asked refl second in
-    and_then_some _ (slice_get words 1) first (λ program. and_then_some _ (slice_get words 2) second
-    (λ report. map_is_some _ (slice_get words 3) third))
-
--- a command that stands asks for something
-requested : (words : List (List ℕ)) (verb : Verb) → usage_fault words ≡ None → option_and_then verb_of (slice_get words 0) ≡ Some verb
-    → IsSome (request_for words verb)
-requested words Run none is = map_is_some _ (slice_get words 1) (first_stands words (form_of Run) Name none (asked_of words Run is) refl)
-requested words Dis none is = map_is_some _ (slice_get words 1) (first_stands words (form_of Dis) Name none (asked_of words Dis is) refl)
-requested words Asm none is = map_is_some _ (slice_get words 1) (first_stands words (form_of Asm) Name none (asked_of words Asm is) refl)
-requested words Replay none is = replay_stands words none (asked_of words Replay is)
-requested words Help none is = refl
-requested words Version none is = refl
-
 asks : (words : List (List ℕ)) → usage_fault words ≡ None → IsSome (command_of words)
 unfolding command_of fault_at
 asks words none =
     let stands : IsSome (option_and_then verb_of (slice_get words 0)) =
     command_stands (slice_get words 0) (no_place words none 0 (omega arith)) in
-    rw none (elim (option_and_then verb_of (slice_get words 0)) as (λ o. option_and_then verb_of (slice_get words 0) ≡ o → IsSome o
-    → IsSome (option_and_then (request_for words) o)) [
-      | None ↦ λ is e. cc
-      | Some verb ↦ λ is e. requested words verb none is
-    ] refl stands)
+    rw none (map_is_some (request_for words) (option_and_then verb_of (slice_get words 0)) stands)
 
 faultless : (fault : Option Fault) (command : Option Request) → IsSome (cond (is_none fault) command None) → fault ≡ None
 faultless None command e = refl
@@ -113,3 +62,65 @@ faultless (Some fault) command e = cc
 pub reading : (words : List (List ℕ)) → IsSome (command_of words) ↔ (usage_fault words ≡ None)
 unfolding command_of
 reading words = (λ e. faultless (usage_fault words) _ e, asks words)
+
+-- ---- the operands
+
+low_or : (a b : ℕ) → (a < b) ⊎ (b ≤ a)
+low_or a b = grind arith
+
+missing : (operand : Operand) (word : Option (List ℕ)) → word ≡ None → operand_fault operand word ≡ None → ⊥
+missing operand word e h = let none : operand_fault operand None ≡ None = rw e at h in cc
+
+-- where words without a fault end, no operand is to stand
+enough : (words : List (List ℕ)) (form : Form) → usage_fault words ≡ None → form_asked words ≡ Some form
+    → 1 + length form.operands ≤ length words
+enough words form none asked =
+    let first : 1 ≤ length words = (sound_first words form asked).inside in
+    elim (low_or (length words) (1 + length form.operands)) [
+      | inr fits ↦ fits
+      | inl short ↦
+          let k = length words - 1 in
+          let inside : k < length form.operands = omega arith in
+          let last : k + 1 ≡ length words = omega arith in
+          absurd (missing (get_or form.operands k Name) (slice_get words (k + 1)) (get_past words (k + 1) (omega arith))
+          (sym (fault_at-operand words form k (get_or form.operands k Name) asked (operand_at form.operands k Name inside))
+          ∙ no_place words none (k + 1) (omega arith)))
+    ]
+
+arguments-length : (operands : List Operand) (words : List (List ℕ)) → length operands ≤ length words
+    → length (arguments_of operands words) ≡ length operands
+arguments-length [] words l = refl
+arguments-length (operand ∷ operands) [] l = absurd (omega arith)
+arguments-length (operand ∷ operands) (word ∷ words) l = ap suc (arguments-length operands words (omega arith))
+
+past_first : (words : List (List ℕ)) (n : ℕ) → 1 + n ≤ length words → n ≤ length (drop 1 words)
+past_first [] n l = absurd (omega arith)
+past_first (word ∷ words) n l = omega arith
+
+same_request : (a b : Request) → ◌≡◌ {A = Option Request} (Some a) (Some b) → a ≡ b
+same_request a b e = cc
+
+full_of : (words : List (List ℕ)) (verb : Option Verb) (request : Request) → usage_fault words ≡ None
+    → option_and_then verb_of (slice_get words 0) ≡ verb → option_map (request_for words) verb ≡ Some request
+    → length request.operands ≡ length (form_of request.verb).operands
+full_of words None request none is e = cc
+full_of words (Some verb) request none is e =
+    subst (λ (r : Request). length r.operands ≡ length (form_of r.verb).operands) (same_request (request_for words verb) request e)
+    (arguments-length (form_of verb).operands (drop 1 words)
+    (past_first words (length (form_of verb).operands) (enough words (form_of verb) none (asked_of words verb is))))
+
+unasked : (fault : Option Fault) (command : Option Request) (request : Request)
+    → cond (is_none fault) command None ≡ Some request → command ≡ Some request
+unasked None command request e = e
+unasked (Some fault) command request e = cc
+
+some_asked : (o : Option Request) (request : Request) → o ≡ Some request → IsSome o
+some_asked o request e = rw e refl
+
+pub full : (words : List (List ℕ)) (request : Request) → command_of words ≡ Some request
+    → length request.operands ≡ length (form_of request.verb).operands
+unfolding command_of
+full words request e =
+    full_of words (option_and_then verb_of (slice_get words 0)) request
+    (faultless (usage_fault words) _ (some_asked _ request e)) refl
+    (unasked (usage_fault words) _ request e)

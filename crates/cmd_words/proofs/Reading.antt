@@ -10,16 +10,17 @@ use Rattle.std.specs.Str.{bytes_eq}
 use Rattle.std.proofs.lemmas.Slice.Eq.{bytes_eq-Decides}
 use Rattle.cmd_words.specs.Forms.{Form, form_of, options_from}
 use Rattle.cmd_words.specs.Numbers.{is_number, number_of}
-use Rattle.cmd_words.specs.Options.{Options, default_options, word_of, setting_in, takes, default_of}
-use Rattle.cmd_words.specs.Words.{AsksReplay, thread_fault}
-use Rattle.cmd_words.specs.Words.{Request, AsksRun, verb_of, form_asked, command_fault, operand_fault, no_option, request_for, stands_at}
+use Rattle.cmd_words.specs.Options.{Options, default_options, word_of, setting_in, takes, default_of, with_numbers}
+use Rattle.cmd_words.specs.Command.{asking}
+use Rattle.cmd_words.specs.Words.{Argument, NameSaid, ThreadSaid, arguments_of, thread_fault}
+use Rattle.cmd_words.specs.Words.{verb_of, form_asked, command_fault, operand_fault, no_option, request_for, stands_at}
 use Rattle.cmd_words.specs.Words.{option_place, option_fault, value_fault, fault_at, usage_fault, value_below, number_given, options_given}
 use Rattle.cmd_words.specs.Words.{command_of}
 use Rattle.cmd_words.specs.Given.{given_of, IsSoundTo, IsReadTo}
 use Rattle.cmd_words.specs.declared.command.UsageKind.{UsageKind}
 use Rattle.cmd_words.specs.declared.command.UsageKind.TheVariants.{Unknown, Repeated}
 use Rattle.cmd_words.specs.declared.form.Operand.{Operand}
-use Rattle.cmd_words.specs.declared.form.Operand.TheVariants.{Thread}
+use Rattle.cmd_words.specs.declared.form.Operand.TheVariants.{Name, Thread}
 use Rattle.cmd_words.specs.declared.given.Given.{Given}
 use Rattle.cmd_words.specs.declared.setting.Setting.{Setting}
 use Rattle.cmd_words.specs.declared.setting.Setting.TheVariants.{Vl, Svl, Slice, Budget}
@@ -395,10 +396,9 @@ module _ (words : List (List ℕ)) (form : Form) (given : Given) (h : IsReadTo w
   ]
 
   -- words that are read to their end ask for what their command does
-  pub read_end : (verb : Verb) (request : Option Request) → option_and_then verb_of (slice_get words 0) ≡ Some verb
-      → request_for words verb ≡ request → command_of words ≡ request
+  pub read_end : (verb : Verb) → option_and_then verb_of (slice_get words 0) ≡ Some verb → command_of words ≡ Some (request_for words verb)
   unfolding command_of
-  read_end verb request is e = rw (usage_none words sound_all, is) e
+  read_end verb is = rw (usage_none words sound_all, is) refl
 
   pub given_number : (s : Setting) → number_given form words s ≡ unwrap_or (given_of given s) (default_of s)
   unfolding number_given
@@ -430,27 +430,31 @@ pub to_end : (words : List (List ℕ)) (form : Form) (given : Given) (n : ℕ) �
     → IsReadTo words form (length words) given
 to_end words form given n e h = subst (λ (m : ℕ). IsReadTo words form m given) e h
 
--- the run that is asked for
-pub run_asked : (words : List (List ℕ)) (given : Given) (name : List ℕ) (n : ℕ) → n ≡ length words → IsReadTo words (form_of Run) n given
-    → option_and_then verb_of (slice_get words 0) ≡ Some Run → slice_get words 1 ≡ Some name
-    → command_of words ≡ Some (AsksRun name (options_read given))
-run_asked words given name n e h is at =
-    let read = to_end words (form_of Run) given n e h in
-    read_end words (form_of Run) given read Run _ is
-    (ap (option_map (λ m. AsksRun m (options_given (form_of Run) words))) at
-    ∙ ap (λ (o : Options). Some (AsksRun name o)) (given_options words given read))
+-- what a command asks for
+pub asked_for : (words : List (List ℕ)) (given : Given) (verb : Verb) (operands : List Argument) (options : Options) (n : ℕ)
+    → n ≡ length words → IsReadTo words (form_of verb) n given → option_and_then verb_of (slice_get words 0) ≡ Some verb
+    → arguments_of (form_of verb).operands (drop 1 words) ≡ operands → options_given (form_of verb) words ≡ options
+    → command_of words ≡ Some (asking verb operands options)
+asked_for words given verb operands options n e h is said numbers =
+    read_end words (form_of verb) given (to_end words (form_of verb) given n e h) verb is
+    ∙ ap (λ (o : List Argument). Some (asking verb o (options_given (form_of verb) words))) said
+    ∙ ap (λ (o : Options). Some (asking verb operands o)) numbers
 
--- what another command asks for
-pub asked_for : (words : List (List ℕ)) (given : Given) (verb : Verb) (request : Option Request) (n : ℕ) → n ≡ length words
-    → IsReadTo words (form_of verb) n given → option_and_then verb_of (slice_get words 0) ≡ Some verb
-    → request_for words verb ≡ request → command_of words ≡ request
-asked_for words given verb request n e h is asks =
-    read_end words (form_of verb) given (to_end words (form_of verb) given n e h) verb request is asks
+-- a command without options has those of a run that is given none
+pub no_options : (verb : Verb) (words : List (List ℕ)) → (form_of verb).options ≡ [] → options_given (form_of verb) words ≡ default_options
+unfolding options_given
+no_options verb words none =
+    ap (λ (settings : List Setting). with_numbers default_options settings (number_given (form_of verb) words)) none
 
-replay_of : (program report : List ℕ) (thread : ℕ) (word : Option (List ℕ)) → option_map number_of word ≡ Some thread
-    → option_map (λ w. AsksReplay program report (number_of w)) word ≡ Some (AsksReplay program report thread)
-replay_of program report thread None e = cc
-replay_of program report thread (Some w) e = ap (λ n. Some (AsksReplay program report n)) (same_number (number_of w) thread e)
+same_word : (a b : List ℕ) → ◌≡◌ {A = Option (List ℕ)} (Some a) (Some b) → a ≡ b
+same_word a b e = cc
+
+-- the operand of a command that has a name alone
+pub named : (words : List (List ℕ)) (name : List ℕ) → slice_get words 1 ≡ Some name
+    → arguments_of (Name ∷ []) (drop 1 words) ≡ NameSaid name ∷ []
+named [] name e = cc
+named (w ∷ []) name e = cc
+named (w ∷ v ∷ words) name e = ap (λ n. NameSaid n ∷ []) (same_word v name e)
 
 -- the last operand of `replay` is the number of a guest thread
 pub thread_stands : (words : List (List ℕ)) (given : Given) (n : ℕ) → IsReadTo words (form_of Replay) n given
@@ -459,8 +463,15 @@ thread_stands words given n h = λ word at.
     let l : 4 ≤ n = h.past in
     ap (operand_fault Thread) (sym at) ∙ sym (fault_at-operand words (form_of Replay) 2 Thread h.asked refl) ∙ h.sound 3 (omega arith)
 
--- the replay that is asked for
-pub replay_asked : (words : List (List ℕ)) (program report : List ℕ) (thread : ℕ) → slice_get words 1 ≡ Some program
+-- the operands of `replay`
+pub replayed : (words : List (List ℕ)) (program report : List ℕ) (thread : ℕ) → slice_get words 1 ≡ Some program
     → slice_get words 2 ≡ Some report → option_map number_of (slice_get words 3) ≡ Some thread
-    → request_for words Replay ≡ Some (AsksReplay program report thread)
-replay_asked words program report thread first second third = rw (first, second) (replay_of program report thread (slice_get words 3) third)
+    → arguments_of (Name ∷ Name ∷ Thread ∷ []) (drop 1 words) ≡ NameSaid program ∷ NameSaid report ∷ ThreadSaid thread ∷ []
+replayed [] program report thread e f g = cc
+replayed (w ∷ []) program report thread e f g = cc
+replayed (w ∷ p ∷ []) program report thread e f g = cc
+replayed (w ∷ p ∷ r ∷ []) program report thread e f g = cc
+replayed (w ∷ p ∷ r ∷ t ∷ words) program report thread e f g =
+    ap (λ n. NameSaid n ∷ NameSaid r ∷ ThreadSaid (number_of t) ∷ []) (same_word p program e)
+    ∙ ap (λ n. NameSaid program ∷ NameSaid n ∷ ThreadSaid (number_of t) ∷ []) (same_word r report f)
+    ∙ ap (λ n. NameSaid program ∷ NameSaid report ∷ ThreadSaid n ∷ []) (same_number (number_of t) thread g)

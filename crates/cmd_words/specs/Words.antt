@@ -2,7 +2,7 @@
 -- fault and why. Places count words from 0. Source: this project's own command line.
 use Rattle.std.specs.Prelude.{ℕ, ◌+◌, ◌-◌, ◌%◌, ◌==◌, ◌&&◌, nat_le, nat_lt, Bool, false, List, [], ◌∷◌, length}
 use Rattle.std.specs.Prelude.{slice_get, Option, Some, None, is_some, is_none, option_map, option_and_then}
-use Rattle.std.specs.Prelude.{unwrap_or, codes, if◌then◌else◌}
+use Rattle.std.specs.Prelude.{unwrap_or, codes, drop, if◌then◌else◌}
 use Rattle.std.specs.List.{find, range_with_len}
 use Rattle.std.specs.Option.{option_map_or}
 use Rattle.std.specs.Str.{bytes_eq}
@@ -143,37 +143,38 @@ number_given form words setting =
 unfoldable pub options_given : Form → List (List ℕ) → Options
 options_given form words = with_numbers default_options form.options (number_given form words)
 
--- what words ask for
-pub data Request : Type 0 where
-  -- a run of the program of that name, with these options
-  AsksRun : List ℕ → Options → Request
-  -- the listing of the program of that name
-  AsksListing : List ℕ → Request
-  -- the program that the source of that name is assembled to
-  AsksAssembly : List ℕ → Request
-  -- the block of a guest thread of a report: the program's name, the report's name, and the thread's number
-  AsksReplay : List ℕ → List ℕ → ℕ → Request
-  -- the text of help
-  AsksHelp : Request
-  -- the version
-  AsksVersion : Request
+-- what an operand says: the name of a file, or the number of a guest thread
+pub data Argument : Type 0 where
+  NameSaid : List ℕ → Argument
+  ThreadSaid : ℕ → Argument
 
--- what a command asks for
-abbrev pub request_for : List (List ℕ) → Verb → Option Request
-request_for words Run =
-    option_map (λ name. AsksRun name (options_given (form_of Run) words)) (slice_get words 1)
-request_for words Dis = option_map AsksListing (slice_get words 1)
-request_for words Asm = option_map AsksAssembly (slice_get words 1)
-request_for words Replay =
-    option_and_then (λ program. option_and_then (λ report.
-    option_map (λ word. AsksReplay program report (number_of word)) (slice_get words 3)) (slice_get words 2))
-    (slice_get words 1)
-request_for words Help = Some AsksHelp
-request_for words Version = Some AsksVersion
+abbrev pub argument_of : Operand → List ℕ → Argument
+argument_of Name word = NameSaid word
+argument_of Thread word = ThreadSaid (number_of word)
+
+-- what operands say, each by the word at its place
+abbrev pub arguments_of : List Operand → List (List ℕ) → List Argument
+arguments_of [] words = []
+arguments_of (operand ∷ operands) [] = []
+arguments_of (operand ∷ operands) (word ∷ words) = argument_of operand word ∷ arguments_of operands words
+
+-- what words ask for: a command, what its operands say, and the numbers of all options
+pub record Request : Type 0 where
+  pub verb : Verb
+  pub operands : List Argument
+  pub options : Options
+
+-- what the words of a command ask for
+abbrev pub request_for : List (List ℕ) → Verb → Request
+request_for words verb = record {
+  verb = verb;
+  operands = arguments_of (form_of verb).operands (drop 1 words);
+  options = options_given (form_of verb) words;
+}
 
 -- what words without a fault ask for
 unfoldable pub command_of : List (List ℕ) → Option Request
 command_of words =
-    if is_none (usage_fault words) then option_and_then (request_for words)
+    if is_none (usage_fault words) then option_map (request_for words)
     (option_and_then verb_of (slice_get words 0))
     else None

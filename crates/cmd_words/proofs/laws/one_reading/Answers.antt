@@ -1,5 +1,8 @@
-use Rattle.cmd_words.proofs.Law.{reading}
+use Rattle.cmd_words.proofs.Law.{full, reading}
 use Rattle.cmd_words.proofs.laws.one_reading.Goals as goal
 
-pub returns : goal.returns
-returns c = reading
+pub returns-clause-one : goal.returns-clause-one
+returns-clause-one c = reading
+
+pub returns-clause-full : goal.returns-clause-full
+returns-clause-full c = full
