@@ -1,24 +1,17 @@
 -- Where no fetch fails and there is room for the text, nothing but memory can be wanting.
 use Rattle.std.proofs.Common.{◌≡◌, ◌⊎◌, inl, inr, ℕ, List, Option, Some, None, refl, false, true}
 use Rattle.std.specs.Prelude.{IfSome, IsTrue}
+use Rattle.command_lines.specs.declared.status.Status.{Status}
+use Rattle.command_lines.specs.declared.status.Status.TheVariants.{ReadFault, WriteFault, OutOfMemory}
 use Rattle.smemu.specs.Ends.{Call, IsRefused, IsComplete, MayCome, HasRoom, LacksMemoryAlone}
 use Rattle.smemu.specs.Requests.{IsDue}
-use Rattle.command_lines.specs.declared.status.Status.{Status}
-use Rattle.command_lines.specs.declared.status.Status.TheVariants.{Done, Usage, Absent, ReadFault, WriteFault, BadFile, BadSource}
-use Rattle.command_lines.specs.declared.status.Status.TheVariants.{OutOfMemory, BadReport, Differs}
 
 module _ (c : Call) (reliable : IsTrue c.files.before.reliable) (room : HasRoom c) (files : List ℕ → Option (List ℕ)) where
   only_memory : (s : Status) → IsRefused c s → MayCome files c.words s → s ≡ OutOfMemory
   only_memory OutOfMemory h m = refl
   only_memory WriteFault h m = let fits : false ≡ true = (h.1.writes.accepts (room h.0 h.1.text h.1.defined)).0 in cc
   only_memory ReadFault h m = absurd (h.defined.stands.unreliable reliable)
-  only_memory Done h m = absurd m
-  only_memory Usage h m = absurd m
-  only_memory Absent h m = absurd m
-  only_memory BadFile h m = absurd m
-  only_memory BadSource h m = absurd m
-  only_memory BadReport h m = absurd m
-  only_memory Differs h m = absurd m
+  only_memory s h m = absurd m
 
   due_or_memory : (s : Status) → IsRefused c s → IsDue files c.words s ⊎ MayCome files c.words s
       → IsDue files c.words s ⊎ (s ≡ OutOfMemory)

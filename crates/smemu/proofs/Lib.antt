@@ -1,5 +1,6 @@
 pub mod Whole
 pub mod Requests
+pub mod Opened
 pub mod Ends
 pub mod Replays
 pub mod Words

@@ -3,6 +3,10 @@ use Rattle.std.proofs.Common.{◌≡◌, ◌⊎◌, inl, inr, ℕ, zero, suc, �
 use Rattle.std.proofs.Common.{sym, ap}
 use Rattle.std.proofs.Common.{◌∙◌, subst, arith, Option, Some, None, Result, Ok, Err}
 use Rattle.std.specs.Prelude.{slice_get, nat_lt}
+use Rattle.cmd_words.specs.Command.{asking}
+use Rattle.cmd_words.specs.Options.{default_options}
+use Rattle.cmd_words.specs.Words.{NameSaid, ThreadSaid}
+use Rattle.cmd_words.specs.declared.verb.Verb.TheVariants.{Replay}
 use Rattle.std.proofs.lemmas.Bool.Decides.{nat_tests}
 use Rattle.sha2.specs.Sha256.{sha256}
 use Rattle.sm_types.specs.declared.config.Config.{Config}
@@ -27,9 +31,10 @@ use Rattle.report_reader.specs.declared.parts.ReportBlock.{ReportBlock}
 use Rattle.report_text.specs.Block.{block_text}
 use Rattle.command_lines.specs.ReportLines.{difference_lines}
 use Rattle.smemu.specs.Replay.{mismatch, text_in, text_of, EndsAsSaid, IsBlockIn}
-use Rattle.smemu.specs.Views.{answer_text, ComparesSo, EndsReplay, IsPartedRefusal, IsUnmatched}
+use Rattle.smemu.specs.Views.{answer_text, ComparesSo, EndsAccepted, EndsReplay, IsPartedRefusal, IsUnmatched}
 use Rattle.smemu.specs.declared.answer.Answer.{Answer}
-use Rattle.smemu.specs.declared.refusal.Difference.TheVariants as difference
+use Rattle.smemu.specs.declared.ending.Difference.TheVariants as difference
+use Rattle.smemu.specs.declared.ending.Ending.TheVariants as ending
 use Rattle.smemu.specs.declared.refusal.Refusal.{Refusal}
 use Rattle.smemu.specs.declared.refusal.Refusal.TheVariants as refusal
 
@@ -67,15 +72,9 @@ said_at (x ∷ xs) (suc i) b is l = said_at xs i b is (omega arith)
 -- a report of another program, or without the thread
 pub unmatched_ends : (file bytes : List ℕ) (thread : ℕ) (program : Program) (said : Report) (r : Refusal) → Loads file program
     → report_in bytes ≡ Ok said → IsUnmatched file thread said r → EndsReplay file bytes thread (Err r)
-unmatched_ends file bytes thread program said (refusal.BadReport line kind) loads reads h =
-    inr (record { program = program; loads = loads; said = said; reads = reads; is_fault = h })
-unmatched_ends file bytes thread program said (refusal.Usage place kind) loads reads h = absurd h
-unmatched_ends file bytes thread program said (refusal.Absent name) loads reads h = absurd h
-unmatched_ends file bytes thread program said (refusal.ReadFault name) loads reads h = absurd h
-unmatched_ends file bytes thread program said (refusal.BadFile fault) loads reads h = absurd h
-unmatched_ends file bytes thread program said (refusal.BadSource fault) loads reads h = absurd h
-unmatched_ends file bytes thread program said (refusal.Differs it) loads reads h = absurd h
-unmatched_ends file bytes thread program said refusal.Memory loads reads h = absurd h
+unmatched_ends file bytes thread program said (refusal.Ended (ending.Mismatch line kind)) loads reads h =
+    record { program = program; loads = loads; said = said; reads = reads; is_fault = h }
+unmatched_ends file bytes thread program said r loads reads h = absurd h
 
 module _ (file bytes : List ℕ) (thread : ℕ) (program : Program) (config : Config) (said : Report) (block : Block)
     (loads : Loads file program)
@@ -97,28 +96,23 @@ module _ (file bytes : List ℕ) (thread : ℕ) (program : Program) (config : Co
 
   -- the thread parts from the journal or the count
   pub parted_ends : (r : Refusal) → IsPartedRefusal program config thread block r → EndsReplay file bytes thread (Err r)
-  parted_ends (refusal.Differs (difference.Parts fault)) h = inl (record { at = at; fault = fault; parts = h; is_text = refl })
-  parted_ends (refusal.Differs (difference.Lines line report replay)) h = absurd h
+  parted_ends (refusal.Ended (ending.Differs (difference.Parts fault))) h =
+      inl (record { at = at; fault = fault; parts = h; is_text = refl })
   parted_ends refusal.Memory h = tt
-  parted_ends (refusal.Usage place kind) h = absurd h
-  parted_ends (refusal.Absent name) h = absurd h
-  parted_ends (refusal.ReadFault name) h = absurd h
-  parted_ends (refusal.BadFile fault) h = absurd h
-  parted_ends (refusal.BadSource fault) h = absurd h
-  parted_ends (refusal.BadReport line kind) h = absurd h
+  parted_ends r h = absurd h
 
   -- the thread ends as the block says
   module _ (context : Context) (alone : HasRunAlone program config thread context) (journal : journal_of context ≡ block.journal)
       (count : (state_of context).count ≡ block.count) where
-    abbrev ending : EndsAsSaid program config thread block
-    ending = record {
+    abbrev ended : EndsAsSaid program config thread block
+    ended = record {
       state = state_of context;
       stop = alone.stop;
       run = subst (λ (j : List Event). IsLoneRun program config thread j (state_of context) alone.stop) journal alone.run;
       count = count;
     }
 
-    its_text : block_text (thread_of context) (state_of context) (stop_of context) (journal_of context) ≡ text_of ending
+    its_text : block_text (thread_of context) (state_of context) (stop_of context) (journal_of context) ≡ text_of ended
     its_text = λ i. block_text (alone.number i) (state_of context) (alone.stopped i) (journal i)
 
     pub compared_ends : (end : Result Answer Refusal)
@@ -126,19 +120,25 @@ module _ (file bytes : List ℕ) (thread : ℕ) (program : Program) (config : Co
         (block_text (thread_of context) (state_of context) (stop_of context) (journal_of context)) end
         → EndsReplay file bytes thread end
     compared_ends (Ok a) h =
-        record { at = at; end = ending; is_text = h.0 ∙ its_text; same = h.1 ∙ sym h.0 }
-    compared_ends (Err (refusal.Differs (difference.Lines line report replay))) h = inr (record {
+        record { at = at; end = ended; is_text = h.0 ∙ its_text; same = h.1 ∙ sym h.0 }
+    compared_ends (Err (refusal.Ended (ending.Differs (difference.Lines line report replay)))) h = inr (record {
       at = at;
-      end = ending;
+      end = ended;
       it = h.0;
       first = subst (λ (text : List ℕ). first_difference 0 (lines_of (text_in bytes block)) (lines_of text) ≡ Some h.0) its_text h.1;
       is_text = λ i. difference_lines (h.2.0 i) (h.2.1 i) (h.2.2 i);
     })
-    compared_ends (Err (refusal.Differs (difference.Parts fault))) h = absurd h.2
+    compared_ends (Err (refusal.Ended (ending.Differs (difference.Parts fault)))) h = absurd h.2
     compared_ends (Err refusal.Memory) h = tt
-    compared_ends (Err (refusal.Usage place kind)) h = absurd h
-    compared_ends (Err (refusal.Absent name)) h = absurd h
-    compared_ends (Err (refusal.ReadFault name)) h = absurd h
-    compared_ends (Err (refusal.BadFile fault)) h = absurd h
-    compared_ends (Err (refusal.BadSource fault)) h = absurd h
-    compared_ends (Err (refusal.BadReport line kind)) h = absurd h
+    compared_ends (Err r) h = absurd h
+
+-- the end of a replay, for its request
+pub replay_accepted : (program report : List ℕ) (thread : ℕ) (file bytes : List ℕ) (end : Result Answer Refusal)
+    → EndsReplay file bytes thread end
+    → EndsAccepted (asking Replay (NameSaid program ∷ NameSaid report ∷ ThreadSaid thread ∷ []) default_options) (file ∷ bytes ∷ []) end
+replay_accepted program report thread file bytes (Ok a) h = h
+replay_accepted program report thread file bytes (Err (refusal.Ended (ending.Mismatch line kind))) h =
+    record { fault = record { line = line; kind = kind }; is_mismatched = h; is_text = refl }
+replay_accepted program report thread file bytes (Err (refusal.Ended (ending.Differs it))) h = h
+replay_accepted program report thread file bytes (Err refusal.Memory) h = tt
+replay_accepted program report thread file bytes (Err r) h = absurd h

@@ -7,11 +7,18 @@ use Rattle.asm_core.specs.Faults.{asm_fault}
 use Rattle.asm_core.specs.declared.fault.AsmFault.TheVariants as asm
 use Rattle.elf_headers.specs.declared.fault.LoadFault.TheVariants as load
 use Rattle.elf_loader.proofs.Checks.{long_refused}
-use Rattle.edge_io.specs.Files.{Told}
+use Rattle.edge_io.specs.Files.{Told, FilesView}
 use Rattle.smemu.specs.Answers.{IsFile}
+use Rattle.smemu.specs.Ends.{Change}
+use Rattle.smemu.specs.Views.{IsFront, IsOpened, IsRejected, IsUnopened, IsUnread}
+use Rattle.smemu.specs.declared.refusal.Refusal.{Refusal}
+use Rattle.smemu.specs.declared.refusal.Refusal.TheVariants as refusal
+use Rattle.report_reader.specs.Reading.{Fault}
 use Rattle.report_reader.specs.Report.{report_in}
 use Rattle.report_reader.specs.declared.fault.ReportKind.TheVariants as part
-use Rattle.smemu.specs.Requests.{Kind, ProgramFile, SourceFile, ReportFile, Rejection, NoProgram, NoSource, NoReport, fault_in, rejection_of}
+use Rattle.smemu.specs.Rejections.{Kind, ProgramFile, SourceFile, ReportFile, fault_in, rejection_of}
+use Rattle.smemu.specs.declared.rejection.Rejection.{Rejection}
+use Rattle.smemu.specs.declared.rejection.Rejection.TheVariants as rejection
 
 low_or : (a b : ℕ) → (a < b) ⊎ (b ≤ a)
 low_or a b = grind arith
@@ -114,9 +121,9 @@ unfolding report_in
 long_report file h = rw (is_long_report file h) refl
 
 too_long : Kind → Rejection
-too_long ProgramFile = NoProgram load.TooLong
-too_long SourceFile = NoSource asm.TooLong
-too_long ReportFile = NoReport (record { line = 0; kind = part.TooLong })
+too_long ProgramFile = rejection.Program load.TooLong
+too_long SourceFile = rejection.Source asm.TooLong
+too_long ReportFile = rejection.Report 0 part.TooLong
 
 -- the most bytes that a file of a kind may have
 abbrev pub largest_of : Kind → ℕ
@@ -126,17 +133,34 @@ largest_of ReportFile = 1073741824
 
 long_rejected : (kind : Kind) (file : List ℕ) → largest_of kind < length file → rejection_of kind file ≡ Some (too_long kind)
 unfolding too_long
-long_rejected ProgramFile file h = ap (option_map NoProgram) (long_refused file h)
-long_rejected SourceFile file h = ap (option_map NoSource) (long_source file h)
-long_rejected ReportFile file h = ap (option_map NoReport) (long_report file h)
+long_rejected ProgramFile file h = ap (option_map rejection.Program) (long_refused file h)
+long_rejected SourceFile file h = ap (option_map rejection.Source) (long_source file h)
+long_rejected ReportFile file h =
+    ap (option_map (λ (fault : Fault). rejection.Report fault.line fault.kind)) (long_report file h)
 
 -- what was fetched is the file, where it is accepted
-pub accepted_file : (kind : Kind) (told : Told) (n : ℕ) (name fetched : List ℕ) → largest_of kind < n
-    → IfSome told (λ files. option_map (take n) (files name) ≡ Some fetched) → rejection_of kind fetched ≡ None → IsFile told name fetched
-accepted_file kind = sound_file (rejection_of kind) (too_long kind) (largest_of kind) (long_rejected kind)
+pub opened_file : (kind : Kind) (told : Told) (n : ℕ) (name fetched : List ℕ) → largest_of kind < n → IsFront told n name fetched
+    → rejection_of kind fetched ≡ None → IsOpened told name kind fetched
+opened_file kind told n name fetched l front accepted = record {
+  is_file =
+      sound_file (rejection_of kind) (too_long kind) (largest_of kind) (long_rejected kind) told n name fetched l front accepted;
+  accepted = accepted;
+}
 
--- the file is not accepted, where what was fetched is not
-pub rejected_file : (kind : Kind) (told : Told) (n : ℕ) (name fetched : List ℕ) (fault : Rejection) → largest_of kind < n
-    → IfSome told (λ files. option_map (take n) (files name) ≡ Some fetched) → rejection_of kind fetched ≡ Some fault
-    → IsFaulty (rejection_of kind) told name fault
-rejected_file kind = faulty_file (rejection_of kind) (too_long kind) (largest_of kind) (long_rejected kind)
+-- why a file is not opened, where what was fetched of it is not accepted
+pub unopened_file : (kind : Kind) (files : Change FilesView) (n : ℕ) (name fetched : List ℕ) (r : Refusal) → largest_of kind < n
+    → IsFront files.before.told n name fetched → IsRejected kind fetched r → IsUnopened files name kind r
+unopened_file kind files n name fetched (refusal.Rejected rejection) l front h =
+    let whole =
+    faulty_file (rejection_of kind) (too_long kind) (largest_of kind) (long_rejected kind) files.before.told n name fetched rejection l
+    front h in
+    record { file = whole.file; is_file = whole.is_file; rejects = whole.faulty }
+unopened_file kind files n name fetched refusal.Memory l front h = tt
+unopened_file kind files n name fetched r l front h = absurd h
+
+-- why a file is not opened that was not fetched
+pub unread_file : (kind : Kind) (files : Change FilesView) (name : List ℕ) (r : Refusal) → IsUnread files name r
+    → IsUnopened files name kind r
+unread_file kind files name (refusal.Unread shown why) h = h
+unread_file kind files name refusal.Memory h = tt
+unread_file kind files name r h = absurd h

@@ -1,6 +1,6 @@
 -- What the command writes for a request: the report of a run, a listing, a program's file, the block of a
--- thread that is replayed, or a text of its own.
-use Rattle.std.specs.Prelude.{◌≡◌, ℕ, [], List, Some, IfSome, length, map, slice_get}
+-- thread that is replayed, or a text of its own; and what else may become of it.
+use Rattle.std.specs.Prelude.{◌≡◌, ℕ, [], ◌∷◌, List, Some, None, IfSome, length, map, slice_get}
 use Rattle.sha2.specs.Sha256.{sha256}
 use Rattle.sm_types.specs.declared.config.Config.{Config}
 use Rattle.sm_types.specs.declared.object.Object.{Object}
@@ -10,8 +10,9 @@ use Rattle.sm_types.specs.declared.stop.Stop.{Stop}
 use Rattle.shared_region.specs.History.{AreOneHistory}
 use Rattle.edge_io.specs.Files.{Told}
 use Rattle.cmd_words.specs.Options.{Options, options_of}
-use Rattle.cmd_words.specs.Words.{Request, AsksRun, AsksListing, AsksAssembly, AsksReplay, AsksHelp}
-use Rattle.cmd_words.specs.Words.{AsksVersion}
+use Rattle.cmd_words.specs.Words.{Argument, ThreadSaid, Request}
+use Rattle.cmd_words.specs.declared.verb.Verb.{Verb}
+use Rattle.cmd_words.specs.declared.verb.Verb.TheVariants.{Run, Dis, Asm, Replay, Help, Version}
 use Rattle.asm_core.specs.Assembly.{Assembles}
 use Rattle.code_listing.specs.Listing.{listing_text}
 use Rattle.paged_memory.specs.Image.{Program}
@@ -19,8 +20,12 @@ use Rattle.elf_loader.specs.Loading.{Loads}
 use Rattle.elf_loader.specs.Objects.{IsFileOf}
 use Rattle.lone_runner.specs.LoneRun.{IsLoneRun}
 use Rattle.report_text.specs.Report.{ThreadEnd, report_text}
-use Rattle.smemu.specs.Replay.{IsReplayOf, OfTwoFiles}
 use Rattle.command_lines.specs.Texts.{help_text, version_text}
+use Rattle.command_lines.specs.declared.status.Status.{Status}
+use Rattle.command_lines.specs.declared.status.Status.TheVariants.{Done, BadReport, Differs}
+use Rattle.smemu.specs.Rejections.{rejection_of}
+use Rattle.smemu.specs.Replay.{IsReplayOf, MismatchesSo, DiffersSo}
+use Rattle.smemu.specs.Requests.{Named, files_named}
 
 -- the file of that name, as far as the files are told
 abbrev pub IsFile : Told → List ℕ → List ℕ → Type 0
@@ -50,11 +55,9 @@ pub record IsReportOf (file : List ℕ) (config : Config) (text : List ℕ) : Ty
   pub one_history : AreOneHistory (journals_of ends) words
   pub is_text : text ≡ report_text config (sha256 file) ends words
 
--- the text is the report of the run of the file of that name with these options
-pub record IsReport (told : Told) (name : List ℕ) (options : Options) (text : List ℕ) : Type 0 where
-  pub file : List ℕ
+-- the text is the report of the run of a file with these options
+pub record IsReport (file : List ℕ) (options : Options) (text : List ℕ) : Type 0 where
   pub config : Config
-  pub is_file : IsFile told name file
   pub given : options_of config ≡ options
   pub report : IsReportOf file config text
 
@@ -64,12 +67,6 @@ pub record IsListingOf (file text : List ℕ) : Type 0 where
   pub loads : Loads file program
   pub is_text : text ≡ listing_text program.code
 
--- the text is the listing of the file of that name
-pub record IsListing (told : Told) (name text : List ℕ) : Type 0 where
-  pub file : List ℕ
-  pub is_file : IsFile told name file
-  pub listing : IsListingOf file text
-
 -- the text is the file of the program that a source is assembled to: it is loaded as the image of the
 -- source's object
 pub record IsProgramOf (source text : List ℕ) : Type 0 where
@@ -77,18 +74,56 @@ pub record IsProgramOf (source text : List ℕ) : Type 0 where
   pub assembles : Assembles source object
   pub written : IsFileOf object text
 
--- the text is the file of the program that the source of that name is assembled to
-pub record IsAssembly (told : Told) (name text : List ℕ) : Type 0 where
-  pub source : List ℕ
-  pub is_file : IsFile told name source
-  pub program : IsProgramOf source text
+-- ---- what may become of a request whose files are accepted
 
--- the text is what the request asks for
-abbrev pub IsAnswer : Told → Request → List ℕ → Type 0
-IsAnswer told (AsksRun name options) text = IsReport told name options text
-IsAnswer told (AsksListing name) text = IsListing told name text
-IsAnswer told (AsksAssembly name) text = IsAssembly told name text
-IsAnswer told (AsksReplay program report thread) text =
-    OfTwoFiles told program report (λ file bytes. IsReplayOf file bytes thread text)
-IsAnswer told AsksHelp text = text ≡ help_text
-IsAnswer told AsksVersion text = text ≡ version_text
+-- how operands, options and the files tell a text
+abbrev pub Ends : Type 1
+Ends = List Argument → Options → List (List ℕ) → List ℕ → Type 0
+
+-- of one file
+abbrev pub of_file : (List ℕ → Options → List ℕ → Type 0) → Ends
+of_file tells operands options (file ∷ []) text = tells file options text
+of_file tells operands options files text = ⊥
+
+-- of a program, a report of it, and a thread of that
+abbrev pub of_thread : (List ℕ → List ℕ → ℕ → List ℕ → Type 0) → Ends
+of_thread tells (program ∷ report ∷ ThreadSaid thread ∷ []) options (file ∷ bytes ∷ []) text =
+    tells file bytes thread text
+of_thread tells operands options files text = ⊥
+
+-- a text of the command's own
+abbrev pub own : List ℕ → Ends
+own said operands options files text = text ≡ said
+
+abbrev pub never : Ends
+never operands options files text = ⊥
+
+-- the text that goes with a status, for each status with which a command may end
+abbrev pub ends_of : Verb → Status → Ends
+ends_of Run Done = of_file IsReport
+ends_of Dis Done = of_file (λ file options. IsListingOf file)
+ends_of Asm Done = of_file (λ file options. IsProgramOf file)
+ends_of Replay Done = of_thread IsReplayOf
+ends_of Replay BadReport = of_thread MismatchesSo
+ends_of Replay Differs = of_thread DiffersSo
+ends_of Help Done = own help_text
+ends_of Version Done = own version_text
+ends_of verb status = never
+
+-- what may become of a request whose files, in order, are these and are accepted: a status and a text
+abbrev pub outcome : Request → List (List ℕ) → Status → List ℕ → Type 0
+outcome request files status text =
+    ends_of request.verb status request.operands request.options files text
+
+-- the files that are named are these, as far as they are told, and each is accepted
+abbrev pub AreAccepted : Told → List Named → List (List ℕ) → Type 0
+AreAccepted told [] [] = Unit {0}
+AreAccepted told (named ∷ names) (file ∷ files) =
+    IsFile told named.name file × (rejection_of named.kind file ≡ None) × AreAccepted told names files
+AreAccepted told names files = ⊥
+
+-- what became of a request whose files are accepted
+pub record IsOutcome (told : Told) (request : Request) (status : Status) (text : List ℕ) : Type 0 where
+  pub files : List (List ℕ)
+  pub accepted : AreAccepted told (files_named request) files
+  pub ends : outcome request files status text

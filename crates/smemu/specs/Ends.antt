@@ -9,20 +9,15 @@ use Rattle.edge_io.specs.Files.{Told, FilesView}
 use Rattle.edge_io.specs.Sink.{SinkView, Writes}
 use Rattle.edge_io.specs.declared.sink.PutFault.{PutFault}
 use Rattle.edge_io.specs.declared.sink.PutFault.TheVariants.{Failed}
-use Rattle.cmd_words.specs.Words.{Fault, Request, AsksReplay, usage_fault, command_of}
-use Rattle.report_reader.specs.Reading as reading
-use Rattle.smemu.specs.Answers.{IsFile, IsAnswer}
-use Rattle.command_lines.specs.ReportLines.{report_line}
-use Rattle.command_lines.specs.FaultLines.{fault_line}
-use Rattle.smemu.specs.Replay.{IsMismatched, DiffersSo, OfTwoFiles}
-use Rattle.smemu.specs.Requests.{Named, Rejection, NoProgram, NoSource, NoReport, files_named, files_asked}
-use Rattle.smemu.specs.Requests.{limit_of, rejection_of, reached_of, IsReached, IsDue}
-use Rattle.command_lines.specs.SourceLines.{source_line}
+use Rattle.cmd_words.specs.Words.{Fault, Request, usage_fault, command_of}
 use Rattle.command_lines.specs.Texts.{usage_line}
 use Rattle.command_lines.specs.declared.status.Status.{Status}
 use Rattle.command_lines.specs.declared.status.Status.TheVariants.{Done, Usage, Absent, ReadFault, WriteFault}
-use Rattle.command_lines.specs.declared.status.Status.TheVariants.{BadFile, BadSource, OutOfMemory, BadReport}
-use Rattle.command_lines.specs.declared.status.Status.TheVariants.{Differs}
+use Rattle.command_lines.specs.declared.status.Status.TheVariants.{OutOfMemory}
+use Rattle.smemu.specs.Answers.{IsFile, IsOutcome}
+use Rattle.smemu.specs.Rejections.{limit_of, rejection_of, rejection_status, rejection_line}
+use Rattle.smemu.specs.Requests.{Named, files_named, files_asked, reached_of, IsReached, IsDue}
+use Rattle.smemu.specs.declared.rejection.Rejection.{Rejection}
 
 -- something before a call and after it
 pub record Change (A : Type 0) : Type 0 where
@@ -65,47 +60,28 @@ pub record IsReadFault (files : Change FilesView) (names : List Named) (text : L
   pub unreliable : IsTrue files.before.reliable → ⊥
   pub is_text : text ≡ concat (codes "read fault: " ∷ named.name ∷ codes "\n" ∷ [])
 
--- a file that is reached is not accepted, for this sort of fault, whose line the text is
-pub record IsRejection {A : Type 0} (rejected : A → Rejection) (line : A → List ℕ) (told : Told)
-    (names : List Named) (text : List ℕ) : Type 0 where
+-- a file that is reached is not accepted, and the status and the text are those of the rejection
+pub record IsRejection (told : Told) (names : List Named) (status : Status) (text : List ℕ) : Type 0 where
   pub named : Named
   pub reached : IsReached told names named
   pub file : List ℕ
-  pub fault : A
+  pub rejection : Rejection
   pub is_file : IsFile told named.name file
-  pub rejects : rejection_of named.kind file ≡ Some (rejected fault)
-  pub is_text : text ≡ line fault
-
--- the report of a replay is of another program, or has no such thread, and the text is the line of that
-abbrev pub MismatchStands : Request → Told → List ℕ → Type 0
-MismatchStands (AsksReplay program report thread) told text =
-    OfTwoFiles told program report (λ file bytes.
-    (fault : reading.Fault) × IsMismatched file bytes thread fault
-    × (text ≡ report_line fault))
-MismatchStands other told text = ⊥
-
--- the thread of a replay and its report part, as the text says
-abbrev pub DifferenceStands : Request → Told → List ℕ → Type 0
-DifferenceStands (AsksReplay program report thread) told text =
-    OfTwoFiles told program report (λ file bytes. DiffersSo file bytes thread text)
-DifferenceStands other told text = ⊥
+  pub rejects : rejection_of named.kind file ≡ Some rejection
+  pub is_status : status ≡ rejection_status rejection
+  pub is_text : text ≡ rejection_line rejection
 
 -- the text that goes with a status, where the request stands
 abbrev pub Stands : Request → Change FilesView → Status → List ℕ → Type 0
-Stands request files Done text = IsAnswer files.before.told request text
-Stands request files Absent text = IsAbsence files (files_named request) text
-Stands request files ReadFault text = IsReadFault files (files_named request) text
-Stands request files BadFile text =
-    IsRejection NoProgram fault_line files.before.told (files_named request) text
-Stands request files BadSource text =
-    IsRejection NoSource source_line files.before.told (files_named request) text
-Stands request files BadReport text =
-    IsRejection NoReport report_line files.before.told (files_named request) text
-    ⊎ MismatchStands request files.before.told text
-Stands request files Differs text = DifferenceStands request files.before.told text
 Stands request files Usage text = ⊥
 Stands request files WriteFault text = ⊥
-Stands request files OutOfMemory text = ⊥
+Stands request files Absent text = IsAbsence files (files_named request) text
+Stands request files ReadFault text = IsReadFault files (files_named request) text
+Stands request files Done text = IsOutcome files.before.told request Done text
+Stands request files OutOfMemory text = IsOutcome files.before.told request OutOfMemory text
+Stands request files status text =
+    IsRejection files.before.told (files_named request) status text
+    ⊎ IsOutcome files.before.told request status text
 
 -- ---- what stands for words
 
@@ -140,12 +116,12 @@ abbrev pub IsDone : Call → Status → Type 0
 IsDone c Done = Wrote c Done (Ok tt)
 IsDone c other = Unit {0}
 
--- every other status: its line was written, for its cause; with WriteFault a part of some status's text,
--- and with OutOfMemory nothing
+-- Every other status: its line was written, for its cause; with WriteFault a part of some status's text.
+-- With OutOfMemory nothing was written, or what the command has written by then, where it may end so.
 abbrev pub IsRefused : Call → Status → Type 0
 IsRefused c Done = Unit {0}
 IsRefused c WriteFault = (status : Status) × Wrote c status (Err Failed)
-IsRefused c OutOfMemory = Writes c.out.before c.out.after (Ok tt) []
+IsRefused c OutOfMemory = Writes c.out.before c.out.after (Ok tt) [] ⊎ Wrote c OutOfMemory (Ok tt)
 IsRefused c other = Wrote c other (Ok tt)
 
 -- what may be answered in place of the status that is due: want of memory, a fault of the sink, and a fault

@@ -1,3 +1,4 @@
+pub mod Rejections
 pub mod Requests
 pub mod DifferLines
 pub mod Replay

@@ -1,11 +1,10 @@
 -- The replay of a guest thread of a report: what is written, and where the thread and its report part.
-use Rattle.std.specs.Prelude.{◌≡◌, ◌⊎◌, ℕ, ◌+◌, ◌-◌, List, drop, take, nat_lt, slice_get, IfSome}
+use Rattle.std.specs.Prelude.{◌≡◌, ◌⊎◌, ℕ, ◌+◌, ◌-◌, List, drop, take, nat_lt, slice_get}
 use Rattle.std.specs.Prelude.{Option, Some, None, Ok, if◌then◌else◌}
 use Rattle.std.specs.Str.{bytes_eq}
 use Rattle.sha2.specs.Sha256.{sha256}
 use Rattle.sm_types.specs.declared.config.Config.{Config}
 use Rattle.sm_types.specs.declared.stop.Stop.{Stop}
-use Rattle.edge_io.specs.Files.{Told}
 use Rattle.paged_memory.specs.Image.{Program}
 use Rattle.elf_loader.specs.Loading.{Loads}
 use Rattle.kernel_contexts.specs.State.{State}
@@ -20,7 +19,7 @@ use Rattle.report_reader.specs.Reading.{Fault}
 use Rattle.report_reader.specs.Report.{Report, report_in}
 use Rattle.report_reader.specs.declared.fault.ReportKind.TheVariants.{Image, NoThread}
 use Rattle.report_text.specs.Block.{block_text}
-use Rattle.command_lines.specs.ReportLines.{difference_lines}
+use Rattle.command_lines.specs.ReportLines.{difference_lines, report_line}
 use Rattle.smemu.specs.DifferLines.{parting_line}
 
 -- the line of a report that says another program's digest, or options with no thread of that number
@@ -93,10 +92,8 @@ pub record IsMismatched (file report : List ℕ) (thread : ℕ) (fault : Fault) 
   pub reads : report_in report ≡ Ok said
   pub is_fault : mismatch (sha256 file) thread said ≡ Some fault
 
--- the files of two names, as far as the files are told, of which this holds
-pub record OfTwoFiles (told : Told) (name other : List ℕ) (relates : List ℕ → List ℕ → Type 0) : Type 0 where
-  pub file : List ℕ
-  pub second : List ℕ
-  pub is_file : IfSome told (λ files. files name ≡ Some file)
-  pub is_second : IfSome told (λ files. files other ≡ Some second)
-  pub holds : relates file second
+-- and the text is the line of that
+pub record MismatchesSo (file report : List ℕ) (thread : ℕ) (text : List ℕ) : Type 0 where
+  pub fault : Fault
+  pub is_mismatched : IsMismatched file report thread fault
+  pub is_text : text ≡ report_line fault

@@ -1,70 +1,45 @@
--- The files that a request names: of which kind each is, how much of it is read, why it is not accepted,
--- and how far it is read at all.
-use Rattle.std.specs.Prelude.{◌≡◌, ℕ, List, [], ◌∷◌, Option, Some, None, option_map, is_none, slice_get}
-use Rattle.std.specs.Prelude.{◌⊎◌, Result, Ok, Err, if◌then◌else◌}
+-- The files that a request names, and how far they are read.
+use Rattle.std.specs.Prelude.{◌≡◌, ◌⊎◌, ℕ, List, [], ◌∷◌, Option, Some, None, is_none, slice_get}
+use Rattle.std.specs.Prelude.{if◌then◌else◌}
 use Rattle.edge_io.specs.Files.{Told}
-use Rattle.cmd_words.specs.Words.{Request, AsksRun, AsksListing, AsksAssembly, AsksReplay, AsksHelp}
-use Rattle.cmd_words.specs.Words.{AsksVersion, command_of}
-use Rattle.asm_core.specs.Faults.{asm_fault}
-use Rattle.asm_core.specs.declared.fault.AsmFault.{AsmFault}
-use Rattle.elf_headers.specs.declared.fault.LoadFault.{LoadFault}
-use Rattle.elf_loader.specs.Loading.{load_fault}
-use Rattle.report_reader.specs.Reading.{Fault}
-use Rattle.report_reader.specs.Report.{Report, report_in}
+use Rattle.cmd_words.specs.Words.{Argument, NameSaid, ThreadSaid, Request, command_of}
+use Rattle.cmd_words.specs.declared.verb.Verb.{Verb}
+use Rattle.cmd_words.specs.declared.verb.Verb.TheVariants.{Run, Dis, Asm, Replay, Help, Version}
 use Rattle.command_lines.specs.declared.status.Status.{Status}
-use Rattle.command_lines.specs.declared.status.Status.TheVariants.{Done, Usage, Absent, BadFile, BadSource}
-use Rattle.command_lines.specs.declared.status.Status.TheVariants.{BadReport, Differs}
-
--- what a file is to be
-pub data Kind : Type 0 where
-  -- a program, which the loader accepts
-  ProgramFile : Kind
-  -- a source, which the assembler accepts
-  SourceFile : Kind
-  -- a report, which is in its format
-  ReportFile : Kind
+use Rattle.command_lines.specs.declared.status.Status.TheVariants.{Done, Usage, Absent, BadReport, Differs}
+use Rattle.smemu.specs.Rejections.{Kind, ProgramFile, SourceFile, ReportFile, rejection_of, rejection_status}
+use Rattle.smemu.specs.declared.rejection.Rejection.{Rejection}
 
 -- a file that is named
 pub record Named : Type 0 where
   pub name : List ℕ
   pub kind : Kind
 
+-- what the files of a command are to be, in the order of the words
+abbrev pub kinds_of : Verb → List Kind
+kinds_of Run = ProgramFile ∷ []
+kinds_of Dis = ProgramFile ∷ []
+kinds_of Asm = SourceFile ∷ []
+kinds_of Replay = ProgramFile ∷ ReportFile ∷ []
+kinds_of Help = []
+kinds_of Version = []
+
+-- the files of these kinds, by the names that operands say
+abbrev pub named_by : List Argument → List Kind → List Named
+named_by [] kinds = []
+named_by (ThreadSaid thread ∷ operands) kinds = named_by operands kinds
+named_by (NameSaid name ∷ operands) [] = []
+named_by (NameSaid name ∷ operands) (kind ∷ kinds) =
+    record { name = name; kind = kind } ∷ named_by operands kinds
+
 -- the files that a request names, in the order of the words
 abbrev pub files_named : Request → List Named
-files_named (AsksRun name options) = record { name = name; kind = ProgramFile } ∷ []
-files_named (AsksListing name) = record { name = name; kind = ProgramFile } ∷ []
-files_named (AsksAssembly name) = record { name = name; kind = SourceFile } ∷ []
-files_named (AsksReplay program report thread) =
-    record { name = program; kind = ProgramFile } ∷ record { name = report; kind = ReportFile } ∷ []
-files_named AsksHelp = []
-files_named AsksVersion = []
+files_named request = named_by request.operands (kinds_of request.verb)
 
 -- the files that words name
 abbrev pub files_asked : Option Request → List Named
 files_asked None = []
 files_asked (Some request) = files_named request
-
--- how many bytes are fetched: one more than a program, a source or a report may have
-abbrev pub limit_of : Kind → ℕ
-limit_of ProgramFile = 67108865
-limit_of SourceFile = 67108865
-limit_of ReportFile = 1073741825
-
--- why a file is not accepted
-pub data Rejection : Type 0 where
-  NoProgram : LoadFault → Rejection
-  NoSource : AsmFault → Rejection
-  NoReport : Fault → Rejection
-
--- the fault of a reading
-abbrev pub fault_in : Result Report Fault → Option Fault
-fault_in (Ok report) = None
-fault_in (Err fault) = Some fault
-
-abbrev pub rejection_of : Kind → List ℕ → Option Rejection
-rejection_of ProgramFile file = option_map NoProgram (load_fault file)
-rejection_of SourceFile file = option_map NoSource (asm_fault file)
-rejection_of ReportFile file = option_map NoReport (fault_in (report_in file))
 
 -- ---- how far the files are read: a file is reached where each before it is there and accepted
 
@@ -90,9 +65,7 @@ IsReached told names named = (place : ℕ) × (slice_get (reached_of told names)
 
 abbrev pub due_of_rejection : Option Rejection → Status → Status
 due_of_rejection None rest = rest
-due_of_rejection (Some (NoProgram fault)) rest = BadFile
-due_of_rejection (Some (NoSource fault)) rest = BadSource
-due_of_rejection (Some (NoReport fault)) rest = BadReport
+due_of_rejection (Some rejection) rest = rejection_status rejection
 
 abbrev pub due_of_file : Kind → Option (List ℕ) → Status → Status
 due_of_file kind None rest = Absent
@@ -111,11 +84,19 @@ due_of_request files (Some request) = due_of_files files (files_named request)
 abbrev pub due_status : (List ℕ → Option (List ℕ)) → List (List ℕ) → Status
 due_status files words = due_of_request files (command_of words)
 
--- A status is due. A replay whose files are accepted ends with one of three, each for its own cause: its
--- report may be of another program, or its thread may part from it.
+-- the statuses with which a command may end whose files are accepted: the report of a replay may be of
+-- another program, or its thread may part from it
+abbrev pub may_end : Verb → List Status
+may_end Replay = Done ∷ BadReport ∷ Differs ∷ []
+may_end verb = Done ∷ []
+
+abbrev pub IsAmong : Status → List Status → Type 0
+IsAmong status [] = ⊥
+IsAmong status (first ∷ rest) = (status ≡ first) ⊎ IsAmong status rest
+
+-- a status is due
 abbrev pub IsDueOf : Option Request → Status → Status → Type 0
-IsDueOf (Some (AsksReplay program report thread)) Done status =
-    (status ≡ Done) ⊎ ((status ≡ BadReport) ⊎ (status ≡ Differs))
+IsDueOf (Some request) Done status = IsAmong status (may_end request.verb)
 IsDueOf request due status = status ≡ due
 
 abbrev pub IsDue : (List ℕ → Option (List ℕ)) → List (List ℕ) → Status → Type 0

@@ -1,10 +1,11 @@
 -- What the answers and refusals of the code stand for, on the way from the words to the writing.
 use Rattle.std.specs.Prelude.{◌≡◌, ℕ, ◌+◌, ◌∷◌, [], List, Some, None, IfSome, IsSome, IsTrue, Result, Ok, Err}
-use Rattle.std.specs.Prelude.{◌⊎◌, codes, option_map, take}
+use Rattle.std.specs.Prelude.{codes, option_map, take}
 use Rattle.std.specs.List.{concat}
 use Rattle.std.specs.String.{string_bytes}
 use Rattle.edge_io.specs.Cause.{Rose}
-use Rattle.edge_io.specs.Files.{Told, FilesView}
+use Rattle.edge_io.specs.Files.{Told, FilesView, IsKept}
+use Rattle.edge_io.specs.MemSink as mem_sink
 use Rattle.cmd_words.specs.Words.{Request}
 use Rattle.code_listing.specs.Listing.{listing_text}
 use Rattle.lone_runner.specs.Parting.{IsParting}
@@ -18,24 +19,28 @@ use Rattle.sha2.specs.Sha256.{sha256}
 use Rattle.sm_types.specs.declared.config.Config.{Config}
 use Rattle.report_text.specs.Ends.{ends_of}
 use Rattle.report_text.specs.Report.{report_text}
-use Rattle.smemu.specs.Ends.{Change, Stands, Defined}
-use Rattle.edge_io.specs.MemSink as mem_sink
 use Rattle.command_lines.specs.ReportLines.{report_line, difference_lines}
-use Rattle.smemu.specs.DifferLines.{parting_line}
-use Rattle.command_lines.specs.FaultLines.{fault_line}
-use Rattle.smemu.specs.Replay.{mismatch, IsReplayOf, IsMismatched, DiffersSo}
-use Rattle.smemu.specs.Requests.{Kind, ReportFile, NoProgram, NoSource, NoReport, rejection_of}
-use Rattle.command_lines.specs.SourceLines.{source_line}
 use Rattle.command_lines.specs.Texts.{usage_line, help_text, version_text}
+use Rattle.command_lines.specs.declared.status.Status.{Status}
+use Rattle.command_lines.specs.declared.status.Status.TheVariants as status
+use Rattle.smemu.specs.Answers.{IsFile, outcome}
+use Rattle.smemu.specs.DifferLines.{parting_line}
+use Rattle.smemu.specs.Ends.{Change, change, Stands, Defined, FetchesReached}
+use Rattle.smemu.specs.Rejections.{Kind, rejection_of, rejection_status, rejection_line}
+use Rattle.smemu.specs.Replay.{mismatch, IsReplayOf, IsMismatched, DiffersSo}
+use Rattle.smemu.specs.Requests.{files_named}
 use Rattle.smemu.specs.declared.answer.Answer.{Answer}
 use Rattle.smemu.specs.declared.answer.Answer.TheVariants as answer
 use Rattle.smemu.specs.declared.answer.RunReport.{RunReport}
-use Rattle.smemu.specs.declared.refusal.Difference.{Difference}
-use Rattle.smemu.specs.declared.refusal.Difference.TheVariants as difference
+use Rattle.smemu.specs.declared.ending.Difference.{Difference}
+use Rattle.smemu.specs.declared.ending.Difference.TheVariants as difference
+use Rattle.smemu.specs.declared.ending.Ending.{Ending}
+use Rattle.smemu.specs.declared.ending.Ending.TheVariants as ending
 use Rattle.smemu.specs.declared.refusal.Refusal.{Refusal}
 use Rattle.smemu.specs.declared.refusal.Refusal.TheVariants as refusal
-use Rattle.command_lines.specs.declared.status.Status.{Status}
-use Rattle.command_lines.specs.declared.status.Status.TheVariants as status
+use Rattle.smemu.specs.declared.refusal.Unread.{Unread}
+use Rattle.smemu.specs.declared.refusal.Unread.TheVariants as unread
+use Rattle.smemu.specs.declared.rejection.Rejection.{Rejection}
 
 -- the text of a report
 unfoldable pub run_text : RunReport → List ℕ
@@ -55,26 +60,38 @@ abbrev pub difference_text : Difference → List ℕ
 difference_text (difference.Parts fault) = parting_line fault
 difference_text (difference.Lines line report replay) = difference_lines line report.items replay.items
 
+-- the text and the status of an ending
+abbrev pub ending_text : Ending → List ℕ
+ending_text (ending.Mismatch line kind) = report_line (record { line = line; kind = kind })
+ending_text (ending.Differs it) = difference_text it
+
+abbrev pub ending_status : Ending → Status
+ending_status (ending.Mismatch line kind) = status.BadReport
+ending_status (ending.Differs it) = status.Differs
+
+-- the line and the status of a file that was not fetched
+abbrev pub unread_line : Unread → List ℕ → List ℕ
+unread_line unread.Absent name = concat (codes "absent: " ∷ name ∷ codes "\n" ∷ [])
+unread_line unread.Failed name = concat (codes "read fault: " ∷ name ∷ codes "\n" ∷ [])
+
+abbrev pub unread_status : Unread → Status
+unread_status unread.Absent = status.Absent
+unread_status unread.Failed = status.ReadFault
+
 -- the text of a refusal
 unfoldable pub refusal_text : Refusal → List ℕ
 refusal_text (refusal.Usage place kind) = usage_line (record { place = place; kind = kind })
-refusal_text (refusal.Absent name) = concat (codes "absent: " ∷ string_bytes name ∷ codes "\n" ∷ [])
-refusal_text (refusal.ReadFault name) = concat (codes "read fault: " ∷ string_bytes name ∷ codes "\n" ∷ [])
-refusal_text (refusal.BadFile fault) = fault_line fault
-refusal_text (refusal.BadSource fault) = source_line fault
-refusal_text (refusal.BadReport line kind) = report_line (record { line = line; kind = kind })
-refusal_text (refusal.Differs it) = difference_text it
+refusal_text (refusal.Unread name why) = unread_line why (string_bytes name)
+refusal_text (refusal.Rejected rejection) = rejection_line rejection
+refusal_text (refusal.Ended end) = ending_text end
 refusal_text refusal.Memory = []
 
 -- the status of a refusal
 abbrev pub refusal_status : Refusal → Status
 refusal_status (refusal.Usage place kind) = status.Usage
-refusal_status (refusal.Absent name) = status.Absent
-refusal_status (refusal.ReadFault name) = status.ReadFault
-refusal_status (refusal.BadFile fault) = status.BadFile
-refusal_status (refusal.BadSource fault) = status.BadSource
-refusal_status (refusal.BadReport line kind) = status.BadReport
-refusal_status (refusal.Differs it) = status.Differs
+refusal_status (refusal.Unread name why) = unread_status why
+refusal_status (refusal.Rejected rejection) = rejection_status rejection
+refusal_status (refusal.Ended end) = ending_status end
 refusal_status refusal.Memory = status.OutOfMemory
 
 -- the text and the status of a command's end
@@ -92,38 +109,56 @@ end_status (Err r) = refusal_status r
 abbrev pub IsFront : Told → ℕ → List ℕ → List ℕ → Type 0
 IsFront told limit name bytes = IfSome told (λ files. option_map (take limit) (files name) ≡ Some bytes)
 
--- why the file of that name was not fetched
-abbrev pub IsUnread : Change FilesView → List ℕ → Refusal → Type 0
-IsUnread files name (refusal.Absent shown) =
-    (string_bytes shown ≡ name) × IfSome files.before.told (λ told. told name ≡ None)
-    × Rose files.before.absences files.after.absences
-IsUnread files name (refusal.ReadFault shown) =
-    (string_bytes shown ≡ name) × IfSome files.before.told (λ told. IsSome (told name))
-    × Rose files.before.faults files.after.faults
+-- why a file was not fetched
+abbrev pub IsWhy : Change FilesView → List ℕ → Unread → Type 0
+IsWhy files name unread.Absent =
+    IfSome files.before.told (λ told. told name ≡ None) × Rose files.before.absences files.after.absences
+IsWhy files name unread.Failed =
+    IfSome files.before.told (λ told. IsSome (told name)) × Rose files.before.faults files.after.faults
     × (IsTrue files.before.reliable → ⊥)
+
+-- the file of that name was not fetched
+abbrev pub IsUnread : Change FilesView → List ℕ → Refusal → Type 0
+IsUnread files name (refusal.Unread shown why) = (string_bytes shown ≡ name) × IsWhy files name why
 IsUnread files name refusal.Memory = Unit {0}
 IsUnread files name other = ⊥
 
--- why a file is not accepted
+-- the file is not accepted
 abbrev pub IsRejected : Kind → List ℕ → Refusal → Type 0
-IsRejected kind file (refusal.BadFile fault) = rejection_of kind file ≡ Some (NoProgram fault)
-IsRejected kind file (refusal.BadSource fault) = rejection_of kind file ≡ Some (NoSource fault)
-IsRejected kind file (refusal.BadReport line part) =
-    rejection_of kind file ≡ Some (NoReport (record { line = line; kind = part }))
+IsRejected kind file (refusal.Rejected rejection) = rejection_of kind file ≡ Some rejection
 IsRejected kind file refusal.Memory = Unit {0}
 IsRejected kind file other = ⊥
+
+-- the file of that name is accepted
+pub record IsOpened (told : Told) (name : List ℕ) (kind : Kind) (file : List ℕ) : Type 0 where
+  pub is_file : IsFile told name file
+  pub accepted : rejection_of kind file ≡ None
+
+-- the file of that name is not accepted
+pub record IsRefusedFile (told : Told) (name : List ℕ) (kind : Kind) (rejection : Rejection) : Type 0 where
+  pub file : List ℕ
+  pub is_file : IsFile told name file
+  pub rejects : rejection_of kind file ≡ Some rejection
+
+-- the file of that name was not fetched, or is not accepted
+abbrev pub IsUnopened : Change FilesView → List ℕ → Kind → Refusal → Type 0
+IsUnopened files name kind (refusal.Unread shown why) = (string_bytes shown ≡ name) × IsWhy files name why
+IsUnopened files name kind (refusal.Rejected rejection) =
+    IsRefusedFile files.before.told name kind rejection
+IsUnopened files name kind refusal.Memory = Unit {0}
+IsUnopened files name kind other = ⊥
 
 -- ---- replays
 
 -- the fault of a report that says another program, or has no such thread
 abbrev pub IsUnmatched : List ℕ → ℕ → Report → Refusal → Type 0
-IsUnmatched file thread said (refusal.BadReport line kind) =
+IsUnmatched file thread said (refusal.Ended (ending.Mismatch line kind)) =
     mismatch (sha256 file) thread said ≡ Some (record { line = line; kind = kind })
 IsUnmatched file thread said other = ⊥
 
 -- the thread of a block parts so from its journal or its count
 abbrev pub IsPartedRefusal : Program → Config → ℕ → Block → Refusal → Type 0
-IsPartedRefusal program config thread block (refusal.Differs (difference.Parts fault)) =
+IsPartedRefusal program config thread block (refusal.Ended (ending.Differs (difference.Parts fault))) =
     IsParting program config thread block.journal block.count fault
 IsPartedRefusal program config thread block refusal.Memory = Unit {0}
 IsPartedRefusal program config thread block other = ⊥
@@ -137,23 +172,31 @@ IsOtherLine line report replay other = ⊥
 -- what comes of comparing a block of the report, whose first line has this number, with that of the replay
 abbrev pub ComparesSo : List ℕ → ℕ → List ℕ → Result Answer Refusal → Type 0
 ComparesSo report line replay (Ok a) = (answer_text a ≡ replay) × (report ≡ replay)
-ComparesSo report line replay (Err (refusal.Differs it)) =
+ComparesSo report line replay (Err (refusal.Ended (ending.Differs it))) =
     (first : lines.Difference) × (first_difference 0 (lines_of report) (lines_of replay) ≡ Some first)
     × IsOtherLine (line + first.line) first.first first.second it
 ComparesSo report line replay (Err refusal.Memory) = Unit {0}
 ComparesSo report line replay (Err other) = ⊥
 
--- the end of a replay of a thread, by the program's file and the report
+-- the end of a replay of a thread, by the program's file and the report, which are accepted
 abbrev pub EndsReplay : List ℕ → List ℕ → ℕ → Result Answer Refusal → Type 0
 EndsReplay file report thread (Ok a) = IsReplayOf file report thread (answer_text a)
-EndsReplay file report thread (Err (refusal.BadReport line kind)) =
-    (rejection_of ReportFile report ≡ Some (NoReport (record { line = line; kind = kind })))
-    ⊎ IsMismatched file report thread (record { line = line; kind = kind })
-EndsReplay file report thread (Err (refusal.Differs it)) = DiffersSo file report thread (difference_text it)
+EndsReplay file report thread (Err (refusal.Ended (ending.Mismatch line kind))) =
+    IsMismatched file report thread (record { line = line; kind = kind })
+EndsReplay file report thread (Err (refusal.Ended (ending.Differs it))) =
+    DiffersSo file report thread (difference_text it)
 EndsReplay file report thread (Err refusal.Memory) = Unit {0}
 EndsReplay file report thread (Err other) = ⊥
 
 -- ---- ends
+
+-- the end of a request whose files, in order, are these and are accepted
+abbrev pub EndsAccepted : Request → List (List ℕ) → Result Answer Refusal → Type 0
+EndsAccepted request files (Ok a) = outcome request files status.Done (answer_text a)
+EndsAccepted request files (Err (refusal.Ended end)) =
+    outcome request files (ending_status end) (ending_text end)
+EndsAccepted request files (Err refusal.Memory) = Unit {0}
+EndsAccepted request files (Err other) = ⊥
 
 -- the end of a command, for a request
 abbrev pub EndsRequest : Request → Change FilesView → Result Answer Refusal → Type 0
@@ -166,3 +209,12 @@ abbrev pub EndsWords : List (List ℕ) → Change FilesView → Result Answer Re
 EndsWords words files (Ok a) = Defined words files status.Done (answer_text a)
 EndsWords words files (Err refusal.Memory) = Unit {0}
 EndsWords words files (Err r) = Defined words files (refusal_status r) (refusal_text r)
+
+-- a request was carried out: it ended for its cause, the files tell the same, and those that are reached
+-- were fetched
+pub record CarriesOut {F : Type 0} (fetched : F → List ℕ → ℕ → F → Type 0) (view : F → FilesView)
+    (request : Request) (old new : F) (end : Result Answer Refusal) : Type 0 where
+  pub ends : EndsRequest request (change view old new) end
+  pub kept : IsKept (view old) (view new)
+  pub fetches : FetchesReached fetched (view old).told (Rose (view old).faults (view new).faults)
+      (files_named request) old new (end_status end)

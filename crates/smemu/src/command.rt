@@ -1,73 +1,31 @@
 //! The command of the words.
-ghost use Rattle.std.specs.Prelude.{◌≡◌, IfOk, IfErr, map};
+ghost use Rattle.std.specs.Prelude.{◌≡◌, IfOk, map};
 ghost use Rattle.std.specs.String.{string_bytes};
-ghost use Rattle.asm_core.specs.Assembly.{Assembles};
 ghost use Rattle.a64_encode.specs.Writable.{IsWritable};
-ghost use Rattle.cmd_words.specs.Options.{options_of};
-ghost use Rattle.cmd_words.specs.Words.{AsksRun, AsksListing, AsksAssembly, AsksReplay};
-ghost use Rattle.edge_io.specs.Cause.{Rose};
+ghost use Rattle.asm_core.specs.Assembly.{Assembles};
+ghost use Rattle.cmd_words.specs.Command.{request_of};
+ghost use Rattle.cmd_words.specs.declared.command.Command.TheVariants as command;
 ghost use Rattle.edge_io.specs.Files.{IsKept};
 ghost use Rattle.edge_io.specs.Sink.{Writes};
 ghost use Rattle.elf_loader.specs.Loading.{Loads};
 ghost use Rattle.smemu.specs.Answers.{IsReportOf, IsProgramOf};
-ghost use Rattle.smemu.specs.Ends.{change, call, IsDone, IsRefused, IsComplete, Fetches, FetchesReached};
-ghost use Rattle.smemu.specs.Requests.{ProgramFile, SourceFile, files_named};
-ghost use Rattle.smemu.specs.Views.{run_text, end_text, end_status, IsFront, IsUnread, IsRejected};
-ghost use Rattle.smemu.specs.Views.{EndsRequest, EndsWords};
+ghost use Rattle.smemu.specs.Ends.{change, call, IsDone, IsRefused, IsComplete, Fetches};
+ghost use Rattle.smemu.specs.Views.{run_text, end_text, end_status, CarriesOut, EndsWords};
 
 use crate::answer::{Answer, RunReport, write_answer};
+use crate::files::{open_program, open_report, open_source};
 use crate::refusal::{Refusal, status_of, write_refusal};
 use crate::replay::replay_report;
-use asm_core::{AsmFault, assemble};
 use cmd_words::{Command, WordsFault, read_words};
 use command_lines::Status;
-use edge_io::{FileFault, Files, PutFault, Sink};
-use elf_loader::{LoadFault, load, write_elf};
+use edge_io::{Files, PutFault, Sink};
+use elf_loader::write_elf;
 use lone_runner::run_to_stop;
 use paged_memory::Image;
 use report_text::Head;
 use sha2::{Digest, Sha256};
 use sm_types::{Config, Memory, Object};
 use std::alloc::Global;
-
-/// A file of more bytes than a program file or a source may have is fetched up to its first byte too many.
-const FETCH_LIMIT: u64 = 67_108_865;
-
-/// The same of a report.
-const REPORT_LIMIT: u64 = 1_073_741_825;
-
-/// The bytes of the file of that name, or those of its front, as far as the limit.
-fn fetch_file<F: Files>(
-    alloc: Global,
-    name: String,
-    limit: u64,
-    files: &mut F,
-) -> Result<Vec<u8>, Refusal>
-    ensures front { IfOk result (λ file.
-        IsFront (F.view files.old).told limit (string_bytes name) file.items) }
-    ensures unread { IfErr result (IsUnread (change F.view files.old files.new) (string_bytes name)) }
-    ensures kept { IsKept (F.view files.old) (F.view files.new) }
-    ensures fetched { F.fetched files.old (string_bytes name) limit files.new }
-{
-    match files.fetch(alloc, name.as_str(), limit) {
-        Ok(file) => Ok(file),
-        Err(FileFault::Absent) => Err(Refusal::Absent(name)),
-        Err(FileFault::Failed) => Err(Refusal::ReadFault(name)),
-        Err(FileFault::Memory) => Err(Refusal::Memory),
-    }
-}
-
-/// The image of a program file.
-fn load_file(alloc: Global, file: &[u8]) -> Result<Image, Refusal>
-    ensures loads { IfOk result (λ image. Loads file.now image) }
-    ensures rejected { IfErr result (IsRejected ProgramFile file.now) }
-{
-    match load(alloc, file) {
-        Ok(image) => Ok(image),
-        Err(LoadFault::Memory) => Err(Refusal::Memory),
-        Err(fault) => Err(Refusal::BadFile(fault)),
-    }
-}
 
 /// The run of the image of a file, which has one thread.
 fn run_image(
@@ -90,28 +48,15 @@ fn run_image(
     })
 }
 
-/// The program file that a source is assembled to.
-fn assemble_file(alloc: Global, source: &[u8]) -> Result<Vec<u8>, Refusal>
-    ensures program { IfOk result (λ file. IsProgramOf source.now file.items) }
-    ensures rejected { IfErr result (IsRejected SourceFile source.now) }
-{
-    match assemble(alloc, source) {
-        Ok(object) => write_object(alloc, source, &object),
-        Err(AsmFault::Memory) => Err(Refusal::Memory),
-        Err(fault) => Err(Refusal::BadSource(fault)),
-    }
-}
-
 /// The program file of the object of a source.
-fn write_object(alloc: Global, source: &[u8], object: &Object) -> Result<Vec<u8>, Refusal>
+fn write_object(alloc: Global, source: &[u8], object: &Object) -> Result<Vec<u8>, Memory>
     requires assembles { Assembles source.now object.now }
     requires sound { IsWritable object.now }
-    ensures program { IfOk result (λ file. IsProgramOf source.now file.items) }
-    ensures rejected { IfErr result (IsRejected SourceFile source.now) }
+    ensures { IfOk result (λ file. IsProgramOf source.now file.items) }
 {
     match write_elf(alloc, object) {
         Ok(file) => Ok(file),
-        Err(Memory) => Err(Refusal::Memory),
+        Err(Memory) => Err(Memory),
     }
 }
 
@@ -123,14 +68,11 @@ fn run_program<F: Files>(
     files: &mut F,
 ) -> Result<Answer, Refusal>
     requires { config.now.threads ≡ 1 }
-    ensures ends { EndsRequest (AsksRun (string_bytes program) (options_of config.now))
-        (change F.view files.old files.new) result }
-    ensures kept { IsKept (F.view files.old) (F.view files.new) }
-    ensures fetched { F.fetched files.old (string_bytes program) FETCH_LIMIT files.new }
+    ensures { CarriesOut F.fetched F.view (request_of (command.Run program config.now)) files.old files.new
+        result }
 {
-    let file = fetch_file(alloc, program, FETCH_LIMIT, files)?;
-    let image = load_file(alloc, file.as_slice())?;
-    match run_image(alloc, file.as_slice(), config, &image) {
+    let file = open_program(alloc, program, files)?;
+    match run_image(alloc, file.bytes.as_slice(), config, &file.content) {
         Ok(report) => Ok(Answer::Report(report)),
         Err(Memory) => Err(Refusal::Memory),
     }
@@ -138,14 +80,10 @@ fn run_program<F: Files>(
 
 /// `dis PROGRAM`: the listing of that file.
 fn list_program<F: Files>(alloc: Global, program: String, files: &mut F) -> Result<Answer, Refusal>
-    ensures ends { EndsRequest (AsksListing (string_bytes program))
-        (change F.view files.old files.new) result }
-    ensures kept { IsKept (F.view files.old) (F.view files.new) }
-    ensures fetched { F.fetched files.old (string_bytes program) FETCH_LIMIT files.new }
+    ensures { CarriesOut F.fetched F.view (request_of (command.Dis program)) files.old files.new result }
 {
-    let file = fetch_file(alloc, program, FETCH_LIMIT, files)?;
-    let image = load_file(alloc, file.as_slice())?;
-    Ok(Answer::Listing(image))
+    let file = open_program(alloc, program, files)?;
+    Ok(Answer::Listing(file.content))
 }
 
 /// `asm SOURCE`: the program file that the source of that name is assembled to.
@@ -154,14 +92,13 @@ fn assemble_source<F: Files>(
     source: String,
     files: &mut F,
 ) -> Result<Answer, Refusal>
-    ensures ends { EndsRequest (AsksAssembly (string_bytes source))
-        (change F.view files.old files.new) result }
-    ensures kept { IsKept (F.view files.old) (F.view files.new) }
-    ensures fetched { F.fetched files.old (string_bytes source) FETCH_LIMIT files.new }
+    ensures { CarriesOut F.fetched F.view (request_of (command.Asm source)) files.old files.new result }
 {
-    let file = fetch_file(alloc, source, FETCH_LIMIT, files)?;
-    let program = assemble_file(alloc, file.as_slice())?;
-    Ok(Answer::Program(program))
+    let file = open_source(alloc, source, files)?;
+    match write_object(alloc, file.bytes.as_slice(), &file.content) {
+        Ok(program) => Ok(Answer::Program(program)),
+        Err(Memory) => Err(Refusal::Memory),
+    }
 }
 
 /// `replay PROGRAM REPORT THREAD`: the block of that thread of the report, from running it alone.
@@ -172,18 +109,38 @@ fn replay_thread<F: Files>(
     thread: u32,
     files: &mut F,
 ) -> Result<Answer, Refusal>
-    ensures ends { EndsRequest (AsksReplay (string_bytes program) (string_bytes report) thread)
-        (change F.view files.old files.new) result }
-    ensures kept { IsKept (F.view files.old) (F.view files.new) }
-    ensures fetched { FetchesReached F.fetched (F.view files.old).told
-        (Rose (F.view files.old).faults (F.view files.new).faults)
-        (files_named (AsksReplay (string_bytes program) (string_bytes report) thread)) files.old files.new
-        (end_status result) }
+    ensures { CarriesOut F.fetched F.view (request_of (command.Replay program report thread)) files.old
+        files.new result }
 {
-    let file = fetch_file(alloc, program, FETCH_LIMIT, files)?;
-    let image = load_file(alloc, file.as_slice())?;
-    let bytes = fetch_file(alloc, report, REPORT_LIMIT, files)?;
-    replay_report(alloc, file.as_slice(), &image, bytes.as_slice(), thread)
+    let file = open_program(alloc, program, files)?;
+    let read = open_report(alloc, report, files)?;
+    replay_report(
+        alloc,
+        file.bytes.as_slice(),
+        &file.content,
+        read.bytes.as_slice(),
+        &read.content,
+        thread,
+    )
+}
+
+/// Carries out a command.
+fn carry_out<F: Files>(alloc: Global, asked: Command, files: &mut F) -> Result<Answer, Refusal>
+    requires { (request_of asked).options.threads ≡ 1 }
+    ensures { CarriesOut F.fetched F.view (request_of asked) files.old files.new result }
+{
+    match asked {
+        Command::Run { program, config } => run_program(alloc, program, &config, files),
+        Command::Dis { program } => list_program(alloc, program, files),
+        Command::Asm { source } => assemble_source(alloc, source, files),
+        Command::Replay {
+            program,
+            report,
+            thread,
+        } => replay_thread(alloc, program, report, thread, files),
+        Command::Help => Ok(Answer::Help),
+        Command::Version => Ok(Answer::Version),
+    }
 }
 
 /// All that comes before the writing.
@@ -193,18 +150,7 @@ fn answer_words<F: Files>(alloc: Global, words: &[String], files: &mut F) -> Res
     ensures fetched { Fetches F.fetched F.view words.now files.old files.new (end_status result) }
 {
     match read_words(alloc, words) {
-        Ok(Command::Run { program, config }) => run_program(alloc, program, &config, files),
-        Ok(Command::Dis { program }) => list_program(alloc, program, files),
-        Ok(Command::Asm { source }) => assemble_source(alloc, source, files),
-        Ok(
-            Command::Replay {
-                program,
-                report,
-                thread,
-            },
-        ) => replay_thread(alloc, program, report, thread, files),
-        Ok(Command::Help) => Ok(Answer::Help),
-        Ok(Command::Version) => Ok(Answer::Version),
+        Ok(asked) => carry_out(alloc, asked, files),
         Err(WordsFault::Usage { place, kind }) => Err(Refusal::Usage { place, kind }),
         Err(WordsFault::Memory) => Err(Refusal::Memory),
     }

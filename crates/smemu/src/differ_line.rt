@@ -7,7 +7,7 @@ ghost use Rattle.edge_io.specs.Sink.{Writes};
 ghost use Rattle.smemu.specs.DifferLines as spec;
 ghost use Rattle.smemu.specs.Views.{difference_text};
 
-use crate::refusal::Difference;
+use crate::ending::Difference;
 use command_lines::write_difference_lines;
 use edge_io::{Piece, PutFault, Sink};
 use lone_runner::AloneFault;

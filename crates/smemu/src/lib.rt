@@ -14,8 +14,11 @@
 mod answer;
 mod command;
 mod differ_line;
+mod ending;
+mod files;
 mod in_memory;
 mod refusal;
+mod rejection;
 mod replay;
 
 pub use command::smemu_main;

@@ -1,52 +1,39 @@
 //! Why a command has no answer, and how that is written.
 ghost use Rattle.std.specs.Prelude.{◌≡◌};
 ghost use Rattle.edge_io.specs.Sink.{Writes};
-ghost use Rattle.smemu.specs.Views.{refusal_status, refusal_text};
+ghost use Rattle.smemu.specs.Views.{refusal_status, refusal_text, unread_line, unread_status};
 ghost use Rattle.smemu.specs.declared.refusal.Refusal.TheVariants as variants;
 
-use crate::differ_line::write_difference;
-use asm_core::AsmFault;
+use crate::ending::{Ending, status_of_ending, write_ending};
+use crate::rejection::{Rejection, status_of_rejection, write_rejection};
 use cmd_words::UsageKind;
-use command_lines::{Status, write_fault, write_report_fault, write_source_fault, write_usage};
+use command_lines::{Status, write_usage};
 use edge_io::{PutFault, Sink, write_parts};
-use elf_loader::LoadFault;
-use lone_runner::AloneFault;
-use report_reader::ReportKind;
 use sm_types::Memory;
 use std::alloc::AllocError;
 
 /// Why a command has no answer.
 #[derive(Drop)]
 pub enum Refusal {
-    /// The first fault of the words.
+    /// The words are no command: their first fault.
     Usage { place: usize, kind: UsageKind },
-    /// The name of the file that is not there.
-    Absent(String),
-    /// The name of the file that could not be read.
-    ReadFault(String),
-    /// The file is no program that is loaded.
-    BadFile(LoadFault),
-    /// The file is no source that is assembled.
-    BadSource(AsmFault),
-    /// The file is no report in the format, or none of this program with that thread.
-    BadReport { line: u64, kind: ReportKind },
-    /// The thread and its report part.
-    Differs(Difference),
+    /// The file of that name was not fetched.
+    Unread { name: String, why: Unread },
+    /// A file that was fetched is not accepted.
+    Rejected(Rejection),
+    /// The files are accepted, and what was asked ends otherwise than with its text.
+    Ended(Ending),
     /// There was no memory.
     Memory,
 }
 
-/// Where a thread that is replayed and its report part.
-#[derive(Drop)]
-pub enum Difference {
-    /// The thread parts from the journal or from the count.
-    Parts(AloneFault),
-    /// A line of the report, by its number from 1, that is another in the replay, with both.
-    Lines {
-        line: u64,
-        report: Vec<u8>,
-        replay: Vec<u8>,
-    },
+/// Why a file was not fetched.
+#[derive(Clone, Copy)]
+pub enum Unread {
+    /// There is none of that name.
+    Absent,
+    /// It could not be read.
+    Failed,
 }
 
 impl From<Memory> for Refusal {
@@ -65,6 +52,16 @@ impl From<AllocError> for Refusal {
     }
 }
 
+/// Writes the line of a file that was not fetched.
+fn write_unread<K: Sink>(out: &mut K, name: &str, why: Unread) -> Result<(), PutFault>
+    ensures { Writes (K.view out.old) (K.view out.new) result (unread_line why name.now) }
+{
+    match why {
+        Unread::Absent => write_parts(out, &[b"absent: ", name.as_bytes(), b"\n"]),
+        Unread::Failed => write_parts(out, &[b"read fault: ", name.as_bytes(), b"\n"]),
+    }
+}
+
 /// Writes the line of a refusal; want of memory has none.
 #[tactic(auto, unfolding(crate::specs::Views::refusal_text))]
 pub fn write_refusal<K: Sink>(out: &mut K, refusal: &Refusal) -> Result<(), PutFault>
@@ -72,13 +69,20 @@ pub fn write_refusal<K: Sink>(out: &mut K, refusal: &Refusal) -> Result<(), PutF
 {
     match refusal {
         Refusal::Usage { place, kind } => write_usage(out, *place, *kind),
-        Refusal::Absent(name) => write_parts(out, &[b"absent: ", name.as_bytes(), b"\n"]),
-        Refusal::ReadFault(name) => write_parts(out, &[b"read fault: ", name.as_bytes(), b"\n"]),
-        Refusal::BadFile(fault) => write_fault(out, *fault),
-        Refusal::BadSource(fault) => write_source_fault(out, *fault),
-        Refusal::BadReport { line, kind } => write_report_fault(out, *line, *kind),
-        Refusal::Differs(it) => write_difference(out, it),
+        Refusal::Unread { name, why } => write_unread(out, name.as_str(), *why),
+        Refusal::Rejected(rejection) => write_rejection(out, rejection),
+        Refusal::Ended(ending) => write_ending(out, ending),
         Refusal::Memory => write_parts(out, &[]),
+    }
+}
+
+/// The status of a file that was not fetched.
+fn status_of_unread(why: Unread) -> Status
+    ensures { result ≡ unread_status why }
+{
+    match why {
+        Unread::Absent => Status::Absent,
+        Unread::Failed => Status::ReadFault,
     }
 }
 
@@ -88,12 +92,9 @@ pub fn status_of(refusal: &Refusal) -> Status
 {
     match refusal {
         Refusal::Usage { .. } => Status::Usage,
-        Refusal::Absent(_) => Status::Absent,
-        Refusal::ReadFault(_) => Status::ReadFault,
-        Refusal::BadFile(_) => Status::BadFile,
-        Refusal::BadSource(_) => Status::BadSource,
-        Refusal::BadReport { .. } => Status::BadReport,
-        Refusal::Differs(_) => Status::Differs,
+        Refusal::Unread { name: _, why } => status_of_unread(*why),
+        Refusal::Rejected(rejection) => status_of_rejection(rejection),
+        Refusal::Ended(ending) => status_of_ending(ending),
         Refusal::Memory => Status::OutOfMemory,
     }
 }

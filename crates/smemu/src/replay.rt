@@ -9,19 +9,19 @@ ghost use Rattle.report_reader.specs.Report.{report_in};
 ghost use Rattle.report_reader.specs.Told.{block_said, report_said, StandsIn};
 ghost use Rattle.report_text.specs.Block.{block_text};
 ghost use Rattle.smemu.specs.Replay as spec;
-ghost use Rattle.smemu.specs.Requests.{ReportFile};
 ghost use Rattle.smemu.specs.Views.{IsUnmatched};
 ghost use Rattle.smemu.specs.declared.refusal.Refusal.TheVariants as refusals;
-ghost use Rattle.smemu.specs.Views.{ComparesSo, EndsReplay, IsOtherLine, IsPartedRefusal, IsRejected};
+ghost use Rattle.smemu.specs.Views.{ComparesSo, EndsReplay, IsOtherLine, IsPartedRefusal};
 
 use crate::answer::Answer;
-use crate::refusal::{Difference, Refusal};
+use crate::ending::{Difference, Ending};
+use crate::refusal::Refusal;
 use edge_io::MemSink;
 use kernel_contexts::Context;
 use line_reader::first_difference;
 use lone_runner::{AloneFault, run_alone};
 use paged_memory::Image;
-use report_reader::{Report, ReportBlock, ReportFault, ReportKind, read_report};
+use report_reader::{Report, ReportBlock, ReportKind};
 use report_text::write_block;
 use sha2::{Digest, Sha256};
 use sm_types::Config;
@@ -30,36 +30,22 @@ use std::alloc::Global;
 /// Room for the block of a thread: 262,144 events and 1,048,576 bytes of output take less than half of it.
 const BLOCK_ROOM: usize = 67_108_864;
 
-/// Reads a report.
-fn read_file(alloc: Global, bytes: &[u8]) -> Result<Report, Refusal>
-    ensures reads { IfOk result (λ report. report_in bytes.now ≡ Ok (report_said report)) }
-    ensures cores { IfOk result (λ report. report.config.cores ≡ 1) }
-    ensures places { IfOk result (λ report. All (StandsIn bytes.now) report.blocks.items) }
-    ensures rejected { IfErr result (IsRejected ReportFile bytes.now) }
-{
-    match read_report(alloc, bytes) {
-        Ok(report) => Ok(report),
-        Err(ReportFault::Line { line, kind }) => Err(Refusal::BadReport { line, kind }),
-        Err(ReportFault::Memory) => Err(Refusal::Memory),
-    }
-}
-
 /// Checks that a report is of this program, and has that thread.
 fn check_match(file: &[u8], thread: u32, report: &Report) -> Result<(), Refusal>
     ensures ok { OnOk result (spec.mismatch (sha256 file.now) thread (report_said report.now) ≡ None) }
     ensures err { IfErr result (IsUnmatched file.now thread (report_said report.now)) }
 {
     if report.image != Sha256::digest(file) {
-        return Err(Refusal::BadReport {
+        return Err(Refusal::Ended(Ending::Mismatch {
             line: 3,
             kind: ReportKind::Image,
-        });
+        }));
     }
     if thread >= report.config.threads {
-        return Err(Refusal::BadReport {
+        return Err(Refusal::Ended(Ending::Mismatch {
             line: 2,
             kind: ReportKind::NoThread,
-        });
+        }));
     }
     Ok(())
 }
@@ -88,7 +74,7 @@ fn run_block(
     ) {
         Ok(context) => Ok(context),
         Err(AloneFault::Memory) => Err(Refusal::Memory),
-        Err(fault) => Err(Refusal::Differs(Difference::Parts(fault))),
+        Err(fault) => Err(Refusal::Ended(Ending::Differs(Difference::Parts(fault)))),
     }
 }
 
@@ -124,7 +110,7 @@ fn compare(
     if let Some(it) = first_difference(&report[block.start..block.end], text.bytes()) {
         let line = block.first_line + it.line as u64;
         let other = other_line(alloc, line, it.first, it.second)?;
-        return Err(Refusal::Differs(other));
+        return Err(Refusal::Ended(Ending::Differs(other)));
     }
     Ok(Answer::Block(text))
 }
@@ -136,13 +122,16 @@ pub fn replay_report(
     file: &[u8],
     image: &Image,
     bytes: &[u8],
+    report: &Report,
     thread: u32,
 ) -> Result<Answer, Refusal>
-    requires { Loads file.now image.now }
+    requires loads { Loads file.now image.now }
+    requires reads { report_in bytes.now ≡ Ok (report_said report.now) }
+    requires cores { report.now.config.cores ≡ 1 }
+    requires places { All (StandsIn bytes.now) report.now.blocks.items }
     ensures { EndsReplay file.now bytes.now thread result }
 {
-    let report = read_file(alloc, bytes)?;
-    check_match(file, thread, &report)?;
+    check_match(file, thread, report)?;
     let block = &report.blocks[thread as usize];
     let context = run_block(alloc, image, &report.config, thread, block)?;
     compare(alloc, bytes, block, &context)

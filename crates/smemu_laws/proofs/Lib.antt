@@ -1,3 +1,5 @@
 pub mod OneAnswer
 pub mod OneEnding
 pub mod Beginnings
+pub mod Fates
+pub mod Longest

@@ -1,4 +1,4 @@
--- Two texts that answer the same request over the same files are equal.
+-- Two texts that answer the same request for the same files are equal.
 use Rattle.std.proofs.Common.{◌≡◌, ℕ, zero, suc, ◌≤◌, List, [], ◌∷◌, length, cond, Option, Some, None, Result, Ok, refl, sym, ◌∙◌, ap}
 use Rattle.std.proofs.Common.{subst, arith}
 use Rattle.std.specs.Prelude.{◌==◌, slice_get, if◌then◌else◌}
@@ -17,7 +17,6 @@ use Rattle.sm_types.specs.Objects.{text_address, data_address}
 use Rattle.asm_core.specs.Assembly.{IsSameObject}
 use Rattle.asm_core.proofs.OneObject.{one_object, same_code}
 use Rattle.cmd_words.specs.Options.{Options, options_of}
-use Rattle.cmd_words.specs.Words.{Request, command_of, AsksRun, AsksListing, AsksReplay, AsksHelp, AsksVersion, AsksAssembly}
 use Rattle.code_listing.specs.Listing.{listing_text}
 use Rattle.elf_sections.specs.Code.{code_words}
 use Rattle.elf_loader.specs.Loading.{Loads}
@@ -33,9 +32,8 @@ use Rattle.report_reader.specs.Header as header
 use Rattle.report_reader.specs.Reading.{Fault}
 use Rattle.report_reader.specs.Report.{Report, report_in}
 use Rattle.smemu.specs.Replay.{IsBlockIn, IsReplayOf, text_in}
-use Rattle.smemu.proofs.Words.{one_run}
-use Rattle.smemu.specs.Answers.{IsEndOf, journals_of, IsReportOf, IsReport, IsListing, IsProgramOf, IsAnswer}
-use Rattle.smemu_laws.specs.OneAnswer.{AreLoadedAsOne, AreOneAnswer}
+use Rattle.smemu.specs.Answers.{IsEndOf, journals_of, IsReportOf, IsReport, IsListingOf, IsProgramOf}
+use Rattle.smemu_laws.specs.OneAnswer.{AreLoadedAsOne}
 
 -- ---- options
 
@@ -92,11 +90,6 @@ same_config a b e =
     let svl : a.svl ≡ b.svl = sym (length-bits a.svl) ∙ ap (λ (o : Options). length_of o.svl) e ∙ length-bits b.svl in
     let numbers : numbers_of a ≡ numbers_of b = λ i. (vl i, svl i, (e i).slice, (e i).budget, (e i).threads, (e i).cores) in
     same_numbers a b numbers
-
--- ---- files
-
-pub same_file : (o : Option (List ℕ)) (file other : List ℕ) → o ≡ Some file → o ≡ Some other → file ≡ other
-same_file o file other e h = cc
 
 -- ---- the ends of threads
 
@@ -162,7 +155,7 @@ same_image o p x y s h g =
     let code : x.code ≡ y.code = h.code_is ∙ same_code o p s ∙ sym g.code_is in
     λ i. record { memory = memory i; entry = entry i; code = code i }
 
-one_assembly : (source text other : List ℕ) → IsProgramOf source text → IsProgramOf source other → AreLoadedAsOne text other
+pub one_assembly : (source text other : List ℕ) → IsProgramOf source text → IsProgramOf source other → AreLoadedAsOne text other
 one_assembly source text other h g =
     let same =
     same_image h.object g.object h.written.program g.written.program (one_object source h.object g.object h.assembles g.assembles)
@@ -202,33 +195,20 @@ one_block file report thread a b =
           ∙ b.stands);
     }
 
-one_replay : (file report : List ℕ) (thread : ℕ) (text other : List ℕ) → IsReplayOf file report thread text
+pub one_replay : (file report : List ℕ) (thread : ℕ) (text other : List ℕ) → IsReplayOf file report thread text
     → IsReplayOf file report thread other → text ≡ other
 one_replay file report thread text other h g =
     sym h.same ∙ ap (text_in report) (one_block file report thread h.at g.at).block ∙ g.same
 
-pub one_text : (files : List ℕ → Option (List ℕ)) (words : List (List ℕ)) (request : Request) (text other : List ℕ)
-    → command_of words ≡ Some request → IsAnswer (Some files) request text
-    → IsAnswer (Some files) request other → AreOneAnswer request text other
-one_text files words (AsksRun name options) text other asked h g =
-    let file = same_file (files name) h.file g.file h.is_file g.is_file in
+-- ---- runs and listings
+
+pub one_run_report : (file : List ℕ) (options : Options) (text other : List ℕ) → options.threads ≡ 1 → IsReport file options text
+    → IsReport file options other → text ≡ other
+one_run_report file options text other one h g =
     let config = same_config h.config g.config (h.given ∙ sym g.given) in
-    let of_file = subst (λ (f : List ℕ). IsReportOf f h.config text) file h.report in
-    let of_config = subst (λ (c : Config). IsReportOf g.file c text) config of_file in
-    let one : g.config.threads ≡ 1 = ap (λ (o : Options). o.threads) g.given ∙ one_run words name options asked in
-    one_report g.file g.config text other one of_config g.report
-one_text files words (AsksListing name) text other asked h g =
-    let file = same_file (files name) h.file g.file h.is_file g.is_file in
-    let code = h.listing.loads.code_is ∙ ap code_words file ∙ sym g.listing.loads.code_is in
-    h.listing.is_text ∙ ap listing_text code ∙ sym g.listing.is_text
-one_text files words (AsksAssembly name) text other asked h g =
-    let source = same_file (files name) h.source g.source h.is_file g.is_file in
-    one_assembly g.source text other (subst (λ (f : List ℕ). IsProgramOf f text) source h.program) g.program
-one_text files words (AsksReplay program report thread) text other asked h g =
-    let file = same_file (files program) h.file g.file h.is_file g.is_file in
-    let second = same_file (files report) h.second g.second h.is_second g.is_second in
-    let of_file = subst (λ (f : List ℕ). IsReplayOf f h.second thread text) file h.holds in
-    let of_second = subst (λ (b : List ℕ). IsReplayOf g.file b thread text) second of_file in
-    one_replay g.file g.second thread text other of_second g.holds
-one_text files words AsksHelp text other asked h g = h ∙ sym g
-one_text files words AsksVersion text other asked h g = h ∙ sym g
+    let of_config = subst (λ (c : Config). IsReportOf file c text) config h.report in
+    one_report file g.config text other (ap (λ (o : Options). o.threads) g.given ∙ one) of_config g.report
+
+pub one_listing : (file text other : List ℕ) → IsListingOf file text → IsListingOf file other → text ≡ other
+one_listing file text other h g =
+    h.is_text ∙ ap listing_text (h.loads.code_is ∙ sym g.loads.code_is) ∙ sym g.is_text

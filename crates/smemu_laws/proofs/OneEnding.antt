@@ -1,15 +1,17 @@
--- Over files that are told, a replay has one ending.
-use Rattle.std.proofs.Common.{◌≡◌, inl, inr, ℕ, ◌+◌, true, cond, List, [], ◌∷◌, Option, Some, None, Ok, Err, refl, sym, ◌∙◌, ap, subst}
-use Rattle.std.specs.Prelude.{Result, option_map}
+-- Over files that are told, what is asked for has one ending.
+use Rattle.std.proofs.Common.{◌≡◌, ◌≢◌, inl, inr, ℕ, ◌+◌, true, cond, List, [], ◌∷◌, Option, Some, None, Ok, Err, refl, sym, ◌∙◌, ap, subst}
 use Rattle.std.specs.Str.{bytes_eq}
 use Rattle.std.proofs.lemmas.Slice.Eq.{bytes_eq-Decides}
 use Rattle.sha2.specs.Sha256.{sha256}
 use Rattle.sm_types.specs.declared.config.Config.{Config}
-use Rattle.cmd_words.specs.Words.{Request, AsksReplay}
+use Rattle.cmd_words.specs.Options.{Options}
+use Rattle.cmd_words.specs.Words.{Argument, ThreadSaid, Request, command_of}
+use Rattle.cmd_words.specs.declared.verb.Verb.{Verb}
+use Rattle.cmd_words.specs.declared.verb.Verb.TheVariants.{Run, Dis, Asm, Replay, Help, Version}
 use Rattle.edge_io.specs.Files.{FilesView}
 use Rattle.lone_runner.specs.Parting.{IsParting}
 use Rattle.lone_runner.specs.declared.fault.AloneFault.{AloneFault}
-use Rattle.lone_runner.proofs.Partings.{ends_whole}
+use Rattle.lone_runner.proofs.Partings.{ends_whole, one_fault}
 use Rattle.lone_runner.proofs.Runs.{one_state, one_stop}
 use Rattle.paged_memory.specs.Image.{Program}
 use Rattle.report_reader.specs.Block.{Block}
@@ -18,15 +20,22 @@ use Rattle.line_reader.specs.Lines.{lines_of}
 use Rattle.report_reader.specs.Reading.{Fault}
 use Rattle.report_reader.specs.Report.{Report, report_in}
 use Rattle.report_text.specs.Block.{block_text}
-use Rattle.smemu.specs.Ends.{Change, IsRejection, Stands}
-use Rattle.smemu.specs.Replay.{mismatch, text_in, text_of, EndsAsSaid, IsBlockIn, IsReplayOf, IsMismatched, DiffersSo}
-use Rattle.smemu.specs.Requests.{NoReport, files_named, due_of_files}
-use Rattle.command_lines.specs.ReportLines.{report_line}
+use Rattle.command_lines.specs.ReportLines.{difference_lines, report_line}
 use Rattle.command_lines.specs.declared.status.Status.{Status}
-use Rattle.command_lines.specs.declared.status.Status.TheVariants.{Done, BadReport, Differs}
-use Rattle.smemu.proofs.Ends.{there, two_due, told_reached, rejected_due, block_of}
-use Rattle.smemu.proofs.Requests.{due_reached}
-use Rattle.smemu_laws.proofs.OneAnswer.{same_file, same_said, one_block}
+use Rattle.command_lines.specs.declared.status.Status.TheVariants.{Done, Absent, ReadFault, OutOfMemory, BadReport, Differs}
+use Rattle.smemu.specs.Answers.{IsOutcome, IsReport, IsListingOf, IsProgramOf, ends_of, of_file, of_thread, outcome}
+use Rattle.smemu.specs.DifferLines.{parting_line}
+use Rattle.smemu.specs.Ends.{Change, Stands}
+use Rattle.smemu.specs.Rejections.{rejection_line, rejection_status}
+use Rattle.smemu.specs.Replay.{mismatch, text_in, text_of, EndsAsSaid, IsBlockIn, IsReplayOf, IsMismatched, MismatchesSo, DiffersSo}
+use Rattle.smemu.specs.Requests.{Named, IsAmong, files_named, may_end}
+use Rattle.smemu.specs.declared.rejection.Rejection.{Rejection}
+use Rattle.smemu.specs.declared.rejection.Rejection.TheVariants as rejection
+use Rattle.smemu.proofs.Ends.{outcome_among}
+use Rattle.smemu.proofs.Words.{one_thread}
+use Rattle.smemu_laws.specs.OneAnswer.{AreLoadedAsOne, AreOneText}
+use Rattle.smemu_laws.proofs.Fates.{Fate, AllAccepted, Missing, Refused, IsDecided, absent_line, accepted_fate, decided}
+use Rattle.smemu_laws.proofs.OneAnswer.{same_said, one_assembly, one_block, one_listing, one_replay, one_run_report}
 
 -- a text differs from itself in no line
 no_line : (n : ℕ) (lines : List (List ℕ)) → first_difference n lines lines ≡ None
@@ -41,19 +50,6 @@ none_some o it e h = cc
 
 no_fault : (o : Option Fault) (fault : Fault) → o ≡ None → o ≡ Some fault → ⊥
 no_fault o fault e h = cc
-
-not_both : ◌≡◌ {A = Status} Done BadReport → ⊥
-not_both e = cc
-
--- the status that is due of a report that is not in its format
-pub rejected_status : (files : List ℕ → Option (List ℕ)) (change : Change FilesView) → change.before.told ≡ Some files
-    → (request : Request) (text : List ℕ) → IsRejection NoReport report_line change.before.told (files_named request) text
-    → due_of_files files (files_named request) ≡ BadReport
-rejected_status files change tells request text h =
-    let whole = there change.before.told files h.named.name h.file tells h.is_file in
-    let at = told_reached change.before.told files (files_named request) h.named tells h.reached in
-    due_reached files (files_named request) at.0 h.named BadReport at.1
-    (λ rest. rejected_due h.named.kind (files h.named.name) h.file (NoReport h.fault) whole h.rejects rest)
 
 -- the two ends of one block are one
 one_end_text : (program : Program) (config : Config) (thread : ℕ) (block : Block) (a b : EndsAsSaid program config thread block)
@@ -101,41 +97,239 @@ matched file report thread at fault h =
     no_fault (mismatch (sha256 file) thread at.said) fault at.matches
     (ap (mismatch (sha256 file) thread) (same_said (report_in report) at.said h.said at.reads h.reads) ∙ h.is_fault)
 
-module _ (files : List ℕ → Option (List ℕ)) (program report : List ℕ) (thread : ℕ) (change : Change FilesView)
-    (tells : change.before.told ≡ Some files) where
-  -- the files of a replay that is Done, or differs, are accepted
-  module _ (file bytes : List ℕ) (is_file : files program ≡ Some file) (is_second : files report ≡ Some bytes)
-      (at : IsBlockIn file bytes thread) where
-    accepted : due_of_files files (files_named (AsksReplay program report thread)) ≡ Done
-    accepted = two_due files program report file bytes at.said is_file at.loads.accepted is_second at.reads
+block_of : (file report : List ℕ) (thread : ℕ) (text : List ℕ) → DiffersSo file report thread text → IsBlockIn file report thread
+block_of file report thread text (inl parted) = parted.at
+block_of file report thread text (inr another) = another.at
 
-    not_bad : (text : List ℕ) → Stands (AsksReplay program report thread) change BadReport text → ⊥
-    not_bad text (inl g) = not_both (sym accepted ∙ rejected_status files change tells (AsksReplay program report thread) text g)
-    not_bad text (inr g) =
-        let one = same_file (files program) g.file file (there change.before.told files program g.file tells g.is_file) is_file in
-        let two = same_file (files report) g.second bytes (there change.before.told files report g.second tells g.is_second) is_second in
-        matched file bytes thread at g.holds.0
-        (subst (λ (b : List ℕ). IsMismatched file b thread g.holds.0) two
-        (subst (λ (f : List ℕ). IsMismatched f g.second thread g.holds.0) one g.holds.1))
+same_fault : (o : Option Fault) (f g : Fault) → o ≡ Some f → o ≡ Some g → f ≡ g
+same_fault o f g e h = cc
 
-  pub done_or_bad : (text other : List ℕ) → Stands (AsksReplay program report thread) change Done text
-      → Stands (AsksReplay program report thread) change BadReport other → ⊥
-  done_or_bad text other h g =
-      not_bad h.file h.second (there change.before.told files program h.file tells h.is_file)
-      (there change.before.told files report h.second tells h.is_second) h.holds.at other g
+-- two lines of a report that is one of another program are one
+one_mismatch : (file report : List ℕ) (thread : ℕ) (text other : List ℕ) → MismatchesSo file report thread text
+    → MismatchesSo file report thread other → text ≡ other
+one_mismatch file report thread text other h g =
+    let said = same_said (report_in report) h.is_mismatched.said g.is_mismatched.said h.is_mismatched.reads g.is_mismatched.reads in
+    let fault =
+    same_fault (mismatch (sha256 file) thread g.is_mismatched.said) h.fault g.fault
+    (ap (mismatch (sha256 file) thread) (sym said) ∙ h.is_mismatched.is_fault) g.is_mismatched.is_fault in
+    h.is_text ∙ ap report_line fault ∙ sym g.is_text
 
-  pub differs_or_bad : (text other : List ℕ) → Stands (AsksReplay program report thread) change Differs text
-      → Stands (AsksReplay program report thread) change BadReport other → ⊥
-  differs_or_bad text other h g =
-      not_bad h.file h.second (there change.before.told files program h.file tells h.is_file)
-      (there change.before.told files report h.second tells h.is_second) (block_of h.file h.second thread text h.holds) other g
+module _ (program p : Program) (config k : Config) (thread : ℕ) (block b : Block) (is : program ≡ p) (same : config ≡ k) (one : block ≡ b)
+  where
+    parting_there : (fault : AloneFault) → IsParting program config thread block.journal block.count fault
+        → IsParting p k thread b.journal b.count fault
+    parting_there fault h =
+        let here = subst (λ (q : Program). IsParting q config thread block.journal block.count fault) is h in
+        let there = subst (λ (q : Config). IsParting p q thread block.journal block.count fault) same here in
+        subst (λ (q : Block). IsParting p k thread q.journal q.count fault) one there
 
-  pub done_or_differs : (text other : List ℕ) → Stands (AsksReplay program report thread) change Done text
-      → Stands (AsksReplay program report thread) change Differs other → ⊥
-  done_or_differs text other h g =
-      let file = there change.before.told files program h.file tells h.is_file in
-      let second = there change.before.told files report h.second tells h.is_second in
-      let one = same_file (files program) g.file h.file (there change.before.told files program g.file tells g.is_file) file in
-      let two = same_file (files report) g.second h.second (there change.before.told files report g.second tells g.is_second) second in
-      done_differs h.file h.second thread text other h.holds
-      (subst (λ (b : List ℕ). DiffersSo h.file b thread other) two (subst (λ (f : List ℕ). DiffersSo f g.second thread other) one g.holds))
+same_difference : (o : Option Difference) (a b : Difference) → o ≡ Some a → o ≡ Some b → a ≡ b
+same_difference o a b e h = cc
+
+-- two texts that say where a thread and its report part are one
+one_difference : (file report : List ℕ) (thread : ℕ) (text other : List ℕ) → DiffersSo file report thread text
+    → DiffersSo file report thread other → text ≡ other
+one_difference file report thread text other (inl h) (inl g) =
+    let one = one_block file report thread h.at g.at in
+    let there =
+    parting_there h.at.program g.at.program h.at.config g.at.config thread h.at.block g.at.block one.program one.config one.block h.fault
+    h.parts in
+    let fault = one_fault g.at.program g.at.config thread g.at.block.journal g.at.block.count h.fault g.fault there g.parts in
+    h.is_text ∙ ap parting_line fault ∙ sym g.is_text
+one_difference file report thread text other (inl h) (inr g) =
+    let one = one_block file report thread g.at h.at in
+    absurd (no_parting g.at.program h.at.program g.at.config h.at.config thread g.at.block h.at.block one.program one.config one.block g.end
+    h.fault h.parts)
+one_difference file report thread text other (inr h) (inl g) =
+    let one = one_block file report thread h.at g.at in
+    absurd (no_parting h.at.program g.at.program h.at.config g.at.config thread h.at.block g.at.block one.program one.config one.block h.end
+    g.fault g.parts)
+one_difference file report thread text other (inr h) (inr g) =
+    let one = one_block file report thread h.at g.at in
+    let same =
+    same_end h.at.program g.at.program h.at.config g.at.config thread h.at.block g.at.block one.program one.config one.block h.end g.end in
+    let it =
+    same_difference (first_difference 0 (lines_of (text_in report g.at.block)) (lines_of (text_of g.end))) h.it g.it
+    ((λ i. first_difference 0 (lines_of (text_in report (sym one.block i))) (lines_of (sym same i))) ∙ h.first) g.first in
+    h.is_text ∙ (λ i. difference_lines ((one.block i).first_line + (it i).line) (it i).first (it i).second) ∙ sym g.is_text
+
+-- ---- what becomes of accepted files
+
+of_one_file : (operands : List Argument) (options : Options) (files : List (List ℕ)) (text other : List ℕ)
+    (tells : List ℕ → Options → List ℕ → Type 0) (result : Type 0)
+    → ((file : List ℕ) → tells file options text → tells file options other → result) → of_file tells operands options files text
+    → of_file tells operands options files other → result
+of_one_file operands options (file ∷ []) text other tells result one h g = one file h g
+of_one_file operands options files text other tells result one h g = absurd h
+
+of_one_thread : (operands : List Argument) (options : Options) (files : List (List ℕ)) (text other : List ℕ)
+    (tells said : List ℕ → List ℕ → ℕ → List ℕ → Type 0) (result : Type 0)
+    → ((file report : List ℕ) (thread : ℕ) → tells file report thread text → said file report thread other → result)
+    → of_thread tells operands options files text → of_thread said operands options files other → result
+of_one_thread (program ∷ report ∷ ThreadSaid thread ∷ []) options (file ∷ bytes ∷ []) text other tells said result one h g =
+    one file bytes thread h g
+of_one_thread operands options files text other tells said result one h g = absurd h
+
+-- two endings of accepted files have one status and one text
+pub one_outcome : (verb : Verb) (s t : Status) (operands : List Argument) (options : Options) (files : List (List ℕ))
+    (text other : List ℕ) → options.threads ≡ 1 → ends_of verb s operands options files text → ends_of verb t operands options files other
+    → (s ≡ t) × AreOneText verb s text other
+one_outcome Run Done Done operands options files text other one h g = (
+  refl,
+  of_one_file operands options files text other IsReport (text ≡ other) (λ file a b. one_run_report file options text other one a
+      b) h g,
+)
+one_outcome Dis Done Done operands options files text other one h g = (
+  refl,
+  of_one_file operands options files text other (λ file o. IsListingOf file) (text ≡ other) (λ file a b. one_listing file text
+      other a b) h g,
+)
+one_outcome Asm Done Done operands options files text other one h g = (
+  refl,
+  of_one_file operands options files text other (λ file o. IsProgramOf file) (AreLoadedAsOne text other)
+      (λ file a b. one_assembly file text other a b) h g,
+)
+one_outcome Replay Done Done operands options files text other one h g = (
+  refl,
+  of_one_thread operands options files text other IsReplayOf IsReplayOf (text ≡ other)
+      (λ file report thread a b. one_replay file report thread text other a b) h g,
+)
+one_outcome Replay BadReport BadReport operands options files text other one h g = (
+  refl,
+  of_one_thread operands options files text other MismatchesSo MismatchesSo (text ≡ other)
+      (λ file report thread a b. one_mismatch file report thread text other a b) h g,
+)
+one_outcome Replay Differs Differs operands options files text other one h g = (
+  refl,
+  of_one_thread operands options files text other DiffersSo DiffersSo (text ≡ other)
+      (λ file report thread a b. one_difference file report thread text other a b) h g,
+)
+one_outcome Replay Done BadReport operands options files text other one h g =
+    absurd (of_one_thread operands options files text other IsReplayOf MismatchesSo ⊥
+    (λ file report thread a b. matched file report thread a.at b.fault b.is_mismatched) h g)
+one_outcome Replay BadReport Done operands options files text other one h g =
+    absurd (of_one_thread operands options files text other MismatchesSo IsReplayOf ⊥
+    (λ file report thread a b. matched file report thread b.at a.fault a.is_mismatched) h g)
+one_outcome Replay Done Differs operands options files text other one h g =
+    absurd (of_one_thread operands options files text other IsReplayOf DiffersSo ⊥
+    (λ file report thread a b. done_differs file report thread text other a b) h g)
+one_outcome Replay Differs Done operands options files text other one h g =
+    absurd (of_one_thread operands options files text other DiffersSo IsReplayOf ⊥
+    (λ file report thread a b. done_differs file report thread other text b a) h g)
+one_outcome Replay BadReport Differs operands options files text other one h g =
+    absurd (of_one_thread operands options files text other MismatchesSo DiffersSo ⊥
+    (λ file report thread a b. matched file report thread (block_of file report thread other b) a.fault a.is_mismatched) h g)
+one_outcome Replay Differs BadReport operands options files text other one h g =
+    absurd (of_one_thread operands options files text other DiffersSo MismatchesSo ⊥
+    (λ file report thread a b. matched file report thread (block_of file report thread text a) b.fault b.is_mismatched) h g)
+one_outcome Help Done Done operands options files text other one h g = (refl, h ∙ sym g)
+one_outcome Version Done Done operands options files text other one h g = (refl, h ∙ sym g)
+one_outcome Run Done t operands options files text other one h g = absurd g
+one_outcome Dis Done t operands options files text other one h g = absurd g
+one_outcome Asm Done t operands options files text other one h g = absurd g
+one_outcome Replay Done t operands options files text other one h g = absurd g
+one_outcome Replay BadReport t operands options files text other one h g = absurd g
+one_outcome Replay Differs t operands options files text other one h g = absurd g
+one_outcome Help Done t operands options files text other one h g = absurd g
+one_outcome Version Done t operands options files text other one h g = absurd g
+one_outcome verb s t operands options files text other one h g = absurd h
+
+-- ---- what stands for a request
+
+among_one : IsAmong OutOfMemory (Done ∷ []) → ⊥
+among_one (inl e) = cc
+among_one (inr h) = absurd h
+
+among_three : IsAmong OutOfMemory (Done ∷ BadReport ∷ Differs ∷ []) → ⊥
+among_three (inl e) = cc
+among_three (inr (inl e)) = cc
+among_three (inr (inr (inl e))) = cc
+among_three (inr (inr (inr h))) = absurd h
+
+absurd_among : (verb : Verb) → IsAmong OutOfMemory (may_end verb) → ⊥
+absurd_among Replay h = among_three h
+absurd_among verb h = among_one h
+
+same_files : (a b : List (List ℕ)) → ◌≡◌ {A = Fate} (AllAccepted a) (AllAccepted b) → a ≡ b
+same_files a b e = cc
+
+same_missing : (a b : Named) → ◌≡◌ {A = Fate} (Missing a) (Missing b) → a ≡ b
+same_missing a b e = cc
+
+same_refused : (a b : Named) (r q : Rejection) → ◌≡◌ {A = Fate} (Refused a r) (Refused b q) → r ≡ q
+same_refused a b r q e = cc
+
+accepted_missing : (a : List (List ℕ)) (b : Named) → ◌≡◌ {A = Fate} (AllAccepted a) (Missing b) → ⊥
+accepted_missing a b e = cc
+
+accepted_refused : (a : List (List ℕ)) (b : Named) (r : Rejection) → ◌≡◌ {A = Fate} (AllAccepted a) (Refused b r) → ⊥
+accepted_refused a b r e = cc
+
+missing_refused : (a b : Named) (r : Rejection) → ◌≡◌ {A = Fate} (Missing a) (Refused b r) → ⊥
+missing_refused a b r e = cc
+
+-- a status other than Done has one text, whatever the command
+absent_text : (verb : Verb) (text other : List ℕ) → text ≡ other → AreOneText verb Absent text other
+absent_text Asm text other e = e
+absent_text verb text other e = e
+
+rejected_text : (verb : Verb) (rejection : Rejection) (text other : List ℕ) → text ≡ other
+    → AreOneText verb (rejection_status rejection) text other
+rejected_text Asm (rejection.Program fault) text other e = e
+rejected_text Asm (rejection.Source fault) text other e = e
+rejected_text Asm (rejection.Report line kind) text other e = e
+rejected_text verb rejected text other e = e
+
+memory_not : (verb : Verb) (operands : List Argument) (options : Options) (files : List (List ℕ)) (text : List ℕ)
+    → ends_of verb OutOfMemory operands options files text → ⊥
+memory_not verb operands options files text h = absurd_among verb (outcome_among verb OutOfMemory operands options files text h)
+
+pub no_memory : (request : Request) (change : Change FilesView) (text : List ℕ) → Stands request change OutOfMemory text → ⊥
+no_memory request change text h = memory_not request.verb request.operands request.options h.files text h.ends
+
+pub one_answer : (files : List ℕ → Option (List ℕ)) (words : List (List ℕ)) (request : Request) (text other : List ℕ)
+    → command_of words ≡ Some request → IsOutcome (Some files) request Done text → IsOutcome (Some files) request Done other
+    → AreOneText request.verb Done text other
+one_answer files words request text other asked h g =
+    let same =
+    same_files h.files g.files (sym (accepted_fate files (files_named request) h.files h.accepted)
+    ∙ accepted_fate files (files_named request) g.files g.accepted) in
+    (one_outcome request.verb Done Done request.operands request.options g.files text other (one_thread words request asked)
+    (subst (λ (fs : List (List ℕ)). outcome request fs Done text) same h.ends) g.ends).1
+
+refused_same : (verb : Verb) (s : Status) (rejection : Rejection) (text other : List ℕ) → s ≡ rejection_status rejection → text ≡ other
+    → AreOneText verb s text other
+refused_same verb s rejection text other e same =
+    subst (λ (q : Status). AreOneText verb q text other) (sym e) (rejected_text verb rejection text other same)
+
+module _ (known : List ℕ → Option (List ℕ)) (request : Request) (one : request.options.threads ≡ 1) (s t : Status) (text other : List ℕ)
+  where
+    one_decided : IsDecided known request s text → IsDecided known request t other → (s ≡ t) × AreOneText request.verb s text other
+    one_decided (inl h) (inl g) =
+        one_outcome request.verb s t request.operands request.options g.files text other one
+        (subst (λ (fs : List (List ℕ)). outcome request fs s text) (same_files h.files g.files (sym h.fate ∙ g.fate)) h.ends) g.ends
+    one_decided (inr (inl h)) (inr (inl g)) =
+        let named = same_missing h.named g.named (sym h.fate ∙ g.fate) in (
+          h.is_status ∙ sym g.is_status,
+          subst (λ (q : Status). AreOneText request.verb q text other) (sym h.is_status)
+              (absent_text request.verb text other (h.is_text ∙ ap absent_line named ∙ sym g.is_text)),
+        )
+    one_decided (inr (inr h)) (inr (inr g)) =
+        let rejection = same_refused h.named g.named h.rejection g.rejection (sym h.fate ∙ g.fate) in (
+          h.is_status ∙ ap rejection_status rejection ∙ sym g.is_status,
+          refused_same request.verb s h.rejection text other h.is_status
+              (h.is_text ∙ ap rejection_line rejection ∙ sym g.is_text),
+        )
+    one_decided (inl h) (inr (inl g)) = absurd (accepted_missing h.files g.named (sym h.fate ∙ g.fate))
+    one_decided (inl h) (inr (inr g)) = absurd (accepted_refused h.files g.named g.rejection (sym h.fate ∙ g.fate))
+    one_decided (inr (inl h)) (inl g) = absurd (accepted_missing g.files h.named (sym g.fate ∙ h.fate))
+    one_decided (inr (inl h)) (inr (inr g)) = absurd (missing_refused h.named g.named g.rejection (sym h.fate ∙ g.fate))
+    one_decided (inr (inr h)) (inl g) = absurd (accepted_refused g.files h.named h.rejection (sym g.fate ∙ h.fate))
+    one_decided (inr (inr h)) (inr (inl g)) = absurd (missing_refused g.named h.named h.rejection (sym g.fate ∙ h.fate))
+
+pub one_ending : (files : List ℕ → Option (List ℕ)) (words : List (List ℕ)) (request : Request) (change : Change FilesView) (s t : Status)
+    (text other : List ℕ) → command_of words ≡ Some request → change.before.told ≡ Some files → s ≢ ReadFault → t ≢ ReadFault
+    → Stands request change s text → Stands request change t other → (s ≡ t) × AreOneText request.verb s text other
+one_ending files words request change s t text other asked tells read readable h g =
+    one_decided files request (one_thread words request asked) s t text other (decided files request change tells s text read h)
+    (decided files request change tells t other readable g)

@@ -1,6 +1,9 @@
--- How two answers to a request agree.
+-- How two texts of one ending agree.
 use Rattle.std.specs.Prelude.{◌≡◌, ℕ, List}
-use Rattle.cmd_words.specs.Words.{Request, AsksAssembly}
+use Rattle.cmd_words.specs.declared.verb.Verb.{Verb}
+use Rattle.cmd_words.specs.declared.verb.Verb.TheVariants.{Asm}
+use Rattle.command_lines.specs.declared.status.Status.{Status}
+use Rattle.command_lines.specs.declared.status.Status.TheVariants.{Done}
 use Rattle.paged_memory.specs.Image.{Program}
 use Rattle.elf_loader.specs.Loading.{Loads}
 
@@ -8,7 +11,8 @@ use Rattle.elf_loader.specs.Loading.{Loads}
 abbrev pub AreLoadedAsOne : List ℕ → List ℕ → Type 0
 AreLoadedAsOne file other = (program : Program) × Loads file program × Loads other program
 
--- two texts that answer a request are one; of an assembled program, two files that are loaded as one program
-abbrev pub AreOneAnswer : Request → List ℕ → List ℕ → Type 0
-AreOneAnswer (AsksAssembly name) text other = AreLoadedAsOne text other
-AreOneAnswer request text other = text ≡ other
+-- two texts of a command and a status are one; of an assembled program, two files that are loaded as one
+-- program
+abbrev pub AreOneText : Verb → Status → List ℕ → List ℕ → Type 0
+AreOneText Asm Done text other = AreLoadedAsOne text other
+AreOneText verb status text other = text ≡ other

@@ -1,44 +1,40 @@
-use Rattle.std.proofs.Common.{rules, lit<, [], refl, Err}
+use Rattle.std.proofs.Common.{rules, [], ◌∷◌, refl, Err, Ok}
 use Rattle.std.specs.String.{string_bytes}
-use Rattle.cmd_words.specs.Options.{options_of}
-use Rattle.cmd_words.specs.Words.{AsksRun}
-use Rattle.smemu.specs.Ends.{change}
-use Rattle.smemu.specs.Requests.{ProgramFile}
-use Rattle.smemu.specs.Views.{EndsRequest}
-use Rattle.smemu.specs.declared.command.TheConstants.{FETCH_LIMIT}
-use Rattle.smemu.proofs.Ends.{unread_ends, rejected_ends, program_file}
-use Rattle.smemu.proofs.Requests.{front_reached}
+use Rattle.cmd_words.specs.Command.{request_of}
+use Rattle.cmd_words.specs.declared.command.Command.TheVariants as command
+use Rattle.smemu.specs.Rejections.{ProgramFile}
+use Rattle.smemu.specs.Views.{CarriesOut}
+use Rattle.smemu.specs.declared.answer.Answer.TheVariants as answer
+use Rattle.smemu.specs.declared.refusal.Refusal.TheVariants as refusal
+use Rattle.smemu.proofs.Opened.{all_opened, none_opened, opened_next, refused_next}
 use Rattle.smemu.proofs.command.run_program.Goals as goal
 
-pub returns-in_err-file-clause-ends : goal.returns-in_err-file-clause-ends
-returns-in_err-file-clause-ends g c =
-    let files = change g.F.Files.view c.args.files.now c.fetch_file.new.files in
-    let ends : EndsRequest (AsksRun (string_bytes c.args.program) (options_of c.args.config.now)) files (Err c.in_err-file.field-0.0) =
-    unread_ends (AsksRun (string_bytes c.args.program) (options_of c.args.config.now))
-    (record { name = string_bytes c.args.program; kind = ProgramFile }) files c.in_err-file.field-0.0 (front_reached
-    (g.F.Files.view c.args.files.now).told
-    (record { name = string_bytes c.args.program; kind = ProgramFile }) []) c.in_err-file.ensures.unread in
+pub returns-in_err-file : goal.returns-in_err-file
+returns-in_err-file g c =
+    let request = request_of (command.Run c.args.program c.args.config.now) in
+    let old = c.args.files.now in
+    let ends : CarriesOut g.F.Files.fetched g.F.Files.view request old c.open_program.new.files (Err c.in_err-file.field-0.0) =
+    refused_next g.F.Files.fetched g.F.Files.view request [] [] [] (record { name = string_bytes c.args.program; kind = ProgramFile }) old old
+    c.open_program.new.files refl (none_opened g.F.Files.fetched g.F.Files.view old) c.open_program.ensures.fetched c.open_program.ensures.kept
+    c.in_err-file.field-0.0 c.in_err-file.ensures.unopened in
     search rules
 
-pub returns-in_err-image-clause-ends : goal.returns-in_err-image-clause-ends
-returns-in_err-image-clause-ends g c =
-    let files = change g.F.Files.view c.args.files.now c.fetch_file.new.files in
-    let ends : EndsRequest (AsksRun (string_bytes c.args.program) (options_of c.args.config.now)) files (Err c.in_err-image.field-0.0) =
-    rejected_ends (AsksRun (string_bytes c.args.program) (options_of c.args.config.now))
-    (record { name = string_bytes c.args.program; kind = ProgramFile }) files FETCH_LIMIT c.in_ok-file.file.items c.in_err-image.field-0.0
-    (front_reached (g.F.Files.view c.args.files.now).told (record { name = string_bytes c.args.program; kind = ProgramFile }) [])
-    (lit< tt) c.in_ok-file.ensures.front (rw c.as_slice.ensures.value at c.in_err-image.ensures.rejected) in
-    search rules
+pub returns-in-Ok : goal.returns-in-Ok
+returns-in-Ok g c =
+    let request = request_of (command.Run c.args.program c.args.config.now) in
+    let old = c.args.files.now in
+    all_opened g.F.Files.fetched g.F.Files.view request (c.in_ok-file.file.bytes.items ∷ []) old c.open_program.new.files
+    (opened_next g.F.Files.fetched g.F.Files.view request [] [] [] (record { name = string_bytes c.args.program; kind = ProgramFile }) old old
+    c.open_program.new.files refl (none_opened g.F.Files.fetched g.F.Files.view old) c.open_program.ensures.fetched c.open_program.ensures.kept
+    c.in_ok-file.file.bytes.items c.in_ok-file.ensures.opened) (Ok (answer.Report c.in-Ok.report))
+    (record { config = c.args.config.now; given = refl; report = rw c.as_slice.ensures.value at c.in-Ok.ensures })
 
-pub returns-in-Ok-clause-ends : goal.returns-in-Ok-clause-ends
-returns-in-Ok-clause-ends g c =
-    let loads = rw c.as_slice.ensures.value at c.in_ok-image.ensures.loads in
-    record {
-      file = c.in_ok-file.file.items;
-      config = c.args.config.now;
-      is_file =
-          program_file (g.F.Files.view c.args.files.now).told FETCH_LIMIT (string_bytes c.args.program) c.in_ok-file.file.items (lit< tt)
-          c.in_ok-file.ensures.front loads.accepted;
-      given = refl;
-      report = rw c.as_slice-2.ensures.value at c.in-Ok.ensures;
-    }
+pub returns : goal.returns
+returns g c =
+    let request = request_of (command.Run c.args.program c.args.config.now) in
+    let old = c.args.files.now in
+    all_opened g.F.Files.fetched g.F.Files.view request (c.in_ok-file.file.bytes.items ∷ []) old c.open_program.new.files
+    (opened_next g.F.Files.fetched g.F.Files.view request [] [] [] (record { name = string_bytes c.args.program; kind = ProgramFile }) old old
+    c.open_program.new.files refl (none_opened g.F.Files.fetched g.F.Files.view old) c.open_program.ensures.fetched c.open_program.ensures.kept
+    c.in_ok-file.file.bytes.items c.in_ok-file.ensures.opened) (Err refusal.Memory)
+    tt

@@ -8,34 +8,30 @@ use Rattle.smemu.proofs.replay.replay_report.Goals as goal
 pub returns-in_err-check_match : goal.returns-in_err-check_match
 returns-in_err-check_match c =
     let ends : EndsReplay c.args.file.now c.args.bytes.now c.args.thread (Err c.in_err-check_match.field-0.0) =
-    unmatched_ends c.args.file.now c.args.bytes.now c.args.thread c.args.image.now (report_said c.in_ok-report.report)
-    c.in_err-check_match.field-0.0 c.requires c.in_ok-report.ensures.reads c.in_err-check_match.ensures.err in
+    unmatched_ends c.args.file.now c.args.bytes.now c.args.thread c.args.image.now (report_said c.args.report.now)
+    c.in_err-check_match.field-0.0 c.requires.loads c.requires.reads c.in_err-check_match.ensures.err in
     search rules
 
 pub returns-in_err-context : goal.returns-in_err-context
 returns-in_err-context c =
-    let there = thread_there (sha256 c.args.file.now) c.args.thread (report_said c.in_ok-report.report) c.in_ok-check_match.ensures.ok in
-    let inside : c.args.thread < length c.in_ok-report.report.blocks.items = omega (arith, there, c.in_ok-report.report.one_each) in
+    let there = thread_there (sha256 c.args.file.now) c.args.thread (report_said c.args.report.now) c.in_ok-check_match.ensures.ok in
+    let inside : c.args.thread < length c.args.report.now.blocks.items = omega (arith, there, c.args.report.now.one_each) in
     let ends : EndsReplay c.args.file.now c.args.bytes.now c.args.thread (Err c.in_err-context.field-0.0) =
-    parted_ends c.args.file.now c.args.bytes.now c.args.thread c.args.image.now c.in_ok-report.report.config
-    (report_said c.in_ok-report.report)
-    (block_said c.index-block.result.now) c.requires c.in_ok-report.ensures.reads c.in_ok-check_match.ensures.ok refl
-    c.in_ok-report.ensures.cores
-    (said_at c.in_ok-report.report.blocks.items c.args.thread c.index-block.result.now c.index-block.ensures inside)
+    parted_ends c.args.file.now c.args.bytes.now c.args.thread c.args.image.now c.args.report.now.config (report_said c.args.report.now)
+    (block_said c.index-block.result.now) c.requires.loads c.requires.reads c.in_ok-check_match.ensures.ok refl c.requires.cores
+    (said_at c.args.report.now.blocks.items c.args.thread c.index-block.result.now c.index-block.ensures inside)
     c.in_err-context.field-0.0 c.in_err-context.ensures.parted in
     search rules
 
 pub returns : goal.returns
 returns c =
-    let there = thread_there (sha256 c.args.file.now) c.args.thread (report_said c.in_ok-report.report) c.in_ok-check_match.ensures.ok in
-    let inside : c.args.thread < length c.in_ok-report.report.blocks.items = omega (arith, there, c.in_ok-report.report.one_each) in
-    compared_ends c.args.file.now c.args.bytes.now c.args.thread c.args.image.now c.in_ok-report.report.config
-    (report_said c.in_ok-report.report)
-    (block_said c.index-block.result.now) c.requires c.in_ok-report.ensures.reads c.in_ok-check_match.ensures.ok refl
-    c.in_ok-report.ensures.cores
-    (said_at c.in_ok-report.report.blocks.items c.args.thread c.index-block.result.now c.index-block.ensures inside)
+    let there = thread_there (sha256 c.args.file.now) c.args.thread (report_said c.args.report.now) c.in_ok-check_match.ensures.ok in
+    let inside : c.args.thread < length c.args.report.now.blocks.items = omega (arith, there, c.args.report.now.one_each) in
+    compared_ends c.args.file.now c.args.bytes.now c.args.thread c.args.image.now c.args.report.now.config (report_said c.args.report.now)
+    (block_said c.index-block.result.now) c.requires.loads c.requires.reads c.in_ok-check_match.ensures.ok refl c.requires.cores
+    (said_at c.args.report.now.blocks.items c.args.thread c.index-block.result.now c.index-block.ensures inside)
     c.in_ok-context.context c.in_ok-context.ensures.run c.in_ok-context.ensures.journal c.in_ok-context.ensures.count c.compare.result
     c.compare.ensures
 
 pub compare-requires-clause-size : goal.compare-requires-clause-size
-compare-requires-clause-size c = report_size c.args.bytes.now (report_said c.in_ok-report.report) c.in_ok-report.ensures.reads
+compare-requires-clause-size c = report_size c.args.bytes.now (report_said c.args.report.now) c.requires.reads

@@ -1,5 +1,5 @@
 use Rattle.smemu_laws.proofs.Beginnings.{has_begun}
 use Rattle.smemu_laws.proofs.laws.begins_as_help_says.Goals as goal
 
-pub returns-clause-begins : goal.returns-clause-begins
-returns-clause-begins c = has_begun
+pub returns : goal.returns
+returns c = has_begun

@@ -1,0 +1,16 @@
+use Rattle.std.proofs.Common.{[], refl, Ok}
+use Rattle.cmd_words.specs.Command.{request_of}
+use Rattle.cmd_words.specs.declared.command.Command.TheVariants as command
+use Rattle.smemu.specs.declared.answer.Answer.TheVariants as answer
+use Rattle.smemu.proofs.Opened.{all_opened, none_opened}
+use Rattle.smemu.proofs.command.carry_out.Goals as goal
+
+pub returns-in-Help : goal.returns-in-Help
+returns-in-Help g c =
+    rw c.in-Help.is (all_opened g.F.Files.fetched g.F.Files.view (request_of command.Help) [] c.args.files.now c.args.files.now
+    (none_opened g.F.Files.fetched g.F.Files.view c.args.files.now) (Ok answer.Help) refl)
+
+pub returns-in-Version : goal.returns-in-Version
+returns-in-Version g c =
+    rw c.in-Version.is (all_opened g.F.Files.fetched g.F.Files.view (request_of command.Version) [] c.args.files.now c.args.files.now
+    (none_opened g.F.Files.fetched g.F.Files.view c.args.files.now) (Ok answer.Version) refl)

@@ -1,0 +1,52 @@
+//! How a request whose files are accepted ends, where it has no answer.
+ghost use Rattle.std.specs.Prelude.{◌≡◌};
+ghost use Rattle.edge_io.specs.Sink.{Writes};
+ghost use Rattle.smemu.specs.Views.{ending_status, ending_text};
+
+use crate::differ_line::write_difference;
+use command_lines::{Status, write_report_fault};
+use edge_io::{PutFault, Sink};
+use lone_runner::AloneFault;
+use report_reader::ReportKind;
+
+/// How a request whose files are accepted ends, where it has no answer.
+#[derive(Drop)]
+pub enum Ending {
+    /// The report is of another program, or has no such thread: the line that says so.
+    Mismatch { line: u64, kind: ReportKind },
+    /// The thread that is replayed and its report part.
+    Differs(Difference),
+}
+
+/// Where a thread that is replayed and its report part.
+#[derive(Drop)]
+pub enum Difference {
+    /// The thread parts from the journal or from the count.
+    Parts(AloneFault),
+    /// A line of the report, by its number from 1, that is another in the replay, with both.
+    Lines {
+        line: u64,
+        report: Vec<u8>,
+        replay: Vec<u8>,
+    },
+}
+
+/// The status of an ending.
+pub fn status_of_ending(ending: &Ending) -> Status
+    ensures { result ≡ ending_status ending.now }
+{
+    match ending {
+        Ending::Mismatch { .. } => Status::BadReport,
+        Ending::Differs(_) => Status::Differs,
+    }
+}
+
+/// Writes the lines of an ending.
+pub fn write_ending<K: Sink>(out: &mut K, ending: &Ending) -> Result<(), PutFault>
+    ensures { Writes (K.view out.old) (K.view out.new) result (ending_text ending.now) }
+{
+    match ending {
+        Ending::Mismatch { line, kind } => write_report_fault(out, *line, *kind),
+        Ending::Differs(it) => write_difference(out, it),
+    }
+}

@@ -1,0 +1,163 @@
+//! The files that a command names: each is fetched with its limit, and accepted as what it is to be.
+ghost use Rattle.std.specs.Prelude.{◌≡◌, All, IfOk, IfErr, Ok};
+ghost use Rattle.std.specs.String.{string_bytes};
+ghost use Rattle.asm_core.specs.Assembly.{Assembles};
+ghost use Rattle.a64_encode.specs.Writable.{IsWritable};
+ghost use Rattle.edge_io.specs.Files.{IsKept};
+ghost use Rattle.elf_loader.specs.Loading.{Loads};
+ghost use Rattle.report_reader.specs.Report.{report_in};
+ghost use Rattle.report_reader.specs.Told.{report_said, StandsIn};
+ghost use Rattle.smemu.specs.Ends.{change};
+ghost use Rattle.smemu.specs.Rejections.{ProgramFile, SourceFile, ReportFile, limit_of};
+ghost use Rattle.smemu.specs.Views.{IsFront, IsUnread, IsRejected, IsOpened, IsUnopened};
+
+use crate::refusal::{Refusal, Unread};
+use crate::rejection::Rejection;
+use asm_core::{AsmFault, assemble};
+use edge_io::{FileFault, Files};
+use elf_loader::{LoadFault, load};
+use paged_memory::Image;
+use report_reader::{Report, ReportFault, read_report};
+use sm_types::Object;
+use std::alloc::Global;
+
+/// A file of more bytes than a program file or a source may have is fetched up to its first byte too many.
+const FETCH_LIMIT: u64 = 67_108_865;
+
+/// The same of a report.
+const REPORT_LIMIT: u64 = 1_073_741_825;
+
+/// A file that is accepted, and what it stands for.
+#[derive(Drop)]
+pub struct Opened<T> {
+    pub bytes: Vec<u8>,
+    pub content: T,
+}
+
+/// The bytes of the file of that name, or those of its front, as far as the limit.
+fn fetch_file<F: Files>(
+    alloc: Global,
+    name: String,
+    limit: u64,
+    files: &mut F,
+) -> Result<Vec<u8>, Refusal>
+    ensures front { IfOk result (λ file.
+        IsFront (F.view files.old).told limit (string_bytes name) file.items) }
+    ensures unread { IfErr result (IsUnread (change F.view files.old files.new) (string_bytes name)) }
+    ensures kept { IsKept (F.view files.old) (F.view files.new) }
+    ensures fetched { F.fetched files.old (string_bytes name) limit files.new }
+{
+    match files.fetch(alloc, name.as_str(), limit) {
+        Ok(file) => Ok(file),
+        Err(FileFault::Absent) => Err(Refusal::Unread {
+            name,
+            why: Unread::Absent,
+        }),
+        Err(FileFault::Failed) => Err(Refusal::Unread {
+            name,
+            why: Unread::Failed,
+        }),
+        Err(FileFault::Memory) => Err(Refusal::Memory),
+    }
+}
+
+/// The image of a program file.
+fn load_file(alloc: Global, file: &[u8]) -> Result<Image, Refusal>
+    ensures loads { IfOk result (λ image. Loads file.now image) }
+    ensures rejected { IfErr result (IsRejected ProgramFile file.now) }
+{
+    match load(alloc, file) {
+        Ok(image) => Ok(image),
+        Err(LoadFault::Memory) => Err(Refusal::Memory),
+        Err(fault) => Err(Refusal::Rejected(Rejection::Program(fault))),
+    }
+}
+
+/// The object of a source.
+fn assemble_file(alloc: Global, source: &[u8]) -> Result<Object, Refusal>
+    ensures assembles { IfOk result (λ object. Assembles source.now object) }
+    ensures sound { IfOk result IsWritable }
+    ensures rejected { IfErr result (IsRejected SourceFile source.now) }
+{
+    match assemble(alloc, source) {
+        Ok(object) => Ok(object),
+        Err(AsmFault::Memory) => Err(Refusal::Memory),
+        Err(fault) => Err(Refusal::Rejected(Rejection::Source(fault))),
+    }
+}
+
+/// What a report file says.
+fn read_file(alloc: Global, bytes: &[u8]) -> Result<Report, Refusal>
+    ensures reads { IfOk result (λ report. report_in bytes.now ≡ Ok (report_said report)) }
+    ensures cores { IfOk result (λ report. report.config.cores ≡ 1) }
+    ensures places { IfOk result (λ report. All (StandsIn bytes.now) report.blocks.items) }
+    ensures rejected { IfErr result (IsRejected ReportFile bytes.now) }
+{
+    match read_report(alloc, bytes) {
+        Ok(report) => Ok(report),
+        Err(ReportFault::Line { line, kind }) => {
+            Err(Refusal::Rejected(Rejection::Report { line, kind }))
+        }
+        Err(ReportFault::Memory) => Err(Refusal::Memory),
+    }
+}
+
+/// The program file of that name, loaded.
+pub fn open_program<F: Files>(
+    alloc: Global,
+    name: String,
+    files: &mut F,
+) -> Result<Opened<Image>, Refusal>
+    ensures opened { IfOk result (λ it.
+        IsOpened (F.view files.old).told (string_bytes name) ProgramFile it.bytes.items) }
+    ensures loads { IfOk result (λ it. Loads it.bytes.items it.content) }
+    ensures unopened { IfErr result
+        (IsUnopened (change F.view files.old files.new) (string_bytes name) ProgramFile) }
+    ensures kept { IsKept (F.view files.old) (F.view files.new) }
+    ensures fetched { F.fetched files.old (string_bytes name) (limit_of ProgramFile) files.new }
+{
+    let bytes = fetch_file(alloc, name, FETCH_LIMIT, files)?;
+    let content = load_file(alloc, bytes.as_slice())?;
+    Ok(Opened { bytes, content })
+}
+
+/// The source of that name, assembled.
+pub fn open_source<F: Files>(
+    alloc: Global,
+    name: String,
+    files: &mut F,
+) -> Result<Opened<Object>, Refusal>
+    ensures opened { IfOk result (λ it.
+        IsOpened (F.view files.old).told (string_bytes name) SourceFile it.bytes.items) }
+    ensures assembles { IfOk result (λ it. Assembles it.bytes.items it.content) }
+    ensures sound { IfOk result (λ it. IsWritable it.content) }
+    ensures unopened { IfErr result
+        (IsUnopened (change F.view files.old files.new) (string_bytes name) SourceFile) }
+    ensures kept { IsKept (F.view files.old) (F.view files.new) }
+    ensures fetched { F.fetched files.old (string_bytes name) (limit_of SourceFile) files.new }
+{
+    let bytes = fetch_file(alloc, name, FETCH_LIMIT, files)?;
+    let content = assemble_file(alloc, bytes.as_slice())?;
+    Ok(Opened { bytes, content })
+}
+
+/// The report of that name, read.
+pub fn open_report<F: Files>(
+    alloc: Global,
+    name: String,
+    files: &mut F,
+) -> Result<Opened<Report>, Refusal>
+    ensures opened { IfOk result (λ it.
+        IsOpened (F.view files.old).told (string_bytes name) ReportFile it.bytes.items) }
+    ensures reads { IfOk result (λ it. report_in it.bytes.items ≡ Ok (report_said it.content)) }
+    ensures cores { IfOk result (λ it. it.content.config.cores ≡ 1) }
+    ensures places { IfOk result (λ it. All (StandsIn it.bytes.items) it.content.blocks.items) }
+    ensures unopened { IfErr result
+        (IsUnopened (change F.view files.old files.new) (string_bytes name) ReportFile) }
+    ensures kept { IsKept (F.view files.old) (F.view files.new) }
+    ensures fetched { F.fetched files.old (string_bytes name) (limit_of ReportFile) files.new }
+{
+    let bytes = fetch_file(alloc, name, REPORT_LIMIT, files)?;
+    let content = read_file(alloc, bytes.as_slice())?;
+    Ok(Opened { bytes, content })
+}

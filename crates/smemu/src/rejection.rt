@@ -1,0 +1,43 @@
+//! Why a file is not accepted.
+ghost use Rattle.std.specs.Prelude.{◌≡◌};
+ghost use Rattle.edge_io.specs.Sink.{Writes};
+ghost use Rattle.smemu.specs.Rejections.{rejection_line, rejection_status};
+
+use asm_core::AsmFault;
+use command_lines::{Status, write_fault, write_report_fault, write_source_fault};
+use edge_io::{PutFault, Sink};
+use elf_loader::LoadFault;
+use report_reader::ReportKind;
+
+/// Why a file is not accepted as what it is to be.
+#[derive(Clone, Copy)]
+pub enum Rejection {
+    /// It is no program that is loaded.
+    Program(LoadFault),
+    /// It is no source that is assembled.
+    Source(AsmFault),
+    /// It is no report: its first line that is not in the format, and the part to which that should belong.
+    Report { line: u64, kind: ReportKind },
+}
+
+/// The status of a rejection.
+pub fn status_of_rejection(rejection: &Rejection) -> Status
+    ensures { result ≡ rejection_status rejection.now }
+{
+    match rejection {
+        Rejection::Program(_) => Status::BadFile,
+        Rejection::Source(_) => Status::BadSource,
+        Rejection::Report { .. } => Status::BadReport,
+    }
+}
+
+/// Writes the line of a rejection.
+pub fn write_rejection<K: Sink>(out: &mut K, rejection: &Rejection) -> Result<(), PutFault>
+    ensures { Writes (K.view out.old) (K.view out.new) result (rejection_line rejection.now) }
+{
+    match rejection {
+        Rejection::Program(fault) => write_fault(out, *fault),
+        Rejection::Source(fault) => write_source_fault(out, *fault),
+        Rejection::Report { line, kind } => write_report_fault(out, *line, *kind),
+    }
+}
