@@ -23,7 +23,6 @@ use Rattle.smemu.specs.Requests.{Named, files_named, files_asked, reached_of, Is
 use Rattle.smemu.specs.Requests.{due_of_request, may_end, IsAmong, IsDueOf, IsDue}
 use Rattle.smemu.specs.Views.{answer_text, refusal_status, refusal_text, end_text, end_status, EndsRequest, EndsWords}
 use Rattle.smemu.specs.declared.answer.Answer.{Answer}
-use Rattle.smemu.specs.declared.ending.Ending.{Ending}
 use Rattle.smemu.specs.declared.ending.Ending.TheVariants as ending
 use Rattle.smemu.specs.declared.refusal.Refusal.{Refusal}
 use Rattle.smemu.specs.declared.refusal.Refusal.TheVariants as refusal

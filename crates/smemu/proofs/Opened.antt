@@ -1,18 +1,17 @@
 -- A command whose files are opened one after the other, from the words' names to its end.
-use Rattle.std.proofs.Common.{◌≡◌, ◌⊎◌, inl, inr, ℕ, ◌<◌, ◌≤◌, List, [], ◌∷◌, ◌++◌, append_assoc, append-nil, Option, Some, None, refl, sym}
+use Rattle.std.proofs.Common.{◌≡◌, ◌⊎◌, inl, inr, ℕ, ◌≤◌, List, [], ◌∷◌, ◌++◌, append_assoc, append-nil, Some, None, refl, sym}
 use Rattle.std.proofs.Common.{◌∙◌, ap, subst, arith, Result, Ok, Err}
 use Rattle.std.specs.Prelude.{IfSome, IsSome, codes}
 use Rattle.std.specs.List.{concat}
 use Rattle.cmd_words.specs.Words.{Request}
 use Rattle.edge_io.specs.Cause.{Rose}
 use Rattle.edge_io.specs.Files.{Told, FilesView, IsKept}
-use Rattle.command_lines.specs.declared.status.Status.{Status}
 use Rattle.command_lines.specs.declared.status.Status.TheVariants.{Done, OutOfMemory}
-use Rattle.smemu.specs.Answers.{AreAccepted, IsOutcome}
-use Rattle.smemu.specs.Ends.{Change, change, AreFetched, FetchesReached, IsRejection, Stands}
-use Rattle.smemu.specs.Rejections.{Kind, limit_of, rejection_of, rejection_status}
+use Rattle.smemu.specs.Answers.{AreAccepted}
+use Rattle.smemu.specs.Ends.{Change, change, AreFetched, IsRejection, Stands}
+use Rattle.smemu.specs.Rejections.{limit_of, rejection_status}
 use Rattle.smemu.specs.Requests.{Named, files_named, reached_of}
-use Rattle.smemu.specs.Views.{CarriesOut, EndsAccepted, EndsRequest, IsOpened, IsUnopened, end_status, refusal_status, refusal_text}
+use Rattle.smemu.specs.Views.{CarriesOut, EndsAccepted, EndsRequest, IsOpened, IsUnopened, refusal_status, refusal_text}
 use Rattle.smemu.specs.declared.answer.Answer.{Answer}
 use Rattle.smemu.specs.declared.ending.Ending.TheVariants as ending
 use Rattle.smemu.specs.declared.refusal.Refusal.{Refusal}

@@ -1,7 +1,7 @@
 -- The replay of a thread of a report, from what its parts say.
-use Rattle.std.proofs.Common.{◌≡◌, ◌⊎◌, inl, inr, ℕ, zero, suc, ◌<◌, ◌≤◌, Bool, true, false, cond, List, [], ◌∷◌, length, map, get_or, refl}
+use Rattle.std.proofs.Common.{◌≡◌, inl, inr, ℕ, zero, suc, ◌<◌, ◌≤◌, Bool, true, false, cond, List, [], ◌∷◌, length, map, get_or, refl}
 use Rattle.std.proofs.Common.{sym, ap}
-use Rattle.std.proofs.Common.{◌∙◌, subst, arith, Option, Some, None, Result, Ok, Err}
+use Rattle.std.proofs.Common.{◌∙◌, subst, arith, Some, None, Result, Ok, Err}
 use Rattle.std.specs.Prelude.{slice_get, nat_lt}
 use Rattle.cmd_words.specs.Command.{asking}
 use Rattle.cmd_words.specs.Options.{default_options}
@@ -11,10 +11,8 @@ use Rattle.std.proofs.lemmas.Bool.Decides.{nat_tests}
 use Rattle.sha2.specs.Sha256.{sha256}
 use Rattle.sm_types.specs.declared.config.Config.{Config}
 use Rattle.sm_types.specs.declared.shared_op.Event.{Event}
-use Rattle.sm_types.specs.declared.stop.Stop.{Stop}
 use Rattle.elf_loader.specs.Loading.{Loads}
 use Rattle.kernel_contexts.specs.Context.{state_of, stop_of, thread_of, journal_of}
-use Rattle.kernel_contexts.specs.State.{State}
 use Rattle.kernel_contexts.specs.declared.context.Context.{Context}
 use Rattle.lone_runner.specs.LoneRun.{IsLoneRun, HasRunAlone}
 use Rattle.paged_memory.specs.Image.{Program}
@@ -30,8 +28,8 @@ use Rattle.std.specs.Str.{bytes_eq}
 use Rattle.report_reader.specs.declared.parts.ReportBlock.{ReportBlock}
 use Rattle.report_text.specs.Block.{block_text}
 use Rattle.command_lines.specs.ReportLines.{difference_lines}
-use Rattle.smemu.specs.Replay.{mismatch, text_in, text_of, EndsAsSaid, IsBlockIn}
-use Rattle.smemu.specs.Views.{answer_text, ComparesSo, EndsAccepted, EndsReplay, IsPartedRefusal, IsUnmatched}
+use Rattle.smemu.specs.Replay.{mismatch, text_in, text_of, EndsAsSaid, IsBlockIn, IsReplayOf}
+use Rattle.smemu.specs.Views.{ComparesSo, EndsAccepted, EndsReplay, IsPartedRefusal, IsUnmatched}
 use Rattle.smemu.specs.declared.answer.Answer.{Answer}
 use Rattle.smemu.specs.declared.ending.Difference.TheVariants as difference
 use Rattle.smemu.specs.declared.ending.Ending.TheVariants as ending
@@ -115,22 +113,27 @@ module _ (file bytes : List ℕ) (thread : ℕ) (program : Program) (config : Co
     its_text : block_text (thread_of context) (state_of context) (stop_of context) (journal_of context) ≡ text_of ended
     its_text = λ i. block_text (alone.number i) (state_of context) (alone.stopped i) (journal i)
 
-    pub compared_ends : (end : Result Answer Refusal)
+    -- and its block is the report's
+    pub compared_same : text_in bytes block
+        ≡ block_text (thread_of context) (state_of context) (stop_of context) (journal_of context)
+        → IsReplayOf file bytes thread (text_in bytes block)
+    compared_same same = record { at = at; end = ended; is_text = same ∙ its_text; same = refl }
+
+    -- or another
+    pub compared_ends : (r : Refusal)
         → ComparesSo (text_in bytes block) block.first_line
-        (block_text (thread_of context) (state_of context) (stop_of context) (journal_of context)) end
-        → EndsReplay file bytes thread end
-    compared_ends (Ok a) h =
-        record { at = at; end = ended; is_text = h.0 ∙ its_text; same = h.1 ∙ sym h.0 }
-    compared_ends (Err (refusal.Ended (ending.Differs (difference.Lines line report replay)))) h = inr (record {
+        (block_text (thread_of context) (state_of context) (stop_of context) (journal_of context)) (Err r)
+        → EndsReplay file bytes thread (Err r)
+    compared_ends (refusal.Ended (ending.Differs (difference.Lines line report replay))) h = inr (record {
       at = at;
       end = ended;
       it = h.0;
       first = subst (λ (text : List ℕ). first_difference 0 (lines_of (text_in bytes block)) (lines_of text) ≡ Some h.0) its_text h.1;
       is_text = λ i. difference_lines (h.2.0 i) (h.2.1 i) (h.2.2 i);
     })
-    compared_ends (Err (refusal.Ended (ending.Differs (difference.Parts fault)))) h = absurd h.2
-    compared_ends (Err refusal.Memory) h = tt
-    compared_ends (Err r) h = absurd h
+    compared_ends (refusal.Ended (ending.Differs (difference.Parts fault))) h = absurd h.2
+    compared_ends refusal.Memory h = tt
+    compared_ends r h = absurd h
 
 -- the end of a replay, for its request
 pub replay_accepted : (program report : List ℕ) (thread : ℕ) (file bytes : List ℕ) (end : Result Answer Refusal)

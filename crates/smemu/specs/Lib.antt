@@ -2,6 +2,8 @@ pub mod Rejections
 pub mod Requests
 pub mod DifferLines
 pub mod Replay
+pub mod Compare
+pub mod Excerpt
 pub mod Answers
 pub mod Ends
 pub mod Views

@@ -5,7 +5,6 @@ use Rattle.std.specs.List.{concat}
 use Rattle.std.specs.String.{string_bytes}
 use Rattle.edge_io.specs.Cause.{Rose}
 use Rattle.edge_io.specs.Files.{Told, FilesView, IsKept}
-use Rattle.edge_io.specs.MemSink as mem_sink
 use Rattle.cmd_words.specs.Words.{Request}
 use Rattle.code_listing.specs.Listing.{listing_text}
 use Rattle.lone_runner.specs.Parting.{IsParting}
@@ -25,6 +24,7 @@ use Rattle.command_lines.specs.declared.status.Status.{Status}
 use Rattle.command_lines.specs.declared.status.Status.TheVariants as status
 use Rattle.smemu.specs.Answers.{IsFile, outcome}
 use Rattle.smemu.specs.DifferLines.{parting_line}
+use Rattle.smemu.specs.Excerpt.{excerpt_text}
 use Rattle.smemu.specs.Ends.{Change, change, Stands, Defined, FetchesReached}
 use Rattle.smemu.specs.Rejections.{Kind, rejection_of, rejection_status, rejection_line}
 use Rattle.smemu.specs.Replay.{mismatch, IsReplayOf, IsMismatched, DiffersSo}
@@ -51,7 +51,7 @@ abbrev pub answer_text : Answer → List ℕ
 answer_text (answer.Report report) = run_text report
 answer_text (answer.Listing image) = listing_text image.code
 answer_text (answer.Program bytes) = bytes.items
-answer_text (answer.Block text) = mem_sink.text_of text
+answer_text (answer.Block block) = excerpt_text block
 answer_text answer.Help = help_text
 answer_text answer.Version = version_text
 
@@ -170,8 +170,8 @@ IsOtherLine line report replay (difference.Lines number first second) =
 IsOtherLine line report replay other = ⊥
 
 -- what comes of comparing a block of the report, whose first line has this number, with that of the replay
-abbrev pub ComparesSo : List ℕ → ℕ → List ℕ → Result Answer Refusal → Type 0
-ComparesSo report line replay (Ok a) = (answer_text a ≡ replay) × (report ≡ replay)
+abbrev pub ComparesSo : List ℕ → ℕ → List ℕ → Result (Unit {0}) Refusal → Type 0
+ComparesSo report line replay (Ok nothing) = report ≡ replay
 ComparesSo report line replay (Err (refusal.Ended (ending.Differs it))) =
     (first : lines.Difference) × (first_difference 0 (lines_of report) (lines_of replay) ≡ Some first)
     × IsOtherLine (line + first.line) first.first first.second it

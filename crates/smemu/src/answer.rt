@@ -2,9 +2,10 @@
 ghost use Rattle.edge_io.specs.Sink.{Writes};
 ghost use Rattle.smemu.specs.Views.{answer_text, run_text};
 
+use crate::excerpt::Excerpt;
 use code_listing::write_listing;
 use command_lines::{write_help, write_version};
-use edge_io::{MemSink, PutFault, Sink};
+use edge_io::{PutFault, Sink};
 use kernel_contexts::Finished;
 use paged_memory::Image;
 use report_text::{Head, write_report};
@@ -27,8 +28,8 @@ pub enum Answer {
     Listing(Image),
     /// The bytes of the program file that a source is assembled to.
     Program(Vec<u8>),
-    /// The block of a thread that was replayed.
-    Block(MemSink),
+    /// The block of a thread that was replayed, which stands in its report.
+    Block(Excerpt),
     Help,
     Version,
 }
@@ -49,7 +50,7 @@ pub fn write_answer<K: Sink>(out: &mut K, answer: &Answer) -> Result<(), PutFaul
         Answer::Report(report) => write_run(out, report),
         Answer::Listing(image) => write_listing(image.code(), out),
         Answer::Program(bytes) => out.put(bytes.as_slice()),
-        Answer::Block(text) => out.put(text.bytes()),
+        Answer::Block(block) => out.put(block.bytes()),
         Answer::Help => write_help(out),
         Answer::Version => write_version(out),
     }

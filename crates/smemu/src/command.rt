@@ -114,14 +114,7 @@ fn replay_thread<F: Files>(
 {
     let file = open_program(alloc, program, files)?;
     let read = open_report(alloc, report, files)?;
-    replay_report(
-        alloc,
-        file.bytes.as_slice(),
-        &file.content,
-        read.bytes.as_slice(),
-        &read.content,
-        thread,
-    )
+    replay_report(alloc, file.bytes.as_slice(), &file.content, read, thread)
 }
 
 /// Carries out a command.

@@ -13,8 +13,10 @@
 
 mod answer;
 mod command;
+mod compare;
 mod differ_line;
 mod ending;
+mod excerpt;
 mod files;
 mod in_memory;
 mod refusal;

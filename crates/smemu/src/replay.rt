@@ -1,6 +1,6 @@
 //! The replay of a guest thread of a report: the thread is run alone, answered by its journal, and its block
 //! is compared with the report's.
-ghost use Rattle.std.specs.Prelude.{◌≡◌, ◌≤◌, ◌<◌, IfOk, IfErr, OnOk, All, Ok, None, length};
+ghost use Rattle.std.specs.Prelude.{◌≡◌, ◌≤◌, ◌<◌, IfOk, IfErr, OnOk, All, Ok, None, IsTrue, length};
 ghost use Rattle.sha2.specs.Sha256.{sha256};
 ghost use Rattle.elf_loader.specs.Loading.{Loads};
 ghost use Rattle.kernel_contexts.specs.Context.{journal_of, state_of, stop_of, thread_of};
@@ -14,11 +14,13 @@ ghost use Rattle.smemu.specs.declared.refusal.Refusal.TheVariants as refusals;
 ghost use Rattle.smemu.specs.Views.{ComparesSo, EndsReplay, IsOtherLine, IsPartedRefusal};
 
 use crate::answer::Answer;
+use crate::compare::{Comparison, Kept};
 use crate::ending::{Difference, Ending};
+use crate::excerpt::Excerpt;
+use crate::files::Opened;
 use crate::refusal::Refusal;
-use edge_io::MemSink;
 use kernel_contexts::Context;
-use line_reader::first_difference;
+use line_reader::{first_difference, is_word};
 use lone_runner::{AloneFault, run_alone};
 use paged_memory::Image;
 use report_reader::{Report, ReportBlock, ReportKind};
@@ -26,9 +28,6 @@ use report_text::write_block;
 use sha2::{Digest, Sha256};
 use sm_types::Config;
 use std::alloc::Global;
-
-/// Room for the block of a thread: 262,144 events and 1,048,576 bytes of output take less than half of it.
-const BLOCK_ROOM: usize = 67_108_864;
 
 /// Checks that a report is of this program, and has that thread.
 fn check_match(file: &[u8], thread: u32, report: &Report) -> Result<(), Refusal>
@@ -90,29 +89,68 @@ fn other_line(alloc: Global, line: u64, report: &[u8], replay: &[u8]) -> Result<
     })
 }
 
-/// Compares a block of the report with that of the thread that was run alone.
+/// Whether the block of a thread that was run alone is that text.
+fn is_block(text: &[u8], context: &Context) -> bool
+    ensures { IsTrue result → text.now ≡ block_text (thread_of context.now) (state_of context.now)
+        (stop_of context.now) (journal_of context.now) }
+{
+    let mut comparison = Comparison::with(text);
+    write_block(context, &mut comparison).is_ok() && is_word(comparison.came(), text)
+}
+
+/// Compares a block of the report with that of the thread that was run alone. Where they are the same, no
+/// memory is taken.
 fn compare(
     alloc: Global,
     report: &[u8],
     block: &ReportBlock,
     context: &Context,
-) -> Result<Answer, Refusal>
+) -> Result<(), Refusal>
     requires places { StandsIn report.now block.now }
     requires size { length report.now ≤ 1073741824 }
     ensures { ComparesSo (spec.text_in report.now (block_said block.now)) block.now.first_line
         (block_text (thread_of context.now) (state_of context.now) (stop_of context.now)
         (journal_of context.now)) result }
 {
-    let mut text = MemSink::new(alloc, BLOCK_ROOM)?;
-    if write_block(context, &mut text).is_err() {
+    let text = &report[block.start..block.end];
+    if is_block(text, context) {
+        return Ok(());
+    }
+    let mut replay = Kept::new(alloc);
+    if write_block(context, &mut replay).is_err() {
         return Err(Refusal::Memory);
     }
-    if let Some(it) = first_difference(&report[block.start..block.end], text.bytes()) {
-        let line = block.first_line + it.line as u64;
-        let other = other_line(alloc, line, it.first, it.second)?;
-        return Err(Refusal::Ended(Ending::Differs(other)));
-    }
-    Ok(Answer::Block(text))
+    let Some(it) = first_difference(text, replay.bytes()) else {
+        return Ok(());
+    };
+    let line = block.first_line + it.line as u64;
+    let other = other_line(alloc, line, it.first, it.second)?;
+    Err(Refusal::Ended(Ending::Differs(other)))
+}
+
+/// Where the block of a thread stands in its report, where running the thread alone comes to it.
+fn replayed_block<'a>(
+    alloc: Global,
+    file: &[u8],
+    image: &Image,
+    bytes: &[u8],
+    report: &'a Report,
+    thread: u32,
+) -> Result<&'a ReportBlock, Refusal>
+    requires loads { Loads file.now image.now }
+    requires reads { report_in bytes.now ≡ Ok (report_said report.now) }
+    requires cores { report.now.config.cores ≡ 1 }
+    requires places { All (StandsIn bytes.now) report.now.blocks.items }
+    ensures same { IfOk result (λ block. spec.IsReplayOf file.now bytes.now thread
+        (spec.text_in bytes.now (block_said block.now))) }
+    ensures stands { IfOk result (λ block. StandsIn bytes.now block.now) }
+    ensures ends { IfErr result (λ refusal. EndsReplay file.now bytes.now thread (Err refusal)) }
+{
+    check_match(file, thread, report)?;
+    let block = &report.blocks[thread as usize];
+    let context = run_block(alloc, image, &report.config, thread, block)?;
+    compare(alloc, bytes, block, &context)?;
+    Ok(block)
 }
 
 /// The replay of a thread of a report: its block, where running it alone comes to the block that stands in
@@ -121,18 +159,21 @@ pub fn replay_report(
     alloc: Global,
     file: &[u8],
     image: &Image,
-    bytes: &[u8],
-    report: &Report,
+    report: Opened<Report>,
     thread: u32,
 ) -> Result<Answer, Refusal>
     requires loads { Loads file.now image.now }
-    requires reads { report_in bytes.now ≡ Ok (report_said report.now) }
-    requires cores { report.now.config.cores ≡ 1 }
-    requires places { All (StandsIn bytes.now) report.now.blocks.items }
-    ensures { EndsReplay file.now bytes.now thread result }
+    requires reads { report_in report.bytes.items ≡ Ok (report_said report.content) }
+    requires cores { report.content.config.cores ≡ 1 }
+    requires places { All (StandsIn report.bytes.items) report.content.blocks.items }
+    ensures { EndsReplay file.now report.bytes.items thread result }
 {
-    check_match(file, thread, report)?;
-    let block = &report.blocks[thread as usize];
-    let context = run_block(alloc, image, &report.config, thread, block)?;
-    compare(alloc, bytes, block, &context)
+    let bytes = report.bytes.as_slice();
+    let block = replayed_block(alloc, file, image, bytes, &report.content, thread)?;
+    let (start, end) = (block.start, block.end);
+    Ok(Answer::Block(Excerpt {
+        text: report.bytes,
+        start,
+        end,
+    }))
 }

@@ -7,7 +7,7 @@ use Rattle.command_lines.specs.declared.status.Status.TheVariants.{Usage}
 use Rattle.smemu.specs.Ends.{change}
 use Rattle.smemu.specs.Requests.{files_asked}
 use Rattle.smemu.specs.Views.{end_status}
-use Rattle.smemu.proofs.Ends.{asked_ends, fetches_asked, fetches_none, fetches_nothing, no_request, usage_stands}
+use Rattle.smemu.proofs.Ends.{asked_ends, fetches_asked, fetches_none, no_request, usage_stands}
 use Rattle.smemu.proofs.Words.{one_thread}
 use Rattle.smemu.proofs.command.answer_words.Goals as goal
 

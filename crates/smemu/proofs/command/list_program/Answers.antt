@@ -5,7 +5,6 @@ use Rattle.cmd_words.specs.declared.command.Command.TheVariants as command
 use Rattle.smemu.specs.Rejections.{ProgramFile}
 use Rattle.smemu.specs.Views.{CarriesOut}
 use Rattle.smemu.specs.declared.answer.Answer.TheVariants as answer
-use Rattle.smemu.specs.declared.refusal.Refusal.TheVariants as refusal
 use Rattle.smemu.proofs.Opened.{all_opened, none_opened, opened_next, refused_next}
 use Rattle.smemu.proofs.command.list_program.Goals as goal
 

@@ -8,8 +8,8 @@ use Rattle.report_text.specs.Block.{block_text}
 use Rattle.smemu.specs.Replay.{text_in}
 use Rattle.smemu.proofs.replay.compare.Goals as goal
 
-pub returns-in-Some : goal.returns-in-Some
-returns-in-Some c =
+pub returns : goal.returns
+returns c =
     let context = c.args.context.now in
     let first : first_difference 0 (lines_of (text_in c.args.report.now (block_said c.args.block.now)))
     (lines_of (block_text (thread_of context) (state_of context) (stop_of context) (journal_of context)))
