@@ -18,7 +18,8 @@ import sys
 import tempfile
 
 NOP = 0xD503201F
-DUMPS = [("llvm-objdump", ["--mattr=+all"]), *((f"llvm-objdump-{n}", ["--mattr=+all"]) for n in range(25, 15, -1)), ("aarch64-linux-gnu-objdump", [])]
+# each with what it needs to know all instructions, the best first
+DUMPS = [*((f"llvm-objdump-{n}", ["--mattr=+all"]) for n in range(30, 15, -1)), ("aarch64-linux-gnu-objdump", []), ("llvm-objdump", [])]
 
 
 def asked(smemu, image):
@@ -26,7 +27,7 @@ def asked(smemu, image):
     with tempfile.NamedTemporaryFile() as copy:
         copy.write(image)
         copy.flush()
-        ended = subprocess.run([smemu, "dis", copy.name], capture_output=True, text=True)
+        ended = subprocess.run([smemu, "dis", copy.name], stdout=subprocess.PIPE, text=True, env={**os.environ, "SMEMU_QUIET": "1"})
     return ended.stdout.partition("\n")[0], ended.returncode
 
 
@@ -85,14 +86,17 @@ def main():
     parser.add_argument("program")
     parser.add_argument("--smemu", default=str(pathlib.Path(__file__).resolve().parent.parent / "smemu"))
     words = parser.parse_args()
-    image = pathlib.Path(words.program).read_bytes()
+    try:
+        image = pathlib.Path(words.program).read_bytes()
+    except OSError as error:
+        sys.exit(f"{words.program}: {error.strerror}")
     found, fault = refused(words.smemu, image)
     functions, texts = functions_of(image) if found else [], texts_of(words.program) if found else {}
     for address, word in sorted(found.items()):
         before = bisect.bisect(functions, (address, chr(0x10FFFF)))
         where = functions[before - 1][1] if before else "-"
         print(f"{address:#018x} {word} {where}" + (f": {texts[address]}" if address in texts else ""))
-    print(fault or f"{len(found)} words are not listed")
+    print(fault or f"not listed: {len(found)}")
     return 1 if fault else 0
 
 

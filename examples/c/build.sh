@@ -3,12 +3,15 @@
 #
 #     examples/c/build.sh clang-19 ld.lld-19 PROGRAM
 #     examples/c/build.sh aarch64-linux-gnu-gcc aarch64-linux-gnu-ld PROGRAM
+#
+# Words after these, as -g, go to the compiler.
 set -eu
 compiler=$1 linker=$2 program=$3
+shift 3
 from=$(dirname "$0")
 work=$(mktemp -d)
 trap 'rm -r "$work"' EXIT
-options="-O2 -ffreestanding -fno-pic -Wall -Wextra"
+options="-O2 -ffreestanding -fno-pic -Wall -Wextra $*"
 case $compiler in
 *clang*)
     compiler="$compiler --target=aarch64-linux-gnu"
