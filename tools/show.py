@@ -3,7 +3,8 @@
 
     tools/show.py REPORT [OTHER] [--size b|h|s|d] [--unsigned | --hex] [--thread N]
 
-An element has 1, 2, 4 or 8 bytes (s, 4, where it is not said). Element 0 stands first; row R of a tile is line R of its table. REPORT may be /dev/stdin.
+An element has 1, 2, 4 or 8 bytes (s, 4, where it is not said). Element 0 stands first; row R of a tile is line R of its table, from 0 on.
+REPORT may be /dev/stdin. The status is 1 where two reports differ.
 """
 import argparse
 import pathlib
