@@ -12,9 +12,11 @@ import pathlib
 import pty
 import re
 import shutil
+import signal
 import subprocess
 import sys
 import tempfile
+import threading
 
 TOP = pathlib.Path(__file__).resolve().parent.parent
 PAGES = ("README.md", "docs/TUTORIAL.md", "docs/FROM_C.md")
@@ -54,6 +56,8 @@ def shown(command, folder):
     main, side = pty.openpty()
     shell = subprocess.Popen(["bash", "-c", command], cwd=folder, stdin=subprocess.DEVNULL, stdout=side, stderr=side, start_new_session=True)
     os.close(side)
+    alarm = threading.Timer(SECONDS, os.killpg, (shell.pid, signal.SIGKILL))
+    alarm.start()
     said = b""
     try:
         while part := os.read(main, 65536):
@@ -62,7 +66,8 @@ def shown(command, folder):
         # the other side is closed
         pass
     os.close(main)
-    shell.wait(SECONDS)
+    shell.wait()
+    alarm.cancel()
     return re.sub(r"\d+ s\r(?!\n)|\033\[K", "", said.decode(errors="replace").replace("\r\n", "\n")).splitlines()
 
 
