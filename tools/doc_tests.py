@@ -7,6 +7,7 @@ PROGRAM is the emulator, as in crates/smemu_cli/out; where it is not given ./sme
 or the end of the block stands what a terminal shows. Those of a page run in its order in a folder of its own, with the wrapper, tools/ and examples/.
 A command that needs a tool which is not installed is passed over, and so is one that reads a file which that one would have made.
 """
+import concurrent.futures
 import os
 import pathlib
 import pty
@@ -82,8 +83,8 @@ def make_folder(folder, program):
 
 
 def try_page(page, program, there):
-    """The numbers of commands that ran and that were passed over, and whether all printed what is written."""
-    ran, passed, agree, lacking = 0, 0, True, set()
+    """The lines to say of a page, and whether all its commands printed what is written."""
+    ran, passed, lines, lacking = 0, 0, [], set()
     with tempfile.TemporaryDirectory() as name:
         folder = pathlib.Path(name)
         make_folder(folder, program)
@@ -96,11 +97,8 @@ def try_page(page, program, there):
             said = shown(command, folder)
             ran += 1
             if said != wanted:
-                agree = False
-                print(f"{page}:{number}: $ {command}")
-                print(*(f"  written: {line}" for line in wanted), *(f"  printed: {line}" for line in said), sep="\n")
-    print(f"{page}: {ran} commands ran, {passed} were passed over")
-    return agree
+                lines += [f"{page}:{number}: $ {command}", *(f"  written: {line}" for line in wanted), *(f"  printed: {line}" for line in said)]
+    return [*lines, f"{page}: {ran} commands ran, {passed} were passed over"], not lines
 
 
 def main():
@@ -111,7 +109,10 @@ def main():
         program = TOP / "crates/smemu_cli/out/smemu_cli"
     there = {tool: is_there(tool) for tool in TOOLS}
     print("not there: " + (", ".join(tool for tool in TOOLS if not there[tool]) or "none"))
-    return 0 if all([try_page(page, program, there) for page in PAGES]) else 1
+    with concurrent.futures.ThreadPoolExecutor() as pool:
+        tried = list(pool.map(lambda page: try_page(page, program, there), PAGES))
+    print(*(line for lines, _ in tried for line in lines), sep="\n")
+    return 0 if all(agree for _, agree in tried) else 1
 
 
 if __name__ == "__main__":
