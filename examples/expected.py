@@ -9,6 +9,7 @@ import hashlib
 import struct
 import sys
 
+import expected_compiled
 from expected_matrix import Matrix
 from expected_signals import BadFrame, come_back, deliver
 from expected_vectors import Vectors
@@ -303,7 +304,8 @@ class Thread:
             return after
         if self.vectors.execute(word, self) or self.matrix.execute(word, self):
             return after
-        return self.access(word, rd, rn, after)
+        target = expected_compiled.execute(word, self)
+        return self.access(word, rd, rn, after) if target is None else target
 
     def read(self, number):
         return 0 if number == 31 else self.x[number]

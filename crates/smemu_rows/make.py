@@ -4,7 +4,8 @@
     crates/smemu_rows/make.py
 
 The reports come from examples/expected.py and the interpreters beside it, which share nothing with the emulator; the refusals, and the
-listings but one, are written out here. The files real-*.elf come from real/make.sh, which runs an assembler and two linkers.
+listings but one, are written out here. The files real-*.elf come from real/make.sh, which runs an assembler and two linkers, and
+those of real/compiled from real/make_compiled.sh, which runs two compilers.
 """
 import pathlib
 import re
@@ -560,6 +561,17 @@ def runs(programs):
             yield f"{name}-until-{budget}", file, {"svl": svl, "budget": budget}
 
 
+def compiled():
+    """What two compilers make of examples/c, by real/make_compiled.sh, and the options of its runs; it writes what it writes under QEMU."""
+    for path in sorted((HERE / "real" / "compiled").glob("*.elf")):
+        file, written = path.read_bytes(), path.with_suffix(".out").read_bytes()
+        for length in (128, 512, 2048):
+            options = {"vl": length, "svl": length}
+            lines = report(file, **options).splitlines()
+            assert "stop exited 42" in lines and bytes.fromhex("".join(line[4:] for line in lines if line.startswith("out "))) == written
+            yield f"compiled-{path.stem}-at-{length}", file, options
+
+
 def replaced(old, new):
     """The report with the first such part replaced."""
     return lambda text: text.replace(old, new, 1)
@@ -634,7 +646,7 @@ def main():
     data = HERE / "data"
     rows = [(name, elf(words), {"slice": 1_000_000} if name == "loops" else {}) for name, words in REPORTS.items()] + list(loaded()) + [(name, file, {}) for name, file in [*accesses(), *shared_operations()]]
     programs = list(assemblies())
-    rows += [*signals(), *runs(programs), *vector_accesses(), *((name, file, {}) for name, file in matrix_stops())]
+    rows += [*signals(), *runs(programs), *compiled(), *vector_accesses(), *((name, file, {}) for name, file in matrix_stops())]
     rows = [(f"{name}.elf", 0, file, report(file, **options), {"run": "", **options}) for name, file, options in rows]
     reports = {name.removesuffix(".elf"): (file, text.encode()) for name, _, file, text, _ in rows}
     altered = altered_list({**reports, TWO_THREADS: (reports["answer"][0], two_threads(reports["answer"][0]))})

@@ -4,7 +4,7 @@ ghost use Rattle.command_lines.specs.Texts as text;
 
 use edge_io::{PutFault, Sink};
 
-/// The commands, their options and the statuses.
+/// The commands, their options, the statuses, and what the usual refusals of a program file mean.
 pub const HELP: &[u8] = b"\
 smemu runs AArch64 programs and reports what they did, and assembles them.
 
@@ -34,6 +34,13 @@ statuses:
   8   there was no memory
   9   bad report: line L: KIND, where the file is no report of PROGRAM with that thread
   10   differs: where the thread and its report part: a line of both, or KIND VALUES
+
+what the usual refusals of a program file mean:
+  notstatic 1   an object file: link it
+  notstatic 3   link it with -static -no-pie
+  notstatic 7   thread-local storage, as a library of C has: link it with -nostdlib
+  truncated N   with a small N the file may be a refusal of asm, with its text
+  unlisted      an instruction that is not there: see docs/FROM_C.md
 ";
 
 /// The version of the command.

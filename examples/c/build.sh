@@ -1,0 +1,29 @@
+#!/bin/sh
+# Makes the program: with clang, 18 or later, and lld, all its parts; with GCC, 12 or later, and GNU ld those without streaming code.
+#
+#     examples/c/build.sh clang-19 ld.lld-19 PROGRAM
+#     examples/c/build.sh aarch64-linux-gnu-gcc aarch64-linux-gnu-ld PROGRAM
+#
+# Words after these, as -g, go to the compiler.
+set -eu
+compiler=$1 linker=$2 program=$3
+shift 3
+from=$(dirname "$0")
+work=$(mktemp -d)
+trap 'rm -r "$work"' EXIT
+options="-O2 -ffreestanding -fno-pic -Wall -Wextra $*"
+case $compiler in
+*clang*)
+    compiler="$compiler --target=aarch64-linux-gnu"
+    scalar="-DMATRIX" vectors="-mno-implicit-float"
+    $compiler $options -march=armv9-a+sme -mno-implicit-float -c "$from/matrix.c" -o "$work/matrix.o"
+    $compiler -c "$from/za.s" -o "$work/za.o"
+    ;;
+*)
+    scalar="" vectors="-fno-tree-vectorize"
+    ;;
+esac
+$compiler $options -march=armv8.1-a -mgeneral-regs-only $scalar -c "$from/main.c" -o "$work/main.o"
+$compiler $options -march=armv8.1-a+sve2 $vectors -c "$from/vectors.c" -o "$work/vectors.o"
+$compiler -c "$from/start.s" -o "$work/start.o"
+"$linker" -static -z max-page-size=4096 -o "$program" "$work"/*.o
