@@ -13,8 +13,8 @@ use machine_step::Machine;
 use mem_access::Bank;
 
 /// What a machine stands for with a bank in its mode is a state as the laws of frames ask for, with each
-/// signal from 1 to 62 and with the VL of the bank: its numbers fit their fields, its vectors, predicates, FFR
-/// and ZA have the lengths of the mode, and ZA is zero where it is off. So `frame_brings_back` and
+/// signal from 1 to 62 and with the VL of the bank: its numbers fit their fields, its vectors, predicates,
+/// FFR and ZA have the lengths of the mode, and ZA is zero where it is off. So `frame_brings_back` and
 /// `delivery_leaves_its_frame` hold of it.
 pub fn machines_are_in_range(machine: &Machine, bank: &Bank)
     requires { IsInMode bank.now machine.now }

@@ -11,8 +11,8 @@ use Rattle.report_laws.proofs.in_range.contexts_are_in_range.Goals as goal
 pub returns : goal.returns
 returns c =
     let context = c.args.context.now in
+    let bank = save_area_of context in
     λ signal least greatest. subst (λ vl. IsInRange (vector_bytes vl) signal (state_of context).core) context.guest.save_area.vl
-    (subst (λ (m : Machine). IsInRange (vector_bytes (save_area_of context).vectors.vl) signal (core_of m (bank_state (save_area_of context))))
-    c.machine.ensures
+    (subst (λ (m : Machine). IsInRange (vector_bytes bank.vectors.vl) signal (core_of m (bank_state bank))) c.machine.ensures
     (subst (λ (b : Bank). IsInRange (vector_bytes b.vectors.vl) signal (core_of c.machine.result.now (bank_state b))) c.bank.ensures.value
     (c.machines_are_in_range.ensures signal least greatest)))
