@@ -91,7 +91,7 @@ fn stop_fits(stop: Stop)
 }
 
 /// Z0 to Z31.
-fn vectors_fit(vectors: &Vectors)
+pub(crate) fn vectors_fit(vectors: &Vectors)
     ensures bytes { AllBytes vectors.now.registers.vectors }
     ensures registers { AreOfLength (length_of vectors.now) vectors.now.registers }
     ensures short { length_of vectors.now ≤ 256 }
@@ -103,7 +103,7 @@ fn vectors_fit(vectors: &Vectors)
 }
 
 /// The vectors of ZA.
-fn array_fits(za: &Za)
+pub(crate) fn array_fits(za: &Za)
     ensures bytes { AllBytes za.now.vectors }
     ensures square { IsSquare (vector_bytes za.now.svl) za.now.vectors }
     ensures short { vector_bytes za.now.svl ≤ 256 }
@@ -114,7 +114,7 @@ fn array_fits(za: &Za)
 }
 
 /// The registers of a machine, and the number of its pages.
-fn registers_fit(machine: &Machine)
+pub(crate) fn registers_fit(machine: &Machine)
     ensures { IsCoreFit machine.now }
 {
     let scalars = &machine.scalars;
