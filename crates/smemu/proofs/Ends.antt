@@ -136,7 +136,8 @@ outcome_among Help Done operands options files text h = inl refl
 outcome_among Version Done operands options files text h = inl refl
 outcome_among verb s operands options files text h = absurd h
 
-rejection_due : (request : Request) (rejection : Rejection) → IsDueOf (Some request) (rejection_status rejection) (rejection_status rejection)
+rejection_due : (request : Request) (rejection : Rejection) → IsDueOf (Some request) (rejection_status rejection)
+    (rejection_status rejection)
 rejection_due request (rejection.Program fault) = refl
 rejection_due request (rejection.Source fault) = refl
 rejection_due request (rejection.Report line kind) = refl

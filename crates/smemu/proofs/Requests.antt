@@ -24,7 +24,8 @@ reached_after (Some known) (named ∷ names) rest (file ∷ files) h =
     ∙ ap (λ (ns : List Named). named ∷ ns) (reached_after (Some known) names rest files h.2)
 
 -- one more
-pub accepted_more : (told : Told) (names : List Named) (files : List (List ℕ)) (named : Named) (file : List ℕ) → AreAccepted told names files
+pub accepted_more : (told : Told) (names : List Named) (files : List (List ℕ)) (named : Named)
+    (file : List ℕ) → AreAccepted told names files
     → IsFile told named.name file → rejection_of named.kind file ≡ None → AreAccepted told (names ++ named ∷ []) (files ++ file ∷ [])
 accepted_more told [] [] named file h is accepted = (is, accepted, tt)
 accepted_more told [] (first ∷ files) named file h is accepted = absurd h

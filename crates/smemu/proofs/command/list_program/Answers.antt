@@ -13,8 +13,10 @@ returns-in_err-file g c =
     let request = request_of (command.Dis c.args.program) in
     let old = c.args.files.now in
     let ends : CarriesOut g.F.Files.fetched g.F.Files.view request old c.open_program.new.files (Err c.in_err-file.field-0.0) =
-    refused_next g.F.Files.fetched g.F.Files.view request [] [] [] (record { name = string_bytes c.args.program; kind = ProgramFile }) old old
-    c.open_program.new.files refl (none_opened g.F.Files.fetched g.F.Files.view old) c.open_program.ensures.fetched c.open_program.ensures.kept
+    refused_next g.F.Files.fetched g.F.Files.view request [] [] []
+    (record { name = string_bytes c.args.program; kind = ProgramFile }) old old
+    c.open_program.new.files refl (none_opened g.F.Files.fetched g.F.Files.view old) c.open_program.ensures.fetched
+    c.open_program.ensures.kept
     c.in_err-file.field-0.0 c.in_err-file.ensures.unopened in
     search rules
 
@@ -23,7 +25,9 @@ returns g c =
     let request = request_of (command.Dis c.args.program) in
     let old = c.args.files.now in
     all_opened g.F.Files.fetched g.F.Files.view request (c.in_ok-file.file.bytes.items ∷ []) old c.open_program.new.files
-    (opened_next g.F.Files.fetched g.F.Files.view request [] [] [] (record { name = string_bytes c.args.program; kind = ProgramFile }) old old
-    c.open_program.new.files refl (none_opened g.F.Files.fetched g.F.Files.view old) c.open_program.ensures.fetched c.open_program.ensures.kept
+    (opened_next g.F.Files.fetched g.F.Files.view request [] [] []
+    (record { name = string_bytes c.args.program; kind = ProgramFile }) old old
+    c.open_program.new.files refl (none_opened g.F.Files.fetched g.F.Files.view old) c.open_program.ensures.fetched
+    c.open_program.ensures.kept
     c.in_ok-file.file.bytes.items c.in_ok-file.ensures.opened) (Ok (answer.Listing c.in_ok-file.file.content))
     (record { program = c.in_ok-file.file.content; loads = c.in_ok-file.ensures.loads; is_text = refl })

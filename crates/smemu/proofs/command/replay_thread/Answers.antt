@@ -48,5 +48,6 @@ returns g c =
     (none_opened g.F.Files.fetched g.F.Files.view old) c.open_program.ensures.fetched c.open_program.ensures.kept
     c.in_ok-file.file.bytes.items c.in_ok-file.ensures.opened) c.open_report.ensures.fetched c.open_report.ensures.kept
     c.in_ok-read.read.bytes.items c.in_ok-read.ensures.opened) c.replay_report.result
-    (replay_accepted (string_bytes c.args.program) (string_bytes c.args.report) c.args.thread c.in_ok-file.file.bytes.items c.in_ok-read.read.bytes.items
+    (replay_accepted (string_bytes c.args.program) (string_bytes c.args.report) c.args.thread c.in_ok-file.file.bytes.items
+    c.in_ok-read.read.bytes.items
     c.replay_report.result (rw c.as_slice.ensures.value at c.replay_report.ensures))

@@ -14,8 +14,10 @@ returns-in_err-file g c =
     let request = request_of (command.Run c.args.program c.args.config.now) in
     let old = c.args.files.now in
     let ends : CarriesOut g.F.Files.fetched g.F.Files.view request old c.open_program.new.files (Err c.in_err-file.field-0.0) =
-    refused_next g.F.Files.fetched g.F.Files.view request [] [] [] (record { name = string_bytes c.args.program; kind = ProgramFile }) old old
-    c.open_program.new.files refl (none_opened g.F.Files.fetched g.F.Files.view old) c.open_program.ensures.fetched c.open_program.ensures.kept
+    refused_next g.F.Files.fetched g.F.Files.view request [] [] []
+    (record { name = string_bytes c.args.program; kind = ProgramFile }) old old
+    c.open_program.new.files refl (none_opened g.F.Files.fetched g.F.Files.view old) c.open_program.ensures.fetched
+    c.open_program.ensures.kept
     c.in_err-file.field-0.0 c.in_err-file.ensures.unopened in
     search rules
 
@@ -24,8 +26,10 @@ returns-in-Ok g c =
     let request = request_of (command.Run c.args.program c.args.config.now) in
     let old = c.args.files.now in
     all_opened g.F.Files.fetched g.F.Files.view request (c.in_ok-file.file.bytes.items ∷ []) old c.open_program.new.files
-    (opened_next g.F.Files.fetched g.F.Files.view request [] [] [] (record { name = string_bytes c.args.program; kind = ProgramFile }) old old
-    c.open_program.new.files refl (none_opened g.F.Files.fetched g.F.Files.view old) c.open_program.ensures.fetched c.open_program.ensures.kept
+    (opened_next g.F.Files.fetched g.F.Files.view request [] [] []
+    (record { name = string_bytes c.args.program; kind = ProgramFile }) old old
+    c.open_program.new.files refl (none_opened g.F.Files.fetched g.F.Files.view old) c.open_program.ensures.fetched
+    c.open_program.ensures.kept
     c.in_ok-file.file.bytes.items c.in_ok-file.ensures.opened) (Ok (answer.Report c.in-Ok.report))
     (record { config = c.args.config.now; given = refl; report = rw c.as_slice.ensures.value at c.in-Ok.ensures })
 
@@ -34,7 +38,9 @@ returns g c =
     let request = request_of (command.Run c.args.program c.args.config.now) in
     let old = c.args.files.now in
     all_opened g.F.Files.fetched g.F.Files.view request (c.in_ok-file.file.bytes.items ∷ []) old c.open_program.new.files
-    (opened_next g.F.Files.fetched g.F.Files.view request [] [] [] (record { name = string_bytes c.args.program; kind = ProgramFile }) old old
-    c.open_program.new.files refl (none_opened g.F.Files.fetched g.F.Files.view old) c.open_program.ensures.fetched c.open_program.ensures.kept
+    (opened_next g.F.Files.fetched g.F.Files.view request [] [] []
+    (record { name = string_bytes c.args.program; kind = ProgramFile }) old old
+    c.open_program.new.files refl (none_opened g.F.Files.fetched g.F.Files.view old) c.open_program.ensures.fetched
+    c.open_program.ensures.kept
     c.in_ok-file.file.bytes.items c.in_ok-file.ensures.opened) (Err refusal.Memory)
     tt

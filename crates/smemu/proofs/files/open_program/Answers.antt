@@ -20,5 +20,6 @@ returns-in_err-content-clause-unopened g c =
 pub returns-clause-opened : goal.returns-clause-opened
 returns-clause-opened g c =
     let loads = rw c.as_slice.ensures.value at c.in_ok-content.ensures.loads in
-    opened_file ProgramFile (g.F.Files.view c.args.files.now).told FETCH_LIMIT (string_bytes c.args.name) c.in_ok-bytes.bytes.items (lit< tt)
+    opened_file ProgramFile (g.F.Files.view c.args.files.now).told FETCH_LIMIT (string_bytes c.args.name) c.in_ok-bytes.bytes.items
+    (lit< tt)
     c.in_ok-bytes.ensures.front (ap (option_map rejection.Program) loads.accepted)

@@ -22,5 +22,7 @@ returns-in_err-content-clause-unopened g c =
 pub returns-clause-opened : goal.returns-clause-opened
 returns-clause-opened g c =
     let reads = rw c.as_slice.ensures.value at c.in_ok-content.ensures.reads in
-    opened_file ReportFile (g.F.Files.view c.args.files.now).told REPORT_LIMIT (string_bytes c.args.name) c.in_ok-bytes.bytes.items (lit< tt)
-    c.in_ok-bytes.ensures.front (ap (λ (r : Result Report Fault). option_map (λ (fault : Fault). rejection.Report fault.line fault.kind) (fault_in r)) reads)
+    opened_file ReportFile (g.F.Files.view c.args.files.now).told REPORT_LIMIT (string_bytes c.args.name) c.in_ok-bytes.bytes.items
+    (lit< tt)
+    c.in_ok-bytes.ensures.front (ap (λ (r : Result Report Fault). option_map (λ
+    (fault : Fault). rejection.Report fault.line fault.kind) (fault_in r)) reads)

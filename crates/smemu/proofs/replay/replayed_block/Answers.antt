@@ -42,7 +42,8 @@ returns-clause-same c =
     compared_same c.args.file.now c.args.bytes.now c.args.thread c.args.image.now c.args.report.now.config (report_said c.args.report.now)
     (block_said c.index-block.result.now) c.requires.loads c.requires.reads c.in_ok-check_match.ensures.ok refl c.requires.cores
     (said_at c.args.report.now.blocks.items c.args.thread c.index-block.result.now c.index-block.ensures inside)
-    c.in_ok-context.context c.in_ok-context.ensures.run c.in_ok-context.ensures.journal c.in_ok-context.ensures.count c.in_ok-compare.ensures
+    c.in_ok-context.context c.in_ok-context.ensures.run c.in_ok-context.ensures.journal c.in_ok-context.ensures.count
+    c.in_ok-compare.ensures
 
 pub compare-requires-clause-size : goal.compare-requires-clause-size
 compare-requires-clause-size c = report_size c.args.bytes.now (report_said c.args.report.now) c.requires.reads
