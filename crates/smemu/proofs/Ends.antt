@@ -16,7 +16,7 @@ use Rattle.edge_io.specs.declared.sink.PutFault.TheVariants.{Failed}
 use Rattle.command_lines.specs.declared.status.Status.{Status}
 use Rattle.command_lines.specs.declared.status.Status.TheVariants.{Done, Usage, Absent, ReadFault, WriteFault, OutOfMemory, BadReport}
 use Rattle.command_lines.specs.declared.status.Status.TheVariants.{Differs}
-use Rattle.smemu.specs.Answers.{IsOutcome, ends_of}
+use Rattle.smemu.specs.Answers.{IsOutcome, outcomes_of}
 use Rattle.smemu.specs.Ends.{Change, Call, Defined, IsUsage, IsRejection, IsDone, IsRefused, MayCome, FetchesReached, Stands}
 use Rattle.smemu.specs.Rejections.{Kind, rejection_of, rejection_status}
 use Rattle.smemu.specs.Requests.{Named, files_named, files_asked, reached_of, IsReached, due_of_rejection, due_of_file, due_of_files}
@@ -94,19 +94,6 @@ fetches_none fetched told unread old new status names e same = record {
   each = same;
 }
 
--- nothing, for want of memory
-pub fetches_nothing : {F : Type 0} (fetched : F → List ℕ → ℕ → F → Type 0) (told : Told) (unread : Type 0) (old new : F)
-    (names : List Named) → new ≡ old → FetchesReached fetched told unread names old new OutOfMemory
-fetches_nothing fetched told unread old new names same = record {
-  front = [];
-  rest = reached_of told names;
-  part = refl;
-  all = λ some. absurd (some refl);
-  first = λ some is. absurd (some refl);
-  done = λ is. cc;
-  each = same;
-}
-
 -- with another status, that is not Done
 pub fetches_as : {F : Type 0} (fetched : F → List ℕ → ℕ → F → Type 0) (told : Told) (unread : Type 0) (names : List Named) (old new : F)
     (status other : Status) → (status ≡ OutOfMemory → ⊥) → (other ≡ Done → ⊥)
@@ -125,7 +112,7 @@ fetches_as fetched told unread names old new status other some not_done h = reco
 
 -- what becomes of accepted files has a status with which the command may end
 pub outcome_among : (verb : Verb) (s : Status) (operands : List Argument) (options : Options) (files : List (List ℕ)) (text : List ℕ)
-    → ends_of verb s operands options files text → IsAmong s (may_end verb)
+    → outcomes_of verb s operands options files text → IsAmong s (may_end verb)
 outcome_among Run Done operands options files text h = inl refl
 outcome_among Dis Done operands options files text h = inl refl
 outcome_among Asm Done operands options files text h = inl refl

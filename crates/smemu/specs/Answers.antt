@@ -77,43 +77,43 @@ pub record IsProgramOf (source text : List ℕ) : Type 0 where
 -- ---- what may become of a request whose files are accepted
 
 -- how operands, options and the files tell a text
-abbrev pub Ends : Type 1
-Ends = List Argument → Options → List (List ℕ) → List ℕ → Type 0
+abbrev pub Outcome : Type 1
+Outcome = List Argument → Options → List (List ℕ) → List ℕ → Type 0
 
 -- of one file
-abbrev pub of_file : (List ℕ → Options → List ℕ → Type 0) → Ends
+abbrev pub of_file : (List ℕ → Options → List ℕ → Type 0) → Outcome
 of_file tells operands options (file ∷ []) text = tells file options text
 of_file tells operands options files text = ⊥
 
 -- of a program, a report of it, and a thread of that
-abbrev pub of_thread : (List ℕ → List ℕ → ℕ → List ℕ → Type 0) → Ends
+abbrev pub of_thread : (List ℕ → List ℕ → ℕ → List ℕ → Type 0) → Outcome
 of_thread tells (program ∷ report ∷ ThreadSaid thread ∷ []) options (file ∷ bytes ∷ []) text =
     tells file bytes thread text
 of_thread tells operands options files text = ⊥
 
 -- a text of the command's own
-abbrev pub own : List ℕ → Ends
-own said operands options files text = text ≡ said
+abbrev pub own_text : List ℕ → Outcome
+own_text said operands options files text = text ≡ said
 
-abbrev pub never : Ends
+abbrev pub never : Outcome
 never operands options files text = ⊥
 
 -- the text that goes with a status, for each status with which a command may end
-abbrev pub ends_of : Verb → Status → Ends
-ends_of Run Done = of_file IsReport
-ends_of Dis Done = of_file (λ file options. IsListingOf file)
-ends_of Asm Done = of_file (λ file options. IsProgramOf file)
-ends_of Replay Done = of_thread IsReplayOf
-ends_of Replay BadReport = of_thread MismatchesSo
-ends_of Replay Differs = of_thread DiffersSo
-ends_of Help Done = own help_text
-ends_of Version Done = own version_text
-ends_of verb status = never
+abbrev pub outcomes_of : Verb → Status → Outcome
+outcomes_of Run Done = of_file IsReport
+outcomes_of Dis Done = of_file (λ file options. IsListingOf file)
+outcomes_of Asm Done = of_file (λ file options. IsProgramOf file)
+outcomes_of Replay Done = of_thread IsReplayOf
+outcomes_of Replay BadReport = of_thread MismatchesSo
+outcomes_of Replay Differs = of_thread DiffersSo
+outcomes_of Help Done = own_text help_text
+outcomes_of Version Done = own_text version_text
+outcomes_of verb status = never
 
 -- what may become of a request whose files, in order, are these and are accepted: a status and a text
 abbrev pub outcome : Request → List (List ℕ) → Status → List ℕ → Type 0
 outcome request files status text =
-    ends_of request.verb status request.operands request.options files text
+    outcomes_of request.verb status request.operands request.options files text
 
 -- the files that are named are these, as far as they are told, and each is accepted
 abbrev pub AreAccepted : Told → List Named → List (List ℕ) → Type 0

@@ -43,13 +43,21 @@ call files_view sink_view words files files_after out out_after =
 
 -- ---- what stands for a request, with its cause
 
+-- the line of a file that is not there
+abbrev pub absent_line : List ℕ → List ℕ
+absent_line name = concat (codes "absent: " ∷ name ∷ codes "\n" ∷ [])
+
+-- the line of a file that could not be read
+abbrev pub read_fault_line : List ℕ → List ℕ
+read_fault_line name = concat (codes "read fault: " ∷ name ∷ codes "\n" ∷ [])
+
 -- a file that is reached is not there, and the count of absences rose
 pub record IsAbsence (files : Change FilesView) (names : List Named) (text : List ℕ) : Type 0 where
   pub named : Named
   pub reached : IsReached files.before.told names named
   pub missing : IfSome files.before.told (λ told. told named.name ≡ None)
   pub rose : Rose files.before.absences files.after.absences
-  pub is_text : text ≡ concat (codes "absent: " ∷ named.name ∷ codes "\n" ∷ [])
+  pub is_text : text ≡ absent_line named.name
 
 -- a file that is reached is there, it could not be read, and the count of faults rose
 pub record IsReadFault (files : Change FilesView) (names : List Named) (text : List ℕ) : Type 0 where
@@ -58,7 +66,7 @@ pub record IsReadFault (files : Change FilesView) (names : List Named) (text : L
   pub there : IfSome files.before.told (λ told. IsSome (told named.name))
   pub rose : Rose files.before.faults files.after.faults
   pub unreliable : IsTrue files.before.reliable → ⊥
-  pub is_text : text ≡ concat (codes "read fault: " ∷ named.name ∷ codes "\n" ∷ [])
+  pub is_text : text ≡ read_fault_line named.name
 
 -- a file that is reached is not accepted, and the status and the text are those of the rejection
 pub record IsRejection (told : Told) (names : List Named) (status : Status) (text : List ℕ) : Type 0 where

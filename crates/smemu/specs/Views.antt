@@ -1,7 +1,6 @@
 -- What the answers and refusals of the code stand for, on the way from the words to the writing.
-use Rattle.std.specs.Prelude.{◌≡◌, ℕ, ◌+◌, ◌∷◌, [], List, Some, None, IfSome, IsSome, IsTrue, Result, Ok, Err}
-use Rattle.std.specs.Prelude.{codes, option_map, take}
-use Rattle.std.specs.List.{concat}
+use Rattle.std.specs.Prelude.{◌≡◌, ℕ, ◌+◌, [], List, Some, None, IfSome, IsSome, IsTrue, Result, Ok, Err}
+use Rattle.std.specs.Prelude.{option_map, take}
 use Rattle.std.specs.String.{string_bytes}
 use Rattle.edge_io.specs.Cause.{Rose}
 use Rattle.edge_io.specs.Files.{Told, FilesView, IsKept}
@@ -25,7 +24,7 @@ use Rattle.command_lines.specs.declared.status.Status.TheVariants as status
 use Rattle.smemu.specs.Answers.{IsFile, outcome}
 use Rattle.smemu.specs.DifferLines.{parting_line}
 use Rattle.smemu.specs.Excerpt.{excerpt_text}
-use Rattle.smemu.specs.Ends.{Change, change, Stands, Defined, FetchesReached}
+use Rattle.smemu.specs.Ends.{Change, change, Stands, Defined, FetchesReached, absent_line, read_fault_line}
 use Rattle.smemu.specs.Rejections.{Kind, rejection_of, rejection_status, rejection_line}
 use Rattle.smemu.specs.Replay.{mismatch, IsReplayOf, IsMismatched, DiffersSo}
 use Rattle.smemu.specs.Requests.{files_named}
@@ -71,8 +70,8 @@ ending_status (ending.Differs it) = status.Differs
 
 -- the line and the status of a file that was not fetched
 abbrev pub unread_line : Unread → List ℕ → List ℕ
-unread_line unread.Absent name = concat (codes "absent: " ∷ name ∷ codes "\n" ∷ [])
-unread_line unread.Failed name = concat (codes "read fault: " ∷ name ∷ codes "\n" ∷ [])
+unread_line unread.Absent name = absent_line name
+unread_line unread.Failed name = read_fault_line name
 
 abbrev pub unread_status : Unread → Status
 unread_status unread.Absent = status.Absent
@@ -142,7 +141,7 @@ pub record IsRefusedFile (told : Told) (name : List ℕ) (kind : Kind) (rejectio
 
 -- the file of that name was not fetched, or is not accepted
 abbrev pub IsUnopened : Change FilesView → List ℕ → Kind → Refusal → Type 0
-IsUnopened files name kind (refusal.Unread shown why) = (string_bytes shown ≡ name) × IsWhy files name why
+IsUnopened files name kind (refusal.Unread shown why) = IsUnread files name (refusal.Unread shown why)
 IsUnopened files name kind (refusal.Rejected rejection) =
     IsRefusedFile files.before.told name kind rejection
 IsUnopened files name kind refusal.Memory = Unit {0}

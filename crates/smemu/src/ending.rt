@@ -1,4 +1,4 @@
-//! How a request whose files are accepted ends, where it has no answer.
+//! The ends of a request whose files are accepted, but for its answer.
 ghost use Rattle.std.specs.Prelude.{◌≡◌};
 ghost use Rattle.edge_io.specs.Sink.{Writes};
 ghost use Rattle.smemu.specs.Views.{ending_status, ending_text};

@@ -13,12 +13,11 @@ use Rattle.command_lines.specs.SourceLines.{source_line, source_words, line_numb
 use Rattle.command_lines.specs.Texts.{HasFront, kind_word, status_words, usage_line}
 use Rattle.command_lines.specs.declared.status.Status.{Status}
 use Rattle.command_lines.specs.declared.status.Status.TheVariants.{Done, Usage, Absent, ReadFault, WriteFault, OutOfMemory, BadReport, Differs}
-use Rattle.smemu.specs.Answers.{ends_of, of_thread}
+use Rattle.smemu.specs.Answers.{outcomes_of, of_thread}
 use Rattle.smemu.specs.DifferLines.{parting_line, parting_words}
-use Rattle.smemu.specs.Ends.{Change, Defined, Stands, IsRejection}
+use Rattle.smemu.specs.Ends.{Change, Defined, Stands}
 use Rattle.smemu.specs.Rejections.{rejection_line, rejection_status}
 use Rattle.smemu.specs.Replay.{DiffersSo, MismatchesSo}
-use Rattle.smemu.specs.Requests.{Named}
 use Rattle.smemu.specs.declared.rejection.Rejection.{Rejection}
 use Rattle.smemu.specs.declared.rejection.Rejection.TheVariants as rejection
 
@@ -51,7 +50,7 @@ of_thread_begun (program ∷ report ∷ ThreadSaid thread ∷ []) options (file 
 of_thread_begun operands options files text s tells begun h = absurd h
 
 outcome_begun : (verb : Verb) (s : Status) (operands : List Argument) (options : Options) (files : List (List ℕ)) (text : List ℕ) → s ≢ Done
-    → ends_of verb s operands options files text → HasFront text (status_words s)
+    → outcomes_of verb s operands options files text → HasFront text (status_words s)
 outcome_begun Replay BadReport operands options files text other h =
     of_thread_begun operands options files text BadReport MismatchesSo (λ file report thread it. report_begun it.fault text it.is_text) h
 outcome_begun Replay Differs operands options files text other h =

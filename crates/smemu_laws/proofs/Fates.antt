@@ -1,14 +1,13 @@
 -- What becomes of the files of a request that are told: all are accepted, or one is the first that is not.
-use Rattle.std.proofs.Common.{◌≡◌, ◌⊎◌, inl, inr, ℕ, zero, suc, cond, List, [], ◌∷◌, codes, Option, Some, None, refl, sym, ◌∙◌, ap, subst}
+use Rattle.std.proofs.Common.{◌≡◌, ◌⊎◌, inl, inr, ℕ, zero, suc, cond, List, [], ◌∷◌, Option, Some, None, refl, sym, ◌∙◌, ap, subst}
 use Rattle.std.specs.Prelude.{slice_get, is_none, IfSome}
-use Rattle.std.specs.List.{concat}
 use Rattle.cmd_words.specs.Words.{Request}
 use Rattle.edge_io.specs.Files.{FilesView, Told}
 use Rattle.command_lines.specs.declared.status.Status.{Status}
 use Rattle.command_lines.specs.declared.status.Status.TheVariants.{Done, Usage, Absent, ReadFault, WriteFault, OutOfMemory}
 use Rattle.smemu.specs.Answers.{AreAccepted, IsOutcome, outcome}
-use Rattle.smemu.specs.Ends.{Change, IsRejection, Stands}
-use Rattle.smemu.specs.Rejections.{Kind, rejection_of, rejection_line, rejection_status}
+use Rattle.smemu.specs.Ends.{Change, IsRejection, Stands, absent_line}
+use Rattle.smemu.specs.Rejections.{rejection_of, rejection_line, rejection_status}
 use Rattle.smemu.specs.Requests.{Named, after_file, files_named, reached_in}
 use Rattle.smemu.specs.declared.rejection.Rejection.{Rejection}
 use Rattle.smemu.proofs.Ends.{there, told_reached}
@@ -94,8 +93,8 @@ module _ (known : List ℕ → Option (List ℕ)) where
 
 -- ---- what stands, by the fate of the files
 
-pub absent_line : Named → List ℕ
-absent_line named = concat (codes "absent: " ∷ named.name ∷ codes "\n" ∷ [])
+pub missing_line : Named → List ℕ
+missing_line named = absent_line named.name
 
 -- the files are accepted, and this becomes of them
 pub record IsAccepted (known : List ℕ → Option (List ℕ)) (request : Request) (s : Status) (text : List ℕ) : Type 0 where
@@ -107,7 +106,7 @@ pub record IsMissing (known : List ℕ → Option (List ℕ)) (request : Request
   pub named : Named
   pub fate : fate_of known (files_named request) ≡ Missing named
   pub is_status : s ≡ Absent
-  pub is_text : text ≡ absent_line named
+  pub is_text : text ≡ missing_line named
 
 pub record IsRefused (known : List ℕ → Option (List ℕ)) (request : Request) (s : Status) (text : List ℕ) : Type 0 where
   pub named : Named
@@ -146,7 +145,7 @@ module _ (known : List ℕ → Option (List ℕ)) (request : Request) (change : 
         }
 
     absent_decided : (text : List ℕ) → Stands request change Absent text → IsMissing known request Absent text
-    unfolding absent_line
+    unfolding missing_line
     absent_decided text h =
         let at = told_reached change.before.told known (files_named request) h.named tells h.reached in
         record {

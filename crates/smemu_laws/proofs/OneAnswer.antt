@@ -1,5 +1,5 @@
 -- Two texts that answer the same request for the same files are equal.
-use Rattle.std.proofs.Common.{◌≡◌, ℕ, zero, suc, ◌≤◌, List, [], ◌∷◌, length, cond, Option, Some, None, Result, Ok, refl, sym, ◌∙◌, ap}
+use Rattle.std.proofs.Common.{◌≡◌, ℕ, ◌≤◌, List, [], ◌∷◌, length, cond, Option, Some, Result, Ok, refl, sym, ◌∙◌, ap}
 use Rattle.std.proofs.Common.{subst, arith}
 use Rattle.std.specs.Prelude.{◌==◌, slice_get, if◌then◌else◌}
 use mathlib.Core.HLevel.{Σ_prop_path}
@@ -18,7 +18,6 @@ use Rattle.asm_core.specs.Assembly.{IsSameObject}
 use Rattle.asm_core.proofs.OneObject.{one_object, same_code}
 use Rattle.cmd_words.specs.Options.{Options, options_of}
 use Rattle.code_listing.specs.Listing.{listing_text}
-use Rattle.elf_sections.specs.Code.{code_words}
 use Rattle.elf_loader.specs.Loading.{Loads}
 use Rattle.elf_loader.specs.Objects.{IsObjectImage, object_extents, text_extent, data_extent}
 use Rattle.elf_loader.proofs.Images.{one_memory, one_program}

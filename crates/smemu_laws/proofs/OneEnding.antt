@@ -1,5 +1,5 @@
 -- Over files that are told, what is asked for has one ending.
-use Rattle.std.proofs.Common.{◌≡◌, ◌≢◌, inl, inr, ℕ, ◌+◌, true, cond, List, [], ◌∷◌, Option, Some, None, Ok, Err, refl, sym, ◌∙◌, ap, subst}
+use Rattle.std.proofs.Common.{◌≡◌, ◌≢◌, inl, inr, ℕ, ◌+◌, true, cond, List, [], ◌∷◌, Option, Some, None, refl, sym, ◌∙◌, ap, subst}
 use Rattle.std.specs.Str.{bytes_eq}
 use Rattle.std.proofs.lemmas.Slice.Eq.{bytes_eq-Decides}
 use Rattle.sha2.specs.Sha256.{sha256}
@@ -18,12 +18,12 @@ use Rattle.report_reader.specs.Block.{Block}
 use Rattle.line_reader.specs.Difference.{Difference, first_difference}
 use Rattle.line_reader.specs.Lines.{lines_of}
 use Rattle.report_reader.specs.Reading.{Fault}
-use Rattle.report_reader.specs.Report.{Report, report_in}
+use Rattle.report_reader.specs.Report.{report_in}
 use Rattle.report_text.specs.Block.{block_text}
 use Rattle.command_lines.specs.ReportLines.{difference_lines, report_line}
 use Rattle.command_lines.specs.declared.status.Status.{Status}
 use Rattle.command_lines.specs.declared.status.Status.TheVariants.{Done, Absent, ReadFault, OutOfMemory, BadReport, Differs}
-use Rattle.smemu.specs.Answers.{IsOutcome, IsReport, IsListingOf, IsProgramOf, ends_of, of_file, of_thread, outcome}
+use Rattle.smemu.specs.Answers.{IsOutcome, IsReport, IsListingOf, IsProgramOf, outcomes_of, of_file, of_thread, outcome}
 use Rattle.smemu.specs.DifferLines.{parting_line}
 use Rattle.smemu.specs.Ends.{Change, Stands}
 use Rattle.smemu.specs.Rejections.{rejection_line, rejection_status}
@@ -34,7 +34,7 @@ use Rattle.smemu.specs.declared.rejection.Rejection.TheVariants as rejection
 use Rattle.smemu.proofs.Ends.{outcome_among}
 use Rattle.smemu.proofs.Words.{one_thread}
 use Rattle.smemu_laws.specs.OneAnswer.{AreLoadedAsOne, AreOneText}
-use Rattle.smemu_laws.proofs.Fates.{Fate, AllAccepted, Missing, Refused, IsDecided, absent_line, accepted_fate, decided}
+use Rattle.smemu_laws.proofs.Fates.{Fate, AllAccepted, Missing, Refused, IsDecided, missing_line, accepted_fate, decided}
 use Rattle.smemu_laws.proofs.OneAnswer.{same_said, one_assembly, one_block, one_listing, one_replay, one_run_report}
 
 -- a text differs from itself in no line
@@ -172,7 +172,7 @@ of_one_thread operands options files text other tells said result one h g = absu
 
 -- two endings of accepted files have one status and one text
 pub one_outcome : (verb : Verb) (s t : Status) (operands : List Argument) (options : Options) (files : List (List ℕ))
-    (text other : List ℕ) → options.threads ≡ 1 → ends_of verb s operands options files text → ends_of verb t operands options files other
+    (text other : List ℕ) → options.threads ≡ 1 → outcomes_of verb s operands options files text → outcomes_of verb t operands options files other
     → (s ≡ t) × AreOneText verb s text other
 one_outcome Run Done Done operands options files text other one h g = (
   refl,
@@ -281,7 +281,7 @@ rejected_text Asm (rejection.Report line kind) text other e = e
 rejected_text verb rejected text other e = e
 
 memory_not : (verb : Verb) (operands : List Argument) (options : Options) (files : List (List ℕ)) (text : List ℕ)
-    → ends_of verb OutOfMemory operands options files text → ⊥
+    → outcomes_of verb OutOfMemory operands options files text → ⊥
 memory_not verb operands options files text h = absurd_among verb (outcome_among verb OutOfMemory operands options files text h)
 
 pub no_memory : (request : Request) (change : Change FilesView) (text : List ℕ) → Stands request change OutOfMemory text → ⊥
@@ -312,7 +312,7 @@ module _ (known : List ℕ → Option (List ℕ)) (request : Request) (one : req
         let named = same_missing h.named g.named (sym h.fate ∙ g.fate) in (
           h.is_status ∙ sym g.is_status,
           subst (λ (q : Status). AreOneText request.verb q text other) (sym h.is_status)
-              (absent_text request.verb text other (h.is_text ∙ ap absent_line named ∙ sym g.is_text)),
+              (absent_text request.verb text other (h.is_text ∙ ap missing_line named ∙ sym g.is_text)),
         )
     one_decided (inr (inr h)) (inr (inr g)) =
         let rejection = same_refused h.named g.named h.rejection g.rejection (sym h.fate ∙ g.fate) in (
@@ -327,9 +327,9 @@ module _ (known : List ℕ → Option (List ℕ)) (request : Request) (one : req
     one_decided (inr (inr h)) (inl g) = absurd (accepted_refused g.files h.named h.rejection (sym g.fate ∙ h.fate))
     one_decided (inr (inr h)) (inr (inl g)) = absurd (missing_refused g.named h.named h.rejection (sym g.fate ∙ h.fate))
 
-pub one_ending : (files : List ℕ → Option (List ℕ)) (words : List (List ℕ)) (request : Request) (change : Change FilesView) (s t : Status)
-    (text other : List ℕ) → command_of words ≡ Some request → change.before.told ≡ Some files → s ≢ ReadFault → t ≢ ReadFault
+pub one_ending : (files : List ℕ → Option (List ℕ)) (request : Request) (change : Change FilesView) (s t : Status)
+    (text other : List ℕ) → request.options.threads ≡ 1 → change.before.told ≡ Some files → s ≢ ReadFault → t ≢ ReadFault
     → Stands request change s text → Stands request change t other → (s ≡ t) × AreOneText request.verb s text other
-one_ending files words request change s t text other asked tells read readable h g =
-    one_decided files request (one_thread words request asked) s t text other (decided files request change tells s text read h)
+one_ending files request change s t text other one tells read readable h g =
+    one_decided files request one s t text other (decided files request change tells s text read h)
     (decided files request change tells t other readable g)

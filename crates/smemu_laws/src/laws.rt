@@ -19,12 +19,14 @@ pub fn one_answer()
         → AreOneText request.verb Status.Done text other }
 {}
 
-/// Over files that are told, what words ask for has one ending, but where a file could not be read: one
-/// status, and with it one text, or two files that are loaded as one program.
+/// Over files that are told, a request for one thread, as each that words ask for is, has one ending, but
+/// where a file could not be read: one status, and with it one text, or two files that are loaded as one
+/// program.
 pub fn one_ending()
-    ensures { (files : List ℕ → Option (List ℕ)) (words : List (List ℕ)) (request : Request)
-        (change : Change FilesView) (s t : Status) (text other : List ℕ) → command_of words ≡ Some request
-        → change.before.told ≡ Some files → s ≢ Status.ReadFault → t ≢ Status.ReadFault
+    ensures asked { (words : List (List ℕ)) (request : Request) → command_of words ≡ Some request
+        → request.options.threads ≡ 1 }
+    ensures one { (files : List ℕ → Option (List ℕ)) (request : Request) (change : Change FilesView)
+        (s t : Status) (text other : List ℕ) → request.options.threads ≡ 1 → change.before.told ≡ Some files → s ≢ Status.ReadFault → t ≢ Status.ReadFault
         → Stands request change s text → Stands request change t other
         → (s ≡ t) × AreOneText request.verb s text other }
 {}
