@@ -1,5 +1,5 @@
 #!/usr/bin/env python3
-"""Builds the emulator, and says on standard error how far it is. `./smemu` calls it where there is no program yet.
+"""Builds the emulator, and says on standard error how far it is. `./smemu` calls it for `--build`, and where there is no program of these sources.
 
     tools/build.py
 
