@@ -3,10 +3,11 @@
 
     tools/doc_tests.py [PROGRAM]
 
-PROGRAM is the emulator, as in crates/smemu_cli/out; where it is not given ./smemu builds it. A command is a line `    $ ..`; up to the next one
+PROGRAM is the emulator, as in crates/smemu_cli/out; where it is not given it is what ./smemu runs here. A command is a line `    $ ..`; up to the next one
 or the end of the block stands what a terminal shows. Those of a page run in its order in a folder of its own, with the wrapper, tools/ and examples/.
 A command that needs a tool which is not installed is passed over, and so is one that reads a file which that one would have made.
 """
+import argparse
 import concurrent.futures
 import os
 import pathlib
@@ -73,10 +74,13 @@ def shown(command, folder):
 
 
 def make_folder(folder, program):
-    """The wrapper over the program, the tools and the examples."""
-    shutil.copy(TOP / "smemu", folder)
+    """The wrapper over the program, or with none the one here, the tools and the examples."""
     for name in ("tools", "examples"):
         shutil.copytree(TOP / name, folder / name)
+    if not program:
+        os.symlink(TOP / "smemu", folder / "smemu")
+        return
+    shutil.copy(TOP / "smemu", folder)
     (folder / "crates/smemu_cli/out").mkdir(parents=True)
     (folder / "crates/smemu_cli/src").mkdir()
     os.symlink(program, folder / "crates/smemu_cli/out/smemu_cli")
@@ -102,11 +106,14 @@ def try_page(page, program, there):
 
 
 def main():
-    if len(sys.argv) > 1:
-        program = pathlib.Path(sys.argv[1]).resolve()
-    else:
+    words = argparse.ArgumentParser(description=__doc__.splitlines()[0])
+    words.add_argument("program", nargs="?", type=pathlib.Path, metavar="PROGRAM")
+    program = words.parse_args().program
+    if not program:
         subprocess.run([TOP / "smemu", "--version"], check=True, stdout=subprocess.DEVNULL)
-        program = TOP / "crates/smemu_cli/out/smemu_cli"
+    elif not program.is_file():
+        sys.exit(f"doc_tests: there is no {program}")
+    program = program and program.resolve()
     there = {tool: is_there(tool) for tool in TOOLS}
     print("not there: " + (", ".join(tool for tool in TOOLS if not there[tool]) or "none"))
     with concurrent.futures.ThreadPoolExecutor() as pool:
