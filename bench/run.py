@@ -6,7 +6,7 @@ assemblers and disassemblers that are installed.
 
     bench/run.py
 
-It runs the program that ./smemu builds, five times each, and prints the best. The decoder is timed by the loader, which decodes each
+It runs the program that ./smemu --build makes, five times each, and prints the best. The decoder is timed by the loader, which decodes each
 word of a load: a file whose last word is unlisted against the same file with the first word unlisted too.
 """
 import pathlib
