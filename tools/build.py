@@ -132,7 +132,7 @@ class Progress:
 
     def __init__(self, count):
         self.count, self.done, self.start, self.is_terminal = count, 0, time.monotonic(), sys.stderr.isatty()
-        self.say("smemu: building the emulator; each crate is proved first, which takes some minutes; it may be interrupted, and the next start goes on\n")
+        self.say("smemu: building the emulator; each crate is proved first, which takes some 20 minutes on four cores; it may be interrupted, and the next start goes on\n")
 
     def say(self, text):
         sys.stderr.write(text)

@@ -73,6 +73,16 @@ def shown(command, folder):
     return re.sub(r"\d+ s\r(?!\n)|\033\[K", "", said.decode(errors="replace").replace("\r\n", "\n")).splitlines()
 
 
+def has_terminal():
+    """Tells whether the system gives a pseudo-terminal."""
+    try:
+        for side in pty.openpty():
+            os.close(side)
+    except OSError:
+        return False
+    return True
+
+
 def make_folder(folder, program):
     """The wrapper over the program, or with none the one here, the tools and the examples."""
     for name in ("tools", "examples"):
@@ -113,6 +123,9 @@ def main():
         subprocess.run([TOP / "smemu", "--version"], check=True, stdout=subprocess.DEVNULL)
     elif not program.is_file():
         sys.exit(f"doc_tests: there is no {program}")
+    if not has_terminal():
+        print("doc_tests: there is no pseudo-terminal here, so nothing is tried")
+        return 0
     program = program and program.resolve()
     there = {tool: is_there(tool) for tool in TOOLS}
     print("not there: " + (", ".join(tool for tool in TOOLS if not there[tool]) or "none"))
