@@ -26,7 +26,8 @@ pub fn one_ending()
     ensures asked { (words : List (List ℕ)) (request : Request) → command_of words ≡ Some request
         → request.options.threads ≡ 1 }
     ensures one { (files : List ℕ → Option (List ℕ)) (request : Request) (change : Change FilesView)
-        (s t : Status) (text other : List ℕ) → request.options.threads ≡ 1 → change.before.told ≡ Some files → s ≢ Status.ReadFault → t ≢ Status.ReadFault
+        (s t : Status) (text other : List ℕ) → request.options.threads ≡ 1
+        → change.before.told ≡ Some files → s ≢ Status.ReadFault → t ≢ Status.ReadFault
         → Stands request change s text → Stands request change t other
         → (s ≡ t) × AreOneText request.verb s text other }
 {}
