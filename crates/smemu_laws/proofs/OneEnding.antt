@@ -172,12 +172,13 @@ of_one_thread operands options files text other tells said result one h g = absu
 
 -- two endings of accepted files have one status and one text
 pub one_outcome : (verb : Verb) (s t : Status) (operands : List Argument) (options : Options) (files : List (List ℕ))
-    (text other : List ℕ) → options.threads ≡ 1 → outcomes_of verb s operands options files text → outcomes_of verb t operands options files other
+    (text other : List ℕ) → (verb ≡ Run → options.threads ≡ 1) → outcomes_of verb s operands options files text
+    → outcomes_of verb t operands options files other
     → (s ≡ t) × AreOneText verb s text other
 one_outcome Run Done Done operands options files text other one h g = (
   refl,
-  of_one_file operands options files text other IsReport (text ≡ other) (λ file a b. one_run_report file options text other one a
-      b) h g,
+  of_one_file operands options files text other IsReport (text ≡ other) (λ file a b.
+      one_run_report file options text other (one refl) a b) h g,
 )
 one_outcome Dis Done Done operands options files text other one h g = (
   refl,
@@ -294,7 +295,7 @@ one_answer files words request text other asked h g =
     let same =
     same_files h.files g.files (sym (accepted_fate files (files_named request) h.files h.accepted)
     ∙ accepted_fate files (files_named request) g.files g.accepted) in
-    (one_outcome request.verb Done Done request.operands request.options g.files text other (one_thread words request asked)
+    (one_outcome request.verb Done Done request.operands request.options g.files text other (λ run. one_thread words request asked)
     (subst (λ (fs : List (List ℕ)). outcome request fs Done text) same h.ends) g.ends).1
 
 refused_same : (verb : Verb) (s : Status) (rejection : Rejection) (text other : List ℕ) → s ≡ rejection_status rejection → text ≡ other
@@ -302,7 +303,8 @@ refused_same : (verb : Verb) (s : Status) (rejection : Rejection) (text other : 
 refused_same verb s rejection text other e same =
     subst (λ (q : Status). AreOneText verb q text other) (sym e) (rejected_text verb rejection text other same)
 
-module _ (known : List ℕ → Option (List ℕ)) (request : Request) (one : request.options.threads ≡ 1) (s t : Status) (text other : List ℕ)
+module _ (known : List ℕ → Option (List ℕ)) (request : Request) (one : request.verb ≡ Run → request.options.threads ≡ 1)
+    (s t : Status) (text other : List ℕ)
   where
     one_decided : IsDecided known request s text → IsDecided known request t other → (s ≡ t) × AreOneText request.verb s text other
     one_decided (inl h) (inl g) =
@@ -327,9 +329,10 @@ module _ (known : List ℕ → Option (List ℕ)) (request : Request) (one : req
     one_decided (inr (inr h)) (inl g) = absurd (accepted_refused g.files h.named h.rejection (sym g.fate ∙ h.fate))
     one_decided (inr (inr h)) (inr (inl g)) = absurd (missing_refused g.named h.named h.rejection (sym g.fate ∙ h.fate))
 
-pub one_ending : (files : List ℕ → Option (List ℕ)) (request : Request) (change : Change FilesView) (s t : Status)
-    (text other : List ℕ) → request.options.threads ≡ 1 → change.before.told ≡ Some files → s ≢ ReadFault → t ≢ ReadFault
-    → Stands request change s text → Stands request change t other → (s ≡ t) × AreOneText request.verb s text other
-one_ending files request change s t text other one tells read readable h g =
+pub one_ending : (files : List ℕ → Option (List ℕ)) (request : Request) (change again : Change FilesView) (s t : Status)
+    (text other : List ℕ) → (request.verb ≡ Run → request.options.threads ≡ 1) → change.before.told ≡ Some files
+    → again.before.told ≡ Some files → s ≢ ReadFault → t ≢ ReadFault
+    → Stands request change s text → Stands request again t other → (s ≡ t) × AreOneText request.verb s text other
+one_ending files request change again s t text other one tells told read readable h g =
     one_decided files request one s t text other (decided files request change tells s text read h)
-    (decided files request change tells t other readable g)
+    (decided files request again told t other readable g)

@@ -19,16 +19,17 @@ pub fn one_answer()
         → AreOneText request.verb Status.Done text other }
 {}
 
-/// Over files that are told, a request for one thread, as each that words ask for is, has one ending, but
-/// where a file could not be read: one status, and with it one text, or two files that are loaded as one
-/// program.
+/// Over files that are told, a run of one thread, as each is that words ask for, and every other request has
+/// one ending in any two calls, but where a file could not be read: one status, and with it one text, or two
+/// files that are loaded as one program.
 pub fn one_ending()
     ensures asked { (words : List (List ℕ)) (request : Request) → command_of words ≡ Some request
         → request.options.threads ≡ 1 }
-    ensures one { (files : List ℕ → Option (List ℕ)) (request : Request) (change : Change FilesView)
-        (s t : Status) (text other : List ℕ) → request.options.threads ≡ 1
-        → change.before.told ≡ Some files → s ≢ Status.ReadFault → t ≢ Status.ReadFault
-        → Stands request change s text → Stands request change t other
+    ensures one { (files : List ℕ → Option (List ℕ)) (request : Request) (change again : Change FilesView)
+        (s t : Status) (text other : List ℕ) → (request.verb ≡ verbs.Run → request.options.threads ≡ 1)
+        → change.before.told ≡ Some files → again.before.told ≡ Some files
+        → s ≢ Status.ReadFault → t ≢ Status.ReadFault
+        → Stands request change s text → Stands request again t other
         → (s ≡ t) × AreOneText request.verb s text other }
 {}
 
