@@ -1,31 +1,24 @@
 -- Numbers are read as they are printed.
-use Rattle.std.proofs.Common.{◌≡◌, ℕ, ◌+◌, ◌*◌, ◌^◌, ◌<◌, ◌≤◌, Bool, true, false, not, ◌||◌, ◌==◌, nat_lt, List, [], ◌∷◌, Some, None}
-use Rattle.std.proofs.Common.{length, get_or, refl, ap, ◌∙◌, arith, subst, lt-ltb, lit<, lit≤, inl, inr}
+use Rattle.std.proofs.Common.{◌≡◌, ℕ, ◌^◌, ◌<◌, ◌≤◌, Bool, true, false, ◌==◌, nat_lt, List, [], ◌∷◌, Some, None, length, get_or, refl, ap}
+use Rattle.std.proofs.Common.{◌∙◌, arith, subst, lt-ltb, lit≤}
 use Rattle.std.specs.Prelude.{decimal}
 use Rattle.std.specs.Char.{digit_value}
 use Rattle.std.specs.Fmt.{digits}
 use Rattle.std.specs.List.{list_all}
-use Rattle.std.specs.Str.Parse.{AllDigits, IsNumeral, digits_value, digits_value_after}
-use Rattle.std.proofs.lemmas.Bool.{and_from, and_right, or_left, cases_lt, cond-true, cond-false, not_from_false, ne_eqb}
+use Rattle.std.specs.Str.Parse.{AllDigits, IsNumeral, digits_value}
+use Rattle.std.proofs.lemmas.Bool.{and_from, and_right, cond-true, cond-false, ne_eqb}
 use Rattle.std.proofs.lemmas.Bool.Decides.{nat_tests}
-use Rattle.std.proofs.lemmas.Fmt.{digits_is_IsNumeral, decimal_is_IsNumeral, decimal_digit, first_decimal}
+use Rattle.std.proofs.lemmas.Fmt.{digits_is_IsNumeral, decimal_is_IsNumeral}
+use Rattle.line_reader.specs.Numbers.{is_digit_of, if_fits, digits_in}
+use Rattle.line_reader.specs.declared.numbers.Base.TheVariants.{SixteenAnyCase}
+use Rattle.line_reader.proofs.Digits.{decimal_digits, decimal_read}
 use Rattle.asm_tokens.specs.Characters.{is_digit, is_name_character}
-use Rattle.asm_tokens.specs.Numbers.{is_hex_digit, digit_of, number_after, if_fits, digits_in, decimal_number, hexadecimal_number}
-use Rattle.asm_tokens.specs.Numbers.{begins_hexadecimal, number_in}
+use Rattle.asm_tokens.specs.Numbers.{hexadecimal_number, begins_hexadecimal, number_in}
 
 -- ---- digits
 
-decimal_digit_is : (c : ℕ) → digit_value c < 10 → is_digit c ≡ true
-unfolding is_digit
-decimal_digit_is c lt = grind (arith, nat_tests)
-
-hex_digit_is : (c : ℕ) → digit_value c < 16 → is_hex_digit c ≡ true
-unfolding is_hex_digit is_digit
+hex_digit_is : (c : ℕ) → digit_value c < 16 → is_digit_of SixteenAnyCase c ≡ true
 hex_digit_is c lt = grind (arith, nat_tests)
-
-digit_is : (c : ℕ) → digit_value c < 16 → digit_of c ≡ digit_value c
-unfolding digit_of is_digit
-digit_is c lt = grind (arith, nat_tests)
 
 digit_name : (c : ℕ) → digit_value c < 16 → is_name_character c ≡ true
 unfolding is_name_character is_digit
@@ -35,15 +28,6 @@ module _ (base : ℕ) (test : ℕ → Bool) (passes : (c : ℕ) → digit_value 
   all_pass : (ds : List ℕ) → AllDigits base ds → list_all test ds ≡ true
   all_pass [] a = refl
   all_pass (c ∷ cs) a = and_from (test c) (list_all test cs) (passes c a.0) (all_pass cs a.1)
-
-number_same : (base : ℕ) → base ≤ 16 → (n : ℕ) (ds : List ℕ) → AllDigits base ds → number_after base n ds ≡ digits_value_after base n ds
-number_same base le n [] a = refl
-number_same base le n (c ∷ cs) a =
-    let lt : digit_value c < 16 = omega (arith, a.0) in
-    ap (λ d. number_after base (n * base + d) cs) (digit_is c lt) ∙ number_same base le (n * base + digit_value c) cs a.1
-
-fits : (n : ℕ) → n < 2 ^ 64 → if_fits n ≡ Some n
-fits n lt = cond-true (nat_lt n (2 ^ 64)) (Some n) None (lt-ltb n (2 ^ 64) lt)
 
 -- ---- in decimal
 
@@ -61,30 +45,16 @@ module _ (n : ℕ) (lt : n < 2 ^ 64) where
   numeral : IsNumeral 10 (decimal n) × (digits_value 10 (decimal n) ≡ n)
   numeral = decimal_is_IsNumeral n lt
 
-  no_leading_zero : (not (get_or (decimal n) 0 0 == 48) || (length (decimal n) == 1)) ≡ true
-  no_leading_zero = elim (cases_lt 0 n) [
-    | inl g ↦ (let first = first_decimal n g lt in or_left _ _ (not_from_false _ (ne_eqb (get_or (decimal n) 0 0) 48 (λ e. omega arith))))
-    | inr z ↦ (let e : n ≡ 0 = omega arith in
-        ap (λ m. not (get_or (decimal m) 0 0 == 48) || (length (decimal m) == 1)) e
-        ∙ ap (λ ds. not (get_or ds 0 0 == 48) || (length ds == 1)) (decimal_digit 0 (lit< tt)))
-  ]
-
-  pub decimal-read : decimal_number (decimal n) ≡ Some n
-  unfolding decimal_number digits_in
-  decimal-read =
-      cond-true _ _ None (and_from _ _ (lt-ltb 0 (length (decimal n)) numeral.0.0) no_leading_zero)
-      ∙ cond-true _ _ None (all_pass 10 is_digit decimal_digit_is (decimal n) numeral.0.1)
-      ∙ ap if_fits (number_same 10 (lit≤ tt) 0 (decimal n) numeral.0.1 ∙ numeral.1) ∙ fits n lt
-
   pub decimal-names : list_all is_name_character (decimal n) ≡ true
   decimal-names = all_pass 10 is_name_character (λ c h. digit_name c (omega arith)) (decimal n) numeral.0.1
 
   pub decimal-digits : list_all is_digit (decimal n) ≡ true
-  decimal-digits = all_pass 10 is_digit decimal_digit_is (decimal n) numeral.0.1
+  unfolding is_digit
+  decimal-digits = decimal_digits n lt
 
   pub number-read : number_in (decimal n) ≡ Some n
   unfolding number_in begins_hexadecimal
-  number-read = cond-false _ _ _ (and_right _ _ (no_x (decimal n) numeral.0.1)) ∙ decimal-read
+  number-read = cond-false _ _ _ (and_right _ _ (no_x (decimal n) numeral.0.1)) ∙ decimal_read n lt
 
   -- the first digit is no letter
   pub no_letter : (get_or (decimal n) 0 0 == 97) ≡ false
@@ -104,8 +74,8 @@ module _ (n : ℕ) (lt : n < 2 ^ 64) where
   unfolding hexadecimal_number digits_in
   hexadecimal-read =
       cond-true _ _ None (lt-ltb 0 (length (digits 16 false n)) hex_numeral.0.0)
-      ∙ cond-true _ _ None (all_pass 16 is_hex_digit hex_digit_is (digits 16 false n) hex_numeral.0.1)
-      ∙ ap if_fits (number_same 16 (lit≤ tt) 0 (digits 16 false n) hex_numeral.0.1 ∙ hex_numeral.1) ∙ fits n lt
+      ∙ cond-true _ _ None (all_pass 16 (is_digit_of SixteenAnyCase) hex_digit_is (digits 16 false n) hex_numeral.0.1)
+      ∙ ap if_fits hex_numeral.1 ∙ cond-true (nat_lt n (2 ^ 64)) (Some n) None (lt-ltb n (2 ^ 64) lt)
 
   pub hexadecimal-names : list_all is_name_character (digits 16 false n) ≡ true
   hexadecimal-names = all_pass 16 is_name_character digit_name (digits 16 false n) hex_numeral.0.1

@@ -30,7 +30,7 @@ use Rattle.insn_text.specs.Texts.{sized_text, is_named_pattern, pattern_index, p
 use Rattle.insn_text.specs.Rules.{is_within, meets, is_sayable}
 use Rattle.asm_tokens.specs.declared.token.Token.TheVariants as token
 use Rattle.asm_tokens.specs.Characters.{is_name_character, is_digit, is_blank, starts_comment}
-use Rattle.asm_tokens.specs.Numbers.{decimal_number, digits_in, digit_of}
+use Rattle.line_reader.specs.Numbers.{is_decimal, decimal_number}
 use Rattle.asm_tokens.specs.Tokens.{vector_file_of, file_size, has_suffix, sized_of, sized_after, begins_za, sized_in}
 use Rattle.asm_tokens.specs.Tokens.{index_in, file_of, register_of, register_in, lexemes_from, lexemes_of}
 use Rattle.asm_tokens.proofs.Following.{lexemes-blank}
@@ -57,7 +57,7 @@ is_good_word index =
 
 words_good : all_below is_good_word (length KEYWORDS) ≡ true
 unfolding all_below is_good_word is_plain finds index_in text_in is_name_character is_digit register_in register_of file_of sized_in
-    sized_after sized_of begins_za vector_file_of decimal_number digits_in digit_of
+    sized_after sized_of begins_za vector_file_of is_decimal decimal_number
 words_good = refl
 
 unfoldable pub is_good_name : ℕ → Bool

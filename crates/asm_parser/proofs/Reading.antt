@@ -13,18 +13,20 @@ use Rattle.insn_text.specs.declared.item.RegisterFile.{RegisterFile}
 use Rattle.insn_text.specs.declared.item.RegisterFile.TheVariants.{X, W}
 use Rattle.insn_text.specs.Texts.{file_text}
 use Rattle.insn_text.specs.declared.keywords.TheConstants.{KEYWORDS}
+use Rattle.line_reader.specs.Numbers.{decimal_number}
+use Rattle.line_reader.proofs.Digits.{decimal_read}
 use Rattle.asm_tokens.specs.declared.token.Lexeme.{Lexeme}
 use Rattle.asm_tokens.specs.declared.token.Token.{Token}
 use Rattle.asm_tokens.specs.declared.token.Token.TheVariants.{Register, Keyword, Number, Distance, Punctuation, Bare}
 use Rattle.asm_tokens.specs.Characters.{is_name_character, is_blank, is_digit}
-use Rattle.asm_tokens.specs.Numbers.{number_in, decimal_number, begins_hexadecimal}
+use Rattle.asm_tokens.specs.Numbers.{number_in, begins_hexadecimal}
 use Rattle.asm_tokens.specs.Tokens.{Read, run, has_sign, begins_name, name_token, token_or, file_of, register_of, register_in}
 use Rattle.asm_tokens.specs.Tokens.{sized_in, bare_token, read_run}
 use Rattle.asm_tokens.specs.Tokens.{token_of_name, number_token, distance_token, index_in, read_number, read_distance, read_character}
 use Rattle.asm_tokens.specs.Tokens.{read_token, lexemes_of}
 use Rattle.asm_tokens.proofs.Following.{lexemes-token}
 use Rattle.asm_tokens.proofs.Naming.{read-name, name_no_blank}
-use Rattle.asm_parser.proofs.Numerals.{decimal-read, decimal-names, decimal-digits, number-read, no_minus, hexadecimal-read}
+use Rattle.asm_parser.proofs.Numerals.{decimal-names, decimal-digits, number-read, no_minus, hexadecimal-read}
 use Rattle.asm_parser.proofs.Numerals.{hexadecimal-names}
 
 -- no character of a name stands first
@@ -131,11 +133,11 @@ register-token : (file : RegisterFile) (n : ℕ) → n < 31 → token_of_name (f
 unfolding token_of_name register_in register_of file_of file_text
 register-token X n lt =
     let fits : n < 2 ^ 64 = omega arith in
-    ap (λ m. token_or (unregistered (120 ∷ decimal n)) (register_of (Some X) m)) (decimal-read n fits)
+    ap (λ m. token_or (unregistered (120 ∷ decimal n)) (register_of (Some X) m)) (decimal_read n fits)
     ∙ ap (λ b. token_or (unregistered (120 ∷ decimal n)) (cond b (Some (Register X n)) None)) (lt-ltb n 31 lt)
 register-token W n lt =
     let fits : n < 2 ^ 64 = omega arith in
-    ap (λ m. token_or (unregistered (119 ∷ decimal n)) (register_of (Some W) m)) (decimal-read n fits)
+    ap (λ m. token_or (unregistered (119 ∷ decimal n)) (register_of (Some W) m)) (decimal_read n fits)
     ∙ ap (λ b. token_or (unregistered (119 ∷ decimal n)) (cond b (Some (Register W n)) None)) (lt-ltb n 31 lt)
 
 register-plain : (file : RegisterFile) (n : ℕ) → n < 2 ^ 64 → is_plain (file_text file ++ decimal n) ≡ true
@@ -252,13 +254,13 @@ pub forward-is-read : (n : ℕ) (rest : List ℕ) → n < 2 ^ 64 → opens rest 
 unfolding read_token read_distance distance_token has_sign is_blank
 forward-is-read n rest lt o =
     after-sign 46 43 n rest (Distance false n) (λ ys. distance_token false (decimal_number ys)) lt o refl refl (λ cs. refl)
-    (ap (distance_token false) (decimal-read n lt))
+    (ap (distance_token false) (decimal_read n lt))
 
 pub back-is-read : (n : ℕ) (rest : List ℕ) → n < 2 ^ 64 → opens rest ≡ true → IsRead false (46 ∷ 45 ∷ decimal n) rest (Distance true n)
 unfolding read_token read_distance distance_token has_sign is_blank
 back-is-read n rest lt o =
     after-sign 46 45 n rest (Distance true n) (λ ys. distance_token true (decimal_number ys)) lt o refl refl (λ cs. refl)
-    (ap (distance_token true) (decimal-read n lt))
+    (ap (distance_token true) (decimal_read n lt))
 
 -- ---- marks
 

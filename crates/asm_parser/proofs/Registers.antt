@@ -12,13 +12,14 @@ use Rattle.insn_text.specs.declared.item.VectorFile.{VectorFile}
 use Rattle.insn_text.specs.declared.item.VectorFile.TheVariants.{Z, P, B, H, S, D, Za}
 use Rattle.insn_text.specs.declared.keywords.TheConstants.{KEYWORDS, SUFFIXES}
 use Rattle.insn_text.specs.Texts.{text_in, text_at, vector_file_text, sized_text}
+use Rattle.line_reader.specs.Numbers.{decimal_number}
+use Rattle.line_reader.proofs.Digits.{decimal_read}
 use Rattle.asm_tokens.specs.declared.token.Token.TheVariants.{Sized}
 use Rattle.asm_tokens.specs.Characters.{is_name_character, is_digit, front, back}
-use Rattle.asm_tokens.specs.Numbers.{decimal_number}
 use Rattle.asm_tokens.specs.Tokens.{name_token, token_or, file_of, register_of, register_in, token_of_name, index_in}
 use Rattle.asm_tokens.specs.Tokens.{vector_file_of, file_size, has_suffix, sized_of, sized_after, begins_za, sized_in}
 use Rattle.asm_operands.proofs.MaskFields.{all_below, all_below-at}
-use Rattle.asm_parser.proofs.Numerals.{decimal-read, decimal-names, decimal-digits, no_letter}
+use Rattle.asm_parser.proofs.Numerals.{decimal-names, decimal-digits, no_letter}
 use Rattle.asm_parser.proofs.Reading.{opens, IsRead, is_plain, name-is-read, first_of}
 
 -- ---- suffixes
@@ -126,7 +127,7 @@ module _ (file : VectorFile) (n k : ℕ) (few : n < file_size file) (has : has_s
   unfolding sized_after sized_of
   after =
       ap₂ (λ ds ss. sized_of file (decimal_number ds) (index_in SUFFIXES ss)) behind-front behind-back
-      ∙ ap₂ (sized_of file) (decimal-read n small) (suffix_at k lt).found
+      ∙ ap₂ (sized_of file) (decimal_read n small) (suffix_at k lt).found
       ∙ cond-true _ (Some (Sized file n k)) None (and_from _ _ (lt-ltb n (file_size file) few) has)
 
 -- ---- the name

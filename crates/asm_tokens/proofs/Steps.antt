@@ -1,14 +1,11 @@
 -- The steps of loops over a text.
-use Rattle.std.proofs.Common.{◌≡◌, ℕ, ◌+◌, ◌*◌, ◌%◌, ◌^◌, ◌<◌, ◌≤◌, Bool, true, false, ◌&&◌, List, [], ◌∷◌, ◌++◌, Option}
-use Rattle.std.proofs.Common.{Some, None, length, take, drop, get_or, cond, refl, sym, ap, ◌∙◌, arith, append_assoc, add-one, lt-ltb}
-use Rattle.std.specs.List.{prefix_len, list_all}
+use Rattle.std.proofs.Common.{◌≡◌, ℕ, ◌+◌, ◌*◌, ◌%◌, ◌<◌, ◌≤◌, Bool, true, false, List, [], ◌∷◌, ◌++◌}
+use Rattle.std.proofs.Common.{length, take, drop, get_or, cond, refl, sym, ap, ◌∙◌, arith, append_assoc, add-one}
+use Rattle.std.specs.List.{prefix_len}
 use Rattle.std.proofs.Math.Seq.{take-suc}
 use Rattle.std.proofs.lemmas.List.{append-nil, drop-drop, at_drop_more, at_drop_all, length-take}
 use Rattle.std.proofs.lemmas.List.Sums.{prefix_len-drop_yes, prefix_len-drop_no, prefix_len-drop_all, prefix_len-le-length}
-use Rattle.std.proofs.Math.Nat.{mul-le-mul_left}
-use Rattle.std.proofs.lemmas.Bool.{le-ltb}
 use Rattle.asm_tokens.specs.Characters.{front, starts_comment, before_comment}
-use Rattle.asm_tokens.specs.Numbers.{digit_of, number_after, if_fits}
 use Rattle.asm_tokens.specs.Slots.{hash_after}
 
 -- what a text has from an offset on, from an offset on
@@ -60,50 +57,6 @@ pub comment-end : (xs whole : List ℕ) (at : ℕ) → length xs ≤ at → take
 unfolding before_comment
 comment-end xs whole at le h =
     sym (append-nil (take at xs)) ∙ ap (λ (ys : List ℕ). take at xs ++ ys) (sym (at_drop_all before_comment xs at le)) ∙ h
-
--- ---- numbers
-
--- the number of digits that follow a number, if all of them are digits and it fits
-abbrev pub read_digits : (ℕ → Bool) → ℕ → ℕ → List ℕ → Option ℕ
-read_digits test base n ds = cond (list_all test ds) (if_fits (number_after base n ds)) None
-
-number_after-ge : (base n : ℕ) (ds : List ℕ) → 1 ≤ base → n ≤ number_after base n ds
-number_after-ge base n [] some = omega arith
-number_after-ge base n (d ∷ ds) some =
-    omega (arith, number_after-ge base (n * base + digit_of d) ds some, mul-le-mul_left n some)
-
-pub digits-more : (test : ℕ → Bool) (base n : ℕ) (xs : List ℕ) (at : ℕ) → at < length xs → true ≡ test (get_or xs at 0)
-    → read_digits test base n (drop at xs) ≡ read_digits test base (n * base + digit_of (get_or xs at 0)) (drop (at + 1) xs)
-digits-more test base n xs at lt e =
-    at_drop_more (read_digits test base n) xs at 0 lt
-    ∙ ap (λ b. cond (b && list_all test (drop (at + 1) xs))
-    (if_fits (number_after base (n * base + digit_of (get_or xs at 0)) (drop (at + 1) xs))) None) (sym e)
-
-pub digits-stop : (test : ℕ → Bool) (base n : ℕ) (xs : List ℕ) (at : ℕ) → at < length xs → false ≡ test (get_or xs at 0)
-    → read_digits test base n (drop at xs) ≡ None
-digits-stop test base n xs at lt e =
-    at_drop_more (read_digits test base n) xs at 0 lt
-    ∙ ap (λ b. cond (b && list_all test (drop (at + 1) xs))
-    (if_fits (number_after base (n * base + digit_of (get_or xs at 0)) (drop (at + 1) xs))) None) (sym e)
-
-if_fits-large : (n : ℕ) → 2 ^ 64 ≤ n → if_fits n ≡ None
-if_fits-large n le = ap (λ b. cond b (Some n) None) (le-ltb n (2 ^ 64) le)
-
-none_both : (b : Bool) (o : Option ℕ) → o ≡ None → cond b o None ≡ None
-none_both true o e = e
-none_both false o e = refl
-
-pub digits-large : (test : ℕ → Bool) (base n : ℕ) (xs : List ℕ) (at : ℕ) → 1 ≤ base → at < length xs → true ≡ test (get_or xs at 0)
-    → 2 ^ 64 ≤ n * base + digit_of (get_or xs at 0) → read_digits test base n (drop at xs) ≡ None
-digits-large test base n xs at some lt e large =
-    digits-more test base n xs at lt e
-    ∙ none_both (list_all test (drop (at + 1) xs)) _
-    (if_fits-large _ (omega (arith, number_after-ge base (n * base + digit_of (get_or xs at 0)) (drop (at + 1) xs) some)))
-
-pub digits-end : (test : ℕ → Bool) (base n : ℕ) (xs : List ℕ) (at : ℕ) → n < 2 ^ 64 → length xs ≤ at
-    → read_digits test base n (drop at xs) ≡ Some n
-digits-end test base n xs at fits le =
-    at_drop_all (read_digits test base n) xs at le ∙ ap (λ b. cond b (Some n) None) (lt-ltb n (2 ^ 64) fits)
 
 -- ---- hashes
 

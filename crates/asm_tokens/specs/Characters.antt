@@ -1,20 +1,19 @@
 -- The characters of a source, which is UTF-8, and their columns.
 -- Source: this project's own assembly language.
-use Rattle.std.specs.Prelude.{ℕ, ◌+◌, Bool, false, not, ◌&&◌, ◌||◌, ◌==◌, nat_le, List, [], ◌∷◌, take, drop}
+use Rattle.std.specs.Prelude.{ℕ, ◌+◌, Bool, false, not, ◌&&◌, ◌||◌, ◌==◌, List, [], ◌∷◌, take, drop}
 use Rattle.std.specs.Prelude.{if◌then◌else◌, length}
+use Rattle.std.specs.Char.{is_ascii_digit}
+use Rattle.std.specs.Int.{is_in_range}
 use Rattle.std.specs.List.{count_by, take_while}
-
-abbrev pub is_between : ℕ → ℕ → ℕ → Bool
-is_between low high c = nat_le low c && nat_le c high
 
 -- 0 to 9
 unfoldable pub is_digit : ℕ → Bool
-is_digit c = is_between 48 57 c
+is_digit c = is_ascii_digit c
 
 -- a character of a name: a letter, a digit, `$`, `.` or `_`
 unfoldable pub is_name_character : ℕ → Bool
 is_name_character c =
-    is_between 97 122 c || is_between 65 90 c || is_digit c || (c == 36) || (c == 46) || (c == 95)
+    is_in_range 97 122 c || is_in_range 65 90 c || is_digit c || (c == 36) || (c == 46) || (c == 95)
 
 -- a space or a tab
 unfoldable pub is_blank : ℕ → Bool
@@ -22,7 +21,7 @@ is_blank c = (c == 32) || (c == 9)
 
 -- a byte that continues a character
 unfoldable pub is_continuation : ℕ → Bool
-is_continuation c = is_between 128 191 c
+is_continuation c = is_in_range 128 191 c
 
 -- the longest prefix of bytes that pass the test, and the rest
 abbrev pub front : (ℕ → Bool) → List ℕ → List ℕ

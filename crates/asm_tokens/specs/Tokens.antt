@@ -11,12 +11,13 @@ use Rattle.insn_text.specs.declared.item.VectorFile.TheVariants as vector
 use Rattle.insn_text.specs.declared.item.Text.{Text}
 use Rattle.insn_text.specs.declared.keywords.TheConstants.{KEYWORDS, SUFFIXES}
 use Rattle.insn_text.specs.Texts.{text_in}
+use Rattle.line_reader.specs.Numbers.{decimal_number}
 use Rattle.asm_tokens.specs.declared.token.Token.{Token}
 use Rattle.asm_tokens.specs.declared.token.Token.TheVariants.{Register, Keyword, Name, Number, Distance, Bare}
 use Rattle.asm_tokens.specs.declared.token.Token.TheVariants.{Malformed, Punctuation, Other, Sized}
 use Rattle.asm_tokens.specs.declared.token.Lexeme.{Lexeme}
 use Rattle.asm_tokens.specs.Characters.{is_digit, is_name_character, is_blank, is_continuation, front, back}
-use Rattle.asm_tokens.specs.Numbers.{number_in, decimal_number}
+use Rattle.asm_tokens.specs.Numbers.{number_in}
 
 -- the token is a name
 unfoldable pub is_name : Token → Bool

@@ -11,9 +11,10 @@ use crate::characters::{
     byte_at, character_end, digits_end, is_blank, is_digit, is_name_character, run_at, skip_blanks,
 };
 use crate::names::{keyword_index, suffix_index};
-use crate::numbers::{decimal_number, number_in};
+use crate::numbers::number_in;
 use crate::token::{Lexeme, Token};
 use insn_text::{RegisterFile, VectorFile};
+use line_reader::decimal_number;
 
 #[tactic(auto, unfolding(crate::specs::Tokens::number_token))]
 fn number_token(negative: bool, number: Option<u64>) -> Token

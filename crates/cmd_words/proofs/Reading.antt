@@ -9,7 +9,7 @@ use Rattle.std.specs.List.{find, range_with_len}
 use Rattle.std.specs.Str.{bytes_eq}
 use Rattle.std.proofs.lemmas.Slice.Eq.{bytes_eq-Decides}
 use Rattle.cmd_words.specs.Forms.{Form, form_of, options_from}
-use Rattle.cmd_words.specs.Numbers.{is_number, number_of}
+use Rattle.line_reader.specs.Numbers.{is_decimal, decimal_value}
 use Rattle.cmd_words.specs.Options.{Options, default_options, word_of, setting_in, takes, default_of, with_numbers}
 use Rattle.cmd_words.specs.Command.{asking}
 use Rattle.cmd_words.specs.Words.{Argument, NameSaid, ThreadSaid, arguments_of, thread_fault}
@@ -220,7 +220,7 @@ module _ (words : List (List ℕ)) (form : Form) (p : ℕ) (given : Given) (word
 
   module _ (s : Setting) (value : List ℕ) (number : ℕ) (more : Given) (is : setting_in form.options word ≡ Some s)
       (none : given_of given s ≡ None)
-      (after : slice_get words (p + 1) ≡ Some value) (digits : is_number value ≡ true) (reads : number ≡ number_of value)
+      (after : slice_get words (p + 1) ≡ Some value) (digits : is_decimal value ≡ true) (reads : number ≡ decimal_value value)
       (in_range : takes s number ≡ true)
       (set : given_of more s ≡ Some number) (others : (t : Setting) → t ≢ s → given_of more t ≡ given_of given t) where
     value_sound : fault_at words (p + 1) ≡ None
@@ -249,13 +249,13 @@ module _ (words : List (List ℕ)) (form : Form) (p : ℕ) (given : Given) (word
     value_now : value_below form words s (p + 2) ≡ Some number
     unfolding value_below
     value_now =
-        ap (option_and_then (λ place. option_map number_of (slice_get words (place + 1)))) now_here ∙ ap (option_map number_of) after
+        ap (option_and_then (λ place. option_map decimal_value (slice_get words (place + 1)))) now_here ∙ ap (option_map decimal_value) after
         ∙ ap Some (sym reads)
 
     value_still : (t : Setting) → t ≢ s → value_below form words t (p + 2) ≡ value_below form words t p
     unfolding value_below
     value_still t d =
-        ap (option_and_then (λ place. option_map number_of (slice_get words (place + 1))))
+        ap (option_and_then (λ place. option_map decimal_value (slice_get words (place + 1))))
         (place_other words form word s t p h.past h.even at (setting_word form.options word s is) d)
 
     valued_more : (t : Setting) → given_of more t ≡ value_below form words t (p + 2)
@@ -378,7 +378,7 @@ read_start words form given asked h none = record {
   sound = h.sound;
   placed = λ s. ap is_some (none s) ∙ sym (ap is_some (no_place words form (word_of s)));
   valued =
-      λ s. none s ∙ sym (ap (option_and_then (λ place. option_map number_of (slice_get words (place + 1))))
+      λ s. none s ∙ sym (ap (option_and_then (λ place. option_map decimal_value (slice_get words (place + 1))))
       (no_place words form (word_of s)));
   in_range = λ s n e. absurd (none_some n (sym (none s) ∙ e));
 }
@@ -465,13 +465,13 @@ thread_stands words given n h = λ word at.
 
 -- the operands of `replay`
 pub replayed : (words : List (List ℕ)) (program report : List ℕ) (thread : ℕ) → slice_get words 1 ≡ Some program
-    → slice_get words 2 ≡ Some report → option_map number_of (slice_get words 3) ≡ Some thread
+    → slice_get words 2 ≡ Some report → option_map decimal_value (slice_get words 3) ≡ Some thread
     → arguments_of (Name ∷ Name ∷ Thread ∷ []) (drop 1 words) ≡ NameSaid program ∷ NameSaid report ∷ ThreadSaid thread ∷ []
 replayed [] program report thread e f g = cc
 replayed (w ∷ []) program report thread e f g = cc
 replayed (w ∷ p ∷ []) program report thread e f g = cc
 replayed (w ∷ p ∷ r ∷ []) program report thread e f g = cc
 replayed (w ∷ p ∷ r ∷ t ∷ words) program report thread e f g =
-    ap (λ n. NameSaid n ∷ NameSaid r ∷ ThreadSaid (number_of t) ∷ []) (same_word p program e)
-    ∙ ap (λ n. NameSaid program ∷ NameSaid n ∷ ThreadSaid (number_of t) ∷ []) (same_word r report f)
-    ∙ ap (λ n. NameSaid program ∷ NameSaid report ∷ ThreadSaid n ∷ []) (same_number (number_of t) thread g)
+    ap (λ n. NameSaid n ∷ NameSaid r ∷ ThreadSaid (decimal_value t) ∷ []) (same_word p program e)
+    ∙ ap (λ n. NameSaid program ∷ NameSaid n ∷ ThreadSaid (decimal_value t) ∷ []) (same_word r report f)
+    ∙ ap (λ n. NameSaid program ∷ NameSaid report ∷ ThreadSaid n ∷ []) (same_number (decimal_value t) thread g)

@@ -6,7 +6,7 @@ use Rattle.std.specs.Prelude.{unwrap_or, codes, drop, if◌then◌else◌}
 use Rattle.std.specs.List.{find, range_with_len}
 use Rattle.std.specs.Option.{option_map_or}
 use Rattle.std.specs.Str.{bytes_eq}
-use Rattle.cmd_words.specs.Numbers.{is_number, number_of}
+use Rattle.line_reader.specs.Numbers.{is_decimal, decimal_value}
 use Rattle.cmd_words.specs.Forms.{Form, form_of, options_from}
 use Rattle.cmd_words.specs.Options.{Options, default_options, word_of, setting_in, takes, default_of}
 use Rattle.cmd_words.specs.Options.{with_numbers}
@@ -62,7 +62,7 @@ command_fault (Some word) = if is_some (verb_of word) then None else Some Unknow
 -- a word is to be the number of a guest thread, of which a run has at most 32
 abbrev pub thread_fault : List ℕ → Option UsageKind
 thread_fault word =
-    if is_number word then (if nat_lt (number_of word) 32 then None else Some OutOfRange)
+    if is_decimal word then (if nat_lt (decimal_value word) 32 then None else Some OutOfRange)
     else Some BadNumber
 
 -- an operand is to stand
@@ -89,7 +89,7 @@ abbrev pub value_fault : Option Setting → Option (List ℕ) → Option UsageKi
 value_fault setting None = Some Missing
 value_fault None (Some word) = None
 value_fault (Some setting) (Some word) =
-    if is_number word then (if takes setting (number_of word) then None else Some OutOfRange)
+    if is_decimal word then (if takes setting (decimal_value word) then None else Some OutOfRange)
     else Some BadNumber
 
 -- after a command of that form: its operands, then its options, and after each its value
@@ -131,7 +131,7 @@ usage_fault words =
 -- the number of an option that stands below place n: that of the word after it
 unfoldable pub value_below : Form → List (List ℕ) → Setting → ℕ → Option ℕ
 value_below form words setting n =
-    option_and_then (λ place. option_map number_of (slice_get words (place + 1)))
+    option_and_then (λ place. option_map decimal_value (slice_get words (place + 1)))
     (option_place form words (word_of setting) n)
 
 -- the number of an option
@@ -150,7 +150,7 @@ pub data Argument : Type 0 where
 
 abbrev pub argument_of : Operand → List ℕ → Argument
 argument_of Name word = NameSaid word
-argument_of Thread word = ThreadSaid (number_of word)
+argument_of Thread word = ThreadSaid (decimal_value word)
 
 -- what operands say, each by the word at its place
 abbrev pub arguments_of : List Operand → List (List ℕ) → List Argument

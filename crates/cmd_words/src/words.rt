@@ -3,8 +3,8 @@ ghost use Rattle.std.specs.Prelude.{◌≡◌, ◌<◌, ◌≤◌, ◌+◌, true
 ghost use Rattle.std.specs.Prelude.{option_map, option_and_then, IfOk, IfErr, OnOk, IsSome, MatchOption};
 ghost use Rattle.std.specs.Option.{ForSome};
 ghost use Rattle.std.specs.String.{string_bytes};
+ghost use Rattle.line_reader.specs.Numbers.{is_decimal, decimal_value};
 ghost use Rattle.cmd_words.specs.Forms as forms;
-ghost use Rattle.cmd_words.specs.Numbers as numbers;
 ghost use Rattle.cmd_words.specs.Options as options;
 ghost use Rattle.cmd_words.specs.Words as spec;
 ghost use Rattle.cmd_words.specs.Words.{command_of, form_asked, value_fault};
@@ -88,8 +88,8 @@ fn read_setting(settings: &[Setting], word: &str, given: &Given) -> Result<Setti
 
 /// The number of a word, which the option takes.
 fn read_value(setting: Setting, word: &str) -> Result<u32, UsageKind>
-    ensures ok { IfOk result (λ number. (numbers.is_number word.now ≡ true)
-        × (number ≡ numbers.number_of word.now) × (options.takes setting number ≡ true)) }
+    ensures ok { IfOk result (λ number. (is_decimal word.now ≡ true)
+        × (number ≡ decimal_value word.now) × (options.takes setting number ≡ true)) }
     ensures err { IfErr result (λ kind. value_fault (Some setting) (Some word.now) ≡ Some kind) }
 {
     match number_of(word) {
@@ -185,7 +185,7 @@ fn thread_at(words: &[String], place: usize) -> u32
     requires stands { place < length words.now }
     requires number { ForSome (slice_get (map string_bytes words.now) place)
         (λ word. spec.thread_fault word ≡ None) }
-    ensures number { option_map numbers.number_of (slice_get (map string_bytes words.now) place)
+    ensures number { option_map decimal_value (slice_get (map string_bytes words.now) place)
         ≡ Some result }
 {
     match number_of(words[place].as_str()) {

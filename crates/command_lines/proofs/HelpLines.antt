@@ -7,8 +7,7 @@ use Rattle.cmd_words.specs.declared.setting.Setting.{Setting}
 use Rattle.cmd_words.specs.declared.setting.Setting.TheVariants.{Vl, Svl, Slice, Budget}
 use Rattle.command_lines.specs.Texts.{has_number, help_text, numbers_of, option_line, HasFront, HasPart, status_line}
 use Rattle.command_lines.specs.declared.status.Status.{Status}
-use Rattle.command_lines.specs.declared.status.Status.TheVariants.{Done, Usage, Absent, ReadFault, WriteFault, BadFile, BadSource}
-use Rattle.command_lines.specs.declared.status.Status.TheVariants.{OutOfMemory, BadReport, Differs}
+use Rattle.command_lines.specs.declared.status.Status.TheVariants.{Done}
 
 -- ---- a part of a text, wherever it stands
 
@@ -71,12 +70,4 @@ has_numbers Budget n = refl
 pub has_status : (status : Status) → HasPart help_text (status_line status)
 unfolding help_text digits stands_in begins
 has_status Done = stands_so (status_line Done) help_text refl
-has_status Usage = stands_so (status_line Usage) help_text refl
-has_status Absent = stands_so (status_line Absent) help_text refl
-has_status ReadFault = stands_so (status_line ReadFault) help_text refl
-has_status WriteFault = stands_so (status_line WriteFault) help_text refl
-has_status BadFile = stands_so (status_line BadFile) help_text refl
-has_status BadSource = stands_so (status_line BadSource) help_text refl
-has_status OutOfMemory = stands_so (status_line OutOfMemory) help_text refl
-has_status BadReport = stands_so (status_line BadReport) help_text refl
-has_status Differs = stands_so (status_line Differs) help_text refl
+has_status status = stands_so (status_line status) help_text refl

@@ -1,17 +1,20 @@
--- The steps of the loop over digits.
-use Rattle.std.proofs.Common.{◌≡◌, ℕ, suc, subst, nat_lt, ◌+◌, ◌*◌, ◌^◌, ◌<◌, ◌≤◌, Bool, true, false, ◌&&◌, List, [], ◌∷◌, length, drop, get_or, Option}
-use Rattle.std.proofs.Common.{Some, None, cond, refl, sym, ap, ◌∙◌, arith, lt-ltb}
-use Rattle.std.specs.Char.{digit_value}
+-- The steps of the loop over digits, how large a number is, and that a printed number is read back.
+use Rattle.std.proofs.Common.{◌≡◌, ℕ, suc, subst, nat_lt, ◌+◌, ◌*◌, ◌^◌, ◌<◌, ◌≤◌, Bool, true, false, not, ◌&&◌, ◌||◌, ◌==◌, List, [], ◌∷◌}
+use Rattle.std.proofs.Common.{length, drop, get_or, Option, Some, None, cond, refl, sym, ap, ◌∙◌, arith, lt-ltb, rules, inl, inr}
+use Rattle.std.specs.Prelude.{slice_index, decimal}
+use Rattle.std.specs.Char.{digit_value, is_ascii_digit}
 use Rattle.std.specs.List.{list_all}
-use Rattle.std.specs.Str.Parse.{digits_value_after}
+use Rattle.std.specs.Str.Parse.{digits_value, digits_value_after}
 use Rattle.std.proofs.lemmas.List.{at_drop_more, at_drop_all}
 use Rattle.std.proofs.Math.Nat.{mul-le-mul_left}
 use Rattle.std.proofs.Math.Nat.{mul-le-mul_right, pow-suc}
-use Rattle.std.proofs.lemmas.Bool.{le-ltb, and_parts}
+use Rattle.std.proofs.lemmas.Bool.{le-ltb, and_parts, and_from, cases_lt, cond-true}
 use Rattle.std.proofs.lemmas.Bool.Decides.{nat_tests}
+use Rattle.std.proofs.lemmas.Fmt.{digits_decimal, digits_value-decimal, decimal_nonempty, first_decimal, decimal_digit}
+use Rattle.std.proofs.lemmas.Str.Parse.{IsNumeralModel, IsDigitsTest, numerals_by_value}
 use Rattle.std.specs.Prelude.{IfSome}
 use Rattle.line_reader.specs.declared.numbers.Base.TheVariants.{Sixteen}
-use Rattle.line_reader.specs.Numbers.{if_fits, is_digit_of, digits_in}
+use Rattle.line_reader.specs.Numbers.{if_fits, is_digit_of, digits_in, has_no_leading_zero, is_decimal, decimal_value, decimal_number}
 
 -- the number of digits that follow a number, if all of them are digits and it fits
 abbrev pub read_digits : (ℕ → Bool) → ℕ → ℕ → List ℕ → Option ℕ
@@ -99,3 +102,42 @@ digits-small count ds r e is =
           (rw (sym e) (omega (arith, after-small 0 ds all)))
       | false ↦ λ all. tt
     ] refl)
+
+-- ---- a printed number is read back
+
+digits_test : IsDigitsTest (λ ds. list_all is_ascii_digit ds ≡ true)
+digits_test = search rules
+
+own : IsNumeralModel (λ ds. list_all is_ascii_digit ds ≡ true) (digits_value 10)
+own = numerals_by_value _ digits_test
+
+no_zero : (ds : List ℕ) → 48 < get_or ds 0 0 → (not (slice_index ds 0 == 48) || (length ds == 1)) ≡ true
+no_zero ds l =
+    let other : (slice_index ds 0 == 48) ≡ false = grind (arith, nat_tests) in ap (λ b. not b || (length ds == 1)) other
+
+module _ (n : ℕ) (fits : n < 2 ^ 64) where
+  leading : (not (slice_index (decimal n) 0 == 48) || (length (decimal n) == 1)) ≡ true
+  leading = elim (cases_lt 0 n) [
+    | inl some ↦ no_zero (decimal n) (first_decimal n some fits)
+    | inr none ↦ (let is : n ≡ 0 = omega arith in
+        ap (λ m. not (slice_index (decimal m) 0 == 48) || (length (decimal m) == 1)) is
+        ∙ ap (λ ds. not (slice_index ds 0 == 48) || (length ds == 1)) (decimal_digit 0 (omega arith)))
+  ]
+
+  pub decimal_digits : list_all is_ascii_digit (decimal n) ≡ true
+  decimal_digits = digits_decimal own n fits
+
+  printed : is_decimal (decimal n) ≡ true
+  unfolding is_decimal
+  printed =
+      and_from (has_no_leading_zero (decimal n)) (list_all is_ascii_digit (decimal n))
+      (and_from (nat_lt 0 (length (decimal n))) (not (slice_index (decimal n) 0 == 48) || (length (decimal n) == 1))
+      (lt-ltb 0 (length (decimal n)) (decimal_nonempty n fits)) leading)
+      decimal_digits
+
+  pub decimal_read : decimal_number (decimal n) ≡ Some n
+  unfolding decimal_number decimal_value
+  decimal_read =
+      cond-true (is_decimal (decimal n)) _ None printed
+      ∙ ap if_fits (digits_value-decimal own n fits)
+      ∙ ap (λ b. cond b (Some n) None) (lt-ltb n (2 ^ 64) fits)

@@ -1,14 +1,18 @@
 //! Numbers in words.
-ghost use Rattle.std.specs.Prelude.{◌≡◌, ◌+◌, ◌*◌, ◌^◌, ◌<◌, ◌&&◌, ◌||◌, ◌==◌, not, nat_lt, SomeIff, Some, None};
-ghost use Rattle.std.specs.Prelude.{length, slice_index, if◌then◌else◌, IfSome};
+ghost use Rattle.std.specs.Prelude.{◌≡◌, ◌+◌, ◌*◌, ◌^◌, ◌<◌, SomeIff, Some, None, if◌then◌else◌, IfSome};
 ghost use Rattle.std.specs.Char.{digit_value};
+ghost use Rattle.std.specs.List.{list_all};
 ghost use Rattle.line_reader.specs.Numbers as spec;
 
-/// The base of a number's digits.
+/// The base of a number's digits, and the case of its letters.
 #[derive(Clone, Copy)]
 pub enum Base {
+    /// 0 to 9.
     Ten,
+    /// 0 to 9 and a to f, in lower case alone.
     Sixteen,
+    /// 0 to 9, a to f and A to F.
+    SixteenAnyCase,
 }
 
 fn radix(base: Base) -> u64
@@ -16,7 +20,7 @@ fn radix(base: Base) -> u64
 {
     match base {
         Base::Ten => 10,
-        Base::Sixteen => 16,
+        Base::Sixteen | Base::SixteenAnyCase => 16,
     }
 }
 
@@ -26,7 +30,8 @@ fn digit_in(base: Base, c: u8) -> Option<u64>
 {
     match (base, c) {
         (_, b'0'..=b'9') => Some(u64::from(c - b'0')),
-        (Base::Sixteen, b'a'..=b'f') => Some(u64::from(c - b'a') + 10),
+        (Base::Sixteen | Base::SixteenAnyCase, b'a'..=b'f') => Some(u64::from(c - b'a') + 10),
+        (Base::SixteenAnyCase, b'A'..=b'F') => Some(u64::from(c - b'A') + 10),
         _ => None,
     }
 }
@@ -41,8 +46,9 @@ fn with_digit(number: u64, base: u64, digit: u64) -> Option<u64>
     }
 }
 
-/// The number that digits of a base write, if it fits 64 bits.
-fn digits_in(base: Base, digits: &[u8]) -> Option<u64>
+/// The number that digits of a base write; `None` where one is no digit of it, or the number does not fit 64
+/// bits. No digits write 0.
+pub fn digits_in(base: Base, digits: &[u8]) -> Option<u64>
     ensures { result ≡ spec.digits_in base digits.now }
 {
     let mut number = 0;
@@ -58,16 +64,36 @@ fn digits_in(base: Base, digits: &[u8]) -> Option<u64>
     Some(number)
 }
 
+/// Tells whether all are digits of a base.
+fn are_digits(base: Base, digits: &[u8]) -> bool
+    ensures { result ≡ list_all (spec.is_digit_of base) digits.now }
+{
+    digits.iter().all(|c| digit_in(base, *c).is_some())
+}
+
 /// There are digits, of which the first is no 0 unless it stands alone.
 fn has_no_leading_zero(digits: &[u8]) -> bool
-    ensures { result ≡ (nat_lt 0 (length digits.now)
-        && (not (slice_index digits.now 0 == 48) || (length digits.now == 1))) }
+    ensures { result ≡ spec.has_no_leading_zero digits.now }
 {
     0 < digits.len() && (digits[0] != b'0' || digits.len() == 1)
 }
 
-/// The number that decimal digits write, with no leading zero.
-#[tactic(auto, unfolding(crate::specs::Numbers::decimal_number))]
+/// Tells whether a word is a decimal number, however large: digits, at least one, without a sign and with no
+/// leading zero.
+#[tactic(auto, unfolding(crate::specs::Numbers::is_decimal))]
+pub fn is_decimal(digits: &[u8]) -> bool
+    ensures { result ≡ spec.is_decimal digits.now }
+{
+    has_no_leading_zero(digits) && are_digits(Base::Ten, digits)
+}
+
+/// The number that decimal digits write, with no leading zero; `None` where they are none, or where it does
+/// not fit 64 bits.
+#[tactic(auto, unfolding(
+// What the words say,
+crate::specs::Numbers::decimal_number, crate::specs::Numbers::is_decimal, crate::specs::Numbers::decimal_value,
+// and what the digits do.
+crate::specs::Numbers::digits_in))]
 pub fn decimal_number(digits: &[u8]) -> Option<u64>
     ensures { result ≡ spec.decimal_number digits.now }
 {
@@ -108,5 +134,5 @@ pub fn hex_number(count: usize, digits: &[u8]) -> Option<u64>
 pub fn is_hex(digits: &[u8]) -> bool
     ensures { result ≡ spec.is_hex digits.now }
 {
-    digits.iter().all(|c| digit_in(Base::Sixteen, *c).is_some())
+    are_digits(Base::Sixteen, digits)
 }

@@ -1,7 +1,7 @@
 use Rattle.std.proofs.Common.{arith, ◌≡◌, ◌≤◌, ◌*◌, ◌+◌, ◌^◌, ℕ, drop, get_or, sym, ◌∙◌, lit≤, ap}
 use Rattle.std.specs.Char.{digit_value}
 use Rattle.line_reader.specs.declared.numbers.Base.{Base}
-use Rattle.line_reader.specs.declared.numbers.Base.TheVariants.{Ten, Sixteen}
+use Rattle.line_reader.specs.declared.numbers.Base.TheVariants.{Ten, Sixteen, SixteenAnyCase}
 use Rattle.line_reader.specs.Numbers.{digits_in, is_digit_of, radix}
 use Rattle.line_reader.proofs.Digits.{digits-more, digits-stop, digits-large, digits-end, read_digits, is_no_digit, is_digit}
 use Rattle.line_reader.proofs.numbers.digits_in.Goals as goal
@@ -9,6 +9,7 @@ use Rattle.line_reader.proofs.numbers.digits_in.Goals as goal
 some_radix : (base : Base) → 1 ≤ radix base
 some_radix Ten = lit≤ tt
 some_radix Sixteen = lit≤ tt
+some_radix SixteenAnyCase = lit≤ tt
 
 pub loop-at-preserved : goal.loop-at-preserved
 loop-at-preserved c =
