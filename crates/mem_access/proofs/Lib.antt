@@ -7,3 +7,4 @@ pub mod Atomics
 pub mod Room
 pub mod Lists
 pub mod Touched
+pub mod Owned

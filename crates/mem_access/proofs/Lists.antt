@@ -21,12 +21,12 @@ use Rattle.sm_types.specs.declared.insn.Atomic.{Atomic}
 use Rattle.sm_types.specs.declared.insn.Atomic.TheVariants as atomic
 use Rattle.scalar_exec.specs.Registers.{x_of, with_x}
 use Rattle.std.specs.Option.{option_or}
-use Rattle.paged_memory.specs.Memory.{AddressSpace, byte_with, bytes_with, and_byte, first_without, unless_there, set_bytes}
+use Rattle.paged_memory.specs.Memory.{AddressSpace, byte_with, bytes_with, and_byte, first_without, unless_there, set_bytes, run_of}
 use Rattle.paged_memory.specs.PageTable.{PageTable, IsOwned}
 use Rattle.mem_access.specs.declared.access.MemoryAccess.{MemoryAccess}
 use Rattle.mem_access.specs.Access.{bytes_in, with_base, with_pair_base, register_size, literal_size, load_store_access}
 use Rattle.mem_access.specs.Access.{load_literal_access, pair_access, atomic_access}
-use Rattle.mem_access.specs.DataAccess.{run_of, of_run}
+use Rattle.mem_access.specs.DataAccess.{of_run}
 use Rattle.mem_access.specs.Checks.{is_shared, lacks, access_fault}
 use Rattle.mem_access.specs.Values.{byte_and, bytes_at, number_or_zero, number_at, set_each, loaded, literal_loaded, low_bytes, updated}
 use Rattle.mem_access.specs.Transfer.{AfterAccess, load_store_after, load_store_stored, pair_after, pair_bytes, pair_stored, atomic_after}

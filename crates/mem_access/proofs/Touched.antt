@@ -3,7 +3,7 @@ use Rattle.std.proofs.Common.{◌≡◌, ℕ, suc, ◌-◌, ◌/◌, ◌%◌, �
 use Rattle.std.proofs.Common.{sym, ◌∙◌, arith, Option, Some, None, option_map}
 use Rattle.std.specs.Prelude.{option_and_then, IsSome}
 use Rattle.sm_types.specs.Checks.{first_fault, fault_when}
-use Rattle.paged_memory.specs.Memory.{AddressSpace}
+use Rattle.paged_memory.specs.Memory.{AddressSpace, run_of}
 use Rattle.std.specs.List.{find}
 use Rattle.std.proofs.lemmas.Option.{same_Some, none-some, cond_some}
 use Rattle.std.proofs.lemmas.Bool.Decides.{nat_tests}
@@ -24,7 +24,7 @@ use Rattle.sm_types.specs.declared.stop.Exception.{Exception}
 use Rattle.sm_types.specs.declared.stop.Exception.TheVariants.{Shared, Align}
 use Rattle.mem_access.specs.declared.access.MemoryAccess.{MemoryAccess}
 use Rattle.mem_access.specs.Access.{load_store_access, load_literal_access, atomic_access}
-use Rattle.mem_access.specs.DataAccess.{DataAccess, run_of, of_run}
+use Rattle.mem_access.specs.DataAccess.{DataAccess, of_run}
 use Rattle.mem_access.specs.Checks.{is_shared, sp_fault, align_fault, shared_fault, access_fault}
 use Rattle.mem_access.specs.Transfer.{access_of}
 use Rattle.mem_access.specs.SharedAccess.{address_of_word, word_number, is_of_word, reached_word, on_word, load_store_op, literal_op}

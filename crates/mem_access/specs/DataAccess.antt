@@ -1,6 +1,7 @@
 -- An access to memory: its bytes in the order of their transfer, and how it is made.
 -- Source: DDI 0487, J1.1 (Mem), C1.3.3; addresses are taken modulo 2 ^ 64.
-use Rattle.std.specs.Prelude.{ℕ, zero, suc, ◌+◌, ◌%◌, ◌^◌, Bool, List, [], ◌∷◌}
+use Rattle.std.specs.Prelude.{ℕ, Bool, List}
+use Rattle.paged_memory.specs.Memory.{run_of}
 use Rattle.mem_access.specs.declared.access.MemoryAccess.{MemoryAccess}
 
 pub record DataAccess : Type 0 where
@@ -14,11 +15,6 @@ pub record DataAccess : Type 0 where
   pub size : ℕ
   pub reads : Bool
   pub writes : Bool
-
--- so many addresses, one after another
-unfoldable pub run_of : ℕ → ℕ → List ℕ
-run_of a zero = []
-run_of a (suc n) = a % 2 ^ 64 ∷ run_of (a + 1) n
 
 -- an access to consecutive bytes
 abbrev pub of_run : MemoryAccess → DataAccess

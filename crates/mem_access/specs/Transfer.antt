@@ -2,7 +2,7 @@
 -- moved by the machine.
 -- Source: DDI 0487, C6.2: LDR, LDRB, LDRH, LDRSB, LDRSH, LDRSW, LDUR.., STR.., STUR.., LDP, STP, LDAR, STLR,
 -- CAS, SWP, LDADD.. and their kin.
-use Rattle.std.specs.Prelude.{◌≡◌, ℕ, ◌*◌, ◌/◌, ◌%◌, ◌^◌, ◌==◌, ◌++◌, Bool, true, false, cond, List, Option}
+use Rattle.std.specs.Prelude.{◌≡◌, ℕ, ◌*◌, ◌/◌, ◌%◌, ◌^◌, ◌==◌, ◌++◌, Bool, true, false, cond, List, [], Option}
 use Rattle.std.specs.Prelude.{Some, None, Result, Ok, Err, IfSome, IsSome, All, option_and_then}
 use Rattle.std.specs.Int.{bytes_low_first}
 use Rattle.std.specs.FinMap.{get}
@@ -129,6 +129,11 @@ abbrev pub written : AddressSpace → List ℕ → Option (List ℕ) → Address
 written m addresses None = m
 written m addresses (Some bytes) = record m { mem = set_each m.mem addresses bytes }
 
+-- the addresses of the bytes that are stored, if any are
+abbrev pub written_addresses : List ℕ → Option (List ℕ) → List ℕ
+written_addresses addresses None = []
+written_addresses addresses (Some bytes) = addresses
+
 -- what an instruction leaves that accesses these addresses
 abbrev pub after_bytes : Insn → List ℕ → Scalars → AddressSpace → AfterAccess
 after_bytes it addresses s m = record {
@@ -144,6 +149,16 @@ after_data it (Some access) s m = after_bytes it access.bytes s m
 -- what it leaves, where no check refuses its access
 abbrev pub after_access : Insn → Scalars → AddressSpace → AfterAccess
 after_access it s m = after_data it (access_of it s) s m
+
+-- the addresses of the bytes that an instruction writes by its access, if it makes one
+abbrev pub writes_by : Insn → Option DataAccess → Scalars → AddressSpace → List ℕ
+writes_by it None s m = []
+writes_by it (Some access) s m =
+    written_addresses access.bytes (stored it (number_at m access.bytes) s)
+
+-- the addresses of the bytes that it writes, where no check refuses its access
+abbrev pub writes_of : Insn → Scalars → AddressSpace → List ℕ
+writes_of it s m = writes_by it (access_of it s) s m
 
 -- what registers and pages hold
 abbrev pub contents_of : Scalars → PageTable → AfterAccess

@@ -1,10 +1,11 @@
 //! The ordered and atomic accesses.
-ghost use Rattle.std.specs.Prelude.{◌≢◌, ◌==◌, ◌<◌, cond, Err};
+ghost use Rattle.std.specs.Prelude.{◌≢◌, ◌==◌, ◌<◌, [], cond, Err};
 ghost use Rattle.a64_table.specs.Ranges.{IsAtomic};
 ghost use Rattle.scalar_exec.specs.Registers.{x_of, with_x};
-ghost use Rattle.paged_memory.specs.PageTable.{AreOwned, KeepsOwned};
+ghost use Rattle.paged_memory.specs.PageTable.{AreOwned, Owns};
+ghost use Rattle.paged_memory.specs.Memory.{run_of};
 ghost use Rattle.mem_access.specs.Access.{bytes_in, atomic_access};
-ghost use Rattle.mem_access.specs.Transfer.{contents_of, Transfers};
+ghost use Rattle.mem_access.specs.Transfer.{contents_of, raised_by, writes_of, Transfers};
 ghost use Rattle.mem_access.specs.Values.{low_bytes, updated};
 ghost use Rattle.mem_access.specs.Runs.{denied_read, denied_write, denied_update, run_fault, after_atomic};
 ghost use Rattle.mem_access.specs.Runs.{RunHasRoom, number_in, with_number};
@@ -17,7 +18,7 @@ use crate::stop::AccessStop;
 use crate::values::low_bytes;
 use paged_memory::Pages;
 use scalar_exec::{read_x, write_x};
-use sm_types::{AccessSize, Atomic, AtomicOp, Scalars};
+use sm_types::{AccessSize, Atomic, AtomicOp, Insn, Scalars};
 
 /// An ordered load.
 fn load_ordered(
@@ -61,7 +62,7 @@ fn store_ordered(
         })
         (contents_of s.now pages.old) (contents_of s.now pages.new) result }
     ensures room { AreOwned pages.old address (bytes_in size) → result ≢ Err AccessStop.Memory }
-    ensures kept { KeepsOwned pages.old pages.new }
+    ensures owned { Owns raised_by (run_of address (bytes_in size)) pages.old pages.new result }
 {
     write_number(pages, address, size, read_x(s, rt))
 }
@@ -87,7 +88,9 @@ fn swap_where_equal(
         })
         (contents_of s.old pages.old) (contents_of s.new pages.new) result }
     ensures room { AreOwned pages.old address (bytes_in size) → result ≢ Err AccessStop.Memory }
-    ensures kept { KeepsOwned pages.old pages.new }
+    ensures owned { Owns raised_by (cond
+        (number_in pages.old.memory address (bytes_in size) == low_bytes (bytes_in size) (x_of s.old rs))
+        (run_of address (bytes_in size)) []) pages.old pages.new result }
 {
     let expected = low_bytes(size, read_x(s, rs));
     match compare_and_swap(pages, address, size, expected, read_x(s, rt)) {
@@ -117,7 +120,7 @@ fn swap_register(
         })
         (contents_of s.old pages.old) (contents_of s.new pages.new) result }
     ensures room { AreOwned pages.old address (bytes_in size) → result ≢ Err AccessStop.Memory }
-    ensures kept { KeepsOwned pages.old pages.new }
+    ensures owned { Owns raised_by (run_of address (bytes_in size)) pages.old pages.new result }
 {
     match swap(pages, address, size, read_x(s, rs)) {
         Ok(old) => {
@@ -149,7 +152,7 @@ fn update_by_register(
         })
         (contents_of s.old pages.old) (contents_of s.new pages.new) result }
     ensures room { AreOwned pages.old address (bytes_in size) → result ≢ Err AccessStop.Memory }
-    ensures kept { KeepsOwned pages.old pages.new }
+    ensures owned { Owns raised_by (run_of address (bytes_in size)) pages.old pages.new result }
 {
     let operand = low_bytes(size, read_x(s, rs));
     match update(pages, address, size, op, operand) {
@@ -168,7 +171,8 @@ pub fn transfer_atomic(x: &Atomic, s: &mut Scalars, pages: &mut Pages) -> Result
         (after_atomic x.now (atomic_access x.now s.old).address s.old pages.old.memory)
         (contents_of s.old pages.old) (contents_of s.new pages.new) result }
     ensures room { RunHasRoom (atomic_access x.now s.old) pages.old → result ≢ Err AccessStop.Memory }
-    ensures kept { KeepsOwned pages.old pages.new }
+    ensures owned { Owns raised_by (writes_of (Insn.Atomic x.now) s.old pages.old.memory)
+        pages.old pages.new result }
 {
     let access = atomic_access(x, s);
     match place_fault(&access, s) {

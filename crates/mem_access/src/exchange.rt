@@ -1,7 +1,8 @@
 //! Numbers in memory that are read and then written.
-ghost use Rattle.std.specs.Prelude.{◌≡◌, ◌≢◌, ◌==◌, ◌*◌, ◌^◌, ◌<◌, None, Some, cond, IfOk, IfErr, OnOk};
+ghost use Rattle.std.specs.Prelude.{◌≡◌, ◌≢◌, ◌==◌, ◌*◌, ◌^◌, ◌<◌, None, Some, [], cond, IfOk, IfErr, OnOk};
 ghost use Rattle.std.specs.Prelude.{OnErr, Err};
-ghost use Rattle.paged_memory.specs.PageTable.{AreOwned, KeepsOwned};
+ghost use Rattle.paged_memory.specs.PageTable.{AreOwned, Owns};
+ghost use Rattle.paged_memory.specs.Memory.{run_of};
 ghost use Rattle.mem_access.specs.Access.{bytes_in};
 ghost use Rattle.mem_access.specs.Transfer.{raised_by};
 ghost use Rattle.mem_access.specs.Values.{updated};
@@ -42,7 +43,7 @@ pub fn swap(
     ensures stops { IfErr result (λ e. denied_update pages.old.memory address (bytes_in size) ≡ raised_by e) }
     ensures err { OnErr result (pages.new.memory ≡ pages.old.memory) }
     ensures room { AreOwned pages.old address (bytes_in size) → result ≢ Err AccessStop.Memory }
-    ensures kept { KeepsOwned pages.old pages.new }
+    ensures owned { Owns raised_by (run_of address (bytes_in size)) pages.old pages.new result }
 {
     match read_number(pages, address, size) {
         Ok(old) => match write_number(pages, address, size, value) {
@@ -69,7 +70,7 @@ pub fn update(
     ensures stops { IfErr result (λ e. denied_update pages.old.memory address (bytes_in size) ≡ raised_by e) }
     ensures err { OnErr result (pages.new.memory ≡ pages.old.memory) }
     ensures room { AreOwned pages.old address (bytes_in size) → result ≢ Err AccessStop.Memory }
-    ensures kept { KeepsOwned pages.old pages.new }
+    ensures owned { Owns raised_by (run_of address (bytes_in size)) pages.old pages.new result }
 {
     match read_number(pages, address, size) {
         Ok(old) => match write_number(pages, address, size, updated(op, size, old, value)) {
@@ -96,7 +97,8 @@ pub fn compare_and_swap(
     ensures stops { IfErr result (λ e. denied_update pages.old.memory address (bytes_in size) ≡ raised_by e) }
     ensures err { OnErr result (pages.new.memory ≡ pages.old.memory) }
     ensures room { AreOwned pages.old address (bytes_in size) → result ≢ Err AccessStop.Memory }
-    ensures kept { KeepsOwned pages.old pages.new }
+    ensures owned { Owns raised_by (cond (number_in pages.old.memory address (bytes_in size) == expected)
+        (run_of address (bytes_in size)) []) pages.old pages.new result }
 {
     match read_number(pages, address, size) {
         Ok(old) => {

@@ -2,8 +2,8 @@
 ghost use Rattle.std.specs.Prelude.{◌≡◌, ◌≢◌, ◌+◌, ◌*◌, ◌%◌, ◌^◌, ◌<◌, ◌≤◌, length, take, drop, None, Some};
 ghost use Rattle.std.specs.Prelude.{IfOk, IfErr, OnOk, OnErr, Err};
 ghost use Rattle.sm_types.specs.Bytes.{little_number};
-ghost use Rattle.paged_memory.specs.Memory.{set_bytes};
-ghost use Rattle.paged_memory.specs.PageTable.{AreOwned, KeepsOwned};
+ghost use Rattle.paged_memory.specs.Memory.{run_of, set_bytes};
+ghost use Rattle.paged_memory.specs.PageTable.{AreOwned, Owns};
 ghost use Rattle.mem_access.specs.Access.{bytes_in, register_size};
 ghost use Rattle.mem_access.specs.Transfer.{raised_by};
 ghost use Rattle.mem_access.specs.Runs.{denied_read, denied_write, number_in, with_number};
@@ -84,7 +84,7 @@ pub fn write_bytes(pages: &mut Pages, address: u64, bytes: &[u8]) -> Result<(), 
         ≡ raised_by e) }
     ensures err { OnErr result (pages.new.memory ≡ pages.old.memory) }
     ensures room { AreOwned pages.old address (length bytes.now) → result ≢ Err AccessStop.Memory }
-    ensures kept { KeepsOwned pages.old pages.new }
+    ensures owned { Owns raised_by (run_of address (length bytes.now)) pages.old pages.new result }
 {
     match pages.write(address, bytes) {
         Ok(()) => Ok(()),
@@ -109,7 +109,7 @@ pub fn write_number(
     ensures stops { IfErr result (λ e. denied_write pages.old.memory address (bytes_in size) ≡ raised_by e) }
     ensures err { OnErr result (pages.new.memory ≡ pages.old.memory) }
     ensures room { AreOwned pages.old address (bytes_in size) → result ≢ Err AccessStop.Memory }
-    ensures kept { KeepsOwned pages.old pages.new }
+    ensures owned { Owns raised_by (run_of address (bytes_in size)) pages.old pages.new result }
 {
     let bytes = value.to_le_bytes();
     write_bytes(pages, address, &bytes[..bytes_in(size) as usize])

@@ -3,7 +3,8 @@ ghost use Rattle.std.specs.Prelude.{◌≡◌, ◌≢◌, ◌*◌, ◌/◌, ◌%
 ghost use Rattle.std.specs.Prelude.{IfErr, OnOk, OnErr, Err};
 ghost use Rattle.std.specs.Int.{bytes_low_first};
 ghost use Rattle.sm_types.specs.Bytes.{little_number};
-ghost use Rattle.paged_memory.specs.PageTable.{AreOwned, KeepsOwned};
+ghost use Rattle.paged_memory.specs.PageTable.{AreOwned, Owns};
+ghost use Rattle.paged_memory.specs.Memory.{run_of};
 ghost use Rattle.mem_access.specs.Access.{register_size};
 ghost use Rattle.mem_access.specs.Transfer.{raised_by, pair_bytes};
 ghost use Rattle.mem_access.specs.Runs.{denied_read, denied_write, number_in, with_bytes};
@@ -118,7 +119,7 @@ pub fn write_pair(
         ≡ raised_by e) }
     ensures err { OnErr result (pages.new.memory ≡ pages.old.memory) }
     ensures room { AreOwned pages.old address (2 * register_size wide) → result ≢ Err AccessStop.Memory }
-    ensures kept { KeepsOwned pages.old pages.new }
+    ensures owned { Owns raised_by (run_of address (2 * register_size wide)) pages.old pages.new result }
 {
     if wide {
         write_bytes(pages, address, &joined_wide(first, second))

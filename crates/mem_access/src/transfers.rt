@@ -1,11 +1,12 @@
 //! The loads, stores and atomic instructions.
 ghost use Rattle.std.specs.Prelude.{◌≢◌, ◌*◌, IsTrue, Err};
 ghost use Rattle.a64_table.specs.Ranges.{IsInRow, IsLoadStore, IsLoadLiteral, IsLoadStorePair};
-ghost use Rattle.paged_memory.specs.PageTable.{AreOwned, KeepsOwned};
+ghost use Rattle.paged_memory.specs.Memory.{run_of};
+ghost use Rattle.paged_memory.specs.PageTable.{AreOwned, KeepsOwned, Owns};
 ghost use Rattle.mem_access.specs.Access.{bytes_in, literal_size, register_size, is_load, load_store_access};
 ghost use Rattle.mem_access.specs.Access.{load_literal_access, pair_access};
 ghost use Rattle.mem_access.specs.Transfer.{is_access, contents_of, HasRoomFor, Transfers, after_access};
-ghost use Rattle.mem_access.specs.Transfer.{transfer_fault, pair_after, pair_stored};
+ghost use Rattle.mem_access.specs.Transfer.{transfer_fault, pair_after, pair_stored, raised_by, writes_of};
 ghost use Rattle.mem_access.specs.Runs.{denied_read, denied_write, run_fault, after_load_store};
 ghost use Rattle.mem_access.specs.Runs.{after_load_literal, after_pair, after_run, run_transfer_fault};
 ghost use Rattle.mem_access.specs.Runs.{RunHasRoom, RunHasRoomFor};
@@ -32,7 +33,7 @@ fn store(x: &LoadStore, address: u64, s: &mut Scalars, pages: &mut Pages) -> Res
         (after_load_store LoadStoreOp.Store x.now address s.old pages.old.memory)
         (contents_of s.old pages.old) (contents_of s.new pages.new) result }
     ensures room { AreOwned pages.old address (bytes_in x.now.size) → result ≢ Err AccessStop.Memory }
-    ensures kept { KeepsOwned pages.old pages.new }
+    ensures owned { Owns raised_by (run_of address (bytes_in x.now.size)) pages.old pages.new result }
 {
     match write_number(pages, address, x.size, read_x(s, x.rt)) {
         Ok(()) => {
@@ -72,7 +73,8 @@ fn transfer_load_store(x: &LoadStore, s: &mut Scalars, pages: &mut Pages) -> Res
         (after_load_store x.now.op x.now (load_store_access x.now s.old).address s.old pages.old.memory)
         (contents_of s.old pages.old) (contents_of s.new pages.new) result }
     ensures room { RunHasRoom (load_store_access x.now s.old) pages.old → result ≢ Err AccessStop.Memory }
-    ensures kept { KeepsOwned pages.old pages.new }
+    ensures owned { Owns raised_by (writes_of (Insn.LoadStore x.now) s.old pages.old.memory)
+        pages.old pages.new result }
 {
     let access = load_store_access(x, s);
     match place_fault(&access, s) {
@@ -139,7 +141,8 @@ fn store_pair(
         (contents_of s.old pages.old) (contents_of s.new pages.new) result }
     ensures room { AreOwned pages.old address (2 * register_size x.now.wide)
         → result ≢ Err AccessStop.Memory }
-    ensures kept { KeepsOwned pages.old pages.new }
+    ensures owned { Owns raised_by (run_of address (2 * register_size x.now.wide))
+        pages.old pages.new result }
 {
     match write_pair(pages, address, x.wide, read_x(s, x.rt), read_x(s, x.rt2)) {
         Ok(()) => {
@@ -184,7 +187,8 @@ fn transfer_pair(x: &LoadStorePair, s: &mut Scalars, pages: &mut Pages) -> Resul
         (after_pair x.now.op x.now (pair_access x.now s.old).address s.old pages.old.memory)
         (contents_of s.old pages.old) (contents_of s.new pages.new) result }
     ensures room { RunHasRoom (pair_access x.now s.old) pages.old → result ≢ Err AccessStop.Memory }
-    ensures kept { KeepsOwned pages.old pages.new }
+    ensures owned { Owns raised_by (writes_of (Insn.LoadStorePair x.now) s.old pages.old.memory)
+        pages.old pages.new result }
 {
     let access = pair_access(x, s);
     match place_fault(&access, s) {
@@ -205,7 +209,8 @@ fn transfer_run(insn: &Insn, scalars: &mut Scalars, pages: &mut Pages) -> Result
         (after_run insn.now scalars.old pages.old.memory)
         (contents_of scalars.old pages.old) (contents_of scalars.new pages.new) result }
     ensures room { RunHasRoomFor insn.now scalars.old pages.old → result ≢ Err AccessStop.Memory }
-    ensures kept { KeepsOwned pages.old pages.new }
+    ensures owned { Owns raised_by (writes_of insn.now scalars.old pages.old.memory)
+        pages.old pages.new result }
 {
     match insn {
         Insn::LoadStore(x) => transfer_load_store(x, scalars, pages),
@@ -216,9 +221,10 @@ fn transfer_run(insn: &Insn, scalars: &mut Scalars, pages: &mut Pages) -> Result
     }
 }
 
-/// The instructions of this crate: makes all checks of the access, and then the access; any answer but Ok
-/// leaves registers and memory as they were, but that more pages may be owned. `Memory` comes only where the
-/// access writes a page that is not owned. PC stays as it is.
+/// The instructions of this crate: makes all checks of the access, and then the access, which makes the pages
+/// that it writes owned, and no others. Any answer but Ok leaves registers and pages as they were, but that
+/// more pages may be owned after `Memory`, which comes only where the access writes a page that is not owned.
+/// PC stays as it is.
 #[inline]
 pub fn transfer(insn: &Insn, scalars: &mut Scalars, pages: &mut Pages) -> Result<(), AccessStop>
     requires access { IsTrue (is_access insn.now) }
@@ -227,6 +233,8 @@ pub fn transfer(insn: &Insn, scalars: &mut Scalars, pages: &mut Pages) -> Result
         (after_access insn.now scalars.old pages.old.memory)
         (contents_of scalars.old pages.old) (contents_of scalars.new pages.new) result }
     ensures room { HasRoomFor insn.now scalars.old pages.old → result ≢ Err AccessStop.Memory }
+    ensures owned { Owns raised_by (writes_of insn.now scalars.old pages.old.memory)
+        pages.old pages.new result }
     ensures kept { KeepsOwned pages.old pages.new }
 {
     transfer_run(insn, scalars, pages)

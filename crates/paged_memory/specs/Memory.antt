@@ -70,6 +70,11 @@ first_without need m a (suc n) =
     option_or (first_without need m a n) (unless_there ((a + n) % 2 ^ 64)
     (byte_with need m ((a + n) % 2 ^ 64)))
 
+-- so many addresses, one after another
+unfoldable pub run_of : ℕ → ℕ → List ℕ
+run_of a zero = []
+run_of a (suc n) = a % 2 ^ 64 ∷ run_of (a + 1) n
+
 -- the word of the four bytes at an address, where each is in an executable page
 unfoldable pub word_at : AddressSpace → ℕ → Option ℕ
 word_at m pc = option_map little_number (bytes_with 1 m pc 4)

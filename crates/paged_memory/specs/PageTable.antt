@@ -1,7 +1,9 @@
 -- The pages of a guest thread as its callers see them: the memory that they make, and which of them are
 -- owned. An owned page is the thread's alone, and a write to it takes no memory. Source: copy on write, as
 -- System V's fork has it.
-use Rattle.std.specs.Prelude.{◌≡◌, ◌↔◌, ◌⊎◌, ℕ, ◌+◌, ◌/◌, ◌%◌, ◌^◌, ◌<◌, refl, IsSome, IsTrue}
+use Rattle.std.specs.Prelude.{◌≡◌, ℕ, ◌+◌, ◌/◌, ◌%◌, ◌^◌, ◌<◌, ◌==◌, ◌||◌, ◌&&◌, Bool, List, refl, IsSome, is_some}
+use Rattle.std.specs.Prelude.{IsTrue, Option, Some, None, Result, Ok, Err}
+use Rattle.std.specs.List.{list_any}
 use Rattle.std.specs.FinMap.{get}
 use Rattle.std.specs.FinSet.{FinSet, contains}
 use Rattle.std.specs.FinSet as set
@@ -24,17 +26,16 @@ page_table_code =
 abbrev pub IsOwned : PageTable → ℕ → Type 0
 IsOwned t n = IsTrue (contains t.owned n)
 
--- there is a page of that number, and one of the n bytes from an address on lies in it
-pub record IsTouched (m : AddressSpace) (address n number : ℕ) : Type 0 where
-  pub mapped : IsSome (get m.perm number)
-  pub place : ℕ
-  pub within : place < n
-  pub there : (address + place) % 2 ^ 64 / 4096 ≡ number
+-- one of the bytes at these addresses lies in the page of that number, and there is such a page
+abbrev pub is_touched : AddressSpace → List ℕ → ℕ → Bool
+is_touched m addresses number =
+    list_any (λ a. a / 4096 == number) addresses && is_some (get m.perm number)
 
--- the owned pages are those that were, and besides them exactly the pages of the n bytes from an address on
-abbrev pub OwnsAlso : PageTable → PageTable → ℕ → ℕ → Type 0
-OwnsAlso old new address n =
-    (number : ℕ) → IsOwned new number ↔ (IsOwned old number ⊎ IsTouched old.memory address n number)
+-- the owned pages are exactly those that were, and besides them the pages of the bytes at these addresses
+abbrev pub OwnsAlso : PageTable → PageTable → List ℕ → Type 0
+OwnsAlso old new addresses =
+    (number : ℕ) →
+    contains new.owned number ≡ (is_touched old.memory addresses number || contains old.owned number)
 
 -- the pages of the n bytes from an address on are owned, where there are such pages
 abbrev pub AreOwned : PageTable → ℕ → ℕ → Type 0
@@ -45,3 +46,15 @@ AreOwned t address n =
 -- the owned pages stay owned
 abbrev pub KeepsOwned : PageTable → PageTable → Type 0
 KeepsOwned old new = (n : ℕ) → IsOwned old n → IsOwned new n
+
+-- the page table after a refusal: as it was where a cause is named; want of memory names none, and more pages
+-- may then be owned
+abbrev pub IsRefused : {Cause : Type 0} → PageTable → PageTable → Option Cause → Type 0
+IsRefused old new (Some cause) = new ≡ old
+IsRefused old new None = KeepsOwned old new
+
+-- the owned pages after an answer: Ok owns besides exactly the pages of the bytes that are written
+abbrev pub Owns : {Value Stop Cause : Type 0}
+    → (Stop → Option Cause) → List ℕ → PageTable → PageTable → Result Value Stop → Type 0
+Owns cause_of written old new (Ok value) = OwnsAlso old new written
+Owns cause_of written old new (Err stop) = IsRefused old new (cause_of stop)

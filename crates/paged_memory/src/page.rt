@@ -227,7 +227,7 @@ fn put_within(pages: &mut Vec<Page>, hints: &[u16], address: u64, bytes: &[u8]) 
     ensures denied { result ≡ first_without 2 (memory_of pages.old.items) address (length bytes.now) }
     ensures bytes { IfNone result (mem_of pages.new.items ≡ set_bytes (mem_of pages.old.items) address
         bytes.now) }
-    ensures stays { OnSome result (mem_of pages.new.items ≡ mem_of pages.old.items) }
+    ensures stays { OnSome result (pages.new.items ≡ pages.old.items) }
     ensures flags { perm_of pages.new.items ≡ perm_of pages.old.items }
 {
     if bytes.is_empty() {
@@ -253,7 +253,7 @@ fn put_across(pages: &mut Vec<Page>, hints: &[u16], address: u64, bytes: &[u8]) 
     ensures denied { result ≡ first_without 2 (memory_of pages.old.items) address (length bytes.now) }
     ensures bytes { IfNone result (mem_of pages.new.items ≡ set_bytes (mem_of pages.old.items) address
         bytes.now) }
-    ensures stays { OnSome result (mem_of pages.new.items ≡ mem_of pages.old.items) }
+    ensures stays { OnSome result (pages.new.items ≡ pages.old.items) }
     ensures flags { perm_of pages.new.items ≡ perm_of pages.old.items }
 {
     match first_lacking(pages.as_slice(), hints, address, bytes.len() as u64, 2) {
@@ -279,7 +279,7 @@ pub fn put_permitted(
     ensures denied { result ≡ first_without 2 (memory_of pages.old.items) address (length bytes.now) }
     ensures bytes { IfNone result (mem_of pages.new.items ≡ set_bytes (mem_of pages.old.items) address
         bytes.now) }
-    ensures stays { OnSome result (mem_of pages.new.items ≡ mem_of pages.old.items) }
+    ensures stays { OnSome result (pages.new.items ≡ pages.old.items) }
     ensures flags { perm_of pages.new.items ≡ perm_of pages.old.items }
 {
     if bytes.len() <= (4096 - address % 4096) as usize {

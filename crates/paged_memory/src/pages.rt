@@ -4,8 +4,8 @@ ghost use Rattle.std.specs.Prelude.{IsSome, IfSome, IfNone, IfOk, IfErr, OnOk, O
 ghost use Rattle.std.specs.Prelude.{is_ok};
 ghost use Rattle.std.specs.FinMap.{get, entries, len};
 ghost use Rattle.paged_memory.specs.Memory.{IsWhole, with_stack, with_zero_pages, no_memory, bytes_from};
-ghost use Rattle.paged_memory.specs.Memory.{byte_with, bytes_with, first_without, word_at, set_bytes};
-ghost use Rattle.paged_memory.specs.PageTable.{AreOwned, OwnsAlso, KeepsOwned};
+ghost use Rattle.paged_memory.specs.Memory.{byte_with, bytes_with, first_without, run_of, word_at, set_bytes};
+ghost use Rattle.paged_memory.specs.PageTable.{AreOwned, OwnsAlso, Owns, KeepsOwned};
 ghost use Rattle.paged_memory.specs.Accesses.{need_of, stopped_at, IsOfWrite};
 ghost use Rattle.paged_memory.specs.Pages.{perm_of, memory_of, IsFine};
 
@@ -45,7 +45,7 @@ pub struct Abort {
     pub access: Access,
 }
 
-/// Why a write is not made; nothing has changed but that more pages may be owned.
+/// Why a write is not made; nothing has changed, but that more pages may be owned after `Memory`.
 #[derive(Clone, Copy, Debug, PartialEq, Eq)]
 pub enum WriteStop {
     /// A byte may not be written.
@@ -185,7 +185,7 @@ impl Pages {
     /// Makes the pages of so many bytes from an address on owned, and no others; after `Err` some of them may
     /// be.
     pub fn own(&mut self, address: u64, length: u64) -> Result<(), Memory>
-        ensures ok { OnOk result (OwnsAlso self.old self.new address length) }
+        ensures ok { OnOk result (OwnsAlso self.old self.new (run_of address length)) }
         ensures memory { self.new.memory ≡ self.old.memory }
         ensures room { AreOwned self.old address length → IsTrue (is_ok result) }
         ensures kept { KeepsOwned self.old self.new }
@@ -195,8 +195,9 @@ impl Pages {
         Ok(())
     }
 
-    /// Writes bytes from an address on, and makes their pages owned; addresses go round at 2^64. Nothing is
-    /// written where one of them may not be, or where there is no memory for a page that is not owned.
+    /// Writes bytes from an address on, and makes their pages owned, and no others; addresses go round at
+    /// 2^64. `Abort` comes where one of them may not be written, and leaves all as it was; `Memory` where
+    /// there is no memory for a page that is not owned: nothing is written, but more pages may be owned.
     #[inline]
     pub fn write(&mut self, address: u64, bytes: &[u8]) -> Result<(), WriteStop>
         ensures ok { OnOk result (self.new.memory
@@ -207,8 +208,7 @@ impl Pages {
         ensures access { IfErr result IsOfWrite }
         ensures err { OnErr result (self.new.memory ≡ self.old.memory) }
         ensures room { AreOwned self.old address (length bytes.now) → result ≢ Err WriteStop.Memory }
-        ensures owned { OnOk result (OwnsAlso self.old self.new address (length bytes.now)) }
-        ensures kept { KeepsOwned self.old self.new }
+        ensures owned { Owns stopped_at (run_of address (length bytes.now)) self.old self.new result }
         ensures whole { IsWhole self.new.memory }
     {
         match put_permitted(&mut self.pages, self.hints.as_slice(), address, bytes) {

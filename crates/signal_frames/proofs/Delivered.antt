@@ -4,8 +4,8 @@ use Rattle.std.proofs.Common.{length, refl, ap, sym, ◌∙◌, subst, length-ap
 use Rattle.std.specs.Prelude.{if◌then◌else◌}
 use Rattle.sve_vectors.specs.Lengths.{vector_bytes, current_bytes}
 use Rattle.sve_vectors.specs.State.{SveState, length_of}
-use Rattle.paged_memory.specs.Memory.{first_without}
-use Rattle.paged_memory.specs.PageTable.{PageTable, AreOwned}
+use Rattle.paged_memory.specs.Memory.{first_without, run_of}
+use Rattle.paged_memory.specs.PageTable.{PageTable, AreOwned, OwnsAlso}
 use Rattle.mem_access.specs.Runs.{with_bytes}
 use Rattle.machine_step.specs.ProcessorState.{ProcessorState, VectorState}
 use Rattle.machine_step.specs.Mode.{length_at}
@@ -13,7 +13,7 @@ use Rattle.machine_step.specs.System.{nzcv_of, svcr_of}
 use Rattle.machine_step.specs.Machine.{core_of}
 use Rattle.machine_step.specs.declared.machine.Machine.{Machine}
 use Rattle.signal_frames.specs.Layout.{frame_size, head_bytes, vector_state_bytes}
-use Rattle.signal_frames.specs.Frame.{size_of, frame_address, frame_bytes, frame_fault, with_frame, HasFrameRoom}
+use Rattle.signal_frames.specs.Frame.{size_of, frame_address, frame_addresses, frame_bytes, frame_fault, with_frame, HasFrameRoom}
 use Rattle.signal_frames.specs.Writing.{IsReady, Puts, PutsPart}
 use Rattle.signal_frames.proofs.Putting.{puts_both}
 
@@ -55,6 +55,12 @@ pub room_by : (vl n : ℕ) (s : ProcessorState) (pages : PageTable) → n ≡ si
 unfolding frame_address HasFrameRoom
 room_by vl n s pages e h =
     subst (λ k. AreOwned pages ((s.scalars.sp + (2 ^ 64 - k)) % 2 ^ 64 / 16 * 16) k) (sym e) h
+
+pub owned_by : (vl n : ℕ) (s : ProcessorState) (old new : PageTable) → n ≡ size_of vl s
+    → OwnsAlso old new (run_of ((s.scalars.sp + (2 ^ 64 - n)) % 2 ^ 64 / 16 * 16) n) → OwnsAlso old new (frame_addresses vl s)
+unfolding frame_address frame_addresses
+owned_by vl n s old new e h =
+    subst (λ k. OwnsAlso old new (run_of ((s.scalars.sp + (2 ^ 64 - k)) % 2 ^ 64 / 16 * 16) k)) e h
 
 -- a machine with the frame in its memory
 pub framed : (m new : Machine) (bank : VectorState) (reserved : PageTable) (vl signal address : ℕ)

@@ -11,12 +11,13 @@ use Rattle.std.specs.FinMap.{FinMap, get, insert, get-insert}
 use Rattle.std.specs.Ordering.{nat_cmp, eq_by_cmp}
 use Rattle.std.specs.Cmp.{nat_cmp_total}
 use Rattle.std.specs.Option.{option_or}
-use Rattle.paged_memory.specs.Memory.{AddressSpace, byte_with, permits, permitted, unless_there, first_without, set_bytes}
-use Rattle.paged_memory.specs.PageTable.{PageTable, AreOwned, KeepsOwned}
+use Rattle.paged_memory.specs.Memory.{AddressSpace, byte_with, permits, permitted, unless_there, first_without, run_of, set_bytes}
+use Rattle.paged_memory.specs.PageTable.{PageTable, AreOwned, OwnsAlso, Owns}
 use Rattle.paged_memory.specs.Accesses.{stopped_at}
 use Rattle.paged_memory.specs.declared.pages.WriteStop.{WriteStop}
 use Rattle.paged_memory.specs.declared.pages.WriteStop.TheVariants as stop
 use Rattle.paged_memory.proofs.Accesses.{first_without-join}
+use Rattle.paged_memory.proofs.Owned.{also_owned, owns_keeps, owns_no_more, owns_then}
 use Rattle.paged_memory.proofs.Over.{set_bytes-append}
 use Rattle.signal_frames.specs.Writing.{IsReady, Puts, PutsPart}
 
@@ -78,8 +79,16 @@ ready_still old new a bs b n puts ready = record {
       (still_none 2 old.memory (record old.memory { mem = set_bytes old.memory.mem a bs }) b n (still_permitted 2 old.memory a bs)
       ready.writable);
   owned = λ k l there.
-      puts.kept ((b + k) % 2 ^ 64 / 4096)
+      owns_keeps old new [] puts.owned ((b + k) % 2 ^ 64 / 4096)
       (ready.owned k l (rw (ap (λ (m : AddressSpace). m.perm) puts.memory) at there));
+}
+
+-- bytes that may be written are ready, where their pages are owned besides those that were
+pub ready_by : (old new : PageTable) (a n : ℕ) → first_without 2 old.memory a n ≡ None → OwnsAlso old new (run_of a n)
+    → new.memory ≡ old.memory → IsReady new a n
+ready_by old new a n writable owns same = record {
+  writable = rw same writable;
+  owned = also_owned old new a n owns (ap (λ (m : AddressSpace). m.perm) same);
 }
 
 -- ---- parts of what is ready
@@ -114,18 +123,20 @@ set_bytes-round m a b (x ∷ bs) e =
 pub put_written : (old new : PageTable) (a : ℕ) (bs : List ℕ) (r : Result (Unit {0}) WriteStop)
     → OnOk r (new.memory ≡ record old.memory { mem = set_bytes old.memory.mem a bs })
     → IfErr r (λ e. first_without 2 old.memory a (length bs) ≡ stopped_at e)
-    → (AreOwned old a (length bs) → r ≢ Err stop.Memory) → KeepsOwned old new → IsReady old a (length bs) → Puts old new a bs
-put_written old new a bs (Ok done) is stops room kept ready = record { memory = is; kept = kept }
-put_written old new a bs (Err (stop.Abort abort)) is stops room kept ready =
+    → (AreOwned old a (length bs) → r ≢ Err stop.Memory) → Owns stopped_at (run_of a (length bs)) old new r
+    → IsReady old a (length bs) → Puts old new a bs
+put_written old new a bs (Ok done) is stops room owns ready =
+    record { memory = is; owned = owns_no_more old new a (length bs) ready.owned owns }
+put_written old new a bs (Err (stop.Abort abort)) is stops room owns ready =
     let e : None ≡ Some abort.address = sym ready.writable ∙ stops in cc
-put_written old new a bs (Err stop.Memory) is stops room kept ready = absurd (room ready.owned refl)
+put_written old new a bs (Err stop.Memory) is stops room owns ready = absurd (room ready.owned refl)
 
 -- ---- one part after another
 
 pub puts_none : (pages : PageTable) (a : ℕ) → a < 2 ^ 64 → PutsPart pages pages a a []
 unfolding set_bytes
 puts_none pages a low = record {
-  puts = λ ready. record { memory = refl; kept = λ n h. h };
+  puts = λ ready. record { memory = refl; owned = λ n. refl };
   next = omega arith;
 }
 
@@ -152,7 +163,7 @@ puts_both p q r a b c xs ys first second = record { puts = puts; next = next }
         record {
           memory = two.memory ∙ ap (λ (m : AddressSpace). record m { mem = set_bytes m.mem b ys }) one.memory
               ∙ ap (λ k. record p.memory { mem = k }) round;
-          kept = λ n h. two.kept n (one.kept n h);
+          owned = owns_then p q r [] one.owned two.owned;
         }
 
 -- ---- the parts of a loop

@@ -3,7 +3,7 @@
 use Rattle.std.specs.Prelude.{◌≡◌, ℕ, ◌+◌, ◌-◌, ◌*◌, ◌/◌, ◌%◌, ◌^◌, false, List, [], ◌∷◌, ◌++◌, length}
 use Rattle.std.specs.Prelude.{slice_set, Option, Some, None, Result, Ok, Err}
 use Rattle.sm_types.specs.declared.scalars.Scalars.{Scalars}
-use Rattle.paged_memory.specs.Memory.{first_without}
+use Rattle.paged_memory.specs.Memory.{first_without, run_of}
 use Rattle.paged_memory.specs.PageTable.{PageTable, AreOwned}
 use Rattle.mem_access.specs.Runs.{with_bytes}
 use Rattle.machine_step.specs.ProcessorState.{ProcessorState}
@@ -20,6 +20,10 @@ size_of vl s = frame_size (length_at vl s) (length s.bank.za) s.za_on
 -- where it starts: at SP minus its size, rounded down to a multiple of 16, modulo 2 ^ 64
 unfoldable pub frame_address : ℕ → ProcessorState → ℕ
 frame_address vl s = (s.scalars.sp + (2 ^ 64 - size_of vl s)) % 2 ^ 64 / 16 * 16
+
+-- the addresses of its bytes
+unfoldable pub frame_addresses : ℕ → ProcessorState → List ℕ
+frame_addresses vl s = run_of (frame_address vl s) (size_of vl s)
 
 -- its bytes, for a signal
 unfoldable pub frame_bytes : ℕ → ℕ → ProcessorState → List ℕ

@@ -1,7 +1,7 @@
 //! The delivery of a signal.
 ghost use Rattle.std.specs.Prelude.{◌≡◌, ◌≢◌, ◌+◌, ◌≤◌, OnOk, IfErr, Err, false, length};
-ghost use Rattle.paged_memory.specs.Memory.{first_without};
-ghost use Rattle.paged_memory.specs.PageTable.{AreOwned, KeepsOwned};
+ghost use Rattle.paged_memory.specs.Memory.{first_without, run_of};
+ghost use Rattle.paged_memory.specs.PageTable.{AreOwned, Owns};
 ghost use Rattle.sve_vectors.specs.Lengths.{vector_bytes};
 ghost use Rattle.sve_vectors.specs.State.{length_of};
 ghost use Rattle.mem_access.specs.Bank.{bank_state};
@@ -10,7 +10,8 @@ ghost use Rattle.machine_step.specs.Mode.{with_za};
 ghost use Rattle.machine_step.specs.System.{nzcv_of};
 ghost use Rattle.signal_frames.specs.Layout as layout;
 ghost use Rattle.signal_frames.specs.Layout.{head_bytes, vector_state_bytes};
-ghost use Rattle.signal_frames.specs.Frame.{size_of, frame_bytes, entered, byte_of, Delivers, HasFrameRoom};
+ghost use Rattle.signal_frames.specs.Frame.{size_of, frame_addresses, frame_bytes, entered, byte_of};
+ghost use Rattle.signal_frames.specs.Frame.{Delivers, HasFrameRoom};
 ghost use Rattle.signal_frames.specs.Writing.{IsReady, Puts, PutsPart};
 
 use crate::head::{TAG, frame_size};
@@ -29,13 +30,14 @@ pub enum FrameStop {
     Memory,
 }
 
-/// Finds that so many bytes from an address on may be written, and makes their pages owned.
+/// Finds that so many bytes from an address on may be written, and makes their pages owned, and no others.
+#[tactic(auto, using(crate::proofs::Putting::ready_by))]
 fn reserve(pages: &mut Pages, address: u64, size: u64) -> Result<(), FrameStop>
     ensures ready { OnOk result (IsReady pages.new address size) }
     ensures stops { IfErr result (λ stop. first_without 2 pages.old.memory address size ≡ byte_of stop) }
     ensures memory { pages.new.memory ≡ pages.old.memory }
     ensures room { AreOwned pages.old address size → result ≢ Err FrameStop.Memory }
-    ensures kept { KeepsOwned pages.old pages.new }
+    ensures owned { Owns byte_of (run_of address size) pages.old pages.new result }
 {
     match pages.check(address, size, Access::Write) {
         Err(abort) => Err(FrameStop::BadFrame(abort.address)),
@@ -161,7 +163,7 @@ fn enter(machine: &mut Machine, bank: &mut Bank, signal: u32, handler: u64, addr
 /// Delivers a signal: writes the frame of the state below SP, and begins the handler. SP and X1 are then the
 /// frame's address, X0 is the signal, X30 and TPIDR2_EL0 are 0, PC is the handler, and Streaming SVE mode and
 /// ZA are off. `BadFrame` comes exactly where a byte of the frame may not be written, and `Memory` only where
-/// a page of it is not owned; either leaves all as it was, but that more pages may be owned.
+/// a page of it is not owned; either leaves all as it was, but that more pages may be owned after `Memory`.
 pub fn deliver(
     machine: &mut Machine,
     bank: &mut Bank,
@@ -175,7 +177,8 @@ pub fn deliver(
     ensures mode { IsInMode bank.new machine.new }
     ensures room { HasFrameRoom (vector_bytes bank.old.vectors.vl)
         (core_of machine.old (bank_state bank.old)) machine.old.pages → result ≢ Err FrameStop.Memory }
-    ensures kept { KeepsOwned machine.old.pages machine.new.pages }
+    ensures owned { Owns byte_of (frame_addresses (vector_bytes bank.old.vectors.vl)
+        (core_of machine.old (bank_state bank.old))) machine.old.pages machine.new.pages result }
 {
     let vector_size = bank.vectors.length() as u64;
     let size = frame_size(vector_size, bank.za.size() as u64, machine.za_on);

@@ -10,8 +10,8 @@ use Rattle.sm_types.specs.declared.scalars.Scalars.{Scalars}
 use Rattle.sm_types.specs.declared.stop.Exception.{Exception}
 use Rattle.sm_types.specs.declared.stop.Exception.TheVariants.{Data}
 use Rattle.sm_types.specs.declared.stop.Access.TheVariants.{Read, Write}
-use Rattle.paged_memory.specs.Memory.{AddressSpace, first_without}
-use Rattle.mem_access.specs.DataAccess.{DataAccess, run_of}
+use Rattle.paged_memory.specs.Memory.{AddressSpace, first_without, run_of}
+use Rattle.mem_access.specs.DataAccess.{DataAccess}
 use Rattle.mem_access.specs.Checks.{lacks, access_fault, sp_fault, align_fault, shared_fault, read_fault, write_fault}
 use Rattle.mem_access.proofs.Lists.{denied_run}
 use Rattle.sve_access.specs.After.{at_base}

@@ -1,28 +1,28 @@
 -- What the writes of other bytes keep, and which pages are owned.
 use Rattle.std.proofs.Common.{◌≡◌, ℕ, ◌+◌, ◌*◌, ◌/◌, ◌%◌, ◌^◌, ◌<◌, ◌≤◌, ◌==◌, Bool, true, false, not, cond, List, [], ◌∷◌}
-use Rattle.std.proofs.Common.{length, drop, refl, ap, sym, ◌∙◌, arith, subst, All, inl, inr, Option, Some, None, length-drop}
-use Rattle.std.specs.Prelude.{is_some, IsSome}
+use Rattle.std.proofs.Common.{length, drop, refl, ap, sym, ◌∙◌, arith, subst, All, Option, Some, None, length-drop}
+use Rattle.std.specs.Prelude.{is_some, IsSome, flat_map}
 use Rattle.std.specs.List.{find}
 use Rattle.std.specs.FinMap.{FinMap, get, insert, get-insert}
 use Rattle.std.specs.Cmp.{nat_cmp_total}
 use Rattle.std.specs.Ordering.{nat_cmp}
-use Rattle.std.proofs.lemmas.Bool.{cases_lt}
 use Rattle.std.proofs.lemmas.List.{length-take-le}
-use Rattle.paged_memory.specs.Memory.{AddressSpace, byte_with, permitted, permits, first_without}
-use Rattle.paged_memory.specs.PageTable.{PageTable, AreOwned, KeepsOwned, IsOwned}
+use Rattle.paged_memory.specs.Memory.{AddressSpace, byte_with, permitted, permits, first_without, run_of}
+use Rattle.paged_memory.specs.PageTable.{PageTable, AreOwned, OwnsAlso, KeepsOwned, IsOwned}
 use Rattle.paged_memory.proofs.Over.{eq_by_cmp-nat}
+use Rattle.paged_memory.proofs.Owned.{owns_both}
 use Rattle.vector_elements.specs.declared.size.Size.{Size}
 use Rattle.vector_elements.specs.declared.size.Size.TheVariants.{B, H, S, D}
 use Rattle.vector_elements.specs.Elements.{is_active}
 use Rattle.vector_elements.specs.Numbers.{bytes_in}
 use Rattle.mem_access.specs.Checks.{lacks}
-use Rattle.mem_access.specs.DataAccess.{run_of}
 use Rattle.mem_access.specs.Values.{set_each}
 use Rattle.mem_access.specs.Transfer.{written}
 use Rattle.mem_access.proofs.Lists.{denied_run, length-run, all_run}
 use Rattle.sve_access.specs.Elements.{element_run, low_bytes, element_addresses}
-use Rattle.sve_access.specs.Owned.{OwnsFirst, OwnsElements}
-use Rattle.sve_access.proofs.Lists.{each_active, none_fails, all_parts}
+use Rattle.sve_perm.proofs.Sums.{place_where}
+use Rattle.sve_access.specs.Owned.{OwnsElements}
+use Rattle.sve_access.proofs.Lists.{of_first, of_more, none_first, each_active, none_fails, all_parts}
 
 -- a byte that is there stays there
 still_there : (b : Bool) (x : ℕ) (o : Option ℕ) → is_some o ≡ true → is_some (cond b (Some x) o) ≡ true
@@ -87,19 +87,17 @@ owned_kept old new a n kept same owned k l there = kept ((a + k) % 2 ^ 64 / 4096
 pub kept_trans : (a b c : PageTable) → KeepsOwned a b → KeepsOwned b c → KeepsOwned a c
 kept_trans a b c ab bc n owned = bc n (ab n owned)
 
--- one element more is owned
-pub owns_more : (start : ℕ) (memory element : Size) (pg : List ℕ) (old new : PageTable) (i : ℕ)
-    → OwnsFirst start memory element pg old i → KeepsOwned old new → new.memory.perm ≡ old.memory.perm
-    → (is_active (bytes_in element) pg i ≡ true → AreOwned new ((start + i * bytes_in memory) % 2 ^ 64) (bytes_in memory))
-    → OwnsFirst start memory element pg new (i + 1)
-owns_more start memory element pg old new i owned kept same here j lt on = elim (cases_lt j i) [
-  | inl before ↦
-      owned_kept old new ((start + j * bytes_in memory) % 2 ^ 64) (bytes_in memory) kept same (owned j before on)
-  | inr last ↦
-      let e : i ≡ j = omega (arith, lt, last) in
-      subst (λ k. AreOwned new ((start + k * bytes_in memory) % 2 ^ 64) (bytes_in memory)) e
-      (here (ap (λ k. is_active (bytes_in element) pg k) e ∙ on))
-]
+-- the pages of the first elements are owned besides, and those of one more
+pub owns_first : (f : ℕ → List ℕ) (element : Size) (pg : List ℕ) (t : PageTable) → OwnsAlso t t (of_first f element pg 0)
+owns_first f element pg t = subst (OwnsAlso t t) (sym (none_first f element pg)) (λ number. refl)
+
+pub owns_more : (f : ℕ → List ℕ) (element : Size) (pg : List ℕ) (i : ℕ) (a b c : PageTable) → b.memory ≡ a.memory
+    → OwnsAlso a b (of_first f element pg i) → OwnsAlso b c (flat_map f (place_where (is_active (bytes_in element) pg i) i))
+    → OwnsAlso a c (of_first f element pg (i + 1))
+owns_more f element pg i a b c same first here =
+    subst (OwnsAlso a c) (sym (of_more f element pg i))
+    (owns_both a b c (of_first f element pg i) (flat_map f (place_where (is_active (bytes_in element) pg i) i))
+    (ap (λ (m : AddressSpace). m.perm) same) first here)
 
 -- each active element can be accessed where all can
 pub each_permitted : (need start : ℕ) (memory element : Size) (pg : List ℕ) (m : AddressSpace)

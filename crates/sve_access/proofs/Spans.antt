@@ -8,7 +8,7 @@ use Rattle.std.specs.Simd.Lanes.{number_l}
 use Rattle.std.proofs.lemmas.List.Elements.{All-head, All-tail, All-cons, All-append}
 use Rattle.sm_types.specs.Bytes.{little_number}
 use Rattle.sm_types.specs.declared.vector.LoadType.{LoadType}
-use Rattle.paged_memory.specs.Memory.{AddressSpace, bytes_with, and_byte, byte_with}
+use Rattle.paged_memory.specs.Memory.{AddressSpace, bytes_with, and_byte, byte_with, run_of}
 use Rattle.paged_memory.proofs.Accesses.{joined, bytes_with-join}
 use Rattle.vector_elements.specs.declared.size.Size.{Size}
 use Rattle.vector_elements.specs.declared.size.Size.TheVariants.{B, H, S, D}
@@ -16,7 +16,6 @@ use Rattle.vector_elements.specs.Elements.{element_of, is_active, each_or_zero}
 use Rattle.vector_elements.specs.Numbers.{bytes_in}
 use Rattle.vector_elements.proofs.Lists.{take_front, drop_front}
 use Rattle.vector_elements.proofs.Masks.{each_same}
-use Rattle.mem_access.specs.DataAccess.{run_of}
 use Rattle.mem_access.specs.Values.{number_or_zero, number_at}
 use Rattle.mem_access.proofs.Lists.{bytes_run, all_run}
 use Rattle.sve_perm.proofs.Sums.{place_where}

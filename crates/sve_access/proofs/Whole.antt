@@ -6,7 +6,7 @@ use Rattle.vector_elements.specs.declared.size.Size.{Size}
 use Rattle.vector_elements.specs.declared.size.Size.TheVariants.{B, H, S, D}
 use Rattle.vector_elements.specs.Elements.{is_active}
 use Rattle.vector_elements.specs.Numbers.{bytes_in}
-use Rattle.mem_access.specs.DataAccess.{run_of}
+use Rattle.paged_memory.specs.Memory.{run_of}
 use Rattle.sve_access.specs.Elements.{element_run, low_bytes, element_addresses, element_bytes}
 use Rattle.vector_elements.specs.Active.{AreActive}
 use Rattle.sve_access.proofs.Lists.{of_first, of_active, none_first}

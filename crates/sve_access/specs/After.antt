@@ -16,13 +16,13 @@ use Rattle.sve_vectors.specs.Registers.{VectorRegisters, vector_at, predicate_at
 use Rattle.sve_vectors.specs.Registers.{predicate_written}
 use Rattle.sve_vectors.specs.State.{SveState, length_of}
 use Rattle.scalar_exec.specs.Registers.{x_or_sp}
-use Rattle.paged_memory.specs.Memory.{AddressSpace}
+use Rattle.paged_memory.specs.Memory.{AddressSpace, run_of}
 use Rattle.paged_memory.specs.PageTable.{PageTable}
 use Rattle.mem_access.specs.Access.{is_sp}
-use Rattle.mem_access.specs.DataAccess.{DataAccess, run_of}
+use Rattle.mem_access.specs.DataAccess.{DataAccess}
 use Rattle.mem_access.specs.Checks.{access_fault}
 use Rattle.mem_access.specs.Values.{bytes_at, number_at}
-use Rattle.mem_access.specs.Transfer.{written, Transfers, HasRoom}
+use Rattle.mem_access.specs.Transfer.{written, written_addresses, Transfers, HasRoom}
 use Rattle.mem_access.specs.declared.stop.AccessStop.{AccessStop}
 use Rattle.sve_access.specs.Contiguous.{size_of, memory_size, element_size, loaded, multiple_from}
 use Rattle.sve_access.specs.Contiguous.{first_address}
@@ -103,6 +103,11 @@ stored (Vector true vectors rn zt) r = Some (vector_at r zt)
 stored (Vector false vectors rn zt) r = None
 stored (Predicate true vectors rn pt) r = Some (predicate_at r pt)
 stored (Predicate false vectors rn pt) r = None
+
+-- the addresses of the bytes that it writes, where no check refuses it
+abbrev pub writes_of : VectorAccess → Scalars → ℕ → VectorRegisters → List ℕ
+writes_of x s l r =
+    written_addresses (access_of x s l r).bytes (stored x r)
 
 -- what it leaves, where no check refuses it
 abbrev pub after_access : VectorAccess → Scalars → ℕ → VectorRegisters → AddressSpace → AfterVectorAccess

@@ -6,7 +6,7 @@ use Rattle.vector_elements.specs.declared.size.Size.{Size}
 use Rattle.vector_elements.specs.Active.{AreActive}
 use Rattle.vector_elements.specs.Numbers.{bytes_in}
 use Rattle.sve_perm.specs.Active.{active_places}
-use Rattle.mem_access.specs.DataAccess.{run_of}
+use Rattle.paged_memory.specs.Memory.{run_of}
 
 -- the addresses of the bytes of element i, from that of element 0
 abbrev pub element_run : ℕ → Size → ℕ → List ℕ

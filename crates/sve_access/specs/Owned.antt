@@ -5,13 +5,8 @@ use Rattle.vector_elements.specs.Elements.{is_active}
 use Rattle.vector_elements.specs.Numbers.{bytes_in}
 use Rattle.paged_memory.specs.PageTable.{PageTable, AreOwned}
 
--- the pages of the first `count` elements, where they are active, are owned
-abbrev pub OwnsFirst : ℕ → Size → Size → List ℕ → PageTable → ℕ → Type 0
-OwnsFirst start memory element pg pages count =
-    (i : ℕ) → i < count → is_active (bytes_in element) pg i ≡ true →
-    AreOwned pages ((start + i * bytes_in memory) % 2 ^ 64) (bytes_in memory)
-
--- those of all active elements
+-- the pages of each element, where it is active, are owned
 abbrev pub OwnsElements : ℕ → Size → Size → List ℕ → PageTable → Type 0
 OwnsElements start memory element pg pages =
-    OwnsFirst start memory element pg pages (8 * length pg / bytes_in element)
+    (i : ℕ) → i < 8 * length pg / bytes_in element → is_active (bytes_in element) pg i ≡ true →
+    AreOwned pages ((start + i * bytes_in memory) % 2 ^ 64) (bytes_in memory)

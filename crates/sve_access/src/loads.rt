@@ -2,9 +2,8 @@
 ghost use Rattle.std.specs.Prelude.{◌≡◌, ◌+◌, ◌*◌, ◌/◌, ◌%◌, ◌^◌, ◌<◌, ◌≤◌, true, None, length};
 ghost use Rattle.std.specs.Prelude.{if◌then◌else◌};
 ghost use Rattle.std.specs.List.{find};
-ghost use Rattle.paged_memory.specs.Memory.{first_without};
+ghost use Rattle.paged_memory.specs.Memory.{first_without, run_of};
 ghost use Rattle.mem_access.specs.Checks.{lacks};
-ghost use Rattle.mem_access.specs.DataAccess.{run_of};
 ghost use Rattle.mem_access.specs.Values.{number_at};
 ghost use Rattle.vector_elements.specs.Elements.{element_of, is_active, each_element, each_or_zero};
 ghost use Rattle.vector_elements.specs.Numbers.{bytes_in};

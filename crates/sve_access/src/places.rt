@@ -2,7 +2,7 @@
 ghost use Rattle.std.specs.Prelude.{◌≡◌, ℕ, ◌≤◌, ◌^◌, ◌<◌, Bool, List};
 ghost use Rattle.std.specs.List.{find};
 ghost use Rattle.std.specs.Option.{option_or};
-ghost use Rattle.mem_access.specs.DataAccess.{run_of};
+ghost use Rattle.paged_memory.specs.Memory.{run_of};
 
 /// A check of one byte by its address.
 pub trait Check {

@@ -5,7 +5,7 @@ ghost use Rattle.std.specs.Prelude.{length, flat_map};
 ghost use Rattle.std.specs.Prelude.{OnOk, IsTrue, is_ok};
 ghost use Rattle.std.specs.List.{find};
 ghost use Rattle.paged_memory.specs.Memory.{first_without};
-ghost use Rattle.paged_memory.specs.PageTable.{AreOwned, KeepsOwned};
+ghost use Rattle.paged_memory.specs.PageTable.{AreOwned, OwnsAlso, KeepsOwned};
 ghost use Rattle.mem_access.specs.Checks.{lacks};
 ghost use Rattle.mem_access.specs.Transfer.{written};
 ghost use Rattle.mem_access.specs.Runs.{with_bytes};
@@ -18,15 +18,15 @@ use crate::elements::Elements;
 use paged_memory::Pages;
 use sm_types::Memory;
 
-/// Makes the pages of element `i` owned, if it is active.
+/// Makes the pages of element `i` owned, if it is active, and no others.
 #[inline]
 fn own_element(elements: &Elements, i: usize, pages: &mut Pages) -> Result<(), Memory>
     requires within { bytes_in elements.now.element * i < 8 * length elements.now.pg.now }
     requires few { length elements.now.pg.now ≤ 32 }
     requires small { i ≤ 256 }
-    ensures owned { OnOk result (is_active (bytes_in elements.now.element) elements.now.pg.now i ≡ true →
-        AreOwned pages.new ((elements.now.start + i * bytes_in elements.now.memory) % 2 ^ 64)
-        (bytes_in elements.now.memory)) }
+    ensures also { OnOk result (OwnsAlso pages.old pages.new
+        (flat_map (element_run elements.now.start elements.now.memory)
+        (if is_active (bytes_in elements.now.element) elements.now.pg.now i then i ∷ [] else []))) }
     ensures memory { pages.new.memory ≡ pages.old.memory }
     ensures room { (is_active (bytes_in elements.now.element) elements.now.pg.now i ≡ true →
         AreOwned pages.old ((elements.now.start + i * bytes_in elements.now.memory) % 2 ^ 64)
@@ -40,9 +40,11 @@ fn own_element(elements: &Elements, i: usize, pages: &mut Pages) -> Result<(), M
     }
 }
 
-/// Makes the pages of the active elements owned.
+/// Makes the pages of the active elements owned, and no others; after `Err` some of them may be.
 pub fn own_elements(elements: &Elements, pages: &mut Pages) -> Result<(), Memory>
     requires { length elements.now.pg.now ≤ 32 }
+    ensures also { OnOk result (OwnsAlso pages.old pages.new
+        (element_addresses elements.now.start elements.now.memory elements.now.element elements.now.pg.now)) }
     ensures owned { OnOk result (OwnsElements elements.now.start elements.now.memory elements.now.element
         elements.now.pg.now pages.new) }
     ensures memory { pages.new.memory ≡ pages.old.memory }
@@ -62,7 +64,7 @@ fn write_owned(pages: &mut Pages, address: u64, bytes: &[u8])
     requires permitted { first_without 2 pages.old.memory address (length bytes.now) ≡ None }
     requires owned { AreOwned pages.old address (length bytes.now) }
     ensures memory { pages.new.memory ≡ with_bytes pages.old.memory address bytes.now }
-    ensures kept { KeepsOwned pages.old pages.new }
+    ensures owned { OwnsAlso pages.old pages.new [] }
 {
     match pages.write(address, bytes) {
         Ok(()) => {}
@@ -89,7 +91,7 @@ fn write_element(elements: &Elements, i: usize, z: &[u8], pages: &mut Pages)
         (flat_map (element_run elements.now.start elements.now.memory) (if active then i ∷ [] else []))
         (Some (flat_map (low_bytes z.now elements.now.memory elements.now.element)
         (if active then i ∷ [] else []))) }
-    ensures kept { KeepsOwned pages.old pages.new }
+    ensures owned { OwnsAlso pages.old pages.new [] }
 {
     if elements.is_active(i) {
         let first = elements.element.bytes() * i;
@@ -113,7 +115,7 @@ pub fn write_elements(elements: &Elements, z: &[u8], pages: &mut Pages)
     ensures memory { pages.new.memory ≡ written pages.old.memory
         (element_addresses elements.now.start elements.now.memory elements.now.element elements.now.pg.now)
         (Some (element_bytes z.now elements.now.memory elements.now.element elements.now.pg.now)) }
-    ensures kept { KeepsOwned pages.old pages.new }
+    ensures owned { OwnsAlso pages.old pages.new [] }
 {
     for i in 0..elements.count() {
         write_element(elements, i, z, pages);

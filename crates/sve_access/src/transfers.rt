@@ -6,16 +6,15 @@ ghost use Rattle.sve_table.specs.Ranges.{IsVectorAccess};
 ghost use Rattle.vector_elements.specs.Elements.{each_or_zero};
 ghost use Rattle.vector_elements.specs.Numbers.{bytes_in};
 ghost use Rattle.sve_vectors.specs.State.{length_of, with_vector};
-ghost use Rattle.paged_memory.specs.Memory.{first_without};
-ghost use Rattle.paged_memory.specs.PageTable.{AreOwned, KeepsOwned};
-ghost use Rattle.mem_access.specs.DataAccess.{run_of};
+ghost use Rattle.paged_memory.specs.Memory.{first_without, run_of};
+ghost use Rattle.paged_memory.specs.PageTable.{AreOwned, KeepsOwned, Owns};
 ghost use Rattle.mem_access.specs.Checks.{lacks, access_fault};
 ghost use Rattle.mem_access.specs.Values.{number_at};
-ghost use Rattle.mem_access.specs.Transfer.{Transfers, HasRoom, written};
+ghost use Rattle.mem_access.specs.Transfer.{Transfers, HasRoom, raised_by, written};
 ghost use Rattle.sve_access.specs.After.{access_of, vector_fault, after_access, contents_of};
 ghost use Rattle.sve_vectors.specs.Registers.{vector_at, predicate_at};
 ghost use Rattle.sve_access.specs.After.{at_base, elements_stored, read_bytes, with_elements, KeepsLengths};
-ghost use Rattle.sve_access.specs.After.{IsMade, HasInstructionRoom};
+ghost use Rattle.sve_access.specs.After.{IsMade, HasInstructionRoom, writes_of};
 ghost use Rattle.sve_access.specs.Contiguous.{memory_size, element_size, loaded, multiple_from};
 ghost use Rattle.sve_access.specs.Elements.{element_run, element_addresses};
 ghost use Rattle.sve_access.specs.Registers.{IsRegister, register_access, register_size, register_bytes};
@@ -130,7 +129,8 @@ fn store_each(
     ensures room { let x = elements.now in
         HasRoom (elements_stored rn x.start x.memory x.element x.pg.now) pages.old
         → result ≢ Err AccessStop.Memory }
-    ensures kept { KeepsOwned pages.old pages.new }
+    ensures owned { let x = elements.now in
+        Owns raised_by (element_addresses x.start x.memory x.element x.pg.now) pages.old pages.new result }
 {
     match store_fault(elements, rn, s, pages) {
         Some(exception) => Err(AccessStop::Raise(exception)),
@@ -165,7 +165,8 @@ pub fn store_elements(
     ensures room { let x = elements.now in
         HasRoom (elements_stored rn x.start x.memory x.element x.pg.now) pages.old
         → result ≢ Err AccessStop.Memory }
-    ensures kept { KeepsOwned pages.old pages.new }
+    ensures owned { let x = elements.now in
+        Owns raised_by (element_addresses x.start x.memory x.element x.pg.now) pages.old pages.new result }
 {
     if elements.are_run() {
         let run = Run {
@@ -199,7 +200,8 @@ fn transfer_store(
         vectors.now vectors.now pages.old pages.new result }
     ensures room { HasInstructionRoom (form.Store memory element offset.now pg rn zt) s.now
         vectors.now pages.old → result ≢ Err AccessStop.Memory }
-    ensures kept { KeepsOwned pages.old pages.new }
+    ensures owned { Owns raised_by (writes_of (form.Store memory element offset.now pg rn zt) s.now
+        (length_of vectors.now) vectors.now.registers) pages.old pages.new result }
 {
     let (memory, element) = (size_of(memory), size_of(element));
     let base = read_x_or_sp(s, rn);
@@ -342,7 +344,7 @@ pub fn store_run(
         (written pages.old.memory (run_of run.now.address run.now.size) (Some bytes.now))
         pages.old.memory pages.new.memory result }
     ensures room { AreOwned pages.old run.now.address (length bytes.now) → result ≢ Err AccessStop.Memory }
-    ensures kept { KeepsOwned pages.old pages.new }
+    ensures owned { Owns raised_by (run_of run.now.address run.now.size) pages.old pages.new result }
 {
     match store_fault(run, rn, s, pages) {
         Some(exception) => Err(AccessStop::Raise(exception)),
@@ -371,7 +373,8 @@ fn store_register(
         vectors.now vectors.now pages.old pages.new result }
     ensures room { HasInstructionRoom (register_access register true times rn) s.now vectors.now pages.old
         → result ≢ Err AccessStop.Memory }
-    ensures kept { KeepsOwned pages.old pages.new }
+    ensures owned { Owns raised_by (writes_of (register_access register true times rn) s.now
+        (length_of vectors.now) vectors.now.registers) pages.old pages.new result }
 {
     let run = run_from(read_x_or_sp(s, rn), times, register.size(vectors));
     store_run(&run, rn, register.bytes(vectors), s, pages)
@@ -394,7 +397,8 @@ fn transfer_register(
         vectors.old vectors.new pages.old pages.new result }
     ensures room { HasInstructionRoom (register_access register store times rn) s.now vectors.old pages.old
         → result ≢ Err AccessStop.Memory }
-    ensures kept { KeepsOwned pages.old pages.new }
+    ensures owned { Owns raised_by (writes_of (register_access register store times rn) s.now
+        (length_of vectors.old) vectors.old.registers) pages.old pages.new result }
     ensures lengths { KeepsLengths vectors.old vectors.new }
 {
     if store {
@@ -405,9 +409,9 @@ fn transfer_register(
 }
 
 /// The contiguous loads and stores of vectors and predicates: makes all checks of the access, and then the
-/// access; any answer but Ok leaves vectors and memory as they were, but that more pages may be owned.
-/// `Memory` comes only where the access writes a page that is not owned. The scalar registers stay as they
-/// are, PC too.
+/// access, which makes the pages that it writes owned, and no others. Any answer but Ok leaves vectors and
+/// pages as they were, but that more pages may be owned after `Memory`, which comes only where the access
+/// writes a page that is not owned. The scalar registers stay as they are, PC too.
 /// Source: DDI 0487, C8.2, LD1B to LD1D, ST1B to ST1D (contiguous), LDR, STR (vector, predicate).
 pub fn transfer_vector(
     insn: &VectorAccess,
@@ -423,6 +427,8 @@ pub fn transfer_vector(
     ensures room { HasRoom (access_of insn.now scalars.now (length_of vectors.old)
         vectors.old.registers) pages.old
         → result ≢ Err AccessStop.Memory }
+    ensures owned { Owns raised_by (writes_of insn.now scalars.now (length_of vectors.old)
+        vectors.old.registers) pages.old pages.new result }
     ensures kept { KeepsOwned pages.old pages.new }
     ensures lengths { KeepsLengths vectors.old vectors.new }
 {

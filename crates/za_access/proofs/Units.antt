@@ -11,7 +11,7 @@ use Rattle.sm_types.specs.declared.vector.Elem.TheVariants.{B, H, S, D, Q}
 use Rattle.vector_elements.specs.Elements.{is_active, bit_of}
 use Rattle.sve_perm.specs.Active.{active_places as size_places}
 use Rattle.sve_perm.proofs.Sums.{place_where}
-use Rattle.mem_access.specs.DataAccess.{run_of}
+use Rattle.paged_memory.specs.Memory.{run_of}
 use Rattle.sve_access.specs.Elements.{element_addresses, element_bytes as unit_bytes}
 use Rattle.tile_ops.specs.Slices.{element_bytes}
 use Rattle.za_access.specs.Slices.{element_run, active_places, active_addresses, active_bytes}

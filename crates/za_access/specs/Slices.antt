@@ -9,11 +9,11 @@ use Rattle.sm_types.specs.declared.scalars.Scalars.{Scalars}
 use Rattle.sm_types.specs.declared.stop.Exception.{Exception}
 use Rattle.sm_types.specs.declared.matrix.TileAccess.{TileAccess}
 use Rattle.scalar_exec.specs.Registers.{x_of, x_or_sp}
-use Rattle.paged_memory.specs.Memory.{AddressSpace}
+use Rattle.paged_memory.specs.Memory.{AddressSpace, run_of}
 use Rattle.vector_elements.specs.Elements.{listed, is_active}
-use Rattle.mem_access.specs.DataAccess.{DataAccess, run_of}
+use Rattle.mem_access.specs.DataAccess.{DataAccess}
 use Rattle.mem_access.specs.Checks.{access_fault}
-use Rattle.mem_access.specs.Transfer.{written}
+use Rattle.mem_access.specs.Transfer.{written, written_addresses}
 use Rattle.sve_access.specs.After.{at_base, read_bytes}
 use Rattle.tile_ops.specs.declared.slices.SliceAt.{SliceAt}
 use Rattle.tile_ops.specs.Slices.{slice_bytes, element_bytes, with_slice}
@@ -68,6 +68,11 @@ slice_array_after false slice start pg za m = with_slice slice (loaded_slice sta
 unfoldable pub slice_stored : Bool → SliceAt → List ℕ → List (List ℕ) → Option (List ℕ)
 slice_stored true slice pg za = Some (active_bytes slice.bytes pg (slice_bytes slice za))
 slice_stored false slice pg za = None
+
+-- the addresses of the bytes that it writes, where no check refuses it
+abbrev pub slice_writes : TileAccess → Scalars → List ℕ → ℕ → List (List ℕ) → List ℕ
+slice_writes x s pg size za =
+    written_addresses (slice_access x s pg).bytes (slice_stored x.store (slice_of x.slice s size) pg za)
 
 -- what it leaves, where no check refuses it
 abbrev pub after_slice : TileAccess → Scalars → List ℕ → ℕ → List (List ℕ) → AddressSpace → Contents

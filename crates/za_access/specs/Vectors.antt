@@ -6,10 +6,10 @@ use Rattle.std.specs.Prelude.{slice_index_or, slice_set}
 use Rattle.sm_types.specs.declared.scalars.Scalars.{Scalars}
 use Rattle.sm_types.specs.declared.stop.Exception.{Exception}
 use Rattle.scalar_exec.specs.Registers.{x_of, x_or_sp}
-use Rattle.paged_memory.specs.Memory.{AddressSpace}
-use Rattle.mem_access.specs.DataAccess.{DataAccess, run_of}
+use Rattle.paged_memory.specs.Memory.{AddressSpace, run_of}
+use Rattle.mem_access.specs.DataAccess.{DataAccess}
 use Rattle.mem_access.specs.Checks.{access_fault}
-use Rattle.mem_access.specs.Transfer.{written}
+use Rattle.mem_access.specs.Transfer.{written, written_addresses}
 use Rattle.sve_access.specs.After.{at_base, read_bytes}
 use Rattle.tile_ops.specs.Slices.{slice_number}
 use Rattle.za_access.specs.Contents.{Contents}
@@ -39,6 +39,12 @@ array_after false n addresses za m = slice_set za n (read_bytes m addresses)
 unfoldable pub stored : Bool → ℕ → List (List ℕ) → Option (List ℕ)
 stored true n za = Some (slice_index_or za n [])
 stored false n za = None
+
+-- the addresses of the bytes that it writes, where no check refuses it
+abbrev pub vector_writes : Bool → ℕ → ℕ → ℕ → Scalars → ℕ → List (List ℕ) → List ℕ
+vector_writes store rv offset rn s size za =
+    written_addresses (vector_access store offset rn s size).bytes
+    (stored store (vector_number rv offset s size) za)
 
 -- what it leaves, by the number of the vector and the addresses
 abbrev pub after_at : Bool → ℕ → List ℕ → List (List ℕ) → AddressSpace → Contents

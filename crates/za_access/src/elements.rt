@@ -2,9 +2,9 @@
 ghost use Rattle.std.specs.Prelude.{◌≡◌, ◌≢◌, ℕ, ◌+◌, ◌-◌, ◌*◌, ◌%◌, ◌<◌, ◌≤◌, true, List, length};
 ghost use Rattle.std.specs.Prelude.{slice_index, replicate, None, Some, Err};
 ghost use Rattle.std.specs.List.{find};
-ghost use Rattle.paged_memory.specs.PageTable.{KeepsOwned};
+ghost use Rattle.paged_memory.specs.PageTable.{Owns};
 ghost use Rattle.mem_access.specs.Checks.{lacks, access_fault};
-ghost use Rattle.mem_access.specs.Transfer.{Transfers, HasRoom, written};
+ghost use Rattle.mem_access.specs.Transfer.{Transfers, HasRoom, raised_by, written};
 ghost use Rattle.sve_access.specs.After.{at_base};
 ghost use Rattle.sve_access.specs.Elements.{element_addresses, element_bytes};
 ghost use Rattle.tile_ops.specs.Slices.{with_element};
@@ -90,8 +90,9 @@ impl<'a> SliceElements<'a> {
         }
     }
 
-    /// Stores the active elements of a slice from base register `rn` on, if no check fails; any other answer
-    /// leaves memory as it was. `Memory` comes only where a page is not owned.
+    /// Stores the active elements of a slice from base register `rn` on, if no check fails, and makes their
+    /// pages owned, and no others. Any other answer leaves the pages as they were, but that more may be owned
+    /// after `Memory`, which comes only where a page is not owned.
     pub fn store(
         &self,
         rn: u8,
@@ -112,7 +113,8 @@ impl<'a> SliceElements<'a> {
         ensures room { HasRoom (at_base rn true
             (active_addresses self.now.start (element_size self.now.size) self.now.pg.now)) pages.old
             → result ≢ Err AccessStop.Memory }
-        ensures kept { KeepsOwned pages.old pages.new }
+        ensures owned { Owns raised_by (active_addresses self.now.start (element_size self.now.size)
+            self.now.pg.now) pages.old pages.new result }
     {
         let mut room = [0; 32];
         let units = &mut room[..self.pg.len()];

@@ -4,15 +4,16 @@ ghost use Rattle.std.specs.List.{find};
 ghost use Rattle.sve_table.specs.Ranges.{IsTileAccess};
 ghost use Rattle.sve_vectors.specs.Lengths.{vector_bytes};
 ghost use Rattle.sve_vectors.specs.State.{length_of};
-ghost use Rattle.paged_memory.specs.PageTable.{KeepsOwned};
+ghost use Rattle.paged_memory.specs.PageTable.{KeepsOwned, Owns};
 ghost use Rattle.mem_access.specs.Checks.{lacks};
-ghost use Rattle.mem_access.specs.Transfer.{Transfers, HasRoom};
+ghost use Rattle.mem_access.specs.Transfer.{Transfers, HasRoom, raised_by};
 ghost use Rattle.sve_vectors.specs.Registers.{predicate_at};
 ghost use Rattle.tile_ops.specs.Slices.{IsSliceOf, with_slice};
 ghost use Rattle.za_access.specs.Contents.{contents_of};
 ghost use Rattle.tile_ops.specs.Named.{element_size};
 ghost use Rattle.za_access.specs.Slices.{first_address, loaded_slice};
 ghost use Rattle.za_access.specs.Slices.{slice_access, slice_fault, after_slice, active_addresses};
+ghost use Rattle.za_access.specs.Slices.{slice_writes};
 
 use crate::elements::SliceElements;
 use mem_access::AccessStop;
@@ -113,7 +114,8 @@ fn store_slice(
         (after_slice insn.now s.now pg.now (vector_bytes za.now.svl) za.now.vectors pages.old.memory)
         (contents_of za.now pages.old) (contents_of za.now pages.new) result }
     ensures room { HasRoom (slice_access insn.now s.now pg.now) pages.old → result ≢ Err AccessStop.Memory }
-    ensures kept { KeepsOwned pages.old pages.new }
+    ensures owned { Owns raised_by (slice_writes insn.now s.now pg.now (vector_bytes za.now.svl)
+        za.now.vectors) pages.old pages.new result }
 {
     let elements = SliceElements {
         start: first_address(insn, s),
@@ -126,10 +128,11 @@ fn store_slice(
     elements.store(insn.rn, bytes, s, pages)
 }
 
-/// The loads and stores of a slice of a tile: makes all checks of the access, and then the access; any answer
-/// but Ok leaves ZA and memory as they were, but that more pages may be owned. `Memory` comes only where a
-/// store writes a page that is not owned. Inactive elements are neither checked nor stored, and are loaded as
-/// zeros. That PSTATE.SM and PSTATE.ZA are 1 is for the caller to ask; PC stays.
+/// The loads and stores of a slice of a tile: makes all checks of the access, and then the access, which
+/// makes the pages that it writes owned, and no others. Any answer but Ok leaves ZA and pages as they were,
+/// but that more pages may be owned after `Memory`, which comes only where a store writes a page that is not
+/// owned. Inactive elements are neither checked nor stored, and are loaded as zeros. That PSTATE.SM and
+/// PSTATE.ZA are 1 is for the caller to ask; PC stays.
 /// Source: DDI 0487, C9.2, LD1B to LD1Q, ST1B to ST1Q (scalar plus scalar, tile slice).
 pub fn transfer_slice(
     insn: &TileAccess,
@@ -147,6 +150,9 @@ pub fn transfer_slice(
     ensures room { HasRoom (slice_access insn.now scalars.now
         (predicate_at vectors.now.registers insn.now.pg)) pages.old
         → result ≢ Err AccessStop.Memory }
+    ensures owned { Owns raised_by (slice_writes insn.now scalars.now
+        (predicate_at vectors.now.registers insn.now.pg) (vector_bytes za.old.svl) za.old.vectors)
+        pages.old pages.new result }
     ensures kept { KeepsOwned pages.old pages.new }
     ensures svl { za.new.svl ≡ za.old.svl }
 {

@@ -3,13 +3,13 @@ ghost use Rattle.std.specs.Prelude.{◌≡◌, ◌≢◌, ◌<◌, ◌≤◌, fa
 ghost use Rattle.sm_types.specs.declared.matrix.ArrayAccess.TheVariants as form;
 ghost use Rattle.sve_table.specs.Ranges.{IsArrayAccess};
 ghost use Rattle.sve_vectors.specs.Lengths.{vector_bytes};
-ghost use Rattle.paged_memory.specs.Memory.{first_without};
-ghost use Rattle.paged_memory.specs.PageTable.{KeepsOwned};
-ghost use Rattle.mem_access.specs.DataAccess.{run_of};
-ghost use Rattle.mem_access.specs.Transfer.{Transfers, HasRoom};
+ghost use Rattle.paged_memory.specs.Memory.{first_without, run_of};
+ghost use Rattle.paged_memory.specs.PageTable.{KeepsOwned, Owns};
+ghost use Rattle.mem_access.specs.Transfer.{Transfers, HasRoom, raised_by};
 ghost use Rattle.sve_access.specs.After.{read_bytes};
 ghost use Rattle.za_array.specs.Array.{with_array_vector};
 ghost use Rattle.za_access.specs.Vectors.{vector_address, vector_access, vector_fault, after_vector};
+ghost use Rattle.za_access.specs.Vectors.{vector_writes};
 ghost use Rattle.za_access.specs.Contents.{contents_of};
 
 use mem_access::AccessStop;
@@ -107,7 +107,8 @@ fn store_vector(
         (contents_of za.now pages.old) (contents_of za.now pages.new) result }
     ensures room { HasRoom (vector_access true offset rn s.now (vector_bytes za.now.svl)) pages.old
         → result ≢ Err AccessStop.Memory }
-    ensures kept { KeepsOwned pages.old pages.new }
+    ensures owned { Owns raised_by (vector_writes true rv offset rn s.now (vector_bytes za.now.svl)
+        za.now.vectors) pages.old pages.new result }
 {
     let size = za.size();
     let run = vector_run(s, offset, rn, size);
@@ -121,9 +122,10 @@ fn store_vector(
 }
 
 /// LDR and STR of a vector of the array, whose fields are those of `ArrayAccess::Transfer`: makes all checks
-/// of the access, and then the access; any answer but Ok leaves ZA and memory as they were, but that more
-/// pages may be owned. `Memory` comes only where a store writes a page that is not owned. That PSTATE.ZA is 1
-/// is for the caller to ask; PC stays. Source: DDI 0487, C9.2, LDR (array vector), STR (array vector).
+/// of the access, and then the access, which makes the pages that it writes owned, and no others. Any answer
+/// but Ok leaves ZA and pages as they were, but that more pages may be owned after `Memory`, which comes only
+/// where a store writes a page that is not owned. That PSTATE.ZA is 1 is for the caller to ask; PC stays.
+/// Source: DDI 0487, C9.2, LDR (array vector), STR (array vector).
 pub fn transfer_array_vector(
     store: bool,
     rv: u8,
@@ -141,6 +143,8 @@ pub fn transfer_array_vector(
         (contents_of za.old pages.old) (contents_of za.new pages.new) result }
     ensures room { HasRoom (vector_access store offset rn scalars.now (vector_bytes za.old.svl)) pages.old
         → result ≢ Err AccessStop.Memory }
+    ensures owned { Owns raised_by (vector_writes store rv offset rn scalars.now (vector_bytes za.old.svl)
+        za.old.vectors) pages.old pages.new result }
     ensures kept { KeepsOwned pages.old pages.new }
     ensures svl { za.new.svl ≡ za.old.svl }
 {

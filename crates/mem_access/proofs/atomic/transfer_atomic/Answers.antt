@@ -1,7 +1,10 @@
-use Rattle.std.proofs.Common.{◌==◌, ℕ, cond, refl, ap}
+use Rattle.std.proofs.Common.{◌==◌, ℕ, [], cond, refl, ap}
 use Rattle.scalar_exec.specs.Registers.{x_of, with_x}
 use Rattle.mem_access.specs.Access.{bytes_in, atomic_access}
-use Rattle.mem_access.specs.Transfer.{AfterAccess}
+use Rattle.paged_memory.specs.Memory.{run_of}
+use Rattle.paged_memory.proofs.Owned.{owns_none}
+use Rattle.mem_access.specs.Transfer.{AfterAccess, raised_by, atomic_stored}
+use Rattle.mem_access.proofs.Owned.{owns_as, atomic_writes, cas_writes}
 use Rattle.mem_access.specs.Values.{low_bytes, updated}
 use Rattle.mem_access.specs.Runs.{after_atomic, number_in, with_number}
 use Rattle.mem_access.proofs.Faults.{raised}
@@ -107,3 +110,37 @@ returns-in-Update-clause-room c room =
     c.update_by_register.ensures.room (owned_bytes (atomic_access c.args.x.now s) _ c.args.pages.now (bytes_in c.in-Update.size)
     c.atomic_access-access.ensures.value (ap (λ x. (atomic_access x s).writes) c.in-Update.is)
     (ap (λ x. (atomic_access x s).size) c.in-Update.is) room)
+
+pub returns-in-Ldar-clause-owned : goal.returns-in-Ldar-clause-owned
+unfolding atomic_access atomic_stored
+returns-in-Ldar-clause-owned c =
+    owns_as _ _ _ _ c.load_ordered.result
+    (atomic_writes c.args.x.now _ _ c.args.s.now c.args.pages.now.memory (λ a. []) c.in-Ldar.is
+    c.atomic_access-access.ensures.value refl) (owns_none raised_by c.args.pages.now c.load_ordered.result)
+
+pub returns-in-Stlr-clause-owned : goal.returns-in-Stlr-clause-owned
+unfolding atomic_access atomic_stored
+returns-in-Stlr-clause-owned c =
+    owns_as _ _ _ _ c.store_ordered.result
+    (atomic_writes c.args.x.now _ _ c.args.s.now c.args.pages.now.memory (λ a. run_of a (bytes_in c.in-Stlr.size)) c.in-Stlr.is
+    c.atomic_access-access.ensures.value refl) c.store_ordered.ensures.owned
+
+pub returns-in-Swap-clause-owned : goal.returns-in-Swap-clause-owned
+unfolding atomic_access atomic_stored
+returns-in-Swap-clause-owned c =
+    owns_as _ _ _ _ c.swap_register.result
+    (atomic_writes c.args.x.now _ _ c.args.s.now c.args.pages.now.memory (λ a. run_of a (bytes_in c.in-Swap.size)) c.in-Swap.is
+    c.atomic_access-access.ensures.value refl) c.swap_register.ensures.owned
+
+pub returns-in-Update-clause-owned : goal.returns-in-Update-clause-owned
+unfolding atomic_access atomic_stored
+returns-in-Update-clause-owned c =
+    owns_as _ _ _ _ c.update_by_register.result
+    (atomic_writes c.args.x.now _ _ c.args.s.now c.args.pages.now.memory (λ a. run_of a (bytes_in c.in-Update.size)) c.in-Update.is
+    c.atomic_access-access.ensures.value refl) c.update_by_register.ensures.owned
+
+pub returns-in-Cas-clause-owned : goal.returns-in-Cas-clause-owned
+returns-in-Cas-clause-owned c =
+    owns_as _ _ _ _ c.swap_where_equal.result
+    (cas_writes c.args.x.now _ _ _ _ _ _ _ c.args.s.now c.args.pages.now.memory c.in-Cas.is c.atomic_access-access.ensures.value)
+    c.swap_where_equal.ensures.owned

@@ -1,3 +1,5 @@
+use Rattle.paged_memory.proofs.Owned.{owned_kept}
+use Rattle.mem_access.specs.Transfer.{raised_by}
 use Rattle.mem_access.proofs.Faults.{transfers_as}
 use Rattle.mem_access.proofs.Lists.{transfer_fault-is, after_access-is, room-is}
 use Rattle.mem_access.proofs.transfers.transfer.Goals as goal
@@ -11,3 +13,6 @@ returns-clause-made c =
 
 pub returns-clause-room : goal.returns-clause-room
 returns-clause-room c room = c.transfer_run.ensures.room (room-is c.args.insn.now c.args.scalars.now c.args.pages.now room)
+
+pub returns-clause-kept : goal.returns-clause-kept
+returns-clause-kept c = owned_kept raised_by _ _ _ c.transfer_run.result c.transfer_run.ensures.owned

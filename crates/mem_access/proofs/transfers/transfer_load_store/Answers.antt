@@ -5,6 +5,9 @@ use Rattle.mem_access.specs.Runs.{after_load_store}
 use Rattle.mem_access.proofs.Faults.{raised, made_reading, made_writing, made_as}
 use Rattle.mem_access.proofs.OneRegister.{no_store, a_load}
 use Rattle.mem_access.proofs.Room.{owned_bytes}
+use Rattle.mem_access.specs.Transfer.{raised_by}
+use Rattle.paged_memory.proofs.Owned.{owns_none}
+use Rattle.mem_access.proofs.Owned.{owns_as, store_writes, load_writes}
 use Rattle.mem_access.proofs.transfers.transfer_load_store.Goals as goal
 
 pub returns-in-Some-clause-made : goal.returns-in-Some-clause-made
@@ -38,3 +41,14 @@ returns-in-Store-clause-room c room =
     let x = c.args.x.now in
     c.store.ensures.room (owned_bytes (load_store_access x c.args.s.now) _ c.args.pages.now (bytes_in x.size)
     c.load_store_access-access.ensures.value (ap is_store c.in-Store.is) refl room)
+
+pub returns-in-Store-clause-owned : goal.returns-in-Store-clause-owned
+returns-in-Store-clause-owned c =
+    owns_as _ _ _ _ c.store.result
+    (store_writes c.args.x.now _ c.args.s.now c.args.pages.now.memory c.load_store_access-access.ensures.value c.in-Store.is)
+    c.store.ensures.owned
+
+pub returns-in_default-clause-owned : goal.returns-in_default-clause-owned
+returns-in_default-clause-owned c =
+    owns_as _ _ _ _ c.load.result (load_writes c.args.x.now c.args.s.now c.args.pages.now.memory c.in_default.not-Store)
+    (owns_none raised_by c.args.pages.now c.load.result)

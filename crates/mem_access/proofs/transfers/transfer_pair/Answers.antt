@@ -4,6 +4,9 @@ use Rattle.mem_access.specs.Access.{register_size, is_ldp, is_stp, pair_access}
 use Rattle.mem_access.specs.Runs.{after_pair}
 use Rattle.mem_access.proofs.Faults.{raised, made_reading, made_writing, made_as}
 use Rattle.mem_access.proofs.Room.{owned_bytes}
+use Rattle.mem_access.specs.Transfer.{raised_by}
+use Rattle.paged_memory.proofs.Owned.{owns_none}
+use Rattle.mem_access.proofs.Owned.{owns_as, store_pair_writes, load_pair_writes}
 use Rattle.mem_access.proofs.transfers.transfer_pair.Goals as goal
 
 pub returns-in-Some-clause-made : goal.returns-in-Some-clause-made
@@ -39,3 +42,14 @@ returns-in-Stp-clause-room c room =
     let x = c.args.x.now in
     c.store_pair.ensures.room (owned_bytes (pair_access x c.args.s.now) _ c.args.pages.now (2 * register_size x.wide)
     c.pair_access-access.ensures.value (ap is_stp c.in-Stp.is) refl room)
+
+pub returns-in-Stp-clause-owned : goal.returns-in-Stp-clause-owned
+returns-in-Stp-clause-owned c =
+    owns_as _ _ _ _ c.store_pair.result
+    (store_pair_writes c.args.x.now _ c.args.s.now c.args.pages.now.memory c.pair_access-access.ensures.value c.in-Stp.is)
+    c.store_pair.ensures.owned
+
+pub returns-in-Ldp-clause-owned : goal.returns-in-Ldp-clause-owned
+returns-in-Ldp-clause-owned c =
+    owns_as _ _ _ _ c.load_pair.result (load_pair_writes c.args.x.now c.args.s.now c.args.pages.now.memory c.in-Ldp.is)
+    (owns_none raised_by c.args.pages.now c.load_pair.result)

@@ -7,7 +7,9 @@ use Rattle.machine_step.specs.Mode.{length_at}
 use Rattle.sve_vectors.specs.State.{length_of}
 use Rattle.signal_frames.specs.Layout.{frame_size}
 use Rattle.signal_frames.specs.Frame.{size_of, entered, with_frame}
-use Rattle.signal_frames.proofs.Delivered.{length_is, fault_by, address_by, room_by, framed}
+use Rattle.paged_memory.specs.Memory.{run_of}
+use Rattle.paged_memory.proofs.Owned.{owns_then}
+use Rattle.signal_frames.proofs.Delivered.{length_is, fault_by, address_by, room_by, owned_by, framed}
 use Rattle.signal_frames.proofs.delivery.deliver.Goals as goal
 
 pub returns-in-Err-clause-made : goal.returns-in-Err-clause-made
@@ -61,3 +63,21 @@ returns-in-Ok-clause-made c =
       c.enter.ensures.core ∙ ap (entered vl c.args.signal c.args.handler address) memory
           ∙ ap (λ k. entered vl c.args.signal c.args.handler k (with_frame vl c.args.signal s)) at,
     )
+
+pub returns-in-Ok-clause-owned : goal.returns-in-Ok-clause-owned
+returns-in-Ok-clause-owned c =
+    let m = c.args.machine.now in
+    let bank = c.args.bank.now in
+    let vl = vector_bytes bank.vectors.vl in
+    let s = core_of m (bank_state bank) in
+    let long : length bank.za.vectors ≡ vector_bytes bank.vectors.svl = c.size.ensures.square.count ∙ ap vector_bytes bank.one_length in
+    let current : length_of bank.vectors ≡ length_at vl s =
+    length_is bank.vectors bank.za.vectors m.streaming long c.requires.streaming in
+    let size : c.frame_size-size.result ≡ size_of vl s = c.frame_size-size.ensures.value
+    ∙ ap (λ k. frame_size k c.size.result m.za_on) (c.length-vector_size.ensures.value ∙ current)
+    ∙ ap (λ k. frame_size (length_at vl s) k m.za_on) (c.size.ensures.value ∙ sym c.size.ensures.square.count) in
+    let n = c.frame_size-size.result in
+    let address = (m.scalars.sp + (2 ^ 64 - n)) % 2 ^ 64 / 16 * 16 in
+    let puts = c.write_frame.ensures.frame c.in-Ok.ensures.ready in
+    rw c.enter.ensures.pages (owned_by vl n s m.pages c.write_frame.new.machine.pages size
+    (owns_then m.pages c.reserve.new.pages c.write_frame.new.machine.pages (run_of address n) c.in-Ok.ensures.owned puts.owned))

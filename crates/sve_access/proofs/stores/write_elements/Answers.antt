@@ -1,20 +1,21 @@
-use Rattle.std.proofs.Common.{◌≡◌, ◌<◌, ◌+◌, ◌*◌, ◌/◌, ◌%◌, ◌^◌, length, ap, sym, subst, ◌∙◌, arith, Some, None}
+use Rattle.std.proofs.Common.{◌≡◌, ◌<◌, ◌+◌, ◌*◌, ◌/◌, ◌%◌, ◌^◌, length, refl, ap, sym, subst, ◌∙◌, arith, [], Some, None}
 use Rattle.std.specs.Prelude.{flat_map}
 use Rattle.paged_memory.specs.Memory.{first_without}
 use Rattle.vector_elements.specs.Elements.{is_active}
 use Rattle.vector_elements.specs.Numbers.{bytes_in}
 use Rattle.mem_access.specs.Transfer.{written}
 use Rattle.sve_perm.proofs.Sums.{place_where}
+use Rattle.paged_memory.proofs.Owned.{owns_then}
 use Rattle.sve_access.specs.Elements.{element_run, low_bytes, element_addresses, element_bytes}
 use Rattle.sve_access.proofs.Lists.{of_first}
-use Rattle.sve_access.proofs.Kept.{each_permitted, still_permitted, kept_trans}
+use Rattle.sve_access.proofs.Kept.{each_permitted, still_permitted}
 use Rattle.sve_access.proofs.Stored.{stored_none, stored_more}
 use Rattle.sve_access.proofs.stores.write_elements.Goals as goal
 
 pub loop-i-init : goal.loop-i-init
 loop-i-init c =
     let x = c.args.elements.now in
-    (stored_none c.args.pages.now.memory x.start c.args.z.now x.memory x.element x.pg.now, λ n owned. owned)
+    (stored_none c.args.pages.now.memory x.start c.args.z.now x.memory x.element x.pg.now, λ number. refl)
 
 pub write_element-requires-clause-permitted : goal.write_element-requires-clause-permitted
 write_element-requires-clause-permitted c = λ on.
@@ -42,7 +43,7 @@ loop-i-preserved c =
           ∙ ap (λ m. written m (flat_map (element_run x.start x.memory) (place_where on i))
           (Some (flat_map (low_bytes z x.memory x.element) (place_where on i)))) c.loop-i.invariant.0
           ∙ stored_more c.args.pages.now.memory x.start z x.memory x.element x.pg.now i c.requires.narrow (omega (arith, below, bits)),
-      kept_trans c.args.pages.now c.loop-i.pages c.write_element.new.pages c.loop-i.invariant.1 c.write_element.ensures.kept,
+      owns_then c.args.pages.now c.loop-i.pages c.write_element.new.pages [] c.loop-i.invariant.1 c.write_element.ensures.owned,
     )
 
 pub returns-clause-memory : goal.returns-clause-memory

@@ -20,3 +20,10 @@ returns-then-are_run-clause-room c = λ room.
     let run = c.are_run.ensures.0 c.if-are_run.true in
     let addresses = run_addresses x.start x.memory x.element x.pg.now z run.long run.active c.requires.bits in
     c.store_run.ensures.room (run_owned c.args.pages.now x.start (length z) x.start (length z) refl refl (rw addresses at (room refl)))
+
+pub returns-then-are_run-clause-owned : goal.returns-then-are_run-clause-owned
+returns-then-are_run-clause-owned c =
+    let x = c.args.elements.now in
+    let z = c.args.z.now in
+    let run = c.are_run.ensures.0 c.if-are_run.true in
+    rw (run_addresses x.start x.memory x.element x.pg.now z run.long run.active c.requires.bits) c.store_run.ensures.owned

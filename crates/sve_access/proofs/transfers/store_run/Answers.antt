@@ -1,8 +1,7 @@
 use Rattle.std.proofs.Common.{sym, ap, ◌∙◌, length, true, Some, None}
 use Rattle.sm_types.specs.declared.stop.Exception.TheVariants.{Data}
 use Rattle.sm_types.specs.declared.stop.Access.TheVariants.{Write}
-use Rattle.paged_memory.specs.Memory.{first_without}
-use Rattle.mem_access.specs.DataAccess.{run_of}
+use Rattle.paged_memory.specs.Memory.{first_without, run_of}
 use Rattle.mem_access.specs.Checks.{access_fault}
 use Rattle.mem_access.specs.Runs.{denied_write, with_bytes}
 use Rattle.mem_access.specs.Transfer.{written}

@@ -1,8 +1,11 @@
-use Rattle.std.proofs.Common.{◌≡◌, length, arith}
+use Rattle.std.proofs.Common.{◌≡◌, ap, ◌∙◌, length, arith}
+use Rattle.paged_memory.specs.Memory.{run_of}
+use Rattle.paged_memory.specs.Pages.{table_of}
 use Rattle.paged_memory.proofs.Order.{same_count}
-use Rattle.paged_memory.proofs.Owned.{owns_also, same_owned, on_ok}
+use Rattle.paged_memory.proofs.Owned.{owns_also}
 use Rattle.paged_memory.proofs.Whole.{whole_pages}
 use Rattle.paged_memory.proofs.pages.Pages.write.Goals as goal
+use Rattle.paged_memory.proofs.pages.Pages.write.Goals.{in-None, in-Some}
 
 pub invariant_of-self : goal.invariant_of-self
 invariant_of-self c =
@@ -12,12 +15,13 @@ invariant_of-self c =
 
 pub returns-clause-owned : goal.returns-clause-owned
 returns-clause-owned c =
-    on_ok c.match-put_permitted.result (owns_also c.self.inside.pages.items c.put_permitted.new.pages.items c.args.self.now c.args.address
-    (length c.args.bytes.now) c.self.view_is c.put_permitted.ensures.flags)
-
-pub returns-clause-kept : goal.returns-clause-kept
-returns-clause-kept c =
-    same_owned c.self.inside.pages.items c.put_permitted.new.pages.items c.args.self.now c.self.view_is c.put_permitted.ensures.flags
+    elim c.match-put_permitted.branch [
+      | in-None w ↦
+          rw w.result-is (owns_also c.self.inside.pages.items c.put_permitted.new.pages.items c.args.self.now
+          (run_of c.args.address (length c.args.bytes.now)) c.self.view_is c.put_permitted.ensures.flags)
+      | in-Some w ↦
+          let stays = rw w.in-Some.is at c.put_permitted.ensures.stays in rw w.result-is (ap table_of stays ∙ c.self.view_is)
+    ]
 
 pub returns-clause-whole : goal.returns-clause-whole
 returns-clause-whole c = whole_pages c.put_permitted.new.pages.items c.put_permitted.ensures.fine
