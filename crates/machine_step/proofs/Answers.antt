@@ -37,6 +37,8 @@ use Rattle.machine_step.specs.Effect.{fault_of, effect_of, perform, row_fault, d
 use Rattle.machine_step.specs.Effect.{computed, vector_computed, with_core}
 use Rattle.machine_step.specs.Effect.{mode_fault, illegal_fault, early_fault}
 use Rattle.machine_step.specs.Needs.{is_call, uses_bank, uses_bank_where, needs_unless, needs_bank}
+use Rattle.machine_step.specs.Needs.{is_call_insn, is_call_where, calls_unless, is_call_at}
+use Rattle.machine_step.specs.Execution.{calls_by_meaning}
 use Rattle.machine_step.specs.Execution.{effect_of_insn, effect_of_meaning, unless_raised, unless_refused, needs_of_insn, needs_of_meaning}
 use Rattle.machine_step.specs.Machine.{Steps, core_of, HasRoomOn, IsBecomes}
 use Rattle.machine_step.specs.declared.machine.Machine.{Machine}
@@ -141,6 +143,29 @@ needs_of_word s word (Some it) aligned fetched is =
     let here : insn_at s ≡ Some it = insn_here s word it fetched is in
     ap (λ k. needs_unless k s) (early_at s word it aligned fetched is here)
     ∙ needs_row (is_executed it) (mode_fault it s.streaming s.za_on) word it s here
+
+calls_row : (executed : Bool) (mode : Option Exception) (word : ℕ) (it : Insn) (s : ProcessorState) → insn_at s ≡ Some it
+    → calls_unless (option_or (cond executed None (Some (Undefined word))) (option_or mode None)) s
+    ≡ cond executed (unless_refused mode (is_call_insn it)) false
+calls_row true None word it s h = ap is_call_where h
+calls_row true (Some exception) word it s h = refl
+calls_row false mode word it s h = refl
+
+-- and it calls the kernel where that does
+pub calls_of_word : (s : ProcessorState) (word : ℕ) (meaning : Option Insn) → s.scalars.pc % 4 ≡ 0 → word_of s ≡ Some word
+    → instruction_of word ≡ meaning → is_call_at s ≡ calls_by_meaning meaning s
+unfolding is_call_at
+calls_of_word s word None aligned fetched is =
+    ap (λ k. calls_unless k s) (early_of s word aligned fetched
+    ∙ ap (λ k. option_or (row_fault word k) (option_or (illegal_fault s) None)) is)
+calls_of_word s word (Some it) aligned fetched is =
+    let here : insn_at s ≡ Some it = insn_here s word it fetched is in
+    ap (λ k. calls_unless k s) (early_at s word it aligned fetched is here)
+    ∙ calls_row (is_executed it) (mode_fault it s.streaming s.za_on) word it s here
+
+pub calls_refused : (s : ProcessorState) (exception : Exception) → early_fault s ≡ Some exception → is_call_at s ≡ false
+unfolding is_call_at
+calls_refused s exception h = ap (λ k. calls_unless k s) h
 
 -- a check of the instruction itself that fails
 pub effect_refused : (vl : ℕ) (s : ProcessorState) (exception : Exception) → early_fault s ≡ Some exception
@@ -274,3 +299,16 @@ scalar_room m bank (insn.VectorAccess x) h room = cc
 scalar_room m bank (insn.ArrayAccess x) h room = cc
 scalar_room m bank (insn.TileAccess x) h room = cc
 scalar_room m bank other h room = room
+
+-- an instruction that is executed and allowed, and one that is not
+pub allowed : (executed : Bool) (mode : Option Exception) (b : Bool) → cond executed (unless_refused mode true) false ≡ true
+    → cond executed (unless_refused mode b) false ≡ b
+allowed true None b h = refl
+allowed true (Some exception) b h = cc
+allowed false mode b h = cc
+
+pub not_allowed : (executed : Bool) (mode : Option Exception) (b : Bool) → cond executed (unless_refused mode true) false ≡ false
+    → cond executed (unless_refused mode b) false ≡ false
+not_allowed true None b h = cc
+not_allowed true (Some exception) b h = refl
+not_allowed false mode b h = refl

@@ -1,14 +1,15 @@
 //! One step of a machine, whose accesses to shared words a port answers.
-ghost use Rattle.std.specs.Prelude.{◌≡◌, ◌≢◌, ◌++◌, None, Some, ℕ};
-ghost use Rattle.paged_memory.specs.PageTable.{KeepsOwned};
-ghost use Rattle.shared_region.specs.Chain.{Chain};
+ghost use Rattle.std.specs.Prelude.{◌≡◌, ◌≢◌, None, Some, ℕ, List};
+ghost use Rattle.paged_memory.specs.PageTable.{PageTable};
+ghost use Rattle.shared_region.specs.Tickets.{IsTicketOf, GivesEvents};
 ghost use Rattle.machine_step.specs.ProcessorState.{ProcessorState, VectorState};
 ghost use Rattle.machine_step.specs.Effect.{Effect, Asks, answered, effect_of};
 ghost use Rattle.machine_step.specs.Needs.{needs_bank};
 ghost use Rattle.machine_step.specs.Machine.{core_of, HasRoomToStep, IsInMode, IsSameBank, KeepsMode, Steps};
-ghost use Rattle.machine_step.specs.Machine.{IsAsked, AsksWell};
-ghost use Rattle.machine_step.specs.Step.{Tells, TellsOn, TellsAlone, events_in, entries_of, refusing};
-ghost use Rattle.machine_step.specs.Lent.{lent_before, lent_after, IsLentInMode, Answers, ComesBack};
+ghost use Rattle.machine_step.specs.Machine.{IsAsk, IsAsked, AsksWell};
+ghost use Rattle.machine_step.specs.Owned.{ExecutionOwns, StepOwns, step_writes};
+ghost use Rattle.machine_step.specs.Step.{Tells, TellsOn, TellsAlone, events_in};
+ghost use Rattle.machine_step.specs.Lent.{lent_before, lent_after, IsLentInMode, Answers, AsksOf, ComesBack};
 
 use crate::decoder::{Decoded, Decoder};
 use crate::executed::Executed;
@@ -43,8 +44,9 @@ pub enum StepEnd {
 impl Machine {
     /// Executes the instruction at PC, on the bank where one is given; the port answers its access to a
     /// shared word. `room` says that the journal has a place for the event. `NeedsBank` comes only where
-    /// there is no bank, and `Memory` only where the instruction writes a page that is not owned, or where
-    /// the port takes memory.
+    /// there is no bank, and `Memory` only where the instruction writes a page that is not owned, or where it
+    /// asks an operation of a port that takes memory. After `Next` exactly the pages of the bytes that the
+    /// instruction wrote are owned besides; after any other answer but `Memory` the page table is as it was.
     pub fn step<P: Port>(
         &mut self,
         bank: Option<&mut Bank>,
@@ -54,20 +56,16 @@ impl Machine {
         room: bool,
     ) -> StepEnd
         requires mode { IsLentInMode (lent_before bank) self.old }
-        requires number { P.number ticket.old ≡ Some thread }
-        requires belongs { P.ticket_name ticket.old ≡ P.name port.old }
+        requires ticket { IsTicketOf thread (P.name port.old) (P.tells ticket.old) }
         ensures effect { Answers (lent_before bank.entry) (lent_after bank.exit)
-            (refusing (P.ends port.old ticket.old) (P.strays port.old ticket.old) P.takes_memory)
-            room self.old self.new result }
+            (P.refuses port.old ticket.old) room self.old self.new result }
         ensures bank { ComesBack (lent_before bank.entry) (lent_after bank.exit) self.new }
         ensures memory { HasRoomToStep self.old (lent_before bank.entry) → result ≡ StepEnd.Memory
-            → P.takes_memory }
-        ensures kept { KeepsOwned self.old.pages self.new.pages }
-        ensures gives { Chain P.gives port.old ticket.old (entries_of thread
-            (events_in result)) port.new ticket.new }
-        ensures events { P.events ticket.new ≡ P.events ticket.old ++ events_in result }
-        ensures number { P.number ticket.new ≡ Some thread }
-        ensures belongs { P.ticket_name ticket.new ≡ P.name port.new }
+            → AsksOf (P.refuses port.old ticket.old).takes_memory (lent_before bank.entry) self.old }
+        ensures owned { StepOwns (step_writes self.old (lent_before bank.entry)) self.old.pages self.new.pages
+            result }
+        ensures gives { GivesEvents P.gives P.name P.tells thread (events_in result) port.old ticket.old
+            port.new ticket.new }
     {
         match bank {
             Some(bank) => self.step_on(&mut Decoded::nop(), bank, port, ticket, thread, room),
@@ -86,20 +84,16 @@ impl Machine {
         room: bool,
     ) -> StepEnd
         requires mode { IsLentInMode (lent_before bank) self.old }
-        requires number { P.number ticket.old ≡ Some thread }
-        requires belongs { P.ticket_name ticket.old ≡ P.name port.old }
+        requires ticket { IsTicketOf thread (P.name port.old) (P.tells ticket.old) }
         ensures effect { Answers (lent_before bank.entry) (lent_after bank.exit)
-            (refusing (P.ends port.old ticket.old) (P.strays port.old ticket.old) P.takes_memory)
-            room self.old self.new result }
+            (P.refuses port.old ticket.old) room self.old self.new result }
         ensures bank { ComesBack (lent_before bank.entry) (lent_after bank.exit) self.new }
         ensures memory { HasRoomToStep self.old (lent_before bank.entry) → result ≡ StepEnd.Memory
-            → P.takes_memory }
-        ensures kept { KeepsOwned self.old.pages self.new.pages }
-        ensures gives { Chain P.gives port.old ticket.old (entries_of thread
-            (events_in result)) port.new ticket.new }
-        ensures events { P.events ticket.new ≡ P.events ticket.old ++ events_in result }
-        ensures number { P.number ticket.new ≡ Some thread }
-        ensures belongs { P.ticket_name ticket.new ≡ P.name port.new }
+            → AsksOf (P.refuses port.old ticket.old).takes_memory (lent_before bank.entry) self.old }
+        ensures owned { StepOwns (step_writes self.old (lent_before bank.entry)) self.old.pages self.new.pages
+            result }
+        ensures gives { GivesEvents P.gives P.name P.tells thread (events_in result) port.old ticket.old
+            port.new ticket.new }
     {
         match bank {
             Some(bank) => {
@@ -125,20 +119,16 @@ impl Machine {
         room: bool,
     ) -> StepEnd
         requires mode { IsInMode bank.old self.old }
-        requires number { P.number ticket.old ≡ Some thread }
-        requires belongs { P.ticket_name ticket.old ≡ P.name port.old }
+        requires ticket { IsTicketOf thread (P.name port.old) (P.tells ticket.old) }
         ensures effect { TellsOn effect_of
-            (refusing (P.ends port.old ticket.old) (P.strays port.old ticket.old) P.takes_memory)
-            room self.old bank.old self.new bank.new result }
+            (P.refuses port.old ticket.old) room self.old bank.old self.new bank.new result }
         ensures same { IsSameBank bank.old bank.new }
         ensures mode { IsInMode bank.new self.new }
-        ensures memory { HasRoomToStep self.old (Some bank.old) → result ≡ StepEnd.Memory → P.takes_memory }
-        ensures kept { KeepsOwned self.old.pages self.new.pages }
-        ensures gives { Chain P.gives port.old ticket.old (entries_of thread
-            (events_in result)) port.new ticket.new }
-        ensures events { P.events ticket.new ≡ P.events ticket.old ++ events_in result }
-        ensures number { P.number ticket.new ≡ Some thread }
-        ensures belongs { P.ticket_name ticket.new ≡ P.name port.new }
+        ensures memory { HasRoomToStep self.old (Some bank.old) → result ≡ StepEnd.Memory
+            → AsksOf (P.refuses port.old ticket.old).takes_memory (Some bank.old) self.old }
+        ensures owned { StepOwns (step_writes self.old (Some bank.old)) self.old.pages self.new.pages result }
+        ensures gives { GivesEvents P.gives P.name P.tells thread (events_in result) port.old ticket.old
+            port.new ticket.new }
     {
         let word = match self.fetch_word() {
             Ok(word) => word,
@@ -163,18 +153,14 @@ impl Machine {
         thread: u32,
         room: bool,
     ) -> StepEnd
-        requires number { P.number ticket.old ≡ Some thread }
-        requires belongs { P.ticket_name ticket.old ≡ P.name port.old }
+        requires ticket { IsTicketOf thread (P.name port.old) (P.tells ticket.old) }
         ensures effect { TellsAlone needs_bank effect_of
-            (refusing (P.ends port.old ticket.old) (P.strays port.old ticket.old) P.takes_memory)
-            room self.old self.new result }
-        ensures memory { HasRoomToStep self.old None → result ≡ StepEnd.Memory → P.takes_memory }
-        ensures kept { KeepsOwned self.old.pages self.new.pages }
-        ensures gives { Chain P.gives port.old ticket.old (entries_of thread
-            (events_in result)) port.new ticket.new }
-        ensures events { P.events ticket.new ≡ P.events ticket.old ++ events_in result }
-        ensures number { P.number ticket.new ≡ Some thread }
-        ensures belongs { P.ticket_name ticket.new ≡ P.name port.new }
+            (P.refuses port.old ticket.old) room self.old self.new result }
+        ensures memory { HasRoomToStep self.old None → result ≡ StepEnd.Memory
+            → AsksOf (P.refuses port.old ticket.old).takes_memory None self.old }
+        ensures owned { StepOwns (step_writes self.old None) self.old.pages self.new.pages result }
+        ensures gives { GivesEvents P.gives P.name P.tells thread (events_in result) port.old ticket.old
+            port.new ticket.new }
     {
         let executed = self.execute_without_bank(known);
         self.finish(&executed, port, ticket, thread, room)
@@ -191,22 +177,20 @@ impl Machine {
         room: bool,
     ) -> StepEnd
         requires asked { AsksWell self.old executed.now }
-        requires number { P.number ticket.old ≡ Some thread }
-        requires belongs { P.ticket_name ticket.old ≡ P.name port.old }
+        requires ticket { IsTicketOf thread (P.name port.old) (P.tells ticket.old) }
         ensures tells { (bank : VectorState) (effect : Effect) (old : ProcessorState)
             → Steps effect old (core_of self.old bank) executed.now
-            → Tells (refusing (P.ends port.old ticket.old) (P.strays port.old ticket.old) P.takes_memory)
-            room effect old (core_of self.new bank) result }
+            → Tells (P.refuses port.old ticket.old) room effect old (core_of self.new bank) result }
         ensures needs { executed.now ≡ Executed.NeedsBank
             → (result ≡ StepEnd.NeedsBank) × (self.new ≡ self.old) }
-        ensures memory { result ≡ StepEnd.Memory → executed.now ≢ Executed.Memory → P.takes_memory }
-        ensures pages { self.new.pages ≡ self.old.pages }
+        ensures memory { result ≡ StepEnd.Memory → executed.now ≢ Executed.Memory
+            → IsAsk executed.now × (P.refuses port.old ticket.old).takes_memory }
+        ensures owned { (written : List ℕ) (before : PageTable)
+            → ExecutionOwns written before self.old.pages executed.now
+            → StepOwns written before self.new.pages result }
         ensures mode { KeepsMode self.old self.new }
-        ensures gives { Chain P.gives port.old ticket.old (entries_of thread
-            (events_in result)) port.new ticket.new }
-        ensures events { P.events ticket.new ≡ P.events ticket.old ++ events_in result }
-        ensures number { P.number ticket.new ≡ Some thread }
-        ensures belongs { P.ticket_name ticket.new ≡ P.name port.new }
+        ensures gives { GivesEvents P.gives P.name P.tells thread (events_in result) port.old ticket.old
+            port.new ticket.new }
     {
         match executed {
             Executed::Next => StepEnd::Next(None),
@@ -229,20 +213,16 @@ impl Machine {
         room: bool,
     ) -> StepEnd
         requires asked { IsAsked insn.now op self.old.scalars }
-        requires number { P.number ticket.old ≡ Some thread }
-        requires belongs { P.ticket_name ticket.old ≡ P.name port.old }
+        requires ticket { IsTicketOf thread (P.name port.old) (P.tells ticket.old) }
         ensures tells { (bank : VectorState) → Tells
-            (refusing (P.ends port.old ticket.old) (P.strays port.old ticket.old) P.takes_memory) room
+            (P.refuses port.old ticket.old) room
             (Asks op (answered insn.now (core_of self.old bank)))
             (core_of self.old bank) (core_of self.new bank) result }
-        ensures memory { result ≡ StepEnd.Memory → P.takes_memory }
-        ensures pages { self.new.pages ≡ self.old.pages }
+        ensures memory { result ≡ StepEnd.Memory → (P.refuses port.old ticket.old).takes_memory }
+        ensures owned { (written : List ℕ) → StepOwns written self.old.pages self.new.pages result }
         ensures mode { KeepsMode self.old self.new }
-        ensures gives { Chain P.gives port.old ticket.old (entries_of thread
-            (events_in result)) port.new ticket.new }
-        ensures events { P.events ticket.new ≡ P.events ticket.old ++ events_in result }
-        ensures number { P.number ticket.new ≡ Some thread }
-        ensures belongs { P.ticket_name ticket.new ≡ P.name port.new }
+        ensures gives { GivesEvents P.gives P.name P.tells thread (events_in result) port.old ticket.old
+            port.new ticket.new }
     {
         if !room {
             return StepEnd::NoRoom;

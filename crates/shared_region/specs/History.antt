@@ -15,6 +15,10 @@ event_of op answer = record { op = op; answer = answer }
 abbrev pub entry_of : ℕ → SharedOp → ℕ → Entry
 entry_of thread op answer = record { thread = thread; event = event_of op answer }
 
+-- the entries that events of the thread of that number make
+abbrev pub entries_of : ℕ → List Event → List Entry
+entries_of thread events = map (λ (e : Event). record { thread = thread; event = e }) events
+
 -- the words after some entries, from those before them
 unfoldable pub words_after : Words → List Entry → Words
 words_after w [] = w

@@ -1,4 +1,5 @@
 pub mod WordRule
 pub mod History
 pub mod Chain
+pub mod Tickets
 pub mod Ports

@@ -5,16 +5,8 @@ use Rattle.sm_types.specs.declared.shared_op.SharedOp.{SharedOp}
 use Rattle.sm_types.specs.declared.shared_op.Event.{Event}
 use Rattle.sm_types.specs.declared.shared_words.Entry.{Entry}
 use Rattle.sm_types.specs.declared.shared_words.Words.{Words}
-use Rattle.shared_region.specs.declared.port.PortStop.{PortStop}
-use Rattle.shared_region.specs.declared.port.PortStop.TheVariants.{TraceEnds, TraceDiffers, Memory}
 use Rattle.shared_region.specs.WordRule.{applied, answer_to}
 use Rattle.shared_region.specs.History.{IsLegal, ends_in}
-
--- the cause of a refusal: of two conditions that a port names, and of whether its accesses take memory
-abbrev pub IsCause : Type 0 → Type 0 → Type 0 → PortStop → Type 0
-IsCause ends strays takes TraceEnds = ends
-IsCause ends strays takes TraceDiffers = strays
-IsCause ends strays takes Memory = takes
 
 -- the name of a port that lends no table
 abbrev pub no_table : List ℕ

@@ -94,21 +94,13 @@ impl Port for PlainPort {
     ghost use Rattle.std.specs.Prelude.{Some};
     ghost use Rattle.shared_region.specs.Ports.{no_table, PlainGives};
 
-    ghost number = { λ t. Some t.thread };
-
-    ghost events = { λ t. t.events };
+    ghost tells = { λ t. record { number = Some t.thread; events = t.events; name = no_table } };
 
     ghost name = { λ p. no_table };
 
-    ghost ticket_name = { λ t. no_table };
-
-    ghost ends = { λ p t op. ⊥ };
-
-    ghost strays = { λ p t op. ⊥ };
+    ghost refuses = { λ p t. record { ends = λ op. ⊥; strays = λ op. ⊥; takes_memory = Unit {0} } };
 
     ghost gives = { λ p t e q u. PlainGives p e q };
-
-    ghost takes_memory = { Unit {0} };
 
     ghost apart = { λ p t op e s. e };
 

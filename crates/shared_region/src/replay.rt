@@ -83,21 +83,13 @@ impl Port for ReplayPort {
     ghost use Rattle.std.specs.Prelude.{Some};
     ghost use Rattle.shared_region.specs.Ports.{no_table, IsAtEnd, Strays, ReplayGives, end_or_stray};
 
-    ghost number = { λ t. Some t.thread };
-
-    ghost events = { λ t. t.answered };
+    ghost tells = { λ t. record { number = Some t.thread; events = t.answered; name = no_table } };
 
     ghost name = { λ p. no_table };
 
-    ghost ticket_name = { λ t. no_table };
-
-    ghost ends = { λ p t op. IsAtEnd t };
-
-    ghost strays = { λ p t op. Strays t op };
+    ghost refuses = { λ p t. record { ends = λ op. IsAtEnd t; strays = Strays t; takes_memory = ⊥ } };
 
     ghost gives = { λ p t e q u. ReplayGives t e u };
-
-    ghost takes_memory = { ⊥ };
 
     ghost apart = { λ p t op e s. end_or_stray t op e s };
 

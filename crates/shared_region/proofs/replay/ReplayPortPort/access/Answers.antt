@@ -1,4 +1,5 @@
-use Rattle.std.proofs.Common.{sym, ◌∙◌, true≢false}
+use Rattle.std.proofs.Common.{Some, sym, ap, ◌∙◌, true≢false}
+use Rattle.shared_region.specs.Ports.{no_table, ReplayEvents}
 use Rattle.shared_region.proofs.Journals.{is_next, is_at_end, goes_on, gives_next}
 use Rattle.shared_region.proofs.replay.ReplayPortPort.access.Goals as goal
 
@@ -22,7 +23,9 @@ invariant_of-ticket c =
 pub returns-clause-events : goal.returns-clause-events
 returns-clause-events c =
     let h = is_next _ _ _ _ _ _ _ c.ticket.view_is c.as_slice.ensures.value c.event_at.ensures c.in-Some.is in
-    (gives_next _ c.args.thread c.args.thread _ _ _ _ h (c.is_same.ensures.0 c.if-not-is_same.false)).answered
+    let answered = (gives_next _ c.args.thread c.args.thread _ _ _ _ h (c.is_same.ensures.0 c.if-not-is_same.false)).answered in
+    let thread = ap (λ (t : ReplayEvents). t.thread) c.ticket.view_is in
+    λ i. record { number = Some (thread i); events = answered i; name = no_table }
 
 pub returns-clause-gives : goal.returns-clause-gives
 returns-clause-gives c =
