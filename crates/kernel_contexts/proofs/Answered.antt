@@ -5,29 +5,30 @@ use Rattle.std.proofs.lemmas.List.{take-append-drop, append-nil}
 use Rattle.sm_types.specs.declared.stop.Stop.{Stop}
 use Rattle.sm_types.specs.declared.config.Config.{Config}
 use Rattle.sm_types.specs.declared.shared_op.Event.{Event}
-use Rattle.machine_step.specs.Step.{Refusals}
+use Rattle.shared_region.specs.Tickets.{Refusals}
 use Rattle.kernel_contexts.specs.State.{State}
 use Rattle.kernel_contexts.specs.Call.{TurnEnd, Ends}
 use Rattle.kernel_contexts.specs.Turn.{turn_of}
 use Rattle.kernel_contexts.specs.Context.{Turns, TurnsOver, GoesOn, made_since}
 use Rattle.kernel_contexts.specs.declared.context.Turn.{Turn}
-use Rattle.kernel_contexts.specs.declared.context.Turn.TheVariants.{Ran, Yielded, Stopped, TraceEnds, TraceDiffers}
+use Rattle.kernel_contexts.specs.declared.context.Turn.TheVariants.{Ran, Yielded, NeedsBank, Stopped, TraceEnds, TraceDiffers}
 use Rattle.kernel_contexts.specs.declared.context.Turn.TheVariants.{Memory}
 use Rattle.kernel_contexts.proofs.Turns.{goes_turned, yields_turned, asks_turned}
 
-pub stops_so : (end : TurnEnd) (old new : State) (stopped : Option Stop) (turn : Turn) (stop : Stop) → turn ≡ Stopped stop
-    → end ≡ Ends new stop → stopped ≡ Some stop → Turns end old new stopped turn
-stops_so end old new stopped turn stop answer ends is = rw answer (ends, is)
+pub stops_so : (wants : Type 0) (end : TurnEnd) (old new : State) (stopped : Option Stop) (turn : Turn) (stop : Stop) → turn ≡ Stopped stop
+    → end ≡ Ends new stop → stopped ≡ Some stop → Turns wants end old new stopped turn
+stops_so wants end old new stopped turn stop answer ends is = rw answer (ends, is)
 
 -- the same turn, from the same state
-pub turns_from : (end end' : TurnEnd) (s t new : State) (stopped : Option Stop) (turn : Turn) → end' ≡ end → s ≡ t
-    → Turns end s new stopped turn → Turns end' t new stopped turn
-turns_from end end' s t new stopped Ran e same h = (e ∙ h.0, h.1)
-turns_from end end' s t new stopped Yielded e same h = (e ∙ h.0, h.1)
-turns_from end end' s t new stopped (Stopped stop) e same h = (e ∙ h.0, h.1)
-turns_from end end' s t new stopped TraceEnds e same h = absurd h
-turns_from end end' s t new stopped TraceDiffers e same h = absurd h
-turns_from end end' s t new stopped Memory e same h = (rw e h.0, h.1 ∙ same, h.2)
+pub turns_from : (wants : Type 0) (end end' : TurnEnd) (s t new : State) (stopped : Option Stop) (turn : Turn) → end' ≡ end → s ≡ t
+    → Turns wants end s new stopped turn → Turns wants end' t new stopped turn
+turns_from wants end end' s t new stopped Ran e same h = (e ∙ h.0, h.1)
+turns_from wants end end' s t new stopped Yielded e same h = (e ∙ h.0, h.1)
+turns_from wants end end' s t new stopped (Stopped stop) e same h = (e ∙ h.0, h.1)
+turns_from wants end end' s t new stopped NeedsBank e same h = absurd h
+turns_from wants end end' s t new stopped TraceEnds e same h = absurd h
+turns_from wants end end' s t new stopped TraceDiffers e same h = absurd h
+turns_from wants end end' s t new stopped Memory e same h = (h.0, rw e h.1, h.2 ∙ same, h.3)
 
 pub asked_turned : (config : Config) (thread events : ℕ) (old new : State) (refusals : Refusals) (made : List Event)
     → GoesOn refusals (turn_of config thread events old) new made → new.turns ≡ old.turns + 1
@@ -42,6 +43,7 @@ pub ran_turned : (config : Config) (thread events : ℕ) (old new : State) (refu
 ran_turned config thread events old new refusals made stopped Ran h e = asked_turned config thread events old new refusals made h.0
 ran_turned config thread events old new refusals made stopped Yielded h e = cc
 ran_turned config thread events old new refusals made stopped (Stopped stop) h e = cc
+ran_turned config thread events old new refusals made stopped NeedsBank h e = cc
 ran_turned config thread events old new refusals made stopped TraceEnds h e = cc
 ran_turned config thread events old new refusals made stopped TraceDiffers h e = cc
 ran_turned config thread events old new refusals made stopped Memory h e = cc
@@ -52,19 +54,21 @@ pub yielded_turned : (config : Config) (thread events : ℕ) (old new : State) (
 yielded_turned config thread events old new refusals made stopped Ran h e = cc
 yielded_turned config thread events old new refusals made stopped Yielded h e = yields_turned config thread events old new h.0
 yielded_turned config thread events old new refusals made stopped (Stopped stop) h e = cc
+yielded_turned config thread events old new refusals made stopped NeedsBank h e = cc
 yielded_turned config thread events old new refusals made stopped TraceEnds h e = cc
 yielded_turned config thread events old new refusals made stopped TraceDiffers h e = cc
 yielded_turned config thread events old new refusals made stopped Memory h e = cc
 
 -- a turn that asked nothing, over a port
-pub asked_nothing : (refusals : Refusals) (end : TurnEnd) (old new : State) (made : List Event) (stopped : Option Stop) (turn : Turn)
-    → made ≡ [] → Turns end old new stopped turn → TurnsOver refusals end old new made stopped turn
-asked_nothing refusals end old new made stopped Ran none h = (rw none h.0, h.1)
-asked_nothing refusals end old new made stopped Yielded none h = (h.0, none, h.1)
-asked_nothing refusals end old new made stopped (Stopped stop) none h = (h.0, none, h.1)
-asked_nothing refusals end old new made stopped TraceEnds none h = absurd h
-asked_nothing refusals end old new made stopped TraceDiffers none h = absurd h
-asked_nothing refusals end old new made stopped Memory none h = (h.1, none, h.2)
+pub asked_nothing : (wants : Type 0) (refusals : Refusals) (end : TurnEnd) (old new : State) (made : List Event) (stopped : Option Stop) (turn : Turn)
+    → made ≡ [] → Turns wants end old new stopped turn → TurnsOver refusals end old new made stopped turn
+asked_nothing wants refusals end old new made stopped Ran none h = (rw none h.0, h.1)
+asked_nothing wants refusals end old new made stopped Yielded none h = (h.0, none, h.1)
+asked_nothing wants refusals end old new made stopped (Stopped stop) none h = (h.0, none, h.1)
+asked_nothing wants refusals end old new made stopped NeedsBank none h = absurd h
+asked_nothing wants refusals end old new made stopped TraceEnds none h = absurd h
+asked_nothing wants refusals end old new made stopped TraceDiffers none h = absurd h
+asked_nothing wants refusals end old new made stopped Memory none h = (h.2, none, h.3)
 
 -- the events at the end of a journal
 pub made_events : (old new events : List Event) → new ≡ old ++ events → made_since old new ≡ events

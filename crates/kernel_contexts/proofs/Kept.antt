@@ -6,7 +6,7 @@ use Rattle.sm_types.specs.declared.config.Config.{Config}
 use Rattle.sm_types.specs.declared.shared_op.Event.{Event}
 use Rattle.sm_types.specs.declared.stop.Stop.{Stop}
 use Rattle.paged_memory.specs.Image.{Program}
-use Rattle.machine_step.specs.Step.{Refusals}
+use Rattle.shared_region.specs.Tickets.{Refusals}
 use Rattle.kernel_contexts.specs.State.{State, start_state}
 use Rattle.kernel_contexts.specs.Call.{Goes, Yields, Ends}
 use Rattle.kernel_contexts.specs.Turn.{turn_of}
@@ -14,7 +14,7 @@ use Rattle.kernel_contexts.specs.Run.{At, Ended, turned, reach_from, reach}
 use Rattle.kernel_contexts.specs.Standing.{turns_to, standing, IsRunOf}
 use Rattle.kernel_contexts.specs.Context.{TurnsOver, GoesOn}
 use Rattle.kernel_contexts.specs.declared.context.Turn.{Turn}
-use Rattle.kernel_contexts.specs.declared.context.Turn.TheVariants.{Ran, Yielded, Stopped, TraceEnds, TraceDiffers, Memory}
+use Rattle.kernel_contexts.specs.declared.context.Turn.TheVariants.{Ran, Yielded, NeedsBank, Stopped, TraceEnds, TraceDiffers, Memory}
 use Rattle.kernel_contexts.proofs.Turns.{ends_turned}
 use Rattle.kernel_contexts.proofs.Answered.{asked_turned, yielded_turned}
 use Rattle.kernel_contexts.proofs.Runs.{next, asks_next}
@@ -91,6 +91,7 @@ module _ (config : Config) (thread : ℕ) (from old new : State) (journal : List
       (goes_so journal stopped (yielded_turned config thread (length journal) old new refusals made stopped Yielded h refl) h.2
       (next config thread from old journal [] (length journal) old.turns (Yields new) at h.0))
   turn_made refusals made stopped (Stopped stop) h = no_more made stopped h.1 (ended stop stopped h.0 h.2)
+  turn_made refusals made stopped NeedsBank h = absurd h
   turn_made refusals made stopped TraceEnds h = no_more made stopped h.2 (stayed stopped h.1 h.3)
   turn_made refusals made stopped TraceDiffers h = no_more made stopped h.2 (stayed stopped h.1 h.3)
   turn_made refusals made stopped Memory h = no_more made stopped h.1 (stayed stopped h.0 h.2)
@@ -114,3 +115,9 @@ run_goes_on program config thread refusals old new before after made stop stoppe
 pub run_kept : (program : Program) (config given : Config) (thread number : ℕ) (journal : List Event) (s : State) (stop : Option Stop)
     → given ≡ config → number ≡ thread → IsRunOf program config thread journal s stop → IsRunOf program given number journal s stop
 run_kept program config given thread number journal s stop same is h = rw (same, is) h
+
+-- and of a thread that stands as it did
+pub run_same : (program : Program) (config given : Config) (thread number : ℕ) (journal events : List Event) (s t : State)
+    (stop stopped : Option Stop) → given ≡ config → number ≡ thread → events ≡ journal → t ≡ s → stopped ≡ stop
+    → IsRunOf program config thread journal s stop → IsRunOf program given number events t stopped
+run_same program config given thread number journal events s t stop stopped e f j k l h = rw (e, f, j, k, l) h

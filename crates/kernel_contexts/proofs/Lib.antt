@@ -1,3 +1,6 @@
+pub mod Banks
+pub mod Bare
+pub mod Reading
 pub mod HandlerTable
 pub mod Turns
 pub mod Answered
@@ -7,3 +10,4 @@ pub mod Calls
 pub mod Runs
 pub mod Kept
 pub mod Wanting
+pub mod Owned

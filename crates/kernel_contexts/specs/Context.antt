@@ -1,26 +1,34 @@
 -- What a context is, and what its turns are.
-use Rattle.std.specs.Prelude.{◌≡◌, ℕ, List, [], ◌∷◌, ◌++◌, ◌<◌, Option, Some, None, length, drop}
+use Rattle.std.specs.Prelude.{◌≡◌, ℕ, Bool, true, false, cond, not, List, [], ◌∷◌, ◌++◌, ◌<◌}
+use Rattle.std.specs.Prelude.{Option, Some, None, length, drop}
 use Rattle.std.specs.Prelude.{vec_len, vec_capacity}
 use Rattle.sm_types.specs.declared.config.Config.{Config}
 use Rattle.sm_types.specs.declared.shared_op.SharedOp.{SharedOp}
 use Rattle.sm_types.specs.declared.shared_op.Event.{Event}
-use Rattle.sm_types.specs.declared.shared_words.Entry.{Entry}
 use Rattle.sm_types.specs.declared.stop.Stop.{Stop}
+use Rattle.shared_region.specs.declared.port.PortStop.{PortStop}
+use Rattle.shared_region.specs.declared.port.PortStop.TheVariants as stop
+use Rattle.shared_region.specs.Tickets.{Refusals, IsCause, IsAllowed}
 use Rattle.paged_memory.specs.Image.{Program}
+use Rattle.paged_memory.specs.PageTable.{PageTable}
 use Rattle.mem_access.specs.Bank.{bank_state}
 use Rattle.mem_access.specs.declared.bank.Bank.{Bank}
 use Rattle.machine_step.specs.ProcessorState.{VectorState}
-use Rattle.machine_step.specs.Step.{Refusals, entries_of}
 use Rattle.machine_step.specs.declared.machine.Machine.{Machine}
 use Rattle.kernel_contexts.specs.State.{State}
-pub use Rattle.kernel_contexts.specs.Guest.{guest_state, held_state}
+pub use Rattle.kernel_contexts.specs.Guest.{guest_state, held_state, bare_state}
+use Rattle.kernel_contexts.specs.SaveArea.{HasLengths, IsFit}
+use Rattle.kernel_contexts.specs.Needs.{needs_vectors}
+use Rattle.kernel_contexts.specs.Wanting.{TurnWants}
+use Rattle.kernel_contexts.specs.Owned.{turn_writes}
+pub use Rattle.kernel_contexts.specs.Owner.{owns}
 use Rattle.kernel_contexts.specs.Standing.{IsRunOf}
 use Rattle.kernel_contexts.specs.Call.{TurnEnd, Goes, Yields, Asks, Ends, call_of}
 use Rattle.kernel_contexts.specs.Turn.{turn_of, instruction_of, outside_streaming}
 use Rattle.kernel_contexts.specs.declared.guest.GuestThread.{GuestThread}
 use Rattle.kernel_contexts.specs.declared.context.Context.{Context}
 use Rattle.kernel_contexts.specs.declared.context.Turn.{Turn}
-use Rattle.kernel_contexts.specs.declared.context.Turn.TheVariants.{Ran, Yielded, Stopped, TraceEnds}
+use Rattle.kernel_contexts.specs.declared.context.Turn.TheVariants.{Ran, Yielded, NeedsBank, Stopped, TraceEnds}
 use Rattle.kernel_contexts.specs.declared.context.Turn.TheVariants.{TraceDiffers}
 use Rattle.kernel_contexts.specs.declared.context.Turn.TheVariants.{Memory}
 
@@ -30,7 +38,7 @@ state_with c bank = guest_state c.guest bank
 
 -- its save area
 abbrev pub save_area_of : Context → Bank
-save_area_of c = c.guest.bank
+save_area_of c = c.save_area
 
 -- the vectors that a context keeps in it
 abbrev pub bank_of : Context → VectorState
@@ -64,27 +72,62 @@ thread_of c = c.guest.number
 abbrev pub stop_of : Context → Option Stop
 stop_of c = c.guest.stop
 
--- a context is a run of its image: its state and its stop are those to which its turns come over its journal
-abbrev pub IsRun : Context → Type 0
-IsRun c = IsRunOf (image_of c) (config_of c) (thread_of c) (journal_of c) (state_of c) (stop_of c)
+-- its vectors and ZA are in its save area
+abbrev pub is_home : Context → Bool
+is_home c = c.home
 
--- how a turn ends for which memory was wanting though the journal's list had a place that was not used: the
--- thread would go on, or the turn asks an operation of a port that takes memory
-abbrev pub MayWantMemory : Type 0 → TurnEnd → Type 0
-MayWantMemory takes_memory (Goes s) = Unit {0}
-MayWantMemory takes_memory (Yields s) = ⊥
-MayWantMemory takes_memory (Asks op next) = takes_memory
-MayWantMemory takes_memory (Ends s stop) = ⊥
+-- a context is a run of its image with these vectors: its state and its stop are those to which its turns come
+-- over its journal
+abbrev pub IsRunWith : Context → VectorState → Type 0
+IsRunWith c vectors =
+    IsRunOf (image_of c) (config_of c) (thread_of c) (journal_of c) (state_with c vectors) (stop_of c)
+
+-- and with those of its save area
+abbrev pub IsRun : Context → Type 0
+IsRun c = IsRunWith c (bank_of c)
+
+-- ---- a context and the bank of a core
+
+-- the vectors of a context: those in the bank where its thread owns that, else those of its save area
+abbrev pub vectors_on : Context → Bank → VectorState
+vectors_on c bank = cond (owns bank (thread_of c)) (bank_state bank) (bank_of c)
+
+-- the bank in which they are
+abbrev pub bank_with : Context → Bank → Bank
+bank_with c bank = cond (owns bank (thread_of c)) bank (save_area_of c)
+
+-- the plain state of a context, whose vectors are in one of the two
+abbrev pub state_on : Context → Bank → State
+state_on c bank = state_with c (vectors_on c bank)
+
+-- the bank of a core has the lengths of the context's options, and the context's vectors are in it exactly
+-- where they are not home: then its thread owns the bank, which is in the mode of its machine, and the context
+-- with the bank is a run of its image
+pub record IsOn (c : Context) (bank : Bank) : Type 0 where
+  pub lengths : HasLengths (config_of c) bank
+  pub place : is_home c ≡ not (owns bank (thread_of c))
+  pub fit : owns bank (thread_of c) ≡ true → IsFit (config_of c) (machine_of c) bank
+  pub run : owns bank (thread_of c) ≡ true → IsRunWith c (bank_state bank)
+
+-- the thread would go on, or the turn asks an operation of a port that takes memory where this holds; so no
+-- stop and no yield is told as want of memory
+abbrev pub GoesOrAsks : Type 0 → TurnEnd → Type 0
+GoesOrAsks takes_memory (Goes s) = Unit {0}
+GoesOrAsks takes_memory (Yields s) = ⊥
+GoesOrAsks takes_memory (Asks op next) = takes_memory
+GoesOrAsks takes_memory (Ends s stop) = ⊥
 
 -- the answer of a turn that asks no operation, of a thread that had not stopped, and the state and the stop
--- after it, are those of the turn; want of memory comes where the thread would go on, and changes nothing
-abbrev pub Turns : TurnEnd → State → State → Option Stop → Turn → Type 0
-Turns end old new stopped Ran = (end ≡ Goes new) × (stopped ≡ None)
-Turns end old new stopped Yielded = (end ≡ Yields new) × (stopped ≡ None)
-Turns end old new stopped (Stopped stop) = (end ≡ Ends new stop) × (stopped ≡ Some stop)
-Turns end old new stopped TraceEnds = ⊥
-Turns end old new stopped TraceDiffers = ⊥
-Turns end old new stopped Memory = MayWantMemory ⊥ end × (new ≡ old) × (stopped ≡ None)
+-- after it, are those of the turn; want of memory comes where this holds and the thread would go on, and
+-- changes nothing
+abbrev pub Turns : Type 0 → TurnEnd → State → State → Option Stop → Turn → Type 0
+Turns wants end old new stopped Ran = (end ≡ Goes new) × (stopped ≡ None)
+Turns wants end old new stopped Yielded = (end ≡ Yields new) × (stopped ≡ None)
+Turns wants end old new stopped (Stopped stop) = (end ≡ Ends new stop) × (stopped ≡ Some stop)
+Turns wants end old new stopped NeedsBank = ⊥
+Turns wants end old new stopped TraceEnds = ⊥
+Turns wants end old new stopped TraceDiffers = ⊥
+Turns wants end old new stopped Memory = wants × GoesOrAsks ⊥ end × (new ≡ old) × (stopped ≡ None)
 
 -- the turn asks an operation, of which this holds
 abbrev pub AsksFor : TurnEnd → (SharedOp → Type 0) → Type 0
@@ -99,13 +142,18 @@ pub record IsAnsweredTurn (refusals : Refusals) (end : TurnEnd) (new : State) (e
   pub next : ℕ → State
   pub asks : end ≡ Asks event.op next
   pub made : new ≡ next event.answer
-  pub goes : (¬ refusals.ends event.op) × (¬ refusals.strays event.op)
+  pub goes : IsAllowed refusals event.op
 
 -- a turn that goes on, with the events that it made: none, or one
 abbrev pub GoesOn : Refusals → TurnEnd → State → List Event → Type 0
 GoesOn refusals end new [] = end ≡ Goes new
 GoesOn refusals end new (event ∷ []) = IsAnsweredTurn refusals end new event
 GoesOn refusals end new (event ∷ other ∷ events) = ⊥
+
+-- the port refused the operation of a turn, for this reason, and nothing has changed
+abbrev pub IsRefused : Refusals → TurnEnd → State → State → List Event → Option Stop → PortStop → Type 0
+IsRefused refusals end old new made stopped why =
+    AsksFor end (λ op. IsCause refusals op why) × (new ≡ old) × (made ≡ []) × (stopped ≡ None)
 
 -- the answer of a turn of a thread that had not stopped, the state, the events that it made and the stop
 -- after it, are those of the turn; what a port refuses, and want of memory, change nothing
@@ -115,10 +163,11 @@ TurnsOver refusals end old new made stopped Ran = GoesOn refusals end new made �
 TurnsOver refusals end old new made stopped Yielded = (end ≡ Yields new) × (made ≡ []) × (stopped ≡ None)
 TurnsOver refusals end old new made stopped (Stopped stop) =
     (end ≡ Ends new stop) × (made ≡ []) × (stopped ≡ Some stop)
+TurnsOver refusals end old new made stopped NeedsBank = ⊥
 TurnsOver refusals end old new made stopped TraceEnds =
-    AsksFor end refusals.ends × (new ≡ old) × (made ≡ []) × (stopped ≡ None)
+    IsRefused refusals end old new made stopped stop.TraceEnds
 TurnsOver refusals end old new made stopped TraceDiffers =
-    AsksFor end refusals.strays × (new ≡ old) × (made ≡ []) × (stopped ≡ None)
+    IsRefused refusals end old new made stopped stop.TraceDiffers
 TurnsOver refusals end old new made stopped Memory = (new ≡ old) × (made ≡ []) × (stopped ≡ None)
 
 -- the events at the end of a journal that were not in it before
@@ -130,31 +179,33 @@ abbrev pub guest_made : GuestThread → GuestThread → List Event
 guest_made old new = made_since old.journal.items new.journal.items
 
 -- the answer of a guest thread's turn, its state, the events that it made and its stop are those of the turn
-abbrev pub GuestTurns : Refusals → TurnEnd → GuestThread → GuestThread → Turn → Type 0
-GuestTurns refusals end old new turn =
-    TurnsOver refusals end (held_state old) (held_state new) (guest_made old new) new.stop turn
+abbrev pub GuestTurns :
+    Refusals → TurnEnd → GuestThread → Bank → GuestThread → Bank → Turn → Type 0
+GuestTurns refusals end old before new after turn =
+    TurnsOver refusals end (held_state old before) (held_state new after) (guest_made old new) new.stop turn
 
--- the turn of a guest thread
-abbrev pub guest_turn : GuestThread → TurnEnd
-guest_turn g = turn_of g.config g.number (length g.journal.items) (held_state g)
+-- the turn of a guest thread, on a bank
+abbrev pub guest_turn : GuestThread → Bank → TurnEnd
+guest_turn g bank = turn_of g.config g.number (length g.journal.items) (held_state g bank)
 
 -- its journal's list has a place that is not used
 abbrev pub HasFreePlace : GuestThread → Type 0
 HasFreePlace g = vec_len g.journal < vec_capacity g.journal
 
 -- its call of the kernel, before which it leaves Streaming SVE mode
-abbrev pub guest_call : GuestThread → TurnEnd
-guest_call g =
-    call_of g.config g.number (length g.journal.items) (held_state g)
-    (outside_streaming g.config (held_state g))
+abbrev pub guest_call : GuestThread → Bank → TurnEnd
+guest_call g bank =
+    call_of g.config g.number (length g.journal.items) (held_state g bank)
+    (outside_streaming g.config (held_state g bank))
 
 -- the instruction that it executes
-abbrev pub guest_instruction : GuestThread → TurnEnd
-guest_instruction g = instruction_of g.config g.number (length g.journal.items) (held_state g)
+abbrev pub guest_instruction : GuestThread → Bank → TurnEnd
+guest_instruction g bank = instruction_of g.config g.number (length g.journal.items) (held_state g bank)
 
--- a turn that asks nothing, of a guest thread before and after
-abbrev pub Takes : TurnEnd → GuestThread → GuestThread → Turn → Type 0
-Takes end old new turn = Turns end (held_state old) (held_state new) new.stop turn
+-- a turn that asks nothing, of a guest thread and a bank before and after
+abbrev pub Takes : Type 0 → TurnEnd → GuestThread → Bank → GuestThread → Bank → Turn → Type 0
+Takes wants end old before new after turn =
+    Turns wants end (held_state old before) (held_state new after) new.stop turn
 
 -- a context that is stopped answers its stop and stays as it is
 abbrev pub Stays : Stop → Context → Context → Turn → Type 0
@@ -162,13 +213,31 @@ Stays stop old new turn =
     (turn ≡ Stopped stop) × (state_of new ≡ state_of old) × (journal_of new ≡ journal_of old)
     × (stop_of new ≡ Some stop)
 
--- the turn of a context
+-- the turn of a context with these vectors
+abbrev pub turn_with : Context → VectorState → TurnEnd
+turn_with c vectors = turn_of (config_of c) (thread_of c) (length (journal_of c)) (state_with c vectors)
+
+-- and with those of its save area
 abbrev pub turn_at : Context → TurnEnd
-turn_at c = turn_of (config_of c) (thread_of c) (length (journal_of c)) (state_of c)
+turn_at c = turn_with c (bank_of c)
+
+-- the addresses of the bytes that the turn of a context, with its vectors in this bank, writes where its
+-- thread goes on
+abbrev pub writes_of_turn : Context → Bank → List ℕ
+writes_of_turn c bank = turn_writes c.guest bank
+
+-- the pages of its thread
+abbrev pub pages_of : Context → PageTable
+pages_of c = c.guest.machine.pages
 
 -- the list of a context's journal has a place that is not used
 abbrev pub IsPlaceFree : Context → Type 0
 IsPlaceFree c = HasFreePlace c.guest
+
+-- for the turn of a context, with its vectors in this bank, memory may be wanting; the port takes memory where
+-- this holds
+abbrev pub MayWantMemory : Type 0 → Context → Bank → Type 0
+MayWantMemory takes_memory c bank = TurnWants (IsPlaceFree c) takes_memory c.guest bank
 
 -- the events that a context made
 abbrev pub made_by : Context → Context → List Event
@@ -180,16 +249,39 @@ TurnsOrStays None refusals old new turn =
     TurnsOver refusals (turn_at old) (state_of old) (state_of new) (made_by old new) (stop_of new) turn
 TurnsOrStays (Some stop) refusals old new turn = Stays stop old new turn
 
+-- a turn on the bank of a core, which the thread owns or not: where it does not, and the turn needs the
+-- thread's vectors, the answer is that, and nothing has changed
+abbrev pub TurnsUnless :
+    Bool → Refusals → TurnEnd → State → State → List Event → Option Stop → Turn → Type 0
+TurnsUnless true refusals end old new made stopped turn =
+    (turn ≡ NeedsBank) × (new ≡ old) × (made ≡ []) × (stopped ≡ None)
+TurnsUnless false refusals end old new made stopped turn = TurnsOver refusals end old new made stopped turn
+
+-- the turn of a context on the bank of a core needs that bank: its thread does not own it, and the turn reads
+-- or writes vectors
+abbrev pub needs_bank_on : Context → Bank → Bool
+needs_bank_on c bank =
+    cond (owns bank (thread_of c)) false (needs_vectors (config_of c) (state_on c bank))
+
+-- a context that is not stopped makes a turn on the bank of a core
+abbrev pub TurnsOn : Option Stop → Refusals → Context → Bank → Context → Bank → Turn → Type 0
+TurnsOn None refusals old before new after turn =
+    TurnsUnless (needs_bank_on old before) refusals (turn_with old (vectors_on old before))
+    (state_on old before) (state_on new after) (made_by old new) (stop_of new) turn
+TurnsOn (Some stop) refusals old before new after turn =
+    (turn ≡ Stopped stop) × (state_on new after ≡ state_on old before) × (journal_of new ≡ journal_of old)
+    × (stop_of new ≡ Some stop)
+
 -- the options and the number of a guest thread are those of its start
 pub record IsSameGuest (old new : GuestThread) : Type 0 where
   pub config : new.config ≡ old.config
   pub number : new.number ≡ old.number
 
--- and its journal grows by the events that it made, of whose entries in a history this holds
-pub record Grows (gives : List Entry → Type 0) (old new : GuestThread) : Type 0 where
+-- and its journal grows by the events that it made, which a port gave it
+pub record Grows (gives : ℕ → List Event → Type 0) (old new : GuestThread) : Type 0 where
   pub same : IsSameGuest old new
   pub journal : new.journal.items ≡ old.journal.items ++ guest_made old new
-  pub given : gives (entries_of old.number (guest_made old new))
+  pub given : gives old.number (guest_made old new)
 
 -- or its journal is the same
 pub record IsQuietGuest (old new : GuestThread) : Type 0 where
@@ -202,11 +294,3 @@ pub record IsSameThread (old new : Context) : Type 0 where
   pub config : config_of new ≡ config_of old
   pub thread : thread_of new ≡ thread_of old
   pub image : image_of new ≡ image_of old
-
--- a ticket is the guest thread's: it has this number, it tells these events, and it belongs to a port of its
--- own name
-pub record IsTicketOf (number : Option ℕ) (events : List Event) (port_of_ticket port : List ℕ)
-    (g : GuestThread) : Type 0 where
-  pub has_number : number ≡ Some g.number
-  pub has_journal : events ≡ g.journal.items
-  pub belongs : port_of_ticket ≡ port

@@ -1,6 +1,10 @@
 -- What a guest thread is, as the kernel keeps it.
 use Rattle.paged_memory.specs.Image.{Program}
+use Rattle.std.specs.Prelude.{◌≡◌, Bool, true, []}
+use Rattle.std.specs.Coded.{→_prop}
 use Rattle.mem_access.specs.Bank.{bank_state}
+use Rattle.mem_access.specs.declared.bank.Bank.{Bank}
+use Rattle.sve_vectors.specs.Registers.{zero_registers}
 use Rattle.machine_step.specs.ProcessorState.{VectorState}
 use Rattle.machine_step.specs.Machine.{core_of}
 use Rattle.kernel_contexts.specs.State.{State}
@@ -21,13 +25,31 @@ guest_state g bank = record {
   turns = g.turns;
 }
 
--- with the vectors of its save area
-abbrev pub held_state : GuestThread → State
-held_state g = guest_state g (bank_state g.bank)
+-- with the vectors of a bank
+abbrev pub held_state : GuestThread → Bank → State
+held_state g bank = guest_state g (bank_state bank)
 
--- it is a run of a program: its state and its stop are those to which its turns come over its journal
-abbrev pub IsGuestRun : Program → GuestThread → Type 0
-IsGuestRun program g = IsRunOf program g.config g.number g.journal.items (held_state g) g.stop
+-- vectors of no length
+abbrev pub no_vectors : VectorState
+no_vectors = record { registers = zero_registers 0; za = [] }
 
-pub IsGuestRun-prop : (program : Program) (g : GuestThread) → IsProp (IsGuestRun program g)
-IsGuestRun-prop program g = IsRunOf-prop program g.config g.number g.journal.items (held_state g) g.stop
+-- the plain state of a guest thread but for its vectors
+abbrev pub bare_state : GuestThread → State
+bare_state g = guest_state g no_vectors
+
+-- with the vectors of a bank it is a run of a program: its state and its stop are those to which its turns
+-- come over its journal
+abbrev pub IsGuestRun : Program → GuestThread → Bank → Type 0
+IsGuestRun program g bank = IsRunOf program g.config g.number g.journal.items (held_state g bank) g.stop
+
+pub IsGuestRun-prop : (program : Program) (g : GuestThread) (bank : Bank) → IsProp (IsGuestRun program g bank)
+IsGuestRun-prop program g bank =
+    IsRunOf-prop program g.config g.number g.journal.items (held_state g bank) g.stop
+
+-- where its vectors are home, that is so with those of its save area
+abbrev pub IsHomeRun : Bool → Program → GuestThread → Bank → Type 0
+IsHomeRun home program g bank = home ≡ true → IsGuestRun program g bank
+
+pub IsHomeRun-prop : (home : Bool) (program : Program) (g : GuestThread) (bank : Bank)
+    → IsProp (IsHomeRun home program g bank)
+IsHomeRun-prop home program g bank = →_prop (IsGuestRun-prop program g bank)

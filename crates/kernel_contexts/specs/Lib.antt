@@ -4,8 +4,12 @@ pub mod HandlerTable
 pub mod SaveArea
 pub mod Call
 pub mod Turn
+pub mod Wanting
+pub mod Owned
 pub mod Run
 pub mod Standing
+pub mod Needs
+pub mod Owner
 pub mod Guest
 pub mod Context
 pub mod Output

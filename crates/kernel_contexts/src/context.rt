@@ -1,6 +1,9 @@
 //! Contexts and their turns.
 ghost use Rattle.std.specs.Prelude.{◌≡◌, ◌+◌, ◌*◌, ◌<◌, ◌≤◌, ◌++◌, [], length, None, Some, IfOk};
-ghost use Rattle.kernel_contexts.specs.Guest.{IsGuestRun, IsGuestRun-prop};
+ghost use Rattle.std.specs.Prelude.{true, false, ℕ, slice_get};
+ghost use Rattle.kernel_contexts.specs.Guest.{IsHomeRun, IsHomeRun-prop};
+ghost use Rattle.kernel_contexts.specs.SaveArea.{IsSaveArea};
+ghost use Rattle.kernel_contexts.specs.Owner.{owns};
 
 use crate::guest::GuestThread;
 use crate::handlers::handler_of;
@@ -10,6 +13,7 @@ use paged_memory::Image;
 use shared_region::Port;
 use sm_types::{Config, Event, Memory, Stop, Words};
 use std::alloc::Global;
+use std::mem;
 
 /// What a turn came to.
 #[derive(Clone, Copy, Debug, PartialEq, Eq)]
@@ -18,6 +22,8 @@ pub enum Turn {
     Ran,
     /// The turn was made, and the thread gives way to others.
     Yielded,
+    /// The turn reads or writes vectors, and the bank of the core is not the thread's; nothing has changed.
+    NeedsBank,
     /// The thread has stopped, now or before.
     Stopped(Stop),
     /// The turn asks an operation, and the port's journal has no event left; nothing has changed.
@@ -29,13 +35,29 @@ pub enum Turn {
     Memory,
 }
 
-/// One guest thread, with the image from which it started: always a run of that image over its journal
-/// (`IsRun`).
+/// One guest thread, with the image from which it started. Its vectors, predicates, FFR and ZA are in its
+/// save area, and then it is home; else they are in the bank of a core that its thread owns. A context that is
+/// home is a run of its image over its journal (`IsRun`); one that is not is so together with that bank
+/// (`IsOn`).
 #[derive(Drop)]
 pub struct Context {
     guest: GuestThread,
+    save_area: Bank,
+    home: bool,
     image: Image,
-    pub ghost is_run: { IsGuestRun image guest } by { IsGuestRun-prop image guest },
+    ghost fits: { IsSaveArea home guest.config guest.machine save_area },
+    pub ghost is_run: { IsHomeRun home image guest save_area } by { IsHomeRun-prop home image guest save_area },
+}
+
+/// Whether the thread of that number owns a bank.
+#[inline]
+fn is_owned(bank: &Bank, thread: u32) -> bool
+    ensures { result ≡ owns bank.now thread }
+{
+    match bank.owner() {
+        Some(owner) => owner == thread,
+        None => false,
+    }
 }
 
 /// What a run ends with: a context for each guest thread, in order, and the words that they share.
@@ -43,6 +65,8 @@ pub struct Context {
 pub struct Finished {
     pub contexts: Vec<Context>,
     pub words: Words,
+    /// They are home.
+    pub ghost home: { (k : ℕ) (c : _) → slice_get contexts.items k ≡ Some c → c.home ≡ true },
 }
 
 impl Context {
@@ -51,13 +75,19 @@ impl Context {
     ghost use Rattle.kernel_contexts.specs.HandlerTable.{handlers_of};
     ghost use Rattle.kernel_contexts.specs.Context.{state_of, config_of, thread_of, stop_of, machine_of};
     ghost use Rattle.kernel_contexts.specs.Context.{save_area_of, image_of, journal_of, made_by};
-    ghost use Rattle.machine_step.specs.Step.{entries_of, refusing};
     ghost use Rattle.kernel_contexts.specs.Context.{TurnsOrStays, IsSameThread, MayWantMemory};
-    ghost use Rattle.kernel_contexts.specs.Context.{IsPlaceFree, turn_at};
-    ghost use Rattle.shared_region.specs.Chain.{Chain};
+    ghost use Rattle.kernel_contexts.specs.Context.{IsPlaceFree, is_home, IsOn, bank_with, GoesOrAsks, turn_at, turn_with};
+    ghost use Rattle.kernel_contexts.specs.Context.{TurnsOn, vectors_on, state_on, bank_of};
+    ghost use Rattle.kernel_contexts.specs.Context.{writes_of_turn, pages_of};
+    ghost use Rattle.kernel_contexts.specs.Owned.{TurnOwns};
+    ghost use Rattle.kernel_contexts.specs.SaveArea.{HasLengths};
+    ghost use Rattle.mem_access.specs.Bank.{bank_state};
+    ghost use Rattle.machine_step.specs.Machine.{IsSameBank};
+    ghost use Rattle.shared_region.specs.Tickets.{IsTicketOf, GivesEvents};
 
     /// A thread before its first turn, with its pages and the save area of its vectors taken at once.
     /// `Memory` is want of memory.
+    #[tactic(auto, unfolding(mem_access::specs::VectorState::zero_bank))]
     pub fn start(
         alloc: Global,
         image: &Image,
@@ -71,42 +101,142 @@ impl Context {
         ensures journal { IfOk result (λ c. journal_of c ≡ []) }
         ensures stop { IfOk result (λ c. stop_of c ≡ None) }
         ensures image { IfOk result (λ c. image_of c ≡ image.now) }
+        ensures home { IfOk result (λ c. is_home c ≡ true) }
     {
         let guest = GuestThread::start(alloc, image, config, thread)?;
+        let save_area = Bank::new(alloc, config.vl, config.svl)?;
         let image = image.copy(alloc)?;
-        Ok(Context { guest, image })
+        Ok(Context {
+            guest,
+            save_area,
+            home: true,
+            image,
+        })
     }
 
-    /// Makes one turn, in which the port answers what it asks of the shared words; a thread that has stopped
-    /// answers its stop, and nothing changes. `TraceEnds` and `TraceDiffers` come only where the turn asks an
-    /// operation that the port refuses so, and there nothing else comes but `Memory`. Where the list of the
-    /// journal has a place not used, `Memory` comes only where the thread would go on, or where the turn asks
-    /// an operation of a port that takes memory.
+    /// Makes one turn on the context's own save area, in which the port answers what it asks of the shared
+    /// words; a thread that has stopped answers its stop, and nothing changes. `TraceEnds` and `TraceDiffers`
+    /// come only where the turn asks an operation that the port refuses so, and there nothing else comes but
+    /// `Memory`. That comes only where the turn writes a page that is not owned, adds bytes to the output, asks
+    /// an operation of a port that takes memory, or may make an event for which the list of the journal has no
+    /// free place; where it has one, no stop and no yield is told so.
+    /// After `Ran` exactly the pages of the bytes that the turn wrote are owned besides; after any other
+    /// answer but `Memory` the page table is as it was.
     #[inline]
     pub fn advance<P: Port>(&mut self, port: &mut P, ticket: &mut P::Ticket) -> Turn
-        requires number { P.number ticket.old ≡ Some (thread_of self.old) }
-        requires belongs { P.ticket_name ticket.old ≡ P.name port.old }
-        requires journal { P.events ticket.old ≡ journal_of self.old }
-        ensures turn { TurnsOrStays (stop_of self.old) (refusing (P.ends port.old ticket.old)
-            (P.strays port.old ticket.old) P.takes_memory) self.old self.new result }
-        ensures memory { result ≡ Turn.Memory → IsPlaceFree self.old → MayWantMemory P.takes_memory
-            (turn_at self.old) }
+        requires home { is_home self.old ≡ true }
+        requires ticket { IsTicketOf (thread_of self.old) (P.name port.old) (P.tells ticket.old) }
+        ensures turn { TurnsOrStays (stop_of self.old) (P.refuses port.old ticket.old) self.old self.new
+            result }
+        ensures memory { result ≡ Turn.Memory → MayWantMemory (P.refuses port.old ticket.old).takes_memory
+            self.old (save_area_of self.old) }
+        ensures goes { result ≡ Turn.Memory → IsPlaceFree self.old
+            → GoesOrAsks (P.refuses port.old ticket.old).takes_memory (turn_at self.old) }
+        ensures owned { TurnOwns (writes_of_turn self.old (save_area_of self.old)) (pages_of self.old)
+            (pages_of self.new) result }
         ensures grows { journal_of self.new ≡ journal_of self.old ++ made_by self.old self.new }
-        ensures gives { Chain P.gives port.old ticket.old
-            (entries_of (thread_of self.old) (made_by self.old self.new)) port.new ticket.new }
-        ensures journal { P.events ticket.new ≡ journal_of self.new }
-        ensures number { P.number ticket.new ≡ Some (thread_of self.old) }
-        ensures belongs { P.ticket_name ticket.new ≡ P.name port.new }
+        ensures gives { GivesEvents P.gives P.name P.tells (thread_of self.old) (made_by self.old self.new)
+            port.old ticket.old port.new ticket.new }
         ensures same { IsSameThread self.old self.new }
         ensures made { result ≡ Turn.Ran → (state_of self.new).turns ≡ (state_of self.old).turns + 1 }
         ensures yielded { result ≡ Turn.Yielded → (state_of self.new).turns ≡ (state_of self.old).turns + 1 }
         ensures budget { (state_of self.new).count ≤ (config_of self.new).budget }
         ensures few { (state_of self.new).turns ≤ 3 * (config_of self.new).budget }
+        ensures home { is_home self.new ≡ true }
     {
         match self.guest.stop {
             Some(stop) => Turn::Stopped(stop),
-            None => self.guest.make_turn(port, ticket),
+            None => self.guest.make_turn(&mut self.save_area, port, ticket),
         }
+    }
+
+    /// Makes one turn on the bank of a core, as `advance` does on the save area. The context is home and its
+    /// thread does not own the bank, or its thread owns the bank, which has its vectors and ZA. `NeedsBank`
+    /// comes exactly where the thread does not own the bank and the turn reads or writes vectors: the delivery
+    /// of a signal that has a handler, a return from a handler, or an instruction that cannot be executed
+    /// without a bank.
+    pub fn advance_on<P: Port>(
+        &mut self,
+        bank: &mut Bank,
+        port: &mut P,
+        ticket: &mut P::Ticket,
+    ) -> Turn
+        requires on { IsOn self.old bank.old }
+        requires ticket { IsTicketOf (thread_of self.old) (P.name port.old) (P.tells ticket.old) }
+        ensures turn { TurnsOn (stop_of self.old) (P.refuses port.old ticket.old) self.old bank.old self.new
+            bank.new result }
+        ensures memory { result ≡ Turn.Memory → MayWantMemory (P.refuses port.old ticket.old).takes_memory
+            self.old (bank_with self.old bank.old) }
+        ensures goes { result ≡ Turn.Memory → IsPlaceFree self.old
+            → GoesOrAsks (P.refuses port.old ticket.old).takes_memory
+            (turn_with self.old (vectors_on self.old bank.old)) }
+        ensures owned { TurnOwns (writes_of_turn self.old (bank_with self.old bank.old)) (pages_of self.old)
+            (pages_of self.new) result }
+        ensures on { IsOn self.new bank.new }
+        ensures bank { IsSameBank bank.old bank.new }
+        ensures apart { owns bank.old (thread_of self.old) ≡ false → bank.new ≡ bank.old }
+        ensures grows { journal_of self.new ≡ journal_of self.old ++ made_by self.old self.new }
+        ensures gives { GivesEvents P.gives P.name P.tells (thread_of self.old) (made_by self.old self.new)
+            port.old ticket.old port.new ticket.new }
+        ensures same { IsSameThread self.old self.new }
+        ensures made { result ≡ Turn.Ran
+            → (state_on self.new bank.new).turns ≡ (state_on self.old bank.old).turns + 1 }
+        ensures yielded { result ≡ Turn.Yielded
+            → (state_on self.new bank.new).turns ≡ (state_on self.old bank.old).turns + 1 }
+        ensures budget { (state_on self.new bank.new).count ≤ (config_of self.new).budget }
+        ensures few { (state_on self.new bank.new).turns ≤ 3 * (config_of self.new).budget }
+    {
+        match self.guest.stop {
+            Some(stop) => Turn::Stopped(stop),
+            None => {
+                if is_owned(bank, self.guest.number) {
+                    self.guest.make_turn(bank, port, ticket)
+                } else if self.guest.needs_vectors() {
+                    Turn::NeedsBank
+                } else {
+                    self.guest.make_turn(&mut self.save_area, port, ticket)
+                }
+            }
+        }
+    }
+
+    /// Moves the vectors and ZA of the context into a bank without an owner, which is then its thread's.
+    pub fn bank_in(&mut self, bank: &mut Bank)
+        requires home { is_home self.old ≡ true }
+        requires owner { bank.old.owner ≡ None }
+        requires lengths { HasLengths (config_of self.old) bank.old }
+        ensures away { is_home self.new ≡ false }
+        ensures owner { bank.new.owner ≡ Some (thread_of self.old) }
+        ensures vectors { bank_state bank.new ≡ bank_of self.old }
+        ensures on { IsOn self.new bank.new }
+        ensures state { state_on self.new bank.new ≡ state_of self.old }
+        ensures stop { stop_of self.new ≡ stop_of self.old }
+        ensures journal { journal_of self.new ≡ journal_of self.old }
+        ensures pages { pages_of self.new ≡ pages_of self.old }
+        ensures same { IsSameThread self.old self.new }
+    {
+        mem::swap(&mut self.save_area, bank);
+        bank.set_owner(Some(self.guest.number));
+        self.home = false;
+    }
+
+    /// Moves the vectors and ZA of the context from the bank that its thread owns into its save area; the bank
+    /// has no owner then.
+    pub fn bank_out(&mut self, bank: &mut Bank)
+        requires away { is_home self.old ≡ false }
+        requires on { IsOn self.old bank.old }
+        ensures home { is_home self.new ≡ true }
+        ensures owner { bank.new.owner ≡ None }
+        ensures lengths { HasLengths (config_of self.old) bank.new }
+        ensures state { state_of self.new ≡ state_on self.old bank.old }
+        ensures stop { stop_of self.new ≡ stop_of self.old }
+        ensures journal { journal_of self.new ≡ journal_of self.old }
+        ensures pages { pages_of self.new ≡ pages_of self.old }
+        ensures same { IsSameThread self.old self.new }
+    {
+        bank.set_owner(None);
+        mem::swap(&mut self.save_area, bank);
+        self.home = true;
     }
 
     /// The image from which the thread started.
@@ -211,9 +341,10 @@ impl Context {
 
     /// The thread's vectors, predicates, FFR and ZA: its save area, a bank without an owner.
     pub fn bank(&self) -> &Bank
+        requires { is_home self.now ≡ true }
         ensures value { result.now ≡ save_area_of self.now }
         ensures owner { result.now.owner ≡ None }
     {
-        &self.guest.bank
+        &self.save_area
     }
 }

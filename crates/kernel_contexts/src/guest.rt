@@ -1,7 +1,6 @@
 //! A guest thread as the kernel keeps it, and its turns.
 ghost use Rattle.std.specs.Prelude.{◌≡◌, ◌+◌, ◌*◌, ◌<◌, ◌≤◌, ◌^◌, ◌++◌, vec_len, vec_capacity, length, None};
-ghost use Rattle.std.specs.Prelude.{Some, IfOk, []};
-ghost use Rattle.kernel_contexts.specs.SaveArea.{IsSaveArea};
+ghost use Rattle.std.specs.Prelude.{Some, IfOk, [], false};
 ghost use Rattle.kernel_contexts.specs.State.{start_scalars};
 ghost use Rattle.kernel_contexts.specs.Watch.{IsWatched, waiting};
 
@@ -11,6 +10,7 @@ mod signals;
 mod watch;
 
 use crate::context::Turn;
+use crate::guest::call::RETURN;
 use crate::guest::watch::{watch_after, watch_past};
 use crate::handlers::{Addresses, no_handlers};
 use machine_step::{Decoder, Machine, StepEnd, write_streaming};
@@ -20,12 +20,11 @@ use shared_region::Port;
 use sm_types::{Config, Event, Memory, Scalars, Stop};
 use std::alloc::Global;
 
-/// A guest thread: its machine, the save area of its vectors and ZA, its options, and what the kernel keeps
-/// of it. Its functions take it through the parts of a turn.
+/// A guest thread: its machine, its options, and what the kernel keeps of it. Its functions take it through
+/// the parts of a turn, on a bank that has its vectors and ZA.
 #[derive(Drop)]
 pub struct GuestThread {
     pub machine: Machine,
-    pub bank: Bank,
     pub decoder: Decoder,
     pub config: Config,
     pub number: u32,
@@ -43,7 +42,6 @@ pub struct GuestThread {
     pub count: u32,
     pub turns: u64,
     pub stop: Option<Stop>,
-    ghost save_area: { IsSaveArea config machine bank },
     ghost number_within: { number < config.threads },
     ghost watched: { IsWatched config count watch polled },
     ghost turns_are_few: { turns ≤ 3 * count + waiting polled inside },
@@ -79,16 +77,22 @@ impl GuestThread {
     ghost use Rattle.kernel_contexts.specs.State.{start_state};
     ghost use Rattle.kernel_contexts.specs.Call.{counted};
     ghost use Rattle.kernel_contexts.specs.Turn.{outside_streaming};
-    ghost use Rattle.kernel_contexts.specs.Context.{held_state, guest_turn, guest_instruction};
+    ghost use Rattle.kernel_contexts.specs.Context.{held_state, bare_state, guest_turn, guest_instruction};
+    ghost use Rattle.kernel_contexts.specs.SaveArea.{IsFit, ComesBack};
+    ghost use Rattle.mem_access.specs.VectorState.{zero_bank};
+    ghost use Rattle.kernel_contexts.specs.Guest.{guest_state};
+    ghost use Rattle.kernel_contexts.specs.Needs.{needs_vectors};
+    ghost use Rattle.machine_step.specs.ProcessorState.{VectorState};
     ghost use Rattle.kernel_contexts.specs.Context.{IsSameGuest, IsQuietGuest};
     ghost use Rattle.kernel_contexts.specs.Turn as turn;
-    ghost use Rattle.kernel_contexts.specs.Context.{GuestTurns, Grows, IsTicketOf, HasFreePlace};
-    ghost use Rattle.kernel_contexts.specs.Context.{MayWantMemory};
-    ghost use Rattle.machine_step.specs.Step.{events_of, refusing};
-    ghost use Rattle.shared_region.specs.Chain.{Chain};
+    ghost use Rattle.kernel_contexts.specs.Context.{GuestTurns, Grows, HasFreePlace, GoesOrAsks};
+    ghost use Rattle.kernel_contexts.specs.Wanting.{TurnWants, InstructionWants};
+    ghost use Rattle.kernel_contexts.specs.Owned.{TurnOwns, turn_writes, instruction_writes};
+    ghost use Rattle.machine_step.specs.Step.{events_of};
+    ghost use Rattle.shared_region.specs.Tickets.{IsTicketOf, GivesEvents};
 
-    /// A thread before its first turn, with its pages, its save area and its decoder taken at once.
-    #[tactic(auto, unfolding(crate::specs::State::start_state, mem_access::specs::VectorState::zero_bank))]
+    /// A thread before its first turn, with its pages and its decoder taken at once.
+    #[tactic(auto, unfolding(crate::specs::State::start_state))]
     pub fn start(
         alloc: Global,
         image: &Image,
@@ -96,14 +100,15 @@ impl GuestThread {
         number: u32,
     ) -> Result<GuestThread, Memory>
         requires { number < config.now.threads }
-        ensures state { IfOk result (λ g. held_state g ≡ start_state image.now config.now number) }
+        ensures state { IfOk result (λ g. guest_state g (zero_bank config.now.vl config.now.svl)
+            ≡ start_state image.now config.now number) }
+        ensures machine { IfOk result (λ g. (g.machine.streaming ≡ false) × (g.machine.za_on ≡ false)) }
         ensures config { IfOk result (λ g. g.config ≡ config.now) }
         ensures number { IfOk result (λ g. g.number ≡ number) }
         ensures journal { IfOk result (λ g. g.journal.items ≡ []) }
         ensures stop { IfOk result (λ g. g.stop ≡ None) }
     {
         let pages = Pages::from_image(alloc, image)?;
-        let bank = Bank::new(alloc, config.vl, config.svl)?;
         let decoder = Decoder::new(alloc)?;
         let machine = Machine {
             scalars: start_registers(image.entry(), number, config.threads),
@@ -115,7 +120,6 @@ impl GuestThread {
         };
         Ok(GuestThread {
             machine,
-            bank,
             decoder,
             config: *config,
             number,
@@ -134,41 +138,57 @@ impl GuestThread {
 
     /// Makes one turn of a thread that has not stopped. Up to the watched count it is an instruction.
     #[inline]
-    pub fn make_turn<P: Port>(&mut self, port: &mut P, ticket: &mut P::Ticket) -> Turn
+    pub fn make_turn<P: Port>(
+        &mut self,
+        bank: &mut Bank,
+        port: &mut P,
+        ticket: &mut P::Ticket,
+    ) -> Turn
         requires runs { self.old.stop ≡ None }
-        requires ticket { IsTicketOf (P.number ticket.old) (P.events ticket.old) (P.ticket_name ticket.old)
-            (P.name port.old) self.old }
-        ensures turn { GuestTurns (refusing (P.ends port.old ticket.old) (P.strays port.old ticket.old)
-            P.takes_memory) (guest_turn self.old) self.old self.new result }
-        ensures memory { result ≡ Turn.Memory → HasFreePlace self.old → MayWantMemory P.takes_memory
-            (guest_turn self.old) }
-        ensures grows { Grows (λ entries. Chain P.gives port.old ticket.old entries port.new ticket.new)
-            self.old self.new }
-        ensures ticket { IsTicketOf (P.number ticket.new) (P.events ticket.new) (P.ticket_name ticket.new)
-            (P.name port.new) self.new }
+        requires fit { IsFit self.old.config self.old.machine bank.old }
+        requires ticket { IsTicketOf self.old.number (P.name port.old) (P.tells ticket.old) }
+        ensures turn { GuestTurns (P.refuses port.old ticket.old) (guest_turn self.old bank.old) self.old
+            bank.old self.new bank.new result }
+        ensures memory { result ≡ Turn.Memory → TurnWants (HasFreePlace self.old)
+            (P.refuses port.old ticket.old).takes_memory self.old bank.old }
+        ensures goes { result ≡ Turn.Memory → HasFreePlace self.old
+            → GoesOrAsks (P.refuses port.old ticket.old).takes_memory (guest_turn self.old bank.old) }
+        ensures owned { TurnOwns (turn_writes self.old bank.old) self.old.machine.pages
+            self.new.machine.pages result }
+        ensures back { ComesBack self.new.config self.new.machine bank.old bank.new }
+        ensures grows { Grows (λ thread events. GivesEvents P.gives P.name P.tells thread events port.old
+            ticket.old port.new ticket.new) self.old self.new }
     {
         if self.count < self.watch {
-            self.execute(port, ticket)
+            self.execute(bank, port, ticket)
         } else {
-            self.make_watched_turn(port, ticket)
+            self.make_watched_turn(bank, port, ticket)
         }
     }
 
     /// Makes a turn at the watched count: the budget's end, a poll, the delivery of a signal, or an
     /// instruction, whichever is due first.
-    fn make_watched_turn<P: Port>(&mut self, port: &mut P, ticket: &mut P::Ticket) -> Turn
+    fn make_watched_turn<P: Port>(
+        &mut self,
+        bank: &mut Bank,
+        port: &mut P,
+        ticket: &mut P::Ticket,
+    ) -> Turn
         requires runs { self.old.stop ≡ None }
+        requires fit { IsFit self.old.config self.old.machine bank.old }
         requires watched { self.old.count ≡ self.old.watch }
-        requires ticket { IsTicketOf (P.number ticket.old) (P.events ticket.old) (P.ticket_name ticket.old)
-            (P.name port.old) self.old }
-        ensures turn { GuestTurns (refusing (P.ends port.old ticket.old) (P.strays port.old ticket.old)
-            P.takes_memory) (guest_turn self.old) self.old self.new result }
-        ensures memory { result ≡ Turn.Memory → HasFreePlace self.old → MayWantMemory P.takes_memory
-            (guest_turn self.old) }
-        ensures grows { Grows (λ entries. Chain P.gives port.old ticket.old entries port.new ticket.new)
-            self.old self.new }
-        ensures ticket { IsTicketOf (P.number ticket.new) (P.events ticket.new) (P.ticket_name ticket.new)
-            (P.name port.new) self.new }
+        requires ticket { IsTicketOf self.old.number (P.name port.old) (P.tells ticket.old) }
+        ensures turn { GuestTurns (P.refuses port.old ticket.old) (guest_turn self.old bank.old) self.old
+            bank.old self.new bank.new result }
+        ensures memory { result ≡ Turn.Memory → TurnWants (HasFreePlace self.old)
+            (P.refuses port.old ticket.old).takes_memory self.old bank.old }
+        ensures goes { result ≡ Turn.Memory → HasFreePlace self.old
+            → GoesOrAsks (P.refuses port.old ticket.old).takes_memory (guest_turn self.old bank.old) }
+        ensures owned { TurnOwns (turn_writes self.old bank.old) self.old.machine.pages
+            self.new.machine.pages result }
+        ensures back { ComesBack self.new.config self.new.machine bank.old bank.new }
+        ensures grows { Grows (λ thread events. GivesEvents P.gives P.name P.tells thread events port.old
+            ticket.old port.new ticket.new) self.old self.new }
     {
         if self.count == self.config.budget {
             return self.stop_with(Stop::Budget);
@@ -177,53 +197,78 @@ impl GuestThread {
             return self.poll(port, ticket);
         }
         if self.is_delivery_due() {
-            return self.deliver_signal();
+            return self.deliver_signal(bank);
         }
-        self.execute(port, ticket)
+        self.execute(bank, port, ticket)
     }
 
     /// Whether the pending signals are to be polled.
     fn is_poll_due(&self) -> bool
-        ensures { result ≡ turn.is_poll_due self.now.config (held_state self.now) }
+        ensures { result ≡ turn.is_poll_due self.now.config (bare_state self.now) }
     {
         self.count > 0 && self.count % self.config.slice == 0 && !self.polled
     }
 
     /// Whether a signal is to be delivered.
     fn is_delivery_due(&self) -> bool
-        ensures { result ≡ turn.is_delivery_due (held_state self.now) }
+        ensures { result ≡ turn.is_delivery_due (bare_state self.now) }
     {
         self.polled && self.held != 0 && !self.inside
     }
 
+    /// Whether the next turn reads or writes vectors: the delivery of a signal that has a handler, a return
+    /// from a handler, or an instruction that cannot be executed without a bank.
+    #[tactic(auto, unfolding(crate::specs::Needs::needs_vectors))]
+    pub fn needs_vectors(&mut self) -> bool
+        ensures needs { (v : VectorState) → result ≡ needs_vectors self.old.config (guest_state self.old v) }
+        ensures state { bare_state self.new ≡ bare_state self.old }
+        ensures machine { self.new.machine ≡ self.old.machine }
+        ensures stop { self.new.stop ≡ self.old.stop }
+        ensures free { HasFreePlace self.old → HasFreePlace self.new }
+        ensures same { IsQuietGuest self.old self.new }
+    {
+        if self.count == self.config.budget || self.is_poll_due() {
+            return false;
+        }
+        if self.is_delivery_due() {
+            return self.has_handler();
+        }
+        if self.machine.needs_bank(&mut self.decoder) {
+            return true;
+        }
+        self.machine.scalars.x[8] == RETURN && self.machine.is_call(&mut self.decoder)
+    }
+
     /// Executes one instruction. Room for an event is taken before its access, so that no answer is lost.
     #[inline]
-    fn execute<P: Port>(&mut self, port: &mut P, ticket: &mut P::Ticket) -> Turn
+    fn execute<P: Port>(&mut self, bank: &mut Bank, port: &mut P, ticket: &mut P::Ticket) -> Turn
         requires runs { self.old.stop ≡ None }
+        requires fit { IsFit self.old.config self.old.machine bank.old }
         requires count { self.old.count < self.old.config.budget }
-        requires ticket { IsTicketOf (P.number ticket.old) (P.events ticket.old) (P.ticket_name ticket.old)
-            (P.name port.old) self.old }
-        ensures turn { GuestTurns (refusing (P.ends port.old ticket.old) (P.strays port.old ticket.old)
-            P.takes_memory) (guest_instruction self.old) self.old self.new result }
-        ensures memory { result ≡ Turn.Memory → HasFreePlace self.old → MayWantMemory P.takes_memory
-            (guest_instruction self.old) }
-        ensures grows { Grows (λ entries. Chain P.gives port.old ticket.old entries port.new ticket.new)
-            self.old self.new }
-        ensures ticket { IsTicketOf (P.number ticket.new) (P.events ticket.new) (P.ticket_name ticket.new)
-            (P.name port.new) self.new }
+        requires ticket { IsTicketOf self.old.number (P.name port.old) (P.tells ticket.old) }
+        ensures turn { GuestTurns (P.refuses port.old ticket.old) (guest_instruction self.old bank.old)
+            self.old bank.old self.new bank.new result }
+        ensures memory { result ≡ Turn.Memory → HasFreePlace self.old
+            → InstructionWants (P.refuses port.old ticket.old).takes_memory self.old bank.old }
+        ensures goes { result ≡ Turn.Memory → HasFreePlace self.old
+            → GoesOrAsks (P.refuses port.old ticket.old).takes_memory (guest_instruction self.old bank.old) }
+        ensures owned { TurnOwns (instruction_writes self.old bank.old) self.old.machine.pages
+            self.new.machine.pages result }
+        ensures back { ComesBack self.new.config self.new.machine bank.old bank.new }
+        ensures grows { Grows (λ thread events. GivesEvents P.gives P.name P.tells thread events port.old
+            ticket.old port.new ticket.new) self.old self.new }
     {
         if self.journal.reserve(1).is_err() {
             return Turn::Memory;
         }
         let room = self.journal.len() < JOURNAL_LIMIT;
-        let bank = Some(&mut self.bank);
         let decoder = &mut self.decoder;
         match self
             .machine
-            .step_with(decoder, bank, port, ticket, self.number, room)
+            .step_with(decoder, Some(&mut *bank), port, ticket, self.number, room)
         {
             StepEnd::Next(event) => self.go_on(event),
-            StepEnd::Call(_) => self.call(port, ticket),
+            StepEnd::Call(_) => self.call(bank, port, ticket),
             StepEnd::Raise(exception) => {
                 let pc = self.machine.scalars.pc;
                 self.stop_with(Stop::Raised { exception, pc })
@@ -243,7 +288,8 @@ impl GuestThread {
         requires room { vec_len self.old.journal < vec_capacity self.old.journal }
         requires within { vec_len self.old.journal + length (events_of event) ≤ 262144 }
         ensures answer { result ≡ Turn.Ran }
-        ensures state { held_state self.new ≡ counted (held_state self.old) (held_state self.old).core }
+        ensures state { bare_state self.new ≡ counted (bare_state self.old) (bare_state self.old).core }
+        ensures machine { self.new.machine ≡ self.old.machine }
         ensures journal { self.new.journal.items ≡ self.old.journal.items ++ events_of event }
         ensures stop { self.new.stop ≡ self.old.stop }
         ensures same { IsSameGuest self.old self.new }
@@ -257,18 +303,23 @@ impl GuestThread {
     }
 
     /// Leaves Streaming SVE mode, as a call of the kernel does that is counted.
-    pub(super) fn leave_streaming(&mut self)
-        ensures state { held_state self.new ≡ outside_streaming self.old.config (held_state self.old) }
+    pub(super) fn leave_streaming(&mut self, bank: &mut Bank)
+        requires fit { IsFit self.old.config self.old.machine bank.old }
+        ensures state { held_state self.new bank.new
+            ≡ outside_streaming self.old.config (held_state self.old bank.old) }
+        ensures pages { self.new.machine.pages ≡ self.old.machine.pages }
+        ensures back { ComesBack self.new.config self.new.machine bank.old bank.new }
         ensures stop { self.new.stop ≡ self.old.stop }
         ensures same { IsQuietGuest self.old self.new }
     {
-        write_streaming(&mut self.machine, &mut self.bank, false);
+        write_streaming(&mut self.machine, bank, false);
     }
 
     /// Counts an instruction and its turn.
     pub(super) fn count_turn(&mut self)
         requires { self.old.count < self.old.config.budget }
-        ensures state { held_state self.new ≡ counted (held_state self.old) (held_state self.old).core }
+        ensures state { bare_state self.new ≡ counted (bare_state self.old) (bare_state self.old).core }
+        ensures machine { self.new.machine ≡ self.old.machine }
         ensures stop { self.new.stop ≡ self.old.stop }
         ensures same { IsQuietGuest self.old self.new }
     {
@@ -281,7 +332,8 @@ impl GuestThread {
     /// Stops the thread as it stands.
     pub(super) fn stop_with(&mut self, stop: Stop) -> Turn
         ensures answer { result ≡ Turn.Stopped stop }
-        ensures state { held_state self.new ≡ held_state self.old }
+        ensures state { bare_state self.new ≡ bare_state self.old }
+        ensures machine { self.new.machine ≡ self.old.machine }
         ensures stop { self.new.stop ≡ Some stop }
         ensures same { IsQuietGuest self.old self.new }
     {

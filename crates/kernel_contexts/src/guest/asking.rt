@@ -1,8 +1,8 @@
 //! Operations that the kernel itself asks of a port: polls and posts.
 ghost use Rattle.std.specs.Prelude.{◌≡◌, ◌<◌, length, None, Err, false};
-ghost use Rattle.machine_step.specs.Step.{refusing};
-ghost use Rattle.shared_region.specs.Chain.{Chain};
+ghost use Rattle.shared_region.specs.Tickets.{IsTicketOf, GivesEvents};
 ghost use Rattle.shared_region.specs.WordRule.{HasWord};
+ghost use Rattle.kernel_contexts.specs.Asked.{refused_turn};
 
 use crate::context::Turn;
 use crate::guest::{GuestThread, JOURNAL_LIMIT};
@@ -14,19 +14,28 @@ use sm_types::{Event, OpKind, SharedOp, Stop};
 pub enum Refusal {
     /// The journal has no room for its event.
     Full,
-    /// The port's journal has no event left.
-    TraceEnds,
-    /// The next event of the port's journal has another operation.
-    TraceDiffers,
-    /// There was no memory for its event.
-    Memory,
+    /// The port refused it, or there was no memory for its event.
+    Port(PortStop),
+}
+
+/// What a turn comes to whose operation a port refuses.
+fn refused_turn(stop: PortStop) -> Turn
+    ensures { result ≡ refused_turn stop }
+{
+    match stop {
+        PortStop::TraceEnds => Turn::TraceEnds,
+        PortStop::TraceDiffers => Turn::TraceDiffers,
+        PortStop::Memory => Turn::Memory,
+    }
 }
 
 impl GuestThread {
     ghost use Rattle.kernel_contexts.specs.Turn.{poll_of};
-    ghost use Rattle.kernel_contexts.specs.Asked.{Asked, Refuses};
-    ghost use Rattle.kernel_contexts.specs.Context.{held_state, guest_made, GuestTurns, IsQuietGuest};
-    ghost use Rattle.kernel_contexts.specs.Context.{Grows, IsTicketOf, HasFreePlace, MayWantMemory};
+    ghost use Rattle.kernel_contexts.specs.Asked.{Asked, Refuses, with_place};
+    ghost use Rattle.kernel_contexts.specs.Context.{bare_state, guest_made, IsQuietGuest, TurnsOver};
+    ghost use Rattle.kernel_contexts.specs.Guest.{guest_state};
+    ghost use Rattle.machine_step.specs.ProcessorState.{VectorState};
+    ghost use Rattle.kernel_contexts.specs.Context.{Grows, HasFreePlace, GoesOrAsks};
 
     /// Makes an operation, where the journal has room for its event, and keeps that.
     pub(super) fn ask<P: Port>(
@@ -36,47 +45,42 @@ impl GuestThread {
         ticket: &mut P::Ticket,
     ) -> Result<u64, Refusal>
         requires place { HasWord op }
-        requires ticket { IsTicketOf (P.number ticket.old) (P.events ticket.old) (P.ticket_name ticket.old)
-            (P.name port.old) self.old }
-        ensures made { Asked (refusing (P.ends port.old ticket.old) (P.strays port.old ticket.old)
-            P.takes_memory) op self.old.journal.items (guest_made self.old self.new) result }
-        ensures memory { result ≡ Err Refusal.Memory → HasFreePlace self.old → P.takes_memory }
-        ensures state { held_state self.new ≡ held_state self.old }
+        requires ticket { IsTicketOf self.old.number (P.name port.old) (P.tells ticket.old) }
+        ensures made { Asked (with_place (HasFreePlace self.old) (P.refuses port.old ticket.old)) op
+            self.old.journal.items (guest_made self.old self.new) result }
+        ensures state { bare_state self.new ≡ bare_state self.old }
+        ensures machine { self.new.machine ≡ self.old.machine }
         ensures stop { self.new.stop ≡ self.old.stop }
         ensures watch { self.new.watch ≡ self.old.watch }
-        ensures grows { Grows (λ entries. Chain P.gives port.old ticket.old entries port.new ticket.new)
-            self.old self.new }
-        ensures ticket { IsTicketOf (P.number ticket.new) (P.events ticket.new) (P.ticket_name ticket.new)
-            (P.name port.new) self.new }
+        ensures grows { Grows (λ thread events. GivesEvents P.gives P.name P.tells thread events port.old
+            ticket.old port.new ticket.new) self.old self.new }
     {
         if self.journal.len() >= JOURNAL_LIMIT {
             return Err(Refusal::Full);
         }
         if self.journal.reserve(1).is_err() {
-            return Err(Refusal::Memory);
+            return Err(Refusal::Port(PortStop::Memory));
         }
         match port.access(ticket, self.number, op) {
             Ok(answer) => {
                 self.journal.push_reserved(Event { op, answer });
                 Ok(answer)
             }
-            Err(PortStop::TraceEnds) => Err(Refusal::TraceEnds),
-            Err(PortStop::TraceDiffers) => Err(Refusal::TraceDiffers),
-            Err(PortStop::Memory) => Err(Refusal::Memory),
+            Err(stop) => Err(Refusal::Port(stop)),
         }
     }
 
     /// What a turn comes to whose operation was not made.
     pub(super) fn refuse(&mut self, refusal: Refusal) -> Turn
         requires runs { self.old.stop ≡ None }
-        ensures turn { Refuses refusal (held_state self.old) (held_state self.new) self.new.stop result }
+        ensures turn { (v : VectorState)
+            → Refuses refusal (guest_state self.old v) (guest_state self.new v) self.new.stop result }
+        ensures machine { self.new.machine ≡ self.old.machine }
         ensures same { IsQuietGuest self.old self.new }
     {
         match refusal {
             Refusal::Full => self.stop_with(Stop::TraceFull),
-            Refusal::TraceEnds => Turn::TraceEnds,
-            Refusal::TraceDiffers => Turn::TraceDiffers,
-            Refusal::Memory => Turn::Memory,
+            Refusal::Port(stop) => refused_turn(stop),
         }
     }
 
@@ -86,17 +90,19 @@ impl GuestThread {
         requires watched { self.old.count ≡ self.old.watch }
         requires count { self.old.count < self.old.config.budget }
         requires polled { self.old.polled ≡ false }
-        requires ticket { IsTicketOf (P.number ticket.old) (P.events ticket.old) (P.ticket_name ticket.old)
-            (P.name port.old) self.old }
-        ensures turn { GuestTurns (refusing (P.ends port.old ticket.old) (P.strays port.old ticket.old)
-            P.takes_memory) (poll_of self.old.number (length self.old.journal.items) (held_state self.old))
-            self.old self.new result }
-        ensures memory { result ≡ Turn.Memory → HasFreePlace self.old → MayWantMemory P.takes_memory
-            (poll_of self.old.number (length self.old.journal.items) (held_state self.old)) }
-        ensures grows { Grows (λ entries. Chain P.gives port.old ticket.old entries port.new ticket.new)
-            self.old self.new }
-        ensures ticket { IsTicketOf (P.number ticket.new) (P.events ticket.new) (P.ticket_name ticket.new)
-            (P.name port.new) self.new }
+        requires ticket { IsTicketOf self.old.number (P.name port.old) (P.tells ticket.old) }
+        ensures turn { (v : VectorState) → TurnsOver (P.refuses port.old ticket.old)
+            (poll_of self.old.number (length self.old.journal.items) (guest_state self.old v))
+            (guest_state self.old v) (guest_state self.new v) (guest_made self.old self.new) self.new.stop
+            result }
+        ensures memory { result ≡ Turn.Memory → HasFreePlace self.old
+            → (P.refuses port.old ticket.old).takes_memory }
+        ensures goes { (v : VectorState) → result ≡ Turn.Memory → HasFreePlace self.old
+            → GoesOrAsks (P.refuses port.old ticket.old).takes_memory
+            (poll_of self.old.number (length self.old.journal.items) (guest_state self.old v)) }
+        ensures machine { self.new.machine ≡ self.old.machine }
+        ensures grows { Grows (λ thread events. GivesEvents P.gives P.name P.tells thread events port.old
+            ticket.old port.new ticket.new) self.old self.new }
     {
         let op = SharedOp {
             kind: OpKind::Poll,

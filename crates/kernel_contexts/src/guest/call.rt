@@ -3,16 +3,17 @@ ghost use Rattle.std.specs.Prelude.{◌≡◌, ◌≢◌, ◌+◌, ◌-◌, ◌<
 ghost use Rattle.std.specs.Prelude.{take, drop};
 ghost use Rattle.std.specs.Prelude.{slice_index};
 ghost use Rattle.std.specs.Prelude.{true, false};
-ghost use Rattle.paged_memory.specs.Memory.{bytes_with};
+ghost use Rattle.paged_memory.specs.Memory.{bytes_with, first_without};
 ghost use Rattle.kernel_contexts.specs.Call.{post_op};
 ghost use Rattle.kernel_contexts.specs.Output.{Appends};
 
 use crate::context::Turn;
 use crate::guest::GuestThread;
 use crate::handlers::set_handler;
+use mem_access::Bank;
 use paged_memory::Pages;
 use shared_region::Port;
-use sm_types::{OpKind, SharedOp, Stop};
+use sm_types::{Access, OpKind, SharedOp, Stop};
 
 /// The call that writes bytes to the thread's output.
 const WRITE: u64 = 64;
@@ -25,7 +26,7 @@ const POST: u64 = 131;
 /// The call that sets the handler of a signal, or removes it.
 const SET_HANDLER: u64 = 134;
 /// The call that returns from a handler.
-const RETURN: u64 = 139;
+pub const RETURN: u64 = 139;
 /// The call that tells the thread's number.
 const NUMBER: u64 = 178;
 /// The bytes that a thread may write in all.
@@ -53,7 +54,8 @@ fn read_end(pages: &Pages, address: u64, into: &mut [u8], from: usize) -> bool
     ensures kept { take from into.new ≡ take from into.old }
     ensures read { result ≡ true → bytes_with 4 pages.now.memory address (length into.old - from)
         ≡ Some (drop from into.new) }
-    ensures refused { result ≡ false → bytes_with 4 pages.now.memory address (length into.old - from) ≡ None }
+    ensures refused { result ≡ false
+        → first_without 4 pages.now.memory address (length into.old - from) ≢ None }
 {
     match pages.read(address, &mut into[from..]) {
         Ok(()) => true,
@@ -61,21 +63,28 @@ fn read_end(pages: &Pages, address: u64, into: &mut [u8], from: usize) -> bool
     }
 }
 
-/// Adds bytes of the pages at the end of the output, or leaves it as it is.
+/// Adds bytes of the pages at the end of the output, or leaves it as it is. Room is taken where there are some
+/// and each can be read.
 fn append(pages: &Pages, address: u64, count: usize, output: &mut Vec<u8>) -> Appended
     requires { vec_len output.old + count < 2 ^ 32 }
-    ensures appends { Appends (bytes_with 4 pages.now.memory address count) output.old.items
+    ensures appends { Appends count (bytes_with 4 pages.now.memory address count) output.old.items
         output.new.items result }
     ensures within { vec_len output.new ≤ vec_len output.old + count }
 {
+    if count == 0 {
+        return Appended::All;
+    }
+    match pages.check(address, count as u64, Access::Read) {
+        Ok(()) => {}
+        Err(_) => return Appended::Unreadable,
+    }
     let old = output.len();
     match output.resize(old + count, 0) {
         Ok(()) => {
             if read_end(pages, address, output.as_mut_slice(), old) {
                 Appended::All
             } else {
-                output.truncate(old);
-                Appended::Unreadable
+                unreachable!()
             }
         }
         Err(_) => Appended::Memory,
@@ -101,75 +110,90 @@ impl GuestThread {
     ghost use Rattle.kernel_contexts.specs.Call.{returned, Yields};
     ghost use Rattle.kernel_contexts.specs.Turn.{outside_streaming};
     ghost use Rattle.kernel_contexts.specs.Context.{held_state, guest_call, Takes, IsQuietGuest};
-    ghost use Rattle.kernel_contexts.specs.Context.{GuestTurns, Grows, IsTicketOf, HasFreePlace};
-    ghost use Rattle.kernel_contexts.specs.Context.{MayWantMemory};
-    ghost use Rattle.machine_step.specs.Step.{refusing};
-    ghost use Rattle.shared_region.specs.Chain.{Chain};
+    ghost use Rattle.kernel_contexts.specs.SaveArea.{IsFit, ComesBack};
+    ghost use Rattle.kernel_contexts.specs.Context.{GuestTurns, Grows, HasFreePlace, GoesOrAsks};
+    ghost use Rattle.kernel_contexts.specs.Wanting.{CallWants, WriteWants};
+    ghost use Rattle.shared_region.specs.Tickets.{IsTicketOf, GivesEvents};
 
     /// The call of the number in X8.
-    pub(super) fn call<P: Port>(&mut self, port: &mut P, ticket: &mut P::Ticket) -> Turn
+    pub(super) fn call<P: Port>(
+        &mut self,
+        bank: &mut Bank,
+        port: &mut P,
+        ticket: &mut P::Ticket,
+    ) -> Turn
         requires room { self.old.count < self.old.config.budget }
         requires runs { self.old.stop ≡ None }
-        requires ticket { IsTicketOf (P.number ticket.old) (P.events ticket.old) (P.ticket_name ticket.old)
-            (P.name port.old) self.old }
-        ensures turn { GuestTurns (refusing (P.ends port.old ticket.old) (P.strays port.old ticket.old)
-            P.takes_memory) (guest_call self.old) self.old self.new result }
-        ensures memory { result ≡ Turn.Memory → HasFreePlace self.old → MayWantMemory P.takes_memory
-            (guest_call self.old) }
-        ensures grows { Grows (λ entries. Chain P.gives port.old ticket.old entries port.new ticket.new)
-            self.old self.new }
-        ensures ticket { IsTicketOf (P.number ticket.new) (P.events ticket.new) (P.ticket_name ticket.new)
-            (P.name port.new) self.new }
+        requires fit { IsFit self.old.config self.old.machine bank.old }
+        requires ticket { IsTicketOf self.old.number (P.name port.old) (P.tells ticket.old) }
+        ensures turn { GuestTurns (P.refuses port.old ticket.old) (guest_call self.old bank.old) self.old
+            bank.old self.new bank.new result }
+        ensures pages { self.new.machine.pages ≡ self.old.machine.pages }
+        ensures back { ComesBack self.new.config self.new.machine bank.old bank.new }
+        ensures memory { result ≡ Turn.Memory → HasFreePlace self.old
+            → CallWants (P.refuses port.old ticket.old).takes_memory (held_state self.old bank.old) }
+        ensures goes { result ≡ Turn.Memory → HasFreePlace self.old
+            → GoesOrAsks (P.refuses port.old ticket.old).takes_memory (guest_call self.old bank.old) }
+        ensures grows { Grows (λ thread events. GivesEvents P.gives P.name P.tells thread events port.old
+            ticket.old port.new ticket.new) self.old self.new }
     {
         match self.machine.scalars.x[8] {
-            POST => self.post(port, ticket),
-            _ => self.call_quietly(),
+            POST => self.post(bank, port, ticket),
+            _ => self.call_quietly(bank),
         }
     }
 
     /// The calls that ask no operation.
     #[tactic(auto, unfolding(crate::specs::Call::call_of))]
-    fn call_quietly(&mut self) -> Turn
+    fn call_quietly(&mut self, bank: &mut Bank) -> Turn
         requires room { self.old.count < self.old.config.budget }
         requires runs { self.old.stop ≡ None }
+        requires fit { IsFit self.old.config self.old.machine bank.old }
         requires number { slice_index self.old.machine.scalars.x 8 ≢ 131 }
-        ensures turn { Takes (guest_call self.old) self.old self.new result }
+        ensures turn { Takes (WriteWants (held_state self.old bank.old)) (guest_call self.old bank.old)
+            self.old bank.old self.new bank.new result }
+        ensures pages { self.new.machine.pages ≡ self.old.machine.pages }
+        ensures back { ComesBack self.new.config self.new.machine bank.old bank.new }
         ensures same { IsQuietGuest self.old self.new }
     {
         match self.machine.scalars.x[8] {
-            WRITE => self.write(),
-            EXIT => self.exit(),
-            YIELD => self.give_way(),
-            SET_HANDLER => self.set_handler(),
-            RETURN => self.return_from_handler(),
-            NUMBER => self.return_with(u64::from(self.number)),
-            _ => self.return_with(NO_CALL),
+            WRITE => self.write(bank),
+            EXIT => self.exit(bank),
+            YIELD => self.give_way(bank),
+            SET_HANDLER => self.set_handler(bank),
+            RETURN => self.return_from_handler(bank),
+            NUMBER => self.return_with(bank, u64::from(self.number)),
+            _ => self.return_with(bank, NO_CALL),
         }
     }
 
     /// Makes signal X1 pending for thread X0.
-    fn post<P: Port>(&mut self, port: &mut P, ticket: &mut P::Ticket) -> Turn
+    fn post<P: Port>(&mut self, bank: &mut Bank, port: &mut P, ticket: &mut P::Ticket) -> Turn
         requires room { self.old.count < self.old.config.budget }
         requires runs { self.old.stop ≡ None }
-        requires ticket { IsTicketOf (P.number ticket.old) (P.events ticket.old) (P.ticket_name ticket.old)
-            (P.name port.old) self.old }
-        ensures turn { GuestTurns (refusing (P.ends port.old ticket.old) (P.strays port.old ticket.old)
-            P.takes_memory) (post_of self.old.config (length self.old.journal.items) (held_state self.old)
-            (outside_streaming self.old.config (held_state self.old))) self.old self.new result }
-        ensures memory { result ≡ Turn.Memory → HasFreePlace self.old → MayWantMemory P.takes_memory
-            (post_of self.old.config (length self.old.journal.items) (held_state self.old)
-            (outside_streaming self.old.config (held_state self.old))) }
-        ensures grows { Grows (λ entries. Chain P.gives port.old ticket.old entries port.new ticket.new)
-            self.old self.new }
-        ensures ticket { IsTicketOf (P.number ticket.new) (P.events ticket.new) (P.ticket_name ticket.new)
-            (P.name port.new) self.new }
+        requires fit { IsFit self.old.config self.old.machine bank.old }
+        requires ticket { IsTicketOf self.old.number (P.name port.old) (P.tells ticket.old) }
+        ensures turn { let before = held_state self.old bank.old in
+            GuestTurns (P.refuses port.old ticket.old)
+            (post_of self.old.config (length self.old.journal.items) before
+            (outside_streaming self.old.config before)) self.old bank.old self.new bank.new result }
+        ensures pages { self.new.machine.pages ≡ self.old.machine.pages }
+        ensures memory { result ≡ Turn.Memory → HasFreePlace self.old
+            → (P.refuses port.old ticket.old).takes_memory }
+        ensures goes { result ≡ Turn.Memory → HasFreePlace self.old
+            → GoesOrAsks (P.refuses port.old ticket.old).takes_memory
+            (post_of self.old.config (length self.old.journal.items) (held_state self.old bank.old)
+            (outside_streaming self.old.config (held_state self.old bank.old))) }
+        ensures back { ComesBack self.new.config self.new.machine bank.old bank.new }
+        ensures grows { Grows (λ thread events. GivesEvents P.gives P.name P.tells thread events port.old
+            ticket.old port.new ticket.new) self.old self.new }
     {
         if !self.may_post() {
-            return self.return_with(BAD_ARGUMENT);
+            return self.return_with(bank, BAD_ARGUMENT);
         }
         let op = post_op(self.machine.scalars.x[0], self.machine.scalars.x[1]);
         match self.ask(op, port, ticket) {
-            Ok(_) => self.return_with(0),
+            Ok(_) => self.return_with(bank, 0),
             Err(refusal) => self.refuse(refusal),
         }
     }
@@ -186,16 +210,19 @@ impl GuestThread {
     }
 
     /// Goes on past the call, outside Streaming SVE mode, with its answer in X0.
-    fn return_with(&mut self, answer: u64) -> Turn
+    fn return_with(&mut self, bank: &mut Bank, answer: u64) -> Turn
         requires room { self.old.count < self.old.config.budget }
         requires runs { self.old.stop ≡ None }
+        requires fit { IsFit self.old.config self.old.machine bank.old }
         ensures answer { result ≡ Turn.Ran }
-        ensures state { held_state self.new ≡
-            returned (outside_streaming self.old.config (held_state self.old)) answer }
+        ensures state { held_state self.new bank.new ≡
+            returned (outside_streaming self.old.config (held_state self.old bank.old)) answer }
+        ensures pages { self.new.machine.pages ≡ self.old.machine.pages }
         ensures stop { self.new.stop ≡ None }
+        ensures back { ComesBack self.new.config self.new.machine bank.old bank.new }
         ensures same { IsQuietGuest self.old self.new }
     {
-        self.leave_streaming();
+        self.leave_streaming(bank);
         self.machine.scalars.x[0] = answer;
         self.machine.scalars.pc = self.machine.scalars.pc.wrapping_add(4);
         self.count_turn();
@@ -204,14 +231,17 @@ impl GuestThread {
 
     /// Ends the thread, with the low byte of X0 as its status.
     #[tactic(auto, unfolding(crate::specs::Call::exit_of))]
-    fn exit(&mut self) -> Turn
+    fn exit(&mut self, bank: &mut Bank) -> Turn
         requires room { self.old.count < self.old.config.budget }
         requires runs { self.old.stop ≡ None }
-        ensures turn { Takes (exit_of (outside_streaming self.old.config (held_state self.old)))
-            self.old self.new result }
+        requires fit { IsFit self.old.config self.old.machine bank.old }
+        ensures turn { Takes ⊥ (exit_of (outside_streaming self.old.config (held_state self.old bank.old)))
+            self.old bank.old self.new bank.new result }
+        ensures pages { self.new.machine.pages ≡ self.old.machine.pages }
+        ensures back { ComesBack self.new.config self.new.machine bank.old bank.new }
         ensures same { IsQuietGuest self.old self.new }
     {
-        self.leave_streaming();
+        self.leave_streaming(bank);
         let status = (self.machine.scalars.x[0] % 256) as u8;
         self.machine.scalars.pc = self.machine.scalars.pc.wrapping_add(4);
         self.count_turn();
@@ -219,49 +249,60 @@ impl GuestThread {
     }
 
     /// Gives way to other threads.
-    fn give_way(&mut self) -> Turn
+    fn give_way(&mut self, bank: &mut Bank) -> Turn
         requires room { self.old.count < self.old.config.budget }
         requires runs { self.old.stop ≡ None }
-        ensures turn { Takes (Yields (returned (outside_streaming self.old.config (held_state self.old)) 0))
-            self.old self.new result }
+        requires fit { IsFit self.old.config self.old.machine bank.old }
+        ensures turn { let left = outside_streaming self.old.config (held_state self.old bank.old) in
+            Takes ⊥ (Yields (returned left 0)) self.old bank.old self.new bank.new result }
+        ensures pages { self.new.machine.pages ≡ self.old.machine.pages }
+        ensures back { ComesBack self.new.config self.new.machine bank.old bank.new }
         ensures same { IsQuietGuest self.old self.new }
     {
-        self.return_with(0);
+        self.return_with(bank, 0);
         Turn::Yielded
     }
 
     /// Sets the handler of signal X0 to the address in X1, or removes it where that is 0.
     #[tactic(auto, unfolding(crate::specs::Call::set_handler_of))]
-    fn set_handler(&mut self) -> Turn
+    fn set_handler(&mut self, bank: &mut Bank) -> Turn
         requires room { self.old.count < self.old.config.budget }
         requires runs { self.old.stop ≡ None }
-        ensures turn { Takes (set_handler_of (outside_streaming self.old.config (held_state self.old)))
-            self.old self.new result }
+        requires fit { IsFit self.old.config self.old.machine bank.old }
+        ensures turn { let left = outside_streaming self.old.config (held_state self.old bank.old) in
+            Takes ⊥ (set_handler_of left) self.old bank.old self.new bank.new result }
+        ensures pages { self.new.machine.pages ≡ self.old.machine.pages }
+        ensures back { ComesBack self.new.config self.new.machine bank.old bank.new }
         ensures same { IsQuietGuest self.old self.new }
     {
         let signal = self.machine.scalars.x[0];
         let address = self.machine.scalars.x[1];
         if signal < 1 || signal > 62 {
-            return self.return_with(BAD_ARGUMENT);
+            return self.return_with(bank, BAD_ARGUMENT);
         }
         set_handler(&mut self.handlers, signal as usize, address);
-        self.return_with(0)
+        self.return_with(bank, 0)
     }
 
     /// Writes the X2 bytes from X1 on to the thread's output.
     #[tactic(auto, unfolding(crate::specs::Call::write_of))]
-    fn write(&mut self) -> Turn
+    fn write(&mut self, bank: &mut Bank) -> Turn
+        requires number { slice_index self.old.machine.scalars.x 8 ≡ 64 }
         requires room { self.old.count < self.old.config.budget }
         requires runs { self.old.stop ≡ None }
-        ensures turn { let before = held_state self.old in
-            Takes (write_of before (outside_streaming self.old.config before)) self.old self.new result }
+        requires fit { IsFit self.old.config self.old.machine bank.old }
+        ensures turn { let before = held_state self.old bank.old in
+            Takes (WriteWants before) (write_of before (outside_streaming self.old.config before)) self.old
+            bank.old self.new bank.new result }
+        ensures pages { self.new.machine.pages ≡ self.old.machine.pages }
+        ensures back { ComesBack self.new.config self.new.machine bank.old bank.new }
         ensures same { IsQuietGuest self.old self.new }
     {
         let descriptor = self.machine.scalars.x[0];
         let address = self.machine.scalars.x[1];
         let count = self.machine.scalars.x[2];
         if descriptor != 1 && descriptor != 2 {
-            return self.return_with(BAD_DESCRIPTOR);
+            return self.return_with(bank, BAD_DESCRIPTOR);
         }
         if count > OUTPUT_LIMIT - self.output.len() as u64 {
             return self.stop_with(Stop::OutputFull);
@@ -272,8 +313,8 @@ impl GuestThread {
             count as usize,
             &mut self.output,
         ) {
-            Appended::All => self.return_with(count),
-            Appended::Unreadable => self.return_with(BAD_ADDRESS),
+            Appended::All => self.return_with(bank, count),
+            Appended::Unreadable => self.return_with(bank, BAD_ADDRESS),
             Appended::Memory => Turn::Memory,
         }
     }

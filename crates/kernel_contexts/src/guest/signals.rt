@@ -4,32 +4,47 @@ ghost use Rattle.std.specs.Prelude.{◌≡◌, ◌≢◌, ◌-◌, ◌^◌, ◌<
 use crate::context::Turn;
 use crate::guest::GuestThread;
 use crate::handlers::handler_of;
+use mem_access::Bank;
 use signal_frames::{FrameStop, deliver, return_from, return_sees_no_mode};
 use sm_types::Stop;
 
 impl GuestThread {
+    ghost use Rattle.std.specs.Prelude.{is_some};
+    ghost use Rattle.std.specs.FinMap.{get};
     ghost use Rattle.kernel_contexts.specs.Call.{return_of};
     ghost use Rattle.kernel_contexts.specs.Turn.{delivery_of, lowest_signal, released, outside_streaming};
     ghost use Rattle.kernel_contexts.specs.Turn.{handled_by};
-    ghost use Rattle.kernel_contexts.specs.Context.{held_state, Takes, IsQuietGuest};
+    ghost use Rattle.kernel_contexts.specs.Context.{held_state, bare_state, Takes, IsQuietGuest};
+    ghost use Rattle.kernel_contexts.specs.SaveArea.{IsFit, ComesBack};
+    ghost use Rattle.kernel_contexts.specs.Wanting.{FrameWants};
+    ghost use Rattle.kernel_contexts.specs.Owned.{TurnOwns, frame_writes};
 
     /// The lowest signal that is held.
     #[tactic(auto, using(crate::proofs::Watched::lowest_is_held))]
     fn lowest_signal(&self) -> u32
         requires { self.now.held ≢ 0 }
-        ensures signal { result ≡ lowest_signal (held_state self.now) }
+        ensures signal { result ≡ lowest_signal (bare_state self.now) }
         ensures within { result < 64 }
         ensures is_held { 2 ^ result ≤ self.now.held }
     {
         self.held.trailing_zeros()
     }
 
+    /// Whether the lowest signal that is held has a handler.
+    pub(super) fn has_handler(&self) -> bool
+        requires { self.now.held ≢ 0 }
+        ensures { result ≡ is_some (get (bare_state self.now).handlers (lowest_signal (bare_state self.now))) }
+    {
+        handler_of(&self.handlers, self.lowest_signal()).is_some()
+    }
+
     /// Holds the lowest signal no longer.
     fn release(&mut self, signal: u32)
         requires within { signal < 64 }
         requires is_held { 2 ^ signal ≤ self.old.held }
-        requires lowest { signal ≡ lowest_signal (held_state self.old) }
-        ensures state { held_state self.new ≡ released (held_state self.old) }
+        requires lowest { signal ≡ lowest_signal (bare_state self.old) }
+        ensures state { bare_state self.new ≡ released (bare_state self.old) }
+        ensures machine { self.new.machine ≡ self.old.machine }
         ensures stop { self.new.stop ≡ self.old.stop }
         ensures watch { (self.new.watch ≡ self.old.watch) }
         ensures same { IsQuietGuest self.old self.new }
@@ -38,18 +53,24 @@ impl GuestThread {
     }
 
     /// Delivers the lowest signal that is held to its handler; a thread that has none for it is killed.
-    pub(super) fn deliver_signal(&mut self) -> Turn
+    pub(super) fn deliver_signal(&mut self, bank: &mut Bank) -> Turn
         requires runs { self.old.stop ≡ None }
+        requires fit { IsFit self.old.config self.old.machine bank.old }
         requires held { self.old.held ≢ 0 }
         requires polled { self.old.polled ≡ true }
         requires outside { self.old.inside ≡ false }
         requires count { self.old.count < self.old.config.budget }
-        ensures turn { Takes (delivery_of self.old.config (held_state self.old)) self.old self.new result }
+        ensures turn { Takes (FrameWants self.old.config (held_state self.old bank.old) self.old.machine.pages)
+            (delivery_of self.old.config (held_state self.old bank.old)) self.old bank.old
+            self.new bank.new result }
+        ensures owned { TurnOwns (frame_writes self.old bank.old) self.old.machine.pages
+            self.new.machine.pages result }
+        ensures back { ComesBack self.new.config self.new.machine bank.old bank.new }
         ensures same { IsQuietGuest self.old self.new }
     {
         let signal = self.lowest_signal();
         match handler_of(&self.handlers, signal) {
-            Some(handler) => self.enter_handler(signal, handler),
+            Some(handler) => self.enter_handler(bank, signal, handler),
             None => {
                 self.release(signal);
                 self.stop_with(Stop::Killed(signal))
@@ -58,19 +79,24 @@ impl GuestThread {
     }
 
     /// Writes the frame of a signal and goes on in its handler.
-    fn enter_handler(&mut self, signal: u32, handler: u64) -> Turn
+    fn enter_handler(&mut self, bank: &mut Bank, signal: u32, handler: u64) -> Turn
         requires runs { self.old.stop ≡ None }
-        requires lowest { signal ≡ lowest_signal (held_state self.old) }
+        requires fit { IsFit self.old.config self.old.machine bank.old }
+        requires lowest { signal ≡ lowest_signal (bare_state self.old) }
         requires within { signal < 64 }
         requires is_held { 2 ^ signal ≤ self.old.held }
         requires polled { self.old.polled ≡ true }
         requires outside { self.old.inside ≡ false }
         requires count { self.old.count < self.old.config.budget }
-        ensures turn { Takes (handled_by self.old.config signal handler (held_state self.old))
-            self.old self.new result }
+        ensures turn { Takes (FrameWants self.old.config (held_state self.old bank.old) self.old.machine.pages)
+            (handled_by self.old.config signal handler (held_state self.old bank.old))
+            self.old bank.old self.new bank.new result }
+        ensures owned { TurnOwns (frame_writes self.old bank.old) self.old.machine.pages
+            self.new.machine.pages result }
+        ensures back { ComesBack self.new.config self.new.machine bank.old bank.new }
         ensures same { IsQuietGuest self.old self.new }
     {
-        match deliver(&mut self.machine, &mut self.bank, signal, handler) {
+        match deliver(&mut self.machine, bank, signal, handler) {
             Ok(()) => {
                 self.release(signal);
                 self.inside = true;
@@ -87,15 +113,19 @@ impl GuestThread {
 
     /// Returns from a handler.
     #[tactic(auto, unfolding(crate::specs::Call::return_of))]
-    pub(super) fn return_from_handler(&mut self) -> Turn
+    pub(super) fn return_from_handler(&mut self, bank: &mut Bank) -> Turn
         requires room { self.old.count < self.old.config.budget }
         requires runs { self.old.stop ≡ None }
-        ensures turn { Takes (return_of self.old.config (held_state self.old)
-            (outside_streaming self.old.config (held_state self.old))) self.old self.new result }
+        requires fit { IsFit self.old.config self.old.machine bank.old }
+        ensures turn { Takes ⊥ (return_of self.old.config (held_state self.old bank.old)
+            (outside_streaming self.old.config (held_state self.old bank.old))) self.old bank.old self.new
+            bank.new result }
+        ensures pages { self.new.machine.pages ≡ self.old.machine.pages }
+        ensures back { ComesBack self.new.config self.new.machine bank.old bank.new }
         ensures same { IsQuietGuest self.old self.new }
     {
         return_sees_no_mode();
-        match return_from(&mut self.machine, &mut self.bank, self.inside) {
+        match return_from(&mut self.machine, bank, self.inside) {
             Ok(()) => {
                 self.count_turn();
                 self.inside = false;

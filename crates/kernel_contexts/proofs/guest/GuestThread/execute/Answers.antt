@@ -1,28 +1,38 @@
-use Rattle.std.proofs.Common.{◌≡◌, ◌++◌, length, vec_len, refl, ap, sym, ◌∙◌, arith}
+use Rattle.std.proofs.Common.{◌≡◌, ◌++◌, length, vec_len, Some, refl, ap, sym, ◌∙◌, subst, arith}
 use Rattle.sm_types.specs.declared.length.VecLen.{VecLen}
 use Rattle.sm_types.specs.declared.stop.Stop.TheVariants.{Raised, TraceFull}
 use Rattle.machine_step.specs.ProcessorState.{ProcessorState, vector_bytes}
 use Rattle.machine_step.specs.Effect.{effect_of}
 use Rattle.machine_step.specs.Step.{events_of}
 use Rattle.kernel_contexts.specs.declared.guest.GuestThread.{GuestThread}
+use Rattle.mem_access.specs.declared.bank.Bank.{Bank}
+use Rattle.mem_access.specs.Bank.{bank_state}
 use Rattle.kernel_contexts.specs.Call.{Ends}
 use Rattle.kernel_contexts.specs.Context.{held_state}
+use Rattle.kernel_contexts.proofs.Bare.{with_vectors}
 use Rattle.kernel_contexts.proofs.Turns.{executes_raises}
 use Rattle.kernel_contexts.proofs.Answered.{stops_so, asked_nothing, made_nothing, made_events}
 use Rattle.kernel_contexts.proofs.Over.{event_fits, room_left, room_full, goes_over, full_over, refused_over}
+use Rattle.machine_step.specs.Machine.{HasRoomToStep, core_of}
+use Rattle.kernel_contexts.specs.Wanting.{CallWants}
+use Rattle.kernel_contexts.proofs.Wanting.{effect_wants}
+use Rattle.kernel_contexts.proofs.Owned.{ran_owned, stops_owned, same_owns, next_owns, writes_at_length}
+use Rattle.machine_step.specs.Owned.{step_writes}
+use Rattle.machine_step.specs.declared.machine.Machine.{Machine}
+use Rattle.kernel_contexts.specs.Owned.{effect_writes}
 use Rattle.kernel_contexts.proofs.guest.GuestThread.execute.Goals as goal
 
--- VL of the options is that of the save area
-its_effect : (g : GuestThread)
-    → effect_of (vector_bytes g.config.vl) (held_state g).core ≡ effect_of (vector_bytes g.bank.vectors.vl) (held_state g).core
-its_effect g = ap (λ (l : VecLen). effect_of (vector_bytes l) (held_state g).core) (sym g.save_area.vl)
+-- VL of the options is that of the bank
+its_effect : (g : GuestThread) (bank : Bank) → bank.vectors.vl ≡ g.config.vl
+    → effect_of (vector_bytes g.config.vl) (held_state g bank).core ≡ effect_of (vector_bytes bank.vectors.vl) (held_state g bank).core
+its_effect g bank same = ap (λ (l : VecLen). effect_of (vector_bytes l) (held_state g bank).core) (sym same)
 
 pub go_on-requires-clause-within : goal.go_on-requires-clause-within
 go_on-requires-clause-within g c =
     let t = c.args.self.now in
     let n = vec_len c.reserve.new.self in
     let count : c.len-room.result ≡ n = omega arith in
-    event_fits _ _ (effect_of (vector_bytes t.bank.vectors.vl) (held_state t).core) (held_state t).core _ c.in-Next.event n n refl
+    event_fits _ _ (effect_of (vector_bytes c.args.bank.now.vectors.vl) (held_state t c.args.bank.now).core) (held_state t c.args.bank.now).core _ c.in-Next.event n n refl
     (omega (arith, t.journal_within, c.reserve.ensures.len)) (room_left c.len-room.result n count) c.in-Next.ensures.effect
 
 pub returns-in-Next-clause-turn : goal.returns-in-Next-clause-turn
@@ -30,9 +40,9 @@ returns-in-Next-clause-turn g c =
     let t = c.args.self.now in
     let count : c.len-room.result ≡ length t.journal.items = omega (arith, ap length c.reserve.ensures.items) in
     rw c.go_on.ensures.answer (
-      goes_over t.config t.number (length t.journal.items) (held_state t) _ _ _ (its_effect t) _
-          (held_state c.go_on.new.self) c.in-Next.event _ (room_left c.len-room.result (length t.journal.items) count)
-          c.in-Next.ensures.effect c.go_on.ensures.state
+      goes_over t.config t.number (length t.journal.items) (held_state t c.args.bank.now) _ _ _ (its_effect t c.args.bank.now c.requires.fit.lengths.vl) _
+          (held_state c.go_on.new.self c.step_with.new.bank.0) c.in-Next.event _ (room_left c.len-room.result (length t.journal.items) count)
+          c.in-Next.ensures.effect (ap (with_vectors (bank_state c.step_with.new.bank.0)) c.go_on.ensures.state)
           (made_events t.journal.items _ _ (c.go_on.ensures.journal ∙ ap (λ l. l ++ events_of c.in-Next.event) c.reserve.ensures.items)),
       c.go_on.ensures.stop ∙ c.requires.runs,
     )
@@ -42,11 +52,11 @@ returns-in-Raise-clause-turn g c =
     let t = c.args.self.now in
     let h = c.in-Raise.ensures.effect in
     let stop = c.stop_with in
-    asked_nothing _ _ (held_state t) (held_state stop.new.self) _ _ stop.result
+    asked_nothing _ _ _ (held_state t c.args.bank.now) (held_state stop.new.self c.step_with.new.bank.0) _ _ stop.result
     (made_nothing t.journal.items _ (stop.ensures.same.journal ∙ c.reserve.ensures.items))
-    (stops_so _ (held_state t) (held_state stop.new.self) _ stop.result _ stop.ensures.answer
-    (executes_raises t.config t.number (length t.journal.items) (held_state t) _ _ (its_effect t ∙ h.0) h.1
-    ∙ ap (λ s. Ends s (Raised c.in-Raise.exception c.step_with.new.self.scalars.pc)) (sym stop.ensures.state))
+    (stops_so ⊥ _ (held_state t c.args.bank.now) (held_state stop.new.self c.step_with.new.bank.0) _ stop.result _ stop.ensures.answer
+    (executes_raises t.config t.number (length t.journal.items) (held_state t c.args.bank.now) _ _ (its_effect t c.args.bank.now c.requires.fit.lengths.vl ∙ h.0) h.1
+    ∙ ap (λ s. Ends s (Raised c.in-Raise.exception c.step_with.new.self.scalars.pc)) (sym (ap (with_vectors (bank_state c.step_with.new.bank.0)) stop.ensures.state)))
     stop.ensures.stop)
 
 pub returns-in-NoRoom-clause-turn : goal.returns-in-NoRoom-clause-turn
@@ -55,22 +65,22 @@ returns-in-NoRoom-clause-turn g c =
     let h = c.in-NoRoom.ensures.effect in
     let stop = c.stop_with-in-NoRoom in
     let count : c.len-room.result ≡ length t.journal.items = omega (arith, ap length c.reserve.ensures.items) in
-    asked_nothing _ _ (held_state t) (held_state stop.new.self) _ _ stop.result
+    asked_nothing _ _ _ (held_state t c.args.bank.now) (held_state stop.new.self c.step_with.new.bank.0) _ _ stop.result
     (made_nothing t.journal.items _ (stop.ensures.same.journal ∙ c.reserve.ensures.items))
-    (stops_so _ (held_state t) (held_state stop.new.self) _ stop.result TraceFull stop.ensures.answer
-    (full_over t.config t.number (length t.journal.items) (held_state t) _ (its_effect t)
+    (stops_so ⊥ _ (held_state t c.args.bank.now) (held_state stop.new.self c.step_with.new.bank.0) _ stop.result TraceFull stop.ensures.answer
+    (full_over t.config t.number (length t.journal.items) (held_state t c.args.bank.now) _ (its_effect t c.args.bank.now c.requires.fit.lengths.vl)
     (room_full c.len-room.result (length t.journal.items) count h.1) h.2
-    ∙ ap (λ (k : ProcessorState). Ends (record (held_state t) { core = k }) TraceFull) (sym h.0)
-    ∙ ap (λ s. Ends s TraceFull) (sym stop.ensures.state)) stop.ensures.stop)
+    ∙ ap (λ (k : ProcessorState). Ends (record (held_state t c.args.bank.now) { core = k }) TraceFull) (sym h.0)
+    ∙ ap (λ s. Ends s TraceFull) (sym (ap (with_vectors (bank_state c.step_with.new.bank.0)) stop.ensures.state))) stop.ensures.stop)
 
 pub returns-in-TraceEnds-clause-turn : goal.returns-in-TraceEnds-clause-turn
 returns-in-TraceEnds-clause-turn g c =
     let t = c.args.self.now in
     let h = c.in-TraceEnds.ensures.effect in
     let count : c.len-room.result ≡ length t.journal.items = omega (arith, ap length c.reserve.ensures.items) in (
-      refused_over t.config t.number (length t.journal.items) (held_state t) _ _ (its_effect t)
+      refused_over t.config t.number (length t.journal.items) (held_state t c.args.bank.now) _ _ (its_effect t c.args.bank.now c.requires.fit.lengths.vl)
           (room_left c.len-room.result (length t.journal.items) count h.1) h.2,
-      ap (λ (k : ProcessorState). record (held_state t) { core = k }) h.0,
+      ap (λ (k : ProcessorState). record (held_state t c.args.bank.now) { core = k }) h.0,
       made_nothing t.journal.items _ c.reserve.ensures.items,
       c.requires.runs,
     )
@@ -80,9 +90,56 @@ returns-in-TraceDiffers-clause-turn g c =
     let t = c.args.self.now in
     let h = c.in-TraceDiffers.ensures.effect in
     let count : c.len-room.result ≡ length t.journal.items = omega (arith, ap length c.reserve.ensures.items) in (
-      refused_over t.config t.number (length t.journal.items) (held_state t) _ _ (its_effect t)
+      refused_over t.config t.number (length t.journal.items) (held_state t c.args.bank.now) _ _ (its_effect t c.args.bank.now c.requires.fit.lengths.vl)
           (room_left c.len-room.result (length t.journal.items) count h.1) h.2,
-      ap (λ (k : ProcessorState). record (held_state t) { core = k }) h.0,
+      ap (λ (k : ProcessorState). record (held_state t c.args.bank.now) { core = k }) h.0,
       made_nothing t.journal.items _ c.reserve.ensures.items,
       c.requires.runs,
     )
+
+pub returns-in-Call-clause-memory : goal.returns-in-Call-clause-memory
+returns-in-Call-clause-memory g c = λ wants free.
+    let t = c.args.self.now in
+    let h = c.in-Call.ensures.effect in
+    let chain = c.in-Call.ensures.gives.chain in
+    rw (its_effect t c.args.bank.now c.requires.fit.lengths.vl ∙ h.0, chain.0, chain.1)
+    (subst (λ (k : ProcessorState). CallWants (g.P.Port.refuses c.step_with.new.port c.step_with.new.ticket).takes_memory
+    (record (held_state t c.args.bank.now) { core = k })) h.1
+    (c.call.ensures.memory wants (omega (arith, free, c.reserve.ensures.capacity, c.reserve.ensures.len))))
+
+pub returns-in-Memory-clause-memory : goal.returns-in-Memory-clause-memory
+returns-in-Memory-clause-memory g c = λ wants free.
+    let t = c.args.self.now in
+    let h = c.in-Memory.ensures.effect in
+    rw (its_effect t c.args.bank.now c.requires.fit.lengths.vl)
+    (effect_wants (g.P.Port.refuses c.args.port.now c.args.ticket.now) (HasRoomToStep t.machine (Some c.args.bank.now)) _ _ _ h.1
+    (λ room. c.in-Memory.ensures.memory room refl))
+
+pub returns-in-Next-clause-owned : goal.returns-in-Next-clause-owned
+returns-in-Next-clause-owned g c =
+    let t = c.args.self.now in
+    ran_owned _ t.machine.pages c.step_with.new.self.pages c.go_on.new.self.machine.pages c.go_on.result c.go_on.ensures.answer
+    (ap (λ (m : Machine). m.pages) c.go_on.ensures.machine)
+    (rw (writes_at_length t c.args.bank.now c.requires.fit.lengths.vl)
+    (next_owns (g.P.Port.refuses c.args.port.now c.args.ticket.now) _ _ (held_state t c.args.bank.now).core
+    (core_of c.step_with.new.self (bank_state c.step_with.new.bank.0)) _ _ _ c.in-Next.event c.in-Next.ensures.effect
+    c.in-Next.ensures.owned))
+
+pub returns-in-Call-clause-owned : goal.returns-in-Call-clause-owned
+returns-in-Call-clause-owned g c =
+    let t = c.args.self.now in
+    same_owns _ t.machine.pages c.call.new.self.machine.pages c.call.result (c.call.ensures.pages ∙ c.in-Call.ensures.owned)
+    (ap (effect_writes (step_writes t.machine (Some c.args.bank.now)))
+    (its_effect t c.args.bank.now c.requires.fit.lengths.vl ∙ c.in-Call.ensures.effect.0))
+
+pub returns-in-Raise-clause-owned : goal.returns-in-Raise-clause-owned
+returns-in-Raise-clause-owned g c =
+    let stop = c.stop_with in
+    stops_owned _ c.args.self.now.machine.pages stop.new.self.machine.pages stop.result _ stop.ensures.answer
+    (ap (λ (m : Machine). m.pages) stop.ensures.machine ∙ c.in-Raise.ensures.owned)
+
+pub returns-in-NoRoom-clause-owned : goal.returns-in-NoRoom-clause-owned
+returns-in-NoRoom-clause-owned g c =
+    let stop = c.stop_with-in-NoRoom in
+    stops_owned _ c.args.self.now.machine.pages stop.new.self.machine.pages stop.result _ stop.ensures.answer
+    (ap (λ (m : Machine). m.pages) stop.ensures.machine ∙ c.in-NoRoom.ensures.owned)

@@ -1,0 +1,9 @@
+use Rattle.std.proofs.Common.{ap, ◌∙◌}
+use Rattle.machine_step.specs.declared.machine.Machine.{Machine}
+use Rattle.kernel_contexts.proofs.Owned.{stops_owned}
+use Rattle.kernel_contexts.proofs.guest.GuestThread.deliver_signal.Goals as goal
+
+pub returns-in-None-clause-owned : goal.returns-in-None-clause-owned
+returns-in-None-clause-owned c =
+    stops_owned _ c.args.self.now.machine.pages c.stop_with.new.self.machine.pages c.stop_with.result _ c.stop_with.ensures.answer
+    (ap (λ (m : Machine). m.pages) (c.stop_with.ensures.machine ∙ c.release.ensures.machine))
