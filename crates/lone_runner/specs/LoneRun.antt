@@ -1,5 +1,5 @@
 -- The run of one guest thread alone, from its start to its stop.
-use Rattle.std.specs.Prelude.{◌≡◌, ℕ, List, [], Some, length, map, slice_get}
+use Rattle.std.specs.Prelude.{◌≡◌, true, ℕ, List, [], Some, length, map, slice_get}
 use Rattle.sm_types.specs.declared.config.Config.{Config}
 use Rattle.sm_types.specs.declared.shared_op.Event.{Event}
 use Rattle.sm_types.specs.declared.shared_words.Words.{Words}
@@ -8,7 +8,7 @@ use Rattle.paged_memory.specs.Image.{Program}
 use Rattle.shared_region.specs.History.{AreOneHistory}
 use Rattle.kernel_contexts.specs.State.{State}
 use Rattle.kernel_contexts.specs.Run.{reach, Ended}
-use Rattle.kernel_contexts.specs.Context.{state_of, stop_of, thread_of, journal_of}
+use Rattle.kernel_contexts.specs.Context.{state_of, stop_of, thread_of, journal_of, is_home}
 use Rattle.kernel_contexts.specs.declared.context.Context.{Context}
 
 -- the thread's run over this journal ends in this state with this stop, and exactly the journal's events are
@@ -19,8 +19,9 @@ pub record IsLoneRun (program : Program) (config : Config) (thread : ℕ) (journ
   pub used : ℕ
   pub ends : reach program config thread journal turns ≡ Ended state stop used []
 
--- the context is the thread of that number at the end of its run over its journal
+-- the context, which is home, is the thread of that number at the end of its run over its journal
 pub record HasRunAlone (program : Program) (config : Config) (thread : ℕ) (context : Context) : Type 0 where
+  pub home : is_home context ≡ true
   pub number : thread_of context ≡ thread
   pub stop : Stop
   pub stopped : stop_of context ≡ Some stop

@@ -1,7 +1,7 @@
 //! The turns of a thread that a journal answers.
 ghost use Rattle.std.specs.Prelude.{◌≡◌, ◌≢◌, ◌+◌, ◌*◌, ◌<◌, ◌≤◌, ◌^◌, ◌++◌, length, None, Ok, Err, IfOk, IfErr};
 ghost use Rattle.kernel_contexts.specs.Context.{state_of, config_of, stop_of, journal_of, IsSameThread};
-ghost use Rattle.kernel_contexts.specs.Context.{IsPlaceFree, MayWantMemory, turn_at};
+ghost use Rattle.kernel_contexts.specs.Context.{IsPlaceFree, MayWantMemory, GoesOrAsks, turn_at, save_area_of};
 ghost use Rattle.lone_runner.specs.Parting.{left_over, parting_at};
 ghost use Rattle.lone_runner.specs.Replayed.{HasTicket, IsAstray, next_place, place_of};
 
@@ -30,8 +30,10 @@ pub fn make_turn(
         next_place context.old ticket.old ≡ place_of context.new ticket.new stop) }
     ensures astray { IfErr result (λ fault. fault ≢ AloneFault.Memory
         → IsAstray context.old ticket.old fault) }
-    ensures memory { result ≡ Err AloneFault.Memory → IsPlaceFree context.old
-        → MayWantMemory ⊥ (turn_at context.old) }
+    ensures memory { result ≡ Err AloneFault.Memory
+        → MayWantMemory ⊥ context.old (save_area_of context.old) }
+    ensures goes { result ≡ Err AloneFault.Memory → IsPlaceFree context.old
+        → GoesOrAsks ⊥ (turn_at context.old) }
     ensures stop { IfOk result (λ stop. stop_of context.new ≡ stop) }
     ensures ticket { HasTicket context.new ticket.new }
     ensures journal { journal_of context.new ++ ticket.new.ahead
@@ -46,6 +48,7 @@ pub fn make_turn(
         Turn::Ran => Ok(None),
         Turn::Yielded => Ok(None),
         Turn::Stopped(stop) => Ok(Some(stop)),
+        Turn::NeedsBank => unreachable!(),
         Turn::TraceEnds => Err(AloneFault::JournalShort(context.count())),
         Turn::TraceDiffers => Err(AloneFault::JournalDiffers(events_made(context))),
         Turn::Memory => Err(AloneFault::Memory),

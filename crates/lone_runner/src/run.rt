@@ -1,8 +1,8 @@
 //! A thread from its start to its stop.
-ghost use Rattle.std.specs.Prelude.{◌≡◌, [], ◌∷◌, None, Some, IfOk};
-ghost use Rattle.machine_step.specs.Step.{entries_of};
+ghost use Rattle.std.specs.Prelude.{◌≡◌, true, [], ◌∷◌, None, Some, IfOk};
+ghost use Rattle.shared_region.specs.History.{entries_of};
 ghost use Rattle.kernel_contexts.specs.Context.{image_of, state_of, config_of, thread_of, stop_of};
-ghost use Rattle.kernel_contexts.specs.Context.{journal_of};
+ghost use Rattle.kernel_contexts.specs.Context.{journal_of, is_home};
 ghost use Rattle.kernel_contexts.specs.Context.{IsSameThread};
 ghost use Rattle.lone_runner.specs.LoneRun.{HaveRun, IsLoneRun};
 
@@ -19,13 +19,14 @@ fn run(
     port: &mut PlainPort,
     ticket: &mut PlainTicket,
 ) -> Result<Stop, Memory>
+    requires home { is_home context.old ≡ true }
     requires runs { stop_of context.old ≡ None }
     requires journal { journal_of context.old ≡ [] }
-    requires events { ticket.old.events ≡ [] }
     requires number { ticket.old.thread ≡ thread_of context.old }
     requires history { port.old.history ≡ [] }
     ensures ends { IfOk result (λ stop. IsLoneRun (image_of context.old) (config_of context.old)
         (thread_of context.old) (journal_of context.new) (state_of context.new) stop) }
+    ensures home { is_home context.new ≡ true }
     ensures stop { IfOk result (λ stop. stop_of context.new ≡ Some stop) }
     ensures history { IfOk result (λ stop. port.new.history ≡
         entries_of (thread_of context.old) (journal_of context.new)) }
@@ -37,6 +38,7 @@ fn run(
             Turn::Ran => {}
             Turn::Yielded => {}
             Turn::Stopped(stop) => return Ok(stop),
+            Turn::NeedsBank => unreachable!(),
             Turn::TraceEnds => unreachable!(),
             Turn::TraceDiffers => unreachable!(),
             Turn::Memory => return Err(Memory),
@@ -46,6 +48,7 @@ fn run(
 
 /// The threads of a run, which has one, and the words that they share.
 fn finish(alloc: Global, context: Context, port: &PlainPort) -> Result<Finished, Memory>
+    requires home { is_home context ≡ true }
     ensures contexts { IfOk result (λ run. run.contexts.items ≡ context ∷ []) }
     ensures words { IfOk result (λ run. run.words ≡ port.now.words) }
 {

@@ -1,10 +1,11 @@
 //! What is printed of a run fits: its numbers, as the types of the code have them.
-ghost use Rattle.std.specs.Prelude.{◌≡◌, ◌≤◌, ◌^◌, true};
+ghost use Rattle.std.specs.Prelude.{◌≡◌, ◌≤◌, ◌^◌, true, ℕ, Some, slice_get};
 ghost use Rattle.sve_vectors.specs.Lengths.{vector_bytes};
 ghost use Rattle.sve_vectors.specs.Registers.{AreOfLength};
 ghost use Rattle.sve_vectors.specs.State.{length_of};
 ghost use Rattle.za_array.specs.Array.{IsSquare};
-ghost use Rattle.kernel_contexts.specs.Context.{state_of, journal_of};
+ghost use Rattle.kernel_contexts.specs.Context.{state_of, journal_of, is_home};
+ghost use Rattle.kernel_contexts.specs.declared.context.Context.{Context};
 ghost use Rattle.report_laws.specs.Fits.{AllBelow, AllBytes, AllFit, are_bytes, EventFits, ExceptionFits};
 ghost use Rattle.report_laws.specs.Fits.{StopFits, StateFits};
 ghost use Rattle.report_laws.specs.Sizes.{ContextFits, HasSizes, IsCoreFit, AllContextsFit};
@@ -128,6 +129,7 @@ pub(crate) fn registers_fit(machine: &Machine)
 
 /// The state of a context, with its journal.
 fn state_fits(context: &Context)
+    requires home { is_home context.now ≡ true }
     ensures fit { StateFits (state_of context.now) }
     ensures sizes { HasSizes (state_of context.now) (journal_of context.now) }
 {
@@ -144,6 +146,7 @@ fn state_fits(context: &Context)
 
 /// A context.
 fn context_fits(context: &Context)
+    requires home { is_home context.now ≡ true }
     ensures { ContextFits context.now }
 {
     state_fits(context);
@@ -156,6 +159,7 @@ fn context_fits(context: &Context)
 
 /// Contexts.
 pub fn contexts_fit(contexts: &[Context])
+    requires home { (k : ℕ) (c : Context) → slice_get contexts.now k ≡ Some c → is_home c ≡ true }
     ensures { AllContextsFit contexts.now }
 {
     for k in 0..contexts.len() {

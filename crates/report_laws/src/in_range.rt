@@ -1,11 +1,11 @@
 //! The states of which frames bring back what they save: those of every machine with a bank in its mode, and
 //! of every context.
-ghost use Rattle.std.specs.Prelude.{◌≤◌, ℕ};
+ghost use Rattle.std.specs.Prelude.{◌≡◌, ◌≤◌, ℕ, true};
 ghost use Rattle.sve_vectors.specs.Lengths.{vector_bytes};
 ghost use Rattle.mem_access.specs.Bank.{bank_state};
 ghost use Rattle.machine_step.specs.Machine.{core_of, IsInMode};
 ghost use Rattle.signal_frames.specs.Law.{IsInRange};
-ghost use Rattle.kernel_contexts.specs.Context.{state_of, config_of};
+ghost use Rattle.kernel_contexts.specs.Context.{state_of, config_of, is_home};
 
 use crate::fits::{array_fits, registers_fit, vectors_fit};
 use kernel_contexts::Context;
@@ -27,8 +27,9 @@ pub fn machines_are_in_range(machine: &Machine, bank: &Bank)
     let _length = bank.vectors.length();
 }
 
-/// So is the state of every context, with the VL of its options.
+/// So is the state of every context that is home, with the VL of its options.
 pub fn contexts_are_in_range(context: &Context)
+    requires home { is_home context.now ≡ true }
     ensures { (signal : ℕ) → 1 ≤ signal → signal ≤ 62
         → IsInRange (vector_bytes (config_of context.now).vl) signal (state_of context.now).core }
 {

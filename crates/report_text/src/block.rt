@@ -1,10 +1,10 @@
 //! The block of a guest thread in a report.
-ghost use Rattle.std.specs.Prelude.{◌≡◌, ℕ};
+ghost use Rattle.std.specs.Prelude.{◌≡◌, ℕ, true};
 ghost use Rattle.edge_io.specs.Pieces.{gathered, Gathers};
 ghost use Rattle.edge_io.specs.Sink.{Writes};
 ghost use Rattle.machine_step.specs.ProcessorState.{VectorState};
 ghost use Rattle.machine_step.specs.Machine.{core_of};
-ghost use Rattle.kernel_contexts.specs.Context.{state_of, thread_of, stop_of, journal_of};
+ghost use Rattle.kernel_contexts.specs.Context.{state_of, thread_of, stop_of, journal_of, is_home};
 ghost use Rattle.report_text.specs.Block.{head_text, nzcv_line, system_text, register_text, signal_text};
 ghost use Rattle.report_text.specs.Block.{kernel_text, block_text};
 
@@ -104,6 +104,7 @@ fn put_kernel<K: Sink>(piece: &mut Piece, out: &mut K, context: &Context) -> Res
 
 /// The block of a thread.
 pub fn put_block<K: Sink>(piece: &mut Piece, out: &mut K, context: &Context) -> Result<(), PutFault>
+    requires home { is_home context.now ≡ true }
     ensures { Gathers (gathered (K.view out.old) piece.old) (gathered (K.view out.new) piece.new) result
         (block_text (thread_of context.now) (state_of context.now) (stop_of context.now)
         (journal_of context.now)) }
@@ -120,6 +121,7 @@ pub fn put_block<K: Sink>(piece: &mut Piece, out: &mut K, context: &Context) -> 
 /// Writes the block of a thread. `Failed` where the sink fails; a part of the block from the front is then
 /// written.
 pub fn write_block<K: Sink>(context: &Context, out: &mut K) -> Result<(), PutFault>
+    requires home { is_home context.now ≡ true }
     ensures { Writes (K.view out.old) (K.view out.new) result
         (block_text (thread_of context.now) (state_of context.now) (stop_of context.now)
         (journal_of context.now)) }

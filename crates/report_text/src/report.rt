@@ -1,7 +1,9 @@
 //! The report of a run.
-ghost use Rattle.std.specs.Prelude.{◌≡◌};
+ghost use Rattle.std.specs.Prelude.{◌≡◌, ℕ, true, Some, slice_get};
 ghost use Rattle.edge_io.specs.Pieces.{gathered, Gathers};
 ghost use Rattle.edge_io.specs.Sink.{Writes};
+ghost use Rattle.kernel_contexts.specs.Context.{is_home};
+ghost use Rattle.kernel_contexts.specs.declared.context.Context.{Context};
 ghost use Rattle.report_text.specs.Ends.{ends_of};
 ghost use Rattle.report_text.specs.Report.{report_text, blocks_text, words_text};
 
@@ -34,6 +36,7 @@ fn put_words<K: Sink>(piece: &mut Piece, out: &mut K, words: &Words) -> Result<(
 
 /// The blocks of the threads, in order.
 fn put_blocks<K: Sink>(piece: &mut Piece, out: &mut K, contexts: &[Context]) -> Result<(), PutFault>
+    requires home { (k : ℕ) (c : Context) → slice_get contexts.now k ≡ Some c → is_home c ≡ true }
     ensures { Gathers (gathered (K.view out.old) piece.old) (gathered (K.view out.new) piece.new) result
         (blocks_text (ends_of contexts.now)) }
 {

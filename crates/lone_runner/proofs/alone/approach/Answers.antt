@@ -1,7 +1,8 @@
-use Rattle.std.proofs.Common.{rules, ◌≢◌, ◌≤◌, ◌<◌, ◌∙◌, sym, ap, refl, subst}
+use Rattle.std.proofs.Common.{rules, ◌≡◌, ◌≢◌, ◌≤◌, ◌<◌, ◌∙◌, sym, ap, refl, subst}
+use Rattle.std.specs.Prelude.{Err}
 use Rattle.kernel_contexts.specs.Context.{state_of, config_of, image_of, thread_of}
 use Rattle.lone_runner.specs.Parting.{IsPartingBefore}
-use Rattle.lone_runner.specs.Replayed.{place_of}
+use Rattle.lone_runner.specs.Replayed.{place_of, WantsOnTheWay}
 use Rattle.lone_runner.specs.declared.fault.AloneFault.TheVariants.{Memory, EndsEarly}
 use Rattle.lone_runner.proofs.Shown.{before_starts, before_on, before_strays, before_ends, shown_here, shown_ended}
 use Rattle.lone_runner.proofs.alone.approach.Goals as goal
@@ -65,12 +66,27 @@ returns-in-turns-clause-shown c =
     let less : (state_of c.turns.context).count < c.args.count = subst (λ n. n < c.args.count) c.count.ensures c.turns-test.true in
     shown_ended _ _ _ _ _ c.turns.context c.turns.ticket h.same.config h.same.thread h.before less c.make_turn.new.context
     c.make_turn.new.ticket c.in-Some.stop
-    (e.turn ∙ ap (place_of c.make_turn.new.context c.make_turn.new.ticket) c.in-Some.is) e.journal (e.stop ∙ c.in-Some.is)
+    (e.turn ∙ ap (place_of c.make_turn.new.context c.make_turn.new.ticket) c.in-Some.is) e.journal (e.stop ∙ c.in-Some.is) e.ticket.home
     (e.same.thread ∙ h.same.thread)
     (subst (λ n. c.args.count ≤ n) c.count-made.ensures c.if-made-count.false)
 
 pub returns-clause-shown : goal.returns-clause-shown
 returns-clause-shown c =
     let h = c.turns.invariant in
-    shown_here _ _ _ _ _ c.turns.context c.turns.ticket h.before h.same.thread h.runs
+    shown_here _ _ _ _ _ c.turns.context c.turns.ticket h.before h.held.home h.same.thread h.runs
     (subst (λ n. c.args.count ≤ n) c.count.ensures c.turns-test.false)
+
+pub returns-in_err-stop-clause-memory : goal.returns-in_err-stop-clause-memory
+returns-in_err-stop-clause-memory c =
+    let h = c.turns.invariant in
+    let wants : c.in_err-stop.field-0.0 ≡ Memory → WantsOnTheWay c.args.context.now c.args.ticket.now =
+    λ is. record {
+      now = c.turns.context;
+      its = c.turns.ticket;
+      same = h.same;
+      runs = h.runs;
+      held = h.held;
+      journal = h.before.way.whole;
+      wants = c.in_err-stop.ensures.memory (ap Err is);
+    } in
+    search rules

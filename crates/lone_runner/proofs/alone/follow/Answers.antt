@@ -1,7 +1,8 @@
-use Rattle.std.proofs.Common.{rules, ◌≢◌, ◌∙◌, sym, ap, refl}
+use Rattle.std.proofs.Common.{rules, ◌≡◌, ◌≢◌, ◌∙◌, sym, ap, refl}
+use Rattle.std.specs.Prelude.{Err}
 use Rattle.kernel_contexts.specs.Context.{config_of, image_of, thread_of}
 use Rattle.lone_runner.specs.Parting.{IsParting, parting_at}
-use Rattle.lone_runner.specs.Replayed.{place_of}
+use Rattle.lone_runner.specs.Replayed.{place_of, WantsOnTheWay}
 use Rattle.lone_runner.specs.declared.fault.AloneFault.TheVariants.{Memory}
 use Rattle.lone_runner.proofs.Ways.{way_starts, way_parts, way_strays, way_on, ended, none_of, some_of}
 use Rattle.lone_runner.proofs.alone.follow.Goals as goal
@@ -37,13 +38,14 @@ returns-then-is_some c =
     let e = c.in_ok-stop.ensures in
     let end =
     ended _ _ _ _ _ c.turns.context c.turns.ticket h.same.config h.same.thread h.way c.make_turn.new.context c.make_turn.new.ticket _
-    (some_of _ (sym c.is_some.ensures ∙ c.if-is_some.true)) e.turn e.journal (sym c.parting.ensures ∙ c.in-None.is) e.stop
+    (some_of _ (sym c.is_some.ensures ∙ c.if-is_some.true)) e.turn e.journal (sym c.parting.ensures ∙ c.in-None.is) e.stop e.ticket.home
     (e.same.thread ∙ h.same.thread) in
     record {
       run = end.alone;
       journal = end.events;
       count = end.counts;
       parts = tt;
+      memory = λ e. cc;
       same = record {
         config = e.same.config ∙ h.same.config;
         thread = e.same.thread ∙ h.same.thread;
@@ -69,3 +71,18 @@ turns-preserved c =
         image = e.same.image ∙ h.same.image;
       };
     }
+
+pub returns-in_err-stop-clause-memory : goal.returns-in_err-stop-clause-memory
+returns-in_err-stop-clause-memory c =
+    let h = c.turns.invariant in
+    let wants : c.in_err-stop.field-0.0 ≡ Memory → WantsOnTheWay c.args.context.now c.args.ticket.now =
+    λ is. record {
+      now = c.turns.context;
+      its = c.turns.ticket;
+      same = h.same;
+      runs = h.runs;
+      held = h.held;
+      journal = h.way.whole;
+      wants = c.in_err-stop.ensures.memory (ap Err is);
+    } in
+    search rules

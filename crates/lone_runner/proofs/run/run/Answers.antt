@@ -1,5 +1,6 @@
 use Rattle.std.proofs.Common.{◌++◌, ℕ, refl, sym, ap, ◌∙◌}
-use Rattle.machine_step.specs.Step.{entries_of}
+use Rattle.shared_region.specs.History.{entries_of}
+use Rattle.shared_region.specs.Tickets.{TicketView}
 use Rattle.kernel_contexts.specs.Context.{journal_of, thread_of, made_by}
 use Rattle.lone_runner.proofs.Runs.{has_run, run_of}
 use Rattle.lone_runner.proofs.Turned.{turned, history_on, same_some}
@@ -7,9 +8,9 @@ use Rattle.lone_runner.proofs.run.run.Goals as goal
 
 pub turns-init : goal.turns-init
 turns-init c = record {
+  home = c.requires.home;
   runs = c.requires.runs;
   same = record { config = refl; thread = refl; image = refl };
-  events = c.requires.events ∙ sym c.requires.journal;
   number = c.requires.number;
   history = c.requires.history ∙ ap (entries_of (thread_of c.args.context.now)) (sym c.requires.journal);
 }
@@ -23,17 +24,17 @@ turns-preserved-in-Ran c =
     let thread = thread_of c.args.context.now in
     let turn = turned _ _ old new _ h.runs e.turn in
     record {
+      home = e.home;
       runs = turn.1;
       same = record {
         config = e.same.config ∙ h.same.config;
         thread = e.same.thread ∙ h.same.thread;
         image = e.same.image ∙ h.same.image;
       };
-      events = e.journal;
-      number = same_some _ _ e.number ∙ h.same.thread;
+      number = same_some _ _ (ap (λ (t : TicketView). t.number) e.gives.ticket) ∙ h.number;
       history = history_on thread (journal_of old) (journal_of new)
           (made_by old new) c.turns.port.history c.advance.new.port.history h.history
-          (c.plain_history_grows.ensures.history _ _ _ _ _ e.gives
+          (c.plain_history_grows.ensures.history _ _ _ _ _ e.gives.chain
           ∙ ap (λ (n : ℕ). c.turns.port.history ++ entries_of n (made_by old new)) h.same.thread) e.grows;
     }
 
@@ -46,17 +47,17 @@ turns-preserved c =
     let thread = thread_of c.args.context.now in
     let turn = turned _ _ old new _ h.runs e.turn in
     record {
+      home = e.home;
       runs = turn.2;
       same = record {
         config = e.same.config ∙ h.same.config;
         thread = e.same.thread ∙ h.same.thread;
         image = e.same.image ∙ h.same.image;
       };
-      events = e.journal;
-      number = same_some _ _ e.number ∙ h.same.thread;
+      number = same_some _ _ (ap (λ (t : TicketView). t.number) e.gives.ticket) ∙ h.number;
       history = history_on thread (journal_of old) (journal_of new)
           (made_by old new) c.turns.port.history c.advance.new.port.history h.history
-          (c.plain_history_grows.ensures.history _ _ _ _ _ e.gives
+          (c.plain_history_grows.ensures.history _ _ _ _ _ e.gives.chain
           ∙ ap (λ (n : ℕ). c.turns.port.history ++ entries_of n (made_by old new)) h.same.thread) e.grows;
     }
 
@@ -67,7 +68,7 @@ returns-in-Stopped-clause-ends c =
     let new = c.advance.new.self in
     let turn = turned _ _ c.turns.context new _ h.runs e.turn in
     run_of _ _ _ _ _ _ _ _ _ (e.same.image ∙ h.same.image) (e.same.config ∙ h.same.config) (e.same.thread ∙ h.same.thread)
-    (has_run new _ turn.2)
+    (has_run new _ e.home turn.2)
 
 pub returns-in-Stopped-clause-stop : goal.returns-in-Stopped-clause-stop
 returns-in-Stopped-clause-stop c =
@@ -81,7 +82,7 @@ returns-in-Stopped-clause-history c =
     let new = c.advance.new.self in
     history_on (thread_of c.args.context.now) (journal_of old) (journal_of new) (made_by old new) c.turns.port.history
     c.advance.new.port.history h.history
-    (c.plain_history_grows.ensures.history _ _ _ _ _ e.gives
+    (c.plain_history_grows.ensures.history _ _ _ _ _ e.gives.chain
     ∙ ap (λ (n : ℕ). c.turns.port.history ++ entries_of n (made_by old new)) h.same.thread) e.grows
 
 pub returns-in-Stopped-clause-same : goal.returns-in-Stopped-clause-same

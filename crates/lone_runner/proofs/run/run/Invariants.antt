@@ -1,13 +1,13 @@
-use Rattle.std.proofs.Common.{◌≡◌, ◌-◌, ◌*◌, None}
-use Rattle.machine_step.specs.Step.{entries_of}
-use Rattle.kernel_contexts.specs.Context.{state_of, config_of, thread_of, stop_of, journal_of, IsSameThread}
+use Rattle.std.proofs.Common.{◌≡◌, ◌-◌, ◌*◌, true, None}
+use Rattle.shared_region.specs.History.{entries_of}
+use Rattle.kernel_contexts.specs.Context.{state_of, config_of, thread_of, stop_of, journal_of, is_home, IsSameThread}
 use Rattle.lone_runner.proofs.run.run.Given as goal
 
 abbrev pub invariant-turns : goal.invariant-turns
 invariant-turns l = record {
+  home : is_home l.context ≡ true;
   runs : stop_of l.context ≡ None;
   same : IsSameThread l.initial.context l.context;
-  events : l.ticket.events ≡ journal_of l.context;
   number : l.ticket.thread ≡ thread_of l.initial.context;
   history : l.port.history ≡ entries_of (thread_of l.initial.context) (journal_of l.context);
 }

@@ -1,5 +1,5 @@
 use Rattle.std.proofs.Common.{◌∙◌, sym, ap, ℕ}
-use Rattle.machine_step.specs.Step.{entries_of}
+use Rattle.shared_region.specs.History.{entries_of}
 use Rattle.kernel_contexts.specs.Context.{journal_of}
 use Rattle.lone_runner.specs.LoneRun.{HasRunAlone}
 use Rattle.lone_runner.proofs.Runs.{run_of}
@@ -15,6 +15,7 @@ returns c =
     let run = c.in_ok-run.ensures in
     let plain = c.history-history.ensures.plain in
     let alone : HasRunAlone program config 0 context = record {
+      home = run.home;
       number = run.same.thread ∙ start.thread;
       stop = c.in_ok-run.field-0;
       stopped = run.stop;

@@ -12,7 +12,7 @@ pub returns : goal.returns
 returns c =
     let context = c.args.context.now in
     let bank = save_area_of context in
-    λ signal least greatest. subst (λ vl. IsInRange (vector_bytes vl) signal (state_of context).core) context.guest.save_area.vl
+    λ signal least greatest. subst (λ vl. IsInRange (vector_bytes vl) signal (state_of context).core) context.fits.lengths.vl
     (subst (λ (m : Machine). IsInRange (vector_bytes bank.vectors.vl) signal (core_of m (bank_state bank))) c.machine.ensures
     (subst (λ (b : Bank). IsInRange (vector_bytes b.vectors.vl) signal (core_of c.machine.result.now (bank_state b))) c.bank.ensures.value
     (c.machines_are_in_range.ensures signal least greatest)))
