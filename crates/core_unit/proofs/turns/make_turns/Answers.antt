@@ -1,0 +1,149 @@
+use Rattle.std.proofs.Common.{refl, sym, ◌∙◌, arith}
+use Rattle.kernel_contexts.specs.Context.{thread_of, journal_of, stop_of, made_by}
+use Rattle.core_unit.specs.Guest.{guest_on}
+use Rattle.core_unit.proofs.Ports.{gives_none, gives_more, ticket_stays, refuses_there}
+use Rattle.core_unit.proofs.Runs.{IsLater, run_begins, goes_on, rises, made_none, runs_so, runs_spent, is_answers}
+use Rattle.core_unit.proofs.Runs.{runs_not_some, turned_on, never_needs, owned_still, none_of}
+use Rattle.core_unit.proofs.turns.make_turns.Goals as goal
+
+pub returns-then-is_some-clause-run : goal.returns-then-is_some-clause-run
+returns-then-is_some-clause-run g c =
+    let context = c.args.resident.now.context in
+    runs_not_some _ c.args.k (guest_on c.args.bank.now context) c.stop.result c.stop.ensures (sym c.is_some.ensures ∙ c.if-is_some.true)
+
+pub returns-then-is_some-clause-gives : goal.returns-then-is_some-clause-gives
+returns-then-is_some-clause-gives g c =
+    let context = c.args.resident.now.context in
+    gives_none g.P.Port.gives g.P.Port.name g.P.Port.tells _ _ (thread_of context) (journal_of context)
+
+pub turns-init : goal.turns-init
+turns-init g c =
+    let first = c.args.resident.now.context in
+    let bank = c.args.bank.now in
+    record {
+      on = c.requires.on;
+      owned = c.requires.owned;
+      bank = record { vl = refl; svl = refl; owner = refl };
+      same = record { config = refl; thread = refl; image = refl };
+      few = omega arith;
+      runs = none_of c.stop.result (stop_of first) c.stop.ensures (sym c.is_some.ensures ∙ c.if-is_some.false);
+      run = run_begins (guest_on bank first);
+      ticket = c.requires.ticket;
+      gives = gives_none g.P.Port.gives g.P.Port.name g.P.Port.tells _ _ (thread_of first) (journal_of first);
+    }
+
+pub end_of_turn-requires : goal.end_of_turn-requires
+end_of_turn-requires g c =
+    let h = c.turns.invariant in
+    never_needs _ _ c.turns.resident.context c.turns.bank c.advance_on-turn.new.self c.advance_on-turn.new.bank c.advance_on-turn.result
+    h.owned c.advance_on-turn.ensures.turn
+
+pub turns-preserved : goal.turns-preserved
+turns-preserved g c =
+    let h = c.turns.invariant in
+    let e = c.advance_on-turn.ensures in
+    let first = c.args.resident.now.context in
+    let old = c.turns.resident.context in
+    let new = c.advance_on-turn.new.self in
+    let bank = c.turns.bank in
+    let after = c.advance_on-turn.new.bank in
+    let was = guest_on c.args.bank.now first in
+    let later : IsLater (guest_on bank old) (guest_on after new) (made_by old new) =
+    record { program = e.same.image; config = e.same.config; number = e.same.thread; journal = e.grows } in
+    let on = goes_on was (guest_on bank old) (guest_on after new) c.turns.turns (made_by old new) h.run h.runs later _
+    c.advance_on-turn.result (sym c.in-None.ensures)
+    (never_needs _ _ old bank new after c.advance_on-turn.result h.owned e.turn)
+    (turned_on _ _ old bank new after c.advance_on-turn.result h.runs h.owned e.turn) in
+    record {
+      on = e.on;
+      owned = owned_still bank after (thread_of old) (thread_of new) e.bank.owner e.same.thread h.owned;
+      bank = record { vl = e.bank.vl ∙ h.bank.vl; svl = e.bank.svl ∙ h.bank.svl; owner = e.bank.owner ∙ h.bank.owner };
+      same = record {
+        config = e.same.config ∙ h.same.config;
+        thread = e.same.thread ∙ h.same.thread;
+        image = e.same.image ∙ h.same.image;
+      };
+      few = omega (arith, c.turns-test.true);
+      runs = on.1;
+      run = on.0;
+      ticket = ticket_stays g.P.Port.gives g.P.Port.name g.P.Port.tells _ _ _ _ (thread_of old) (thread_of new) (made_by old new)
+          e.same.thread h.ticket e.gives;
+      gives = gives_more g.P.Port.gives g.P.Port.name g.P.Port.tells _ _ _ _ _ _ (thread_of first) (thread_of old) _ (made_by old new) _
+          (is_answers was (guest_on bank old) (guest_on after new) c.turns.turns (made_by old new) h.run h.runs later)
+          h.same.thread h.gives e.gives;
+    }
+
+pub returns-in-Some-clause-run : goal.returns-in-Some-clause-run
+returns-in-Some-clause-run g c =
+    let h = c.turns.invariant in
+    let e = c.advance_on-turn.ensures in
+    let first = c.args.resident.now.context in
+    let old = c.turns.resident.context in
+    let new = c.advance_on-turn.new.self in
+    let bank = c.turns.bank in
+    let after = c.advance_on-turn.new.bank in
+    let was = guest_on c.args.bank.now first in
+    let turn = turned_on _ _ old bank new after c.advance_on-turn.result h.runs h.owned e.turn in
+    let later : IsLater (guest_on bank old) (guest_on after new) (made_by old new) =
+    record { program = e.same.image; config = e.same.config; number = e.same.thread; journal = e.grows } in
+    let rise = rises was (guest_on bank old) (guest_on after new) c.turns.turns (made_by old new) h.run h.runs later _
+    c.advance_on-turn.result turn in
+    let none = made_none was (guest_on bank old) (guest_on after new) c.turns.turns (made_by old new) h.run h.runs later _
+    c.advance_on-turn.result c.in-Some.why (sym c.in-Some.ensures) turn in
+    refuses_there g.P.Port.gives g.P.Port.name g.P.Port.tells g.P.Port.refuses _ _ _ _ (thread_of old) (made_by old new) c.args.k was
+    (guest_on after new) _ none e.gives
+    (runs_so was (guest_on bank old) (guest_on after new) c.turns.turns (made_by old new) h.run h.runs later _ c.args.k _
+    c.turns-test.true (omega (arith, rise.0, h.run.turns, c.turns-begun.ensures, c.turns-in-Some.ensures)) c.advance_on-turn.result
+    c.in-Some.why (sym c.in-Some.ensures) turn)
+
+pub returns-in-Some-clause-gives : goal.returns-in-Some-clause-gives
+returns-in-Some-clause-gives g c =
+    let h = c.turns.invariant in
+    let e = c.advance_on-turn.ensures in
+    let first = c.args.resident.now.context in
+    let old = c.turns.resident.context in
+    let new = c.advance_on-turn.new.self in
+    let bank = c.turns.bank in
+    let after = c.advance_on-turn.new.bank in
+    let was = guest_on c.args.bank.now first in
+    let later : IsLater (guest_on bank old) (guest_on after new) (made_by old new) =
+    record { program = e.same.image; config = e.same.config; number = e.same.thread; journal = e.grows } in
+    gives_more g.P.Port.gives g.P.Port.name g.P.Port.tells _ _ _ _ _ _ (thread_of first) (thread_of old) _ (made_by old new) _
+    (is_answers was (guest_on bank old) (guest_on after new) c.turns.turns (made_by old new) h.run h.runs later)
+    h.same.thread h.gives e.gives
+
+pub returns-clause-run : goal.returns-clause-run
+returns-clause-run g c =
+    let h = c.turns.invariant in
+    runs_spent _ c.args.k (guest_on c.args.bank.now c.args.resident.now.context) (guest_on c.turns.bank c.turns.resident.context)
+    c.turns.turns h.run h.runs (omega (arith, h.few, c.turns-test.false))
+
+pub overflow_sub-made : goal.overflow_sub-made
+overflow_sub-made g c =
+    let h = c.turns.invariant in
+    let e = c.advance_on-turn.ensures in
+    let old = c.turns.resident.context in
+    let new = c.advance_on-turn.new.self in
+    let bank = c.turns.bank in
+    let after = c.advance_on-turn.new.bank in
+    let later : IsLater (guest_on bank old) (guest_on after new) (made_by old new) =
+    record { program = e.same.image; config = e.same.config; number = e.same.thread; journal = e.grows } in
+    let rise = rises (guest_on c.args.bank.now c.args.resident.now.context) (guest_on bank old) (guest_on after new) c.turns.turns
+    (made_by old new) h.run h.runs later _ c.advance_on-turn.result
+    (turned_on _ _ old bank new after c.advance_on-turn.result h.runs h.owned e.turn) in
+    omega (arith, rise.0, h.run.turns, c.turns-begun.ensures, c.turns-in-Some.ensures)
+
+pub overflow_cast-made : goal.overflow_cast-made
+overflow_cast-made g c =
+    let h = c.turns.invariant in
+    let e = c.advance_on-turn.ensures in
+    let old = c.turns.resident.context in
+    let new = c.advance_on-turn.new.self in
+    let bank = c.turns.bank in
+    let after = c.advance_on-turn.new.bank in
+    let later : IsLater (guest_on bank old) (guest_on after new) (made_by old new) =
+    record { program = e.same.image; config = e.same.config; number = e.same.thread; journal = e.grows } in
+    let rise = rises (guest_on c.args.bank.now c.args.resident.now.context) (guest_on bank old) (guest_on after new) c.turns.turns
+    (made_by old new) h.run h.runs later _ c.advance_on-turn.result
+    (turned_on _ _ old bank new after c.advance_on-turn.result h.runs h.owned e.turn) in
+    omega (arith, rise.1, h.run.turns, c.turns-begun.ensures, c.turns-in-Some.ensures, c.turns-test.true, c.ranges.k)
