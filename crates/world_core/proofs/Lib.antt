@@ -1,0 +1,15 @@
+pub mod Bags
+pub mod Scenes
+pub mod Serves
+pub mod Plains
+pub mod Lifting
+pub mod Eachs
+pub mod Keeps
+pub mod Worlds
+pub mod Starts
+pub mod Lists
+pub mod Finishing
+pub mod Serials
+pub mod Events
+pub mod Ends
+pub mod UnderWay

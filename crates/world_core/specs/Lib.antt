@@ -1,0 +1,10 @@
+pub mod Events
+pub mod World
+pub mod Serve
+pub mod Happens
+pub mod Applies
+pub mod Parts
+pub mod View
+pub mod Kept
+pub mod Serial
+pub mod Finish

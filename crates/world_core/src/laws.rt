@@ -1,0 +1,18 @@
+//! The law of worlds.
+ghost use Rattle.std.specs.Prelude.{List};
+ghost use Rattle.sm_types.specs.declared.config.Config.{Config};
+ghost use Rattle.paged_memory.specs.Image.{Program};
+ghost use Rattle.world_core.specs.Happens.{happens, world_after};
+ghost use Rattle.world_core.specs.Kept.{IsKept};
+ghost use Rattle.world_core.specs.World.{World, start_world};
+ghost use Rattle.world_core.specs.declared.event.WorldEvent.{WorldEvent};
+
+/// In each world that events lead to from the start, whatever they are, each thread is exactly once in the
+/// queue, in one core's residents or among those that are done; the history is legal, each thread's journal
+/// is its part of it, and each thread is where it comes to alone over its journal. Each event keeps that.
+pub fn worlds_are_kept()
+    ensures event { (program : Program) (w : World) (e : WorldEvent) → IsKept program w
+        → IsKept program (happens w e).world }
+    ensures events { (program : Program) (config : Config) (es : List WorldEvent)
+        → IsKept program (world_after (start_world program config) es) }
+{}
