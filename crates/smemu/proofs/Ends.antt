@@ -6,21 +6,19 @@ use Rattle.cmd_words.specs.Options.{Options}
 use Rattle.cmd_words.specs.Words as usage
 use Rattle.cmd_words.specs.Words.{Argument, Request, usage_fault, command_of}
 use Rattle.cmd_words.specs.declared.command.UsageKind.{UsageKind}
-use Rattle.cmd_words.specs.declared.verb.Verb.{Verb}
-use Rattle.cmd_words.specs.declared.verb.Verb.TheVariants.{Run, Dis, Asm, Replay, Help, Version}
 use Rattle.cmd_words.proofs.Law.{reading}
 use Rattle.edge_io.specs.Files.{Told, FilesView}
 use Rattle.edge_io.specs.Sink.{SinkView, Writes}
 use Rattle.edge_io.specs.declared.sink.PutFault.{PutFault}
 use Rattle.edge_io.specs.declared.sink.PutFault.TheVariants.{Failed}
 use Rattle.command_lines.specs.declared.status.Status.{Status}
-use Rattle.command_lines.specs.declared.status.Status.TheVariants.{Done, Usage, Absent, ReadFault, WriteFault, OutOfMemory, BadReport}
-use Rattle.command_lines.specs.declared.status.Status.TheVariants.{Differs}
-use Rattle.smemu.specs.Answers.{IsOutcome, outcomes_of}
-use Rattle.smemu.specs.Ends.{Change, Call, Defined, IsUsage, IsRejection, IsDone, IsRefused, MayCome, FetchesReached, Stands}
+use Rattle.command_lines.specs.declared.status.Status.TheVariants.{Done, Usage, Absent, ReadFault, WriteFault, OutOfMemory}
+use Rattle.smemu.specs.Answers.{IsOutcome, IsTold, IsToldBy, Telling, Tells, Never, outcomes_of}
+use Rattle.smemu.specs.Ends.{Change, Call, Defined, IsUsage, IsRejection, IsDone, IsDue, IsDueOf, IsRefused, MayCome, FetchesReached}
+use Rattle.smemu.specs.Ends.{Stands}
 use Rattle.smemu.specs.Rejections.{Kind, rejection_of, rejection_status}
 use Rattle.smemu.specs.Requests.{Named, files_named, files_asked, reached_of, IsReached, due_of_rejection, due_of_file, due_of_files}
-use Rattle.smemu.specs.Requests.{due_of_request, may_end, IsAmong, IsDueOf, IsDue}
+use Rattle.smemu.specs.Requests.{due_of_request}
 use Rattle.smemu.specs.Views.{answer_text, refusal_status, refusal_text, end_text, end_status, EndsRequest, EndsWords}
 use Rattle.smemu.specs.declared.answer.Answer.{Answer}
 use Rattle.smemu.specs.declared.ending.Ending.TheVariants as ending
@@ -110,24 +108,16 @@ fetches_as fetched told unread names old new status other some not_done h = reco
 
 -- ---- the status that is due
 
--- what becomes of accepted files has a status with which the command may end
-pub outcome_among : (verb : Verb) (s : Status) (operands : List Argument) (options : Options) (files : List (List ℕ)) (text : List ℕ)
-    → outcomes_of verb s operands options files text → IsAmong s (may_end verb)
-outcome_among Run Done operands options files text h = inl refl
-outcome_among Dis Done operands options files text h = inl refl
-outcome_among Asm Done operands options files text h = inl refl
-outcome_among Replay Done operands options files text h = inl refl
-outcome_among Replay BadReport operands options files text h = inr (inl refl)
-outcome_among Replay Differs operands options files text h = inr (inr (inl refl))
-outcome_among Help Done operands options files text h = inl refl
-outcome_among Version Done operands options files text h = inl refl
-outcome_among verb s operands options files text h = absurd h
+-- what is told has a status with which the command may end
+told_so : (telling : Telling) (operands : List Argument) (options : Options) (files : List (List ℕ)) (text : List ℕ)
+    → IsToldBy telling operands options files text → IsTold telling
+told_so (Tells says) operands options files text h = tt
+told_so Never operands options files text h = absurd h
 
 rejection_due : (request : Request) (rejection : Rejection) → IsDueOf (Some request) (rejection_status rejection)
     (rejection_status rejection)
 rejection_due request (rejection.Program fault) = refl
-rejection_due request (rejection.Source fault) = refl
-rejection_due request (rejection.Report line kind) = refl
+rejection_due request rejected = refl
 
 pub there : (told : Told) (files : List ℕ → Option (List ℕ)) (name file : List ℕ) → told ≡ Some files
     → IfSome told (λ known. known name ≡ Some file) → files name ≡ Some file
@@ -154,7 +144,7 @@ module _ (words : List (List ℕ)) (files : Change FilesView) (told : List ℕ �
       request_due s (subst (λ d. IsDueOf (Some request) d s)
       (sym (accepted_due told (files_named request) h.files
       (told_accepted files.before.told (Some told) (files_named request) h.files tells h.accepted)))
-      (outcome_among request.verb s request.operands request.options h.files text h.ends))
+      (told_so (outcomes_of request.verb s) request.operands request.options h.files text h.ends))
 
   -- a file that is reached is not accepted
   rejection_is_due : (s : Status) (text : List ℕ) → IsRejection files.before.told (files_named request) s text → IsDue told words s
@@ -206,27 +196,18 @@ not_done c Done other = absurd (other refl)
 not_done c s other = tt
 
 -- a refusal is not Done, and is want of memory where it says so
-refusal_done : (r : Refusal) → refusal_status r ≡ Done → ⊥
-refusal_done (refusal.Usage place kind) e = cc
+pub refusal_done : (r : Refusal) → refusal_status r ≡ Done → ⊥
 refusal_done (refusal.Unread name unread.Absent) e = cc
-refusal_done (refusal.Unread name unread.Failed) e = cc
 refusal_done (refusal.Rejected (rejection.Program fault)) e = cc
-refusal_done (refusal.Rejected (rejection.Source fault)) e = cc
-refusal_done (refusal.Rejected (rejection.Report line kind)) e = cc
-refusal_done (refusal.Ended (ending.Mismatch line kind)) e = cc
 refusal_done (refusal.Ended (ending.Differs it)) e = cc
-refusal_done refusal.Memory e = cc
+refusal_done r e = cc
 
 refusal_memory : (r : Refusal) → refusal_status r ≡ OutOfMemory → r ≡ refusal.Memory
-refusal_memory (refusal.Usage place kind) e = cc
 refusal_memory (refusal.Unread name unread.Absent) e = cc
-refusal_memory (refusal.Unread name unread.Failed) e = cc
 refusal_memory (refusal.Rejected (rejection.Program fault)) e = cc
-refusal_memory (refusal.Rejected (rejection.Source fault)) e = cc
-refusal_memory (refusal.Rejected (rejection.Report line kind)) e = cc
-refusal_memory (refusal.Ended (ending.Mismatch line kind)) e = cc
 refusal_memory (refusal.Ended (ending.Differs it)) e = cc
 refusal_memory refusal.Memory e = refl
+refusal_memory r e = cc
 
 -- a sink does not fail where nothing is written
 nothing_fails : (a b : SinkView) (e : PutFault) → Writes a b (Err e) [] → ⊥

@@ -3,8 +3,7 @@ use Rattle.std.proofs.Common.{◌≡◌, ◌⊎◌, inl, inr, ℕ, List, Option,
 use Rattle.std.specs.Prelude.{IfSome, IsTrue}
 use Rattle.command_lines.specs.declared.status.Status.{Status}
 use Rattle.command_lines.specs.declared.status.Status.TheVariants.{ReadFault, WriteFault, OutOfMemory}
-use Rattle.smemu.specs.Ends.{Call, IsRefused, IsComplete, MayCome, HasRoom, LacksMemoryAlone}
-use Rattle.smemu.specs.Requests.{IsDue}
+use Rattle.smemu.specs.Ends.{Call, IsDue, IsRefused, IsComplete, MayCome, HasRoom, LacksMemoryAlone}
 
 module _ (c : Call) (reliable : IsTrue c.files.before.reliable) (room : HasRoom c) (files : List ℕ → Option (List ℕ)) where
   only_memory : (s : Status) → IsRefused c s → MayCome files c.words s → s ≡ OutOfMemory

@@ -6,7 +6,7 @@ use Rattle.std.specs.List.{concat}
 use Rattle.cmd_words.specs.Words.{Request}
 use Rattle.edge_io.specs.Cause.{Rose}
 use Rattle.edge_io.specs.Files.{Told, FilesView, IsKept}
-use Rattle.command_lines.specs.declared.status.Status.TheVariants.{Done, OutOfMemory}
+use Rattle.command_lines.specs.declared.status.Status.TheVariants.{OutOfMemory}
 use Rattle.smemu.specs.Answers.{AreAccepted}
 use Rattle.smemu.specs.Ends.{Change, change, AreFetched, IsRejection, Stands}
 use Rattle.smemu.specs.Rejections.{limit_of, rejection_status}
@@ -19,6 +19,7 @@ use Rattle.smemu.specs.declared.refusal.Refusal.TheVariants as refusal
 use Rattle.smemu.specs.declared.refusal.Unread.TheVariants as unread
 use Rattle.smemu.specs.declared.rejection.Rejection.{Rejection}
 use Rattle.smemu.specs.declared.rejection.Rejection.TheVariants as rejection
+use Rattle.smemu.proofs.Ends.{refusal_done}
 use Rattle.smemu.proofs.Requests.{accepted_more, is_reached, none_after_absent, none_after_rejected, reached_after, reached_first}
 use Rattle.smemu.proofs.Requests.{reached_none, rest_of}
 
@@ -84,13 +85,7 @@ stands_rejected : (request : Request) (files : Change FilesView) (rejection : Re
     → IsRejection files.before.told (files_named request) (rejection_status rejection) text
     → Stands request files (rejection_status rejection) text
 stands_rejected request files (rejection.Program fault) text h = inl h
-stands_rejected request files (rejection.Source fault) text h = inl h
-stands_rejected request files (rejection.Report line kind) text h = inl h
-
-one_rejected : (rejection : Rejection) → rejection_status rejection ≡ Done → ⊥
-one_rejected (rejection.Program fault) e = cc
-one_rejected (rejection.Source fault) e = cc
-one_rejected (rejection.Report line kind) e = cc
+stands_rejected request files rejected text h = inl h
 
 module _ {F : Type 0} (fetched : F → List ℕ → ℕ → F → Type 0) (view : F → FilesView) (request : Request) (names rest : List Named)
     (files : List (List ℕ)) (named : Named) (old now new : F) (is : files_named request ≡ names ++ named ∷ rest)
@@ -138,8 +133,7 @@ module _ {F : Type 0} (fetched : F → List ℕ → ℕ → F → Type 0) (view 
         is_text = refl;
       })
   refused_ends refusal.Memory h = tt
-  refused_ends (refusal.Usage place kind) h = absurd h
-  refused_ends (refusal.Ended end) h = absurd h
+  refused_ends r h = absurd h
 
   -- no file after it was fetched
   rest_unread : (r : Refusal) → IsUnopened (change view now new) named.name named.kind r → (refusal_status r ≡ OutOfMemory → ⊥)
@@ -155,16 +149,7 @@ module _ {F : Type 0} (fetched : F → List ℕ → ℕ → F → Type 0) (view 
       (none_after_rejected (view old).told named rest h.file rejection
       (subst (λ (t : Told). IfSome t (λ known. known named.name ≡ Some h.file)) so.kept.same h.is_file) h.rejects)
   rest_unread refusal.Memory h some = absurd (some refl)
-  rest_unread (refusal.Usage place kind) h some = absurd h
-  rest_unread (refusal.Ended end) h some = absurd h
-
-  unopened_not_done : (r : Refusal) → IsUnopened (change view now new) named.name named.kind r → refusal_status r ≡ Done → ⊥
-  unopened_not_done (refusal.Unread shown unread.Absent) h e = cc
-  unopened_not_done (refusal.Unread shown unread.Failed) h e = cc
-  unopened_not_done (refusal.Rejected rejection) h e = one_rejected rejection e
-  unopened_not_done refusal.Memory h e = cc
-  unopened_not_done (refusal.Usage place kind) h e = absurd h
-  unopened_not_done (refusal.Ended end) h e = absurd h
+  rest_unread r h some = absurd h
 
   -- the command ends there
   pub refused_next : (r : Refusal) → IsUnopened (change view now new) named.name named.kind r
@@ -181,7 +166,7 @@ module _ {F : Type 0} (fetched : F → List ℕ → ℕ → F → Type 0) (view 
           ∙ sym (append_assoc names (named ∷ []) (rest_of (view old).told named rest));
       all = rest_unread r h;
       first = λ some none. absurd (not_empty names named none);
-      done = λ is. absurd (unopened_not_done r h is);
+      done = λ is. absurd (refusal_done r is);
       each = fetched_more fetched names named old now new so.each one;
     };
   }
@@ -193,11 +178,9 @@ module _ {F : Type 0} (fetched : F → List ℕ → ℕ → F → Type 0) (view 
   unfolding refusal_text
   all_ends (Ok a) h = record { files = files; accepted = so.accepted; ends = h }
   all_ends (Err (refusal.Ended (ending.Mismatch line kind))) h = inr (record { files = files; accepted = so.accepted; ends = h })
-  all_ends (Err (refusal.Ended (ending.Differs it))) h = inr (record { files = files; accepted = so.accepted; ends = h })
+  all_ends (Err (refusal.Ended end)) h = inr (record { files = files; accepted = so.accepted; ends = h })
   all_ends (Err refusal.Memory) h = tt
-  all_ends (Err (refusal.Usage place kind)) h = absurd h
-  all_ends (Err (refusal.Unread shown why)) h = absurd h
-  all_ends (Err (refusal.Rejected rejection)) h = absurd h
+  all_ends (Err r) h = absurd h
 
   pub all_opened : (end : Result Answer Refusal) → EndsAccepted request files end → CarriesOut fetched view request old now end
   all_opened end h = record {
@@ -216,3 +199,18 @@ module _ {F : Type 0} (fetched : F → List ℕ → ℕ → F → Type 0) (view 
       each = so.each;
     };
   }
+
+-- a request of one file: it is not opened, and the command ends there, or it is, and what it comes to is so
+module _ {F : Type 0} (fetched : F → List ℕ → ℕ → F → Type 0) (view : F → FilesView) (request : Request) (named : Named) (old new : F)
+    (is : files_named request ≡ named ∷ []) (one : fetched old named.name (limit_of named.kind) new) (kept : IsKept (view old) (view new))
+  where
+    pub one_refused : (r : Refusal) → IsUnopened (change view old new) named.name named.kind r
+        → CarriesOut fetched view request old new (Err r)
+    one_refused r h = refused_next fetched view request [] [] [] named old old new is (none_opened fetched view old) one kept r h
+
+    pub one_opened : (file : List ℕ) → IsOpened (view old).told named.name named.kind file → (end : Result Answer Refusal)
+        → EndsAccepted request (file ∷ []) end → CarriesOut fetched view request old new end
+    one_opened file h end ends =
+        all_opened fetched view request (file ∷ []) old new
+        (subst (λ (ns : List Named). AreOpened fetched view ns (file ∷ []) old new) (sym is)
+        (opened_next fetched view request [] [] [] named old old new is (none_opened fetched view old) one kept file h)) end ends

@@ -10,7 +10,7 @@ use Rattle.elf_loader.proofs.Checks.{long_refused}
 use Rattle.edge_io.specs.Files.{Told, FilesView}
 use Rattle.smemu.specs.Answers.{IsFile}
 use Rattle.smemu.specs.Ends.{Change}
-use Rattle.smemu.specs.Views.{IsFront, IsOpened, IsRejected, IsUnopened, IsUnread}
+use Rattle.smemu.specs.Views.{IsFront, IsOpened, IsRejected, IsUnopened}
 use Rattle.smemu.specs.declared.refusal.Refusal.{Refusal}
 use Rattle.smemu.specs.declared.refusal.Refusal.TheVariants as refusal
 use Rattle.report_reader.specs.Reading.{Fault}
@@ -157,10 +157,3 @@ unopened_file kind files n name fetched (refusal.Rejected rejection) l front h =
     record { file = whole.file; is_file = whole.is_file; rejects = whole.faulty }
 unopened_file kind files n name fetched refusal.Memory l front h = tt
 unopened_file kind files n name fetched r l front h = absurd h
-
--- why a file is not opened that was not fetched
-pub unread_file : (kind : Kind) (files : Change FilesView) (name : List ℕ) (r : Refusal) → IsUnread files name r
-    → IsUnopened files name kind r
-unread_file kind files name (refusal.Unread shown why) h = h
-unread_file kind files name refusal.Memory h = tt
-unread_file kind files name r h = absurd h

@@ -95,25 +95,41 @@ of_thread tells operands options files text = ⊥
 abbrev pub own_text : List ℕ → Outcome
 own_text said operands options files text = text ≡ said
 
-abbrev pub never : Outcome
-never operands options files text = ⊥
+-- how the text that goes with a status is told, or that a command never ends so
+pub data Telling : Type 1 where
+  Tells : Outcome → Telling
+  Never : Telling
 
 -- the text that goes with a status, for each status with which a command may end
-abbrev pub outcomes_of : Verb → Status → Outcome
-outcomes_of Run Done = of_file IsReport
-outcomes_of Dis Done = of_file (λ file options. IsListingOf file)
-outcomes_of Asm Done = of_file (λ file options. IsProgramOf file)
-outcomes_of Replay Done = of_thread IsReplayOf
-outcomes_of Replay BadReport = of_thread MismatchesSo
-outcomes_of Replay Differs = of_thread DiffersSo
-outcomes_of Help Done = own_text help_text
-outcomes_of Version Done = own_text version_text
-outcomes_of verb status = never
+abbrev pub outcomes_of : Verb → Status → Telling
+outcomes_of Run Done = Tells (of_file IsReport)
+outcomes_of Dis Done = Tells (of_file (λ file options. IsListingOf file))
+outcomes_of Asm Done = Tells (of_file (λ file options. IsProgramOf file))
+outcomes_of Replay Done = Tells (of_thread IsReplayOf)
+outcomes_of Replay BadReport = Tells (of_thread MismatchesSo)
+outcomes_of Replay Differs = Tells (of_thread DiffersSo)
+outcomes_of Help Done = Tells (own_text help_text)
+outcomes_of Version Done = Tells (own_text version_text)
+outcomes_of verb status = Never
+
+-- a text goes with it
+abbrev pub IsTold : Telling → Type 0
+IsTold (Tells says) = Unit {0}
+IsTold Never = ⊥
+
+-- the text is the one that is told so
+abbrev pub IsToldBy : Telling → Outcome
+IsToldBy (Tells says) operands options files text = says operands options files text
+IsToldBy Never operands options files text = ⊥
+
+-- a command whose files are accepted may end with that status
+abbrev pub MayEnd : Verb → Status → Type 0
+MayEnd verb status = IsTold (outcomes_of verb status)
 
 -- what may become of a request whose files, in order, are these and are accepted: a status and a text
 abbrev pub outcome : Request → List (List ℕ) → Status → List ℕ → Type 0
 outcome request files status text =
-    outcomes_of request.verb status request.operands request.options files text
+    IsToldBy (outcomes_of request.verb status) request.operands request.options files text
 
 -- the files that are named are these, as far as they are told, and each is accepted
 abbrev pub AreAccepted : Told → List Named → List (List ℕ) → Type 0

@@ -14,9 +14,9 @@ use Rattle.command_lines.specs.Texts.{usage_line}
 use Rattle.command_lines.specs.declared.status.Status.{Status}
 use Rattle.command_lines.specs.declared.status.Status.TheVariants.{Done, Usage, Absent, ReadFault, WriteFault}
 use Rattle.command_lines.specs.declared.status.Status.TheVariants.{OutOfMemory}
-use Rattle.smemu.specs.Answers.{IsFile, IsOutcome}
+use Rattle.smemu.specs.Answers.{IsFile, IsOutcome, MayEnd}
 use Rattle.smemu.specs.Rejections.{limit_of, rejection_of, rejection_status, rejection_line}
-use Rattle.smemu.specs.Requests.{Named, files_named, files_asked, reached_of, IsReached, IsDue}
+use Rattle.smemu.specs.Requests.{Named, due_status, files_named, files_asked, reached_of, IsReached}
 use Rattle.smemu.specs.declared.rejection.Rejection.{Rejection}
 
 -- something before a call and after it
@@ -131,6 +131,14 @@ IsRefused c Done = Unit {0}
 IsRefused c WriteFault = (status : Status) × Wrote c status (Err Failed)
 IsRefused c OutOfMemory = Writes c.out.before c.out.after (Ok tt) [] ⊎ Wrote c OutOfMemory (Ok tt)
 IsRefused c other = Wrote c other (Ok tt)
+
+-- a status is due: that of the files, or where they are accepted each with which the command may end
+abbrev pub IsDueOf : Option Request → Status → Status → Type 0
+IsDueOf (Some request) Done status = MayEnd request.verb status
+IsDueOf request due status = status ≡ due
+
+abbrev pub IsDue : (List ℕ → Option (List ℕ)) → List (List ℕ) → Status → Type 0
+IsDue files words status = IsDueOf (command_of words) (due_status files words) status
 
 -- what may be answered in place of the status that is due: want of memory, a fault of the sink, and a fault
 -- of reading a file that is reached and is there

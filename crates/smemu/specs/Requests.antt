@@ -1,12 +1,12 @@
 -- The files that a request names, and how far they are read.
-use Rattle.std.specs.Prelude.{◌≡◌, ◌⊎◌, ℕ, List, [], ◌∷◌, Option, Some, None, is_none, slice_get}
+use Rattle.std.specs.Prelude.{◌≡◌, ℕ, List, [], ◌∷◌, Option, Some, None, is_none, slice_get}
 use Rattle.std.specs.Prelude.{if◌then◌else◌}
 use Rattle.edge_io.specs.Files.{Told}
 use Rattle.cmd_words.specs.Words.{Argument, NameSaid, ThreadSaid, Request, command_of}
 use Rattle.cmd_words.specs.declared.verb.Verb.{Verb}
 use Rattle.cmd_words.specs.declared.verb.Verb.TheVariants.{Run, Dis, Asm, Replay, Help, Version}
 use Rattle.command_lines.specs.declared.status.Status.{Status}
-use Rattle.command_lines.specs.declared.status.Status.TheVariants.{Done, Usage, Absent, BadReport, Differs}
+use Rattle.command_lines.specs.declared.status.Status.TheVariants.{Done, Usage, Absent}
 use Rattle.smemu.specs.Rejections.{Kind, ProgramFile, SourceFile, ReportFile, rejection_of, rejection_status}
 use Rattle.smemu.specs.declared.rejection.Rejection.{Rejection}
 
@@ -83,21 +83,3 @@ due_of_request files (Some request) = due_of_files files (files_named request)
 -- the status that is due for words, where the files are those
 abbrev pub due_status : (List ℕ → Option (List ℕ)) → List (List ℕ) → Status
 due_status files words = due_of_request files (command_of words)
-
--- the statuses with which a command may end whose files are accepted: the report of a replay may be of
--- another program, or its thread may part from it
-abbrev pub may_end : Verb → List Status
-may_end Replay = Done ∷ BadReport ∷ Differs ∷ []
-may_end verb = Done ∷ []
-
-abbrev pub IsAmong : Status → List Status → Type 0
-IsAmong status [] = ⊥
-IsAmong status (first ∷ rest) = (status ≡ first) ⊎ IsAmong status rest
-
--- a status is due
-abbrev pub IsDueOf : Option Request → Status → Status → Type 0
-IsDueOf (Some request) Done status = IsAmong status (may_end request.verb)
-IsDueOf request due status = status ≡ due
-
-abbrev pub IsDue : (List ℕ → Option (List ℕ)) → List (List ℕ) → Status → Type 0
-IsDue files words status = IsDueOf (command_of words) (due_status files words) status

@@ -141,11 +141,9 @@ pub record IsRefusedFile (told : Told) (name : List ℕ) (kind : Kind) (rejectio
 
 -- the file of that name was not fetched, or is not accepted
 abbrev pub IsUnopened : Change FilesView → List ℕ → Kind → Refusal → Type 0
-IsUnopened files name kind (refusal.Unread shown why) = IsUnread files name (refusal.Unread shown why)
 IsUnopened files name kind (refusal.Rejected rejection) =
     IsRefusedFile files.before.told name kind rejection
-IsUnopened files name kind refusal.Memory = Unit {0}
-IsUnopened files name kind other = ⊥
+IsUnopened files name kind other = IsUnread files name other
 
 -- ---- replays
 

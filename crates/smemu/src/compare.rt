@@ -1,12 +1,11 @@
-//! Whether a text that is written is one that is there: a sink that compares, and keeps nothing, and one that
-//! keeps what is another.
+//! Whether a text that is written is one that is there: a sink that compares it, and one that keeps it.
 ghost use Rattle.std.specs.Prelude.{◌≡◌, ◌≤◌, ◌+◌, ◌++◌, [], length, take, IsTrue};
 
 use edge_io::{PutFault, Sink};
 use line_reader::is_word;
 use std::alloc::Global;
 
-/// A sink that has a text, and takes pieces as long as they are those of that text. It takes no memory.
+/// A sink that has a text, and takes pieces as long as they are those of that text.
 #[derive(Drop)]
 pub struct Comparison<'a> {
     expected: &'a [u8],
@@ -65,7 +64,7 @@ impl Sink for Comparison<'_> {
     }
 }
 
-/// A sink that keeps all that is written, and fails for want of memory alone.
+/// A sink that keeps all that is written.
 #[derive(Drop)]
 pub struct Kept {
     text: Vec<u8>,

@@ -1,9 +1,9 @@
 //! The replay of a guest thread of a report: the thread is run alone, answered by its journal, and its block
 //! is compared with the report's.
-ghost use Rattle.std.specs.Prelude.{◌≡◌, ◌≤◌, ◌<◌, IfOk, IfErr, OnOk, All, Ok, None, IsTrue, length};
+ghost use Rattle.std.specs.Prelude.{◌≡◌, ◌≤◌, ◌<◌, IfOk, IfErr, OnOk, All, Ok, None, IsTrue, true, length};
 ghost use Rattle.sha2.specs.Sha256.{sha256};
 ghost use Rattle.elf_loader.specs.Loading.{Loads};
-ghost use Rattle.kernel_contexts.specs.Context.{journal_of, state_of, stop_of, thread_of};
+ghost use Rattle.kernel_contexts.specs.Context.{journal_of, state_of, stop_of, thread_of, is_home};
 ghost use Rattle.lone_runner.specs.LoneRun.{HasRunAlone};
 ghost use Rattle.report_reader.specs.Report.{report_in};
 ghost use Rattle.report_reader.specs.Told.{block_said, report_said, StandsIn};
@@ -91,6 +91,7 @@ fn other_line(alloc: Global, line: u64, report: &[u8], replay: &[u8]) -> Result<
 
 /// Whether the block of a thread that was run alone is that text.
 fn is_block(text: &[u8], context: &Context) -> bool
+    requires home { is_home context.now ≡ true }
     ensures { IsTrue result → text.now ≡ block_text (thread_of context.now) (state_of context.now)
         (stop_of context.now) (journal_of context.now) }
 {
@@ -98,8 +99,7 @@ fn is_block(text: &[u8], context: &Context) -> bool
     write_block(context, &mut comparison).is_ok() && is_word(comparison.came(), text)
 }
 
-/// Compares a block of the report with that of the thread that was run alone. Where they are the same, no
-/// memory is taken.
+/// Compares a block of the report with that of the thread that was run alone.
 fn compare(
     alloc: Global,
     report: &[u8],
@@ -108,6 +108,7 @@ fn compare(
 ) -> Result<(), Refusal>
     requires places { StandsIn report.now block.now }
     requires size { length report.now ≤ 1073741824 }
+    requires home { is_home context.now ≡ true }
     ensures { ComparesSo (spec.text_in report.now (block_said block.now)) block.now.first_line
         (block_text (thread_of context.now) (state_of context.now) (stop_of context.now)
         (journal_of context.now)) result }

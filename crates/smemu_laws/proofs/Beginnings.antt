@@ -13,11 +13,11 @@ use Rattle.command_lines.specs.SourceLines.{source_line, source_words, line_numb
 use Rattle.command_lines.specs.Texts.{HasFront, kind_word, status_words, usage_line}
 use Rattle.command_lines.specs.declared.status.Status.{Status}
 use Rattle.command_lines.specs.declared.status.Status.TheVariants.{Done, Usage, Absent, ReadFault, WriteFault, OutOfMemory, BadReport, Differs}
-use Rattle.smemu.specs.Answers.{outcomes_of, of_thread}
+use Rattle.smemu.specs.Answers.{IsToldBy, outcomes_of}
 use Rattle.smemu.specs.DifferLines.{parting_line, parting_words}
 use Rattle.smemu.specs.Ends.{Change, Defined, Stands}
 use Rattle.smemu.specs.Rejections.{rejection_line, rejection_status}
-use Rattle.smemu.specs.Replay.{DiffersSo, MismatchesSo}
+use Rattle.smemu.specs.Replay.{DiffersSo}
 use Rattle.smemu.specs.declared.rejection.Rejection.{Rejection}
 use Rattle.smemu.specs.declared.rejection.Rejection.TheVariants as rejection
 
@@ -42,19 +42,12 @@ so_begun file report thread text (inr h) = (
   h.is_text,
 )
 
-of_thread_begun : (operands : List Argument) (options : Options) (files : List (List ℕ)) (text : List ℕ) (s : Status)
-    (tells : List ℕ → List ℕ → ℕ → List ℕ → Type 0)
-    → ((file report : List ℕ) (thread : ℕ) → tells file report thread text → HasFront text (status_words s))
-    → of_thread tells operands options files text → HasFront text (status_words s)
-of_thread_begun (program ∷ report ∷ ThreadSaid thread ∷ []) options (file ∷ bytes ∷ []) text s tells begun h = begun file bytes thread h
-of_thread_begun operands options files text s tells begun h = absurd h
-
 outcome_begun : (verb : Verb) (s : Status) (operands : List Argument) (options : Options) (files : List (List ℕ)) (text : List ℕ) → s ≢ Done
-    → outcomes_of verb s operands options files text → HasFront text (status_words s)
-outcome_begun Replay BadReport operands options files text other h =
-    of_thread_begun operands options files text BadReport MismatchesSo (λ file report thread it. report_begun it.fault text it.is_text) h
-outcome_begun Replay Differs operands options files text other h =
-    of_thread_begun operands options files text Differs DiffersSo (λ file report thread it. so_begun file report thread text it) h
+    → IsToldBy (outcomes_of verb s) operands options files text → HasFront text (status_words s)
+outcome_begun Replay BadReport (program ∷ report ∷ ThreadSaid thread ∷ []) options (file ∷ bytes ∷ []) text other h =
+    report_begun h.fault text h.is_text
+outcome_begun Replay Differs (program ∷ report ∷ ThreadSaid thread ∷ []) options (file ∷ bytes ∷ []) text other h =
+    so_begun file bytes thread text h
 outcome_begun verb Done operands options files text other h = absurd (other refl)
 outcome_begun verb s operands options files text other h = absurd h
 

@@ -3,3 +3,4 @@ pub mod OneEnding
 pub mod Beginnings
 pub mod Fates
 pub mod Longest
+pub mod Names

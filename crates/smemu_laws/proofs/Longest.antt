@@ -9,7 +9,7 @@ use Rattle.elf_headers.specs.declared.fault.LoadFault.TheVariants as load
 use Rattle.elf_loader.proofs.Checks.{long_refused}
 use Rattle.elf_loader.specs.Loading.{load_fault}
 use Rattle.command_lines.specs.declared.status.Status.TheVariants.{Done}
-use Rattle.smemu.specs.Answers.{IsOutcome, IsProgramOf, outcomes_of, of_file}
+use Rattle.smemu.specs.Answers.{IsOutcome, IsProgramOf, IsToldBy, outcomes_of, of_file}
 use Rattle.smemu.proofs.Whole.{sound_short}
 
 short : (operands : List Argument) (options : Options) (files : List (List ℕ)) (text : List ℕ)
@@ -21,4 +21,4 @@ pub longest : (told : Told) (request : Request) (text : List ℕ) → request.ve
     → length text ≤ 67108864
 longest told request text is h =
     short request.operands request.options h.files text
-    (subst (λ (v : Verb). outcomes_of v Done request.operands request.options h.files text) is h.ends)
+    (subst (λ (v : Verb). IsToldBy (outcomes_of v Done) request.operands request.options h.files text) is h.ends)

@@ -23,17 +23,16 @@ use Rattle.report_text.specs.Block.{block_text}
 use Rattle.command_lines.specs.ReportLines.{difference_lines, report_line}
 use Rattle.command_lines.specs.declared.status.Status.{Status}
 use Rattle.command_lines.specs.declared.status.Status.TheVariants.{Done, Absent, ReadFault, OutOfMemory, BadReport, Differs}
-use Rattle.smemu.specs.Answers.{IsOutcome, IsReport, IsListingOf, IsProgramOf, outcomes_of, of_file, of_thread, outcome}
+use Rattle.smemu.specs.Answers.{IsOutcome, IsToldBy, outcomes_of, outcome}
 use Rattle.smemu.specs.DifferLines.{parting_line}
 use Rattle.smemu.specs.Ends.{Change, Stands}
 use Rattle.smemu.specs.Rejections.{rejection_line, rejection_status}
 use Rattle.smemu.specs.Replay.{mismatch, text_in, text_of, EndsAsSaid, IsBlockIn, IsReplayOf, IsMismatched, MismatchesSo, DiffersSo}
-use Rattle.smemu.specs.Requests.{Named, IsAmong, files_named, may_end}
+use Rattle.smemu.specs.Requests.{Named, files_named}
 use Rattle.smemu.specs.declared.rejection.Rejection.{Rejection}
 use Rattle.smemu.specs.declared.rejection.Rejection.TheVariants as rejection
-use Rattle.smemu.proofs.Ends.{outcome_among}
 use Rattle.smemu.proofs.Words.{one_thread}
-use Rattle.smemu_laws.specs.OneAnswer.{AreLoadedAsOne, AreOneText}
+use Rattle.smemu_laws.specs.OneAnswer.{AreOneText}
 use Rattle.smemu_laws.proofs.Fates.{Fate, AllAccepted, Missing, Refused, IsDecided, missing_line, accepted_fate, decided}
 use Rattle.smemu_laws.proofs.OneAnswer.{same_said, one_assembly, one_block, one_listing, one_replay, one_run_report}
 
@@ -155,101 +154,41 @@ one_difference file report thread text other (inr h) (inr g) =
 
 -- ---- what becomes of accepted files
 
-of_one_file : (operands : List Argument) (options : Options) (files : List (List ℕ)) (text other : List ℕ)
-    (tells : List ℕ → Options → List ℕ → Type 0) (result : Type 0)
-    → ((file : List ℕ) → tells file options text → tells file options other → result) → of_file tells operands options files text
-    → of_file tells operands options files other → result
-of_one_file operands options (file ∷ []) text other tells result one h g = one file h g
-of_one_file operands options files text other tells result one h g = absurd h
-
-of_one_thread : (operands : List Argument) (options : Options) (files : List (List ℕ)) (text other : List ℕ)
-    (tells said : List ℕ → List ℕ → ℕ → List ℕ → Type 0) (result : Type 0)
-    → ((file report : List ℕ) (thread : ℕ) → tells file report thread text → said file report thread other → result)
-    → of_thread tells operands options files text → of_thread said operands options files other → result
-of_one_thread (program ∷ report ∷ ThreadSaid thread ∷ []) options (file ∷ bytes ∷ []) text other tells said result one h g =
-    one file bytes thread h g
-of_one_thread operands options files text other tells said result one h g = absurd h
-
 -- two endings of accepted files have one status and one text
 pub one_outcome : (verb : Verb) (s t : Status) (operands : List Argument) (options : Options) (files : List (List ℕ))
-    (text other : List ℕ) → (verb ≡ Run → options.threads ≡ 1) → outcomes_of verb s operands options files text
-    → outcomes_of verb t operands options files other
+    (text other : List ℕ) → (verb ≡ Run → options.threads ≡ 1) → IsToldBy (outcomes_of verb s) operands options files text
+    → IsToldBy (outcomes_of verb t) operands options files other
     → (s ≡ t) × AreOneText verb s text other
-one_outcome Run Done Done operands options files text other one h g = (
-  refl,
-  of_one_file operands options files text other IsReport (text ≡ other) (λ file a b.
-      one_run_report file options text other (one refl) a b) h g,
-)
-one_outcome Dis Done Done operands options files text other one h g = (
-  refl,
-  of_one_file operands options files text other (λ file o. IsListingOf file) (text ≡ other) (λ file a b. one_listing file text
-      other a b) h g,
-)
-one_outcome Asm Done Done operands options files text other one h g = (
-  refl,
-  of_one_file operands options files text other (λ file o. IsProgramOf file) (AreLoadedAsOne text other)
-      (λ file a b. one_assembly file text other a b) h g,
-)
-one_outcome Replay Done Done operands options files text other one h g = (
-  refl,
-  of_one_thread operands options files text other IsReplayOf IsReplayOf (text ≡ other)
-      (λ file report thread a b. one_replay file report thread text other a b) h g,
-)
-one_outcome Replay BadReport BadReport operands options files text other one h g = (
-  refl,
-  of_one_thread operands options files text other MismatchesSo MismatchesSo (text ≡ other)
-      (λ file report thread a b. one_mismatch file report thread text other a b) h g,
-)
-one_outcome Replay Differs Differs operands options files text other one h g = (
-  refl,
-  of_one_thread operands options files text other DiffersSo DiffersSo (text ≡ other)
-      (λ file report thread a b. one_difference file report thread text other a b) h g,
-)
-one_outcome Replay Done BadReport operands options files text other one h g =
-    absurd (of_one_thread operands options files text other IsReplayOf MismatchesSo ⊥
-    (λ file report thread a b. matched file report thread a.at b.fault b.is_mismatched) h g)
-one_outcome Replay BadReport Done operands options files text other one h g =
-    absurd (of_one_thread operands options files text other MismatchesSo IsReplayOf ⊥
-    (λ file report thread a b. matched file report thread b.at a.fault a.is_mismatched) h g)
-one_outcome Replay Done Differs operands options files text other one h g =
-    absurd (of_one_thread operands options files text other IsReplayOf DiffersSo ⊥
-    (λ file report thread a b. done_differs file report thread text other a b) h g)
-one_outcome Replay Differs Done operands options files text other one h g =
-    absurd (of_one_thread operands options files text other DiffersSo IsReplayOf ⊥
-    (λ file report thread a b. done_differs file report thread other text b a) h g)
-one_outcome Replay BadReport Differs operands options files text other one h g =
-    absurd (of_one_thread operands options files text other MismatchesSo DiffersSo ⊥
-    (λ file report thread a b. matched file report thread (block_of file report thread other b) a.fault a.is_mismatched) h g)
-one_outcome Replay Differs BadReport operands options files text other one h g =
-    absurd (of_one_thread operands options files text other DiffersSo MismatchesSo ⊥
-    (λ file report thread a b. matched file report thread (block_of file report thread text a) b.fault b.is_mismatched) h g)
+one_outcome Run Done Done operands options (file ∷ []) text other one h g =
+    (refl, one_run_report file options text other (one refl) h g)
+one_outcome Dis Done Done operands options (file ∷ []) text other one h g = (refl, one_listing file text other h g)
+one_outcome Asm Done Done operands options (file ∷ []) text other one h g = (refl, one_assembly file text other h g)
+one_outcome Replay Done Done (program ∷ report ∷ ThreadSaid thread ∷ []) options (file ∷ bytes ∷ []) text other one h g =
+    (refl, one_replay file bytes thread text other h g)
+one_outcome Replay BadReport BadReport (program ∷ report ∷ ThreadSaid thread ∷ []) options (file ∷ bytes ∷ []) text other one h g =
+    (refl, one_mismatch file bytes thread text other h g)
+one_outcome Replay Differs Differs (program ∷ report ∷ ThreadSaid thread ∷ []) options (file ∷ bytes ∷ []) text other one h g =
+    (refl, one_difference file bytes thread text other h g)
+one_outcome Replay Done BadReport (program ∷ report ∷ ThreadSaid thread ∷ []) options (file ∷ bytes ∷ []) text other one h g =
+    absurd (matched file bytes thread h.at g.fault g.is_mismatched)
+one_outcome Replay BadReport Done (program ∷ report ∷ ThreadSaid thread ∷ []) options (file ∷ bytes ∷ []) text other one h g =
+    absurd (matched file bytes thread g.at h.fault h.is_mismatched)
+one_outcome Replay Done Differs (program ∷ report ∷ ThreadSaid thread ∷ []) options (file ∷ bytes ∷ []) text other one h g =
+    absurd (done_differs file bytes thread text other h g)
+one_outcome Replay Differs Done (program ∷ report ∷ ThreadSaid thread ∷ []) options (file ∷ bytes ∷ []) text other one h g =
+    absurd (done_differs file bytes thread other text g h)
+one_outcome Replay BadReport Differs (program ∷ report ∷ ThreadSaid thread ∷ []) options (file ∷ bytes ∷ []) text other one h g =
+    absurd (matched file bytes thread (block_of file bytes thread other g) h.fault h.is_mismatched)
+one_outcome Replay Differs BadReport (program ∷ report ∷ ThreadSaid thread ∷ []) options (file ∷ bytes ∷ []) text other one h g =
+    absurd (matched file bytes thread (block_of file bytes thread text h) g.fault g.is_mismatched)
 one_outcome Help Done Done operands options files text other one h g = (refl, h ∙ sym g)
 one_outcome Version Done Done operands options files text other one h g = (refl, h ∙ sym g)
-one_outcome Run Done t operands options files text other one h g = absurd g
-one_outcome Dis Done t operands options files text other one h g = absurd g
-one_outcome Asm Done t operands options files text other one h g = absurd g
-one_outcome Replay Done t operands options files text other one h g = absurd g
 one_outcome Replay BadReport t operands options files text other one h g = absurd g
 one_outcome Replay Differs t operands options files text other one h g = absurd g
-one_outcome Help Done t operands options files text other one h g = absurd g
-one_outcome Version Done t operands options files text other one h g = absurd g
+one_outcome verb Done t operands options files text other one h g = absurd g
 one_outcome verb s t operands options files text other one h g = absurd h
 
 -- ---- what stands for a request
-
-among_one : IsAmong OutOfMemory (Done ∷ []) → ⊥
-among_one (inl e) = cc
-among_one (inr h) = absurd h
-
-among_three : IsAmong OutOfMemory (Done ∷ BadReport ∷ Differs ∷ []) → ⊥
-among_three (inl e) = cc
-among_three (inr (inl e)) = cc
-among_three (inr (inr (inl e))) = cc
-among_three (inr (inr (inr h))) = absurd h
-
-absurd_among : (verb : Verb) → IsAmong OutOfMemory (may_end verb) → ⊥
-absurd_among Replay h = among_three h
-absurd_among verb h = among_one h
 
 same_files : (a b : List (List ℕ)) → ◌≡◌ {A = Fate} (AllAccepted a) (AllAccepted b) → a ≡ b
 same_files a b e = cc
@@ -277,13 +216,14 @@ absent_text verb text other e = e
 rejected_text : (verb : Verb) (rejection : Rejection) (text other : List ℕ) → text ≡ other
     → AreOneText verb (rejection_status rejection) text other
 rejected_text Asm (rejection.Program fault) text other e = e
-rejected_text Asm (rejection.Source fault) text other e = e
-rejected_text Asm (rejection.Report line kind) text other e = e
+rejected_text Asm rejected text other e = e
 rejected_text verb rejected text other e = e
 
+-- with want of memory comes no text
 memory_not : (verb : Verb) (operands : List Argument) (options : Options) (files : List (List ℕ)) (text : List ℕ)
-    → outcomes_of verb OutOfMemory operands options files text → ⊥
-memory_not verb operands options files text h = absurd_among verb (outcome_among verb OutOfMemory operands options files text h)
+    → IsToldBy (outcomes_of verb OutOfMemory) operands options files text → ⊥
+memory_not Run operands options files text h = absurd h
+memory_not verb operands options files text h = absurd h
 
 pub no_memory : (request : Request) (change : Change FilesView) (text : List ℕ) → Stands request change OutOfMemory text → ⊥
 no_memory request change text h = memory_not request.verb request.operands request.options h.files text h.ends

@@ -7,6 +7,8 @@ ghost use Rattle.command_lines.specs.declared.status.Status.{Status};
 ghost use Rattle.edge_io.specs.Files.{FilesView, Told};
 ghost use Rattle.smemu.specs.Answers.{IsOutcome};
 ghost use Rattle.smemu.specs.Ends.{Change, Defined, Stands};
+ghost use Rattle.smemu.specs.Requests.{files_named};
+ghost use Rattle.smemu_laws.specs.Names.{names_of, names_said};
 ghost use Rattle.smemu_laws.specs.OneAnswer.{AreOneText};
 
 /// Over files that are told, what words ask for has at most one answer: two texts that answer it are equal,
@@ -50,4 +52,11 @@ pub fn begins_as_help_says()
 pub fn longest_program()
     ensures { (told : Told) (request : Request) (text : List ℕ) → request.verb ≡ verbs.Asm
         → IsOutcome told request Status.Done text → length text ≤ 67108864 }
+{}
+
+/// The files that words name are those whose names their operands say, in the same order: so as many as the
+/// operands that are names.
+pub fn each_name_is_a_file()
+    ensures { (words : List (List ℕ)) (request : Request) → command_of words ≡ Some request
+        → names_of (files_named request) ≡ names_said request.operands }
 {}

@@ -1,4 +1,4 @@
-use Rattle.std.proofs.Common.{rules, [], ◌∷◌, refl, Err, Ok}
+use Rattle.std.proofs.Common.{rules, refl, Err, Ok}
 use Rattle.std.specs.String.{string_bytes}
 use Rattle.cmd_words.specs.Command.{request_of}
 use Rattle.cmd_words.specs.declared.command.Command.TheVariants as command
@@ -6,35 +6,29 @@ use Rattle.smemu.specs.Rejections.{SourceFile}
 use Rattle.smemu.specs.Views.{CarriesOut}
 use Rattle.smemu.specs.declared.answer.Answer.TheVariants as answer
 use Rattle.smemu.specs.declared.refusal.Refusal.TheVariants as refusal
-use Rattle.smemu.proofs.Opened.{all_opened, none_opened, opened_next, refused_next}
+use Rattle.smemu.proofs.Opened.{one_opened, one_refused}
 use Rattle.smemu.proofs.command.assemble_source.Goals as goal
 
 pub returns-in_err-file : goal.returns-in_err-file
 returns-in_err-file g c =
     let request = request_of (command.Asm c.args.source) in
-    let old = c.args.files.now in
-    let ends : CarriesOut g.F.Files.fetched g.F.Files.view request old c.open_source.new.files (Err c.in_err-file.field-0.0) =
-    refused_next g.F.Files.fetched g.F.Files.view request [] [] [] (record { name = string_bytes c.args.source; kind = SourceFile }) old old
-    c.open_source.new.files refl (none_opened g.F.Files.fetched g.F.Files.view old) c.open_source.ensures.fetched c.open_source.ensures.kept
+    let new = c.open_source.new.files in
+    let ends : CarriesOut g.F.Files.fetched g.F.Files.view request c.args.files.now new (Err c.in_err-file.field-0.0) =
+    one_refused g.F.Files.fetched g.F.Files.view request (record { name = string_bytes c.args.source; kind = SourceFile })
+    c.args.files.now new refl c.open_source.ensures.fetched c.open_source.ensures.kept
     c.in_err-file.field-0.0 c.in_err-file.ensures.unopened in
     search rules
 
 pub returns-in-Ok : goal.returns-in-Ok
 returns-in-Ok g c =
-    let request = request_of (command.Asm c.args.source) in
-    let old = c.args.files.now in
-    all_opened g.F.Files.fetched g.F.Files.view request (c.in_ok-file.file.bytes.items ∷ []) old c.open_source.new.files
-    (opened_next g.F.Files.fetched g.F.Files.view request [] [] [] (record { name = string_bytes c.args.source; kind = SourceFile }) old old
-    c.open_source.new.files refl (none_opened g.F.Files.fetched g.F.Files.view old) c.open_source.ensures.fetched c.open_source.ensures.kept
-    c.in_ok-file.file.bytes.items c.in_ok-file.ensures.opened) (Ok (answer.Program c.in-Ok.program))
-    (rw c.as_slice.ensures.value at c.in-Ok.ensures)
+    one_opened g.F.Files.fetched g.F.Files.view (request_of (command.Asm c.args.source))
+    (record { name = string_bytes c.args.source; kind = SourceFile }) c.args.files.now c.open_source.new.files refl
+    c.open_source.ensures.fetched c.open_source.ensures.kept c.in_ok-file.file.bytes.items c.in_ok-file.ensures.opened
+    (Ok (answer.Program c.in-Ok.program)) (rw c.as_slice.ensures.value at c.in-Ok.ensures)
 
 pub returns : goal.returns
 returns g c =
-    let request = request_of (command.Asm c.args.source) in
-    let old = c.args.files.now in
-    all_opened g.F.Files.fetched g.F.Files.view request (c.in_ok-file.file.bytes.items ∷ []) old c.open_source.new.files
-    (opened_next g.F.Files.fetched g.F.Files.view request [] [] [] (record { name = string_bytes c.args.source; kind = SourceFile }) old old
-    c.open_source.new.files refl (none_opened g.F.Files.fetched g.F.Files.view old) c.open_source.ensures.fetched c.open_source.ensures.kept
-    c.in_ok-file.file.bytes.items c.in_ok-file.ensures.opened) (Err refusal.Memory)
-    tt
+    one_opened g.F.Files.fetched g.F.Files.view (request_of (command.Asm c.args.source))
+    (record { name = string_bytes c.args.source; kind = SourceFile }) c.args.files.now c.open_source.new.files refl
+    c.open_source.ensures.fetched c.open_source.ensures.kept c.in_ok-file.file.bytes.items c.in_ok-file.ensures.opened
+    (Err refusal.Memory) tt

@@ -1,33 +1,27 @@
-use Rattle.std.proofs.Common.{rules, [], ◌∷◌, refl, Err, Ok}
+use Rattle.std.proofs.Common.{rules, refl, Err, Ok}
 use Rattle.std.specs.String.{string_bytes}
 use Rattle.cmd_words.specs.Command.{request_of}
 use Rattle.cmd_words.specs.declared.command.Command.TheVariants as command
 use Rattle.smemu.specs.Rejections.{ProgramFile}
 use Rattle.smemu.specs.Views.{CarriesOut}
 use Rattle.smemu.specs.declared.answer.Answer.TheVariants as answer
-use Rattle.smemu.proofs.Opened.{all_opened, none_opened, opened_next, refused_next}
+use Rattle.smemu.proofs.Opened.{one_opened, one_refused}
 use Rattle.smemu.proofs.command.list_program.Goals as goal
 
 pub returns-in_err-file : goal.returns-in_err-file
 returns-in_err-file g c =
     let request = request_of (command.Dis c.args.program) in
-    let old = c.args.files.now in
-    let ends : CarriesOut g.F.Files.fetched g.F.Files.view request old c.open_program.new.files (Err c.in_err-file.field-0.0) =
-    refused_next g.F.Files.fetched g.F.Files.view request [] [] []
-    (record { name = string_bytes c.args.program; kind = ProgramFile }) old old
-    c.open_program.new.files refl (none_opened g.F.Files.fetched g.F.Files.view old) c.open_program.ensures.fetched
-    c.open_program.ensures.kept
+    let new = c.open_program.new.files in
+    let ends : CarriesOut g.F.Files.fetched g.F.Files.view request c.args.files.now new (Err c.in_err-file.field-0.0) =
+    one_refused g.F.Files.fetched g.F.Files.view request (record { name = string_bytes c.args.program; kind = ProgramFile })
+    c.args.files.now new refl c.open_program.ensures.fetched c.open_program.ensures.kept
     c.in_err-file.field-0.0 c.in_err-file.ensures.unopened in
     search rules
 
 pub returns : goal.returns
 returns g c =
-    let request = request_of (command.Dis c.args.program) in
-    let old = c.args.files.now in
-    all_opened g.F.Files.fetched g.F.Files.view request (c.in_ok-file.file.bytes.items ∷ []) old c.open_program.new.files
-    (opened_next g.F.Files.fetched g.F.Files.view request [] [] []
-    (record { name = string_bytes c.args.program; kind = ProgramFile }) old old
-    c.open_program.new.files refl (none_opened g.F.Files.fetched g.F.Files.view old) c.open_program.ensures.fetched
-    c.open_program.ensures.kept
-    c.in_ok-file.file.bytes.items c.in_ok-file.ensures.opened) (Ok (answer.Listing c.in_ok-file.file.content))
+    one_opened g.F.Files.fetched g.F.Files.view (request_of (command.Dis c.args.program))
+    (record { name = string_bytes c.args.program; kind = ProgramFile }) c.args.files.now c.open_program.new.files refl
+    c.open_program.ensures.fetched c.open_program.ensures.kept c.in_ok-file.file.bytes.items c.in_ok-file.ensures.opened
+    (Ok (answer.Listing c.in_ok-file.file.content))
     (record { program = c.in_ok-file.file.content; loads = c.in_ok-file.ensures.loads; is_text = refl })

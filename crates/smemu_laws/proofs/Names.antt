@@ -1,0 +1,26 @@
+-- Each name that words give a command is that of a file which it names.
+use Rattle.std.proofs.Common.{◌≡◌, ℕ, List, [], ◌∷◌, Some, refl, subst, drop}
+use Rattle.cmd_words.specs.Forms.{form_of}
+use Rattle.cmd_words.specs.Words.{Request, arguments_of, command_of}
+use Rattle.cmd_words.specs.declared.verb.Verb.{Verb}
+use Rattle.cmd_words.specs.declared.verb.Verb.TheVariants.{Replay}
+use Rattle.smemu.specs.Requests.{files_named, kinds_of, named_by}
+use Rattle.smemu.proofs.Words.{asked_for}
+use Rattle.smemu_laws.specs.Names.{names_of, names_said}
+
+-- of the words after a command
+named_so : (verb : Verb) (words : List (List ℕ))
+    → names_of (named_by (arguments_of (form_of verb).operands words) (kinds_of verb))
+    ≡ names_said (arguments_of (form_of verb).operands words)
+named_so Replay [] = refl
+named_so Replay (program ∷ []) = refl
+named_so Replay (program ∷ report ∷ []) = refl
+named_so Replay (program ∷ report ∷ thread ∷ words) = refl
+named_so verb [] = refl
+named_so verb (word ∷ words) = refl
+
+pub all_named : (words : List (List ℕ)) (request : Request) → command_of words ≡ Some request
+    → names_of (files_named request) ≡ names_said request.operands
+all_named words request e =
+    let asked = asked_for words request e in
+    subst (λ (r : Request). names_of (files_named r) ≡ names_said r.operands) asked.1 (named_so asked.0 (drop 1 words))
