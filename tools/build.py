@@ -161,13 +161,13 @@ def build(needed, running, progress, held):
     left, most, most_lines = list(needed), slots(), urgency(needed)
     while left or running:
         ready = sorted((it for it in left if not {*USES[it]} & {*left, *running}), key=most_lines.get, reverse=True)
-        # the cores are shared out; where they do not come out even, a crate may have one that others use too
-        jobs = -(-most // max(1, len(running) + len(ready)))
         for name in ready[:most - len(running)]:
             left.remove(name)
             if name == PROGRAM:
-                running[name] = Run(held, CRATES / name, "run", "--", "--version")
+                running[name] = Run(held, CRATES / name, "run", "--jobs", "1", "--", "--version")
                 continue
+            # each job reads all that stands below the crate, so more than one serves only where nothing does
+            jobs = 1 if USES[name] else min(most, 2)
             running[name] = Run(held, make_tree(name), "lib", "--jobs", str(jobs))
         progress.show(running)
         time.sleep(0.2)
