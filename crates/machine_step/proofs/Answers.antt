@@ -1,6 +1,9 @@
 -- What makes the answer of an instruction.
+use mathlib.Core.HLevel.{Σ_prop_path}
+use Rattle.std.proofs.Props.{props}
 use Rattle.std.proofs.Common.{List, ◌&&◌, ◌≡◌, ◌%◌, Bool, true, false, cond, IsTrue, Option, Some, None, ℕ, length, refl, ap, sym, ◌∙◌}
 use Rattle.sm_types.specs.declared.scalars.Scalars.{Scalars}
+use Rattle.sm_types.specs.declared.length.VecLen.{VecLen}
 use Rattle.sm_types.specs.declared.insn.Insn.{Insn}
 use Rattle.sm_types.specs.declared.insn.Insn.TheVariants as insn
 use Rattle.sm_types.specs.declared.insn.SystemMove.{SystemMove}
@@ -224,6 +227,23 @@ no_operation it s m law none = none_made (touched it s) (access_of it s) s m (la
 -- a machine with other registers and pages
 abbrev pub after_transfer : Machine → Scalars → PageTable → Machine
 after_transfer m scalars pages = record m { scalars = scalars; pages = pages }
+
+-- which is as it was where these are
+pub stays : (m : Machine) (scalars : Scalars) (pages : PageTable) → scalars ≡ m.scalars → pages ≡ m.pages
+    → after_transfer m scalars pages ≡ m
+stays m scalars pages registers table =
+    ap (λ k. after_transfer m k pages) registers ∙ ap (after_transfer m m.scalars) table
+
+VecLen-set : (a b : VecLen) → IsProp (a ≡ b)
+VecLen-set a b = Prim.hlevel props
+
+-- a bank whose vectors are as they were
+pub same_bank : (b : Bank) (v : SveState) (one : b.za.svl ≡ v.svl) → v ≡ b.vectors
+    → record b { vectors = v; one_length = one } ≡ b
+same_bank b v one same =
+    let pairs : ◌≡◌ {A = (w : SveState) × (b.za.svl ≡ w.svl)} (v, one) (b.vectors, b.one_length) =
+    Σ_prop_path (λ w. VecLen-set b.za.svl w.svl) same in
+    λ i. record b { vectors = (pairs i).0; one_length = (pairs i).1 }
 
 cond_neither : (executed : Bool) (mode : Option Exception) → cond executed (unless_refused mode false) false ≡ false
 cond_neither true None = refl

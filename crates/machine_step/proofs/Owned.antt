@@ -21,7 +21,8 @@ use Rattle.mem_access.specs.Transfer.{writes_of, raised_by}
 use Rattle.mem_access.specs.declared.bank.Bank.{Bank}
 use Rattle.mem_access.specs.declared.stop.AccessStop.{AccessStop}
 use Rattle.mem_access.specs.declared.stop.AccessStop.TheVariants.{Raise as RaiseStop}
-use Rattle.machine_step.specs.Owned.{ExecutionOwns, StepOwns, writes_on, writes_in, step_writes}
+use Rattle.machine_step.specs.Owned.{ExecutionOwns, AttemptOwns, StepOwns, writes_on, writes_in, step_writes}
+use Rattle.machine_step.specs.declared.at_once.Attempt.{Attempt}
 use Rattle.machine_step.specs.declared.machine.Machine.{Machine}
 use Rattle.machine_step.specs.declared.executed.Executed.{Executed}
 use Rattle.machine_step.specs.declared.executed.Executed.TheVariants.{Next, Call, Raise, Ask, NeedsBank, Memory}
@@ -48,6 +49,12 @@ also_as xs ys old new same owns = subst (λ (bytes : List ℕ). OwnsAlso old new
 pub execution_as : (xs ys : List ℕ) (old new : PageTable) (end : Executed) → xs ≡ ys → ExecutionOwns ys old new end
     → ExecutionOwns xs old new end
 execution_as xs ys old new end same owns = subst (λ (bytes : List ℕ). ExecutionOwns bytes old new end) (sym same) owns
+
+pub step_as : (xs ys : List ℕ) (old new : PageTable) (end : StepEnd) → xs ≡ ys → StepOwns ys old new end → StepOwns xs old new end
+step_as xs ys old new end same owns = subst (λ (bytes : List ℕ). StepOwns bytes old new end) (sym same) owns
+
+pub attempt_as : (xs ys : List ℕ) (old new : PageTable) (end : Attempt) → xs ≡ ys → AttemptOwns ys old new end → AttemptOwns xs old new end
+attempt_as xs ys old new end same owns = subst (λ (bytes : List ℕ). AttemptOwns bytes old new end) (sym same) owns
 
 -- an access that is made
 pub owns_next : (written : List ℕ) (old mid new : PageTable) (end : Executed) → OwnsAlso old mid written → new ≡ mid → end ≡ Next
@@ -116,11 +123,11 @@ fetched_writes m lent word it fetched is =
     ap (λ w. writes_in m lent (option_and_then instruction_of w)) fetched ∙ ap (writes_in m lent) is
 
 -- an instruction of a machine and a bank that are as they were
-pub waited_owns : (m n : Machine) (b c : Bank) (it : Insn) (after : PageTable) (end : Executed) → n ≡ m → c ≡ b
-    → ExecutionOwns (writes_on n c it) n.pages after end → ExecutionOwns (writes_on m b it) m.pages after end
+pub waited_owns : (m n : Machine) (b c : Bank) (it : Insn) (after : PageTable) (end : StepEnd) → n ≡ m → c ≡ b
+    → StepOwns (writes_on n c it) n.pages after end → StepOwns (writes_on m b it) m.pages after end
 waited_owns m n b c it after end machine bank owns =
-    subst (λ (k : Bank). ExecutionOwns (writes_on m k it) m.pages after end) bank
-    (subst (λ (k : Machine). ExecutionOwns (writes_on k c it) k.pages after end) machine owns)
+    subst (λ (k : Bank). StepOwns (writes_on m k it) m.pages after end) bank
+    (subst (λ (k : Machine). StepOwns (writes_on k c it) k.pages after end) machine owns)
 
 -- an operation on a shared word
 pub asked_owns : (written : List ℕ) (before mid new : PageTable) (it : Insn) (op : SharedOp) (executed : Executed) (end : StepEnd)

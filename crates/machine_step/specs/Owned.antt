@@ -17,6 +17,8 @@ use Rattle.za_access.specs.Vectors.{vector_writes}
 use Rattle.za_access.specs.Slices.{slice_writes}
 use Rattle.machine_step.specs.ProcessorState.{vector_bytes}
 use Rattle.machine_step.specs.declared.machine.Machine.{Machine}
+use Rattle.machine_step.specs.declared.at_once.Attempt.{Attempt}
+use Rattle.machine_step.specs.declared.at_once.Attempt.TheVariants as attempt
 use Rattle.machine_step.specs.declared.executed.Executed.{Executed}
 use Rattle.machine_step.specs.declared.executed.Executed.TheVariants as executed
 use Rattle.machine_step.specs.declared.step.StepEnd.{StepEnd}
@@ -56,6 +58,12 @@ abbrev pub ExecutionOwns : List ℕ → PageTable → PageTable → Executed →
 ExecutionOwns written old new executed.Next = OwnsAlso old new written
 ExecutionOwns written old new executed.Memory = KeepsOwned old new
 ExecutionOwns written old new other = new ≡ old
+
+-- the same after an attempt to execute it at once
+abbrev pub AttemptOwns : List ℕ → PageTable → PageTable → Attempt → Type 0
+AttemptOwns written old new attempt.Done = OwnsAlso old new written
+AttemptOwns written old new attempt.Waits = new ≡ old
+AttemptOwns written old new attempt.Memory = KeepsOwned old new
 
 -- the same after a step: an access to a shared word, which has an event, leaves the page table too
 abbrev pub StepOwns : List ℕ → PageTable → PageTable → StepEnd → Type 0

@@ -2,15 +2,19 @@
 ghost use Rattle.std.specs.Prelude.{◌≡◌, ◌≢◌, None, Some, ℕ, List};
 ghost use Rattle.paged_memory.specs.PageTable.{PageTable};
 ghost use Rattle.shared_region.specs.Tickets.{IsTicketOf, GivesEvents};
-ghost use Rattle.machine_step.specs.ProcessorState.{ProcessorState, VectorState};
+ghost use Rattle.a64_encode.specs.Either.{instruction_of};
+ghost use Rattle.mem_access.specs.Bank.{bank_state};
+ghost use Rattle.machine_step.specs.ProcessorState.{ProcessorState, VectorState, vector_bytes};
+ghost use Rattle.machine_step.specs.Execution.{effect_of_insn};
 ghost use Rattle.machine_step.specs.Effect.{Effect, Asks, answered, effect_of};
 ghost use Rattle.machine_step.specs.Needs.{needs_bank};
 ghost use Rattle.machine_step.specs.Machine.{core_of, HasRoomToStep, IsInMode, IsSameBank, KeepsMode, Steps};
-ghost use Rattle.machine_step.specs.Machine.{IsAsk, IsAsked, AsksWell};
-ghost use Rattle.machine_step.specs.Owned.{ExecutionOwns, StepOwns, step_writes};
-ghost use Rattle.machine_step.specs.Step.{Tells, TellsOn, TellsAlone, events_in};
+ghost use Rattle.machine_step.specs.Machine.{HasRoomOn, IsAsk, IsAsked, AsksWell};
+ghost use Rattle.machine_step.specs.Owned.{ExecutionOwns, StepOwns, step_writes, writes_on};
+ghost use Rattle.machine_step.specs.Step.{AsksFor, Tells, TellsOn, TellsAlone, events_in};
 ghost use Rattle.machine_step.specs.Lent.{lent_before, lent_after, IsLentInMode, Answers, AsksOf, ComesBack};
 
+use crate::at_once::Attempt;
 use crate::decoder::{Decoded, Decoder};
 use crate::executed::Executed;
 use crate::machine::Machine;
@@ -137,9 +141,40 @@ impl Machine {
         let Some(insn) = known.instruction(word) else {
             return StepEnd::Raise(Exception::Undefined(word));
         };
-        if self.compute(word, insn, bank) {
-            return StepEnd::Next(None);
+        match self.execute_at_once(word, insn, bank) {
+            Attempt::Done => StepEnd::Next(None),
+            Attempt::Memory => StepEnd::Memory,
+            Attempt::Waits => self.execute_with_port(word, insn, bank, port, ticket, thread, room),
         }
+    }
+
+    /// Executes the instruction of a word on a bank; the port answers the operation that it asks, if any.
+    #[inline(never)]
+    fn execute_with_port<P: Port>(
+        &mut self,
+        word: u32,
+        insn: &Insn,
+        bank: &mut Bank,
+        port: &mut P,
+        ticket: &mut P::Ticket,
+        thread: u32,
+        room: bool,
+    ) -> StepEnd
+        requires means { instruction_of word ≡ Some insn.now }
+        requires mode { IsInMode bank.old self.old }
+        requires ticket { IsTicketOf thread (P.name port.old) (P.tells ticket.old) }
+        ensures effect { TellsOn (effect_of_insn word insn.now)
+            (P.refuses port.old ticket.old) room self.old bank.old self.new bank.new result }
+        ensures same { IsSameBank bank.old bank.new }
+        ensures mode { IsInMode bank.new self.new }
+        ensures memory { HasRoomOn self.old bank.old insn.now → result ≡ StepEnd.Memory
+            → AsksFor (effect_of_insn word insn.now (vector_bytes bank.old.vectors.vl)
+            (core_of self.old (bank_state bank.old)))
+            (λ op. (P.refuses port.old ticket.old).takes_memory) }
+        ensures owned { StepOwns (writes_on self.old bank.old insn.now) self.old.pages self.new.pages result }
+        ensures gives { GivesEvents P.gives P.name P.tells thread (events_in result) port.old ticket.old
+            port.new ticket.new }
+    {
         let executed = self.execute_on(word, insn, bank);
         self.finish(&executed, port, ticket, thread, room)
     }
