@@ -10,7 +10,7 @@ use Rattle.std.proofs.Math.Nat.{mul-le-mul_left}
 use Rattle.std.proofs.Math.Nat.{mul-le-mul_right, pow-suc}
 use Rattle.std.proofs.lemmas.Bool.{le-ltb, and_parts, and_from, cases_lt, cond-true}
 use Rattle.std.proofs.lemmas.Bool.Decides.{nat_tests}
-use Rattle.std.proofs.lemmas.Fmt.{digits_decimal, digits_value-decimal, decimal_nonempty, first_decimal, decimal_digit}
+use Rattle.std.proofs.lemmas.Fmt.{digits_decimal, digits_value-decimal, decimal_nonempty, first_decimal, decimal_digit, decimal-digits_value}
 use Rattle.std.proofs.lemmas.Str.Parse.{IsNumeralModel, IsDigitsTest, numerals_by_value}
 use Rattle.std.specs.Prelude.{IfSome}
 use Rattle.line_reader.specs.declared.numbers.Base.TheVariants.{Sixteen}
@@ -141,3 +141,36 @@ module _ (n : ℕ) (fits : n < 2 ^ 64) where
       cond-true (is_decimal (decimal n)) _ None printed
       ∙ ap if_fits (digits_value-decimal own n fits)
       ∙ ap (λ b. cond b (Some n) None) (lt-ltb n (2 ^ 64) fits)
+
+-- ---- a word that is read as a number is the printed number
+
+-- a number that was read, and what it means of the word
+pub record IsPrinted (ds : List ℕ) (n : ℕ) : Type 0 where
+  pub is : ds ≡ decimal n
+  pub fits : n < 2 ^ 64
+
+lone_zero : (ds : List ℕ) → (not (slice_index ds 0 == 48) || (length ds == 1)) ≡ true → get_or ds 0 0 ≡ 48 → length ds ≡ 1
+lone_zero ds h e = grind (arith, nat_tests)
+
+fitted_is : (v n : ℕ) → if_fits v ≡ Some n → (v ≡ n) × (v < 2 ^ 64)
+fitted_is v n e = elim (nat_lt v (2 ^ 64)) as (λ b. nat_lt v (2 ^ 64) ≡ b → ◌≡◌ {A = Option ℕ} (cond b (Some v) None) (Some n) → (v ≡ n) × (v < 2 ^ 64)) [
+  | true ↦ λ is h. (cc, grind (arith, nat_tests))
+  | false ↦ λ is h. cc
+] refl e
+
+pub decimal_printed : (ds : List ℕ) (n : ℕ) → decimal_number ds ≡ Some n → IsPrinted ds n
+unfolding decimal_number is_decimal decimal_value
+decimal_printed ds n e =
+    elim (has_no_leading_zero ds && list_all is_ascii_digit ds) as (λ b. (has_no_leading_zero ds && list_all is_ascii_digit ds) ≡ b
+    → cond b (if_fits (digits_value 10 ds)) None ≡ Some n → IsPrinted ds n) [
+      | true ↦ λ is h.
+          let parts = and_parts (has_no_leading_zero ds) (list_all is_ascii_digit ds) is in
+          let first = and_parts (nat_lt 0 (length ds)) (not (slice_index ds 0 == 48) || (length ds == 1)) parts.0 in
+          let some : 0 < length ds = grind (arith, nat_tests) in
+          let fits = fitted_is (digits_value 10 ds) n h in
+          record {
+            is = sym (decimal-digits_value own ds parts.1 some (lone_zero ds first.1) fits.1) ∙ ap decimal fits.0;
+            fits = omega (arith, fits.0, fits.1);
+          }
+      | false ↦ λ is h. cc
+    ] refl e

@@ -24,6 +24,10 @@ words_in (b ∷ bs) = if b == 32 then [] ∷ words_in bs else onto_first b (word
 unfoldable pub is_ended : List ℕ → Bool
 is_ended line = slice_index line (length line - 1) == 10
 
+-- a line without the line feed that may end it
+unfoldable pub line_text : List ℕ → List ℕ
+line_text line = if is_ended line then take (length line - 1) line else line
+
 -- the words of a line; what no line feed ends has none
 unfoldable pub words_of : List ℕ → List (List ℕ)
 words_of line = if is_ended line then words_in (take (length line - 1) line) else []

@@ -3,7 +3,7 @@ ghost use Rattle.std.specs.Prelude.{◌≡◌, ◌∷◌, [], ◌+◌, ◌-◌, 
 ghost use Rattle.std.specs.Prelude.{length, take, if◌then◌else◌, MatchOption, IfSome};
 ghost use Rattle.std.specs.List.{position};
 ghost use Rattle.std.specs.Str.{bytes_eq};
-ghost use Rattle.line_reader.specs.Lines.{is_ended, words_of};
+ghost use Rattle.line_reader.specs.Lines.{is_ended, line_text, words_in, words_of};
 ghost use Rattle.line_reader.specs.Fields as spec;
 ghost use Rattle.line_reader.specs.Fields.{Says};
 ghost use Rattle.line_reader.specs.Told.{words_ahead};
@@ -48,8 +48,26 @@ fn ended_text(line: &[u8]) -> Option<&[u8]>
     }
 }
 
+/// A line without the line feed that may end it.
+#[tactic(auto, unfolding(crate::specs::Lines::line_text))]
+pub fn line_text(line: &[u8]) -> &[u8]
+    ensures { result.now ≡ line_text line.now }
+{
+    match ended_text(line) {
+        Some(text) => text,
+        None => line,
+    }
+}
+
 impl<'a> Fields<'a> {
-    /// The words of a line.
+    /// The words of a text.
+    pub fn of_text(text: &'a [u8]) -> Fields<'a>
+        ensures { words_ahead result ≡ words_in text.now }
+    {
+        Fields { left: Some(text) }
+    }
+
+    /// The words of a line; what no line feed ends has none.
     #[tactic(auto, unfolding(crate::specs::Lines::words_of))]
     pub fn of(line: &'a [u8]) -> Fields<'a>
         ensures { words_ahead result ≡ words_of line.now }

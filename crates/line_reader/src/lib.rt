@@ -12,7 +12,7 @@ mod tables;
 
 pub use difference::{Difference, first_difference};
 pub use fault::LineFault;
-pub use fields::{Fields, is_word};
-pub use lines::{Lines, begins_with};
+pub use fields::{Fields, is_word, line_text};
+pub use lines::{Lines, begins_with, split_line};
 pub use numbers::{Base, decimal_number, digits_in, hex_number, is_decimal, is_hex, number_below};
 pub use tables::found_in;

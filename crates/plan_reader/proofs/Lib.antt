@@ -1,0 +1,5 @@
+pub mod Lines
+pub mod Spoken
+pub mod Plans
+pub mod FirstWord
+pub mod Faults
