@@ -23,10 +23,11 @@ use Rattle.kernel_contexts.proofs.Turns.{ends_turned, yields_turned}
 use Rattle.kernel_contexts.specs.Owner.{is_owner}
 use Rattle.core_unit.specs.Course.{Going, GaveWay, HasStopped, course}
 use Rattle.core_unit.specs.Guest.{Guest, next_turn}
-use Rattle.core_unit.specs.Run.{place_of, before_run, answers_of, course_of, RunsFirst, EndsBy, end_of, end_of_turn}
+use Rattle.core_unit.specs.Run.{place_of, before_run, answers_of, course_of, RunsFirst, EndsBy, WantsTurn, end_of, end_of_turn}
 use Rattle.core_unit.specs.Run as run
 use Rattle.core_unit.specs.declared.run.RunWhy.{RunWhy}
-use Rattle.core_unit.specs.declared.run.RunWhy.TheVariants.{Spent, Yielded, Stopped, TraceEnds, TraceDiffers, Memory}
+use Rattle.core_unit.specs.declared.run.RunWhy.TheVariants.{Spent, Yielded, Stopped, Idle, TraceEnds, TraceDiffers, Memory}
+use Rattle.core_unit.specs.declared.run.CoreRun.{CoreRun}
 use Rattle.core_unit.proofs.Courses.{longer_at, next, asks_next, stays_to}
 
 -- a guest thread after so many turns
@@ -61,6 +62,19 @@ run_begins old =
       journal = sym (append-nil old.journal) ∙ ap (λ (l : List Event). old.journal ++ l) (sym none);
       turns = omega arith;
       place = ap (before_run old) none;
+    }
+
+-- a thread by its parts
+same_guest : (a b : Guest) → b.program ≡ a.program → b.config ≡ a.config → b.number ≡ a.number → b.state ≡ a.state → b.stop ≡ a.stop
+    → b.journal ≡ a.journal → b ≡ a
+same_guest a b program config number state stop journal =
+    λ i. record {
+      program = program i;
+      config = config i;
+      number = number i;
+      state = state i;
+      stop = stop i;
+      journal = journal i;
     }
 
 module _ (old now next : Guest) (n : ℕ) (made : List Event) (h : HasRun old n now)
@@ -137,6 +151,15 @@ module _ (old now next : Guest) (n : ℕ) (made : List Event) (h : HasRun old n 
       Rattle.core_unit.proofs.Courses.next old.config old.number (before_run old (answers_of old next)) now.state (length now.journal) n []
       (Ends next.state stop) (at_quiet none) (same_turn (Ends next.state stop) is)
       ∙ ap (λ d. HasStopped next.state stop d []) (same_length none)
+
+  -- where nothing has changed, memory may be wanting for the same turn
+  wants_there : (takes_memory : Type 0) → next.state ≡ now.state → made ≡ [] → next.stop ≡ None → WantsTurn takes_memory now
+      → WantsTurn takes_memory next
+  wants_there takes_memory same none stopped wants =
+      let journal : now.journal ≡ next.journal =
+      sym (later.journal ∙ ap (λ (l : List Event). now.journal ++ l) none ∙ append-nil now.journal) in
+      subst (WantsTurn takes_memory)
+      (same_guest next now (sym later.program) (sym later.config) (sym later.number) (sym same) (runs ∙ sym stopped) journal) wants
 
   -- the turn after these
   module _ (refusals : Refusals) where
@@ -220,9 +243,9 @@ module _ (old now next : Guest) (n : ℕ) (made : List Event) (h : HasRun old n 
           subst (λ (end : TurnEnd). AsksFor end holds) (sym is) asks
 
       ends_with : (turn : Turn) (why : RunWhy) → end_of_turn turn ≡ Some why → NextTurn turn
-          → EndsBy refusals k old next rose (end_of why)
-      ends_with turns.Ran why is e = cc
-      ends_with turns.Yielded why is e =
+          → (turn ≡ turns.Memory → WantsTurn refusals.takes_memory now) → EndsBy refusals k old next rose (end_of why)
+      ends_with turns.Ran why is e wants = cc
+      ends_with turns.Yielded why is e wants =
           let more = yields_turned now.config now.number (length now.journal) now.state next.state e.0 in
           subst (λ (w : RunWhy). EndsBy refusals k old next rose (end_of w)) (same_Some Yielded why is) (
             stays_to old.config old.number _ (GaveWay next.state (length next.journal) []) (suc n) k (omega (arith, less)) tt
@@ -230,27 +253,28 @@ module _ (old now next : Guest) (n : ℕ) (made : List Event) (h : HasRun old n 
             e.2,
             omega (arith, more, h.turns, rises_by),
           )
-      ends_with (turns.Stopped stop) why is e =
+      ends_with (turns.Stopped stop) why is e wants =
           subst (λ (w : RunWhy). EndsBy refusals k old next rose (end_of w)) (same_Some Stopped why is) (
             stop,
             stays_to old.config old.number _ (HasStopped next.state stop (length next.journal) []) (suc n) k (omega (arith, less)) tt
                 (has_stopped stop e.0 e.1),
             e.2,
           )
-      ends_with turns.NeedsBank why is e = absurd e
-      ends_with turns.TraceEnds why is e =
+      ends_with turns.NeedsBank why is e wants = absurd e
+      ends_with turns.TraceEnds why is e wants =
           subst (λ (w : RunWhy). EndsBy refusals k old next rose (end_of w)) (same_Some TraceEnds why is)
           (still e.1 e.2 e.3, fewer e.1, asks_there (λ op. IsCause refusals op refused.TraceEnds) e.0 e.1 e.2)
-      ends_with turns.TraceDiffers why is e =
+      ends_with turns.TraceDiffers why is e wants =
           subst (λ (w : RunWhy). EndsBy refusals k old next rose (end_of w)) (same_Some TraceDiffers why is)
           (still e.1 e.2 e.3, fewer e.1, asks_there (λ op. IsCause refusals op refused.TraceDiffers) e.0 e.1 e.2)
-      ends_with turns.Memory why is e =
+      ends_with turns.Memory why is e wants =
           subst (λ (w : RunWhy). EndsBy refusals k old next rose (end_of w)) (same_Some Memory why is)
-          (still e.0 e.1 e.2, fewer e.0, tt)
+          (still e.0 e.1 e.2, fewer e.0, wants_there refusals.takes_memory e.0 e.1 e.2 (wants refl))
 
       pub runs_so : (turn : Turn) (why : RunWhy) → end_of_turn turn ≡ Some why → NextTurn turn
+          → (turn ≡ turns.Memory → WantsTurn refusals.takes_memory now)
           → RunsFirst refusals k old next (record { turns = rose; why = why })
-      runs_so turn why is e = run_by why (ends_with turn why is e)
+      runs_so turn why is e wants = run_by why (ends_with turn why is e wants)
 
 -- as many turns as it was let
 pub runs_spent : (refusals : Refusals) (k : ℕ) (old now : Guest) (n : ℕ) → HasRun old n now
@@ -288,6 +312,10 @@ runs_not refusals k old stop is =
         is,
       );
     }
+
+-- a run of a resident is not idle
+pub never_idle : (refusals : Refusals) (k : ℕ) (old new : Guest) (run : CoreRun) → RunsFirst refusals k old new run → run.why ≡ Idle → ⊥
+never_idle refusals k old new run h is = subst (λ (w : RunWhy). EndsBy refusals k old new run.turns (end_of w)) is h.end
 
 -- ---- what a turn on the bank of a core says, where the thread owns it and has not stopped
 

@@ -3,16 +3,19 @@ use Rattle.std.specs.Prelude.{◌≡◌, Bool, true, false, ℕ, ◌+◌, ◌<�
 use Rattle.std.specs.Prelude.{Option, Some, None, length}
 use Rattle.sm_types.specs.declared.shared_op.Event.{Event}
 use Rattle.sm_types.specs.declared.stop.Stop.{Stop}
+use Rattle.mem_access.specs.declared.bank.Bank.{Bank}
 use Rattle.shared_region.specs.Tickets.{Refusals, IsCause}
 use Rattle.shared_region.specs.declared.port.PortStop.{PortStop}
 use Rattle.shared_region.specs.declared.port.PortStop.TheVariants as refused
 use Rattle.kernel_contexts.specs.State.{State}
-use Rattle.kernel_contexts.specs.Context.{AsksFor, made_since}
+use Rattle.kernel_contexts.specs.Context.{AsksFor, made_since, bank_with}
+use Rattle.kernel_contexts.specs.Context.{MayWantMemory, IsPlaceFree, GoesOrAsks}
+use Rattle.kernel_contexts.specs.declared.context.Context.{Context}
 use Rattle.kernel_contexts.specs.declared.context.Turn.{Turn}
 use Rattle.kernel_contexts.specs.declared.context.Turn.TheVariants as turn
 use Rattle.core_unit.specs.Course.{Course, Going, GaveWay, HasStopped, course}
 use Rattle.core_unit.specs.CoreState.{CoreState}
-use Rattle.core_unit.specs.Guest.{Guest, Held, next_turn}
+use Rattle.core_unit.specs.Guest.{Guest, Held, guest_on, next_turn}
 use Rattle.core_unit.specs.declared.run.CoreRun.{CoreRun}
 use Rattle.core_unit.specs.declared.run.RunWhy.{RunWhy}
 use Rattle.core_unit.specs.declared.run.RunWhy.TheVariants as why
@@ -68,10 +71,19 @@ course_of old new turns = course old.config old.number (before_run old (answers_
 abbrev pub GoesOn : Guest → Guest → ℕ → Type 0
 GoesOn old new turns = (course_of old new turns ≡ Going new.state (length new.journal) []) × (new.stop ≡ None)
 
--- why the next turn is not made: its operation is one that the port refuses so; for want of memory, it may be
--- any turn
+-- memory may be wanting for the next turn of a guest thread, over a port that takes memory where this holds:
+-- it may for that turn of a context on a bank which is the thread as it stands
+pub record WantsTurn (takes_memory : Type 0) (g : Guest) : Type 0 where
+  pub context : Context
+  pub bank : Bank
+  pub is : guest_on bank context ≡ g
+  pub wants : MayWantMemory takes_memory context (bank_with context bank)
+  pub goes : IsPlaceFree context → GoesOrAsks takes_memory (next_turn g)
+
+-- why the next turn is not made: its operation is one that the port refuses so, or memory may be wanting for
+-- it
 abbrev pub IsCutBy : Refusals → Guest → PortStop → Type 0
-IsCutBy refusals g refused.Memory = Unit {0}
+IsCutBy refusals g refused.Memory = WantsTurn refusals.takes_memory g
 IsCutBy refusals g stop = AsksFor (next_turn g) (λ op. IsCause refusals op stop)
 
 -- the thread made turns until so many were made, it gave way or it stopped, or the run was cut short; what

@@ -8,4 +8,4 @@ mod turns;
 mod unit;
 
 pub use run::{CoreRun, RunWhy};
-pub use unit::Core;
+pub use unit::{Core, PLACES};

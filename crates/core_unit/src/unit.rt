@@ -1,9 +1,11 @@
 //! Cores.
-ghost use Rattle.std.specs.Prelude.{◌≡◌, ◌+◌, ◌<◌, ◌≤◌, ◌++◌, ℕ, [], ◌∷◌, vec_len, vec_capacity, length, drop};
-ghost use Rattle.std.specs.Prelude.{slice_get, Some, None, IfOk, IfErr, IfSome, OnOk, OnErr, true, false};
+ghost use Rattle.std.specs.Prelude.{◌≡◌, ◌+◌, ◌<◌, ◌≤◌, ◌++◌, ℕ, [], ◌∷◌, vec_len, vec_capacity, length};
+ghost use Rattle.std.specs.Prelude.{drop, slice_get, Some, None, IfOk, IfErr, IfSome, OnOk, OnErr};
+ghost use Rattle.std.specs.Prelude.{true, false};
 ghost use Rattle.shared_region.specs.Tickets.{IsTicketOf, GivesEvents};
 ghost use Rattle.kernel_contexts.specs.SaveArea.{HasLengths};
 ghost use Rattle.kernel_contexts.specs.Context.{is_home, config_of, thread_of, made_by, IsSameThread};
+ghost use Rattle.core_unit.specs.CoreState.{places};
 ghost use Rattle.core_unit.specs.Guest.{guest_of, held_of};
 ghost use Rattle.core_unit.specs.Home.{IsAtHome};
 ghost use Rattle.core_unit.specs.Run.{RunsFirst, is_stop};
@@ -17,6 +19,9 @@ use shared_region::Port;
 use sm_types::{Config, Memory};
 use std::alloc::Global;
 
+/// How many residents and stopped threads a core has at most.
+pub const PLACES: usize = 8;
+
 /// A core: a queue of residents, of which the first one makes turns, threads that have stopped, and a bank.
 /// There are at most eight residents and stopped threads together. Between two calls no thread owns the bank,
 /// and each resident is home.
@@ -29,14 +34,11 @@ pub struct Core<P: Port> {
     bank: Bank,
     ghost lengths: { HasLengths config bank },
     ghost owner: { bank.owner ≡ None },
-    ghost few: { vec_len residents + vec_len done ≤ 8 },
-    ghost room: { 8 ≤ vec_capacity residents },
-    ghost done_room: { 8 ≤ vec_capacity done },
+    ghost few: { vec_len residents + vec_len done ≤ places },
+    ghost room: { places ≤ vec_capacity residents },
+    ghost done_room: { places ≤ vec_capacity done },
     ghost at_home: { (i : ℕ) (r : _) → slice_get residents.items i ≡ Some r → IsAtHome config r.context },
 }
-
-/// How many residents and stopped threads a core has at most.
-const PLACES: usize = 8;
 
 /// Lets the first resident of a core make so many turns at most: its vectors and ZA are moved into the bank
 /// for that, and back.
@@ -90,7 +92,7 @@ fn retire<P: Port>(residents: &mut Vec<Resident<P>>, done: &mut Vec<Whole<P>>)
 }
 
 impl<P: Port> Core<P> {
-    ghost use Rattle.core_unit.specs.CoreState.{empty_core, places, thread_count, with_first, with_last};
+    ghost use Rattle.core_unit.specs.CoreState.{empty_core, thread_count, with_first, with_last};
     ghost use Rattle.core_unit.specs.CoreState.{with_done, with_next, first_number, turned_over};
     ghost use Rattle.core_unit.specs.CoreState.{IsAbsent, BelongTo};
     ghost use Rattle.core_unit.specs.Run.{RunsCore};
@@ -138,14 +140,16 @@ impl<P: Port> Core<P> {
     }
 
     /// Lets the first resident make so many turns at most, until it gives way or stops; one that has
-    /// stopped is done with. `Idle` comes exactly where there is no resident. `TraceEnds` and
-    /// `TraceDiffers` come only where, before that, the next turn asks an operation that the port refuses
-    /// so, as port and ticket stand at the end; `Memory` is want of memory for the next turn.
+    /// stopped is done with. `Idle` comes exactly where there is no resident, and leaves the port as it is.
+    /// `TraceEnds` and `TraceDiffers` come only where, before that, the next turn asks an operation that the
+    /// port refuses so, as port and ticket stand at the end; `Memory` comes only where memory may be wanting
+    /// for the next turn.
     pub fn run(&mut self, port: &mut P, k: u32) -> CoreRun
         requires belong { BelongTo (λ t. (P.tells t).name) (P.name port.old) (core_state self.old) }
         ensures run { RunsCore (λ t. P.refuses port.new t)
             (λ thread events t u. GivesEvents P.gives P.name P.tells thread events port.old t port.new u) k
             (core_state self.old) (core_state self.new) result }
+        ensures idle { result.why ≡ RunWhy.Idle → port.new ≡ port.old }
         ensures name { P.name port.new ≡ P.name port.old }
         ensures belong { BelongTo (λ t. (P.tells t).name) (P.name port.old) (core_state self.new) }
         ensures owner { owner_of self.new ≡ None }

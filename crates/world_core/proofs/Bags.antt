@@ -8,7 +8,7 @@ use Rattle.core_unit.specs.CoreState.{places}
 use Rattle.core_unit.specs.Guest.{Guest, Held}
 use Rattle.core_unit.specs.declared.run.RunWhy.{RunWhy}
 use Rattle.core_unit.specs.declared.run.RunWhy.TheVariants as why
-use Rattle.world_core.specs.Applies.{Applies, RunsBy, LetsMore}
+use Rattle.world_core.specs.Applies.{Applies, RunsBy, Comes, LetsMore, spends}
 use Rattle.world_core.specs.Events.{core_number, cut_to}
 use Rattle.world_core.specs.Happens.{Scene, Happened, happens, happens_on, on_core, run_of, next_of, fetched, offer_of}
 use Rattle.world_core.specs.Happens.{after_service, moved, refused, with_scene, scene_of}
@@ -17,8 +17,8 @@ use Rattle.sm_types.specs.declared.config.Config.{Config}
 use Rattle.world_core.specs.Parts.{HasRoom, guests_in}
 use Rattle.world_core.specs.Serve.{Service, Going, GaveWay, HasStopped, serve, begins}
 use Rattle.world_core.specs.World.{World, threads_of, residents_of, total, times, once_below, IsOwned}
-use Rattle.world_core.specs.declared.event.WorldEvent.{WorldEvent}
-use Rattle.world_core.specs.declared.event.WorldEvent.TheVariants as event
+use Rattle.plan_reader.specs.declared.event.WorldEvent.{WorldEvent}
+use Rattle.plan_reader.specs.declared.event.WorldEvent.TheVariants as event
 use Rattle.world_core.specs.declared.event.Applied.{Applied}
 use Rattle.world_core.specs.declared.event.Applied.TheVariants as applied
 
@@ -149,20 +149,19 @@ happens-config w e = on (slice_get w.cores (core_number e)) where
 abbrev LeadsTo : World → World → Type 0
 LeadsTo w new = (e : WorldEvent) × (new ≡ (happens w e).world)
 
-ran_leads : (w new : World) (e cut : WorldEvent) (answer : Applied) (turns : ℕ) (reason : RunWhy)
-    → RunsBy (happens w e ≡ record { world = new; answer = answer }) ((new ≡ (happens w cut).world) × LetsMore e turns) reason
-    → LeadsTo w new
-ran_leads w new e cut answer turns why.Spent h = (e, sym (ap (λ (x : Happened). x.world) h))
-ran_leads w new e cut answer turns why.Yielded h = (e, sym (ap (λ (x : Happened). x.world) h))
-ran_leads w new e cut answer turns why.Stopped h = (e, sym (ap (λ (x : Happened). x.world) h))
-ran_leads w new e cut answer turns why.Idle h = absurd h
-ran_leads w new e cut answer turns why.TraceEnds h = absurd h
-ran_leads w new e cut answer turns why.TraceDiffers h = absurd h
-ran_leads w new e cut answer turns why.Memory h = (cut, h.0)
+ran_leads : (w new : World) (e cut : WorldEvent) (answer all : Applied) (turns : ℕ) (reason : RunWhy)
+    → RunsBy (Comes e w new answer) (Comes cut w new all × LetsMore e turns) reason → LeadsTo w new
+ran_leads w new e cut answer all turns why.Spent h = (e, sym (ap (λ (x : Happened). x.world) h))
+ran_leads w new e cut answer all turns why.Yielded h = (e, sym (ap (λ (x : Happened). x.world) h))
+ran_leads w new e cut answer all turns why.Stopped h = (e, sym (ap (λ (x : Happened). x.world) h))
+ran_leads w new e cut answer all turns why.Idle h = absurd h
+ran_leads w new e cut answer all turns why.TraceEnds h = absurd h
+ran_leads w new e cut answer all turns why.TraceDiffers h = absurd h
+ran_leads w new e cut answer all turns why.Memory h = (cut, sym (ap (λ (x : Happened). x.world) h.0))
 
 pub leads : (w new : World) (e : WorldEvent) (answer : Applied) → Applies e w new answer → LeadsTo w new
 leads w new e applied.Done h = (e, sym (ap (λ (x : Happened). x.world) h))
-leads w new e (applied.Ran run) h = ran_leads w new e (cut_to e run.turns) (applied.Ran run) run.turns run.why h
+leads w new e (applied.Ran run) h = ran_leads w new e (cut_to e run.turns) (applied.Ran run) (spends run.turns) run.turns run.why h
 leads w new e (applied.NotEnabled reason) h = (e, sym (ap (λ (x : Happened). x.world) h))
 
 pub owned_on : (w : World) (e : WorldEvent) → IsOwned w → IsOwned (happens w e).world

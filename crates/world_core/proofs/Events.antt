@@ -2,11 +2,11 @@
 use Rattle.std.proofs.Common.{◌≡◌, true, false, ℕ, ◌++◌, List, [], ◌∷◌, refl, ap, sym, ◌∙◌, inr}
 use Rattle.core_unit.specs.declared.run.RunWhy.{RunWhy}
 use Rattle.core_unit.specs.declared.run.RunWhy.TheVariants as why
-use Rattle.world_core.specs.Applies.{Applies, RunsBy, Comes, LetsMore, wants_memory, is_wanting, ApplyAll}
+use Rattle.world_core.specs.Applies.{Applies, RunsBy, Comes, LetsMore, spends, wants_memory, is_wanting, ApplyAll}
 use Rattle.world_core.specs.Events.{cut_to}
 use Rattle.world_core.specs.Happens.{Happened, happens, world_after, answers_after}
 use Rattle.world_core.specs.World.{World}
-use Rattle.world_core.specs.declared.event.WorldEvent.{WorldEvent}
+use Rattle.plan_reader.specs.declared.event.WorldEvent.{WorldEvent}
 use Rattle.world_core.specs.declared.event.Applied.{Applied}
 use Rattle.world_core.specs.declared.event.Applied.TheVariants as applied
 
@@ -47,11 +47,11 @@ comes_so e old new applied.Done made h = h
 comes_so e old new (applied.Ran run) made h = ran_comes _ _ run.why made h
 comes_so e old new (applied.NotEnabled reason) made h = h
 
--- of one that was, fewer turns happened
+-- of one that was, fewer turns happened, and all of these were made
 record IsCut (e : WorldEvent) (old new : World) (answer : Applied) : Type 0 where
   pub turns : ℕ
   pub fewer : LetsMore e turns
-  pub world : new ≡ (happens old (cut_to e turns)).world
+  pub comes : Comes (cut_to e turns) old new (spends turns)
   pub answers : answer ≡ applied.Ran (record { turns = turns; why = why.Memory })
 
 cut_so : (e : WorldEvent) (old new : World) (answer : Applied) → wants_memory answer ≡ true → Applies e old new answer
@@ -62,7 +62,7 @@ cut_so e old new (applied.Ran run) wanting h =
     record {
       turns = run.turns;
       fewer = k.1.1;
-      world = k.1.0;
+      comes = k.1.0;
       answers = ap (λ (w : RunWhy). applied.Ran (record { turns = run.turns; why = w })) k.0;
     }
 cut_so e old new (applied.NotEnabled reason) wanting h = cc
@@ -95,8 +95,9 @@ module _ (w : World) (before : List WorldEvent) (e : WorldEvent) (old new : Worl
         turns = k.turns;
         is = parts;
         fewer = k.fewer;
-        world = k.world ∙ ap (λ (v : World). (happens v (cut_to e k.turns)).world) world
+        world = sym (ap (λ (x : Happened). x.world) k.comes) ∙ ap (λ (v : World). (happens v (cut_to e k.turns)).world) world
             ∙ sym (world_after-snoc w before (cut_to e k.turns));
+        made = ap (λ (v : World). (happens v (cut_to e k.turns)).answer) (sym world) ∙ ap (λ (x : Happened). x.answer) k.comes;
         answers_of = is ∙ ap (λ (l : List Applied). l ++ answer ∷ []) so_far
             ∙ ap (λ (a : Applied). answers_after w before ++ a ∷ []) k.answers;
       })

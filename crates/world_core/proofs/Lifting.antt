@@ -6,12 +6,12 @@ use Rattle.sm_types.specs.declared.shared_words.Entry.{Entry}
 use Rattle.core_unit.specs.Guest.{Guest}
 use Rattle.core_unit.specs.declared.run.RunWhy.{RunWhy}
 use Rattle.core_unit.specs.declared.run.RunWhy.TheVariants as why
-use Rattle.world_core.specs.Applies.{Applies, AppliesHere, RunsBy}
+use Rattle.world_core.specs.Applies.{Applies, AppliesHere, RunsBy, spends}
 use Rattle.world_core.specs.Events.{core_number, cut_to}
-use Rattle.world_core.specs.Happens.{Scene, Happened, happens, happens_on, on_core, scene_of, with_scene, comes_to}
+use Rattle.world_core.specs.Happens.{Scene, happens, happens_on, on_core, scene_of, with_scene, comes_to}
 use Rattle.world_core.specs.World.{World}
-use Rattle.world_core.specs.declared.event.WorldEvent.{WorldEvent}
-use Rattle.world_core.specs.declared.event.WorldEvent.TheVariants as event
+use Rattle.plan_reader.specs.declared.event.WorldEvent.{WorldEvent}
+use Rattle.plan_reader.specs.declared.event.WorldEvent.TheVariants as event
 use Rattle.world_core.specs.declared.event.Applied.{Applied}
 use Rattle.world_core.specs.declared.event.Applied.TheVariants as applied
 use Rattle.world_core.specs.declared.event.Why.TheVariants.{NoCore}
@@ -57,14 +57,14 @@ module _ (w : World) (rs : List Guest) where
         → happens w e ≡ record { world = with_scene w (core_number e) new; answer = answer }
     comes new answer h = happens_here e get ∙ ap (comes_to w (core_number e)) h
 
-    cut_comes : (turns : ℕ) (new : Scene) → new ≡ (on_core (cut_to e turns) (scene_of w rs)).scene
-        → with_scene w (core_number e) new ≡ (happens w (cut_to e turns)).world
-    cut_comes turns new h =
+    cut_comes : (turns : ℕ) (new : Scene) (answer : Applied)
+        → on_core (cut_to e turns) (scene_of w rs) ≡ record { scene = new; answer = answer }
+        → happens w (cut_to e turns) ≡ record { world = with_scene w (core_number e) new; answer = answer }
+    cut_comes turns new answer h =
         let same = same_core e turns in
-        let there = happens_here (cut_to e turns) (ap (slice_get w.cores) same ∙ get) in
-        ap (with_scene w (core_number e)) h
-        ∙ ap (λ (n : ℕ). with_scene w n (on_core (cut_to e turns) (scene_of w rs)).scene) (sym same)
-        ∙ sym (ap (λ (x : Happened). x.world) there)
+        happens_here (cut_to e turns) (ap (slice_get w.cores) same ∙ get)
+        ∙ ap (λ (n : ℕ). comes_to w n (on_core (cut_to e turns) (scene_of w rs))) same
+        ∙ ap (comes_to w (core_number e)) h
 
     ran_comes : (A B C D L : Type 0) (reason : RunWhy) → (A → B) → (C → D) → RunsBy A (C × L) reason → RunsBy B (D × L) reason
     ran_comes A B C D L why.Spent f g h = f h
@@ -79,7 +79,7 @@ module _ (w : World) (rs : List Guest) where
         → Applies e w (with_scene w (core_number e) new) answer
     applies_there new applied.Done h = comes new applied.Done h
     applies_there new (applied.Ran run) h =
-        ran_comes _ _ _ _ _ run.why (comes new (applied.Ran run)) (cut_comes run.turns new) h
+        ran_comes _ _ _ _ _ run.why (comes new (applied.Ran run)) (cut_comes run.turns new (spends run.turns)) h
     applies_there new (applied.NotEnabled reason) h = comes new (applied.NotEnabled reason) h
 
 -- a world whose cores are those of some list

@@ -14,12 +14,12 @@ use Rattle.core_unit.specs.Run.{RunsFirst, RunsWith, RunsCore, EndsBy, answers_o
 use Rattle.core_unit.specs.declared.run.CoreRun.{CoreRun}
 use Rattle.core_unit.specs.declared.run.RunWhy.{RunWhy}
 use Rattle.core_unit.specs.declared.run.RunWhy.TheVariants as why
-use Rattle.world_core.specs.Applies.{AppliesHere, IsOutcome}
+use Rattle.world_core.specs.Applies.{AppliesHere, IsOutcome, spends}
 use Rattle.world_core.specs.Happens.{Scene, Outcome, on_core, run_of, after_service, moved, ran}
 use Rattle.world_core.specs.Parts.{guests_in, scene_with}
 use Rattle.world_core.specs.Serve.{Progress, Service, Going, GaveWay, HasStopped, serve, begins}
-use Rattle.world_core.specs.declared.event.WorldEvent.{WorldEvent}
-use Rattle.world_core.specs.declared.event.WorldEvent.TheVariants as event
+use Rattle.plan_reader.specs.declared.event.WorldEvent.{WorldEvent}
+use Rattle.plan_reader.specs.declared.event.WorldEvent.TheVariants as event
 use Rattle.world_core.specs.declared.event.Applied.{Applied}
 use Rattle.world_core.specs.declared.event.Applied.TheVariants as applied
 use Rattle.world_core.specs.declared.event.Why.TheVariants.{NoResident}
@@ -113,12 +113,11 @@ module _ (n k turns : ℕ) (g new : Guest) (others queue done : List Guest) (his
         answer = applied.Ran (record { turns = c i; why = why.Stopped });
       })
 
-  wanting : EndsBy nothing_refused k g new turns (end_of why.Memory) → on ≡ (on_core (event.Run n turns) before).scene
+  wanting : EndsBy nothing_refused k g new turns (end_of why.Memory) → IsOutcome (event.Run n turns) before on (spends turns)
   wanting e =
-      sym (ap (λ (o : Outcome). o.scene)
-      (outcome turns (Going after)
+      outcome turns (Going after)
       (serves_going g.config g.number g.state new.state g.stop g.journal history (answers_of g new) turns _ legal e.0.0)
-      ∙ stays why.Spent e.0.1))
+      ∙ stays why.Spent e.0.1
 
 -- where the first resident is after a run
 abbrev scene_after : Scene → RunWhy → Guest → List Guest → List Entry → Scene

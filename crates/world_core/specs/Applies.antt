@@ -5,8 +5,8 @@ use Rattle.core_unit.specs.declared.run.RunWhy.TheVariants as why
 use Rattle.world_core.specs.Events.{cut_to}
 use Rattle.world_core.specs.World.{World}
 use Rattle.world_core.specs.Happens.{Scene, on_core, happens, world_after, answers_after}
-use Rattle.world_core.specs.declared.event.WorldEvent.{WorldEvent}
-use Rattle.world_core.specs.declared.event.WorldEvent.TheVariants.{Run, Next, Fetch, Offer}
+use Rattle.plan_reader.specs.declared.event.WorldEvent.{WorldEvent}
+use Rattle.plan_reader.specs.declared.event.WorldEvent.TheVariants.{Run, Next, Fetch, Offer}
 use Rattle.world_core.specs.declared.event.Applied.{Applied}
 use Rattle.world_core.specs.declared.event.Applied.TheVariants as applied
 
@@ -17,8 +17,12 @@ LetsMore (Next core) turns = ⊥
 LetsMore (Fetch core) turns = ⊥
 LetsMore (Offer core) turns = ⊥
 
+-- what a run answers that made so many turns, all that it was let make
+abbrev pub spends : ℕ → Applied
+spends turns = applied.Ran (record { turns = turns; why = why.Spent })
+
 -- with what a run comes to, by why it ended: the event happened; or memory was wanting after fewer turns
--- than it was let make, and a run of so many happened. Plain words refuse nothing else
+-- than it was let make, and a run of so many happened, which made them all. Plain words refuse nothing else
 abbrev pub RunsBy : (happened : Type 0) → (cut : Type 0) → RunWhy → Type 0
 RunsBy happened cut why.Idle = ⊥
 RunsBy happened cut why.TraceEnds = ⊥
@@ -32,7 +36,7 @@ IsOutcome e old new answer = on_core e old ≡ record { scene = new; answer = an
 
 abbrev pub AppliesHere : WorldEvent → Scene → Scene → Applied → Type 0
 AppliesHere e old new (applied.Ran run) = RunsBy (IsOutcome e old new (applied.Ran run))
-    ((new ≡ (on_core (cut_to e run.turns) old).scene) × LetsMore e run.turns) run.why
+    (IsOutcome (cut_to e run.turns) old new (spends run.turns) × LetsMore e run.turns) run.why
 AppliesHere e old new answer = IsOutcome e old new answer
 
 -- in the world
@@ -41,7 +45,7 @@ Comes e old new answer = happens old e ≡ record { world = new; answer = answer
 
 abbrev pub Applies : WorldEvent → World → World → Applied → Type 0
 Applies e old new (applied.Ran run) = RunsBy (Comes e old new (applied.Ran run))
-    ((new ≡ (happens old (cut_to e run.turns)).world) × LetsMore e run.turns) run.why
+    (Comes (cut_to e run.turns) old new (spends run.turns) × LetsMore e run.turns) run.why
 Applies e old new answer = Comes e old new answer
 
 -- a run, and an event, that was wanting memory
@@ -61,7 +65,7 @@ pub record HaveHappened (events : List WorldEvent) (old new : World) (answers : 
   pub answers_of : answers ≡ answers_after old events
 
 -- the list ended early, with a run that was wanting memory: what stands before it has happened, and a run of
--- fewer turns in its place
+-- fewer turns in its place, which made them all
 pub record HasEndedEarly (events : List WorldEvent) (old new : World) (answers : List Applied) : Type 0 where
   pub before : List WorldEvent
   pub last : WorldEvent
@@ -70,6 +74,7 @@ pub record HasEndedEarly (events : List WorldEvent) (old new : World) (answers :
   pub is : events ≡ before ++ last ∷ others
   pub fewer : LetsMore last turns
   pub world : new ≡ world_after old (before ++ cut_to last turns ∷ [])
+  pub made : (happens (world_after old before) (cut_to last turns)).answer ≡ spends turns
   pub answers_of : answers
       ≡ answers_after old before ++ applied.Ran (record { turns = turns; why = why.Memory }) ∷ []
 

@@ -10,12 +10,13 @@ use Rattle.core_unit.specs.declared.run.RunWhy.TheVariants.{Spent, Yielded, Stop
 use Rattle.world_core.specs.Events.{core_number}
 use Rattle.world_core.specs.Serve.{Progress, Service, Going, GaveWay, HasStopped, serve, begins}
 use Rattle.world_core.specs.World.{World}
-use Rattle.world_core.specs.declared.event.WorldEvent.{WorldEvent}
-use Rattle.world_core.specs.declared.event.WorldEvent.TheVariants as event
+use Rattle.plan_reader.specs.declared.event.WorldEvent.{WorldEvent}
+use Rattle.plan_reader.specs.declared.event.WorldEvent.TheVariants as event
 use Rattle.world_core.specs.declared.event.Applied.{Applied}
 use Rattle.world_core.specs.declared.event.Applied.TheVariants as applied
 use Rattle.world_core.specs.declared.event.Why.{Why}
-use Rattle.world_core.specs.declared.event.Why.TheVariants.{NoCore, NoResident, OneResident, CoreFull, QueueEmpty}
+use Rattle.world_core.specs.declared.event.Why.TheVariants.{NoCore, NoResident, OneResident, CoreFull}
+use Rattle.world_core.specs.declared.event.Why.TheVariants.{QueueEmpty}
 
 -- a world as one of its cores sees it: the residents of the core, and what the cores share
 pub record Scene : Type 0 where
@@ -43,26 +44,31 @@ becomes s = record { scene = s; answer = applied.Done }
 abbrev pub moved : Guest → Progress → Option Stop → Guest
 moved g p stop = record g { state = p.state; stop = stop; journal = p.journal }
 
+-- what the run answers: the turns that the thread made, and why it made no more
 abbrev pub ran : Guest → Progress → RunWhy → Applied
 ran g p why = applied.Ran (record { turns = p.state.turns - g.state.turns; why = why })
 
+-- a thread that goes on or has given way stays the first resident
 abbrev pub stays : Scene → Guest → List Guest → Progress → RunWhy → Outcome
 stays s g others p why = record {
   scene = record s { residents = moved g p None ∷ others; history = p.history };
   answer = ran g p why;
 }
 
+-- one that has stopped leaves the core, and is the last of those that are done
 abbrev pub leaves : Scene → Guest → List Guest → Progress → Stop → Outcome
 leaves s g others p stop = record {
   scene = record s { residents = others; done = s.done ++ moved g p (Some stop) ∷ []; history = p.history };
   answer = ran g p Stopped;
 }
 
+-- by what the turns came to
 abbrev pub after_service : Scene → Guest → List Guest → Service → Outcome
 after_service s g others (Going p) = stays s g others p Spent
 after_service s g others (GaveWay p) = stays s g others p Yielded
 after_service s g others (HasStopped p stop) = leaves s g others p stop
 
+-- so many turns at most of the first of these residents; without a resident there is no run
 abbrev pub run_of : ℕ → Scene → List Guest → Outcome
 run_of k s [] = refused s NoResident
 run_of k s (g ∷ others) =

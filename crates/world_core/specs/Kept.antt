@@ -17,6 +17,7 @@ pub record Stands (program : Program) (config : Config) (history : List Entry) (
   pub part : part_of g.number history ≡ g.journal
   pub run : IsRunOf program config g.number g.journal g.state g.stop
 
+-- a thread that goes on, and one that has stopped
 abbrev pub Goes : Guest → Type 0
 Goes g = g.stop ≡ None
 

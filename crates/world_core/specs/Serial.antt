@@ -1,7 +1,8 @@
 -- The serial events of a world, all on core 0, until each thread is done: the core is filled from the
 -- queue, its first resident runs for a slice, and where it has not stopped it gives way to the queue, or to
 -- the next one.
-use Rattle.std.specs.Prelude.{◌≡◌, ℕ, nat_lt, nat_le, ◌&&◌, cond, List, [], ◌∷◌, Option, Some, None, length, slice_get}
+use Rattle.std.specs.Prelude.{◌≡◌, ℕ, nat_lt, nat_le, ◌&&◌, cond, List, [], ◌∷◌, Option, Some}
+use Rattle.std.specs.Prelude.{None, length, slice_get}
 use Rattle.sm_types.specs.declared.config.Config.{Config}
 use Rattle.sm_types.specs.declared.shared_words.Words.{Words}
 use Rattle.paged_memory.specs.Image.{Program}
@@ -13,8 +14,8 @@ use Rattle.core_unit.specs.declared.run.RunWhy.TheVariants as why
 use Rattle.world_core.specs.Happens.{happens}
 use Rattle.world_core.specs.Finish.{AreThreadsOf}
 use Rattle.world_core.specs.World.{World, start_world}
-use Rattle.world_core.specs.declared.event.WorldEvent.{WorldEvent}
-use Rattle.world_core.specs.declared.event.WorldEvent.TheVariants.{Run, Next, Fetch, Offer}
+use Rattle.plan_reader.specs.declared.event.WorldEvent.{WorldEvent}
+use Rattle.plan_reader.specs.declared.event.WorldEvent.TheVariants.{Run, Next, Fetch, Offer}
 use Rattle.world_core.specs.declared.event.Applied.{Applied}
 use Rattle.world_core.specs.declared.event.Applied.TheVariants as applied
 use Rattle.world_core.specs.declared.serial.Phase.{Phase}

@@ -1,5 +1,6 @@
 -- The world of the guest threads and the cores.
-use Rattle.std.specs.Prelude.{◌≡◌, ℕ, ◌+◌, ◌++◌, ◌==◌, nat_lt, if◌then◌else◌, List, [], ◌∷◌, None, map, replicate}
+use Rattle.std.specs.Prelude.{◌≡◌, ℕ, ◌+◌, ◌++◌, ◌==◌, nat_lt, if◌then◌else◌, List, [], ◌∷◌, None}
+use Rattle.std.specs.Prelude.{map, replicate}
 use Rattle.std.specs.List.{range_with_len}
 use Rattle.sm_types.specs.declared.config.Config.{Config}
 use Rattle.sm_types.specs.declared.shared_words.Entry.{Entry}

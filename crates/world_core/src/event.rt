@@ -1,23 +1,11 @@
-//! The events of a world, and what they answer.
+//! What the events of a world answer.
 ghost use Rattle.std.specs.Prelude.{◌≡◌};
 ghost use Rattle.world_core.specs.Events.{core_number};
 
 use core_unit::CoreRun;
+use plan_reader::WorldEvent;
 
-/// An event of the world.
-#[derive(Clone, Copy, Debug, PartialEq, Eq)]
-pub enum WorldEvent {
-    /// The first resident of a core makes so many turns, until it gives way or stops.
-    Run { core: u32, k: u32 },
-    /// The first resident of a core moves last.
-    Next { core: u32 },
-    /// The thread at the queue's front becomes the last resident of a core.
-    Fetch { core: u32 },
-    /// The first resident of a core goes to the queue's back.
-    Offer { core: u32 },
-}
-
-/// Why an event is not enabled: the first of these that is so.
+/// Why an event is not enabled: the first of those that bear on it.
 #[derive(Clone, Copy, Debug, PartialEq, Eq)]
 pub enum Why {
     /// There is no core of that number.

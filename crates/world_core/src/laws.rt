@@ -5,7 +5,7 @@ ghost use Rattle.paged_memory.specs.Image.{Program};
 ghost use Rattle.world_core.specs.Happens.{happens, world_after};
 ghost use Rattle.world_core.specs.Kept.{IsKept};
 ghost use Rattle.world_core.specs.World.{World, start_world};
-ghost use Rattle.world_core.specs.declared.event.WorldEvent.{WorldEvent};
+ghost use Rattle.plan_reader.specs.declared.event.WorldEvent.{WorldEvent};
 
 /// In each world that events lead to from the start, whatever they are, each thread is exactly once in the
 /// queue, in one core's residents or among those that are done; the history is legal, each thread's journal

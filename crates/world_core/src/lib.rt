@@ -12,7 +12,7 @@ mod serial_run;
 mod start;
 mod world;
 
-pub use event::{Applied, Why, WorldEvent};
+pub use event::{Applied, Why};
 pub use laws::worlds_are_kept;
 pub use serial_run::run_one;
 pub use world::World;

@@ -7,10 +7,10 @@ ghost use Rattle.core_unit.specs.Guest.{Guest};
 ghost use Rattle.core_unit.specs.View.{core_state};
 ghost use Rattle.world_core.specs.Applies.{AppliesHere};
 ghost use Rattle.world_core.specs.Parts.{HaveOptions, guests_of, scene_in};
-ghost use Rattle.world_core.specs.declared.event.WorldEvent.TheVariants as event;
+ghost use Rattle.plan_reader.specs.declared.event.WorldEvent.TheVariants as event;
 
 use crate::event::{Applied, Why};
-use core_unit::Core;
+use core_unit::{Core, PLACES};
 use kernel_contexts::Whole;
 use shared_region::{PlainPort, plain_history_grows};
 
@@ -77,7 +77,7 @@ pub fn fetch(core: &mut Core<PlainPort>, queue: &mut Vec<Whole<PlainPort>>) -> A
     ensures options { HaveOptions (core_state core.old).config queue.new.items }
 {
     let residents = core.residents();
-    if residents >= 8 {
+    if residents >= PLACES {
         return Applied::NotEnabled(Why::CoreFull(residents));
     }
     if queue.is_empty() {

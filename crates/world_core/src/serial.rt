@@ -2,8 +2,8 @@
 ghost use Rattle.std.specs.Prelude.{◌≡◌, length};
 ghost use Rattle.world_core.specs.Serial.{filling, event_in, phase_by};
 
-use crate::event::WorldEvent;
-use core_unit::RunWhy;
+use core_unit::{PLACES, RunWhy};
+use plan_reader::WorldEvent;
 
 /// What the core is about to do.
 #[derive(Clone, Copy, Debug, PartialEq, Eq)]
@@ -18,7 +18,7 @@ pub enum Phase {
 fn filling(slice: u32, queued: usize, resident: usize) -> Option<WorldEvent>
     ensures { result ≡ filling slice queued resident }
 {
-    if queued > 0 && resident < 8 {
+    if queued > 0 && resident < PLACES {
         Some(WorldEvent::Fetch { core: 0 })
     } else if resident > 0 {
         Some(WorldEvent::Run { core: 0, k: slice })

@@ -1,5 +1,6 @@
 //! The threads and the cores of a world before its first event.
-ghost use Rattle.std.specs.Prelude.{◌≡◌, ◌≤◌, ℕ, [], IfOk, Some, map, replicate, slice_get, vec_len, vec_capacity};
+ghost use Rattle.std.specs.Prelude.{◌≡◌, ◌≤◌, ℕ, [], IfOk, Some, map, replicate, slice_get, vec_len};
+ghost use Rattle.std.specs.Prelude.{vec_capacity};
 ghost use Rattle.std.specs.List.{range_with_len};
 ghost use Rattle.core_unit.specs.View.{core_state};
 ghost use Rattle.world_core.specs.Parts.{HaveOptions, IsCoreOf, guests_of, core_guests};

@@ -5,7 +5,7 @@ ghost use Rattle.core_unit.specs.View.{core_state};
 ghost use Rattle.world_core.specs.Parts.{HaveOptions, IsCoreOf, HasRoom, world_from};
 ghost use Rattle.world_core.specs.World.{IsOwned};
 
-use crate::event::{Applied, Why, WorldEvent, core_number};
+use crate::event::{Applied, Why, core_number};
 use crate::finish::{empty_cores, in_order};
 use crate::scene::{fetch, next, offer, run};
 use crate::serial::{Phase, event_in};
@@ -13,6 +13,7 @@ use crate::start::{start_cores, start_threads};
 use core_unit::{Core, RunWhy};
 use kernel_contexts::{Finished, Whole};
 use paged_memory::Image;
+use plan_reader::WorldEvent;
 use shared_region::PlainPort;
 use sm_types::{Config, Entry, Memory};
 use std::alloc::Global;

@@ -94,7 +94,8 @@ returns-in-Some-clause-run g c =
     (guest_on after new) _ none e.gives
     (runs_so was (guest_on bank old) (guest_on after new) c.turns.turns (made_by old new) h.run h.runs later _ c.args.k _
     c.turns-test.true (omega (arith, rise.0, h.run.turns, c.turns-begun.ensures, c.turns-in-Some.ensures)) c.advance_on-turn.result
-    c.in-Some.why (sym c.in-Some.ensures) turn)
+    c.in-Some.why (sym c.in-Some.ensures) turn
+    (λ is. record { context = old; bank = bank; is = refl; wants = e.memory is; goes = e.goes is }))
 
 pub returns-in-Some-clause-gives : goal.returns-in-Some-clause-gives
 returns-in-Some-clause-gives g c =

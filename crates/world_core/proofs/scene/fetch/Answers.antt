@@ -11,18 +11,18 @@ use Rattle.world_core.specs.Parts.{guests_of}
 use Rattle.world_core.proofs.Scenes.{fetch_full, fetch_none, fetch_so, none_in}
 use Rattle.world_core.proofs.scene.fetch.Goals as goal
 
-pub returns-then-residents-ge8-clause-applies : goal.returns-then-residents-ge8-clause-applies
-returns-then-residents-ge8-clause-applies c = λ n done history.
+pub returns-then-residents-ge-PLACES-clause-applies : goal.returns-then-residents-ge-PLACES-clause-applies
+returns-then-residents-ge-PLACES-clause-applies c = λ n done history.
     let old = core_state c.args.core.now in
     rw c.residents-residents.ensures (fetch_full old old (guests_of c.args.queue.now.items) done history n
-    (omega (arith, c.residents-residents.ensures, c.if-residents-ge8.true)))
+    (omega (arith, c.residents-residents.ensures, c.if-residents-ge-PLACES.true)))
 
 pub returns-then-is_empty-clause-applies : goal.returns-then-is_empty-clause-applies
 returns-then-is_empty-clause-applies c = λ n done history.
     let old = core_state c.args.core.now in
     let none : length c.args.queue.now.items ≡ 0 = grind (arith, common_steps, c.is_empty.ensures, c.if-is_empty.true) in
     fetch_none old old (guests_of c.args.queue.now.items) done history n
-    (omega (arith, c.residents-residents.ensures, c.if-residents-ge8.false))
+    (omega (arith, c.residents-residents.ensures, c.if-residents-ge-PLACES.false))
     (ap (λ l. map (λ w. guest_of w.context) l) (none_in c.args.queue.now.items none))
 
 pub admit-requires : goal.admit-requires
@@ -35,7 +35,7 @@ admit-requires c =
 
 pub unreachable-requires : goal.unreachable-requires
 unreachable-requires c =
-    omega (arith, c.in-Err.ensures.full, c.requires.none, c.residents-residents.ensures, c.if-residents-ge8.false)
+    omega (arith, c.in-Err.ensures.full, c.requires.none, c.residents-residents.ensures, c.if-residents-ge-PLACES.false)
 
 pub returns-clause-applies : goal.returns-clause-applies
 returns-clause-applies c = λ n done history.
@@ -45,7 +45,7 @@ returns-clause-applies c = λ n done history.
     let rest = c.remove-front.ensures.items ∙ ap (λ l. remove l 0) split.1 in
     fetch_so (core_state c.args.core.now) (core_state c.admit.new.self) (guests_of c.args.queue.now.items) done history n
     (guests_of c.remove-front.new.self.items) (held_in front)
-    (omega (arith, c.residents-residents.ensures, c.if-residents-ge8.false))
+    (omega (arith, c.residents-residents.ensures, c.if-residents-ge-PLACES.false))
     (ap (λ l. map (λ w. guest_of w.context) l) split.1
     ∙ ap (λ l. guest_of front.context ∷ map (λ w. guest_of w.context) l) (sym rest))
     c.in-Ok.ensures.admitted

@@ -7,6 +7,7 @@ use Rattle.core_unit.specs.Guest.{held_of}
 use Rattle.core_unit.specs.Home.{IsAtHome}
 use Rattle.core_unit.specs.Run.{is_stop}
 use Rattle.core_unit.proofs.Cores.{cons_of, first_of, after_so, after_stop, core_runs, belong_on, belong_out, each_set, each_rest, first_belongs}
+use Rattle.core_unit.proofs.Runs.{never_idle}
 use Rattle.core_unit.proofs.unit.Core.run.Goals as goal
 
 pub run_first-run-requires-clause-lengths : goal.run_first-run-requires-clause-lengths
@@ -66,6 +67,12 @@ returns-then-is_stop-clause-run g c =
     (after_stop (λ r. r.context) (λ r. r.ticket) t.number t.config t.bank ran.new.bank t.residents.items _ split.0 first ran.new.first
     done all t.owner ran.ensures.owner split.1 (is_stop ran.result.why) (sym c.is_stop.ensures ∙ c.if-is_stop.true)
     (c.retire.ensures.residents ∙ ap (drop 1) after) (c.retire.ensures.done ran.new.first (first_of _ split.0 _ after)))
+
+pub returns-else-is_stop-clause-idle : goal.returns-else-is_stop-clause-idle
+returns-else-is_stop-clause-idle g c = λ is. absurd (never_idle _ _ _ _ _ c.run_first-run.ensures.run is)
+
+pub returns-then-is_stop-clause-idle : goal.returns-then-is_stop-clause-idle
+returns-then-is_stop-clause-idle g c = λ is. absurd (never_idle _ _ _ _ _ c.run_first-run.ensures.run is)
 
 pub returns-else-is_stop-clause-belong : goal.returns-else-is_stop-clause-belong
 returns-else-is_stop-clause-belong g c =
