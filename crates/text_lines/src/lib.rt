@@ -1,5 +1,5 @@
 //! Lines and words that several texts are written with, gathered into pieces that are written to a sink:
-//! numbers and lines of numbers, and the words of stops, exceptions and operations. No memory is taken.
+//! numbers and lines of numbers, and the words of stops, exceptions and events. No memory is taken.
 #![tactic(auto)]
 
 mod lines;
@@ -9,4 +9,4 @@ pub use lines::{
     flag_digit, hex32_digits, hex64_digits, put_counted, put_flag_line, put_hex_line,
     put_number_line, put_value_lines,
 };
-pub use words::{kind_word, put_stop_line, put_stop_words};
+pub use words::{put_event_words, put_stop_line, put_stop_words};
