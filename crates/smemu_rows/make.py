@@ -3,8 +3,8 @@
 
     crates/smemu_rows/make.py
 
-The reports come from examples/expected.py and the interpreters beside it, which share nothing with the emulator; the refusals, and the
-listings but one, are written out here. The files real-*.elf come from real/make.sh, which runs an assembler and two linkers, and
+The reports come from examples/expected.py and the interpreters beside it, and those of several threads from world.py, which share nothing
+with the emulator; the refusals, and the listings but one, are written out here. The files real-*.elf come from real/make.sh, which runs an assembler and two linkers, and
 those of real/compiled from real/make_compiled.sh, which runs two compilers.
 """
 import pathlib
@@ -19,33 +19,10 @@ from elf import (ALLOC, DYNAMIC, EXECINSTR, INTERP, LOAD, NOTE, STACK, STRTAB, S
 from expected import report
 from expected_replay import replay
 from altered import TWO_THREADS, altered_list, two_threads
+from instructions import EXIT, SVC, add, branch, call, movz, subs
 from sources import WITH_DATA, assemblies, source_refusals
+from world_rows import world_rows
 
-MOVZ, ADD, SUBS, B, SVC = 0xD2800000, 0x91000000, 0xF1000000, 0x54000000, 0xD4000001
-WIDE = 1 << 31
-
-
-def movz(rd, imm, hw=0, wide=True):
-    return (MOVZ if wide else MOVZ & ~WIDE) | hw << 21 | imm << 5 | rd
-
-
-def add(rd, rn, imm, shifted=False, wide=True):
-    return (ADD if wide else ADD & ~WIDE) | shifted << 22 | imm << 10 | rn << 5 | rd
-
-
-def subs(rd, rn, imm, shifted=False, wide=True):
-    return (SUBS if wide else SUBS & ~WIDE) | shifted << 22 | imm << 10 | rn << 5 | rd
-
-
-def branch(condition, words):
-    return B | (words & 0x7FFFF) << 5 | condition
-
-
-def call(number, *arguments):
-    return [movz(i, value, hw) for i, (value, hw) in enumerate(arguments)] + [movz(8, number), SVC]
-
-
-EXIT = call(93, (0, 0))
 AT_TEXT = (0x40, 1)
 
 REPORTS = {
@@ -407,8 +384,8 @@ def signals():
                           "past-ffr": changed(866), "ffr-s-end": changed(895)}.items():
         yield f"frame-changed-at-{name}", handled(handler), soon
     yield "return-of-no-handler", elf(RETURN), {}
-    yield "return-of-no-handler-to-zeros", elf([subs(31, 31, 1, True), *RETURN]), {}
-    yield "return-to-the-last-bytes", elf([subs(31, 31, 319), *RETURN]), {}
+    yield "return-of-no-handler-to-zeros", elf([0xD14007FF, *RETURN]), {}  # sub sp, sp, #1, lsl #12
+    yield "return-to-the-last-bytes", elf([0xD104FFFF, *RETURN]), {}  # sub sp, sp, #319
     again = [0xF9002421, *RETURN]  # the X7 that the frame keeps is its address
     # after the return the frame is still there, and the thread is inside no handler
     yield "return-twice", handled(again, 0xB4000007, add(31, 7, 0), *RETURN), soon  # cbz x7, .
@@ -658,7 +635,8 @@ def main():
                 if status == 0 and "run" in options]
     rows += [(f"replay-{name}.report", status, text.encode(errors="surrogateescape"), out, {"replay": "", f"{program}.elf": "", str(number): ""})
              for name, program, text, number, status, out in replays(runnable)]
-    for old in [*data.glob("*.txt"), *data.glob("*.s"), *data.glob("*.report")]:
+    rows += world_rows()
+    for old in [*data.glob("*.txt"), *data.glob("*.s"), *data.glob("*.report"), *data.glob("*.plan")]:
         old.unlink()
     for old in data.glob("*.elf"):
         if not old.name.startswith("real-"):

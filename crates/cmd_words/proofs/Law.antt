@@ -1,16 +1,20 @@
--- Words ask for a command exactly where they have no fault.
+-- Words ask for a command exactly where they have no fault, and for no number of an option that it does not take.
 use Rattle.std.proofs.Common.{◌≡◌, ℕ, suc, ◌+◌, ◌-◌, ◌<◌, ◌≤◌, ◌⊎◌, inl, inr, Bool, true, false, cond, List, [], ◌∷◌, length, drop}
 use Rattle.std.proofs.Common.{get_or, Option, Some, None, refl, sym, ◌∙◌, ap, subst, arith}
 use Rattle.std.specs.Prelude.{◌↔◌, slice_get, is_some, is_none, IsSome, option_and_then, option_map}
 use Rattle.std.specs.List.{find, range_with_len}
 use Rattle.cmd_words.specs.Forms.{Form, form_of}
-use Rattle.cmd_words.specs.Words.{Fault, Request, verb_of, form_asked, command_fault, operand_fault, arguments_of, request_for}
+use Rattle.cmd_words.specs.Options.{default_of, number_in, setting_in, word_of}
+use Rattle.cmd_words.specs.Words.{Fault, Request, options_given, verb_of, form_asked, command_fault, operand_fault, arguments_of, request_for}
 use Rattle.cmd_words.specs.Words.{fault_at, place_fault, usage_fault, command_of}
 use Rattle.cmd_words.specs.declared.command.UsageKind.{UsageKind}
 use Rattle.cmd_words.specs.declared.command.UsageKind.TheVariants.{Unknown}
 use Rattle.cmd_words.specs.declared.form.Operand.{Operand}
 use Rattle.cmd_words.specs.declared.form.Operand.TheVariants.{Name}
+use Rattle.cmd_words.specs.declared.setting.Setting.{Setting}
+use Rattle.cmd_words.specs.declared.setting.Setting.TheVariants.{Vl, Svl, Slice, Budget, Threads, Cores}
 use Rattle.cmd_words.specs.declared.verb.Verb.{Verb}
+use Rattle.cmd_words.specs.declared.verb.Verb.TheVariants.{Run, Sim, Dis, Asm, Replay, Help, Version}
 use Rattle.sm_types.proofs.Places.{none-find, find-passes}
 use Rattle.cmd_words.proofs.Faults.{fault_at-operand, get_past}
 use Rattle.cmd_words.proofs.Reading.{asked_of, operand_at, sound_first}
@@ -124,3 +128,43 @@ full words request e =
     full_of words (option_and_then verb_of (slice_get words 0)) request
     (faultless (usage_fault words) _ (some_asked _ request e)) refl
     (unasked (usage_fault words) _ request e)
+
+-- ---- the options that a command does not take
+
+found : (setting : Setting) → ◌≡◌ {A = Option Setting} (Some setting) None → ⊥
+found setting e = cc
+
+fixed_of : (verb : Verb) (setting : Setting) (words : List (List ℕ)) → setting_in (form_of verb).options (word_of setting) ≡ None
+    → number_in (options_given (form_of verb) words) setting ≡ default_of setting
+unfolding options_given setting_in
+fixed_of Run Vl words e = absurd (found Vl e)
+fixed_of Run Svl words e = absurd (found Svl e)
+fixed_of Run Slice words e = absurd (found Slice e)
+fixed_of Run Budget words e = absurd (found Budget e)
+fixed_of Run Threads words e = absurd (found Threads e)
+fixed_of Run Cores words e = refl
+fixed_of Sim Vl words e = absurd (found Vl e)
+fixed_of Sim Svl words e = absurd (found Svl e)
+fixed_of Sim Slice words e = absurd (found Slice e)
+fixed_of Sim Budget words e = absurd (found Budget e)
+fixed_of Sim Threads words e = absurd (found Threads e)
+fixed_of Sim Cores words e = absurd (found Cores e)
+fixed_of Dis setting words e = refl
+fixed_of Asm setting words e = refl
+fixed_of Replay setting words e = refl
+fixed_of Help setting words e = refl
+fixed_of Version setting words e = refl
+
+fixed_for : (words : List (List ℕ)) (verb : Option Verb) (request : Request) (setting : Setting)
+    → option_map (request_for words) verb ≡ Some request → setting_in (form_of request.verb).options (word_of setting) ≡ None
+    → number_in request.options setting ≡ default_of setting
+fixed_for words None request setting e none = cc
+fixed_for words (Some verb) request setting e none =
+    subst (λ (r : Request). setting_in (form_of r.verb).options (word_of setting) ≡ None → number_in r.options setting ≡ default_of setting)
+    (same_request (request_for words verb) request e) (fixed_of verb setting words) none
+
+pub fixed : (words : List (List ℕ)) (request : Request) (setting : Setting) → command_of words ≡ Some request
+    → setting_in (form_of request.verb).options (word_of setting) ≡ None → number_in request.options setting ≡ default_of setting
+unfolding command_of
+fixed words request setting e none =
+    fixed_for words (option_and_then verb_of (slice_get words 0)) request setting (unasked (usage_fault words) _ request e) none

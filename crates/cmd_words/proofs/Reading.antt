@@ -23,9 +23,9 @@ use Rattle.cmd_words.specs.declared.form.Operand.{Operand}
 use Rattle.cmd_words.specs.declared.form.Operand.TheVariants.{Name, Thread}
 use Rattle.cmd_words.specs.declared.given.Given.{Given}
 use Rattle.cmd_words.specs.declared.setting.Setting.{Setting}
-use Rattle.cmd_words.specs.declared.setting.Setting.TheVariants.{Vl, Svl, Slice, Budget}
+use Rattle.cmd_words.specs.declared.setting.Setting.TheVariants.{Vl, Svl, Slice, Budget, Threads, Cores}
 use Rattle.cmd_words.specs.declared.verb.Verb.{Verb}
-use Rattle.cmd_words.specs.declared.verb.Verb.TheVariants.{Run, Replay}
+use Rattle.cmd_words.specs.declared.verb.Verb.TheVariants.{Run, Sim, Replay}
 use Rattle.sm_types.proofs.Places.{or_next, find-more, find-none}
 use Rattle.cmd_words.proofs.Faults.{get_past, at_option, at_value, fault_at-operand, fault_at-option, fault_at-value, usage_at, usage_none}
 
@@ -39,6 +39,9 @@ same_number m n e = cc
 
 none_some : (n : ℕ) → ◌≡◌ {A = Option ℕ} None (Some n) → ⊥
 none_some n e = cc
+
+no_setting : (s : Setting) → ◌≡◌ {A = Option Setting} None (Some s) → ⊥
+no_setting s e = cc
 
 -- a word that is an option is the option's word
 setting_word : (settings : List Setting) (word : List ℕ) (s : Setting) → setting_in settings word ≡ Some s → word ≡ word_of s
@@ -63,17 +66,22 @@ pub setting_past : (settings : List Setting) (word : List ℕ) (i : ℕ) → len
 unfolding setting_in
 setting_past settings word i l = rw (drop_of_length-le settings l) refl
 
+abbrev all_settings : List Setting
+all_settings = Vl ∷ Svl ∷ Slice ∷ Budget ∷ Threads ∷ Cores ∷ []
+
 -- each option is that of its word
-of_word : (s : Setting) → setting_in (Vl ∷ Svl ∷ Slice ∷ Budget ∷ []) (word_of s) ≡ Some s
+of_word : (s : Setting) → setting_in all_settings (word_of s) ≡ Some s
 unfolding setting_in
 of_word Vl = refl
 of_word Svl = refl
 of_word Slice = refl
 of_word Budget = refl
+of_word Threads = refl
+of_word Cores = refl
 
 -- options of one word are one
 one_word : (s t : Setting) → word_of t ≡ word_of s → t ≡ s
-one_word s t e = same_setting t s (sym (of_word t) ∙ ap (setting_in (Vl ∷ Svl ∷ Slice ∷ Budget ∷ [])) e ∙ of_word s)
+one_word s t e = same_setting t s (sym (of_word t) ∙ ap (setting_in all_settings) e ∙ of_word s)
 
 not_both : (b : Bool) → b ≡ false → b ≡ true → ⊥
 not_both b f t = cc
@@ -98,6 +106,8 @@ number_in_range Vl None h = refl
 number_in_range Svl None h = refl
 number_in_range Slice None h = refl
 number_in_range Budget None h = refl
+number_in_range Threads None h = refl
+number_in_range Cores None h = refl
 
 -- ---- the places of options
 
@@ -264,6 +274,13 @@ module _ (words : List (List ℕ)) (form : Form) (p : ℕ) (given : Given) (word
       | inr d ↦ others t d ∙ h.valued t ∙ sym (value_still t d)
     ]
 
+    untaken_more : (t : Setting) → setting_in form.options (word_of t) ≡ None → given_of more t ≡ None
+    untaken_more t e = elim (same_or s t) [
+      | inl same ↦ absurd (no_setting s (sym e ∙ ap (λ (u : Setting). setting_in form.options (word_of u)) same
+          ∙ sym (ap (setting_in form.options) (setting_word form.options word s is)) ∙ is))
+      | inr d ↦ others t d ∙ h.untaken t e
+    ]
+
     range_more : (t : Setting) → ForSome (given_of more t) (λ n. takes t n ≡ true)
     range_more t = elim (same_or s t) [
       | inl same ↦ subst (λ (u : Setting). ForSome (given_of more u) (λ n. takes u n ≡ true)) (sym same)
@@ -280,6 +297,7 @@ module _ (words : List (List ℕ)) (form : Form) (p : ℕ) (given : Given) (word
       sound = sound_more;
       placed = placed_more;
       valued = valued_more;
+      untaken = untaken_more;
       in_range = range_more;
     }
 
@@ -380,6 +398,7 @@ read_start words form given asked h none = record {
   valued =
       λ s. none s ∙ sym (ap (option_and_then (λ place. option_map decimal_value (slice_get words (place + 1))))
       (no_place words form (word_of s)));
+  untaken = λ s e. none s;
   in_range = λ s n e. absurd (none_some n (sym (none s) ∙ e));
 }
 
@@ -407,23 +426,42 @@ module _ (words : List (List ℕ)) (form : Form) (given : Given) (h : IsReadTo w
 -- the numbers of the options that are given, and of the others
 abbrev pub options_read : Given → Options
 options_read given =
-    record default_options {
+    record {
       vl = unwrap_or given.vl (default_of Vl);
       svl = unwrap_or given.svl (default_of Svl);
       slice = unwrap_or given.slice (default_of Slice);
       budget = unwrap_or given.budget (default_of Budget);
+      threads = unwrap_or given.threads (default_of Threads);
+      cores = unwrap_or given.cores (default_of Cores);
     }
 
--- the options of a run
+-- the options of `run`, which takes no cores
 pub given_options : (words : List (List ℕ)) (given : Given) → IsReadTo words (form_of Run) (length words) given
     → options_given (form_of Run) words ≡ options_read given
-unfolding options_given
+unfolding options_given setting_in
 given_options words given h =
+    let no_cores : given.cores ≡ None = h.untaken Cores refl in
     rw (
       given_number words (form_of Run) given h Vl,
       given_number words (form_of Run) given h Svl,
       given_number words (form_of Run) given h Slice,
       given_number words (form_of Run) given h Budget,
+      given_number words (form_of Run) given h Threads,
+      no_cores,
+    ) refl
+
+-- the options of `sim`
+pub given_to_sim : (words : List (List ℕ)) (given : Given) → IsReadTo words (form_of Sim) (length words) given
+    → options_given (form_of Sim) words ≡ options_read given
+unfolding options_given
+given_to_sim words given h =
+    rw (
+      given_number words (form_of Sim) given h Vl,
+      given_number words (form_of Sim) given h Svl,
+      given_number words (form_of Sim) given h Slice,
+      given_number words (form_of Sim) given h Budget,
+      given_number words (form_of Sim) given h Threads,
+      given_number words (form_of Sim) given h Cores,
     ) refl
 
 pub to_end : (words : List (List ℕ)) (form : Form) (given : Given) (n : ℕ) → n ≡ length words → IsReadTo words form n given
@@ -455,6 +493,15 @@ pub named : (words : List (List ℕ)) (name : List ℕ) → slice_get words 1 �
 named [] name e = cc
 named (w ∷ []) name e = cc
 named (w ∷ v ∷ words) name e = ap (λ n. NameSaid n ∷ []) (same_word v name e)
+
+-- the operands of a command that has two names
+pub both_named : (words : List (List ℕ)) (first second : List ℕ) → slice_get words 1 ≡ Some first → slice_get words 2 ≡ Some second
+    → arguments_of (Name ∷ Name ∷ []) (drop 1 words) ≡ NameSaid first ∷ NameSaid second ∷ []
+both_named [] first second e f = cc
+both_named (w ∷ []) first second e f = cc
+both_named (w ∷ v ∷ []) first second e f = cc
+both_named (w ∷ v ∷ u ∷ words) first second e f =
+    ap (λ n. NameSaid n ∷ NameSaid u ∷ []) (same_word v first e) ∙ ap (λ n. NameSaid first ∷ NameSaid n ∷ []) (same_word u second f)
 
 -- the last operand of `replay` is the number of a guest thread
 pub thread_stands : (words : List (List ℕ)) (given : Given) (n : ℕ) → IsReadTo words (form_of Replay) n given

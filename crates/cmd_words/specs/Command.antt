@@ -8,7 +8,7 @@ use Rattle.cmd_words.specs.declared.command.Command.TheVariants as command
 use Rattle.cmd_words.specs.declared.command.WordsFault.{WordsFault}
 use Rattle.cmd_words.specs.declared.command.WordsFault.TheVariants as fault
 use Rattle.cmd_words.specs.declared.verb.Verb.{Verb}
-use Rattle.cmd_words.specs.declared.verb.Verb.TheVariants.{Run, Dis, Asm, Replay, Help, Version}
+use Rattle.cmd_words.specs.declared.verb.Verb.TheVariants.{Run, Sim, Dis, Asm, Replay, Help, Version}
 
 abbrev pub asking : Verb → List Argument → Options → Request
 asking verb operands options = record { verb = verb; operands = operands; options = options }
@@ -17,6 +17,8 @@ asking verb operands options = record { verb = verb; operands = operands; option
 abbrev pub request_of : Command → Request
 request_of (command.Run program config) =
     asking Run (NameSaid (string_bytes program) ∷ []) (options_of config)
+request_of (command.Sim program plan config) =
+    asking Sim (NameSaid (string_bytes program) ∷ NameSaid (string_bytes plan) ∷ []) (options_of config)
 request_of (command.Dis program) = asking Dis (NameSaid (string_bytes program) ∷ []) default_options
 request_of (command.Asm source) = asking Asm (NameSaid (string_bytes source) ∷ []) default_options
 request_of (command.Replay program report thread) =

@@ -3,9 +3,9 @@ use Rattle.std.specs.Prelude.{ℕ, ◌+◌, List, [], ◌∷◌, length}
 use Rattle.cmd_words.specs.declared.form.Operand.{Operand}
 use Rattle.cmd_words.specs.declared.form.Operand.TheVariants.{Name, Thread}
 use Rattle.cmd_words.specs.declared.setting.Setting.{Setting}
-use Rattle.cmd_words.specs.declared.setting.Setting.TheVariants.{Vl, Svl, Slice, Budget}
+use Rattle.cmd_words.specs.declared.setting.Setting.TheVariants.{Vl, Svl, Slice, Budget, Threads, Cores}
 use Rattle.cmd_words.specs.declared.verb.Verb.{Verb}
-use Rattle.cmd_words.specs.declared.verb.Verb.TheVariants.{Run, Dis, Asm, Replay, Help, Version}
+use Rattle.cmd_words.specs.declared.verb.Verb.TheVariants.{Run, Sim, Dis, Asm, Replay, Help, Version}
 
 -- what must stand after a command, in order, and the options that may follow then, each with its value as the
 -- next word
@@ -15,7 +15,12 @@ pub record Form : Type 0 where
 
 -- the form of each command
 abbrev pub form_of : Verb → Form
-form_of Run = record { operands = Name ∷ []; options = Vl ∷ Svl ∷ Slice ∷ Budget ∷ [] }
+form_of Run = record { operands = Name ∷ []; options = Vl ∷ Svl ∷ Slice ∷ Budget ∷ Threads ∷ [] }
+form_of Sim =
+    record {
+      operands = Name ∷ Name ∷ [];
+      options = Vl ∷ Svl ∷ Slice ∷ Budget ∷ Threads ∷ Cores ∷ [];
+    }
 form_of Dis = record { operands = Name ∷ []; options = [] }
 form_of Asm = record { operands = Name ∷ []; options = [] }
 form_of Replay = record { operands = Name ∷ Name ∷ Thread ∷ []; options = [] }

@@ -2,12 +2,12 @@
 use Rattle.std.specs.Prelude.{◌≡◌, ℕ, ◌-◌, ◌<◌, ◌≤◌, ◌%◌, true, List, length, Option, Some, None, is_some}
 use Rattle.std.specs.Option.{ForSome}
 use Rattle.cmd_words.specs.Forms as forms
-use Rattle.cmd_words.specs.Options.{word_of, takes}
+use Rattle.cmd_words.specs.Options.{word_of, setting_in, takes}
 use Rattle.cmd_words.specs.Words.{form_asked, option_place, value_below, fault_at}
 use Rattle.cmd_words.specs.declared.form.Form.{Form}
 use Rattle.cmd_words.specs.declared.given.Given.{Given}
 use Rattle.cmd_words.specs.declared.setting.Setting.{Setting}
-use Rattle.cmd_words.specs.declared.setting.Setting.TheVariants.{Vl, Svl, Slice, Budget}
+use Rattle.cmd_words.specs.declared.setting.Setting.TheVariants.{Vl, Svl, Slice, Budget, Threads, Cores}
 
 -- the number of an option, where it is given
 abbrev pub given_of : Given → Setting → Option ℕ
@@ -15,6 +15,8 @@ given_of given Vl = given.vl
 given_of given Svl = given.svl
 given_of given Slice = given.slice
 given_of given Budget = given.budget
+given_of given Threads = given.threads
+given_of given Cores = given.cores
 
 -- what a form of the code says
 abbrev pub form_said : Form → forms.Form
@@ -25,7 +27,8 @@ pub record IsSoundTo (words : List (List ℕ)) (n : ℕ) : Type 0 where
   pub inside : n ≤ length words
   pub sound : (place : ℕ) → place < n → fault_at words place ≡ None
 
--- the words of a command of that form below place n, one of an option, have no fault, and give these options
+-- the words of a command of that form below place n, one of an option, have no fault, and give these options;
+-- an option that the form does not have is not given
 pub record IsReadTo (words : List (List ℕ)) (form : forms.Form) (n : ℕ) (given : Given) : Type 0 where
   pub asked : form_asked words ≡ Some form
   pub even : (n - forms.options_from form) % 2 ≡ 0
@@ -35,5 +38,7 @@ pub record IsReadTo (words : List (List ℕ)) (form : forms.Form) (n : ℕ) (giv
   pub placed : (setting : Setting)
       → is_some (given_of given setting) ≡ is_some (option_place form words (word_of setting) n)
   pub valued : (setting : Setting) → given_of given setting ≡ value_below form words setting n
+  pub untaken : (setting : Setting) → setting_in form.options (word_of setting) ≡ None
+      → given_of given setting ≡ None
   pub in_range :
       (setting : Setting) → ForSome (given_of given setting) (λ number. takes setting number ≡ true)

@@ -6,7 +6,7 @@ use Rattle.std.specs.Str.{bytes_eq}
 use Rattle.sm_types.specs.Length.{bits_of}
 use Rattle.sm_types.specs.declared.config.Config.{Config}
 use Rattle.cmd_words.specs.declared.setting.Setting.{Setting}
-use Rattle.cmd_words.specs.declared.setting.Setting.TheVariants.{Vl, Svl, Slice, Budget}
+use Rattle.cmd_words.specs.declared.setting.Setting.TheVariants.{Vl, Svl, Slice, Budget, Threads, Cores}
 
 -- the numbers of a run's options, the lengths in bits
 pub record Options : Type 0 where
@@ -21,7 +21,7 @@ pub record Options : Type 0 where
 abbrev pub default_options : Options
 default_options = record { vl = 128; svl = 256; slice = 1000; budget = 10000000; threads = 1; cores = 1 }
 
--- ---- each option that has a word
+-- ---- each option
 
 -- its word
 abbrev pub word_of : Setting → List ℕ
@@ -29,6 +29,8 @@ word_of Vl = codes "--vl"
 word_of Svl = codes "--svl"
 word_of Slice = codes "--slice"
 word_of Budget = codes "--budget"
+word_of Threads = codes "--threads"
+word_of Cores = codes "--cores"
 
 -- one of the five vector lengths in bits
 abbrev pub is_length : ℕ → Bool
@@ -40,6 +42,8 @@ takes Vl number = is_length number
 takes Svl number = is_length number
 takes Slice number = nat_le 1 number && nat_le number 1000000
 takes Budget number = nat_le 1 number && nat_le number 4294967295
+takes Threads number = nat_le 1 number && nat_le number 32
+takes Cores number = nat_le 1 number && nat_le number 64
 
 -- its number among those of the options
 abbrev pub number_in : Options → Setting → ℕ
@@ -47,6 +51,8 @@ number_in options Vl = options.vl
 number_in options Svl = options.svl
 number_in options Slice = options.slice
 number_in options Budget = options.budget
+number_in options Threads = options.threads
+number_in options Cores = options.cores
 
 -- the options with that number for it
 abbrev pub with_number : Options → Setting → ℕ → Options
@@ -54,6 +60,8 @@ with_number options Vl number = record options { vl = number }
 with_number options Svl number = record options { svl = number }
 with_number options Slice number = record options { slice = number }
 with_number options Budget number = record options { budget = number }
+with_number options Threads number = record options { threads = number }
+with_number options Cores number = record options { cores = number }
 
 -- ---- the same of all
 

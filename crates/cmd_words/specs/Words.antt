@@ -17,18 +17,19 @@ use Rattle.cmd_words.specs.declared.form.Operand.{Operand}
 use Rattle.cmd_words.specs.declared.form.Operand.TheVariants.{Name, Thread}
 use Rattle.cmd_words.specs.declared.setting.Setting.{Setting}
 use Rattle.cmd_words.specs.declared.verb.Verb.{Verb}
-use Rattle.cmd_words.specs.declared.verb.Verb.TheVariants.{Run, Dis, Asm, Replay, Help, Version}
+use Rattle.cmd_words.specs.declared.verb.Verb.TheVariants.{Run, Sim, Dis, Asm, Replay, Help, Version}
 
 -- the command of a word
 unfoldable pub verb_of : List ℕ → Option Verb
 verb_of word =
     if bytes_eq word (codes "run") then Some Run
+    else (if bytes_eq word (codes "sim") then Some Sim
     else (if bytes_eq word (codes "dis") then Some Dis
     else (if bytes_eq word (codes "asm") then Some Asm
     else (if bytes_eq word (codes "replay") then Some Replay
     else (if bytes_eq word (codes "--help") then Some Help
     else (if bytes_eq word (codes "--version") then Some Version
-    else None)))))
+    else None))))))
 
 -- the form of the command that the first word is
 abbrev pub form_asked : List (List ℕ) → Option Form

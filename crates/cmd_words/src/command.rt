@@ -10,6 +10,12 @@ pub enum Command {
         program: String,
         config: Config,
     },
+    /// Runs the program file of that name on cores, by the plan file of that name.
+    Sim {
+        program: String,
+        plan: String,
+        config: Config,
+    },
     /// Lists the code words of the program file of that name.
     Dis {
         program: String,

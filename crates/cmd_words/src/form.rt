@@ -31,7 +31,24 @@ pub fn form_of(verb: Verb) -> Form
     match verb {
         Verb::Run => Form {
             operands: &[Operand::Name],
-            options: &[Setting::Vl, Setting::Svl, Setting::Slice, Setting::Budget],
+            options: &[
+                Setting::Vl,
+                Setting::Svl,
+                Setting::Slice,
+                Setting::Budget,
+                Setting::Threads,
+            ],
+        },
+        Verb::Sim => Form {
+            operands: &[Operand::Name, Operand::Name],
+            options: &[
+                Setting::Vl,
+                Setting::Svl,
+                Setting::Slice,
+                Setting::Budget,
+                Setting::Threads,
+                Setting::Cores,
+            ],
         },
         Verb::Dis | Verb::Asm => Form {
             operands: &[Operand::Name],

@@ -16,6 +16,8 @@ pub struct Given {
     pub svl: Option<u32>,
     pub slice: Option<u32>,
     pub budget: Option<u32>,
+    pub threads: Option<u32>,
+    pub cores: Option<u32>,
 }
 
 /// The vector length of so many bits.
@@ -39,6 +41,8 @@ impl Given {
             svl: None,
             slice: None,
             budget: None,
+            threads: None,
+            cores: None,
         }
     }
 
@@ -51,6 +55,8 @@ impl Given {
             Setting::Svl => self.svl,
             Setting::Slice => self.slice,
             Setting::Budget => self.budget,
+            Setting::Threads => self.threads,
+            Setting::Cores => self.cores,
         }
     }
 
@@ -66,6 +72,8 @@ impl Given {
             Setting::Svl => given.svl = Some(number),
             Setting::Slice => given.slice = Some(number),
             Setting::Budget => given.budget = Some(number),
+            Setting::Threads => given.threads = Some(number),
+            Setting::Cores => given.cores = Some(number),
         }
         given
     }
@@ -81,21 +89,22 @@ impl Given {
     pub fn config(&self) -> Config
         requires { (setting : Setting) → ForSome (given_of self.now setting)
             (λ number. spec.takes setting number ≡ true) }
-        ensures { spec.options_of result ≡ record spec.default_options {
+        ensures { spec.options_of result ≡ record {
           vl = unwrap_or self.now.vl (spec.default_of Setting.Vl);
           svl = unwrap_or self.now.svl (spec.default_of Setting.Svl);
           slice = unwrap_or self.now.slice (spec.default_of Setting.Slice);
           budget = unwrap_or self.now.budget (spec.default_of Setting.Budget);
+          threads = unwrap_or self.now.threads (spec.default_of Setting.Threads);
+          cores = unwrap_or self.now.cores (spec.default_of Setting.Cores);
         } }
     {
-        let defaults = Config::defaults();
         Config {
             vl: length_of(self.number(Setting::Vl)),
             svl: length_of(self.number(Setting::Svl)),
             slice: self.number(Setting::Slice),
             budget: self.number(Setting::Budget),
-            threads: defaults.threads,
-            cores: defaults.cores,
+            threads: self.number(Setting::Threads),
+            cores: self.number(Setting::Cores),
         }
     }
 }

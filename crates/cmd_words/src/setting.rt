@@ -15,6 +15,10 @@ pub enum Setting {
     Slice,
     /// The instructions after which a thread is stopped.
     Budget,
+    /// The guest threads.
+    Threads,
+    /// The cores.
+    Cores,
 }
 
 /// The word of an option.
@@ -26,6 +30,8 @@ fn word_of(setting: Setting) -> &'static str
         Setting::Svl => "--svl",
         Setting::Slice => "--slice",
         Setting::Budget => "--budget",
+        Setting::Threads => "--threads",
+        Setting::Cores => "--cores",
     }
 }
 
@@ -50,6 +56,8 @@ pub fn takes(setting: Setting, number: u64) -> bool
         Setting::Svl => matches!(number, 128 | 256 | 512 | 1024 | 2048),
         Setting::Slice => matches!(number, 1..=1_000_000),
         Setting::Budget => matches!(number, 1..=0xFFFF_FFFF),
+        Setting::Threads => matches!(number, 1..=32),
+        Setting::Cores => matches!(number, 1..=64),
     }
 }
 
@@ -63,5 +71,7 @@ pub fn default_of(setting: Setting) -> u32
         Setting::Svl => defaults.svl.bits(),
         Setting::Slice => defaults.slice,
         Setting::Budget => defaults.budget,
+        Setting::Threads => defaults.threads,
+        Setting::Cores => defaults.cores,
     }
 }

@@ -6,6 +6,7 @@ ghost use Rattle.cmd_words.specs.Words as spec;
 #[derive(Clone, Copy)]
 pub enum Verb {
     Run,
+    Sim,
     Dis,
     Asm,
     Replay,
@@ -20,6 +21,8 @@ pub fn verb_of(word: &str) -> Option<Verb>
 {
     if word == "run" {
         Some(Verb::Run)
+    } else if word == "sim" {
+        Some(Verb::Sim)
     } else if word == "dis" {
         Some(Verb::Dis)
     } else if word == "asm" {

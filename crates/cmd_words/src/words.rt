@@ -212,6 +212,11 @@ fn make_command(
             program: name_at(alloc, words, 1)?,
             config: given.config(),
         }),
+        Verb::Sim => Ok(Command::Sim {
+            program: name_at(alloc, words, 1)?,
+            plan: name_at(alloc, words, 2)?,
+            config: given.config(),
+        }),
         Verb::Dis => Ok(Command::Dis {
             program: name_at(alloc, words, 1)?,
         }),

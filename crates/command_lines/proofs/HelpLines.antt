@@ -4,7 +4,7 @@ use Rattle.std.proofs.lemmas.Bool.Decides.{nat_tests}
 use Rattle.std.specs.Fmt.{digits}
 use Rattle.cmd_words.specs.Options.{takes}
 use Rattle.cmd_words.specs.declared.setting.Setting.{Setting}
-use Rattle.cmd_words.specs.declared.setting.Setting.TheVariants.{Vl, Svl, Slice, Budget}
+use Rattle.cmd_words.specs.declared.setting.Setting.TheVariants.{Vl, Svl, Slice, Budget, Threads, Cores}
 use Rattle.command_lines.specs.Texts.{has_number, help_text, numbers_of, option_line, HasFront, HasPart, status_line}
 use Rattle.command_lines.specs.declared.status.Status.{Status}
 use Rattle.command_lines.specs.declared.status.Status.TheVariants.{Done}
@@ -51,6 +51,8 @@ has_line Vl = stands_so (option_line Vl) help_text refl
 has_line Svl = stands_so (option_line Svl) help_text refl
 has_line Slice = stands_so (option_line Slice) help_text refl
 has_line Budget = stands_so (option_line Budget) help_text refl
+has_line Threads = stands_so (option_line Threads) help_text refl
+has_line Cores = stands_so (option_line Cores) help_text refl
 
 -- one of five, from the left or from the right
 any_of_five : (a b c d e : Bool) → (a || (b || (c || (d || (e || false))))) ≡ ((((a || b) || c) || d) || e)
@@ -66,6 +68,8 @@ has_numbers Vl n = any_of_five (n == 128) (n == 256) (n == 512) (n == 1024) (n =
 has_numbers Svl n = any_of_five (n == 128) (n == 256) (n == 512) (n == 1024) (n == 2048)
 has_numbers Slice n = refl
 has_numbers Budget n = refl
+has_numbers Threads n = refl
+has_numbers Cores n = refl
 
 pub has_status : (status : Status) → HasPart help_text (status_line status)
 unfolding help_text digits stands_in begins

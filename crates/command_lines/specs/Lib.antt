@@ -3,4 +3,5 @@ pub mod Texts
 pub mod FaultLines
 pub mod SourceLines
 pub mod ReportLines
+pub mod PlanLines
 pub mod Foreign

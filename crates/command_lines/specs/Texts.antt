@@ -9,12 +9,12 @@ use Rattle.cmd_words.specs.declared.command.UsageKind.{UsageKind}
 use Rattle.cmd_words.specs.declared.command.UsageKind.TheVariants.{Unknown, Missing, Repeated, BadNumber}
 use Rattle.cmd_words.specs.declared.command.UsageKind.TheVariants.{OutOfRange, Extra}
 use Rattle.cmd_words.specs.declared.setting.Setting.{Setting}
-use Rattle.cmd_words.specs.declared.setting.Setting.TheVariants.{Vl, Svl, Slice, Budget}
+use Rattle.cmd_words.specs.declared.setting.Setting.TheVariants.{Vl, Svl, Slice, Budget, Threads, Cores}
 use Rattle.command_lines.specs.declared.help.TheConstants.{HELP, VERSION}
 use Rattle.command_lines.specs.declared.status.Status.{Status}
 use Rattle.command_lines.specs.declared.status.Status.TheVariants.{Done, Usage, Absent, ReadFault, WriteFault}
 use Rattle.command_lines.specs.declared.status.Status.TheVariants.{BadFile, BadSource, OutOfMemory, BadReport}
-use Rattle.command_lines.specs.declared.status.Status.TheVariants.{Differs}
+use Rattle.command_lines.specs.declared.status.Status.TheVariants.{Differs, BadPlan}
 use Rattle.command_lines.specs.Status.{code_of}
 
 -- what is wrong with a word
@@ -41,6 +41,8 @@ numbers_of Vl = OneOf (128 ∷ 256 ∷ 512 ∷ 1024 ∷ 2048 ∷ [])
 numbers_of Svl = OneOf (128 ∷ 256 ∷ 512 ∷ 1024 ∷ 2048 ∷ [])
 numbers_of Slice = FromTo 1 1000000
 numbers_of Budget = FromTo 1 4294967295
+numbers_of Threads = FromTo 1 32
+numbers_of Cores = FromTo 1 64
 
 abbrev pub is_among : ℕ → List ℕ → Bool
 is_among n [] = false
@@ -68,6 +70,8 @@ option_word Vl = codes "  --vl BITS     vector length outside streaming mode: "
 option_word Svl = codes "  --svl BITS    vector length in streaming mode: "
 option_word Slice = codes "  --slice N     instructions between polls of the pending signals: "
 option_word Budget = codes "  --budget N    instructions after which a thread is stopped: "
+option_word Threads = codes "  --threads N   guest threads: "
+option_word Cores = codes "  --cores N     cores, of sim alone: "
 
 -- what the text of help says of an option: the numbers that it takes, and the one where it is not given
 abbrev pub option_line : Setting → List ℕ
@@ -88,6 +92,7 @@ status_words BadSource = codes "bad source: line "
 status_words OutOfMemory = codes "there was no memory\n"
 status_words BadReport = codes "bad report: line "
 status_words Differs = codes "differs: "
+status_words BadPlan = codes "bad plan: line "
 
 -- what the text of help says of a status, from the end of the line before: the number that the process
 -- ends with, and those words

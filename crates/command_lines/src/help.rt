@@ -10,6 +10,9 @@ smemu runs AArch64 programs and reports what they did, and assembles them.
 
 commands:
   run PROGRAM   runs the ELF64 file PROGRAM and writes the report of its run
+  sim PROGRAM PLAN
+                runs PROGRAM on cores by the events of the plan PLAN, and writes which of
+                them were skipped, the report and the history
   dis PROGRAM   lists the code words of the ELF64 file PROGRAM: address, word and text
   asm SOURCE    assembles SOURCE and writes the ELF64 file of the program
   replay PROGRAM REPORT THREAD
@@ -17,11 +20,13 @@ commands:
   --help        writes this text
   --version     writes the version
 
-options of run, in any order after PROGRAM, each at most once:
+options of run and sim, in any order after the names, each at most once:
   --vl BITS     vector length outside streaming mode: 128, 256, 512, 1024 or 2048; else 128
   --svl BITS    vector length in streaming mode: 128, 256, 512, 1024 or 2048; else 256
   --slice N     instructions between polls of the pending signals: 1 to 1000000; else 1000
   --budget N    instructions after which a thread is stopped: 1 to 4294967295; else 10000000
+  --threads N   guest threads: 1 to 32; else 1
+  --cores N     cores, of sim alone: 1 to 64; else 1
 
 statuses:
   0   the text was written
@@ -34,6 +39,7 @@ statuses:
   8   there was no memory
   9   bad report: line L: KIND, where the file is no report of PROGRAM with that thread
   10   differs: where the thread and its report part: a line of both, or KIND VALUES
+  11   bad plan: line L: KIND, where the file is no plan
 
 what the usual refusals of a program file mean:
   notstatic 1   an object file: link it

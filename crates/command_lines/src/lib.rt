@@ -1,7 +1,7 @@
-//! The lines and the texts of the command: the line of the fault for which words, a program's file, a source
-//! or a report is refused, the lines that say in which line a report and a replay differ, the texts of help
-//! and of the version, and the status with its number. `refuse_foreign_word` answers words of which one is no
-//! text.
+//! The lines and the texts of the command: the line of the fault for which words, a program's file, a source,
+//! a report or a plan is refused, the lines that say in which line a report and a replay differ, the texts
+//! of help and of the version, and the status with its number. `refuse_foreign_word` answers words of which
+//! one is no text.
 #![tactic(auto)]
 
 mod difference_line;
@@ -9,6 +9,7 @@ mod fault_line;
 mod foreign;
 mod help;
 mod laws;
+mod plan_line;
 mod report_line;
 mod source_line;
 mod status;
@@ -19,6 +20,7 @@ pub use fault_line::write_fault;
 pub use foreign::refuse_foreign_word;
 pub use help::{write_help, write_version};
 pub use laws::help_is_true;
+pub use plan_line::write_plan_fault;
 pub use report_line::write_report_fault;
 pub use source_line::write_source_fault;
 pub use status::Status;

@@ -25,6 +25,8 @@ pub enum Status {
     BadReport,
     /// The thread that is replayed and its report part.
     Differs,
+    /// The file is no plan.
+    BadPlan,
 }
 
 impl Status {
@@ -43,6 +45,7 @@ impl Status {
             Status::OutOfMemory => 8,
             Status::BadReport => 9,
             Status::Differs => 10,
+            Status::BadPlan => 11,
         }
     }
 }

@@ -6,3 +6,4 @@ pub mod Replays
 pub mod Words
 pub mod InMemory
 pub mod Threads
+pub mod Worlds

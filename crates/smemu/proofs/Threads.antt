@@ -11,7 +11,8 @@ use Rattle.kernel_contexts.specs.declared.context.Context.{Context}
 use Rattle.lone_runner.specs.LoneRun.{HasRunAlone, HaveRun}
 use Rattle.report_text.specs.Ends.{end_of, ends_of}
 use Rattle.report_text.specs.Report.{ThreadEnd}
-use Rattle.smemu.specs.Answers.{IsEndOf, journals_of}
+use Rattle.smemu.specs.Answers.{IsEndOf}
+use Rattle.smemu.specs.Worlds.{journals_of}
 
 end_here : (program : Program) (config : Config) (k : ℕ) (context : Context) → HasRunAlone program config k context
     → IsEndOf program config k (end_of context)
@@ -24,7 +25,7 @@ none_here : (a : ThreadEnd) → ◌≡◌ {A = Option ThreadEnd} None (Some a) �
 none_here a e = cc
 
 -- each end is that of the context of its number
-ends_at : (is_end : ℕ → ThreadEnd → Type 0) (contexts : List Context)
+pub ends_at : (is_end : ℕ → ThreadEnd → Type 0) (contexts : List Context)
     → ((k : ℕ) (context : Context) → slice_get contexts k ≡ Some context → is_end k (end_of context))
     → (k : ℕ) (end : ThreadEnd) → slice_get (ends_of contexts) k ≡ Some end → is_end k end
 ends_at is_end [] h k end e = absurd (none_here end e)

@@ -13,10 +13,13 @@ use Rattle.smemu.specs.Ends.{Change}
 use Rattle.smemu.specs.Views.{IsFront, IsOpened, IsRejected, IsUnopened}
 use Rattle.smemu.specs.declared.refusal.Refusal.{Refusal}
 use Rattle.smemu.specs.declared.refusal.Refusal.TheVariants as refusal
+use Rattle.plan_reader.specs.Plan.{plan_in}
+use Rattle.plan_reader.specs.Plan as plan
+use Rattle.plan_reader.specs.declared.fault.PlanKind.TheVariants as plan_kind
 use Rattle.report_reader.specs.Reading.{Fault}
 use Rattle.report_reader.specs.Report.{report_in}
 use Rattle.report_reader.specs.declared.fault.ReportKind.TheVariants as part
-use Rattle.smemu.specs.Rejections.{Kind, ProgramFile, SourceFile, ReportFile, fault_in, rejection_of}
+use Rattle.smemu.specs.Rejections.{Kind, ProgramFile, SourceFile, ReportFile, PlanFile, fault_in, rejection_of}
 use Rattle.smemu.specs.declared.rejection.Rejection.{Rejection}
 use Rattle.smemu.specs.declared.rejection.Rejection.TheVariants as rejection
 
@@ -120,16 +123,23 @@ long_report : (file : List ℕ) → 1073741824 < length file → fault_in (repor
 unfolding report_in
 long_report file h = rw (is_long_report file h) refl
 
+-- a plan of more than 64 MiB too
+long_plan : (file : List ℕ) → 67108864 < length file → fault_in (plan_in file) ≡ Some (record { line = 0; kind = plan_kind.TooLong })
+unfolding plan_in
+long_plan file h = rw (is_long file h) refl
+
 too_long : Kind → Rejection
 too_long ProgramFile = rejection.Program load.TooLong
 too_long SourceFile = rejection.Source asm.TooLong
 too_long ReportFile = rejection.Report 0 part.TooLong
+too_long PlanFile = rejection.Plan 0 plan_kind.TooLong
 
 -- the most bytes that a file of a kind may have
 abbrev pub largest_of : Kind → ℕ
 largest_of ProgramFile = 67108864
 largest_of SourceFile = 67108864
 largest_of ReportFile = 1073741824
+largest_of PlanFile = 67108864
 
 long_rejected : (kind : Kind) (file : List ℕ) → largest_of kind < length file → rejection_of kind file ≡ Some (too_long kind)
 unfolding too_long
@@ -137,6 +147,8 @@ long_rejected ProgramFile file h = ap (option_map rejection.Program) (long_refus
 long_rejected SourceFile file h = ap (option_map rejection.Source) (long_source file h)
 long_rejected ReportFile file h =
     ap (option_map (λ (fault : Fault). rejection.Report fault.line fault.kind)) (long_report file h)
+long_rejected PlanFile file h =
+    ap (option_map (λ (fault : plan.Fault). rejection.Plan fault.line fault.kind)) (long_plan file h)
 
 -- what was fetched is the file, where it is accepted
 pub opened_file : (kind : Kind) (told : Told) (n : ℕ) (name fetched : List ℕ) → largest_of kind < n → IsFront told n name fetched

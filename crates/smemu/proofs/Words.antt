@@ -1,10 +1,8 @@
 -- What words ask for.
 use Rattle.std.proofs.Common.{◌≡◌, ℕ, Bool, true, false, cond, List, Option, Some, None, refl, sym, ◌∙◌, ap}
 use Rattle.std.specs.Prelude.{slice_get, is_none, option_and_then, option_map}
-use Rattle.cmd_words.specs.Forms.{form_of}
-use Rattle.cmd_words.specs.Words.{Request, verb_of, options_given, request_for, usage_fault, command_of}
+use Rattle.cmd_words.specs.Words.{Request, verb_of, request_for, usage_fault, command_of}
 use Rattle.cmd_words.specs.declared.verb.Verb.{Verb}
-use Rattle.cmd_words.specs.declared.verb.Verb.TheVariants.{Run}
 
 same_request : (a b : Request) → ◌≡◌ {A = Option Request} (Some a) (Some b) → a ≡ b
 same_request a b e = cc
@@ -27,14 +25,3 @@ asked_without words false verb request e = cc
 pub asked_for : (words : List (List ℕ)) (request : Request) → command_of words ≡ Some request → IsAskedFor words request
 unfolding command_of
 asked_for words request e = asked_without words (is_none (usage_fault words)) (option_and_then verb_of (slice_get words 0)) request e
-
-one_given : (verb : Verb) (words : List (List ℕ)) → (options_given (form_of verb) words).threads ≡ 1
-unfolding options_given
-one_given Run words = refl
-one_given verb words = refl
-
--- and has one guest thread
-pub one_thread : (words : List (List ℕ)) (request : Request) → command_of words ≡ Some request → request.options.threads ≡ 1
-one_thread words request e =
-    let asked = asked_for words request e in
-    ap (λ (r : Request). r.options.threads) (sym asked.1) ∙ one_given asked.0 words

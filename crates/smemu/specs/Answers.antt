@@ -1,10 +1,9 @@
--- What the command writes for a request: the report of a run, a listing, a program's file, the block of a
--- thread that is replayed, or a text of its own; and what else may become of it.
+-- What the command writes for a request: the report of a run, the text of a plan, a listing, a program's
+-- file, the block of a thread that is replayed, or a text of its own; and what else may become of it.
 use Rattle.std.specs.Prelude.{◌≡◌, ℕ, [], ◌∷◌, List, Some, None, IfSome, length, map, slice_get}
 use Rattle.sha2.specs.Sha256.{sha256}
 use Rattle.sm_types.specs.declared.config.Config.{Config}
 use Rattle.sm_types.specs.declared.object.Object.{Object}
-use Rattle.sm_types.specs.declared.shared_op.Event.{Event}
 use Rattle.sm_types.specs.declared.shared_words.Words.{Words}
 use Rattle.sm_types.specs.declared.stop.Stop.{Stop}
 use Rattle.shared_region.specs.History.{AreOneHistory}
@@ -12,7 +11,7 @@ use Rattle.edge_io.specs.Files.{Told}
 use Rattle.cmd_words.specs.Options.{Options, options_of}
 use Rattle.cmd_words.specs.Words.{Argument, ThreadSaid, Request}
 use Rattle.cmd_words.specs.declared.verb.Verb.{Verb}
-use Rattle.cmd_words.specs.declared.verb.Verb.TheVariants.{Run, Dis, Asm, Replay, Help, Version}
+use Rattle.cmd_words.specs.declared.verb.Verb.TheVariants.{Run, Sim, Dis, Asm, Replay, Help, Version}
 use Rattle.asm_core.specs.Assembly.{Assembles}
 use Rattle.code_listing.specs.Listing.{listing_text}
 use Rattle.paged_memory.specs.Image.{Program}
@@ -26,6 +25,7 @@ use Rattle.command_lines.specs.declared.status.Status.TheVariants.{Done, BadRepo
 use Rattle.smemu.specs.Rejections.{rejection_of}
 use Rattle.smemu.specs.Replay.{IsReplayOf, MismatchesSo, DiffersSo}
 use Rattle.smemu.specs.Requests.{Named, files_named}
+use Rattle.smemu.specs.Worlds.{AreSerialEnds, IsSimulation, journals_of}
 
 -- the file of that name, as far as the files are told
 abbrev pub IsFile : Told → List ℕ → List ℕ → Type 0
@@ -38,13 +38,9 @@ pub record IsEndOf (program : Program) (config : Config) (k : ℕ) (end : Thread
   pub stopped : end.stop ≡ Some stop
   pub run : IsLoneRun program config k end.journal end.state stop
 
--- the journals of threads that end so
-abbrev pub journals_of : List ThreadEnd → List (List Event)
-journals_of ends = map (λ (end : ThreadEnd). end.journal) ends
-
 -- the text is the report of the run of a file with these options: the program that it is loaded as, the end
 -- of each guest thread, and the words that they share; the threads' journals are one history, which ends in
--- these words
+-- these words. The ends and the words are those after the serial events
 pub record IsReportOf (file : List ℕ) (config : Config) (text : List ℕ) : Type 0 where
   pub program : Program
   pub loads : Loads file program
@@ -53,6 +49,7 @@ pub record IsReportOf (file : List ℕ) (config : Config) (text : List ℕ) : Ty
   pub each : (k : ℕ) (end : ThreadEnd) → slice_get ends k ≡ Some end → IsEndOf program config k end
   pub words : Words
   pub one_history : AreOneHistory (journals_of ends) words
+  pub serial : AreSerialEnds program config ends words
   pub is_text : text ≡ report_text config (sha256 file) ends words
 
 -- the text is the report of the run of a file with these options
@@ -85,6 +82,11 @@ abbrev pub of_file : (List ℕ → Options → List ℕ → Type 0) → Outcome
 of_file tells operands options (file ∷ []) text = tells file options text
 of_file tells operands options files text = ⊥
 
+-- of a program and a plan
+abbrev pub of_plan : (List ℕ → List ℕ → Options → List ℕ → Type 0) → Outcome
+of_plan tells operands options (file ∷ plan ∷ []) text = tells file plan options text
+of_plan tells operands options files text = ⊥
+
 -- of a program, a report of it, and a thread of that
 abbrev pub of_thread : (List ℕ → List ℕ → ℕ → List ℕ → Type 0) → Outcome
 of_thread tells (program ∷ report ∷ ThreadSaid thread ∷ []) options (file ∷ bytes ∷ []) text =
@@ -103,6 +105,7 @@ pub data Telling : Type 1 where
 -- the text that goes with a status, for each status with which a command may end
 abbrev pub outcomes_of : Verb → Status → Telling
 outcomes_of Run Done = Tells (of_file IsReport)
+outcomes_of Sim Done = Tells (of_plan IsSimulation)
 outcomes_of Dis Done = Tells (of_file (λ file options. IsListingOf file))
 outcomes_of Asm Done = Tells (of_file (λ file options. IsProgramOf file))
 outcomes_of Replay Done = Tells (of_thread IsReplayOf)

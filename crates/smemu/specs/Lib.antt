@@ -4,6 +4,7 @@ pub mod DifferLines
 pub mod Replay
 pub mod Compare
 pub mod Excerpt
+pub mod Worlds
 pub mod Answers
 pub mod Ends
 pub mod Views

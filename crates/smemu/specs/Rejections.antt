@@ -2,13 +2,16 @@
 use Rattle.std.specs.Prelude.{ℕ, List, Option, Some, None, option_map, Result, Ok, Err}
 use Rattle.asm_core.specs.Faults.{asm_fault}
 use Rattle.elf_loader.specs.Loading.{load_fault}
+use Rattle.plan_reader.specs.Plan.{plan_in}
+use Rattle.plan_reader.specs.Plan as plan
 use Rattle.report_reader.specs.Reading.{Fault}
-use Rattle.report_reader.specs.Report.{Report, report_in}
+use Rattle.report_reader.specs.Report.{report_in}
 use Rattle.command_lines.specs.FaultLines.{fault_line}
+use Rattle.command_lines.specs.PlanLines.{plan_line}
 use Rattle.command_lines.specs.ReportLines.{report_line}
 use Rattle.command_lines.specs.SourceLines.{source_line}
 use Rattle.command_lines.specs.declared.status.Status.{Status}
-use Rattle.command_lines.specs.declared.status.Status.TheVariants.{BadFile, BadSource, BadReport}
+use Rattle.command_lines.specs.declared.status.Status.TheVariants.{BadFile, BadSource, BadReport, BadPlan}
 use Rattle.smemu.specs.declared.rejection.Rejection.{Rejection}
 use Rattle.smemu.specs.declared.rejection.Rejection.TheVariants as rejection
 
@@ -20,16 +23,19 @@ pub data Kind : Type 0 where
   SourceFile : Kind
   -- a report, which is in its format
   ReportFile : Kind
+  -- a plan, which is in its format
+  PlanFile : Kind
 
--- how many bytes are fetched: one more than a program, a source or a report may have
+-- how many bytes are fetched: one more than it may have
 abbrev pub limit_of : Kind → ℕ
 limit_of ProgramFile = 67108865
 limit_of SourceFile = 67108865
 limit_of ReportFile = 1073741825
+limit_of PlanFile = 67108865
 
 -- the fault of a reading
-abbrev pub fault_in : Result Report Fault → Option Fault
-fault_in (Ok report) = None
+abbrev pub fault_in : {A F : Type 0} → Result A F → Option F
+fault_in (Ok read) = None
 fault_in (Err fault) = Some fault
 
 -- why a file is not accepted
@@ -38,15 +44,19 @@ rejection_of ProgramFile file = option_map rejection.Program (load_fault file)
 rejection_of SourceFile file = option_map rejection.Source (asm_fault file)
 rejection_of ReportFile file =
     option_map (λ (fault : Fault). rejection.Report fault.line fault.kind) (fault_in (report_in file))
+rejection_of PlanFile file =
+    option_map (λ (fault : plan.Fault). rejection.Plan fault.line fault.kind) (fault_in (plan_in file))
 
 -- the status of a rejection
 abbrev pub rejection_status : Rejection → Status
 rejection_status (rejection.Program fault) = BadFile
 rejection_status (rejection.Source fault) = BadSource
 rejection_status (rejection.Report line kind) = BadReport
+rejection_status (rejection.Plan line kind) = BadPlan
 
 -- its line
 abbrev pub rejection_line : Rejection → List ℕ
 rejection_line (rejection.Program fault) = fault_line fault
 rejection_line (rejection.Source fault) = source_line fault
 rejection_line (rejection.Report line kind) = report_line (record { line = line; kind = kind })
+rejection_line (rejection.Plan line kind) = plan_line (record { line = line; kind = kind })

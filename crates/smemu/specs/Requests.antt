@@ -4,10 +4,11 @@ use Rattle.std.specs.Prelude.{if◌then◌else◌}
 use Rattle.edge_io.specs.Files.{Told}
 use Rattle.cmd_words.specs.Words.{Argument, NameSaid, ThreadSaid, Request, command_of}
 use Rattle.cmd_words.specs.declared.verb.Verb.{Verb}
-use Rattle.cmd_words.specs.declared.verb.Verb.TheVariants.{Run, Dis, Asm, Replay, Help, Version}
+use Rattle.cmd_words.specs.declared.verb.Verb.TheVariants.{Run, Sim, Dis, Asm, Replay, Help, Version}
 use Rattle.command_lines.specs.declared.status.Status.{Status}
 use Rattle.command_lines.specs.declared.status.Status.TheVariants.{Done, Usage, Absent}
-use Rattle.smemu.specs.Rejections.{Kind, ProgramFile, SourceFile, ReportFile, rejection_of, rejection_status}
+use Rattle.smemu.specs.Rejections.{Kind, ProgramFile, SourceFile, ReportFile, PlanFile, rejection_of}
+use Rattle.smemu.specs.Rejections.{rejection_status}
 use Rattle.smemu.specs.declared.rejection.Rejection.{Rejection}
 
 -- a file that is named
@@ -18,6 +19,7 @@ pub record Named : Type 0 where
 -- what the files of a command are to be, in the order of the words
 abbrev pub kinds_of : Verb → List Kind
 kinds_of Run = ProgramFile ∷ []
+kinds_of Sim = ProgramFile ∷ PlanFile ∷ []
 kinds_of Dis = ProgramFile ∷ []
 kinds_of Asm = SourceFile ∷ []
 kinds_of Replay = ProgramFile ∷ ReportFile ∷ []

@@ -17,6 +17,7 @@ use Rattle.sha2.specs.Sha256.{sha256}
 use Rattle.sm_types.specs.declared.config.Config.{Config}
 use Rattle.report_text.specs.Ends.{ends_of}
 use Rattle.report_text.specs.Report.{report_text}
+use Rattle.sim_text.specs.Sim.{sim_text}
 use Rattle.command_lines.specs.ReportLines.{report_line, difference_lines}
 use Rattle.command_lines.specs.Texts.{usage_line, help_text, version_text}
 use Rattle.command_lines.specs.declared.status.Status.{Status}
@@ -31,6 +32,7 @@ use Rattle.smemu.specs.Requests.{files_named}
 use Rattle.smemu.specs.declared.answer.Answer.{Answer}
 use Rattle.smemu.specs.declared.answer.Answer.TheVariants as answer
 use Rattle.smemu.specs.declared.answer.RunReport.{RunReport}
+use Rattle.smemu.specs.declared.answer.Simulation.{Simulation}
 use Rattle.smemu.specs.declared.ending.Difference.{Difference}
 use Rattle.smemu.specs.declared.ending.Difference.TheVariants as difference
 use Rattle.smemu.specs.declared.ending.Ending.{Ending}
@@ -45,9 +47,14 @@ use Rattle.smemu.specs.declared.rejection.Rejection.{Rejection}
 unfoldable pub run_text : RunReport → List ℕ
 run_text r = report_text r.head.config r.head.image (ends_of r.run.contexts.items) r.run.words
 
+-- the text of a plan's events
+unfoldable pub simulation_text : Simulation → List ℕ
+simulation_text s = sim_text s.lines.items s.answers.items (run_text s.report) s.history.items
+
 -- the text of an answer
 abbrev pub answer_text : Answer → List ℕ
 answer_text (answer.Report report) = run_text report
+answer_text (answer.Simulation simulation) = simulation_text simulation
 answer_text (answer.Listing image) = listing_text image.code
 answer_text (answer.Program bytes) = bytes.items
 answer_text (answer.Block block) = excerpt_text block

@@ -1,6 +1,6 @@
 //! What a command answers, and how it is written.
 ghost use Rattle.edge_io.specs.Sink.{Writes};
-ghost use Rattle.smemu.specs.Views.{answer_text, run_text};
+ghost use Rattle.smemu.specs.Views.{answer_text, run_text, simulation_text};
 
 use crate::excerpt::Excerpt;
 use code_listing::write_listing;
@@ -9,6 +9,9 @@ use edge_io::{PutFault, Sink};
 use kernel_contexts::Finished;
 use paged_memory::Image;
 use report_text::{Head, write_report};
+use sim_text::write_sim;
+use sm_types::Entry;
+use world_core::Applied;
 
 /// A run that has ended.
 #[derive(Drop)]
@@ -19,11 +22,26 @@ pub struct RunReport {
     pub head: Head,
 }
 
+/// The events of a plan, made.
+#[derive(Drop)]
+pub struct Simulation {
+    /// The lines of the plan that say the events, by their numbers from 1.
+    pub lines: Vec<u64>,
+    /// What each event answered.
+    pub answers: Vec<Applied>,
+    /// The threads, as they stand, and the words that they share.
+    pub report: RunReport,
+    /// All operations on these words, the oldest first.
+    pub history: Vec<Entry>,
+}
+
 /// What a command answers.
 #[derive(Drop)]
 pub enum Answer {
     /// The run of a program.
     Report(RunReport),
+    /// The events of a plan.
+    Simulation(Simulation),
     /// The image of the program whose code words are listed.
     Listing(Image),
     /// The bytes of the program file that a source is assembled to.
@@ -42,12 +60,30 @@ fn write_run<K: Sink>(out: &mut K, report: &RunReport) -> Result<(), PutFault>
     write_report(&report.run, &report.head, out)
 }
 
+/// Writes the text of a plan's events.
+#[tactic(auto, unfolding(crate::specs::Views::run_text, crate::specs::Views::simulation_text))]
+fn write_simulation<K: Sink>(out: &mut K, it: &Simulation) -> Result<(), PutFault>
+    ensures { Writes (K.view out.old) (K.view out.new) result (simulation_text it.now) }
+{
+    let lines = it.lines.as_slice();
+    let answers = it.answers.as_slice();
+    write_sim(
+        lines,
+        answers,
+        &it.report.run,
+        &it.report.head,
+        it.history.as_slice(),
+        out,
+    )
+}
+
 /// Writes an answer.
 pub fn write_answer<K: Sink>(out: &mut K, answer: &Answer) -> Result<(), PutFault>
     ensures { Writes (K.view out.old) (K.view out.new) result (answer_text answer.now) }
 {
     match answer {
         Answer::Report(report) => write_run(out, report),
+        Answer::Simulation(simulation) => write_simulation(out, simulation),
         Answer::Listing(image) => write_listing(image.code(), out),
         Answer::Program(bytes) => out.put(bytes.as_slice()),
         Answer::Block(block) => out.put(block.bytes()),

@@ -13,32 +13,32 @@ ghost use Rattle.smemu.specs.Ends.{change, call, IsDone, IsRefused, IsComplete, 
 ghost use Rattle.smemu.specs.Views.{run_text, end_text, end_status, CarriesOut, EndsWords};
 
 use crate::answer::{Answer, RunReport, write_answer};
-use crate::files::{open_program, open_report, open_source};
+use crate::files::{open_plan, open_program, open_report, open_source};
 use crate::refusal::{Refusal, status_of, write_refusal};
 use crate::replay::replay_report;
+use crate::simulate::simulate;
 use cmd_words::{Command, WordsFault, read_words};
 use command_lines::Status;
 use edge_io::{Files, PutFault, Sink};
 use elf_loader::write_elf;
-use lone_runner::run_to_stop;
 use paged_memory::Image;
 use report_text::Head;
 use sha2::{Digest, Sha256};
 use sm_types::{Config, Memory, Object};
 use std::alloc::Global;
+use world_core::run_one;
 
-/// The run of the image of a file, which has one thread.
+/// The run of the image of a file, on one core.
 fn run_image(
     alloc: Global,
     file: &[u8],
     config: &Config,
     image: &Image,
 ) -> Result<RunReport, Memory>
-    requires loads { Loads file.now image.now }
-    requires one { config.now.threads ≡ 1 }
+    requires { Loads file.now image.now }
     ensures { IfOk result (λ report. IsReportOf file.now config.now (run_text report)) }
 {
-    let run = run_to_stop(alloc, image, config)?;
+    let run = run_one(alloc, image, config)?;
     Ok(RunReport {
         run,
         head: Head {
@@ -60,20 +60,46 @@ fn write_object(alloc: Global, source: &[u8], object: &Object) -> Result<Vec<u8>
     }
 }
 
-/// `run PROGRAM` with its options: the report of the run of that file, of one thread.
+/// `run PROGRAM` with its options: the report of the run of that file, of all its threads on one core.
 fn run_program<F: Files>(
     alloc: Global,
     program: String,
     config: &Config,
     files: &mut F,
 ) -> Result<Answer, Refusal>
-    requires { config.now.threads ≡ 1 }
     ensures { CarriesOut F.fetched F.view (request_of (command.Run program config.now)) files.old files.new
         result }
 {
     let file = open_program(alloc, program, files)?;
     match run_image(alloc, file.bytes.as_slice(), config, &file.content) {
         Ok(report) => Ok(Answer::Report(report)),
+        Err(Memory) => Err(Refusal::Memory),
+    }
+}
+
+/// `sim PROGRAM PLAN` with its options: the events of that plan, for that file.
+fn simulate_plan<F: Files>(
+    alloc: Global,
+    program: String,
+    plan: String,
+    config: &Config,
+    files: &mut F,
+) -> Result<Answer, Refusal>
+    ensures { CarriesOut F.fetched F.view (request_of (command.Sim program plan config.now)) files.old
+        files.new result }
+{
+    let file = open_program(alloc, program, files)?;
+    let read = open_plan(alloc, plan, files)?;
+    let events = read.content.as_slice();
+    match simulate(
+        alloc,
+        file.bytes.as_slice(),
+        &file.content,
+        read.bytes.as_slice(),
+        events,
+        config,
+    ) {
+        Ok(simulation) => Ok(Answer::Simulation(simulation)),
         Err(Memory) => Err(Refusal::Memory),
     }
 }
@@ -119,11 +145,15 @@ fn replay_thread<F: Files>(
 
 /// Carries out a command.
 fn carry_out<F: Files>(alloc: Global, asked: Command, files: &mut F) -> Result<Answer, Refusal>
-    requires { (request_of asked).options.threads ≡ 1 }
     ensures { CarriesOut F.fetched F.view (request_of asked) files.old files.new result }
 {
     match asked {
         Command::Run { program, config } => run_program(alloc, program, &config, files),
+        Command::Sim {
+            program,
+            plan,
+            config,
+        } => simulate_plan(alloc, program, plan, &config, files),
         Command::Dis { program } => list_program(alloc, program, files),
         Command::Asm { source } => assemble_source(alloc, source, files),
         Command::Replay {
@@ -170,10 +200,12 @@ fn status_of_end(end: &Result<Answer, Refusal>) -> Status
 }
 
 /// Carries out the command of the words, which are the command line without the program's name: `run
-/// PROGRAM` with its options runs the program file of that name and writes the report of its run, `dis
-/// PROGRAM` writes its listing, `asm SOURCE` assembles the source file of that name and writes the program
-/// file, `replay PROGRAM REPORT THREAD` runs a thread of the report of that name alone and writes its block,
-/// `--help` and `--version` write their texts, and other words are answered by the line of their first fault.
+/// PROGRAM` with its options runs the program file of that name and writes the report of its run, `sim
+/// PROGRAM PLAN` makes the events of the plan of that name and writes which were skipped, the report and the
+/// history, `dis PROGRAM` writes the program's listing, `asm SOURCE` assembles the source file of that name
+/// and writes the program file, `replay PROGRAM REPORT THREAD` runs a thread of the report of that name alone
+/// and writes its block, `--help` and `--version` write their texts, and other words are answered by the line
+/// of their first fault.
 pub fn smemu_main<F: Files, K: Sink>(
     alloc: Global,
     words: &[String],

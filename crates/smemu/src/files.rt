@@ -5,10 +5,12 @@ ghost use Rattle.asm_core.specs.Assembly.{Assembles};
 ghost use Rattle.a64_encode.specs.Writable.{IsWritable};
 ghost use Rattle.edge_io.specs.Files.{IsKept};
 ghost use Rattle.elf_loader.specs.Loading.{Loads};
+ghost use Rattle.plan_reader.specs.Plan.{plan_in};
 ghost use Rattle.report_reader.specs.Report.{report_in};
 ghost use Rattle.report_reader.specs.Told.{report_said, StandsIn};
 ghost use Rattle.smemu.specs.Ends.{change};
-ghost use Rattle.smemu.specs.Rejections.{ProgramFile, SourceFile, ReportFile, limit_of};
+ghost use Rattle.smemu.specs.Rejections.{ProgramFile, SourceFile, ReportFile, PlanFile};
+ghost use Rattle.smemu.specs.Rejections.{limit_of};
 ghost use Rattle.smemu.specs.Views.{IsFront, IsUnread, IsRejected, IsOpened, IsUnopened};
 
 use crate::refusal::{Refusal, Unread};
@@ -17,11 +19,13 @@ use asm_core::{AsmFault, assemble};
 use edge_io::{FileFault, Files};
 use elf_loader::{LoadFault, load};
 use paged_memory::Image;
+use plan_reader::{PlanFault, WorldEvent, read_plan};
 use report_reader::{Report, ReportFault, read_report};
 use sm_types::Object;
 use std::alloc::Global;
 
-/// A file of more bytes than a program file or a source may have is fetched up to its first byte too many.
+/// A file of more bytes than a program file, a source or a plan may have is fetched up to its first byte too
+/// many.
 const FETCH_LIMIT: u64 = 67_108_865;
 
 /// The same of a report.
@@ -102,6 +106,20 @@ fn read_file(alloc: Global, bytes: &[u8]) -> Result<Report, Refusal>
     }
 }
 
+/// The events of a plan.
+fn plan_file(alloc: Global, bytes: &[u8]) -> Result<Vec<WorldEvent>, Refusal>
+    ensures planned { IfOk result (λ events. plan_in bytes.now ≡ Ok events.items) }
+    ensures rejected { IfErr result (IsRejected PlanFile bytes.now) }
+{
+    match read_plan(alloc, bytes) {
+        Ok(events) => Ok(events),
+        Err(PlanFault::Line { line, kind }) => {
+            Err(Refusal::Rejected(Rejection::Plan { line, kind }))
+        }
+        Err(PlanFault::Memory) => Err(Refusal::Memory),
+    }
+}
+
 /// The program file of that name, loaded.
 pub fn open_program<F: Files>(
     alloc: Global,
@@ -159,5 +177,24 @@ pub fn open_report<F: Files>(
 {
     let bytes = fetch_file(alloc, name, REPORT_LIMIT, files)?;
     let content = read_file(alloc, bytes.as_slice())?;
+    Ok(Opened { bytes, content })
+}
+
+/// The plan of that name, read.
+pub fn open_plan<F: Files>(
+    alloc: Global,
+    name: String,
+    files: &mut F,
+) -> Result<Opened<Vec<WorldEvent>>, Refusal>
+    ensures opened { IfOk result (λ it.
+        IsOpened (F.view files.old).told (string_bytes name) PlanFile it.bytes.items) }
+    ensures planned { IfOk result (λ it. plan_in it.bytes.items ≡ Ok it.content.items) }
+    ensures unopened { IfErr result
+        (IsUnopened (change F.view files.old files.new) (string_bytes name) PlanFile) }
+    ensures kept { IsKept (F.view files.old) (F.view files.new) }
+    ensures fetched { F.fetched files.old (string_bytes name) (limit_of PlanFile) files.new }
+{
+    let bytes = fetch_file(alloc, name, FETCH_LIMIT, files)?;
+    let content = plan_file(alloc, bytes.as_slice())?;
     Ok(Opened { bytes, content })
 }

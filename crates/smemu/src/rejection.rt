@@ -4,9 +4,12 @@ ghost use Rattle.edge_io.specs.Sink.{Writes};
 ghost use Rattle.smemu.specs.Rejections.{rejection_line, rejection_status};
 
 use asm_core::AsmFault;
-use command_lines::{Status, write_fault, write_report_fault, write_source_fault};
+use command_lines::{
+    Status, write_fault, write_plan_fault, write_report_fault, write_source_fault,
+};
 use edge_io::{PutFault, Sink};
 use elf_loader::LoadFault;
+use plan_reader::PlanKind;
 use report_reader::ReportKind;
 
 /// Why a file is not accepted as what it is to be.
@@ -18,6 +21,8 @@ pub enum Rejection {
     Source(AsmFault),
     /// It is no report: its first line that is not in the format, and the part to which that should belong.
     Report { line: u64, kind: ReportKind },
+    /// It is no plan: its first line that is not in the format, and what is wrong there.
+    Plan { line: u64, kind: PlanKind },
 }
 
 /// The status of a rejection.
@@ -28,6 +33,7 @@ pub fn status_of_rejection(rejection: &Rejection) -> Status
         Rejection::Program(_) => Status::BadFile,
         Rejection::Source(_) => Status::BadSource,
         Rejection::Report { .. } => Status::BadReport,
+        Rejection::Plan { .. } => Status::BadPlan,
     }
 }
 
@@ -39,5 +45,6 @@ pub fn write_rejection<K: Sink>(out: &mut K, rejection: &Rejection) -> Result<()
         Rejection::Program(fault) => write_fault(out, *fault),
         Rejection::Source(fault) => write_source_fault(out, *fault),
         Rejection::Report { line, kind } => write_report_fault(out, *line, *kind),
+        Rejection::Plan { line, kind } => write_plan_fault(out, *line, *kind),
     }
 }

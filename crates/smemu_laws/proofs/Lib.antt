@@ -1,3 +1,4 @@
+pub mod SerialEnds
 pub mod OneAnswer
 pub mod OneEnding
 pub mod Beginnings

@@ -3,7 +3,7 @@ use Rattle.std.proofs.Common.{◌≡◌, ℕ, List, [], ◌∷◌, Some, refl, s
 use Rattle.cmd_words.specs.Forms.{form_of}
 use Rattle.cmd_words.specs.Words.{Request, arguments_of, command_of}
 use Rattle.cmd_words.specs.declared.verb.Verb.{Verb}
-use Rattle.cmd_words.specs.declared.verb.Verb.TheVariants.{Replay}
+use Rattle.cmd_words.specs.declared.verb.Verb.TheVariants.{Sim, Replay}
 use Rattle.smemu.specs.Requests.{files_named, kinds_of, named_by}
 use Rattle.smemu.proofs.Words.{asked_for}
 use Rattle.smemu_laws.specs.Names.{names_of, names_said}
@@ -12,6 +12,9 @@ use Rattle.smemu_laws.specs.Names.{names_of, names_said}
 named_so : (verb : Verb) (words : List (List ℕ))
     → names_of (named_by (arguments_of (form_of verb).operands words) (kinds_of verb))
     ≡ names_said (arguments_of (form_of verb).operands words)
+named_so Sim [] = refl
+named_so Sim (program ∷ []) = refl
+named_so Sim (program ∷ plan ∷ words) = refl
 named_so Replay [] = refl
 named_so Replay (program ∷ []) = refl
 named_so Replay (program ∷ report ∷ []) = refl

@@ -1,6 +1,6 @@
 -- Two texts that answer the same request for the same files are equal.
 use Rattle.std.proofs.Common.{◌≡◌, ℕ, ◌≤◌, List, [], ◌∷◌, length, cond, Option, Some, Result, Ok, refl, sym, ◌∙◌, ap}
-use Rattle.std.proofs.Common.{subst, arith}
+use Rattle.std.proofs.Common.{subst}
 use Rattle.std.specs.Prelude.{◌==◌, slice_get, if◌then◌else◌}
 use mathlib.Core.HLevel.{Σ_prop_path}
 use native.Mathlib.Bridge.{le_prop}
@@ -8,9 +8,6 @@ use Rattle.sha2.specs.Sha256.{sha256}
 use Rattle.sm_types.specs.declared.config.Config.{Config}
 use Rattle.sm_types.specs.declared.length.VecLen.{VecLen}
 use Rattle.sm_types.specs.declared.length.VecLen.TheVariants.{Bits128, Bits256, Bits512, Bits1024, Bits2048}
-use Rattle.sm_types.specs.declared.shared_op.Event.{Event}
-use Rattle.sm_types.specs.declared.shared_words.Words.{Words}
-use Rattle.shared_region.specs.History.{AreOneHistory}
 use Rattle.sm_types.specs.Length.{bits_of}
 use Rattle.sm_types.specs.declared.object.Object.{Object}
 use Rattle.sm_types.specs.Objects.{text_address, data_address}
@@ -21,9 +18,9 @@ use Rattle.code_listing.specs.Listing.{listing_text}
 use Rattle.elf_loader.specs.Loading.{Loads}
 use Rattle.elf_loader.specs.Objects.{IsObjectImage, object_extents, text_extent, data_extent}
 use Rattle.elf_loader.proofs.Images.{one_memory, one_program}
-use Rattle.lone_runner.specs.LoneRun.{IsLoneRun}
-use Rattle.lone_runner.proofs.Runs.{one_state, one_stop}
-use Rattle.run_laws.proofs.OneRun.{one_journal, one_words}
+use Rattle.plan_reader.specs.Plan.{plan_in, event_lines}
+use Rattle.plan_reader.specs.Plan as plan
+use Rattle.plan_reader.specs.declared.event.WorldEvent.{WorldEvent}
 use Rattle.paged_memory.specs.Image.{Extent, IsMemoryOf, Program}
 use Rattle.report_text.specs.Report.{ThreadEnd, report_text}
 use Rattle.report_reader.specs.Block.{Block}
@@ -31,8 +28,13 @@ use Rattle.report_reader.specs.Header as header
 use Rattle.report_reader.specs.Reading.{Fault}
 use Rattle.report_reader.specs.Report.{Report, report_in}
 use Rattle.smemu.specs.Replay.{IsBlockIn, IsReplayOf, text_in}
-use Rattle.smemu.specs.Answers.{IsEndOf, journals_of, IsReportOf, IsReport, IsListingOf, IsProgramOf}
+use Rattle.sim_text.specs.Sim.{sim_text}
+use Rattle.smemu.specs.Answers.{IsReportOf, IsReport, IsListingOf, IsProgramOf}
+use Rattle.smemu.specs.Worlds.{AreEndsIn, AreSerialEnds, IsSimulationOf, IsSimulation}
+use Rattle.world_core.specs.Happens.{world_after, answers_after}
+use Rattle.world_core.specs.World.{World, start_world}
 use Rattle.smemu_laws.specs.OneAnswer.{AreLoadedAsOne}
+use Rattle.smemu_laws.proofs.SerialEnds.{one_end_list, one_serial_run}
 
 -- ---- options
 
@@ -90,51 +92,31 @@ same_config a b e =
     let numbers : numbers_of a ≡ numbers_of b = λ i. (vl i, svl i, (e i).slice, (e i).budget, (e i).threads, (e i).cores) in
     same_numbers a b numbers
 
--- ---- the ends of threads
-
--- one thread that ends, with words with which its journal is one history
-pub record IsOneEnd (program : Program) (config : Config) (ends : List ThreadEnd) (words : Words) : Type 0 where
-  pub end : ThreadEnd
-  pub alone : ends ≡ end ∷ []
-  pub is_end : IsEndOf program config 0 end
-  pub one_history : AreOneHistory (end.journal ∷ []) words
-
-one_end_of : (program : Program) (config : Config) (ends : List ThreadEnd) (words : Words) → length ends ≡ 1
-    → ((k : ℕ) (end : ThreadEnd) → slice_get ends k ≡ Some end → IsEndOf program config k end) → AreOneHistory (journals_of ends) words
-    → IsOneEnd program config ends words
-one_end_of program config [] words l each one = absurd (omega arith)
-one_end_of program config (end ∷ []) words l each one = record { end = end; alone = refl; is_end = each 0 end refl; one_history = one }
-one_end_of program config (end ∷ other ∷ ends) words l each one = absurd (omega arith)
-
-one_thread_end : (program : Program) (config : Config) (a b : ThreadEnd) (v w : Words) → IsEndOf program config 0 a
-    → IsEndOf program config 0 b → AreOneHistory (a.journal ∷ []) v → AreOneHistory (b.journal ∷ []) w → a ≡ b
-one_thread_end program config a b v w h g x y =
-    let number = h.number ∙ sym g.number in
-    let journal = one_journal program config a.journal b.journal a.state b.state h.stop g.stop v w h.run g.run x y in
-    let run : IsLoneRun program config 0 b.journal a.state h.stop =
-    subst (λ (j : List Event). IsLoneRun program config 0 j a.state h.stop) journal h.run in
-    let state = one_state program config 0 b.journal a.state b.state h.stop g.stop run g.run in
-    let same = one_stop program config 0 b.journal a.state b.state h.stop g.stop run g.run in
-    let stop = h.stopped ∙ ap Some same ∙ sym g.stopped in
-    λ i. record { thread = number i; state = state i; stop = stop i; journal = journal i }
-
 -- ---- the texts
 
-one_report : (file : List ℕ) (config : Config) (text other : List ℕ) → config.threads ≡ 1 → IsReportOf file config text
-    → IsReportOf file config other → text ≡ other
-one_report file config text other one h g =
+one_report : (file : List ℕ) (config : Config) (text other : List ℕ) → IsReportOf file config text → IsReportOf file config other
+    → text ≡ other
+one_report file config text other h g =
     let program = one_program file h.program g.program h.loads g.loads in
-    let each : (k : ℕ) (end : ThreadEnd) → slice_get h.ends k ≡ Some end → IsEndOf g.program config k end =
-    λ k end at. subst (λ (p : Program). IsEndOf p config k end) program (h.each k end at) in
-    let x = one_end_of g.program config h.ends h.words (h.threads ∙ one) each h.one_history in
-    let y = one_end_of g.program config g.ends g.words (g.threads ∙ one) g.each g.one_history in
-    let end = one_thread_end g.program config x.end y.end h.words g.words x.is_end y.is_end x.one_history y.one_history in
-    let words =
-    one_words g.program config x.end.journal y.end.journal x.end.state y.end.state x.is_end.stop y.is_end.stop h.words g.words
-    x.is_end.run y.is_end.run x.one_history y.one_history in
-    let ends : h.ends ≡ g.ends = x.alone ∙ ap (λ (e : ThreadEnd). e ∷ []) end ∙ sym y.alone in
-    h.is_text ∙ ap (λ (es : List ThreadEnd). report_text config (sha256 file) es h.words) ends
-    ∙ ap (report_text config (sha256 file) g.ends) words ∙ sym g.is_text
+    let serial = subst (λ (p : Program). AreSerialEnds p config h.ends h.words) program h.serial in
+    let same = one_serial_run g.program config h.ends g.ends h.words g.words serial g.serial in
+    h.is_text ∙ ap (λ (es : List ThreadEnd). report_text config (sha256 file) es h.words) same.same_ends
+    ∙ ap (report_text config (sha256 file) g.ends) same.same_words ∙ sym g.is_text
+
+same_events : (read : Result (List WorldEvent) plan.Fault) (a b : List WorldEvent) → read ≡ Ok a → read ≡ Ok b → a ≡ b
+same_events read a b e h = cc
+
+one_simulation_of : (file plan : List ℕ) (config : Config) (text other : List ℕ) → IsSimulationOf file plan config text
+    → IsSimulationOf file plan config other → text ≡ other
+one_simulation_of file plan config text other h g =
+    let program = one_program file h.program g.program h.loads g.loads in
+    let events = same_events (plan_in plan) h.events g.events h.planned g.planned in
+    let start = ap (λ (p : Program). start_world p config) program in
+    let last = h.happened ∙ (λ i. world_after (start i) (events i)) ∙ sym g.happened in
+    let here = subst (λ (w : World). AreEndsIn w h.ends h.words) last h.are in
+    let same = one_end_list g.last g.kept.owned h.ends g.ends h.words g.words here g.are in
+    h.is_text ∙ (λ i. sim_text (event_lines plan) (answers_after (start i) (events i))
+    (report_text config (sha256 file) (same.same_ends i) (same.same_words i)) (last i).history) ∙ sym g.is_text
 
 -- ---- the files of a program
 
@@ -201,12 +183,19 @@ one_replay file report thread text other h g =
 
 -- ---- runs and listings
 
-pub one_run_report : (file : List ℕ) (options : Options) (text other : List ℕ) → options.threads ≡ 1 → IsReport file options text
+pub one_run_report : (file : List ℕ) (options : Options) (text other : List ℕ) → IsReport file options text
     → IsReport file options other → text ≡ other
-one_run_report file options text other one h g =
+one_run_report file options text other h g =
     let config = same_config h.config g.config (h.given ∙ sym g.given) in
     let of_config = subst (λ (c : Config). IsReportOf file c text) config h.report in
-    one_report file g.config text other (ap (λ (o : Options). o.threads) g.given ∙ one) of_config g.report
+    one_report file g.config text other of_config g.report
+
+pub one_simulation : (file plan : List ℕ) (options : Options) (text other : List ℕ) → IsSimulation file plan options text
+    → IsSimulation file plan options other → text ≡ other
+one_simulation file plan options text other h g =
+    let config = same_config h.config g.config (h.given ∙ sym g.given) in
+    let of_config = subst (λ (c : Config). IsSimulationOf file plan c text) config h.simulation in
+    one_simulation_of file plan g.config text other of_config g.simulation
 
 pub one_listing : (file text other : List ℕ) → IsListingOf file text → IsListingOf file other → text ≡ other
 one_listing file text other h g =

@@ -7,7 +7,7 @@ use Rattle.sm_types.specs.declared.config.Config.{Config}
 use Rattle.cmd_words.specs.Options.{Options}
 use Rattle.cmd_words.specs.Words.{Argument, ThreadSaid, Request, command_of}
 use Rattle.cmd_words.specs.declared.verb.Verb.{Verb}
-use Rattle.cmd_words.specs.declared.verb.Verb.TheVariants.{Run, Dis, Asm, Replay, Help, Version}
+use Rattle.cmd_words.specs.declared.verb.Verb.TheVariants.{Run, Sim, Dis, Asm, Replay, Help, Version}
 use Rattle.edge_io.specs.Files.{FilesView}
 use Rattle.lone_runner.specs.Parting.{IsParting}
 use Rattle.lone_runner.specs.declared.fault.AloneFault.{AloneFault}
@@ -31,10 +31,10 @@ use Rattle.smemu.specs.Replay.{mismatch, text_in, text_of, EndsAsSaid, IsBlockIn
 use Rattle.smemu.specs.Requests.{Named, files_named}
 use Rattle.smemu.specs.declared.rejection.Rejection.{Rejection}
 use Rattle.smemu.specs.declared.rejection.Rejection.TheVariants as rejection
-use Rattle.smemu.proofs.Words.{one_thread}
 use Rattle.smemu_laws.specs.OneAnswer.{AreOneText}
 use Rattle.smemu_laws.proofs.Fates.{Fate, AllAccepted, Missing, Refused, IsDecided, missing_line, accepted_fate, decided}
 use Rattle.smemu_laws.proofs.OneAnswer.{same_said, one_assembly, one_block, one_listing, one_replay, one_run_report}
+use Rattle.smemu_laws.proofs.OneAnswer.{one_simulation}
 
 -- a text differs from itself in no line
 no_line : (n : ℕ) (lines : List (List ℕ)) → first_difference n lines lines ≡ None
@@ -156,37 +156,39 @@ one_difference file report thread text other (inr h) (inr g) =
 
 -- two endings of accepted files have one status and one text
 pub one_outcome : (verb : Verb) (s t : Status) (operands : List Argument) (options : Options) (files : List (List ℕ))
-    (text other : List ℕ) → (verb ≡ Run → options.threads ≡ 1) → IsToldBy (outcomes_of verb s) operands options files text
+    (text other : List ℕ) → IsToldBy (outcomes_of verb s) operands options files text
     → IsToldBy (outcomes_of verb t) operands options files other
     → (s ≡ t) × AreOneText verb s text other
-one_outcome Run Done Done operands options (file ∷ []) text other one h g =
-    (refl, one_run_report file options text other (one refl) h g)
-one_outcome Dis Done Done operands options (file ∷ []) text other one h g = (refl, one_listing file text other h g)
-one_outcome Asm Done Done operands options (file ∷ []) text other one h g = (refl, one_assembly file text other h g)
-one_outcome Replay Done Done (program ∷ report ∷ ThreadSaid thread ∷ []) options (file ∷ bytes ∷ []) text other one h g =
+one_outcome Run Done Done operands options (file ∷ []) text other h g =
+    (refl, one_run_report file options text other h g)
+one_outcome Sim Done Done operands options (file ∷ plan ∷ []) text other h g =
+    (refl, one_simulation file plan options text other h g)
+one_outcome Dis Done Done operands options (file ∷ []) text other h g = (refl, one_listing file text other h g)
+one_outcome Asm Done Done operands options (file ∷ []) text other h g = (refl, one_assembly file text other h g)
+one_outcome Replay Done Done (program ∷ report ∷ ThreadSaid thread ∷ []) options (file ∷ bytes ∷ []) text other h g =
     (refl, one_replay file bytes thread text other h g)
-one_outcome Replay BadReport BadReport (program ∷ report ∷ ThreadSaid thread ∷ []) options (file ∷ bytes ∷ []) text other one h g =
+one_outcome Replay BadReport BadReport (program ∷ report ∷ ThreadSaid thread ∷ []) options (file ∷ bytes ∷ []) text other h g =
     (refl, one_mismatch file bytes thread text other h g)
-one_outcome Replay Differs Differs (program ∷ report ∷ ThreadSaid thread ∷ []) options (file ∷ bytes ∷ []) text other one h g =
+one_outcome Replay Differs Differs (program ∷ report ∷ ThreadSaid thread ∷ []) options (file ∷ bytes ∷ []) text other h g =
     (refl, one_difference file bytes thread text other h g)
-one_outcome Replay Done BadReport (program ∷ report ∷ ThreadSaid thread ∷ []) options (file ∷ bytes ∷ []) text other one h g =
+one_outcome Replay Done BadReport (program ∷ report ∷ ThreadSaid thread ∷ []) options (file ∷ bytes ∷ []) text other h g =
     absurd (matched file bytes thread h.at g.fault g.is_mismatched)
-one_outcome Replay BadReport Done (program ∷ report ∷ ThreadSaid thread ∷ []) options (file ∷ bytes ∷ []) text other one h g =
+one_outcome Replay BadReport Done (program ∷ report ∷ ThreadSaid thread ∷ []) options (file ∷ bytes ∷ []) text other h g =
     absurd (matched file bytes thread g.at h.fault h.is_mismatched)
-one_outcome Replay Done Differs (program ∷ report ∷ ThreadSaid thread ∷ []) options (file ∷ bytes ∷ []) text other one h g =
+one_outcome Replay Done Differs (program ∷ report ∷ ThreadSaid thread ∷ []) options (file ∷ bytes ∷ []) text other h g =
     absurd (done_differs file bytes thread text other h g)
-one_outcome Replay Differs Done (program ∷ report ∷ ThreadSaid thread ∷ []) options (file ∷ bytes ∷ []) text other one h g =
+one_outcome Replay Differs Done (program ∷ report ∷ ThreadSaid thread ∷ []) options (file ∷ bytes ∷ []) text other h g =
     absurd (done_differs file bytes thread other text g h)
-one_outcome Replay BadReport Differs (program ∷ report ∷ ThreadSaid thread ∷ []) options (file ∷ bytes ∷ []) text other one h g =
+one_outcome Replay BadReport Differs (program ∷ report ∷ ThreadSaid thread ∷ []) options (file ∷ bytes ∷ []) text other h g =
     absurd (matched file bytes thread (block_of file bytes thread other g) h.fault h.is_mismatched)
-one_outcome Replay Differs BadReport (program ∷ report ∷ ThreadSaid thread ∷ []) options (file ∷ bytes ∷ []) text other one h g =
+one_outcome Replay Differs BadReport (program ∷ report ∷ ThreadSaid thread ∷ []) options (file ∷ bytes ∷ []) text other h g =
     absurd (matched file bytes thread (block_of file bytes thread text h) g.fault g.is_mismatched)
-one_outcome Help Done Done operands options files text other one h g = (refl, h ∙ sym g)
-one_outcome Version Done Done operands options files text other one h g = (refl, h ∙ sym g)
-one_outcome Replay BadReport t operands options files text other one h g = absurd g
-one_outcome Replay Differs t operands options files text other one h g = absurd g
-one_outcome verb Done t operands options files text other one h g = absurd g
-one_outcome verb s t operands options files text other one h g = absurd h
+one_outcome Help Done Done operands options files text other h g = (refl, h ∙ sym g)
+one_outcome Version Done Done operands options files text other h g = (refl, h ∙ sym g)
+one_outcome Replay BadReport t operands options files text other h g = absurd g
+one_outcome Replay Differs t operands options files text other h g = absurd g
+one_outcome verb Done t operands options files text other h g = absurd g
+one_outcome verb s t operands options files text other h g = absurd h
 
 -- ---- what stands for a request
 
@@ -235,7 +237,7 @@ one_answer files words request text other asked h g =
     let same =
     same_files h.files g.files (sym (accepted_fate files (files_named request) h.files h.accepted)
     ∙ accepted_fate files (files_named request) g.files g.accepted) in
-    (one_outcome request.verb Done Done request.operands request.options g.files text other (λ run. one_thread words request asked)
+    (one_outcome request.verb Done Done request.operands request.options g.files text other
     (subst (λ (fs : List (List ℕ)). outcome request fs Done text) same h.ends) g.ends).1
 
 refused_same : (verb : Verb) (s : Status) (rejection : Rejection) (text other : List ℕ) → s ≡ rejection_status rejection → text ≡ other
@@ -243,12 +245,11 @@ refused_same : (verb : Verb) (s : Status) (rejection : Rejection) (text other : 
 refused_same verb s rejection text other e same =
     subst (λ (q : Status). AreOneText verb q text other) (sym e) (rejected_text verb rejection text other same)
 
-module _ (known : List ℕ → Option (List ℕ)) (request : Request) (one : request.verb ≡ Run → request.options.threads ≡ 1)
-    (s t : Status) (text other : List ℕ)
+module _ (known : List ℕ → Option (List ℕ)) (request : Request) (s t : Status) (text other : List ℕ)
   where
     one_decided : IsDecided known request s text → IsDecided known request t other → (s ≡ t) × AreOneText request.verb s text other
     one_decided (inl h) (inl g) =
-        one_outcome request.verb s t request.operands request.options g.files text other one
+        one_outcome request.verb s t request.operands request.options g.files text other
         (subst (λ (fs : List (List ℕ)). outcome request fs s text) (same_files h.files g.files (sym h.fate ∙ g.fate)) h.ends) g.ends
     one_decided (inr (inl h)) (inr (inl g)) =
         let named = same_missing h.named g.named (sym h.fate ∙ g.fate) in (
@@ -270,9 +271,9 @@ module _ (known : List ℕ → Option (List ℕ)) (request : Request) (one : req
     one_decided (inr (inr h)) (inr (inl g)) = absurd (missing_refused g.named h.named h.rejection (sym g.fate ∙ h.fate))
 
 pub one_ending : (files : List ℕ → Option (List ℕ)) (request : Request) (change again : Change FilesView) (s t : Status)
-    (text other : List ℕ) → (request.verb ≡ Run → request.options.threads ≡ 1) → change.before.told ≡ Some files
+    (text other : List ℕ) → change.before.told ≡ Some files
     → again.before.told ≡ Some files → s ≢ ReadFault → t ≢ ReadFault
     → Stands request change s text → Stands request again t other → (s ≡ t) × AreOneText request.verb s text other
-one_ending files request change again s t text other one tells told read readable h g =
-    one_decided files request one s t text other (decided files request change tells s text read h)
+one_ending files request change again s t text other tells told read readable h g =
+    one_decided files request s t text other (decided files request change tells s text read h)
     (decided files request again told t other readable g)

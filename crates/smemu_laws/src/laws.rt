@@ -12,8 +12,8 @@ ghost use Rattle.smemu_laws.specs.Names.{names_of, names_said};
 ghost use Rattle.smemu_laws.specs.OneAnswer.{AreOneText};
 
 /// Over files that are told, what words ask for has at most one answer: two texts that answer it are equal,
-/// and two files of an assembled program are loaded as one program. Words ask for runs of one thread, whose
-/// shared words no other thread changes.
+/// and two files of an assembled program are loaded as one program. So the report of a run is a function of
+/// the program's file and the options, however many threads it has.
 pub fn one_answer()
     ensures { (files : List ℕ → Option (List ℕ)) (words : List (List ℕ)) (request : Request)
         (text other : List ℕ) → command_of words ≡ Some request
@@ -21,14 +21,11 @@ pub fn one_answer()
         → AreOneText request.verb Status.Done text other }
 {}
 
-/// Over files that are told, a run of one thread, as each is that words ask for, and every other request has
-/// one ending in any two calls, but where a file could not be read: one status, and with it one text, or two
-/// files that are loaded as one program.
+/// Over files that are told, every request has one ending in any two calls, but where a file could not be
+/// read: one status, and with it one text, or two files that are loaded as one program.
 pub fn one_ending()
-    ensures asked { (words : List (List ℕ)) (request : Request) → command_of words ≡ Some request
-        → request.options.threads ≡ 1 }
-    ensures one { (files : List ℕ → Option (List ℕ)) (request : Request) (change again : Change FilesView)
-        (s t : Status) (text other : List ℕ) → (request.verb ≡ verbs.Run → request.options.threads ≡ 1)
+    ensures { (files : List ℕ → Option (List ℕ)) (request : Request) (change again : Change FilesView)
+        (s t : Status) (text other : List ℕ)
         → change.before.told ≡ Some files → again.before.told ≡ Some files
         → s ≢ Status.ReadFault → t ≢ Status.ReadFault
         → Stands request change s text → Stands request again t other

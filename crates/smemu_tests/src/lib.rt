@@ -54,6 +54,18 @@ mod tests {
 3: badnumber|run|p|--vl|--svl|128
 4: repeated|run|p|--vl|128|--vl|128
 6: repeated|run|p|--vl|128|--svl|512|--vl
+3: outofrange|run|p|--threads|0
+3: outofrange|run|p|--threads|33
+4: repeated|run|p|--threads|1|--threads|1
+2: unknown|run|p|--cores|2
+1: missing|sim
+2: missing|sim|p
+3: unknown|sim|p|q|r
+4: missing|sim|p|q|--cores
+4: outofrange|sim|p|q|--cores|0
+4: outofrange|sim|p|q|--cores|65
+4: badnumber|sim|p|q|--threads|
+5: repeated|sim|p|q|--cores|2|--cores|2
 1: extra|--help|run
 1: missing|dis
 2: extra|dis|p|--vl
@@ -222,6 +234,19 @@ mod tests {
     }
 
     #[test]
+    fn a_plan_of_one_byte_more_than_64_mib(rt: HostRuntime) -> Result<(), Fail> {
+        let bytes = vec![in rt.alloc(); b'\n'; 67_108_865]?;
+        let mut files = answer_file(rt.alloc())?;
+        files.add("long", bytes.as_slice())?;
+        let mut out = MemSink::new(rt.alloc(), 100)?;
+        let words = ["sim", "run", "long"];
+        let status = status_of(rt.alloc(), &words, &mut files, &mut out)?;
+        assert_eq!(rt; status, Status::BadPlan);
+        assert!(rt; out.bytes() == b"bad plan: line 0: toolong\n".as_slice());
+        Ok(())
+    }
+
+    #[test]
     fn help_and_version(rt: HostRuntime) -> Result<(), Fail> {
         let (status, version) = written(rt.alloc(), &["--version"])?;
         assert_eq!(rt; status.code(), 0);
@@ -231,12 +256,15 @@ mod tests {
         let help = std::str::from_utf8(out.bytes()).map_err(|_| "not text")?;
         for part in [
             "\n  run PROGRAM ",
+            "\n  sim PROGRAM PLAN\n",
             "\n  dis PROGRAM ",
             "\n  asm SOURCE ",
             "\n  replay PROGRAM REPORT THREAD\n",
             "\n  --vl BITS ",
             "\n  --svl BITS ",
             "\n  --budget N ",
+            "\n  --threads N ",
+            "\n  --cores N ",
             "\n  --help ",
             "\n  --version ",
             "usage: word P: KIND",
@@ -246,6 +274,7 @@ mod tests {
             "bad source: line L: KIND VALUES",
             "bad report: line L: KIND",
             "differs: ",
+            "bad plan: line L: KIND",
         ] {
             assert!(rt; help.contains(part), "{part}");
         }

@@ -8,11 +8,7 @@ use Rattle.smemu.specs.Ends.{change}
 use Rattle.smemu.specs.Requests.{files_asked}
 use Rattle.smemu.specs.Views.{end_status}
 use Rattle.smemu.proofs.Ends.{asked_ends, fetches_asked, fetches_none, no_request, usage_stands}
-use Rattle.smemu.proofs.Words.{one_thread}
 use Rattle.smemu.proofs.command.answer_words.Goals as goal
-
-pub carry_out-requires : goal.carry_out-requires
-carry_out-requires g c = one_thread (map string_bytes c.args.words.now) (request_of c.in-Ok.asked) c.in-Ok.ensures.command
 
 pub returns-in-Ok-clause-ends : goal.returns-in-Ok-clause-ends
 returns-in-Ok-clause-ends g c =

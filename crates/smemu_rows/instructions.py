@@ -1,0 +1,60 @@
+"""Words of the instructions that the programs of the rows are made of, put together by hand."""
+MOVZ, ADD, SUBS, B, SVC = 0xD2800000, 0x91000000, 0xF1000000, 0x54000000, 0xD4000001
+WIDE = 1 << 31
+ADR, ALWAYS = 0x10000000, 14
+
+
+def movz(rd, imm, hw=0, wide=True):
+    return (MOVZ if wide else MOVZ & ~WIDE) | hw << 21 | imm << 5 | rd
+
+
+def add(rd, rn, imm, shifted=False, wide=True):
+    return (ADD if wide else ADD & ~WIDE) | shifted << 22 | imm << 10 | rn << 5 | rd
+
+
+def subs(rd, rn, imm, shifted=False, wide=True):
+    return (SUBS if wide else SUBS & ~WIDE) | shifted << 22 | imm << 10 | rn << 5 | rd
+
+
+def branch(condition, words):
+    return B | (words & 0x7FFFF) << 5 | condition
+
+
+def call(number, *arguments):
+    return [movz(i, value, hw) for i, (value, hw) in enumerate(arguments)] + [movz(8, number), SVC]
+
+
+EXIT = call(93, (0, 0))
+
+
+def to(place, condition=ALWAYS):
+    """A branch to a named place."""
+    return B | condition, place
+
+
+def unless(register, place):
+    """CBZ, a branch to a named place where the register is zero."""
+    return 0xB4000000 | register, place
+
+
+def address(rd, place):
+    """ADR of a named place."""
+    return ADR | rd, place
+
+
+def laid_out(*parts):
+    """The words of parts in a row: a name is that of the place where it stands, and a pair is a word that has the distance to a named place."""
+    places, count = {}, 0
+    for part in parts:
+        if isinstance(part, str):
+            places[part] = count
+        else:
+            count += 1
+    words = []
+    for part in parts:
+        if isinstance(part, tuple):
+            word, distance = part[0], places[part[1]] - len(words)
+            words.append(word | (distance & 0x7FFFF) << 5)
+        elif not isinstance(part, str):
+            words.append(part)
+    return words
