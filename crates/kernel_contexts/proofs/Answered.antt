@@ -60,7 +60,8 @@ yielded_turned config thread events old new refusals made stopped TraceDiffers h
 yielded_turned config thread events old new refusals made stopped Memory h e = cc
 
 -- a turn that asked nothing, over a port
-pub asked_nothing : (wants : Type 0) (refusals : Refusals) (end : TurnEnd) (old new : State) (made : List Event) (stopped : Option Stop) (turn : Turn)
+pub asked_nothing : (wants : Type 0) (refusals : Refusals) (end : TurnEnd) (old new : State) (made : List Event)
+    (stopped : Option Stop) (turn : Turn)
     → made ≡ [] → Turns wants end old new stopped turn → TurnsOver refusals end old new made stopped turn
 asked_nothing wants refusals end old new made stopped Ran none h = (rw none h.0, h.1)
 asked_nothing wants refusals end old new made stopped Yielded none h = (h.0, none, h.1)

@@ -20,7 +20,8 @@ module _ (config : Config) (bank : Bank) (vectors : bank.vectors ≡ zero_state 
   pub zero_held : bank_state bank ≡ zero_bank config.vl config.svl
   unfolding zero_bank
   zero_held =
-      ap (λ (v : SveState). with_registers v (bank.za)) vectors ∙ ap (λ (a : ArrayState). with_registers (zero_state config.vl config.svl false) a) za
+      ap (λ (v : SveState). with_registers v (bank.za)) vectors ∙ ap
+      (λ (a : ArrayState). with_registers (zero_state config.vl config.svl false) a) za
 
   pub zero_fits : (home : Bool) (given : Config) (m : Machine) → given ≡ config → m.streaming ≡ false → bank.owner ≡ None
       → IsSaveArea home given m bank

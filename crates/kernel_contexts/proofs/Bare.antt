@@ -32,7 +32,11 @@ pub back_with : (config given : Config) (m other : Machine) (old new : Bank) →
 back_with config given m other old new h same streaming za_on = record {
   same = h.same;
   fit = record {
-    lengths = record { vl = h.fit.lengths.vl ∙ ap (λ (k : Config). k.vl) (sym same); svl = h.fit.lengths.svl ∙ ap (λ (k : Config). k.svl) (sym same) };
+    lengths = record {
+      vl = h.fit.lengths.vl ∙ ap (λ (k : Config). k.vl) (sym same);
+      svl = h.fit.lengths.svl ∙ ap
+          (λ (k : Config). k.svl) (sym same);
+    };
     mode = record { streaming = h.fit.mode.streaming ∙ sym streaming; off = λ off. h.fit.mode.off (sym za_on ∙ off) };
   };
 }

@@ -136,8 +136,9 @@ impl GuestThread {
         })
     }
 
-    /// Makes one turn of a thread that has not stopped. Up to the watched count it is an instruction.
-    #[inline]
+    /// Makes one turn of a thread that has not stopped. Up to the watched count it is an instruction. It is
+    /// laid into the loop that makes turns, where its answer needs no place in memory.
+    #[inline(always)]
     pub fn make_turn<P: Port>(
         &mut self,
         bank: &mut Bank,
@@ -168,6 +169,7 @@ impl GuestThread {
 
     /// Makes a turn at the watched count: the budget's end, a poll, the delivery of a signal, or an
     /// instruction, whichever is due first.
+    #[inline(never)]
     fn make_watched_turn<P: Port>(
         &mut self,
         bank: &mut Bank,
@@ -240,7 +242,7 @@ impl GuestThread {
     }
 
     /// Executes one instruction. Room for an event is taken before its access, so that no answer is lost.
-    #[inline]
+    #[inline(always)]
     fn execute<P: Port>(&mut self, bank: &mut Bank, port: &mut P, ticket: &mut P::Ticket) -> Turn
         requires runs { self.old.stop ≡ None }
         requires fit { IsFit self.old.config self.old.machine bank.old }

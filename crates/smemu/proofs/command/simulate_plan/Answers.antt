@@ -49,7 +49,12 @@ returns-in-Ok g c =
     (none_opened g.F.Files.fetched g.F.Files.view old) c.open_program.ensures.fetched c.open_program.ensures.kept
     c.in_ok-file.file.bytes.items c.in_ok-file.ensures.opened) c.open_plan.ensures.fetched c.open_plan.ensures.kept
     c.in_ok-read.read.bytes.items c.in_ok-read.ensures.opened) (Ok (answer.Simulation c.in-Ok.simulation))
-    (record { config = c.args.config.now; given = refl; simulation = rw (c.as_slice.ensures.value, c.as_slice-2.ensures.value) at c.in-Ok.ensures })
+    (record {
+      config = c.args.config.now;
+      given = refl;
+      simulation = rw (c.as_slice.ensures.value, c.as_slice-2.ensures.value) at
+          c.in-Ok.ensures;
+    })
 
 pub returns : goal.returns
 returns g c =

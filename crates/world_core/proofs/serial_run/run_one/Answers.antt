@@ -12,7 +12,8 @@ events-init c =
 pub events-preserved : goal.events-preserved
 events-preserved c =
     let made = sym c.wants_memory.ensures ∙ c.if-wants_memory.false in
-    subst (λ (p : Phase). IsUnderWay c.args.image.now c.args.config.now (world_of c.apply-answer.new.self) p) (sym c.phase_after-phase.ensures)
+    subst (λ (p : Phase). IsUnderWay c.args.image.now c.args.config.now (world_of c.apply-answer.new.self) p)
+    (sym c.phase_after-phase.ensures)
     (way_more c.args.image.now c.args.config.now (world_of c.events.world) c.events.phase c.events.invariant c.in-Some.event
     (world_of c.apply-answer.new.self) c.apply-answer.result (sym c.in-Some.ensures) c.apply-answer.ensures made)
 
@@ -27,7 +28,8 @@ events-smaller c =
 
 pub returns-clause-serial : goal.returns-clause-serial
 returns-clause-serial c =
-    way_serial c.args.image.now c.args.config.now (world_of c.events.world) c.events.phase c.events.invariant c.in_ok-run.run'.contexts.items
+    way_serial c.args.image.now c.args.config.now (world_of c.events.world) c.events.phase c.events.invariant
+    c.in_ok-run.run'.contexts.items
     c.in_ok-run.run'.words (sym c.serial_event.ensures ∙ c.in_default.is) c.in_ok-run.ensures
 
 pub returns-clause-run : goal.returns-clause-run

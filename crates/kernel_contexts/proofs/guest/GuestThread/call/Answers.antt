@@ -12,7 +12,8 @@ pub returns-in-131-clause-turn : goal.returns-in-131-clause-turn
 returns-in-131-clause-turn g c =
     let t = c.args.self.now in
     let before = held_state t c.args.bank.now in
-    turned_so _ (post_of t.config (length t.journal.items) before (outside_streaming t.config before)) (guest_call t c.args.bank.now) _ _ _ _ _
+    turned_so _ (post_of t.config (length t.journal.items) before (outside_streaming t.config before)) (guest_call t c.args.bank.now) _
+    _ _ _ _
     (call_posts t.config t.number (length t.journal.items) before (outside_streaming t.config before) c.in-131.is) c.post.ensures.turn
 
 pub returns-in-131-clause-memory : goal.returns-in-131-clause-memory
@@ -26,7 +27,8 @@ returns-in_default-clause-memory g c = λ wants free.
 pub returns-in_default-clause-turn : goal.returns-in_default-clause-turn
 returns-in_default-clause-turn g c =
     let t = c.args.self.now in
-    asked_nothing _ _ _ (held_state t c.args.bank.now) (held_state c.call_quietly.new.self c.call_quietly.new.bank) _ _ c.call_quietly.result
+    asked_nothing _ _ _ (held_state t c.args.bank.now) (held_state c.call_quietly.new.self c.call_quietly.new.bank) _ _
+    c.call_quietly.result
     (made_nothing t.journal.items _ c.call_quietly.ensures.same.journal) c.call_quietly.ensures.turn
 
 pub returns-in-131-clause-goes : goal.returns-in-131-clause-goes

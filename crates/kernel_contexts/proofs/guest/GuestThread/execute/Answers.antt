@@ -32,7 +32,8 @@ go_on-requires-clause-within g c =
     let t = c.args.self.now in
     let n = vec_len c.reserve.new.self in
     let count : c.len-room.result ≡ n = omega arith in
-    event_fits _ _ (effect_of (vector_bytes c.args.bank.now.vectors.vl) (held_state t c.args.bank.now).core) (held_state t c.args.bank.now).core _ c.in-Next.event n n refl
+    event_fits _ _ (effect_of (vector_bytes c.args.bank.now.vectors.vl) (held_state t c.args.bank.now).core)
+    (held_state t c.args.bank.now).core _ c.in-Next.event n n refl
     (omega (arith, t.journal_within, c.reserve.ensures.len)) (room_left c.len-room.result n count) c.in-Next.ensures.effect
 
 pub returns-in-Next-clause-turn : goal.returns-in-Next-clause-turn
@@ -40,8 +41,10 @@ returns-in-Next-clause-turn g c =
     let t = c.args.self.now in
     let count : c.len-room.result ≡ length t.journal.items = omega (arith, ap length c.reserve.ensures.items) in
     rw c.go_on.ensures.answer (
-      goes_over t.config t.number (length t.journal.items) (held_state t c.args.bank.now) _ _ _ (its_effect t c.args.bank.now c.requires.fit.lengths.vl) _
-          (held_state c.go_on.new.self c.step_with.new.bank.0) c.in-Next.event _ (room_left c.len-room.result (length t.journal.items) count)
+      goes_over t.config t.number (length t.journal.items) (held_state t c.args.bank.now) _ _ _
+          (its_effect t c.args.bank.now c.requires.fit.lengths.vl) _
+          (held_state c.go_on.new.self c.step_with.new.bank.0) c.in-Next.event _
+          (room_left c.len-room.result (length t.journal.items) count)
           c.in-Next.ensures.effect (ap (with_vectors (bank_state c.step_with.new.bank.0)) c.go_on.ensures.state)
           (made_events t.journal.items _ _ (c.go_on.ensures.journal ∙ ap (λ l. l ++ events_of c.in-Next.event) c.reserve.ensures.items)),
       c.go_on.ensures.stop ∙ c.requires.runs,
@@ -55,8 +58,10 @@ returns-in-Raise-clause-turn g c =
     asked_nothing _ _ _ (held_state t c.args.bank.now) (held_state stop.new.self c.step_with.new.bank.0) _ _ stop.result
     (made_nothing t.journal.items _ (stop.ensures.same.journal ∙ c.reserve.ensures.items))
     (stops_so ⊥ _ (held_state t c.args.bank.now) (held_state stop.new.self c.step_with.new.bank.0) _ stop.result _ stop.ensures.answer
-    (executes_raises t.config t.number (length t.journal.items) (held_state t c.args.bank.now) _ _ (its_effect t c.args.bank.now c.requires.fit.lengths.vl ∙ h.0) h.1
-    ∙ ap (λ s. Ends s (Raised c.in-Raise.exception c.step_with.new.self.scalars.pc)) (sym (ap (with_vectors (bank_state c.step_with.new.bank.0)) stop.ensures.state)))
+    (executes_raises t.config t.number (length t.journal.items) (held_state t c.args.bank.now) _ _
+    (its_effect t c.args.bank.now c.requires.fit.lengths.vl ∙ h.0) h.1
+    ∙ ap (λ s. Ends s (Raised c.in-Raise.exception c.step_with.new.self.scalars.pc))
+    (sym (ap (with_vectors (bank_state c.step_with.new.bank.0)) stop.ensures.state)))
     stop.ensures.stop)
 
 pub returns-in-NoRoom-clause-turn : goal.returns-in-NoRoom-clause-turn
@@ -67,8 +72,10 @@ returns-in-NoRoom-clause-turn g c =
     let count : c.len-room.result ≡ length t.journal.items = omega (arith, ap length c.reserve.ensures.items) in
     asked_nothing _ _ _ (held_state t c.args.bank.now) (held_state stop.new.self c.step_with.new.bank.0) _ _ stop.result
     (made_nothing t.journal.items _ (stop.ensures.same.journal ∙ c.reserve.ensures.items))
-    (stops_so ⊥ _ (held_state t c.args.bank.now) (held_state stop.new.self c.step_with.new.bank.0) _ stop.result TraceFull stop.ensures.answer
-    (full_over t.config t.number (length t.journal.items) (held_state t c.args.bank.now) _ (its_effect t c.args.bank.now c.requires.fit.lengths.vl)
+    (stops_so ⊥ _ (held_state t c.args.bank.now) (held_state stop.new.self c.step_with.new.bank.0) _ stop.result TraceFull
+    stop.ensures.answer
+    (full_over t.config t.number (length t.journal.items) (held_state t c.args.bank.now) _
+    (its_effect t c.args.bank.now c.requires.fit.lengths.vl)
     (room_full c.len-room.result (length t.journal.items) count h.1) h.2
     ∙ ap (λ (k : ProcessorState). Ends (record (held_state t c.args.bank.now) { core = k }) TraceFull) (sym h.0)
     ∙ ap (λ s. Ends s TraceFull) (sym (ap (with_vectors (bank_state c.step_with.new.bank.0)) stop.ensures.state))) stop.ensures.stop)
@@ -78,7 +85,8 @@ returns-in-TraceEnds-clause-turn g c =
     let t = c.args.self.now in
     let h = c.in-TraceEnds.ensures.effect in
     let count : c.len-room.result ≡ length t.journal.items = omega (arith, ap length c.reserve.ensures.items) in (
-      refused_over t.config t.number (length t.journal.items) (held_state t c.args.bank.now) _ _ (its_effect t c.args.bank.now c.requires.fit.lengths.vl)
+      refused_over t.config t.number (length t.journal.items) (held_state t c.args.bank.now) _ _
+          (its_effect t c.args.bank.now c.requires.fit.lengths.vl)
           (room_left c.len-room.result (length t.journal.items) count h.1) h.2,
       ap (λ (k : ProcessorState). record (held_state t c.args.bank.now) { core = k }) h.0,
       made_nothing t.journal.items _ c.reserve.ensures.items,
@@ -90,7 +98,8 @@ returns-in-TraceDiffers-clause-turn g c =
     let t = c.args.self.now in
     let h = c.in-TraceDiffers.ensures.effect in
     let count : c.len-room.result ≡ length t.journal.items = omega (arith, ap length c.reserve.ensures.items) in (
-      refused_over t.config t.number (length t.journal.items) (held_state t c.args.bank.now) _ _ (its_effect t c.args.bank.now c.requires.fit.lengths.vl)
+      refused_over t.config t.number (length t.journal.items) (held_state t c.args.bank.now) _ _
+          (its_effect t c.args.bank.now c.requires.fit.lengths.vl)
           (room_left c.len-room.result (length t.journal.items) count h.1) h.2,
       ap (λ (k : ProcessorState). record (held_state t c.args.bank.now) { core = k }) h.0,
       made_nothing t.journal.items _ c.reserve.ensures.items,

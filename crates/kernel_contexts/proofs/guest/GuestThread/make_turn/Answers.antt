@@ -27,7 +27,8 @@ pub returns-then-self-clause-goes : goal.returns-then-self-clause-goes
 returns-then-self-clause-goes g c = λ wants free.
     let t = c.args.self.now in
     let s = held_state t c.args.bank.now in
-    goes_so (g.P.Port.refuses c.args.port.now c.args.ticket.now).takes_memory (guest_instruction t c.args.bank.now) (guest_turn t c.args.bank.now)
+    goes_so (g.P.Port.refuses c.args.port.now c.args.ticket.now).takes_memory (guest_instruction t c.args.bank.now)
+    (guest_turn t c.args.bank.now)
     (turn_executes t.config t.number (length t.journal.items) s (λ e. omega (arith, e, t.watched.budget, c.if-self.true))
     (no_poll t.config s t.watch t.watched c.if-self.true) (no_delivery t.config s t.watch t.watched c.if-self.true))
     (c.execute.ensures.goes wants free)

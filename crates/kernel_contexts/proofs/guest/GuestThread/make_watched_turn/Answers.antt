@@ -19,7 +19,8 @@ returns-then-self-clause-turn g c =
     let t = c.args.self.now in
     asked_nothing _ _ _ (held_state t c.args.bank.now) (held_state c.stop_with.new.self c.args.bank.now) _ _ c.stop_with.result
     (made_nothing t.journal.items _ c.stop_with.ensures.same.journal)
-    (stops_so ⊥ _ (held_state t c.args.bank.now) (held_state c.stop_with.new.self c.args.bank.now) _ c.stop_with.result Budget c.stop_with.ensures.answer
+    (stops_so ⊥ _ (held_state t c.args.bank.now) (held_state c.stop_with.new.self c.args.bank.now) _ c.stop_with.result Budget
+    c.stop_with.ensures.answer
     (turn_spent t.config t.number (length t.journal.items) (held_state t c.args.bank.now) c.if-self.true
     ∙ ap (λ s. Ends s Budget) (sym (ap (with_vectors (bank_state c.args.bank.now)) c.stop_with.ensures.state))) c.stop_with.ensures.stop)
 
@@ -28,7 +29,8 @@ returns-then-is_poll_due-clause-turn g c =
     let t = c.args.self.now in
     let due : is_poll_due t.config (held_state t c.args.bank.now) ≡ true = sym c.is_poll_due.ensures ∙ c.if-is_poll_due.true in
     turned_so _ (poll_of t.number (length t.journal.items) (held_state t c.args.bank.now)) (guest_turn t c.args.bank.now) _ _ _ _ _
-    (turn_polls t.config t.number (length t.journal.items) (held_state t c.args.bank.now) c.if-self.false due) (c.poll.ensures.turn (bank_state c.args.bank.now))
+    (turn_polls t.config t.number (length t.journal.items) (held_state t c.args.bank.now) c.if-self.false due)
+    (c.poll.ensures.turn (bank_state c.args.bank.now))
 
 pub returns-then-is_delivery_due-clause-turn : goal.returns-then-is_delivery_due-clause-turn
 returns-then-is_delivery_due-clause-turn g c =
@@ -37,7 +39,8 @@ returns-then-is_delivery_due-clause-turn g c =
     let due : is_delivery_due (held_state t c.args.bank.now) ≡ true = sym c.is_delivery_due.ensures ∙ c.if-is_delivery_due.true in
     turned_so _ (delivery_of t.config (held_state t c.args.bank.now)) (guest_turn t c.args.bank.now) _ _ _ _ _
     (turn_delivers t.config t.number (length t.journal.items) (held_state t c.args.bank.now) c.if-self.false none due)
-    (asked_nothing _ _ _ (held_state t c.args.bank.now) (held_state c.deliver_signal.new.self c.deliver_signal.new.bank) _ _ c.deliver_signal.result
+    (asked_nothing _ _ _ (held_state t c.args.bank.now) (held_state c.deliver_signal.new.self c.deliver_signal.new.bank) _ _
+    c.deliver_signal.result
     (made_nothing t.journal.items _ c.deliver_signal.ensures.same.journal) c.deliver_signal.ensures.turn)
 
 pub returns-clause-turn : goal.returns-clause-turn
@@ -46,7 +49,8 @@ returns-clause-turn g c =
     let none : is_poll_due t.config (held_state t c.args.bank.now) ≡ false = sym c.is_poll_due.ensures ∙ c.if-is_poll_due.false in
     let other : is_delivery_due (held_state t c.args.bank.now) ≡ false = sym c.is_delivery_due.ensures ∙ c.if-is_delivery_due.false in
     turned_so _ (guest_instruction t c.args.bank.now) (guest_turn t c.args.bank.now) _ _ _ _ _
-    (turn_executes t.config t.number (length t.journal.items) (held_state t c.args.bank.now) c.if-self.false none other) c.execute.ensures.turn
+    (turn_executes t.config t.number (length t.journal.items) (held_state t c.args.bank.now) c.if-self.false none other)
+    c.execute.ensures.turn
 
 pub returns-then-is_poll_due-clause-memory : goal.returns-then-is_poll_due-clause-memory
 returns-then-is_poll_due-clause-memory g c = λ wants.
@@ -60,14 +64,16 @@ returns-then-is_delivery_due-clause-memory g c = λ wants.
 
 pub returns-clause-memory : goal.returns-clause-memory
 returns-clause-memory g c = λ wants.
-    Executes c.if-self.false (sym c.is_poll_due.ensures ∙ c.if-is_poll_due.false) (sym c.is_delivery_due.ensures ∙ c.if-is_delivery_due.false)
+    Executes c.if-self.false (sym c.is_poll_due.ensures ∙ c.if-is_poll_due.false)
+    (sym c.is_delivery_due.ensures ∙ c.if-is_delivery_due.false)
     (c.execute.ensures.memory wants)
 
 pub returns-then-is_poll_due-clause-goes : goal.returns-then-is_poll_due-clause-goes
 returns-then-is_poll_due-clause-goes g c = λ wants free.
     let t = c.args.self.now in
     let due : is_poll_due t.config (held_state t c.args.bank.now) ≡ true = sym c.is_poll_due.ensures ∙ c.if-is_poll_due.true in
-    goes_so (g.P.Port.refuses c.args.port.now c.args.ticket.now).takes_memory (poll_of t.number (length t.journal.items) (held_state t c.args.bank.now))
+    goes_so (g.P.Port.refuses c.args.port.now c.args.ticket.now).takes_memory
+    (poll_of t.number (length t.journal.items) (held_state t c.args.bank.now))
     (guest_turn t c.args.bank.now)
     (turn_polls t.config t.number (length t.journal.items) (held_state t c.args.bank.now) c.if-self.false due)
     (c.poll.ensures.goes (bank_state c.args.bank.now) wants free)
@@ -89,7 +95,8 @@ returns-clause-goes g c = λ wants free.
     let t = c.args.self.now in
     let none : is_poll_due t.config (held_state t c.args.bank.now) ≡ false = sym c.is_poll_due.ensures ∙ c.if-is_poll_due.false in
     let other : is_delivery_due (held_state t c.args.bank.now) ≡ false = sym c.is_delivery_due.ensures ∙ c.if-is_delivery_due.false in
-    goes_so (g.P.Port.refuses c.args.port.now c.args.ticket.now).takes_memory (guest_instruction t c.args.bank.now) (guest_turn t c.args.bank.now)
+    goes_so (g.P.Port.refuses c.args.port.now c.args.ticket.now).takes_memory (guest_instruction t c.args.bank.now)
+    (guest_turn t c.args.bank.now)
     (turn_executes t.config t.number (length t.journal.items) (held_state t c.args.bank.now) c.if-self.false none other)
     (c.execute.ensures.goes wants free)
 

@@ -24,7 +24,8 @@ returns-in-Ok-clause-turn g c = λ v.
 pub returns-in-Err-clause-turn : goal.returns-in-Err-clause-turn
 returns-in-Err-clause-turn g c = λ v.
     let t = c.args.self.now in
-    refused_after (HasFreePlace t) _ t.journal.items c.ask.new.self.journal.items _ (guest_state t v) (guest_state c.ask.new.self v) _ (poll_op t.number)
+    refused_after (HasFreePlace t) _ t.journal.items c.ask.new.self.journal.items _ (guest_state t v) (guest_state c.ask.new.self v) _
+    (poll_op t.number)
     (polled_with (guest_state t v)) c.in-Err.refusal _ _ c.in-Err.ensures.made c.refuse.ensures.same.journal
     (ap (with_vectors v) c.in-Err.ensures.state) (c.refuse.ensures.turn v)
 

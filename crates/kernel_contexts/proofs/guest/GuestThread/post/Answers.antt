@@ -26,9 +26,11 @@ returns-in-Ok-clause-turn g c =
     let may : may_post t.config x ≡ true = sym c.may_post.ensures.value ∙ c.if-not-may_post.false in
     let events = length t.journal.items in
     let op = post_op (slice_index x 0) (slice_index x 1) in
-    turned_so _ (asking events (held_state t c.args.bank.now) op (λ answer. returned s 0)) (post_of t.config events (held_state t c.args.bank.now) s) _ _ _ _ _
+    turned_so _ (asking events (held_state t c.args.bank.now) op (λ answer. returned s 0))
+    (post_of t.config events (held_state t c.args.bank.now) s) _ _ _ _ _
     (post_asks t.config events (held_state t c.args.bank.now) s may)
-    (answered_after (HasFreePlace t) _ t.journal.items c.ask.new.self.journal.items _ (held_state t c.args.bank.now) _ op (λ answer. returned s 0) c.in-Ok.field-0 _ _
+    (answered_after (HasFreePlace t) _ t.journal.items c.ask.new.self.journal.items _ (held_state t c.args.bank.now) _ op
+    (λ answer. returned s 0) c.in-Ok.field-0 _ _
     (rw c.post_op-op.ensures at c.in-Ok.ensures.made) c.return_with-in-Ok.ensures.same.journal
     (c.return_with-in-Ok.ensures.state
     ∙ ap (λ (k : Config). returned (outside_streaming k (held_state c.ask.new.self c.args.bank.now)) 0) c.in-Ok.ensures.grows.same.config
@@ -44,12 +46,16 @@ returns-in-Err-clause-turn g c =
     let may : may_post t.config x ≡ true = sym c.may_post.ensures.value ∙ c.if-not-may_post.false in
     let events = length t.journal.items in
     let op = post_op (slice_index x 0) (slice_index x 1) in
-    turned_so _ (asking events (held_state t c.args.bank.now) op (λ answer. returned s 0)) (post_of t.config events (held_state t c.args.bank.now) s) _ _ _ _ _
+    turned_so _ (asking events (held_state t c.args.bank.now) op (λ answer. returned s 0))
+    (post_of t.config events (held_state t c.args.bank.now) s) _ _ _ _ _
     (post_asks t.config events (held_state t c.args.bank.now) s may)
-    (refused_after (HasFreePlace t) _ t.journal.items c.ask.new.self.journal.items _ (held_state t c.args.bank.now) _ _ op (λ answer. returned s 0) c.in-Err.refusal _ _
-    (subst (λ (o : SharedOp). Asked (with_place (HasFreePlace t) refusals) o t.journal.items (made_since t.journal.items c.ask.new.self.journal.items)
+    (refused_after (HasFreePlace t) _ t.journal.items c.ask.new.self.journal.items _ (held_state t c.args.bank.now) _ _ op
+    (λ answer. returned s 0) c.in-Err.refusal _ _
+    (subst (λ (o : SharedOp). Asked (with_place (HasFreePlace t) refusals) o t.journal.items
+    (made_since t.journal.items c.ask.new.self.journal.items)
     (Err c.in-Err.refusal))
-    c.post_op-op.ensures c.in-Err.ensures.made) c.refuse.ensures.same.journal (ap (with_vectors (bank_state c.args.bank.now)) c.in-Err.ensures.state) (c.refuse.ensures.turn (bank_state c.args.bank.now)))
+    c.post_op-op.ensures c.in-Err.ensures.made) c.refuse.ensures.same.journal
+    (ap (with_vectors (bank_state c.args.bank.now)) c.in-Err.ensures.state) (c.refuse.ensures.turn (bank_state c.args.bank.now)))
 
 pub returns-then-not-may_post-clause-turn : goal.returns-then-not-may_post-clause-turn
 returns-then-not-may_post-clause-turn g c =
@@ -69,7 +75,8 @@ returns-in-Err-clause-memory g c = λ wants free.
     let t = c.args.self.now in
     let refusals = g.P.Port.refuses c.args.port.now c.args.ticket.now in
     let is : c.in-Err.refusal ≡ Port Memory =
-    refusal_wants c.in-Err.refusal (held_state c.ask.new.self c.args.bank.now) (held_state c.refuse.new.self c.args.bank.now) c.refuse.new.self.stop c.refuse.result
+    refusal_wants c.in-Err.refusal (held_state c.ask.new.self c.args.bank.now) (held_state c.refuse.new.self c.args.bank.now)
+    c.refuse.new.self.stop c.refuse.result
     (c.refuse.ensures.turn (bank_state c.args.bank.now)) wants in
     let asked = subst (λ (r : Refusal). Asked (with_place (HasFreePlace t) refusals) c.post_op-op.result t.journal.items
     (made_since t.journal.items c.ask.new.self.journal.items) (Err r)) is c.in-Err.ensures.made in
@@ -85,10 +92,12 @@ returns-in-Err-clause-goes g c = λ wants free.
     let events = length t.journal.items in
     let op = post_op (slice_index x 0) (slice_index x 1) in
     let is : c.in-Err.refusal ≡ Port Memory =
-    refusal_wants c.in-Err.refusal (held_state c.ask.new.self c.args.bank.now) (held_state c.refuse.new.self c.args.bank.now) c.refuse.new.self.stop c.refuse.result
+    refusal_wants c.in-Err.refusal (held_state c.ask.new.self c.args.bank.now) (held_state c.refuse.new.self c.args.bank.now)
+    c.refuse.new.self.stop c.refuse.result
     (c.refuse.ensures.turn (bank_state c.args.bank.now)) wants in
     let asked = subst (λ (r : Refusal). Asked (with_place (HasFreePlace t) refusals) c.post_op-op.result t.journal.items
     (made_since t.journal.items c.ask.new.self.journal.items) (Err r)) is c.in-Err.ensures.made in
-    goes_so refusals.takes_memory (asking events (held_state t c.args.bank.now) op (λ answer. returned s 0)) (post_of t.config events (held_state t c.args.bank.now) s)
+    goes_so refusals.takes_memory (asking events (held_state t c.args.bank.now) op (λ answer. returned s 0))
+    (post_of t.config events (held_state t c.args.bank.now) s)
     (post_asks t.config events (held_state t c.args.bank.now) s may)
     (asking_goes refusals.takes_memory events (held_state t c.args.bank.now) op (λ answer. returned s 0) asked.0 (asked.1 free))
