@@ -31,14 +31,15 @@ get-past f [] i l = slice_get_past [] i (omega arith)
 get-past f (x ∷ xs) zero l = absurd (omega arith)
 get-past f (x ∷ xs) (suc i) l = get-past f xs i (omega arith)
 
--- a fact of each core, where one has changed
-pub each_set : {X : Type 0} (P : X → Type 0) (xs : List X) (i : ℕ) (y : X) → P y
-    → ((j : ℕ) (r : X) → slice_get xs j ≡ Some r → P r) → (j : ℕ) (r : X) → slice_get (slice_set xs i y) j ≡ Some r → P r
+-- a fact of each core and its place, where one has changed
+pub each_set : {X : Type 0} (P : ℕ → X → Type 0) (xs : List X) (i : ℕ) (y : X) → P i y
+    → ((j : ℕ) (r : X) → slice_get xs j ≡ Some r → P j r) → (j : ℕ) (r : X) → slice_get (slice_set xs i y) j ≡ Some r → P j r
 each_set P [] i y mine h j r get = h j r get
-each_set P (x ∷ xs) zero y mine h zero r get = subst P (same_Some y r get) mine
+each_set P (x ∷ xs) zero y mine h zero r get = subst (P zero) (same_Some y r get) mine
 each_set P (x ∷ xs) zero y mine h (suc j) r get = h (suc j) r get
 each_set P (x ∷ xs) (suc i) y mine h zero r get = h zero r get
-each_set P (x ∷ xs) (suc i) y mine h (suc j) r get = each_set P xs i y mine (λ m s g. h (suc m) s g) j r get
+each_set P (x ∷ xs) (suc i) y mine h (suc j) r get =
+    each_set (λ m s. P (suc m) s) xs i y mine (λ m s g. h (suc m) s g) j r get
 
 same_core : (e : WorldEvent) (turns : ℕ) → core_number (cut_to e turns) ≡ core_number e
 same_core (event.Run core k) turns = refl

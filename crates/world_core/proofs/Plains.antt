@@ -210,7 +210,7 @@ module _ {T : Type 0} (queue base : List Guest) (history longer : List Entry) wh
     pub done_few : 0 < length old.residents → RunsCore (λ t. nothing_refused) gives k old mid run → length mid.done ≤ 1
     done_few some h = (with_residents 0 old.residents refl some h).1
 
--- the options of a core stay
+-- the options and the number of a core stay
 same_config : {T : Type 0} (stop : Bool) (last : Held T) (others : List (Held T)) (old : CoreState T)
     → (core_after stop last others old).config ≡ old.config
 same_config true last others old = refl
@@ -223,6 +223,19 @@ run_config {T} refusals gives k old mid run h = with_residents old.residents h w
   with_residents [] r = ap (λ (c : CoreState T). c.config) r.1
   with_residents (first ∷ others) r =
       ap (λ (c : CoreState T). c.config) r.2 ∙ same_config (is_stop run.why) r.0 others old
+
+same_number : {T : Type 0} (stop : Bool) (last : Held T) (others : List (Held T)) (old : CoreState T)
+    → (core_after stop last others old).number ≡ old.number
+same_number true last others old = refl
+same_number false last others old = refl
+
+pub run_number : {T : Type 0} (refusals : T → Refusals) (gives : ℕ → List Event → T → T → Type 0) (k : ℕ) (old mid : CoreState T)
+    (run : CoreRun) → RunsCore refusals gives k old mid run → mid.number ≡ old.number
+run_number {T} refusals gives k old mid run h = with_residents old.residents h where
+  with_residents : (hs : List (Held T)) → RunsWith refusals gives k hs old mid run → mid.number ≡ old.number
+  with_residents [] r = ap (λ (c : CoreState T). c.number) r.1
+  with_residents (first ∷ others) r =
+      ap (λ (c : CoreState T). c.number) r.2 ∙ same_number (is_stop run.why) r.0 others old
 
 -- the last one of at most one
 pub only_one : {T : Type 0} (mid final : List (Held T)) (x : Held T) → length mid ≤ 1 → mid ≡ final ++ x ∷ [] → final ≡ []

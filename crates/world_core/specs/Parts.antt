@@ -11,25 +11,28 @@ use Rattle.core_unit.specs.declared.unit.Core.{Core}
 use Rattle.world_core.specs.Happens.{Scene}
 use Rattle.world_core.specs.World.{World, threads_of}
 
--- the threads of some contexts, of a core's residents, and of the residents of some cores
+-- the threads of some contexts that are home
 abbrev pub guests_of : {P T : Type 0} {b : _} → List (Whole P T b) → List Guest
 guests_of wholes = map (λ w. guest_of w.context) wholes
 
+-- the threads that are held with tickets, without these
 abbrev pub guests_in : {T : Type 0} → List (Held T) → List Guest
 guests_in helds = map (λ h. h.guest) helds
 
+-- the threads that are resident on a core
 abbrev pub core_guests : {P T : Type 0} {b : _} → Core P T b → List Guest
 core_guests c = guests_in (core_state c).residents
 
--- a core with the queue, the threads that are done, and the history
+-- what a core in this state sees of a world with this queue, threads that are done, and history
 abbrev pub scene_with : {T : Type 0} → CoreState T → List Guest → List Guest → List Entry → Scene
 scene_with c queue done history =
     record { residents = guests_in c.residents; queue = queue; done = done; history = history }
 
+-- what a core sees of a world with this queue, threads that are done, and history
 abbrev pub scene_in : {P T : Type 0} {b : _} → Core P T b → List Guest → List Guest → List Entry → Scene
 scene_in c queue done history = scene_with (core_state c) queue done history
 
--- all of them
+-- the world of these options, contexts in the queue, cores, contexts that are done, and history
 abbrev pub world_from : {P T : Type 0} {b : _} → Config → List (Whole P T b) → List (Core P T b)
     → List (Whole P T b) → List Entry → World
 world_from config queue cores done history = record {
@@ -44,9 +47,11 @@ world_from config queue cores done history = record {
 abbrev pub HaveOptions : {P T : Type 0} {b : _} → Config → List (Whole P T b) → Type 0
 HaveOptions config wholes = (i : ℕ) (w : _) → slice_get wholes i ≡ Some w → config_of w.context ≡ config
 
--- a core's threads have these options, and none of them has stopped in it
+-- the core at a place in a world of these options: its number is its place, its threads have the options, and
+-- none of them has stopped in it
 module _ {T : Type 0} where
-  pub record IsCoreOf (config : Config) (c : CoreState T) : Type 0 where
+  pub record IsCoreOf (config : Config) (place : ℕ) (c : CoreState T) : Type 0 where
+    pub number : c.number ≡ place
     pub options : c.config ≡ config
     pub none_done : length c.done ≡ 0
 

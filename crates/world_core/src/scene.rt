@@ -28,6 +28,7 @@ pub fn run(
         (scene_in core.old queue (guests_of done.old.items) port.old.history)
         (scene_in core.new queue (guests_of done.new.items) port.new.history) result }
     ensures none { length (core_state core.new).done ≡ 0 }
+    ensures number { (core_state core.new).number ≡ (core_state core.old).number }
     ensures config { (core_state core.new).config ≡ (core_state core.old).config }
     ensures room { vec_capacity done.new ≡ vec_capacity done.old }
 {
@@ -51,6 +52,7 @@ pub fn next(core: &mut Core<PlainPort>) -> Applied
     ensures applies { (n : ℕ) (queue done : List Guest) (history : List Entry) → AppliesHere (event.Next n)
         (scene_in core.old queue done history) (scene_in core.new queue done history) result }
     ensures done { (core_state core.new).done ≡ (core_state core.old).done }
+    ensures number { (core_state core.new).number ≡ (core_state core.old).number }
     ensures config { (core_state core.new).config ≡ (core_state core.old).config }
 {
     if core.next() {
@@ -72,6 +74,7 @@ pub fn fetch(core: &mut Core<PlainPort>, queue: &mut Vec<Whole<PlainPort>>) -> A
         (scene_in core.old (guests_of queue.old.items) done history)
         (scene_in core.new (guests_of queue.new.items) done history) result }
     ensures done { (core_state core.new).done ≡ (core_state core.old).done }
+    ensures number { (core_state core.new).number ≡ (core_state core.old).number }
     ensures config { (core_state core.new).config ≡ (core_state core.old).config }
     ensures room { vec_capacity queue.new ≡ vec_capacity queue.old }
     ensures options { HaveOptions (core_state core.old).config queue.new.items }
@@ -98,6 +101,7 @@ pub fn offer(core: &mut Core<PlainPort>, queue: &mut Vec<Whole<PlainPort>>) -> A
         (scene_in core.old (guests_of queue.old.items) done history)
         (scene_in core.new (guests_of queue.new.items) done history) result }
     ensures done { (core_state core.new).done ≡ (core_state core.old).done }
+    ensures number { (core_state core.new).number ≡ (core_state core.old).number }
     ensures config { (core_state core.new).config ≡ (core_state core.old).config }
     ensures room { vec_capacity queue.new ≡ vec_capacity queue.old }
     ensures options { HaveOptions (core_state core.old).config queue.new.items }

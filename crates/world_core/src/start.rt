@@ -36,7 +36,7 @@ pub fn start_threads(
     Ok(queue)
 }
 
-/// All cores, without residents. `Memory` is want of memory.
+/// All cores, without residents, each with the number of its place. `Memory` is want of memory.
 pub fn start_cores(
     alloc: Global,
     config: &Config,
@@ -44,7 +44,7 @@ pub fn start_cores(
 ) -> Result<Vec<Core<PlainPort>>, Memory>
     ensures none { IfOk result (λ cores. map core_guests cores.items ≡ replicate config.now.cores []) }
     ensures fit { IfOk result (λ cores. (i : ℕ) (c : _) → slice_get cores.items i ≡ Some c
-        → IsCoreOf config.now (core_state c)) }
+        → IsCoreOf config.now i (core_state c)) }
 {
     let mut cores = Vec::new(alloc);
     if cores.reserve(config.cores as usize).is_err() {

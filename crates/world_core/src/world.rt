@@ -28,7 +28,7 @@ pub struct World {
     done: Vec<Whole<PlainPort>>,
     port: PlainPort,
     ghost options: { HaveOptions config queue.items },
-    ghost fit: { (i : ℕ) (c : _) → slice_get cores.items i ≡ Some c → IsCoreOf config (core_state c) },
+    ghost fit: { (i : ℕ) (c : _) → slice_get cores.items i ≡ Some c → IsCoreOf config i (core_state c) },
     ghost owned: { IsOwned (world_from config queue.items cores.items done.items port.history) },
     ghost room: { HasRoom (world_from config queue.items cores.items done.items port.history)
         (vec_capacity queue) (vec_capacity done) },

@@ -53,6 +53,9 @@ returns-clause-applies c = λ n done history.
 pub returns-clause-done : goal.returns-clause-done
 returns-clause-done c = ap (λ (s : CoreState PlainEvents). s.done) c.in-Ok.ensures.admitted
 
+pub returns-clause-number : goal.returns-clause-number
+returns-clause-number c = ap (λ (s : CoreState PlainEvents). s.number) c.in-Ok.ensures.admitted
+
 pub returns-clause-config : goal.returns-clause-config
 returns-clause-config c = ap (λ (s : CoreState PlainEvents). s.config) c.in-Ok.ensures.admitted
 

@@ -30,6 +30,9 @@ returns-in-Some-clause-applies c = λ n done history.
 pub returns-in-Some-clause-done : goal.returns-in-Some-clause-done
 returns-in-Some-clause-done c = sym (ap (λ (s : CoreState PlainEvents). s.done) c.in-Some.ensures.taken)
 
+pub returns-in-Some-clause-number : goal.returns-in-Some-clause-number
+returns-in-Some-clause-number c = sym (ap (λ (s : CoreState PlainEvents). s.number) c.in-Some.ensures.taken)
+
 pub returns-in-Some-clause-config : goal.returns-in-Some-clause-config
 returns-in-Some-clause-config c = sym (ap (λ (s : CoreState PlainEvents). s.config) c.in-Some.ensures.taken)
 

@@ -8,7 +8,7 @@ use Rattle.plan_reader.specs.declared.event.WorldEvent.TheVariants as event
 use Rattle.world_core.specs.declared.event.Applied.TheVariants as applied
 use Rattle.shared_region.specs.Ports.{PlainEvents}
 use Rattle.core_unit.specs.CoreState.{CoreState}
-use Rattle.world_core.proofs.Plains.{core_applies, done_few, run_none, taken_so, none_taken, only_one, run_config}
+use Rattle.world_core.proofs.Plains.{core_applies, done_few, run_none, taken_so, none_taken, only_one, run_config, run_number}
 use Rattle.world_core.proofs.Scenes.{none_in}
 use Rattle.world_core.proofs.scene.run.Goals as goal
 
@@ -67,6 +67,13 @@ returns-in-Some-clause-none c =
     c.history-history.ensures.plain.legal some c.run-run.ensures.run in
     ap (λ l. length l) (only_one mid.done (core_state c.take_done.new.self).done (held_in c.in-Some.stopped) few
     (ap (λ (s : CoreState PlainEvents). s.done) c.in-Some.ensures.taken))
+
+pub returns-in-Some-clause-number : goal.returns-in-Some-clause-number
+returns-in-Some-clause-number c =
+    let old = core_state c.args.core.now in
+    let mid = core_state c.run-run.new.self in
+    sym (ap (λ (s : CoreState PlainEvents). s.number) c.in-Some.ensures.taken)
+    ∙ run_number _ _ c.args.k old mid c.run-run.result c.run-run.ensures.run
 
 pub returns-in-Some-clause-config : goal.returns-in-Some-clause-config
 returns-in-Some-clause-config c =

@@ -7,7 +7,7 @@ use Rattle.world_core.proofs.start.start_cores.Given as goal
 abbrev pub invariant-cores : goal.invariant-cores
 invariant-cores l = record {
   so_far : map core_guests l.cores.items ≡ replicate l.number [];
-  fit : (i : ℕ) (c : _) → slice_get l.cores.items i ≡ Some c → IsCoreOf l.config (core_state c);
+  fit : (i : ℕ) (c : _) → slice_get l.cores.items i ≡ Some c → IsCoreOf l.config i (core_state c);
   count : vec_len l.cores ≡ l.number;
   room : l.config.cores ≤ vec_capacity l.cores;
 }

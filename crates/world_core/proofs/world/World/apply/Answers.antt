@@ -58,8 +58,8 @@ invariant_of-self-in-Run c =
     get (e.applies c.in-Run.core (guests_of t.queue.items)) in
     record {
       options = t.options;
-      fit = each_set (λ x. IsCoreOf t.config (core_state x)) t.cores.items n c.run.new.core
-          (record { options = e.config ∙ fit.options; none_done = e.none }) t.fit;
+      fit = each_set (λ k x. IsCoreOf t.config k (core_state x)) t.cores.items n c.run.new.core
+          (record { number = e.number ∙ fit.number; options = e.config ∙ fit.options; none_done = e.none }) t.fit;
       owned = owned_after (world_of t) _ c.args.event c.run.result h t.owned;
       room = room_after (world_of t) _ c.args.event c.run.result _ _ _ _ h t.room refl e.room;
     }
@@ -90,8 +90,12 @@ invariant_of-self-in-Next c =
     get (e.applies c.in-Next.core (guests_of t.queue.items) (guests_of t.done.items) t.port.history) in
     record {
       options = t.options;
-      fit = each_set (λ x. IsCoreOf t.config (core_state x)) t.cores.items n c.next.new.core
-          (record { options = e.config ∙ fit.options; none_done = ap (λ l. length l) e.done ∙ fit.none_done }) t.fit;
+      fit = each_set (λ k x. IsCoreOf t.config k (core_state x)) t.cores.items n c.next.new.core
+          (record {
+            number = e.number ∙ fit.number;
+            options = e.config ∙ fit.options;
+            none_done = ap (λ l. length l) e.done ∙ fit.none_done;
+          }) t.fit;
       owned = owned_after (world_of t) _ c.args.event c.next.result h t.owned;
       room = room_after (world_of t) _ c.args.event c.next.result _ _ _ _ h t.room refl refl;
     }
@@ -157,8 +161,12 @@ invariant_of-self-in-Fetch c =
     get (e.applies c.in-Fetch.core (guests_of t.done.items) t.port.history) in
     record {
       options = λ i w at. e.options i w at ∙ fit.options;
-      fit = each_set (λ x. IsCoreOf t.config (core_state x)) t.cores.items n c.fetch.new.core
-          (record { options = e.config ∙ fit.options; none_done = ap (λ l. length l) e.done ∙ fit.none_done }) t.fit;
+      fit = each_set (λ k x. IsCoreOf t.config k (core_state x)) t.cores.items n c.fetch.new.core
+          (record {
+            number = e.number ∙ fit.number;
+            options = e.config ∙ fit.options;
+            none_done = ap (λ l. length l) e.done ∙ fit.none_done;
+          }) t.fit;
       owned = owned_after (world_of t) _ c.args.event c.fetch.result h t.owned;
       room = room_after (world_of t) _ c.args.event c.fetch.result _ _ _ _ h t.room e.room refl;
     }
@@ -211,8 +219,12 @@ invariant_of-self-in-Offer c =
     get (e.applies c.in-Offer.core (guests_of t.done.items) t.port.history) in
     record {
       options = λ i w at. e.options i w at ∙ fit.options;
-      fit = each_set (λ x. IsCoreOf t.config (core_state x)) t.cores.items n c.offer.new.core
-          (record { options = e.config ∙ fit.options; none_done = ap (λ l. length l) e.done ∙ fit.none_done }) t.fit;
+      fit = each_set (λ k x. IsCoreOf t.config k (core_state x)) t.cores.items n c.offer.new.core
+          (record {
+            number = e.number ∙ fit.number;
+            options = e.config ∙ fit.options;
+            none_done = ap (λ l. length l) e.done ∙ fit.none_done;
+          }) t.fit;
       owned = owned_after (world_of t) _ c.args.event c.offer.result h t.owned;
       room = room_after (world_of t) _ c.args.event c.offer.result _ _ _ _ h t.room e.room refl;
     }
