@@ -22,7 +22,7 @@ pub record Guest : Type 0 where
   pub stop : Option Stop
   pub journal : List Event
 
--- that of a context, with this state
+-- the guest thread of a context, with this as its plain state
 abbrev pub guest_with : Context → State → Guest
 guest_with c s = record {
   program = image_of c;
@@ -33,11 +33,12 @@ guest_with c s = record {
   journal = journal_of c;
 }
 
--- of one that is home
+-- the guest thread of a context that is home: its vectors are in its save area
 abbrev pub guest_of : Context → Guest
 guest_of c = guest_with c (state_of c)
 
--- of one whose vectors are in the bank of a core where its thread owns that, else in its save area
+-- the guest thread of a context whose vectors are in the bank of a core where its thread owns that bank, else
+-- in its save area
 abbrev pub guest_on : Bank → Context → Guest
 guest_on bank c = guest_with c (state_on c bank)
 
@@ -50,11 +51,11 @@ pub record Held (T : Type 0) : Type 0 where
   pub guest : Guest
   pub ticket : T
 
--- those of some contexts with tickets, that are home
+-- the guest threads of some contexts that are home, each with its ticket
 abbrev pub held_of : {X T : Type 0} → (X → Context) → (X → T) → List X → List (Held T)
 held_of context ticket xs = map (λ x. record { guest = guest_of (context x); ticket = ticket x }) xs
 
--- and of some whose vectors may be in the bank of a core
+-- the guest threads of some contexts whose vectors may be in the bank of a core, each with its ticket
 abbrev pub held_on : {X T : Type 0} → (X → Context) → (X → T) → Bank → List X → List (Held T)
 held_on context ticket bank xs =
     map (λ x. record { guest = guest_on bank (context x); ticket = ticket x }) xs

@@ -30,29 +30,34 @@ RunsBy happened cut why.TraceDiffers = ⊥
 RunsBy happened cut why.Memory = cut
 RunsBy happened cut _ = happened
 
--- as a core sees it
+-- an event that comes to this outcome makes of the one scene on a core the other, and answers so
 abbrev pub IsOutcome : WorldEvent → Scene → Scene → Applied → Type 0
 IsOutcome e old new answer = on_core e old ≡ record { scene = new; answer = answer }
 
+-- the code's event on a core, before and after, with its answer: the event happened, or it was a run that
+-- was wanting memory, of which fewer turns happened
 abbrev pub AppliesHere : WorldEvent → Scene → Scene → Applied → Type 0
 AppliesHere e old new (applied.Ran run) = RunsBy (IsOutcome e old new (applied.Ran run))
     (IsOutcome (cut_to e run.turns) old new (spends run.turns) × LetsMore e run.turns) run.why
 AppliesHere e old new answer = IsOutcome e old new answer
 
--- in the world
+-- an event makes of the one world the other, and answers so
 abbrev pub Comes : WorldEvent → World → World → Applied → Type 0
 Comes e old new answer = happens old e ≡ record { world = new; answer = answer }
 
+-- the code's event in a world, before and after, with its answer: the event happened, or it was a run that
+-- was wanting memory, of which fewer turns happened
 abbrev pub Applies : WorldEvent → World → World → Applied → Type 0
 Applies e old new (applied.Ran run) = RunsBy (Comes e old new (applied.Ran run))
     (Comes (cut_to e run.turns) old new (spends run.turns) × LetsMore e run.turns) run.why
 Applies e old new answer = Comes e old new answer
 
--- a run, and an event, that was wanting memory
+-- a run that ended so was wanting memory
 abbrev pub is_wanting : RunWhy → Bool
 is_wanting why.Memory = true
 is_wanting _ = false
 
+-- an event with this answer was a run that was wanting memory
 abbrev pub wants_memory : Applied → Bool
 wants_memory (applied.Ran run) = is_wanting run.why
 wants_memory _ = false

@@ -25,7 +25,7 @@ pub record Scene : Type 0 where
   pub done : List Guest
   pub history : List Entry
 
--- what an event makes of it, and answers
+-- what an event makes of a scene, and answers
 pub record Outcome : Type 0 where
   pub scene : Scene
   pub answer : Applied
@@ -40,11 +40,11 @@ becomes s = record { scene = s; answer = applied.Done }
 -- ---- Run: the first resident makes so many turns, until it gives way or stops; a thread that has stopped
 -- leaves the core
 
--- the thread after its turns
+-- a thread after turns that came to this, with its stop, if it has stopped
 abbrev pub moved : Guest → Progress → Option Stop → Guest
 moved g p stop = record g { state = p.state; stop = stop; journal = p.journal }
 
--- what the run answers: the turns that the thread made, and why it made no more
+-- what a run answers: the turns that the thread made, and why it made no more
 abbrev pub ran : Guest → Progress → RunWhy → Applied
 ran g p why = applied.Ran (record { turns = p.state.turns - g.state.turns; why = why })
 
@@ -55,14 +55,14 @@ stays s g others p why = record {
   answer = ran g p why;
 }
 
--- one that has stopped leaves the core, and is the last of those that are done
+-- a thread that has stopped leaves the core, and is the last of those that are done
 abbrev pub leaves : Scene → Guest → List Guest → Progress → Stop → Outcome
 leaves s g others p stop = record {
   scene = record s { residents = others; done = s.done ++ moved g p (Some stop) ∷ []; history = p.history };
   answer = ran g p Stopped;
 }
 
--- by what the turns came to
+-- what a run makes of a scene, by what the turns of the first resident came to
 abbrev pub after_service : Scene → Guest → List Guest → Service → Outcome
 after_service s g others (Going p) = stays s g others p Spent
 after_service s g others (GaveWay p) = stays s g others p Yielded
@@ -109,11 +109,12 @@ pub record Happened : Type 0 where
   pub world : World
   pub answer : Applied
 
--- a world as a core with these residents sees it, and with what became of that
+-- what a core with these residents sees of a world
 abbrev pub scene_of : World → List Guest → Scene
 scene_of w residents =
     record { residents = residents; queue = w.queue; done = w.done; history = w.history }
 
+-- a world after the core of that number has come to this scene
 abbrev pub with_scene : World → ℕ → Scene → World
 with_scene w core s = record {
   config = w.config;
@@ -138,7 +139,7 @@ unfoldable pub world_after : World → List WorldEvent → World
 world_after w [] = w
 world_after w (e ∷ es) = world_after (happens w e).world es
 
--- and their answers
+-- the answers of some events, one after the other
 unfoldable pub answers_after : World → List WorldEvent → List Applied
 answers_after w [] = []
 answers_after w (e ∷ es) = (happens w e).answer ∷ answers_after (happens w e).world es

@@ -26,13 +26,15 @@ abbrev pub residents_at : Option (List Guest) → List Guest
 residents_at None = []
 residents_at (Some residents) = residents
 
--- the event that fills the core, or else runs it; so many threads are in the queue and resident
+-- the event that fills core 0 from the queue, or else runs its first resident for a slice, where so many
+-- threads are in the queue and resident
 abbrev pub filling : ℕ → ℕ → ℕ → Option WorldEvent
 filling slice queued resident =
     cond (nat_lt 0 queued && nat_lt resident places) (Some (Fetch 0))
     (cond (nat_lt 0 resident) (Some (Run 0 slice)) None)
 
--- the first resident, which has run and goes on, gives way before that
+-- the serial event in a phase, where so many threads are in the queue and resident: where the first resident
+-- has run and goes on, it gives way before core 0 is filled and runs again
 abbrev pub event_in : Phase → ℕ → ℕ → ℕ → Option WorldEvent
 event_in Fills slice queued resident = filling slice queued resident
 event_in GivesWay slice queued resident =
@@ -44,12 +46,13 @@ abbrev pub serial_event : World → Phase → Option WorldEvent
 serial_event w phase =
     event_in phase w.config.slice (length w.queue) (length (residents_at (slice_get w.cores 0)))
 
--- what the core is about to do after a run that ended so, and after an event
+-- what core 0 is about to do after a run that ended so: a thread that has not stopped gives way
 abbrev pub phase_by : RunWhy → Phase
 phase_by why.Spent = GivesWay
 phase_by why.Yielded = GivesWay
 phase_by _ = Fills
 
+-- what core 0 is about to do after an event with this answer
 abbrev pub phase_after : Applied → Phase
 phase_after applied.Done = Fills
 phase_after (applied.Ran run) = phase_by run.why
@@ -61,7 +64,7 @@ LeadSerially w phase [] last at = (last ≡ w) × (at ≡ phase)
 LeadSerially w phase (e ∷ es) last at = (serial_event w phase ≡ Some e)
     × LeadSerially (happens w e).world (phase_after (happens w e).answer) es last at
 
--- and there is no other after them
+-- these are all serial events from a world on: they lead to that world, in which there is no further one
 pub record AreSerial (w : World) (events : List WorldEvent) (last : World) : Type 0 where
   pub phase : Phase
   pub lead : LeadSerially w Fills events last phase
