@@ -13,3 +13,4 @@ pub mod Serials
 pub mod Events
 pub mod Ends
 pub mod UnderWay
+pub mod Rounds

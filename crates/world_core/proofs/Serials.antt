@@ -53,21 +53,21 @@ lead_world w phase (e ∷ es) last at h = lead_world (happens w e).world (phase_
 -- ---- which event comes
 
 -- the events that may come in a phase, with so many threads in the queue and resident
-data Comes (phase : Phase) (slice queued resident : ℕ) (e : WorldEvent) : Type 0 where
+pub data Comes (phase : Phase) (slice queued resident : ℕ) (e : WorldEvent) : Type 0 where
   Fetches : e ≡ Fetch 0 → 0 < queued → resident < places → Comes phase slice queued resident e
   Runs : e ≡ Run 0 slice → 0 < resident → Comes phase slice queued resident e
   Offers : e ≡ Offer 0 → phase ≡ GivesWay → Comes phase slice queued resident e
   Nexts : e ≡ Next 0 → phase ≡ GivesWay → Comes phase slice queued resident e
 
-some_of : (x e : WorldEvent) → ◌≡◌ {A = Option WorldEvent} (Some x) (Some e) → e ≡ x
+pub some_of : (x e : WorldEvent) → ◌≡◌ {A = Option WorldEvent} (Some x) (Some e) → e ≡ x
 some_of x e is = sym (same_Some x e is)
 
-both_of : (a b : Bool) → (a && b) ≡ true → (a ≡ true) × (b ≡ true)
+pub both_of : (a b : Bool) → (a && b) ≡ true → (a ≡ true) × (b ≡ true)
 both_of true true e = (refl, refl)
 both_of true false e = (refl, e)
 both_of false b e = (e, cc)
 
-below_of : (a b : ℕ) → nat_lt a b ≡ true → a < b
+pub below_of : (a b : ℕ) → nat_lt a b ≡ true → a < b
 below_of a b e = grind (arith, nat_tests)
 
 runs_in : (phase : Phase) (slice queued resident : ℕ) (e : WorldEvent) (some : Bool) → nat_lt 0 resident ≡ some
@@ -94,12 +94,12 @@ gives_in : (slice queued resident : ℕ) (e : WorldEvent) (offer : Bool)
 gives_in slice queued resident e true is = Offers (some_of (Offer 0) e is) refl
 gives_in slice queued resident e false is = moves_in slice queued resident e (nat_le 2 resident) is
 
-comes_in : (phase : Phase) (slice queued resident : ℕ) (e : WorldEvent) → event_in phase slice queued resident ≡ Some e
+pub comes_in : (phase : Phase) (slice queued resident : ℕ) (e : WorldEvent) → event_in phase slice queued resident ≡ Some e
     → Comes phase slice queued resident e
 comes_in Fills slice queued resident e is = fills_in Fills slice queued resident e (nat_lt 0 queued && nat_lt resident places) refl is
 comes_in GivesWay slice queued resident e is = gives_in slice queued resident e (nat_lt 0 queued) is
 
-on_core_0 : (phase : Phase) (slice queued resident : ℕ) (e : WorldEvent) → Comes phase slice queued resident e → core_number e ≡ 0
+pub on_core_0 : (phase : Phase) (slice queued resident : ℕ) (e : WorldEvent) → Comes phase slice queued resident e → core_number e ≡ 0
 on_core_0 phase slice queued resident e (Fetches is some room) = ap core_number is
 on_core_0 phase slice queued resident e (Runs is some) = ap core_number is
 on_core_0 phase slice queued resident e (Offers is gives) = ap core_number is
@@ -136,7 +136,7 @@ no_way : (slice queued resident : ℕ) (offer : Bool)
 no_way slice queued resident true is = absurd (none-some (Offer 0) (sym is))
 no_way slice queued resident false is = no_move slice queued resident (nat_le 2 resident) is
 
-none_comes : (phase : Phase) (slice queued resident : ℕ) → event_in phase slice queued resident ≡ None → (queued ≡ 0) × (resident ≡ 0)
+pub none_comes : (phase : Phase) (slice queued resident : ℕ) → event_in phase slice queued resident ≡ None → (queued ≡ 0) × (resident ≡ 0)
 none_comes Fills slice queued resident is = no_filling slice queued resident (nat_lt 0 queued && nat_lt resident places) refl is
 none_comes GivesWay slice queued resident is = no_way slice queued resident (nat_lt 0 queued) is
 

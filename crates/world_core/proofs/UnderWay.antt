@@ -32,7 +32,7 @@ none_resident : (n : ℕ) → residents_of (replicate n []) ≡ []
 none_resident zero = refl
 none_resident (suc n) = none_resident n
 
-start_core : (program : Program) (config : Config) (cores : ℕ) → config.cores ≡ cores → 1 ≤ cores → HasCore (start_world program config)
+pub start_core : (program : Program) (config : Config) (cores : ℕ) → config.cores ≡ cores → 1 ≤ cores → HasCore (start_world program config)
 start_core program config zero is one = absurd (omega (arith, one))
 start_core program config (suc n) is one = record {
   residents = [];

@@ -7,4 +7,5 @@ pub mod Parts
 pub mod View
 pub mod Kept
 pub mod Serial
+pub mod Rounds
 pub mod Finish

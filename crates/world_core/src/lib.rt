@@ -13,6 +13,6 @@ mod start;
 mod world;
 
 pub use event::{Applied, Why};
-pub use laws::worlds_are_kept;
+pub use laws::{serial_events_are_rounds, worlds_are_kept};
 pub use serial_run::run_one;
 pub use world::World;
