@@ -13,7 +13,7 @@ use Rattle.core_unit.specs.declared.run.RunWhy.TheVariants as why
 use Rattle.world_core.specs.Happens.{Scene, happens, happens_on, next_of, fetched, offer_of, run_of, after_service}
 use Rattle.world_core.specs.Happens.{refused, with_scene, scene_of, world_after}
 use Rattle.world_core.specs.Rounds.{queued, resident, CanFill, IsFilled, fetching, slice_run, IsGivingWay, ByOffer, ByNext, Stays, FollowRun}
-use Rattle.world_core.specs.Rounds.{IsRound, RoundsLead, events_in, AreRounds}
+use Rattle.world_core.specs.Rounds.{IsRound, RoundsLead, events_of_rounds, AreRounds}
 use Rattle.world_core.specs.Serial.{residents_at, event_in, serial_event, phase_by, phase_after, LeadSerially, AreSerial}
 use Rattle.world_core.specs.Serve.{Service, Going, GaveWay, HasStopped, serve, begins}
 use Rattle.world_core.specs.World.{World, start_world, threads_of}
@@ -265,7 +265,7 @@ longer w round can r = record {
   each (suc i) less = r.each_fills i (omega (arith, less))
 
 module _ (w : World) (can : CanFill w) (last : World) (none : queued last ≡ 0) (no_one : resident last ≡ 0) where
-  fetch_more : (rounds : List (List WorldEvent)) (es : List WorldEvent) → es ≡ events_in rounds
+  fetch_more : (rounds : List (List WorldEvent)) (es : List WorldEvent) → es ≡ events_of_rounds rounds
       → RoundsLead (happens w (Fetch 0)).world rounds last → AreRounds w (Fetch 0 ∷ es) last
   unfolding world_after
   fetch_more [] es are lead =
@@ -503,10 +503,10 @@ module _ (last : World) where
       (sym (ap (λ (l : List WorldEvent). l ++ es) r.are ∙ append_assoc (fetching r.fetches) (slice_run v ∷ r.rest) es))
       (fetches_led r.fetches w (slice_run v ∷ r.rest ++ es) r.each_fills run)
 
-  rounds_led : (rounds : List (List WorldEvent)) (w : World) → RoundsLead w rounds last → Led w Fills (events_in rounds) last
+  rounds_led : (rounds : List (List WorldEvent)) (w : World) → RoundsLead w rounds last → Led w Fills (events_of_rounds rounds) last
   rounds_led [] w h = (Fills, (h, refl))
   rounds_led (round ∷ rounds) w h =
-      round_led w round (events_in rounds) h.0 (rounds_led rounds (world_after w round) h.1)
+      round_led w round (events_of_rounds rounds) h.0 (rounds_led rounds (world_after w round) h.1)
 
 pub rounds_are_serial : (w : World) (events : List WorldEvent) (last : World) → AreRounds w events last → AreSerial w events last
 rounds_are_serial w events last h =

@@ -77,15 +77,15 @@ RoundsLead w [] last = last ≡ w
 RoundsLead w (round ∷ rounds) last = IsRound w round × RoundsLead (world_after w round) rounds last
 
 -- the events of some rounds, one after the other
-abbrev pub events_in : List (List WorldEvent) → List WorldEvent
-events_in [] = []
-events_in (round ∷ rounds) = round ++ events_in rounds
+abbrev pub events_of_rounds : List (List WorldEvent) → List WorldEvent
+events_of_rounds [] = []
+events_of_rounds (round ∷ rounds) = round ++ events_of_rounds rounds
 
 -- the events are those of rounds of a world, which lead to a world in which no thread is in the queue or
 -- resident on core 0
 pub record AreRounds (w : World) (events : List WorldEvent) (last : World) : Type 0 where
   pub rounds : List (List WorldEvent)
-  pub are : events ≡ events_in rounds
+  pub are : events ≡ events_of_rounds rounds
   pub lead : RoundsLead w rounds last
   pub none_queued : queued last ≡ 0
   pub none_resident : resident last ≡ 0
