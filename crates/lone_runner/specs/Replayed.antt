@@ -11,8 +11,8 @@ use Rattle.kernel_contexts.specs.Standing.{standing}
 use Rattle.lone_runner.specs.Parting.{unanswered}
 use Rattle.lone_runner.specs.declared.fault.AloneFault.{AloneFault}
 
--- the context is home, the ticket is that of its thread, and the events that it answered are the context's; the
--- journal has fewer than 2^32
+-- the context is home, the ticket is that of its thread, and the events that it answered are the context's;
+-- the journal has fewer than 2^32
 pub record HasTicket (context : Context) (ticket : ReplayEvents) : Type 0 where
   pub home : is_home context ≡ true
   pub number : ticket.thread ≡ thread_of context

@@ -1,6 +1,6 @@
--- The serial events of a world as rounds on core 0, without the phases of the code: until each thread is done,
--- the core is filled from the queue, then its first resident runs for a slice, and where that run ended as spent
--- or yielded, the first resident gives way to the queue, else to the next one.
+-- The serial events of a world as rounds on core 0, without the phases of the code: until each thread is
+-- done, the core is filled from the queue, then its first resident runs for a slice, and where that run ended
+-- as spent or yielded, the first resident gives way to the queue, else to the next one.
 use Rattle.std.specs.Prelude.{◌≡◌, ℕ, ◌<◌, ◌≤◌, ◌++◌, ◌⊎◌, List, [], ◌∷◌, length, replicate, slice_get}
 use Rattle.core_unit.specs.CoreState.{places}
 use Rattle.core_unit.specs.declared.run.RunWhy.{RunWhy}
@@ -43,9 +43,9 @@ pub data IsGivingWay (w : World) (events : List WorldEvent) : Type 0 where
   ByNext : queued w ≡ 0 → 2 ≤ resident w → events ≡ Next 0 ∷ [] → IsGivingWay w events
   Stays : queued w ≡ 0 → resident w < 2 → events ≡ [] → IsGivingWay w events
 
--- the events that follow a run which ended so, in the world after it: where the run was spent or yielded, those
--- by which the first resident gives way; where its thread stopped, none. The run of a resident of a world ends
--- in no other way: a world has memory for every turn, and its words refuse no operation
+-- the events that follow a run which ended so, in the world after it: where the run was spent or yielded,
+-- those by which the first resident gives way; where its thread stopped, none. The run of a resident of a
+-- world ends in no other way: a world has memory for every turn, and its words refuse no operation
 abbrev pub FollowRun : RunWhy → World → List WorldEvent → Type 0
 FollowRun why.Spent w events = IsGivingWay w events
 FollowRun why.Yielded w events = IsGivingWay w events
