@@ -77,7 +77,9 @@ impl Machine {
         }
     }
 
-    /// The same, by a decoder that keeps the instruction for the next time.
+    /// The same, by a decoder that keeps the instruction for the next time. It is laid into the loop that makes
+    /// turns, where its answer needs no place in memory.
+    #[inline(always)]
     pub fn step_with<P: Port>(
         &mut self,
         decoder: &mut Decoder,
@@ -112,7 +114,7 @@ impl Machine {
     }
 
     /// Executes the instruction at PC, which may be known, on a bank.
-    #[inline]
+    #[inline(always)]
     fn step_on<P: Port>(
         &mut self,
         known: &mut Decoded,
