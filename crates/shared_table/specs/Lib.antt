@@ -1,0 +1,4 @@
+pub mod Cells
+pub mod Views
+pub mod Rule
+pub mod Seats
