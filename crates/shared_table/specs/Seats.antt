@@ -15,17 +15,17 @@ use Rattle.shared_table.specs.Views.{thread_in, events_in, book_in, told, list_o
 abbrev pub view_of : Seat → SeatView
 view_of seat = seat.inner.me.0
 
--- which table it is
-abbrev pub table_id : SharedTable → TableId
-table_id table = table.table.shared.table_id
-
--- which table the seat is of
-abbrev pub table_of : Seat → TableId
-table_of seat = seat.inner.table_id
-
--- the same as plain data
+-- which table it is, as plain data
 abbrev pub name_of : TableId → List ℕ
 name_of id = id.words ∷ id.slots ∷ id.views_name ∷ id.atom ∷ id.block ∷ id.offset ∷ id.slot_names
+
+-- the name of a table, which is that of its ports
+abbrev pub table_name : SharedTable → List ℕ
+table_name table = name_of table.table.shared.table_id
+
+-- the name of the table that a seat is of
+abbrev pub seat_name : Seat → List ℕ
+seat_name seat = name_of seat.inner.table_id
 
 -- what the seat tells as a ticket: its thread's number, where it is a thread's, the events that it was given,
 -- and the name of its table
@@ -33,7 +33,7 @@ abbrev pub ticket_of : Seat → TicketView
 ticket_of seat = record {
   number = thread_in (view_of seat);
   events = events_in (view_of seat);
-  name = name_of (table_of seat);
+  name = seat_name seat;
 }
 
 -- it is the maker's seat

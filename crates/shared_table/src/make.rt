@@ -5,7 +5,7 @@ ghost use Rattle.shared_region.specs.History.{AreOneHistory};
 ghost use Rattle.shared_table.specs.declared.view.Told.TheVariants.{Never};
 ghost use Rattle.shared_table.specs.declared.view.SeatView.TheVariants.{Maker, Thread};
 ghost use Rattle.shared_table.specs.Views.{new_book, thread_in, with_split, with_joined};
-ghost use Rattle.shared_table.specs.Seats.{view_of, table_of, table_id, kept_of, kept_lists};
+ghost use Rattle.shared_table.specs.Seats.{view_of, seat_name, table_name, kept_of, kept_lists};
 ghost use Rattle.shared_table.specs.Seats.{IsMaker, AreAllBack};
 
 use crate::seat::Seat;
@@ -31,7 +31,7 @@ impl SharedTable {
     /// A table whose words are all zero, and its maker's seat, which has given no number. `Memory` is want of
     /// memory.
     pub fn new(alloc: Global) -> Result<(SharedTable, Seat), Memory>
-        ensures name { IfOk result (λ made. table_of made.1 ≡ table_id made.0) }
+        ensures name { IfOk result (λ made. seat_name made.1 ≡ table_name made.0) }
         ensures maker { IfOk result (λ made. view_of made.1 ≡ Maker new_book) }
     {
         let Ok(words) = Vec::from_elem(alloc, 0u64, 544) else {
@@ -46,10 +46,10 @@ impl SharedTable {
     /// The seat of the thread that the call names.
     fn seat_for<N: ForThread>(&self, seat: &mut Seat, thread: u32) -> Seat
         requires thread { N.thread ≡ thread }
-        requires name { table_of seat.old ≡ table_id self.now }
+        requires name { seat_name seat.old ≡ table_name self.now }
         requires maker { IsMaker seat.old }
         requires fresh { kept_of seat.old thread ≡ Never }
-        ensures name { (table_of seat.new ≡ table_of seat.old) × (table_of result ≡ table_of seat.old) }
+        ensures name { (seat_name seat.new ≡ seat_name seat.old) × (seat_name result ≡ seat_name seat.old) }
         ensures maker { view_of seat.new ≡ with_split thread (view_of seat.old) }
         ensures given { view_of result ≡ Thread thread [] }
     {
@@ -64,10 +64,10 @@ impl SharedTable {
     /// The seat of a thread, 0 to 31, whose number the maker's seat never gave. It was given no event yet,
     /// and the maker's seat tells that its number is out.
     pub fn split(&self, seat: &mut Seat, thread: u32) -> Seat
-        requires name { table_of seat.old ≡ table_id self.now }
+        requires name { seat_name seat.old ≡ table_name self.now }
         requires maker { IsMaker seat.old }
         requires fresh { kept_of seat.old thread ≡ Never }
-        ensures name { (table_of seat.new ≡ table_of seat.old) × (table_of result ≡ table_of seat.old) }
+        ensures name { (seat_name seat.new ≡ seat_name seat.old) × (seat_name result ≡ seat_name seat.old) }
         ensures maker { view_of seat.new ≡ with_split thread (view_of seat.old) }
         ensures given { view_of result ≡ Thread thread [] }
     {
@@ -76,10 +76,10 @@ impl SharedTable {
 
     /// Takes the seat of a thread back. The maker's seat keeps the thread's list, at its number.
     pub fn join(&self, seat: &mut Seat, other: Seat)
-        requires name { (table_of seat.old ≡ table_id self.now) × (table_of other ≡ table_of seat.old) }
+        requires name { (seat_name seat.old ≡ table_name self.now) × (seat_name other ≡ seat_name seat.old) }
         requires maker { IsMaker seat.old }
         requires thread { IsSome (thread_in (view_of other)) }
-        ensures name { table_of seat.new ≡ table_of seat.old }
+        ensures name { seat_name seat.new ≡ seat_name seat.old }
         ensures maker { view_of seat.new ≡ with_joined (view_of seat.old) (view_of other) }
     {
         let Seat { inner } = other;
@@ -91,7 +91,7 @@ impl SharedTable {
     /// Ends the table, where each seat that was split was joined again: the 32 lists that the maker's seat
     /// keeps, empty where a number was never given, are one history with the words that are written.
     pub fn close(self, seat: Seat, into: &mut Words)
-        requires name { table_of seat ≡ table_id self }
+        requires name { seat_name seat ≡ table_name self }
         requires maker { IsMaker seat }
         requires back { AreAllBack seat }
         ensures { AreOneHistory (kept_lists seat) into.new }

@@ -25,11 +25,11 @@ impl<'t> SeatPort<'t> {
 impl<'t> Port for SeatPort<'t> {
     type Ticket = Seat;
 
-    ghost use Rattle.shared_table.specs.Seats.{ticket_of, name_of, table_id};
+    ghost use Rattle.shared_table.specs.Seats.{ticket_of, table_name};
 
     ghost tells = { ticket_of };
 
-    ghost name = { λ p. name_of (table_id p.table.now) };
+    ghost name = { λ p. table_name p.table.now };
 
     ghost refuses = { λ p t. record { ends = λ op. ⊥; strays = λ op. ⊥; takes_memory = ⊥ } };
 

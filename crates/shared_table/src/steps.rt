@@ -2,10 +2,10 @@
 ghost use Rattle.std.specs.Prelude.{◌≡◌, ◌<◌, ◌∷◌, [], Some};
 ghost use Rattle.shared_region.specs.WordRule.{HasWord};
 ghost use Rattle.shared_region.specs.History.{event_of};
-ghost use Rattle.shared_region.specs.Tickets.{with_events};
+ghost use Rattle.shared_region.specs.Tickets.{IsTicketOf, with_events};
 ghost use Rattle.shared_table.specs.Cells.{cell_of};
 ghost use Rattle.shared_table.specs.Views.{thread_in, with_event};
-ghost use Rattle.shared_table.specs.Seats.{view_of, table_of, table_id, ticket_of};
+ghost use Rattle.shared_table.specs.Seats.{view_of, seat_name, table_name, ticket_of};
 
 use crate::seat::Seat;
 use crate::table::SharedTable;
@@ -32,10 +32,10 @@ impl SharedTable {
     #[inline]
     fn step<O: Asks>(&self, seat: &mut Seat, thread: u32, op: SharedOp) -> u64
         requires asks { O.op ≡ op }
-        requires name { table_of seat.old ≡ table_id self.now }
+        requires name { seat_name seat.old ≡ table_name self.now }
         requires number { thread_in (view_of seat.old) ≡ Some thread }
         requires place { HasWord op }
-        ensures name { table_of seat.new ≡ table_of seat.old }
+        ensures name { seat_name seat.new ≡ seat_name seat.old }
         ensures view { view_of seat.new ≡ with_event (view_of seat.old) (event_of op result) }
     {
         let words = &self.table.shared;
@@ -63,8 +63,7 @@ impl SharedTable {
     /// Makes the operation of a thread by one atomic step, and gives its answer.
     #[inline]
     pub(crate) fn access(&self, seat: &mut Seat, thread: u32, op: SharedOp) -> u64
-        requires name { table_of seat.old ≡ table_id self.now }
-        requires number { thread_in (view_of seat.old) ≡ Some thread }
+        requires ticket { IsTicketOf thread (table_name self.now) (ticket_of seat.old) }
         requires place { HasWord op }
         ensures { ticket_of seat.new ≡ with_events (ticket_of seat.old) (event_of op result ∷ []) }
     {

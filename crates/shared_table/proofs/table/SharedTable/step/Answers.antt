@@ -2,6 +2,7 @@ use Rattle.std.proofs.Common.{rules, ◌≡◌, ℕ, ap, ◌∙◌, refl, Bool, 
 use prog.Atomic.{either}
 use Rattle.shared_region.specs.WordRule.{new_word}
 use Rattle.shared_table.proofs.Operations.{does_at, stores_at}
+use Rattle.shared_table.proofs.Names.{same_table}
 use Rattle.shared_table.proofs.table.SharedTable.step.Goals as goal
 
 cond_either : (b : Bool) (x y : ℕ) → cond b x y ≡ either b x y
@@ -10,7 +11,7 @@ cond_either false x y = refl
 
 pub load-requires : goal.load-requires
 load-requires g c = let op = c.args.op in (
-  c.requires.name,
+  same_table _ _ c.requires.name,
   search rules,
   does_at _ _ _ c.args.thread op _ _ _ c.args.seat.now.bare c.requires.number c.requires.asks c.requires.place
       c.cell-at.ensures.value (λ old. ap (λ k. new_word k op.a op.b old) c.in-Load.is),
@@ -18,7 +19,7 @@ load-requires g c = let op = c.args.op in (
 
 pub swap-requires : goal.swap-requires
 swap-requires g c = let op = c.args.op in (
-  c.requires.name,
+  same_table _ _ c.requires.name,
   search rules,
   does_at _ _ _ c.args.thread op _ _ _ c.args.seat.now.bare c.requires.number c.requires.asks c.requires.place
       c.cell-at.ensures.value (λ old. ap (λ k. new_word k op.a op.b old) c.in-Swap.is),
@@ -26,7 +27,7 @@ swap-requires g c = let op = c.args.op in (
 
 pub fetch_add-requires : goal.fetch_add-requires
 fetch_add-requires g c = let op = c.args.op in (
-  c.requires.name,
+  same_table _ _ c.requires.name,
   search rules,
   does_at _ _ _ c.args.thread op _ _ _ c.args.seat.now.bare c.requires.number c.requires.asks c.requires.place
       c.cell-at.ensures.value (λ old. ap (λ k. new_word k op.a op.b old) c.in-Add.is),
@@ -34,7 +35,7 @@ fetch_add-requires g c = let op = c.args.op in (
 
 pub fetch_and-requires : goal.fetch_and-requires
 fetch_and-requires g c = let op = c.args.op in (
-  c.requires.name,
+  same_table _ _ c.requires.name,
   search rules,
   does_at _ _ _ c.args.thread op _ _ _ c.args.seat.now.bare c.requires.number c.requires.asks c.requires.place
       c.cell-at.ensures.value (λ old. ap (λ k. new_word k op.a op.b old) c.in-Clear.is),
@@ -42,7 +43,7 @@ fetch_and-requires g c = let op = c.args.op in (
 
 pub fetch_xor-requires : goal.fetch_xor-requires
 fetch_xor-requires g c = let op = c.args.op in (
-  c.requires.name,
+  same_table _ _ c.requires.name,
   search rules,
   does_at _ _ _ c.args.thread op _ _ _ c.args.seat.now.bare c.requires.number c.requires.asks c.requires.place
       c.cell-at.ensures.value (λ old. ap (λ k. new_word k op.a op.b old) c.in-Eor.is),
@@ -50,7 +51,7 @@ fetch_xor-requires g c = let op = c.args.op in (
 
 pub fetch_or-requires : goal.fetch_or-requires
 fetch_or-requires g c = let op = c.args.op in (
-  c.requires.name,
+  same_table _ _ c.requires.name,
   search rules,
   does_at _ _ _ c.args.thread op _ _ _ c.args.seat.now.bare c.requires.number c.requires.asks c.requires.place
       c.cell-at.ensures.value (λ old. ap (λ k. new_word k op.a op.b old) c.in-Set.is),
@@ -58,7 +59,7 @@ fetch_or-requires g c = let op = c.args.op in (
 
 pub fetch_max-requires : goal.fetch_max-requires
 fetch_max-requires g c = let op = c.args.op in (
-  c.requires.name,
+  same_table _ _ c.requires.name,
   search rules,
   does_at _ _ _ c.args.thread op _ _ _ c.args.seat.now.bare c.requires.number c.requires.asks c.requires.place
       c.cell-at.ensures.value (λ old. ap (λ k. new_word k op.a op.b old) c.in-Umax.is),
@@ -66,7 +67,7 @@ fetch_max-requires g c = let op = c.args.op in (
 
 pub fetch_min-requires : goal.fetch_min-requires
 fetch_min-requires g c = let op = c.args.op in (
-  c.requires.name,
+  same_table _ _ c.requires.name,
   search rules,
   does_at _ _ _ c.args.thread op _ _ _ c.args.seat.now.bare c.requires.number c.requires.asks c.requires.place
       c.cell-at.ensures.value (λ old. ap (λ k. new_word k op.a op.b old) c.in-Umin.is),
@@ -74,7 +75,7 @@ fetch_min-requires g c = let op = c.args.op in (
 
 pub compare_exchange-requires : goal.compare_exchange-requires
 compare_exchange-requires g c = let op = c.args.op in (
-  c.requires.name,
+  same_table _ _ c.requires.name,
   search rules,
   does_at _ _ _ c.args.thread op _ _ _ c.args.seat.now.bare c.requires.number c.requires.asks c.requires.place
       c.cell-at.ensures.value (λ old. ap (λ k. new_word k op.a op.b old) c.in-Cas.is ∙ cond_either (eqb old op.a) op.b old),
@@ -82,7 +83,7 @@ compare_exchange-requires g c = let op = c.args.op in (
 
 pub fetch_or-requires-in-Post : goal.fetch_or-requires-in-Post
 fetch_or-requires-in-Post g c = let op = c.args.op in (
-  c.requires.name,
+  same_table _ _ c.requires.name,
   search rules,
   does_at _ _ _ c.args.thread op _ _ _ c.args.seat.now.bare c.requires.number c.requires.asks c.requires.place
       c.cell-at.ensures.value (λ old. ap (λ k. new_word k op.a op.b old) c.in-Post.is),
@@ -90,7 +91,7 @@ fetch_or-requires-in-Post g c = let op = c.args.op in (
 
 pub swap-requires-in-Poll : goal.swap-requires-in-Poll
 swap-requires-in-Poll g c = let op = c.args.op in (
-  c.requires.name,
+  same_table _ _ c.requires.name,
   search rules,
   does_at _ _ _ c.args.thread op _ _ _ c.args.seat.now.bare c.requires.number c.requires.asks c.requires.place
       c.cell-at.ensures.value (λ old. ap (λ k. new_word k op.a op.b old) c.in-Poll.is),
@@ -98,7 +99,7 @@ swap-requires-in-Poll g c = let op = c.args.op in (
 
 pub store-requires : goal.store-requires
 store-requires g c = let op = c.args.op in (
-  c.requires.name,
+  same_table _ _ c.requires.name,
   search rules,
   stores_at _ _ _ c.args.thread op _ _ _ c.args.seat.now.bare c.requires.number c.requires.asks c.requires.place
       c.cell-at.ensures.value c.in-Store.is refl,
