@@ -387,11 +387,11 @@ joins_number items views id v other w told n first second h at two at' =
 -- ---- the steps on a queue of any items that are seen so
 
 module _ {X : Type 0} (seen : X → Ticketed) where
-  abbrev K : List X → List PassView → Type 0
-  K items views = IsEachOnce (map seen items) views
+  abbrev OnceEach : List X → List PassView → Type 0
+  OnceEach items views = IsEachOnce (map seen items) views
 
   pub puts : (n id : ℕ) (v : PassView) (x : X) → 0 < occurrences (seen x).thread v.held → Some (seen x).origin ≡ v.origin
-      → Pushes K n id v x (λ w. w ≡ after_offer v (seen x).thread)
+      → Pushes OnceEach n id v x (λ w. w ≡ after_offer v (seen x).thread)
   puts n id v x holds known items views room h at = (
     after_offer v (seen x).thread,
     subst (λ l. IsEachOnce l (set views id (after_offer v (seen x).thread))) (sym (map_push seen items x))
@@ -399,31 +399,32 @@ module _ {X : Type 0} (seen : X → Ticketed) where
     refl,
   )
 
-  pub roomy : (id : ℕ) (v : PassView) (t : ℕ) → 0 < occurrences t v.held → Learns K id v (λ items. length items < known_threads v.origin)
+  pub roomy : (id : ℕ) (v : PassView) (t : ℕ) → 0 < occurrences t v.held
+      → Learns OnceEach id v (λ items. length items < known_threads v.origin)
   roomy id v t holds items views h at =
       subst (λ (k : ℕ). k < known_threads v.origin) (length-map items seen) (room (map seen items) views id v t holds h at)
 
-  pub takes : (id : ℕ) (v : PassView) → is_in_use v.role ≡ true → Pops K id v (λ x w. HasFetched v (seen x) w)
+  pub takes : (id : ℕ) (v : PassView) → is_in_use v.role ≡ true → Pops OnceEach id v (λ x w. HasFetched v (seen x) w)
   takes id v used x items views h at =
       let made = fetches (seen x) (map seen items) views id v used h at in (after_fetch v (seen x).thread, made.0, made.1)
 
-  pub learns_rest : (id : ℕ) (v : PassView) → Learns K id v (λ items. HoldsRest (map (λ x. (seen x).thread) items) v)
+  pub learns_rest : (id : ℕ) (v : PassView) → Learns OnceEach id v (λ items. HoldsRest (map (λ x. (seen x).thread) items) v)
   learns_rest id v items views h at =
       subst (λ l. HoldsRest l v) (map-map (λ (y : Ticketed). y.thread) seen items) (rest_held (map seen items) views id v h at)
 
-  pub forks_open : (id : ℕ) (o : Option Origin) → Forks K id unopened (opened o) spent
+  pub forks_open : (id : ℕ) (o : Option Origin) → Forks OnceEach id unopened (opened o) spent
   forks_open id o items views h at = opens (map seen items) views id o h at
 
-  pub forks : (id : ℕ) (v : PassView) → is_first_pass v.role ≡ true → Forks K id v (after_split v) (split_off v)
+  pub forks : (id : ℕ) (v : PassView) → is_first_pass v.role ≡ true → Forks OnceEach id v (after_split v) (split_off v)
   forks id v is items views h at = splits (map seen items) views id v is h at
 
   pub merges : (id : ℕ) (v : PassView) (other : ℕ) (w : PassView) → is_first_pass v.role ≡ true → is_numbered w.role ≡ true
-      → Merges K id v other w (after_join v w) spent
+      → Merges OnceEach id v other w (after_join v w) spent
   merges id v other w is is' =
       let second = numbered_is w.role is' in
       let same : pass_with (First (slice_set (given_in v.role) (number_in w.role) Back)) v.origin (v.held ++ w.held) ≡ after_join v w =
       ap (λ r. pass_with (First (with_back (given_in v.role) r)) v.origin (v.held ++ w.held)) (sym second) in
-      subst (λ (b : PassView). Merges K id v other w b spent) same
+      subst (λ (b : PassView). Merges OnceEach id v other w b spent) same
       (λ items views. joins_number (map seen items) views id v other w (given_in v.role) (number_in w.role) (first_is v.role is) second)
 
 -- ---- what a fetch that found nothing learned
