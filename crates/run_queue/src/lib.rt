@@ -6,6 +6,7 @@
 //! queue says that it holds every thread.
 #![tactic(auto)]
 
+mod expected;
 mod origin;
 mod passes;
 mod queue;

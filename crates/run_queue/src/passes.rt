@@ -15,6 +15,7 @@ use shared_region::Port;
 use sm_types::{Config, Memory};
 use std::alloc::Global;
 use std::marker::Brand;
+use std::sync::atomic::AtomicU64;
 
 /// The first pass of an empty queue holds every thread from here on.
 fn open<P: Port, N: Opening>(
@@ -53,7 +54,11 @@ impl<P: Port> ContextQueue<P> {
             return Err(Memory);
         };
         open::<P, Brand>(&queue, &mut pass, image, config, port);
-        Ok((ContextQueue { queue }, QueuePass { pass, empty: false }))
+        let going = AtomicU64::new(u64::from(config.threads));
+        Ok((
+            ContextQueue { queue, going },
+            QueuePass { pass, empty: false },
+        ))
     }
 
     /// Splits off a pass with the next number, which holds nothing and has found nothing empty. The first

@@ -7,12 +7,15 @@ use crate::view::{EachOnce, PassView};
 use crossbeam_queue::{Pass, RuledArrayQueue};
 use kernel_contexts::Whole;
 use shared_region::Port;
+use std::sync::atomic::AtomicU64;
 
 /// A queue of contexts with their tickets, which threads of the system share. It has a place for each guest
 /// thread of the options.
 #[derive(Drop)]
 pub struct ContextQueue<P: Port> {
     pub(crate) queue: RuledArrayQueue<Whole<P>, PassView, EachOnce>,
+    /// How many threads have not stopped, as far as was told: a hint, of which no clause speaks.
+    pub(crate) going: AtomicU64,
 }
 
 /// The right to offer contexts to a queue and to fetch them: what a core has of the queue. Its view says

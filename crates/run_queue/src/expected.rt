@@ -1,0 +1,28 @@
+//! Whether it is worth while to look into an empty queue again.
+
+use crate::queue::ContextQueue;
+use shared_region::Port;
+use std::sync::atomic::Ordering;
+
+impl<P: Port> ContextQueue<P> {
+    /// Tells that a thread has stopped, so that its context will not be offered again.
+    pub fn tell_stop(&self) {
+        let _before = self.going.fetch_update(
+            Ordering::SeqCst,
+            Ordering::SeqCst,
+            |left| left.checked_sub(1),
+        );
+    }
+
+    /// Tells that memory was wanting to one who has contexts, so that nobody waits for them.
+    pub fn tell_want(&self) {
+        self.going.store(0, Ordering::SeqCst);
+    }
+
+    /// Whether a context may still be offered, as far as was told: that of a thread of which no stop was
+    /// told. It is a hint for those who find the queue empty: no clause speaks of it, and those of `offer`
+    /// and `fetch` do not rest on it.
+    pub fn expects_offers(&self) -> bool {
+        self.going.load(Ordering::SeqCst) > 0
+    }
+}
