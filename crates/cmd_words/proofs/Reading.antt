@@ -8,7 +8,7 @@ use Rattle.std.specs.Option.{ForSome, MatchOption}
 use Rattle.std.specs.List.{find, range_with_len}
 use Rattle.std.specs.Str.{bytes_eq}
 use Rattle.std.proofs.lemmas.Slice.Eq.{bytes_eq-Decides}
-use Rattle.cmd_words.specs.Forms.{Form, form_of, options_from}
+use Rattle.cmd_words.specs.Forms.{Form, form_of, options_from, run_options}
 use Rattle.line_reader.specs.Numbers.{is_decimal, decimal_value}
 use Rattle.cmd_words.specs.Options.{Options, default_options, word_of, setting_in, takes, default_of, with_numbers}
 use Rattle.cmd_words.specs.Command.{asking}
@@ -435,33 +435,20 @@ options_read given =
       cores = unwrap_or given.cores (default_of Cores);
     }
 
--- the options of `run`, which takes no cores
-pub given_options : (words : List (List ℕ)) (given : Given) → IsReadTo words (form_of Run) (length words) given
-    → options_given (form_of Run) words ≡ options_read given
-unfolding options_given setting_in
-given_options words given h =
-    let no_cores : given.cores ≡ None = h.untaken Cores refl in
-    rw (
-      given_number words (form_of Run) given h Vl,
-      given_number words (form_of Run) given h Svl,
-      given_number words (form_of Run) given h Slice,
-      given_number words (form_of Run) given h Budget,
-      given_number words (form_of Run) given h Threads,
-      no_cores,
-    ) refl
-
--- the options of `sim`
-pub given_to_sim : (words : List (List ℕ)) (given : Given) → IsReadTo words (form_of Sim) (length words) given
-    → options_given (form_of Sim) words ≡ options_read given
+-- the options of a command that runs threads
+pub given_options : (words : List (List ℕ)) (operands : List Operand) (given : Given)
+    → IsReadTo words (record { operands = operands; options = run_options }) (length words) given
+    → options_given (record { operands = operands; options = run_options }) words ≡ options_read given
 unfolding options_given
-given_to_sim words given h =
+given_options words operands given h =
+    let form : Form = record { operands = operands; options = run_options } in
     rw (
-      given_number words (form_of Sim) given h Vl,
-      given_number words (form_of Sim) given h Svl,
-      given_number words (form_of Sim) given h Slice,
-      given_number words (form_of Sim) given h Budget,
-      given_number words (form_of Sim) given h Threads,
-      given_number words (form_of Sim) given h Cores,
+      given_number words form given h Vl,
+      given_number words form given h Svl,
+      given_number words form given h Slice,
+      given_number words form given h Budget,
+      given_number words form given h Threads,
+      given_number words form given h Cores,
     ) refl
 
 pub to_end : (words : List (List ℕ)) (form : Form) (given : Given) (n : ℕ) → n ≡ length words → IsReadTo words form n given

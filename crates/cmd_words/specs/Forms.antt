@@ -13,14 +13,14 @@ pub record Form : Type 0 where
   pub operands : List Operand
   pub options : List Setting
 
+-- the options of commands that run threads
+abbrev pub run_options : List Setting
+run_options = Vl ∷ Svl ∷ Slice ∷ Budget ∷ Threads ∷ Cores ∷ []
+
 -- the form of each command
 abbrev pub form_of : Verb → Form
-form_of Run = record { operands = Name ∷ []; options = Vl ∷ Svl ∷ Slice ∷ Budget ∷ Threads ∷ [] }
-form_of Sim =
-    record {
-      operands = Name ∷ Name ∷ [];
-      options = Vl ∷ Svl ∷ Slice ∷ Budget ∷ Threads ∷ Cores ∷ [];
-    }
+form_of Run = record { operands = Name ∷ []; options = run_options }
+form_of Sim = record { operands = Name ∷ Name ∷ []; options = run_options }
 form_of Dis = record { operands = Name ∷ []; options = [] }
 form_of Asm = record { operands = Name ∷ []; options = [] }
 form_of Replay = record { operands = Name ∷ Name ∷ Thread ∷ []; options = [] }

@@ -24,6 +24,16 @@ pub struct Form {
     pub options: &'static [Setting],
 }
 
+/// The options of commands that run threads.
+const RUN_OPTIONS: &[Setting] = &[
+    Setting::Vl,
+    Setting::Svl,
+    Setting::Slice,
+    Setting::Budget,
+    Setting::Threads,
+    Setting::Cores,
+];
+
 /// The form of a command.
 pub fn form_of(verb: Verb) -> Form
     ensures { form_said result ≡ spec.form_of verb }
@@ -31,24 +41,11 @@ pub fn form_of(verb: Verb) -> Form
     match verb {
         Verb::Run => Form {
             operands: &[Operand::Name],
-            options: &[
-                Setting::Vl,
-                Setting::Svl,
-                Setting::Slice,
-                Setting::Budget,
-                Setting::Threads,
-            ],
+            options: RUN_OPTIONS,
         },
         Verb::Sim => Form {
             operands: &[Operand::Name, Operand::Name],
-            options: &[
-                Setting::Vl,
-                Setting::Svl,
-                Setting::Slice,
-                Setting::Budget,
-                Setting::Threads,
-                Setting::Cores,
-            ],
+            options: RUN_OPTIONS,
         },
         Verb::Dis | Verb::Asm => Form {
             operands: &[Operand::Name],

@@ -71,7 +71,7 @@ option_word Svl = codes "  --svl BITS    vector length in streaming mode: "
 option_word Slice = codes "  --slice N     instructions between polls of the pending signals: "
 option_word Budget = codes "  --budget N    instructions after which a thread is stopped: "
 option_word Threads = codes "  --threads N   guest threads: "
-option_word Cores = codes "  --cores N     cores, of sim alone: "
+option_word Cores = codes "  --cores N     cores: "
 
 -- what the text of help says of an option: the numbers that it takes, and the one where it is not given
 abbrev pub option_line : Setting → List ℕ

@@ -26,7 +26,7 @@ options of run and sim, in any order after the names, each at most once:
   --slice N     instructions between polls of the pending signals: 1 to 1000000; else 1000
   --budget N    instructions after which a thread is stopped: 1 to 4294967295; else 10000000
   --threads N   guest threads: 1 to 32; else 1
-  --cores N     cores, of sim alone: 1 to 64; else 1
+  --cores N     cores: 1 to 64; else 1
 
 statuses:
   0   the text was written

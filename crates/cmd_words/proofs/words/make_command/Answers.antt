@@ -2,9 +2,10 @@ use Rattle.std.proofs.Common.{map, length, [], ◌∷◌, refl, sym}
 use Rattle.std.specs.String.{string_bytes}
 use Rattle.std.proofs.lemmas.List.{length-map}
 use Rattle.cmd_words.specs.Options.{default_options}
+use Rattle.cmd_words.specs.declared.form.Operand.TheVariants.{Name}
 use Rattle.cmd_words.specs.Words.{NameSaid, ThreadSaid}
 use Rattle.cmd_words.specs.declared.verb.Verb.TheVariants.{Run, Sim, Dis, Asm, Replay, Help, Version}
-use Rattle.cmd_words.proofs.Reading.{asked_for, both_named, given_options, given_to_sim, named, no_options, options_read, replayed}
+use Rattle.cmd_words.proofs.Reading.{asked_for, both_named, given_options, named, no_options, options_read, replayed}
 use Rattle.cmd_words.proofs.Reading.{thread_stands, to_end}
 use Rattle.cmd_words.proofs.words.make_command.Goals as goal
 
@@ -17,7 +18,7 @@ returns-in_ok-name_at-in-Run-clause-command c =
     rw c.config.ensures
     (asked_for words c.args.given.now Run (NameSaid program ∷ []) (options_read c.args.given.now) (length c.args.words.now) size read
     (rw c.in-Run.is at c.requires.verb) (named words program c.in_ok-name_at-in-Run.ensures.ok)
-    (given_options words c.args.given.now (to_end words _ c.args.given.now (length c.args.words.now) size read)))
+    (given_options words (Name ∷ []) c.args.given.now (to_end words _ c.args.given.now (length c.args.words.now) size read)))
 
 pub returns-in_ok-name_at-in-Sim-2-clause-command : goal.returns-in_ok-name_at-in-Sim-2-clause-command
 returns-in_ok-name_at-in-Sim-2-clause-command c =
@@ -30,7 +31,7 @@ returns-in_ok-name_at-in-Sim-2-clause-command c =
     (asked_for words c.args.given.now Sim (NameSaid program ∷ NameSaid plan ∷ []) (options_read c.args.given.now) (length c.args.words.now)
     size read (rw c.in-Sim.is at c.requires.verb)
     (both_named words program plan c.in_ok-name_at-in-Sim.ensures.ok c.in_ok-name_at-in-Sim-2.ensures.ok)
-    (given_to_sim words c.args.given.now (to_end words _ c.args.given.now (length c.args.words.now) size read)))
+    (given_options words (Name ∷ Name ∷ []) c.args.given.now (to_end words _ c.args.given.now (length c.args.words.now) size read)))
 
 pub returns-in_ok-name_at-in-Dis-clause-command : goal.returns-in_ok-name_at-in-Dis-clause-command
 returns-in_ok-name_at-in-Dis-clause-command c =
