@@ -92,6 +92,19 @@ fetches_none fetched told unread old new status names e same = record {
   each = same;
 }
 
+-- nor was any where memory was wanting before that
+pub fetches_unread : {F : Type 0} (fetched : F → List ℕ → ℕ → F → Type 0) (told : Told) (unread : Type 0) (names : List Named) (old new : F)
+    → new ≡ old → FetchesReached fetched told unread names old new OutOfMemory
+fetches_unread fetched told unread names old new same = record {
+  front = [];
+  rest = reached_of told names;
+  part = refl;
+  all = λ other. absurd (other refl);
+  first = λ other. absurd (other refl);
+  done = λ is. cc;
+  each = same;
+}
+
 -- with another status, that is not Done
 pub fetches_as : {F : Type 0} (fetched : F → List ℕ → ℕ → F → Type 0) (told : Told) (unread : Type 0) (names : List Named) (old new : F)
     (status other : Status) → (status ≡ OutOfMemory → ⊥) → (other ≡ Done → ⊥)

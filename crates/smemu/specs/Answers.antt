@@ -40,7 +40,7 @@ pub record IsEndOf (program : Program) (config : Config) (k : ℕ) (end : Thread
 
 -- the text is the report of the run of a file with these options: the program that it is loaded as, the end
 -- of each guest thread, and the words that they share; the threads' journals are one history, which ends in
--- these words. The ends and the words are those after the serial events
+-- these words. On one core the ends and the words are those after the serial events
 pub record IsReportOf (file : List ℕ) (config : Config) (text : List ℕ) : Type 0 where
   pub program : Program
   pub loads : Loads file program
@@ -49,7 +49,7 @@ pub record IsReportOf (file : List ℕ) (config : Config) (text : List ℕ) : Ty
   pub each : (k : ℕ) (end : ThreadEnd) → slice_get ends k ≡ Some end → IsEndOf program config k end
   pub words : Words
   pub one_history : AreOneHistory (journals_of ends) words
-  pub serial : AreSerialEnds program config ends words
+  pub serial : config.cores ≡ 1 → AreSerialEnds program config ends words
   pub is_text : text ≡ report_text config (sha256 file) ends words
 
 -- the text is the report of the run of a file with these options

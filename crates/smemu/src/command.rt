@@ -8,9 +8,11 @@ ghost use Rattle.cmd_words.specs.declared.command.Command.TheVariants as command
 ghost use Rattle.edge_io.specs.Files.{IsKept};
 ghost use Rattle.edge_io.specs.Sink.{Writes};
 ghost use Rattle.elf_loader.specs.Loading.{Loads};
+ghost use Rattle.lone_runner.specs.LoneRun.{HaveRun};
 ghost use Rattle.smemu.specs.Answers.{IsReportOf, IsProgramOf};
 ghost use Rattle.smemu.specs.Ends.{change, call, IsDone, IsRefused, IsComplete, Fetches};
 ghost use Rattle.smemu.specs.Views.{run_text, end_text, end_status, CarriesOut, EndsWords};
+ghost use Rattle.world_core.specs.Serial.{IsSerialRun};
 
 use crate::answer::{Answer, RunReport, write_answer};
 use crate::files::{open_plan, open_program, open_report, open_source};
@@ -19,26 +21,51 @@ use crate::replay::replay_report;
 use crate::simulate::simulate;
 use cmd_words::{Command, WordsFault, read_words};
 use command_lines::Status;
-use edge_io::{Files, PutFault, Sink};
+use edge_io::{Files, Gate, PutFault, Sink};
 use elf_loader::write_elf;
+use kernel_contexts::Finished;
 use paged_memory::Image;
 use report_text::Head;
 use sha2::{Digest, Sha256};
 use sm_types::{Config, Memory, Object};
+use smp_runner::run_cores;
 use std::alloc::Global;
+use std::sync::Wait;
+use std::thread::Threads;
 use world_core::run_one;
 
-/// The run of the image of a file, on one core.
-fn run_image(
+/// Runs all threads of an image, on as many cores as the options say.
+fn run_threads<R: Threads + Wait + Sync, G: Gate + Sync>(
+    rt: &R,
+    alloc: Global,
+    image: &Image,
+    config: &Config,
+    gate: &G,
+) -> Result<Finished, Memory>
+    ensures run { IfOk result (λ run. HaveRun image.now config.now run.contexts.items run.words) }
+    ensures serial { IfOk result (λ run. config.now.cores ≡ 1
+        → IsSerialRun image.now config.now run.contexts.items run.words) }
+{
+    if config.cores == 1 {
+        run_one(alloc, image, config)
+    } else {
+        run_cores(rt, alloc, image, config, gate)
+    }
+}
+
+/// The run of the image of a file.
+fn run_image<R: Threads + Wait + Sync, G: Gate + Sync>(
+    rt: &R,
     alloc: Global,
     file: &[u8],
     config: &Config,
     image: &Image,
+    gate: &G,
 ) -> Result<RunReport, Memory>
     requires { Loads file.now image.now }
     ensures { IfOk result (λ report. IsReportOf file.now config.now (run_text report)) }
 {
-    let run = run_one(alloc, image, config)?;
+    let run = run_threads(rt, alloc, image, config, gate)?;
     Ok(RunReport {
         run,
         head: Head {
@@ -60,18 +87,27 @@ fn write_object(alloc: Global, source: &[u8], object: &Object) -> Result<Vec<u8>
     }
 }
 
-/// `run PROGRAM` with its options: the report of the run of that file, of all its threads on one core.
-fn run_program<F: Files>(
+/// `run PROGRAM` with its options: the report of the run of that file, of all its threads.
+fn run_program<R: Threads + Wait + Sync, F: Files, G: Gate + Sync>(
+    rt: &R,
     alloc: Global,
     program: String,
     config: &Config,
     files: &mut F,
+    gate: &G,
 ) -> Result<Answer, Refusal>
     ensures { CarriesOut F.fetched F.view (request_of (command.Run program config.now)) files.old files.new
         result }
 {
     let file = open_program(alloc, program, files)?;
-    match run_image(alloc, file.bytes.as_slice(), config, &file.content) {
+    match run_image(
+        rt,
+        alloc,
+        file.bytes.as_slice(),
+        config,
+        &file.content,
+        gate,
+    ) {
         Ok(report) => Ok(Answer::Report(report)),
         Err(Memory) => Err(Refusal::Memory),
     }
@@ -144,11 +180,17 @@ fn replay_thread<F: Files>(
 }
 
 /// Carries out a command.
-fn carry_out<F: Files>(alloc: Global, asked: Command, files: &mut F) -> Result<Answer, Refusal>
+fn carry_out<R: Threads + Wait + Sync, F: Files, G: Gate + Sync>(
+    rt: &R,
+    alloc: Global,
+    asked: Command,
+    files: &mut F,
+    gate: &G,
+) -> Result<Answer, Refusal>
     ensures { CarriesOut F.fetched F.view (request_of asked) files.old files.new result }
 {
     match asked {
-        Command::Run { program, config } => run_program(alloc, program, &config, files),
+        Command::Run { program, config } => run_program(rt, alloc, program, &config, files, gate),
         Command::Sim {
             program,
             plan,
@@ -167,13 +209,19 @@ fn carry_out<F: Files>(alloc: Global, asked: Command, files: &mut F) -> Result<A
 }
 
 /// All that comes before the writing.
-fn answer_words<F: Files>(alloc: Global, words: &[String], files: &mut F) -> Result<Answer, Refusal>
+fn answer_words<R: Threads + Wait + Sync, F: Files, G: Gate + Sync>(
+    rt: &R,
+    alloc: Global,
+    words: &[String],
+    files: &mut F,
+    gate: &G,
+) -> Result<Answer, Refusal>
     ensures ends { EndsWords (map string_bytes words.now) (change F.view files.old files.new) result }
     ensures kept { IsKept (F.view files.old) (F.view files.new) }
     ensures fetched { Fetches F.fetched F.view words.now files.old files.new (end_status result) }
 {
     match read_words(alloc, words) {
-        Ok(asked) => carry_out(alloc, asked, files),
+        Ok(asked) => carry_out(rt, alloc, asked, files, gate),
         Err(WordsFault::Usage { place, kind }) => Err(Refusal::Usage { place, kind }),
         Err(WordsFault::Memory) => Err(Refusal::Memory),
     }
@@ -200,17 +248,20 @@ fn status_of_end(end: &Result<Answer, Refusal>) -> Status
 }
 
 /// Carries out the command of the words, which are the command line without the program's name: `run
-/// PROGRAM` with its options runs the program file of that name and writes the report of its run, `sim
+/// PROGRAM` with its options runs the program file of that name and writes the report of its run, on several
+/// cores by as many threads of the system, each of which passes the gate before it lets a thread run; `sim
 /// PROGRAM PLAN` makes the events of the plan of that name and writes which were skipped, the report and the
 /// history, `dis PROGRAM` writes the program's listing, `asm SOURCE` assembles the source file of that name
 /// and writes the program file, `replay PROGRAM REPORT THREAD` runs a thread of the report of that name alone
 /// and writes its block, `--help` and `--version` write their texts, and other words are answered by the line
 /// of their first fault.
-pub fn smemu_main<F: Files, K: Sink>(
+pub fn smemu_main<R: Threads + Wait + Sync, F: Files, K: Sink, G: Gate + Sync>(
+    rt: &R,
     alloc: Global,
     words: &[String],
     files: &mut F,
     out: &mut K,
+    gate: &G,
 ) -> Status
     ensures done { IsDone (call F.view K.view words.now files.old files.new out.old out.new) result }
     ensures refused { IsRefused (call F.view K.view words.now files.old files.new out.old out.new) result }
@@ -218,7 +269,7 @@ pub fn smemu_main<F: Files, K: Sink>(
     ensures kept { IsKept (F.view files.old) (F.view files.new) }
     ensures fetched { Fetches F.fetched F.view words.now files.old files.new result }
 {
-    let end = answer_words(alloc, words, files);
+    let end = answer_words(rt, alloc, words, files, gate);
     match write_end(out, &end) {
         Ok(()) => status_of_end(&end),
         Err(_) => Status::WriteFault,

@@ -7,12 +7,15 @@ ghost use Rattle.smemu.specs.Ends.{call, IsDone, IsRefused, Fetches, LacksMemory
 
 use crate::command::smemu_main;
 use command_lines::Status;
-use edge_io::{MemFiles, MemSink};
+use edge_io::{MemFiles, MemSink, OpenGate};
 use std::alloc::Global;
+use std::sync::Wait;
+use std::thread::Threads;
 
 /// The command over files and a sink in memory. Where no call of either is listed to fail and there is room
 /// for the text, what is due is answered, or `OutOfMemory`.
-pub fn smemu_in_memory(
+pub fn smemu_in_memory<R: Threads + Wait + Sync>(
+    rt: &R,
     alloc: Global,
     words: &[String],
     files: &mut MemFiles,
@@ -29,5 +32,5 @@ pub fn smemu_in_memory(
         files.new out.old
         out.new) result }
 {
-    smemu_main(alloc, words, files, out)
+    smemu_main(rt, alloc, words, files, out, &OpenGate)
 }

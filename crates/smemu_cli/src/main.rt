@@ -2,7 +2,7 @@
 //! system, and ends with the command's status.
 #![tactic(auto)]
 
-use edge_io::{DiskFiles, StdSink};
+use edge_io::{DiskFiles, OpenGate, StdSink};
 use smemu::{Status, refuse_foreign_word, smemu_main};
 use std::alloc::Global;
 use std::env::FillError;
@@ -62,7 +62,17 @@ fn carry_out(rt: HostRuntime) -> io::Result<Status> {
     let alloc = rt.alloc();
     let mut out = StdSink::new(rt.stdout());
     match words_below(alloc, &rt, usize::MAX) {
-        Ok(words) => Ok(smemu_main(alloc, words.as_slice(), &mut DiskFiles::new(rt), &mut out)),
+        Ok(words) => {
+            let mut files = DiskFiles::new(rt);
+            Ok(smemu_main(
+                &rt,
+                alloc,
+                words.as_slice(),
+                &mut files,
+                &mut out,
+                &OpenGate,
+            ))
+        }
         Err(error) if error.kind() == ErrorKind::InvalidData => {
             let words = words_before(alloc, &rt)?;
             Ok(refuse_foreign_word(alloc, words.as_slice(), &mut out))

@@ -94,12 +94,12 @@ same_config a b e =
 
 -- ---- the texts
 
-one_report : (file : List ℕ) (config : Config) (text other : List ℕ) → IsReportOf file config text → IsReportOf file config other
-    → text ≡ other
-one_report file config text other h g =
+one_report : (file : List ℕ) (config : Config) (text other : List ℕ) → config.cores ≡ 1 → IsReportOf file config text
+    → IsReportOf file config other → text ≡ other
+one_report file config text other one h g =
     let program = one_program file h.program g.program h.loads g.loads in
-    let serial = subst (λ (p : Program). AreSerialEnds p config h.ends h.words) program h.serial in
-    let same = one_serial_run g.program config h.ends g.ends h.words g.words serial g.serial in
+    let serial = subst (λ (p : Program). AreSerialEnds p config h.ends h.words) program (h.serial one) in
+    let same = one_serial_run g.program config h.ends g.ends h.words g.words serial (g.serial one) in
     h.is_text ∙ ap (λ (es : List ThreadEnd). report_text config (sha256 file) es h.words) same.same_ends
     ∙ ap (report_text config (sha256 file) g.ends) same.same_words ∙ sym g.is_text
 
@@ -183,12 +183,12 @@ one_replay file report thread text other h g =
 
 -- ---- runs and listings
 
-pub one_run_report : (file : List ℕ) (options : Options) (text other : List ℕ) → IsReport file options text
+pub one_run_report : (file : List ℕ) (options : Options) (text other : List ℕ) → options.cores ≡ 1 → IsReport file options text
     → IsReport file options other → text ≡ other
-one_run_report file options text other h g =
+one_run_report file options text other one h g =
     let config = same_config h.config g.config (h.given ∙ sym g.given) in
     let of_config = subst (λ (c : Config). IsReportOf file c text) config h.report in
-    one_report file g.config text other of_config g.report
+    one_report file g.config text other (ap (λ (o : Options). o.cores) g.given ∙ one) of_config g.report
 
 pub one_simulation : (file plan : List ℕ) (options : Options) (text other : List ℕ) → IsSimulation file plan options text
     → IsSimulation file plan options other → text ≡ other

@@ -158,9 +158,9 @@ one_difference file report thread text other (inr h) (inr g) =
 pub one_outcome : (verb : Verb) (s t : Status) (operands : List Argument) (options : Options) (files : List (List ℕ))
     (text other : List ℕ) → IsToldBy (outcomes_of verb s) operands options files text
     → IsToldBy (outcomes_of verb t) operands options files other
-    → (s ≡ t) × AreOneText verb s text other
+    → (s ≡ t) × AreOneText verb options.cores s text other
 one_outcome Run Done Done operands options (file ∷ []) text other h g =
-    (refl, one_run_report file options text other h g)
+    (refl, λ one. one_run_report file options text other one h g)
 one_outcome Sim Done Done operands options (file ∷ plan ∷ []) text other h g =
     (refl, one_simulation file plan options text other h g)
 one_outcome Dis Done Done operands options (file ∷ []) text other h g = (refl, one_listing file text other h g)
@@ -211,15 +211,18 @@ missing_refused : (a b : Named) (r : Rejection) → ◌≡◌ {A = Fate} (Missin
 missing_refused a b r e = cc
 
 -- a status other than Done has one text, whatever the command
-absent_text : (verb : Verb) (text other : List ℕ) → text ≡ other → AreOneText verb Absent text other
-absent_text Asm text other e = e
-absent_text verb text other e = e
+absent_text : (verb : Verb) (cores : ℕ) (text other : List ℕ) → text ≡ other → AreOneText verb cores Absent text other
+absent_text Run cores text other e = e
+absent_text Asm cores text other e = e
+absent_text verb cores text other e = e
 
-rejected_text : (verb : Verb) (rejection : Rejection) (text other : List ℕ) → text ≡ other
-    → AreOneText verb (rejection_status rejection) text other
-rejected_text Asm (rejection.Program fault) text other e = e
-rejected_text Asm rejected text other e = e
-rejected_text verb rejected text other e = e
+rejected_text : (verb : Verb) (cores : ℕ) (rejection : Rejection) (text other : List ℕ) → text ≡ other
+    → AreOneText verb cores (rejection_status rejection) text other
+rejected_text Run cores (rejection.Program fault) text other e = e
+rejected_text Run cores rejected text other e = e
+rejected_text Asm cores (rejection.Program fault) text other e = e
+rejected_text Asm cores rejected text other e = e
+rejected_text verb cores rejected text other e = e
 
 -- with want of memory comes no text
 memory_not : (verb : Verb) (operands : List Argument) (options : Options) (files : List (List ℕ)) (text : List ℕ)
@@ -232,7 +235,7 @@ no_memory request change text h = memory_not request.verb request.operands reque
 
 pub one_answer : (files : List ℕ → Option (List ℕ)) (words : List (List ℕ)) (request : Request) (text other : List ℕ)
     → command_of words ≡ Some request → IsOutcome (Some files) request Done text → IsOutcome (Some files) request Done other
-    → AreOneText request.verb Done text other
+    → AreOneText request.verb request.options.cores Done text other
 one_answer files words request text other asked h g =
     let same =
     same_files h.files g.files (sym (accepted_fate files (files_named request) h.files h.accepted)
@@ -240,27 +243,27 @@ one_answer files words request text other asked h g =
     (one_outcome request.verb Done Done request.operands request.options g.files text other
     (subst (λ (fs : List (List ℕ)). outcome request fs Done text) same h.ends) g.ends).1
 
-refused_same : (verb : Verb) (s : Status) (rejection : Rejection) (text other : List ℕ) → s ≡ rejection_status rejection → text ≡ other
-    → AreOneText verb s text other
-refused_same verb s rejection text other e same =
-    subst (λ (q : Status). AreOneText verb q text other) (sym e) (rejected_text verb rejection text other same)
+refused_same : (verb : Verb) (cores : ℕ) (s : Status) (rejection : Rejection) (text other : List ℕ) → s ≡ rejection_status rejection
+    → text ≡ other → AreOneText verb cores s text other
+refused_same verb cores s rejection text other e same =
+    subst (λ (q : Status). AreOneText verb cores q text other) (sym e) (rejected_text verb cores rejection text other same)
 
 module _ (known : List ℕ → Option (List ℕ)) (request : Request) (s t : Status) (text other : List ℕ)
   where
-    one_decided : IsDecided known request s text → IsDecided known request t other → (s ≡ t) × AreOneText request.verb s text other
+    one_decided : IsDecided known request s text → IsDecided known request t other → (s ≡ t) × AreOneText request.verb request.options.cores s text other
     one_decided (inl h) (inl g) =
         one_outcome request.verb s t request.operands request.options g.files text other
         (subst (λ (fs : List (List ℕ)). outcome request fs s text) (same_files h.files g.files (sym h.fate ∙ g.fate)) h.ends) g.ends
     one_decided (inr (inl h)) (inr (inl g)) =
         let named = same_missing h.named g.named (sym h.fate ∙ g.fate) in (
           h.is_status ∙ sym g.is_status,
-          subst (λ (q : Status). AreOneText request.verb q text other) (sym h.is_status)
-              (absent_text request.verb text other (h.is_text ∙ ap missing_line named ∙ sym g.is_text)),
+          subst (λ (q : Status). AreOneText request.verb request.options.cores q text other) (sym h.is_status)
+              (absent_text request.verb request.options.cores text other (h.is_text ∙ ap missing_line named ∙ sym g.is_text)),
         )
     one_decided (inr (inr h)) (inr (inr g)) =
         let rejection = same_refused h.named g.named h.rejection g.rejection (sym h.fate ∙ g.fate) in (
           h.is_status ∙ ap rejection_status rejection ∙ sym g.is_status,
-          refused_same request.verb s h.rejection text other h.is_status
+          refused_same request.verb request.options.cores s h.rejection text other h.is_status
               (h.is_text ∙ ap rejection_line rejection ∙ sym g.is_text),
         )
     one_decided (inl h) (inr (inl g)) = absurd (accepted_missing h.files g.named (sym h.fate ∙ g.fate))
@@ -273,7 +276,7 @@ module _ (known : List ℕ → Option (List ℕ)) (request : Request) (s t : Sta
 pub one_ending : (files : List ℕ → Option (List ℕ)) (request : Request) (change again : Change FilesView) (s t : Status)
     (text other : List ℕ) → change.before.told ≡ Some files
     → again.before.told ≡ Some files → s ≢ ReadFault → t ≢ ReadFault
-    → Stands request change s text → Stands request again t other → (s ≡ t) × AreOneText request.verb s text other
+    → Stands request change s text → Stands request again t other → (s ≡ t) × AreOneText request.verb request.options.cores s text other
 one_ending files request change again s t text other tells told read readable h g =
     one_decided files request s t text other (decided files request change tells s text read h)
     (decided files request again told t other readable g)

@@ -12,24 +12,26 @@ ghost use Rattle.smemu_laws.specs.Names.{names_of, names_said};
 ghost use Rattle.smemu_laws.specs.OneAnswer.{AreOneText};
 
 /// Over files that are told, what words ask for has at most one answer: two texts that answer it are equal,
-/// and two files of an assembled program are loaded as one program. So the report of a run is a function of
-/// the program's file and the options, however many threads it has.
+/// and two files of an assembled program are loaded as one program. So the report of a run on one core is a
+/// function of the program's file and the options, however many threads it has. Of runs on several cores
+/// nothing is said here.
 pub fn one_answer()
     ensures { (files : List ℕ → Option (List ℕ)) (words : List (List ℕ)) (request : Request)
         (text other : List ℕ) → command_of words ≡ Some request
         → IsOutcome (Some files) request Status.Done text → IsOutcome (Some files) request Status.Done other
-        → AreOneText request.verb Status.Done text other }
+        → AreOneText request.verb request.options.cores Status.Done text other }
 {}
 
 /// Over files that are told, every request has one ending in any two calls, but where a file could not be
-/// read: one status, and with it one text, or two files that are loaded as one program.
+/// read: one status, and with it one text, or two files that are loaded as one program, or two reports of a
+/// run on several cores.
 pub fn one_ending()
     ensures { (files : List ℕ → Option (List ℕ)) (request : Request) (change again : Change FilesView)
         (s t : Status) (text other : List ℕ)
         → change.before.told ≡ Some files → again.before.told ≡ Some files
         → s ≢ Status.ReadFault → t ≢ Status.ReadFault
         → Stands request change s text → Stands request again t other
-        → (s ≡ t) × AreOneText request.verb s text other }
+        → (s ≡ t) × AreOneText request.verb request.options.cores s text other }
 {}
 
 /// No command has written a part of its answer where memory is wanting.

@@ -4,10 +4,12 @@
 //! written, with `|` for each line feed, or `block` for the block of the thread in the report as it is then.
 
 use anyhow::{Context, Result};
-use edge_io::{MemFiles, MemSink};
+use edge_io::{MemFiles, MemSink, OpenGate};
 use smemu::smemu_main;
 use std::alloc::Global;
 use std::rt::Files;
+use std::sync::Wait;
+use std::thread::Threads;
 use std::{fs, str};
 
 /// What the cases of a group have in common.
@@ -94,7 +96,13 @@ fn words_of(alloc: Global, thread: &str) -> Option<Vec<String>> {
 }
 
 /// Tells whether the case of these parts of a line agrees; none where there is no such case, or no memory.
-fn agrees(alloc: Global, group: &Option<Group>, change: &str, text: &str) -> Option<bool> {
+fn agrees<R: AllocGlobal + Threads + Wait + Sync>(
+    rt: &R,
+    group: &Option<Group>,
+    change: &str,
+    text: &str,
+) -> Option<bool> {
+    let alloc = rt.alloc();
     let group = group.as_ref()?;
     let case = case_of(change, text)?;
     let report = altered(alloc, group.report.as_slice(), case)?;
@@ -104,12 +112,15 @@ fn agrees(alloc: Global, group: &Option<Group>, change: &str, text: &str) -> Opt
     files.add("report", report.as_slice()).ok()?;
     let words = words_of(alloc, group.thread.as_str())?;
     let mut out = MemSink::new(alloc, text.len()).ok()?;
-    let status = smemu_main(alloc, words.as_slice(), &mut files, &mut out);
+    let status = smemu_main(rt, alloc, words.as_slice(), &mut files, &mut out, &OpenGate);
     Some(status.code() == case.status && out.bytes() == text.as_bytes())
 }
 
 /// Compares the cases of the list, shows those that differ, and counts those that agree.
-pub fn compare_altered<R: Files + Print + AllocGlobal>(rt: &R, list: &str) -> Result<()> {
+pub fn compare_altered<R: Files + Print + AllocGlobal + Threads + Wait + Sync>(
+    rt: &R,
+    list: &str,
+) -> Result<()> {
     let mut group: Option<Group> = None;
     let mut cases = 0u32;
     let mut agreeing = 0u32;
@@ -119,7 +130,7 @@ pub fn compare_altered<R: Files + Print + AllocGlobal>(rt: &R, list: &str) -> Re
             continue;
         };
         cases = cases.saturating_add(1);
-        if agrees(rt.alloc(), &group, change, text) == Some(true) {
+        if agrees(rt, &group, change, text) == Some(true) {
             agreeing = agreeing.saturating_add(1);
         } else {
             println!(rt; "altered.txt: {line} DIFFERS")?;

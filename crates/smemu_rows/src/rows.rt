@@ -4,10 +4,12 @@
 //! names of files in `.elf`.
 
 use anyhow::{Context, Result};
-use edge_io::{MemFiles, MemSink};
+use edge_io::{MemFiles, MemSink, OpenGate};
 use smemu::smemu_main;
 use std::fs;
 use std::rt::Files;
+use std::sync::Wait;
+use std::thread::Threads;
 
 /// Adds a file to those in memory, under a name.
 fn add<R: Files + AllocGlobal>(rt: &R, files: &mut MemFiles, name: &str, path: &str) -> Result<()> {
@@ -44,19 +46,28 @@ fn asked<R: Files + AllocGlobal>(
 }
 
 /// Tells whether a row agrees.
-fn agrees<R: Files + AllocGlobal>(rt: &R, name: &str, wanted: u8, words: &str) -> Result<bool> {
+fn agrees<R: Files + AllocGlobal + Threads + Wait + Sync>(
+    rt: &R,
+    name: &str,
+    wanted: u8,
+    words: &str,
+) -> Result<bool> {
     let (command, rest) = words.split_once(' ').unwrap_or((words, ""));
     let (mut names, mut files) = asked(rt, name, rest)?;
     names.insert(0, String::from_str(rt.alloc(), command)?)?;
     let text_name = format!(in rt.alloc(); "{name}.txt")?;
     let text = fs::read(rt, text_name.as_str()).context("the text that is to be written")?;
     let mut out = MemSink::new(rt.alloc(), text.len()).map_err(|_| anyhow::anyhow!("memory"))?;
-    let status = smemu_main(rt.alloc(), names.as_slice(), &mut files, &mut out);
+    let alloc = rt.alloc();
+    let status = smemu_main(rt, alloc, names.as_slice(), &mut files, &mut out, &OpenGate);
     Ok(status.code() == wanted && out.bytes() == text.as_slice())
 }
 
 /// Tells of each row of the list whether it agrees.
-pub fn compare_rows<R: Files + Print + AllocGlobal>(rt: &R, rows: &str) -> Result<()> {
+pub fn compare_rows<R: Files + Print + AllocGlobal + Threads + Wait + Sync>(
+    rt: &R,
+    rows: &str,
+) -> Result<()> {
     for row in rows.lines() {
         let Some((name, rest)) = row.split_once(' ') else {
             println!(rt; "{row}: no status")?;

@@ -9,7 +9,7 @@ mod programs;
 
 #[cfg(test)]
 mod tests {
-    use edge_io::{MemFiles, MemSink};
+    use edge_io::{MemFiles, MemSink, OpenGate};
     use smemu::{Status, refuse_foreign_word, smemu_main};
     use std::alloc::Global;
     use std::test::Fail;
@@ -57,7 +57,11 @@ mod tests {
 3: outofrange|run|p|--threads|0
 3: outofrange|run|p|--threads|33
 4: repeated|run|p|--threads|1|--threads|1
-2: unknown|run|p|--cores|2
+3: outofrange|run|p|--cores|0
+3: outofrange|run|p|--cores|65
+3: badnumber|run|p|--cores|01
+4: repeated|run|p|--cores|2|--cores|2
+2: unknown|dis|p|--cores|2
 1: missing|sim
 2: missing|sim|p
 3: unknown|sim|p|q|r
@@ -102,13 +106,13 @@ mod tests {
     }
 
     pub fn status_of(
-        alloc: Global,
+        rt: &HostRuntime,
         texts: &[&str],
         files: &mut MemFiles,
         out: &mut MemSink,
     ) -> Result<Status, Fail> {
-        let words = words(alloc, texts)?;
-        Ok(smemu_main(alloc, words.as_slice(), files, out))
+        let words = words(rt.alloc(), texts)?;
+        Ok(smemu_main(rt, rt.alloc(), words.as_slice(), files, out, &OpenGate))
     }
 
     #[test]
@@ -122,7 +126,14 @@ mod tests {
             }
             let mut files = answer_file(rt.alloc())?;
             let mut out = MemSink::new(rt.alloc(), 100)?;
-            let status = smemu_main(rt.alloc(), words.as_slice(), &mut files, &mut out);
+            let status = smemu_main(
+                &rt,
+                rt.alloc(),
+                words.as_slice(),
+                &mut files,
+                &mut out,
+                &OpenGate,
+            );
             assert!(rt; status.code() == 2, "{line}");
             let text = format!(in rt.alloc(); "usage: word {wanted}\n")?;
             assert!(rt; out.bytes() == text.as_bytes(), "{line}");
@@ -150,10 +161,10 @@ mod tests {
     }
 
     /// The status of the words, and what they write.
-    fn written(alloc: Global, texts: &[&str]) -> Result<(Status, MemSink), Fail> {
-        let mut files = answer_file(alloc)?;
-        let mut out = MemSink::new(alloc, 4000)?;
-        let status = status_of(alloc, texts, &mut files, &mut out)?;
+    fn written(rt: &HostRuntime, texts: &[&str]) -> Result<(Status, MemSink), Fail> {
+        let mut files = answer_file(rt.alloc())?;
+        let mut out = MemSink::new(rt.alloc(), 4000)?;
+        let status = status_of(rt, texts, &mut files, &mut out)?;
         Ok((status, out))
     }
 
@@ -199,7 +210,7 @@ mod tests {
             ),
         ];
         for (texts, options, stop) in cases {
-            let (status, out) = written(rt.alloc(), texts)?;
+            let (status, out) = written(&rt, texts)?;
             assert_eq!(rt; status, Status::Done);
             let report = std::str::from_utf8(out.bytes()).map_err(|_| "not text")?;
             assert!(rt; report.starts_with("smemu-report 1\n"), "{report}");
@@ -215,7 +226,7 @@ mod tests {
         let mut files = MemFiles::new(rt.alloc());
         files.add("long", bytes.as_slice())?;
         let mut out = MemSink::new(rt.alloc(), 100)?;
-        let status = status_of(rt.alloc(), &["run", "long"], &mut files, &mut out)?;
+        let status = status_of(&rt, &["run", "long"], &mut files, &mut out)?;
         assert_eq!(rt; status, Status::BadFile);
         assert!(rt; out.bytes() == b"bad file: toolong\n".as_slice());
         Ok(())
@@ -227,7 +238,7 @@ mod tests {
         let mut files = MemFiles::new(rt.alloc());
         files.add("long", bytes.as_slice())?;
         let mut out = MemSink::new(rt.alloc(), 100)?;
-        let status = status_of(rt.alloc(), &["asm", "long"], &mut files, &mut out)?;
+        let status = status_of(&rt, &["asm", "long"], &mut files, &mut out)?;
         assert_eq!(rt; status.code(), 7);
         assert!(rt; out.bytes() == b"bad source: line 0: toolong\n".as_slice());
         Ok(())
@@ -240,7 +251,7 @@ mod tests {
         files.add("long", bytes.as_slice())?;
         let mut out = MemSink::new(rt.alloc(), 100)?;
         let words = ["sim", "run", "long"];
-        let status = status_of(rt.alloc(), &words, &mut files, &mut out)?;
+        let status = status_of(&rt, &words, &mut files, &mut out)?;
         assert_eq!(rt; status, Status::BadPlan);
         assert!(rt; out.bytes() == b"bad plan: line 0: toolong\n".as_slice());
         Ok(())
@@ -248,10 +259,10 @@ mod tests {
 
     #[test]
     fn help_and_version(rt: HostRuntime) -> Result<(), Fail> {
-        let (status, version) = written(rt.alloc(), &["--version"])?;
+        let (status, version) = written(&rt, &["--version"])?;
         assert_eq!(rt; status.code(), 0);
         assert!(rt; version.bytes() == b"smemu 0.1.0\n".as_slice());
-        let (status, out) = written(rt.alloc(), &["--help"])?;
+        let (status, out) = written(&rt, &["--help"])?;
         assert_eq!(rt; status.code(), 0);
         let help = std::str::from_utf8(out.bytes()).map_err(|_| "not text")?;
         for part in [
@@ -295,7 +306,7 @@ mod tests {
         for (name, status, line) in wanted {
             let mut out = MemSink::new(rt.alloc(), 1000)?;
             assert_eq!(rt;
-                status_of(rt.alloc(), &["run", name], &mut files, &mut out)?.code(),
+                status_of(&rt, &["run", name], &mut files, &mut out)?.code(),
                 status
             );
             assert!(rt; out.bytes() == line.as_bytes());
@@ -318,7 +329,7 @@ mod tests {
             let mut out = MemSink::new(rt.alloc(), 1000)?;
             let texts = ["replay", program, report, "0"];
             assert_eq!(rt;
-                status_of(rt.alloc(), &texts, &mut files, &mut out)?.code(),
+                status_of(&rt, &texts, &mut files, &mut out)?.code(),
                 status
             );
             assert!(rt; out.bytes() == line.as_bytes());
@@ -336,10 +347,7 @@ mod tests {
         for (texts, front) in cases {
             let mut files = answer_file(rt.alloc())?;
             let mut out = MemSink::new(rt.alloc(), 6)?;
-            assert_eq!(rt;
-                status_of(rt.alloc(), texts, &mut files, &mut out)?.code(),
-                5
-            );
+            assert_eq!(rt; status_of(&rt, texts, &mut files, &mut out)?.code(), 5);
             assert!(rt; front.as_bytes().starts_with(out.bytes()));
         }
         Ok(())
@@ -357,7 +365,7 @@ mod tests {
             let mut out = MemSink::new(rt.alloc(), room)?;
             out.fail(call, after)?;
             assert_eq!(rt;
-                status_of(rt.alloc(), &["run", "answer"], &mut files, &mut out)?.code(),
+                status_of(&rt, &["run", "answer"], &mut files, &mut out)?.code(),
                 5
             );
             let report =

@@ -3,15 +3,14 @@
 use crate::tests::status_of;
 use edge_io::{MemFiles, MemSink};
 use smemu::Status;
-use std::alloc::Global;
 use std::test::Fail;
 
 /// Assembles the source into the file `--vl`.
-fn assembled(alloc: Global, source: &str) -> Result<MemFiles, Fail> {
-    let mut files = MemFiles::new(alloc);
+fn assembled(rt: &HostRuntime, source: &str) -> Result<MemFiles, Fail> {
+    let mut files = MemFiles::new(rt.alloc());
     files.add("dis", source.as_bytes())?;
-    let mut program = MemSink::new(alloc, 20_000)?;
-    if status_of(alloc, &["asm", "dis"], &mut files, &mut program)? != Status::Done {
+    let mut program = MemSink::new(rt.alloc(), 20_000)?;
+    if status_of(rt, &["asm", "dis"], &mut files, &mut program)? != Status::Done {
         return Err("a source that is refused".into());
     }
     files.add("--vl", program.bytes())?;
@@ -20,13 +19,13 @@ fn assembled(alloc: Global, source: &str) -> Result<MemFiles, Fail> {
 
 /// What the command of the words writes, of at most so many bytes.
 fn written_within(
-    alloc: Global,
+    rt: &HostRuntime,
     room: usize,
     words: &[&str],
     files: &mut MemFiles,
 ) -> Result<MemSink, Fail> {
-    let mut out = MemSink::new(alloc, room)?;
-    if status_of(alloc, words, files, &mut out)? != Status::Done {
+    let mut out = MemSink::new(rt.alloc(), room)?;
+    if status_of(rt, words, files, &mut out)? != Status::Done {
         return Err("a program that is refused".into());
     }
     Ok(out)
@@ -47,9 +46,9 @@ fn a_journal_that_is_full_and_is_replayed(rt: HostRuntime) -> Result<(), Fail> {
         ),
     ];
     for (source, slice, counts, event) in cases {
-        let mut files = assembled(rt.alloc(), source)?;
+        let mut files = assembled(&rt, source)?;
         let words = ["run", "--vl", "--slice", slice];
-        let out = written_within(rt.alloc(), 20_000_000, &words, &mut files)?;
+        let out = written_within(&rt, 20_000_000, &words, &mut files)?;
         let report = std::str::from_utf8(out.bytes()).map_err(|_| "not text")?;
         let stop = format!(in rt.alloc(); "\nstop tracefull\n{counts}")?;
         let journal = format!(in rt.alloc(); "\njournal 262144\n{event}")?;
@@ -57,7 +56,7 @@ fn a_journal_that_is_full_and_is_replayed(rt: HostRuntime) -> Result<(), Fail> {
         assert!(rt; report.contains(journal.as_str()), "{source}");
         files.add("report", out.bytes())?;
         let words = ["replay", "--vl", "report", "0"];
-        let block = written_within(rt.alloc(), 20_000_000, &words, &mut files)?;
+        let block = written_within(&rt, 20_000_000, &words, &mut files)?;
         let block = std::str::from_utf8(block.bytes()).map_err(|_| "not text")?;
         assert!(rt; report.contains(block), "{source}");
         assert!(rt; block.ends_with("\nend-thread\n"), "{source}");

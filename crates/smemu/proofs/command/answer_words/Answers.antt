@@ -7,7 +7,7 @@ use Rattle.command_lines.specs.declared.status.Status.TheVariants.{Usage}
 use Rattle.smemu.specs.Ends.{change}
 use Rattle.smemu.specs.Requests.{files_asked}
 use Rattle.smemu.specs.Views.{end_status}
-use Rattle.smemu.proofs.Ends.{asked_ends, fetches_asked, fetches_none, no_request, usage_stands}
+use Rattle.smemu.proofs.Ends.{asked_ends, fetches_asked, fetches_none, fetches_unread, no_request, usage_stands}
 use Rattle.smemu.proofs.command.answer_words.Goals as goal
 
 pub returns-in-Ok-clause-ends : goal.returns-in-Ok-clause-ends
@@ -38,3 +38,9 @@ returns-in-Err-Usage-clause-fetched g c =
     (Rose (g.F.Files.view c.args.files.now).faults (g.F.Files.view c.args.files.now).faults) c.args.files.now c.args.files.now Usage
     (files_asked (command_of (map string_bytes c.args.words.now)))
     (ap files_asked (no_request (map string_bytes c.args.words.now) _ is_fault)) refl
+
+pub returns-in-Err-Memory-clause-fetched : goal.returns-in-Err-Memory-clause-fetched
+returns-in-Err-Memory-clause-fetched g c =
+    fetches_unread g.F.Files.fetched (g.F.Files.view c.args.files.now).told
+    (Rose (g.F.Files.view c.args.files.now).faults (g.F.Files.view c.args.files.now).faults)
+    (files_asked (command_of (map string_bytes c.args.words.now))) c.args.files.now c.args.files.now refl

@@ -9,7 +9,7 @@ use Rattle.smemu.proofs.command.run_image.Goals as goal
 
 pub returns : goal.returns
 unfolding run_text
-returns c =
+returns g c =
     let run = c.in_ok-run.run' in
     let have = c.in_ok-run.ensures.run in
     record {
@@ -20,6 +20,6 @@ returns c =
       each = each_end c.args.image.now c.args.config.now run.contexts.items run.words have;
       words = run.words;
       one_history = same_journals run.contexts.items run.words have.one_history;
-      serial = serial_ends c.args.image.now c.args.config.now run.contexts.items run.words c.in_ok-run.ensures.serial;
+      serial = λ one. serial_ends c.args.image.now c.args.config.now run.contexts.items run.words (c.in_ok-run.ensures.serial one);
       is_text = ap (λ digest. report_text c.args.config.now digest (ends_of run.contexts.items) run.words) c.digest.ensures;
     }
