@@ -34,6 +34,13 @@ OTHER_RUNS = {
     "threads-handle-signals": [{"threads": 2, "svl": 128, "vl": 2048, "slice": 5}],
 }
 
+# threads that ask nothing whose answer another one can change, with options: their report is the same on any number of cores
+APART = {
+    "threads-handle-signals": [{"threads": 3, "slice": 12, "cores": 3}, {"threads": 9, "slice": 5, "svl": 2048, "cores": 4},
+                               {"threads": 32, "slice": 50, "svl": 128, "vl": 512, "cores": 2}],
+    "answer": [{"cores": 64}, {"threads": 32, "cores": 5}, {"threads": 2, "budget": 2, "cores": 2}],
+}
+
 
 def runs():
     """The name of each program file, the file, the options and the report."""
@@ -42,6 +49,10 @@ def runs():
     for name, (file, options) in PROGRAMS.items():
         yield name, file, options, run(file, **options)
         for others in OTHER_RUNS.get(name, ()):
+            yield f"{name}-{'-'.join(f'{key}-{value}' for key, value in others.items())}", file, others, run(file, **others)
+    for name, options in APART.items():
+        file = {"answer": ANSWER, **{program: of for program, (of, _) in PROGRAMS.items()}}[name]
+        for others in options:
             yield f"{name}-{'-'.join(f'{key}-{value}' for key, value in others.items())}", file, others, run(file, **others)
 
 

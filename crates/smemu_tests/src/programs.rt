@@ -63,3 +63,45 @@ fn a_journal_that_is_full_and_is_replayed(rt: HostRuntime) -> Result<(), Fail> {
     }
     Ok(())
 }
+
+/// Threads that each add 1 to the first shared word 1,000 times: the word has all of them at the end, and each
+/// thread of the report is replayed, on any number of cores.
+#[test]
+fn threads_that_add_on_cores_are_replayed(rt: HostRuntime) -> Result<(), Fail> {
+    let source = "_start: movz x0, #32512, lsl #32\n movz x1, #1\n movz x3, #1000\n\
+                  again: ldadd x1, x2, [x0]\n subs x3, x3, #1\n b.ne again\n movz x8, #93\n svc #0\n";
+    let cases = [
+        ("1", "2", "00000000000007d0"),
+        ("2", "2", "00000000000007d0"),
+        ("3", "2", "00000000000007d0"),
+        ("4", "4", "0000000000000fa0"),
+        ("64", "2", "00000000000007d0"),
+        ("2", "8", "0000000000001f40"),
+    ];
+    for (cores, threads, sum) in cases {
+        let mut files = assembled(&rt, source)?;
+        let words = [
+            "run",
+            "--vl",
+            "--cores",
+            cores,
+            "--threads",
+            threads,
+            "--slice",
+            "100",
+        ];
+        let out = written_within(&rt, 2_000_000, &words, &mut files)?;
+        let report = std::str::from_utf8(out.bytes()).map_err(|_| "not text")?;
+        let word = format!(in rt.alloc(); "\nshared\nw 0 {sum}\nend\n")?;
+        assert!(rt; report.ends_with(word.as_str()), "{cores} {threads}");
+        files.add("report", out.bytes())?;
+        for thread in 0..threads.parse::<u32>().map_err(|_| "no number")? {
+            let number = format!(in rt.alloc(); "{thread}")?;
+            let words = ["replay", "--vl", "report", number.as_str()];
+            let block = written_within(&rt, 2_000_000, &words, &mut files)?;
+            let block = std::str::from_utf8(block.bytes()).map_err(|_| "not text")?;
+            assert!(rt; report.contains(block), "{cores} {threads} {thread}");
+        }
+    }
+    Ok(())
+}
