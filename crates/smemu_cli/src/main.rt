@@ -9,6 +9,8 @@ use std::env::FillError;
 use std::io::ErrorKind;
 use std::process::ExitCode;
 use std::rt::Env;
+use std::sync::Wait;
+use std::thread::Threads;
 use std::{env, io};
 
 /// The arguments below a place, where the program's own name has no letters.
@@ -57,15 +59,15 @@ fn words_before<R: Env>(alloc: Global, system: &R) -> io::Result<Vec<String>> {
     Ok(words)
 }
 
-/// Carries out the command of the words.
-fn carry_out(rt: HostRuntime) -> io::Result<Status> {
+/// Carries out the command of the words. Several cores are threads of the system.
+fn carry_out<T: Threads + Wait + Sync>(threads: &T, rt: HostRuntime) -> io::Result<Status> {
     let alloc = rt.alloc();
     let mut out = StdSink::new(rt.stdout());
     match words_below(alloc, &rt, usize::MAX) {
         Ok(words) => {
             let mut files = DiskFiles::new(rt);
             Ok(smemu_main(
-                &rt,
+                threads,
                 alloc,
                 words.as_slice(),
                 &mut files,
@@ -82,7 +84,7 @@ fn carry_out(rt: HostRuntime) -> io::Result<Status> {
 }
 
 fn main(rt: HostRuntime) -> io::Result<ExitCode> {
-    let status = match carry_out(rt) {
+    let status = match carry_out(&rt, rt) {
         Ok(status) => status,
         Err(error) if error.kind() == ErrorKind::OutOfMemory => Status::OutOfMemory,
         Err(error) => return Err(error),

@@ -29,10 +29,17 @@ use crate::rows::compare_rows;
 use crate::steps::{check_differing, check_steps};
 use crate::words::{check_no_row, check_texts, check_words};
 use anyhow::{Context, Result, anyhow};
+use std::rt::Files;
+use std::sync::Wait;
+use std::thread::Threads;
 use std::{env, fs};
 
 /// Compares the lines of a file, which are of that sort.
-fn compare(rt: &HostRuntime, sort: &str, name: &str) -> Result<()> {
+fn compare<R: Files + Print + AllocGlobal + Threads + Wait + Sync>(
+    rt: &R,
+    sort: &str,
+    name: &str,
+) -> Result<()> {
     let file = fs::read_to_string(rt, name).context("a file of lines")?;
     let text = file.as_str();
     match sort {

@@ -12,7 +12,9 @@ mod tests {
     use edge_io::{MemFiles, MemSink, OpenGate};
     use smemu::{Status, refuse_foreign_word, smemu_main};
     use std::alloc::Global;
+    use std::sync::Wait;
     use std::test::Fail;
+    use std::thread::Threads;
 
     /// `movz x0, #42`, `movz x8, #93`, `svc #0` in a load at 0x400000 that begins at byte 120 of the file.
     const ANSWER: [u8; 132] = [
@@ -105,8 +107,8 @@ mod tests {
         Ok(files)
     }
 
-    pub fn status_of(
-        rt: &HostRuntime,
+    pub fn status_of<R: AllocGlobal + Threads + Wait + Sync>(
+        rt: &R,
         texts: &[&str],
         files: &mut MemFiles,
         out: &mut MemSink,
@@ -161,7 +163,10 @@ mod tests {
     }
 
     /// The status of the words, and what they write.
-    fn written(rt: &HostRuntime, texts: &[&str]) -> Result<(Status, MemSink), Fail> {
+    fn written<R: AllocGlobal + Threads + Wait + Sync>(
+        rt: &R,
+        texts: &[&str],
+    ) -> Result<(Status, MemSink), Fail> {
         let mut files = answer_file(rt.alloc())?;
         let mut out = MemSink::new(rt.alloc(), 4000)?;
         let status = status_of(rt, texts, &mut files, &mut out)?;

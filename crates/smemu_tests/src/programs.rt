@@ -3,10 +3,15 @@
 use crate::tests::status_of;
 use edge_io::{MemFiles, MemSink};
 use smemu::Status;
+use std::sync::Wait;
 use std::test::Fail;
+use std::thread::Threads;
 
 /// Assembles the source into the file `--vl`.
-fn assembled(rt: &HostRuntime, source: &str) -> Result<MemFiles, Fail> {
+fn assembled<R: AllocGlobal + Threads + Wait + Sync>(
+    rt: &R,
+    source: &str,
+) -> Result<MemFiles, Fail> {
     let mut files = MemFiles::new(rt.alloc());
     files.add("dis", source.as_bytes())?;
     let mut program = MemSink::new(rt.alloc(), 20_000)?;
@@ -18,8 +23,8 @@ fn assembled(rt: &HostRuntime, source: &str) -> Result<MemFiles, Fail> {
 }
 
 /// What the command of the words writes, of at most so many bytes.
-fn written_within(
-    rt: &HostRuntime,
+fn written_within<R: AllocGlobal + Threads + Wait + Sync>(
+    rt: &R,
     room: usize,
     words: &[&str],
     files: &mut MemFiles,
