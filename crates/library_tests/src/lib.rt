@@ -1,9 +1,12 @@
 //! Tests of the libraries by their public calls, of what no line of data reaches: banks, memory, vectors, the
-//! runs of one thread, the lines of stops, the shared words, and the object of a source.
+//! runs of one thread, the lines of stops, the shared words, host threads that reach them at once, and the
+//! object of a source.
 #![tactic(auto)]
 
 #[cfg(test)]
 mod banks;
+#[cfg(test)]
+mod host_threads;
 #[cfg(test)]
 mod lone_runs;
 #[cfg(test)]
