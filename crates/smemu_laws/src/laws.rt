@@ -1,4 +1,5 @@
-//! The laws of answers: nothing in them is left to choose, and each text begins as the text of help says.
+//! The laws of answers: but in a run on several cores nothing in them is left to choose, and each text begins
+//! as the text of help says.
 ghost use Rattle.std.specs.Prelude.{◌≡◌, ◌≢◌, ◌≤◌, ℕ, List, Option, Some, length};
 ghost use Rattle.cmd_words.specs.Words.{Request, command_of};
 ghost use Rattle.cmd_words.specs.declared.verb.Verb.TheVariants as verbs;
@@ -11,10 +12,10 @@ ghost use Rattle.smemu.specs.Requests.{files_named};
 ghost use Rattle.smemu_laws.specs.Names.{names_of, names_said};
 ghost use Rattle.smemu_laws.specs.OneAnswer.{AreOneText};
 
-/// Over files that are told, what words ask for has at most one answer: two texts that answer it are equal,
-/// and two files of an assembled program are loaded as one program. So the report of a run on one core is a
-/// function of the program's file and the options, however many threads it has. Of runs on several cores
-/// nothing is said here.
+/// Over files that are told, what words ask for has at most one answer, but for a run on several cores: two
+/// texts that answer it are equal, and two files of an assembled program are loaded as one program. So the
+/// report of a run on one core is a function of the program's file and the options, however many threads it
+/// has. Of runs on several cores nothing is said here.
 pub fn one_answer()
     ensures { (files : List ℕ → Option (List ℕ)) (words : List (List ℕ)) (request : Request)
         (text other : List ℕ) → command_of words ≡ Some request
