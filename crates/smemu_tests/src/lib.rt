@@ -63,7 +63,7 @@ mod tests {
 3: outofrange|run|p|--cores|65
 3: badnumber|run|p|--cores|01
 4: repeated|run|p|--cores|2|--cores|2
-2: unknown|dis|p|--cores|2
+2: extra|dis|p|--cores|2
 1: missing|sim
 2: missing|sim|p
 3: unknown|sim|p|q|r

@@ -69,8 +69,8 @@ fn a_journal_that_is_full_and_is_replayed(rt: HostRuntime) -> Result<(), Fail> {
     Ok(())
 }
 
-/// Threads that each add 1 to the first shared word 1,000 times: the word has all of them at the end, and each
-/// thread of the report is replayed, on any number of cores.
+/// Threads that each add 1 to the first shared word 1,000 times: the word has all of them at the end, and
+/// each thread of the report is replayed, on any number of cores.
 #[test]
 fn threads_that_add_on_cores_are_replayed(rt: HostRuntime) -> Result<(), Fail> {
     let source = "_start: movz x0, #32512, lsl #32\n movz x1, #1\n movz x3, #1000\n\
@@ -79,6 +79,7 @@ fn threads_that_add_on_cores_are_replayed(rt: HostRuntime) -> Result<(), Fail> {
         ("1", "2", "00000000000007d0"),
         ("2", "2", "00000000000007d0"),
         ("3", "2", "00000000000007d0"),
+        ("4", "2", "00000000000007d0"),
         ("4", "4", "0000000000000fa0"),
         ("64", "2", "00000000000007d0"),
         ("2", "8", "0000000000001f40"),
