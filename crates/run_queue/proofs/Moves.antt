@@ -4,7 +4,6 @@ use Rattle.std.proofs.Common.{length, set, refl, sym, ap, ◌∙◌, subst, inl,
 use Rattle.std.specs.Prelude.{Option, Some, None, MatchOption, IfNone, slice_get, slice_set}
 use Rattle.std.proofs.lemmas.List.{map_push, length-map}
 use mathlib.Core.Bool.{false≢true}
-use mathlib.Core.List.{map-map}
 use Rattle.std.proofs.lemmas.List.Elements.{All-nil, All-head, All-tail, All-push}
 use Rattle.std.proofs.lemmas.Option.{none-some, slice_get_within}
 use mathlib.Core.Option.{some, some-injective, some-ne-none}
@@ -24,7 +23,7 @@ use Rattle.run_queue.specs.Counts.{total, occurrences, once_below, without}
 use Rattle.run_queue.specs.Passes.{known_threads, pass_with, is_first_pass, is_numbered, is_in_use, given_in, with_back}
 use Rattle.run_queue.specs.Passes.{unopened, spent, opened, after_split, split_off, after_join, after_offer, after_fetch}
 use Rattle.run_queue.specs.Passes.{HasFetched, HoldsRest}
-use Rattle.run_queue.specs.Rule.{threads_in, AreOf, Fits, IsEachOnce}
+use Rattle.run_queue.specs.Rule.{threads_in, AreOf, Fits, IsEachOnce, StoodWith, WasEmpty}
 use Rattle.run_queue.proofs.Sums.{mark, mark_same, once_in, once_out, occurrences-append, occurrences-without, range-once}
 use Rattle.run_queue.proofs.Sums.{total-set, total-push, le-total, total-one, pigeons}
 
@@ -408,9 +407,8 @@ module _ {X : Type 0} (seen : X → Ticketed) where
   takes id v used x items views h at =
       let made = fetches (seen x) (map seen items) views id v used h at in (after_fetch v (seen x).thread, made.0, made.1)
 
-  pub learns_rest : (id : ℕ) (v : PassView) → Learns OnceEach id v (λ items. HoldsRest (map (λ x. (seen x).thread) items) v)
-  learns_rest id v items views h at =
-      subst (λ l. HoldsRest l v) (map-map (λ (y : Ticketed). y.thread) seen items) (rest_held (map seen items) views id v h at)
+  pub learns_moment : (id : ℕ) (v : PassView) → Learns OnceEach id v (λ items. StoodWith (map seen items) v)
+  learns_moment id v items views h at = record { views = views; id = id; at = at; rule = h }
 
   pub forks_open : (id : ℕ) (o : Option Origin) → Forks OnceEach id unopened (opened o) spent
   forks_open id o items views h at = opens (map seen items) views id o h at
@@ -428,6 +426,9 @@ module _ {X : Type 0} (seen : X → Ticketed) where
       (λ items views. joins_number (map seen items) views id v other w (given_in v.role) (number_in w.role) (first_is v.role is) second)
 
 -- ---- what a fetch that found nothing learned
+
+pub rest_when_empty : (v : PassView) → WasEmpty v → HoldsRest [] v
+rest_when_empty v was = rest_held [] was.views was.id v was.rule was.at
 
 no_items : {X : Type 0} (items : List X) (F : List X → Type 0) → length items ≡ 0 → F items → F []
 no_items [] F none f = f

@@ -5,6 +5,11 @@ use shared_region::Port;
 use std::sync::atomic::Ordering;
 
 impl<P: Port> ContextQueue<P> {
+    /// Tells that a thread is to run, so that its context will be offered until it has stopped.
+    pub fn tell_start(&self) {
+        self.going.fetch_add(1, Ordering::SeqCst);
+    }
+
     /// Tells that a thread has stopped, so that its context will not be offered again.
     pub fn tell_stop(&self) {
         let _before = self.going.fetch_update(
@@ -19,8 +24,8 @@ impl<P: Port> ContextQueue<P> {
         self.going.store(0, Ordering::SeqCst);
     }
 
-    /// Whether a context may still be offered, as far as was told: that of a thread of which no stop was
-    /// told. It is a hint for those who find the queue empty: no clause speaks of it, and those of `offer`
+    /// Whether a context may still be offered, as far as was told: that of a thread of which a start was told
+    /// and no stop. It is a hint for those who find the queue empty: no clause speaks of it, and those of `offer`
     /// and `fetch` do not rest on it.
     pub fn expects_offers(&self) -> bool {
         self.going.load(Ordering::SeqCst) > 0

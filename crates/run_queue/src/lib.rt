@@ -7,12 +7,14 @@
 #![tactic(auto)]
 
 mod expected;
+mod laws;
 mod origin;
 mod passes;
 mod queue;
 mod steps;
 mod view;
 
+pub use laws::an_empty_queue_left_all;
 pub use origin::Origin;
 pub use queue::{ContextQueue, QueuePass};
 pub use view::{EachOnce, PassView, Role, Whereabouts};

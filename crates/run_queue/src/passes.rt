@@ -54,7 +54,7 @@ impl<P: Port> ContextQueue<P> {
             return Err(Memory);
         };
         open::<P, Brand>(&queue, &mut pass, image, config, port);
-        let going = AtomicU64::new(u64::from(config.threads));
+        let going = AtomicU64::new(0);
         Ok((
             ContextQueue { queue, going },
             QueuePass { pass, empty: false },

@@ -14,7 +14,7 @@ use std::sync::atomic::AtomicU64;
 #[derive(Drop)]
 pub struct ContextQueue<P: Port> {
     pub(crate) queue: RuledArrayQueue<Whole<P>, PassView, EachOnce>,
-    /// How many threads have not stopped, as far as was told: a hint, of which no clause speaks.
+    /// How many threads have started and not stopped, as far as was told: a hint, of which no clause speaks.
     pub(crate) going: AtomicU64,
 }
 

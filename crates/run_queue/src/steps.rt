@@ -1,10 +1,11 @@
 //! How contexts are put into the queue and taken out of it.
-ghost use Rattle.std.specs.Prelude.{◌≡◌, ◌<◌, false, [], Some, is_none, IfSome, IfNone};
+ghost use Rattle.std.specs.Prelude.{◌≡◌, ◌<◌, false, Some, is_none, IfSome, IfNone};
 ghost use Rattle.crossbeam_queue.specs.Passes.{view};
 ghost use Rattle.kernel_contexts.specs.Context.{thread_of};
 ghost use Rattle.run_queue.specs.Ticketed.{origin_in, ticketed};
 ghost use Rattle.run_queue.specs.Counts.{occurrences};
-ghost use Rattle.run_queue.specs.Passes.{after_offer, HasFetched, HoldsRest};
+ghost use Rattle.run_queue.specs.Passes.{after_offer, HasFetched};
+ghost use Rattle.run_queue.specs.Rule.{WasEmpty};
 ghost use Rattle.run_queue.specs.Queues.{IsPassFor, origin_of, threads_held};
 
 use crate::queue::{ContextQueue, QueuePass};
@@ -46,15 +47,14 @@ impl<P: Port> ContextQueue<P> {
 
     /// Takes the context at the front, whose thread the pass then holds: one below the number of threads that
     /// it did not hold, of the image, the options and the port that it knows. `None` comes only where the
-    /// queue was empty at a moment of the call, and leaves the pass as it was; then the first pass, with all
-    /// others joined, holds every thread. The call may wait.
+    /// queue was empty at a moment of the call, and leaves the pass as it was. The call may wait.
     pub fn fetch<R: Wait>(&self, rt: &R, pass: &mut QueuePass<P>) -> Option<Whole<P>>
         requires queue { IsPassFor self.now.queue pass.old.pass }
         ensures queue { IsPassFor self.now.queue pass.new.pass }
         ensures got { IfSome result (λ x.
             HasFetched (view pass.old.pass) (ticketed x.context (P.tells x.ticket)) (view pass.new.pass)) }
         ensures same { IfNone result (view pass.new.pass ≡ view pass.old.pass) }
-        ensures all { IfNone result (HoldsRest [] (view pass.old.pass)) }
+        ensures none { IfNone result (WasEmpty (view pass.old.pass)) }
         ensures empty { pass.new.empty ≡ is_none result }
     {
         let got = self.queue.pop_as::<FetchStep, R>(rt, &mut pass.pass);

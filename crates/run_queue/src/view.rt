@@ -82,13 +82,13 @@ impl<P: Port> Outcome<Whole<P>, PassView> for FetchStep {
     ghost then = { λ v x w. HasFetched v (ticketed x.context (P.tells x.ticket)) w };
 }
 
-// With all passes joined, the first holds what the queue does not.
+// What was in the queue at the moment of the pop, whether it found anything or not.
 impl<P: Port> Lesson<Whole<P>, PassView> for FetchStep {
     ghost use Rattle.std.specs.Prelude.{map};
-    ghost use Rattle.kernel_contexts.specs.Context.{thread_of};
-    ghost use Rattle.run_queue.specs.Passes.{HoldsRest};
+    ghost use Rattle.run_queue.specs.Ticketed.{ticketed};
+    ghost use Rattle.run_queue.specs.Rule.{StoodWith};
 
-    ghost fact = { λ v items. HoldsRest (map (λ x. thread_of x.context) items) v };
+    ghost fact = { λ v items. StoodWith (map (λ x. ticketed x.context (P.tells x.ticket)) items) v };
 }
 
 /// Names the origin of a queue's contexts. The call that makes the queue picks it.
