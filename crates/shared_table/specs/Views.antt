@@ -11,7 +11,7 @@ use Rattle.shared_table.specs.declared.view.SeatView.TheVariants.{Maker, Thread,
 unfoldable pub new_book : List Told
 new_book = replicate 32 Never
 
--- what a maker's book tells of a number: one past its end was never given
+-- what a maker's seat tells of a number: it was never given, where the seat has nothing of it
 abbrev pub told : List Told → ℕ → Told
 told book thread = slice_index_or book thread Never
 

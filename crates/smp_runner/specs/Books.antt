@@ -7,7 +7,8 @@ use Rattle.run_queue.specs.declared.origin.Origin.{Origin}
 use Rattle.run_queue.specs.declared.view.Role.TheVariants.{First}
 use Rattle.run_queue.specs.declared.view.PassView.{PassView}
 
--- its book, where n numbers were given: the first of them came back with these journals, and k are out
+-- what the maker's seat tells of each number, where n were given: the first of them came back with these
+-- journals, and k are out
 abbrev pub book_at : List (List Event) → ℕ → ℕ → List Told
 book_at journals k n = map Back journals ++ (replicate k Out ++ replicate (32 - n) Never)
 

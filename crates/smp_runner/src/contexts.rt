@@ -50,6 +50,7 @@ pub fn start_all<'t, R: Wait>(
         let context = Context::start(alloc, image, config, thread)?;
         let ticket = table.split(maker, thread);
         let whole = Whole { context, ticket };
+        queue.tell_start();
         queue.offer(rt, pass, whole);
     }
     Ok(())

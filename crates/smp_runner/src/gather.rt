@@ -19,8 +19,8 @@ use shared_region::Port;
 use sm_types::Memory;
 use std::sync::Wait;
 
-/// Takes the pass of a worker that has ended back, and the contexts that it has collected. `Memory` is want
-/// of memory, of the worker or here.
+/// Joins the pass of a worker that has ended, and adds the contexts that it has collected. `Memory` is want of
+/// memory, of the worker or here.
 fn gather_one<P: Port + Drop>(
     queue: &ContextQueue<P>,
     pass: &mut QueuePass<P>,
@@ -56,7 +56,7 @@ fn gather_one<P: Port + Drop>(
     Ok(())
 }
 
-/// Takes the passes of all workers back, and the contexts that they have collected. `Memory` is want of
+/// Joins the passes of all workers, and adds the contexts that they have collected. `Memory` is want of
 /// memory, of a worker or here.
 pub fn gather<P: Port + Drop>(
     queue: &ContextQueue<P>,

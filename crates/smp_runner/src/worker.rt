@@ -1,5 +1,5 @@
 //! One worker.
-ghost use Rattle.std.specs.Prelude.{◌≡◌, ◌≢◌, ◌≤◌, ◌<◌, true, false, [], List, length, Some, vec_capacity, OnOk};
+ghost use Rattle.std.specs.Prelude.{◌≡◌, ◌≢◌, ◌≤◌, true, false, [], List, vec_capacity, OnOk};
 ghost use Rattle.crossbeam_queue.specs.Passes.{view};
 ghost use Rattle.sm_types.specs.declared.shared_op.SharedOp.{SharedOp};
 ghost use Rattle.shared_region.specs.Tickets.{IsAllowed};
@@ -121,59 +121,8 @@ fn run_slice<P: Port>(core: &mut Core<P>, port: &mut P, slice: u32) -> RunWhy
     core.run(port, slice).why
 }
 
-/// Makes the turns of a worker, until it has no resident, it found the queue empty, and no thread is expected
-/// there any more, or until memory is wanting.
-fn make_turns<P: Port, R: Wait, G: Gate>(
-    rt: &R,
-    config: &Config,
-    queue: &ContextQueue<P>,
-    pass: &mut QueuePass<P>,
-    core: &mut Core<P>,
-    port: &mut P,
-    done: &mut Vec<Whole<P>>,
-    gate: &G,
-) -> Result<(), Memory>
-    requires goes { (p : P) (t : P.Ticket) (op : SharedOp) → IsAllowed (P.refuses p t) op }
-    requires queue { IsPassFor queue.now.queue pass.old.pass }
-    requires unused { IsUnused config.now (P.name port.old) (view pass.old.pass) (core_state core.old)
-        done.old.items }
-    ensures queue { IsPassFor queue.now.queue pass.new.pass }
-    ensures same { IsSameHolder (view pass.old.pass) (view pass.new.pass) }
-    ensures core { IsSameCore (core_state core.old) (core_state core.new) }
-    ensures port { P.name port.new ≡ P.name port.old }
-    ensures holds { HoldsWith P.tells (view pass.new.pass) (core_state core.new)
-        (contexts_in P.tells done.new.items) }
-    ensures residents { OnOk result ((core_state core.new).residents ≡ []) }
-    ensures collected { OnOk result ((core_state core.new).done ≡ []) }
-    ensures empty { OnOk result (pass.new.empty ≡ true) }
-{
-    if done.reserve(config.threads as usize).is_err() {
-        return Err(Memory);
-    }
-    let mut turn = 0u64;
-    for _ in rt.forever() {
-        fetch_once(rt, config, queue, pass, core, port, done);
-        let Some(thread) = core.first() else {
-            if !queue.expects_offers() {
-                return Ok(());
-            }
-            thread::yield_now();
-            continue;
-        };
-        gate.pass(core.number(), turn, thread);
-        turn = turn.saturating_add(1);
-        match run_slice(core, port, config.slice) {
-            RunWhy::Memory => return Err(Memory),
-            RunWhy::TraceEnds | RunWhy::TraceDiffers => unreachable!(),
-            _ => {}
-        }
-        collect(queue, pass, core, done);
-        give_way(rt, queue, pass, core, done);
-    }
-    unreachable!()
-}
-
-/// Does what `run_worker` says, over any port that refuses an access for want of memory alone.
+/// Does what `run_worker` says, over any port that refuses an access for want of memory alone: it ends where
+/// it has no resident, it found the queue empty, and no thread is expected there any more.
 pub(crate) fn work<P: Port, R: Wait, G: Gate>(
     rt: &R,
     config: &Config,
@@ -199,13 +148,34 @@ pub(crate) fn work<P: Port, R: Wait, G: Gate>(
     ensures ended { OnOk result (HasEnded (view pass.new.pass) (contexts_in P.tells done.new.items)) }
     ensures empty { OnOk result (pass.new.empty ≡ true) }
 {
-    match make_turns(rt, config, queue, pass, core, port, done, gate) {
-        Ok(()) => Ok(()),
-        Err(Memory) => {
-            queue.tell_want();
-            Err(Memory)
-        }
+    if done.reserve(config.threads as usize).is_err() {
+        queue.tell_want();
+        return Err(Memory);
     }
+    let mut turn = 0u64;
+    for _ in rt.forever() {
+        fetch_once(rt, config, queue, pass, core, port, done);
+        let Some(thread) = core.first() else {
+            if !queue.expects_offers() {
+                return Ok(());
+            }
+            thread::yield_now();
+            continue;
+        };
+        gate.pass(core.number(), turn, thread);
+        turn = turn.saturating_add(1);
+        match run_slice(core, port, config.slice) {
+            RunWhy::Memory => {
+                queue.tell_want();
+                return Err(Memory);
+            }
+            RunWhy::TraceEnds | RunWhy::TraceDiffers => unreachable!(),
+            _ => {}
+        }
+        collect(queue, pass, core, done);
+        give_way(rt, queue, pass, core, done);
+    }
+    unreachable!()
 }
 
 /// Runs guest threads on a core, over one table of shared words: fetches their contexts from the queue, lets

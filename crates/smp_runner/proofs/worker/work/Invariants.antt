@@ -4,7 +4,7 @@ use Rattle.core_unit.specs.View.{core_state}
 use Rattle.run_queue.specs.Passes.{known_threads}
 use Rattle.run_queue.specs.Queues.{IsPassFor}
 use Rattle.smp_runner.specs.Contexts.{HoldsWith, IsSameCore, IsSameHolder, contexts_in}
-use Rattle.smp_runner.proofs.worker.make_turns.Given as goal
+use Rattle.smp_runner.proofs.worker.work.Given as goal
 
 abbrev pub invariant-loop : goal.invariant-loop
 invariant-loop g l =
