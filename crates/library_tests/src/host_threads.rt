@@ -14,15 +14,18 @@ use std::alloc::Global;
 use std::process::Abort as Stops;
 use std::thread::{Threads, join};
 
-/// How often each thread adds.
-const TIMES: usize = 4_000;
+/// How often each thread adds to shared word 0, and how much more each adds than the one before it.
+#[derive(Clone, Copy)]
+struct Adding {
+    times: usize,
+    step: u64,
+}
 
-/// The shared word to which all add.
-const WORD: u32 = 5;
-
-/// What the thread of a number adds: another value than the others.
-fn amount(thread: u32) -> u64 {
-    u64::from(thread) + 1
+impl Adding {
+    /// What the thread of a number adds. The first adds 1.
+    fn amount(self, thread: u32) -> u64 {
+        u64::from(thread).wrapping_mul(self.step).wrapping_add(1)
+    }
 }
 
 /// Makes an operation of a thread. `u64::MAX` is a refusal.
@@ -35,16 +38,22 @@ fn make(port: &mut SeatPort, seat: &mut Seat, thread: u32, op: SharedOp) -> u64
     port.access(seat, thread, op).unwrap_or(u64::MAX)
 }
 
-/// Makes the additions of a thread, whose answers are written in order, and posts signal 3 to thread 0.
-fn work(table: &SharedTable, mut seat: Seat, thread: u32, answers: &mut [u64]) -> Seat
+/// Makes an addition of a thread for each answer, which are written in order, and posts signal 3 to thread 0.
+fn work(
+    table: &SharedTable,
+    mut seat: Seat,
+    thread: u32,
+    amount: u64,
+    answers: &mut [u64],
+) -> Seat
     requires { IsTicketOf thread (table_name table.now) (ticket_of seat) }
     ensures { IsTicketOf thread (table_name table.now) (ticket_of result) }
 {
     let mut port = SeatPort::new(table);
     let add = SharedOp {
         kind: OpKind::Add,
-        place: WORD,
-        a: amount(thread),
+        place: 0,
+        a: amount,
         b: 0,
     };
     for i in 0..answers.len() {
@@ -60,13 +69,14 @@ fn work(table: &SharedTable, mut seat: Seat, thread: u32, answers: &mut [u64]) -
     seat
 }
 
-/// Splits a seat for each part of the answers, for the threads from a number on, lets each work on a host
+/// Splits a seat for each part of the answers, for the threads from a number on, lets each add on a host
 /// thread of its own, all at once, and joins their seats again.
 fn run<R: Threads + Sync>(
     rt: &R,
     table: &SharedTable,
     mut maker: Seat,
     thread: u32,
+    adding: Adding,
     answers: &mut [u64],
 ) -> Seat
     requires name { seat_name maker ≡ table_name table.now }
@@ -77,17 +87,18 @@ fn run<R: Threads + Sync>(
     ensures back { (t : ℕ) → told (book_in (view_of result)) t ≡ Out
         → told (book_in (view_of maker)) t ≡ Out }
 {
-    if thread >= 32 || answers.len() < TIMES {
+    if thread >= 32 || answers.len() < adding.times || answers.is_empty() {
         return maker;
     }
     let seat = table.split(&mut maker, thread);
-    let (mine, others) = answers.split_at_mut(TIMES);
+    let (mine, others) = answers.split_at_mut(adding.times);
+    let amount = adding.amount(thread);
     let (seat, mut maker) = join(
         rt,
         || -> Seat
             requires { IsTicketOf thread (table_name table.now) (ticket_of seat) }
             ensures { IsTicketOf thread (table_name table.entry.now) (ticket_of result) }
-        { work(table, seat, thread, mine) },
+        { work(table, seat, thread, amount, mine) },
         || -> Seat
             requires row { IsSync R.row }
             requires name { seat_name maker ≡ table_name table.now }
@@ -98,17 +109,18 @@ fn run<R: Threads + Sync>(
             ensures maker { IsMaker result }
             ensures back { (t : ℕ) → told (book_in (view_of result)) t ≡ Out
                 → told (book_in (view_of maker)) t ≡ Out }
-        { run(rt, table, maker, thread + 1, others) },
+        { run(rt, table, maker, thread + 1, adding, others) },
     );
     table.join(&mut maker, seat);
     maker
 }
 
 /// The thread whose next answer is the word, where there is one.
-fn whose(answers: &[u64], next: &[usize; 32], word: u64) -> Option<usize>
+fn whose(answers: &[u64], times: usize, next: &[usize; 32], word: u64) -> Option<usize>
+    requires { 0 < times }
     ensures { IfSome result (λ thread. thread < 32) }
 {
-    for (thread, journal) in answers.chunks(TIMES).enumerate() {
+    for (thread, journal) in answers.chunks(times).enumerate() {
         if thread >= 32 {
             return None;
         }
@@ -123,39 +135,61 @@ fn whose(answers: &[u64], next: &[usize; 32], word: u64) -> Option<usize>
 
 /// The word after all additions, those of each thread in their order, where they are one history: each is an
 /// addition to the word that it answers. Since each adds something, all answers then differ.
-fn merged(answers: &[u64]) -> Option<u64> {
+fn merged(answers: &[u64], adding: Adding) -> Option<u64> {
+    if adding.times == 0 {
+        return None;
+    }
     let mut next = [0usize; 32];
     let mut word = 0u64;
     for _ in 0..answers.len() {
-        let thread = whose(answers, &next, word)?;
+        let thread = whose(answers, adding.times, &next, word)?;
         next[thread] = next[thread].wrapping_add(1);
-        word = word.wrapping_add(amount(thread as u32));
+        word = word.wrapping_add(adding.amount(thread as u32));
     }
     Some(word)
 }
 
-/// A thread for each `TIMES` answers works on one new table.
-fn try_with<R: Threads + Stops + Sync>(rt: &R, alloc: Global, answers: &mut [u64], sum: u64) {
+/// Threads add to one new table, one for each part of the answers, to a sum.
+fn try_with<R: Threads + Stops + Sync>(
+    rt: &R,
+    alloc: Global,
+    adding: Adding,
+    answers: &mut [u64],
+    sum: u64,
+) {
     let (table, maker) = SharedTable::new(alloc).ok().expect(rt, "memory");
-    let maker = run(rt, &table, maker, 0, answers);
+    let maker = run(rt, &table, maker, 0, adding, answers);
     let mut words = Words {
         shared: [1; 512],
         pending: [1; 32],
     };
     table.close(maker, &mut words);
-    assert_eq!(rt; words.shared[5], sum);
+    assert_eq!(rt; words.shared[0], sum);
     assert_eq!(rt; words.shared[511], 0);
     assert_eq!(rt; words.pending[0], 8);
     assert_eq!(rt; words.pending[31], 0);
-    assert_eq!(rt; merged(answers), Some(sum));
+    assert_eq!(rt; merged(answers, adding), Some(sum));
 }
 
 #[test]
 fn four_threads_add_at_once(rt: HostRuntime) {
-    try_with(&rt, rt.alloc(), &mut [0; 16_000], 40_000);
+    let ones = Adding {
+        times: 1_000,
+        step: 0,
+    };
+    try_with(&rt, rt.alloc(), ones, &mut [0; 4_000], 4_000);
+    let more = Adding {
+        times: 4_000,
+        step: 1,
+    };
+    try_with(&rt, rt.alloc(), more, &mut [0; 16_000], 40_000);
 }
 
 #[test]
 fn eight_threads_add_at_once(rt: HostRuntime) {
-    try_with(&rt, rt.alloc(), &mut [0; 32_000], 144_000);
+    let more = Adding {
+        times: 4_000,
+        step: 1,
+    };
+    try_with(&rt, rt.alloc(), more, &mut [0; 32_000], 144_000);
 }

@@ -1,1 +1,2 @@
+pub mod AnyCores
 pub mod OneRun

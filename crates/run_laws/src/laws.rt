@@ -1,5 +1,5 @@
 //! What is one of the runs of a thread.
-ghost use Rattle.std.specs.Prelude.{◌≡◌, List, [], ◌∷◌};
+ghost use Rattle.std.specs.Prelude.{◌≡◌, ℕ, List, [], ◌∷◌};
 ghost use Rattle.sm_types.specs.declared.config.Config.{Config};
 ghost use Rattle.sm_types.specs.declared.shared_op.Event.{Event};
 ghost use Rattle.sm_types.specs.declared.shared_words.Words.{Words};
@@ -8,6 +8,7 @@ ghost use Rattle.paged_memory.specs.Image.{Program};
 ghost use Rattle.shared_region.specs.History.{AreOneHistory};
 ghost use Rattle.kernel_contexts.specs.State.{State};
 ghost use Rattle.lone_runner.specs.LoneRun.{IsLoneRun};
+ghost use Rattle.run_laws.specs.Options.{AreSameButCores};
 
 /// A thread that shares its words with no other has one run: where two journals of thread 0 are each one
 /// history with some words, and the thread's run over each has an end, the journals and the words are the
@@ -19,4 +20,12 @@ pub fn one_run()
     ensures words { (program : Program) (config : Config) (j k : List Event) (s t : State) (p q : Stop)
         (v w : Words) → IsLoneRun program config 0 j s p → IsLoneRun program config 0 k t q
         → AreOneHistory (j ∷ []) v → AreOneHistory (k ∷ []) w → v ≡ w }
+{}
+
+/// A thread's run knows nothing of cores: over one journal it is the same under options that differ in the
+/// number of cores alone. So what a report of a run on several cores says of a thread is what its replay shows.
+pub fn cores_change_no_run()
+    ensures { (program : Program) (c d : Config) (thread : ℕ) (journal : List Event) (s : State) (p : Stop)
+        → AreSameButCores c d → IsLoneRun program c thread journal s p
+        → IsLoneRun program d thread journal s p }
 {}
