@@ -64,7 +64,7 @@ module _ (c d : Config) where
   other = with_cores_of c d
 
   same_effect : (thread events : ℕ) (s : State) (e : Effect) → after_effect other thread events s e ≡ after_effect c thread events s e
-  unfolding call_of, post_of, return_of
+  unfolding call_of post_of return_of
   same_effect thread events s (Raises exception) = refl
   same_effect thread events s (Calls number) = refl
   same_effect thread events s (Becomes core) = refl
@@ -102,7 +102,7 @@ module _ (c d : Config) where
 
   same_reach : (program : Program) (thread : ℕ) (journal : List Event) (turns : ℕ)
       → reach program other thread journal turns ≡ reach program c thread journal turns
-  unfolding reach, start_state
+  unfolding reach start_state
   same_reach program thread journal turns = same_reach_from thread (start_state program c thread) 0 journal turns
 
 -- ---- a run
