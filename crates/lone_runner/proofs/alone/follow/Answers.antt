@@ -1,4 +1,5 @@
-use Rattle.std.proofs.Common.{rules, ◌≡◌, ◌≢◌, ◌∙◌, sym, ap, refl}
+use Rattle.std.proofs.Common.{rules, ◌≡◌, ◌≢◌, ◌∙◌, sym, ap, refl, List, ◌++◌}
+use Rattle.sm_types.specs.declared.shared_op.Event.{Event}
 use Rattle.std.specs.Prelude.{Err}
 use Rattle.kernel_contexts.specs.Context.{config_of, image_of, thread_of}
 use Rattle.lone_runner.specs.Parting.{IsParting, parting_at}
@@ -82,7 +83,7 @@ returns-in_err-stop-clause-memory c =
       same = h.same;
       runs = h.runs;
       held = h.held;
-      journal = h.way.whole;
+      journal = ap (λ (l : List Event). l ++ c.args.ticket.now.ahead) c.requires.journal ∙ h.way.whole;
       wants = c.in_err-stop.ensures.memory (ap Err is);
     } in
     search rules

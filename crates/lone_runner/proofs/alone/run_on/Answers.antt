@@ -1,17 +1,18 @@
-use Rattle.std.proofs.Common.{rules, ◌≡◌, ◌≢◌, ◌≤◌, ◌<◌, ◌∙◌, sym, ap, refl, subst}
+use Rattle.std.proofs.Common.{rules, ◌≡◌, ◌≢◌, ◌≤◌, ◌<◌, ◌∙◌, ◌++◌, sym, ap, refl, subst}
 use Rattle.std.specs.Prelude.{Err}
-use Rattle.kernel_contexts.specs.Context.{state_of, config_of, image_of, thread_of}
+use Rattle.kernel_contexts.specs.Context.{state_of, config_of, image_of, thread_of, journal_of}
 use Rattle.lone_runner.specs.Parting.{IsPartingBefore}
 use Rattle.lone_runner.specs.Replayed.{place_of, WantsOnTheWay}
 use Rattle.lone_runner.specs.declared.fault.AloneFault.TheVariants.{Memory, EndsEarly}
-use Rattle.lone_runner.proofs.Shown.{before_starts, before_on, before_strays, before_ends, shown_here, shown_ended}
-use Rattle.lone_runner.proofs.alone.approach.Goals as goal
+use Rattle.lone_runner.proofs.Shown.{before_on, before_strays, before_ends, shown_here, shown_ended}
+use Rattle.lone_runner.proofs.alone.run_on.Goals as goal
 
 pub turns-init : goal.turns-init
 turns-init c = record {
-  before = before_starts c.args.count c.args.context.now c.args.ticket.now c.requires;
-  held = c.requires.held;
+  before = c.requires.before;
+  held = c.requires.ticket;
   runs = c.requires.runs;
+  journal = refl;
   same = record { config = refl; thread = refl; image = refl };
 }
 
@@ -22,7 +23,8 @@ returns-in_err-stop-clause-parts c =
     let fault = c.in_err-stop.field-0.0 in
     let less : (state_of c.turns.context).count < c.args.count = subst (λ n. n < c.args.count) c.count.ensures c.turns-test.true in
     let parts : fault ≢ Memory
-    → IsPartingBefore (image_of start) (config_of start) (thread_of start) c.args.ticket.now.ahead c.args.count fault =
+    → IsPartingBefore (image_of start) (config_of start) (thread_of start)
+    (journal_of start ++ c.args.ticket.now.ahead) c.args.count fault =
     λ told. before_strays _ _ _ _ _ c.turns.context c.turns.ticket h.same.config h.same.thread h.before less fault
     (c.in_err-stop.ensures.astray told) in
     search rules
@@ -37,6 +39,7 @@ turns-preserved c =
           c.make_turn.new.ticket (e.turn ∙ ap (place_of c.make_turn.new.context c.make_turn.new.ticket) c.in_default.is) e.journal;
       held = e.ticket;
       runs = e.stop ∙ c.in_default.is;
+      journal = e.journal ∙ h.journal;
       same = record {
         config = e.same.config ∙ h.same.config;
         thread = e.same.thread ∙ h.same.thread;
@@ -51,7 +54,8 @@ returns-then-made-count-clause-parts c = λ _.
     let less : (state_of c.turns.context).count < c.args.count = subst (λ n. n < c.args.count) c.count.ensures c.turns-test.true in
     let start = c.args.context.now in
     subst
-    (λ n. IsPartingBefore (image_of start) (config_of start) (thread_of start) c.args.ticket.now.ahead c.args.count
+    (λ n. IsPartingBefore (image_of start) (config_of start) (thread_of start)
+    (journal_of start ++ c.args.ticket.now.ahead) c.args.count
     (EndsEarly n c.in-Some.stop))
     (sym c.count-made.ensures)
     (before_ends _ _ _ _ _ c.turns.context c.turns.ticket h.same.config h.same.thread h.before less c.make_turn.new.context
