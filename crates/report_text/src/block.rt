@@ -62,8 +62,12 @@ fn put_system<K: Sink>(piece: &mut Piece, out: &mut K, machine: &Machine) -> Res
     put_number_line(piece, out, b"svcr", svcr)
 }
 
-/// X0 to X30 where they are not zero, SP, the flags and the system registers.
-fn put_registers<K: Sink>(piece: &mut Piece, out: &mut K, machine: &Machine) -> Result<(), PutFault>
+/// The lines of X0 to X30 where they are not zero, of SP, of the flags and of the system registers.
+pub fn put_registers<K: Sink>(
+    piece: &mut Piece,
+    out: &mut K,
+    machine: &Machine,
+) -> Result<(), PutFault>
     ensures { (bank : VectorState) →
         Gathers (gathered (K.view out.old) piece.old) (gathered (K.view out.new) piece.new) result
         (register_text (core_of machine.now bank)) }
