@@ -1,4 +1,8 @@
 pub mod Lines
+pub mod Readings
+pub mod Files
+pub mod Slots
+pub mod FileFaults
 pub mod Spoken
 pub mod Plans
 pub mod FirstWord

@@ -1,12 +1,12 @@
--- Past a line of a plan, and the end of the lines.
+-- Past a line of a file, and the end of the lines.
 use Rattle.std.proofs.Common.{◌≡◌, ◌≢◌, ℕ, ◌+◌, true, false, List, [], ◌∷◌, ◌++◌, length, Result, Ok, Err, refl, sym, ap, ◌∙◌, arith, append_assoc}
 use Rattle.std.proofs.lemmas.List.{append-nil}
 use Rattle.line_reader.specs.Lines.{lines_of, with_first}
 use Rattle.line_reader.specs.Reading.{Left, next_line, first_of, past_first, past_line}
 use Rattle.line_reader.proofs.Cuts.{no_lines}
-use Rattle.plan_reader.specs.Plan.{Fault, has_text, some_lines, line_event, onto_others, events_of}
+use Rattle.plan_reader.specs.File.{Fault, has_text, some_lines, line_said, onto_others, all_said}
+use Rattle.plan_reader.specs.Saying.{Saying}
 use Rattle.plan_reader.specs.Told.{next_of}
-use Rattle.plan_reader.specs.declared.event.WorldEvent.{WorldEvent}
 
 -- ---- the lines that are not empty
 
@@ -62,57 +62,59 @@ pub split-empty : (number : ℕ) (line : List ℕ) (lines : List (List ℕ)) →
 split-empty number [] lines some e = absurd (some refl)
 split-empty number (b ∷ bs) lines some e = first_none number (b ∷ bs) lines e
 
--- ---- events put behind those of earlier lines
+-- ---- values put behind those of earlier lines
 
-abbrev pub behind : List WorldEvent → Result (List WorldEvent) Fault → Result (List WorldEvent) Fault
+abbrev pub behind : {A : Type 0} → List A → Result (List A) Fault → Result (List A) Fault
 behind before (Err fault) = Err fault
-behind before (Ok events) = Ok (before ++ events)
+behind before (Ok values) = Ok (before ++ values)
 
-abbrev pub plan : List WorldEvent → Result (List WorldEvent) Fault
-plan events = Ok events
+abbrev pub whole : {A : Type 0} → List A → Result (List A) Fault
+whole values = Ok values
 
--- one event more
-pub behind-more : (before : List WorldEvent) (event : WorldEvent) (others : Result (List WorldEvent) Fault)
-    → behind before (onto_others (Ok event) others) ≡ behind (before ++ event ∷ []) others
-behind-more before event (Err fault) = refl
-behind-more before event (Ok events) = ap plan (sym (append_assoc before (event ∷ []) events))
+-- one value more
+pub behind-more : {A : Type 0} (before : List A) (a : A) (others : Result (List A) Fault)
+    → behind before (onto_others (Ok a) others) ≡ behind (before ++ a ∷ []) others
+behind-more before a (Err fault) = refl
+behind-more before a (Ok values) = ap whole (sym (append_assoc before (a ∷ []) values))
 
-pub behind-end : (before : List WorldEvent) → behind before (Ok []) ≡ Ok before
-behind-end before = ap plan (append-nil before)
+pub behind-end : {A : Type 0} (before : List A) → behind before (Ok []) ≡ Ok before
+behind-end before = ap whole (append-nil before)
 
 -- the first fault is the answer
-pub behind-fault : (before : List WorldEvent) (said : Result WorldEvent Fault) (fault : Fault)
-    (others : Result (List WorldEvent) Fault) → said ≡ Err fault → behind before (onto_others said others) ≡ Err fault
+pub behind-fault : {A : Type 0} (before : List A) (said : Result A Fault) (fault : Fault)
+    (others : Result (List A) Fault) → said ≡ Err fault → behind before (onto_others said others) ≡ Err fault
 behind-fault before said fault others e = ap (λ r. behind before (onto_others r others)) e
 
 -- ---- reading a line, and passing it
 
-module _ (before : List WorldEvent) (left after : Left) (past : after ≡ past_line left) (some : length (next_line left) ≢ 0) where
-  pub event-read : (event : WorldEvent) → has_text (next_line left) ≡ true → line_event (next_of left) ≡ Ok event
-      → behind (before ++ event ∷ []) (events_of (some_lines after.line after.lines))
-      ≡ behind before (events_of (some_lines left.line left.lines))
-  unfolding events_of
-  event-read event text says =
-      ap (λ (l : Left). behind (before ++ event ∷ []) (events_of (some_lines l.line l.lines))) past
-      ∙ sym (behind-more before event (events_of (some_lines (past_line left).line (past_line left).lines)))
-      ∙ ap (λ r. behind before (onto_others r (events_of (some_lines (past_line left).line (past_line left).lines)))) (sym says)
-      ∙ ap (λ ls. behind before (events_of ls)) (sym (some-more left some text))
+module _ {A : Type 0} (says : Saying A) (before : List A) (left after : Left) (past : after ≡ past_line left)
+    (some : length (next_line left) ≢ 0) where
+  pub value-read : (a : A) → has_text (next_line left) ≡ true → line_said says (next_of left) ≡ Ok a
+      → behind (before ++ a ∷ []) (all_said says (some_lines after.line after.lines))
+      ≡ behind before (all_said says (some_lines left.line left.lines))
+  unfolding all_said
+  value-read a text is =
+      ap (λ (l : Left). behind (before ++ a ∷ []) (all_said says (some_lines l.line l.lines))) past
+      ∙ sym (behind-more before a (all_said says (some_lines (past_line left).line (past_line left).lines)))
+      ∙ ap (λ r. behind before (onto_others r (all_said says (some_lines (past_line left).line (past_line left).lines)))) (sym is)
+      ∙ ap (λ ls. behind before (all_said says ls)) (sym (some-more left some text))
 
   pub empty-passed : has_text (next_line left) ≡ false
-      → behind before (events_of (some_lines after.line after.lines)) ≡ behind before (events_of (some_lines left.line left.lines))
+      → behind before (all_said says (some_lines after.line after.lines)) ≡ behind before (all_said says (some_lines left.line left.lines))
   empty-passed none =
-      ap (λ (l : Left). behind before (events_of (some_lines l.line l.lines))) past
-      ∙ ap (λ ls. behind before (events_of ls)) (sym (some-empty left some none))
+      ap (λ (l : Left). behind before (all_said says (some_lines l.line l.lines))) past
+      ∙ ap (λ ls. behind before (all_said says ls)) (sym (some-empty left some none))
 
-pub fault-read : (before : List WorldEvent) (left : Left) (fault : Fault) → length (next_line left) ≢ 0 → has_text (next_line left) ≡ true
-    → line_event (next_of left) ≡ Err fault → behind before (events_of (some_lines left.line left.lines)) ≡ Err fault
-unfolding events_of
-fault-read before left fault some text says =
-    ap (λ ls. behind before (events_of ls)) (some-more left some text)
-    ∙ behind-fault before (line_event (next_of left)) fault (events_of (some_lines (past_line left).line (past_line left).lines)) says
+pub fault-read : {A : Type 0} (says : Saying A) (before : List A) (left : Left) (fault : Fault) → length (next_line left) ≢ 0
+    → has_text (next_line left) ≡ true → line_said says (next_of left) ≡ Err fault
+    → behind before (all_said says (some_lines left.line left.lines)) ≡ Err fault
+unfolding all_said
+fault-read says before left fault some text is =
+    ap (λ ls. behind before (all_said says ls)) (some-more left some text)
+    ∙ behind-fault before (line_said says (next_of left)) fault (all_said says (some_lines (past_line left).line (past_line left).lines)) is
 
-pub all-read : (before : List WorldEvent) (number : ℕ) (line rest : List ℕ) → length line ≡ 0 → length rest ≡ 0
-    → behind before (events_of (some_lines number (with_first line (lines_of rest)))) ≡ Ok before
-unfolding events_of
-all-read before number line rest e none =
-    ap (λ ls. behind before (events_of ls)) (some-end number line rest e none) ∙ behind-end before
+pub all-read : {A : Type 0} (says : Saying A) (before : List A) (number : ℕ) (line rest : List ℕ) → length line ≡ 0 → length rest ≡ 0
+    → behind before (all_said says (some_lines number (with_first line (lines_of rest)))) ≡ Ok before
+unfolding all_said
+all-read says before number line rest e none =
+    ap (λ ls. behind before (all_said says ls)) (some-end number line rest e none) ∙ behind-end before

@@ -1,7 +1,7 @@
 -- What the code's own types tell.
 use Rattle.std.specs.Prelude.{◌≡◌, ◌+◌, ℕ, List, Result, Ok, Err}
 use Rattle.line_reader.specs.Reading.{Left, next_line}
-use Rattle.plan_reader.specs.Plan.{Fault, NumberedLine}
+use Rattle.plan_reader.specs.File.{Fault, NumberedLine}
 use Rattle.plan_reader.specs.declared.fault.PlanKind.{PlanKind}
 use Rattle.plan_reader.specs.declared.fault.PlanFault.{PlanFault}
 use Rattle.plan_reader.specs.declared.fault.PlanFault.TheVariants as fault

@@ -1,12 +1,13 @@
 use Rattle.std.proofs.Common.{◌≡◌, ◌++◌, length, List, map, sym, ap, ◌∙◌, arith}
 use Rattle.std.proofs.lemmas.Bool.Decides.{nat_tests}
 use Rattle.std.proofs.lemmas.List.{append-nil}
-use Rattle.plan_reader.specs.Plan.{NumberedLine, event_lines, plan_lines, some_lines}
+use Rattle.plan_reader.specs.File.{NumberedLine, file_lines, some_lines}
+use Rattle.plan_reader.specs.Plan.{event_lines}
 use Rattle.plan_reader.proofs.Lines.{some-end}
 use Rattle.plan_reader.proofs.plan.event_lines.Goals as goal
 
 pub returns-then-is_empty : goal.returns-then-is_empty
-unfolding event_lines plan_lines
+unfolding event_lines file_lines
 returns-then-is_empty c =
     let line = c.split_line.result.0.now in
     let rest = c.split_line.result.1.now in
