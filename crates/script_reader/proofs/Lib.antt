@@ -1,0 +1,5 @@
+pub mod Addresses
+pub mod Spoken
+pub mod Scripts
+pub mod FirstWord
+pub mod Faults
