@@ -3,7 +3,6 @@ use Rattle.std.proofs.Common.{◌≡◌, ℕ, zero, suc, ◌≤◌, ◌==◌, co
 use mathlib.Core.HLevel.{Σ_prop_path}
 use native.Mathlib.Bridge.{le_prop}
 use Rattle.sm_types.specs.declared.config.Config.{Config}
-use Rattle.sm_types.specs.declared.length.VecLen.{VecLen}
 use Rattle.sm_types.specs.declared.shared_op.Event.{Event}
 use Rattle.sm_types.specs.declared.stop.Stop.{Stop}
 use Rattle.sm_types.specs.declared.stop.Stop.TheVariants.{Budget}
@@ -14,9 +13,9 @@ use Rattle.machine_step.specs.Effect as instruction
 use Rattle.machine_step.specs.ProcessorState.{vector_bytes}
 use Rattle.signal_frames.specs.Frame.{frame_fault}
 use Rattle.kernel_contexts.specs.State.{State, start_state}
-use Rattle.kernel_contexts.specs.Call.{TurnEnd, Ends, call_of, post_of, return_of}
+use Rattle.kernel_contexts.specs.Call.{Ends, call_of, post_of, return_of}
 use Rattle.kernel_contexts.specs.Turn.{turn_of, after_effect, handled, delivered_to, released, poll_of, lowest_signal}
-use Rattle.kernel_contexts.specs.Turn.{is_poll_due, is_delivery_due, delivery_of, instruction_of}
+use Rattle.kernel_contexts.specs.Turn.{is_poll_due, is_delivery_due}
 use Rattle.kernel_contexts.specs.Run.{Reached, At, Ended, Strays, turned, after_turn, reach_from, reach}
 use Rattle.lone_runner.specs.LoneRun.{IsLoneRun}
 use Rattle.run_laws.specs.Options.{AreSameButCores}
