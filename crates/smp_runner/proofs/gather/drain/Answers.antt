@@ -2,6 +2,7 @@ use Rattle.std.proofs.Common.{rules, subst, sym, ap, ◌∙◌}
 use Rattle.run_queue.specs.Ticketed.{ticketed}
 use Rattle.run_queue.specs.Counts.{once_below}
 use Rattle.run_queue.specs.Passes.{given_in, known_threads, AreAllBack}
+use Rattle.run_queue.proofs.Moves.{rest_when_empty}
 use Rattle.smp_runner.proofs.Gathering.{one_more_in, each_once}
 use Rattle.smp_runner.proofs.gather.drain.Goals as goal
 
@@ -9,7 +10,7 @@ pub returns-in_default-clause-once : goal.returns-in_default-clause-once
 returns-in_default-clause-once g c =
     let i = c.loop.invariant in
     rw c.reserve.ensures.items (λ t.
-    each_once _ _ i.1 (subst (λ r. AreAllBack (given_in r)) (sym i.2) c.requires.back) c.in_default.ensures.all t
+    each_once _ _ i.1 (subst (λ r. AreAllBack (given_in r)) (sym i.2) c.requires.back) (rest_when_empty _ c.in_default.ensures.none) t
     ∙ ap (λ o. once_below t (known_threads o)) i.3)
 
 pub loop-preserved : goal.loop-preserved
