@@ -1,0 +1,10 @@
+mod Texts
+mod Said
+mod ShortLines
+mod Sums
+mod Chosen
+mod Opening
+mod Lines
+mod Instructions
+mod Sources
+mod ObjectWords
