@@ -1,7 +1,7 @@
 -- What the word of a number is read as.
-use Rattle.std.proofs.Common.{◌≡◌, ℕ, ◌-◌, ◌^◌, min, true, List, cond, Some, None, ◌∙◌, ap, arith, inl, inr}
-use Rattle.std.specs.Prelude.{unwrap_or}
-use Rattle.std.proofs.lemmas.Bool.{cases_lt, cond-true, le-ltb}
+use Rattle.std.proofs.Common.{◌≡◌, ℕ, ◌-◌, ◌^◌, ◌≤◌, min, true, List, cond, Some, None, ◌∙◌, ap, arith, inl, inr}
+use Rattle.std.specs.Prelude.{◌&&◌, nat_le, unwrap_or}
+use Rattle.std.proofs.lemmas.Bool.{and_parts, cases_lt, cond-true, le-ltb, leb-true}
 use Rattle.std.proofs.Common.{lt-ltb}
 use Rattle.line_reader.specs.Numbers.{if_fits, is_decimal, decimal_value, decimal_number}
 
@@ -19,3 +19,7 @@ unfolding decimal_number
 at_most word is =
     ap (λ o. unwrap_or o (2 ^ 64 - 1)) (cond-true (is_decimal word) (if_fits (decimal_value word)) None is)
     ∙ fitted (decimal_value word)
+
+-- a number from one to a greatest is so
+pub both_ends : (n most : ℕ) → (nat_le 1 n && nat_le n most) ≡ true → (1 ≤ n) × (n ≤ most)
+both_ends n most e = let h = and_parts (nat_le 1 n) (nat_le n most) e in (leb-true 1 n h.0, leb-true n most h.1)

@@ -10,9 +10,9 @@ use Rattle.std.specs.Str.{bytes_eq}
 use Rattle.std.proofs.lemmas.Slice.Eq.{bytes_eq-Decides}
 use Rattle.cmd_words.specs.Forms.{Form, form_of, options_from, run_options}
 use Rattle.line_reader.specs.Numbers.{is_decimal, decimal_value}
-use Rattle.cmd_words.specs.Options.{Options, default_options, word_of, setting_in, takes, default_of, with_numbers}
+use Rattle.cmd_words.specs.Options.{Options, default_options, word_of, setting_in, takes, default_of, with_number, with_numbers}
 use Rattle.cmd_words.specs.Command.{asking}
-use Rattle.cmd_words.specs.Words.{Argument, NameSaid, ThreadSaid, arguments_of, thread_fault}
+use Rattle.cmd_words.specs.Words.{Argument, NameSaid, ThreadSaid, WorkloadSaid, arguments_of}
 use Rattle.cmd_words.specs.Words.{verb_of, form_asked, command_fault, operand_fault, no_option, request_for, stands_at}
 use Rattle.cmd_words.specs.Words.{option_place, option_fault, value_fault, fault_at, usage_fault, value_below, number_given, options_given}
 use Rattle.cmd_words.specs.Words.{command_of}
@@ -20,12 +20,12 @@ use Rattle.cmd_words.specs.Given.{given_of, IsSoundTo, IsReadTo}
 use Rattle.cmd_words.specs.declared.command.UsageKind.{UsageKind}
 use Rattle.cmd_words.specs.declared.command.UsageKind.TheVariants.{Unknown, Repeated}
 use Rattle.cmd_words.specs.declared.form.Operand.{Operand}
-use Rattle.cmd_words.specs.declared.form.Operand.TheVariants.{Name, Thread}
+use Rattle.cmd_words.specs.declared.form.Operand.TheVariants.{Name, Thread, Workload}
 use Rattle.cmd_words.specs.declared.given.Given.{Given}
 use Rattle.cmd_words.specs.declared.setting.Setting.{Setting}
 use Rattle.cmd_words.specs.declared.setting.Setting.TheVariants.{Vl, Svl, Slice, Budget, Threads, Cores}
 use Rattle.cmd_words.specs.declared.verb.Verb.{Verb}
-use Rattle.cmd_words.specs.declared.verb.Verb.TheVariants.{Run, Sim, Replay}
+use Rattle.cmd_words.specs.declared.verb.Verb.TheVariants.{Bench}
 use Rattle.sm_types.proofs.Places.{or_next, find-more, find-none}
 use Rattle.cmd_words.proofs.Faults.{get_past, at_option, at_value, fault_at-operand, fault_at-option, fault_at-value, usage_at, usage_none}
 
@@ -490,12 +490,13 @@ both_named (w ∷ v ∷ []) first second e f = cc
 both_named (w ∷ v ∷ u ∷ words) first second e f =
     ap (λ n. NameSaid n ∷ NameSaid u ∷ []) (same_word v first e) ∙ ap (λ n. NameSaid first ∷ NameSaid n ∷ []) (same_word u second f)
 
--- the last operand of `replay` is the number of a guest thread
-pub thread_stands : (words : List (List ℕ)) (given : Given) (n : ℕ) → IsReadTo words (form_of Replay) n given
-    → ForSome (slice_get words 3) (λ word. thread_fault word ≡ None)
-thread_stands words given n h = λ word at.
-    let l : 4 ≤ n = h.past in
-    ap (operand_fault Thread) (sym at) ∙ sym (fault_at-operand words (form_of Replay) 2 Thread h.asked refl) ∙ h.sound 3 (omega arith)
+-- where words are read past the operands, each of them has no fault
+pub operand_stands : (words : List (List ℕ)) (form : Form) (given : Given) (n k : ℕ) (operand : Operand) → IsReadTo words form n given
+    → slice_get form.operands k ≡ Some operand → k < length form.operands
+    → ForSome (slice_get words (k + 1)) (λ word. operand_fault operand (Some word) ≡ None)
+operand_stands words form given n k operand h is l = λ word at.
+    let past : 1 + length form.operands ≤ n = h.past in
+    ap (operand_fault operand) (sym at) ∙ sym (fault_at-operand words form k operand h.asked is) ∙ h.sound (k + 1) (omega arith)
 
 -- the operands of `replay`
 pub replayed : (words : List (List ℕ)) (program report : List ℕ) (thread : ℕ) → slice_get words 1 ≡ Some program
@@ -509,3 +510,16 @@ replayed (w ∷ p ∷ r ∷ t ∷ words) program report thread e f g =
     ap (λ n. NameSaid n ∷ NameSaid r ∷ ThreadSaid (decimal_value t) ∷ []) (same_word p program e)
     ∙ ap (λ n. NameSaid program ∷ NameSaid n ∷ ThreadSaid (decimal_value t) ∷ []) (same_word r report f)
     ∙ ap (λ n. NameSaid program ∷ NameSaid report ∷ ThreadSaid n ∷ []) (same_number (decimal_value t) thread g)
+
+-- the operand of a command that has the number of a workload alone
+pub numbered : (words : List (List ℕ)) (number : ℕ) → option_map decimal_value (slice_get words 1) ≡ Some number
+    → arguments_of (Workload ∷ []) (drop 1 words) ≡ WorkloadSaid number ∷ []
+numbered [] number e = cc
+numbered (w ∷ []) number e = cc
+numbered (w ∷ v ∷ words) number e = ap (λ n. WorkloadSaid n ∷ []) (same_number (decimal_value v) number e)
+
+-- the options of `bench`: the cores alone are read
+pub bench_options : (words : List (List ℕ)) (given : Given) → IsReadTo words (form_of Bench) (length words) given
+    → options_given (form_of Bench) words ≡ with_number default_options Cores (unwrap_or (given_of given Cores) (default_of Cores))
+unfolding options_given
+bench_options words given h = ap (with_number default_options Cores) (given_number words (form_of Bench) given h Cores)

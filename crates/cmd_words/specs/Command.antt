@@ -1,14 +1,16 @@
 -- What a command and a fault of the code stand for.
-use Rattle.std.specs.Prelude.{◌≡◌, ℕ, List, [], ◌∷◌, Some}
+use Rattle.std.specs.Prelude.{◌≡◌, ℕ, ◌<◌, ◌≤◌, List, [], ◌∷◌, Some}
 use Rattle.std.specs.String.{string_bytes}
-use Rattle.cmd_words.specs.Options.{Options, default_options, options_of}
-use Rattle.cmd_words.specs.Words.{Argument, NameSaid, ThreadSaid, Request, usage_fault}
+use Rattle.cmd_words.specs.Options.{Options, default_options, with_number, options_of}
+use Rattle.cmd_words.specs.Words.{Argument, NameSaid, ThreadSaid, WorkloadSaid, Request, usage_fault}
 use Rattle.cmd_words.specs.declared.command.Command.{Command}
 use Rattle.cmd_words.specs.declared.command.Command.TheVariants as command
 use Rattle.cmd_words.specs.declared.command.WordsFault.{WordsFault}
 use Rattle.cmd_words.specs.declared.command.WordsFault.TheVariants as fault
 use Rattle.cmd_words.specs.declared.verb.Verb.{Verb}
-use Rattle.cmd_words.specs.declared.verb.Verb.TheVariants.{Run, Sim, Dis, Asm, Replay, Help, Version}
+use Rattle.cmd_words.specs.declared.verb.Verb.TheVariants.{Run, Sim, Dis, Asm, Replay, Gen, Bench}
+use Rattle.cmd_words.specs.declared.verb.Verb.TheVariants.{Help, Version}
+use Rattle.cmd_words.specs.declared.setting.Setting.TheVariants.{Cores}
 
 abbrev pub asking : Verb → List Argument → Options → Request
 asking verb operands options = record { verb = verb; operands = operands; options = options }
@@ -25,8 +27,23 @@ request_of (command.Replay program report thread) =
     asking Replay
     (NameSaid (string_bytes program) ∷ NameSaid (string_bytes report) ∷ ThreadSaid thread ∷ [])
     default_options
+request_of (command.Gen number) = asking Gen (WorkloadSaid number ∷ []) default_options
+request_of (command.Bench number cores) =
+    asking Bench (WorkloadSaid number ∷ []) (with_number default_options Cores cores)
 request_of command.Help = asking Help [] default_options
 request_of command.Version = asking Version [] default_options
+
+-- the numbers of a command that are in no config are those that its words may give
+abbrev pub IsInRange : Command → Type 0
+IsInRange (command.Run program config) = Unit {0}
+IsInRange (command.Sim program plan config) = Unit {0}
+IsInRange (command.Dis program) = Unit {0}
+IsInRange (command.Asm source) = Unit {0}
+IsInRange (command.Replay program report thread) = thread < 32
+IsInRange (command.Gen number) = (1 ≤ number) × (number ≤ 20000)
+IsInRange (command.Bench number cores) = (1 ≤ number) × (number ≤ 20000) × (1 ≤ cores) × (cores ≤ 64)
+IsInRange command.Help = Unit {0}
+IsInRange command.Version = Unit {0}
 
 -- the fault is the first of the words; `Memory` says nothing of them
 abbrev pub IsFirstFault : List (List ℕ) → WordsFault → Type 0

@@ -1,11 +1,12 @@
 -- The forms of the commands: what stands after each of them. Source: this project's own command line.
 use Rattle.std.specs.Prelude.{ℕ, ◌+◌, List, [], ◌∷◌, length}
 use Rattle.cmd_words.specs.declared.form.Operand.{Operand}
-use Rattle.cmd_words.specs.declared.form.Operand.TheVariants.{Name, Thread}
+use Rattle.cmd_words.specs.declared.form.Operand.TheVariants.{Name, Thread, Workload}
 use Rattle.cmd_words.specs.declared.setting.Setting.{Setting}
 use Rattle.cmd_words.specs.declared.setting.Setting.TheVariants.{Vl, Svl, Slice, Budget, Threads, Cores}
 use Rattle.cmd_words.specs.declared.verb.Verb.{Verb}
-use Rattle.cmd_words.specs.declared.verb.Verb.TheVariants.{Run, Sim, Dis, Asm, Replay, Help, Version}
+use Rattle.cmd_words.specs.declared.verb.Verb.TheVariants.{Run, Sim, Dis, Asm, Replay, Gen, Bench}
+use Rattle.cmd_words.specs.declared.verb.Verb.TheVariants.{Help, Version}
 
 -- what must stand after a command, in order, and the options that may follow then, each with its value as the
 -- next word
@@ -24,6 +25,8 @@ form_of Sim = record { operands = Name ∷ Name ∷ []; options = run_options }
 form_of Dis = record { operands = Name ∷ []; options = [] }
 form_of Asm = record { operands = Name ∷ []; options = [] }
 form_of Replay = record { operands = Name ∷ Name ∷ Thread ∷ []; options = [] }
+form_of Gen = record { operands = Workload ∷ []; options = [] }
+form_of Bench = record { operands = Workload ∷ []; options = Cores ∷ [] }
 form_of Help = record { operands = []; options = [] }
 form_of Version = record { operands = []; options = [] }
 

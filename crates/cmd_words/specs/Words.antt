@@ -14,10 +14,11 @@ use Rattle.cmd_words.specs.declared.command.UsageKind.{UsageKind}
 use Rattle.cmd_words.specs.declared.command.UsageKind.TheVariants.{Unknown, Missing, Repeated, BadNumber}
 use Rattle.cmd_words.specs.declared.command.UsageKind.TheVariants.{OutOfRange, Extra}
 use Rattle.cmd_words.specs.declared.form.Operand.{Operand}
-use Rattle.cmd_words.specs.declared.form.Operand.TheVariants.{Name, Thread}
+use Rattle.cmd_words.specs.declared.form.Operand.TheVariants.{Name, Thread, Workload}
 use Rattle.cmd_words.specs.declared.setting.Setting.{Setting}
 use Rattle.cmd_words.specs.declared.verb.Verb.{Verb}
-use Rattle.cmd_words.specs.declared.verb.Verb.TheVariants.{Run, Sim, Dis, Asm, Replay, Help, Version}
+use Rattle.cmd_words.specs.declared.verb.Verb.TheVariants.{Run, Sim, Dis, Asm, Replay, Gen, Bench}
+use Rattle.cmd_words.specs.declared.verb.Verb.TheVariants.{Help, Version}
 
 -- the command of a word
 unfoldable pub verb_of : List ℕ → Option Verb
@@ -27,9 +28,11 @@ verb_of word =
     else (if bytes_eq word (codes "dis") then Some Dis
     else (if bytes_eq word (codes "asm") then Some Asm
     else (if bytes_eq word (codes "replay") then Some Replay
+    else (if bytes_eq word (codes "gen") then Some Gen
+    else (if bytes_eq word (codes "bench") then Some Bench
     else (if bytes_eq word (codes "--help") then Some Help
     else (if bytes_eq word (codes "--version") then Some Version
-    else None))))))
+    else None))))))))
 
 -- the form of the command that the first word is
 abbrev pub form_asked : List (List ℕ) → Option Form
@@ -60,17 +63,25 @@ abbrev pub command_fault : Option (List ℕ) → Option UsageKind
 command_fault None = Some Missing
 command_fault (Some word) = if is_some (verb_of word) then None else Some Unknown
 
+-- a word is to be a number that is taken
+abbrev pub number_fault : (ℕ → Bool) → List ℕ → Option UsageKind
+number_fault taken word =
+    if is_decimal word then (if taken (decimal_value word) then None else Some OutOfRange) else Some BadNumber
+
 -- a word is to be the number of a guest thread, of which a run has at most 32
 abbrev pub thread_fault : List ℕ → Option UsageKind
-thread_fault word =
-    if is_decimal word then (if nat_lt (decimal_value word) 32 then None else Some OutOfRange)
-    else Some BadNumber
+thread_fault = number_fault (λ number. nat_lt number 32)
+
+-- a word is to be the number of a workload
+abbrev pub workload_fault : List ℕ → Option UsageKind
+workload_fault = number_fault (λ number. nat_le 1 number && nat_le number 20000)
 
 -- an operand is to stand
 abbrev pub operand_fault : Operand → Option (List ℕ) → Option UsageKind
 operand_fault operand None = Some Missing
 operand_fault Name (Some word) = None
 operand_fault Thread (Some word) = thread_fault word
+operand_fault Workload (Some word) = workload_fault word
 
 -- what a word is that is none of the options: one too many, where the command takes none
 abbrev pub no_option : List Setting → UsageKind
@@ -89,9 +100,7 @@ option_fault form words place (Some word) =
 abbrev pub value_fault : Option Setting → Option (List ℕ) → Option UsageKind
 value_fault setting None = Some Missing
 value_fault None (Some word) = None
-value_fault (Some setting) (Some word) =
-    if is_decimal word then (if takes setting (decimal_value word) then None else Some OutOfRange)
-    else Some BadNumber
+value_fault (Some setting) (Some word) = number_fault (takes setting) word
 
 -- after a command of that form: its operands, then its options, and after each its value
 abbrev pub rest_fault : Form → List (List ℕ) → ℕ → Option Operand → Option UsageKind
@@ -144,14 +153,16 @@ number_given form words setting =
 unfoldable pub options_given : Form → List (List ℕ) → Options
 options_given form words = with_numbers default_options form.options (number_given form words)
 
--- what an operand says: the name of a file, or the number of a guest thread
+-- what an operand says: the name of a file, or the number of a guest thread or of a workload
 pub data Argument : Type 0 where
   NameSaid : List ℕ → Argument
   ThreadSaid : ℕ → Argument
+  WorkloadSaid : ℕ → Argument
 
 abbrev pub argument_of : Operand → List ℕ → Argument
 argument_of Name word = NameSaid word
 argument_of Thread word = ThreadSaid (decimal_value word)
+argument_of Workload word = WorkloadSaid (decimal_value word)
 
 -- what operands say, each by the word at its place
 abbrev pub arguments_of : List Operand → List (List ℕ) → List Argument

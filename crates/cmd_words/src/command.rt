@@ -30,6 +30,15 @@ pub enum Command {
         report: String,
         thread: u32,
     },
+    /// Writes the assembler source of the workload of that number, 1 to 20,000.
+    Gen {
+        number: u32,
+    },
+    /// Runs the workload of that number, 1 to 20,000, on that many cores, 1 to 64.
+    Bench {
+        number: u32,
+        cores: u32,
+    },
     /// Tells how the command is used.
     Help,
     /// Tells the version.

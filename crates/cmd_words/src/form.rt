@@ -13,6 +13,8 @@ pub enum Operand {
     Name,
     /// The number of a guest thread.
     Thread,
+    /// The number of a workload.
+    Workload,
 }
 
 /// What stands after a command: its operands, and then options, each with its value as the next word.
@@ -54,6 +56,14 @@ pub fn form_of(verb: Verb) -> Form
         Verb::Replay => Form {
             operands: &[Operand::Name, Operand::Name, Operand::Thread],
             options: &[],
+        },
+        Verb::Gen => Form {
+            operands: &[Operand::Workload],
+            options: &[],
+        },
+        Verb::Bench => Form {
+            operands: &[Operand::Workload],
+            options: &[Setting::Cores],
         },
         Verb::Help | Verb::Version => Form {
             operands: &[],

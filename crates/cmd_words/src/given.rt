@@ -79,7 +79,7 @@ impl Given {
     }
 
     /// The number of an option, given or not.
-    fn number(&self, setting: Setting) -> u32
+    pub fn number(&self, setting: Setting) -> u32
         ensures { result ≡ unwrap_or (given_of self.now setting) (spec.default_of setting) }
     {
         self.get(setting).unwrap_or(default_of(setting))

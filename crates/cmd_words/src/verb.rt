@@ -10,6 +10,8 @@ pub enum Verb {
     Dis,
     Asm,
     Replay,
+    Gen,
+    Bench,
     Help,
     Version,
 }
@@ -29,6 +31,10 @@ pub fn verb_of(word: &str) -> Option<Verb>
         Some(Verb::Asm)
     } else if word == "replay" {
         Some(Verb::Replay)
+    } else if word == "gen" {
+        Some(Verb::Gen)
+    } else if word == "bench" {
+        Some(Verb::Bench)
     } else if word == "--help" {
         Some(Verb::Help)
     } else if word == "--version" {

@@ -8,7 +8,7 @@ ghost use Rattle.cmd_words.specs.Forms as forms;
 ghost use Rattle.cmd_words.specs.Options as options;
 ghost use Rattle.cmd_words.specs.Words as spec;
 ghost use Rattle.cmd_words.specs.Words.{command_of, form_asked, value_fault};
-ghost use Rattle.cmd_words.specs.Command.{request_of, IsFirstFault};
+ghost use Rattle.cmd_words.specs.Command.{request_of, IsInRange, IsFirstFault};
 ghost use Rattle.cmd_words.specs.Given.{given_of, form_said, IsSoundTo, IsReadTo};
 
 use crate::command::{Command, UsageKind, WordsFault};
@@ -47,6 +47,17 @@ fn thread_fault(word: &str) -> Option<UsageKind>
     }
 }
 
+/// What is wrong with a word that is to be the number of a workload.
+fn workload_fault(word: &str) -> Option<UsageKind>
+    ensures { result ≡ spec.workload_fault word.now }
+{
+    match number_of(word) {
+        Some(number) if 1 <= number && number <= 20_000 => None,
+        Some(_) => Some(UsageKind::OutOfRange),
+        None => Some(UsageKind::BadNumber),
+    }
+}
+
 /// What is wrong where an operand is to stand.
 fn operand_fault(operand: Operand, word: Option<&str>) -> Option<UsageKind>
     ensures { result ≡ spec.operand_fault operand (option_map (λ word. word.now) word.entry) }
@@ -55,6 +66,7 @@ fn operand_fault(operand: Operand, word: Option<&str>) -> Option<UsageKind>
         (_, None) => Some(UsageKind::Missing),
         (Operand::Name, Some(_)) => None,
         (Operand::Thread, Some(word)) => thread_fault(word),
+        (Operand::Workload, Some(word)) => workload_fault(word),
     }
 }
 
@@ -187,6 +199,22 @@ fn thread_at(words: &[String], place: usize) -> u32
         (λ word. spec.thread_fault word ≡ None) }
     ensures number { option_map decimal_value (slice_get (map string_bytes words.now) place)
         ≡ Some result }
+    ensures in_range { result < 32 }
+{
+    match number_of(words[place].as_str()) {
+        Some(number) => number as u32,
+        None => unreachable!(),
+    }
+}
+
+/// The number of the workload at a place.
+fn workload_at(words: &[String], place: usize) -> u32
+    requires stands { place < length words.now }
+    requires number { ForSome (slice_get (map string_bytes words.now) place)
+        (λ word. spec.workload_fault word ≡ None) }
+    ensures number { option_map decimal_value (slice_get (map string_bytes words.now) place)
+        ≡ Some result }
+    ensures in_range { (1 ≤ result) × (result ≤ 20000) }
 {
     match number_of(words[place].as_str()) {
         Some(number) => number as u32,
@@ -205,6 +233,7 @@ fn make_command(
     requires read { IsReadTo (map string_bytes words.now) (forms.form_of verb) (length words.now) given.now }
     ensures command { IfOk result (λ command.
         command_of (map string_bytes words.now) ≡ Some (request_of command)) }
+    ensures in_range { IfOk result IsInRange }
     ensures fault { IfErr result (λ fault. fault ≡ WordsFault.Memory) }
 {
     match verb {
@@ -228,16 +257,24 @@ fn make_command(
             report: name_at(alloc, words, 2)?,
             thread: thread_at(words, 3),
         }),
+        Verb::Gen => Ok(Command::Gen {
+            number: workload_at(words, 1),
+        }),
+        Verb::Bench => Ok(Command::Bench {
+            number: workload_at(words, 1),
+            cores: given.number(Setting::Cores),
+        }),
         Verb::Help => Ok(Command::Help),
         Verb::Version => Ok(Command::Version),
     }
 }
 
 /// Reads the words of a command line, without the program's name: Ok is what they ask for, `Usage` is their
-/// first fault, and `Memory` says that it was out of memory.
+/// first fault, and `Memory` says that it was out of memory. A command's numbers are in their ranges.
 pub fn read_words(alloc: Global, words: &[String]) -> Result<Command, WordsFault>
     ensures command { IfOk result (λ command.
         command_of (map string_bytes words.now) ≡ Some (request_of command)) }
+    ensures in_range { IfOk result IsInRange }
     ensures fault { IfErr result (IsFirstFault (map string_bytes words.now)) }
 {
     let Some(word) = word_at(words, 0) else {

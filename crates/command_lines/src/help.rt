@@ -17,10 +17,12 @@ commands:
   asm SOURCE    assembles SOURCE and writes the ELF64 file of the program
   replay PROGRAM REPORT THREAD
                 runs thread THREAD of the report REPORT of PROGRAM alone and writes its block
+  gen N         writes the assembler source of workload N: 1 to 20000
+  bench N       runs workload N with four guest threads and writes what they counted
   --help        writes this text
   --version     writes the version
 
-options of run and sim, in any order after the names, each at most once:
+options of run and sim, of which bench takes --cores, in any order, each at most once:
   --vl BITS     vector length outside streaming mode: 128, 256, 512, 1024 or 2048; else 128
   --svl BITS    vector length in streaming mode: 128, 256, 512, 1024 or 2048; else 256
   --slice N     instructions between polls of the pending signals: 1 to 1000000; else 1000

@@ -1,5 +1,6 @@
 -- The ends of the threads of a run.
-use Rattle.std.proofs.Common.{◌≡◌, ℕ, zero, suc, List, [], ◌∷◌, map, refl, ap, subst}
+use Rattle.std.proofs.Common.{◌≡◌, ℕ, zero, suc, List, [], ◌∷◌, map, refl, ap, subst, ◌∙◌}
+use Rattle.std.proofs.lemmas.List.{length-map}
 use Rattle.std.specs.Prelude.{Option, Some, None, slice_get}
 use Rattle.sm_types.specs.declared.config.Config.{Config}
 use Rattle.sm_types.specs.declared.shared_op.Event.{Event}
@@ -11,8 +12,8 @@ use Rattle.kernel_contexts.specs.declared.context.Context.{Context}
 use Rattle.lone_runner.specs.LoneRun.{HasRunAlone, HaveRun}
 use Rattle.report_text.specs.Ends.{end_of, ends_of}
 use Rattle.report_text.specs.Report.{ThreadEnd}
-use Rattle.smemu.specs.Answers.{IsEndOf}
-use Rattle.smemu.specs.Worlds.{journals_of}
+use Rattle.smemu.specs.Runs.{IsEndOf, IsWholeRun}
+use Rattle.smemu.specs.Worlds.{AreSerialEnds, journals_of}
 
 end_here : (program : Program) (config : Config) (k : ℕ) (context : Context) → HasRunAlone program config k context
     → IsEndOf program config k (end_of context)
@@ -33,7 +34,7 @@ ends_at is_end (context ∷ contexts) h zero end e = subst (is_end 0) (same_some
 ends_at is_end (context ∷ contexts) h (suc k) end e =
     ends_at (λ n. is_end (suc n)) contexts (λ n c at. h (suc n) c at) k end e
 
-pub each_end : (program : Program) (config : Config) (contexts : List Context) (words : Words) → HaveRun program config contexts words
+each_end : (program : Program) (config : Config) (contexts : List Context) (words : Words) → HaveRun program config contexts words
     → (k : ℕ) (end : ThreadEnd) → slice_get (ends_of contexts) k ≡ Some end → IsEndOf program config k end
 each_end program config contexts words h =
     ends_at (IsEndOf program config) contexts (λ k context at. end_here program config k context (h.each k context at))
@@ -42,6 +43,17 @@ journals_are : (contexts : List Context) → map journal_of contexts ≡ journal
 journals_are [] = refl
 journals_are (context ∷ contexts) = ap (λ (js : List (List Event)). journal_of context ∷ js) (journals_are contexts)
 
-pub same_journals : (contexts : List Context) (words : Words) → AreOneHistory (map journal_of contexts) words
+same_journals : (contexts : List Context) (words : Words) → AreOneHistory (map journal_of contexts) words
     → AreOneHistory (journals_of (ends_of contexts)) words
 same_journals contexts words h = subst (λ (js : List (List Event)). AreOneHistory js words) (journals_are contexts) h
+
+-- a run on cores, whose ends on one core are those of the serial events
+pub whole_run : (program : Program) (config : Config) (contexts : List Context) (words : Words) → HaveRun program config contexts words
+    → (config.cores ≡ 1 → AreSerialEnds program config (ends_of contexts) words)
+    → IsWholeRun program config (ends_of contexts) words
+whole_run program config contexts words h serial = record {
+  threads = length-map contexts _ ∙ h.threads;
+  each = each_end program config contexts words h;
+  one_history = same_journals contexts words h.one_history;
+  serial = serial;
+}

@@ -1,55 +1,45 @@
 -- What the command writes for a request: the report of a run, the text of a plan, a listing, a program's
 -- file, the block of a thread that is replayed, or a text of its own; and what else may become of it.
-use Rattle.std.specs.Prelude.{◌≡◌, ℕ, [], ◌∷◌, List, Some, None, IfSome, length, map, slice_get}
+use Rattle.std.specs.Prelude.{◌≡◌, ℕ, [], ◌∷◌, List, Some, None, IfSome}
 use Rattle.sha2.specs.Sha256.{sha256}
 use Rattle.sm_types.specs.declared.config.Config.{Config}
 use Rattle.sm_types.specs.declared.object.Object.{Object}
 use Rattle.sm_types.specs.declared.shared_words.Words.{Words}
-use Rattle.sm_types.specs.declared.stop.Stop.{Stop}
-use Rattle.shared_region.specs.History.{AreOneHistory}
 use Rattle.edge_io.specs.Files.{Told}
 use Rattle.cmd_words.specs.Options.{Options, options_of}
-use Rattle.cmd_words.specs.Words.{Argument, ThreadSaid, Request}
+use Rattle.cmd_words.specs.Words.{Argument, ThreadSaid, WorkloadSaid, Request}
 use Rattle.cmd_words.specs.declared.verb.Verb.{Verb}
-use Rattle.cmd_words.specs.declared.verb.Verb.TheVariants.{Run, Sim, Dis, Asm, Replay, Help, Version}
+use Rattle.cmd_words.specs.declared.verb.Verb.TheVariants.{Run, Sim, Dis, Asm, Replay, Gen, Bench}
+use Rattle.cmd_words.specs.declared.verb.Verb.TheVariants.{Help, Version}
 use Rattle.asm_core.specs.Assembly.{Assembles}
 use Rattle.code_listing.specs.Listing.{listing_text}
 use Rattle.paged_memory.specs.Image.{Program}
 use Rattle.elf_loader.specs.Loading.{Loads}
 use Rattle.elf_loader.specs.Objects.{IsFileOf}
-use Rattle.lone_runner.specs.LoneRun.{IsLoneRun}
 use Rattle.report_text.specs.Report.{ThreadEnd, report_text}
 use Rattle.command_lines.specs.Texts.{help_text, version_text}
 use Rattle.command_lines.specs.declared.status.Status.{Status}
 use Rattle.command_lines.specs.declared.status.Status.TheVariants.{Done, BadReport, Differs}
 use Rattle.smemu.specs.Rejections.{rejection_of}
+use Rattle.workload.specs.Source.{source_of}
+use Rattle.smemu.specs.Bench.{IsBench}
 use Rattle.smemu.specs.Replay.{IsReplayOf, MismatchesSo, DiffersSo}
 use Rattle.smemu.specs.Requests.{Named, files_named}
-use Rattle.smemu.specs.Worlds.{AreSerialEnds, IsSimulation, journals_of}
+use Rattle.smemu.specs.Runs.{IsWholeRun}
+use Rattle.smemu.specs.Worlds.{IsSimulation}
 
 -- the file of that name, as far as the files are told
 abbrev pub IsFile : Told → List ℕ → List ℕ → Type 0
 IsFile told name file = IfSome told (λ files. files name ≡ Some file)
 
--- guest thread k of the program ends so, alone, where its journal answers it
-pub record IsEndOf (program : Program) (config : Config) (k : ℕ) (end : ThreadEnd) : Type 0 where
-  pub number : end.thread ≡ k
-  pub stop : Stop
-  pub stopped : end.stop ≡ Some stop
-  pub run : IsLoneRun program config k end.journal end.state stop
-
 -- the text is the report of the run of a file with these options: the program that it is loaded as, the end
--- of each guest thread, and the words that they share; the threads' journals are one history, which ends in
--- these words. On one core the ends and the words are those after the serial events
+-- of each guest thread, and the words that they share
 pub record IsReportOf (file : List ℕ) (config : Config) (text : List ℕ) : Type 0 where
   pub program : Program
   pub loads : Loads file program
   pub ends : List ThreadEnd
-  pub threads : length ends ≡ config.threads
-  pub each : (k : ℕ) (end : ThreadEnd) → slice_get ends k ≡ Some end → IsEndOf program config k end
   pub words : Words
-  pub one_history : AreOneHistory (journals_of ends) words
-  pub serial : config.cores ≡ 1 → AreSerialEnds program config ends words
+  pub run : IsWholeRun program config ends words
   pub is_text : text ≡ report_text config (sha256 file) ends words
 
 -- the text is the report of the run of a file with these options
@@ -93,6 +83,11 @@ of_thread tells (program ∷ report ∷ ThreadSaid thread ∷ []) options (file 
     tells file bytes thread text
 of_thread tells operands options files text = ⊥
 
+-- of the number of a workload
+abbrev pub of_workload : (ℕ → Options → List ℕ → Type 0) → Outcome
+of_workload tells (WorkloadSaid number ∷ []) options [] text = tells number options text
+of_workload tells operands options files text = ⊥
+
 -- a text of the command's own
 abbrev pub own_text : List ℕ → Outcome
 own_text said operands options files text = text ≡ said
@@ -111,6 +106,8 @@ outcomes_of Asm Done = Tells (of_file (λ file options. IsProgramOf file))
 outcomes_of Replay Done = Tells (of_thread IsReplayOf)
 outcomes_of Replay BadReport = Tells (of_thread MismatchesSo)
 outcomes_of Replay Differs = Tells (of_thread DiffersSo)
+outcomes_of Gen Done = Tells (of_workload (λ number options text. text ≡ source_of number))
+outcomes_of Bench Done = Tells (of_workload IsBench)
 outcomes_of Help Done = Tells (own_text help_text)
 outcomes_of Version Done = Tells (own_text version_text)
 outcomes_of verb status = Never

@@ -5,6 +5,8 @@ pub mod Replay
 pub mod Compare
 pub mod Excerpt
 pub mod Worlds
+pub mod Runs
+pub mod Bench
 pub mod Answers
 pub mod Ends
 pub mod Views

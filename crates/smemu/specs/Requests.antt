@@ -2,9 +2,10 @@
 use Rattle.std.specs.Prelude.{◌≡◌, ℕ, List, [], ◌∷◌, Option, Some, None, is_none, slice_get}
 use Rattle.std.specs.Prelude.{if◌then◌else◌}
 use Rattle.edge_io.specs.Files.{Told}
-use Rattle.cmd_words.specs.Words.{Argument, NameSaid, ThreadSaid, Request, command_of}
+use Rattle.cmd_words.specs.Words.{Argument, NameSaid, ThreadSaid, WorkloadSaid, Request, command_of}
 use Rattle.cmd_words.specs.declared.verb.Verb.{Verb}
-use Rattle.cmd_words.specs.declared.verb.Verb.TheVariants.{Run, Sim, Dis, Asm, Replay, Help, Version}
+use Rattle.cmd_words.specs.declared.verb.Verb.TheVariants.{Run, Sim, Dis, Asm, Replay, Gen, Bench}
+use Rattle.cmd_words.specs.declared.verb.Verb.TheVariants.{Help, Version}
 use Rattle.command_lines.specs.declared.status.Status.{Status}
 use Rattle.command_lines.specs.declared.status.Status.TheVariants.{Done, Usage, Absent}
 use Rattle.smemu.specs.Rejections.{Kind, ProgramFile, SourceFile, ReportFile, PlanFile, rejection_of}
@@ -23,6 +24,8 @@ kinds_of Sim = ProgramFile ∷ PlanFile ∷ []
 kinds_of Dis = ProgramFile ∷ []
 kinds_of Asm = SourceFile ∷ []
 kinds_of Replay = ProgramFile ∷ ReportFile ∷ []
+kinds_of Gen = []
+kinds_of Bench = []
 kinds_of Help = []
 kinds_of Version = []
 
@@ -30,6 +33,7 @@ kinds_of Version = []
 abbrev pub named_by : List Argument → List Kind → List Named
 named_by [] kinds = []
 named_by (ThreadSaid thread ∷ operands) kinds = named_by operands kinds
+named_by (WorkloadSaid number ∷ operands) kinds = named_by operands kinds
 named_by (NameSaid name ∷ operands) [] = []
 named_by (NameSaid name ∷ operands) (kind ∷ kinds) =
     record { name = name; kind = kind } ∷ named_by operands kinds

@@ -22,7 +22,9 @@ use Rattle.command_lines.specs.ReportLines.{report_line, difference_lines}
 use Rattle.command_lines.specs.Texts.{usage_line, help_text, version_text}
 use Rattle.command_lines.specs.declared.status.Status.{Status}
 use Rattle.command_lines.specs.declared.status.Status.TheVariants as status
+use Rattle.workload.specs.Source.{source_of}
 use Rattle.smemu.specs.Answers.{IsFile, outcome}
+use Rattle.smemu.specs.Bench.{bench_line}
 use Rattle.smemu.specs.DifferLines.{parting_line}
 use Rattle.smemu.specs.Excerpt.{excerpt_text}
 use Rattle.smemu.specs.Ends.{Change, change, Stands, Defined, FetchesReached, absent_line, read_fault_line}
@@ -33,6 +35,7 @@ use Rattle.smemu.specs.declared.answer.Answer.{Answer}
 use Rattle.smemu.specs.declared.answer.Answer.TheVariants as answer
 use Rattle.smemu.specs.declared.answer.RunReport.{RunReport}
 use Rattle.smemu.specs.declared.answer.Simulation.{Simulation}
+use Rattle.smemu.specs.declared.bench.Summary.{Summary}
 use Rattle.smemu.specs.declared.ending.Difference.{Difference}
 use Rattle.smemu.specs.declared.ending.Difference.TheVariants as difference
 use Rattle.smemu.specs.declared.ending.Ending.{Ending}
@@ -51,6 +54,10 @@ run_text r = report_text r.head.config r.head.image (ends_of r.run.contexts.item
 unfoldable pub simulation_text : Simulation → List ℕ
 simulation_text s = sim_text s.lines.items s.answers.items (run_text s.report) s.history.items
 
+-- the line of a workload
+abbrev pub summary_text : Summary → List ℕ
+summary_text s = bench_line s.number s.instructions s.word
+
 -- the text of an answer
 abbrev pub answer_text : Answer → List ℕ
 answer_text (answer.Report report) = run_text report
@@ -58,6 +65,8 @@ answer_text (answer.Simulation simulation) = simulation_text simulation
 answer_text (answer.Listing image) = listing_text image.code
 answer_text (answer.Program bytes) = bytes.items
 answer_text (answer.Block block) = excerpt_text block
+answer_text (answer.Source number) = source_of number
+answer_text (answer.Summary summary) = summary_text summary
 answer_text answer.Help = help_text
 answer_text answer.Version = version_text
 

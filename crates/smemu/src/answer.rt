@@ -2,6 +2,7 @@
 ghost use Rattle.edge_io.specs.Sink.{Writes};
 ghost use Rattle.smemu.specs.Views.{answer_text, run_text, simulation_text};
 
+use crate::bench::{Summary, write_summary};
 use crate::excerpt::Excerpt;
 use code_listing::write_listing;
 use command_lines::{write_help, write_version};
@@ -11,6 +12,7 @@ use paged_memory::Image;
 use report_text::{Head, write_report};
 use sim_text::write_sim;
 use sm_types::Entry;
+use workload::write_source;
 use world_core::Applied;
 
 /// A run that has ended.
@@ -48,6 +50,10 @@ pub enum Answer {
     Program(Vec<u8>),
     /// The block of a thread that was replayed, which stands in its report.
     Block(Excerpt),
+    /// The source of the workload of that number.
+    Source(u32),
+    /// What a workload came to.
+    Summary(Summary),
     Help,
     Version,
 }
@@ -87,6 +93,8 @@ pub fn write_answer<K: Sink>(out: &mut K, answer: &Answer) -> Result<(), PutFaul
         Answer::Listing(image) => write_listing(image.code(), out),
         Answer::Program(bytes) => out.put(bytes.as_slice()),
         Answer::Block(block) => out.put(block.bytes()),
+        Answer::Source(number) => write_source(*number, out),
+        Answer::Summary(summary) => write_summary(out, summary),
         Answer::Help => write_help(out),
         Answer::Version => write_version(out),
     }

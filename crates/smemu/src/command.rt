@@ -1,57 +1,37 @@
 //! The command of the words.
-ghost use Rattle.std.specs.Prelude.{◌≡◌, IfOk, map};
+ghost use Rattle.std.specs.Prelude.{◌≡◌, ◌≤◌, IfOk, map};
 ghost use Rattle.std.specs.String.{string_bytes};
 ghost use Rattle.a64_encode.specs.Writable.{IsWritable};
 ghost use Rattle.asm_core.specs.Assembly.{Assembles};
-ghost use Rattle.cmd_words.specs.Command.{request_of};
+ghost use Rattle.cmd_words.specs.Command.{request_of, IsInRange};
+ghost use Rattle.cmd_words.specs.Options.{default_options, options_of, with_number};
 ghost use Rattle.cmd_words.specs.declared.command.Command.TheVariants as command;
+ghost use Rattle.cmd_words.specs.declared.setting.Setting.TheVariants.{Cores};
 ghost use Rattle.edge_io.specs.Files.{IsKept};
 ghost use Rattle.edge_io.specs.Sink.{Writes};
 ghost use Rattle.elf_loader.specs.Loading.{Loads};
-ghost use Rattle.lone_runner.specs.LoneRun.{HaveRun};
 ghost use Rattle.smemu.specs.Answers.{IsReportOf, IsProgramOf};
 ghost use Rattle.smemu.specs.Ends.{change, call, IsDone, IsRefused, IsComplete, Fetches};
 ghost use Rattle.smemu.specs.Views.{run_text, end_text, end_status, CarriesOut, EndsWords};
-ghost use Rattle.world_core.specs.Serial.{IsSerialRun};
 
 use crate::answer::{Answer, RunReport, write_answer};
+use crate::bench::run_workload;
 use crate::files::{open_plan, open_program, open_report, open_source};
 use crate::refusal::{Refusal, status_of, write_refusal};
 use crate::replay::replay_report;
+use crate::run::run_threads;
 use crate::simulate::simulate;
 use cmd_words::{Command, WordsFault, read_words};
 use command_lines::Status;
 use edge_io::{Files, Gate, PutFault, Sink};
 use elf_loader::write_elf;
-use kernel_contexts::Finished;
 use paged_memory::Image;
 use report_text::Head;
 use sha2::{Digest, Sha256};
 use sm_types::{Config, Memory, Object};
-use smp_runner::run_cores;
 use std::alloc::Global;
 use std::sync::Wait;
 use std::thread::Threads;
-use world_core::run_one;
-
-/// Runs all threads of an image, on as many cores as the options say.
-fn run_threads<R: Threads + Wait + Sync, G: Gate + Sync>(
-    rt: &R,
-    alloc: Global,
-    image: &Image,
-    config: &Config,
-    gate: &G,
-) -> Result<Finished, Memory>
-    ensures run { IfOk result (λ run. HaveRun image.now config.now run.contexts.items run.words) }
-    ensures serial { IfOk result (λ run. config.now.cores ≡ 1
-        → IsSerialRun image.now config.now run.contexts.items run.words) }
-{
-    if config.cores == 1 {
-        run_one(alloc, image, config)
-    } else {
-        run_cores(rt, alloc, image, config, gate)
-    }
-}
 
 /// The run of the image of a file.
 fn run_image<R: Threads + Wait + Sync, G: Gate + Sync>(
@@ -179,6 +159,39 @@ fn replay_thread<F: Files>(
     replay_report(alloc, file.bytes.as_slice(), &file.content, read, thread)
 }
 
+/// The options of a workload on so many cores: four threads, and else those of a command that gives none.
+fn bench_options(cores: u32) -> Config
+    requires { (1 ≤ cores) × (cores ≤ 64) }
+    ensures given { options_of result ≡ record (with_number default_options Cores cores) { threads = 4 } }
+    ensures threads { result.threads ≡ 4 }
+{
+    let mut config = Config::defaults();
+    config.threads = 4;
+    config.cores = cores;
+    config
+}
+
+/// `bench N` with its option: the line of that workload.
+fn bench<R: Threads + Wait + Sync, F: Files, G: Gate + Sync>(
+    rt: &R,
+    alloc: Global,
+    number: u32,
+    cores: u32,
+    files: &mut F,
+    gate: &G,
+) -> Result<Answer, Refusal>
+    requires number { number ≤ 20000 }
+    requires cores { (1 ≤ cores) × (cores ≤ 64) }
+    ensures { CarriesOut F.fetched F.view (request_of (command.Bench number cores)) files.old files.new
+        result }
+{
+    let config = bench_options(cores);
+    match run_workload(rt, alloc, number, &config, gate) {
+        Ok(summary) => Ok(Answer::Summary(summary)),
+        Err(Memory) => Err(Refusal::Memory),
+    }
+}
+
 /// Carries out a command.
 fn carry_out<R: Threads + Wait + Sync, F: Files, G: Gate + Sync>(
     rt: &R,
@@ -187,6 +200,7 @@ fn carry_out<R: Threads + Wait + Sync, F: Files, G: Gate + Sync>(
     files: &mut F,
     gate: &G,
 ) -> Result<Answer, Refusal>
+    requires { IsInRange asked }
     ensures { CarriesOut F.fetched F.view (request_of asked) files.old files.new result }
 {
     match asked {
@@ -203,6 +217,8 @@ fn carry_out<R: Threads + Wait + Sync, F: Files, G: Gate + Sync>(
             report,
             thread,
         } => replay_thread(alloc, program, report, thread, files),
+        Command::Gen { number } => Ok(Answer::Source(number)),
+        Command::Bench { number, cores } => bench(rt, alloc, number, cores, files, gate),
         Command::Help => Ok(Answer::Help),
         Command::Version => Ok(Answer::Version),
     }
@@ -247,14 +263,20 @@ fn status_of_end(end: &Result<Answer, Refusal>) -> Status
     }
 }
 
-/// Carries out the command of the words, which are the command line without the program's name: `run
-/// PROGRAM` with its options runs the program file of that name and writes the report of its run, on several
-/// cores by as many threads of the system, each of which passes the gate before it lets a thread run; `sim
-/// PROGRAM PLAN` makes the events of the plan of that name and writes which were skipped, the report and the
-/// history, `dis PROGRAM` writes the program's listing, `asm SOURCE` assembles the source file of that name
-/// and writes the program file, `replay PROGRAM REPORT THREAD` runs a thread of the report of that name alone
-/// and writes its block, `--help` and `--version` write their texts, and other words are answered by the line
-/// of their first fault.
+/// Carries out the command of the words, which are the command line without the program's name, and writes
+/// its text:
+///
+/// - `run PROGRAM` with its options runs the program file of that name: the report of its run;
+/// - `sim PROGRAM PLAN` with its options makes the events of the plan of that name: which were skipped, the
+///   report and the history;
+/// - `replay PROGRAM REPORT THREAD` runs a thread of the report of that name alone: its block;
+/// - `dis PROGRAM` lists the program;
+/// - `asm SOURCE` assembles the source of that name: the program file;
+/// - `gen N` writes the source of a workload, and `bench N` runs it: one line;
+/// - `--help` and `--version` write texts of their own.
+///
+/// Other words are answered by the line of their first fault. A run on several cores is made by as many threads
+/// of the system, each of which passes the gate before it lets a guest thread run; there the call may wait.
 pub fn smemu_main<R: Threads + Wait + Sync, F: Files, K: Sink, G: Gate + Sync>(
     rt: &R,
     alloc: Global,

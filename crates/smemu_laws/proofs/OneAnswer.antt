@@ -1,7 +1,7 @@
 -- Two texts that answer the same request for the same files are equal.
 use Rattle.std.proofs.Common.{◌≡◌, ℕ, ◌≤◌, List, [], ◌∷◌, length, cond, Option, Some, Result, Ok, refl, sym, ◌∙◌, ap}
 use Rattle.std.proofs.Common.{subst}
-use Rattle.std.specs.Prelude.{◌==◌, slice_get, if◌then◌else◌}
+use Rattle.std.specs.Prelude.{◌==◌, slice_get, slice_index, if◌then◌else◌}
 use mathlib.Core.HLevel.{Σ_prop_path}
 use native.Mathlib.Bridge.{le_prop}
 use Rattle.sha2.specs.Sha256.{sha256}
@@ -29,7 +29,9 @@ use Rattle.report_reader.specs.Reading.{Fault}
 use Rattle.report_reader.specs.Report.{Report, report_in}
 use Rattle.smemu.specs.Replay.{IsBlockIn, IsReplayOf, text_in}
 use Rattle.sim_text.specs.Sim.{sim_text}
+use Rattle.workload.specs.Source.{source_of}
 use Rattle.smemu.specs.Answers.{IsReportOf, IsReport, IsListingOf, IsProgramOf}
+use Rattle.smemu.specs.Bench.{all_counted, bench_line, IsBench, IsBenchOf}
 use Rattle.smemu.specs.Worlds.{AreEndsIn, AreSerialEnds, IsSimulationOf, IsSimulation}
 use Rattle.world_core.specs.Happens.{world_after, answers_after}
 use Rattle.world_core.specs.World.{World, start_world}
@@ -98,8 +100,8 @@ one_report : (file : List ℕ) (config : Config) (text other : List ℕ) → con
     → IsReportOf file config other → text ≡ other
 one_report file config text other one h g =
     let program = one_program file h.program g.program h.loads g.loads in
-    let serial = subst (λ (p : Program). AreSerialEnds p config h.ends h.words) program (h.serial one) in
-    let same = one_serial_run g.program config h.ends g.ends h.words g.words serial (g.serial one) in
+    let serial = subst (λ (p : Program). AreSerialEnds p config h.ends h.words) program (h.run.serial one) in
+    let same = one_serial_run g.program config h.ends g.ends h.words g.words serial (g.run.serial one) in
     h.is_text ∙ ap (λ (es : List ThreadEnd). report_text config (sha256 file) es h.words) same.same_ends
     ∙ ap (report_text config (sha256 file) g.ends) same.same_words ∙ sym g.is_text
 
@@ -142,6 +144,25 @@ one_assembly source text other h g =
     same_image h.object g.object h.written.program g.written.program (one_object source h.object g.object h.assembles g.assembles)
     h.written.image g.written.image in
     (g.written.program, subst (λ (p : Program). Loads text p) same h.written.loads, g.written.loads)
+
+-- ---- the runs of a workload
+
+one_bench_of : (number : ℕ) (config : Config) (text other : List ℕ) → config.cores ≡ 1 → IsBenchOf number config text
+    → IsBenchOf number config other → text ≡ other
+one_bench_of number config text other one h g =
+    let program =
+    same_image h.image.object g.image.object h.program g.program
+    (one_object (source_of number) h.image.object g.image.object h.image.assembles g.image.assembles) h.image.image g.image.image in
+    let serial = subst (λ (p : Program). AreSerialEnds p config h.ends h.words) program (h.run.serial one) in
+    let same = one_serial_run g.program config h.ends g.ends h.words g.words serial (g.run.serial one) in
+    h.is_text ∙ (λ i. bench_line number (all_counted (same.same_ends i)) (slice_index (same.same_words i).shared 0)) ∙ sym g.is_text
+
+pub one_bench : (number : ℕ) (options : Options) (text other : List ℕ) → options.cores ≡ 1 → IsBench number options text
+    → IsBench number options other → text ≡ other
+one_bench number options text other one h g =
+    let config = same_config h.config g.config (h.given ∙ sym g.given) in
+    let of_config = subst (λ (c : Config). IsBenchOf number c text) config h.bench in
+    one_bench_of number g.config text other (ap (λ (o : Options). o.cores) g.given ∙ one) of_config g.bench
 
 -- ---- the replays of a thread
 

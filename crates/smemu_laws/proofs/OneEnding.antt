@@ -5,9 +5,9 @@ use Rattle.std.proofs.lemmas.Slice.Eq.{bytes_eq-Decides}
 use Rattle.sha2.specs.Sha256.{sha256}
 use Rattle.sm_types.specs.declared.config.Config.{Config}
 use Rattle.cmd_words.specs.Options.{Options}
-use Rattle.cmd_words.specs.Words.{Argument, ThreadSaid, Request, command_of}
+use Rattle.cmd_words.specs.Words.{Argument, ThreadSaid, WorkloadSaid, Request, command_of}
 use Rattle.cmd_words.specs.declared.verb.Verb.{Verb}
-use Rattle.cmd_words.specs.declared.verb.Verb.TheVariants.{Run, Sim, Dis, Asm, Replay, Help, Version}
+use Rattle.cmd_words.specs.declared.verb.Verb.TheVariants.{Run, Sim, Dis, Asm, Replay, Gen, Bench, Help, Version}
 use Rattle.edge_io.specs.Files.{FilesView}
 use Rattle.lone_runner.specs.Parting.{IsParting}
 use Rattle.lone_runner.specs.declared.fault.AloneFault.{AloneFault}
@@ -34,7 +34,7 @@ use Rattle.smemu.specs.declared.rejection.Rejection.TheVariants as rejection
 use Rattle.smemu_laws.specs.OneAnswer.{AreOneText}
 use Rattle.smemu_laws.proofs.Fates.{Fate, AllAccepted, Missing, Refused, IsDecided, missing_line, accepted_fate, decided}
 use Rattle.smemu_laws.proofs.OneAnswer.{same_said, one_assembly, one_block, one_listing, one_replay, one_run_report}
-use Rattle.smemu_laws.proofs.OneAnswer.{one_simulation}
+use Rattle.smemu_laws.proofs.OneAnswer.{one_bench, one_simulation}
 
 -- a text differs from itself in no line
 no_line : (n : ℕ) (lines : List (List ℕ)) → first_difference n lines lines ≡ None
@@ -183,6 +183,9 @@ one_outcome Replay BadReport Differs (program ∷ report ∷ ThreadSaid thread �
     absurd (matched file bytes thread (block_of file bytes thread other g) h.fault h.is_mismatched)
 one_outcome Replay Differs BadReport (program ∷ report ∷ ThreadSaid thread ∷ []) options (file ∷ bytes ∷ []) text other h g =
     absurd (matched file bytes thread (block_of file bytes thread text h) g.fault g.is_mismatched)
+one_outcome Gen Done Done (WorkloadSaid number ∷ []) options [] text other h g = (refl, h ∙ sym g)
+one_outcome Bench Done Done (WorkloadSaid number ∷ []) options [] text other h g =
+    (refl, λ one. one_bench number options text other one h g)
 one_outcome Help Done Done operands options files text other h g = (refl, h ∙ sym g)
 one_outcome Version Done Done operands options files text other h g = (refl, h ∙ sym g)
 one_outcome Replay BadReport t operands options files text other h g = absurd g

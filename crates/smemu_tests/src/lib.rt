@@ -89,6 +89,19 @@ mod tests {
 3: outofrange|replay|p|r|18446744073709551616
 4: extra|replay|p|r|31|--vl
 1: extra|--version|--help
+1: missing|gen
+1: badnumber|gen|x
+1: outofrange|gen|0
+1: outofrange|gen|20001
+2: extra|gen|1|--cores
+1: missing|bench
+1: outofrange|bench|0
+1: outofrange|bench|20001
+2: unknown|bench|1|--threads|4
+2: unknown|bench|1|2
+3: missing|bench|1|--cores
+3: outofrange|bench|1|--cores|65
+4: repeated|bench|1|--cores|4|--cores|4
 ";
 
     fn words(alloc: Global, texts: &[&str]) -> Result<Vec<String>, Fail> {
@@ -276,6 +289,8 @@ mod tests {
             "\n  dis PROGRAM ",
             "\n  asm SOURCE ",
             "\n  replay PROGRAM REPORT THREAD\n",
+            "\n  gen N ",
+            "\n  bench N ",
             "\n  --vl BITS ",
             "\n  --svl BITS ",
             "\n  --budget N ",

@@ -14,3 +14,8 @@ pub returns-in-Version : goal.returns-in-Version
 returns-in-Version g c =
     rw c.in-Version.is (all_opened g.F.Files.fetched g.F.Files.view (request_of command.Version) [] c.args.files.now c.args.files.now
     (none_opened g.F.Files.fetched g.F.Files.view c.args.files.now) (Ok answer.Version) refl)
+
+pub returns-in-Gen : goal.returns-in-Gen
+returns-in-Gen g c =
+    rw c.in-Gen.is (all_opened g.F.Files.fetched g.F.Files.view (request_of (command.Gen c.in-Gen.number)) [] c.args.files.now
+    c.args.files.now (none_opened g.F.Files.fetched g.F.Files.view c.args.files.now) (Ok (answer.Source c.in-Gen.number)) refl)

@@ -1,6 +1,7 @@
-use Rattle.std.specs.Prelude.{◌≡◌, ℕ, ◌≤◌, ◌&&◌, true, unwrap_or, nat_le}
+use Rattle.std.specs.Prelude.{unwrap_or, nat_le}
 use Rattle.std.proofs.lemmas.Bool.{and_parts, leb-true}
 use Rattle.cmd_words.specs.Given.{given_of}
+use Rattle.cmd_words.proofs.Numbers.{both_ends}
 use Rattle.cmd_words.proofs.Reading.{number_in_range}
 use Rattle.cmd_words.specs.declared.setting.Setting.TheVariants.{Vl, Svl, Slice, Budget, Threads, Cores}
 use Rattle.cmd_words.proofs.given.Given.config.Goals as goal
@@ -10,10 +11,6 @@ length_of-requires c = rw c.number.ensures (number_in_range Vl (given_of c.args.
 
 pub length_of-requires-2 : goal.length_of-requires-2
 length_of-requires-2 c = rw c.number-2.ensures (number_in_range Svl (given_of c.args.self.now Svl) (c.requires Svl))
-
--- a number from one to a greatest is so
-both_ends : (n most : ℕ) → (nat_le 1 n && nat_le n most) ≡ true → (1 ≤ n) × (n ≤ most)
-both_ends n most e = let h = and_parts (nat_le 1 n) (nat_le n most) e in (leb-true 1 n h.0, leb-true n most h.1)
 
 pub invariant_of-result-clause-slice_in_range : goal.invariant_of-result-clause-slice_in_range
 invariant_of-result-clause-slice_in_range c =
