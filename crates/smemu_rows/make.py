@@ -18,6 +18,7 @@ from elf import (ALLOC, DYNAMIC, EXECINSTR, INTERP, LOAD, NOTE, STACK, STRTAB, S
                  symbols, text_of)
 from expected import report
 from expected_replay import replay
+from workload import bench_line, text as workload_text
 from altered import TWO_THREADS, altered_list, two_threads
 from instructions import EXIT, SVC, add, branch, call, movz, subs
 from sources import WITH_DATA, assemblies, source_refusals
@@ -603,6 +604,15 @@ def replays(programs):
     yield "of-no-program", "refused-empty", "", 0, 6, "bad file: truncated 0\n"
 
 
+def workload_rows():
+    """Sources of workloads and what their runs print, by a program that shares nothing with the emulator."""
+    for number in (1, 2, 77, 20000):
+        yield f"gen-{number}", 0, b"", workload_text(number), f"gen {number}"
+    for number, cores in ((1, None), (1, 4), (2, 64), (500, 2), (20000, 4)):
+        options = f" --cores {cores}" if cores else ""
+        yield f"bench-{number}-on-{cores or 1}", 0, b"", bench_line(number) + "\n", f"bench {number}{options}"
+
+
 def told(sort, name):
     """What the program prints of a file of lines, of which each agrees."""
     text = (HERE / "data" / name).read_text()
@@ -617,6 +627,15 @@ def told(sort, name):
             "texts": f"texts: {printed} agree both ways, {count - printed} aliases are read\n",
             "no-row": f"words of no row: {count} agree\n", "faults": f"lines at fault: {count} agree\n",
             "steps": f"{name}: {count} agree\n", "differing": f"altered steps: {count} differ, as they must\n"}[sort]
+
+
+def words_of(options):
+    """The words of a row: as they are, or a command with its options, where the file stands after the programs."""
+    if isinstance(options, str):
+        return options
+    words = [f"--{name} {value}" if value else name for name, value in options.items()]
+    at = 1 + sum(word.endswith(".elf") for word in words)
+    return " ".join([*words[:at], "@", *words[at:]])
 
 
 def main():
@@ -636,16 +655,19 @@ def main():
     rows += [(f"replay-{name}.report", status, text.encode(errors="surrogateescape"), out, {"replay": "", f"{program}.elf": "", str(number): ""})
              for name, program, text, number, status, out in replays(runnable)]
     rows += world_rows()
-    for old in [*data.glob("*.txt"), *data.glob("*.s"), *data.glob("*.report"), *data.glob("*.plan")]:
+    rows += workload_rows()
+    for old in [*data.glob("*.txt"), *data.glob("*.s"), *data.glob("*.report"), *data.glob("*.plan"), *data.glob("*.script")]:
         old.unlink()
     for old in data.glob("*.elf"):
         if not old.name.startswith("real-"):
             old.unlink()
-    for name, _, file, text, _ in rows:
-        (data / name).write_bytes(file)
-        (data / f"{name}.txt").write_bytes(text if isinstance(text, bytes) else text.encode())
-    words = lambda options: "".join(f" --{name} {value}" if value else f" {name}" for name, value in options.items())
-    (data / "rows.txt").write_text("".join(f"{name} {status}{words(options)}\n" for name, status, _, _, options in rows))
+    for name, status, file, text, _ in rows:
+        if file or "." in name:
+            (data / name).write_bytes(file)
+        if status is not None:
+            (data / f"{name}.txt").write_bytes(text if isinstance(text, bytes) else text.encode())
+    rows = [row for row in rows if row[1] is not None]
+    (data / "rows.txt").write_text("".join(f"{name} {status} {words_of(options)}\n" for name, status, _, _, options in rows))
     (data / "altered.txt").write_text(altered)
     (HERE / "stdout").write_text("".join(told(*argument.split("=")) for argument in (HERE / "args").read_text().split()))
     cases = altered.count("\t")

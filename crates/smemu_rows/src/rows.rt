@@ -1,7 +1,7 @@
-//! Files that are given to the command, each in memory, and what it is to write, with its status. Each line of
-//! the list has a file's name, a status, a command and its other words; the text that is to be written stands in
-//! the file of that name with `.txt` behind it. Before the file stand the programs among the words, which are
-//! names of files in `.elf`.
+//! Words that are given to the command, with their files in memory, and what it is to write, with its status.
+//! Each line of the list has a file's name, a status, and the words; `@` among them stands for the file. The
+//! text that is to be written stands in the file of that name with `.txt` behind it. Other words that end in
+//! `.elf` or `.report` are names of files too.
 
 use anyhow::{Context, Result};
 use edge_io::{MemFiles, MemSink, OpenGate};
@@ -19,7 +19,7 @@ fn add<R: Files + AllocGlobal>(rt: &R, files: &mut MemFiles, name: &str, path: &
         .map_err(|_| anyhow::anyhow!("memory"))
 }
 
-/// The words of the command line and the files that they name: the row's is `file`.
+/// The words of the command line and the files that they name.
 fn asked<R: Files + AllocGlobal>(
     rt: &R,
     name: &str,
@@ -27,22 +27,16 @@ fn asked<R: Files + AllocGlobal>(
 ) -> Result<(Vec<String>, MemFiles)> {
     let alloc = rt.alloc();
     let mut files = MemFiles::new(alloc);
-    add(rt, &mut files, "file", name)?;
-    let mut names = vec![in alloc;]?;
-    let mut others = vec![in alloc;]?;
+    let mut asked = vec![in alloc;]?;
     for word in words.split_whitespace() {
-        if word.ends_with(".elf") {
+        if word == "@" {
+            add(rt, &mut files, word, name)?;
+        } else if word.ends_with(".elf") || word.ends_with(".report") {
             add(rt, &mut files, word, word)?;
-            names.push(String::from_str(alloc, word)?)?;
-        } else {
-            others.push(String::from_str(alloc, word)?)?;
         }
+        asked.push(String::from_str(alloc, word)?)?;
     }
-    names.push(String::from_str(alloc, "file")?)?;
-    for other in others {
-        names.push(other)?;
-    }
-    Ok((names, files))
+    Ok((asked, files))
 }
 
 /// Tells whether a row agrees.
@@ -52,14 +46,12 @@ fn agrees<R: Files + AllocGlobal + Threads + Wait + Sync>(
     wanted: u8,
     words: &str,
 ) -> Result<bool> {
-    let (command, rest) = words.split_once(' ').unwrap_or((words, ""));
-    let (mut names, mut files) = asked(rt, name, rest)?;
-    names.insert(0, String::from_str(rt.alloc(), command)?)?;
+    let (asked, mut files) = asked(rt, name, words)?;
     let text_name = format!(in rt.alloc(); "{name}.txt")?;
     let text = fs::read(rt, text_name.as_str()).context("the text that is to be written")?;
     let mut out = MemSink::new(rt.alloc(), text.len()).map_err(|_| anyhow::anyhow!("memory"))?;
     let alloc = rt.alloc();
-    let status = smemu_main(rt, alloc, names.as_slice(), &mut files, &mut out, &OpenGate);
+    let status = smemu_main(rt, alloc, asked.as_slice(), &mut files, &mut out, &OpenGate);
     Ok(status.code() == wanted && out.bytes() == text.as_slice())
 }
 
