@@ -39,13 +39,7 @@ fn make(port: &mut SeatPort, seat: &mut Seat, thread: u32, op: SharedOp) -> u64
 }
 
 /// Makes an addition of a thread for each answer, which are written in order, and posts signal 3 to thread 0.
-fn work(
-    table: &SharedTable,
-    mut seat: Seat,
-    thread: u32,
-    amount: u64,
-    answers: &mut [u64],
-) -> Seat
+fn work(table: &SharedTable, mut seat: Seat, thread: u32, amount: u64, answers: &mut [u64]) -> Seat
     requires { IsTicketOf thread (table_name table.now) (ticket_of seat) }
     ensures { IsTicketOf thread (table_name table.now) (ticket_of result) }
 {
