@@ -217,6 +217,7 @@ missing_refused a b r e = cc
 absent_text : (verb : Verb) (cores : ℕ) (text other : List ℕ) → text ≡ other → AreOneText verb cores Absent text other
 absent_text Run cores text other e = e
 absent_text Asm cores text other e = e
+absent_text Bench cores text other e = e
 absent_text verb cores text other e = e
 
 rejected_text : (verb : Verb) (cores : ℕ) (rejection : Rejection) (text other : List ℕ) → text ≡ other
@@ -225,6 +226,8 @@ rejected_text Run cores (rejection.Program fault) text other e = e
 rejected_text Run cores rejected text other e = e
 rejected_text Asm cores (rejection.Program fault) text other e = e
 rejected_text Asm cores rejected text other e = e
+rejected_text Bench cores (rejection.Program fault) text other e = e
+rejected_text Bench cores rejected text other e = e
 rejected_text verb cores rejected text other e = e
 
 -- with want of memory comes no text

@@ -12,10 +12,10 @@ ghost use Rattle.smemu.specs.Requests.{files_named};
 ghost use Rattle.smemu_laws.specs.Names.{names_of, names_said};
 ghost use Rattle.smemu_laws.specs.OneAnswer.{AreOneText};
 
-/// Over files that are told, what words ask for has at most one answer, but for a run on several cores: two
-/// texts that answer it are equal, and two files of an assembled program are loaded as one program. So the
-/// report of a run on one core is a function of the program's file and the options, however many threads it
-/// has. Of runs on several cores nothing is said here.
+/// Over files that are told, what words ask for has at most one answer, but for `run` and `bench` on several
+/// cores: two texts that answer it are equal, and two files of an assembled program are loaded as one program.
+/// So the report of a run on one core is a function of the program's file and the options, however many threads
+/// it has. Of runs on several cores nothing is said here.
 pub fn one_answer()
     ensures { (files : List ℕ → Option (List ℕ)) (words : List (List ℕ)) (request : Request)
         (text other : List ℕ) → command_of words ≡ Some request
@@ -24,8 +24,8 @@ pub fn one_answer()
 {}
 
 /// Over files that are told, every request has one ending in any two calls, but where a file could not be
-/// read: one status, and with it one text, or two files that are loaded as one program, or two reports of a
-/// run on several cores.
+/// read: one status, and with it one text, or two files that are loaded as one program, or two texts of a run
+/// on several cores.
 pub fn one_ending()
     ensures { (files : List ℕ → Option (List ℕ)) (request : Request) (change again : Change FilesView)
         (s t : Status) (text other : List ℕ)
