@@ -1,0 +1,4 @@
+pub mod Recorded
+pub mod Moves
+pub mod Bytes
+pub mod Lines

@@ -1,0 +1,58 @@
+-- What a recorded run shows at a count is one state, and the next count with a PC is sought among these.
+use Rattle.std.proofs.Common.{◌≡◌, ◌≢◌, ℕ, ◌+◌, List, inl, inr, length, ap, sym, ◌∙◌, arith, subst}
+use Rattle.kernel_contexts.specs.State.{State}
+use Rattle.kernel_contexts.specs.Context.{state_of, stop_of, journal_of}
+use Rattle.kernel_contexts.specs.declared.context.Context.{Context}
+use Rattle.sm_types.specs.declared.config.Config.{Config}
+use Rattle.sm_types.specs.declared.shared_op.Event.{Event}
+use Rattle.paged_memory.specs.Image.{Program}
+use Rattle.lone_runner.specs.LoneRun.{IsLoneRun, HasRunAlone}
+use Rattle.lone_runner.specs.Parting.{IsShown, EndsAt, state_at}
+use Rattle.lone_runner.proofs.Partings.{compared}
+use Rattle.lone_runner.proofs.Shown.{state_standing}
+use Rattle.sme_debugger.specs.Recording.{Recording, Shows, reached_by, counted_by}
+use Rattle.sme_debugger.specs.Answers.{NoneBetween}
+
+counts_there : (r : Recording) (count : ℕ) (s : State) (h : Shows r count s) → counted_by r h.turns ≡ count
+counts_there r count s h = ap (λ (t : State). t.count) h.reached ∙ h.counts
+
+pub one_state : (r : Recording) (count : ℕ) (s t : State) → Shows r count s → Shows r count t → s ≡ t
+one_state r count s t h k = elim (compared h.turns k.turns) [
+  | inl less ↦ absurd (k.first h.turns less (counts_there r count s h))
+  | inr (inl same) ↦ sym h.reached ∙ ap (λ m. state_at (reached_by r m)) same ∙ k.reached
+  | inr (inr more) ↦ absurd (h.first k.turns more (counts_there r count t k))
+]
+
+-- a context that is shown has the state that is shown
+pub shown_state : (r : Recording) (count : ℕ) (context : Context)
+    → IsShown r.program r.config r.thread r.journal count context → Shows r count (state_of context)
+shown_state r count context h = record {
+  turns = h.turns;
+  reached = ap state_at h.reached ∙ state_standing (state_of context) (stop_of context) (length (journal_of context)) h.left;
+  counts = h.counts;
+  first = h.first;
+}
+
+pub none_at_first : (r : Recording) (above address : ℕ) → NoneBetween r above (above + 1) address
+none_at_first r above address = λ count s over under. absurd (omega (arith, over, under))
+
+pub none_more : (r : Recording) (above count address : ℕ) (s : State) → NoneBetween r above count address → Shows r count s
+    → s.core.scalars.pc ≢ address → NoneBetween r above (count + 1) address
+none_more r above count address s before here other = λ n t over under shows. elim (compared n count) [
+  | inl less ↦ before n t over less shows
+  | inr (inl same) ↦
+      let shown : Shows r count t = subst (λ k. Shows r k t) same shows in
+      λ there. other (ap (λ (u : State). u.core.scalars.pc) (one_state r count s t here shown) ∙ there)
+  | inr (inr more) ↦ absurd (omega (arith, more, under))
+]
+
+-- a context at the end of its run over a journal says where that ends
+pub ends_at : (program : Program) (config : Config) (thread : ℕ) (journal : List Event) (count : ℕ) (context : Context)
+    → HasRunAlone program config thread context → journal_of context ≡ journal → (state_of context).count ≡ count
+    → EndsAt program config thread journal count
+ends_at program config thread journal count context h same counts = record {
+  state = state_of context;
+  stop = h.stop;
+  run = subst (λ (j : List Event). IsLoneRun program config thread j (state_of context) h.stop) same h.run;
+  counts = counts;
+}

@@ -1,0 +1,20 @@
+use Rattle.std.proofs.Common.{◌<◌, ◌≤◌, arith, sym, subst}
+use Rattle.sme_debugger.specs.Answers.{Goes, end_text}
+use Rattle.sme_debugger.proofs.Moves.{goes_there, goes_past, silent}
+use Rattle.sme_debugger.proofs.session.Session.go_to.Goals as goal
+
+pub returns-then-aim-from-clause-done : goal.returns-then-aim-from-clause-done
+returns-then-aim-from-clause-done g c =
+    let last = c.args.self.now.last in
+    let past : last < c.args.aim = omega (arith, c.from.ensures, c.if-aim-from.true) in
+    record {
+      text = end_text last;
+      answer = subst (λ n. Goes last c.args.aim n (end_text last)) (sym c.in_ok-end.ensures.done) (goes_past last c.args.aim past);
+      written = c.in_ok-end.ensures.written;
+    }
+
+pub returns-clause-done : goal.returns-clause-done
+returns-clause-done g c =
+    let last = c.args.self.now.last in
+    let within : c.args.aim ≤ last = omega (arith, c.from.ensures, c.if-aim-from.false) in
+    silent (Goes last c.args.aim) c.args.aim _ (goes_there last c.args.aim within)
