@@ -81,7 +81,7 @@ fn run<R: Threads + Sync>(
     ensures back { (t : ℕ) → told (book_in (view_of result)) t ≡ Out
         → told (book_in (view_of maker)) t ≡ Out }
 {
-    if thread >= 32 || answers.len() < adding.times || answers.is_empty() {
+    if thread >= 32 || adding.times == 0 || answers.len() < adding.times {
         return maker;
     }
     let seat = table.split(&mut maker, thread);
