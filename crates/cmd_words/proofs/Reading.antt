@@ -259,8 +259,8 @@ module _ (words : List (List ℕ)) (form : Form) (p : ℕ) (given : Given) (word
     value_now : value_below form words s (p + 2) ≡ Some number
     unfolding value_below
     value_now =
-        ap (option_and_then (λ place. option_map decimal_value (slice_get words (place + 1)))) now_here ∙ ap (option_map decimal_value) after
-        ∙ ap Some (sym reads)
+        ap (option_and_then (λ place. option_map decimal_value (slice_get words (place + 1)))) now_here
+        ∙ ap (option_map decimal_value) after ∙ ap Some (sym reads)
 
     value_still : (t : Setting) → t ≢ s → value_below form words t (p + 2) ≡ value_below form words t p
     unfolding value_below

@@ -76,8 +76,8 @@ stop_of c = c.guest.stop
 abbrev pub is_home : Context → Bool
 is_home c = c.home
 
--- a context is a run of its image with these vectors: its state and its stop are those to which its turns come
--- over its journal
+-- a context is a run of its image with these vectors: its state and its stop are those to which its turns
+-- come over its journal
 abbrev pub IsRunWith : Context → VectorState → Type 0
 IsRunWith c vectors =
     IsRunOf (image_of c) (config_of c) (thread_of c) (journal_of c) (state_with c vectors) (stop_of c)
@@ -101,8 +101,8 @@ abbrev pub state_on : Context → Bank → State
 state_on c bank = state_with c (vectors_on c bank)
 
 -- the bank of a core has the lengths of the context's options, and the context's vectors are in it exactly
--- where they are not home: then its thread owns the bank, which is in the mode of its machine, and the context
--- with the bank is a run of its image
+-- where they are not home: then its thread owns the bank, which is in the mode of its machine, and the
+-- context with the bank is a run of its image
 pub record IsOn (c : Context) (bank : Bank) : Type 0 where
   pub lengths : HasLengths (config_of c) bank
   pub place : is_home c ≡ not (owns bank (thread_of c))
@@ -234,8 +234,8 @@ pages_of c = c.guest.machine.pages
 abbrev pub IsPlaceFree : Context → Type 0
 IsPlaceFree c = HasFreePlace c.guest
 
--- for the turn of a context, with its vectors in this bank, memory may be wanting; the port takes memory where
--- this holds
+-- for the turn of a context, with its vectors in this bank, memory may be wanting; the port takes memory
+-- where this holds
 abbrev pub MayWantMemory : Type 0 → Context → Bank → Type 0
 MayWantMemory takes_memory c bank = TurnWants (IsPlaceFree c) takes_memory c.guest bank
 

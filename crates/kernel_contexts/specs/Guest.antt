@@ -50,6 +50,6 @@ IsGuestRun-prop program g bank =
 abbrev pub IsHomeRun : Bool → Program → GuestThread → Bank → Type 0
 IsHomeRun home program g bank = home ≡ true → IsGuestRun program g bank
 
-pub IsHomeRun-prop : (home : Bool) (program : Program) (g : GuestThread) (bank : Bank)
+pub one_home_run : (home : Bool) (program : Program) (g : GuestThread) (bank : Bank)
     → IsProp (IsHomeRun home program g bank)
-IsHomeRun-prop home program g bank = →_prop (IsGuestRun-prop program g bank)
+one_home_run home program g bank = →_prop (IsGuestRun-prop program g bank)

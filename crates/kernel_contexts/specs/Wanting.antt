@@ -42,9 +42,9 @@ InstructionWants takes g bank =
     EffectWants takes (HasRoomToStep g.machine (Some bank)) (CallWants takes (held_state g bank))
     (effect_of (vector_bytes g.config.vl) (held_state g bank).core)
 
--- the turn of a guest thread with a bank, before the end of its budget: a poll, the delivery of a signal, or an
--- instruction; for a poll and an instruction memory may be wanting besides where the list of the journal has no
--- free place
+-- the turn of a guest thread with a bank, before the end of its budget: a poll, the delivery of a signal, or
+-- an instruction; for a poll and an instruction memory may be wanting besides where the list of the journal
+-- has no free place
 pub data TurnWants (free takes : Type 0) (g : GuestThread) (bank : Bank) : Type 0 where
   Polls : g.count ≢ g.config.budget → is_poll_due g.config (held_state g bank) ≡ true → (free → takes)
       → TurnWants free takes g bank

@@ -1,7 +1,7 @@
 //! Contexts and their turns.
 ghost use Rattle.std.specs.Prelude.{◌≡◌, ◌+◌, ◌*◌, ◌<◌, ◌≤◌, ◌++◌, [], length, None, Some, IfOk};
 ghost use Rattle.std.specs.Prelude.{true, false, ℕ, slice_get};
-ghost use Rattle.kernel_contexts.specs.Guest.{IsHomeRun, IsHomeRun-prop};
+ghost use Rattle.kernel_contexts.specs.Guest.{IsHomeRun, one_home_run};
 ghost use Rattle.kernel_contexts.specs.SaveArea.{IsSaveArea};
 ghost use Rattle.kernel_contexts.specs.Owner.{owns};
 
@@ -36,8 +36,8 @@ pub enum Turn {
 }
 
 /// One guest thread, with the image from which it started. Its vectors, predicates, FFR and ZA are in its
-/// save area, and then it is home; else they are in the bank of a core that its thread owns. A context that is
-/// home is a run of its image over its journal (`IsRun`); one that is not is so together with that bank
+/// save area, and then it is home; else they are in the bank of a core that its thread owns. A context that
+/// is home is a run of its image over its journal (`IsRun`); one that is not is so together with that bank
 /// (`IsOn`).
 #[derive(Drop)]
 pub struct Context {
@@ -46,7 +46,7 @@ pub struct Context {
     home: bool,
     image: Image,
     ghost fits: { IsSaveArea home guest.config guest.machine save_area },
-    pub ghost is_run: { IsHomeRun home image guest save_area } by { IsHomeRun-prop home image guest save_area },
+    pub ghost is_run: { IsHomeRun home image guest save_area } by { one_home_run home image guest save_area },
 }
 
 /// Whether the thread of that number owns a bank.
@@ -117,11 +117,11 @@ impl Context {
     /// Makes one turn on the context's own save area, in which the port answers what it asks of the shared
     /// words; a thread that has stopped answers its stop, and nothing changes. `TraceEnds` and `TraceDiffers`
     /// come only where the turn asks an operation that the port refuses so, and there nothing else comes but
-    /// `Memory`. That comes only where the turn writes a page that is not owned, adds bytes to the output, asks
-    /// an operation of a port that takes memory, or may make an event for which the list of the journal has no
-    /// free place; where it has one, no stop and no yield is told so.
-    /// After `Ran` exactly the pages of the bytes that the turn wrote are owned besides; after any other
-    /// answer but `Memory` the page table is as it was.
+    /// `Memory`. That comes only where the turn writes a page that is not owned, adds bytes to the output,
+    /// asks an operation of a port that takes memory, or may make an event for which the list of the journal
+    /// has no free place; where it has one, no stop and no yield is told so. After `Ran` exactly the pages of
+    /// the bytes that the turn wrote are owned besides; after any other answer but `Memory` the page table is
+    /// as it was.
     #[inline]
     pub fn advance<P: Port>(&mut self, port: &mut P, ticket: &mut P::Ticket) -> Turn
         requires home { is_home self.old ≡ true }
@@ -152,9 +152,9 @@ impl Context {
 
     /// Makes one turn on the bank of a core, as `advance` does on the save area. The context is home and its
     /// thread does not own the bank, or its thread owns the bank, which has its vectors and ZA. `NeedsBank`
-    /// comes exactly where the thread does not own the bank and the turn reads or writes vectors: the delivery
-    /// of a signal that has a handler, a return from a handler, or an instruction that cannot be executed
-    /// without a bank.
+    /// comes exactly where the thread does not own the bank and the turn reads or writes vectors: the
+    /// delivery of a signal that has a handler, a return from a handler, or an instruction that cannot be
+    /// executed without a bank.
     pub fn advance_on<P: Port>(
         &mut self,
         bank: &mut Bank,
@@ -220,8 +220,8 @@ impl Context {
         self.home = false;
     }
 
-    /// Moves the vectors and ZA of the context from the bank that its thread owns into its save area; the bank
-    /// has no owner then.
+    /// Moves the vectors and ZA of the context from the bank that its thread owns into its save area; the
+    /// bank has no owner then.
     pub fn bank_out(&mut self, bank: &mut Bank)
         requires away { is_home self.old ≡ false }
         requires on { IsOn self.old bank.old }

@@ -153,10 +153,11 @@ lone_zero : (ds : List ℕ) → (not (slice_index ds 0 == 48) || (length ds == 1
 lone_zero ds h e = grind (arith, nat_tests)
 
 fitted_is : (v n : ℕ) → if_fits v ≡ Some n → (v ≡ n) × (v < 2 ^ 64)
-fitted_is v n e = elim (nat_lt v (2 ^ 64)) as (λ b. nat_lt v (2 ^ 64) ≡ b → ◌≡◌ {A = Option ℕ} (cond b (Some v) None) (Some n) → (v ≡ n) × (v < 2 ^ 64)) [
-  | true ↦ λ is h. (cc, grind (arith, nat_tests))
-  | false ↦ λ is h. cc
-] refl e
+fitted_is v n e = elim (nat_lt v (2 ^ 64)) as (λ b. nat_lt v (2 ^ 64) ≡ b
+    → ◌≡◌ {A = Option ℕ} (cond b (Some v) None) (Some n) → (v ≡ n) × (v < 2 ^ 64)) [
+      | true ↦ λ is h. (cc, grind (arith, nat_tests))
+      | false ↦ λ is h. cc
+    ] refl e
 
 pub decimal_printed : (ds : List ℕ) (n : ℕ) → decimal_number ds ≡ Some n → IsPrinted ds n
 unfolding decimal_number is_decimal decimal_value

@@ -91,7 +91,9 @@ pub fn is_decimal(digits: &[u8]) -> bool
 /// not fit 64 bits.
 #[tactic(auto, unfolding(
 // What the words say,
-crate::specs::Numbers::decimal_number, crate::specs::Numbers::is_decimal, crate::specs::Numbers::decimal_value,
+crate::specs::Numbers::decimal_number, crate::specs::Numbers::is_decimal,
+// what they come to,
+crate::specs::Numbers::decimal_value,
 // and what the digits do.
 crate::specs::Numbers::digits_in))]
 pub fn decimal_number(digits: &[u8]) -> Option<u64>

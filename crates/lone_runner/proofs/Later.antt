@@ -69,8 +69,8 @@ module _ (program : Program) (config : Config) (thread : ℕ) (journal : List Ev
           at = at;
           whole = whole;
           none = λ m l.
-              at_before m h.turns (reach program config thread journal m) (state_of context) (length (journal_of context)) ticket.ahead l refl
-              at count (omega (arith, counts, less));
+              at_before m h.turns (reach program config thread journal m) (state_of context) (length (journal_of context))
+              ticket.ahead l refl at count (omega (arith, counts, less));
         };
         below = λ m l.
             let grown = count_later program config thread journal count m h.turns (omega (arith, l)) in

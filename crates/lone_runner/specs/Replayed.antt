@@ -34,9 +34,9 @@ place_of context ticket stop = standing (state_of context) stop (length (journal
 abbrev pub next_place : Context → ReplayEvents → Reached
 next_place context ticket = turned (config_of context) (thread_of context) (place_of context ticket None)
 
--- memory may be wanting for a turn on the way of a context over its journal and the events ahead of its ticket:
--- that of a context of the same thread, options and image that has not stopped and has made the first of these
--- events
+-- memory may be wanting for a turn on the way of a context over its journal and the events ahead of its
+-- ticket: that of a context of the same thread, options and image that has not stopped and has made the first
+-- of these events
 pub record WantsOnTheWay (context : Context) (ticket : ReplayEvents) : Type 0 where
   pub now : Context
   pub its : ReplayEvents

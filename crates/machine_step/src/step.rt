@@ -77,8 +77,8 @@ impl Machine {
         }
     }
 
-    /// The same, by a decoder that keeps the instruction for the next time. It is laid into the loop that makes
-    /// turns, where its answer needs no place in memory.
+    /// The same, by a decoder that keeps the instruction for the next time. It is laid into the loop that
+    /// makes turns, where its answer needs no place in memory.
     #[inline(always)]
     pub fn step_with<P: Port>(
         &mut self,

@@ -84,7 +84,8 @@ module _ {A : Type 0} (says : Saying A) (IsLine : List ℕ → A → Type 0) (re
   unfolding all_said
   lines_fault [] f e = cc
   lines_fault (it ∷ lines) f e =
-      elim (line_said says it) as (λ said. line_said says it ≡ said → onto_others said (all_said says lines) ≡ Err f → IsLineFault IsLine after (it ∷ lines) f) [
+      elim (line_said says it) as (λ said. line_said says it ≡ said
+      → onto_others said (all_said says lines) ≡ Err f → IsLineFault IsLine after (it ∷ lines) f) [
         | Err g ↦ λ is h. (
             let here : line_said says it ≡ Err f = is ∙ ap (λ x. Err x) (same_fault {A = List A} g f h) in
             let wrong = wrong_line it f here in

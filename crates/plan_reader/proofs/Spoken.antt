@@ -84,7 +84,8 @@ unfolding event_in ended
 on_read v core words e below is =
     ap (λ r. and_then r (λ v left. and_then (number 0 (2 ^ 32) left) (λ core left. and_then (event_on v core left) ended)))
     (first_read verb_of (verb_word v) (decimal core ∷ words) v (verb_said v))
-    ∙ ap (λ r. and_then r (λ core left. and_then (event_on v core left) ended)) (number_read (2 ^ 32) fitting 0 core words (omega arith) below)
+    ∙ ap (λ r. and_then r (λ core left. and_then (event_on v core left) ended))
+    (number_read (2 ^ 32) fitting 0 core words (omega arith) below)
     ∙ ap (λ r. and_then r ended) is
 
 pub words_read : (e : WorldEvent) → IsInRange e → event_in (words_for e) ≡ Ok e

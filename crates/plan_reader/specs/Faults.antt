@@ -5,8 +5,8 @@ use Rattle.plan_reader.specs.File.{Fault}
 use Rattle.plan_reader.specs.Places.{Slot, number_slot, IsFileFault}
 use Rattle.plan_reader.specs.Plan.{IsLineOf}
 
--- the numbers after the word of an event: its core, and of a run its turns, which are not 0; any other word is
--- that of no event
+-- the numbers after the word of an event: its core, and of a run its turns, which are not 0; any other word
+-- is that of no event
 unfoldable pub numbers_after : List ℕ → Option (List Slot)
 numbers_after word =
     if bytes_eq word (codes "run") then Some (number_slot 0 (2 ^ 32) ∷ number_slot 1 (2 ^ 32) ∷ [])

@@ -11,8 +11,8 @@ pub fn one_plan()
 {}
 
 /// The fault that is read of a file is that it is too long, or else that of its first line that is neither
-/// empty nor says an event: it is no text, or this is wrong at the first place of its words at which something
-/// is. There is no other.
+/// empty nor says an event: it is no text, or this is wrong at the first place of its words at which
+/// something is. There is no other.
 pub fn one_fault()
     ensures { (bytes : List ℕ) (fault : Fault) → ((plan_in bytes ≡ Err fault) ↔ IsFaultOf bytes fault) }
 {}

@@ -1,7 +1,7 @@
 //! The plan of a world: a file with an event on each line that is not empty. `read_plan` gives its events, or
 //! its first line that says none; `event_lines` gives the numbers of their lines. The reading of such a file,
-//! whatever a line of it says, stands here too, with the faults that it gives: `read_file`, `LineValue`, and of
-//! words `read_number` and `end`. Scripts of the debugger are read by them.
+//! whatever a line of it says, stands here too, with the faults that it gives: `read_file`, `LineValue`, and
+//! of words `read_number` and `end`. Scripts of the debugger are read by them.
 #![tactic(auto)]
 
 mod event;

@@ -69,7 +69,8 @@ module _ (c d : Config) where
   same_effect thread events s (Becomes core) = refl
   same_effect thread events s (instruction.Asks op next) = refl
 
-  same_handled : (signal handler : ℕ) (s : State) (fault : Option ℕ) → handled other signal handler s fault ≡ handled c signal handler s fault
+  same_handled : (signal handler : ℕ) (s : State) (fault : Option ℕ)
+      → handled other signal handler s fault ≡ handled c signal handler s fault
   same_handled signal handler s (Some address) = refl
   same_handled signal handler s None = refl
 

@@ -23,7 +23,8 @@ pub fn one_run()
 {}
 
 /// A thread's run knows nothing of cores: over one journal it is the same under options that differ in the
-/// number of cores alone. So what a report of a run on several cores says of a thread is what its replay shows.
+/// number of cores alone. So what a report of a run on several cores says of a thread is what its replay
+/// shows.
 pub fn cores_change_no_run()
     ensures { (program : Program) (c d : Config) (thread : ℕ) (journal : List Event) (s : State) (p : Stop)
         → AreSameButCores c d → IsLoneRun program c thread journal s p

@@ -43,13 +43,13 @@ pub record IsEachOnce (items : List Ticketed) (views : List PassView) : Type 0 w
       ≡ once_below t (known_threads origin)
   pub fits : (id : ℕ) (v : PassView) → get_elem? views id ≡ some v → Fits origin given owner id v v.role
 
--- at a moment the queue had these contexts, and a pass knew this: with what the others knew, the rule held
+-- what a pass knows agrees with a queue that has these contexts: with some views of the others the rule holds
 pub record StoodWith (items : List Ticketed) (v : PassView) : Type 0 where
   pub views : List PassView
   pub id : ℕ
   pub at : get_elem? views id ≡ some v
   pub rule : IsEachOnce items views
 
--- a pass knew this at a moment at which the queue was empty
+-- what a pass knows agrees with a queue that is empty
 abbrev pub WasEmpty : PassView → Type 0
 WasEmpty v = StoodWith [] v

@@ -25,8 +25,8 @@ impl<P: Port> ContextQueue<P> {
     }
 
     /// Whether a context may still be offered, as far as was told: that of a thread of which a start was told
-    /// and no stop. It is a hint for those who find the queue empty: no clause speaks of it, and those of `offer`
-    /// and `fetch` do not rest on it.
+    /// and no stop. It is a hint for those who find the queue empty: no clause speaks of it, and those of
+    /// `offer` and `fetch` do not rest on it.
     pub fn expects_offers(&self) -> bool {
         self.going.load(Ordering::SeqCst) > 0
     }

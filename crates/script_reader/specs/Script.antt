@@ -49,7 +49,8 @@ AreWordsFor (Slice size tile direction slice) words =
     (tile < 2 ^ 32) × (slice < 2 ^ 32) × (words ≡ codes "slice" ∷ size_letter size ∷ decimal tile
     ∷ direction_letter direction ∷ decimal slice ∷ [])
 AreWordsFor (Memory address count) words =
-    (word : List ℕ) × IsAddress word address × (count ≤ 4096) × (words ≡ codes "mem" ∷ word ∷ decimal count ∷ [])
+    (word : List ℕ) × IsAddress word address × (count ≤ 4096)
+    × (words ≡ codes "mem" ∷ word ∷ decimal count ∷ [])
 AreWordsFor Where words = words ≡ codes "where" ∷ []
 
 -- a line says a command, with one space between two words, whether or not a line feed ends it

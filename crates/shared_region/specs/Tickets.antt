@@ -1,4 +1,5 @@
--- What a ticket tells, why a port refuses an operation, and what it makes of port and ticket when it gives events.
+-- What a ticket tells, why a port refuses an operation, and what it makes of port and ticket when it gives
+-- events.
 use Rattle.std.specs.Prelude.{◌≡◌, ℕ, List, ◌++◌, Option, Some}
 use Rattle.sm_types.specs.declared.shared_op.SharedOp.{SharedOp}
 use Rattle.sm_types.specs.declared.shared_op.Event.{Event}
@@ -8,8 +9,8 @@ use Rattle.shared_region.specs.declared.port.PortStop.TheVariants.{TraceEnds, Tr
 use Rattle.shared_region.specs.History.{entries_of}
 use Rattle.shared_region.specs.Chain.{Chain}
 
--- the number of a ticket's thread, where it is a thread's, the events that it was given, the oldest first, and
--- the name of its port
+-- the number of a ticket's thread, where it is a thread's, the events that it was given, the oldest first,
+-- and the name of its port
 pub record TicketView : Type 0 where
   pub number : Option ℕ
   pub events : List Event
@@ -41,9 +42,10 @@ IsCause refusals op Memory = refusals.takes_memory
 abbrev pub IsAllowed : Refusals → SharedOp → Type 0
 IsAllowed refusals op = (¬ refusals.ends op) × (¬ refusals.strays op)
 
--- a port gave a thread's ticket these events, one after the other: port and ticket before and after are joined
--- by one link for each, the ticket tells them after those that it told, and the names stay
-module _ {P T : Type 0} (gives : P → T → Entry → P → T → Type 0) (name : P → List ℕ) (tells : T → TicketView) where
+-- a port gave a thread's ticket these events, one after the other: port and ticket before and after are
+-- joined by one link for each, the ticket tells them after those that it told, and the names stay
+module _ {P T : Type 0} (gives : P → T → Entry → P → T → Type 0) (name : P → List ℕ)
+    (tells : T → TicketView) where
   pub record GivesEvents (thread : ℕ) (events : List Event) (p : P) (t : T) (q : P) (u : T) : Type 0 where
     pub chain : Chain gives p t (entries_of thread events) q u
     pub same : name q ≡ name p

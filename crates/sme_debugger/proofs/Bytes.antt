@@ -49,7 +49,8 @@ pub part_got : (r : Result Unit Abort) (m : AddressSpace) (a size done count at 
     → got ≡ take count (drop done bytes)
 part_got r m a size done count at long bytes got ok err read within there same =
     got_there r (bytes_with 4 m at long) got (take count (drop done bytes)) ok err
-    (ap (λ n. bytes_with 4 m n long) there ∙ ap (bytes_with 4 m ((a + done) % 2 ^ 64)) same ∙ part_read m a size done count bytes read within)
+    (ap (λ n. bytes_with 4 m n long) there ∙ ap (bytes_with 4 m ((a + done) % 2 ^ 64)) same
+    ∙ part_read m a size done count bytes read within)
 
 -- none is left after the last
 pub none_left : (m : AddressSpace) (a size : ℕ) (bytes : List ℕ) → bytes_with 4 m a size ≡ Some bytes

@@ -25,8 +25,8 @@ reached_by r turns = reach r.program r.config r.thread r.journal turns
 abbrev pub counted_by : Recording → ℕ → ℕ
 counted_by r turns = (state_at (reached_by r turns)).count
 
--- The run shows the state at a count: it is the state after the fewest turns by which so many instructions are
--- counted.
+-- The run shows the state at a count: it is the state after the fewest turns by which so many instructions
+-- are counted.
 pub record Shows (r : Recording) (count : ℕ) (state : State) : Type 0 where
   pub turns : ℕ
   pub reached : state_at (reached_by r turns) ≡ state

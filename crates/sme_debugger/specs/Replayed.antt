@@ -14,7 +14,8 @@ IsShownBy r count context =
 -- the run parts so before a count
 abbrev pub PartsBefore : Replay → ℕ → AloneFault → Type 0
 PartsBefore r count fault =
-    IsPartingBefore (image_of r.context) (config_of r.context) (thread_of r.context) r.journal.items count fault
+    IsPartingBefore (image_of r.context) (config_of r.context) (thread_of r.context) r.journal.items count
+    fault
 
 -- the context shows the count, or an earlier one from which it goes on
 pub record IsOnTheWay (r : Replay) (count : ℕ) : Type 0 where

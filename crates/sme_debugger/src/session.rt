@@ -79,7 +79,8 @@ impl Session {
         command: &DebugCommand,
         out: &mut K,
     ) -> Result<(), DebugFault>
-        ensures done { OnOk result (IsWritten (Answers (recording_of self.old) (place_of self.old) command.now)
+        ensures done { OnOk result
+            (IsWritten (Answers (recording_of self.old) (place_of self.old) command.now)
             (place_of self.new) (K.view out.old) (K.view out.new) (Ok tt)) }
         ensures put { result ≡ Err DebugFault.Put
             → IsPartWritten (Answers (recording_of self.old) (place_of self.old) command.now)
@@ -135,7 +136,8 @@ impl Session {
         Ok(())
     }
 
-    /// Stands at the next count whose PC is this address; where there is none, at the last count, which is told.
+    /// Stands at the next count whose PC is this address; where there is none, at the last count, which is
+    /// told.
     fn break_at<K: Sink>(&mut self, address: u64, out: &mut K) -> Result<(), DebugFault>
         ensures done { OnOk result (IsWritten (Breaks (recording_of self.old) (place_of self.old) address)
             (place_of self.new) (K.view out.old) (K.view out.new) (Ok tt)) }

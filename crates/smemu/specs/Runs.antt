@@ -16,10 +16,11 @@ pub record IsEndOf (program : Program) (config : Config) (k : ℕ) (end : Thread
   pub stopped : end.stop ≡ Some stop
   pub run : IsLoneRun program config k end.journal end.state stop
 
--- the threads of a program with these options end so, and share these words at the end: each thread ends as it
--- does alone, and the journals are one history, which ends in the words. On one core the ends and the words
--- are those after the serial events
-pub record IsWholeRun (program : Program) (config : Config) (ends : List ThreadEnd) (words : Words) : Type 0 where
+-- the threads of a program with these options end so, and share these words at the end: each thread ends as
+-- it does alone, and the journals are one history, which ends in the words. On one core the ends and the
+-- words are those after the serial events
+pub record IsWholeRun (program : Program) (config : Config) (ends : List ThreadEnd) (words : Words)
+    : Type 0 where
   pub threads : length ends ≡ config.threads
   pub each : (k : ℕ) (end : ThreadEnd) → slice_get ends k ≡ Some end → IsEndOf program config k end
   pub one_history : AreOneHistory (journals_of ends) words

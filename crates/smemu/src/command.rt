@@ -275,8 +275,9 @@ fn status_of_end(end: &Result<Answer, Refusal>) -> Status
 /// - `gen N` writes the source of a workload, and `bench N` runs it: one line;
 /// - `--help` and `--version` write texts of their own.
 ///
-/// Other words are answered by the line of their first fault. A run on several cores is made by as many threads
-/// of the system, each of which passes the gate before it lets a guest thread run; there the call may wait.
+/// Other words are answered by the line of their first fault. A run on several cores is made by as many
+/// threads of the system, each of which passes the gate before it lets a guest thread run; there the call may
+/// wait.
 pub fn smemu_main<R: Threads + Wait + Sync, F: Files, K: Sink, G: Gate + Sync>(
     rt: &R,
     alloc: Global,

@@ -256,7 +256,8 @@ refused_same verb cores s rejection text other e same =
 
 module _ (known : List ℕ → Option (List ℕ)) (request : Request) (s t : Status) (text other : List ℕ)
   where
-    one_decided : IsDecided known request s text → IsDecided known request t other → (s ≡ t) × AreOneText request.verb request.options.cores s text other
+    one_decided : IsDecided known request s text → IsDecided known request t other
+        → (s ≡ t) × AreOneText request.verb request.options.cores s text other
     one_decided (inl h) (inl g) =
         one_outcome request.verb s t request.operands request.options g.files text other
         (subst (λ (fs : List (List ℕ)). outcome request fs s text) (same_files h.files g.files (sym h.fate ∙ g.fate)) h.ends) g.ends

@@ -13,9 +13,9 @@ ghost use Rattle.smemu_laws.specs.Names.{names_of, names_said};
 ghost use Rattle.smemu_laws.specs.OneAnswer.{AreOneText};
 
 /// Over files that are told, what words ask for has at most one answer, but for `run` and `bench` on several
-/// cores: two texts that answer it are equal, and two files of an assembled program are loaded as one program.
-/// So the report of a run on one core is a function of the program's file and the options, however many threads
-/// it has. Of runs on several cores nothing is said here.
+/// cores: two texts that answer it are equal, and two files of an assembled program are loaded as one
+/// program. So the report of a run on one core is a function of the program's file and the options, however
+/// many threads it has. Of runs on several cores nothing is said here.
 pub fn one_answer()
     ensures { (files : List ℕ → Option (List ℕ)) (words : List (List ℕ)) (request : Request)
         (text other : List ℕ) → command_of words ≡ Some request

@@ -19,8 +19,8 @@ use shared_region::Port;
 use sm_types::Memory;
 use std::sync::Wait;
 
-/// Joins the pass of a worker that has ended, and adds the contexts that it has collected. `Memory` is want of
-/// memory, of the worker or here.
+/// Joins the pass of a worker that has ended, and adds the contexts that it has collected. `Memory` is want
+/// of memory, of the worker or here.
 fn gather_one<P: Port + Drop>(
     queue: &ContextQueue<P>,
     pass: &mut QueuePass<P>,

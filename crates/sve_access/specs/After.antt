@@ -83,8 +83,8 @@ read_bytes m addresses = unwrap_or (bytes_at m addresses) []
 -- the registers after it: a load makes each active element of what is read, and the others zero
 unfoldable pub registers_after : VectorAccess → Scalars → ℕ → VectorRegisters → AddressSpace → VectorRegisters
 registers_after (Load kind offset pg rn zt) s l r m =
-    vector_written r zt (each_or_zero (bytes_in (element_size kind)) (predicate_at r pg) (vector_at r zt) (λ i old.
-    loaded kind (number_at m (element_run
+    vector_written r zt (each_or_zero (bytes_in (element_size kind)) (predicate_at r pg) (vector_at r zt)
+    (λ i old. loaded kind (number_at m (element_run
     (start_of offset (memory_size kind) (element_size kind) rn s l) (memory_size kind) i))))
 registers_after (Store memory element offset pg rn zt) s l r m = r
 registers_after (Vector true vectors rn zt) s l r m = r

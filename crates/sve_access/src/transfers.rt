@@ -60,7 +60,8 @@ fn load_z(kind: LoadType, elements: &Elements, vectors: &mut Vectors, zt: u8, pa
     requires readable { find (lacks 4 pages.now.memory) (element_addresses elements.now.start
         (memory_size kind) (element_size kind) elements.now.pg.now) ≡ None }
     ensures { vectors.new ≡ with_vector vectors.old zt (each_or_zero (bytes_in (element_size kind))
-        elements.now.pg.now (vector_at vectors.old.registers zt) (λ i old. loaded kind (number_at pages.now.memory
+        elements.now.pg.now (vector_at vectors.old.registers zt)
+        (λ i old. loaded kind (number_at pages.now.memory
         (element_run elements.now.start (memory_size kind) i)))) }
 {
     load_elements(kind, elements, vectors.z_mut(zt), pages);

@@ -65,8 +65,8 @@ kind_words = 0xA0810000 ∷ 0x04210000 ∷ 0xF82A012B ∷ []
 all_texts : are_texts (first_words ++ (last_words ++ kind_words)) (setup_lines ++ (last_lines ++ kind_lines)) ≡ true
 unfolding are_texts is_text text_of text_of_shape shape_text printed_shape prints text_in items_in items_of items_text gap is_comma
     is_punctuation item_text kind_text register_text file_text sized_text vector_file_text signed_text is_positive size_of pattern_text
-    is_named_pattern pattern_index digits field_of field_in instruction_of meaning_of vector_meaning_of meaning_by meaning_in stands_for scalar
-    vector fits_of vector_fits
+    is_named_pattern pattern_index digits field_of field_in instruction_of meaning_of vector_meaning_of meaning_by meaning_in
+    stands_for scalar vector fits_of vector_fits
 all_texts = refl
 
 first_parts : AreTexts first_words setup_lines × AreTexts (last_words ++ kind_words) (last_lines ++ kind_lines)

@@ -46,8 +46,8 @@ module _ (text_length : ℕ) (labels : List Label) (a : Section → List ℕ) wh
   next_words count words p e h = subst (λ (q : LocationCounter). ArePut q (map word_line words)) e h
 
   -- so the text from there on is their words
-  words_put : (count : ℕ) (words : List ℕ) → length (a Text) ≡ 4 * count + 4 * length words → ArePut (after_words count) (map word_line words)
-      → drop (4 * count) (a Text) ≡ numbers_bytes 4 words
+  words_put : (count : ℕ) (words : List ℕ) → length (a Text) ≡ 4 * count + 4 * length words
+      → ArePut (after_words count) (map word_line words) → drop (4 * count) (a Text) ≡ numbers_bytes 4 words
   words_put count [] size h = drop_of_length-le (a Text) (omega arith)
   words_put count (word ∷ words) size h =
       let first : take 4 (drop (4 * count) (a Text)) ≡ little_bytes 4 word =
@@ -82,7 +82,8 @@ module _ (number : ℕ) (object : Object) (is : Assembles (source_of number) obj
 
   pub has_words : HasWords number object
   has_words = record {
-    text_is = words_put _ _ (part_bytes object) 0 (source_words number) (text_size ∙ (let count = word_count number in omega arith)) are_put;
+    text_is = words_put _ _ (part_bytes object) 0 (source_words number)
+        (text_size ∙ (let count = word_count number in omega arith)) are_put;
     no_data = no_items object.data_bytes.items
         (object_is.data_size ∙ ap (λ (p : LocationCounter). p.data_size) (said_counter number));
     entry_is = some_same _ _ (sym object_is.starts ∙ said_start number);

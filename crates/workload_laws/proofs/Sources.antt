@@ -146,7 +146,8 @@ lines_sound : (number : ℕ) → number ≤ 20000 → lines_fault 1 first_counte
 unfolding source_lines counter_after size_of
 lines_sound number l =
     let count = word_count number in
-    line_passes 1 first_counter [] _ _ text_said text_line text_sound ∙ line_passes 2 (after_words 0) [] _ _ global_said global_line global_sound
+    line_passes 1 first_counter [] _ _ text_said text_line text_sound
+    ∙ line_passes 2 (after_words 0) [] _ _ global_said global_line global_sound
     ∙ line_passes 3 (after_words 0) [] _ _ start_said start_line start_sound
     ∙ texts_sound 4 0 (start_label ∷ []) (source_words number) (instructions number) (instruction_texts number) (omega arith)
 

@@ -63,8 +63,8 @@ fn read_end(pages: &Pages, address: u64, into: &mut [u8], from: usize) -> bool
     }
 }
 
-/// Adds bytes of the pages at the end of the output, or leaves it as it is. Room is taken where there are some
-/// and each can be read.
+/// Adds bytes of the pages at the end of the output, or leaves it as it is. Room is taken where there are
+/// some and each can be read.
 fn append(pages: &Pages, address: u64, count: usize, output: &mut Vec<u8>) -> Appended
     requires { vec_len output.old + count < 2 ^ 32 }
     ensures appends { Appends count (bytes_with 4 pages.now.memory address count) output.old.items

@@ -33,7 +33,8 @@ impl GuestThread {
     /// Whether the lowest signal that is held has a handler.
     pub(super) fn has_handler(&self) -> bool
         requires { self.now.held ≢ 0 }
-        ensures { result ≡ is_some (get (bare_state self.now).handlers (lowest_signal (bare_state self.now))) }
+        ensures { result
+            ≡ is_some (get (bare_state self.now).handlers (lowest_signal (bare_state self.now))) }
     {
         handler_of(&self.handlers, self.lowest_signal()).is_some()
     }
@@ -60,7 +61,8 @@ impl GuestThread {
         requires polled { self.old.polled ≡ true }
         requires outside { self.old.inside ≡ false }
         requires count { self.old.count < self.old.config.budget }
-        ensures turn { Takes (FrameWants self.old.config (held_state self.old bank.old) self.old.machine.pages)
+        ensures turn { Takes
+            (FrameWants self.old.config (held_state self.old bank.old) self.old.machine.pages)
             (delivery_of self.old.config (held_state self.old bank.old)) self.old bank.old
             self.new bank.new result }
         ensures owned { TurnOwns (frame_writes self.old bank.old) self.old.machine.pages
@@ -88,7 +90,8 @@ impl GuestThread {
         requires polled { self.old.polled ≡ true }
         requires outside { self.old.inside ≡ false }
         requires count { self.old.count < self.old.config.budget }
-        ensures turn { Takes (FrameWants self.old.config (held_state self.old bank.old) self.old.machine.pages)
+        ensures turn { Takes
+            (FrameWants self.old.config (held_state self.old bank.old) self.old.machine.pages)
             (handled_by self.old.config signal handler (held_state self.old bank.old))
             self.old bank.old self.new bank.new result }
         ensures owned { TurnOwns (frame_writes self.old bank.old) self.old.machine.pages

@@ -41,14 +41,16 @@ returns-in_ok-name_at-in-Sim-2-clause-command c =
 pub returns-in_ok-name_at-in-Dis-clause-command : goal.returns-in_ok-name_at-in-Dis-clause-command
 returns-in_ok-name_at-in-Dis-clause-command c =
     let words = map string_bytes c.args.words.now in
-    asked_for words c.args.given.now Dis (NameSaid (string_bytes c.in_ok-name_at-in-Dis.field-0) ∷ []) default_options (length c.args.words.now)
+    asked_for words c.args.given.now Dis (NameSaid (string_bytes c.in_ok-name_at-in-Dis.field-0) ∷ []) default_options
+    (length c.args.words.now)
     (sym (length-map c.args.words.now string_bytes)) (rw c.in-Dis.is at c.requires.read) (rw c.in-Dis.is at c.requires.verb)
     (named words (string_bytes c.in_ok-name_at-in-Dis.field-0) c.in_ok-name_at-in-Dis.ensures.ok) (no_options Dis words refl)
 
 pub returns-in_ok-name_at-in-Asm-clause-command : goal.returns-in_ok-name_at-in-Asm-clause-command
 returns-in_ok-name_at-in-Asm-clause-command c =
     let words = map string_bytes c.args.words.now in
-    asked_for words c.args.given.now Asm (NameSaid (string_bytes c.in_ok-name_at-in-Asm.field-0) ∷ []) default_options (length c.args.words.now)
+    asked_for words c.args.given.now Asm (NameSaid (string_bytes c.in_ok-name_at-in-Asm.field-0) ∷ []) default_options
+    (length c.args.words.now)
     (sym (length-map c.args.words.now string_bytes)) (rw c.in-Asm.is at c.requires.read) (rw c.in-Asm.is at c.requires.verb)
     (named words (string_bytes c.in_ok-name_at-in-Asm.field-0) c.in_ok-name_at-in-Asm.ensures.ok) (no_options Asm words refl)
 

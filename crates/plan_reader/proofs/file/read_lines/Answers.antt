@@ -37,7 +37,8 @@ lines-preserved g c =
           let text = tested c.line-in-lines.result.now left true c.line-in-lines.ensures w.if-has_text.ensures in
           ap (λ items. behind items (all_said g.V.LineValue.said_by (some_lines after.line after.lines)))
           (ap (λ v. v.items) w.values-is ∙ w.in_ok-push.ensures.items)
-          ∙ value-read g.V.LineValue.said_by c.lines.values.items left after c.pass.ensures.past some w.in_ok-value.value text w.in_ok-value.ensures
+          ∙ value-read g.V.LineValue.said_by c.lines.values.items left after c.pass.ensures.past some w.in_ok-value.value
+          text w.in_ok-value.ensures
           ∙ c.lines.invariant
       | else-has_text w ↦
           let text = tested c.line-in-lines.result.now left false c.line-in-lines.ensures w.if-has_text.ensures in

@@ -18,7 +18,8 @@ bytes-preserved g c = record {
       sofar_more (digits_next bytes c.bytes.done n) (h.sofar bytes read)
       (as_text
       (ap encode_lower (part_got c.read.result c.args.pages.now.memory c.args.address c.args.size c.bytes.done n _ _ bytes
-      c.read.new.into c.read.ensures.ok c.read.ensures.refused read inside (ap (λ d. (c.args.address + d) % 2 ^ 64) c.from.ensures) (grind (arith, common_steps))))
+      c.read.new.into c.read.ensures.ok c.read.ensures.refused read inside
+      (ap (λ d. (c.args.address + d) % 2 ^ 64) c.from.ensures) (grind (arith, common_steps))))
       c.in_ok-put_digits.ensures);
 }
 
@@ -30,7 +31,8 @@ returns-in_err-put_digits g c = λ bytes read.
     sofar_stop _ (digits_next bytes c.bytes.done n) (h.sofar bytes read)
     (as_text
     (ap encode_lower (part_got c.read.result c.args.pages.now.memory c.args.address c.args.size c.bytes.done n _ _ bytes
-    c.read.new.into c.read.ensures.ok c.read.ensures.refused read inside (ap (λ d. (c.args.address + d) % 2 ^ 64) c.from.ensures) (grind (arith, common_steps))))
+    c.read.new.into c.read.ensures.ok c.read.ensures.refused read inside
+    (ap (λ d. (c.args.address + d) % 2 ^ 64) c.from.ensures) (grind (arith, common_steps))))
     c.in_err-put_digits.ensures)
     c.from_residual.ensures.0
 

@@ -10,19 +10,21 @@ loop-i-init g c = record { number = rest-start c.args.number; left = rw (rest-al
 pub loop-i-preserved : goal.loop-i-preserved
 loop-i-preserved g c =
     let next : c.next_number-current.result ≡ number_at c.args.number (c.loop-i._i + 1) =
-    number-next c.args.number c.loop-i._i c.loop-i.current c.next_number-current.result c.loop-i.invariant.number c.next_number-current.ensures in
+    number-next c.args.number c.loop-i._i c.loop-i.current c.next_number-current.result c.loop-i.invariant.number
+    c.next_number-current.ensures in
     record {
       number = next;
-      left = sofar_more (rest-more c.args.number c.loop-i._i c.next_number-current.result c.loop-i-test.true next) c.loop-i.invariant.left
-          c.in_ok-put_chosen_line.ensures;
+      left = sofar_more (rest-more c.args.number c.loop-i._i c.next_number-current.result c.loop-i-test.true next)
+          c.loop-i.invariant.left c.in_ok-put_chosen_line.ensures;
     }
 
 pub returns-in_err-put_chosen_line : goal.returns-in_err-put_chosen_line
 returns-in_err-put_chosen_line g c =
     let next : c.next_number-current.result ≡ number_at c.args.number (c.loop-i._i + 1) =
-    number-next c.args.number c.loop-i._i c.loop-i.current c.next_number-current.result c.loop-i.invariant.number c.next_number-current.ensures in
-    sofar_stop _ (rest-more c.args.number c.loop-i._i c.next_number-current.result c.loop-i-test.true next) c.loop-i.invariant.left
-    c.in_err-put_chosen_line.ensures c.from_residual.ensures.0
+    number-next c.args.number c.loop-i._i c.loop-i.current c.next_number-current.result c.loop-i.invariant.number
+    c.next_number-current.ensures in
+    sofar_stop _ (rest-more c.args.number c.loop-i._i c.next_number-current.result c.loop-i-test.true next)
+    c.loop-i.invariant.left c.in_err-put_chosen_line.ensures c.from_residual.ensures.0
 
 pub returns : goal.returns
 returns g c = sofar_end (rest-end c.args.number c.loop-i._i (omega arith)) c.loop-i.invariant.left
