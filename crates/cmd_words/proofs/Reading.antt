@@ -511,6 +511,22 @@ replayed (w ∷ p ∷ r ∷ t ∷ words) program report thread e f g =
     ∙ ap (λ n. NameSaid program ∷ NameSaid n ∷ ThreadSaid (decimal_value t) ∷ []) (same_word r report f)
     ∙ ap (λ n. NameSaid program ∷ NameSaid report ∷ ThreadSaid n ∷ []) (same_number (decimal_value t) thread g)
 
+-- the operands of `debug`
+pub debugged : (words : List (List ℕ)) (program report : List ℕ) (thread : ℕ) (script : List ℕ) → slice_get words 1 ≡ Some program
+    → slice_get words 2 ≡ Some report → option_map decimal_value (slice_get words 3) ≡ Some thread → slice_get words 4 ≡ Some script
+    → arguments_of (Name ∷ Name ∷ Thread ∷ Name ∷ []) (drop 1 words)
+    ≡ NameSaid program ∷ NameSaid report ∷ ThreadSaid thread ∷ NameSaid script ∷ []
+debugged [] program report thread script e f g h = cc
+debugged (w ∷ []) program report thread script e f g h = cc
+debugged (w ∷ p ∷ []) program report thread script e f g h = cc
+debugged (w ∷ p ∷ r ∷ []) program report thread script e f g h = cc
+debugged (w ∷ p ∷ r ∷ t ∷ []) program report thread script e f g h = cc
+debugged (w ∷ p ∷ r ∷ t ∷ s ∷ words) program report thread script e f g h =
+    ap (λ n. NameSaid n ∷ NameSaid r ∷ ThreadSaid (decimal_value t) ∷ NameSaid s ∷ []) (same_word p program e)
+    ∙ ap (λ n. NameSaid program ∷ NameSaid n ∷ ThreadSaid (decimal_value t) ∷ NameSaid s ∷ []) (same_word r report f)
+    ∙ ap (λ n. NameSaid program ∷ NameSaid report ∷ ThreadSaid n ∷ NameSaid s ∷ []) (same_number (decimal_value t) thread g)
+    ∙ ap (λ n. NameSaid program ∷ NameSaid report ∷ ThreadSaid thread ∷ NameSaid n ∷ []) (same_word s script h)
+
 -- the operand of a command that has the number of a workload alone
 pub numbered : (words : List (List ℕ)) (number : ℕ) → option_map decimal_value (slice_get words 1) ≡ Some number
     → arguments_of (Workload ∷ []) (drop 1 words) ≡ WorkloadSaid number ∷ []

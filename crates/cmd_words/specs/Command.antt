@@ -8,7 +8,7 @@ use Rattle.cmd_words.specs.declared.command.Command.TheVariants as command
 use Rattle.cmd_words.specs.declared.command.WordsFault.{WordsFault}
 use Rattle.cmd_words.specs.declared.command.WordsFault.TheVariants as fault
 use Rattle.cmd_words.specs.declared.verb.Verb.{Verb}
-use Rattle.cmd_words.specs.declared.verb.Verb.TheVariants.{Run, Sim, Dis, Asm, Replay, Gen, Bench}
+use Rattle.cmd_words.specs.declared.verb.Verb.TheVariants.{Run, Sim, Dis, Asm, Replay, Debug, Gen, Bench}
 use Rattle.cmd_words.specs.declared.verb.Verb.TheVariants.{Help, Version}
 use Rattle.cmd_words.specs.declared.setting.Setting.TheVariants.{Cores}
 
@@ -27,6 +27,11 @@ request_of (command.Replay program report thread) =
     asking Replay
     (NameSaid (string_bytes program) ∷ NameSaid (string_bytes report) ∷ ThreadSaid thread ∷ [])
     default_options
+request_of (command.Debug program report thread script) =
+    asking Debug
+    (NameSaid (string_bytes program) ∷ NameSaid (string_bytes report) ∷ ThreadSaid thread
+    ∷ NameSaid (string_bytes script) ∷ [])
+    default_options
 request_of (command.Gen number) = asking Gen (WorkloadSaid number ∷ []) default_options
 request_of (command.Bench number cores) =
     asking Bench (WorkloadSaid number ∷ []) (with_number default_options Cores cores)
@@ -40,6 +45,7 @@ IsInRange (command.Sim program plan config) = Unit {0}
 IsInRange (command.Dis program) = Unit {0}
 IsInRange (command.Asm source) = Unit {0}
 IsInRange (command.Replay program report thread) = thread < 32
+IsInRange (command.Debug program report thread script) = thread < 32
 IsInRange (command.Gen number) = (1 ≤ number) × (number ≤ 20000)
 IsInRange (command.Bench number cores) = (1 ≤ number) × (number ≤ 20000) × (1 ≤ cores) × (cores ≤ 64)
 IsInRange command.Help = Unit {0}

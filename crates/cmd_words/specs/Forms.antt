@@ -5,7 +5,7 @@ use Rattle.cmd_words.specs.declared.form.Operand.TheVariants.{Name, Thread, Work
 use Rattle.cmd_words.specs.declared.setting.Setting.{Setting}
 use Rattle.cmd_words.specs.declared.setting.Setting.TheVariants.{Vl, Svl, Slice, Budget, Threads, Cores}
 use Rattle.cmd_words.specs.declared.verb.Verb.{Verb}
-use Rattle.cmd_words.specs.declared.verb.Verb.TheVariants.{Run, Sim, Dis, Asm, Replay, Gen, Bench}
+use Rattle.cmd_words.specs.declared.verb.Verb.TheVariants.{Run, Sim, Dis, Asm, Replay, Debug, Gen, Bench}
 use Rattle.cmd_words.specs.declared.verb.Verb.TheVariants.{Help, Version}
 
 -- what must stand after a command, in order, and the options that may follow then, each with its value as the
@@ -25,6 +25,7 @@ form_of Sim = record { operands = Name ∷ Name ∷ []; options = run_options }
 form_of Dis = record { operands = Name ∷ []; options = [] }
 form_of Asm = record { operands = Name ∷ []; options = [] }
 form_of Replay = record { operands = Name ∷ Name ∷ Thread ∷ []; options = [] }
+form_of Debug = record { operands = Name ∷ Name ∷ Thread ∷ Name ∷ []; options = [] }
 form_of Gen = record { operands = Workload ∷ []; options = [] }
 form_of Bench = record { operands = Workload ∷ []; options = Cores ∷ [] }
 form_of Help = record { operands = []; options = [] }

@@ -30,6 +30,14 @@ pub enum Command {
         report: String,
         thread: u32,
     },
+    /// Carries out the commands of the script file of that name, over one thread of a report of the program
+    /// file of that name.
+    Debug {
+        program: String,
+        report: String,
+        thread: u32,
+        script: String,
+    },
     /// Writes the assembler source of the workload of that number, 1 to 20,000.
     Gen {
         number: u32,

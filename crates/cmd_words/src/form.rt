@@ -57,6 +57,15 @@ pub fn form_of(verb: Verb) -> Form
             operands: &[Operand::Name, Operand::Name, Operand::Thread],
             options: &[],
         },
+        Verb::Debug => Form {
+            operands: &[
+                Operand::Name,
+                Operand::Name,
+                Operand::Thread,
+                Operand::Name,
+            ],
+            options: &[],
+        },
         Verb::Gen => Form {
             operands: &[Operand::Workload],
             options: &[],

@@ -10,6 +10,7 @@ pub enum Verb {
     Dis,
     Asm,
     Replay,
+    Debug,
     Gen,
     Bench,
     Help,
@@ -31,6 +32,8 @@ pub fn verb_of(word: &str) -> Option<Verb>
         Some(Verb::Asm)
     } else if word == "replay" {
         Some(Verb::Replay)
+    } else if word == "debug" {
+        Some(Verb::Debug)
     } else if word == "gen" {
         Some(Verb::Gen)
     } else if word == "bench" {

@@ -257,6 +257,12 @@ fn make_command(
             report: name_at(alloc, words, 2)?,
             thread: thread_at(words, 3),
         }),
+        Verb::Debug => Ok(Command::Debug {
+            program: name_at(alloc, words, 1)?,
+            report: name_at(alloc, words, 2)?,
+            thread: thread_at(words, 3),
+            script: name_at(alloc, words, 4)?,
+        }),
         Verb::Gen => Ok(Command::Gen {
             number: workload_at(words, 1),
         }),

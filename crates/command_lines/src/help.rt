@@ -17,6 +17,8 @@ commands:
   asm SOURCE    assembles SOURCE and writes the ELF64 file of the program
   replay PROGRAM REPORT THREAD
                 runs thread THREAD of the report REPORT of PROGRAM alone and writes its block
+  debug PROGRAM REPORT THREAD SCRIPT
+                runs that thread alone, and writes what the commands of SCRIPT show of it
   gen N         writes the assembler source of workload N: 1 to 20000
   bench N       runs workload N with four guest threads and writes what they counted
   --help        writes this text
@@ -41,7 +43,7 @@ statuses:
   8   there was no memory
   9   bad report: line L: KIND, where the file is no report of PROGRAM with that thread
   10   differs: where the thread and its report part: a line of both, or KIND VALUES
-  11   bad plan: line L: KIND, where the file is no plan
+  11   bad plan: line L: KIND, where the file is no plan, or no script
 
 what the usual refusals of a program file mean:
   notstatic 1   an object file: link it

@@ -19,13 +19,13 @@ pub enum Status {
     BadFile,
     /// The file is no source that is assembled.
     BadSource,
-    /// There was no memory; nothing was written.
+    /// There was no memory; nothing was written, but by `debug` the answers of earlier commands.
     OutOfMemory,
     /// The file is no report of the program that is replayed, or has no such thread.
     BadReport,
     /// The thread that is replayed and its report part.
     Differs,
-    /// The file is no plan.
+    /// The file is no plan, or no script.
     BadPlan,
 }
 

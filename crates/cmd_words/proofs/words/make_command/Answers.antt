@@ -8,9 +8,9 @@ use Rattle.cmd_words.specs.Options.{default_options, default_of, with_number}
 use Rattle.cmd_words.specs.Words.{NameSaid, ThreadSaid, WorkloadSaid}
 use Rattle.cmd_words.specs.declared.setting.Setting.TheVariants.{Cores}
 use Rattle.cmd_words.specs.declared.form.Operand.TheVariants.{Name, Thread, Workload}
-use Rattle.cmd_words.specs.declared.verb.Verb.TheVariants.{Run, Sim, Dis, Asm, Replay, Gen, Bench, Help, Version}
+use Rattle.cmd_words.specs.declared.verb.Verb.TheVariants.{Run, Sim, Dis, Asm, Replay, Debug, Gen, Bench, Help, Version}
 use Rattle.cmd_words.proofs.Numbers.{both_ends}
-use Rattle.cmd_words.proofs.Reading.{asked_for, both_named, given_options, named, no_options, options_read, replayed}
+use Rattle.cmd_words.proofs.Reading.{asked_for, both_named, debugged, given_options, named, no_options, options_read, replayed}
 use Rattle.cmd_words.proofs.Reading.{bench_options, number_in_range, numbered, operand_stands, to_end}
 use Rattle.cmd_words.proofs.words.make_command.Goals as goal
 
@@ -69,6 +69,24 @@ returns-in_ok-name_at-in-Replay-2-clause-command c =
     (rw c.in-Replay.is at c.requires.verb)
     (replayed words program report c.thread_at.result c.in_ok-name_at-in-Replay.ensures.ok c.in_ok-name_at-in-Replay-2.ensures.ok
     c.thread_at.ensures.number) (no_options Replay words refl)
+
+pub thread_at-requires-in-Debug-clause-number : goal.thread_at-requires-in-Debug-clause-number
+thread_at-requires-in-Debug-clause-number c =
+    operand_stands (map string_bytes c.args.words.now) (form_of Debug) c.args.given.now (length c.args.words.now) 2 Thread
+    (rw c.in-Debug.is at c.requires.read) refl (omega arith)
+
+pub returns-in_ok-name_at-in-Debug-3-clause-command : goal.returns-in_ok-name_at-in-Debug-3-clause-command
+returns-in_ok-name_at-in-Debug-3-clause-command c =
+    let words = map string_bytes c.args.words.now in
+    let program = string_bytes c.in_ok-name_at-in-Debug.field-0 in
+    let report = string_bytes c.in_ok-name_at-in-Debug-2.field-0 in
+    let script = string_bytes c.in_ok-name_at-in-Debug-3.field-0 in
+    let thread = c.thread_at-in-Debug.result in
+    asked_for words c.args.given.now Debug (NameSaid program ∷ NameSaid report ∷ ThreadSaid thread ∷ NameSaid script ∷ [])
+    default_options (length c.args.words.now) (sym (length-map c.args.words.now string_bytes)) (rw c.in-Debug.is at c.requires.read)
+    (rw c.in-Debug.is at c.requires.verb)
+    (debugged words program report thread script c.in_ok-name_at-in-Debug.ensures.ok c.in_ok-name_at-in-Debug-2.ensures.ok
+    c.thread_at-in-Debug.ensures.number c.in_ok-name_at-in-Debug-3.ensures.ok) (no_options Debug words refl)
 
 pub workload_at-requires-clause-number : goal.workload_at-requires-clause-number
 workload_at-requires-clause-number c =
