@@ -58,12 +58,7 @@ pub fn form_of(verb: Verb) -> Form
             options: &[],
         },
         Verb::Debug => Form {
-            operands: &[
-                Operand::Name,
-                Operand::Name,
-                Operand::Thread,
-                Operand::Name,
-            ],
+            operands: &[Operand::Name, Operand::Name, Operand::Thread, Operand::Name],
             options: &[],
         },
         Verb::Gen => Form {

@@ -19,8 +19,10 @@ use Rattle.smemu.specs.Ends.{Stands}
 use Rattle.smemu.specs.Rejections.{Kind, rejection_of, rejection_status}
 use Rattle.smemu.specs.Requests.{Named, files_named, files_asked, reached_of, IsReached, due_of_rejection, due_of_file, due_of_files}
 use Rattle.smemu.specs.Requests.{due_of_request}
-use Rattle.smemu.specs.Views.{answer_text, refusal_status, refusal_text, end_text, end_status, EndsRequest, EndsWords}
+use Rattle.smemu.specs.Views.{answer_text, refusal_status, refusal_text, end_status, EndsRequest, EndsWith, EndsWords, OfAnswer}
+use Rattle.smemu.specs.Views.{PrintsAll, PrintsFront}
 use Rattle.smemu.specs.declared.answer.Answer.{Answer}
+use Rattle.smemu.specs.declared.answer.Answer.TheVariants as answer
 use Rattle.smemu.specs.declared.ending.Ending.TheVariants as ending
 use Rattle.smemu.specs.declared.refusal.Refusal.{Refusal}
 use Rattle.smemu.specs.declared.refusal.Refusal.TheVariants as refusal
@@ -37,10 +39,21 @@ defined_of : (words : List (List ℕ)) (files : Change FilesView) (request : Req
 defined_of words files request Usage text e h = absurd h
 defined_of words files request s text e h = record { request = request; asked = e; stands = h }
 
+-- what holds of each status and text of an answer, where what holds of them before gives it
+pub of_answer : (says tells : Status → List ℕ → Type 0) → ((text : List ℕ) → says Done text → tells Done text)
+    → ((text : List ℕ) → says OutOfMemory text → tells OutOfMemory text) → (a : Answer) → OfAnswer says a → OfAnswer tells a
+of_answer says tells done memory (answer.Text told) h = done (answer_text told) h
+of_answer says tells done memory (answer.Session d) h = (
+  λ (text : List ℕ) (p : PrintsAll d text). done text (h.0 text p),
+  λ (text : List ℕ) (p : PrintsFront d text). memory text (h.1 text p),
+)
+
 -- the end for what the words ask for
 pub asked_ends : (words : List (List ℕ)) (files : Change FilesView) (request : Request) (end : Result Answer Refusal)
     → command_of words ≡ Some request → EndsRequest request files end → EndsWords words files end
-asked_ends words files request (Ok a) e h = defined_of words files request Done (answer_text a) e h
+asked_ends words files request (Ok a) e h =
+    of_answer (Stands request files) (Defined words files) (λ text stands. defined_of words files request Done text e stands)
+    (λ text stands. defined_of words files request OutOfMemory text e stands) a h
 asked_ends words files request (Err refusal.Memory) e h = tt
 asked_ends words files request (Err r) e h = defined_of words files request (refusal_status r) (refusal_text r) e h
 
@@ -119,6 +132,21 @@ fetches_as fetched told unread names old new status other some not_done h = reco
   each = h.each;
 }
 
+-- ---- what is written of an end
+
+-- an end that is written with a status and a text has them for their cause, or wants memory and has no text
+pub written : (words : List (List ℕ)) (files : Change FilesView) (end : Result Answer Refusal) (s : Status) (text : List ℕ)
+    → EndsWords words files end → EndsWith end s text → Defined words files s text ⊎ ((s ≡ OutOfMemory) × (text ≡ []))
+unfolding refusal_text
+written words files (Ok (answer.Text told)) s text h w =
+    inl (subst (λ q. Defined words files q text) (sym w.0) (subst (λ t. Defined words files Done t) (sym w.1) h))
+written words files (Ok (answer.Session d)) Done text h w = inl (h.0 text w)
+written words files (Ok (answer.Session d)) OutOfMemory text h w = inl (h.1 text w)
+written words files (Ok (answer.Session d)) s text h w = absurd w
+written words files (Err refusal.Memory) s text h w = inr w
+written words files (Err r) s text h w =
+    inl (subst (λ q. Defined words files q text) (sym w.0) (subst (λ t. Defined words files (refusal_status r) t) (sym w.1) h))
+
 -- ---- the status that is due
 
 -- what is told has a status with which the command may end
@@ -195,12 +223,13 @@ module _ (words : List (List ℕ)) (files : Change FilesView) (told : List ℕ �
       inl (subst (λ o. IsDueOf o (due_of_request told o) Usage) (sym (no_request words h.fault h.is_fault)) refl)
   defined_due s text h = stands_due words files told tells h.request h.asked s text h.stands
 
-  -- the status of an end is due, or it may come in its place
-  pub completed : (end : Result Answer Refusal) → EndsWords words files end
-      → IsDue told words (end_status end) ⊎ MayCome told words (end_status end)
-  completed (Ok a) h = defined_due Done (answer_text a) h
-  completed (Err refusal.Memory) h = inr tt
-  completed (Err r) h = defined_due (refusal_status r) (refusal_text r) h
+  -- the status with which an end is written is due, or it may come in its place
+  pub completed : (end : Result Answer Refusal) (s : Status) (text : List ℕ) → EndsWords words files end → EndsWith end s text
+      → IsDue told words s ⊎ MayCome told words s
+  completed end s text h w = elim (written words files end s text h w) [
+    | inl defined ↦ defined_due s text defined
+    | inr wanting ↦ subst (λ q. IsDue told words q ⊎ MayCome told words q) (sym wanting.0) (inr tt)
+  ]
 
 -- ---- the writing
 
@@ -227,18 +256,38 @@ nothing_fails : (a b : SinkView) (e : PutFault) → Writes a b (Err e) [] → �
 nothing_fails a b e w = let f : false ≡ true = (w.accepts (omega arith)).0 in cc
 
 -- what could not be written has a status other than want of memory
-pub failed_status : (a b : SinkView) (e : PutFault) (end : Result Answer Refusal) → Writes a b (Err e) (end_text end)
-    → end_status end ≡ OutOfMemory → ⊥
+pub failed_status : (a b : SinkView) (e : PutFault) (end : Result Answer Refusal) (s : Status) (text : List ℕ) → EndsWith end s text
+    → Writes a b (Err e) text → end_status end ≡ OutOfMemory → ⊥
 unfolding refusal_text
-failed_status a b e (Ok x) w h = cc
-failed_status a b e (Err r) w h =
-    nothing_fails a b e (subst (λ (q : Refusal). Writes a b (Err e) (refusal_text q)) (refusal_memory r h) w)
+failed_status a b e (Ok x) s text h w is = cc
+failed_status a b e (Err r) s text h w is =
+    let said = subst (λ (t : List ℕ). Writes a b (Err e) t) h.1 w in
+    nothing_fails a b e (subst (λ (q : Refusal). Writes a b (Err e) (refusal_text q)) (refusal_memory r is) said)
+
+-- the same was fetched, whatever became of a session
+pub fetches_end : {F : Type 0} (fetched : F → List ℕ → ℕ → F → Type 0) (told : Told) (unread : Type 0) (names : List Named) (old new : F)
+    (end : Result Answer Refusal) (s : Status) (text : List ℕ) → EndsWith end s text
+    → FetchesReached fetched told unread names old new (end_status end) → FetchesReached fetched told unread names old new s
+fetches_end fetched told unread names old new (Ok (answer.Text it)) s text w h =
+    subst (λ q. FetchesReached fetched told unread names old new q) (sym w.0) h
+fetches_end fetched told unread names old new (Ok (answer.Session d)) Done text w h = h
+fetches_end fetched told unread names old new (Ok (answer.Session d)) OutOfMemory text w h =
+    fetches_as fetched told unread names old new Done OutOfMemory (λ is. cc) (λ is. cc) h
+fetches_end fetched told unread names old new (Ok (answer.Session d)) s text w h = absurd w
+fetches_end fetched told unread names old new (Err r) s text w h =
+    subst (λ q. FetchesReached fetched told unread names old new q) (sym w.0) h
 
 module _ (c : Call) where
-  pub done_of : (end : Result Answer Refusal) → EndsWords c.words c.files end → Writes c.out.before c.out.after (Ok tt) (end_text end)
-      → IsDone c (end_status end)
-  done_of (Ok a) h w = record { text = answer_text a; defined = h; writes = w }
-  done_of (Err r) h w = not_done c (refusal_status r) (refusal_done r)
+  done_so : (s : Status) (text : List ℕ) → Defined c.words c.files s text → Writes c.out.before c.out.after (Ok tt) text → IsDone c s
+  done_so Done text h w = record { text = text; defined = h; writes = w }
+  done_so s text h w = tt
+
+  pub done_of : (end : Result Answer Refusal) (s : Status) (text : List ℕ) → EndsWords c.words c.files end → EndsWith end s text
+      → Writes c.out.before c.out.after (Ok tt) text → IsDone c s
+  done_of end s text h is w = elim (written c.words c.files end s text h is) [
+    | inl defined ↦ done_so s text defined w
+    | inr wanting ↦ subst (IsDone c) (sym wanting.0) tt
+  ]
 
   refused_so : (s : Status) (text : List ℕ) → Defined c.words c.files s text → Writes c.out.before c.out.after (Ok tt) text
       → IsRefused c s
@@ -247,16 +296,18 @@ module _ (c : Call) where
   refused_so OutOfMemory text h w = inr (record { text = text; defined = h; writes = w })
   refused_so s text h w = record { text = text; defined = h; writes = w }
 
-  pub refused_of : (end : Result Answer Refusal) → EndsWords c.words c.files end → Writes c.out.before c.out.after (Ok tt) (end_text end)
-      → IsRefused c (end_status end)
-  unfolding refusal_text
-  refused_of (Ok a) h w = tt
-  refused_of (Err refusal.Memory) h w = inl w
-  refused_of (Err r) h w = refused_so (refusal_status r) (refusal_text r) h w
+  pub refused_of : (end : Result Answer Refusal) (s : Status) (text : List ℕ) → EndsWords c.words c.files end → EndsWith end s text
+      → Writes c.out.before c.out.after (Ok tt) text → IsRefused c s
+  refused_of end s text h is w = elim (written c.words c.files end s text h is) [
+    | inl defined ↦ refused_so s text defined w
+    | inr wanting ↦ subst (IsRefused c) (sym wanting.0)
+        (inl (subst (λ (t : List ℕ). Writes c.out.before c.out.after (Ok tt) t) wanting.1 w))
+  ]
 
-  pub cut_of : (e : PutFault) (end : Result Answer Refusal) → EndsWords c.words c.files end
-      → Writes c.out.before c.out.after (Err e) (end_text end) → IsRefused c WriteFault
-  unfolding refusal_text
-  cut_of Failed (Ok a) h w = (Done, record { text = answer_text a; defined = h; writes = w })
-  cut_of Failed (Err refusal.Memory) h w = absurd (nothing_fails c.out.before c.out.after Failed w)
-  cut_of Failed (Err r) h w = (refusal_status r, record { text = refusal_text r; defined = h; writes = w })
+  pub cut_of : (e : PutFault) (end : Result Answer Refusal) (s : Status) (text : List ℕ) → EndsWords c.words c.files end
+      → EndsWith end s text → Writes c.out.before c.out.after (Err e) text → IsRefused c WriteFault
+  cut_of Failed end s text h is w = elim (written c.words c.files end s text h is) [
+    | inl defined ↦ (s, record { text = text; defined = defined; writes = w })
+    | inr wanting ↦ absurd (nothing_fails c.out.before c.out.after Failed
+        (subst (λ (t : List ℕ). Writes c.out.before c.out.after (Err Failed) t) wanting.1 w))
+  ]

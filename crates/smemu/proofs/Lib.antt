@@ -3,6 +3,7 @@ pub mod Requests
 pub mod Opened
 pub mod Ends
 pub mod Replays
+pub mod Debugs
 pub mod Benches
 pub mod Words
 pub mod InMemory

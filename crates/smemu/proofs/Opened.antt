@@ -7,7 +7,7 @@ use Rattle.cmd_words.specs.Words.{Request}
 use Rattle.edge_io.specs.Cause.{Rose}
 use Rattle.edge_io.specs.Files.{Told, FilesView, IsKept}
 use Rattle.command_lines.specs.declared.status.Status.TheVariants.{OutOfMemory}
-use Rattle.smemu.specs.Answers.{AreAccepted}
+use Rattle.smemu.specs.Answers.{AreAccepted, outcome}
 use Rattle.smemu.specs.Ends.{Change, change, AreFetched, IsRejection, Stands}
 use Rattle.smemu.specs.Rejections.{limit_of, rejection_status}
 use Rattle.smemu.specs.Requests.{Named, files_named, reached_of}
@@ -19,7 +19,7 @@ use Rattle.smemu.specs.declared.refusal.Refusal.TheVariants as refusal
 use Rattle.smemu.specs.declared.refusal.Unread.TheVariants as unread
 use Rattle.smemu.specs.declared.rejection.Rejection.{Rejection}
 use Rattle.smemu.specs.declared.rejection.Rejection.TheVariants as rejection
-use Rattle.smemu.proofs.Ends.{refusal_done}
+use Rattle.smemu.proofs.Ends.{of_answer, refusal_done}
 use Rattle.smemu.proofs.Requests.{accepted_more, is_reached, none_after_absent, none_after_rejected, reached_after, reached_first}
 use Rattle.smemu.proofs.Requests.{reached_none, rest_of}
 
@@ -176,7 +176,10 @@ module _ {F : Type 0} (fetched : F → List ℕ → ℕ → F → Type 0) (view 
     (old now : F) (so : AreOpened fetched view (files_named request) files old now) where
   all_ends : (end : Result Answer Refusal) → EndsAccepted request files end → EndsRequest request (change view old now) end
   unfolding refusal_text
-  all_ends (Ok a) h = record { files = files; accepted = so.accepted; ends = h }
+  all_ends (Ok a) h =
+      of_answer (outcome request files) (Stands request (change view old now))
+      (λ text ends. record { files = files; accepted = so.accepted; ends = ends })
+      (λ text ends. record { files = files; accepted = so.accepted; ends = ends }) a h
   all_ends (Err (refusal.Ended (ending.Mismatch line kind))) h = inr (record { files = files; accepted = so.accepted; ends = h })
   all_ends (Err (refusal.Ended end)) h = inr (record { files = files; accepted = so.accepted; ends = h })
   all_ends (Err refusal.Memory) h = tt

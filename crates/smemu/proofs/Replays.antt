@@ -31,6 +31,7 @@ use Rattle.command_lines.specs.ReportLines.{difference_lines}
 use Rattle.smemu.specs.Replay.{mismatch, text_in, text_of, EndsAsSaid, IsBlockIn, IsReplayOf}
 use Rattle.smemu.specs.Views.{ComparesSo, EndsAccepted, EndsReplay, IsPartedRefusal, IsUnmatched}
 use Rattle.smemu.specs.declared.answer.Answer.{Answer}
+use Rattle.smemu.specs.declared.answer.Answer.TheVariants as answer
 use Rattle.smemu.specs.declared.ending.Difference.TheVariants as difference
 use Rattle.smemu.specs.declared.ending.Ending.TheVariants as ending
 use Rattle.smemu.specs.declared.refusal.Refusal.{Refusal}
@@ -139,7 +140,8 @@ module _ (file bytes : List ℕ) (thread : ℕ) (program : Program) (config : Co
 pub replay_accepted : (program report : List ℕ) (thread : ℕ) (file bytes : List ℕ) (end : Result Answer Refusal)
     → EndsReplay file bytes thread end
     → EndsAccepted (asking Replay (NameSaid program ∷ NameSaid report ∷ ThreadSaid thread ∷ []) default_options) (file ∷ bytes ∷ []) end
-replay_accepted program report thread file bytes (Ok a) h = h
+replay_accepted program report thread file bytes (Ok (answer.Text told)) h = h
+replay_accepted program report thread file bytes (Ok (answer.Session d)) h = absurd h
 replay_accepted program report thread file bytes (Err (refusal.Ended (ending.Mismatch line kind))) h =
     record { fault = record { line = line; kind = kind }; is_mismatched = h; is_text = refl }
 replay_accepted program report thread file bytes (Err (refusal.Ended (ending.Differs it))) h = h

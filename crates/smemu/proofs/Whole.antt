@@ -19,7 +19,8 @@ use Rattle.plan_reader.specs.declared.fault.PlanKind.TheVariants as plan_kind
 use Rattle.report_reader.specs.Reading.{Fault}
 use Rattle.report_reader.specs.Report.{report_in}
 use Rattle.report_reader.specs.declared.fault.ReportKind.TheVariants as part
-use Rattle.smemu.specs.Rejections.{Kind, ProgramFile, SourceFile, ReportFile, PlanFile, fault_in, rejection_of}
+use Rattle.script_reader.specs.Script.{script_in}
+use Rattle.smemu.specs.Rejections.{Kind, ProgramFile, SourceFile, ReportFile, PlanFile, ScriptFile, fault_in, rejection_of}
 use Rattle.smemu.specs.declared.rejection.Rejection.{Rejection}
 use Rattle.smemu.specs.declared.rejection.Rejection.TheVariants as rejection
 
@@ -128,11 +129,18 @@ long_plan : (file : List ℕ) → 67108864 < length file → fault_in (plan_in f
 unfolding plan_in
 long_plan file h = rw (is_long file h) refl
 
+-- and a script
+long_script : (file : List ℕ) → 67108864 < length file
+    → fault_in (script_in file) ≡ Some (record { line = 0; kind = plan_kind.TooLong })
+unfolding script_in
+long_script file h = rw (is_long file h) refl
+
 too_long : Kind → Rejection
 too_long ProgramFile = rejection.Program load.TooLong
 too_long SourceFile = rejection.Source asm.TooLong
 too_long ReportFile = rejection.Report 0 part.TooLong
 too_long PlanFile = rejection.Plan 0 plan_kind.TooLong
+too_long ScriptFile = rejection.Plan 0 plan_kind.TooLong
 
 -- the most bytes that a file of a kind may have
 abbrev pub largest_of : Kind → ℕ
@@ -140,6 +148,7 @@ largest_of ProgramFile = 67108864
 largest_of SourceFile = 67108864
 largest_of ReportFile = 1073741824
 largest_of PlanFile = 67108864
+largest_of ScriptFile = 67108864
 
 long_rejected : (kind : Kind) (file : List ℕ) → largest_of kind < length file → rejection_of kind file ≡ Some (too_long kind)
 unfolding too_long
@@ -149,6 +158,8 @@ long_rejected ReportFile file h =
     ap (option_map (λ (fault : Fault). rejection.Report fault.line fault.kind)) (long_report file h)
 long_rejected PlanFile file h =
     ap (option_map (λ (fault : plan.Fault). rejection.Plan fault.line fault.kind)) (long_plan file h)
+long_rejected ScriptFile file h =
+    ap (option_map (λ (fault : plan.Fault). rejection.Plan fault.line fault.kind)) (long_script file h)
 
 -- what was fetched is the file, where it is accepted
 pub opened_file : (kind : Kind) (told : Told) (n : ℕ) (name fetched : List ℕ) → largest_of kind < n → IsFront told n name fetched

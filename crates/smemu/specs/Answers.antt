@@ -1,5 +1,6 @@
 -- What the command writes for a request: the report of a run, the text of a plan, a listing, a program's
--- file, the block of a thread that is replayed, or a text of its own; and what else may become of it.
+-- file, the block of a thread that is replayed, what a script's commands show of a thread, or a text of its
+-- own; and what else may become of it.
 use Rattle.std.specs.Prelude.{◌≡◌, ℕ, [], ◌∷◌, List, Some, None, IfSome}
 use Rattle.sha2.specs.Sha256.{sha256}
 use Rattle.sm_types.specs.declared.config.Config.{Config}
@@ -9,7 +10,7 @@ use Rattle.edge_io.specs.Files.{Told}
 use Rattle.cmd_words.specs.Options.{Options, options_of}
 use Rattle.cmd_words.specs.Words.{Argument, ThreadSaid, WorkloadSaid, Request}
 use Rattle.cmd_words.specs.declared.verb.Verb.{Verb}
-use Rattle.cmd_words.specs.declared.verb.Verb.TheVariants.{Run, Sim, Dis, Asm, Replay, Gen, Bench}
+use Rattle.cmd_words.specs.declared.verb.Verb.TheVariants.{Run, Sim, Dis, Asm, Replay, Debug, Gen, Bench}
 use Rattle.cmd_words.specs.declared.verb.Verb.TheVariants.{Help, Version}
 use Rattle.asm_core.specs.Assembly.{Assembles}
 use Rattle.code_listing.specs.Listing.{listing_text}
@@ -19,11 +20,12 @@ use Rattle.elf_loader.specs.Objects.{IsFileOf}
 use Rattle.report_text.specs.Report.{ThreadEnd, report_text}
 use Rattle.command_lines.specs.Texts.{help_text, version_text}
 use Rattle.command_lines.specs.declared.status.Status.{Status}
-use Rattle.command_lines.specs.declared.status.Status.TheVariants.{Done, BadReport, Differs}
+use Rattle.command_lines.specs.declared.status.Status.TheVariants.{Done, OutOfMemory, BadReport, Differs}
 use Rattle.smemu.specs.Rejections.{rejection_of}
 use Rattle.workload.specs.Source.{source_of}
 use Rattle.smemu.specs.Bench.{IsBench}
-use Rattle.smemu.specs.Replay.{IsReplayOf, MismatchesSo, DiffersSo}
+use Rattle.smemu.specs.Debug.{IsDebugOf, IsDebugFrontOf}
+use Rattle.smemu.specs.Replay.{IsReplayOf, IsParted, MismatchesSo, DiffersSo}
 use Rattle.smemu.specs.Requests.{Named, files_named}
 use Rattle.smemu.specs.Runs.{IsWholeRun}
 use Rattle.smemu.specs.Worlds.{IsSimulation}
@@ -83,6 +85,12 @@ of_thread tells (program ∷ report ∷ ThreadSaid thread ∷ []) options (file 
     tells file bytes thread text
 of_thread tells operands options files text = ⊥
 
+-- of a program, a report of it, a thread of that, and a script
+abbrev pub of_script : (List ℕ → List ℕ → ℕ → List ℕ → List ℕ → Type 0) → Outcome
+of_script tells (program ∷ report ∷ ThreadSaid thread ∷ script ∷ []) options (file ∷ bytes ∷ commands ∷ [])
+    text = tells file bytes thread commands text
+of_script tells operands options files text = ⊥
+
 -- of the number of a workload
 abbrev pub of_workload : (ℕ → Options → List ℕ → Type 0) → Outcome
 of_workload tells (WorkloadSaid number ∷ []) options [] text = tells number options text
@@ -106,6 +114,11 @@ outcomes_of Asm Done = Tells (of_file (λ file options. IsProgramOf file))
 outcomes_of Replay Done = Tells (of_thread IsReplayOf)
 outcomes_of Replay BadReport = Tells (of_thread MismatchesSo)
 outcomes_of Replay Differs = Tells (of_thread DiffersSo)
+outcomes_of Debug Done = Tells (of_script IsDebugOf)
+outcomes_of Debug OutOfMemory = Tells (of_script IsDebugFrontOf)
+outcomes_of Debug BadReport =
+    Tells (of_script (λ file report thread script. MismatchesSo file report thread))
+outcomes_of Debug Differs = Tells (of_script (λ file report thread script. IsParted file report thread))
 outcomes_of Gen Done = Tells (of_workload (λ number options text. text ≡ source_of number))
 outcomes_of Bench Done = Tells (of_workload IsBench)
 outcomes_of Help Done = Tells (own_text help_text)

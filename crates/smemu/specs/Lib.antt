@@ -2,6 +2,7 @@ pub mod Rejections
 pub mod Requests
 pub mod DifferLines
 pub mod Replay
+pub mod Debug
 pub mod Compare
 pub mod Excerpt
 pub mod Worlds

@@ -6,6 +6,7 @@ use Rattle.plan_reader.specs.Plan.{plan_in}
 use Rattle.plan_reader.specs.Plan as plan
 use Rattle.report_reader.specs.Reading.{Fault}
 use Rattle.report_reader.specs.Report.{report_in}
+use Rattle.script_reader.specs.Script.{script_in}
 use Rattle.command_lines.specs.FaultLines.{fault_line}
 use Rattle.command_lines.specs.PlanLines.{plan_line}
 use Rattle.command_lines.specs.ReportLines.{report_line}
@@ -25,6 +26,8 @@ pub data Kind : Type 0 where
   ReportFile : Kind
   -- a plan, which is in its format
   PlanFile : Kind
+  -- a script of the debugger, which is in its format
+  ScriptFile : Kind
 
 -- how many bytes are fetched: one more than it may have
 abbrev pub limit_of : Kind → ℕ
@@ -32,6 +35,7 @@ limit_of ProgramFile = 67108865
 limit_of SourceFile = 67108865
 limit_of ReportFile = 1073741825
 limit_of PlanFile = 67108865
+limit_of ScriptFile = 67108865
 
 -- the fault of a reading
 abbrev pub fault_in : {A F : Type 0} → Result A F → Option F
@@ -46,6 +50,8 @@ rejection_of ReportFile file =
     option_map (λ (fault : Fault). rejection.Report fault.line fault.kind) (fault_in (report_in file))
 rejection_of PlanFile file =
     option_map (λ (fault : plan.Fault). rejection.Plan fault.line fault.kind) (fault_in (plan_in file))
+rejection_of ScriptFile file =
+    option_map (λ (fault : plan.Fault). rejection.Plan fault.line fault.kind) (fault_in (script_in file))
 
 -- the status of a rejection
 abbrev pub rejection_status : Rejection → Status

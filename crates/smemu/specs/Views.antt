@@ -1,18 +1,23 @@
 -- What the answers and refusals of the code stand for, on the way from the words to the writing.
-use Rattle.std.specs.Prelude.{◌≡◌, ℕ, ◌+◌, [], List, Some, None, IfSome, IsSome, IsTrue, Result, Ok, Err}
+use Rattle.std.specs.Prelude.{◌≡◌, ℕ, ◌+◌, ◌++◌, [], ◌∷◌, List, Some, None, IfSome, IsSome, IsTrue, Result, Ok, Err}
 use Rattle.std.specs.Prelude.{option_map, take}
 use Rattle.std.specs.String.{string_bytes}
 use Rattle.edge_io.specs.Cause.{Rose}
 use Rattle.edge_io.specs.Files.{Told, FilesView, IsKept}
+use Rattle.edge_io.specs.Sink.{SinkView, Writes}
+use Rattle.edge_io.specs.declared.sink.PutFault.{PutFault}
 use Rattle.cmd_words.specs.Words.{Request}
 use Rattle.code_listing.specs.Listing.{listing_text}
-use Rattle.lone_runner.specs.Parting.{IsParting}
+use Rattle.lone_runner.specs.Parting.{EndsAt, IsParting}
 use Rattle.paged_memory.specs.Image.{Program}
 use Rattle.report_reader.specs.Block.{Block}
 use Rattle.line_reader.specs.Difference.{first_difference}
 use Rattle.line_reader.specs.Difference as lines
 use Rattle.line_reader.specs.Lines.{lines_of}
 use Rattle.report_reader.specs.Report.{Report}
+use Rattle.script_reader.specs.Script.{script_in}
+use Rattle.script_reader.specs.declared.command.DebugCommand.{DebugCommand}
+use Rattle.sme_debugger.specs.Session.{recording_of, place_of}
 use Rattle.sha2.specs.Sha256.{sha256}
 use Rattle.sm_types.specs.declared.config.Config.{Config}
 use Rattle.report_text.specs.Ends.{ends_of}
@@ -29,13 +34,17 @@ use Rattle.smemu.specs.DifferLines.{parting_line}
 use Rattle.smemu.specs.Excerpt.{excerpt_text}
 use Rattle.smemu.specs.Ends.{Change, change, Stands, Defined, FetchesReached, absent_line, read_fault_line}
 use Rattle.smemu.specs.Rejections.{Kind, rejection_of, rejection_status, rejection_line}
-use Rattle.smemu.specs.Replay.{mismatch, IsReplayOf, IsMismatched, DiffersSo}
+use Rattle.smemu.specs.Debug.{Leads, recorded}
+use Rattle.smemu.specs.Replay.{mismatch, IsBlockIn, IsReplayOf, IsMismatched, IsParted, DiffersSo}
 use Rattle.smemu.specs.Requests.{files_named}
 use Rattle.smemu.specs.declared.answer.Answer.{Answer}
 use Rattle.smemu.specs.declared.answer.Answer.TheVariants as answer
+use Rattle.smemu.specs.declared.answer.Text.{Text}
+use Rattle.smemu.specs.declared.answer.Text.TheVariants as texts
 use Rattle.smemu.specs.declared.answer.RunReport.{RunReport}
 use Rattle.smemu.specs.declared.answer.Simulation.{Simulation}
 use Rattle.smemu.specs.declared.bench.Summary.{Summary}
+use Rattle.smemu.specs.declared.debug.Debugging.{Debugging}
 use Rattle.smemu.specs.declared.ending.Difference.{Difference}
 use Rattle.smemu.specs.declared.ending.Difference.TheVariants as difference
 use Rattle.smemu.specs.declared.ending.Ending.{Ending}
@@ -58,17 +67,17 @@ simulation_text s = sim_text s.lines.items s.answers.items (run_text s.report) s
 abbrev pub summary_text : Summary → List ℕ
 summary_text s = bench_line s.number s.instructions s.word
 
--- the text of an answer
-abbrev pub answer_text : Answer → List ℕ
-answer_text (answer.Report report) = run_text report
-answer_text (answer.Simulation simulation) = simulation_text simulation
-answer_text (answer.Listing image) = listing_text image.code
-answer_text (answer.Program bytes) = bytes.items
-answer_text (answer.Block block) = excerpt_text block
-answer_text (answer.Source number) = source_of number
-answer_text (answer.Summary summary) = summary_text summary
-answer_text answer.Help = help_text
-answer_text answer.Version = version_text
+-- the text that is answered
+abbrev pub answer_text : Text → List ℕ
+answer_text (texts.Report report) = run_text report
+answer_text (texts.Simulation simulation) = simulation_text simulation
+answer_text (texts.Listing image) = listing_text image.code
+answer_text (texts.Program bytes) = bytes.items
+answer_text (texts.Block block) = excerpt_text block
+answer_text (texts.Source number) = source_of number
+answer_text (texts.Summary summary) = summary_text summary
+answer_text texts.Help = help_text
+answer_text texts.Version = version_text
 
 -- the text of a difference
 abbrev pub difference_text : Difference → List ℕ
@@ -109,14 +118,41 @@ refusal_status (refusal.Rejected rejection) = rejection_status rejection
 refusal_status (refusal.Ended end) = ending_status end
 refusal_status refusal.Memory = status.OutOfMemory
 
--- the text and the status of a command's end
-abbrev pub end_text : Result Answer Refusal → List ℕ
-end_text (Ok a) = answer_text a
-end_text (Err r) = refusal_text r
-
+-- the status of a command's end, where no memory is wanting that a session takes
 abbrev pub end_status : Result Answer Refusal → Status
 end_status (Ok a) = status.Done
 end_status (Err r) = refusal_status r
+
+-- the text is what all commands of a session print
+abbrev pub PrintsAll : Debugging → List ℕ → Type 0
+PrintsAll d text =
+    (place : ℕ) × Leads (recording_of d.session) (place_of d.session) d.commands.items place text
+
+-- the text is what those before one of them print
+pub record PrintsFront (d : Debugging) (text : List ℕ) : Type 0 where
+  pub made : List DebugCommand
+  pub next : DebugCommand
+  pub left : List DebugCommand
+  pub are : d.commands.items ≡ made ++ next ∷ left
+  pub place : ℕ
+  pub leads : Leads (recording_of d.session) (place_of d.session) made place text
+
+-- a command's end is written with this status and this text: a session with what all its commands print, or
+-- where memory was wanting for one of them, with what those before it do
+abbrev pub EndsWith : Result Answer Refusal → Status → List ℕ → Type 0
+EndsWith (Ok (answer.Text told)) s text = (s ≡ status.Done) × (text ≡ answer_text told)
+EndsWith (Ok (answer.Session d)) status.Done text = PrintsAll d text
+EndsWith (Ok (answer.Session d)) status.OutOfMemory text = PrintsFront d text
+EndsWith (Ok (answer.Session d)) s text = ⊥
+EndsWith (Err r) s text = (s ≡ refusal_status r) × (text ≡ refusal_text r)
+
+-- an end was written to a sink with this result: the status of a text, which was written, or of one of which
+-- a part was
+abbrev pub WritesEnd : Result Answer Refusal → SinkView → SinkView → Result Status PutFault → Type 0
+WritesEnd end before after (Ok s) =
+    (text : List ℕ) × EndsWith end s text × Writes before after (Ok tt) text
+WritesEnd end before after (Err fault) =
+    (s : Status) × (text : List ℕ) × EndsWith end s text × Writes before after (Err fault) text
 
 -- ---- files
 
@@ -193,7 +229,8 @@ ComparesSo report line replay (Err other) = ⊥
 
 -- the end of a replay of a thread, by the program's file and the report, which are accepted
 abbrev pub EndsReplay : List ℕ → List ℕ → ℕ → Result Answer Refusal → Type 0
-EndsReplay file report thread (Ok a) = IsReplayOf file report thread (answer_text a)
+EndsReplay file report thread (Ok (answer.Text told)) = IsReplayOf file report thread (answer_text told)
+EndsReplay file report thread (Ok (answer.Session d)) = ⊥
 EndsReplay file report thread (Err (refusal.Ended (ending.Mismatch line kind))) =
     IsMismatched file report thread (record { line = line; kind = kind })
 EndsReplay file report thread (Err (refusal.Ended (ending.Differs it))) =
@@ -201,11 +238,40 @@ EndsReplay file report thread (Err (refusal.Ended (ending.Differs it))) =
 EndsReplay file report thread (Err refusal.Memory) = Unit {0}
 EndsReplay file report thread (Err other) = ⊥
 
+-- ---- sessions of the debugger
+
+-- a session stands at count 0 of the recorded run of a thread that a report has, which ends as its block says,
+-- and its commands are those of a script
+pub record IsDebugging (file report : List ℕ) (thread : ℕ) (script : List ℕ) (d : Debugging) : Type 0 where
+  pub at : IsBlockIn file report thread
+  pub ends : EndsAt at.program at.config thread at.block.journal at.block.count
+  pub recording : recording_of d.session ≡ recorded at
+  pub place : place_of d.session ≡ 0
+  pub said : script_in script ≡ Ok d.commands.items
+
+-- the end of `debug`, by the program's file, the report and the script, which are accepted
+abbrev pub EndsDebug : List ℕ → List ℕ → ℕ → List ℕ → Result Answer Refusal → Type 0
+EndsDebug file report thread script (Ok (answer.Text told)) = ⊥
+EndsDebug file report thread script (Ok (answer.Session d)) = IsDebugging file report thread script d
+EndsDebug file report thread script (Err (refusal.Ended (ending.Mismatch line kind))) =
+    IsMismatched file report thread (record { line = line; kind = kind })
+EndsDebug file report thread script (Err (refusal.Ended (ending.Differs it))) =
+    IsParted file report thread (difference_text it)
+EndsDebug file report thread script (Err refusal.Memory) = Unit {0}
+EndsDebug file report thread script (Err other) = ⊥
+
 -- ---- ends
+
+-- this holds of each status and text with which an answer is written
+abbrev pub OfAnswer : (Status → List ℕ → Type 0) → Answer → Type 0
+OfAnswer says (answer.Text told) = says status.Done (answer_text told)
+OfAnswer says (answer.Session d) =
+    ((text : List ℕ) → PrintsAll d text → says status.Done text)
+    × ((text : List ℕ) → PrintsFront d text → says status.OutOfMemory text)
 
 -- the end of a request whose files, in order, are these and are accepted
 abbrev pub EndsAccepted : Request → List (List ℕ) → Result Answer Refusal → Type 0
-EndsAccepted request files (Ok a) = outcome request files status.Done (answer_text a)
+EndsAccepted request files (Ok a) = OfAnswer (outcome request files) a
 EndsAccepted request files (Err (refusal.Ended end)) =
     outcome request files (ending_status end) (ending_text end)
 EndsAccepted request files (Err refusal.Memory) = Unit {0}
@@ -213,13 +279,13 @@ EndsAccepted request files (Err other) = ⊥
 
 -- the end of a command, for a request
 abbrev pub EndsRequest : Request → Change FilesView → Result Answer Refusal → Type 0
-EndsRequest request files (Ok a) = Stands request files status.Done (answer_text a)
+EndsRequest request files (Ok a) = OfAnswer (Stands request files) a
 EndsRequest request files (Err refusal.Memory) = Unit {0}
 EndsRequest request files (Err r) = Stands request files (refusal_status r) (refusal_text r)
 
 -- the end of a command, for words
 abbrev pub EndsWords : List (List ℕ) → Change FilesView → Result Answer Refusal → Type 0
-EndsWords words files (Ok a) = Defined words files status.Done (answer_text a)
+EndsWords words files (Ok a) = OfAnswer (Defined words files) a
 EndsWords words files (Err refusal.Memory) = Unit {0}
 EndsWords words files (Err r) = Defined words files (refusal_status r) (refusal_text r)
 

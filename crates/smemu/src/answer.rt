@@ -3,6 +3,7 @@ ghost use Rattle.edge_io.specs.Sink.{Writes};
 ghost use Rattle.smemu.specs.Views.{answer_text, run_text, simulation_text};
 
 use crate::bench::{Summary, write_summary};
+use crate::debug::Debugging;
 use crate::excerpt::Excerpt;
 use code_listing::write_listing;
 use command_lines::{write_help, write_version};
@@ -37,9 +38,9 @@ pub struct Simulation {
     pub history: Vec<Entry>,
 }
 
-/// What a command answers.
+/// A text that a command answers.
 #[derive(Drop)]
-pub enum Answer {
+pub enum Text {
     /// The run of a program.
     Report(RunReport),
     /// The events of a plan.
@@ -56,6 +57,15 @@ pub enum Answer {
     Summary(Summary),
     Help,
     Version,
+}
+
+/// What a command answers.
+#[derive(Drop)]
+pub enum Answer {
+    /// A text.
+    Text(Text),
+    /// What the commands of a script show of a thread, each of which is carried out when it is written.
+    Session(Debugging),
 }
 
 /// Writes the report of a run.
@@ -83,19 +93,19 @@ fn write_simulation<K: Sink>(out: &mut K, it: &Simulation) -> Result<(), PutFaul
     )
 }
 
-/// Writes an answer.
-pub fn write_answer<K: Sink>(out: &mut K, answer: &Answer) -> Result<(), PutFault>
-    ensures { Writes (K.view out.old) (K.view out.new) result (answer_text answer.now) }
+/// Writes a text that is answered.
+pub fn write_text<K: Sink>(out: &mut K, text: &Text) -> Result<(), PutFault>
+    ensures { Writes (K.view out.old) (K.view out.new) result (answer_text text.now) }
 {
-    match answer {
-        Answer::Report(report) => write_run(out, report),
-        Answer::Simulation(simulation) => write_simulation(out, simulation),
-        Answer::Listing(image) => write_listing(image.code(), out),
-        Answer::Program(bytes) => out.put(bytes.as_slice()),
-        Answer::Block(block) => out.put(block.bytes()),
-        Answer::Source(number) => write_source(*number, out),
-        Answer::Summary(summary) => write_summary(out, summary),
-        Answer::Help => write_help(out),
-        Answer::Version => write_version(out),
+    match text {
+        Text::Report(report) => write_run(out, report),
+        Text::Simulation(simulation) => write_simulation(out, simulation),
+        Text::Listing(image) => write_listing(image.code(), out),
+        Text::Program(bytes) => out.put(bytes.as_slice()),
+        Text::Block(block) => out.put(block.bytes()),
+        Text::Source(number) => write_source(*number, out),
+        Text::Summary(summary) => write_summary(out, summary),
+        Text::Help => write_help(out),
+        Text::Version => write_version(out),
     }
 }

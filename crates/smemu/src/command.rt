@@ -8,15 +8,15 @@ ghost use Rattle.cmd_words.specs.Options.{default_options, options_of, with_numb
 ghost use Rattle.cmd_words.specs.declared.command.Command.TheVariants as command;
 ghost use Rattle.cmd_words.specs.declared.setting.Setting.TheVariants.{Cores};
 ghost use Rattle.edge_io.specs.Files.{IsKept};
-ghost use Rattle.edge_io.specs.Sink.{Writes};
 ghost use Rattle.elf_loader.specs.Loading.{Loads};
 ghost use Rattle.smemu.specs.Answers.{IsReportOf, IsProgramOf};
 ghost use Rattle.smemu.specs.Ends.{change, call, IsDone, IsRefused, IsComplete, Fetches};
-ghost use Rattle.smemu.specs.Views.{run_text, end_text, end_status, CarriesOut, EndsWords};
+ghost use Rattle.smemu.specs.Views.{run_text, end_status, CarriesOut, EndsWords, WritesEnd};
 
-use crate::answer::{Answer, RunReport, write_answer};
+use crate::answer::{Answer, RunReport, Text, write_text};
 use crate::bench::run_workload;
-use crate::files::{open_plan, open_program, open_report, open_source};
+use crate::debug::{debug_report, write_session};
+use crate::files::{open_plan, open_program, open_report, open_script, open_source};
 use crate::refusal::{Refusal, status_of, write_refusal};
 use crate::replay::replay_report;
 use crate::run::run_threads;
@@ -88,7 +88,7 @@ fn run_program<R: Threads + Wait + Sync, F: Files, G: Gate + Sync>(
         &file.content,
         gate,
     ) {
-        Ok(report) => Ok(Answer::Report(report)),
+        Ok(report) => Ok(Answer::Text(Text::Report(report))),
         Err(Memory) => Err(Refusal::Memory),
     }
 }
@@ -115,7 +115,7 @@ fn simulate_plan<F: Files>(
         events,
         config,
     ) {
-        Ok(simulation) => Ok(Answer::Simulation(simulation)),
+        Ok(simulation) => Ok(Answer::Text(Text::Simulation(simulation))),
         Err(Memory) => Err(Refusal::Memory),
     }
 }
@@ -125,7 +125,7 @@ fn list_program<F: Files>(alloc: Global, program: String, files: &mut F) -> Resu
     ensures { CarriesOut F.fetched F.view (request_of (command.Dis program)) files.old files.new result }
 {
     let file = open_program(alloc, program, files)?;
-    Ok(Answer::Listing(file.content))
+    Ok(Answer::Text(Text::Listing(file.content)))
 }
 
 /// `asm SOURCE`: the program file that the source of that name is assembled to.
@@ -138,7 +138,7 @@ fn assemble_source<F: Files>(
 {
     let file = open_source(alloc, source, files)?;
     match write_object(alloc, file.bytes.as_slice(), &file.content) {
-        Ok(program) => Ok(Answer::Program(program)),
+        Ok(program) => Ok(Answer::Text(Text::Program(program))),
         Err(Memory) => Err(Refusal::Memory),
     }
 }
@@ -157,6 +157,24 @@ fn replay_thread<F: Files>(
     let file = open_program(alloc, program, files)?;
     let read = open_report(alloc, report, files)?;
     replay_report(alloc, file.bytes.as_slice(), &file.content, read, thread)
+}
+
+/// `debug PROGRAM REPORT THREAD SCRIPT`: a session over that thread of the report, for the script's commands.
+fn debug_thread<F: Files>(
+    alloc: Global,
+    program: String,
+    report: String,
+    thread: u32,
+    script: String,
+    files: &mut F,
+) -> Result<Answer, Refusal>
+    ensures { CarriesOut F.fetched F.view (request_of (command.Debug program report thread script)) files.old
+        files.new result }
+{
+    let file = open_program(alloc, program, files)?;
+    let read = open_report(alloc, report, files)?;
+    let commands = open_script(alloc, script, files)?;
+    debug_report(alloc, file, &read, thread, commands)
 }
 
 /// The options of a workload on so many cores: four threads, and else those of a command that gives none.
@@ -187,7 +205,7 @@ fn bench<R: Threads + Wait + Sync, F: Files, G: Gate + Sync>(
 {
     let config = bench_options(cores);
     match run_workload(rt, alloc, number, &config, gate) {
-        Ok(summary) => Ok(Answer::Summary(summary)),
+        Ok(summary) => Ok(Answer::Text(Text::Summary(summary))),
         Err(Memory) => Err(Refusal::Memory),
     }
 }
@@ -217,10 +235,16 @@ fn carry_out<R: Threads + Wait + Sync, F: Files, G: Gate + Sync>(
             report,
             thread,
         } => replay_thread(alloc, program, report, thread, files),
-        Command::Gen { number } => Ok(Answer::Source(number)),
+        Command::Debug {
+            program,
+            report,
+            thread,
+            script,
+        } => debug_thread(alloc, program, report, thread, script, files),
+        Command::Gen { number } => Ok(Answer::Text(Text::Source(number))),
         Command::Bench { number, cores } => bench(rt, alloc, number, cores, files, gate),
-        Command::Help => Ok(Answer::Help),
-        Command::Version => Ok(Answer::Version),
+        Command::Help => Ok(Answer::Text(Text::Help)),
+        Command::Version => Ok(Answer::Text(Text::Version)),
     }
 }
 
@@ -243,23 +267,20 @@ fn answer_words<R: Threads + Wait + Sync, F: Files, G: Gate + Sync>(
     }
 }
 
-/// Writes the text of a command's end.
-fn write_end<K: Sink>(out: &mut K, end: &Result<Answer, Refusal>) -> Result<(), PutFault>
-    ensures { Writes (K.view out.old) (K.view out.new) result (end_text end.now) }
+/// Writes the text of a command's end, and gives the status with which the command then ends.
+fn write_end<K: Sink>(out: &mut K, end: Result<Answer, Refusal>) -> Result<Status, PutFault>
+    ensures { WritesEnd end (K.view out.old) (K.view out.new) result }
 {
     match end {
-        Ok(answer) => write_answer(out, answer),
-        Err(refusal) => write_refusal(out, refusal),
-    }
-}
-
-/// The status of a command's end that was written.
-fn status_of_end(end: &Result<Answer, Refusal>) -> Status
-    ensures { result ≡ end_status end.now }
-{
-    match end {
-        Ok(_) => Status::Done,
-        Err(refusal) => status_of(refusal),
+        Ok(Answer::Text(text)) => {
+            write_text(out, &text)?;
+            Ok(Status::Done)
+        }
+        Ok(Answer::Session(it)) => write_session(out, it),
+        Err(refusal) => {
+            write_refusal(out, &refusal)?;
+            Ok(status_of(&refusal))
+        }
     }
 }
 
@@ -270,6 +291,9 @@ fn status_of_end(end: &Result<Answer, Refusal>) -> Status
 /// - `sim PROGRAM PLAN` with its options makes the events of the plan of that name: which were skipped, the
 ///   report and the history;
 /// - `replay PROGRAM REPORT THREAD` runs a thread of the report of that name alone: its block;
+/// - `debug PROGRAM REPORT THREAD SCRIPT` carries out the commands of the script of that name over such a run:
+///   what they print, each answer when it comes, so that with `OutOfMemory` those of earlier commands may be
+///   written;
 /// - `dis PROGRAM` lists the program;
 /// - `asm SOURCE` assembles the source of that name: the program file;
 /// - `gen N` writes the source of a workload, and `bench N` runs it: one line;
@@ -293,8 +317,8 @@ pub fn smemu_main<R: Threads + Wait + Sync, F: Files, K: Sink, G: Gate + Sync>(
     ensures fetched { Fetches F.fetched F.view words.now files.old files.new result }
 {
     let end = answer_words(rt, alloc, words, files, gate);
-    match write_end(out, &end) {
-        Ok(()) => status_of_end(&end),
+    match write_end(out, end) {
+        Ok(status) => status,
         Err(_) => Status::WriteFault,
     }
 }

@@ -9,7 +9,8 @@ ghost use Rattle.plan_reader.specs.Plan.{plan_in};
 ghost use Rattle.report_reader.specs.Report.{report_in};
 ghost use Rattle.report_reader.specs.Told.{report_said, StandsIn};
 ghost use Rattle.smemu.specs.Ends.{change};
-ghost use Rattle.smemu.specs.Rejections.{ProgramFile, SourceFile, ReportFile, PlanFile};
+ghost use Rattle.script_reader.specs.Script.{script_in};
+ghost use Rattle.smemu.specs.Rejections.{ProgramFile, SourceFile, ReportFile, PlanFile, ScriptFile};
 ghost use Rattle.smemu.specs.Rejections.{limit_of};
 ghost use Rattle.smemu.specs.Views.{IsFront, IsUnread, IsRejected, IsOpened, IsUnopened};
 
@@ -21,11 +22,12 @@ use elf_loader::{LoadFault, load};
 use paged_memory::Image;
 use plan_reader::{PlanFault, WorldEvent, read_plan};
 use report_reader::{Report, ReportFault, read_report};
+use script_reader::{DebugCommand, read_script};
 use sm_types::Object;
 use std::alloc::Global;
 
-/// A file of more bytes than a program file, a source or a plan may have is fetched up to its first byte too
-/// many.
+/// A file of more bytes than a program file, a source, a plan or a script may have is fetched up to its first
+/// byte too many.
 const FETCH_LIMIT: u64 = 67_108_865;
 
 /// The same of a report.
@@ -120,6 +122,20 @@ fn plan_file(alloc: Global, bytes: &[u8]) -> Result<Vec<WorldEvent>, Refusal>
     }
 }
 
+/// The commands of a script.
+fn script_file(alloc: Global, bytes: &[u8]) -> Result<Vec<DebugCommand>, Refusal>
+    ensures said { IfOk result (λ commands. script_in bytes.now ≡ Ok commands.items) }
+    ensures rejected { IfErr result (IsRejected ScriptFile bytes.now) }
+{
+    match read_script(alloc, bytes) {
+        Ok(commands) => Ok(commands),
+        Err(PlanFault::Line { line, kind }) => {
+            Err(Refusal::Rejected(Rejection::Plan { line, kind }))
+        }
+        Err(PlanFault::Memory) => Err(Refusal::Memory),
+    }
+}
+
 /// The program file of that name, loaded.
 pub fn open_program<F: Files>(
     alloc: Global,
@@ -196,5 +212,24 @@ pub fn open_plan<F: Files>(
 {
     let bytes = fetch_file(alloc, name, FETCH_LIMIT, files)?;
     let content = plan_file(alloc, bytes.as_slice())?;
+    Ok(Opened { bytes, content })
+}
+
+/// The script of that name, read.
+pub fn open_script<F: Files>(
+    alloc: Global,
+    name: String,
+    files: &mut F,
+) -> Result<Opened<Vec<DebugCommand>>, Refusal>
+    ensures opened { IfOk result (λ it.
+        IsOpened (F.view files.old).told (string_bytes name) ScriptFile it.bytes.items) }
+    ensures said { IfOk result (λ it. script_in it.bytes.items ≡ Ok it.content.items) }
+    ensures unopened { IfErr result
+        (IsUnopened (change F.view files.old files.new) (string_bytes name) ScriptFile) }
+    ensures kept { IsKept (F.view files.old) (F.view files.new) }
+    ensures fetched { F.fetched files.old (string_bytes name) (limit_of ScriptFile) files.new }
+{
+    let bytes = fetch_file(alloc, name, FETCH_LIMIT, files)?;
+    let content = script_file(alloc, bytes.as_slice())?;
     Ok(Opened { bytes, content })
 }

@@ -21,7 +21,7 @@ pub enum Rejection {
     Source(AsmFault),
     /// It is no report: its first line that is not in the format, and the part to which that should belong.
     Report { line: u64, kind: ReportKind },
-    /// It is no plan: its first line that is not in the format, and what is wrong there.
+    /// It is no plan, or no script: its first line that is not in the format, and what is wrong there.
     Plan { line: u64, kind: PlanKind },
 }
 

@@ -13,7 +13,7 @@ ghost use Rattle.smemu.specs.Views.{IsUnmatched};
 ghost use Rattle.smemu.specs.declared.refusal.Refusal.TheVariants as refusals;
 ghost use Rattle.smemu.specs.Views.{ComparesSo, EndsReplay, IsOtherLine, IsPartedRefusal};
 
-use crate::answer::Answer;
+use crate::answer::{Answer, Text};
 use crate::compare::{Comparison, Kept};
 use crate::ending::{Difference, Ending};
 use crate::excerpt::Excerpt;
@@ -30,7 +30,7 @@ use sm_types::Config;
 use std::alloc::Global;
 
 /// Checks that a report is of this program, and has that thread.
-fn check_match(file: &[u8], thread: u32, report: &Report) -> Result<(), Refusal>
+pub fn check_match(file: &[u8], thread: u32, report: &Report) -> Result<(), Refusal>
     ensures ok { OnOk result (spec.mismatch (sha256 file.now) thread (report_said report.now) ≡ None) }
     ensures err { IfErr result (IsUnmatched file.now thread (report_said report.now)) }
 {
@@ -172,9 +172,9 @@ pub fn replay_report(
     let bytes = report.bytes.as_slice();
     let block = replayed_block(alloc, file, image, bytes, &report.content, thread)?;
     let (start, end) = (block.start, block.end);
-    Ok(Answer::Block(Excerpt {
+    Ok(Answer::Text(Text::Block(Excerpt {
         text: report.bytes,
         start,
         end,
-    }))
+    })))
 }

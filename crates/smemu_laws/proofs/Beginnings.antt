@@ -4,7 +4,7 @@ use Rattle.std.specs.List.{concat}
 use Rattle.cmd_words.specs.Options.{Options}
 use Rattle.cmd_words.specs.Words.{Argument, ThreadSaid, Request}
 use Rattle.cmd_words.specs.declared.verb.Verb.{Verb}
-use Rattle.cmd_words.specs.declared.verb.Verb.TheVariants.{Replay}
+use Rattle.cmd_words.specs.declared.verb.Verb.TheVariants.{Replay, Debug}
 use Rattle.edge_io.specs.Files.{FilesView}
 use Rattle.report_reader.specs.Reading.{Fault}
 use Rattle.command_lines.specs.FaultLines.{fault_line, fault_words}
@@ -51,31 +51,35 @@ so_begun file report thread text (inr h) = (
 )
 
 outcome_begun : (verb : Verb) (s : Status) (operands : List Argument) (options : Options) (files : List (List ℕ)) (text : List ℕ) → s ≢ Done
-    → IsToldBy (outcomes_of verb s) operands options files text → HasFront text (status_words s)
-outcome_begun Replay BadReport (program ∷ report ∷ ThreadSaid thread ∷ []) options (file ∷ bytes ∷ []) text other h =
+    → s ≢ OutOfMemory → IsToldBy (outcomes_of verb s) operands options files text → HasFront text (status_words s)
+outcome_begun Replay BadReport (program ∷ report ∷ ThreadSaid thread ∷ []) options (file ∷ bytes ∷ []) text other some h =
     report_begun h.fault text h.is_text
-outcome_begun Replay Differs (program ∷ report ∷ ThreadSaid thread ∷ []) options (file ∷ bytes ∷ []) text other h =
+outcome_begun Replay Differs (program ∷ report ∷ ThreadSaid thread ∷ []) options (file ∷ bytes ∷ []) text other some h =
     so_begun file bytes thread text h
-outcome_begun verb Done operands options files text other h = absurd (other refl)
-outcome_begun verb s operands options files text other h = absurd h
+outcome_begun Debug BadReport (program ∷ report ∷ ThreadSaid thread ∷ script ∷ []) options (file ∷ bytes ∷ commands ∷ []) text other some h =
+    report_begun h.fault text h.is_text
+outcome_begun Debug Differs (program ∷ report ∷ ThreadSaid thread ∷ script ∷ []) options (file ∷ bytes ∷ commands ∷ []) text other some h =
+    so_begun file bytes thread text (inl h)
+outcome_begun verb Done operands options files text other some h = absurd (other refl)
+outcome_begun verb OutOfMemory operands options files text other some h = absurd (some refl)
+outcome_begun verb s operands options files text other some h = absurd h
 
-stands_begun : (request : Request) (files : Change FilesView) (s : Status) (text : List ℕ) → s ≢ Done → Stands request files s text
+stands_begun : (request : Request) (files : Change FilesView) (s : Status) (text : List ℕ) → s ≢ Done → s ≢ OutOfMemory → Stands request files s text
     → HasFront text (status_words s)
-stands_begun request files Done text other h = absurd (other refl)
-stands_begun request files Usage text other h = absurd h
-stands_begun request files WriteFault text other h = absurd h
-stands_begun request files Absent text other h = (concat (h.named.name ∷ codes "\n" ∷ []), h.is_text)
-stands_begun request files ReadFault text other h = (concat (h.named.name ∷ codes "\n" ∷ []), h.is_text)
-stands_begun request files OutOfMemory text other h =
-    outcome_begun request.verb OutOfMemory request.operands request.options h.files text other h.ends
-stands_begun request files s text other (inl h) =
+stands_begun request files Done text other some h = absurd (other refl)
+stands_begun request files Usage text other some h = absurd h
+stands_begun request files WriteFault text other some h = absurd h
+stands_begun request files Absent text other some h = (concat (h.named.name ∷ codes "\n" ∷ []), h.is_text)
+stands_begun request files ReadFault text other some h = (concat (h.named.name ∷ codes "\n" ∷ []), h.is_text)
+stands_begun request files OutOfMemory text other some h = absurd (some refl)
+stands_begun request files s text other some (inl h) =
     subst (λ (q : Status). HasFront text (status_words q)) (sym h.is_status) (rejection_begun h.rejection text h.is_text)
-stands_begun request files s text other (inr h) =
-    outcome_begun request.verb s request.operands request.options h.files text other h.ends
+stands_begun request files s text other some (inr h) =
+    outcome_begun request.verb s request.operands request.options h.files text other some h.ends
 
 pub has_begun : (words : List (List ℕ)) (files : Change FilesView) (status : Status) (text : List ℕ) → status ≢ Done
-    → Defined words files status text → HasFront text (status_words status)
+    → status ≢ OutOfMemory → Defined words files status text → HasFront text (status_words status)
 unfolding usage_line
-has_begun words files Usage text other h =
+has_begun words files Usage text other some h =
     (concat (decimal h.fault.place ∷ codes ": " ∷ kind_word h.fault.kind ∷ codes "\n" ∷ []), h.is_text)
-has_begun words files s text other h = stands_begun h.request files s text other h.stands
+has_begun words files s text other some h = stands_begun h.request files s text other some h.stands

@@ -7,9 +7,9 @@ use Rattle.sm_types.specs.declared.config.Config.{Config}
 use Rattle.cmd_words.specs.Options.{Options}
 use Rattle.cmd_words.specs.Words.{Argument, ThreadSaid, WorkloadSaid, Request, command_of}
 use Rattle.cmd_words.specs.declared.verb.Verb.{Verb}
-use Rattle.cmd_words.specs.declared.verb.Verb.TheVariants.{Run, Sim, Dis, Asm, Replay, Gen, Bench, Help, Version}
+use Rattle.cmd_words.specs.declared.verb.Verb.TheVariants.{Run, Sim, Dis, Asm, Replay, Debug, Gen, Bench, Help, Version}
 use Rattle.edge_io.specs.Files.{FilesView}
-use Rattle.lone_runner.specs.Parting.{IsParting}
+use Rattle.lone_runner.specs.Parting.{EndsAt, IsParting}
 use Rattle.lone_runner.specs.declared.fault.AloneFault.{AloneFault}
 use Rattle.lone_runner.proofs.Partings.{ends_whole, one_fault}
 use Rattle.lone_runner.proofs.Runs.{one_state, one_stop}
@@ -27,7 +27,8 @@ use Rattle.smemu.specs.Answers.{IsOutcome, IsToldBy, outcomes_of, outcome}
 use Rattle.smemu.specs.DifferLines.{parting_line}
 use Rattle.smemu.specs.Ends.{Change, Stands}
 use Rattle.smemu.specs.Rejections.{rejection_line, rejection_status}
-use Rattle.smemu.specs.Replay.{mismatch, text_in, text_of, EndsAsSaid, IsBlockIn, IsReplayOf, IsMismatched, MismatchesSo, DiffersSo}
+use Rattle.smemu.specs.Replay.{mismatch, text_in, text_of, EndsAsSaid, IsBlockIn, IsReplayOf, IsMismatched, IsParted, MismatchesSo}
+use Rattle.smemu.specs.Replay.{DiffersSo}
 use Rattle.smemu.specs.Requests.{Named, files_named}
 use Rattle.smemu.specs.declared.rejection.Rejection.{Rejection}
 use Rattle.smemu.specs.declared.rejection.Rejection.TheVariants as rejection
@@ -35,6 +36,8 @@ use Rattle.smemu_laws.specs.OneAnswer.{AreOneText}
 use Rattle.smemu_laws.proofs.Fates.{Fate, AllAccepted, Missing, Refused, IsDecided, missing_line, accepted_fate, decided}
 use Rattle.smemu_laws.proofs.OneAnswer.{same_said, one_assembly, one_block, one_listing, one_replay, one_run_report}
 use Rattle.smemu_laws.proofs.OneAnswer.{one_bench, one_simulation}
+use Rattle.smemu_laws.proofs.OneDebug.{debug_front, one_debug}
+use Rattle.command_lines.specs.Texts.{HasFront}
 
 -- a text differs from itself in no line
 no_line : (n : ℕ) (lines : List (List ℕ)) → first_difference n lines lines ≡ None
@@ -88,6 +91,14 @@ done_differs file report thread text other h (inr g) =
     let texts : text_in report g.at.block ≡ text_of g.end = ap (text_in report) (sym one.block) ∙ h.same ∙ h.is_text ∙ same in
     none_some (first_difference 0 (lines_of (text_in report g.at.block)) (lines_of (text_of g.end))) g.it
     (ap (λ (t : List ℕ). first_difference 0 (lines_of t) (lines_of (text_of g.end))) texts ∙ no_line 0 (lines_of (text_of g.end))) g.first
+
+-- a thread that ends as its block says does not part
+whole_parts : (file report : List ℕ) (thread : ℕ) (text : List ℕ) (at : IsBlockIn file report thread)
+    → EndsAt at.program at.config thread at.block.journal at.block.count → IsParted file report thread text → ⊥
+whole_parts file report thread text at h g =
+    let one = one_block file report thread at g.at in
+    no_parting at.program g.at.program at.config g.at.config thread at.block g.at.block one.program one.config one.block
+    (record { state = h.state; stop = h.stop; run = h.run; count = h.counts }) g.fault g.parts
 
 -- a report that is one of the program, with the thread, is not one of another
 matched : (file report : List ℕ) (thread : ℕ) (at : IsBlockIn file report thread) (fault : Fault) → IsMismatched file report thread fault
@@ -154,44 +165,66 @@ one_difference file report thread text other (inr h) (inr g) =
 
 -- ---- what becomes of accepted files
 
--- two endings of accepted files have one status and one text
+-- two endings of accepted files, where memory is not wanting, have one status and one text
 pub one_outcome : (verb : Verb) (s t : Status) (operands : List Argument) (options : Options) (files : List (List ℕ))
-    (text other : List ℕ) → IsToldBy (outcomes_of verb s) operands options files text
+    (text other : List ℕ) → s ≢ OutOfMemory → t ≢ OutOfMemory → IsToldBy (outcomes_of verb s) operands options files text
     → IsToldBy (outcomes_of verb t) operands options files other
     → (s ≡ t) × AreOneText verb options.cores s text other
-one_outcome Run Done Done operands options (file ∷ []) text other h g =
+one_outcome Run Done Done operands options (file ∷ []) text other m n h g =
     (refl, λ one. one_run_report file options text other one h g)
-one_outcome Sim Done Done operands options (file ∷ plan ∷ []) text other h g =
+one_outcome Sim Done Done operands options (file ∷ plan ∷ []) text other m n h g =
     (refl, one_simulation file plan options text other h g)
-one_outcome Dis Done Done operands options (file ∷ []) text other h g = (refl, one_listing file text other h g)
-one_outcome Asm Done Done operands options (file ∷ []) text other h g = (refl, one_assembly file text other h g)
-one_outcome Replay Done Done (program ∷ report ∷ ThreadSaid thread ∷ []) options (file ∷ bytes ∷ []) text other h g =
+one_outcome Dis Done Done operands options (file ∷ []) text other m n h g = (refl, one_listing file text other h g)
+one_outcome Asm Done Done operands options (file ∷ []) text other m n h g = (refl, one_assembly file text other h g)
+one_outcome Replay Done Done (program ∷ report ∷ ThreadSaid thread ∷ []) options (file ∷ bytes ∷ []) text other m n h g =
     (refl, one_replay file bytes thread text other h g)
-one_outcome Replay BadReport BadReport (program ∷ report ∷ ThreadSaid thread ∷ []) options (file ∷ bytes ∷ []) text other h g =
+one_outcome Replay BadReport BadReport (program ∷ report ∷ ThreadSaid thread ∷ []) options (file ∷ bytes ∷ []) text other m n h g =
     (refl, one_mismatch file bytes thread text other h g)
-one_outcome Replay Differs Differs (program ∷ report ∷ ThreadSaid thread ∷ []) options (file ∷ bytes ∷ []) text other h g =
+one_outcome Replay Differs Differs (program ∷ report ∷ ThreadSaid thread ∷ []) options (file ∷ bytes ∷ []) text other m n h g =
     (refl, one_difference file bytes thread text other h g)
-one_outcome Replay Done BadReport (program ∷ report ∷ ThreadSaid thread ∷ []) options (file ∷ bytes ∷ []) text other h g =
+one_outcome Replay Done BadReport (program ∷ report ∷ ThreadSaid thread ∷ []) options (file ∷ bytes ∷ []) text other m n h g =
     absurd (matched file bytes thread h.at g.fault g.is_mismatched)
-one_outcome Replay BadReport Done (program ∷ report ∷ ThreadSaid thread ∷ []) options (file ∷ bytes ∷ []) text other h g =
+one_outcome Replay BadReport Done (program ∷ report ∷ ThreadSaid thread ∷ []) options (file ∷ bytes ∷ []) text other m n h g =
     absurd (matched file bytes thread g.at h.fault h.is_mismatched)
-one_outcome Replay Done Differs (program ∷ report ∷ ThreadSaid thread ∷ []) options (file ∷ bytes ∷ []) text other h g =
+one_outcome Replay Done Differs (program ∷ report ∷ ThreadSaid thread ∷ []) options (file ∷ bytes ∷ []) text other m n h g =
     absurd (done_differs file bytes thread text other h g)
-one_outcome Replay Differs Done (program ∷ report ∷ ThreadSaid thread ∷ []) options (file ∷ bytes ∷ []) text other h g =
+one_outcome Replay Differs Done (program ∷ report ∷ ThreadSaid thread ∷ []) options (file ∷ bytes ∷ []) text other m n h g =
     absurd (done_differs file bytes thread other text g h)
-one_outcome Replay BadReport Differs (program ∷ report ∷ ThreadSaid thread ∷ []) options (file ∷ bytes ∷ []) text other h g =
+one_outcome Replay BadReport Differs (program ∷ report ∷ ThreadSaid thread ∷ []) options (file ∷ bytes ∷ []) text other m n h g =
     absurd (matched file bytes thread (block_of file bytes thread other g) h.fault h.is_mismatched)
-one_outcome Replay Differs BadReport (program ∷ report ∷ ThreadSaid thread ∷ []) options (file ∷ bytes ∷ []) text other h g =
+one_outcome Replay Differs BadReport (program ∷ report ∷ ThreadSaid thread ∷ []) options (file ∷ bytes ∷ []) text other m n h g =
     absurd (matched file bytes thread (block_of file bytes thread text h) g.fault g.is_mismatched)
-one_outcome Gen Done Done (WorkloadSaid number ∷ []) options [] text other h g = (refl, h ∙ sym g)
-one_outcome Bench Done Done (WorkloadSaid number ∷ []) options [] text other h g =
+one_outcome Debug OutOfMemory t operands options files text other m n h g = absurd (m refl)
+one_outcome Debug s OutOfMemory operands options files text other m n h g = absurd (n refl)
+one_outcome Debug Done Done (program ∷ report ∷ ThreadSaid thread ∷ script ∷ []) options (file ∷ bytes ∷ commands ∷ []) text other m n h g =
+    (refl, one_debug file bytes thread commands text other h g)
+one_outcome Debug BadReport BadReport (program ∷ report ∷ ThreadSaid thread ∷ script ∷ []) options (file ∷ bytes ∷ commands ∷ []) text other m n h g =
+    (refl, one_mismatch file bytes thread text other h g)
+one_outcome Debug Differs Differs (program ∷ report ∷ ThreadSaid thread ∷ script ∷ []) options (file ∷ bytes ∷ commands ∷ []) text other m n h g =
+    (refl, one_difference file bytes thread text other (inl h) (inl g))
+one_outcome Debug Done BadReport (program ∷ report ∷ ThreadSaid thread ∷ script ∷ []) options (file ∷ bytes ∷ commands ∷ []) text other m n h g =
+    absurd (matched file bytes thread h.at g.fault g.is_mismatched)
+one_outcome Debug BadReport Done (program ∷ report ∷ ThreadSaid thread ∷ script ∷ []) options (file ∷ bytes ∷ commands ∷ []) text other m n h g =
+    absurd (matched file bytes thread g.at h.fault h.is_mismatched)
+one_outcome Debug Done Differs (program ∷ report ∷ ThreadSaid thread ∷ script ∷ []) options (file ∷ bytes ∷ commands ∷ []) text other m n h g =
+    absurd (whole_parts file bytes thread other h.at h.ends g)
+one_outcome Debug Differs Done (program ∷ report ∷ ThreadSaid thread ∷ script ∷ []) options (file ∷ bytes ∷ commands ∷ []) text other m n h g =
+    absurd (whole_parts file bytes thread text g.at g.ends h)
+one_outcome Debug BadReport Differs (program ∷ report ∷ ThreadSaid thread ∷ script ∷ []) options (file ∷ bytes ∷ commands ∷ []) text other m n h g =
+    absurd (matched file bytes thread g.at h.fault h.is_mismatched)
+one_outcome Debug Differs BadReport (program ∷ report ∷ ThreadSaid thread ∷ script ∷ []) options (file ∷ bytes ∷ commands ∷ []) text other m n h g =
+    absurd (matched file bytes thread h.at g.fault g.is_mismatched)
+one_outcome Gen Done Done (WorkloadSaid number ∷ []) options [] text other m n h g = (refl, h ∙ sym g)
+one_outcome Bench Done Done (WorkloadSaid number ∷ []) options [] text other m n h g =
     (refl, λ one. one_bench number options text other one h g)
-one_outcome Help Done Done operands options files text other h g = (refl, h ∙ sym g)
-one_outcome Version Done Done operands options files text other h g = (refl, h ∙ sym g)
-one_outcome Replay BadReport t operands options files text other h g = absurd g
-one_outcome Replay Differs t operands options files text other h g = absurd g
-one_outcome verb Done t operands options files text other h g = absurd g
-one_outcome verb s t operands options files text other h g = absurd h
+one_outcome Help Done Done operands options files text other m n h g = (refl, h ∙ sym g)
+one_outcome Version Done Done operands options files text other m n h g = (refl, h ∙ sym g)
+one_outcome Replay BadReport t operands options files text other m n h g = absurd g
+one_outcome Replay Differs t operands options files text other m n h g = absurd g
+one_outcome Debug BadReport t operands options files text other m n h g = absurd g
+one_outcome Debug Differs t operands options files text other m n h g = absurd g
+one_outcome verb Done t operands options files text other m n h g = absurd g
+one_outcome verb s t operands options files text other m n h g = absurd h
 
 -- ---- what stands for a request
 
@@ -230,14 +263,18 @@ rejected_text Bench cores (rejection.Program fault) text other e = e
 rejected_text Bench cores rejected text other e = e
 rejected_text verb cores rejected text other e = e
 
--- with want of memory comes no text
+-- with want of memory comes no text but of `debug`
 memory_not : (verb : Verb) (operands : List Argument) (options : Options) (files : List (List ℕ)) (text : List ℕ)
-    → IsToldBy (outcomes_of verb OutOfMemory) operands options files text → ⊥
-memory_not Run operands options files text h = absurd h
+    → IsToldBy (outcomes_of verb OutOfMemory) operands options files text → verb ≡ Debug
+memory_not Debug operands options files text h = refl
 memory_not verb operands options files text h = absurd h
 
-pub no_memory : (request : Request) (change : Change FilesView) (text : List ℕ) → Stands request change OutOfMemory text → ⊥
+pub no_memory : (request : Request) (change : Change FilesView) (text : List ℕ) → Stands request change OutOfMemory text
+    → request.verb ≡ Debug
 no_memory request change text h = memory_not request.verb request.operands request.options h.files text h.ends
+
+done_not : ◌≡◌ {A = Status} Done OutOfMemory → ⊥
+done_not e = cc
 
 pub one_answer : (files : List ℕ → Option (List ℕ)) (words : List (List ℕ)) (request : Request) (text other : List ℕ)
     → command_of words ≡ Some request → IsOutcome (Some files) request Done text → IsOutcome (Some files) request Done other
@@ -246,20 +283,38 @@ one_answer files words request text other asked h g =
     let same =
     same_files h.files g.files (sym (accepted_fate files (files_named request) h.files h.accepted)
     ∙ accepted_fate files (files_named request) g.files g.accepted) in
-    (one_outcome request.verb Done Done request.operands request.options g.files text other
+    (one_outcome request.verb Done Done request.operands request.options g.files text other done_not done_not
     (subst (λ (fs : List (List ℕ)). outcome request fs Done text) same h.ends) g.ends).1
+
+-- what is written where memory is wanting begins what is written where it is not
+front_of : (verb : Verb) (operands : List Argument) (options : Options) (files : List (List ℕ)) (text other : List ℕ)
+    → IsToldBy (outcomes_of verb OutOfMemory) operands options files text → IsToldBy (outcomes_of verb Done) operands options files other
+    → HasFront other text
+front_of Debug (program ∷ report ∷ ThreadSaid thread ∷ script ∷ []) options (file ∷ bytes ∷ commands ∷ []) text other h g =
+    debug_front file bytes thread commands text other h g
+front_of verb operands options files text other h g = absurd h
+
+pub front_is_written : (files : List ℕ → Option (List ℕ)) (request : Request) (text other : List ℕ)
+    → IsOutcome (Some files) request OutOfMemory text → IsOutcome (Some files) request Done other → HasFront other text
+front_is_written files request text other h g =
+    let same =
+    same_files h.files g.files (sym (accepted_fate files (files_named request) h.files h.accepted)
+    ∙ accepted_fate files (files_named request) g.files g.accepted) in
+    front_of request.verb request.operands request.options g.files text other
+    (subst (λ (fs : List (List ℕ)). outcome request fs OutOfMemory text) same h.ends) g.ends
 
 refused_same : (verb : Verb) (cores : ℕ) (s : Status) (rejection : Rejection) (text other : List ℕ) → s ≡ rejection_status rejection
     → text ≡ other → AreOneText verb cores s text other
 refused_same verb cores s rejection text other e same =
     subst (λ (q : Status). AreOneText verb cores q text other) (sym e) (rejected_text verb cores rejection text other same)
 
-module _ (known : List ℕ → Option (List ℕ)) (request : Request) (s t : Status) (text other : List ℕ)
+module _ (known : List ℕ → Option (List ℕ)) (request : Request) (s t : Status) (text other : List ℕ) (m : s ≢ OutOfMemory)
+    (n : t ≢ OutOfMemory)
   where
     one_decided : IsDecided known request s text → IsDecided known request t other
         → (s ≡ t) × AreOneText request.verb request.options.cores s text other
     one_decided (inl h) (inl g) =
-        one_outcome request.verb s t request.operands request.options g.files text other
+        one_outcome request.verb s t request.operands request.options g.files text other m n
         (subst (λ (fs : List (List ℕ)). outcome request fs s text) (same_files h.files g.files (sym h.fate ∙ g.fate)) h.ends) g.ends
     one_decided (inr (inl h)) (inr (inl g)) =
         let named = same_missing h.named g.named (sym h.fate ∙ g.fate) in (
@@ -282,8 +337,8 @@ module _ (known : List ℕ → Option (List ℕ)) (request : Request) (s t : Sta
 
 pub one_ending : (files : List ℕ → Option (List ℕ)) (request : Request) (change again : Change FilesView) (s t : Status)
     (text other : List ℕ) → change.before.told ≡ Some files
-    → again.before.told ≡ Some files → s ≢ ReadFault → t ≢ ReadFault
+    → again.before.told ≡ Some files → s ≢ ReadFault → t ≢ ReadFault → s ≢ OutOfMemory → t ≢ OutOfMemory
     → Stands request change s text → Stands request again t other → (s ≡ t) × AreOneText request.verb request.options.cores s text other
-one_ending files request change again s t text other tells told read readable h g =
-    one_decided files request s t text other (decided files request change tells s text read h)
+one_ending files request change again s t text other tells told read readable m n h g =
+    one_decided files request s t text other m n (decided files request change tells s text read h)
     (decided files request again told t other readable g)

@@ -24,27 +24,37 @@ pub fn one_answer()
 {}
 
 /// Over files that are told, every request has one ending in any two calls, but where a file could not be
-/// read: one status, and with it one text, or two files that are loaded as one program, or two texts of a run
-/// on several cores.
+/// read, or memory was wanting: one status, and with it one text, or two files that are loaded as one program,
+/// or two texts of a run on several cores.
 pub fn one_ending()
     ensures { (files : List ℕ → Option (List ℕ)) (request : Request) (change again : Change FilesView)
         (s t : Status) (text other : List ℕ)
         → change.before.told ≡ Some files → again.before.told ≡ Some files
         → s ≢ Status.ReadFault → t ≢ Status.ReadFault
+        → s ≢ Status.OutOfMemory → t ≢ Status.OutOfMemory
         → Stands request change s text → Stands request again t other
         → (s ≡ t) × AreOneText request.verb request.options.cores s text other }
 {}
 
-/// No command has written a part of its answer where memory is wanting.
+/// No command but `debug` has written a part of its answer where memory is wanting.
 pub fn nothing_before_memory()
     ensures { (request : Request) (change : Change FilesView) (text : List ℕ)
-        → ¬ Stands request change Status.OutOfMemory text }
+        → Stands request change Status.OutOfMemory text → request.verb ≡ verbs.Debug }
 {}
 
-/// The text that is written with a status begins as the text of help says of that status.
+/// What a command has written where memory is wanting is the front of what it writes where it is not.
+pub fn a_front_before_memory()
+    ensures { (files : List ℕ → Option (List ℕ)) (request : Request) (text other : List ℕ)
+        → IsOutcome (Some files) request Status.OutOfMemory text
+        → IsOutcome (Some files) request Status.Done other → HasFront other text }
+{}
+
+/// The text that is written with a status begins as the text of help says of that status; where memory is
+/// wanting, there is none but answers of `debug`.
 pub fn begins_as_help_says()
     ensures { (words : List (List ℕ)) (files : Change FilesView) (status : Status) (text : List ℕ)
-        → status ≢ Status.Done → Defined words files status text → HasFront text (status_words status) }
+        → status ≢ Status.Done → status ≢ Status.OutOfMemory → Defined words files status text
+        → HasFront text (status_words status) }
 {}
 
 /// The law of room: each file that `asm` may write has at most 64 MiB, as it is loaded. So who gives that

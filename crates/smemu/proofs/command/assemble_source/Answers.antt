@@ -5,6 +5,7 @@ use Rattle.cmd_words.specs.declared.command.Command.TheVariants as command
 use Rattle.smemu.specs.Rejections.{SourceFile}
 use Rattle.smemu.specs.Views.{CarriesOut}
 use Rattle.smemu.specs.declared.answer.Answer.TheVariants as answer
+use Rattle.smemu.specs.declared.answer.Text.TheVariants as texts
 use Rattle.smemu.specs.declared.refusal.Refusal.TheVariants as refusal
 use Rattle.smemu.proofs.Opened.{one_opened, one_refused}
 use Rattle.smemu.proofs.command.assemble_source.Goals as goal
@@ -24,7 +25,7 @@ returns-in-Ok g c =
     one_opened g.F.Files.fetched g.F.Files.view (request_of (command.Asm c.args.source))
     (record { name = string_bytes c.args.source; kind = SourceFile }) c.args.files.now c.open_source.new.files refl
     c.open_source.ensures.fetched c.open_source.ensures.kept c.in_ok-file.file.bytes.items c.in_ok-file.ensures.opened
-    (Ok (answer.Program c.in-Ok.program)) (rw c.as_slice.ensures.value at c.in-Ok.ensures)
+    (Ok (answer.Text (texts.Program c.in-Ok.program))) (rw c.as_slice.ensures.value at c.in-Ok.ensures)
 
 pub returns : goal.returns
 returns g c =

@@ -5,6 +5,7 @@ use Rattle.cmd_words.specs.declared.command.Command.TheVariants as command
 use Rattle.smemu.specs.Rejections.{ProgramFile}
 use Rattle.smemu.specs.Views.{CarriesOut}
 use Rattle.smemu.specs.declared.answer.Answer.TheVariants as answer
+use Rattle.smemu.specs.declared.answer.Text.TheVariants as texts
 use Rattle.smemu.proofs.Opened.{one_opened, one_refused}
 use Rattle.smemu.proofs.command.list_program.Goals as goal
 
@@ -23,5 +24,5 @@ returns g c =
     one_opened g.F.Files.fetched g.F.Files.view (request_of (command.Dis c.args.program))
     (record { name = string_bytes c.args.program; kind = ProgramFile }) c.args.files.now c.open_program.new.files refl
     c.open_program.ensures.fetched c.open_program.ensures.kept c.in_ok-file.file.bytes.items c.in_ok-file.ensures.opened
-    (Ok (answer.Listing c.in_ok-file.file.content))
+    (Ok (answer.Text (texts.Listing c.in_ok-file.file.content)))
     (record { program = c.in_ok-file.file.content; loads = c.in_ok-file.ensures.loads; is_text = refl })

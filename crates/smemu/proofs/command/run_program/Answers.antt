@@ -5,6 +5,7 @@ use Rattle.cmd_words.specs.declared.command.Command.TheVariants as command
 use Rattle.smemu.specs.Rejections.{ProgramFile}
 use Rattle.smemu.specs.Views.{CarriesOut}
 use Rattle.smemu.specs.declared.answer.Answer.TheVariants as answer
+use Rattle.smemu.specs.declared.answer.Text.TheVariants as texts
 use Rattle.smemu.specs.declared.refusal.Refusal.TheVariants as refusal
 use Rattle.smemu.proofs.Opened.{one_opened, one_refused}
 use Rattle.smemu.proofs.command.run_program.Goals as goal
@@ -24,7 +25,7 @@ returns-in-Ok g c =
     one_opened g.F.Files.fetched g.F.Files.view (request_of (command.Run c.args.program c.args.config.now))
     (record { name = string_bytes c.args.program; kind = ProgramFile }) c.args.files.now c.open_program.new.files refl
     c.open_program.ensures.fetched c.open_program.ensures.kept c.in_ok-file.file.bytes.items c.in_ok-file.ensures.opened
-    (Ok (answer.Report c.in-Ok.report))
+    (Ok (answer.Text (texts.Report c.in-Ok.report)))
     (record { config = c.args.config.now; given = refl; report = rw c.as_slice.ensures.value at c.in-Ok.ensures })
 
 pub returns : goal.returns

@@ -5,6 +5,7 @@ use Rattle.cmd_words.specs.declared.command.Command.TheVariants as command
 use Rattle.smemu.specs.Rejections.{ProgramFile, PlanFile}
 use Rattle.smemu.specs.Views.{CarriesOut}
 use Rattle.smemu.specs.declared.answer.Answer.TheVariants as answer
+use Rattle.smemu.specs.declared.answer.Text.TheVariants as texts
 use Rattle.smemu.specs.declared.refusal.Refusal.TheVariants as refusal
 use Rattle.smemu.proofs.Opened.{all_opened, none_opened, opened_next, refused_next}
 use Rattle.smemu.proofs.command.simulate_plan.Goals as goal
@@ -48,7 +49,7 @@ returns-in-Ok g c =
     (record { name = string_bytes c.args.program; kind = ProgramFile }) old old c.open_program.new.files refl
     (none_opened g.F.Files.fetched g.F.Files.view old) c.open_program.ensures.fetched c.open_program.ensures.kept
     c.in_ok-file.file.bytes.items c.in_ok-file.ensures.opened) c.open_plan.ensures.fetched c.open_plan.ensures.kept
-    c.in_ok-read.read.bytes.items c.in_ok-read.ensures.opened) (Ok (answer.Simulation c.in-Ok.simulation))
+    c.in_ok-read.read.bytes.items c.in_ok-read.ensures.opened) (Ok (answer.Text (texts.Simulation c.in-Ok.simulation)))
     (record {
       config = c.args.config.now;
       given = refl;

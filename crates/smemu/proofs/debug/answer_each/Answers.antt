@@ -1,0 +1,40 @@
+use Rattle.std.proofs.Common.{rules, ◌≡◌, List, take, subst, ◌∙◌, Err, arith}
+use Rattle.script_reader.specs.declared.command.DebugCommand.{DebugCommand}
+use Rattle.sme_debugger.specs.Session.{recording_of, place_of}
+use Rattle.smemu.specs.Debug.{AnswersEach, Leads}
+use Rattle.smemu.proofs.Debugs.{answered_more, answered_until, take_all}
+use Rattle.smemu.proofs.debug.answer_each.Goals as goal
+
+pub returns-in_err-run_command : goal.returns-in_err-run_command
+returns-in_err-run_command g c =
+    let now = c.loop-command.session in
+    let until : AnswersEach (recording_of c.args.session.now) (place_of c.args.session.now) c.args.commands.now
+    (g.K.Sink.view c.args.out.now) (g.K.Sink.view c.run_command.new.out) (Err c.in_err-run_command.field-0.0) =
+    answered_until (recording_of c.args.session.now) (recording_of now) (place_of c.args.session.now) c.args.commands.now
+    c.loop-command.command-index _ (place_of now) (g.K.Sink.view c.args.out.now) (g.K.Sink.view c.loop-command.out)
+    (g.K.Sink.view c.run_command.new.out) c.loop-command-test.true c.loop-command.invariant.0 c.loop-command.invariant.1
+    c.in_err-run_command.field-0.0 c.in_err-run_command.ensures.put c.in_err-run_command.ensures.memory in
+    search rules
+
+pub loop-command-preserved : goal.loop-command-preserved
+loop-command-preserved g c =
+    let now = c.loop-command.session in (
+      answered_more (recording_of c.args.session.now) (recording_of now) (place_of c.args.session.now) c.args.commands.now
+          c.loop-command.command-index _ (place_of now) (g.K.Sink.view c.args.out.now) (g.K.Sink.view c.loop-command.out)
+          (g.K.Sink.view c.run_command.new.out) c.loop-command-test.true c.loop-command.invariant.0 c.loop-command.invariant.1
+          (place_of c.run_command.new.self) c.in_ok-run_command.ensures.done,
+      c.in_ok-run_command.ensures.same ∙ c.loop-command.invariant.1,
+    )
+
+pub returns : goal.returns
+returns g c =
+    let h = c.loop-command.invariant.0 in
+    let all = take_all c.args.commands.now c.loop-command.command-index c.loop-command-test.false in
+    record {
+      place = place_of c.loop-command.session;
+      text = h.text;
+      leads =
+          subst (λ (cs : List DebugCommand). Leads (recording_of c.args.session.now) (place_of c.args.session.now) cs
+          (place_of c.loop-command.session) h.text) all h.leads;
+      writes = h.writes;
+    }
