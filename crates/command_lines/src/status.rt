@@ -21,9 +21,9 @@ pub enum Status {
     BadSource,
     /// There was no memory; nothing was written, but by `debug` the answers of earlier commands.
     OutOfMemory,
-    /// The file is no report of the program that is replayed, or has no such thread.
+    /// The file is no report of the program, or has no such thread.
     BadReport,
-    /// The thread that is replayed and its report part.
+    /// The thread, run alone, and its report part.
     Differs,
     /// The file is no plan, or no script.
     BadPlan,

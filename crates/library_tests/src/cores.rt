@@ -1,6 +1,7 @@
-//! Guest threads on several cores: two workers that run at once, and a queue that is empty.
+//! Guest threads on several cores: two workers that run at once, and a queue and a core that are empty.
 ghost use Rattle.std.specs.Prelude.{◌<◌};
 
+use core_unit::Core;
 use edge_io::Gate;
 use elf_loader::load;
 use run_queue::ContextQueue;
@@ -133,4 +134,18 @@ fn a_queue_that_is_empty(rt: HostRuntime) {
     assert!(rt; !pass.found_empty());
     assert!(rt; queue.fetch(&rt, &mut pass).is_none());
     assert!(rt; pass.found_empty());
+}
+
+#[test]
+fn a_core_that_is_empty(rt: HostRuntime) {
+    let alloc = rt.alloc();
+    let port = PlainPort::new(alloc).ok().expect(&rt, "memory");
+    let mut core = Core::new(alloc, 1, &two_of_each(), &port)
+        .ok()
+        .expect(&rt, "memory");
+    assert!(rt; core.evict().is_none());
+    assert!(rt; core.take_done().is_none());
+    assert!(rt; !core.next());
+    assert_eq!(rt; core.residents(), 0);
+    assert_eq!(rt; core.bank_owner(), None);
 }

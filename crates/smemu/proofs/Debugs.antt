@@ -1,5 +1,5 @@
 -- The debugger over a thread of a report, from what its parts say.
-use Rattle.std.proofs.Common.{◌≡◌, ℕ, ◌+◌, ◌<◌, ◌≤◌, ◌++◌, List, [], ◌∷◌, length, take, drop, get_or, refl, sym, ◌∙◌, ap, subst, append_assoc}
+use Rattle.std.proofs.Common.{◌≡◌, ◌⊎◌, inl, inr, ℕ, ◌+◌, ◌<◌, ◌≤◌, ◌++◌, List, [], ◌∷◌, length, take, drop, get_or, refl, sym, ◌∙◌, ap, subst, append_assoc}
 use Rattle.std.proofs.Common.{append-nil, arith, None, Result, Ok, Err}
 use Rattle.std.proofs.lemmas.Grind.{common_steps}
 use Rattle.std.proofs.lemmas.List.{take-append-drop, take_more}
@@ -29,7 +29,7 @@ use Rattle.sme_debugger.specs.Recording.{Recording}
 use Rattle.sme_debugger.specs.Session.{recording_of, place_of}
 use Rattle.sme_debugger.specs.declared.fault.DebugFault.{DebugFault}
 use Rattle.sme_debugger.specs.declared.fault.DebugFault.TheVariants.{Put, Memory}
-use Rattle.smemu.specs.Debug.{Leads, recorded, AnswersEach, AreCutAnswers, AreFirstAnswers}
+use Rattle.smemu.specs.Debug.{AllAnswers, AnswersEach, FrontAnswers, IsDebug, Leads, recorded}
 use Rattle.smemu.specs.Replay.{mismatch, IsBlockIn}
 use Rattle.smemu.specs.Views.{EndsAccepted, EndsDebug, EndsWith, IsDebugging, IsPartedRefusal, IsUnmatched}
 use Rattle.smemu.specs.declared.answer.Answer.{Answer}
@@ -102,29 +102,40 @@ module _ (r same : Recording) (from : ℕ) (commands : List DebugCommand) (i : �
     writes = writes_then before now after (Ok tt) h.text w.text h.writes w.written;
   }
 
-  cut : IsPartWritten (Answers same place next) now after (Err Failed) → AreCutAnswers r from commands before after
-  cut w = record {
-    made = take i commands;
-    next = next;
-    left = drop (i + 1) commands;
-    are = front_at commands i d l;
-    place = w.place;
-    text = h.text ++ w.is.text;
-    leads = leads_more r from (take i commands) place h.text next w.place w.is.text h.leads (there w.place w.is.text w.is.answer);
-    writes = writes_then before now after (Err Failed) h.text w.is.text h.writes w.is.written;
-  }
+  -- which of them are so
+  which : (left : List DebugCommand) (to : ℕ) (text : List ℕ) → commands ≡ take i commands ++ next ∷ left
+      → Leads r from (take i commands ++ next ∷ []) to text → AllAnswers r from commands text ⊎ FrontAnswers r from commands text
+  which [] to text are leads = inl (to, subst (λ (cs : List DebugCommand). Leads r from cs to text) (sym are) leads)
+  which (command ∷ left) to text are leads = inr (record {
+    made = take i commands ++ next ∷ [];
+    next = command;
+    left = left;
+    are = are ∙ sym (append_assoc (take i commands) (next ∷ []) (command ∷ left));
+    place = to;
+    leads = leads;
+  })
 
-  wanting : after ≡ now → AreFirstAnswers r from commands before after
-  wanting nothing = record {
-    made = take i commands;
-    next = next;
-    left = drop (i + 1) commands;
-    are = front_at commands i d l;
-    place = place;
-    text = h.text;
-    leads = h.leads;
-    writes = subst (λ (v : SinkView). Writes before v (Ok tt) h.text) (sym nothing) h.writes;
-  }
+  cut : IsPartWritten (Answers same place next) now after (Err Failed) → AnswersEach r from commands before after (Err Put)
+  cut w = (
+    h.text ++ w.is.text,
+    which (drop (i + 1) commands) w.place (h.text ++ w.is.text) (front_at commands i d l)
+        (leads_more r from (take i commands) place h.text next w.place w.is.text h.leads (there w.place w.is.text w.is.answer)),
+    writes_then before now after (Err Failed) h.text w.is.text h.writes w.is.written,
+  )
+
+  wanting : after ≡ now → AnswersEach r from commands before after (Err Memory)
+  wanting nothing = (
+    h.text,
+    record {
+      made = take i commands;
+      next = next;
+      left = drop (i + 1) commands;
+      are = front_at commands i d l;
+      place = place;
+      leads = h.leads;
+    },
+    subst (λ (v : SinkView). Writes before v (Ok tt) h.text) (sym nothing) h.writes,
+  )
 
   -- or one is not carried out
   pub answered_until : (fault : DebugFault)
@@ -136,34 +147,12 @@ module _ (r same : Recording) (from : ℕ) (commands : List DebugCommand) (i : �
 
 -- a part of a session's answers is one of those of all commands, or of those before one
 pub cut_answers : (d : Debugging) (before after : SinkView)
-    → AreCutAnswers (recording_of d.session) (place_of d.session) d.commands.items before after
+    → AnswersEach (recording_of d.session) (place_of d.session) d.commands.items before after (Err Put)
     → (s : Status) × (text : List ℕ) × EndsWith (Ok (answer.Session d)) s text × Writes before after (Err Failed) text
-cut_answers d before after h =
-    elim h.left as (λ left. d.commands.items ≡ h.made ++ h.next ∷ left
-    → (s : Status) × (text : List ℕ) × EndsWith (Ok (answer.Session d)) s text × Writes before after (Err Failed) text) [
-      | [] ↦ λ are. (
-        Done,
-        h.text,
-        (
-          h.place,
-          subst (λ (cs : List DebugCommand). Leads (recording_of d.session) (place_of d.session) cs h.place h.text) (sym are) h.leads,
-        ),
-        h.writes,
-      )
-      | command ∷ left ↦ λ are. (
-        OutOfMemory,
-        h.text,
-        record {
-          made = h.made ++ h.next ∷ [];
-          next = command;
-          left = left;
-          are = are ∙ sym (append_assoc h.made (h.next ∷ []) (command ∷ left));
-          place = h.place;
-          leads = h.leads;
-        },
-        h.writes,
-      )
-    ] h.are
+cut_answers d before after h = elim h.1 [
+  | inl all ↦ (Done, h.0, all, h.2)
+  | inr front ↦ (OutOfMemory, h.0, front, h.2)
+]
 
 -- ---- a session over a thread of a report
 
@@ -202,37 +191,28 @@ debug_parted file bytes thread script at refusal.Memory h = tt
 debug_parted file bytes thread script at r h = absurd h
 
 module _ (file bytes : List ℕ) (thread : ℕ) (script : List ℕ) (d : Debugging) (h : IsDebugging file bytes thread script d) where
-  over : (commands : List DebugCommand) (place : ℕ) (text : List ℕ)
-      → Leads (recording_of d.session) (place_of d.session) commands place text → Leads (recorded h.at) 0 commands place text
-  over commands place text leads =
-      subst (λ (q : Recording). Leads q 0 commands place text) h.recording
-      (subst (λ (n : ℕ). Leads (recording_of d.session) n commands place text) h.place leads)
+  over : (answers : Recording → ℕ → List DebugCommand → List ℕ → Type 0) (text : List ℕ)
+      → answers (recording_of d.session) (place_of d.session) d.commands.items text
+      → answers (recorded h.at) 0 d.commands.items text
+  over answers text p =
+      subst (λ (q : Recording). answers q 0 d.commands.items text) h.recording
+      (subst (λ (n : ℕ). answers (recording_of d.session) n d.commands.items text) h.place p)
+
+  debugs : (answers : Recording → ℕ → List DebugCommand → List ℕ → Type 0) (text : List ℕ)
+      → answers (recording_of d.session) (place_of d.session) d.commands.items text
+      → IsDebug answers file bytes thread script text
+  debugs answers text p =
+      record { at = h.at; ends = h.ends; commands = d.commands.items; said = h.said; prints = over answers text p }
 
 -- the end of `debug`, for its request
 pub debug_accepted : (program report : List ℕ) (thread : ℕ) (script file bytes commands : List ℕ) (end : Result Answer Refusal)
     → EndsDebug file bytes thread commands end
     → EndsAccepted (asking Debug (NameSaid program ∷ NameSaid report ∷ ThreadSaid thread ∷ NameSaid script ∷ []) default_options)
     (file ∷ bytes ∷ commands ∷ []) end
-debug_accepted program report thread script file bytes commands (Ok (answer.Text told)) h = absurd h
+debug_accepted program report thread script file bytes commands (Ok (answer.Text answered)) h = absurd h
 debug_accepted program report thread script file bytes commands (Ok (answer.Session d)) h = (
-  λ text p. record {
-    at = h.at;
-    ends = h.ends;
-    commands = d.commands.items;
-    said = h.said;
-    place = p.0;
-    leads = over file bytes thread commands d h d.commands.items p.0 text p.1;
-  },
-  λ text p. record {
-    at = h.at;
-    ends = h.ends;
-    made = p.made;
-    next = p.next;
-    left = p.left;
-    said = h.said ∙ ap (λ (cs : List DebugCommand). Ok cs) p.are;
-    place = p.place;
-    leads = over file bytes thread commands d h p.made p.place text p.leads;
-  },
+  λ text p. debugs file bytes thread commands d h AllAnswers text p,
+  λ text p. debugs file bytes thread commands d h FrontAnswers text p,
 )
 debug_accepted program report thread script file bytes commands (Err (refusal.Ended (ending.Mismatch line kind))) h =
     record { fault = record { line = line; kind = kind }; is_mismatched = h; is_text = refl }

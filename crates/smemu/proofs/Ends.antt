@@ -6,6 +6,7 @@ use Rattle.cmd_words.specs.Options.{Options}
 use Rattle.cmd_words.specs.Words as usage
 use Rattle.cmd_words.specs.Words.{Argument, Request, usage_fault, command_of}
 use Rattle.cmd_words.specs.declared.command.UsageKind.{UsageKind}
+use Rattle.cmd_words.specs.declared.verb.Verb.{Verb}
 use Rattle.cmd_words.proofs.Law.{reading}
 use Rattle.edge_io.specs.Files.{Told, FilesView}
 use Rattle.edge_io.specs.Sink.{SinkView, Writes}
@@ -13,7 +14,7 @@ use Rattle.edge_io.specs.declared.sink.PutFault.{PutFault}
 use Rattle.edge_io.specs.declared.sink.PutFault.TheVariants.{Failed}
 use Rattle.command_lines.specs.declared.status.Status.{Status}
 use Rattle.command_lines.specs.declared.status.Status.TheVariants.{Done, Usage, Absent, ReadFault, WriteFault, OutOfMemory}
-use Rattle.smemu.specs.Answers.{IsOutcome, IsTold, IsToldBy, Telling, Tells, Never, outcomes_of}
+use Rattle.smemu.specs.Answers.{IsOutcome, IsTold, IsToldBy, MayEnd, Telling, Tells, Never, outcomes_of}
 use Rattle.smemu.specs.Ends.{Change, Call, Defined, IsUsage, IsRejection, IsDone, IsDue, IsDueOf, IsRefused, MayCome, FetchesReached}
 use Rattle.smemu.specs.Ends.{Stands}
 use Rattle.smemu.specs.Rejections.{Kind, rejection_of, rejection_status}
@@ -155,6 +156,10 @@ told_so : (telling : Telling) (operands : List Argument) (options : Options) (fi
 told_so (Tells says) operands options files text h = tt
 told_so Never operands options files text h = absurd h
 
+may_end : (verb : Verb) (s : Status) → (s ≡ OutOfMemory → ⊥) → IsTold (outcomes_of verb s) → MayEnd verb s
+may_end verb OutOfMemory some h = absurd (some refl)
+may_end verb s some h = h
+
 rejection_due : (request : Request) (rejection : Rejection) → IsDueOf (Some request) (rejection_status rejection)
     (rejection_status rejection)
 rejection_due request (rejection.Program fault) = refl
@@ -180,12 +185,12 @@ module _ (words : List (List ℕ)) (files : Change FilesView) (told : List ℕ �
   request_due : (s : Status) → IsDueOf (Some request) (due_of_files told (files_named request)) s → IsDue told words s
   request_due s h = subst (λ o. IsDueOf o (due_of_request told o) s) (sym asked) h
 
-  outcome_due : (s : Status) (text : List ℕ) → IsOutcome files.before.told request s text → IsDue told words s
-  outcome_due s text h =
+  outcome_due : (s : Status) (text : List ℕ) → (s ≡ OutOfMemory → ⊥) → IsOutcome files.before.told request s text → IsDue told words s
+  outcome_due s text some h =
       request_due s (subst (λ d. IsDueOf (Some request) d s)
       (sym (accepted_due told (files_named request) h.files
       (told_accepted files.before.told (Some told) (files_named request) h.files tells h.accepted)))
-      (told_so (outcomes_of request.verb s) request.operands request.options h.files text h.ends))
+      (may_end request.verb s some (told_so (outcomes_of request.verb s) request.operands request.options h.files text h.ends)))
 
   -- a file that is reached is not accepted
   rejection_is_due : (s : Status) (text : List ℕ) → IsRejection files.before.told (files_named request) s text → IsDue told words s
@@ -213,9 +218,9 @@ module _ (words : List (List ℕ)) (files : Change FilesView) (told : List ℕ �
       let here = subst (λ (t : Told). IfSome t (λ known. IsSome (known h.named.name))) tells h.there in
       let at = told_reached files.before.told told (files_named request) h.named tells h.reached in
       inr (h.named, subst (λ (ns : List Named). IsReached (Some told) ns h.named) (sym (ap files_asked asked)) at, here)
-  stands_due Done text h = inl (outcome_due Done text h)
+  stands_due Done text h = inl (outcome_due Done text (λ is. cc) h)
   stands_due s text (inl h) = inl (rejection_is_due s text h)
-  stands_due s text (inr h) = inl (outcome_due s text h)
+  stands_due s text (inr h) = inl (outcome_due s text (λ is. cc) h)
 
 module _ (words : List (List ℕ)) (files : Change FilesView) (told : List ℕ → Option (List ℕ)) (tells : files.before.told ≡ Some told) where
   defined_due : (s : Status) (text : List ℕ) → Defined words files s text → IsDue told words s ⊎ MayCome told words s

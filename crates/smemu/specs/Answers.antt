@@ -87,8 +87,8 @@ of_thread tells operands options files text = ⊥
 
 -- of a program, a report of it, a thread of that, and a script
 abbrev pub of_script : (List ℕ → List ℕ → ℕ → List ℕ → List ℕ → Type 0) → Outcome
-of_script tells (program ∷ report ∷ ThreadSaid thread ∷ script ∷ []) options (file ∷ bytes ∷ commands ∷ [])
-    text = tells file bytes thread commands text
+of_script tells (program ∷ report ∷ ThreadSaid thread ∷ script ∷ []) options (file ∷ bytes ∷ lines ∷ [])
+    text = tells file bytes thread lines text
 of_script tells operands options files text = ⊥
 
 -- of the number of a workload
@@ -135,8 +135,9 @@ abbrev pub IsToldBy : Telling → Outcome
 IsToldBy (Tells says) operands options files text = says operands options files text
 IsToldBy Never operands options files text = ⊥
 
--- a command whose files are accepted may end with that status
+-- a command whose files are accepted may end with that status, where memory is not wanting
 abbrev pub MayEnd : Verb → Status → Type 0
+MayEnd verb OutOfMemory = ⊥
 MayEnd verb status = IsTold (outcomes_of verb status)
 
 -- what may become of a request whose files, in order, are these and are accepted: a status and a text

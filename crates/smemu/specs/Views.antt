@@ -1,5 +1,5 @@
 -- What the answers and refusals of the code stand for, on the way from the words to the writing.
-use Rattle.std.specs.Prelude.{◌≡◌, ℕ, ◌+◌, ◌++◌, [], ◌∷◌, List, Some, None, IfSome, IsSome, IsTrue, Result, Ok, Err}
+use Rattle.std.specs.Prelude.{◌≡◌, ℕ, ◌+◌, [], List, Some, None, IfSome, IsSome, IsTrue, Result, Ok, Err}
 use Rattle.std.specs.Prelude.{option_map, take}
 use Rattle.std.specs.String.{string_bytes}
 use Rattle.edge_io.specs.Cause.{Rose}
@@ -16,7 +16,6 @@ use Rattle.line_reader.specs.Difference as lines
 use Rattle.line_reader.specs.Lines.{lines_of}
 use Rattle.report_reader.specs.Report.{Report}
 use Rattle.script_reader.specs.Script.{script_in}
-use Rattle.script_reader.specs.declared.command.DebugCommand.{DebugCommand}
 use Rattle.sme_debugger.specs.Session.{recording_of, place_of}
 use Rattle.sha2.specs.Sha256.{sha256}
 use Rattle.sm_types.specs.declared.config.Config.{Config}
@@ -34,7 +33,7 @@ use Rattle.smemu.specs.DifferLines.{parting_line}
 use Rattle.smemu.specs.Excerpt.{excerpt_text}
 use Rattle.smemu.specs.Ends.{Change, change, Stands, Defined, FetchesReached, absent_line, read_fault_line}
 use Rattle.smemu.specs.Rejections.{Kind, rejection_of, rejection_status, rejection_line}
-use Rattle.smemu.specs.Debug.{Leads, recorded}
+use Rattle.smemu.specs.Debug.{AllAnswers, FrontAnswers, recorded}
 use Rattle.smemu.specs.Replay.{mismatch, IsBlockIn, IsReplayOf, IsMismatched, IsParted, DiffersSo}
 use Rattle.smemu.specs.Requests.{files_named}
 use Rattle.smemu.specs.declared.answer.Answer.{Answer}
@@ -118,29 +117,23 @@ refusal_status (refusal.Rejected rejection) = rejection_status rejection
 refusal_status (refusal.Ended end) = ending_status end
 refusal_status refusal.Memory = status.OutOfMemory
 
--- the status of a command's end, where no memory is wanting that a session takes
+-- the status with which a command ends; where it carries out a script, that where memory is not wanting
 abbrev pub end_status : Result Answer Refusal → Status
 end_status (Ok a) = status.Done
 end_status (Err r) = refusal_status r
 
 -- the text is what all commands of a session print
 abbrev pub PrintsAll : Debugging → List ℕ → Type 0
-PrintsAll d text =
-    (place : ℕ) × Leads (recording_of d.session) (place_of d.session) d.commands.items place text
+PrintsAll d = AllAnswers (recording_of d.session) (place_of d.session) d.commands.items
 
 -- the text is what those before one of them print
-pub record PrintsFront (d : Debugging) (text : List ℕ) : Type 0 where
-  pub made : List DebugCommand
-  pub next : DebugCommand
-  pub left : List DebugCommand
-  pub are : d.commands.items ≡ made ++ next ∷ left
-  pub place : ℕ
-  pub leads : Leads (recording_of d.session) (place_of d.session) made place text
+abbrev pub PrintsFront : Debugging → List ℕ → Type 0
+PrintsFront d = FrontAnswers (recording_of d.session) (place_of d.session) d.commands.items
 
 -- a command's end is written with this status and this text: a session with what all its commands print, or
 -- where memory was wanting for one of them, with what those before it do
 abbrev pub EndsWith : Result Answer Refusal → Status → List ℕ → Type 0
-EndsWith (Ok (answer.Text told)) s text = (s ≡ status.Done) × (text ≡ answer_text told)
+EndsWith (Ok (answer.Text answered)) s text = (s ≡ status.Done) × (text ≡ answer_text answered)
 EndsWith (Ok (answer.Session d)) status.Done text = PrintsAll d text
 EndsWith (Ok (answer.Session d)) status.OutOfMemory text = PrintsFront d text
 EndsWith (Ok (answer.Session d)) s text = ⊥
@@ -229,7 +222,8 @@ ComparesSo report line replay (Err other) = ⊥
 
 -- the end of a replay of a thread, by the program's file and the report, which are accepted
 abbrev pub EndsReplay : List ℕ → List ℕ → ℕ → Result Answer Refusal → Type 0
-EndsReplay file report thread (Ok (answer.Text told)) = IsReplayOf file report thread (answer_text told)
+EndsReplay file report thread (Ok (answer.Text answered)) =
+    IsReplayOf file report thread (answer_text answered)
 EndsReplay file report thread (Ok (answer.Session d)) = ⊥
 EndsReplay file report thread (Err (refusal.Ended (ending.Mismatch line kind))) =
     IsMismatched file report thread (record { line = line; kind = kind })
@@ -240,8 +234,8 @@ EndsReplay file report thread (Err other) = ⊥
 
 -- ---- sessions of the debugger
 
--- a session stands at count 0 of the recorded run of a thread that a report has, which ends as its block says,
--- and its commands are those of a script
+-- a session stands at count 0 of the recorded run of a thread that a report has, which ends with exactly the
+-- journal and the count of its block, and its commands are those of a script
 pub record IsDebugging (file report : List ℕ) (thread : ℕ) (script : List ℕ) (d : Debugging) : Type 0 where
   pub at : IsBlockIn file report thread
   pub ends : EndsAt at.program at.config thread at.block.journal at.block.count
@@ -251,7 +245,7 @@ pub record IsDebugging (file report : List ℕ) (thread : ℕ) (script : List �
 
 -- the end of `debug`, by the program's file, the report and the script, which are accepted
 abbrev pub EndsDebug : List ℕ → List ℕ → ℕ → List ℕ → Result Answer Refusal → Type 0
-EndsDebug file report thread script (Ok (answer.Text told)) = ⊥
+EndsDebug file report thread script (Ok (answer.Text answered)) = ⊥
 EndsDebug file report thread script (Ok (answer.Session d)) = IsDebugging file report thread script d
 EndsDebug file report thread script (Err (refusal.Ended (ending.Mismatch line kind))) =
     IsMismatched file report thread (record { line = line; kind = kind })
@@ -264,7 +258,7 @@ EndsDebug file report thread script (Err other) = ⊥
 
 -- this holds of each status and text with which an answer is written
 abbrev pub OfAnswer : (Status → List ℕ → Type 0) → Answer → Type 0
-OfAnswer says (answer.Text told) = says status.Done (answer_text told)
+OfAnswer says (answer.Text answered) = says status.Done (answer_text answered)
 OfAnswer says (answer.Session d) =
     ((text : List ℕ) → PrintsAll d text → says status.Done text)
     × ((text : List ℕ) → PrintsFront d text → says status.OutOfMemory text)

@@ -291,9 +291,9 @@ fn write_end<K: Sink>(out: &mut K, end: Result<Answer, Refusal>) -> Result<Statu
 /// - `sim PROGRAM PLAN` with its options makes the events of the plan of that name: which were skipped, the
 ///   report and the history;
 /// - `replay PROGRAM REPORT THREAD` runs a thread of the report of that name alone: its block;
-/// - `debug PROGRAM REPORT THREAD SCRIPT` carries out the commands of the script of that name over such a run:
-///   what they print, each answer when it comes, so that with `OutOfMemory` those of earlier commands may be
-///   written;
+/// - `debug PROGRAM REPORT THREAD SCRIPT` carries out the commands of the script of that name over such a
+///   run: what they print, each answer when it comes, so that with `OutOfMemory` those of earlier commands
+///   may be written;
 /// - `dis PROGRAM` lists the program;
 /// - `asm SOURCE` assembles the source of that name: the program file;
 /// - `gen N` writes the source of a workload, and `bench N` runs it: one line;

@@ -32,8 +32,8 @@ pub struct Debugging {
     pub commands: Vec<DebugCommand>,
 }
 
-/// A session at count 0 of the run of a block's thread, where running the thread alone ends as the block
-/// says.
+/// A session at count 0 of the run of a block's thread, where running the thread alone ends with exactly the
+/// journal and the count of the block.
 fn open_session(
     alloc: Global,
     image: Image,
@@ -72,13 +72,13 @@ pub fn debug_report(
     requires loads { Loads file.bytes.items file.content }
     requires reads { report_in report.now.bytes.items ≡ Ok (report_said report.now.content) }
     requires cores { report.now.content.config.cores ≡ 1 }
-    requires said { script_in script.bytes.items ≡ Ok script.content.items }
+    requires script { script_in script.bytes.items ≡ Ok script.content.items }
     ensures { EndsDebug file.bytes.items report.now.bytes.items thread script.bytes.items result }
 {
-    let said = &report.content;
-    check_match(file.bytes.as_slice(), thread, said)?;
-    let block = &said.blocks[thread as usize];
-    let session = open_session(alloc, file.content, said.config, thread, block)?;
+    let content = &report.content;
+    check_match(file.bytes.as_slice(), thread, content)?;
+    let block = &content.blocks[thread as usize];
+    let session = open_session(alloc, file.content, content.config, thread, block)?;
     Ok(Answer::Session(Debugging {
         session,
         commands: script.content,

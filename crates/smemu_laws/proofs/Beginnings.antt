@@ -56,9 +56,11 @@ outcome_begun Replay BadReport (program ∷ report ∷ ThreadSaid thread ∷ [])
     report_begun h.fault text h.is_text
 outcome_begun Replay Differs (program ∷ report ∷ ThreadSaid thread ∷ []) options (file ∷ bytes ∷ []) text other some h =
     so_begun file bytes thread text h
-outcome_begun Debug BadReport (program ∷ report ∷ ThreadSaid thread ∷ script ∷ []) options (file ∷ bytes ∷ commands ∷ []) text other some h =
+outcome_begun Debug BadReport (program ∷ report ∷ ThreadSaid thread ∷ script ∷ []) options (file ∷ bytes ∷ lines ∷ [])
+    text other some h =
     report_begun h.fault text h.is_text
-outcome_begun Debug Differs (program ∷ report ∷ ThreadSaid thread ∷ script ∷ []) options (file ∷ bytes ∷ commands ∷ []) text other some h =
+outcome_begun Debug Differs (program ∷ report ∷ ThreadSaid thread ∷ script ∷ []) options (file ∷ bytes ∷ lines ∷ [])
+    text other some h =
     so_begun file bytes thread text (inl h)
 outcome_begun verb Done operands options files text other some h = absurd (other refl)
 outcome_begun verb OutOfMemory operands options files text other some h = absurd (some refl)

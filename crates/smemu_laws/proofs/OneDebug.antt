@@ -102,14 +102,16 @@ pub one_debug : (file report : List ℕ) (thread : ℕ) (script text other : Lis
     → IsDebugOf file report thread script other → text ≡ other
 one_debug file report thread script text other h g =
     let commands = same_commands (script_in script) h.commands g.commands h.said g.said in
-    let here = subst (λ (r : Recording). Leads r 0 h.commands h.place text) (same_recording file report thread h.at g.at) h.leads in
-    let there = subst (λ (cs : List DebugCommand). Leads (recorded g.at) 0 cs h.place text) commands here in
-    one_text (recorded g.at) 0 g.commands h.place g.place text other there g.leads
+    let here =
+    subst (λ (r : Recording). Leads r 0 h.commands h.prints.0 text) (same_recording file report thread h.at g.at) h.prints.1 in
+    let there = subst (λ (cs : List DebugCommand). Leads (recorded g.at) 0 cs h.prints.0 text) commands here in
+    one_text (recorded g.at) 0 g.commands h.prints.0 g.prints.0 text other there g.prints.1
 
 pub debug_front : (file report : List ℕ) (thread : ℕ) (script text other : List ℕ) → IsDebugFrontOf file report thread script text
     → IsDebugOf file report thread script other → HasFront other text
 debug_front file report thread script text other h g =
-    let commands = same_commands (script_in script) (h.made ++ h.next ∷ h.left) g.commands h.said g.said in
-    let here = subst (λ (r : Recording). Leads r 0 h.made h.place text) (same_recording file report thread h.at g.at) h.leads in
-    let there = subst (λ (cs : List DebugCommand). Leads (recorded g.at) 0 cs g.place other) (sym commands) g.leads in
-    front_text (recorded g.at) 0 h.made (h.next ∷ h.left) h.place g.place text other here there
+    let p = h.prints in
+    let commands = same_commands (script_in script) g.commands h.commands g.said h.said ∙ p.are in
+    let here = subst (λ (r : Recording). Leads r 0 p.made p.place text) (same_recording file report thread h.at g.at) p.leads in
+    let there = subst (λ (cs : List DebugCommand). Leads (recorded g.at) 0 cs g.prints.0 other) commands g.prints.1 in
+    front_text (recorded g.at) 0 p.made (p.next ∷ p.left) p.place g.prints.0 text other here there

@@ -196,23 +196,32 @@ one_outcome Replay Differs BadReport (program ∷ report ∷ ThreadSaid thread �
     absurd (matched file bytes thread (block_of file bytes thread text h) g.fault g.is_mismatched)
 one_outcome Debug OutOfMemory t operands options files text other m n h g = absurd (m refl)
 one_outcome Debug s OutOfMemory operands options files text other m n h g = absurd (n refl)
-one_outcome Debug Done Done (program ∷ report ∷ ThreadSaid thread ∷ script ∷ []) options (file ∷ bytes ∷ commands ∷ []) text other m n h g =
-    (refl, one_debug file bytes thread commands text other h g)
-one_outcome Debug BadReport BadReport (program ∷ report ∷ ThreadSaid thread ∷ script ∷ []) options (file ∷ bytes ∷ commands ∷ []) text other m n h g =
+one_outcome Debug Done Done (program ∷ report ∷ ThreadSaid thread ∷ script ∷ []) options (file ∷ bytes ∷ lines ∷ [])
+    text other m n h g =
+    (refl, one_debug file bytes thread lines text other h g)
+one_outcome Debug BadReport BadReport (program ∷ report ∷ ThreadSaid thread ∷ script ∷ []) options (file ∷ bytes ∷ lines ∷ [])
+    text other m n h g =
     (refl, one_mismatch file bytes thread text other h g)
-one_outcome Debug Differs Differs (program ∷ report ∷ ThreadSaid thread ∷ script ∷ []) options (file ∷ bytes ∷ commands ∷ []) text other m n h g =
+one_outcome Debug Differs Differs (program ∷ report ∷ ThreadSaid thread ∷ script ∷ []) options (file ∷ bytes ∷ lines ∷ [])
+    text other m n h g =
     (refl, one_difference file bytes thread text other (inl h) (inl g))
-one_outcome Debug Done BadReport (program ∷ report ∷ ThreadSaid thread ∷ script ∷ []) options (file ∷ bytes ∷ commands ∷ []) text other m n h g =
+one_outcome Debug Done BadReport (program ∷ report ∷ ThreadSaid thread ∷ script ∷ []) options (file ∷ bytes ∷ lines ∷ [])
+    text other m n h g =
     absurd (matched file bytes thread h.at g.fault g.is_mismatched)
-one_outcome Debug BadReport Done (program ∷ report ∷ ThreadSaid thread ∷ script ∷ []) options (file ∷ bytes ∷ commands ∷ []) text other m n h g =
+one_outcome Debug BadReport Done (program ∷ report ∷ ThreadSaid thread ∷ script ∷ []) options (file ∷ bytes ∷ lines ∷ [])
+    text other m n h g =
     absurd (matched file bytes thread g.at h.fault h.is_mismatched)
-one_outcome Debug Done Differs (program ∷ report ∷ ThreadSaid thread ∷ script ∷ []) options (file ∷ bytes ∷ commands ∷ []) text other m n h g =
+one_outcome Debug Done Differs (program ∷ report ∷ ThreadSaid thread ∷ script ∷ []) options (file ∷ bytes ∷ lines ∷ [])
+    text other m n h g =
     absurd (whole_parts file bytes thread other h.at h.ends g)
-one_outcome Debug Differs Done (program ∷ report ∷ ThreadSaid thread ∷ script ∷ []) options (file ∷ bytes ∷ commands ∷ []) text other m n h g =
+one_outcome Debug Differs Done (program ∷ report ∷ ThreadSaid thread ∷ script ∷ []) options (file ∷ bytes ∷ lines ∷ [])
+    text other m n h g =
     absurd (whole_parts file bytes thread text g.at g.ends h)
-one_outcome Debug BadReport Differs (program ∷ report ∷ ThreadSaid thread ∷ script ∷ []) options (file ∷ bytes ∷ commands ∷ []) text other m n h g =
+one_outcome Debug BadReport Differs (program ∷ report ∷ ThreadSaid thread ∷ script ∷ []) options (file ∷ bytes ∷ lines ∷ [])
+    text other m n h g =
     absurd (matched file bytes thread g.at h.fault h.is_mismatched)
-one_outcome Debug Differs BadReport (program ∷ report ∷ ThreadSaid thread ∷ script ∷ []) options (file ∷ bytes ∷ commands ∷ []) text other m n h g =
+one_outcome Debug Differs BadReport (program ∷ report ∷ ThreadSaid thread ∷ script ∷ []) options (file ∷ bytes ∷ lines ∷ [])
+    text other m n h g =
     absurd (matched file bytes thread h.at g.fault g.is_mismatched)
 one_outcome Gen Done Done (WorkloadSaid number ∷ []) options [] text other m n h g = (refl, h ∙ sym g)
 one_outcome Bench Done Done (WorkloadSaid number ∷ []) options [] text other m n h g =
@@ -290,8 +299,8 @@ one_answer files words request text other asked h g =
 front_of : (verb : Verb) (operands : List Argument) (options : Options) (files : List (List ℕ)) (text other : List ℕ)
     → IsToldBy (outcomes_of verb OutOfMemory) operands options files text → IsToldBy (outcomes_of verb Done) operands options files other
     → HasFront other text
-front_of Debug (program ∷ report ∷ ThreadSaid thread ∷ script ∷ []) options (file ∷ bytes ∷ commands ∷ []) text other h g =
-    debug_front file bytes thread commands text other h g
+front_of Debug (program ∷ report ∷ ThreadSaid thread ∷ script ∷ []) options (file ∷ bytes ∷ lines ∷ []) text other h g =
+    debug_front file bytes thread lines text other h g
 front_of verb operands options files text other h g = absurd h
 
 pub front_is_written : (files : List ℕ → Option (List ℕ)) (request : Request) (text other : List ℕ)

@@ -1,5 +1,5 @@
-//! The laws of answers: but in a run on several cores nothing in them is left to choose, and each text begins
-//! as the text of help says.
+//! The laws of answers: but in a run on several cores, and where memory is wanting, nothing in them is left
+//! to choose, and each text begins as the text of help says.
 ghost use Rattle.std.specs.Prelude.{◌≡◌, ◌≢◌, ◌≤◌, ℕ, List, Option, Some, length};
 ghost use Rattle.cmd_words.specs.Words.{Request, command_of};
 ghost use Rattle.cmd_words.specs.declared.verb.Verb.TheVariants as verbs;
@@ -24,8 +24,8 @@ pub fn one_answer()
 {}
 
 /// Over files that are told, every request has one ending in any two calls, but where a file could not be
-/// read, or memory was wanting: one status, and with it one text, or two files that are loaded as one program,
-/// or two texts of a run on several cores.
+/// read, or memory was wanting: one status, and with it one text, or two files that are loaded as one
+/// program, or two texts of a run on several cores.
 pub fn one_ending()
     ensures { (files : List ℕ → Option (List ℕ)) (request : Request) (change again : Change FilesView)
         (s t : Status) (text other : List ℕ)
@@ -37,7 +37,7 @@ pub fn one_ending()
 {}
 
 /// No command but `debug` has written a part of its answer where memory is wanting.
-pub fn nothing_before_memory()
+pub fn only_debug_writes_before_memory()
     ensures { (request : Request) (change : Change FilesView) (text : List ℕ)
         → Stands request change Status.OutOfMemory text → request.verb ≡ verbs.Debug }
 {}
@@ -49,8 +49,8 @@ pub fn a_front_before_memory()
         → IsOutcome (Some files) request Status.Done other → HasFront other text }
 {}
 
-/// The text that is written with a status begins as the text of help says of that status; where memory is
-/// wanting, there is none but answers of `debug`.
+/// The text that is written with a status begins as the text of help says of that status, but where memory is
+/// wanting.
 pub fn begins_as_help_says()
     ensures { (words : List (List ℕ)) (files : Change FilesView) (status : Status) (text : List ℕ)
         → status ≢ Status.Done → status ≢ Status.OutOfMemory → Defined words files status text

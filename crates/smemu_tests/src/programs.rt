@@ -76,15 +76,16 @@ fn threads_that_add_on_cores_are_replayed(rt: HostRuntime) -> Result<(), Fail> {
     let source = "_start: movz x0, #32512, lsl #32\n movz x1, #1\n movz x3, #1000\n\
                   again: ldadd x1, x2, [x0]\n subs x3, x3, #1\n b.ne again\n movz x8, #93\n svc #0\n";
     let cases = [
-        ("1", "2", "00000000000007d0"),
-        ("2", "2", "00000000000007d0"),
-        ("3", "2", "00000000000007d0"),
-        ("4", "2", "00000000000007d0"),
-        ("4", "4", "0000000000000fa0"),
-        ("64", "2", "00000000000007d0"),
-        ("2", "8", "0000000000001f40"),
+        ("1", "2", "100", "00000000000007d0"),
+        ("2", "2", "100", "00000000000007d0"),
+        ("3", "2", "100", "00000000000007d0"),
+        ("4", "2", "100", "00000000000007d0"),
+        ("4", "2", "1000", "00000000000007d0"),
+        ("4", "4", "100", "0000000000000fa0"),
+        ("64", "2", "1000", "00000000000007d0"),
+        ("2", "8", "100", "0000000000001f40"),
     ];
-    for (cores, threads, sum) in cases {
+    for (cores, threads, slice, sum) in cases {
         let mut files = assembled(&rt, source)?;
         let words = [
             "run",
@@ -94,7 +95,7 @@ fn threads_that_add_on_cores_are_replayed(rt: HostRuntime) -> Result<(), Fail> {
             "--threads",
             threads,
             "--slice",
-            "100",
+            slice,
         ];
         let out = written_within(&rt, 2_000_000, &words, &mut files)?;
         let report = std::str::from_utf8(out.bytes()).map_err(|_| "not text")?;

@@ -30,11 +30,7 @@ pub returns : goal.returns
 returns g c =
     let h = c.loop-command.invariant.0 in
     let all = take_all c.args.commands.now c.loop-command.command-index c.loop-command-test.false in
-    record {
-      place = place_of c.loop-command.session;
-      text = h.text;
-      leads =
-          subst (λ (cs : List DebugCommand). Leads (recording_of c.args.session.now) (place_of c.args.session.now) cs
-          (place_of c.loop-command.session) h.text) all h.leads;
-      writes = h.writes;
-    }
+    let leads =
+    subst (λ (cs : List DebugCommand). Leads (recording_of c.args.session.now) (place_of c.args.session.now) cs
+    (place_of c.loop-command.session) h.text) all h.leads in
+    (h.text, (place_of c.loop-command.session, leads), h.writes)

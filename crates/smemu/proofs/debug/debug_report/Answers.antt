@@ -34,5 +34,5 @@ returns c = record {
   ends = c.in_ok-session.ensures.ends;
   recording = c.in_ok-session.ensures.recording;
   place = c.in_ok-session.ensures.place;
-  said = c.requires.said;
+  said = c.requires.script;
 }
