@@ -1,5 +1,6 @@
 pub mod SerialEnds
 pub mod OneAnswer
+pub mod EachAnswer
 pub mod OneDebug
 pub mod OneEnding
 pub mod Beginnings

@@ -1,40 +1,25 @@
 -- What the debugger prints for a script is one text, and where memory is wanting a front of it.
-use Rattle.std.proofs.Common.{◌≡◌, ◌⊎◌, inl, inr, ℕ, ◌+◌, ◌<◌, ◌++◌, List, [], ◌∷◌, Option, Some, Result, Ok, refl, sym, ◌∙◌, ap, subst, arith}
+use Rattle.std.proofs.Common.{◌≡◌, inl, inr, ℕ, ◌++◌, List, [], ◌∷◌, Result, Ok, sym, ◌∙◌, ap, subst, arith}
 use Rattle.std.proofs.Common.{append_assoc}
-use Rattle.kernel_contexts.specs.State.{State}
-use Rattle.lone_runner.specs.Parting.{EndsAt, IsParting}
-use Rattle.lone_runner.specs.declared.fault.AloneFault.{AloneFault}
+use Rattle.lone_runner.proofs.Partings.{compared}
 use Rattle.plan_reader.specs.File.{Fault}
-use Rattle.report_reader.specs.Block.{Block}
 use Rattle.script_reader.specs.Script.{script_in}
 use Rattle.script_reader.specs.declared.command.DebugCommand.{DebugCommand}
 use Rattle.script_reader.specs.declared.command.DebugCommand.TheVariants.{Step, Back, Goto, Break}
 use Rattle.sme_debugger.specs.Answers.{Answers, HasNone, IsNext, shown_text}
-use Rattle.sme_debugger.specs.Recording.{Recording, Shows, counted_by, reached_by}
-use Rattle.lone_runner.specs.Parting.{state_at}
+use Rattle.sme_debugger.specs.Recording.{Recording}
+use Rattle.sme_debugger.proofs.Recorded.{one_state}
 use Rattle.command_lines.specs.Texts.{HasFront}
 use Rattle.smemu.specs.Debug.{Leads, recorded, IsDebugOf, IsDebugFrontOf}
 use Rattle.smemu.specs.Replay.{IsBlockIn}
-use Rattle.smemu_laws.proofs.OneAnswer.{IsOneBlock, one_block}
-
--- ---- the state at a count
-
-one_of_three : (a b : ℕ) → (a < b) ⊎ ((a ≡ b) ⊎ (b < a))
-one_of_three a b = grind arith
-
-module _ (r : Recording) (count : ℕ) (s t : State) (h : Shows r count s) (g : Shows r count t) where
-  one_shown : s ≡ t
-  one_shown = elim (one_of_three h.turns g.turns) [
-    | inl less ↦ absurd (g.first h.turns less (ap (λ (x : State). x.count) h.reached ∙ h.counts))
-    | inr (inl same) ↦ sym h.reached ∙ ap (λ n. state_at (reached_by r n)) same ∙ g.reached
-    | inr (inr more) ↦ absurd (h.first g.turns more (ap (λ (x : State). x.count) g.reached ∙ g.counts))
-  ]
+use Rattle.smemu_laws.proofs.EachAnswer.{answers_of}
+use Rattle.smemu_laws.proofs.OneAnswer.{one_block}
 
 -- ---- the answer of a command
 
 -- the next count with a PC is one
 one_next : (r : Recording) (from address p q : ℕ) → IsNext r from address p → IsNext r from address q → p ≡ q
-one_next r from address p q h g = elim (one_of_three p q) [
+one_next r from address p q h g = elim (compared p q) [
   | inl less ↦ absurd (g.first p h.state h.above less h.shown h.there)
   | inr (inl same) ↦ same
   | inr (inr more) ↦ absurd (h.first q g.state g.above more g.shown g.there)
@@ -57,7 +42,7 @@ one_said r from (Break address) p q s t (inr h) (inl g) = absurd (next_or_none r
 one_said r from (Break address) p q s t (inr h) (inr g) = (h.1 ∙ sym g.1, h.2 ∙ sym g.2)
 one_said r from command p q s t h g = (
   h.stays ∙ sym g.stays,
-  h.prints ∙ ap (shown_text command) (one_shown r from h.state g.state h.shown g.shown) ∙ sym g.prints,
+  h.prints ∙ ap (shown_text command) (one_state r from h.state g.state h.shown g.shown) ∙ sym g.prints,
 )
 
 -- ---- the answers of commands
@@ -107,11 +92,14 @@ one_debug file report thread script text other h g =
     let there = subst (λ (cs : List DebugCommand). Leads (recorded g.at) 0 cs h.prints.0 text) commands here in
     one_text (recorded g.at) 0 g.commands h.prints.0 g.prints.0 text other there g.prints.1
 
-pub debug_front : (file report : List ℕ) (thread : ℕ) (script text other : List ℕ) → IsDebugFrontOf file report thread script text
-    → IsDebugOf file report thread script other → HasFront other text
-debug_front file report thread script text other h g =
+-- what all commands print begins so
+pub debug_whole : (file report : List ℕ) (thread : ℕ) (script text : List ℕ) → IsDebugFrontOf file report thread script text
+    → (other : List ℕ) × IsDebugOf file report thread script other × HasFront other text
+debug_whole file report thread script text h =
     let p = h.prints in
-    let commands = same_commands (script_in script) g.commands h.commands g.said h.said ∙ p.are in
-    let here = subst (λ (r : Recording). Leads r 0 p.made p.place text) (same_recording file report thread h.at g.at) p.leads in
-    let there = subst (λ (cs : List DebugCommand). Leads (recorded g.at) 0 cs g.prints.0 other) commands g.prints.1 in
-    front_text (recorded g.at) 0 p.made (p.next ∷ p.left) p.place g.prints.0 text other here there
+    let all = answers_of (recorded h.at) h.ends 0 h.commands (omega arith) in
+    let whole = subst (λ (cs : List DebugCommand). Leads (recorded h.at) 0 cs all.1.0 all.0) p.are all.1.1 in (
+      all.0,
+      record { at = h.at; ends = h.ends; commands = h.commands; said = h.said; prints = all.1 },
+      front_text (recorded h.at) 0 p.made (p.next ∷ p.left) p.place all.1.0 text all.0 p.leads whole,
+    )

@@ -36,7 +36,7 @@ use Rattle.smemu_laws.specs.OneAnswer.{AreOneText}
 use Rattle.smemu_laws.proofs.Fates.{Fate, AllAccepted, Missing, Refused, IsDecided, missing_line, accepted_fate, decided}
 use Rattle.smemu_laws.proofs.OneAnswer.{same_said, one_assembly, one_block, one_listing, one_replay, one_run_report}
 use Rattle.smemu_laws.proofs.OneAnswer.{one_bench, one_simulation}
-use Rattle.smemu_laws.proofs.OneDebug.{debug_front, one_debug}
+use Rattle.smemu_laws.proofs.OneDebug.{debug_whole, one_debug}
 use Rattle.command_lines.specs.Texts.{HasFront}
 
 -- a text differs from itself in no line
@@ -296,21 +296,19 @@ one_answer files words request text other asked h g =
     (subst (λ (fs : List (List ℕ)). outcome request fs Done text) same h.ends) g.ends).1
 
 -- what is written where memory is wanting begins what is written where it is not
-front_of : (verb : Verb) (operands : List Argument) (options : Options) (files : List (List ℕ)) (text other : List ℕ)
-    → IsToldBy (outcomes_of verb OutOfMemory) operands options files text → IsToldBy (outcomes_of verb Done) operands options files other
-    → HasFront other text
-front_of Debug (program ∷ report ∷ ThreadSaid thread ∷ script ∷ []) options (file ∷ bytes ∷ lines ∷ []) text other h g =
-    debug_front file bytes thread lines text other h g
-front_of verb operands options files text other h g = absurd h
+whole_of : (verb : Verb) (operands : List Argument) (options : Options) (files : List (List ℕ)) (text : List ℕ)
+    → IsToldBy (outcomes_of verb OutOfMemory) operands options files text
+    → (other : List ℕ) × IsToldBy (outcomes_of verb Done) operands options files other × HasFront other text
+whole_of Debug (program ∷ report ∷ ThreadSaid thread ∷ script ∷ []) options (file ∷ bytes ∷ lines ∷ []) text h =
+    debug_whole file bytes thread lines text h
+whole_of verb operands options files text h = absurd h
 
-pub front_is_written : (files : List ℕ → Option (List ℕ)) (request : Request) (text other : List ℕ)
-    → IsOutcome (Some files) request OutOfMemory text → IsOutcome (Some files) request Done other → HasFront other text
-front_is_written files request text other h g =
-    let same =
-    same_files h.files g.files (sym (accepted_fate files (files_named request) h.files h.accepted)
-    ∙ accepted_fate files (files_named request) g.files g.accepted) in
-    front_of request.verb request.operands request.options g.files text other
-    (subst (λ (fs : List (List ℕ)). outcome request fs OutOfMemory text) same h.ends) g.ends
+pub front_is_written : (files : List ℕ → Option (List ℕ)) (request : Request) (text : List ℕ)
+    → IsOutcome (Some files) request OutOfMemory text
+    → (other : List ℕ) × IsOutcome (Some files) request Done other × HasFront other text
+front_is_written files request text h =
+    let whole = whole_of request.verb request.operands request.options h.files text h.ends in
+    (whole.0, record { files = h.files; accepted = h.accepted; ends = whole.1 }, whole.2)
 
 refused_same : (verb : Verb) (cores : ℕ) (s : Status) (rejection : Rejection) (text other : List ℕ) → s ≡ rejection_status rejection
     → text ≡ other → AreOneText verb cores s text other

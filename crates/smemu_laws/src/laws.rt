@@ -42,11 +42,12 @@ pub fn only_debug_writes_before_memory()
         → Stands request change Status.OutOfMemory text → request.verb ≡ verbs.Debug }
 {}
 
-/// What a command has written where memory is wanting is the front of what it writes where it is not.
+/// What a command has written where memory is wanting is the front of a text that answers the request, which
+/// there is.
 pub fn a_front_before_memory()
-    ensures { (files : List ℕ → Option (List ℕ)) (request : Request) (text other : List ℕ)
+    ensures { (files : List ℕ → Option (List ℕ)) (request : Request) (text : List ℕ)
         → IsOutcome (Some files) request Status.OutOfMemory text
-        → IsOutcome (Some files) request Status.Done other → HasFront other text }
+        → (other : List ℕ) × IsOutcome (Some files) request Status.Done other × HasFront other text }
 {}
 
 /// The text that is written with a status begins as the text of help says of that status, but where memory is

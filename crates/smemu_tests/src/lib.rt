@@ -88,6 +88,13 @@ mod tests {
 3: outofrange|replay|p|r|32
 3: outofrange|replay|p|r|18446744073709551616
 4: extra|replay|p|r|31|--vl
+1: missing|debug
+2: missing|debug|p
+3: missing|debug|p|r
+4: missing|debug|p|r|0
+3: badnumber|debug|p|r|x|s
+3: outofrange|debug|p|r|32|s
+5: extra|debug|p|r|31|s|t
 1: extra|--version|--help
 1: missing|gen
 1: badnumber|gen|x
@@ -275,6 +282,47 @@ mod tests {
         Ok(())
     }
 
+    /// The files of the answer, with the report of its run.
+    fn reported<R: AllocGlobal + Threads + Wait + Sync>(rt: &R) -> Result<MemFiles, Fail> {
+        let mut files = answer_file(rt.alloc())?;
+        let mut out = MemSink::new(rt.alloc(), 4000)?;
+        if status_of(rt, &["run", "answer"], &mut files, &mut out)? != Status::Done {
+            return Err("a program that is refused".into());
+        }
+        files.add("report", out.bytes())?;
+        Ok(files)
+    }
+
+    #[test]
+    fn a_script_of_one_byte_more_than_64_mib(rt: HostRuntime) -> Result<(), Fail> {
+        let bytes = vec![in rt.alloc(); b'\n'; 67_108_865]?;
+        let mut files = reported(&rt)?;
+        files.add("long", bytes.as_slice())?;
+        let mut out = MemSink::new(rt.alloc(), 100)?;
+        let words = ["debug", "answer", "report", "0", "long"];
+        let status = status_of(&rt, &words, &mut files, &mut out)?;
+        assert_eq!(rt; status, Status::BadPlan);
+        assert!(rt; out.bytes() == b"bad plan: line 0: toolong\n".as_slice());
+        Ok(())
+    }
+
+    #[test]
+    fn a_session_answers_up_to_a_write_that_fails(rt: HostRuntime) -> Result<(), Fail> {
+        let mut files = reported(&rt)?;
+        files.add("script", b"where\nstep 2\nwhere\ngoto 9\n")?;
+        let words = ["debug", "answer", "report", "0", "script"];
+        let text = "at 0 0000000000400000 movz x0, #42\nat 2 0000000000400008 svc #0\nend 3\n";
+        for room in 0..text.len() {
+            let mut out = MemSink::new(rt.alloc(), room)?;
+            assert_eq!(rt; status_of(&rt, &words, &mut files, &mut out)?.code(), 5);
+            assert!(rt; text.as_bytes().starts_with(out.bytes()));
+        }
+        let mut out = MemSink::new(rt.alloc(), text.len())?;
+        assert_eq!(rt; status_of(&rt, &words, &mut files, &mut out)?.code(), 0);
+        assert!(rt; text.as_bytes() == out.bytes());
+        Ok(())
+    }
+
     #[test]
     fn help_and_version(rt: HostRuntime) -> Result<(), Fail> {
         let (status, version) = written(&rt, &["--version"])?;
@@ -289,6 +337,7 @@ mod tests {
             "\n  dis PROGRAM ",
             "\n  asm SOURCE ",
             "\n  replay PROGRAM REPORT THREAD\n",
+            "\n  debug PROGRAM REPORT THREAD SCRIPT\n",
             "\n  gen N ",
             "\n  bench N ",
             "\n  --vl BITS ",
