@@ -40,29 +40,54 @@ class Replayed(Thread):
         return self.answer(kind, thread, a)
 
 
-def replay(file, report, number=0):
-    """The status and the text."""
-    lines = report.splitlines()
+class Ends(Exception):
+    """The status and the text with which a command ends."""
+
+
+def block_in(file, lines, number):
+    """The options of a report, and where in it the block of a thread begins, with the block's lines."""
     options = {name: int(value) for name, value in re.findall(r"(\w+)=(\d+)", lines[1])}
     if lines[2] != f"image {hashlib.sha256(file).hexdigest()}":
-        return 9, "bad report: line 3: image\n"
+        raise Ends(9, "bad report: line 3: image\n")
     if number >= options["threads"]:
-        return 9, "bad report: line 2: nothread\n"
+        raise Ends(9, "bad report: line 2: nothread\n")
     start = lines.index(f"thread {number}")
-    theirs = lines[start:lines.index("end-thread", start) + 1]
-    events = [line for line in theirs if line.startswith("e ")]
-    count, thread, stop = int(theirs[2].split()[1]), Replayed(file, options, events, number), None
+    return options, start, lines[start:lines.index("end-thread", start) + 1]
+
+
+def run_alone(thread, count):
+    """How the thread stops, which is to be at that count, with all events used."""
+    stop = None
     while stop is None:
         try:
             stop = thread.turn()
         except Parts as parts:
-            return 10, f"differs: {parts}\n"
+            raise Ends(10, f"differs: {parts}\n") from None
         if thread.count > count:
-            return 10, f"differs: goeson {count}\n"
+            raise Ends(10, f"differs: goeson {count}\n")
     if thread.count < count:
-        return 10, f"differs: endsearly {thread.count} {stop}\n"
-    if len(thread.journal) < len(events):
-        return 10, f"differs: journallong {len(events) - len(thread.journal)}\n"
+        raise Ends(10, f"differs: endsearly {thread.count} {stop}\n")
+    if len(thread.journal) < len(thread.events):
+        raise Ends(10, f"differs: journallong {len(thread.events) - len(thread.journal)}\n")
+    return stop
+
+
+def events_of(block):
+    return [line for line in block if line.startswith("e ")]
+
+
+def count_of(block):
+    return int(block[2].split()[1])
+
+
+def replay(file, report, number=0):
+    """The status and the text."""
+    try:
+        options, start, theirs = block_in(file, report.splitlines(), number)
+        thread = Replayed(file, options, events_of(theirs), number)
+        stop = run_alone(thread, count_of(theirs))
+    except Ends as end:
+        return end.args
     ours = block(thread, stop, number)
     for line, (a, b) in enumerate(itertools.zip_longest(theirs, ours, fillvalue=""), start + 1):
         if a != b:

@@ -20,6 +20,7 @@ from expected import report
 from expected_replay import replay
 from workload import bench_line, text as workload_text
 from altered import TWO_THREADS, altered_list, two_threads
+from debug_rows import debug_rows
 from instructions import EXIT, SVC, add, branch, call, movz, subs
 from sources import WITH_DATA, assemblies, source_refusals
 from world_rows import world_rows
@@ -656,6 +657,7 @@ def main():
              for name, program, text, number, status, out in replays(runnable)]
     rows += world_rows()
     rows += workload_rows()
+    rows += debug_rows(rows)
     for old in [*data.glob("*.txt"), *data.glob("*.s"), *data.glob("*.report"), *data.glob("*.plan"), *data.glob("*.script")]:
         old.unlink()
     for old in data.glob("*.elf"):
