@@ -262,6 +262,13 @@ def replays(written):
         report = of_report(written[name])
         for number in range(count):
             yield f"{program}-{number}-of-{count}", program, report, number, *replay(PROGRAMS[program][0], report, number)
+    # thread 1 of two that add: the answer of its last addition, which X2 shows, is another, or that event is gone
+    report = written["threads-add.elf"]
+    start, last = report.index("\nthread 1\n"), report[:report.rindex("\nend-thread\n")].rsplit("\n", 1)[1]
+    for how, there, altered in (("with-another-last-answer", last, last[:-16] + "00000000000007d0"), ("without-its-last-event", last + "\n", "")):
+        changed = report[start:].replace(there, altered)
+        other = report[:start] + (changed if altered else changed.replace("journal 1003\n", "journal 1002\n"))
+        yield f"threads-add-1-{how}", "threads-add", other, 1, *replay(PROGRAMS["threads-add"][0], other, 1)
     text = written["plan-runs-the-answer.plan"]
     line = lambda report, start: report[:report.index(start)].count("\n") + 1
     stopped, going = of_report(text), of_report(written["plan-runs-part-of-the-answer.plan"])
