@@ -66,8 +66,8 @@ outcome_begun verb Done operands options files text other some h = absurd (other
 outcome_begun verb OutOfMemory operands options files text other some h = absurd (some refl)
 outcome_begun verb s operands options files text other some h = absurd h
 
-stands_begun : (request : Request) (files : Change FilesView) (s : Status) (text : List ℕ) → s ≢ Done → s ≢ OutOfMemory → Stands request files s text
-    → HasFront text (status_words s)
+stands_begun : (request : Request) (files : Change FilesView) (s : Status) (text : List ℕ) → s ≢ Done → s ≢ OutOfMemory
+    → Stands request files s text → HasFront text (status_words s)
 stands_begun request files Done text other some h = absurd (other refl)
 stands_begun request files Usage text other some h = absurd h
 stands_begun request files WriteFault text other some h = absurd h
