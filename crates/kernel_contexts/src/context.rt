@@ -122,7 +122,7 @@ impl Context {
     /// has no free place; where it has one, no stop and no yield is told so. After `Ran` exactly the pages of
     /// the bytes that the turn wrote are owned besides; after any other answer but `Memory` the page table is
     /// as it was.
-    #[inline]
+    #[inline(always)]
     pub fn advance<P: Port>(&mut self, port: &mut P, ticket: &mut P::Ticket) -> Turn
         requires home { is_home self.old ≡ true }
         requires ticket { IsTicketOf (thread_of self.old) (P.name port.old) (P.tells ticket.old) }

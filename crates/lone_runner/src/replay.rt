@@ -19,7 +19,9 @@ fn events_made(context: &Context) -> u32
 }
 
 /// Makes one turn of a thread that has not stopped: the stop with which it ends, `None` where it goes on, or
-/// the fault where it asks an operation that the next event does not answer.
+/// the fault where it asks an operation that the next event does not answer. It is laid into the loops that
+/// make turns, where its answer needs no place in memory.
+#[inline(always)]
 pub fn make_turn(
     context: &mut Context,
     ticket: &mut ReplayTicket,
@@ -69,6 +71,7 @@ fn left_over(ticket: &ReplayTicket) -> Option<AloneFault>
 }
 
 /// How the thread parts where it stands, if it does; `stop` tells whether it has stopped.
+#[inline]
 pub fn parting(
     context: &Context,
     ticket: &ReplayTicket,
