@@ -1,11 +1,15 @@
-//! Guest threads on several cores: two workers that run at once, and a queue and a core that are empty.
-ghost use Rattle.std.specs.Prelude.{◌<◌};
+//! Guest threads on several cores: two workers that run at once, a queue and a core that are empty, and a core
+//! that is full.
+ghost use Rattle.std.specs.Prelude.{◌≡◌, ◌<◌};
+ghost use Rattle.kernel_contexts.specs.Context.{config_of, thread_of};
 
 use core_unit::Core;
 use edge_io::Gate;
 use elf_loader::load;
+use kernel_contexts::{Context, Whole};
+use paged_memory::Image;
 use run_queue::ContextQueue;
-use shared_region::PlainPort;
+use shared_region::{PlainPort, PlainTicket};
 use sm_types::{Config, Stop};
 use smp_runner::run_cores;
 use std::alloc::Global;
@@ -148,4 +152,45 @@ fn a_core_that_is_empty(rt: HostRuntime) {
     assert!(rt; !core.next());
     assert_eq!(rt; core.residents(), 0);
     assert_eq!(rt; core.bank_owner(), None);
+}
+
+/// A thread before its first turn, with its ticket.
+fn unstarted(
+    rt: &impl Stops,
+    alloc: Global,
+    image: &Image,
+    config: &Config,
+    thread: u32,
+) -> Whole<PlainPort>
+    requires { thread < config.now.threads }
+    ensures thread { thread_of result.context ≡ thread }
+    ensures config { config_of result.context ≡ config.now }
+{
+    let context = Context::start(alloc, image, config, thread)
+        .ok()
+        .expect(rt, "memory");
+    let ticket = PlainTicket::new(alloc, thread);
+    Whole { context, ticket }
+}
+
+#[test]
+fn a_ninth_context_is_handed_back(rt: HostRuntime) {
+    let alloc = rt.alloc();
+    let file = file_of(&rt, alloc, &ENDS);
+    let image = load(alloc, &file).ok().expect(&rt, "an accepted file");
+    let mut config = Config::defaults();
+    config.threads = 9;
+    let port = PlainPort::new(alloc).ok().expect(&rt, "memory");
+    let mut core = Core::new(alloc, 0, &config, &port)
+        .ok()
+        .expect(&rt, "memory");
+    'threads: for thread in 0..8 {
+        let whole = unstarted(&rt, alloc, &image, &config, thread);
+        assert!(rt; core.admit(whole).is_ok());
+    }
+    assert_eq!(rt; core.residents(), 8);
+    let ninth = unstarted(&rt, alloc, &image, &config, 8);
+    let back = core.admit(ninth).err().expect(&rt, "a core that is full");
+    assert_eq!(rt; back.context.thread(), 8);
+    assert_eq!(rt; core.residents(), 8);
 }
