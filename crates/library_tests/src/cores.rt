@@ -1,5 +1,5 @@
-//! Guest threads on several cores: two workers that run at once, a queue and a core that are empty, and a core
-//! that is full.
+//! Guest threads on several cores: two workers that run at once, a queue and a core that are empty, and a
+//! core that is full.
 ghost use Rattle.std.specs.Prelude.{◌≡◌, ◌<◌};
 ghost use Rattle.kernel_contexts.specs.Context.{config_of, thread_of};
 
