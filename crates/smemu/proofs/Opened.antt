@@ -79,6 +79,20 @@ pub none_opened : {F : Type 0} (fetched : F → List ℕ → ℕ → F → Type 
     → AreOpened fetched view [] [] old old
 none_opened fetched view old = record { each = refl; kept = kept_still (view old); accepted = tt }
 
+-- one more
+pub and_opened : {F : Type 0} {fetched : F → List ℕ → ℕ → F → Type 0} {view : F → FilesView} {names : List Named}
+    {files : List (List ℕ)} {old now new : F} {file : List ℕ} (named : Named) → AreOpened fetched view names files old now
+    → fetched now named.name (limit_of named.kind) new → IsKept (view now) (view new) → IsOpened (view now).told named.name named.kind file
+    → AreOpened fetched view (names ++ named ∷ []) (files ++ file ∷ []) old new
+and_opened {fetched = fetched} {view = view} {names = names} {files = files} {old = old} {now = now} {new = new} {file = file} named so one
+    kept h = record {
+      each = fetched_more fetched names named old now new so.each one;
+      kept = kept_on (view old) (view now) (view new) so.kept kept;
+      accepted =
+          accepted_more (view old).told names files named file so.accepted
+          (subst (λ (t : Told). IfSome t (λ known. known named.name ≡ Some file)) so.kept.same h.is_file) h.accepted;
+    }
+
 -- ---- how a command ends
 
 stands_rejected : (request : Request) (files : Change FilesView) (rejection : Rejection) (text : List ℕ)
@@ -91,17 +105,6 @@ module _ {F : Type 0} (fetched : F → List ℕ → ℕ → F → Type 0) (view 
     (files : List (List ℕ)) (named : Named) (old now new : F) (is : files_named request ≡ names ++ named ∷ rest)
     (so : AreOpened fetched view names files old now) (one : fetched now named.name (limit_of named.kind) new)
     (kept : IsKept (view now) (view new)) where
-  -- one more file is opened
-  pub opened_next : (file : List ℕ) → IsOpened (view now).told named.name named.kind file
-      → AreOpened fetched view (names ++ named ∷ []) (files ++ file ∷ []) old new
-  opened_next file h = record {
-    each = fetched_more fetched names named old now new so.each one;
-    kept = kept_on (view old) (view now) (view new) so.kept kept;
-    accepted =
-        accepted_more (view old).told names files named file so.accepted
-        (subst (λ (t : Told). IfSome t (λ known. known named.name ≡ Some file)) so.kept.same h.is_file) h.accepted;
-  }
-
   -- the next file was not fetched, or is not accepted: the end
   refused_ends : (r : Refusal) → IsUnopened (change view now new) named.name named.kind r
       → EndsRequest request (change view old new) (Err r)
@@ -216,4 +219,4 @@ module _ {F : Type 0} (fetched : F → List ℕ → ℕ → F → Type 0) (view 
     one_opened file h end ends =
         all_opened fetched view request (file ∷ []) old new
         (subst (λ (ns : List Named). AreOpened fetched view ns (file ∷ []) old new) (sym is)
-        (opened_next fetched view request [] [] [] named old old new is (none_opened fetched view old) one kept file h)) end ends
+        (and_opened named (none_opened fetched view old) one kept h)) end ends

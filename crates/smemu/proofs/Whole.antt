@@ -1,5 +1,5 @@
 -- What is fetched of a file, with a limit of one byte more than it may have, stands for the whole file.
-use Rattle.std.proofs.Common.{◌≡◌, ℕ, ◌<◌, ◌≤◌, ◌⊎◌, inl, inr, List, take, length, true, Option, Some, None, refl, sym, ◌∙◌, ap, arith}
+use Rattle.std.proofs.Common.{◌≡◌, ℕ, ◌<◌, ◌≤◌, ◌⊎◌, inl, inr, List, take, length, true, Option, Some, None, Result, Ok, refl, sym, ◌∙◌, ap, arith}
 use Rattle.std.proofs.lemmas.Bool.Decides.{nat_tests}
 use Rattle.std.proofs.lemmas.Grind.{common_steps}
 use Rattle.std.specs.Prelude.{IfSome, option_map, nat_lt}
@@ -160,6 +160,11 @@ long_rejected PlanFile file h =
     ap (option_map (λ (fault : plan.Fault). rejection.Plan fault.line fault.kind)) (long_plan file h)
 long_rejected ScriptFile file h =
     ap (option_map (λ (fault : plan.Fault). rejection.Plan fault.line fault.kind)) (long_script file h)
+
+-- what is read has no fault
+pub no_fault_in : {A F : Type 0} (f : F → Rejection) (read : Result A F) (value : A) → read ≡ Ok value
+    → option_map f (fault_in read) ≡ None
+no_fault_in f read value e = ap (λ r. option_map f (fault_in r)) e
 
 -- what was fetched is the file, where it is accepted
 pub opened_file : (kind : Kind) (told : Told) (n : ℕ) (name fetched : List ℕ) → largest_of kind < n → IsFront told n name fetched

@@ -1,4 +1,4 @@
-use Rattle.std.proofs.Common.{rules, [], ◌∷◌, refl, Err}
+use Rattle.std.proofs.Common.{rules, ℕ, List, [], ◌∷◌, refl, Err}
 use Rattle.std.specs.String.{string_bytes}
 use Rattle.cmd_words.specs.Command.{request_of}
 use Rattle.cmd_words.specs.declared.command.Command.TheVariants as command
@@ -6,84 +6,63 @@ use Rattle.smemu.specs.Rejections.{ProgramFile, ReportFile, ScriptFile}
 use Rattle.smemu.specs.Requests.{Named}
 use Rattle.smemu.specs.Views.{CarriesOut}
 use Rattle.smemu.proofs.Debugs.{debug_accepted}
-use Rattle.smemu.proofs.Opened.{all_opened, none_opened, opened_next, refused_next}
+use Rattle.smemu.proofs.Opened.{all_opened, and_opened, none_opened, refused_next}
 use Rattle.smemu.proofs.command.debug_thread.Goals as goal
+
+abbrev named : List ℕ → Named
+named name = record { name = name; kind = ProgramFile }
+
+abbrev reported : List ℕ → Named
+reported name = record { name = name; kind = ReportFile }
+
+abbrev scripted : List ℕ → Named
+scripted name = record { name = name; kind = ScriptFile }
 
 pub returns-in_err-file : goal.returns-in_err-file
 returns-in_err-file g c =
-    let request = request_of (command.Debug c.args.program c.args.report c.args.thread c.args.script) in
-    let old = c.args.files.now in
-    let program : Named = record { name = string_bytes c.args.program; kind = ProgramFile } in
-    let report : Named = record { name = string_bytes c.args.report; kind = ReportFile } in
-    let script : Named = record { name = string_bytes c.args.script; kind = ScriptFile } in
-    let ends : CarriesOut g.F.Files.fetched g.F.Files.view request old c.open_program.new.files (Err c.in_err-file.field-0.0) =
-    refused_next g.F.Files.fetched g.F.Files.view request [] (report ∷ script ∷ []) [] program old old c.open_program.new.files refl
-    (none_opened g.F.Files.fetched g.F.Files.view old) c.open_program.ensures.fetched c.open_program.ensures.kept
-    c.in_err-file.field-0.0 c.in_err-file.ensures.unopened in
+    let rest = reported (string_bytes c.args.report) ∷ scripted (string_bytes c.args.script) ∷ [] in
+    let ends : CarriesOut g.F.Files.fetched g.F.Files.view
+    (request_of (command.Debug c.args.program c.args.report c.args.thread c.args.script)) c.args.files.now c.open_program.new.files
+    (Err c.in_err-file.field-0.0) =
+    refused_next _ _ _ [] rest [] (named (string_bytes c.args.program)) _ _ _ refl (none_opened _ _ _)
+    c.open_program.ensures.fetched c.open_program.ensures.kept _ c.in_err-file.ensures.unopened in
     search rules
 
 pub returns-in_err-read : goal.returns-in_err-read
 returns-in_err-read g c =
-    let request = request_of (command.Debug c.args.program c.args.report c.args.thread c.args.script) in
-    let old = c.args.files.now in
-    let program : Named = record { name = string_bytes c.args.program; kind = ProgramFile } in
-    let report : Named = record { name = string_bytes c.args.report; kind = ReportFile } in
-    let script : Named = record { name = string_bytes c.args.script; kind = ScriptFile } in
-    let file = c.in_ok-file.file.bytes.items in
-    let one =
-    opened_next g.F.Files.fetched g.F.Files.view request [] (report ∷ script ∷ []) [] program old old c.open_program.new.files refl
-    (none_opened g.F.Files.fetched g.F.Files.view old) c.open_program.ensures.fetched c.open_program.ensures.kept file
-    c.in_ok-file.ensures.opened in
-    let ends : CarriesOut g.F.Files.fetched g.F.Files.view request old c.open_report.new.files (Err c.in_err-read.field-0.0) =
-    refused_next g.F.Files.fetched g.F.Files.view request (program ∷ []) (script ∷ []) (file ∷ []) report old c.open_program.new.files
-    c.open_report.new.files refl one c.open_report.ensures.fetched c.open_report.ensures.kept
-    c.in_err-read.field-0.0 c.in_err-read.ensures.unopened in
+    let program = named (string_bytes c.args.program) in
+    let one = and_opened program (none_opened g.F.Files.fetched g.F.Files.view c.args.files.now) c.open_program.ensures.fetched
+    c.open_program.ensures.kept c.in_ok-file.ensures.opened in
+    let ends : CarriesOut g.F.Files.fetched g.F.Files.view
+    (request_of (command.Debug c.args.program c.args.report c.args.thread c.args.script)) c.args.files.now c.open_report.new.files
+    (Err c.in_err-read.field-0.0) =
+    refused_next _ _ _ (program ∷ []) (scripted (string_bytes c.args.script) ∷ []) _ (reported (string_bytes c.args.report)) _ _ _ refl
+    one c.open_report.ensures.fetched c.open_report.ensures.kept _ c.in_err-read.ensures.unopened in
     search rules
 
 pub returns-in_err-commands : goal.returns-in_err-commands
 returns-in_err-commands g c =
-    let request = request_of (command.Debug c.args.program c.args.report c.args.thread c.args.script) in
-    let old = c.args.files.now in
-    let program : Named = record { name = string_bytes c.args.program; kind = ProgramFile } in
-    let report : Named = record { name = string_bytes c.args.report; kind = ReportFile } in
-    let script : Named = record { name = string_bytes c.args.script; kind = ScriptFile } in
-    let file = c.in_ok-file.file.bytes.items in
-    let bytes = c.in_ok-read.read.bytes.items in
-    let one =
-    opened_next g.F.Files.fetched g.F.Files.view request [] (report ∷ script ∷ []) [] program old old c.open_program.new.files refl
-    (none_opened g.F.Files.fetched g.F.Files.view old) c.open_program.ensures.fetched c.open_program.ensures.kept file
-    c.in_ok-file.ensures.opened in
-    let two =
-    opened_next g.F.Files.fetched g.F.Files.view request (program ∷ []) (script ∷ []) (file ∷ []) report old c.open_program.new.files
-    c.open_report.new.files refl one c.open_report.ensures.fetched c.open_report.ensures.kept bytes c.in_ok-read.ensures.opened in
-    let ends : CarriesOut g.F.Files.fetched g.F.Files.view request old c.open_script.new.files (Err c.in_err-commands.field-0.0) =
-    refused_next g.F.Files.fetched g.F.Files.view request (program ∷ report ∷ []) [] (file ∷ bytes ∷ []) script old
-    c.open_report.new.files c.open_script.new.files refl two c.open_script.ensures.fetched c.open_script.ensures.kept
-    c.in_err-commands.field-0.0 c.in_err-commands.ensures.unopened in
+    let program = named (string_bytes c.args.program) in
+    let report = reported (string_bytes c.args.report) in
+    let two = and_opened report (and_opened program (none_opened g.F.Files.fetched g.F.Files.view c.args.files.now)
+    c.open_program.ensures.fetched c.open_program.ensures.kept c.in_ok-file.ensures.opened) c.open_report.ensures.fetched
+    c.open_report.ensures.kept c.in_ok-read.ensures.opened in
+    let ends : CarriesOut g.F.Files.fetched g.F.Files.view
+    (request_of (command.Debug c.args.program c.args.report c.args.thread c.args.script)) c.args.files.now c.open_script.new.files
+    (Err c.in_err-commands.field-0.0) =
+    refused_next _ _ _ (program ∷ report ∷ []) [] _ (scripted (string_bytes c.args.script)) _ _ _ refl two
+    c.open_script.ensures.fetched c.open_script.ensures.kept _ c.in_err-commands.ensures.unopened in
     search rules
 
 pub returns : goal.returns
 returns g c =
-    let request = request_of (command.Debug c.args.program c.args.report c.args.thread c.args.script) in
-    let old = c.args.files.now in
-    let program : Named = record { name = string_bytes c.args.program; kind = ProgramFile } in
-    let report : Named = record { name = string_bytes c.args.report; kind = ReportFile } in
-    let script : Named = record { name = string_bytes c.args.script; kind = ScriptFile } in
-    let file = c.in_ok-file.file.bytes.items in
-    let bytes = c.in_ok-read.read.bytes.items in
-    let commands = c.in_ok-commands.commands.bytes.items in
-    let one =
-    opened_next g.F.Files.fetched g.F.Files.view request [] (report ∷ script ∷ []) [] program old old c.open_program.new.files refl
-    (none_opened g.F.Files.fetched g.F.Files.view old) c.open_program.ensures.fetched c.open_program.ensures.kept file
-    c.in_ok-file.ensures.opened in
-    let two =
-    opened_next g.F.Files.fetched g.F.Files.view request (program ∷ []) (script ∷ []) (file ∷ []) report old c.open_program.new.files
-    c.open_report.new.files refl one c.open_report.ensures.fetched c.open_report.ensures.kept bytes c.in_ok-read.ensures.opened in
-    let three =
-    opened_next g.F.Files.fetched g.F.Files.view request (program ∷ report ∷ []) [] (file ∷ bytes ∷ []) script old
-    c.open_report.new.files c.open_script.new.files refl two c.open_script.ensures.fetched c.open_script.ensures.kept commands
-    c.in_ok-commands.ensures.opened in
-    all_opened g.F.Files.fetched g.F.Files.view request (file ∷ bytes ∷ commands ∷ []) old c.open_script.new.files three
-    c.debug_report.result
-    (debug_accepted (string_bytes c.args.program) (string_bytes c.args.report) c.args.thread (string_bytes c.args.script) file bytes
-    commands c.debug_report.result c.debug_report.ensures)
+    let one = and_opened (named (string_bytes c.args.program)) (none_opened g.F.Files.fetched g.F.Files.view c.args.files.now)
+    c.open_program.ensures.fetched c.open_program.ensures.kept c.in_ok-file.ensures.opened in
+    let two = and_opened (reported (string_bytes c.args.report)) one c.open_report.ensures.fetched c.open_report.ensures.kept
+    c.in_ok-read.ensures.opened in
+    all_opened _ _ (request_of (command.Debug c.args.program c.args.report c.args.thread c.args.script)) _ _ _
+    (and_opened (scripted (string_bytes c.args.script)) two c.open_script.ensures.fetched c.open_script.ensures.kept
+    c.in_ok-commands.ensures.opened) c.debug_report.result
+    (debug_accepted (string_bytes c.args.program) (string_bytes c.args.report) c.args.thread (string_bytes c.args.script)
+    c.in_ok-file.file.bytes.items c.in_ok-read.read.bytes.items c.in_ok-commands.commands.bytes.items c.debug_report.result
+    c.debug_report.ensures)

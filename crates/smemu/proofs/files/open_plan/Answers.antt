@@ -1,14 +1,10 @@
-use Rattle.std.proofs.Common.{rules, lit<, ap, Result, List}
-use Rattle.std.specs.Prelude.{option_map}
+use Rattle.std.proofs.Common.{rules, lit<}
 use Rattle.std.specs.String.{string_bytes}
-use Rattle.plan_reader.specs.Plan.{Fault}
-use Rattle.plan_reader.specs.declared.event.WorldEvent.{WorldEvent}
 use Rattle.smemu.specs.Ends.{change}
-use Rattle.smemu.specs.Rejections.{PlanFile, fault_in}
+use Rattle.smemu.specs.Rejections.{PlanFile}
 use Rattle.smemu.specs.Views.{IsUnopened}
 use Rattle.smemu.specs.declared.files.TheConstants.{FETCH_LIMIT}
-use Rattle.smemu.specs.declared.rejection.Rejection.TheVariants as rejection
-use Rattle.smemu.proofs.Whole.{opened_file, unopened_file}
+use Rattle.smemu.proofs.Whole.{no_fault_in, opened_file, unopened_file}
 use Rattle.smemu.proofs.files.open_plan.Goals as goal
 
 pub returns-in_err-content-clause-unopened : goal.returns-in_err-content-clause-unopened
@@ -21,8 +17,5 @@ returns-in_err-content-clause-unopened g c =
 
 pub returns-clause-opened : goal.returns-clause-opened
 returns-clause-opened g c =
-    let planned = rw c.as_slice.ensures.value at c.in_ok-content.ensures.planned in
-    opened_file PlanFile (g.F.Files.view c.args.files.now).told FETCH_LIMIT (string_bytes c.args.name) c.in_ok-bytes.bytes.items
-    (lit< tt)
-    c.in_ok-bytes.ensures.front (ap (λ (r : Result (List WorldEvent) Fault). option_map (λ
-    (fault : Fault). rejection.Plan fault.line fault.kind) (fault_in r)) planned)
+    opened_file PlanFile (g.F.Files.view c.args.files.now).told FETCH_LIMIT (string_bytes c.args.name) c.in_ok-bytes.bytes.items (lit< tt)
+    c.in_ok-bytes.ensures.front (no_fault_in _ _ _ (rw c.as_slice.ensures.value at c.in_ok-content.ensures.planned))

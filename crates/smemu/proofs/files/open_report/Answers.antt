@@ -1,14 +1,10 @@
-use Rattle.std.proofs.Common.{rules, lit<, ap, Result}
-use Rattle.std.specs.Prelude.{option_map}
+use Rattle.std.proofs.Common.{rules, lit<}
 use Rattle.std.specs.String.{string_bytes}
-use Rattle.report_reader.specs.Reading.{Fault}
-use Rattle.report_reader.specs.Report.{Report}
 use Rattle.smemu.specs.Ends.{change}
-use Rattle.smemu.specs.Rejections.{ReportFile, fault_in}
+use Rattle.smemu.specs.Rejections.{ReportFile}
 use Rattle.smemu.specs.Views.{IsUnopened}
 use Rattle.smemu.specs.declared.files.TheConstants.{REPORT_LIMIT}
-use Rattle.smemu.specs.declared.rejection.Rejection.TheVariants as rejection
-use Rattle.smemu.proofs.Whole.{opened_file, unopened_file}
+use Rattle.smemu.proofs.Whole.{no_fault_in, opened_file, unopened_file}
 use Rattle.smemu.proofs.files.open_report.Goals as goal
 
 pub returns-in_err-content-clause-unopened : goal.returns-in_err-content-clause-unopened
@@ -21,8 +17,5 @@ returns-in_err-content-clause-unopened g c =
 
 pub returns-clause-opened : goal.returns-clause-opened
 returns-clause-opened g c =
-    let reads = rw c.as_slice.ensures.value at c.in_ok-content.ensures.reads in
     opened_file ReportFile (g.F.Files.view c.args.files.now).told REPORT_LIMIT (string_bytes c.args.name) c.in_ok-bytes.bytes.items
-    (lit< tt)
-    c.in_ok-bytes.ensures.front (ap (λ (r : Result Report Fault). option_map (λ
-    (fault : Fault). rejection.Report fault.line fault.kind) (fault_in r)) reads)
+    (lit< tt) c.in_ok-bytes.ensures.front (no_fault_in _ _ _ (rw c.as_slice.ensures.value at c.in_ok-content.ensures.reads))
