@@ -33,10 +33,6 @@ first_none : (a b : Option AsmFault) → or_else a b ≡ None → a ≡ None
 first_none None b e = refl
 first_none (Some f) b e = cc
 
-second_none : (a b : Option AsmFault) → or_else a b ≡ None → b ≡ None
-second_none None b e = e
-second_none (Some f) b e = cc
-
 placed_column : (o : Option ℕ) (f : ℕ → AsmFault) → option_map f o ≡ None → o ≡ None
 placed_column None f e = refl
 placed_column (Some c) f e = cc

@@ -77,10 +77,6 @@ pub append_none : {A : Type 0} (xs : List A) → xs ++ [] ≡ xs
 append_none [] = refl
 append_none (x ∷ xs) = ap (λ ys. x ∷ ys) (append_none xs)
 
--- a table with no more labels
-pub knows_same : (table : Labels) (list : List Label) → Knows table list → Knows table (list ++ [])
-knows_same table list h = subst (Knows table) (sym (append_none list)) h
-
 -- ---- one more line
 
 pub lines_cons : (n : ℕ) (p : LocationCounter) (list : List Label) (text : List ℕ) (texts : List (List ℕ))

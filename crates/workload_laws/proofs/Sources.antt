@@ -32,11 +32,6 @@ use Rattle.workload_laws.proofs.Chosen.{chosen_text, chosen_short, first_texts, 
 abbrev instructions : ℕ → List (List ℕ)
 instructions number = setup_lines ++ (chosen_lines number ++ last_lines)
 
-lines_are : (number : ℕ)
-    → source_lines number ≡ codes ".text" ∷ codes ".global _start" ∷ codes "_start:" ∷ instructions number
-unfolding source_lines
-lines_are number = refl
-
 -- each is the text of its word
 instruction_texts : (number : ℕ) → AreTexts (source_words number) (instructions number)
 unfolding source_words chosen_lines
