@@ -13,10 +13,10 @@ use Rattle.asm_core.specs.declared.fault.AsmFault.TheVariants.{Line}
 use Rattle.asm_core.specs.declared.labels.Labels.{Labels}
 use Rattle.asm_core.specs.declared.location_counter.LocationCounter.{LocationCounter}
 use Rattle.asm_core.specs.Source.{lines_of, said_lines}
-use Rattle.asm_core.specs.Layout.{first_counter, Label, label_at, if_some, label_named, labels_of, labels_from, counter_after, counter_past}
+use Rattle.asm_core.specs.Layout.{first_counter, Label, label_at, if_some, label_named, label_position, labels_of, labels_from, counter_after, counter_past}
 use Rattle.std.specs.Option.{option_or as or_else}
 use Rattle.asm_core.specs.Faults.{after_line, line_fault, lines_fault, labels_after}
-use Rattle.asm_core.specs.Known.{known, label_position, Knows}
+use Rattle.asm_core.specs.Known.{known, Knows}
 use Rattle.asm_core.specs.Scanned.{fault_at, Passes, IsScannedTo}
 use Rattle.asm_core.specs.declared.fault.AsmFault.TheVariants as fault
 use Rattle.asm_parser.specs.declared.line.LineFault.TheVariants as line
