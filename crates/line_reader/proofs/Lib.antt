@@ -2,3 +2,8 @@ pub mod Digits
 pub mod Cuts
 pub mod Past
 pub mod Differences
+pub mod Readings
+pub mod Files
+pub mod FileLines
+pub mod Slots
+pub mod FileFaults

@@ -5,3 +5,6 @@ pub mod Reading
 pub mod Difference
 pub mod Told
 pub mod Tables
+pub mod Phrases
+pub mod File
+pub mod Places

@@ -5,7 +5,7 @@ use Rattle.plan_reader.specs.Plan.{Fault, IsLineOf, plan_in}
 use Rattle.plan_reader.specs.Faults.{numbers_after, IsFaultOf}
 use Rattle.plan_reader.proofs.FirstWord.{first_fault}
 use Rattle.plan_reader.proofs.Plans.{reading}
-use Rattle.plan_reader.proofs.FileFaults as files
+use Rattle.line_reader.proofs.FileFaults as files
 
 pub is_fault : (bytes : List ℕ) (fault : Fault) → plan_in bytes ≡ Err fault → IsFaultOf bytes fault
 unfolding plan_in

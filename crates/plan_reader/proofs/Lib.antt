@@ -1,8 +1,3 @@
-pub mod Lines
-pub mod Readings
-pub mod Files
-pub mod Slots
-pub mod FileFaults
 pub mod Spoken
 pub mod Plans
 pub mod FirstWord

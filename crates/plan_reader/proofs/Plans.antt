@@ -2,11 +2,11 @@
 use Rattle.std.proofs.Common.{◌≡◌, ℕ, List, length, Ok, ap, ◌∙◌}
 use Rattle.std.proofs.lemmas.List.{length-map}
 use Rattle.line_reader.specs.Lines.{line_text, words_in}
-use Rattle.plan_reader.specs.File.{NumberedLine, file_lines, all_said}
+use Rattle.line_reader.specs.File.{NumberedLine, file_lines, all_said}
 use Rattle.plan_reader.specs.Words.{event_in}
 use Rattle.plan_reader.specs.Plan.{IsLineOf, IsPlanOf, plan_in, event_lines}
-use Rattle.plan_reader.specs.declared.event.WorldEvent.{WorldEvent}
-use Rattle.plan_reader.proofs.Files.{IsReadingOf, lines_say, lines_read, say_length, within, not_too_long}
+use Rattle.sm_types.specs.declared.world_event.WorldEvent.{WorldEvent}
+use Rattle.line_reader.proofs.Files.{IsReadingOf, lines_say, lines_read, say_length, within, not_too_long}
 use Rattle.plan_reader.proofs.Spoken.{event_words, words_read}
 
 -- the words of a line are read as the event that it says

@@ -1,14 +1,14 @@
 -- The words of an event, and what they say.
-use Rattle.std.proofs.Common.{◌≡◌, ℕ, ◌^◌, ◌<◌, ◌≤◌, List, [], ◌∷◌, Some, None, Ok, refl, ap, ◌∙◌, arith, subst}
+use Rattle.std.proofs.Common.{◌≡◌, ℕ, ◌^◌, ◌<◌, List, [], ◌∷◌, Some, None, Ok, refl, ap, ◌∙◌, arith, subst}
 use Rattle.std.specs.Prelude.{codes, decimal}
-use Rattle.plan_reader.specs.Saying.{and_then, first_word, number, ended}
+use Rattle.line_reader.specs.Phrases.{and_then, first_word, number, ended}
 use Rattle.plan_reader.specs.Words.{verb_of, event_on, event_in}
 use Rattle.plan_reader.specs.Plan.{words_for, IsInRange}
-use Rattle.plan_reader.specs.declared.event.WorldEvent.{WorldEvent}
-use Rattle.plan_reader.specs.declared.event.WorldEvent.TheVariants as event
+use Rattle.sm_types.specs.declared.world_event.WorldEvent.{WorldEvent}
+use Rattle.sm_types.specs.declared.world_event.WorldEvent.TheVariants as event
 use Rattle.plan_reader.specs.declared.words.Verb.{Verb}
 use Rattle.plan_reader.specs.declared.words.Verb.TheVariants as verb
-use Rattle.plan_reader.proofs.Readings.{between, chosen, pair_is, first_is, first_read, fitting, number_first, number_read, ended_is}
+use Rattle.line_reader.proofs.Readings.{between, chosen, pair_is, first_is, first_read, fitting, number_first, number_read, ended_is}
 
 -- ---- the word of an event
 

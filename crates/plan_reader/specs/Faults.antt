@@ -1,8 +1,8 @@
 -- The fault of a file that is no plan, told by the places of its lines and of their words.
 use Rattle.std.specs.Prelude.{ℕ, ◌^◌, ◌||◌, List, [], ◌∷◌, codes, Option, Some, None, if◌then◌else◌}
 use Rattle.std.specs.Str.{bytes_eq}
-use Rattle.plan_reader.specs.File.{Fault}
-use Rattle.plan_reader.specs.Places.{Slot, number_slot, IsFileFault}
+use Rattle.line_reader.specs.File.{Fault}
+use Rattle.line_reader.specs.Places.{Slot, number_slot, IsFileFault}
 use Rattle.plan_reader.specs.Plan.{IsLineOf}
 
 -- the numbers after the word of an event: its core, and of a run its turns, which are not 0; any other word

@@ -1,11 +1,11 @@
 -- The plan of a world: a file with an event on each line that is not empty.
 use Rattle.std.specs.Prelude.{◌≡◌, ℕ, ◌^◌, ◌<◌, ◌≤◌, List, [], ◌∷◌, length, map, codes, decimal, Result}
 use Rattle.line_reader.specs.Lines.{line_text, words_in}
-pub use Rattle.plan_reader.specs.File.{Fault}
-use Rattle.plan_reader.specs.File.{Say, file_lines, file_in}
+pub use Rattle.line_reader.specs.File.{Fault}
+use Rattle.line_reader.specs.File.{Say, file_lines, file_in}
 use Rattle.plan_reader.specs.Words.{event_in}
-use Rattle.plan_reader.specs.declared.event.WorldEvent.{WorldEvent}
-use Rattle.plan_reader.specs.declared.event.WorldEvent.TheVariants.{Run, Next, Fetch, Offer}
+use Rattle.sm_types.specs.declared.world_event.WorldEvent.{WorldEvent}
+use Rattle.sm_types.specs.declared.world_event.WorldEvent.TheVariants.{Run, Next, Fetch, Offer}
 
 -- the words that say an event
 abbrev pub words_for : WorldEvent → List (List ℕ)

@@ -1,9 +1,9 @@
 -- The event that the words of a line say, or what is wrong with the first of them that does not say it.
 use Rattle.std.specs.Prelude.{ℕ, ◌^◌, List, codes, Option, Some, None, if◌then◌else◌}
 use Rattle.std.specs.Str.{bytes_eq}
-use Rattle.plan_reader.specs.Saying.{Saying, Start, ◌>>=◌, and_then, give, first_word, number, ended}
-use Rattle.plan_reader.specs.declared.event.WorldEvent.{WorldEvent}
-use Rattle.plan_reader.specs.declared.event.WorldEvent.TheVariants as event
+use Rattle.line_reader.specs.Phrases.{Phrase, Start, ◌>>=◌, give, first_word, number, ended}
+use Rattle.sm_types.specs.declared.world_event.WorldEvent.{WorldEvent}
+use Rattle.sm_types.specs.declared.world_event.WorldEvent.TheVariants as event
 use Rattle.plan_reader.specs.declared.words.Verb.{Verb}
 use Rattle.plan_reader.specs.declared.words.Verb.TheVariants as verb
 
@@ -26,7 +26,7 @@ event_on verb.Fetch core = give (event.Fetch core)
 event_on verb.Offer core = give (event.Offer core)
 
 -- the word of an event, its core, and its further number
-unfoldable pub event_in : Saying WorldEvent
+unfoldable pub event_in : Phrase WorldEvent
 event_in = do
   verb ← first_word verb_of
   core ← number 0 (2 ^ 32)

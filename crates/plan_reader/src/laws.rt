@@ -2,7 +2,7 @@
 ghost use Rattle.std.specs.Prelude.{◌≡◌, ◌↔◌, ℕ, List, Ok, Err, length};
 ghost use Rattle.plan_reader.specs.Faults.{IsFaultOf};
 ghost use Rattle.plan_reader.specs.Plan.{Fault, IsPlanOf, event_lines, plan_in};
-ghost use Rattle.plan_reader.specs.declared.event.WorldEvent.{WorldEvent};
+ghost use Rattle.sm_types.specs.declared.world_event.WorldEvent.{WorldEvent};
 
 /// The events that are read of a file are those of which it is the plan, and there are no others.
 pub fn one_plan()

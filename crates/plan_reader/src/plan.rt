@@ -1,21 +1,23 @@
 //! The plan of a world, read line by line.
 ghost use Rattle.std.specs.Prelude.{◌≡◌, IfOk};
+ghost use Rattle.line_reader.specs.Told.{AnswersAs};
 ghost use Rattle.plan_reader.specs.Plan.{event_lines, plan_in};
-ghost use Rattle.plan_reader.specs.Told.{AnswersAs};
 ghost use Rattle.plan_reader.specs.Words.{event_in};
 
-use crate::event::WorldEvent;
-use crate::fault::{PlanFault, PlanKind};
-use crate::file::{LineValue, has_text, read_file};
 use crate::words::event_in;
-use line_reader::split_line;
-use sm_types::Memory;
+use line_reader::{LineFormat, TextFault, TextKind, has_text, read_file, split_line};
+use sm_types::{Memory, WorldEvent};
 use std::alloc::Global;
 
-impl LineValue for WorldEvent {
+/// The lines of a plan, each with an event.
+struct PlanLines;
+
+impl LineFormat for PlanLines {
+    type Value = WorldEvent;
+
     ghost said_by = { event_in };
 
-    fn of_text(text: &[u8]) -> Result<WorldEvent, PlanKind> {
+    fn value_in(text: &[u8]) -> Result<WorldEvent, TextKind> {
         event_in(text)
     }
 }
@@ -24,10 +26,10 @@ impl LineValue for WorldEvent {
 /// an event, counted from 1, with what is wrong with it; a file of more than 67,108,864 bytes is `TooLong`
 /// at line 0. `Memory` is want of memory.
 #[tactic(auto, unfolding(crate::specs::Plan::plan_in))]
-pub fn read_plan(alloc: Global, bytes: &[u8]) -> Result<Vec<WorldEvent>, PlanFault>
+pub fn read_plan(alloc: Global, bytes: &[u8]) -> Result<Vec<WorldEvent>, TextFault>
     ensures { AnswersAs (λ events. events.items) (plan_in bytes.now) result }
 {
-    read_file(alloc, bytes)
+    read_file::<PlanLines>(alloc, bytes)
 }
 
 /// The numbers of the lines that are not empty, counted from 1. `Memory` is want of memory.

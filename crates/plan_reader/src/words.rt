@@ -1,15 +1,12 @@
 //! The words of a line of a plan.
 ghost use Rattle.std.specs.Prelude.{◌≡◌};
 ghost use Rattle.line_reader.specs.Lines.{words_in};
-ghost use Rattle.line_reader.specs.Told.{words_ahead};
-ghost use Rattle.plan_reader.specs.Saying.{first_word};
-ghost use Rattle.plan_reader.specs.Told.{Says};
+ghost use Rattle.line_reader.specs.Phrases.{first_word};
+ghost use Rattle.line_reader.specs.Told.{Speaks, words_ahead};
 ghost use Rattle.plan_reader.specs.Words as spec;
 
-use crate::event::WorldEvent;
-use crate::fault::PlanKind;
-use crate::saying::{end, read_number};
-use line_reader::{Fields, found_in};
+use line_reader::{Fields, TextKind, end, found_in, read_number};
+use sm_types::WorldEvent;
 
 /// The events, before their numbers.
 #[derive(Clone, Copy)]
@@ -40,23 +37,23 @@ fn verb_of(word: &[u8]) -> Option<Verb>
 }
 
 /// Reads the next word, which is that of an event.
-#[tactic(auto, unfolding(crate::specs::Saying::first_word))]
-fn read_verb(words: &mut Fields) -> Result<Verb, PlanKind>
-    ensures { Says (first_word spec.verb_of (words_ahead words.old)) result (words_ahead words.new) }
+#[tactic(auto, unfolding(line_reader::specs::Phrases::first_word))]
+fn read_verb(words: &mut Fields) -> Result<Verb, TextKind>
+    ensures { Speaks (first_word spec.verb_of (words_ahead words.old)) result (words_ahead words.new) }
 {
     let Some(word) = words.next() else {
-        return Err(PlanKind::Unknown);
+        return Err(TextKind::Unknown);
     };
     match verb_of(word) {
         Some(verb) => Ok(verb),
-        None => Err(PlanKind::Unknown),
+        None => Err(TextKind::Unknown),
     }
 }
 
 /// Reads the rest of an event on that core.
 #[tactic(auto, unfolding(crate::specs::Words::event_on))]
-fn read_event(verb: Verb, core: u32, words: &mut Fields) -> Result<WorldEvent, PlanKind>
-    ensures { Says (spec.event_on verb core (words_ahead words.old)) result (words_ahead words.new) }
+fn read_event(verb: Verb, core: u32, words: &mut Fields) -> Result<WorldEvent, TextKind>
+    ensures { Speaks (spec.event_on verb core (words_ahead words.old)) result (words_ahead words.new) }
 {
     match verb {
         Verb::Run => {
@@ -71,7 +68,7 @@ fn read_event(verb: Verb, core: u32, words: &mut Fields) -> Result<WorldEvent, P
 
 /// The event that the words of a text say, or what is wrong with the first of them that does not say it.
 #[tactic(auto, unfolding(crate::specs::Words::event_in))]
-pub fn event_in(text: &[u8]) -> Result<WorldEvent, PlanKind>
+pub fn event_in(text: &[u8]) -> Result<WorldEvent, TextKind>
     ensures { result ≡ spec.event_in (words_in text.now) }
 {
     let mut words = Fields::of_text(text);

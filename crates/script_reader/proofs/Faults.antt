@@ -1,7 +1,7 @@
 -- The fault that is read of a file is that of no script.
 use Rattle.std.proofs.Common.{◌≡◌, ℕ, List, Err}
-use Rattle.plan_reader.specs.File.{Fault}
-use Rattle.plan_reader.proofs.FileFaults as files
+use Rattle.line_reader.specs.File.{Fault}
+use Rattle.line_reader.proofs.FileFaults as files
 use Rattle.script_reader.specs.Words.{command_in}
 use Rattle.script_reader.specs.Script.{IsLineOf, script_in}
 use Rattle.script_reader.specs.Faults.{operands_after, IsFaultOf}

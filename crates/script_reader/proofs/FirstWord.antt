@@ -2,12 +2,12 @@
 use Rattle.std.proofs.Common.{◌≡◌, ℕ, ◌^◌, ◌≤◌, Bool, true, false, cond, List, [], ◌∷◌, Some, None, Result, Ok, Err, refl, sym, ◌∙◌, arith}
 use Rattle.std.specs.Prelude.{codes, ◌||◌, is_some, option_map}
 use Rattle.std.specs.Str.{bytes_eq}
-use Rattle.plan_reader.specs.Saying.{Saying, and_then, field, number_of, number, ended}
-use Rattle.plan_reader.specs.Places.{Slot, word_fault, IsFirst}
-use Rattle.plan_reader.specs.declared.fault.PlanKind.{PlanKind}
-use Rattle.plan_reader.specs.declared.fault.PlanKind.TheVariants.{Unknown, BadNumber}
-use Rattle.plan_reader.proofs.Readings.{fitting}
-use Rattle.plan_reader.proofs.Slots.{first_of, field_first, ended_first, grouped, number_is, word_first}
+use Rattle.line_reader.specs.Phrases.{Phrase, and_then, field, number_of, number, ended}
+use Rattle.line_reader.specs.Places.{Slot, word_fault, IsFirst}
+use Rattle.line_reader.specs.declared.text_fault.TextKind.{TextKind}
+use Rattle.line_reader.specs.declared.text_fault.TextKind.TheVariants.{Unknown, BadNumber}
+use Rattle.line_reader.proofs.Readings.{fitting}
+use Rattle.line_reader.proofs.Slots.{first_of, field_first, ended_first, grouped, number_is, word_first}
 use Rattle.sm_types.specs.declared.vector.Elem.{Elem}
 use Rattle.sm_types.specs.declared.vector.Elem.TheVariants as elem
 use Rattle.script_reader.specs.Words.{verb_of, size_of, direction_of, address_of, slice_said, memory_said, command_of, command_in}
@@ -64,11 +64,11 @@ operands verb.Za = []
 operands verb.Where = []
 
 -- the operands of a command, once its word is read
-abbrev command_for : Verb → Saying DebugCommand
+abbrev command_for : Verb → Phrase DebugCommand
 command_for v words = and_then (command_of v words) ended
 
 -- a count is the last word
-count_first : (make : ℕ → DebugCommand) (words : List (List ℕ)) (k : PlanKind)
+count_first : (make : ℕ → DebugCommand) (words : List (List ℕ)) (k : TextKind)
     → and_then (and_then (number 0 (2 ^ 32) words) (λ count left. Ok (make count, left))) ended ≡ Err k
     → first_of (any_number ∷ []) words ≡ Some k
 count_first make words k e =
@@ -76,14 +76,14 @@ count_first make words k e =
     (number_is 0 (2 ^ 32) fitting) (λ count left h. ended_first (make count) left k h)
     (sym (grouped (number 0 (2 ^ 32) words) (λ count left. Ok (make count, left)) ended) ∙ e)
 
-break_first : (words : List (List ℕ)) (k : PlanKind) → command_for verb.Break words ≡ Err k → first_of (operands verb.Break) words ≡ Some k
+break_first : (words : List (List ℕ)) (k : TextKind) → command_for verb.Break words ≡ Err k → first_of (operands verb.Break) words ≡ Some k
 unfolding command_of
 break_first words k e =
     field_first address_of slot.address [] words (λ address left. ended (command.Break address) left) k address_fits
     (λ address left h. ended_first (command.Break address) left k h)
     (sym (grouped (field BadNumber address_of words) (λ address left. Ok (command.Break address, left)) ended) ∙ e)
 
-bytes_first : (address : ℕ) (words : List (List ℕ)) (k : PlanKind)
+bytes_first : (address : ℕ) (words : List (List ℕ)) (k : TextKind)
     → and_then (and_then (number 0 4097 words) (λ count left. Ok (command.Memory address count, left))) ended ≡ Err k
     → first_of (byte_count ∷ []) words ≡ Some k
 bytes_first address words k e =
@@ -92,10 +92,10 @@ bytes_first address words k e =
     (sym (grouped (number 0 4097 words) (λ count left. Ok (command.Memory address count, left)) ended) ∙ e)
 
 -- an address, and the number of bytes
-abbrev bytes_of : ℕ → List (List ℕ) → Result (DebugCommand × List (List ℕ)) PlanKind
+abbrev bytes_of : ℕ → List (List ℕ) → Result (DebugCommand × List (List ℕ)) TextKind
 bytes_of address left = and_then (number 0 4097 left) (λ count left. Ok (command.Memory address count, left))
 
-memory_first : (words : List (List ℕ)) (k : PlanKind) → and_then (memory_said words) ended ≡ Err k
+memory_first : (words : List (List ℕ)) (k : TextKind) → and_then (memory_said words) ended ≡ Err k
     → first_of (operands verb.Memory) words ≡ Some k
 unfolding memory_said
 memory_first words k e =
@@ -104,15 +104,15 @@ memory_first words k e =
     (sym (grouped (field BadNumber address_of words) bytes_of ended) ∙ e)
 
 -- the rest of a slice
-abbrev way_of : Elem → ℕ → List (List ℕ) → Result (DebugCommand × List (List ℕ)) PlanKind
+abbrev way_of : Elem → ℕ → List (List ℕ) → Result (DebugCommand × List (List ℕ)) TextKind
 way_of size tile left =
     and_then (field Unknown direction_of left)
     (λ way left. and_then (number 0 (2 ^ 32) left) (λ slice left. Ok (command.Slice size tile way slice, left)))
 
-abbrev tile_of : Elem → List (List ℕ) → Result (DebugCommand × List (List ℕ)) PlanKind
+abbrev tile_of : Elem → List (List ℕ) → Result (DebugCommand × List (List ℕ)) TextKind
 tile_of size left = and_then (number 0 (2 ^ 32) left) (λ tile left. way_of size tile left)
 
-way_first : (size : Elem) (tile : ℕ) (words : List (List ℕ)) (k : PlanKind) → and_then (way_of size tile words) ended ≡ Err k
+way_first : (size : Elem) (tile : ℕ) (words : List (List ℕ)) (k : TextKind) → and_then (way_of size tile words) ended ≡ Err k
     → first_of (slot.direction ∷ any_number ∷ []) words ≡ Some k
 way_first size tile words k e =
     field_first direction_of slot.direction (any_number ∷ []) words
@@ -121,7 +121,7 @@ way_first size tile words k e =
     (sym (grouped (field Unknown direction_of words)
     (λ way left. and_then (number 0 (2 ^ 32) left) (λ slice left. Ok (command.Slice size tile way slice, left))) ended) ∙ e)
 
-tile_first : (size : Elem) (words : List (List ℕ)) (k : PlanKind) → and_then (tile_of size words) ended ≡ Err k
+tile_first : (size : Elem) (words : List (List ℕ)) (k : TextKind) → and_then (tile_of size words) ended ≡ Err k
     → first_of (any_number ∷ slot.direction ∷ any_number ∷ []) words ≡ Some k
 tile_first size words k e =
     field_first (number_of 0 (2 ^ 32)) any_number (slot.direction ∷ any_number ∷ []) words
@@ -129,7 +129,7 @@ tile_first size words k e =
     (λ tile left h. way_first size tile left k h)
     (sym (grouped (number 0 (2 ^ 32) words) (way_of size) ended) ∙ e)
 
-slice_first : (words : List (List ℕ)) (k : PlanKind) → and_then (slice_said words) ended ≡ Err k
+slice_first : (words : List (List ℕ)) (k : TextKind) → and_then (slice_said words) ended ≡ Err k
     → first_of (operands verb.Slice) words ≡ Some k
 unfolding slice_said
 slice_first words k e =
@@ -138,7 +138,7 @@ slice_first words k e =
     (λ size left h. tile_first size left k h)
     (sym (grouped (field Unknown size_of words) tile_of ended) ∙ e)
 
-operands_first : (v : Verb) (words : List (List ℕ)) (k : PlanKind) → command_for v words ≡ Err k → first_of (operands v) words ≡ Some k
+operands_first : (v : Verb) (words : List (List ℕ)) (k : TextKind) → command_for v words ≡ Err k → first_of (operands v) words ≡ Some k
 unfolding command_of
 operands_first verb.Step words k e = count_first command.Step words k e
 operands_first verb.Back words k e = count_first command.Back words k e
@@ -178,6 +178,6 @@ operands_follow word =
     (bytes_eq word (codes "break")) (bytes_eq word (codes "slice")) (bytes_eq word (codes "mem")) (bytes_eq word (codes "regs"))
     (bytes_eq word (codes "za")) (bytes_eq word (codes "where"))
 
-pub first_fault : (words : List (List ℕ)) (k : PlanKind) → command_in words ≡ Err k → IsFirst (word_fault operands_after words) k
+pub first_fault : (words : List (List ℕ)) (k : TextKind) → command_in words ≡ Err k → IsFirst (word_fault operands_after words) k
 unfolding command_in
 first_fault words k e = word_first verb_of command_for operands operands_after operands_follow operands_first words k e

@@ -1,8 +1,8 @@
 -- The script that is read of a file is the one that it is.
 use Rattle.std.proofs.Common.{◌≡◌, ℕ, List, length, Ok, ◌∙◌}
 use Rattle.line_reader.specs.Lines.{line_text, words_in}
-use Rattle.plan_reader.specs.File.{file_lines, all_said}
-use Rattle.plan_reader.proofs.Files.{IsReadingOf, lines_say, lines_read, within, not_too_long}
+use Rattle.line_reader.specs.File.{file_lines, all_said}
+use Rattle.line_reader.proofs.Files.{IsReadingOf, lines_say, lines_read, within, not_too_long}
 use Rattle.script_reader.specs.Words.{command_in}
 use Rattle.script_reader.specs.Script.{IsLineOf, IsScriptOf, script_in}
 use Rattle.script_reader.specs.declared.command.DebugCommand.{DebugCommand}

@@ -1,11 +1,11 @@
 -- The words of a command, and what they say.
 use Rattle.std.proofs.Common.{◌≡◌, ℕ, ◌^◌, ◌<◌, ◌≤◌, List, [], ◌∷◌, Some, None, Result, Ok, refl, sym, ap, ◌∙◌, arith, subst}
 use Rattle.std.specs.Prelude.{codes, decimal}
-use Rattle.plan_reader.specs.Saying.{and_then, first_word, field, number, ended}
-use Rattle.plan_reader.specs.declared.fault.PlanKind.{PlanKind}
-use Rattle.plan_reader.specs.declared.fault.PlanKind.TheVariants.{Unknown, BadNumber}
-use Rattle.plan_reader.proofs.Readings.{between, chosen, pair_is, first_is, first_read, field_is, field_read}
-use Rattle.plan_reader.proofs.Readings.{fitting, number_first, number_read, ended_is}
+use Rattle.line_reader.specs.Phrases.{and_then, first_word, field, number, ended}
+use Rattle.line_reader.specs.declared.text_fault.TextKind.{TextKind}
+use Rattle.line_reader.specs.declared.text_fault.TextKind.TheVariants.{Unknown, BadNumber}
+use Rattle.line_reader.proofs.Readings.{between, chosen, pair_is, first_is, first_read, field_is, field_read}
+use Rattle.line_reader.proofs.Readings.{fitting, number_first, number_read, ended_is}
 use Rattle.sm_types.specs.declared.vector.Elem.{Elem}
 use Rattle.sm_types.specs.declared.vector.Elem.TheVariants as elem
 use Rattle.script_reader.specs.Words.{verb_of, size_of, direction_of, address_of, slice_said, memory_said, command_of, command_in}
@@ -94,7 +94,7 @@ abbrev behind_word : List ℕ → List (List ℕ) → List (List ℕ)
 behind_word word words = word ∷ words
 
 -- a command with a count
-abbrev with_count : (ℕ → DebugCommand) → ℕ → List (List ℕ) → Result (DebugCommand × List (List ℕ)) PlanKind
+abbrev with_count : (ℕ → DebugCommand) → ℕ → List (List ℕ) → Result (DebugCommand × List (List ℕ)) TextKind
 with_count make count left = Ok (make count, left)
 
 record IsCounted (make : ℕ → DebugCommand) (words : List (List ℕ)) (c : DebugCommand) : Type 0 where
@@ -118,7 +118,7 @@ counted make words c left h none =
 
 -- a command without operands
 alone : (v : Verb) (made c : DebugCommand) (words left : List (List ℕ))
-    → ◌≡◌ {A = Result (DebugCommand × List (List ℕ)) PlanKind} (Ok (made, words)) (Ok (c, left)) → left ≡ []
+    → ◌≡◌ {A = Result (DebugCommand × List (List ℕ)) TextKind} (Ok (made, words)) (Ok (c, left)) → left ≡ []
     → (made ≡ c) × (verb_word v ∷ words ≡ verb_word v ∷ [])
 alone v made c words left h none =
     let said = pair_is made c words left h in (said.0, ap (behind_word (verb_word v)) (said.1 ∙ none))
@@ -228,13 +228,13 @@ count_read make count below =
     ap (λ r. and_then r (with_count make)) (number_read (2 ^ 32) fitting 0 count [] (omega arith) below)
 
 -- the rest of a slice
-abbrev last_of : Elem → ℕ → Direction → List (List ℕ) → Result (DebugCommand × List (List ℕ)) PlanKind
+abbrev last_of : Elem → ℕ → Direction → List (List ℕ) → Result (DebugCommand × List (List ℕ)) TextKind
 last_of size tile way left = and_then (number 0 (2 ^ 32) left) (λ slice left. Ok (command.Slice size tile way slice, left))
 
-abbrev way_of : Elem → ℕ → List (List ℕ) → Result (DebugCommand × List (List ℕ)) PlanKind
+abbrev way_of : Elem → ℕ → List (List ℕ) → Result (DebugCommand × List (List ℕ)) TextKind
 way_of size tile left = and_then (field Unknown direction_of left) (λ way left. last_of size tile way left)
 
-abbrev tile_of : Elem → List (List ℕ) → Result (DebugCommand × List (List ℕ)) PlanKind
+abbrev tile_of : Elem → List (List ℕ) → Result (DebugCommand × List (List ℕ)) TextKind
 tile_of size left = and_then (number 0 (2 ^ 32) left) (λ tile left. way_of size tile left)
 
 slice_read : (size : Elem) (tile : ℕ) (way : Direction) (slice : ℕ) → tile < 2 ^ 32 → slice < 2 ^ 32

@@ -1,9 +1,9 @@
 -- The fault of a file that is no script, told by the places of its lines and of their words.
 use Rattle.std.specs.Prelude.{ℕ, ◌^◌, ◌||◌, Bool, List, [], ◌∷◌, codes, Option, Some, None, if◌then◌else◌}
 use Rattle.std.specs.Str.{bytes_eq}
-use Rattle.plan_reader.specs.File.{Fault}
-use Rattle.plan_reader.specs.Places.{Slot, number_slot, IsFileFault}
-use Rattle.plan_reader.specs.declared.fault.PlanKind.TheVariants.{Unknown, BadNumber}
+use Rattle.line_reader.specs.File.{Fault}
+use Rattle.line_reader.specs.Places.{Slot, number_slot, IsFileFault}
+use Rattle.line_reader.specs.declared.text_fault.TextKind.TheVariants.{Unknown, BadNumber}
 use Rattle.script_reader.specs.Words.{is_address}
 use Rattle.script_reader.specs.Script.{IsLineOf}
 

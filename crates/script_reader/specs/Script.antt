@@ -4,7 +4,7 @@ use Rattle.std.specs.Char.{is_ascii_hexdigit}
 use Rattle.std.specs.List.{list_all}
 use Rattle.std.specs.Str.Parse.{digits_value}
 use Rattle.line_reader.specs.Lines.{line_text, words_in}
-use Rattle.plan_reader.specs.File.{Fault, Say, file_lines, file_in}
+use Rattle.line_reader.specs.File.{Fault, Say, file_lines, file_in}
 use Rattle.sm_types.specs.declared.vector.Elem.{Elem}
 use Rattle.sm_types.specs.declared.vector.Elem.TheVariants as elem
 use Rattle.script_reader.specs.Words.{command_in}

@@ -5,8 +5,8 @@ use Rattle.std.specs.List.{list_all}
 use Rattle.std.specs.Str.{bytes_eq}
 use Rattle.line_reader.specs.Numbers.{is_digit_of, value_in}
 use Rattle.line_reader.specs.declared.numbers.Base.TheVariants.{SixteenAnyCase}
-use Rattle.plan_reader.specs.Saying.{Saying, Start, ◌>>=◌, give, first_word, field, number, ended}
-use Rattle.plan_reader.specs.declared.fault.PlanKind.TheVariants.{Unknown, BadNumber}
+use Rattle.line_reader.specs.Phrases.{Phrase, Start, ◌>>=◌, give, first_word, field, number, ended}
+use Rattle.line_reader.specs.declared.text_fault.TextKind.TheVariants.{Unknown, BadNumber}
 use Rattle.sm_types.specs.declared.vector.Elem.{Elem}
 use Rattle.sm_types.specs.declared.vector.Elem.TheVariants as elem
 use Rattle.script_reader.specs.declared.command.DebugCommand.{DebugCommand}
@@ -101,7 +101,7 @@ command_of verb.Za = give command.Za
 command_of verb.Where = give command.Where
 
 -- the word of a command, and its operands
-unfoldable pub command_in : Saying DebugCommand
+unfoldable pub command_in : Phrase DebugCommand
 command_in = do
   verb ← first_word verb_of
   command ← command_of verb

@@ -1,6 +1,6 @@
 //! The laws of scripts.
 ghost use Rattle.std.specs.Prelude.{◌≡◌, ◌↔◌, ℕ, List, Ok, Err};
-ghost use Rattle.plan_reader.specs.File.{Fault};
+ghost use Rattle.line_reader.specs.File.{Fault};
 ghost use Rattle.script_reader.specs.Faults.{IsFaultOf};
 ghost use Rattle.script_reader.specs.Script.{IsScriptOf, script_in};
 ghost use Rattle.script_reader.specs.declared.command.DebugCommand.{DebugCommand};

@@ -1,16 +1,14 @@
 //! The words of a line of a script.
 ghost use Rattle.std.specs.Prelude.{◌≡◌};
 ghost use Rattle.line_reader.specs.Lines.{words_in};
-ghost use Rattle.line_reader.specs.Told.{words_ahead};
-ghost use Rattle.plan_reader.specs.Saying.{field, first_word};
-ghost use Rattle.plan_reader.specs.Told.{Says};
-ghost use Rattle.plan_reader.specs.declared.fault.PlanKind.TheVariants as kind;
+ghost use Rattle.line_reader.specs.Phrases.{field, first_word};
+ghost use Rattle.line_reader.specs.Told.{Speaks, words_ahead};
+ghost use Rattle.line_reader.specs.declared.text_fault.TextKind.TheVariants as kind;
 ghost use Rattle.script_reader.specs.Words as spec;
 
 use crate::address::address_of;
 use crate::command::{DebugCommand, Direction};
-use line_reader::{Fields, found_in};
-use plan_reader::{PlanKind, end, read_number};
+use line_reader::{Fields, TextKind, end, found_in, read_number};
 use sm_types::Elem;
 
 /// The commands, before their operands.
@@ -86,68 +84,68 @@ fn direction_of(word: &[u8]) -> Option<Direction>
 }
 
 /// Reads the next word, which is that of a command.
-#[tactic(auto, unfolding(plan_reader::specs::Saying::first_word))]
-fn read_verb(words: &mut Fields) -> Result<Verb, PlanKind>
-    ensures { Says (first_word spec.verb_of (words_ahead words.old)) result (words_ahead words.new) }
+#[tactic(auto, unfolding(line_reader::specs::Phrases::first_word))]
+fn read_verb(words: &mut Fields) -> Result<Verb, TextKind>
+    ensures { Speaks (first_word spec.verb_of (words_ahead words.old)) result (words_ahead words.new) }
 {
     let Some(word) = words.next() else {
-        return Err(PlanKind::Unknown);
+        return Err(TextKind::Unknown);
     };
     match verb_of(word) {
         Some(verb) => Ok(verb),
-        None => Err(PlanKind::Unknown),
+        None => Err(TextKind::Unknown),
     }
 }
 
 /// Reads the next word, which is the letter of a size.
-#[tactic(auto, unfolding(plan_reader::specs::Saying::field))]
-fn read_size(words: &mut Fields) -> Result<Elem, PlanKind>
-    ensures { Says (field kind.Unknown spec.size_of (words_ahead words.old)) result
+#[tactic(auto, unfolding(line_reader::specs::Phrases::field))]
+fn read_size(words: &mut Fields) -> Result<Elem, TextKind>
+    ensures { Speaks (field kind.Unknown spec.size_of (words_ahead words.old)) result
         (words_ahead words.new) }
 {
     let Some(word) = words.next() else {
-        return Err(PlanKind::Missing);
+        return Err(TextKind::Missing);
     };
     match size_of(word) {
         Some(size) => Ok(size),
-        None => Err(PlanKind::Unknown),
+        None => Err(TextKind::Unknown),
     }
 }
 
 /// Reads the next word, which is the letter of slices.
-#[tactic(auto, unfolding(plan_reader::specs::Saying::field))]
-fn read_direction(words: &mut Fields) -> Result<Direction, PlanKind>
-    ensures { Says (field kind.Unknown spec.direction_of (words_ahead words.old)) result
+#[tactic(auto, unfolding(line_reader::specs::Phrases::field))]
+fn read_direction(words: &mut Fields) -> Result<Direction, TextKind>
+    ensures { Speaks (field kind.Unknown spec.direction_of (words_ahead words.old)) result
         (words_ahead words.new) }
 {
     let Some(word) = words.next() else {
-        return Err(PlanKind::Missing);
+        return Err(TextKind::Missing);
     };
     match direction_of(word) {
         Some(direction) => Ok(direction),
-        None => Err(PlanKind::Unknown),
+        None => Err(TextKind::Unknown),
     }
 }
 
 /// Reads the next word, which is an address.
-#[tactic(auto, unfolding(plan_reader::specs::Saying::field))]
-fn read_address(words: &mut Fields) -> Result<u64, PlanKind>
-    ensures { Says (field kind.BadNumber spec.address_of (words_ahead words.old)) result
+#[tactic(auto, unfolding(line_reader::specs::Phrases::field))]
+fn read_address(words: &mut Fields) -> Result<u64, TextKind>
+    ensures { Speaks (field kind.BadNumber spec.address_of (words_ahead words.old)) result
         (words_ahead words.new) }
 {
     let Some(word) = words.next() else {
-        return Err(PlanKind::Missing);
+        return Err(TextKind::Missing);
     };
     match address_of(word) {
         Some(address) => Ok(address),
-        None => Err(PlanKind::BadNumber),
+        None => Err(TextKind::BadNumber),
     }
 }
 
 /// Reads the slice of a tile.
 #[tactic(auto, unfolding(crate::specs::Words::slice_said))]
-fn read_slice(words: &mut Fields) -> Result<DebugCommand, PlanKind>
-    ensures { Says (spec.slice_said (words_ahead words.old)) result (words_ahead words.new) }
+fn read_slice(words: &mut Fields) -> Result<DebugCommand, TextKind>
+    ensures { Speaks (spec.slice_said (words_ahead words.old)) result (words_ahead words.new) }
 {
     let elem = read_size(words)?;
     let tile = read_number(0, NUMBERS, words)?;
@@ -163,8 +161,8 @@ fn read_slice(words: &mut Fields) -> Result<DebugCommand, PlanKind>
 
 /// Reads an address and a number of bytes.
 #[tactic(auto, unfolding(crate::specs::Words::memory_said))]
-fn read_memory(words: &mut Fields) -> Result<DebugCommand, PlanKind>
-    ensures { Says (spec.memory_said (words_ahead words.old)) result (words_ahead words.new) }
+fn read_memory(words: &mut Fields) -> Result<DebugCommand, TextKind>
+    ensures { Speaks (spec.memory_said (words_ahead words.old)) result (words_ahead words.new) }
 {
     let address = read_address(words)?;
     let length = read_number(0, MOST_BYTES + 1, words)?;
@@ -173,8 +171,8 @@ fn read_memory(words: &mut Fields) -> Result<DebugCommand, PlanKind>
 
 /// Reads the operands of a command.
 #[tactic(auto, unfolding(crate::specs::Words::command_of))]
-fn read_command(verb: Verb, words: &mut Fields) -> Result<DebugCommand, PlanKind>
-    ensures { Says (spec.command_of verb (words_ahead words.old)) result (words_ahead words.new) }
+fn read_command(verb: Verb, words: &mut Fields) -> Result<DebugCommand, TextKind>
+    ensures { Speaks (spec.command_of verb (words_ahead words.old)) result (words_ahead words.new) }
 {
     match verb {
         Verb::Step => Ok(DebugCommand::Step {
@@ -199,7 +197,7 @@ fn read_command(verb: Verb, words: &mut Fields) -> Result<DebugCommand, PlanKind
 
 /// The command that the words of a text say, or what is wrong with the first of them that does not say it.
 #[tactic(auto, unfolding(crate::specs::Words::command_in))]
-pub fn command_in(text: &[u8]) -> Result<DebugCommand, PlanKind>
+pub fn command_in(text: &[u8]) -> Result<DebugCommand, TextKind>
     ensures { result ≡ spec.command_in (words_in text.now) }
 {
     let mut words = Fields::of_text(text);

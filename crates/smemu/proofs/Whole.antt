@@ -15,7 +15,7 @@ use Rattle.smemu.specs.declared.refusal.Refusal.{Refusal}
 use Rattle.smemu.specs.declared.refusal.Refusal.TheVariants as refusal
 use Rattle.plan_reader.specs.Plan.{plan_in}
 use Rattle.plan_reader.specs.Plan as plan
-use Rattle.plan_reader.specs.declared.fault.PlanKind.TheVariants as plan_kind
+use Rattle.line_reader.specs.declared.text_fault.TextKind.TheVariants as text_kind
 use Rattle.report_reader.specs.Reading.{Fault}
 use Rattle.report_reader.specs.Report.{report_in}
 use Rattle.report_reader.specs.declared.fault.ReportKind.TheVariants as part
@@ -125,13 +125,13 @@ unfolding report_in
 long_report file h = rw (is_long_report file h) refl
 
 -- a plan of more than 64 MiB too
-long_plan : (file : List ℕ) → 67108864 < length file → fault_in (plan_in file) ≡ Some (record { line = 0; kind = plan_kind.TooLong })
+long_plan : (file : List ℕ) → 67108864 < length file → fault_in (plan_in file) ≡ Some (record { line = 0; kind = text_kind.TooLong })
 unfolding plan_in
 long_plan file h = rw (is_long file h) refl
 
 -- and a script
 long_script : (file : List ℕ) → 67108864 < length file
-    → fault_in (script_in file) ≡ Some (record { line = 0; kind = plan_kind.TooLong })
+    → fault_in (script_in file) ≡ Some (record { line = 0; kind = text_kind.TooLong })
 unfolding script_in
 long_script file h = rw (is_long file h) refl
 
@@ -139,8 +139,8 @@ too_long : Kind → Rejection
 too_long ProgramFile = rejection.Program load.TooLong
 too_long SourceFile = rejection.Source asm.TooLong
 too_long ReportFile = rejection.Report 0 part.TooLong
-too_long PlanFile = rejection.Plan 0 plan_kind.TooLong
-too_long ScriptFile = rejection.Plan 0 plan_kind.TooLong
+too_long PlanFile = rejection.Plan 0 text_kind.TooLong
+too_long ScriptFile = rejection.Plan 0 text_kind.TooLong
 
 -- the most bytes that a file of a kind may have
 abbrev pub largest_of : Kind → ℕ

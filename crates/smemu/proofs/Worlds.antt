@@ -12,7 +12,7 @@ use Rattle.paged_memory.specs.Image.{Program}
 use Rattle.kernel_contexts.specs.Standing.{IsRunOf}
 use Rattle.kernel_contexts.specs.declared.context.Context.{Context}
 use Rattle.core_unit.specs.Guest.{guest_of}
-use Rattle.plan_reader.specs.declared.event.WorldEvent.{WorldEvent}
+use Rattle.sm_types.specs.declared.world_event.WorldEvent.{WorldEvent}
 use Rattle.report_text.specs.Ends.{ends_of}
 use Rattle.report_text.specs.Report.{ThreadEnd}
 use Rattle.world_core.specs.Finish.{AreThreadsOf}

@@ -12,7 +12,7 @@ use Rattle.elf_loader.specs.Loading.{Loads}
 use Rattle.kernel_contexts.specs.Standing.{IsRunOf}
 use Rattle.core_unit.specs.Guest.{Guest}
 use Rattle.plan_reader.specs.Plan.{plan_in, event_lines}
-use Rattle.plan_reader.specs.declared.event.WorldEvent.{WorldEvent}
+use Rattle.sm_types.specs.declared.world_event.WorldEvent.{WorldEvent}
 use Rattle.world_core.specs.Happens.{world_after, answers_after}
 use Rattle.world_core.specs.Kept.{IsKept}
 use Rattle.world_core.specs.Serial.{AreSerial}

@@ -19,11 +19,12 @@ use crate::rejection::Rejection;
 use asm_core::{AsmFault, assemble};
 use edge_io::{FileFault, Files};
 use elf_loader::{LoadFault, load};
+use line_reader::TextFault;
 use paged_memory::Image;
-use plan_reader::{PlanFault, WorldEvent, read_plan};
+use plan_reader::read_plan;
 use report_reader::{Report, ReportFault, read_report};
 use script_reader::{DebugCommand, read_script};
-use sm_types::Object;
+use sm_types::{Object, WorldEvent};
 use std::alloc::Global;
 
 /// A file of more bytes than a program file, a source, a plan or a script may have is fetched up to its first
@@ -115,10 +116,10 @@ fn plan_file(alloc: Global, bytes: &[u8]) -> Result<Vec<WorldEvent>, Refusal>
 {
     match read_plan(alloc, bytes) {
         Ok(events) => Ok(events),
-        Err(PlanFault::Line { line, kind }) => {
+        Err(TextFault::Line { line, kind }) => {
             Err(Refusal::Rejected(Rejection::Plan { line, kind }))
         }
-        Err(PlanFault::Memory) => Err(Refusal::Memory),
+        Err(TextFault::Memory) => Err(Refusal::Memory),
     }
 }
 
@@ -129,10 +130,10 @@ fn script_file(alloc: Global, bytes: &[u8]) -> Result<Vec<DebugCommand>, Refusal
 {
     match read_script(alloc, bytes) {
         Ok(commands) => Ok(commands),
-        Err(PlanFault::Line { line, kind }) => {
+        Err(TextFault::Line { line, kind }) => {
             Err(Refusal::Rejected(Rejection::Plan { line, kind }))
         }
-        Err(PlanFault::Memory) => Err(Refusal::Memory),
+        Err(TextFault::Memory) => Err(Refusal::Memory),
     }
 }
 

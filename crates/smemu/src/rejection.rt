@@ -9,7 +9,7 @@ use command_lines::{
 };
 use edge_io::{PutFault, Sink};
 use elf_loader::LoadFault;
-use plan_reader::PlanKind;
+use line_reader::TextKind;
 use report_reader::ReportKind;
 
 /// Why a file is not accepted as what it is to be.
@@ -22,7 +22,7 @@ pub enum Rejection {
     /// It is no report: its first line that is not in the format, and the part to which that should belong.
     Report { line: u64, kind: ReportKind },
     /// It is no plan, or no script: its first line that is not in the format, and what is wrong there.
-    Plan { line: u64, kind: PlanKind },
+    Plan { line: u64, kind: TextKind },
 }
 
 /// The status of a rejection.

@@ -2,7 +2,7 @@
 ghost use Rattle.std.specs.Prelude.{◌≡◌, false, IfOk, List, Ok};
 ghost use Rattle.elf_loader.specs.Loading.{Loads};
 ghost use Rattle.plan_reader.specs.Plan.{plan_in};
-ghost use Rattle.plan_reader.specs.declared.event.WorldEvent.{WorldEvent};
+ghost use Rattle.sm_types.specs.declared.world_event.WorldEvent.{WorldEvent};
 ghost use Rattle.smemu.specs.Views.{simulation_text};
 ghost use Rattle.smemu.specs.Worlds.{IsSimulationOf};
 ghost use Rattle.world_core.specs.Applies.{ApplyAll, HaveHappened, wants_memory};
@@ -11,10 +11,10 @@ ghost use Rattle.world_core.specs.World as plain;
 use crate::answer::{RunReport, Simulation};
 use core_unit::RunWhy;
 use paged_memory::Image;
-use plan_reader::{WorldEvent, event_lines};
+use plan_reader::event_lines;
 use report_text::Head;
 use sha2::{Digest, Sha256};
-use sm_types::{Config, Memory};
+use sm_types::{Config, Memory, WorldEvent};
 use std::alloc::Global;
 use world_core::{Applied, World};
 

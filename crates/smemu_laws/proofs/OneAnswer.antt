@@ -20,7 +20,7 @@ use Rattle.elf_loader.specs.Objects.{IsObjectImage, object_extents, text_extent,
 use Rattle.elf_loader.proofs.Images.{one_memory, one_program}
 use Rattle.plan_reader.specs.Plan.{plan_in, event_lines}
 use Rattle.plan_reader.specs.Plan as plan
-use Rattle.plan_reader.specs.declared.event.WorldEvent.{WorldEvent}
+use Rattle.sm_types.specs.declared.world_event.WorldEvent.{WorldEvent}
 use Rattle.paged_memory.specs.Image.{Extent, IsMemoryOf, Program}
 use Rattle.report_text.specs.Report.{ThreadEnd, report_text}
 use Rattle.report_reader.specs.Block.{Block}

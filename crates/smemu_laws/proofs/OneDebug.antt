@@ -2,7 +2,7 @@
 use Rattle.std.proofs.Common.{◌≡◌, inl, inr, ℕ, ◌++◌, List, [], ◌∷◌, Result, Ok, sym, ◌∙◌, ap, subst, arith}
 use Rattle.std.proofs.Common.{append_assoc}
 use Rattle.lone_runner.proofs.Partings.{compared}
-use Rattle.plan_reader.specs.File.{Fault}
+use Rattle.line_reader.specs.File.{Fault}
 use Rattle.script_reader.specs.Script.{script_in}
 use Rattle.script_reader.specs.declared.command.DebugCommand.{DebugCommand}
 use Rattle.script_reader.specs.declared.command.DebugCommand.TheVariants.{Step, Back, Goto, Break}

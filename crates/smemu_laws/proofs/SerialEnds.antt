@@ -6,7 +6,7 @@ use Rattle.sm_types.specs.declared.config.Config.{Config}
 use Rattle.sm_types.specs.declared.shared_words.Words.{Words}
 use Rattle.paged_memory.specs.Image.{Program}
 use Rattle.core_unit.specs.Guest.{Guest}
-use Rattle.plan_reader.specs.declared.event.WorldEvent.{WorldEvent}
+use Rattle.sm_types.specs.declared.world_event.WorldEvent.{WorldEvent}
 use Rattle.report_text.specs.Report.{ThreadEnd}
 use Rattle.world_core.specs.Happens.{happens}
 use Rattle.world_core.specs.Serial.{LeadSerially, phase_after, serial_event}

@@ -17,8 +17,8 @@ use Rattle.sm_types.specs.declared.config.Config.{Config}
 use Rattle.world_core.specs.Parts.{HasRoom, guests_in}
 use Rattle.world_core.specs.Serve.{Service, Going, GaveWay, HasStopped, serve, begins}
 use Rattle.world_core.specs.World.{World, threads_of, residents_of, total, times, once_below, IsOwned}
-use Rattle.plan_reader.specs.declared.event.WorldEvent.{WorldEvent}
-use Rattle.plan_reader.specs.declared.event.WorldEvent.TheVariants as event
+use Rattle.sm_types.specs.declared.world_event.WorldEvent.{WorldEvent}
+use Rattle.sm_types.specs.declared.world_event.WorldEvent.TheVariants as event
 use Rattle.world_core.specs.declared.event.Applied.{Applied}
 use Rattle.world_core.specs.declared.event.Applied.TheVariants as applied
 

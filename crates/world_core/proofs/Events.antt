@@ -6,7 +6,7 @@ use Rattle.world_core.specs.Applies.{Applies, RunsBy, Comes, LetsMore, spends, w
 use Rattle.world_core.specs.Events.{cut_to}
 use Rattle.world_core.specs.Happens.{Happened, happens, world_after, answers_after}
 use Rattle.world_core.specs.World.{World}
-use Rattle.plan_reader.specs.declared.event.WorldEvent.{WorldEvent}
+use Rattle.sm_types.specs.declared.world_event.WorldEvent.{WorldEvent}
 use Rattle.world_core.specs.declared.event.Applied.{Applied}
 use Rattle.world_core.specs.declared.event.Applied.TheVariants as applied
 

@@ -10,8 +10,8 @@ use Rattle.world_core.specs.Applies.{Applies, AppliesHere, RunsBy, spends}
 use Rattle.world_core.specs.Events.{core_number, cut_to}
 use Rattle.world_core.specs.Happens.{Scene, happens, happens_on, on_core, scene_of, with_scene, comes_to}
 use Rattle.world_core.specs.World.{World}
-use Rattle.plan_reader.specs.declared.event.WorldEvent.{WorldEvent}
-use Rattle.plan_reader.specs.declared.event.WorldEvent.TheVariants as event
+use Rattle.sm_types.specs.declared.world_event.WorldEvent.{WorldEvent}
+use Rattle.sm_types.specs.declared.world_event.WorldEvent.TheVariants as event
 use Rattle.world_core.specs.declared.event.Applied.{Applied}
 use Rattle.world_core.specs.declared.event.Applied.TheVariants as applied
 use Rattle.world_core.specs.declared.event.Why.TheVariants.{NoCore}

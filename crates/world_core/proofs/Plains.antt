@@ -18,8 +18,8 @@ use Rattle.world_core.specs.Applies.{AppliesHere, IsOutcome, spends}
 use Rattle.world_core.specs.Happens.{Scene, Outcome, on_core, run_of, after_service, moved, ran}
 use Rattle.world_core.specs.Parts.{guests_in, scene_with}
 use Rattle.world_core.specs.Serve.{Progress, Service, Going, GaveWay, HasStopped, serve, begins}
-use Rattle.plan_reader.specs.declared.event.WorldEvent.{WorldEvent}
-use Rattle.plan_reader.specs.declared.event.WorldEvent.TheVariants as event
+use Rattle.sm_types.specs.declared.world_event.WorldEvent.{WorldEvent}
+use Rattle.sm_types.specs.declared.world_event.WorldEvent.TheVariants as event
 use Rattle.world_core.specs.declared.event.Applied.{Applied}
 use Rattle.world_core.specs.declared.event.Applied.TheVariants as applied
 use Rattle.world_core.specs.declared.event.Why.TheVariants.{NoResident}

@@ -17,8 +17,8 @@ use Rattle.world_core.specs.Rounds.{IsRound, RoundsLead, events_of_rounds, AreRo
 use Rattle.world_core.specs.Serial.{residents_at, event_in, serial_event, phase_by, phase_after, LeadSerially, AreSerial}
 use Rattle.world_core.specs.Serve.{Service, Going, GaveWay, HasStopped, serve, begins}
 use Rattle.world_core.specs.World.{World, start_world, threads_of}
-use Rattle.plan_reader.specs.declared.event.WorldEvent.{WorldEvent}
-use Rattle.plan_reader.specs.declared.event.WorldEvent.TheVariants.{Run, Next, Fetch, Offer}
+use Rattle.sm_types.specs.declared.world_event.WorldEvent.{WorldEvent}
+use Rattle.sm_types.specs.declared.world_event.WorldEvent.TheVariants.{Run, Next, Fetch, Offer}
 use Rattle.world_core.specs.declared.event.Applied.{Applied}
 use Rattle.world_core.specs.declared.event.Applied.TheVariants as applied
 use Rattle.world_core.specs.declared.event.Why.TheVariants.{CoreFull}

@@ -9,7 +9,7 @@ use Rattle.core_unit.specs.Guest.{Guest, Held}
 use Rattle.world_core.specs.Applies.{AppliesHere}
 use Rattle.world_core.specs.Happens.{Scene, on_core, next_of, fetched, refused, becomes, offer_of}
 use Rattle.world_core.specs.Parts.{guests_in, scene_with}
-use Rattle.plan_reader.specs.declared.event.WorldEvent.TheVariants as event
+use Rattle.sm_types.specs.declared.world_event.WorldEvent.TheVariants as event
 use Rattle.world_core.specs.declared.event.Applied.TheVariants as applied
 use Rattle.world_core.specs.declared.event.Why.TheVariants.{NoResident, OneResident, CoreFull, QueueEmpty}
 

@@ -23,8 +23,8 @@ use Rattle.world_core.specs.Kept.{Goes as HasGone}
 use Rattle.world_core.specs.Serial.{residents_at, filling, event_in, serial_event, phase_after, LeadSerially}
 use Rattle.world_core.specs.Serve.{Progress, Service, Going, GaveWay, HasStopped, after_turn, served, serve, begins}
 use Rattle.world_core.specs.World.{World, threads_of, residents_of, total}
-use Rattle.plan_reader.specs.declared.event.WorldEvent.{WorldEvent}
-use Rattle.plan_reader.specs.declared.event.WorldEvent.TheVariants.{Run, Next, Fetch, Offer}
+use Rattle.sm_types.specs.declared.world_event.WorldEvent.{WorldEvent}
+use Rattle.sm_types.specs.declared.world_event.WorldEvent.TheVariants.{Run, Next, Fetch, Offer}
 use Rattle.world_core.specs.declared.event.Why.TheVariants.{CoreFull}
 use Rattle.world_core.specs.declared.serial.Phase.{Phase}
 use Rattle.world_core.specs.declared.serial.Phase.TheVariants.{Fills, GivesWay}

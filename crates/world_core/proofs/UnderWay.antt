@@ -12,7 +12,7 @@ use Rattle.world_core.specs.Happens.{Happened, happens, world_after}
 use Rattle.world_core.specs.Kept.{IsKept}
 use Rattle.world_core.specs.Serial.{serial_event, phase_after, LeadSerially, IsSerialRun}
 use Rattle.world_core.specs.World.{World, residents_of, start_world}
-use Rattle.plan_reader.specs.declared.event.WorldEvent.{WorldEvent}
+use Rattle.sm_types.specs.declared.world_event.WorldEvent.{WorldEvent}
 use Rattle.world_core.specs.declared.event.Applied.{Applied}
 use Rattle.world_core.specs.declared.serial.Phase.{Phase}
 use Rattle.world_core.specs.declared.serial.Phase.TheVariants.{Fills}

@@ -22,8 +22,8 @@ use Rattle.world_core.specs.Kept.{Stands, Goes, IsKept}
 use Rattle.world_core.specs.Kept.{HasStopped as HasEnded}
 use Rattle.world_core.specs.Serve.{Progress, Service, Going, GaveWay, HasStopped, serve, begins}
 use Rattle.world_core.specs.World.{World, threads_of, residents_of, start_world, starting, total, times, once_below, IsOwned}
-use Rattle.plan_reader.specs.declared.event.WorldEvent.{WorldEvent}
-use Rattle.plan_reader.specs.declared.event.WorldEvent.TheVariants as event
+use Rattle.sm_types.specs.declared.world_event.WorldEvent.{WorldEvent}
+use Rattle.sm_types.specs.declared.world_event.WorldEvent.TheVariants as event
 use Rattle.world_core.specs.declared.event.Why.{Why}
 use Rattle.world_core.specs.declared.event.Why.TheVariants.{CoreFull}
 use Rattle.std.proofs.lemmas.List.FromFn.{length-map-range_with_len}

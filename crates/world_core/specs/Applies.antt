@@ -5,8 +5,8 @@ use Rattle.core_unit.specs.declared.run.RunWhy.TheVariants as why
 use Rattle.world_core.specs.Events.{cut_to}
 use Rattle.world_core.specs.World.{World}
 use Rattle.world_core.specs.Happens.{Scene, on_core, happens, world_after, answers_after}
-use Rattle.plan_reader.specs.declared.event.WorldEvent.{WorldEvent}
-use Rattle.plan_reader.specs.declared.event.WorldEvent.TheVariants.{Run, Next, Fetch, Offer}
+use Rattle.sm_types.specs.declared.world_event.WorldEvent.{WorldEvent}
+use Rattle.sm_types.specs.declared.world_event.WorldEvent.TheVariants.{Run, Next, Fetch, Offer}
 use Rattle.world_core.specs.declared.event.Applied.{Applied}
 use Rattle.world_core.specs.declared.event.Applied.TheVariants as applied
 

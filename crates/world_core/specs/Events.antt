@@ -1,7 +1,7 @@
 -- The events of a world.
 use Rattle.std.specs.Prelude.{ℕ}
-use Rattle.plan_reader.specs.declared.event.WorldEvent.{WorldEvent}
-use Rattle.plan_reader.specs.declared.event.WorldEvent.TheVariants.{Run, Next, Fetch, Offer}
+use Rattle.sm_types.specs.declared.world_event.WorldEvent.{WorldEvent}
+use Rattle.sm_types.specs.declared.world_event.WorldEvent.TheVariants.{Run, Next, Fetch, Offer}
 
 -- the number of the core on which an event is
 abbrev pub core_number : WorldEvent → ℕ

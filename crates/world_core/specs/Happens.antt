@@ -10,8 +10,8 @@ use Rattle.core_unit.specs.declared.run.RunWhy.TheVariants.{Spent, Yielded, Stop
 use Rattle.world_core.specs.Events.{core_number}
 use Rattle.world_core.specs.Serve.{Progress, Service, Going, GaveWay, HasStopped, serve, begins}
 use Rattle.world_core.specs.World.{World}
-use Rattle.plan_reader.specs.declared.event.WorldEvent.{WorldEvent}
-use Rattle.plan_reader.specs.declared.event.WorldEvent.TheVariants as event
+use Rattle.sm_types.specs.declared.world_event.WorldEvent.{WorldEvent}
+use Rattle.sm_types.specs.declared.world_event.WorldEvent.TheVariants as event
 use Rattle.world_core.specs.declared.event.Applied.{Applied}
 use Rattle.world_core.specs.declared.event.Applied.TheVariants as applied
 use Rattle.world_core.specs.declared.event.Why.{Why}

@@ -3,7 +3,7 @@ ghost use Rattle.std.specs.Prelude.{◌≡◌};
 ghost use Rattle.world_core.specs.Events.{core_number};
 
 use core_unit::CoreRun;
-use plan_reader::WorldEvent;
+use sm_types::WorldEvent;
 
 /// Why an event is not enabled: the first of those that bear on it.
 #[derive(Clone, Copy, Debug, PartialEq, Eq)]

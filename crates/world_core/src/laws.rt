@@ -7,7 +7,7 @@ ghost use Rattle.world_core.specs.Kept.{IsKept};
 ghost use Rattle.world_core.specs.Rounds.{AreRounds};
 ghost use Rattle.world_core.specs.Serial.{AreSerial};
 ghost use Rattle.world_core.specs.World.{World, start_world, threads_of};
-ghost use Rattle.plan_reader.specs.declared.event.WorldEvent.{WorldEvent};
+ghost use Rattle.sm_types.specs.declared.world_event.WorldEvent.{WorldEvent};
 
 /// In each world that events lead to from the start, whatever they are, each thread is exactly once in the
 /// queue, in one core's residents or among those that are done; the history is legal, each thread's journal

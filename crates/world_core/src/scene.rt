@@ -7,7 +7,7 @@ ghost use Rattle.core_unit.specs.Guest.{Guest};
 ghost use Rattle.core_unit.specs.View.{core_state};
 ghost use Rattle.world_core.specs.Applies.{AppliesHere};
 ghost use Rattle.world_core.specs.Parts.{HaveOptions, guests_of, scene_in};
-ghost use Rattle.plan_reader.specs.declared.event.WorldEvent.TheVariants as event;
+ghost use Rattle.sm_types.specs.declared.world_event.WorldEvent.TheVariants as event;
 
 use crate::event::{Applied, Why};
 use core_unit::{Core, PLACES};

@@ -3,7 +3,7 @@ ghost use Rattle.std.specs.Prelude.{◌≡◌, length};
 ghost use Rattle.world_core.specs.Serial.{filling, event_in, phase_by};
 
 use core_unit::{PLACES, RunWhy};
-use plan_reader::WorldEvent;
+use sm_types::WorldEvent;
 
 /// What the core is about to do.
 #[derive(Clone, Copy, Debug, PartialEq, Eq)]

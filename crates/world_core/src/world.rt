@@ -13,9 +13,8 @@ use crate::start::{start_cores, start_threads};
 use core_unit::{Core, RunWhy};
 use kernel_contexts::{Finished, Whole};
 use paged_memory::Image;
-use plan_reader::WorldEvent;
 use shared_region::PlainPort;
-use sm_types::{Config, Entry, Memory};
+use sm_types::{Config, Entry, Memory, WorldEvent};
 use std::alloc::Global;
 
 /// The world of the guest threads and the cores, over plain words. Each thread is exactly once in the

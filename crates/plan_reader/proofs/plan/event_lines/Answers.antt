@@ -1,9 +1,9 @@
 use Rattle.std.proofs.Common.{◌≡◌, ◌++◌, length, List, map, sym, ap, ◌∙◌, arith}
 use Rattle.std.proofs.lemmas.Bool.Decides.{nat_tests}
 use Rattle.std.proofs.lemmas.List.{append-nil}
-use Rattle.plan_reader.specs.File.{NumberedLine, file_lines, some_lines}
+use Rattle.line_reader.specs.File.{NumberedLine, file_lines, some_lines}
 use Rattle.plan_reader.specs.Plan.{event_lines}
-use Rattle.plan_reader.proofs.Lines.{some-end}
+use Rattle.line_reader.proofs.FileLines.{some-end}
 use Rattle.plan_reader.proofs.plan.event_lines.Goals as goal
 
 pub returns-then-is_empty : goal.returns-then-is_empty

@@ -1,6 +1,6 @@
 use Rattle.std.proofs.Common.{◌≡◌, ◌+◌, ◌≤◌, ◌++◌, length, map}
 use Rattle.line_reader.specs.Lines.{lines_of}
-use Rattle.plan_reader.specs.File.{NumberedLine, some_lines}
+use Rattle.line_reader.specs.File.{NumberedLine, some_lines}
 use Rattle.plan_reader.proofs.plan.event_lines.Given as goal
 
 abbrev pub invariant-lines : goal.invariant-lines

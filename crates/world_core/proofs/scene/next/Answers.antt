@@ -4,7 +4,7 @@ use Rattle.core_unit.specs.CoreState.{CoreState}
 use Rattle.core_unit.specs.View.{core_state}
 use Rattle.world_core.specs.Applies.{AppliesHere}
 use Rattle.world_core.specs.Parts.{scene_with}
-use Rattle.plan_reader.specs.declared.event.WorldEvent.TheVariants as event
+use Rattle.sm_types.specs.declared.world_event.WorldEvent.TheVariants as event
 use Rattle.world_core.specs.declared.event.Applied.TheVariants as applied
 use Rattle.world_core.specs.declared.event.Why.TheVariants.{NoResident, OneResident}
 use Rattle.world_core.proofs.Scenes.{next_so, next_none, next_one}

@@ -9,7 +9,7 @@ use Rattle.core_unit.specs.View.{core_state, held_in}
 use Rattle.core_unit.proofs.Cores.{each_snoc}
 use Rattle.world_core.specs.Applies.{AppliesHere}
 use Rattle.world_core.specs.Parts.{guests_of, scene_with}
-use Rattle.plan_reader.specs.declared.event.WorldEvent.TheVariants as event
+use Rattle.sm_types.specs.declared.world_event.WorldEvent.TheVariants as event
 use Rattle.world_core.specs.declared.event.Applied.TheVariants as applied
 use Rattle.world_core.specs.declared.event.Why.TheVariants.{NoResident}
 use Rattle.world_core.proofs.Scenes.{offer_none, offer_so}

@@ -4,7 +4,7 @@ use Rattle.shared_region.specs.History.{entries_of}
 use Rattle.core_unit.specs.Guest.{guest_of}
 use Rattle.core_unit.specs.View.{core_state, held_in}
 use Rattle.world_core.specs.Parts.{guests_of, scene_with}
-use Rattle.plan_reader.specs.declared.event.WorldEvent.TheVariants as event
+use Rattle.sm_types.specs.declared.world_event.WorldEvent.TheVariants as event
 use Rattle.world_core.specs.declared.event.Applied.TheVariants as applied
 use Rattle.shared_region.specs.Ports.{PlainEvents}
 use Rattle.core_unit.specs.CoreState.{CoreState}

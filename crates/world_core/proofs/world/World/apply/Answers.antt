@@ -8,7 +8,7 @@ use Rattle.core_unit.specs.View.{core_state}
 use Rattle.kernel_contexts.specs.Context.{thread_of}
 use Rattle.world_core.specs.Parts.{IsCoreOf, guests_of, core_guests}
 use Rattle.world_core.specs.View.{world_of}
-use Rattle.plan_reader.specs.declared.event.WorldEvent.TheVariants as event
+use Rattle.sm_types.specs.declared.world_event.WorldEvent.TheVariants as event
 use Rattle.world_core.proofs.Bags.{owned_after, room_after, room_more, absent_there, absent_in}
 use Rattle.world_core.proofs.Lifting.{no_core, found_core, world_applies, each_set}
 use Rattle.world_core.proofs.Lists.{length-map, front_of}

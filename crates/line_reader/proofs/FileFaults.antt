@@ -3,30 +3,30 @@ use Rattle.std.proofs.Common.{◌≡◌, ℕ, inl, inr, true, false, cond, nat_l
 use Rattle.std.proofs.Common.{refl, sym, ap, ◌∙◌, arith, lt-ltb}
 use Rattle.std.proofs.lemmas.Bool.Decides.{nat_tests}
 use Rattle.line_reader.specs.Lines.{line_text, words_in, is_text}
-use Rattle.plan_reader.specs.Saying.{Saying}
-use Rattle.plan_reader.specs.File.{Fault, NumberedLine, Say, file_lines, line_fault, or_fault, line_said, onto_others, all_said, file_in}
-use Rattle.plan_reader.specs.Places.{Slot, IsFirst, word_fault, IsWrongWith, IsLineFault, IsFileFault}
-use Rattle.plan_reader.specs.declared.fault.PlanKind.{PlanKind}
-use Rattle.plan_reader.specs.declared.fault.PlanKind.TheVariants.{TooLong, NotText}
-use Rattle.plan_reader.proofs.Slots.{one_first}
-use Rattle.plan_reader.proofs.Files.{IsReadingOf, line_says, line_read, not_too_long}
+use Rattle.line_reader.specs.Phrases.{Phrase}
+use Rattle.line_reader.specs.File.{Fault, NumberedLine, Say, file_lines, line_fault, or_fault, line_said, onto_others, all_said, file_in}
+use Rattle.line_reader.specs.Places.{Slot, IsFirst, word_fault, IsWrongWith, IsLineFault, IsFileFault}
+use Rattle.line_reader.specs.declared.text_fault.TextKind.{TextKind}
+use Rattle.line_reader.specs.declared.text_fault.TextKind.TheVariants.{TooLong, NotText}
+use Rattle.line_reader.proofs.Slots.{one_first}
+use Rattle.line_reader.proofs.Files.{IsReadingOf, line_says, line_read, not_too_long}
 
 same_fault : {A : Type 0} (f g : Fault) → ◌≡◌ {A = Result A Fault} (Err f) (Err g) → f ≡ g
 same_fault f g e = cc
 
 -- a fault by its line and its kind
-fault_by : (line : ℕ) (k : PlanKind) (f : Fault) → line ≡ f.line → k ≡ f.kind → ◌≡◌ {A = Fault} (record { line = line; kind = k }) f
+fault_by : (line : ℕ) (k : TextKind) (f : Fault) → line ≡ f.line → k ≡ f.kind → ◌≡◌ {A = Fault} (record { line = line; kind = k }) f
 fault_by line k f number wrong =
     ap (λ n. let g : Fault = record { line = n; kind = k } in g) number
     ∙ ap (λ j. let g : Fault = record { line = f.line; kind = j } in g) wrong
 
 -- a reading of lines, and the first word at fault of a line
-module _ {A : Type 0} (says : Saying A) (IsLine : List ℕ → A → Type 0) (reading : IsReadingOf says IsLine)
+module _ {A : Type 0} (says : Phrase A) (IsLine : List ℕ → A → Type 0) (reading : IsReadingOf says IsLine)
     (after : List ℕ → Option (List Slot))
-    (faults : (words : List (List ℕ)) (k : PlanKind) → says words ≡ Err k → IsFirst (word_fault after words) k) where
+    (faults : (words : List (List ℕ)) (k : TextKind) → says words ≡ Err k → IsFirst (word_fault after words) k) where
   -- ---- a line
 
-  wrong_kind : (line : List ℕ) (k : PlanKind) → IsFirst (word_fault after (words_in (line_text line))) k
+  wrong_kind : (line : List ℕ) (k : TextKind) → IsFirst (word_fault after (words_in (line_text line))) k
       → IsWrongWith after line (cond (is_text line) k NotText)
   wrong_kind line k first =
       elim (is_text line) as (λ b. is_text line ≡ b → IsWrongWith after line (cond b k NotText)) [
@@ -35,7 +35,7 @@ module _ {A : Type 0} (says : Saying A) (IsLine : List ℕ → A → Type 0) (re
       ] refl
 
   -- what is wrong with it is one kind
-  kind_is : (line : List ℕ) (j k : PlanKind) → IsFirst (word_fault after (words_in (line_text line))) j → IsWrongWith after line k
+  kind_is : (line : List ℕ) (j k : TextKind) → IsFirst (word_fault after (words_in (line_text line))) j → IsWrongWith after line k
       → cond (is_text line) j NotText ≡ k
   kind_is line j k first wrong =
       elim (is_text line) as (λ b. is_text line ≡ b → cond b j NotText ≡ k) [
@@ -45,7 +45,7 @@ module _ {A : Type 0} (says : Saying A) (IsLine : List ℕ → A → Type 0) (re
 
   -- what the words of a line at fault say
   silent_words : (at : NumberedLine) → ((a : A) → IsLine at.line a → ⊥)
-      → (said : Result A PlanKind) → says (words_in (line_text at.line)) ≡ said → (f : Fault) → f.line ≡ at.number
+      → (said : Result A TextKind) → says (words_in (line_text at.line)) ≡ said → (f : Fault) → f.line ≡ at.number
       → IsWrongWith after at.line f.kind → or_fault at said ≡ Err f
   unfolding line_said
   silent_words at silent (Ok a) is f number wrong = absurd (silent a (line_says says IsLine reading at a (ap (or_fault at) is)))
@@ -62,7 +62,7 @@ module _ {A : Type 0} (says : Saying A) (IsLine : List ℕ → A → Type 0) (re
   says_nothing : (at : NumberedLine) (f : Fault) (a : A) → line_said says at ≡ Err f → IsLine at.line a → ⊥
   says_nothing at f a e is = let said = line_read says IsLine reading at a is in cc
 
-  wrong_words : (at : NumberedLine) (said : Result A PlanKind) (f : Fault) → says (words_in (line_text at.line)) ≡ said
+  wrong_words : (at : NumberedLine) (said : Result A TextKind) (f : Fault) → says (words_in (line_text at.line)) ≡ said
       → or_fault at said ≡ Err f → (f.line ≡ at.number) × IsWrongWith after at.line f.kind
   wrong_words at (Ok a) f is e = cc
   wrong_words at (Err j) f is e =

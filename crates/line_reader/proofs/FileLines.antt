@@ -4,9 +4,9 @@ use Rattle.std.proofs.lemmas.List.{append-nil}
 use Rattle.line_reader.specs.Lines.{lines_of, with_first}
 use Rattle.line_reader.specs.Reading.{Left, next_line, first_of, past_first, past_line}
 use Rattle.line_reader.proofs.Cuts.{no_lines}
-use Rattle.plan_reader.specs.File.{Fault, has_text, some_lines, line_said, onto_others, all_said}
-use Rattle.plan_reader.specs.Saying.{Saying}
-use Rattle.plan_reader.specs.Told.{next_of}
+use Rattle.line_reader.specs.File.{Fault, has_text, some_lines, line_said, onto_others, all_said}
+use Rattle.line_reader.specs.Phrases.{Phrase}
+use Rattle.line_reader.specs.Told.{next_of}
 
 -- ---- the lines that are not empty
 
@@ -75,7 +75,7 @@ behind-fault before said fault others e = ap (λ r. behind before (onto_others r
 
 -- ---- reading a line, and passing it
 
-module _ {A : Type 0} (says : Saying A) (before : List A) (left after : Left) (past : after ≡ past_line left)
+module _ {A : Type 0} (says : Phrase A) (before : List A) (left after : Left) (past : after ≡ past_line left)
     (some : length (next_line left) ≢ 0) where
   pub value-read : (a : A) → has_text (next_line left) ≡ true → line_said says (next_of left) ≡ Ok a
       → behind (before ++ a ∷ []) (all_said says (some_lines after.line after.lines))
@@ -93,7 +93,7 @@ module _ {A : Type 0} (says : Saying A) (before : List A) (left after : Left) (p
       ap (λ (l : Left). behind before (all_said says (some_lines l.line l.lines))) past
       ∙ ap (λ ls. behind before (all_said says ls)) (sym (some-empty left some none))
 
-pub fault-read : {A : Type 0} (says : Saying A) (before : List A) (left : Left) (fault : Fault) → length (next_line left) ≢ 0
+pub fault-read : {A : Type 0} (says : Phrase A) (before : List A) (left : Left) (fault : Fault) → length (next_line left) ≢ 0
     → has_text (next_line left) ≡ true → line_said says (next_of left) ≡ Err fault
     → behind before (all_said says (some_lines left.line left.lines)) ≡ Err fault
 unfolding all_said
@@ -101,7 +101,7 @@ fault-read says before left fault some text is =
     ap (λ ls. behind before (all_said says ls)) (some-more left some text)
     ∙ behind-fault before (line_said says (next_of left)) fault (all_said says (some_lines (past_line left).line (past_line left).lines)) is
 
-pub all-read : {A : Type 0} (says : Saying A) (before : List A) (number : ℕ) (line rest : List ℕ) → length line ≡ 0 → length rest ≡ 0
+pub all-read : {A : Type 0} (says : Phrase A) (before : List A) (number : ℕ) (line rest : List ℕ) → length line ≡ 0 → length rest ≡ 0
     → behind before (all_said says (some_lines number (with_first line (lines_of rest)))) ≡ Ok before
 unfolding all_said
 all-read says before number line rest e none =

@@ -3,16 +3,16 @@ use Rattle.std.proofs.Common.{◌≡◌, ℕ, suc, ◌≤◌, true, false, cond,
 use Rattle.std.proofs.lemmas.Bool.{le-ltb}
 use Rattle.std.proofs.lemmas.Bool.Decides.{nat_tests}
 use Rattle.line_reader.specs.Lines.{line_text, words_in}
-use Rattle.plan_reader.specs.Saying.{Saying}
-use Rattle.plan_reader.specs.File.{Fault, NumberedLine, Say, or_fault, line_said, onto_others, all_said}
-use Rattle.plan_reader.specs.declared.fault.PlanKind.{PlanKind}
+use Rattle.line_reader.specs.Phrases.{Phrase}
+use Rattle.line_reader.specs.File.{Fault, NumberedLine, Say, or_fault, line_said, onto_others, all_said}
+use Rattle.line_reader.specs.declared.text_fault.TextKind.{TextKind}
 
 -- the words of a line are read as exactly what the line says
-pub record IsReadingOf {A : Type 0} (says : Saying A) (IsLine : List ℕ → A → Type 0) : Type 0 where
+pub record IsReadingOf {A : Type 0} (says : Phrase A) (IsLine : List ℕ → A → Type 0) : Type 0 where
   pub right : (line : List ℕ) (a : A) → says (words_in (line_text line)) ≡ Ok a → IsLine line a
   pub full : (line : List ℕ) (a : A) → IsLine line a → says (words_in (line_text line)) ≡ Ok a
 
-no_fault : {A : Type 0} (it : NumberedLine) (said : Result A PlanKind) (a : A) → or_fault it said ≡ Ok a → said ≡ Ok a
+no_fault : {A : Type 0} (it : NumberedLine) (said : Result A TextKind) (a : A) → or_fault it said ≡ Ok a → said ≡ Ok a
 no_fault it (Ok b) a h = cc
 no_fault it (Err kind) a h = cc
 
@@ -41,7 +41,7 @@ say_length IsLine [] (a ∷ values) h = absurd h
 say_length IsLine (it ∷ lines) [] h = absurd h
 say_length IsLine (it ∷ lines) (a ∷ values) h = ap suc (say_length IsLine lines values h.1)
 
-module _ {A : Type 0} (says : Saying A) (IsLine : List ℕ → A → Type 0) (reading : IsReadingOf says IsLine) where
+module _ {A : Type 0} (says : Phrase A) (IsLine : List ℕ → A → Type 0) (reading : IsReadingOf says IsLine) where
   pub line_says : (it : NumberedLine) (a : A) → line_said says it ≡ Ok a → IsLine it.line a
   unfolding line_said
   line_says it a h = reading.right it.line a (no_fault it (says (words_in (line_text it.line))) a h)

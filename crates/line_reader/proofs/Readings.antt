@@ -1,5 +1,5 @@
 -- What words that were read one after another say.
-use Rattle.std.proofs.Common.{◌≡◌, ℕ, suc, ◌+◌, ◌^◌, ◌<◌, ◌≤◌, true, false, cond, nat_lt, List, [], ◌∷◌, Option, Some, None, Result, Ok, Err}
+use Rattle.std.proofs.Common.{◌≡◌, ℕ, ◌^◌, ◌<◌, ◌≤◌, true, false, cond, nat_lt, List, [], ◌∷◌, Option, Some, None, Result, Ok, Err}
 use Rattle.std.proofs.Common.{refl, sym, ap, ◌∙◌, arith, lt-ltb}
 use Rattle.std.specs.Prelude.{decimal, nat_le, option_and_then}
 use Rattle.std.specs.Str.{bytes_eq}
@@ -8,20 +8,20 @@ use Rattle.std.proofs.lemmas.Bool.Decides.{nat_tests}
 use Rattle.std.proofs.lemmas.Slice.Eq.{bytes_eq-Decides}
 use Rattle.line_reader.specs.Numbers.{decimal_number, number_below, if_below}
 use Rattle.line_reader.proofs.Digits.{decimal_read, decimal_printed}
-use Rattle.plan_reader.specs.Saying.{Saying, and_then, said_or, first_word, field, number_of, number, ended}
-use Rattle.plan_reader.specs.declared.fault.PlanKind.{PlanKind}
-use Rattle.plan_reader.specs.declared.fault.PlanKind.TheVariants.{Unknown, BadNumber}
+use Rattle.line_reader.specs.Phrases.{Phrase, and_then, said_or, first_word, field, number_of, number, ended}
+use Rattle.line_reader.specs.declared.text_fault.TextKind.{TextKind}
+use Rattle.line_reader.specs.declared.text_fault.TextKind.TheVariants.{Unknown, BadNumber}
 
 -- ---- two readings, one after the other
 
 -- what the first one said, and the words that were left
-pub record Between {A B : Type 0} (first : Result (A × List (List ℕ)) PlanKind) (next : A → Saying B) (b : B) : Type 0 where
+pub record Between {A B : Type 0} (first : Result (A × List (List ℕ)) TextKind) (next : A → Phrase B) (b : B) : Type 0 where
   pub value : A
   pub words : List (List ℕ)
   pub before : first ≡ Ok (value, words)
   pub behind : next value words ≡ Ok b
 
-pub between : {A B : Type 0} (first : Result (A × List (List ℕ)) PlanKind) (next : A → Saying B) (b : B) → and_then first next ≡ Ok b
+pub between : {A B : Type 0} (first : Result (A × List (List ℕ)) TextKind) (next : A → Phrase B) (b : B) → and_then first next ≡ Ok b
     → Between first next b
 between (Err kind) next b e = cc
 between (Ok said) next b e = record { value = said.0; words = said.1; before = refl; behind = e }
@@ -40,13 +40,13 @@ chosen {V} word_for word name first v others is more e =
 
 -- what two that were said are
 pub pair_is : {A : Type 0} (a b : A) (xs ys : List (List ℕ))
-    → ◌≡◌ {A = Result (A × List (List ℕ)) PlanKind} (Ok (a, xs)) (Ok (b, ys)) → (a ≡ b) × (xs ≡ ys)
+    → ◌≡◌ {A = Result (A × List (List ℕ)) TextKind} (Ok (a, xs)) (Ok (b, ys)) → (a ≡ b) × (xs ≡ ys)
 pair_is {A} a b xs ys e =
     let it : ◌≡◌ {A = A × List (List ℕ)} (a, xs) (b, ys) = cc in
     (ap (λ (p : A × List (List ℕ)). p.0) it, ap (λ (p : A × List (List ℕ)). p.1) it)
 
 -- a word that was said, and the words behind it
-pub said_is : {A : Type 0} (kind : PlanKind) (said : Option A) (words : List (List ℕ)) (a : A) (left : List (List ℕ))
+pub said_is : {A : Type 0} (kind : TextKind) (said : Option A) (words : List (List ℕ)) (a : A) (left : List (List ℕ))
     → said_or kind said words ≡ Ok (a, left) → (said ≡ Some a) × (words ≡ left)
 said_is kind None words a left e = cc
 said_is {A} kind (Some b) words a left e =
@@ -66,7 +66,7 @@ first_is says (word ∷ words) a left e =
     let it = said_is _ (says word) words a left e in
     record { word = word; is = ap (λ (ws : List (List ℕ)). word ∷ ws) it.1; said = it.0 }
 
-pub field_is : {A : Type 0} (kind : PlanKind) (says : List ℕ → Option A) (words : List (List ℕ)) (a : A) (left : List (List ℕ))
+pub field_is : {A : Type 0} (kind : TextKind) (says : List ℕ → Option A) (words : List (List ℕ)) (a : A) (left : List (List ℕ))
     → field kind says words ≡ Ok (a, left) → IsWord says words a left
 unfolding field
 field_is kind says [] a left e = cc
@@ -79,7 +79,7 @@ pub first_read : {A : Type 0} (says : List ℕ → Option A) (word : List ℕ) (
 unfolding first_word
 first_read says word words a e = ap (λ o. said_or Unknown o words) e
 
-pub field_read : {A : Type 0} (kind : PlanKind) (says : List ℕ → Option A) (word : List ℕ) (words : List (List ℕ)) (a : A)
+pub field_read : {A : Type 0} (kind : TextKind) (says : List ℕ → Option A) (word : List ℕ) (words : List (List ℕ)) (a : A)
     → says word ≡ Some a → field kind says (word ∷ words) ≡ Ok (a, words)
 unfolding field
 field_read kind says word words a e = ap (λ o. said_or kind o words) e
