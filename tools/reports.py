@@ -107,7 +107,8 @@ class Thread:
     polled: bool
     handlers: Dict[int, int]    # addresses by signal
     output: bytes
-    journal: List[Event]
+    events: int                 # in the journal
+    journal: Optional[List[Event]]  # None where it was not asked for
 
     @property
     def streaming(self):
@@ -253,8 +254,8 @@ def read_registers(lines, report, thread):
     thread.za = lines.vectors("za", rows, rows) if thread.za_on else None
 
 
-def read_kernel(lines, report, thread):
-    """The lines of a block from `memory` to `end-thread`."""
+def read_kernel(lines, report, thread, journals):
+    """The lines of a block from `memory` to `end-thread`; those of the journal are passed over where it is not asked for."""
     pages, thread.digest = lines.take("memory")
     thread.pages, thread.held, thread.mask = lines.within("memory", pages, 0, 2 ** 32 - 1), lines.number("held"), 0
     if report.version == 1:
@@ -267,15 +268,19 @@ def read_kernel(lines, report, thread):
     thread.output = b"".join(bytes.fromhex(text) for text, in lines.all("out"))
     if len(thread.output) != length:
         lines.fail(f"{len(thread.output)} bytes in lines `out`, and `output {length}`")
-    thread.journal = [event_of(lines.take("e")) for _ in range(lines.decimal("journal"))]
+    thread.events, thread.journal = lines.decimal("journal"), None
+    if journals:
+        thread.journal = [event_of(lines.take("e")) for _ in range(thread.events)]
+    else:
+        lines.at = min(lines.at + thread.events, len(lines.lines))
     lines.take("end-thread")
 
 
-def read_block(lines, report, number):
+def read_block(lines, report, number, journals):
     thread = Thread()
     thread.number = lines.decimal("thread", number, number)
     read_registers(lines, report, thread)
-    read_kernel(lines, report, thread)
+    read_kernel(lines, report, thread, journals)
     return thread
 
 
@@ -290,13 +295,13 @@ def read_history(lines, threads):
     return entries
 
 
-def parse(text):
-    """The report that a text is, or NoReport with its first line that is not in the format."""
+def parse(text, journals=True):
+    """The report that a text is, or NoReport with its first line that is not in the format. Most of the time goes into long journals."""
     lines, report = Lines(text), Report()
     count = read_head(lines, report)
     report.threads = []
     for number in range(count):
-        report.threads.append(read_block(lines, report, number))
+        report.threads.append(read_block(lines, report, number, journals))
     lines.take("shared")
     report.shared, report.pending = lines.by_number("w", 511), lines.by_number("pending", MOST_THREADS - 1)
     lines.take("end")
@@ -306,11 +311,11 @@ def parse(text):
     return report
 
 
-def read(path):
+def read(path, journals=True):
     """The report in a file of this name, which may be /dev/stdin, or NoReport."""
     try:
         # what is no ASCII is in no line of a report, which tells it
-        return parse(pathlib.Path(path).read_bytes().decode("ascii", errors="replace"))
+        return parse(pathlib.Path(path).read_bytes().decode("ascii", errors="replace"), journals)
     except OSError as fault:
         raise NoReport(f"{path}: {fault.strerror}") from fault
     except NoReport as fault:
