@@ -36,6 +36,19 @@ FORMS = {
     "shared": "", "w": f"{DECIMAL} {NUMBER}", "pending": f"{DECIMAL} {NUMBER}", "end": "",
     "history": DECIMAL, "h": f"{DECIMAL} {EVENT}",
 }
+# what a stop says to a person, with its values in their order; the first of an exception is PC
+MEANINGS = {
+    "exited": "exited with status {0}", "killed": "signal {0} was delivered, and has no handler",
+    "badframe": "a signal's frame cannot be written, or a return found none, at {0}", "budget": "executed as many instructions as the budget has",
+    "tracefull": "the journal is full", "outputfull": "the output is full", "none": "has not stopped",
+}
+CAUSES = {
+    "pcalign": "PC is no multiple of 4", "fetch": "the bytes at PC may not be executed", "undefined": "the word {1} is no listed instruction",
+    "breakpoint": "a breakpoint, brk #{1}", "illegalstreaming": "the instruction is not legal in Streaming SVE mode",
+    "notstreaming": "the instruction needs Streaming SVE mode", "zainactive": "the instruction needs ZA, which is off",
+    "spalign": "SP as a base is no multiple of 16", "align": "an ordered or atomic access at {1} is not aligned to its size",
+    "shared": "an access to shared words at {1} reaches none of them", "data": "the byte at {1} is not there, or there is no permission to {2} it",
+}
 PATTERNS = {name: re.compile(f"{name} {form}" if form else name) for name, form in FORMS.items()}
 
 
@@ -56,6 +69,14 @@ class Stop(NamedTuple):
     def status(self):
         """The exit status, or None where the thread did not exit."""
         return int(self.words[1]) if self.name == "exited" else None
+
+    @property
+    def meaning(self):
+        """What it says to a person."""
+        values = [f"{int(word, 16):#x}" if re.fullmatch(NUMBER, word) else word for word in self.words]
+        if self.name != "raised":
+            return MEANINGS[self.name].format(*values[1:])
+        return f"{CAUSES[values[1]].format(*values[2:])}; PC is {values[2]}"
 
     def __str__(self):
         return " ".join(self.words)

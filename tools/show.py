@@ -18,6 +18,7 @@ import signal
 import sys
 
 sys.dont_write_bytecode = True
+import report_page
 import reports
 from reports import active, elements, tile_rows
 
@@ -327,29 +328,34 @@ def parser():
     return words
 
 
+def write(words, view, report, other):
+    """Writes what is asked for of one report or of two; the answer is the status."""
+    which = "all" if words.thread is None and other else words.thread or 0
+    lines = other and [f"{name}: {one}, {two}" for name, one, two in differences(report, other, view, which)]
+    if words.json and other:
+        raise Refused("--json shows one report")
+    if words.json:
+        json.dump(report_object(report), sys.stdout, indent=1)
+        print()
+    elif words.page:
+        both, names = [report, *[other] * bool(other)], [words.report, *[words.other] * bool(other)]
+        first = None if which == "all" or words.thread is None else chosen_threads(report, which)[0].number
+        print(report_page.page(both, names, lines, words.size, words.how, first))
+    else:
+        print("".join(f"{line}\n" for line in (lines if other else shown(report, view, which))), end="")
+    return 1 if lines else 0
+
+
 def main():
     # a closed pipe ends it as it ends other programs
     signal.signal(signal.SIGPIPE, signal.SIG_DFL)
     words = parser().parse_args()
     try:
         view, report = View(words), reports.read(words.report)
-        other = words.other and reports.read(words.other)
-        if words.json:
-            if other:
-                raise Refused("--json shows one report")
-            json.dump(report_object(report), sys.stdout, indent=1)
-            print()
-            return 0
-        if not other:
-            print(*shown(report, view, words.thread or 0), sep="\n")
-            return 0
-        lines = [f"{name}: {one}, {two}" for name, one, two in differences(report, other, view, "all" if words.thread is None else words.thread)]
+        return write(words, view, report, words.other and reports.read(words.other))
     except (reports.NoReport, Refused) as fault:
         print(f"show: {fault}", file=sys.stderr)
         return 2
-    if lines:
-        print(*lines, sep="\n")
-    return 1 if lines else 0
 
 
 if __name__ == "__main__":
