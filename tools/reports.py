@@ -286,9 +286,7 @@ def read_kernel(lines, report, thread, journals):
     thread.polled = lines.take("polled")[0] == "1"
     thread.handlers = lines.by_number("handler", 2 ** 32 - 1)
     length = lines.decimal("output")
-    thread.output = b"".join(bytes.fromhex(text) for text, in lines.all("out"))
-    if len(thread.output) != length:
-        lines.fail(f"{len(thread.output)} bytes in lines `out`, and `output {length}`")
+    thread.output = b"".join(lines.bytes_of("out", lines.take("out")[0], min(32, length - at)) for at in range(0, length, 32))
     thread.events, thread.journal = lines.decimal("journal"), None
     if journals:
         thread.journal = [event_of(lines.take("e")) for _ in range(thread.events)]

@@ -335,7 +335,7 @@ def write(words, view, report, other):
     if words.json and other:
         raise Refused("--json shows one report")
     if words.json:
-        json.dump(report_object(report), sys.stdout, indent=1)
+        json.dump(report_object(report), sys.stdout, separators=(",", ":"))
         print()
     elif words.page:
         both, names = [report, *[other] * bool(other)], [words.report, *[words.other] * bool(other)]

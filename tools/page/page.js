@@ -62,6 +62,8 @@ const colour = (value, most, top = READABLE) => {
   return `rgba(${styleOf(value < 0 ? "--less" : "--more")}, ${strength.toFixed(3)})`;
 };
 
+const classOf = (value, differs) => [isZero(value) && "zero", differs && "differs"].filter(Boolean).join(" ") || null;
+
 // ---- registers and vectors
 
 function register(name, text, was, long) {
@@ -100,13 +102,15 @@ function cells(values, before) {
   const columns = `grid-template-columns: repeat(auto-fill, ${Math.max(...texts.map(text => text.length)) + 1}ch)`;
   return node("div", {class: "cells", style: columns}, ...values.map((value, at) => {
     const differs = before && before[at] !== value;
-    return node("span", {class: differs ? "differs" : null, style: `background: ${colour(value, most)}`,
+    return node("span", {class: classOf(value, differs), style: `background: ${colour(value, most)}`,
       title: `element ${at}` + (differs ? `, the other report: ${textOf(before[at], state.how, size)}` : "")}, texts[at]);
   }));
 }
 
+const lengthNote = thread => other() && other().length !== thread.length ? `, of ${8 * other().length} bits in the other report` : "";
+
 function vectors() {
-  const thread = threadOf(state.report), section = node("section", {id: "vectors"}, node("h2", {}, `Vectors of ${8 * thread.length} bits`));
+  const thread = threadOf(state.report), section = node("section", {id: "vectors"}, node("h2", {}, `Vectors of ${8 * thread.length} bits${lengthNote(thread)}`));
   for (let number = 0; number < 32; number++) {
     if (!thread.z[number] && !(other() && other().z[number])) continue;
     const read = it => elements(vector(it.z, number, it.length), SIZES[state.size], state.how);
@@ -151,7 +155,7 @@ function grid(values, before, most, at) {
   return node("table", {class: "grid"}, head, ...rows.map(row => node("tr", {}, node("th", {}, String(at.row + row)), ...rows.map(column => {
     const value = values[at.row + row][at.column + column], was = before && before[at.row + row][at.column + column];
     const differs = before && was !== value;
-    return node("td", {class: differs ? "differs" : null, style: `background: ${colour(value, most)}`,
+    return node("td", {class: classOf(value, differs), style: `background: ${colour(value, most)}`,
       title: `row ${at.row + row}, column ${at.column + column}` + (differs ? `, the other report: ${textOf(was, state.how, size)}` : "")},
       textOf(value, state.how, size));
   }))));
