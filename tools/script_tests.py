@@ -131,6 +131,8 @@ def showing():
     head, _, _ = (SAMPLES / "two.shown").read_text().partition("thread 0\n")
     tile = "thread 0\nza1.s rows 0 to 1 columns 1 to 2\n  65534 65533\n      0     0\n"
     yield "a part of a tile", show(TWO, "--tile", 1, "--rows", "0-1", "--columns", "1-2"), (0, head + tile, "")
+    tile = "thread 0\nza1.s row 0 column 3\n  65532\n"
+    yield "one element", show(TWO, "--tile", 1, "--rows", 0, "--columns", 3), (0, head + tile, "")
     tile = "thread 0\nza0.d\n  0000000000000000 0000000000000000\n  0000000000000000 0000000000000000\nthread 1\nza is off\n"
     yield "all threads", show(TWO, "--tile", 0, "--size", "d", "--hex", "--thread", "all"), (0, head + tile, "")
     lines = show(TWO, "--size", "b")[1].splitlines()

@@ -135,8 +135,8 @@ def za_lines(thread, view):
 
 def parts_named(view):
     """The rows and columns that are asked for, in words."""
-    parts = (("rows", view.rows), ("columns", view.columns))
-    return "".join(f" {name} {it.start} to {it.stop - 1}" for name, it in parts if it.stop is not None)
+    parts = [(name, it.start, it.stop - 1) for name, it in (("row", view.rows), ("column", view.columns)) if it.stop is not None]
+    return "".join(f" {name} {first}" if first == last else f" {name}s {first} to {last}" for name, first, last in parts)
 
 
 def part(values, chosen, name):
@@ -347,8 +347,9 @@ def write(words, view, report, other):
 
 
 def main():
-    # a closed pipe ends it as it ends other programs
-    signal.signal(signal.SIGPIPE, signal.SIG_DFL)
+    # where it is interrupted, or its output is closed, it ends as other programs do
+    for name in (signal.SIGINT, signal.SIGPIPE):
+        signal.signal(name, signal.SIG_DFL)
     words = parser().parse_args()
     try:
         view, report = View(words), reports.read(words.report)

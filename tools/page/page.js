@@ -83,9 +83,8 @@ function registersOf(thread) {
 }
 
 function kernelOf(thread) {
-  const found = {count: String(thread.count), turns: String(thread.turns), held: thread.held, mask: thread.mask, depth: String(thread.depth),
-                 polled: String(thread.polled)};
-  if (thread.mask === null) delete found.mask;
+  const inside = thread.mask === null ? {inside: String(thread.depth)} : {mask: thread.mask, depth: String(thread.depth)};
+  const found = {count: String(thread.count), turns: String(thread.turns), held: thread.held, ...inside, polled: String(thread.polled)};
   for (const [signal, address] of Object.entries(thread.handlers)) found["handler " + signal] = address;
   found.memory = `${thread.pages} pages, ${thread.digest}`;
   return found;
