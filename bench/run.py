@@ -190,6 +190,11 @@ page:
 """
 
 
+def matrix_source(lines, turns):
+    """So many turns of a loop of these lines in Streaming SVE mode with ZA on, with numbers in Z0 and Z1."""
+    return vector_source(lines, turns, "smstart\n    ptrue p0.b, all\n    index z0.b, #1, #3\n    index z1.b, #-5, #7")
+
+
 def time_vectors(smemu, folder, start):
     source, program = folder / "vectors.s", folder / "vectors.elf"
     for name, lines in VECTOR_LOOPS.items():
@@ -210,7 +215,7 @@ def time_matrices(smemu, folder, start):
     source, program = folder / "matrices.s", folder / "matrices.elf"
     for name, lines in MATRIX_LOOPS.items():
         for svl, turns in MATRIX_TURNS.items():
-            source.write_text(vector_source(lines, turns, "smstart\n    ptrue p0.b, all\n    index z0.b, #1, #3\n    index z1.b, #-5, #7"))
+            source.write_text(matrix_source(lines, turns))
             program.write_bytes(subprocess.run([smemu, "asm", source], check=True, stdout=subprocess.PIPE).stdout)
             total, report = best(smemu, program, "--svl", str(svl))
             assert "stop exited 0" in report, report[:200]

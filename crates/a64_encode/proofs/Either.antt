@@ -57,13 +57,6 @@ meaning_scalar word it e = meaning_holds scalar word (λ i. is_vector_group i �
 pub never_both : (word other : ℕ) (it : Insn) → Means scalar word it → Means vector other it → ⊥
 never_both word other it m n = both_ways (is_vector_group it) (means_scalar word it m) (means_vector other it n)
 
--- ---- an instruction's group says which table gives it
-pub scalar_of : (word : ℕ) (it : Insn) → MeansEither word it → is_vector_group it ≡ false → Means scalar word it
-scalar_of word it m g = elim m [ inl n ↦ n | inr n ↦ absurd (both_ways (is_vector_group it) g (means_vector word it n)) ]
-
-pub vector_of : (word : ℕ) (it : Insn) → MeansEither word it → is_vector_group it ≡ true → Means vector word it
-vector_of word it m g = elim m [ inl n ↦ absurd (both_ways (is_vector_group it) (means_scalar word it n) g) | inr n ↦ n ]
-
 by_either : (first second : Option Insn) (it : Insn) → option_or first second ≡ Some it → (first ≡ Some it) ⊎ (second ≡ Some it)
 by_either None second it e = inr e
 by_either (Some other) second it e = inl e
@@ -102,15 +95,6 @@ scalar_alone word it lt e = go (meaning_of word) refl
     go (Some other) f =
         absurd (apart word (stands scalar word other ((scalar_meaning word other lt).0 f))
         (stands vector word it ((vector_meaning word it lt).0 e)))
-
-pub vector_alone : (word : ℕ) (it : Insn) → word < 2 ^ 32 → meaning_of word ≡ Some it → vector_meaning_of word ≡ None
-vector_alone word it lt e = go (vector_meaning_of word) refl
-  where
-    go : (found : Option Insn) → vector_meaning_of word ≡ found → found ≡ None
-    go None f = refl
-    go (Some other) f =
-        absurd (apart word (stands scalar word it ((scalar_meaning word it lt).0 e))
-        (stands vector word other ((vector_meaning word other lt).0 f)))
 
 pub either : (word : ℕ) (it : Insn) → word < 2 ^ 32 → (instruction_of word ≡ Some it) ↔ MeansEither word it
 unfolding instruction_of

@@ -13,16 +13,17 @@ use Rattle.asm_core.specs.declared.fault.AsmFault.TheVariants.{Line, Doubled, To
 use Rattle.asm_core.specs.declared.location_counter.LocationCounter.{LocationCounter}
 use Rattle.asm_core.specs.declared.target_addresses.Addresses.{Addresses}
 use Rattle.asm_core.specs.declared.labels.LabelPosition.{LabelPosition}
+use Rattle.asm_core.specs.declared.labels.Labels.{Labels}
 use Rattle.asm_core.specs.Source.{said_lines}
 use Rattle.sm_types.specs.declared.object.Section.{Section}
 use Rattle.sm_types.specs.declared.object.Section.TheVariants.{Text, Data}
 use Rattle.asm_core.specs.Layout.{here, here_in, size_of, grown_in, Label, label_at, if_some, counter_after, counter_past, labels_from}
-use Rattle.asm_core.specs.Layout.{label_named, labels_of, first_counter}
+use Rattle.asm_core.specs.Layout.{label_named, label_position, labels_of, names_of, first_counter}
 use Rattle.std.specs.Option.{option_or as or_else}
 use Rattle.asm_core.specs.Faults.{fault_if, misaligned, is_doubled, is_too_large, line_fault, labels_after, after_line, lines_fault}
 use Rattle.asm_core.specs.Faults.{text_length_of}
 use Rattle.asm_core.specs.Limits.{IsInLimits}
-use Rattle.asm_core.specs.Known.{Knows, label_position}
+use Rattle.asm_core.specs.Known.{Knows, known}
 use Rattle.asm_core.specs.Emitted.{IsFine, AreNear}
 
 -- neither of two is a fault
@@ -179,3 +180,7 @@ addresses_near addresses texts size knows e = record {
       (record { text = omega arith; data_part = omega arith }) e found named)
       (sym (knows.each name) ∙ is);
 }
+
+-- what a table knows is what the names of its labels stand for
+pub same_names : (table : Labels) (labels : List Label) → Knows table labels → names_of labels ≡ known table
+same_names table labels knows = λ i name. sym (knows.each name) i

@@ -9,7 +9,7 @@ use Rattle.asm_core.specs.declared.fault.AsmFault.{AsmFault}
 use Rattle.asm_core.specs.declared.fault.AsmFault.TheVariants.{TooLong, NotText, NoStart}
 use Rattle.asm_core.specs.Source.{lines_of, said_lines}
 use Rattle.asm_core.specs.declared.object_parts.Parts.{Parts}
-use Rattle.asm_core.specs.Layout.{first_counter, counter_of, labels_of}
+use Rattle.asm_core.specs.Layout.{first_counter, counter_of, names_in}
 use Rattle.asm_core.specs.Assembly.{Puts, part_bytes, Assembles}
 use Rattle.asm_core.specs.Parts.{bytes_in, ArePartsOf}
 use Rattle.asm_core.specs.Faults.{lines_fault, targets_fault, text_length_of, start_of, said_fault, text_fault, asm_fault}
@@ -37,18 +37,18 @@ unfolding text_fault
 sound_text texts e = rw e refl
 
 module _ (lines : List SourceLine) where
-  faulty_target : (fault : AsmFault) → targets_fault 1 (text_length_of lines) (labels_of lines) first_counter lines ≡ Some fault
+  faulty_target : (fault : AsmFault) → targets_fault 1 (text_length_of lines) (names_in lines) first_counter lines ≡ Some fault
       → said_fault lines ≡ Some fault
   unfolding said_fault
   faulty_target fault e = rw e refl
 
-  no_start : targets_fault 1 (text_length_of lines) (labels_of lines) first_counter lines ≡ None
-      → start_of (text_length_of lines) (labels_of lines) ≡ None → said_fault lines ≡ Some NoStart
+  no_start : targets_fault 1 (text_length_of lines) (names_in lines) first_counter lines ≡ None
+      → start_of (text_length_of lines) (names_in lines) ≡ None → said_fault lines ≡ Some NoStart
   unfolding said_fault
   no_start e f = rw (e, f) refl
 
-  no_said_fault : (entry : ℕ) → targets_fault 1 (text_length_of lines) (labels_of lines) first_counter lines ≡ None
-      → start_of (text_length_of lines) (labels_of lines) ≡ Some entry → said_fault lines ≡ None
+  no_said_fault : (entry : ℕ) → targets_fault 1 (text_length_of lines) (names_in lines) first_counter lines ≡ None
+      → start_of (text_length_of lines) (names_in lines) ≡ Some entry → said_fault lines ≡ None
   unfolding said_fault
   no_said_fault entry e f = rw (e, f) refl
 
@@ -64,20 +64,20 @@ module _ (source : List ℕ) (short : nat_lt 67108864 (length source) ≡ false)
       said_is = is_text source short text ∙ sound_text (lines_of source) accepted
 
       pub target_fault_is : (fault : AsmFault)
-          → targets_fault 1 (text_length_of (said_lines (lines_of source))) (labels_of (said_lines (lines_of source))) first_counter
+          → targets_fault 1 (text_length_of (said_lines (lines_of source))) (names_in (said_lines (lines_of source))) first_counter
           (said_lines (lines_of source)) ≡ Some fault → asm_fault source ≡ Some fault
       target_fault_is fault e = said_is ∙ faulty_target (said_lines (lines_of source)) fault e
 
       pub no_start_is : targets_fault 1 (text_length_of (said_lines (lines_of source)))
-          (labels_of (said_lines (lines_of source))) first_counter
+          (names_in (said_lines (lines_of source))) first_counter
           (said_lines (lines_of source)) ≡ None
-          → start_of (text_length_of (said_lines (lines_of source))) (labels_of (said_lines (lines_of source))) ≡ None
+          → start_of (text_length_of (said_lines (lines_of source))) (names_in (said_lines (lines_of source))) ≡ None
           → asm_fault source ≡ Some NoStart
       no_start_is e f = said_is ∙ no_start (said_lines (lines_of source)) e f
 
       pub no_fault_is : (entry : ℕ) → targets_fault 1 (text_length_of (said_lines (lines_of source)))
-          (labels_of (said_lines (lines_of source))) first_counter (said_lines (lines_of source)) ≡ None
-          → start_of (text_length_of (said_lines (lines_of source))) (labels_of (said_lines (lines_of source))) ≡ Some entry
+          (names_in (said_lines (lines_of source))) first_counter (said_lines (lines_of source)) ≡ None
+          → start_of (text_length_of (said_lines (lines_of source))) (names_in (said_lines (lines_of source))) ≡ Some entry
           → asm_fault source ≡ None
       no_fault_is entry e f = said_is ∙ no_said_fault (said_lines (lines_of source)) entry e f
 
@@ -91,7 +91,7 @@ same_bytes parts entry Data = refl
 
 -- the object of a source
 pub assembled : (source : List ℕ) (parts : Parts) (entry : ℕ) → asm_fault source ≡ None → ArePartsOf (said_lines (lines_of source)) parts
-    → start_of (text_length_of (said_lines (lines_of source))) (labels_of (said_lines (lines_of source))) ≡ Some entry
+    → start_of (text_length_of (said_lines (lines_of source))) (names_in (said_lines (lines_of source))) ≡ Some entry
     → Assembles source (object_with parts entry)
 assembled source parts entry accepted are starts = record {
   accepted = accepted;
@@ -100,7 +100,7 @@ assembled source parts entry accepted are starts = record {
     data_size = are.data_size;
     puts = λ k line at.
         let lines = said_lines (lines_of source) in
-        subst (λ (bytes : List ℕ). Puts (text_length_of lines) (labels_of lines) bytes (counter_of lines k) line.says)
+        subst (λ (bytes : List ℕ). Puts (text_length_of lines) (names_in lines) bytes (counter_of lines k) line.says)
         (same_bytes parts entry (counter_of lines k).part) (are.puts k line at);
     symbols = are.symbols;
     starts = starts;

@@ -14,7 +14,7 @@ use Rattle.asm_core.specs.declared.emit_lines.Emission.{Emission}
 use Rattle.sm_types.specs.declared.object.Content.{Content}
 use Rattle.asm_core.specs.Source.{said_lines}
 use Rattle.asm_core.specs.Layout.{Label, first_counter, here, here_in, grown_in, size_of, counter_after, counter_past, counter_of}
-use Rattle.asm_core.specs.Layout.{labels_of}
+use Rattle.asm_core.specs.Layout.{Names, names_in}
 use Rattle.asm_core.specs.Faults.{target_fault, targets_fault, labels_after, lines_fault, text_length_of}
 use Rattle.asm_core.specs.Limits.{IsInLimits}
 use Rattle.asm_core.specs.Assembly.{Puts, SymbolSaid, symbol_said, text_is, label_symbol, mapping_symbol, symbols_from}
@@ -96,7 +96,7 @@ sizes_in Data p old new piece size h a o s =
           h.data_part s;
     }
 
-module _ (T : ℕ) (L : List Label) where
+module _ (T : ℕ) (L : Names) where
   grown_sizes : (p : LocationCounter) (content : Option Content) (line : SourceLine) (old new : Parts) → HasSizes p old
       → HaveGrown T L p content line old new
       → HasSizes (counter_after p line.says) new
@@ -242,7 +242,7 @@ module _ (T : ℕ) (L : List Label) where
   }
 
   -- after the last line
-  pub at_end : (ls : List SourceLine) (n : ℕ) (e : Emission) → T ≡ text_length_of ls → L ≡ labels_of ls → IsAt ls [] n e
+  pub at_end : (ls : List SourceLine) (n : ℕ) (e : Emission) → T ≡ text_length_of ls → L ≡ names_in ls → IsAt ls [] n e
       → ArePartsOf ls e.parts
   unfolding said_lines symbols_from
   at_end ls n e size labels h =
@@ -253,7 +253,7 @@ module _ (T : ℕ) (L : List Label) where
         text_size = h.sizes.text ∙ ap (λ (p : LocationCounter). p.text_size) there;
         data_size = h.sizes.data_part ∙ ap (λ (p : LocationCounter). p.data_size) there;
         puts = λ k line is.
-            subst (λ (l : List Label). Puts (text_length_of ls) l (bytes_in e.parts (counter_of ls k).part) (counter_of ls k) line.says)
+            subst (λ (l : Names). Puts (text_length_of ls) l (bytes_in e.parts (counter_of ls k).part) (counter_of ls k) line.says)
             labels
             (subst (λ (t : ℕ). Puts t L (bytes_in e.parts (counter_of ls k).part) (counter_of ls k) line.says) size
             (let within = slice_get_within ls k line is in h.puts k (omega arith) line is));

@@ -19,7 +19,7 @@ use Rattle.asm_parser.specs.Lines.{line_of}
 use Rattle.asm_core.specs.declared.fault.AsmFault.{AsmFault}
 use Rattle.asm_core.specs.declared.location_counter.LocationCounter.{LocationCounter}
 use Rattle.asm_core.specs.Source.{said_lines}
-use Rattle.asm_core.specs.Layout.{first_counter, here_in, here, size_of, Label, labels_of, counter_after, counter_past}
+use Rattle.asm_core.specs.Layout.{first_counter, here_in, here, size_of, Label, Names, names_in, counter_after, counter_past}
 use Rattle.std.specs.Option.{option_or as or_else}
 use Rattle.asm_core.specs.Faults.{misaligned, line_fault, lines_fault, labels_after, text_length_of}
 use Rattle.asm_core.specs.Assembly.{IsAssembled, Puts, part_bytes, is_instruction, IsObjectOf}
@@ -32,10 +32,6 @@ use Rattle.asm_core.proofs.Scanning.{lines_cons, said_cons, line_passes}
 first_none : (a b : Option AsmFault) → or_else a b ≡ None → a ≡ None
 first_none None b e = refl
 first_none (Some f) b e = cc
-
-second_none : (a b : Option AsmFault) → or_else a b ≡ None → b ≡ None
-second_none None b e = e
-second_none (Some f) b e = cc
 
 placed_column : (o : Option ℕ) (f : ℕ → AsmFault) → option_map f o ≡ None → o ≡ None
 placed_column None f e = refl
@@ -125,26 +121,26 @@ same_offset : (n at : ℕ) → at % 4 ≡ 0 → at ≤ 4 * n → 4 * n < at + 4 
 same_offset n at e l m = omega arith
 
 -- an instruction at a location counter of the text that has byte 4 * n put word n
-put_word : (tl : ℕ) (labels : List Label) (text : List ℕ) (says : Says) (p : LocationCounter) (n : ℕ) → is_instruction says ≡ true
+put_word : (tl : ℕ) (names : Names) (text : List ℕ) (says : Says) (p : LocationCounter) (n : ℕ) → is_instruction says ≡ true
     → p.part ≡ Text
     → p.text_size ≤ 4 * n → 4 * n < p.text_size + size_of says (here p)
-    → misaligned says (here p) ≡ None → Puts tl labels text p says → is_some (instruction_of (text_word text (4 * n))) ≡ true
+    → misaligned says (here p) ≡ None → Puts tl names text p says → is_some (instruction_of (text_word text (4 * n))) ≡ true
 unfolding is_instruction size_of misaligned Puts
-put_word tl labels text (Instructs word target column) p n isn in_text from to aligned puts =
+put_word tl names text (Instructs word target column) p n isn in_text from to aligned puts =
     let at : here p ≡ p.text_size = here_text p in_text in
     let whole : here p % 4 ≡ 0 = multiple (here p) column (here p % 4 == 0) refl aligned in
     let same : here p ≡ 4 * n =
     same_offset n (here p) whole (subst (λ m. m ≤ 4 * n) (sym at) from) (subst (λ m. 4 * n < m + 4) (sym at) to) in
     ap (λ m. is_some (instruction_of (text_word text m))) (sym same) ∙ word_there _ text (here p) puts
-put_word tl labels text Nothing p n isn in_text from to aligned puts = cc
-put_word tl labels text IntoText p n isn in_text from to aligned puts = cc
-put_word tl labels text IntoData p n isn in_text from to aligned puts = cc
-put_word tl labels text (Quads values) p n isn in_text from to aligned puts = cc
-put_word tl labels text (Words numbers) p n isn in_text from to aligned puts = cc
-put_word tl labels text (Bytes numbers) p n isn in_text from to aligned puts = cc
-put_word tl labels text (Zeros count) p n isn in_text from to aligned puts = cc
-put_word tl labels text (Aligns power) p n isn in_text from to aligned puts = cc
-put_word tl labels text (Globals name) p n isn in_text from to aligned puts = cc
+put_word tl names text Nothing p n isn in_text from to aligned puts = cc
+put_word tl names text IntoText p n isn in_text from to aligned puts = cc
+put_word tl names text IntoData p n isn in_text from to aligned puts = cc
+put_word tl names text (Quads values) p n isn in_text from to aligned puts = cc
+put_word tl names text (Words numbers) p n isn in_text from to aligned puts = cc
+put_word tl names text (Bytes numbers) p n isn in_text from to aligned puts = cc
+put_word tl names text (Zeros count) p n isn in_text from to aligned puts = cc
+put_word tl names text (Aligns power) p n isn in_text from to aligned puts = cc
+put_word tl names text (Globals name) p n isn in_text from to aligned puts = cc
 
 -- ---- all code words
 
@@ -185,10 +181,10 @@ module _ (texts : List (List ℕ)) (accepted : lines_fault 1 first_counter [] te
       ∙ line_mappings_said (text_length_of lines) first_counter None lines in
       let instruction : is_instruction t.put.line.says ≡ true =
       sym t.kind ∙ sym (ap (λ ms. is_code (mapping_says (governing_mapping (text_address + 4 * n) None ms))) mappings) ∙ code in
-      let puts : Puts (text_length_of lines) (labels_of lines) object.text_bytes.items p t.put.line.says =
-      subst (λ (part : Section). Puts (text_length_of lines) (labels_of lines) (part_bytes object part) p t.put.line.says) t.put.in_text
+      let puts : Puts (text_length_of lines) (names_in lines) object.text_bytes.items p t.put.line.says =
+      subst (λ (part : Section). Puts (text_length_of lines) (names_in lines) (part_bytes object part) p t.put.line.says) t.put.in_text
       (is.puts t.put.k t.put.line t.put.listed) in
-      put_word (text_length_of lines) (labels_of lines) object.text_bytes.items t.put.line.says p n instruction t.put.in_text t.put.from
+      put_word (text_length_of lines) (names_in lines) object.text_bytes.items t.put.line.says p n instruction t.put.in_text t.put.from
       t.put.to (aligned_at texts 1 first_counter [] accepted t.put.k t.put.line t.put.listed) puts
 
   -- each code word means an instruction

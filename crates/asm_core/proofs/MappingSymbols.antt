@@ -133,9 +133,6 @@ text_grows : (p : LocationCounter) (says : Says) → p.text_size ≤ (counter_af
 unfolding counter_after
 text_grows p says = grows_in p.part p (size_of says (here p))
 
-positive : (n : ℕ) → nat_lt 0 n ≡ true → 0 < n
-positive n e = grind (arith, nat_tests)
-
 nothing : (n : ℕ) → nat_lt 0 n ≡ false → n ≡ 0
 nothing n e = grind (arith, nat_tests)
 

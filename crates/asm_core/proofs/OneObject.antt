@@ -16,8 +16,8 @@ use Rattle.asm_parser.specs.Statements.{Says, Nothing, IntoText, IntoData, Quads
 use Rattle.asm_parser.specs.Statements.{Globals, Instructs, SourceLine}
 use Rattle.asm_core.specs.declared.location_counter.LocationCounter.{LocationCounter}
 use Rattle.asm_core.specs.Source.{lines_of, said_lines}
-use Rattle.asm_core.specs.Layout.{first_counter, here_in, here, size_of, grown_in, part_after, counter_after, counter_past, Label}
-use Rattle.asm_core.specs.Layout.{labels_of, address_here}
+use Rattle.asm_core.specs.Layout.{first_counter, here_in, here, size_of, grown_in, part_after, counter_after, counter_past}
+use Rattle.asm_core.specs.Layout.{Names, names_in, address_here}
 use Rattle.asm_core.specs.Faults.{text_length_of, start_of}
 use Rattle.asm_core.specs.Assembly.{HasBytes, numbers_bytes, quad_number, resolved, Puts, part_bytes, SymbolSaid, symbol_said}
 use Rattle.asm_core.specs.Assembly.{IsObjectOf, Assembles, IsSameObject}
@@ -29,20 +29,20 @@ alike : (at n : ℕ) (piece bytes others : List ℕ) → length piece ≡ n → 
     → take n (drop at bytes) ≡ take n (drop at others)
 alike at n piece bytes others size h g = ap (λ k. take k (drop at bytes)) (sym size) ∙ h ∙ sym g ∙ ap (λ k. take k (drop at others)) size
 
-module _ (text_length : ℕ) (labels : List Label) where
-  puts_alike : (p : LocationCounter) (says : Says) (bytes others : List ℕ) → Puts text_length labels bytes p says
-      → Puts text_length labels others p says
+module _ (text_length : ℕ) (names : Names) where
+  puts_alike : (p : LocationCounter) (says : Says) (bytes others : List ℕ) → Puts text_length names bytes p says
+      → Puts text_length names others p says
       → take (size_of says (here p)) (drop (here p) bytes) ≡ take (size_of says (here p)) (drop (here p) others)
   unfolding Puts size_of
   puts_alike p (Instructs word target column) bytes others h g =
-      let piece = little_bytes 4 (resolved text_length labels (address_here text_length p) word target) in
+      let piece = little_bytes 4 (resolved text_length names (address_here text_length p) word target) in
       alike (here p) 4 piece bytes others (length-bytes_low_first 0 4
-      (resolved text_length labels (address_here text_length p) word target))
+      (resolved text_length names (address_here text_length p) word target))
       h.stands g.stands
   puts_alike p (Quads values) bytes others h g =
-      let numbers = map (quad_number text_length labels) values in
+      let numbers = map (quad_number text_length names) values in
       alike (here p) (8 * length values) (numbers_bytes 8 numbers) bytes others
-      (length-numbers 8 numbers ∙ ap (λ n. 8 * n) (length-map values (quad_number text_length labels))) h g
+      (length-numbers 8 numbers ∙ ap (λ n. 8 * n) (length-map values (quad_number text_length names))) h g
   puts_alike p (Words numbers) bytes others h g =
       alike (here p) (4 * length numbers) (numbers_bytes 4 numbers) bytes others (length-numbers 4 numbers) h g
   puts_alike p (Bytes numbers) bytes others h g = alike (here p) (length numbers) numbers bytes others refl h g
@@ -77,7 +77,7 @@ module _ (text_length : ℕ) (labels : List Label) where
   ArePut : (Section → List ℕ) → LocationCounter → List SourceLine → Type 0
   ArePut a p lines =
       (k : ℕ) (line : SourceLine) → slice_get lines k ≡ Some line
-      → Puts text_length labels (a (counter_past p (take k lines)).part) (counter_past p (take k lines)) line.says
+      → Puts text_length names (a (counter_past p (take k lines)).part) (counter_past p (take k lines)) line.says
 
   line_alike : (a b : Section → List ℕ) (p : LocationCounter) (says : Says) → AreAlike a b p
       → take (size_of says (here p)) (drop (here p) (a p.part)) ≡ take (size_of says (here p)) (drop (here p) (b p.part))
@@ -106,13 +106,13 @@ one_by_lines : (lines : List SourceLine) (o p : Object) → IsObjectOf lines o �
 unfolding ArePut AreAlike
 one_by_lines lines o p h g =
     let n = text_length_of lines in
-    let parts = all_alike n (labels_of lines) (part_bytes o) (part_bytes p) first_counter lines h.puts g.puts (λ s. none s) in
+    let parts = all_alike n (names_in lines) (part_bytes o) (part_bytes p) first_counter lines h.puts g.puts (λ s. none s) in
     record {
       text_bytes = whole o.text_bytes.items p.text_bytes.items n h.text_size g.text_size (parts Text);
       data_bytes =
           whole o.data_bytes.items p.data_bytes.items (counter_past first_counter lines).data_size h.data_size g.data_size (parts Data);
       symbols = h.symbols ∙ sym g.symbols;
-      entry = same_some o.entry p.entry (start_of n (labels_of lines)) h.starts g.starts;
+      entry = same_some o.entry p.entry (start_of n (names_in lines)) h.starts g.starts;
     }
   where
     none : (s : Section) → take (here_in s first_counter) (part_bytes o s) ≡ take (here_in s first_counter) (part_bytes p s)

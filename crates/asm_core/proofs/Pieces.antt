@@ -9,7 +9,7 @@ use Rattle.byteorder.specs.Numbers.{length-bytes_low_first}
 use Rattle.asm_parser.specs.Statements.{QuadValue, TargetSaid, Says, Nothing, IntoText, IntoData, Quads, Words, Bytes, Zeros, Aligns}
 use Rattle.asm_parser.specs.Statements.{Globals, Instructs}
 use Rattle.asm_core.specs.declared.location_counter.LocationCounter.{LocationCounter}
-use Rattle.asm_core.specs.Layout.{Label, here, size_of, address_here}
+use Rattle.asm_core.specs.Layout.{Names, here, size_of, address_here}
 use Rattle.asm_core.specs.Assembly.{HasBytes, numbers_bytes, quad_number, resolved, Puts}
 use Rattle.asm_core.specs.Emitted.{IsWordAfter, IsPiece, Adds}
 
@@ -43,9 +43,9 @@ bytes_put old piece at e = ap (take (length piece)) (drop_at old piece at e) ∙
 
 -- ---- what a line puts
 
-module _ (text_length : ℕ) (labels : List Label) (p : LocationCounter) where
-  pub piece_puts : (says : Says) (old piece : List ℕ) → length old ≡ here p → IsPiece text_length labels p says piece
-      → Puts text_length labels (old ++ piece) p says
+module _ (text_length : ℕ) (names : Names) (p : LocationCounter) where
+  pub piece_puts : (says : Says) (old piece : List ℕ) → length old ≡ here p → IsPiece text_length names p says piece
+      → Puts text_length names (old ++ piece) p says
   unfolding IsPiece Puts
   piece_puts (Instructs word target column) old piece e h = record {
     is_word = h.is_word;
@@ -62,17 +62,17 @@ module _ (text_length : ℕ) (labels : List Label) (p : LocationCounter) where
   piece_puts IntoData old piece e h = tt
   piece_puts (Globals name) old piece e h = tt
 
-  pub puts_kept : (says : Says) (bytes more : List ℕ) → Puts text_length labels bytes p says
-      → Puts text_length labels (bytes ++ more) p says
+  pub puts_kept : (says : Says) (bytes more : List ℕ) → Puts text_length names bytes p says
+      → Puts text_length names (bytes ++ more) p says
   unfolding Puts
   puts_kept (Instructs word target column) bytes more h =
       record {
         is_word = h.is_word;
         means = h.means;
         stands =
-            bytes_kept bytes more (here p) (little_bytes 4 (resolved text_length labels (address_here text_length p) word target)) h.stands;
+            bytes_kept bytes more (here p) (little_bytes 4 (resolved text_length names (address_here text_length p) word target)) h.stands;
       }
-  puts_kept (Quads values) bytes more h = bytes_kept bytes more (here p) (numbers_bytes 8 (map (quad_number text_length labels) values)) h
+  puts_kept (Quads values) bytes more h = bytes_kept bytes more (here p) (numbers_bytes 8 (map (quad_number text_length names) values)) h
   puts_kept (Words numbers) bytes more h = bytes_kept bytes more (here p) (numbers_bytes 4 numbers) h
   puts_kept (Bytes numbers) bytes more h = bytes_kept bytes more (here p) numbers h
   puts_kept (Zeros count) bytes more h = bytes_kept bytes more (here p) (replicate count 0) h
@@ -84,51 +84,51 @@ module _ (text_length : ℕ) (labels : List Label) (p : LocationCounter) where
 
   -- ---- what was put is what a line puts
 
-  pub adds_quads : (values : List QuadValue) (old new : List ℕ) → new ≡ old ++ numbers_bytes 8 (map (quad_number text_length labels) values)
-      → Adds text_length labels p (Quads values) old new
+  pub adds_quads : (values : List QuadValue) (old new : List ℕ) → new ≡ old ++ numbers_bytes 8 (map (quad_number text_length names) values)
+      → Adds text_length names p (Quads values) old new
   unfolding IsPiece size_of
   adds_quads values old new e =
-      let numbers = map (quad_number text_length labels) values in
+      let numbers = map (quad_number text_length names) values in
       record {
         piece = numbers_bytes 8 numbers;
         added = e;
         size = length-numbers 8 numbers
-            ∙ ap (λ n. 8 * n) (length-map values (quad_number text_length labels));
+            ∙ ap (λ n. 8 * n) (length-map values (quad_number text_length names));
         piece_is = refl;
       }
 
-  pub adds_words : (numbers old new : List ℕ) → new ≡ old ++ numbers_bytes 4 numbers → Adds text_length labels p (Words numbers) old new
+  pub adds_words : (numbers old new : List ℕ) → new ≡ old ++ numbers_bytes 4 numbers → Adds text_length names p (Words numbers) old new
   unfolding IsPiece size_of
   adds_words numbers old new e = record { piece = numbers_bytes 4 numbers; added = e; size = length-numbers 4 numbers; piece_is = refl }
 
-  pub adds_bytes : (numbers old new : List ℕ) → new ≡ old ++ numbers → Adds text_length labels p (Bytes numbers) old new
+  pub adds_bytes : (numbers old new : List ℕ) → new ≡ old ++ numbers → Adds text_length names p (Bytes numbers) old new
   unfolding IsPiece size_of
   adds_bytes numbers old new e = record { piece = numbers; added = e; size = refl; piece_is = refl }
 
-  pub adds_zeros : (count : ℕ) (old new : List ℕ) → new ≡ old ++ replicate count 0 → Adds text_length labels p (Zeros count) old new
+  pub adds_zeros : (count : ℕ) (old new : List ℕ) → new ≡ old ++ replicate count 0 → Adds text_length names p (Zeros count) old new
   unfolding IsPiece size_of
   adds_zeros count old new e = record { piece = replicate count 0; added = e; size = length-replicate count 0; piece_is = refl }
 
   pub adds_padding : (power count : ℕ) (old new : List ℕ) → count ≡ size_of (Aligns power) (here p) → new ≡ old ++ replicate count 0
-      → Adds text_length labels p (Aligns power) old new
+      → Adds text_length names p (Aligns power) old new
   unfolding IsPiece
   adds_padding power count old new s e =
       record { piece = replicate count 0; added = e; size = length-replicate count 0 ∙ s; piece_is = ap (λ n. replicate n 0) s }
 
-  pub adds_nothing : (old : List ℕ) (says : Says) → size_of says (here p) ≡ 0 → IsPiece text_length labels p says []
-      → Adds text_length labels p says old old
+  pub adds_nothing : (old : List ℕ) (says : Says) → size_of says (here p) ≡ 0 → IsPiece text_length names p says []
+      → Adds text_length names p says old old
   adds_nothing old says s h = record { piece = []; added = sym (append-nil old); size = sym s; piece_is = h }
 
   pub adds_word : (word : ℕ) (target : Option TargetSaid) (column : ℕ) (old new : List ℕ)
-      → IsWordAfter (resolved text_length labels (address_here text_length p) word target) old new
-      → Adds text_length labels p (Instructs word target column) old new
+      → IsWordAfter (resolved text_length names (address_here text_length p) word target) old new
+      → Adds text_length names p (Instructs word target column) old new
   unfolding IsPiece size_of
   adds_word word target column old new h =
       record {
         piece = h.piece;
         added = h.added;
         size = ap length h.piece_is.bytes
-            ∙ length-bytes_low_first 0 4 (resolved text_length labels (address_here text_length p) word target);
+            ∙ length-bytes_low_first 0 4 (resolved text_length names (address_here text_length p) word target);
         piece_is = h.piece_is;
       }
 

@@ -13,10 +13,10 @@ use Rattle.asm_core.specs.declared.fault.AsmFault.TheVariants.{Line}
 use Rattle.asm_core.specs.declared.labels.Labels.{Labels}
 use Rattle.asm_core.specs.declared.location_counter.LocationCounter.{LocationCounter}
 use Rattle.asm_core.specs.Source.{lines_of, said_lines}
-use Rattle.asm_core.specs.Layout.{first_counter, Label, label_at, if_some, label_named, labels_of, labels_from, counter_after, counter_past}
+use Rattle.asm_core.specs.Layout.{first_counter, Label, label_at, if_some, label_named, label_position, labels_of, labels_from, counter_after, counter_past}
 use Rattle.std.specs.Option.{option_or as or_else}
 use Rattle.asm_core.specs.Faults.{after_line, line_fault, lines_fault, labels_after}
-use Rattle.asm_core.specs.Known.{known, label_position, Knows}
+use Rattle.asm_core.specs.Known.{known, Knows}
 use Rattle.asm_core.specs.Scanned.{fault_at, Passes, IsScannedTo}
 use Rattle.asm_core.specs.declared.fault.AsmFault.TheVariants as fault
 use Rattle.asm_parser.specs.declared.line.LineFault.TheVariants as line
@@ -76,10 +76,6 @@ knows_more table next list l h new told = record {
 pub append_none : {A : Type 0} (xs : List A) → xs ++ [] ≡ xs
 append_none [] = refl
 append_none (x ∷ xs) = ap (λ ys. x ∷ ys) (append_none xs)
-
--- a table with no more labels
-pub knows_same : (table : Labels) (list : List Label) → Knows table list → Knows table (list ++ [])
-knows_same table list h = subst (Knows table) (sym (append_none list)) h
 
 -- ---- one more line
 

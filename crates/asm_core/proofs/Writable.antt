@@ -9,7 +9,8 @@ use Rattle.sm_types.specs.declared.object.Section.{Section}
 use Rattle.sm_types.specs.declared.object.Section.TheVariants.{Text, Data}
 use Rattle.asm_core.specs.declared.location_counter.LocationCounter.{LocationCounter}
 use Rattle.asm_core.specs.Source.{lines_of, said_lines}
-use Rattle.asm_core.specs.Layout.{first_counter, counter_past, Label, label_named, labels_of}
+use Rattle.asm_core.specs.declared.labels.LabelPosition.{LabelPosition}
+use Rattle.asm_core.specs.Layout.{first_counter, counter_past, Names, names_in}
 use Rattle.asm_core.specs.Faults.{lines_fault, start_in, start_at, start_of, text_length_of}
 use Rattle.asm_core.specs.Limits.{IsInLimits}
 use Rattle.asm_core.specs.Assembly.{Assembles}
@@ -46,20 +47,20 @@ starts_in : (size : ℕ) (part : Section) (offset entry : ℕ) → start_in size
 starts_in size Text offset entry e = starts_if size offset entry (offset % 4 == 0 && nat_lt offset size) refl e
 starts_in size Data offset entry e = cc
 
-starts_at : (size entry : ℕ) (label : Option Label) → start_at size label ≡ Some entry → Starts size entry
+starts_at : (size entry : ℕ) (label : Option LabelPosition) → start_at size label ≡ Some entry → Starts size entry
 starts_at size entry None e = cc
 starts_at size entry (Some label) e = starts_in size label.part label.offset entry e
 
-starts : (size entry : ℕ) (labels : List Label) → start_of size labels ≡ Some entry → Starts size entry
+starts : (size entry : ℕ) (names : Names) → start_of size names ≡ Some entry → Starts size entry
 unfolding start_of
-starts size entry labels e = starts_at size entry (label_named labels _) e
+starts size entry names e = starts_at size entry (names _) e
 
 pub sound_object : (source : List ℕ) (object : Object) (end : LocationCounter) → lines_fault 1 first_counter [] (lines_of source) ≡ None
     → Assembles source object → end ≡ counter_past first_counter (said_lines (lines_of source)) → IsInLimits end
     → IsWritable object
 sound_object source object end accepted h is limits =
     let o = h.object_is in
-    let s = starts (text_length_of (said_lines (lines_of source))) object.entry (labels_of (said_lines (lines_of source))) o.starts in
+    let s = starts (text_length_of (said_lines (lines_of source))) object.entry (names_in (said_lines (lines_of source))) o.starts in
     let placed = subst IsInLimits is limits in
     record {
       startable =

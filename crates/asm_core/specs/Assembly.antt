@@ -20,8 +20,8 @@ use Rattle.asm_parser.specs.Statements.{SourceLine}
 use Rattle.asm_core.specs.Source.{lines_of, said_lines}
 use Rattle.asm_core.specs.declared.location_counter.LocationCounter.{LocationCounter}
 use Rattle.asm_core.specs.Layout.{first_counter, here, size_of, counter_after, counter_past, counter_of}
-use Rattle.asm_core.specs.Layout.{Label}
-use Rattle.asm_core.specs.Layout.{labels_of, label_named, label_address, address_here}
+use Rattle.asm_core.specs.Layout.{Names, names_in, label_address, address_here}
+use Rattle.asm_core.specs.declared.labels.LabelPosition.{LabelPosition}
 use Rattle.insn_text.specs.declared.item.Item.{Item}
 use Rattle.asm_core.specs.Targets.{word_to}
 use Rattle.asm_core.specs.Faults.{asm_fault, start_of, text_length_of}
@@ -36,29 +36,29 @@ HasBytes bytes offset piece = take (length piece) (drop offset bytes) ≡ piece
 abbrev pub numbers_bytes : ℕ → List ℕ → List ℕ
 numbers_bytes width numbers = concat (map (little_bytes width) numbers)
 
-abbrev pub address_or_zero : ℕ → Option Label → ℕ
+abbrev pub address_or_zero : ℕ → Option LabelPosition → ℕ
 address_or_zero text_length None = 0
 address_or_zero text_length (Some label) = label_address text_length label
 
 -- the number of a value of `.quad`; no name is undefined
-unfoldable pub quad_number : ℕ → List Label → QuadValue → ℕ
-quad_number text_length labels (IsNumber n) = n
-quad_number text_length labels (IsAddressOf name) = address_or_zero text_length (label_named labels name)
+unfoldable pub quad_number : ℕ → Names → QuadValue → ℕ
+quad_number text_length names (IsNumber n) = n
+quad_number text_length names (IsAddressOf name) = address_or_zero text_length (names name)
 
 abbrev pub word_or : ℕ → Option ℕ → ℕ
 word_or word None = word
 word_or word (Some resolved) = resolved
 
-abbrev pub resolved_at : ℕ → Item → ℕ → ℕ → Option Label → ℕ
+abbrev pub resolved_at : ℕ → Item → ℕ → ℕ → Option LabelPosition → ℕ
 resolved_at text_length i word from None = word
 resolved_at text_length i word from (Some label) =
     word_or word (word_to i word from (label_address text_length label))
 
 -- the word of an instruction at an address with the distance to its target, where a name says the target
-unfoldable pub resolved : ℕ → List Label → ℕ → ℕ → Option TargetSaid → ℕ
-resolved text_length labels from word None = word
-resolved text_length labels from word (Some target) =
-    resolved_at text_length target.operand word from (label_named labels target.name)
+unfoldable pub resolved : ℕ → Names → ℕ → ℕ → Option TargetSaid → ℕ
+resolved text_length names from word None = word
+resolved text_length names from word (Some target) =
+    resolved_at text_length target.operand word from (names target.name)
 
 -- the word means an instruction, and its bytes stand there
 pub record IsAssembled (word : ℕ) (bytes : List ℕ) (offset : ℕ) : Type 0 where
@@ -67,20 +67,20 @@ pub record IsAssembled (word : ℕ) (bytes : List ℕ) (offset : ℕ) : Type 0 w
   pub stands : HasBytes bytes offset (little_bytes 4 word)
 
 -- what a line at a location counter puts stands in its part
-unfoldable pub Puts : ℕ → List Label → List ℕ → LocationCounter → Says → Type 0
-Puts text_length labels bytes p (Instructs word target column) =
-    IsAssembled (resolved text_length labels (address_here text_length p) word target) bytes (here p)
-Puts text_length labels bytes p (Quads values) =
-    HasBytes bytes (here p) (numbers_bytes 8 (map (quad_number text_length labels) values))
-Puts text_length labels bytes p (Words numbers) = HasBytes bytes (here p) (numbers_bytes 4 numbers)
-Puts text_length labels bytes p (Bytes numbers) = HasBytes bytes (here p) numbers
-Puts text_length labels bytes p (Zeros count) = HasBytes bytes (here p) (replicate count 0)
-Puts text_length labels bytes p (Aligns power) =
+unfoldable pub Puts : ℕ → Names → List ℕ → LocationCounter → Says → Type 0
+Puts text_length names bytes p (Instructs word target column) =
+    IsAssembled (resolved text_length names (address_here text_length p) word target) bytes (here p)
+Puts text_length names bytes p (Quads values) =
+    HasBytes bytes (here p) (numbers_bytes 8 (map (quad_number text_length names) values))
+Puts text_length names bytes p (Words numbers) = HasBytes bytes (here p) (numbers_bytes 4 numbers)
+Puts text_length names bytes p (Bytes numbers) = HasBytes bytes (here p) numbers
+Puts text_length names bytes p (Zeros count) = HasBytes bytes (here p) (replicate count 0)
+Puts text_length names bytes p (Aligns power) =
     HasBytes bytes (here p) (replicate (size_of (Aligns power) (here p)) 0)
-Puts text_length labels bytes p Nothing = Unit {0}
-Puts text_length labels bytes p IntoText = Unit {0}
-Puts text_length labels bytes p IntoData = Unit {0}
-Puts text_length labels bytes p (Globals name) = Unit {0}
+Puts text_length names bytes p Nothing = Unit {0}
+Puts text_length names bytes p IntoText = Unit {0}
+Puts text_length names bytes p IntoData = Unit {0}
+Puts text_length names bytes p (Globals name) = Unit {0}
 
 abbrev pub part_bytes : Object → Section → List ℕ
 part_bytes object Text = object.text_bytes.items
@@ -164,11 +164,11 @@ pub record IsObjectOf (lines : List SourceLine) (object : Object) : Type 0 where
   pub text_size : length object.text_bytes.items ≡ text_length_of lines
   pub data_size : length object.data_bytes.items ≡ (counter_past first_counter lines).data_size
   pub puts : (k : ℕ) (line : SourceLine) → slice_get lines k ≡ Some line
-      → Puts (text_length_of lines) (labels_of lines) (part_bytes object (counter_of lines k).part)
+      → Puts (text_length_of lines) (names_in lines) (part_bytes object (counter_of lines k).part)
       (counter_of lines k) line.says
   pub symbols :
       map symbol_said object.symbols.items ≡ symbols_from (text_length_of lines) first_counter None lines
-  pub starts : start_of (text_length_of lines) (labels_of lines) ≡ Some object.entry
+  pub starts : start_of (text_length_of lines) (names_in lines) ≡ Some object.entry
 
 -- the source is assembled to this object
 pub record Assembles (source : List ℕ) (object : Object) : Type 0 where

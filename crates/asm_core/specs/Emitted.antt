@@ -16,7 +16,7 @@ use Rattle.asm_core.specs.declared.target_addresses.Addresses.{Addresses}
 use Rattle.asm_core.specs.declared.labels.LabelPosition.{LabelPosition}
 use Rattle.asm_core.specs.declared.object_parts.Parts.{Parts}
 use Rattle.sm_types.specs.declared.object.Content.{Content}
-use Rattle.asm_core.specs.Layout.{Label, here, size_of, address_here}
+use Rattle.asm_core.specs.Layout.{Names, here, size_of, address_here}
 use Rattle.asm_core.specs.Assembly.{numbers_bytes, quad_number, resolved, SymbolSaid, symbol_said}
 use Rattle.asm_core.specs.Assembly.{label_symbol}
 use Rattle.asm_core.specs.Assembly.{mapping_symbol}
@@ -66,6 +66,10 @@ pub record IsFine (p : LocationCounter) (text : List ℕ) : Type 0 where
   pub says : line_of text ≡ Ok line
   pub fits : is_too_large p line.says ≡ false
 
+-- what the names of the addresses stand for
+abbrev pub names_by : Addresses → Names
+names_by addresses = known addresses.labels.now
+
 -- each part has at most 4 MiB: the text, and what stands before a label
 pub record AreNear (addresses : Addresses) : Type 0 where
   pub text : addresses.text_size ≤ 4194304
@@ -86,27 +90,27 @@ pub record IsWordAfter (word : ℕ) (old new : List ℕ) : Type 0 where
   pub piece_is : IsWordOf word piece
 
 -- the bytes that a line at a location counter puts
-unfoldable pub IsPiece : ℕ → List Label → LocationCounter → Says → List ℕ → Type 0
-IsPiece text_length labels p (Instructs word target column) piece =
-    IsWordOf (resolved text_length labels (address_here text_length p) word target) piece
-IsPiece text_length labels p (Quads values) piece =
-    piece ≡ numbers_bytes 8 (map (quad_number text_length labels) values)
-IsPiece text_length labels p (Words numbers) piece = piece ≡ numbers_bytes 4 numbers
-IsPiece text_length labels p (Bytes numbers) piece = piece ≡ numbers
-IsPiece text_length labels p (Zeros count) piece = piece ≡ replicate count 0
-IsPiece text_length labels p (Aligns power) piece = piece ≡ replicate (size_of (Aligns power) (here p)) 0
-IsPiece text_length labels p Nothing piece = Unit {0}
-IsPiece text_length labels p IntoText piece = Unit {0}
-IsPiece text_length labels p IntoData piece = Unit {0}
-IsPiece text_length labels p (Globals name) piece = Unit {0}
+unfoldable pub IsPiece : ℕ → Names → LocationCounter → Says → List ℕ → Type 0
+IsPiece text_length names p (Instructs word target column) piece =
+    IsWordOf (resolved text_length names (address_here text_length p) word target) piece
+IsPiece text_length names p (Quads values) piece =
+    piece ≡ numbers_bytes 8 (map (quad_number text_length names) values)
+IsPiece text_length names p (Words numbers) piece = piece ≡ numbers_bytes 4 numbers
+IsPiece text_length names p (Bytes numbers) piece = piece ≡ numbers
+IsPiece text_length names p (Zeros count) piece = piece ≡ replicate count 0
+IsPiece text_length names p (Aligns power) piece = piece ≡ replicate (size_of (Aligns power) (here p)) 0
+IsPiece text_length names p Nothing piece = Unit {0}
+IsPiece text_length names p IntoText piece = Unit {0}
+IsPiece text_length names p IntoData piece = Unit {0}
+IsPiece text_length names p (Globals name) piece = Unit {0}
 
 -- the bytes of a line follow others, as many as its size says
-pub record Adds (text_length : ℕ) (labels : List Label) (p : LocationCounter) (says : Says)
+pub record Adds (text_length : ℕ) (names : Names) (p : LocationCounter) (says : Says)
     (old new : List ℕ) : Type 0 where
   pub piece : List ℕ
   pub added : new ≡ old ++ piece
   pub size : length piece ≡ size_of says (here p)
-  pub piece_is : IsPiece text_length labels p says piece
+  pub piece_is : IsPiece text_length names p says piece
 
 -- the other part
 abbrev pub other : Section → Section
@@ -122,9 +126,9 @@ line_symbols text_length p before line =
     label_symbol text_length p line.label ++ mapping_symbol text_length p line.says before
 
 -- the parts have grown by a line at a location counter: by its bytes, and by its symbols
-pub record HaveGrown (text_length : ℕ) (labels : List Label) (p : LocationCounter) (before : Option Content)
+pub record HaveGrown (text_length : ℕ) (names : Names) (p : LocationCounter) (before : Option Content)
     (line : SourceLine) (old new : Parts) : Type 0 where
-  pub bytes : Adds text_length labels p line.says (bytes_in old p.part) (bytes_in new p.part)
+  pub bytes : Adds text_length names p line.says (bytes_in old p.part) (bytes_in new p.part)
   pub others : bytes_in new (other p.part) ≡ bytes_in old (other p.part)
   pub symbols :
       map symbol_said new.symbols.items

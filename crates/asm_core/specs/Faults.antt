@@ -20,8 +20,9 @@ use Rattle.asm_core.specs.declared.fault.AsmFault.TheVariants.{TooLong, NotText,
 use Rattle.asm_core.specs.declared.fault.AsmFault.TheVariants.{TooFar, TooLarge, NoStart}
 use Rattle.asm_core.specs.Source.{lines_of, said_lines}
 use Rattle.asm_core.specs.declared.location_counter.LocationCounter.{LocationCounter}
+use Rattle.asm_core.specs.declared.labels.LabelPosition.{LabelPosition}
 use Rattle.asm_core.specs.Layout.{first_counter, here, counter_after, counter_past, Label, label_at, if_some}
-use Rattle.asm_core.specs.Layout.{labels_of, label_named, label_address, address_in, address_here}
+use Rattle.asm_core.specs.Layout.{Names, names_in, label_named, label_address, address_in, address_here}
 use Rattle.insn_text.specs.declared.item.Item.{Item}
 use Rattle.asm_core.specs.Targets.{distance, word_to}
 
@@ -84,9 +85,9 @@ lines_fault n p labels (text ∷ texts) =
 -- ---- names and distances, with all labels known
 
 -- a value is the address of a label that is not there
-unfoldable pub is_undefined : List Label → QuadValue → Bool
-is_undefined labels (IsNumber n) = false
-is_undefined labels (IsAddressOf name) = not (is_some (label_named labels name))
+unfoldable pub is_undefined : Names → QuadValue → Bool
+is_undefined names (IsNumber n) = false
+is_undefined names (IsAddressOf name) = not (is_some (names name))
 
 abbrev pub too_far : ℕ → ℤ → Option ℕ → Option AsmFault
 too_far n bytes None = Some (TooFar n bytes)
@@ -97,36 +98,36 @@ abbrev pub distance_fault : ℕ → Item → ℕ → ℕ → ℕ → Option AsmF
 distance_fault n i word from target = too_far n (distance i from target) (word_to i word from target)
 
 -- the fault of an instruction at an address with the label of its target
-abbrev pub label_fault : ℕ → ℕ → Item → ℕ → ℕ → Option Label → Option AsmFault
+abbrev pub label_fault : ℕ → ℕ → Item → ℕ → ℕ → Option LabelPosition → Option AsmFault
 label_fault n text_length i word from None = Some (Undefined n)
 label_fault n text_length i word from (Some label) =
     distance_fault n i word from (label_address text_length label)
 
-abbrev pub instruction_fault : ℕ → ℕ → List Label → ℕ → ℕ → Option TargetSaid → Option AsmFault
-instruction_fault n text_length labels from word None = None
-instruction_fault n text_length labels from word (Some target) =
-    label_fault n text_length target.operand word from (label_named labels target.name)
+abbrev pub instruction_fault : ℕ → ℕ → Names → ℕ → ℕ → Option TargetSaid → Option AsmFault
+instruction_fault n text_length names from word None = None
+instruction_fault n text_length names from word (Some target) =
+    label_fault n text_length target.operand word from (names target.name)
 
 -- the fault of the names and distances of line number n at a location counter
-unfoldable pub target_fault : ℕ → ℕ → List Label → LocationCounter → Says → Option AsmFault
-target_fault n text_length labels p (Instructs word target column) =
-    instruction_fault n text_length labels (address_here text_length p) word target
-target_fault n text_length labels p (Quads values) =
-    fault_if (list_any (is_undefined labels) values) (Undefined n)
-target_fault n text_length labels p Nothing = None
-target_fault n text_length labels p IntoText = None
-target_fault n text_length labels p IntoData = None
-target_fault n text_length labels p (Words numbers) = None
-target_fault n text_length labels p (Bytes numbers) = None
-target_fault n text_length labels p (Zeros count) = None
-target_fault n text_length labels p (Aligns power) = None
-target_fault n text_length labels p (Globals name) = None
+unfoldable pub target_fault : ℕ → ℕ → Names → LocationCounter → Says → Option AsmFault
+target_fault n text_length names p (Instructs word target column) =
+    instruction_fault n text_length names (address_here text_length p) word target
+target_fault n text_length names p (Quads values) =
+    fault_if (list_any (is_undefined names) values) (Undefined n)
+target_fault n text_length names p Nothing = None
+target_fault n text_length names p IntoText = None
+target_fault n text_length names p IntoData = None
+target_fault n text_length names p (Words numbers) = None
+target_fault n text_length names p (Bytes numbers) = None
+target_fault n text_length names p (Zeros count) = None
+target_fault n text_length names p (Aligns power) = None
+target_fault n text_length names p (Globals name) = None
 
 -- the fault of the first of some lines that has one; the first is number n, at a location counter
-unfoldable pub targets_fault : ℕ → ℕ → List Label → LocationCounter → List SourceLine → Option AsmFault
-targets_fault n text_length labels p [] = None
-targets_fault n text_length labels p (line ∷ lines) =
-    or_else (target_fault n text_length labels p line.says) (targets_fault (n + 1) text_length labels
+unfoldable pub targets_fault : ℕ → ℕ → Names → LocationCounter → List SourceLine → Option AsmFault
+targets_fault n text_length names p [] = None
+targets_fault n text_length names p (line ∷ lines) =
+    or_else (target_fault n text_length names p line.says) (targets_fault (n + 1) text_length names
     (counter_after p line.says) lines)
 
 -- ---- the start
@@ -136,13 +137,13 @@ start_in text_length Text offset =
     if (offset % 4 == 0) && nat_lt offset text_length then Some (address_in text_length Text offset) else None
 start_in text_length Data offset = None
 
-abbrev pub start_at : ℕ → Option Label → Option ℕ
+abbrev pub start_at : ℕ → Option LabelPosition → Option ℕ
 start_at text_length None = None
 start_at text_length (Some label) = start_in text_length label.part label.offset
 
 -- the address of the label `_start`, where it is at a multiple of 4 at a byte of the text
-unfoldable pub start_of : ℕ → List Label → Option ℕ
-start_of text_length labels = start_at text_length (label_named labels (codes "_start"))
+unfoldable pub start_of : ℕ → Names → Option ℕ
+start_of text_length names = start_at text_length (names (codes "_start"))
 
 -- ---- a source
 
@@ -153,8 +154,8 @@ text_length_of lines = (counter_past first_counter lines).text_size
 -- the fault of lines that are all in the grammar
 unfoldable pub said_fault : List SourceLine → Option AsmFault
 said_fault lines =
-    or_else (targets_fault 1 (text_length_of lines) (labels_of lines) first_counter lines)
-    (fault_if (not (is_some (start_of (text_length_of lines) (labels_of lines)))) NoStart)
+    or_else (targets_fault 1 (text_length_of lines) (names_in lines) first_counter lines)
+    (fault_if (not (is_some (start_of (text_length_of lines) (names_in lines)))) NoStart)
 
 unfoldable pub text_fault : List (List ℕ) → Option AsmFault
 text_fault texts = or_else (lines_fault 1 first_counter [] texts) (said_fault (said_lines texts))

@@ -8,6 +8,7 @@ use Rattle.sm_types.specs.declared.object.Section.{Section}
 use Rattle.sm_types.specs.declared.object.Section.TheVariants.{Text, Data}
 use Rattle.sm_types.specs.Objects.{text_address, data_address}
 use Rattle.asm_core.specs.declared.location_counter.LocationCounter.{LocationCounter}
+use Rattle.asm_core.specs.declared.labels.LabelPosition.{LabelPosition}
 use Rattle.asm_parser.specs.Statements.{Says, Nothing, IntoText, IntoData, Quads, Words, Bytes, Zeros, Aligns}
 use Rattle.asm_parser.specs.Statements.{Globals, Instructs, SourceLine}
 
@@ -102,6 +103,21 @@ labels_of lines = labels_from first_counter lines
 unfoldable pub label_named : List Label → List ℕ → Option Label
 label_named labels name = find (λ label. bytes_eq label.name name) labels
 
+-- where a label stands
+abbrev pub label_position : Label → LabelPosition
+label_position label = record { part = label.part; offset = label.offset }
+
+-- what names stand for
+abbrev pub Names : Type 0
+Names = List ℕ → Option LabelPosition
+
+-- the names of some labels, and those of a source
+abbrev pub names_of : List Label → Names
+names_of labels name = option_map label_position (label_named labels name)
+
+abbrev pub names_in : List SourceLine → Names
+names_in lines = names_of (labels_of lines)
+
 -- ---- addresses
 
 -- where a part begins, for a text of so many bytes
@@ -112,7 +128,7 @@ base_of text_length Data = data_address text_length
 abbrev pub address_in : ℕ → Section → ℕ → ℕ
 address_in text_length part offset = base_of text_length part + offset
 
-abbrev pub label_address : ℕ → Label → ℕ
+abbrev pub label_address : ℕ → LabelPosition → ℕ
 label_address text_length label = address_in text_length label.part label.offset
 
 -- the address of the next byte

@@ -4,7 +4,7 @@ use Rattle.sm_types.specs.declared.object.Section.{Section}
 use Rattle.sm_types.specs.declared.object.Section.TheVariants.{Text, Data}
 use Rattle.asm_parser.specs.Statements.{SourceLine}
 use Rattle.asm_core.specs.declared.object_parts.Parts.{Parts}
-use Rattle.asm_core.specs.Layout.{first_counter, counter_past, counter_of, labels_of}
+use Rattle.asm_core.specs.Layout.{first_counter, counter_past, counter_of, names_in}
 use Rattle.asm_core.specs.Faults.{text_length_of}
 use Rattle.asm_core.specs.Assembly.{Puts, symbol_said, symbols_from}
 
@@ -18,7 +18,7 @@ pub record ArePartsOf (lines : List SourceLine) (parts : Parts) : Type 0 where
   pub text_size : length parts.text_bytes.items ≡ text_length_of lines
   pub data_size : length parts.data_bytes.items ≡ (counter_past first_counter lines).data_size
   pub puts : (k : ℕ) (line : SourceLine) → slice_get lines k ≡ Some line
-      → Puts (text_length_of lines) (labels_of lines) (bytes_in parts (counter_of lines k).part)
+      → Puts (text_length_of lines) (names_in lines) (bytes_in parts (counter_of lines k).part)
       (counter_of lines k) line.says
   pub symbols :
       map symbol_said parts.symbols.items ≡ symbols_from (text_length_of lines) first_counter None lines

@@ -7,9 +7,8 @@ ghost use Rattle.asm_parser.specs.Statements.{says_of, target_said, value_of};
 ghost use Rattle.asm_core.specs.Layout as layout;
 ghost use Rattle.asm_core.specs.Faults.{is_undefined, instruction_fault, target_fault};
 ghost use Rattle.asm_core.specs.Assembly as assembly;
-ghost use Rattle.asm_core.specs.Known.{Knows};
 ghost use Rattle.asm_core.specs.Limits.{HasSmallAlign};
-ghost use Rattle.asm_core.specs.Emitted.{Adds, AreNear, HasWord, IsMeant, IsWordAfter};
+ghost use Rattle.asm_core.specs.Emitted.{Adds, AreNear, HasWord, IsMeant, IsWordAfter, names_by};
 
 use crate::fault::AsmFault;
 use crate::location_counter::{LocationCounter, here, size_of};
@@ -72,15 +71,13 @@ fn put_quads(
     addresses: &Addresses<'_, '_>,
 ) -> Result<(), AsmFault>
     requires near { AreNear addresses.now }
-    ensures ok { (list : List layout.Label) → Knows addresses.now.labels.now list
-        → OnOk result (list_any (is_undefined list) (map value_of values.now) ≡ false) }
-    ensures bytes { (list : List layout.Label) → Knows addresses.now.labels.now list
-        → OnOk result (bytes.new.items
+    ensures ok { OnOk result (list_any (is_undefined (names_by addresses.now)) (map value_of values.now)
+        ≡ false) }
+    ensures bytes { OnOk result (bytes.new.items
         ≡ bytes.old.items ++ assembly.numbers_bytes 8 (map
-        (assembly.quad_number addresses.now.text_size list) (map value_of values.now))) }
-    ensures err { (list : List layout.Label) → Knows addresses.now.labels.now list
-        → IfErr result (λ fault. fault ≢ AsmFault.Memory
-        → (list_any (is_undefined list) (map value_of values.now) ≡ true)
+        (assembly.quad_number addresses.now.text_size (names_by addresses.now)) (map value_of values.now))) }
+    ensures err { IfErr result (λ fault. fault ≢ AsmFault.Memory
+        → (list_any (is_undefined (names_by addresses.now)) (map value_of values.now) ≡ true)
         × (fault ≡ AsmFault.Undefined number)) }
 {
     for value in values {
@@ -105,15 +102,15 @@ fn put_instruction(
     requires from { from < 2 ^ 32 }
     requires near { AreNear addresses.now }
     requires meant { IsMeant word (option_map target_said target.now) }
-    ensures ok { (list : List layout.Label) → Knows addresses.now.labels.now list
-        → OnOk result (instruction_fault number addresses.now.text_size list from word
+    ensures ok { OnOk result (instruction_fault number addresses.now.text_size
+        (names_by addresses.now) from word
         (option_map target_said target.now) ≡ None) }
-    ensures bytes { (list : List layout.Label) → Knows addresses.now.labels.now list
-        → OnOk result (IsWordAfter (assembly.resolved addresses.now.text_size list from word
+    ensures bytes { OnOk result (IsWordAfter (assembly.resolved addresses.now.text_size
+        (names_by addresses.now) from word
         (option_map target_said target.now)) bytes.old.items bytes.new.items) }
-    ensures err { (list : List layout.Label) → Knows addresses.now.labels.now list
-        → IfErr result (λ fault. fault ≢ AsmFault.Memory
-        → instruction_fault number addresses.now.text_size list from word (option_map target_said target.now)
+    ensures err { IfErr result (λ fault. fault ≢ AsmFault.Memory
+        → instruction_fault number addresses.now.text_size (names_by addresses.now) from word
+        (option_map target_said target.now)
         ≡ Some fault) }
 {
     let resolved = resolve_target(number, word, from, target, addresses)?;
@@ -136,15 +133,14 @@ pub fn put_statement(
     requires fits { layout.here counter.now + layout.size_of (says_of statement.now) (layout.here counter.now)
         ≤ 4194304 }
     requires near { AreNear addresses.now }
-    ensures ok { (list : List layout.Label) → Knows addresses.now.labels.now list
-        → OnOk result (target_fault number addresses.now.text_size list counter.now
+    ensures ok { OnOk result (target_fault number addresses.now.text_size (names_by addresses.now) counter.now
         (says_of statement.now) ≡ None) }
-    ensures bytes { (list : List layout.Label) → Knows addresses.now.labels.now list
-        → OnOk result (Adds addresses.now.text_size list counter.now (says_of statement.now)
+    ensures bytes { OnOk result (Adds addresses.now.text_size (names_by addresses.now) counter.now
+        (says_of statement.now)
         bytes.old.items bytes.new.items) }
-    ensures err { (list : List layout.Label) → Knows addresses.now.labels.now list
-        → IfErr result (λ fault. fault ≢ AsmFault.Memory
-        → target_fault number addresses.now.text_size list counter.now (says_of statement.now) ≡ Some fault) }
+    ensures err { IfErr result (λ fault. fault ≢ AsmFault.Memory
+        → target_fault number addresses.now.text_size (names_by addresses.now) counter.now
+        (says_of statement.now) ≡ Some fault) }
 {
     match statement {
         Statement::Instruction { word, target, .. } => {

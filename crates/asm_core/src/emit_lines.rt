@@ -6,10 +6,9 @@ ghost use Rattle.asm_core.specs.Layout as layout;
 ghost use Rattle.asm_core.specs.Faults.{target_fault};
 ghost use Rattle.asm_core.specs.Assembly as assembly;
 ghost use Rattle.asm_core.specs.Parts.{bytes_in};
-ghost use Rattle.asm_core.specs.Known.{Knows};
 ghost use Rattle.asm_core.specs.Limits.{IsInLimits, HasSmallAlign};
 ghost use Rattle.asm_core.specs.Kept.{IsKept};
-ghost use Rattle.asm_core.specs.Emitted.{Adds, AreNear, HasWord, HaveGrown, IsFine, other};
+ghost use Rattle.asm_core.specs.Emitted.{Adds, AreNear, HasWord, HaveGrown, IsFine, other, names_by};
 
 use crate::emit_bytes::put_statement;
 use crate::fault::AsmFault;
@@ -65,18 +64,17 @@ fn put_bytes(
     requires fits { layout.here counter.now + layout.size_of (says_of statement.now) (layout.here counter.now)
         ≤ 4194304 }
     requires near { AreNear addresses.now }
-    ensures ok { (list : List layout.Label) → Knows addresses.now.labels.now list
-        → OnOk result (target_fault number addresses.now.text_size list counter.now
+    ensures ok { OnOk result (target_fault number addresses.now.text_size (names_by addresses.now) counter.now
         (says_of statement.now) ≡ None) }
-    ensures bytes { (list : List layout.Label) → Knows addresses.now.labels.now list
-        → OnOk result (Adds addresses.now.text_size list counter.now (says_of statement.now)
+    ensures bytes { OnOk result (Adds addresses.now.text_size (names_by addresses.now) counter.now
+        (says_of statement.now)
         (bytes_in parts.old counter.now.part) (bytes_in parts.new counter.now.part)) }
     ensures others { OnOk result
         (bytes_in parts.new (other counter.now.part) ≡ bytes_in parts.old (other counter.now.part)) }
     ensures symbols { OnOk result (parts.new.symbols ≡ parts.old.symbols) }
-    ensures err { (list : List layout.Label) → Knows addresses.now.labels.now list
-        → IfErr result (λ fault. fault ≢ AsmFault.Memory
-        → target_fault number addresses.now.text_size list counter.now (says_of statement.now) ≡ Some fault) }
+    ensures err { IfErr result (λ fault. fault ≢ AsmFault.Memory
+        → target_fault number addresses.now.text_size (names_by addresses.now) counter.now
+        (says_of statement.now) ≡ Some fault) }
 {
     match counter.part {
         Section::Text => put_statement(
@@ -113,15 +111,14 @@ fn put_line(
     requires fits { layout.here counter.now
         + layout.size_of (says_of line.now.statement) (layout.here counter.now) ≤ 4194304 }
     requires near { AreNear addresses.now }
-    ensures ok { (list : List layout.Label) → Knows addresses.now.labels.now list
-        → OnOk result (target_fault number addresses.now.text_size list counter.now
+    ensures ok { OnOk result (target_fault number addresses.now.text_size (names_by addresses.now) counter.now
         (says_of line.now.statement) ≡ None) }
-    ensures grown { (list : List layout.Label) → Knows addresses.now.labels.now list
-        → OnOk result (HaveGrown addresses.now.text_size list counter.now content (line_said line.now)
+    ensures grown { OnOk result (HaveGrown addresses.now.text_size
+        (names_by addresses.now) counter.now content (line_said line.now)
         parts.old parts.new) }
-    ensures err { (list : List layout.Label) → Knows addresses.now.labels.now list
-        → IfErr result (λ fault. fault ≢ AsmFault.Memory
-        → target_fault number addresses.now.text_size list counter.now (says_of line.now.statement)
+    ensures err { IfErr result (λ fault. fault ≢ AsmFault.Memory
+        → target_fault number addresses.now.text_size (names_by addresses.now) counter.now
+        (says_of line.now.statement)
         ≡ Some fault) }
 {
     put_symbols(
@@ -152,23 +149,26 @@ pub fn emit_line(
     requires text_size { length emission.old.parts.text_bytes.items ≡ emission.old.counter.text_size }
     requires data_size { length emission.old.parts.data_bytes.items ≡ emission.old.counter.data_size }
     requires near { AreNear addresses.now }
-    ensures ok { (list : List layout.Label) → Knows addresses.now.labels.now list → (line : SourceLine)
+    ensures ok { (line : SourceLine)
         → line_of text.now ≡ Ok line
-        → OnOk result (target_fault number addresses.now.text_size list emission.old.counter line.says
+        → OnOk result (target_fault number addresses.now.text_size
+        (names_by addresses.now) emission.old.counter line.says
         ≡ None) }
-    ensures grown { (list : List layout.Label) → Knows addresses.now.labels.now list → (line : SourceLine)
+    ensures grown { (line : SourceLine)
         → line_of text.now ≡ Ok line
-        → OnOk result (HaveGrown addresses.now.text_size list emission.old.counter emission.old.content line
+        → OnOk result (HaveGrown addresses.now.text_size
+        (names_by addresses.now) emission.old.counter emission.old.content line
         emission.old.parts emission.new.parts) }
     ensures counter { (line : SourceLine) → line_of text.now ≡ Ok line
         → OnOk result (emission.new.counter ≡ layout.counter_after emission.old.counter line.says) }
     ensures content { (line : SourceLine) → line_of text.now ≡ Ok line
         → OnOk result (emission.new.content
         ≡ assembly.text_is emission.old.counter line.says emission.old.content) }
-    ensures err { (list : List layout.Label) → Knows addresses.now.labels.now list → (line : SourceLine)
+    ensures err { (line : SourceLine)
         → line_of text.now ≡ Ok line
         → IfErr result (λ fault. fault ≢ AsmFault.Memory
-        → target_fault number addresses.now.text_size list emission.old.counter line.says ≡ Some fault) }
+        → target_fault number addresses.now.text_size
+        (names_by addresses.now) emission.old.counter line.says ≡ Some fault) }
 {
     let Ok(line) = line_again(alloc, text, kept) else {
         return Err(AsmFault::Memory);

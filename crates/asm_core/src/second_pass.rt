@@ -1,7 +1,7 @@
 //! The second pass over a source: its parts, or the first of its names and distances at fault.
 ghost use Rattle.std.specs.Prelude.{◌≡◌, ◌≢◌, ◌≤◌, [], None, Some, length, IfOk, IfErr};
 ghost use Rattle.asm_core.specs.Source.{lines_of, said_lines};
-ghost use Rattle.asm_core.specs.Layout.{first_counter, labels_of};
+ghost use Rattle.asm_core.specs.Layout.{first_counter, labels_of, names_in};
 ghost use Rattle.asm_core.specs.Faults.{lines_fault, targets_fault, text_length_of};
 ghost use Rattle.asm_core.specs.Known.{Knows};
 ghost use Rattle.asm_core.specs.Kept.{AreKept};
@@ -32,11 +32,11 @@ pub fn emit(
     requires size { text_size ≡ text_length_of (said_lines (lines_of source.now)) }
     ensures parts { IfOk result (λ parts. ArePartsOf (said_lines (lines_of source.now)) parts) }
     ensures ok { IfOk result (λ parts. targets_fault 1 (text_length_of (said_lines (lines_of source.now)))
-        (labels_of (said_lines (lines_of source.now))) first_counter (said_lines (lines_of source.now))
+        (names_in (said_lines (lines_of source.now))) first_counter (said_lines (lines_of source.now))
         ≡ None) }
     ensures err { IfErr result (λ fault. fault ≢ AsmFault.Memory
         → targets_fault 1 (text_length_of (said_lines (lines_of source.now)))
-        (labels_of (said_lines (lines_of source.now))) first_counter (said_lines (lines_of source.now))
+        (names_in (said_lines (lines_of source.now))) first_counter (said_lines (lines_of source.now))
         ≡ Some fault) }
 {
     let addresses = Addresses { labels, text_size };

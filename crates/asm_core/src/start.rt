@@ -1,8 +1,7 @@
 //! Where a program starts.
-ghost use Rattle.std.specs.Prelude.{◌≡◌, ◌≤◌, List};
-ghost use Rattle.asm_core.specs.Layout as layout;
+ghost use Rattle.std.specs.Prelude.{◌≡◌, ◌≤◌};
 ghost use Rattle.asm_core.specs.Faults.{start_in, start_of};
-ghost use Rattle.asm_core.specs.Known.{Knows};
+ghost use Rattle.asm_core.specs.Known.{known};
 
 use crate::labels::{LabelPosition, Labels};
 use sm_types::{Section, TEXT_ADDRESS};
@@ -28,7 +27,7 @@ fn start_in(text_size: u64, label: LabelPosition) -> Option<u64>
 #[tactic(auto, unfolding(crate::specs::Faults::start_of))]
 pub fn start_of(text_size: u64, labels: &Labels<'_>) -> Option<u64>
     requires { text_size ≤ 4194304 }
-    ensures { (list : List layout.Label) → Knows labels.now list → result ≡ start_of text_size list }
+    ensures { result ≡ start_of text_size (known labels.now) }
 {
     start_in(text_size, labels.find(b"_start")?)
 }

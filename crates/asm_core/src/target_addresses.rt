@@ -7,8 +7,7 @@ ghost use Rattle.asm_core.specs.Layout as layout;
 ghost use Rattle.asm_core.specs.Targets as targets;
 ghost use Rattle.asm_core.specs.Faults.{is_undefined, instruction_fault, distance_fault};
 ghost use Rattle.asm_core.specs.Assembly as assembly;
-ghost use Rattle.asm_core.specs.Known.{Knows};
-ghost use Rattle.asm_core.specs.Emitted.{AreNear, CanHave, IsMeant};
+ghost use Rattle.asm_core.specs.Emitted.{AreNear, CanHave, IsMeant, names_by};
 
 use crate::fault::AsmFault;
 use crate::labels::{LabelPosition, Labels};
@@ -49,9 +48,8 @@ pub fn address_in(part: Section, offset: u64, text_size: u64) -> u64
 /// The address of the label of that name.
 fn find_address(addresses: &Addresses<'_, '_>, name: &[u8]) -> Option<u64>
     requires { AreNear addresses.now }
-    ensures value { (list : List layout.Label) → Knows addresses.now.labels.now list
-        → result ≡ option_map (layout.label_address addresses.now.text_size)
-        (layout.label_named list name.now) }
+    ensures value { result ≡ option_map (layout.label_address addresses.now.text_size)
+        (names_by addresses.now name.now) }
     ensures small { MatchOption result (Unit {0}) (λ address. address < 2 ^ 32) }
 {
     match addresses.labels.find(name) {
@@ -64,10 +62,9 @@ fn find_address(addresses: &Addresses<'_, '_>, name: &[u8]) -> Option<u64>
 #[tactic(auto, unfolding(crate::specs::Faults::is_undefined, crate::specs::Assembly::quad_number))]
 pub fn quad_number(value: &Value<'_>, addresses: &Addresses<'_, '_>) -> Option<u64>
     requires { AreNear addresses.now }
-    ensures { (list : List layout.Label) → Knows addresses.now.labels.now list
-        → MatchOption result (is_undefined list (value_of value.now) ≡ true)
-        (λ n. (is_undefined list (value_of value.now) ≡ false)
-        × (n ≡ assembly.quad_number addresses.now.text_size list (value_of value.now))) }
+    ensures { MatchOption result (is_undefined (names_by addresses.now) (value_of value.now) ≡ true)
+        (λ n. (is_undefined (names_by addresses.now) (value_of value.now) ≡ false)
+        × (n ≡ assembly.quad_number addresses.now.text_size (names_by addresses.now) (value_of value.now))) }
 {
     match value {
         Value::Number(number) => Some(*number),
@@ -112,15 +109,15 @@ pub fn resolve_target(
     requires from { from < 2 ^ 32 }
     requires near { AreNear addresses.now }
     requires meant { IsMeant word (option_map target_said target.now) }
-    ensures ok { (list : List layout.Label) → Knows addresses.now.labels.now list
-        → IfOk result (λ resolved. instruction_fault number addresses.now.text_size list from word
+    ensures ok { IfOk result (λ resolved. instruction_fault number addresses.now.text_size
+        (names_by addresses.now) from word
         (option_map target_said target.now) ≡ None) }
-    ensures value { (list : List layout.Label) → Knows addresses.now.labels.now list
-        → IfOk result (λ resolved. resolved ≡ assembly.resolved addresses.now.text_size list from word
+    ensures value { IfOk result (λ resolved. resolved
+        ≡ assembly.resolved addresses.now.text_size (names_by addresses.now) from word
         (option_map target_said target.now)) }
     ensures means { IfOk result (λ resolved. is_some (instruction_of resolved) ≡ true) }
-    ensures err { (list : List layout.Label) → Knows addresses.now.labels.now list
-        → IfErr result (λ fault. instruction_fault number addresses.now.text_size list from word
+    ensures err { IfErr result (λ fault. instruction_fault number addresses.now.text_size
+        (names_by addresses.now) from word
         (option_map target_said target.now) ≡ Some fault) }
 {
     let Some(target) = target else {

@@ -36,10 +36,6 @@ that_mask : (mask : ℕ) (o : Option ℕ) → is_that mask o ≡ true → o ≡ 
 that_mask mask None e = cc
 that_mask mask (Some m) e = ap Some (eqb-true m mask e)
 
-not_true : (b : Bool) → not b ≡ true → b ≡ false
-not_true true e = cc
-not_true false e = refl
-
 pub fields-of : (wide : Bool) (mask field : ℕ) → is_field_of wide mask field ≡ true
     → IsFieldsOf (field_of field 12 1 == 1) (field_of field 0 6) (field_of field 6 6) wide mask
 unfolding is_field_of mask_in are_mask_fields field_of

@@ -158,10 +158,6 @@ get-map f [] n = refl
 get-map f (i ∷ is) zero = refl
 get-map f (i ∷ is) (suc n) = get-map f is n
 
-and_false : (b : Bool) → (b && false) ≡ false
-and_false true = refl
-and_false false = refl
-
 never_named : (k : Kind) (bits field : ℕ) → (is_distance k && is_name (token_said k bits field)) ≡ false
 unfolding is_distance is_name token_said
 never_named (kind.Punctuation c) bits field = refl

@@ -105,6 +105,7 @@ impl Given {
             budget: self.number(Setting::Budget),
             threads: self.number(Setting::Threads),
             cores: self.number(Setting::Cores),
+            kernel: 1,
         }
     }
 }

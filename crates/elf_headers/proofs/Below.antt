@@ -1,7 +1,7 @@
 -- The numbers below a limit: the first answer, tests of one and of all, and the list of answers.
 use Rattle.std.proofs.Common.{◌⊎◌, inl, inr, ◌≡◌, ℕ, zero, suc, ◌+◌, ◌<◌, ◌≤◌, Bool, true, false, List, [], ◌∷◌, ◌++◌, length, get_or}
 use Rattle.std.proofs.Common.{Option, Some, None, IfSome, refl, ap, sym, ◌∙◌, arith, add-one, All}
-use Rattle.std.specs.Prelude.{◌&&◌, ◌||◌, Contains}
+use Rattle.std.specs.Prelude.{◌||◌, Contains}
 use Rattle.std.specs.List.{list_any}
 use Rattle.std.proofs.Math.Bool.{or-true, or-false, and-false}
 use Rattle.std.proofs.lemmas.List.{append-nil}
@@ -65,28 +65,6 @@ first_below-found answer i n x before here l =
     let now : first_below answer (i + 1) ≡ Some x = rw (first_below-next answer i, before, here) refl in
     first_below-stays answer (i + 1) n x now (omega arith)
 
--- the number of the first answer
-pub first_below-least : {A : Type 0} (answer : ℕ → Option A) (n : ℕ) (x : A) → first_below answer n ≡ Some x → (i : ℕ) × (i < n)
-    × (answer i ≡ Some x) × ((j : ℕ) → j < i → answer j ≡ None)
-unfolding first_below
-first_below-least answer zero x h = cc
-first_below-least {A = A} answer (suc n) x h =
-    elim (first_below answer n) as (λ o. first_below answer n ≡ o → option_or o (answer n) ≡ Some x → (i : ℕ) × (i < suc n)
-    × (answer i ≡ Some x) × ((j : ℕ) → j < i → answer j ≡ None)) [
-      | None ↦ λ before here. (n, omega arith, here, first_below-each_none answer n before)
-      | Some y ↦ λ before here.
-          let old : (i : ℕ) × (i < n) × (answer i ≡ Some x) × ((j : ℕ) → j < i → answer j ≡ None) =
-          first_below-least answer n x (before ∙ here) in
-          (old.0, omega (arith, old.1), old.2, old.3)
-    ] refl h
-
--- the same answers have the same first
-pub first_below-same : {A : Type 0} (one two : ℕ → Option A) (n : ℕ) → ((i : ℕ) → i < n → one i ≡ two i)
-    → first_below one n ≡ first_below two n
-unfolding first_below
-first_below-same one two zero h = refl
-first_below-same one two (suc n) h = rw (first_below-same one two n (λ i l. h i (omega arith)), h n (omega arith)) refl
-
 -- ---- a test that one number passes
 
 pub any_below-zero : (test : ℕ → Bool) → any_below test 0 ≡ false
@@ -96,10 +74,6 @@ any_below-zero test = refl
 pub any_below-next : (test : ℕ → Bool) (n : ℕ) → any_below test (n + 1) ≡ (any_below test n || test n)
 unfolding any_below
 any_below-next test n = rw add-one refl
-
--- one more number that fails
-pub any_below-none : (test : ℕ → Bool) (n : ℕ) → any_below test n ≡ false → test n ≡ false → any_below test (n + 1) ≡ false
-any_below-none test n before here = rw (any_below-next test n, before, here) refl
 
 -- a number that passes, below the limit
 pub any_below-found : (test : ℕ → Bool) (i n : ℕ) → test i ≡ true → i < n → any_below test n ≡ true
@@ -116,11 +90,6 @@ pub any_below-all_none : (test : ℕ → Bool) (n : ℕ) → ((i : ℕ) → i < 
 unfolding any_below
 any_below-all_none test zero h = refl
 any_below-all_none test (suc n) h = rw (any_below-all_none test n (λ i l. h i (omega arith)), h n (omega arith)) refl
-
--- where none passes, each fails
-pub any_below-each_none : (test : ℕ → Bool) (n : ℕ) → any_below test n ≡ false → (i : ℕ) → i < n → test i ≡ false
-any_below-each_none test n h i l =
-    elim (test i) as (λ t. test i ≡ t → t ≡ false) [ true ↦ λ e. sym (any_below-found test i n e l) ∙ h | false ↦ λ e. refl ] refl
 
 -- where one passes, it is there
 pub any_below-one : (test : ℕ → Bool) (n : ℕ) → any_below test n ≡ true → (i : ℕ) × (i < n) × (test i ≡ true)
@@ -140,18 +109,6 @@ any_below-same one two zero h = refl
 any_below-same one two (suc n) h = rw (any_below-same one two n (λ i l. h i (omega arith)), h n (omega arith)) refl
 
 -- ---- a test that each number passes
-
-pub all_below-zero : (test : ℕ → Bool) → all_below test 0 ≡ true
-unfolding all_below
-all_below-zero test = refl
-
-pub all_below-next : (test : ℕ → Bool) (n : ℕ) → all_below test (n + 1) ≡ (all_below test n && test n)
-unfolding all_below
-all_below-next test n = rw add-one refl
-
--- one more number that passes
-pub all_below-more : (test : ℕ → Bool) (n : ℕ) → all_below test n ≡ true → test n ≡ true → all_below test (n + 1) ≡ true
-all_below-more test n before here = rw (all_below-next test n, before, here) refl
 
 -- a number that fails, below the limit
 pub all_below-found : (test : ℕ → Bool) (i n : ℕ) → test i ≡ false → i < n → all_below test n ≡ false

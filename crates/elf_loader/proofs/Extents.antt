@@ -1,5 +1,5 @@
 -- The parts of loads, one after another.
-use Rattle.std.proofs.Common.{◌≡◌, ℕ, ◌+◌, ◌-◌, ◌<◌, List, [], ◌∷◌, ◌++◌, length, get_or, take, drop, map, refl, sym, ap, ap₂, ◌∙◌, arith}
+use Rattle.std.proofs.Common.{◌≡◌, ℕ, ◌+◌, ◌-◌, ◌<◌, List, [], ◌∷◌, ◌++◌, length, get_or, take, map, refl, sym, ap, ap₂, ◌∙◌}
 use Rattle.std.proofs.Common.{add-one}
 use Rattle.std.proofs.Math.Seq.{take-suc}
 use Rattle.paged_memory.specs.declared.image.Part.{Part}
@@ -28,6 +28,3 @@ pub parts_all : (file : List ℕ) (parts : List Part) (loads : List ProgramHeade
     → map extent_of parts ≡ map (extent_of_load file) (take i loads) → map extent_of parts ≡ map (extent_of_load file) loads
 parts_all file parts loads i e h =
     h ∙ ap (λ k. map (extent_of_load file) (take k loads)) e ∙ ap (map (extent_of_load file)) (take_all loads)
-
-pub same_bytes : (file : List ℕ) (offset size : ℕ) → take (offset + size - offset) (drop offset file) ≡ take size (drop offset file)
-same_bytes file offset size = let e : offset + size - offset ≡ size = omega arith in rw e refl

@@ -50,18 +50,6 @@ pub some-end : (number : ℕ) (line rest : List ℕ) → length line ≡ 0 → l
 some-end number [] rest e none = ap (some_lines number) (no_text rest none)
 some-end number (b ∷ bs) rest e none = absurd (omega arith)
 
--- ---- the lines as they are split
-
-pub split-more : (number : ℕ) (line : List ℕ) (lines : List (List ℕ)) → length line ≢ 0 → has_text line ≡ true
-    → some_lines number (with_first line lines) ≡ record { number = number + 1; line = line } ∷ some_lines (number + 1) lines
-split-more number [] lines some e = absurd (some refl)
-split-more number (b ∷ bs) lines some e = first_some number (b ∷ bs) lines e
-
-pub split-empty : (number : ℕ) (line : List ℕ) (lines : List (List ℕ)) → length line ≢ 0 → has_text line ≡ false
-    → some_lines number (with_first line lines) ≡ some_lines (number + 1) lines
-split-empty number [] lines some e = absurd (some refl)
-split-empty number (b ∷ bs) lines some e = first_none number (b ∷ bs) lines e
-
 -- ---- values put behind those of earlier lines
 
 abbrev pub behind : {A : Type 0} → List A → Result (List A) Fault → Result (List A) Fault

@@ -46,6 +46,7 @@ fn config_of(vl: u64, svl: u64, slice: u64, budget: u64, threads: u64) -> Option
             budget: budget as u32,
             threads: threads as u32,
             cores: 1,
+            kernel: 1,
         })
     } else {
         None

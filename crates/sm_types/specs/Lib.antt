@@ -4,3 +4,5 @@ pub mod SharedOps
 pub mod Bytes
 pub mod Checks
 pub mod Objects
+pub mod Routines
+pub mod Ranges

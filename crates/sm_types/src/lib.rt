@@ -9,13 +9,17 @@ mod insn;
 mod laws;
 mod length;
 mod matrix;
+mod numbers;
 mod object;
+pub mod routines;
 mod row;
 mod scalars;
 mod shared_op;
 mod shared_words;
 mod stop;
 mod vector;
+mod version;
+mod world_event;
 
 pub use config::Config;
 pub use insn::AccessSize;
@@ -68,6 +72,7 @@ pub use insn::SystemRegister;
 pub use insn::TwoSource;
 pub use insn::TwoSourceOp;
 pub use laws::one_text_address;
+pub use laws::same_numbers;
 pub use length::VecLen;
 pub use matrix::ArrayAccess;
 pub use matrix::Mode;
@@ -79,6 +84,12 @@ pub use matrix::TileAccess;
 pub use matrix::TileAdd;
 pub use matrix::TileMove;
 pub use matrix::TileSlice;
+pub use numbers::Numbers;
+pub use numbers::are_cores;
+pub use numbers::are_threads;
+pub use numbers::is_budget;
+pub use numbers::is_length;
+pub use numbers::is_slice;
 pub use object::Bytes;
 pub use object::Content;
 pub use object::Object;
@@ -132,6 +143,8 @@ pub use vector::VectorReduction;
 pub use vector::VectorShift;
 pub use vector::VectorShiftOp;
 pub use vector::WideningOp;
+pub use version::Version;
+pub use world_event::WorldEvent;
 
 /// Want of memory.
 #[derive(Clone, Copy, Debug, PartialEq, Eq)]

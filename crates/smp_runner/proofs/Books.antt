@@ -146,10 +146,6 @@ rest_more t n held held' h lt new u = ap (λ (l : List ℕ). occurrences u l + o
       once_out u (t + 1) (omega arith),
     )
 
-pub rest_holds : (t n : ℕ) (held : List ℕ) → ((u : ℕ) → occurrences u held + once_below u t ≡ once_below u n) → t < n → 0 < occurrences
-    t held
-rest_holds t n held h lt = let a = h t in omega (arith, a, once_out t t (omega arith), once_in t n lt)
-
 module _ {X : Type 0} (thread : X → ℕ) where
   threads-without : (old new : List X) (x : X) (u : ℕ) → IsWithout old x new → occurrences u (map thread old) ≡ occurrences u
       (map thread new) + mark u (thread x)

@@ -3,7 +3,6 @@ use Rattle.std.proofs.Common.{◌≡◌, ◌≢◌, ℕ, ◌<◌, Bool, true, fa
 use Rattle.std.specs.Prelude.{Option, Some, None, All}
 use Rattle.std.proofs.lemmas.List.{length-append, map_push}
 use Rattle.std.proofs.lemmas.List.Elements.{All-nil, All-cons, All-head, All-tail}
-use Rattle.std.proofs.lemmas.Option.{none-some}
 use Rattle.sm_types.specs.declared.config.Config.{Config}
 use Rattle.sm_types.specs.declared.shared_op.SharedOp.{SharedOp}
 use Rattle.sm_types.specs.declared.shared_op.Event.{Event}
@@ -11,7 +10,7 @@ use Rattle.sm_types.specs.declared.stop.Stop.{Stop}
 use Rattle.shared_region.specs.Tickets.{TicketView, Refusals, IsAllowed}
 use Rattle.kernel_contexts.specs.Call.{TurnEnd, Goes, Yields, Asks, Ends}
 use Rattle.kernel_contexts.specs.Context.{AsksFor}
-use Rattle.core_unit.specs.CoreState.{CoreState, with_first, with_last, with_done, first_number, IsAbsent, BelongTo}
+use Rattle.core_unit.specs.CoreState.{CoreState, with_first, with_last, with_done, IsAbsent, BelongTo}
 use Rattle.core_unit.specs.Guest.{Held}
 use Rattle.core_unit.specs.Run.{RunsCore, RunsWith, RunsHeld, EndsBy, end_of, is_stop, core_after}
 use Rattle.core_unit.specs.declared.run.CoreRun.{CoreRun}
@@ -29,10 +28,6 @@ use Rattle.smp_runner.proofs.Holding.{IsFrom, starts, got, goes_on, stops, room,
 
 some-none : (s : Stop) → Some s ≡ None → ⊥
 some-none s e = cc
-
-pub no_first : {T : Type 0} (hs : List (Held T)) → first_number hs ≡ None → hs ≡ []
-no_first [] e = refl
-no_first (h ∷ hs) e = absurd (none-some h.guest.number (sym e))
 
 pub same_core : {T : Type 0} (old new : CoreState T) → new ≡ old → IsSameCore old new
 same_core old new e = record { number = ap (λ c. c.number) e; config = ap (λ c. c.config) e }

@@ -1,8 +1,8 @@
 -- Workers one after another, and the numbers of their passes.
-use Rattle.std.proofs.Common.{◌≡◌, ◌≢◌, ℕ, zero, suc, ◌+◌, ◌<◌, true, List, [], ◌∷◌, ◌++◌, length, get_or, take, refl, sym, ap, ◌∙◌, subst, arith}
+use Rattle.std.proofs.Common.{◌≡◌, ◌≢◌, ℕ, zero, suc, ◌+◌, ◌<◌, List, [], ◌∷◌, ◌++◌, length, get_or, take, refl, sym, ap, ◌∙◌, subst, arith}
 use Rattle.std.specs.Prelude.{Some, All, slice_get, slice_set}
 use Rattle.std.proofs.lemmas.List.Elements.{All-nil, All-cons, All-head, All-tail}
-use Rattle.std.proofs.lemmas.Option.{none-some, slice_get_within}
+use Rattle.std.proofs.lemmas.Option.{none-some}
 use native.Mathlib.Decide.{ℕ_discrete}
 use mathlib.Core.Logic.{dite}
 use Rattle.shared_region.proofs.Growth.{set_other}
@@ -11,7 +11,7 @@ use Rattle.run_queue.specs.declared.view.Role.TheVariants.{Numbered}
 use Rattle.run_queue.specs.declared.view.PassView.{PassView}
 use Rattle.run_queue.specs.declared.view.Whereabouts.{Whereabouts}
 use Rattle.run_queue.specs.declared.view.Whereabouts.TheVariants.{Out, Back}
-use Rattle.run_queue.specs.Passes.{given_in, with_back, AreAllBack, is_numbered}
+use Rattle.run_queue.specs.Passes.{given_in, with_back}
 use Rattle.smp_runner.specs.Workers.{AreNumbered}
 use Rattle.smp_runner.specs.Gathered.{AreOutBelow, HasJoined}
 
@@ -92,15 +92,6 @@ below_less g h r v w n k only is at joined j out =
     not_back [] i p = none-some Out p
     not_back (x ∷ xs) zero p = back_out p
     not_back (x ∷ xs) (suc i) p = not_back xs i p
-
-pub below_start : (g : List Whereabouts) (n : ℕ) → length g ≡ n → AreOutBelow g n
-below_start g n len k out = let lt = slice_get_within g k Out out in omega (arith, lt, len)
-
-pub below_none : (g : List Whereabouts) → AreOutBelow g 0 → AreAllBack g
-below_none g only n out = let lt = only n out in absurd (omega (arith, lt))
-
-pub is_split : (r : Role) (k : ℕ) → r ≡ Numbered k → is_numbered r ≡ true
-is_split r k is = ap is_numbered is
 
 pub take_back : {X : Type 0} (n : ℕ) (xs ys : List X) → n ≡ length xs → take n (xs ++ ys) ≡ xs
 take_back {X} n xs ys is = ap (λ k. take k (xs ++ ys)) is ∙ go xs

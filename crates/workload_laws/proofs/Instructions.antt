@@ -6,7 +6,7 @@ use Rattle.sm_types.specs.declared.object.Section.TheVariants.{Text}
 use Rattle.asm_parser.specs.Statements.{SourceLine}
 use Rattle.asm_core.specs.declared.location_counter.LocationCounter.{LocationCounter}
 use Rattle.asm_core.specs.Source.{said_lines}
-use Rattle.asm_core.specs.Layout.{Label, size_of, counter_after, counter_past, labels_from}
+use Rattle.asm_core.specs.Layout.{Label, Names, size_of, counter_after, counter_past, labels_from}
 use Rattle.asm_core.specs.Faults.{misaligned, is_too_large, line_fault, lines_fault, target_fault, targets_fault}
 use Rattle.asm_core.proofs.LineFaults.{no_fault}
 use Rattle.asm_core.proofs.Scanning.{line_passes, said_cons}
@@ -90,9 +90,9 @@ words_unlabelled p [] = refl
 words_unlabelled p (word ∷ words) = words_unlabelled (counter_after p (word_line word).says) words
 
 -- and no targets
-pub words_untargeted : (n text_length : ℕ) (labels : List Label) (p : LocationCounter) (words : List ℕ)
-    → targets_fault n text_length labels p (map word_line words) ≡ None
+pub words_untargeted : (n text_length : ℕ) (names : Names) (p : LocationCounter) (words : List ℕ)
+    → targets_fault n text_length names p (map word_line words) ≡ None
 unfolding targets_fault target_fault
-words_untargeted n text_length labels p [] = refl
-words_untargeted n text_length labels p (word ∷ words) =
-    words_untargeted (n + 1) text_length labels (counter_after p (word_line word).says) words
+words_untargeted n text_length names p [] = refl
+words_untargeted n text_length names p (word ∷ words) =
+    words_untargeted (n + 1) text_length names (counter_after p (word_line word).says) words

@@ -10,7 +10,7 @@ use Rattle.sm_types.specs.declared.object.Section.{Section}
 use Rattle.sm_types.specs.declared.object.Section.TheVariants.{Text}
 use Rattle.asm_parser.specs.Statements.{SourceLine}
 use Rattle.asm_core.specs.declared.location_counter.LocationCounter.{LocationCounter}
-use Rattle.asm_core.specs.Layout.{Label, size_of, counter_after, counter_past, labels_of}
+use Rattle.asm_core.specs.Layout.{Names, names_in, size_of, counter_after, counter_past}
 use Rattle.asm_core.specs.Faults.{text_length_of}
 use Rattle.asm_core.specs.Assembly.{numbers_bytes, resolved, Puts, part_bytes, IsObjectOf, Assembles}
 use Rattle.workload.specs.Source.{source_of}
@@ -18,15 +18,15 @@ use Rattle.workload_laws.specs.Words.{source_words, word_line, said_of, HasWords
 use Rattle.workload_laws.proofs.Instructions.{after_words, word_counter}
 use Rattle.workload_laws.proofs.Sources.{source_said, said_counter, said_start, word_count}
 
-module _ (text_length : ℕ) (labels : List Label) (a : Section → List ℕ) where
+module _ (text_length : ℕ) (names : Names) (a : Section → List ℕ) where
   -- the lines from a location counter on put what they do
   ArePut : LocationCounter → List SourceLine → Type 0
   ArePut p lines =
       (k : ℕ) (line : SourceLine) → slice_get lines k ≡ Some line
-      → Puts text_length labels (a (counter_past p (take k lines)).part) (counter_past p (take k lines)) line.says
+      → Puts text_length names (a (counter_past p (take k lines)).part) (counter_past p (take k lines)) line.says
 
   put_first : (p : LocationCounter) (line : SourceLine) (lines : List SourceLine) → ArePut p (line ∷ lines)
-      → Puts text_length labels (a p.part) p line.says
+      → Puts text_length names (a p.part) p line.says
   unfolding ArePut counter_past
   put_first p line lines h = h 0 line refl
 
@@ -35,7 +35,7 @@ module _ (text_length : ℕ) (labels : List Label) (a : Section → List ℕ) wh
   unfolding ArePut counter_past
   put_rest p line lines h = λ k other at. h (suc k) other at
 
-  word_bytes : (count word : ℕ) → Puts text_length labels (a Text) (after_words count) (word_line word).says
+  word_bytes : (count word : ℕ) → Puts text_length names (a Text) (after_words count) (word_line word).says
       → take 4 (drop (4 * count) (a Text)) ≡ little_bytes 4 word
   unfolding Puts resolved
   word_bytes count word h =
@@ -72,7 +72,7 @@ module _ (number : ℕ) (object : Object) (is : Assembles (source_of number) obj
   no_items [] e = refl
   no_items (x ∷ xs) e = absurd (omega arith)
 
-  are_put : ArePut (text_length_of (said_of number)) (labels_of (said_of number)) (part_bytes object) (after_words 0)
+  are_put : ArePut (text_length_of (said_of number)) (names_in (said_of number)) (part_bytes object) (after_words 0)
       (map word_line (source_words number))
   unfolding ArePut said_of counter_past counter_after size_of
   are_put = λ k line at. object_is.puts (suc (suc (suc k))) line at

@@ -13,7 +13,7 @@ use Rattle.sm_types.specs.Objects.{text_address}
 use Rattle.asm_parser.specs.Statements.{SourceLine, IntoText, Globals, Nothing}
 use Rattle.asm_core.specs.declared.location_counter.LocationCounter.{LocationCounter}
 use Rattle.asm_core.specs.Source.{lines_of, said_lines}
-use Rattle.asm_core.specs.Layout.{first_counter, Label, size_of, counter_after, counter_past, labels_from, labels_of, label_named}
+use Rattle.asm_core.specs.Layout.{first_counter, Label, size_of, counter_after, counter_past, labels_from, labels_of, label_named, Names, names_of, names_in}
 use Rattle.asm_core.specs.Faults.{misaligned, is_too_large, line_fault, lines_fault, target_fault, targets_fault, start_of, text_length_of}
 use Rattle.asm_core.specs.Faults.{asm_fault}
 use Rattle.asm_core.proofs.Scanning.{line_passes, said_cons}
@@ -31,11 +31,6 @@ use Rattle.workload_laws.proofs.Chosen.{chosen_text, chosen_short, first_texts, 
 
 abbrev instructions : ℕ → List (List ℕ)
 instructions number = setup_lines ++ (chosen_lines number ++ last_lines)
-
-lines_are : (number : ℕ)
-    → source_lines number ≡ codes ".text" ∷ codes ".global _start" ∷ codes "_start:" ∷ instructions number
-unfolding source_lines
-lines_are number = refl
 
 -- each is the text of its word
 instruction_texts : (number : ℕ) → AreTexts (source_words number) (instructions number)
@@ -176,17 +171,17 @@ unfolding said_of labels_from counter_after size_of
 said_labels number =
     ap (λ (ls : List Label). start_label ∷ ls) (words_unlabelled (after_words 0) (source_words number))
 
-said_untargeted : (number text_length : ℕ) (labels : List Label) → targets_fault 1 text_length labels first_counter (said_of number) ≡ None
+said_untargeted : (number text_length : ℕ) (names : Names) → targets_fault 1 text_length names first_counter (said_of number) ≡ None
 unfolding said_of targets_fault target_fault counter_after size_of
-said_untargeted number text_length labels = words_untargeted 4 text_length labels (after_words 0) (source_words number)
+said_untargeted number text_length names = words_untargeted 4 text_length names (after_words 0) (source_words number)
 
-start_there : (n : ℕ) → 0 < n → start_of n (start_label ∷ []) ≡ Some text_address
+start_there : (n : ℕ) → 0 < n → start_of n (names_of (start_label ∷ [])) ≡ Some text_address
 unfolding start_of label_named
 start_there n l = ap (λ b. cond b (Some text_address) None) (lt-ltb 0 n l)
 
-pub said_start : (number : ℕ) → start_of (text_length_of (said_of number)) (labels_of (said_of number)) ≡ Some text_address
+pub said_start : (number : ℕ) → start_of (text_length_of (said_of number)) (names_in (said_of number)) ≡ Some text_address
 said_start number =
-    ap₂ (λ (p : LocationCounter) (ls : List Label). start_of p.text_size ls) (said_counter number) (said_labels number)
+    ap₂ (λ (p : LocationCounter) (ls : List Label). start_of p.text_size (names_of ls)) (said_counter number) (said_labels number)
     ∙ start_there (4 * (10 + number)) (omega arith)
 
 -- ---- the source
@@ -196,6 +191,6 @@ accepted number l =
     let back = sym (source_said number) in
     no_fault_is (source_of number) (short_enough number l) (is_utf8 number)
     (ap (lines_fault 1 first_counter []) (source_back number) ∙ lines_sound number l) text_address
-    (subst (λ (ls : List SourceLine). targets_fault 1 (text_length_of ls) (labels_of ls) first_counter ls ≡ None) back
+    (subst (λ (ls : List SourceLine). targets_fault 1 (text_length_of ls) (names_in ls) first_counter ls ≡ None) back
     (said_untargeted number _ _))
-    (subst (λ (ls : List SourceLine). start_of (text_length_of ls) (labels_of ls) ≡ Some text_address) back (said_start number))
+    (subst (λ (ls : List SourceLine). start_of (text_length_of ls) (names_in ls) ≡ Some text_address) back (said_start number))

@@ -1,6 +1,6 @@
 -- Lists of which an item is taken or to which one is added.
 use Rattle.std.proofs.Common.{◌≡◌, ℕ, zero, suc, ◌+◌, ◌<◌, ◌++◌, get_or, List, [], ◌∷◌, map, take, drop, length, refl, ap, sym, ◌∙◌, subst, arith, Some, append_assoc}
-use Rattle.std.specs.Prelude.{slice_get, slice_set, Contains, ◌==◌, if◌then◌else◌}
+use Rattle.std.specs.Prelude.{slice_get, Contains, ◌==◌, if◌then◌else◌}
 use Rattle.std.proofs.Math.Seq.{drop-cons}
 use Rattle.std.proofs.lemmas.Bool.Decides.{nat_tests}
 use Rattle.std.proofs.lemmas.List.Elements.{Contains-append_right}
@@ -36,33 +36,17 @@ total-without f g [] i x get = absurd (none-some x get)
 total-without f g (y ∷ ys) zero x get = let e = ap (λ z. f (g z)) (same_Some y x get) in omega (arith, e)
 total-without f g (y ∷ ys) (suc i) x get = let h = total-without f g ys i x get in omega (arith, h)
 
--- the items from a place on, where the one there has changed
-pub drop-set : {X : Type 0} (xs : List X) (i : ℕ) (x : X) → drop (suc i) (slice_set xs i x) ≡ drop (suc i) xs
-drop-set [] i x = refl
-drop-set (y ∷ ys) zero x = refl
-drop-set (y ∷ ys) (suc i) x = drop-set ys i x
-
 pub drop-at : {X : Type 0} (xs : List X) (i : ℕ) (x : X) → slice_get xs i ≡ Some x → drop i xs ≡ x ∷ drop (suc i) xs
 drop-at [] i x get = absurd (none-some x get)
 drop-at (y ∷ ys) zero x get = ap (λ z. z ∷ ys) (same_Some y x get)
 drop-at (y ∷ ys) (suc i) x get = drop-at ys i x get
-
-pub drop_past : {X : Type 0} (xs : List X) → drop (length xs) xs ≡ []
-drop_past [] = refl
-drop_past (x ∷ xs) = drop_past xs
 
 -- a list that has a first item
 pub front_of : {X : Type 0} (xs : List X) (x : X) → slice_get xs 0 ≡ Some x → (rest : List X) × (xs ≡ x ∷ rest)
 front_of [] x get = absurd (none-some x get)
 front_of (y ∷ ys) x get = (ys, ap (λ z. z ∷ ys) (same_Some y x get))
 
--- the first of a list is put after another list
-pub put_after : {A : Type 0} (into rest longer all : List A) (x : A) → longer ≡ into ++ x ∷ [] → into ++ x ∷ rest ≡ all
-    → longer ++ rest ≡ all
-put_after into rest longer all x is so_far =
-    ap (λ l. l ++ rest) is ∙ append_assoc into (x ∷ []) rest ∙ so_far
-
--- and a part of it
+-- a part of a list is put after another list
 pub part_after : {A : Type 0} (into part rest longer all : List A) → longer ≡ into ++ part → into ++ (part ++ rest) ≡ all
     → longer ++ rest ≡ all
 part_after into part rest longer all is so_far = ap (λ l. l ++ rest) is ∙ append_assoc into part rest ∙ so_far

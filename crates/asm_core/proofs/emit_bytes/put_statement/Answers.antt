@@ -4,7 +4,7 @@ use Rattle.std.proofs.lemmas.Result.{on_ok_weaker}
 use Rattle.asm_parser.specs.Statements.{target_said, value_of, Aligns, Globals, Nothing, IntoText, IntoData}
 use Rattle.asm_core.specs.Layout.{here, size_of, address_in}
 use Rattle.asm_core.specs.Assembly.{quad_number, numbers_bytes, resolved}
-use Rattle.asm_core.specs.Emitted.{IsPiece, IsWordAfter}
+use Rattle.asm_core.specs.Emitted.{IsPiece, IsWordAfter, names_by}
 use Rattle.asm_core.proofs.Pieces.{adds_word, adds_quads, adds_words, adds_bytes, adds_zeros, adds_padding, adds_nothing}
 use Rattle.asm_core.proofs.emit_bytes.put_statement.Goals as goal
 
@@ -16,7 +16,8 @@ put_zeros-requires c =
     omega arith
 
 pub returns-in-Instruction-clause-bytes : goal.returns-in-Instruction-clause-bytes
-returns-in-Instruction-clause-bytes c = λ list knows.
+returns-in-Instruction-clause-bytes c =
+    let names = names_by c.args.addresses.now in
     let T = c.args.addresses.now.text_size in
     let p = c.args.counter.now in
     let word = c.in-Instruction.word in
@@ -25,55 +26,60 @@ returns-in-Instruction-clause-bytes c = λ list knows.
     c.address_in-from.ensures.value ∙ ap (address_in T p.part) c.here.ensures in
     rw c.in-Instruction.is
     (on_ok_weaker c.put_instruction.result
-    (λ (h : IsWordAfter (resolved T list c.address_in-from.result word target) c.args.bytes.now.items c.put_instruction.new.bytes.items).
-    adds_word T list p word target c.in-Instruction.column c.args.bytes.now.items c.put_instruction.new.bytes.items
-    (subst (λ n. IsWordAfter (resolved T list n word target) c.args.bytes.now.items c.put_instruction.new.bytes.items) from h))
-    (c.put_instruction.ensures.bytes list knows))
+    (λ (h : IsWordAfter (resolved T names c.address_in-from.result word target) c.args.bytes.now.items c.put_instruction.new.bytes.items).
+    adds_word T names p word target c.in-Instruction.column c.args.bytes.now.items c.put_instruction.new.bytes.items
+    (subst (λ n. IsWordAfter (resolved T names n word target) c.args.bytes.now.items c.put_instruction.new.bytes.items) from h))
+    c.put_instruction.ensures.bytes)
 
 pub returns-in-Quad-clause-bytes : goal.returns-in-Quad-clause-bytes
-returns-in-Quad-clause-bytes c = λ list knows.
+returns-in-Quad-clause-bytes c =
+    let names = names_by c.args.addresses.now in
     let T = c.args.addresses.now.text_size in
     let old = c.args.bytes.now.items in
     let new = c.put_quads.new.bytes.items in
     rw c.in-Quad.is
     (on_ok_weaker c.put_quads.result
-    (λ (e : new ≡ old ++ numbers_bytes 8 (map (quad_number T list) (map value_of c.deref.result.now))).
-    adds_quads T list c.args.counter.now (map value_of c.in-Quad.values.items) old new
-    (e ∙ ap (λ x. old ++ numbers_bytes 8 (map (quad_number T list) (map value_of x))) c.deref.ensures.value))
-    (c.put_quads.ensures.bytes list knows))
+    (λ (e : new ≡ old ++ numbers_bytes 8 (map (quad_number T names) (map value_of c.deref.result.now))).
+    adds_quads T names c.args.counter.now (map value_of c.in-Quad.values.items) old new
+    (e ∙ ap (λ x. old ++ numbers_bytes 8 (map (quad_number T names) (map value_of x))) c.deref.ensures.value))
+    c.put_quads.ensures.bytes)
 
 pub returns-in-Word-clause-bytes : goal.returns-in-Word-clause-bytes
-returns-in-Word-clause-bytes c = λ list knows.
+returns-in-Word-clause-bytes c =
+    let names = names_by c.args.addresses.now in
     let old = c.args.bytes.now.items in
     let new = c.put_words.new.bytes.items in
     rw c.in-Word.is
     (on_ok_weaker c.put_words.result
     (λ (e : new ≡ old ++ numbers_bytes 4 c.deref-in-Word.result.now).
-    adds_words c.args.addresses.now.text_size list c.args.counter.now c.in-Word.numbers.items old new
+    adds_words c.args.addresses.now.text_size names c.args.counter.now c.in-Word.numbers.items old new
     (e ∙ ap (λ x. old ++ numbers_bytes 4 x) c.deref-in-Word.ensures.value))
     c.put_words.ensures.ok)
 
 pub returns-in-Byte-clause-bytes : goal.returns-in-Byte-clause-bytes
-returns-in-Byte-clause-bytes c = λ list knows.
+returns-in-Byte-clause-bytes c =
+    let names = names_by c.args.addresses.now in
     let old = c.args.bytes.now.items in
     let new = c.put_all.new.bytes.items in
     rw c.in-Byte.is
     (on_ok_weaker c.put_all.result
     (λ (e : new ≡ old ++ c.deref-in-Byte.result.now).
-    adds_bytes c.args.addresses.now.text_size list c.args.counter.now c.in-Byte.numbers.items old new
+    adds_bytes c.args.addresses.now.text_size names c.args.counter.now c.in-Byte.numbers.items old new
     (e ∙ ap (λ x. old ++ x) c.deref-in-Byte.ensures.value))
     c.put_all.ensures.ok)
 
 pub returns-in-Zero-clause-bytes : goal.returns-in-Zero-clause-bytes
-returns-in-Zero-clause-bytes c = λ list knows.
+returns-in-Zero-clause-bytes c =
+    let names = names_by c.args.addresses.now in
     let old = c.args.bytes.now.items in
     let new = c.put_zeros.new.bytes.items in
     rw c.in-Zero.is
-    (on_ok_weaker c.put_zeros.result (λ (e : new ≡ old ++ replicate c.in-Zero.count 0). adds_zeros c.args.addresses.now.text_size list
+    (on_ok_weaker c.put_zeros.result (λ (e : new ≡ old ++ replicate c.in-Zero.count 0). adds_zeros c.args.addresses.now.text_size names
     c.args.counter.now c.in-Zero.count old new e) c.put_zeros.ensures.ok)
 
 pub returns-in-Align-clause-bytes : goal.returns-in-Align-clause-bytes
-returns-in-Align-clause-bytes c = λ list knows.
+returns-in-Align-clause-bytes c =
+    let names = names_by c.args.addresses.now in
     let old = c.args.bytes.now.items in
     let new = c.put_zeros-in-Align.new.bytes.items in
     let p = c.args.counter.now in
@@ -81,30 +87,34 @@ returns-in-Align-clause-bytes c = λ list knows.
     rw (c.in-Align.is, c.here-in-Align.ensures) at c.size_of.ensures.value in
     rw c.in-Align.is
     (on_ok_weaker c.put_zeros-in-Align.result
-    (λ (e : new ≡ old ++ replicate c.size_of.result 0). adds_padding c.args.addresses.now.text_size list p c.in-Align.field-0
+    (λ (e : new ≡ old ++ replicate c.size_of.result 0). adds_padding c.args.addresses.now.text_size names p c.in-Align.field-0
     c.size_of.result old new size e)
     c.put_zeros-in-Align.ensures.ok)
 
 pub returns-in-Empty-clause-bytes : goal.returns-in-Empty-clause-bytes
 unfolding size_of IsPiece
 returns-in-Empty-clause-bytes c =
-    λ list knows. rw c.in-Empty.is (adds_nothing c.args.addresses.now.text_size list c.args.counter.now c.args.bytes.now.items Nothing refl
+    let names = names_by c.args.addresses.now in rw c.in-Empty.is
+    (adds_nothing c.args.addresses.now.text_size names c.args.counter.now c.args.bytes.now.items Nothing refl
     tt)
 
 pub returns-in-Text-clause-bytes : goal.returns-in-Text-clause-bytes
 unfolding size_of IsPiece
 returns-in-Text-clause-bytes c =
-    λ list knows. rw c.in-Text.is (adds_nothing c.args.addresses.now.text_size list c.args.counter.now c.args.bytes.now.items IntoText refl
+    let names = names_by c.args.addresses.now in rw c.in-Text.is
+    (adds_nothing c.args.addresses.now.text_size names c.args.counter.now c.args.bytes.now.items IntoText refl
     tt)
 
 pub returns-in-Data-clause-bytes : goal.returns-in-Data-clause-bytes
 unfolding size_of IsPiece
 returns-in-Data-clause-bytes c =
-    λ list knows. rw c.in-Data.is (adds_nothing c.args.addresses.now.text_size list c.args.counter.now c.args.bytes.now.items IntoData refl
+    let names = names_by c.args.addresses.now in rw c.in-Data.is
+    (adds_nothing c.args.addresses.now.text_size names c.args.counter.now c.args.bytes.now.items IntoData refl
     tt)
 
 pub returns-in-Global-clause-bytes : goal.returns-in-Global-clause-bytes
 unfolding size_of IsPiece
 returns-in-Global-clause-bytes c =
-    λ list knows. rw c.in-Global.is (adds_nothing c.args.addresses.now.text_size list c.args.counter.now c.args.bytes.now.items
+    let names = names_by c.args.addresses.now in rw c.in-Global.is
+    (adds_nothing c.args.addresses.now.text_size names c.args.counter.now c.args.bytes.now.items
     (Globals c.in-Global.field-0.now) refl tt)

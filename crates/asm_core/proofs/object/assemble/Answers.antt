@@ -1,13 +1,14 @@
-use Rattle.std.proofs.Common.{rules, ◌≡◌, ◌≢◌, true, false, nat_lt, length, Some, sym, ap, ◌∙◌, arith}
+use Rattle.std.proofs.Common.{rules, ◌≡◌, ◌≢◌, true, false, nat_lt, length, Some, sym, ap, ap₂, ◌∙◌, arith}
 use Rattle.std.proofs.lemmas.Bool.Decides.{nat_tests}
 use Rattle.asm_core.specs.declared.fault.AsmFault.TheVariants.{NotText, Memory}
 use Rattle.asm_core.specs.declared.location_counter.LocationCounter.{LocationCounter}
 use Rattle.asm_core.specs.Source.{lines_of, said_lines}
-use Rattle.asm_core.specs.Layout.{labels_of}
+use Rattle.asm_core.specs.Layout.{names_in}
 use Rattle.asm_core.specs.Faults.{asm_fault, start_of, text_length_of}
 use Rattle.asm_core.proofs.Chain.{long_source, no_text, line_fault_is, target_fault_is, no_start_is, no_fault_is, assembled}
 use Rattle.asm_core.proofs.MappedBytes.{mapped_object}
 use Rattle.asm_core.proofs.Writable.{sound_object}
+use Rattle.asm_core.proofs.Accepted.{same_names}
 use Rattle.asm_core.proofs.object.assemble.Goals as goal
 
 pub returns-then-source-gt-SOURCE_LIMIT-clause-fault : goal.returns-then-source-gt-SOURCE_LIMIT-clause-fault
@@ -44,9 +45,8 @@ returns-in-Some-start_of-clause-assembles c =
     let short : nat_lt 67108864 (length source) ≡ false = grind (arith, nat_tests) in
     let size : c.in_ok-first_pass.first_pass.end.text_size ≡ text_length_of lines =
     ap (λ (p : LocationCounter). p.text_size) c.in_ok-first_pass.ensures.end in
-    let starts : start_of (text_length_of lines) (labels_of lines) ≡ Some c.in-Some-start_of.entry =
-    ap (λ n. start_of n (labels_of lines)) (sym size)
-    ∙ sym (c.in-Some-start_of.ensures (labels_of lines) c.in_ok-first_pass.ensures.knows) in
+    let starts : start_of (text_length_of lines) (names_in lines) ≡ Some c.in-Some-start_of.entry =
+    ap₂ start_of (sym size) (same_names _ _ c.in_ok-first_pass.ensures.knows) ∙ sym c.in-Some-start_of.ensures in
     assembled source c.in_ok-parts.parts c.in-Some-start_of.entry
     (no_fault_is source short c.in_default.ensures c.in_ok-first_pass.ensures.accepted c.in-Some-start_of.entry
     c.in_ok-parts.ensures.ok starts)
@@ -69,4 +69,4 @@ returns-clause-fault c = λ other.
     let size : c.in_ok-first_pass.first_pass.end.text_size ≡ text_length_of lines =
     ap (λ (p : LocationCounter). p.text_size) c.in_ok-first_pass.ensures.end in
     no_start_is source short c.in_default.ensures c.in_ok-first_pass.ensures.accepted c.in_ok-parts.ensures.ok
-    (ap (λ n. start_of n (labels_of lines)) (sym size) ∙ sym (c.in-None.ensures (labels_of lines) c.in_ok-first_pass.ensures.knows))
+    (ap₂ start_of (sym size) (same_names _ _ c.in_ok-first_pass.ensures.knows) ∙ sym c.in-None.ensures)

@@ -1,13 +1,21 @@
-use Rattle.std.proofs.Common.{◌≡◌, ℕ, List, None, Some, refl, subst, arith}
+use Rattle.std.proofs.Common.{◌≡◌, ◌∙◌, ℕ, List, Option, None, Some, sym, ap₂, subst, arith}
 use Rattle.std.proofs.lemmas.Result.{err_from_is_err_and}
+use Rattle.asm_parser.specs.Statements.{SourceLine}
+use Rattle.asm_core.specs.declared.fault.AsmFault.{AsmFault}
 use Rattle.asm_core.specs.Source.{lines_of, said_lines}
-use Rattle.asm_core.specs.Layout.{first_counter, labels_of}
-use Rattle.asm_core.specs.Faults.{lines_fault, targets_fault}
-use Rattle.asm_core.proofs.Accepted.{fine_first, addresses_near}
+use Rattle.asm_core.specs.Layout.{first_counter, Names, names_in}
+use Rattle.asm_core.specs.Known.{known}
+use Rattle.asm_core.specs.Faults.{lines_fault, targets_fault, text_length_of}
+use Rattle.asm_core.proofs.Accepted.{fine_first, addresses_near, same_names}
 use Rattle.asm_core.specs.Kept.{AreKept}
 use Rattle.asm_core.proofs.Keeping.{kept_after, kept_first}
 use Rattle.asm_core.proofs.Emission.{IsAt, at_start, at_next, at_fault, at_end, at_end_fine}
 use Rattle.asm_core.proofs.second_pass.emit.Goals as goal
+
+-- the faults with another size and other names that are the same
+moved : (size to : ℕ) (names others : Names) (lines : List SourceLine) (fault : Option AsmFault) → size ≡ to → names ≡ others
+    → targets_fault 1 size names first_counter lines ≡ fault → targets_fault 1 to others first_counter lines ≡ fault
+moved size to names others lines fault is same e = sym (ap₂ (λ n (l : Names). targets_fault 1 n l first_counter lines) is same) ∙ e
 
 pub loop-text-init : goal.loop-text-init
 loop-text-init c = record {
@@ -15,7 +23,7 @@ loop-text-init c = record {
   left = omega arith;
   at =
       let e = c.new_emission-emission.ensures in
-      at_start c.args.text_size (labels_of (said_lines (lines_of c.args.source.now))) (lines_of c.args.source.now)
+      at_start c.args.text_size (known c.args.labels.now) (lines_of c.args.source.now)
       c.new_emission-emission.result c.requires.accepted e.text_bytes e.data_bytes e.symbols e.counter e.content;
   kept = c.requires.kept;
 }
@@ -36,7 +44,7 @@ emit_line-requires-clause-near c = addresses_near _ (lines_of c.args.source.now)
 pub returns-in_err-emit_line-clause-err : goal.returns-in_err-emit_line-clause-err
 returns-in_err-emit_line-clause-err c =
     let ls = said_lines (lines_of c.args.source.now) in
-    let L = labels_of ls in
+    let L = known c.args.labels.now in
     let at =
     subst (λ (texts : List (List ℕ)). IsAt c.args.text_size L ls texts c.loop-text.number c.loop-text.emission) c.in-Some.ensures.lines
     c.loop-text.invariant.at in
@@ -45,10 +53,11 @@ returns-in_err-emit_line-clause-err c =
     let p = err_from_is_err_and c.from_residual.result c.from_residual.ensures.1 in
     rw (p.1, p.2)
     (λ differs.
-    subst (λ n. targets_fault 1 n L first_counter ls ≡ Some c.in_err-emit_line.field-0.0) c.requires.size
+    moved c.args.text_size (text_length_of ls) L (names_in ls) ls (Some c.in_err-emit_line.field-0.0) c.requires.size
+    (sym (same_names _ _ c.requires.knows))
     (at_fault c.args.text_size L ls c.in-Some.text.now (lines_of c.in-Some.after.now) c.loop-text.number c.loop-text.emission fine.line
     c.in_err-emit_line.field-0.0 fine.says at
-    (c.in_err-emit_line.ensures.err L c.requires.knows fine.line fine.says differs)))
+    (c.in_err-emit_line.ensures.err fine.line fine.says differs)))
 
 pub loop-text-preserved : goal.loop-text-preserved
 loop-text-preserved c = record {
@@ -56,7 +65,7 @@ loop-text-preserved c = record {
   left = omega (arith, c.in-Some.ensures.within);
   at =
       let ls = said_lines (lines_of c.args.source.now) in
-      let L = labels_of ls in
+      let L = known c.args.labels.now in
       let at =
       subst (λ (texts : List (List ℕ)). IsAt c.args.text_size L ls texts c.loop-text.number c.loop-text.emission) c.in-Some.ensures.lines
       c.loop-text.invariant.at in
@@ -65,8 +74,8 @@ loop-text-preserved c = record {
       let e = c.in_ok-emit_line.ensures in
       at_next c.args.text_size L ls c.in-Some.text.now (lines_of c.in-Some.after.now) c.loop-text.number c.loop-text.emission
       c.emit_line.new.emission fine.line fine.says at
-      (e.grown L c.requires.knows fine.line fine.says) (e.counter fine.line fine.says) (e.content fine.line fine.says)
-      (e.ok L c.requires.knows fine.line fine.says);
+      (e.grown fine.line fine.says) (e.counter fine.line fine.says) (e.content fine.line fine.says)
+      (e.ok fine.line fine.says);
   kept =
       rw c.after_first-kept_rest.ensures (kept_after c.loop-text.kept_rest.now c.in-Some.text.now (lines_of c.in-Some.after.now)
       (subst (AreKept c.loop-text.kept_rest.now) c.in-Some.ensures.lines c.loop-text.invariant.kept));
@@ -80,14 +89,16 @@ emit_line-requires-clause-kept c =
 pub returns-clause-parts : goal.returns-clause-parts
 returns-clause-parts c =
     let ls = said_lines (lines_of c.args.source.now) in
-    at_end c.args.text_size (labels_of ls) ls c.loop-text.number c.loop-text.emission c.requires.size refl
-    (subst (λ (texts : List (List ℕ)). IsAt c.args.text_size (labels_of ls) ls texts c.loop-text.number c.loop-text.emission)
+    at_end c.args.text_size (known c.args.labels.now) ls c.loop-text.number c.loop-text.emission c.requires.size
+    (sym (same_names _ _ c.requires.knows))
+    (subst (λ (texts : List (List ℕ)). IsAt c.args.text_size (known c.args.labels.now) ls texts c.loop-text.number c.loop-text.emission)
     c.in_default.ensures.lines c.loop-text.invariant.at)
 
 pub returns-clause-ok : goal.returns-clause-ok
 returns-clause-ok c =
     let ls = said_lines (lines_of c.args.source.now) in
-    subst (λ n. targets_fault 1 n (labels_of ls) first_counter ls ≡ None) c.requires.size
-    (at_end_fine c.args.text_size (labels_of ls) ls c.loop-text.number c.loop-text.emission
-    (subst (λ (texts : List (List ℕ)). IsAt c.args.text_size (labels_of ls) ls texts c.loop-text.number c.loop-text.emission)
+    moved c.args.text_size (text_length_of ls) (known c.args.labels.now) (names_in ls) ls None c.requires.size
+    (sym (same_names _ _ c.requires.knows))
+    (at_end_fine c.args.text_size (known c.args.labels.now) ls c.loop-text.number c.loop-text.emission
+    (subst (λ (texts : List (List ℕ)). IsAt c.args.text_size (known c.args.labels.now) ls texts c.loop-text.number c.loop-text.emission)
     c.in_default.ensures.lines c.loop-text.invariant.at))

@@ -1,6 +1,6 @@
 use Rattle.std.proofs.Common.{◌+◌, ◌≤◌, length}
 use Rattle.asm_core.specs.Source.{lines_of, said_lines}
-use Rattle.asm_core.specs.Layout.{labels_of}
+use Rattle.asm_core.specs.Known.{known}
 use Rattle.asm_core.specs.Kept.{AreKept}
 use Rattle.asm_core.proofs.Emission.{IsAt}
 use Rattle.asm_core.proofs.second_pass.emit.Given as goal
@@ -9,7 +9,7 @@ abbrev pub invariant-loop-text : goal.invariant-loop-text
 invariant-loop-text l = record {
   some : 1 ≤ l.number;
   left : l.number + length l.rest ≤ 1 + length l.source;
-  at : IsAt l.text_size (labels_of (said_lines (lines_of l.source))) (said_lines (lines_of l.source)) (lines_of l.rest) l.number l.emission;
+  at : IsAt l.text_size (known l.labels) (said_lines (lines_of l.source)) (lines_of l.rest) l.number l.emission;
   kept : AreKept l.kept_rest (lines_of l.rest);
 }
 
