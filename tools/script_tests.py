@@ -27,6 +27,7 @@ import show as show_script
 TOOLS = pathlib.Path(__file__).resolve().parent
 TOP, SAMPLES = TOOLS.parent, TOOLS / "samples"
 TWO, SIM = SAMPLES / "two.report", SAMPLES / "two.sim"
+EVENT = "e ld 0 0000000000000000 0000000000000000 0000000000000000\n"
 # lines that a report has where a value is not zero
 OPTIONAL = {"skip", "x", "z", "p", "ffr", "za", "handler", "w", "pending"}
 
@@ -205,8 +206,7 @@ def refusing(folder):
         status, text, said = show(*words)
         yield what, (status, text, said[:len(f"show: {wanted}")]), (2, "", f"show: {wanted}")
     long = folder / "long.report"
-    event = "e ld 0 0000000000000000 0000000000000000 0000000000000000\n"
-    long.write_text(TWO.read_text().replace("journal 0\n", "journal 20000\n" + 20000 * event))
+    long.write_text(TWO.read_text().replace("journal 0\n", "journal 20000\n" + 20000 * EVENT))
     command = f"{sys.executable} {TOOLS / 'show.py'} {long} --thread 1 | head -n 1; echo ${{PIPESTATUS[0]}}"
     yield "a closed pipe", ran("bash", "-c", command), (0, f"smemu-report 2\n{128 + signal.SIGPIPE}\n", "")
 
@@ -274,6 +274,11 @@ def drawing(chromium, folder, text):
     yield "another thread", [clicked.registers.get(name) for name in ("x0", "x1", "pc", "za")], [f"{1:016}", f"{2:016}", "0000000000400010", "0"]
 
 
+def data_of(text):
+    """The first report in a page."""
+    return json.loads(re.search(r'id="data">(.*?)</script>', text)[1])["reports"][0]
+
+
 def paging(folder):
     """The text of the page against the report."""
     status, text, said = show(TWO, "--page")
@@ -281,6 +286,16 @@ def paging(folder):
     wanted = [["0", "exited with status 3", "21", "26", "3", "34"],
               ["1", "the byte at 0x10 is not there, or there is no permission to read it; PC is 0x400010", "4", "4", "0", "0"]]
     yield "the table of threads", [row for row in Cells(text).rows["threads"] if row], wanted
+    first, second = data_of(text)["threads"]
+    lines = dict(line.rpartition(" ")[::2] for line in TWO.read_text().partition("thread 1\n")[0].splitlines())
+    yield "vectors in it", [first["z"], first["p"], first["ffr"], first["za"]], [
+        {number: lines[f"{name} {number}"] for number in numbers} if numbers else lines[name]
+        for name, numbers in (("z", ("0", "31")), ("p", ("0", "15")), ("ffr", ()), ("za", ("1", "4")))]
+    yield "registers in it", [first["x"][30], first["sp"], first["mask"], second["x"][1], second["za"]], ["f" * 16, lines["sp"], lines["mask"], f"{2:016}", None]
+    long = folder / "long.report"
+    long.write_text(TWO.read_text().replace("journal 0\n", "journal 20001\n" + 20001 * EVENT))
+    second = data_of(show(long, "--page")[1])["threads"][1]
+    yield "a long journal", [len(second["journal"]), second["journalLeft"]], [20000, 1]
     yield "nothing from elsewhere", re.findall(r"(?:src|href)=|https?://(?!www\.w3\.org/2000/svg)", text), []
     other = folder / "page.report"
     other.write_text(TWO.read_text().replace("za 4 01000000", "za 4 09000000").replace("out 54", "out 3c"))
