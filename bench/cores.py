@@ -3,10 +3,11 @@
 
     bench/cores.py [PROGRAM]
 
-PROGRAM is the emulator, by default the one that ./smemu --build makes. Four threads of a loop of scalar instructions and of one of 12 mixed
+PROGRAM is the emulator, by default the one that ./smemu runs. Four threads of a loop of scalar instructions and of one of 12 mixed
 vector instructions at 512 bits, on one core and on four; two threads on one and on two, thirty times; eight threads that add to one shared
 word; four threads that end at once, which is what it costs to start workers. What else the machine does shows in the load.
 """
+import argparse
 import os
 import pathlib
 import resource
@@ -19,7 +20,7 @@ TOP = pathlib.Path(__file__).resolve().parent.parent
 sys.path[:0] = [str(TOP / "bench"), str(TOP / "examples")]
 sys.dont_write_bytecode = True
 from elf import elf
-from run import GROWN, PROGRAM, TWELVE, vector_source
+from run import GROWN, TWELVE, emulator, vector_source
 
 ENDS = """    .text
 _start:
@@ -76,7 +77,9 @@ def assembled(program, folder, name, source):
 
 
 def main():
-    program = sys.argv[1] if len(sys.argv) > 1 else PROGRAM
+    words = argparse.ArgumentParser(description=__doc__.partition("\n\n")[0])
+    words.add_argument("program", nargs="?", type=pathlib.Path, metavar="PROGRAM")
+    program = emulator(words.parse_args().program)
     print("load", *os.getloadavg())
     with tempfile.TemporaryDirectory() as name:
         folder = pathlib.Path(name)

@@ -4,11 +4,12 @@ and to refuse one at its last check, and the time from start to report of a shor
 bits, beside qemu-aarch64 where it is installed, and of outer products at 128, 512 and 2048; then the assembler and the listing on sources of 200,000 and 400,000 lines, beside those
 assemblers and disassemblers that are installed.
 
-    bench/run.py
+    bench/run.py [PROGRAM]
 
-It runs the program that ./smemu --build makes, five times each, and prints the best. The decoder is timed by the loader, which decodes each
-word of a load: a file whose last word is unlisted against the same file with the first word unlisted too.
+PROGRAM is the emulator, by default the one that ./smemu runs. Each is run five times, and the best is printed. The decoder is timed by
+the loader, which decodes each word of a load: a file whose last word is unlisted against the same file with the first word unlisted too.
 """
+import argparse
 import pathlib
 import shutil
 import subprocess
@@ -20,7 +21,6 @@ TOP = pathlib.Path(__file__).resolve().parent.parent
 sys.path.insert(0, str(TOP / "examples"))
 from elf import ALLOC, EXECINSTR, STRTAB, SYMTAB, Section, Segment, build, elf, text_of
 
-PROGRAM = TOP / "crates" / "smemu_cli" / "out" / "smemu_cli"
 RUNS = 5
 
 # the loop of examples/countdown.s from 4,999,997: 9,999,999 instructions
@@ -100,6 +100,15 @@ WORDS = 4_000_000
 LINES = 400_000
 
 
+def emulator(named=None):
+    """The emulator of this name, or the one that ./smemu runs."""
+    if named is None:
+        return pathlib.Path(subprocess.run([TOP / "smemu", "--which"], check=True, stdout=subprocess.PIPE, text=True).stdout.rstrip("\n"))
+    if not named.is_file():
+        sys.exit(f"there is no {named}")
+    return named.resolve()
+
+
 def best_of(command, output):
     """The least time of a command whose output goes to a file."""
     times = []
@@ -111,11 +120,12 @@ def best_of(command, output):
     return min(times)
 
 
-def best(path, *options):
+def best(program, path, *options):
+    """The least time of a run, and its report."""
     times = []
     for _ in range(RUNS):
         start = time.perf_counter()
-        text = subprocess.run([PROGRAM, "run", path, *options], capture_output=True, text=True).stdout
+        text = subprocess.run([program, "run", path, *options], capture_output=True, text=True).stdout
         times.append(time.perf_counter() - start)
     return min(times), text
 
@@ -185,14 +195,14 @@ def matrix_source(lines, turns):
     return vector_source(lines, turns, "smstart\n    ptrue p0.b, all\n    index z0.b, #1, #3\n    index z1.b, #-5, #7")
 
 
-def time_vectors(folder, start):
+def time_vectors(smemu, folder, start):
     source, program = folder / "vectors.s", folder / "vectors.elf"
     for name, lines in VECTOR_LOOPS.items():
         source.write_text(vector_source(lines))
-        program.write_bytes(subprocess.run([PROGRAM, "asm", source], check=True, stdout=subprocess.PIPE).stdout)
+        program.write_bytes(subprocess.run([smemu, "asm", source], check=True, stdout=subprocess.PIPE).stdout)
         program.chmod(0o755)
         for vl in (128, 256, 2048):
-            total, report = best(program, "--vl", str(vl))
+            total, report = best(smemu, program, "--vl", str(vl))
             assert "stop exited 0" in report, report[:200]
             count = count_of(report)
             print(f"{name}, {vl} bits: {count} instructions in {total:.3f} s, {count / (total - start) / 1e6:.1f} million a second")
@@ -201,13 +211,13 @@ def time_vectors(folder, start):
                 print(f"qemu-aarch64, {vl} bits: {taken:.3f} s, {count / taken / 1e6:.1f} million a second")
 
 
-def time_matrices(folder, start):
+def time_matrices(smemu, folder, start):
     source, program = folder / "matrices.s", folder / "matrices.elf"
     for name, lines in MATRIX_LOOPS.items():
         for svl, turns in MATRIX_TURNS.items():
             source.write_text(matrix_source(lines, turns))
-            program.write_bytes(subprocess.run([PROGRAM, "asm", source], check=True, stdout=subprocess.PIPE).stdout)
-            total, report = best(program, "--svl", str(svl))
+            program.write_bytes(subprocess.run([smemu, "asm", source], check=True, stdout=subprocess.PIPE).stdout)
+            total, report = best(smemu, program, "--svl", str(svl))
             assert "stop exited 0" in report, report[:200]
             count = count_of(report)
             products = turns * lines.count("mop")
@@ -215,54 +225,57 @@ def time_matrices(folder, start):
                   f"{1e6 * (total - start) / products:.2f} us a product with its share of the rest")
 
 
-def time_sources(folder):
+def time_sources(smemu, folder):
     source, program, other, listing = (folder / name for name in ("source.s", "program.elf", "other.o", "listing"))
     assemblers = [[tool, "-march=armv9-a+sme", "-o", other, source] for tool in ("aarch64-linux-gnu-as",) if shutil.which(tool)]
     disassemblers = [[tool, "-d", program] for tool in ("llvm-objdump", "aarch64-linux-gnu-objdump") if shutil.which(tool)]
     for count in (LINES // 2, LINES):
         source.write_text(source_of(count))
-        taken = best_of([PROGRAM, "asm", source], program)
+        taken = best_of([smemu, "asm", source], program)
         print(f"smemu asm: {count} lines in {taken:.3f} s, {count / taken / 1e6:.2f} million a second")
         for command in assemblers:
             taken = best_of(command, listing)
             print(f"{command[0]}: {count} lines in {taken:.3f} s, {count / taken / 1e6:.2f} million a second")
-        for command in [[PROGRAM, "dis", program], *disassemblers]:
+        for command in [[smemu, "dis", program], *disassemblers]:
             taken = best_of(command, listing)
-            name = "smemu dis" if command[0] == PROGRAM else command[0]
+            name = "smemu dis" if command[0] == smemu else command[0]
             print(f"{name}: {count} words in {taken:.3f} s, {count / taken / 1e6:.2f} million a second")
 
 
 def main():
-    answer = subprocess.run([TOP / "smemu", "asm", TOP / "examples" / "answer.s"], check=True, stdout=subprocess.PIPE).stdout
+    words = argparse.ArgumentParser(description=__doc__.partition("\n\n")[0])
+    words.add_argument("program", nargs="?", type=pathlib.Path, metavar="PROGRAM")
+    smemu = emulator(words.parse_args().program)
+    answer = subprocess.run([smemu, "asm", TOP / "examples" / "answer.s"], check=True, stdout=subprocess.PIPE).stdout
     with tempfile.TemporaryDirectory() as folder:
         path = pathlib.Path(folder) / "program.elf"
         path.write_bytes(answer)
-        start, _ = best(path)
+        start, _ = best(smemu, path)
         print(f"start to report: {1000 * start:.1f} ms")
         for name, file in (("subs, b.ne", elf(GROWN)), ("add, eor, madd, subs, b.ne", elf(MIXED)), ("ldr, add, str, subs, b.ne", paged(ACCESSES))):
             path.write_bytes(file)
-            total, report = best(path)
+            total, report = best(smemu, path)
             count = count_of(report)
             print(f"{name}: {count} instructions in {total:.3f} s, {count / (total - start) / 1e6:.1f} million a second")
-        time_vectors(pathlib.Path(folder), start)
-        time_matrices(pathlib.Path(folder), start)
+        time_vectors(smemu, pathlib.Path(folder), start)
+        time_matrices(smemu, pathlib.Path(folder), start)
         words = listed_words()
         path.write_bytes(elf(words + [UNLISTED]))
-        whole, text = best(path)
+        whole, text = best(smemu, path)
         assert text.startswith("bad file: unlisted")
         path.write_bytes(elf([UNLISTED] + words))
-        none, text = best(path)
+        none, text = best(smemu, path)
         assert text.startswith("bad file: unlisted")
         first = [0xD2800BA8, 0xD4000001]  # movz x8, #93; svc #0
         path.write_bytes(large(first + words))
-        time_loaded, text = best(path)
+        time_loaded, text = best(smemu, path)
         assert "stop exited 0" in text, text[:80]
         path.write_bytes(large(first + words + [UNLISTED]))
-        refused, text = best(path)
+        refused, text = best(smemu, path)
         assert text.startswith("bad file: unlisted")
         print(f"64 MiB: {time_loaded:.3f} s from start to report, of which {time_loaded - start:.3f} s are the file's; {refused:.3f} s to the last check that fails")
         print(f"decoder: {WORDS} words in {whole - none:.3f} s, {WORDS / (whole - none) / 1e6:.1f} million a second")
-        time_sources(pathlib.Path(folder))
+        time_sources(smemu, pathlib.Path(folder))
 
 
 if __name__ == "__main__":

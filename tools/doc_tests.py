@@ -1,5 +1,5 @@
 #!/usr/bin/env python3
-"""Runs the commands of README.md, docs/TUTORIAL.md, docs/FROM_C.md, docs/WORLDS.md and docs/DEBUGGER.md, and compares what they print with what stands below them.
+"""Runs the commands of README.md, docs/TUTORIAL.md, FROM_C.md, WORLDS.md, DEBUGGER.md and REPORT.md, and compares what they print with what stands below them.
 
     tools/doc_tests.py [PROGRAM]
 
@@ -21,7 +21,7 @@ import tempfile
 import threading
 
 TOP = pathlib.Path(__file__).resolve().parent.parent
-PAGES = ("README.md", "docs/TUTORIAL.md", "docs/FROM_C.md", "docs/WORLDS.md", "docs/DEBUGGER.md")
+PAGES = ("README.md", "docs/TUTORIAL.md", "docs/FROM_C.md", "docs/WORLDS.md", "docs/DEBUGGER.md", "docs/REPORT.md")
 # tools that a command may need, and of some the least version
 TOOLS = {"clang-19": 0, "ld.lld-19": 0, "aarch64-linux-gnu-gcc": 0, "aarch64-linux-gnu-ld": 0, "qemu-aarch64": 10, "llvm-symbolizer-19": 0}
 SECONDS = 60

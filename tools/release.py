@@ -9,8 +9,9 @@ the SHA-256 of that program, of its packed file and of each source that it was m
 Packs crates/smemu_cli/out/smemu_cli, as `./smemu --build` has made it: it must be there, and no source may be newer. Two runs write the
 same bytes.
 
---check is for the end of the gate: where the sources that stand here are exactly those of the release, PROGRAM, which is that file
-too where it is not named, must be the released one byte for byte. A release of other sources is no fault, and is told.
+--check is for the end of the gate: where the sources that stand here are exactly those of the release, PROGRAM must be the released one
+byte for byte. Where it is not named it is what was built here, or where nothing was, what the first start of ./smemu has unpacked. A
+release of other sources is no fault, and is told.
 
 --unpack is for ./smemu, and puts the program into release/out, if it is of exactly these sources. It reads what the system says of each
 of them, and keeps it there as `state`: while that holds no source has changed, and no start need ask again.
@@ -40,6 +41,11 @@ FAULTS = OSError, ValueError, subprocess.SubprocessError
 
 def name_of(path):
     return path.relative_to(TOP).as_posix()
+
+
+def shown(path):
+    """A path as it is told: from the top of the repository, where it is below."""
+    return name_of(path) if TOP in path.parents else path
 
 
 def files_under(folder):
@@ -117,10 +123,15 @@ def make():
     return 0
 
 
+def found():
+    """The program that was built here, or where none was the unpacked one."""
+    return BUILT if BUILT.is_file() or not (OUT / PROGRAM).is_file() else OUT / PROGRAM
+
+
 def check(path):
     """Compares a program with the released one, where that is of these sources."""
     if not path.is_file():
-        print(f"release: there is no {path}")
+        print(f"release: there is no {shown(path)}")
         return 1
     if not SUMS.is_file():
         print("release: there is no release")
@@ -135,7 +146,7 @@ def check(path):
         print(f"release: {fault}")
         return 1
     how = "the released program byte for byte" if agree else "not the released program, which is of the same sources"
-    print(f"release: {path} is {how}")
+    print(f"release: {shown(path)} is {how}")
     return 0 if agree else 1
 
 
@@ -192,12 +203,12 @@ def unpack():
 def main():
     words = argparse.ArgumentParser(description=__doc__.partition("\n\n")[0])
     what = words.add_mutually_exclusive_group()
-    what.add_argument("--check", nargs="?", const=BUILT, type=pathlib.Path, metavar="PROGRAM")
+    what.add_argument("--check", nargs="?", const=None, default=False, type=pathlib.Path, metavar="PROGRAM")
     what.add_argument("--unpack", action="store_true")
     words = words.parse_args()
     if words.unpack:
         return unpack()
-    return check(words.check) if words.check else make()
+    return make() if words.check is False else check(words.check or found())
 
 
 if __name__ == "__main__":
