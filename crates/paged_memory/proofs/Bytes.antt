@@ -40,7 +40,7 @@ get_mem_step p rest a old full e =
     ] refl
 
 pub get-mem_of : (ps : List Page) (a : ℕ) → AllByRecursion (λ p. length p.bytes.items ≡ 4096) ps
-    → AllByRecursion (λ p. p.number < 2 ^ 51) ps
+    → AllByRecursion (λ p. p.number < 2 ^ 52) ps
     → get (mem_of ps) a ≡ bind (page_at ps (a / 4096)) (λ p. slice_get p.bytes.items (a % 4096))
 unfolding mem_of
 get-mem_of [] a h l = get-empty nat_cmp a

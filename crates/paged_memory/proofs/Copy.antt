@@ -32,7 +32,7 @@ pub fine_take : (ps : List Page) (i : ℕ) → IsFine ps → IsFine (take i ps)
 fine_take ps i fine = record {
   full = All-take (λ x. length x.bytes.items ≡ 4096) i ps fine.full;
   flags = All-take (λ x. x.flags < 8) i ps fine.flags;
-  low = All-take (λ x. x.number < 2 ^ 51) i ps fine.low;
+  low = All-take (λ x. x.number < 2 ^ 52) i ps fine.low;
   sorted = sorted-take ps i fine.sorted;
 }
 
@@ -60,5 +60,5 @@ memory_of-more ps i p fine l is =
     take_more ps i p l ∙ ap (λ x. take i ps ++ x ∷ []) (sym is) ∙ sym (insert_end (take i ps) p) in
     let fine' : IsFine (insert (take i ps) (length (take i ps)) p) = rw more at (fine_take ps (i + 1) fine) in
     let whole : length p.bytes.items ≡ 4096 = ap (λ x. length x.bytes.items) is ∙ fine.full i p l in
-    let low : p.number < 2 ^ 51 = rw is (fine.low i p l) in
+    let low : p.number < 2 ^ 52 = rw is (fine.low i p l) in
     rw more (memory_of-insert (take i ps) (length (take i ps)) p (fine_take ps i fine) fine' whole low (missing_before ps i p fine l is))

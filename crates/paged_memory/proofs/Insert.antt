@@ -90,18 +90,18 @@ not_same n m l h = grind arith
 pub fine_insert : (ps : List Page) (i : ℕ) (p : Page) → IsFine ps → i ≤ length ps
     → ((k : ℕ) (d : Page) → k < i → (get_or ps k d).number < p.number)
     → ((k : ℕ) (d : Page) → i ≤ k → k < length ps → p.number ≤ (get_or ps k d).number) → length p.bytes.items ≡ 4096 → p.flags < 8
-    → p.number < 2 ^ 51 → get (perm_of ps) p.number ≡ None → IsFine (insert ps i p)
+    → p.number < 2 ^ 52 → get (perm_of ps) p.number ≡ None → IsFine (insert ps i p)
 fine_insert ps i p fine l below rest whole sum low missing = record {
   full = All-insert (λ x. length x.bytes.items ≡ 4096) ps i p fine.full whole;
   flags = All-insert (λ x. x.flags < 8) ps i p fine.flags sum;
-  low = All-insert (λ x. x.number < 2 ^ 51) ps i p fine.low low;
+  low = All-insert (λ x. x.number < 2 ^ 52) ps i p fine.low low;
   sorted =
       sorted-insert ps i p fine.sorted l below
       (λ k d m n. not_same p.number _ (rest k d m n) (page_at-there ps k d p.number n (page_absent ps p.number missing)));
 }
 
 -- what a memory with one more page has at an address and at a number
-pub mem-with_page : (m : AddressSpace) (n flags : ℕ) (bs : List ℕ) (a : ℕ) → length bs ≡ 4096 → n < 2 ^ 51
+pub mem-with_page : (m : AddressSpace) (n flags : ℕ) (bs : List ℕ) (a : ℕ) → length bs ≡ 4096 → n < 2 ^ 52
     → get (with_page m n flags bs).mem a ≡ over (4096 * n) bs a (get m.mem a)
 unfolding with_page
 mem-with_page m n flags bs a full low = get-set_bytes m.mem (4096 * n) bs a (rw full (omega arith))
@@ -118,19 +118,19 @@ same_memory m n bytes flags =
     λ i. record { mem = mem i; perm = perm i }
 
 pub memory_of-insert : (ps : List Page) (i : ℕ) (p : Page) → IsFine ps → IsFine (insert ps i p) → length p.bytes.items ≡ 4096
-    → p.number < 2 ^ 51 → get (perm_of ps) p.number ≡ None
+    → p.number < 2 ^ 52 → get (perm_of ps) p.number ≡ None
     → memory_of (insert ps i p) ≡ with_page (memory_of ps) p.number p.flags p.bytes.items
 memory_of-insert ps i p fine fine' whole low missing =
     let none : page_at ps p.number ≡ None = page_absent ps p.number missing in
     same_memory _ _
     (λ a.
     get-mem_of (insert ps i p) a (recursion_from_All (λ x. length x.bytes.items ≡ 4096) _ fine'.full)
-    (recursion_from_All (λ x. x.number < 2 ^ 51) _ fine'.low)
+    (recursion_from_All (λ x. x.number < 2 ^ 52) _ fine'.low)
     ∙ ap (λ o. bind o (λ x. slice_get x.bytes.items (a % 4096))) (page_at-insert ps i p (a / 4096) none)
     ∙ sym (mem-with_page (memory_of ps) p.number p.flags p.bytes.items a whole low
     ∙ get_mem_step p (page_at ps (a / 4096)) a _ whole
     (get-mem_of ps a (recursion_from_All (λ x. length x.bytes.items ≡ 4096) ps fine.full)
-    (recursion_from_All (λ x. x.number < 2 ^ 51) ps fine.low))))
+    (recursion_from_All (λ x. x.number < 2 ^ 52) ps fine.low))))
     (λ q.
     get-perm_of (insert ps i p) q ∙ ap (option_map (λ x. x.flags)) (page_at-insert ps i p q none)
     ∙ sym (get_perm_step (p.number == q) p (page_at ps q))

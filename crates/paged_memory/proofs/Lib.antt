@@ -13,5 +13,9 @@ pub mod Whole
 pub mod Touch
 pub mod Parts
 pub mod Count
+pub mod Held
 pub mod Owned
+pub mod Counted
+pub mod Listed
+pub mod Written
 pub mod Permitted

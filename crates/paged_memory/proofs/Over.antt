@@ -100,6 +100,13 @@ get-set_bytes-low m a (b ∷ bs) q h =
     let low : a + length (b ∷ bs) < 2 ^ 64 = h (omega arith) in
     get-set_bytes m a (b ∷ bs) q (omega arith)
 
+pub set_bytes-round : (m : FinMap nat_cmp ℕ) (a b : ℕ) (bs : List ℕ) → a % 2 ^ 64 ≡ b % 2 ^ 64 → set_bytes m a bs ≡ set_bytes m b bs
+unfolding set_bytes
+set_bytes-round m a b [] e = refl
+set_bytes-round m a b (x ∷ bs) e =
+    let next : (a + 1) % 2 ^ 64 ≡ (b + 1) % 2 ^ 64 = omega (arith, e) in
+    ap (λ k. set_bytes (insert m k x) (a + 1) bs) e ∙ set_bytes-round (insert m (b % 2 ^ 64) x) (a + 1) (b + 1) bs next
+
 pub set_bytes-append : (m : FinMap nat_cmp ℕ) (a : ℕ) (bs cs : List ℕ)
     → set_bytes m a (bs ++ cs) ≡ set_bytes (set_bytes m a bs) (a + length bs) cs
 unfolding set_bytes

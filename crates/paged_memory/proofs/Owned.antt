@@ -1,54 +1,17 @@
--- Which pages are owned, where all are; and what is known of owned pages after writes.
-use Rattle.std.proofs.Common.{◌≡◌, ℕ, zero, suc, ◌+◌, ◌/◌, ◌%◌, ◌^◌, ◌<◌, ◌==◌, Bool, true, false, cond, List, [], ◌∷◌, ◌++◌}
-use Rattle.std.proofs.Common.{refl, ap, ap₂, sym, ◌∙◌, subst, arith, All, get_or, Option, Some, None, inl, inr}
+-- What is known of owned pages: what a run of bytes owns, and runs one after the other.
+use Rattle.std.proofs.Common.{◌≡◌, ℕ, zero, suc, ◌+◌, ◌/◌, ◌%◌, ◌^◌, ◌<◌, ◌≤◌, ◌==◌, Bool, true, false, List, [], ◌∷◌, ◌++◌}
+use Rattle.std.proofs.Common.{refl, ap, ap₂, sym, ◌∙◌, subst, arith, All, get_or, Option, Some, None, inl, inr, true≢false}
 use Rattle.std.specs.Prelude.{◌||◌, ◌&&◌, is_some, IsSome, IsTrue, Result, Ok, Err}
 use Rattle.std.specs.List.{list_any}
 use Rattle.std.proofs.lemmas.Bool.{eq-eqb, eqb-true, or_cases}
 use Rattle.std.proofs.lemmas.List.Folds.{list_any-append, list_any_at}
-use Rattle.std.specs.FinMap.{get, get-insert, get-empty}
-use Rattle.std.specs.FinSet.{contains, contains-insert, contains-empty}
+use Rattle.std.specs.FinMap.{get}
+use Rattle.std.specs.FinSet.{contains, contains-insert}
+use Rattle.std.specs.FinSet as set
 use Rattle.std.specs.Cmp.{nat_cmp_total}
-use Rattle.std.specs.Ordering.{nat_cmp, eq_by_cmp}
-use Rattle.paged_memory.specs.declared.page.Page.{Page}
 use Rattle.paged_memory.specs.Memory.{run_of}
 use Rattle.paged_memory.specs.PageTable.{PageTable, AreOwned, IsOwned, is_touched, OwnsAlso, IsRefused, Owns, KeepsOwned}
-use Rattle.paged_memory.specs.Pages.{perm_of, numbers_of, table_of}
-
--- ---- where all pages are owned
-
-some_or : (b : Bool) (flags : ℕ) (o : Option ℕ) → is_some (cond b (Some flags) o) ≡ (b || is_some o)
-some_or true flags o = refl
-some_or false flags o = refl
-
-contains-numbers_of : (ps : List Page) (n : ℕ) → contains (numbers_of ps) n ≡ is_some (get (perm_of ps) n)
-unfolding numbers_of perm_of
-contains-numbers_of [] n = contains-empty nat_cmp n ∙ sym (ap is_some (get-empty nat_cmp n))
-contains-numbers_of (p ∷ ps) n =
-    contains-insert nat_cmp_total (numbers_of ps) p.number n ∙ ap (λ b. eq_by_cmp nat_cmp n p.number || b) (contains-numbers_of ps n)
-    ∙ sym (ap is_some (get-insert nat_cmp_total (perm_of ps) p.number p.flags n)
-    ∙ some_or (eq_by_cmp nat_cmp n p.number) p.flags (get (perm_of ps) n))
-
-there_again : (any there : Bool) → there ≡ ((any && there) || there)
-there_again true true = refl
-there_again true false = refl
-there_again false there = refl
-
--- all pages are owned before and after, so those of any bytes are
-owned_as_before : (ps qs : List Page) (addresses : List ℕ) → perm_of qs ≡ perm_of ps → OwnsAlso (table_of ps) (table_of qs) addresses
-owned_as_before ps qs addresses e number =
-    let there : Bool = is_some (get (perm_of ps) number) in
-    let any : Bool = list_any (λ a. a / 4096 == number) addresses in
-    contains-numbers_of qs number ∙ ap (λ m. is_some (get m number)) e ∙ there_again any there
-    ∙ ap (λ b. (any && there) || b) (sym (contains-numbers_of ps number))
-
-pub owns_also : (ps qs : List Page) (t : PageTable) (addresses : List ℕ) → table_of ps ≡ t → perm_of qs ≡ perm_of ps
-    → OwnsAlso t (table_of qs) addresses
-owns_also ps qs t addresses is e = subst (λ t. OwnsAlso t (table_of qs) addresses) is (owned_as_before ps qs addresses e)
-
-pub owns_all : (ps : List Page) (t : PageTable) (addresses : List ℕ) → table_of ps ≡ t → OwnsAlso t t addresses
-owns_all ps t addresses is = subst (λ t. OwnsAlso t t addresses) is (owned_as_before ps ps addresses refl)
-
--- ---- what is known of owned pages
+use Rattle.paged_memory.proofs.Over.{eq_by_cmp-nat}
 
 -- where no byte is written, no more pages are owned
 pub owns_none : {Value Stop Cause : Type 0} (cause_of : Stop → Option Cause) (t : PageTable) (r : Result Value Stop)
@@ -106,7 +69,7 @@ owns_then a b c xs first second number = second number ∙ first number
 
 -- ---- the bytes of a run
 
-or_true : (b : Bool) → (b || true) ≡ true
+pub or_true : (b : Bool) → (b || true) ≡ true
 or_true true = refl
 or_true false = refl
 
@@ -177,3 +140,101 @@ owns_no_more old new address n owned owns number =
     (λ any there. reached (contains old.owned number ≡ true) (λ a. a / 4096 == number) address n
     (λ k lt here.
     subst (λ p. is_some (get old.memory.perm p) ≡ true → contains old.owned p ≡ true) (eqb-true _ _ here) (owned k lt) there) any)
+
+-- the page of the first byte is owned where the pages of all are
+pub owned_first : (t : PageTable) (a n : ℕ) → AreOwned t a n → a < 2 ^ 64 → 0 < n → IsSome (get t.memory.perm (a / 4096))
+    → IsOwned t (a / 4096)
+owned_first t a n owned low some there =
+    let place : (a + 0) % 2 ^ 64 / 4096 ≡ a / 4096 = omega (arith, low) in
+    let is : IsSome (get t.memory.perm ((a + 0) % 2 ^ 64 / 4096)) = rw place there in
+    rw place at (owned 0 some is)
+
+-- ---- runs within a page, and one after the other
+
+-- where a run within a page ends, it has left no other page
+run_place : (a n k : ℕ) → a < 2 ^ 64 → a % 4096 + n ≤ 4096 → k < n → (a + k) % 2 ^ 64 / 4096 ≡ a / 4096
+run_place a n k low fits l = omega (arith, low, fits, l)
+
+first_hit : (a n number : ℕ) → a < 2 ^ 64 → 0 < n → (a / 4096 == number) ≡ true
+    → list_any (λ x. x / 4096 == number) (run_of a n) ≡ true
+unfolding run_of
+first_hit a zero number low some is = absurd (omega (arith, some))
+first_hit a (suc n) number low some is =
+    let same : a % 2 ^ 64 ≡ a = omega (arith, low) in
+    ap (λ x. (x / 4096 == number) || list_any (λ y. y / 4096 == number) (run_of (a + 1) n)) same
+    ∙ ap (λ b. b || list_any (λ y. y / 4096 == number) (run_of (a + 1) n)) is
+
+only_page : (found is : Bool) → (is ≡ true → found ≡ true) → (found ≡ true → is ≡ true) → found ≡ is
+only_page true true there back = refl
+only_page true false there back = sym (back refl)
+only_page false true there back = there refl
+only_page false false there back = refl
+
+-- the bytes of a run within a page lie in that page alone
+pub run_page : (a n number : ℕ) → a < 2 ^ 64 → 0 < n → a % 4096 + n ≤ 4096
+    → list_any (λ x. x / 4096 == number) (run_of a n) ≡ (a / 4096 == number)
+run_page a n number low some fits =
+    only_page (list_any (λ x. x / 4096 == number) (run_of a n)) (a / 4096 == number) (first_hit a n number low some)
+    (λ found. reached ((a / 4096 == number) ≡ true) (λ x. x / 4096 == number) a n
+    (λ k l here. ap (λ p. p == number) (sym (run_place a n k low fits l)) ∙ here) found)
+
+same_run : (a b n : ℕ) → a % 2 ^ 64 ≡ b % 2 ^ 64 → run_of a n ≡ run_of b n
+unfolding run_of
+same_run a b zero e = refl
+same_run a b (suc n) e =
+    let next : (a + 1) % 2 ^ 64 ≡ (b + 1) % 2 ^ 64 = omega (arith, e) in
+    ap (λ x. x ∷ run_of (a + 1) n) e ∙ ap (λ xs. b % 2 ^ 64 ∷ xs) (same_run (a + 1) (b + 1) n next)
+
+pub run_of-append : (a d n : ℕ) → run_of a (d + n) ≡ run_of a d ++ run_of ((a + d) % 2 ^ 64) n
+unfolding run_of
+run_of-append a zero n =
+    let count : 0 + n ≡ n = omega arith in
+    let place : a % 2 ^ 64 ≡ (a + 0) % 2 ^ 64 % 2 ^ 64 = omega arith in
+    rw count (same_run a ((a + 0) % 2 ^ 64) n place)
+run_of-append a (suc d) n =
+    let count : suc d + n ≡ suc (d + n) = omega arith in
+    let place : a + suc d ≡ a + 1 + d = omega arith in
+    rw (count, place) (ap (λ xs. a % 2 ^ 64 ∷ xs) (run_of-append (a + 1) d n))
+
+-- one more run, after others
+pub owns_next : (old now new : PageTable) (a d n : ℕ) → now.memory.perm ≡ old.memory.perm → OwnsAlso old now (run_of a d)
+    → OwnsAlso now new (run_of ((a + d) % 2 ^ 64) n) → OwnsAlso old new (run_of a (d + n))
+owns_next old now new a d n same before next =
+    let addresses : run_of a d ++ run_of ((a + d) % 2 ^ 64) n ≡ run_of a (d + n) = sym (run_of-append a d n) in
+    subst (λ xs. OwnsAlso old new xs) addresses
+    (owns_both old now new (run_of a d) (run_of ((a + d) % 2 ^ 64) n) same before next)
+
+pub owns_nothing_yet : (t : PageTable) (a : ℕ) → OwnsAlso t t (run_of a 0)
+unfolding run_of
+owns_nothing_yet t a number = refl
+
+touched_page : (here there owned : Bool) → (here ≡ true → there ≡ true) → (here || owned) ≡ ((here && there) || owned)
+touched_page true true owned is = refl
+touched_page true false owned is = sym (ap (λ b. b || owned) (is refl))
+touched_page false there owned is = refl
+
+pub same_page : (k n : ℕ) → (k == n) ≡ true → k ≡ n
+same_page k n t = eqb-true k n t
+
+-- the page of a run within it is owned besides
+pub owns_page : (old new : PageTable) (a n : ℕ) → a < 2 ^ 64 → 0 < n → a % 4096 + n ≤ 4096 → IsSome (get old.memory.perm (a / 4096))
+    → new.owned ≡ set.insert old.owned (a / 4096) → OwnsAlso old new (run_of a n)
+owns_page old new a n low some fits there is number =
+    ap (λ s. contains s number) is ∙ contains-insert nat_cmp_total old.owned (a / 4096) number
+    ∙ ap (λ b. b || contains old.owned number) (eq_by_cmp-nat number (a / 4096))
+    ∙ touched_page (a / 4096 == number) (is_some (get old.memory.perm number)) (contains old.owned number)
+    (λ t. subst (λ k. is_some (get old.memory.perm k) ≡ true) (same_page (a / 4096) number t) there)
+    ∙ ap (λ b. (b && is_some (get old.memory.perm number)) || contains old.owned number) (sym (run_page a n number low some fits))
+
+untouched_page : (here there owned : Bool) → (here ≡ true → there ≡ false) → owned ≡ ((here && there) || owned)
+untouched_page true true owned is = absurd (true≢false (is refl))
+untouched_page true false owned is = refl
+untouched_page false there owned is = refl
+
+-- and no page, where the run lies in none
+pub owns_no_page : (t : PageTable) (a n : ℕ) → a < 2 ^ 64 → 0 < n → a % 4096 + n ≤ 4096 → get t.memory.perm (a / 4096) ≡ None
+    → OwnsAlso t t (run_of a n)
+owns_no_page t a n low some fits gone number =
+    untouched_page (a / 4096 == number) (is_some (get t.memory.perm number)) (contains t.owned number)
+    (λ is. ap is_some (subst (λ k. get t.memory.perm k ≡ None) (same_page (a / 4096) number is) gone))
+    ∙ ap (λ b. (b && is_some (get t.memory.perm number)) || contains t.owned number) (sym (run_page a n number low some fits))

@@ -1,5 +1,5 @@
 -- The parts of an image, taken from the last to the first.
-use Rattle.std.proofs.Common.{inl, inr, ◌≡◌, ℕ, zero, suc, ◌+◌, ◌-◌, ◌/◌, ◌^◌, ◌<◌, ◌≤◌, true, false, List, [], ◌∷◌, length, get_or, drop}
+use Rattle.std.proofs.Common.{inl, inr, ◌≡◌, ℕ, zero, suc, ◌+◌, ◌-◌, ◌/◌, ◌%◌, ◌^◌, ◌<◌, ◌≤◌, true, false, List, [], ◌∷◌, length, get_or, drop}
 use Rattle.std.proofs.Common.{map, refl, ap, sym, ◌∙◌, arith, Option, Some, None, slice_get, All}
 use Rattle.std.specs.Prelude.{◌&&◌, nat_le, nat_lt, IsSome}
 use Rattle.std.proofs.lemmas.Bool.Decides.{nat_tests}
@@ -7,7 +7,9 @@ use Rattle.std.proofs.lemmas.Option.{slice_get-get_or}
 use Rattle.paged_memory.specs.declared.image.Part.{Part}
 use Rattle.std.specs.Option.{option_or}
 use Rattle.paged_memory.specs.Image.{Extent, extent_of, union, part_flags, image_flags, part_byte, parts_byte, image_byte, or_zero, zero_in}
-use Rattle.paged_memory.specs.Parts.{IsPlaced, AreApart}
+use Rattle.std.specs.FinMap.{get}
+use Rattle.paged_memory.specs.Memory.{AddressSpace}
+use Rattle.paged_memory.specs.Parts.{IsPlaced, AreApart, AreMapped}
 use Rattle.paged_memory.proofs.Over.{over, low_or, over-below, over-above, over-inside}
 
 -- ---- the list of extents
@@ -179,3 +181,14 @@ bytes_touched parts i d a all l g m =
     let within : length (extent_of (get_or parts i d)).bytes ≤ (extent_of (get_or parts i d)).size =
     (placed_at IsPlaced parts i d all l).inside in
     touched_at parts i d a l g (omega arith)
+
+pub bytes_mapped : (parts : List Part) (i : ℕ) (d : Part) (m : AddressSpace) → All IsPlaced (map extent_of parts) → i < length parts
+    → ((n : ℕ) → get m.perm n ≡ image_flags (map extent_of parts) n)
+    → AreMapped m (extent_of (get_or parts i d)).address (length (extent_of (get_or parts i d)).bytes)
+bytes_mapped parts i d m all l flags k inside =
+    let low : (extent_of (get_or parts i d)).address + length (extent_of (get_or parts i d)).bytes < 2 ^ 64 =
+    placed_bytes_low (extent_of (get_or parts i d)) (placed_at IsPlaced parts i d all l) (omega arith) in
+    let place : ((extent_of (get_or parts i d)).address + k) % 2 ^ 64 ≡ (extent_of (get_or parts i d)).address + k = omega arith in
+    let touched : IsSome (image_flags (map extent_of parts) (((extent_of (get_or parts i d)).address + k) / 4096)) =
+    bytes_touched parts i d ((extent_of (get_or parts i d)).address + k) all l (omega arith) (omega arith) in
+    rw (place, flags (((extent_of (get_or parts i d)).address + k) / 4096)) touched

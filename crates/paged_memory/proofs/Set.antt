@@ -3,6 +3,7 @@ use Rattle.std.proofs.Common.{inl, inr, ◌≡◌, ℕ, zero, suc, ◌+◌, ◌/
 use Rattle.std.proofs.Common.{length, get_or, set, take, drop, refl, ap, sym, ◌∙◌, arith, Option, Some, None, slice_get, option_map}
 use Rattle.std.specs.Prelude.{◌==◌, map, IsSome}
 use Rattle.std.proofs.lemmas.Bool.Decides.{nat_tests}
+use Rattle.std.proofs.lemmas.Grind.{common_steps}
 use Rattle.std.proofs.lemmas.List.Elements.{recursion_from_All, All-set}
 use Rattle.std.proofs.lemmas.Option.{slice_get-get_or}
 use Rattle.std.specs.FinMap.{get, same_map, nat_cmp-IsAntisymmetric}
@@ -16,7 +17,7 @@ use Rattle.paged_memory.proofs.Over.{over, low_or, apart, over-below, over-above
 use Rattle.paged_memory.proofs.Bytes.{bind, get-perm_of, get-mem_of}
 use Rattle.paged_memory.proofs.Order.{and_first, and_second, and_both, later_apart}
 
-page_at-set : (ps : List Page) (i : ℕ) (new d : Page) (n : ℕ) → is_sorted nat_cmp (map page_entry ps) ≡ true → i < length ps
+pub page_at-set : (ps : List Page) (i : ℕ) (new d : Page) (n : ℕ) → is_sorted nat_cmp (map page_entry ps) ≡ true → i < length ps
     → new.number ≡ (get_or ps i d).number
     → page_at (set ps i new) n ≡ cond (new.number == n) (Some new) (page_at ps n)
 page_at-set [] i new d n s h e = absurd (omega arith)
@@ -58,7 +59,7 @@ pub fine_set : (ps : List Page) (i : ℕ) (new d : Page) → IsFine ps → i < l
 fine_set ps i new d fine l whole sum e = record {
   full = All-set (λ x. length x.bytes.items ≡ 4096) ps i new whole fine.full;
   flags = All-set (λ x. x.flags < 8) ps i new sum fine.flags;
-  low = All-set (λ x. x.number < 2 ^ 51) ps i new (rw e (fine.low i d l)) fine.low;
+  low = All-set (λ x. x.number < 2 ^ 52) ps i new (rw e (fine.low i d l)) fine.low;
   sorted = sorted-set ps i new d l e fine.sorted;
 }
 
@@ -84,7 +85,7 @@ pub get-mem_of-fine : (ps : List Page) (a : ℕ) → IsFine ps
     → get (mem_of ps) a ≡ bind (page_at ps (a / 4096)) (λ x. slice_get x.bytes.items (a % 4096))
 get-mem_of-fine ps a fine =
     get-mem_of ps a (recursion_from_All (λ x. length x.bytes.items ≡ 4096) ps fine.full)
-    (recursion_from_All (λ x. x.number < 2 ^ 51) ps fine.low)
+    (recursion_from_All (λ x. x.number < 2 ^ 52) ps fine.low)
 
 pub mem_of-set : (ps : List Page) (i : ℕ) (new d : Page) (a : ℕ) → IsFine ps → IsFine (set ps i new) → i < length ps
     → new.number ≡ (get_or ps i d).number
@@ -140,7 +141,7 @@ run_bytes ps i s bs new d fine fine' l found e fits is =
     let old : Page = get_or ps i d in
     let full : length old.bytes.items ≡ 4096 = fine.full i d l in
     let number : new.number ≡ s / 4096 = e ∙ found_number ps (s / 4096) i d l found in
-    let low : s / 4096 < 2 ^ 51 = rw (found_number ps (s / 4096) i d l found) at (fine.low i d l) in
+    let low : s / 4096 < 2 ^ 52 = rw (found_number ps (s / 4096) i d l found) at (fine.low i d l) in
     same_map nat_cmp_total nat_cmp-IsAntisymmetric _ _ (λ a.
     mem_of-set ps i new d a fine fine' l e ∙ elim
     (new.number == a / 4096) as (λ t. (new.number == a / 4096) ≡ t
@@ -165,3 +166,8 @@ page_missing ps n none some = missing (get (perm_of ps) n) (get-perm_of ps n ∙
 
 pub none_found : (ps : List Page) (n : ℕ) → page_at ps n ≡ None → get (perm_of ps) n ≡ None
 none_found ps n none = get-perm_of ps n ∙ ap (option_map (λ x. x.flags)) none
+
+-- a run of bytes set in others leaves as many
+pub run_length : (xs bs : List ℕ) (i : ℕ) → length xs ≡ 4096 → i + length bs ≤ 4096
+    → length (take i xs ++ (bs ++ drop (i + length bs) xs)) ≡ 4096
+run_length xs bs i full fits = grind (arith, common_steps)

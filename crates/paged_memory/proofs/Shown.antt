@@ -20,7 +20,7 @@ bytes_from-list m a (b ∷ bs) h =
     bytes_from-list m (a + 1) bs (λ k l. let e : a + 1 + k ≡ a + suc k = omega arith in rw e (h (suc k) (omega arith))) in
     rw (first, rest) refl
 
-page_bytes : (ps : List Page) (i : ℕ) (d : Page) → IsFine ps → i < length ps
+pub page_bytes : (ps : List Page) (i : ℕ) (d : Page) → IsFine ps → i < length ps
     → bytes_from (mem_of ps) ((get_or ps i d).number * 4096) 4096 ≡ (get_or ps i d).bytes.items
 page_bytes ps i d fine l =
     let p : Page = get_or ps i d in
@@ -30,7 +30,7 @@ page_bytes ps i d fine l =
     let place : (p.number * 4096 + k) / 4096 ≡ p.number = omega arith in
     let inside : (p.number * 4096 + k) % 4096 ≡ k = omega arith in
     get-mem_of ps (p.number * 4096 + k) (recursion_from_All (λ x. length x.bytes.items ≡ 4096) ps fine.full)
-    (recursion_from_All (λ x. x.number < 2 ^ 51) ps fine.low)
+    (recursion_from_All (λ x. x.number < 2 ^ 52) ps fine.low)
     ∙ rw (place, inside, page_at-index ps i d fine.sorted l) refl) in
     rw full at all
 

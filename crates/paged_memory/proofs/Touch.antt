@@ -12,7 +12,7 @@ use Rattle.paged_memory.specs.declared.page.Page.{Page}
 use Rattle.paged_memory.specs.Memory.{AddressSpace, with_page}
 use Rattle.paged_memory.specs.Image.{union, zero_in}
 use Rattle.paged_memory.specs.Parts.{IsZero}
-use Rattle.paged_memory.specs.Pages.{page_at, mem_of, perm_of, memory_of, IsFine}
+use Rattle.paged_memory.specs.Pages.{page_at, mem_of, perm_of, memory_of, IsFine, AreHeld}
 use Rattle.paged_memory.proofs.Over.{over, in_page, off_page}
 use Rattle.paged_memory.proofs.Insert.{mem-with_page, perm-with_page}
 use Rattle.paged_memory.proofs.Set.{perm_of-set, mem_of-set, found_number, found_flags, found_byte}
@@ -67,7 +67,7 @@ new_flags m new n f bs q gone is =
 zero_at : (n k : ℕ) → k < n → slice_get {X = ℕ} (replicate n 0) k ≡ Some 0
 zero_at n k h = slice_get-get_or (replicate n 0) k 0 (rw (length-replicate {A = ℕ} n 0) h) ∙ ap Some (get_or-replicate {A = ℕ} n k 0 0 h)
 
-pub new_zero : (m new : AddressSpace) (n f : ℕ) (bs : List ℕ) → IsZero m → n < 2 ^ 51 → bs ≡ replicate 4096 0 → new ≡ with_page m n f bs
+pub new_zero : (m new : AddressSpace) (n f : ℕ) (bs : List ℕ) → IsZero m → n < 2 ^ 52 → bs ≡ replicate 4096 0 → new ≡ with_page m n f bs
     → IsZero new
 new_zero m new n f bs none low zeros is a =
     let full : length bs ≡ 4096 = ap length zeros ∙ length-replicate {A = ℕ} 4096 0 in
@@ -147,3 +147,6 @@ no_pages_flags ps n e = rw e (no_flags n)
 
 pub no_pages_zero : (ps : List Page) → ps ≡ [] → IsZero (memory_of ps)
 no_pages_zero ps e a = rw e (no_bytes a ∙ ap zero_in (sym (no_flags (a / 4096))))
+
+pub no_pages_own : (ps : List Page) → ps ≡ [] → AreHeld true ps
+no_pages_own ps e = rw e (λ k d l. absurd (omega arith))

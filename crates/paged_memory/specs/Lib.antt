@@ -1,6 +1,10 @@
 pub mod Memory
 pub mod Image
+pub mod PageBytes
+pub mod Kept
 pub mod Pages
 pub mod Parts
 pub mod PageTable
 pub mod Accesses
+pub mod Writes
+pub mod PageList

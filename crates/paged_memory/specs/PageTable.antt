@@ -1,7 +1,7 @@
 -- The pages of a guest thread as its callers see them: the memory that they make, and which of them are
 -- owned. An owned page is the thread's alone, and a write to it takes no memory. Source: copy on write, as
 -- System V's fork has it.
-use Rattle.std.specs.Prelude.{◌≡◌, ℕ, ◌+◌, ◌/◌, ◌%◌, ◌^◌, ◌<◌, ◌==◌, ◌||◌, ◌&&◌, Bool, List, refl, IsSome, is_some}
+use Rattle.std.specs.Prelude.{◌≡◌, ℕ, ◌+◌, ◌/◌, ◌%◌, ◌^◌, ◌<◌, ◌==◌, ◌||◌, ◌&&◌, Bool, cond, not, List, [], ◌∷◌, refl, IsSome, is_some}
 use Rattle.std.specs.Prelude.{IsTrue, Option, Some, None, Result, Ok, Err}
 use Rattle.std.specs.List.{list_any}
 use Rattle.std.specs.FinMap.{get}
@@ -58,3 +58,14 @@ abbrev pub Owns : {Value Stop Cause : Type 0}
     → (Stop → Option Cause) → List ℕ → PageTable → PageTable → Result Value Stop → Type 0
 Owns cause_of written old new (Ok value) = OwnsAlso old new written
 Owns cause_of written old new (Err stop) = IsRefused old new (cause_of stop)
+
+-- the pages of the bytes at these addresses that are not owned yet
+unfoldable pub shared_pages : PageTable → List ℕ → FinSet nat_cmp
+shared_pages t [] = set.empty
+shared_pages t (a ∷ addresses) =
+    cond (is_some (get t.memory.perm (a / 4096)) && not (contains t.owned (a / 4096)))
+    (set.insert (shared_pages t addresses) (a / 4096)) (shared_pages t addresses)
+
+-- how many pages are owned
+abbrev pub owned_count : PageTable → ℕ
+owned_count t = set.len t.owned

@@ -1,6 +1,6 @@
 -- What a list of pages holds, by address and by number of page.
 -- Source: a page is 4096 bytes from its number times 4096 on.
-use Rattle.std.specs.Prelude.{◌≡◌, ℕ, ◌*◌, ◌<◌, ◌^◌, true, cond, List, [], ◌∷◌, Option, Some, None, ◌==◌}
+use Rattle.std.specs.Prelude.{◌≡◌, ℕ, ◌*◌, ◌<◌, ◌^◌, Bool, true, cond, List, [], ◌∷◌, Option, Some, None, ◌==◌}
 use Rattle.std.specs.Prelude.{length, All, map}
 use Rattle.std.specs.FinMap.{FinMap, insert, empty, is_sorted}
 use Rattle.std.specs.FinSet.{FinSet}
@@ -30,12 +30,16 @@ perm_of (p ∷ ps) = insert (perm_of ps) p.number p.flags
 abbrev pub memory_of : List Page → AddressSpace
 memory_of ps = record { mem = mem_of ps; perm = perm_of ps }
 
--- the numbers of the pages
+-- the numbers of the pages whose bytes are their own
 unfoldable pub numbers_of : List Page → FinSet nat_cmp
 numbers_of [] = set.empty
-numbers_of (p ∷ ps) = set.insert (numbers_of ps) p.number
+numbers_of (p ∷ ps) = cond p.bytes.own (set.insert (numbers_of ps) p.number) (numbers_of ps)
 
--- the table of pages that are all owned
+-- the bytes of each page are its own, or of none
+abbrev pub AreHeld : Bool → List Page → Type 0
+AreHeld own ps = All (λ p. p.bytes.own ≡ own) ps
+
+-- the table of pages, of which each is owned whose bytes are its own
 abbrev pub table_of : List Page → PageTable
 table_of ps = record { memory = memory_of ps; owned = numbers_of ps }
 
@@ -47,10 +51,10 @@ program_of ps entry code = record { memory = memory_of ps; entry = entry; code =
 abbrev pub page_entry : Page → ℕ × ℕ
 page_entry p = (p.number, p.flags)
 
--- each page is whole and below address 2 ^ 63, its flags are a sum of execute, write and read, and the
+-- each page is whole and below address 2 ^ 64, its flags are a sum of execute, write and read, and the
 -- numbers rise
 pub record IsFine (ps : List Page) : Type 0 where
   pub full : All (λ p. length p.bytes.items ≡ 4096) ps
   pub flags : All (λ p. p.flags < 8) ps
-  pub low : All (λ p. p.number < 2 ^ 51) ps
+  pub low : All (λ p. p.number < 2 ^ 52) ps
   pub sorted : is_sorted nat_cmp (map page_entry ps) ≡ true

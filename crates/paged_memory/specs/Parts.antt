@@ -1,6 +1,6 @@
 -- Which parts an image may have.
 -- Source: the address space of a guest thread, with its stack and the shared region.
-use Rattle.std.specs.Prelude.{◌≡◌, ℕ, zero, suc, ◌+◌, ◌/◌, ◌<◌, ◌≤◌, ◌^◌, cond, List, [], ◌∷◌, None, length}
+use Rattle.std.specs.Prelude.{◌≡◌, ℕ, zero, suc, ◌+◌, ◌/◌, ◌%◌, ◌<◌, ◌≤◌, ◌^◌, cond, List, [], ◌∷◌, None, length}
 use Rattle.std.specs.Prelude.{All, IsSome, is_some}
 use Rattle.paged_memory.specs.Image.{Extent, image_flags, part_byte, parts_byte, zero_in, IsImagePage}
 use Rattle.paged_memory.specs.Memory.{AddressSpace}
@@ -34,5 +34,5 @@ abbrev pub IsZero : AddressSpace → Type 0
 IsZero m = (a : ℕ) → get m.mem a ≡ zero_in (get m.perm (a / 4096))
 
 -- each of the n addresses from an address on is in a page
-abbrev pub IsMapped : AddressSpace → ℕ → ℕ → Type 0
-IsMapped m address n = (a : ℕ) → address ≤ a → a < address + n → IsSome (get m.perm (a / 4096))
+abbrev pub AreMapped : AddressSpace → ℕ → ℕ → Type 0
+AreMapped m address n = (k : ℕ) → k < n → IsSome (get m.perm ((address + k) % 2 ^ 64 / 4096))

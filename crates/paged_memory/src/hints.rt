@@ -4,13 +4,26 @@ ghost use Rattle.std.specs.Prelude.{◌≡◌, ◌≤◌, length};
 use crate::page::Page;
 use std::alloc::{AllocError, Global};
 
-/// How many hints there are.
-const HINTS: usize = 512;
+/// How many hints so many pages have: a power of two, so that the pages of one run have a hint each.
+fn hint_count(pages: usize) -> usize {
+    match pages {
+        0..=512 => 512,
+        513..=1024 => 1024,
+        1025..=2048 => 2048,
+        _ => 4096,
+    }
+}
+
+/// The place of the hint for a page of that number, among so many hints.
+#[inline(always)]
+fn slot_of(count: usize, number: u64) -> usize {
+    number as usize & count.wrapping_sub(1)
+}
 
 /// The hint for a page of that number.
-#[inline]
+#[inline(always)]
 pub fn hinted_place(hints: &[u16], number: u64) -> usize {
-    let slot = (number % HINTS as u64) as usize;
+    let slot = slot_of(hints.len(), number);
     if slot < hints.len() {
         usize::from(hints[slot])
     } else {
@@ -22,10 +35,12 @@ pub fn hinted_place(hints: &[u16], number: u64) -> usize {
 pub fn hints_of(alloc: Global, pages: &[Page]) -> Result<Vec<u16>, AllocError>
     requires { length pages.now ≤ 4096 }
 {
-    let mut hints = [0; HINTS];
-    for place in 0..pages.len() {
-        let slot = (pages[place].number % HINTS as u64) as usize;
-        hints[slot] = place as u16;
+    let mut hints = vec![in alloc; 0u16; hint_count(pages.len())]?;
+    for (place, page) in pages.iter().enumerate() {
+        let slot = slot_of(hints.len(), page.number);
+        if let Some(hint) = hints.get_mut(slot) {
+            *hint = place as u16;
+        }
     }
-    Vec::from_slice(alloc, &hints)
+    Ok(hints)
 }

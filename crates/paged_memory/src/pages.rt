@@ -1,17 +1,23 @@
 //! The pages of a guest thread.
 ghost use Rattle.std.specs.Prelude.{◌≡◌, ◌≢◌, ℕ, ◌+◌, ◌*◌, ◌/◌, ◌%◌, ◌^◌, ◌<◌, ◌≤◌, ◌↔◌, length, slice_get};
 ghost use Rattle.std.specs.Prelude.{IsSome, IfSome, IfNone, IfOk, IfErr, OnOk, OnErr, Some, None, IsTrue};
-ghost use Rattle.std.specs.Prelude.{is_ok};
+ghost use Rattle.std.specs.Prelude.{is_ok, map, count_by, All, Err, false};
 ghost use Rattle.std.specs.FinMap.{get, entries, len};
+ghost use Rattle.std.specs.FinSet as set;
 ghost use Rattle.paged_memory.specs.Memory.{IsWhole, with_stack, with_zero_pages, no_memory, bytes_from};
 ghost use Rattle.paged_memory.specs.Memory.{byte_with, bytes_with, first_without, run_of, word_at, set_bytes};
 ghost use Rattle.paged_memory.specs.PageTable.{AreOwned, OwnsAlso, Owns, KeepsOwned};
+ghost use Rattle.paged_memory.specs.PageTable.{shared_pages, owned_count};
+ghost use Rattle.paged_memory.specs.PageList.{IsPageList, HasPage, image_entry};
 ghost use Rattle.paged_memory.specs.Accesses.{need_of, stopped_at, IsOfWrite};
-ghost use Rattle.paged_memory.specs.Pages.{perm_of, memory_of, IsFine};
+ghost use Rattle.paged_memory.specs.Pages.{perm_of, memory_of, IsFine, AreHeld};
 
 use crate::hints::hints_of;
 use crate::image::Image;
-use crate::page::{Page, add_page, first_lacking, put_permitted, run};
+use crate::page::{Page, add_page, first_lacking, run};
+use crate::page_bytes::PageBytes;
+use crate::page_list::{PageList, pages_of_list};
+use crate::writes::{own_run, write_bytes};
 use sm_types::{Access, Memory};
 use std::alloc::{AllocError, Global};
 use std::marker::Model;
@@ -54,6 +60,17 @@ pub enum WriteStop {
     Memory,
 }
 
+impl From<AllocError> for WriteStop {
+    ghost use Rattle.std.specs.Prelude.{◌≡◌};
+    ghost use Rattle.paged_memory.specs.declared.pages.WriteStop.TheVariants as stop;
+
+    ghost from_gives = { λ _ given. given ≡ stop.Memory };
+
+    fn from(_: AllocError) -> WriteStop {
+        WriteStop::Memory
+    }
+}
+
 /// A page as it is shown: its address in bytes, a multiple of 4096, its flags and its 4096 bytes.
 #[derive(Clone, Copy)]
 pub struct PageView<'a> {
@@ -73,19 +90,24 @@ fn need_of(access: Access) -> u8
 }
 
 impl Pages {
-    /// The pages of an image, and the stack. `Memory` is want of memory.
+    /// The pages of an image, and the stack, all of them shared. `Memory` is want of memory.
     pub fn from_image(alloc: Global, image: &Image) -> Result<Pages, Memory>
         ensures ok { IfOk result (λ p. p.memory ≡ with_stack image.now.memory) }
         ensures few { IfOk result (λ p. len p.memory.perm ≤ 4096) }
         ensures whole { IfOk result (λ p. IsWhole p.memory) }
+        ensures shared { IfOk result (λ p. owned_count p ≡ 0) }
     {
-        match image_and_stack(alloc, image) {
-            Ok(pages) => match hints_of(alloc, pages.as_slice()) {
-                Ok(hints) => Ok(Pages { pages, hints }),
-                Err(_) => Err(Memory),
-            },
-            Err(_) => Err(Memory),
-        }
+        started_from(alloc, image).map_err(|_| Memory)
+    }
+
+    /// Exactly the pages of a list. `Memory` is want of memory.
+    pub fn from_pages(alloc: Global, list: &PageList) -> Result<Pages, Memory>
+        requires { IsPageList list.now.items }
+        ensures pages { IfOk result (λ p. entries p.memory.perm ≡ map image_entry list.now.items) }
+        ensures bytes { IfOk result (λ p. All (HasPage p.memory) list.now.items) }
+        ensures whole { IfOk result (λ p. IsWhole p.memory) }
+    {
+        listed(alloc, list).map_err(|_| Memory)
     }
 
     /// Reads the bytes from an address on; addresses go round at 2^64. After `Err`, `into` may hold anything.
@@ -112,7 +134,7 @@ impl Pages {
     }
 
     /// Some bytes from an address on that lie in one page; `None` exactly where that page cannot be read.
-    #[inline]
+    #[inline(always)]
     pub fn bytes_within(&self, address: u64, count: usize) -> Option<&[u8]>
         requires some { 0 < count }
         requires within { address % 4096 + count ≤ 4096 }
@@ -131,7 +153,7 @@ impl Pages {
 
     /// The word of the four bytes from an address on; `None` exactly where one of them is in no executable
     /// page.
-    #[inline]
+    #[inline(always)]
     pub fn fetch(&self, pc: u64) -> Option<u32>
         ensures { result ≡ word_at self.now.memory pc }
     {
@@ -146,6 +168,7 @@ impl Pages {
     }
 
     /// The same, where the bytes may lie in two pages.
+    #[inline(never)]
     fn fetch_across(&self, pc: u64) -> Option<u32>
         ensures { result ≡ word_at self.now.memory pc }
     {
@@ -182,6 +205,14 @@ impl Pages {
         }
     }
 
+    /// How many pages are owned, each of which has a copy of its own.
+    pub fn own_pages(&self) -> usize
+        ensures value { result ≡ owned_count self.now }
+        ensures few { result ≤ len self.now.memory.perm }
+    {
+        own_count(self.pages.as_slice())
+    }
+
     /// Makes the pages of so many bytes from an address on owned, and no others; after `Err` some of them may
     /// be.
     pub fn own(&mut self, address: u64, length: u64) -> Result<(), Memory>
@@ -189,16 +220,16 @@ impl Pages {
         ensures memory { self.new.memory ≡ self.old.memory }
         ensures room { AreOwned self.old address length → IsTrue (is_ok result) }
         ensures kept { KeepsOwned self.old self.new }
+        ensures count { OnOk result (owned_count self.new
+            ≡ owned_count self.old + set.len (shared_pages self.old (run_of address length))) }
     {
-        // every page is
-        let _ = &self.pages;
-        Ok(())
+        own_run(&mut self.pages, self.hints.as_slice(), address, length).map_err(|_| Memory)
     }
 
     /// Writes bytes from an address on, and makes their pages owned, and no others; addresses go round at
     /// 2^64. `Abort` comes where one of them may not be written, and leaves all as it was; `Memory` where
     /// there is no memory for a page that is not owned: nothing is written, but more pages may be owned.
-    #[inline]
+    #[inline(always)]
     pub fn write(&mut self, address: u64, bytes: &[u8]) -> Result<(), WriteStop>
         ensures ok { OnOk result (self.new.memory
             ≡ record self.old.memory { mem = set_bytes self.old.memory.mem address bytes.now }) }
@@ -210,14 +241,10 @@ impl Pages {
         ensures room { AreOwned self.old address (length bytes.now) → result ≢ Err WriteStop.Memory }
         ensures owned { Owns stopped_at (run_of address (length bytes.now)) self.old self.new result }
         ensures whole { IsWhole self.new.memory }
+        ensures count { OnOk result (owned_count self.new
+            ≡ owned_count self.old + set.len (shared_pages self.old (run_of address (length bytes.now)))) }
     {
-        match put_permitted(&mut self.pages, self.hints.as_slice(), address, bytes) {
-            None => Ok(()),
-            Some(address) => Err(WriteStop::Abort(Abort {
-                address,
-                access: Access::Write,
-            })),
-        }
+        write_bytes(&mut self.pages, self.hints.as_slice(), address, bytes)
     }
 
     /// How many pages there are.
@@ -276,32 +303,55 @@ fn copy_out(pages: &[Page], hints: &[u16], address: u64, need: u8, into: &mut [u
 }
 
 /// The pages of an image, and those of the stack.
-fn image_and_stack(alloc: Global, image: &Image) -> Result<Vec<Page>, AllocError>
-    ensures fine { IfOk result (λ pages. IsFine pages.items) }
-    ensures memory { IfOk result (λ pages. memory_of pages.items ≡ with_stack image.now.memory) }
-    ensures few { IfOk result (λ pages. length pages.items ≤ 4096) }
+fn started_from(alloc: Global, image: &Image) -> Result<Pages, AllocError>
+    ensures ok { IfOk result (λ p. p.memory ≡ with_stack image.now.memory) }
+    ensures few { IfOk result (λ p. len p.memory.perm ≤ 4096) }
+    ensures whole { IfOk result (λ p. IsWhole p.memory) }
+    ensures shared { IfOk result (λ p. owned_count p ≡ 0) }
 {
-    let mut pages = image.copy_pages(alloc)?;
+    let mut pages = image.share_pages(alloc)?;
     add_stack(alloc, &mut pages)?;
-    Ok(pages)
+    let hints = hints_of(alloc, pages.as_slice())?;
+    Ok(Pages { pages, hints })
 }
 
-/// Adds the pages of the stack.
+/// How many of the pages have bytes of their own.
+fn own_count(pages: &[Page]) -> usize
+    ensures { result ≡ count_by (λ p. p.bytes.own) pages.now }
+{
+    pages.iter().filter(|page| page.bytes.is_own()).count()
+}
+
+/// Adds the pages of the stack, which share one page of zeros.
 fn add_stack(alloc: Global, pages: &mut Vec<Page>) -> Result<(), AllocError>
     requires fine { IsFine pages.old.items }
     requires free { (n : ℕ) → 0x7DFFFFFC0 ≤ n → n < 0x7E0000000 → get (perm_of pages.old.items) n ≡ None }
+    requires shared { AreHeld false pages.old.items }
     ensures fine { IsFine pages.new.items }
     ensures memory { OnOk result (memory_of pages.new.items ≡ with_stack (memory_of pages.old.items)) }
     ensures count { OnOk result (length pages.new.items ≡ length pages.old.items + 64) }
+    ensures shared { OnOk result (AreHeld false pages.new.items) }
 {
+    let zeros = PageBytes::shared_of(alloc, vec![in alloc; 0u8; 4096]?)?;
     for n in 0..64 {
-        let bytes = vec![in alloc; 0u8; 4096]?;
         let page = Page {
             number: 0x7DFFFFFC0 + n,
             flags: 6,
-            bytes,
+            bytes: zeros.share(alloc)?,
         };
         add_page(pages, page)?;
     }
     Ok(())
+}
+
+/// The pages of a list.
+fn listed(alloc: Global, list: &PageList) -> Result<Pages, AllocError>
+    requires { IsPageList list.now.items }
+    ensures pages { IfOk result (λ p. entries p.memory.perm ≡ map image_entry list.now.items) }
+    ensures bytes { IfOk result (λ p. All (HasPage p.memory) list.now.items) }
+    ensures whole { IfOk result (λ p. IsWhole p.memory) }
+{
+    let pages = pages_of_list(alloc, list)?;
+    let hints = hints_of(alloc, pages.as_slice())?;
+    Ok(Pages { pages, hints })
 }

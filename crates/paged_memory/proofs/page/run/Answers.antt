@@ -10,7 +10,7 @@ returns-then-page-need-clause-there c =
     let full : length c.index-pages-i.result.bytes.items ≡ 4096 =
     rw c.index-pages-i.is (c.requires.fine.full c.in-Some.i _ c.in-Some.ensures.0) in
     let count : c.args.address % 4096 + c.args.count - c.args.address % 4096 ≡ c.args.count = omega arith in
-    rw (count, c.deref.ensures.value) (run_read c.args.pages.now c.args.need c.args.address c.args.count c.index-pages-i.result
+    rw (count, c.as_slice.ensures) (run_read c.args.pages.now c.args.need c.args.address c.args.count c.index-pages-i.result
     c.requires.fine page c.if-page-need.true full (omega arith) c.requires.fits)
 
 pub returns-else-page-need-clause-gone : goal.returns-else-page-need-clause-gone

@@ -18,7 +18,7 @@ returns-then-index-len-clause-entry c =
 pub returns-then-index-len-clause-bytes : goal.returns-then-index-len-clause-bytes
 returns-then-index-len-clause-bytes c =
     bytes_shown c.self.inside.pages.items _ c.args.index c.index-page.result.now _ c.self.invariant.0 (ap (λ t. t.memory) c.self.view_is)
-    (omega arith) c.index-page.ensures c.as_slice.ensures.value
+    (omega arith) c.index-page.ensures c.as_slice.ensures
 
 pub returns-else-index-len-clause-there : goal.returns-else-index-len-clause-there
 returns-else-index-len-clause-there c =
@@ -28,5 +28,5 @@ returns-else-index-len-clause-there c =
 
 pub returns-then-index-len-clause-whole : goal.returns-then-index-len-clause-whole
 returns-then-index-len-clause-whole c =
-    ap length (c.as_slice.ensures.value ∙ ap (λ p. p.bytes.items) c.index-page.ensures)
+    ap length (c.as_slice.ensures ∙ ap (λ p. p.bytes.items) c.index-page.ensures)
     ∙ c.self.invariant.0.full c.args.index c.index-page.result.now (omega arith)
