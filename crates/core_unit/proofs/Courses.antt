@@ -9,8 +9,8 @@ use Rattle.kernel_contexts.specs.State.{State}
 use Rattle.kernel_contexts.specs.Call.{TurnEnd, Goes, Yields, Asks, Ends}
 use Rattle.kernel_contexts.specs.Turn.{turn_of}
 use Rattle.kernel_contexts.proofs.Runs.{same_kind}
-use Rattle.core_unit.specs.Course.{Course, Going, GaveWay, HasStopped, Unanswered, after_turn, one_more, course}
-use Rattle.core_unit.specs.Run.{place_of}
+use Rattle.core_unit.specs.Course.{Course, Going, GaveWay, HasStopped, Unanswered, course_after, one_more, course}
+use Rattle.core_unit.specs.Run.{course_at}
 
 -- answers that are more: where it goes on, it leaves them too
 abbrev IsLonger : List Event → Course → Course → Type 0
@@ -26,7 +26,7 @@ answered_longer true more left s t done event = refl
 answered_longer false more left s t done event = tt
 
 turn_longer : (more left : List Event) (s : State) (done : ℕ) (end : TurnEnd)
-    → IsLonger more (after_turn s done left end) (after_turn s done (left ++ more) end)
+    → IsLonger more (course_after s done left end) (course_after s done (left ++ more) end)
 turn_longer more left s done (Goes t) = refl
 turn_longer more left s done (Yields t) = tt
 turn_longer more [] s done (Asks op next) = tt
@@ -44,32 +44,32 @@ longer_on config thread more (HasStopped s stop done left) other h = tt
 longer_on config thread more (Unanswered s done left) other h = tt
 
 longer_from : (s : State) (stop : Option Stop) (done : ℕ) (answers more : List Event)
-    → IsLonger more (place_of s stop done answers) (place_of s stop done (answers ++ more))
+    → IsLonger more (course_at s stop done answers) (course_at s stop done (answers ++ more))
 longer_from s None done answers more = refl
 longer_from s (Some stop) done answers more = tt
 
 module _ (config : Config) (thread : ℕ) (s : State) (stop : Option Stop) (done : ℕ) where
   longer : (answers more : List Event) (n : ℕ)
-      → IsLonger more (course config thread (place_of s stop done answers) n)
-      (course config thread (place_of s stop done (answers ++ more)) n)
+      → IsLonger more (course config thread (course_at s stop done answers) n)
+      (course config thread (course_at s stop done (answers ++ more)) n)
   unfolding course
   longer answers more zero = longer_from s stop done answers more
   longer answers more (suc n) =
-      longer_on config thread more (course config thread (place_of s stop done answers) n)
-      (course config thread (place_of s stop done (answers ++ more)) n) (longer answers more n)
+      longer_on config thread more (course config thread (course_at s stop done answers) n)
+      (course config thread (course_at s stop done (answers ++ more)) n) (longer answers more n)
 
   pub longer_at : (t : State) (d : ℕ) (answers more : List Event) (n : ℕ)
-      → course config thread (place_of s stop done answers) n ≡ Going t d []
-      → course config thread (place_of s stop done (answers ++ more)) n ≡ Going t d more
+      → course config thread (course_at s stop done answers) n ≡ Going t d []
+      → course config thread (course_at s stop done (answers ++ more)) n ≡ Going t d more
   longer_at t d answers more n at =
-      subst (λ (r : Course). IsLonger more r (course config thread (place_of s stop done (answers ++ more)) n)) at (longer answers more n)
+      subst (λ (r : Course). IsLonger more r (course config thread (course_at s stop done (answers ++ more)) n)) at (longer answers more n)
 
 -- one turn more
 pub next : (config : Config) (thread : ℕ) (from : Course) (t : State) (d n : ℕ) (left : List Event) (end : TurnEnd)
     → course config thread from n ≡ Going t d left → turn_of config thread d t ≡ end
-    → course config thread from (suc n) ≡ after_turn t d left end
+    → course config thread from (suc n) ≡ course_after t d left end
 unfolding course
-next config thread from t d n left end at is = ap (one_more config thread) at ∙ ap (after_turn t d left) is
+next config thread from t d n left end at is = ap (one_more config thread) at ∙ ap (course_after t d left) is
 
 -- where it asks an operation, the answer is the next one
 pub asks_next : (config : Config) (thread : ℕ) (from : Course) (t u : State) (d n : ℕ) (event : Event) (to : ℕ → State)

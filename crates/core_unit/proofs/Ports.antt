@@ -53,11 +53,16 @@ module _ {P T : Type 0} (gives : P → T → Entry → P → T → Type 0) (name
     belongs = ap (λ (x : TicketView). x.name) k.ticket ∙ h.belongs ∙ sym k.same;
   }
 
-  -- and tells the journal
-  pub journal_told : (p q : P) (t u : T) (thread : ℕ) (events journal longer : List Event) → (tells t).events ≡ journal
-      → longer ≡ journal ++ events → GivesEvents gives name tells thread events p t q u → (tells u).events ≡ longer
-  journal_told p q t u thread events journal longer is grows k =
-      ap (λ (x : TicketView). x.events) k.ticket ∙ ap (λ (l : List Event). l ++ events) is ∙ sym grows
+  -- a thread that makes no event leaves both
+  pub ticket_kept : (p : P) (t : T) (thread number : ℕ) → number ≡ thread → IsTicketOf thread (name p) (tells t)
+      → IsTicketOf number (name p) (tells t)
+  ticket_kept p t thread number same h = subst (λ (n : ℕ). IsTicketOf n (name p) (tells t)) (sym same) h
+
+  pub gives_kept : (p q : P) (t u : T) (thread : ℕ) (before journal longer : List Event) → longer ≡ journal
+      → GivesEvents gives name tells thread (made_since before journal) p t q u
+      → GivesEvents gives name tells thread (made_since before longer) p t q u
+  gives_kept p q t u thread before journal longer same h =
+      subst (λ (l : List Event). GivesEvents gives name tells thread (made_since before l) p t q u) (sym same) h
 
   -- where nothing was made, the port and the ticket are where they were, and refuse the same
   same_place : (p q : P) (t u : T) (thread : ℕ) (made : List Event) → made ≡ [] → Chain gives p t (entries_of thread made) q u

@@ -1,5 +1,5 @@
 -- The turns of a resident, one after the other.
-use Rattle.std.proofs.Common.{◌≡◌, ℕ, suc, ◌+◌, ◌≤◌, ◌<◌, ◌++◌, List, [], ◌∷◌, length, refl, ap, sym, ◌∙◌, append_assoc}
+use Rattle.std.proofs.Common.{◌≡◌, ℕ, zero, suc, ◌+◌, ◌≤◌, ◌<◌, ◌++◌, List, [], ◌∷◌, length, refl, ap, sym, ◌∙◌, append_assoc}
 use Rattle.std.proofs.Common.{subst, arith, Option, Some, None, true, false, cond, Bool, inl, inr, add-one, is_some}
 use Rattle.std.proofs.lemmas.List.{append-nil, length_push}
 use Rattle.std.proofs.lemmas.Option.{same_Some}
@@ -13,17 +13,19 @@ use Rattle.shared_region.specs.declared.port.PortStop.TheVariants as refused
 use Rattle.kernel_contexts.specs.State.{State}
 use Rattle.kernel_contexts.specs.Call.{TurnEnd, Goes, Yields, Asks, Ends}
 use Rattle.kernel_contexts.specs.Turn.{turn_of}
+use Rattle.kernel_contexts.specs.Several.{GoesBy}
 use Rattle.kernel_contexts.specs.Context.{GoesOn, TurnsOver, TurnsUnless, TurnsOn, AsksFor, made_since, owns, vectors_on}
 use Rattle.kernel_contexts.specs.Context.{state_on, turn_with, made_by, stop_of, thread_of}
 use Rattle.kernel_contexts.specs.declared.context.Context.{Context}
 use Rattle.kernel_contexts.specs.declared.context.Turn.{Turn}
 use Rattle.kernel_contexts.specs.declared.context.Turn.TheVariants as turns
 use Rattle.kernel_contexts.proofs.Answered.{made_events, asked_turned}
+use Rattle.kernel_contexts.proofs.Several.{nothing_refused}
 use Rattle.kernel_contexts.proofs.Turns.{ends_turned, yields_turned}
 use Rattle.kernel_contexts.specs.Owner.{is_owner}
 use Rattle.core_unit.specs.Course.{Going, GaveWay, HasStopped, course}
 use Rattle.core_unit.specs.Guest.{Guest, next_turn}
-use Rattle.core_unit.specs.Run.{place_of, before_run, answers_of, course_of, RunsFirst, EndsBy, WantsTurn, end_of, end_of_turn}
+use Rattle.core_unit.specs.Run.{course_at, before_run, answers_of, course_of, RunsFirst, EndsBy, WantsTurn, end_of, end_of_turn}
 use Rattle.core_unit.specs.Run as run
 use Rattle.core_unit.specs.declared.run.RunWhy.{RunWhy}
 use Rattle.core_unit.specs.declared.run.RunWhy.TheVariants.{Spent, Yielded, Stopped, Idle, TraceEnds, TraceDiffers, Memory}
@@ -37,7 +39,7 @@ pub record HasRun (old : Guest) (n : ℕ) (now : Guest) : Type 0 where
   pub number : now.number ≡ old.number
   pub journal : now.journal ≡ old.journal ++ answers_of old now
   pub turns : now.state.turns ≡ old.state.turns + n
-  pub place : course old.config old.number (before_run old (answers_of old now)) n ≡ place_of now.state now.stop (length now.journal) []
+  pub place : course old.config old.number (before_run old (answers_of old now)) n ≡ course_at now.state now.stop (length now.journal) []
 
 -- the same thread, later
 pub record IsLater (now next : Guest) (made : List Event) : Type 0 where
@@ -90,7 +92,7 @@ module _ (old now next : Guest) (n : ℕ) (made : List Event) (h : HasRun old n 
       ∙ ap (λ (l : List Event). old.journal ++ l) (sym is_answers)
 
   goes_here : course_of old now n ≡ Going now.state (length now.journal) []
-  goes_here = h.place ∙ ap (λ (o : Option Stop). place_of now.state o (length now.journal) []) runs
+  goes_here = h.place ∙ ap (λ (o : Option Stop). course_at now.state o (length now.journal) []) runs
 
   -- with the answers of the next turn
   at_next : course_of old next n ≡ Going now.state (length now.journal) made
@@ -136,7 +138,7 @@ module _ (old now next : Guest) (n : ℕ) (made : List Event) (h : HasRun old n 
         journal = grown;
         turns = omega (arith, more, h.turns);
         place = rw add-one (went_on refusals made refl goes)
-            ∙ ap (λ (o : Option Stop). place_of next.state o (length next.journal) []) (sym stopped);
+            ∙ ap (λ (o : Option Stop). course_at next.state o (length next.journal) []) (sym stopped);
       }
 
   has_given_way : next_turn now ≡ Yields next.state → made ≡ [] → course_of old next (suc n) ≡ GaveWay next.state (length next.journal) []
@@ -220,7 +222,7 @@ module _ (old now next : Guest) (n : ℕ) (made : List Event) (h : HasRun old n 
         end = end;
       }
 
-      still : next.state ≡ now.state → made ≡ [] → next.stop ≡ None → run.GoesOn old next rose
+      still : next.state ≡ now.state → made ≡ [] → next.stop ≡ None → run.StillGoes old next rose
       still same none stop =
           let level = ap (λ (s : State). s.turns) same in
           let all : n ≡ rose = omega (arith, level, h.turns, rises_by) in (
@@ -276,6 +278,23 @@ module _ (old now next : Guest) (n : ℕ) (made : List Event) (h : HasRun old n 
           → RunsFirst refusals k old next (record { turns = rose; why = why })
       runs_so turn why is e wants = run_by why (ends_with turn why is e wants)
 
+-- several turns more, each of which goes on and asks nothing
+same_run : (old now next : Guest) (n : ℕ) → next ≡ now → HasRun old n now → HasRun old n next
+same_run old now next n is h = subst (HasRun old n) (sym is) h
+
+pub gone_by : (old now next : Guest) (n m : ℕ) → HasRun old n now → now.stop ≡ None → next.program ≡ now.program
+    → next.config ≡ now.config → next.number ≡ now.number → next.journal ≡ now.journal → next.stop ≡ None
+    → GoesBy now.config now.number (length now.journal) m now.state next.state → HasRun old (n + m) next
+gone_by old now next n zero h runs program config number journal stopped goes =
+    let none : n + 0 ≡ n = omega arith in
+    rw none (same_run old now next n (same_guest now next program config number goes (stopped ∙ sym runs) journal) h)
+gone_by old now next n (suc m) h runs program config number journal stopped goes =
+    let before : Guest = record now { state = goes.0 } in
+    let more : n + suc m ≡ n + m + 1 = omega arith in
+    rw more (has_gone_on old before next (n + m) [] (gone_by old now before n m h runs refl refl refl refl runs goes.1) runs
+    (record { program = program; config = config; number = number; journal = journal ∙ sym (append-nil now.journal) })
+    nothing_refused goes.2 stopped)
+
 -- as many turns as it was let
 pub runs_spent : (refusals : Refusals) (k : ℕ) (old now : Guest) (n : ℕ) → HasRun old n now
     → now.stop ≡ None → n ≡ k → RunsFirst refusals k old now (record { turns = n; why = Spent })
@@ -287,7 +306,7 @@ runs_spent refusals k old now n h runs all = record {
   turns = h.turns;
   end = (
     (
-      ap (course_of old now) (sym all) ∙ h.place ∙ ap (λ (o : Option Stop). place_of now.state o (length now.journal) []) runs,
+      ap (course_of old now) (sym all) ∙ h.place ∙ ap (λ (o : Option Stop). course_at now.state o (length now.journal) []) runs,
       runs,
     ),
     all,
@@ -308,7 +327,7 @@ runs_not refusals k old stop is =
       end = (
         stop,
         stays_to old.config old.number _ (HasStopped old.state stop (length old.journal) []) 0 k (omega arith) tt
-            (h.place ∙ ap (λ (o : Option Stop). place_of old.state o (length old.journal) []) is),
+            (h.place ∙ ap (λ (o : Option Stop). course_at old.state o (length old.journal) []) is),
         is,
       );
     }

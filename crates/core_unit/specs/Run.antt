@@ -51,13 +51,13 @@ end_of_turn turn.Memory = Some why.Memory
 -- ---- the first resident
 
 -- where a thread stands, with the number of its events so far and the answers that are left
-abbrev pub place_of : State → Option Stop → ℕ → List Event → Course
-place_of s None done left = Going s done left
-place_of s (Some stop) done left = HasStopped s stop done left
+abbrev pub course_at : State → Option Stop → ℕ → List Event → Course
+course_at s None done left = Going s done left
+course_at s (Some stop) done left = HasStopped s stop done left
 
 -- a guest thread before a run that gives it these answers
 abbrev pub before_run : Guest → List Event → Course
-before_run g answers = place_of g.state g.stop (length g.journal) answers
+before_run g answers = course_at g.state g.stop (length g.journal) answers
 
 -- the answers that it was given, which are the events that it made
 abbrev pub answers_of : Guest → Guest → List Event
@@ -68,8 +68,9 @@ abbrev pub course_of : Guest → Guest → ℕ → Course
 course_of old new turns = course old.config old.number (before_run old (answers_of old new)) turns
 
 -- it goes on, with all answers used
-abbrev pub GoesOn : Guest → Guest → ℕ → Type 0
-GoesOn old new turns = (course_of old new turns ≡ Going new.state (length new.journal) []) × (new.stop ≡ None)
+abbrev pub StillGoes : Guest → Guest → ℕ → Type 0
+StillGoes old new turns =
+    (course_of old new turns ≡ Going new.state (length new.journal) []) × (new.stop ≡ None)
 
 -- memory may be wanting for the next turn of a guest thread, over a port that takes memory where this holds:
 -- it may for that turn of a context on a bank which is the thread as it stands
@@ -89,7 +90,7 @@ IsCutBy refusals g stop = AsksFor (next_turn g) (λ op. IsCause refusals op stop
 -- the thread made turns until so many were made, it gave way or it stopped, or the run was cut short; what
 -- the port refuses is told as port and ticket stand at the end
 abbrev pub EndsBy : Refusals → ℕ → Guest → Guest → ℕ → RunEnd → Type 0
-EndsBy refusals k old new turns Spends = GoesOn old new k × (turns ≡ k)
+EndsBy refusals k old new turns Spends = StillGoes old new k × (turns ≡ k)
 EndsBy refusals k old new turns GivesWay =
     (course_of old new k ≡ GaveWay new.state (length new.journal) []) × (new.stop ≡ None) × (0 < turns)
 EndsBy refusals k old new turns Stops =
@@ -97,7 +98,7 @@ EndsBy refusals k old new turns Stops =
     × (new.stop ≡ Some stop)
 EndsBy refusals k old new turns Idles = ⊥
 EndsBy refusals k old new turns (IsCut stop) =
-    GoesOn old new turns × (turns < k) × IsCutBy refusals new stop
+    StillGoes old new turns × (turns < k) × IsCutBy refusals new stop
 
 -- a run of the first resident, which is let make so many turns
 pub record RunsFirst (refusals : Refusals) (k : ℕ) (old new : Guest) (run : CoreRun) : Type 0 where

@@ -61,7 +61,10 @@ pub fn make_turns<P: Port>(
             .context
             .advance_on(bank, port, &mut resident.ticket);
         match end_of_turn(turn) {
-            None => turns += 1,
+            None => {
+                turns += 1;
+                turns += resident.context.advance_several_on(bank, k - turns);
+            }
             Some(why) => {
                 let made = (resident.context.turns() - begun) as u32;
                 return CoreRun { turns: made, why };

@@ -19,17 +19,6 @@ pub stops_so : (wants : Type 0) (end : TurnEnd) (old new : State) (stopped : Opt
     → end ≡ Ends new stop → stopped ≡ Some stop → Turns wants end old new stopped turn
 stops_so wants end old new stopped turn stop answer ends is = rw answer (ends, is)
 
--- the same turn, from the same state
-pub turns_from : (wants : Type 0) (end end' : TurnEnd) (s t new : State) (stopped : Option Stop) (turn : Turn) → end' ≡ end → s ≡ t
-    → Turns wants end s new stopped turn → Turns wants end' t new stopped turn
-turns_from wants end end' s t new stopped Ran e same h = (e ∙ h.0, h.1)
-turns_from wants end end' s t new stopped Yielded e same h = (e ∙ h.0, h.1)
-turns_from wants end end' s t new stopped (Stopped stop) e same h = (e ∙ h.0, h.1)
-turns_from wants end end' s t new stopped NeedsBank e same h = absurd h
-turns_from wants end end' s t new stopped TraceEnds e same h = absurd h
-turns_from wants end end' s t new stopped TraceDiffers e same h = absurd h
-turns_from wants end end' s t new stopped Memory e same h = (h.0, rw e h.1, h.2 ∙ same, h.3)
-
 pub asked_turned : (config : Config) (thread events : ℕ) (old new : State) (refusals : Refusals) (made : List Event)
     → GoesOn refusals (turn_of config thread events old) new made → new.turns ≡ old.turns + 1
 asked_turned config thread events old new refusals [] h = goes_turned config thread events old new h
@@ -81,9 +70,6 @@ made_nothing old new is = made_events old new [] (is ∙ sym (append-nil old))
 -- a journal that got some events
 pub grown : (old new events : List Event) → new ≡ old ++ events → new ≡ old ++ made_since old new
 grown old new events is = is ∙ ap (λ (l : List Event). old ++ l) (sym (made_events old new events is))
-
-pub not_grown : (old new : List Event) → new ≡ old → new ≡ old ++ made_since old new
-not_grown old new is = grown old new [] (is ∙ sym (append-nil old))
 
 take_all : (into rest : List ℕ) → take (length into) (into ++ rest) ≡ into
 take_all into rest = grind (arith, common_steps)

@@ -18,14 +18,6 @@ with_vectors v s = record s { core = record s.core { bank = v } }
 pub same_with : (old new : GuestThread) (v : VectorState) → bare_state new ≡ bare_state old → guest_state new v ≡ guest_state old v
 same_with old new v is = ap (with_vectors v) is
 
-pub counted_with : (old new : GuestThread) (v : VectorState) → bare_state new ≡ counted (bare_state old) (bare_state old).core
-    → guest_state new v ≡ counted (guest_state old v) (guest_state old v).core
-counted_with old new v is = ap (with_vectors v) is
-
-pub released_with : (old new : GuestThread) (v : VectorState) → bare_state new ≡ released (bare_state old)
-    → guest_state new v ≡ released (guest_state old v)
-released_with old new v is = ap (with_vectors v) is
-
 -- a bank that came back, and a machine that has changed since, but for its modes
 pub back_with : (config given : Config) (m other : Machine) (old new : Bank) → ComesBack config m old new → given ≡ config
     → other.streaming ≡ m.streaming → other.za_on ≡ m.za_on → ComesBack given other old new

@@ -1,6 +1,6 @@
 -- That a context stays a run of its image.
 use Rattle.std.proofs.Common.{◌≡◌, inl, inr, ℕ, suc, ◌+◌, ◌++◌, List, [], ◌∷◌, Option, Some, None, length, refl, ap, sym, ◌∙◌}
-use Rattle.std.proofs.Common.{subst, arith}
+use Rattle.std.proofs.Common.{Bool, true, false, subst, arith}
 use Rattle.std.proofs.lemmas.List.{append-nil}
 use Rattle.sm_types.specs.declared.config.Config.{Config}
 use Rattle.sm_types.specs.declared.shared_op.Event.{Event}
@@ -12,7 +12,7 @@ use Rattle.kernel_contexts.specs.Call.{Goes, Yields, Ends}
 use Rattle.kernel_contexts.specs.Turn.{turn_of}
 use Rattle.kernel_contexts.specs.Run.{At, Ended, turned, reach_from, reach}
 use Rattle.kernel_contexts.specs.Standing.{turns_to, standing, IsRunOf}
-use Rattle.kernel_contexts.specs.Context.{TurnsOver, GoesOn}
+use Rattle.kernel_contexts.specs.Context.{TurnsOver, TurnsUnless, GoesOn}
 use Rattle.kernel_contexts.specs.declared.context.Turn.{Turn}
 use Rattle.kernel_contexts.specs.declared.context.Turn.TheVariants.{Ran, Yielded, NeedsBank, Stopped, TraceEnds, TraceDiffers, Memory}
 use Rattle.kernel_contexts.proofs.Turns.{ends_turned}
@@ -121,3 +121,15 @@ pub run_same : (program : Program) (config given : Config) (thread number : ℕ)
     (stop stopped : Option Stop) → given ≡ config → number ≡ thread → events ≡ journal → t ≡ s → stopped ≡ stop
     → IsRunOf program config thread journal s stop → IsRunOf program given number events t stopped
 run_same program config given thread number journal events s t stop stopped e f j k l h = rw (e, f, j, k, l) h
+
+-- or of one that was kept off its vectors
+pub run_unless : (kept : Bool) (program : Program) (config : Config) (thread : ℕ) (refusals : Refusals) (old new : State)
+    (before after made : List Event) (stop stopped : Option Stop) (turn : Turn) → IsRunOf program config thread before old stop
+    → stop ≡ None → after ≡ before ++ made
+    → TurnsUnless kept refusals (turn_of config thread (length before) old) old new made stopped turn
+    → IsRunOf program config thread after new stopped
+run_unless true program config thread refusals old new before after made stop stopped turn h runs grows t =
+    run_same program config config thread thread before after old new stop stopped refl refl
+    (grows ∙ ap (λ (l : List Event). before ++ l) t.2 ∙ append-nil before) t.1 (t.3 ∙ sym runs) h
+run_unless false program config thread refusals old new before after made stop stopped turn h runs grows t =
+    run_goes_on program config thread refusals old new before after made stop stopped turn h runs grows t

@@ -9,5 +9,7 @@ pub mod Watched
 pub mod Calls
 pub mod Runs
 pub mod Kept
+pub mod Several
 pub mod Wanting
 pub mod Owned
+pub mod Apart

@@ -88,18 +88,6 @@ next_owns refusals room effect before after written old new None h owns =
 next_owns refusals room effect before after written old new (Some event) h owns =
     also_same (effect_writes written effect) old new owns (ap (effect_writes written) h.asks)
 
--- a thread whose state is as it was
-pub same_writes : (g h : GuestThread) (bank : Bank) → h.config ≡ g.config → h.machine ≡ g.machine → bare_state h ≡ bare_state g
-    → turn_writes h bank ≡ turn_writes g bank
-same_writes g h bank config machine state =
-    let writes : Config → Machine → State → List ℕ
-    = λ k m s.
-    cond (is_poll_due k s) []
-    (cond (is_delivery_due s) (frame_addresses (vector_bytes k.vl) s.core)
-    (effect_writes (step_writes m (Some bank)) (effect_of (vector_bytes k.vl) s.core))) in
-    ap (λ k. writes k h.machine (held_state h bank)) config ∙ ap (λ m. writes g.config m (held_state h bank)) machine
-    ∙ ap (λ s. writes g.config g.machine (with_vectors (bank_state bank) s)) state
-
 -- the frame of a signal
 pub frames_at_length : (g : GuestThread) (bank : Bank) → bank.vectors.vl ≡ g.config.vl
     → frame_writes g bank ≡ frame_addresses (vector_bytes bank.vectors.vl) (held_state g bank).core

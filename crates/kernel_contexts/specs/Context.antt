@@ -170,6 +170,14 @@ TurnsOver refusals end old new made stopped TraceDiffers =
     IsRefused refusals end old new made stopped stop.TraceDiffers
 TurnsOver refusals end old new made stopped Memory = (new ≡ old) × (made ≡ []) × (stopped ≡ None)
 
+-- a turn on the bank of a core, which the thread owns or not: where it does not, and the turn needs the
+-- thread's vectors, the answer is that, and nothing has changed
+abbrev pub TurnsUnless :
+    Bool → Refusals → TurnEnd → State → State → List Event → Option Stop → Turn → Type 0
+TurnsUnless true refusals end old new made stopped turn =
+    (turn ≡ NeedsBank) × (new ≡ old) × (made ≡ []) × (stopped ≡ None)
+TurnsUnless false refusals end old new made stopped turn = TurnsOver refusals end old new made stopped turn
+
 -- the events at the end of a journal that were not in it before
 abbrev pub made_since : List Event → List Event → List Event
 made_since old new = drop (length old) new
@@ -183,6 +191,18 @@ abbrev pub GuestTurns :
     Refusals → TurnEnd → GuestThread → Bank → GuestThread → Bank → Turn → Type 0
 GuestTurns refusals end old before new after turn =
     TurnsOver refusals end (held_state old before) (held_state new after) (guest_made old new) new.stop turn
+
+-- or the turn is not made, since it needs the thread's vectors and is kept off them
+abbrev pub GuestTurnsUnless :
+    Bool → Refusals → TurnEnd → GuestThread → Bank → GuestThread → Bank → Turn → Type 0
+GuestTurnsUnless kept refusals end old before new after turn =
+    TurnsUnless kept refusals end (held_state old before) (held_state new after) (guest_made old new) new.stop
+    turn
+
+-- there is no memory for its event
+abbrev pub LacksUnless : Bool → Turn → Type 0
+LacksUnless true turn = turn ≡ NeedsBank
+LacksUnless false turn = turn ≡ Memory
 
 -- the turn of a guest thread, on a bank
 abbrev pub guest_turn : GuestThread → Bank → TurnEnd
@@ -248,14 +268,6 @@ abbrev pub TurnsOrStays : Option Stop → Refusals → Context → Context → T
 TurnsOrStays None refusals old new turn =
     TurnsOver refusals (turn_at old) (state_of old) (state_of new) (made_by old new) (stop_of new) turn
 TurnsOrStays (Some stop) refusals old new turn = Stays stop old new turn
-
--- a turn on the bank of a core, which the thread owns or not: where it does not, and the turn needs the
--- thread's vectors, the answer is that, and nothing has changed
-abbrev pub TurnsUnless :
-    Bool → Refusals → TurnEnd → State → State → List Event → Option Stop → Turn → Type 0
-TurnsUnless true refusals end old new made stopped turn =
-    (turn ≡ NeedsBank) × (new ≡ old) × (made ≡ []) × (stopped ≡ None)
-TurnsUnless false refusals end old new made stopped turn = TurnsOver refusals end old new made stopped turn
 
 -- the turn of a context on the bank of a core needs that bank: its thread does not own it, and the turn reads
 -- or writes vectors

@@ -6,6 +6,7 @@ pub mod Call
 pub mod Turn
 pub mod Wanting
 pub mod Owned
+pub mod Several
 pub mod Run
 pub mod Standing
 pub mod Needs

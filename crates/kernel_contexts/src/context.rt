@@ -80,6 +80,7 @@ impl Context {
     ghost use Rattle.kernel_contexts.specs.Context.{TurnsOn, vectors_on, state_on, bank_of};
     ghost use Rattle.kernel_contexts.specs.Context.{writes_of_turn, pages_of};
     ghost use Rattle.kernel_contexts.specs.Owned.{TurnOwns};
+    ghost use Rattle.kernel_contexts.specs.Several.{GoesBy};
     ghost use Rattle.kernel_contexts.specs.SaveArea.{HasLengths};
     ghost use Rattle.mem_access.specs.Bank.{bank_state};
     ghost use Rattle.machine_step.specs.Machine.{IsSameBank};
@@ -146,8 +147,29 @@ impl Context {
     {
         match self.guest.stop {
             Some(stop) => Turn::Stopped(stop),
-            None => self.guest.make_turn(&mut self.save_area, port, ticket),
+            None => self
+                .guest
+                .make_turn(&mut self.save_area, false, port, ticket),
         }
+    }
+
+    /// Makes turns of a thread that has not stopped, on the context's own save area, `most` at most, and
+    /// tells how many. Each is an instruction that is counted and asks nothing. There are fewer where the
+    /// next turn may be none of these, or where memory may be wanting for it.
+    pub fn advance_several(&mut self, most: u32) -> u32
+        requires home { is_home self.old ≡ true }
+        requires runs { stop_of self.old ≡ None }
+        ensures turns { GoesBy (config_of self.old) (thread_of self.old) (length (journal_of self.old)) result
+            (state_of self.old) (state_of self.new) }
+        ensures few { result ≤ most }
+        ensures count { (state_of self.new).count ≡ (state_of self.old).count + result }
+        ensures made { (state_of self.new).turns ≡ (state_of self.old).turns + result }
+        ensures stop { stop_of self.new ≡ None }
+        ensures journal { journal_of self.new ≡ journal_of self.old }
+        ensures same { IsSameThread self.old self.new }
+        ensures home { is_home self.new ≡ true }
+    {
+        self.guest.make_several_turns(&mut self.save_area, most)
     }
 
     /// Makes one turn on the bank of a core, as `advance` does on the save area. The context is home and its
@@ -190,14 +212,31 @@ impl Context {
             Some(stop) => Turn::Stopped(stop),
             None => {
                 if is_owned(bank, self.guest.number) {
-                    self.guest.make_turn(bank, port, ticket)
-                } else if self.guest.needs_vectors() {
-                    Turn::NeedsBank
+                    self.guest.make_turn(bank, false, port, ticket)
                 } else {
-                    self.guest.make_turn(&mut self.save_area, port, ticket)
+                    self.guest
+                        .make_turn(&mut self.save_area, true, port, ticket)
                 }
             }
         }
+    }
+
+    /// Makes turns of a thread that has not stopped, as `advance_several` does, on the bank of a core, which
+    /// the thread owns.
+    pub fn advance_several_on(&mut self, bank: &mut Bank, most: u32) -> u32
+        requires on { IsOn self.old bank.old }
+        requires owned { owns bank.old (thread_of self.old) ≡ true }
+        requires runs { stop_of self.old ≡ None }
+        ensures turns { GoesBy (config_of self.old) (thread_of self.old) (length (journal_of self.old)) result
+            (state_on self.old bank.old) (state_on self.new bank.new) }
+        ensures few { result ≤ most }
+        ensures stop { stop_of self.new ≡ None }
+        ensures on { IsOn self.new bank.new }
+        ensures bank { IsSameBank bank.old bank.new }
+        ensures journal { journal_of self.new ≡ journal_of self.old }
+        ensures same { IsSameThread self.old self.new }
+    {
+        self.guest.make_several_turns(bank, most)
     }
 
     /// Moves the vectors and ZA of the context into a bank without an owner, which is then its thread's.

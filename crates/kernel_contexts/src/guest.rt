@@ -76,16 +76,19 @@ fn start_registers(entry: u64, thread: u32, threads: u32) -> Scalars
 impl GuestThread {
     ghost use Rattle.kernel_contexts.specs.State.{start_state};
     ghost use Rattle.kernel_contexts.specs.Call.{counted};
+    ghost use Rattle.kernel_contexts.specs.Several.{GoesBy, counted_by};
     ghost use Rattle.kernel_contexts.specs.Turn.{outside_streaming};
     ghost use Rattle.kernel_contexts.specs.Context.{held_state, bare_state, guest_turn, guest_instruction};
     ghost use Rattle.kernel_contexts.specs.SaveArea.{IsFit, ComesBack};
     ghost use Rattle.mem_access.specs.VectorState.{zero_bank};
     ghost use Rattle.kernel_contexts.specs.Guest.{guest_state};
-    ghost use Rattle.kernel_contexts.specs.Needs.{needs_vectors};
+    ghost use Rattle.std.specs.Prelude.{◌&&◌, ◌==◌, slice_index};
+    ghost use Rattle.kernel_contexts.specs.Needs.{needs_vectors, instruction_needs};
     ghost use Rattle.machine_step.specs.ProcessorState.{VectorState};
     ghost use Rattle.kernel_contexts.specs.Context.{IsSameGuest, IsQuietGuest};
     ghost use Rattle.kernel_contexts.specs.Turn as turn;
-    ghost use Rattle.kernel_contexts.specs.Context.{GuestTurns, Grows, HasFreePlace, GoesOrAsks};
+    ghost use Rattle.kernel_contexts.specs.Context.{GuestTurns, GuestTurnsUnless, LacksUnless};
+    ghost use Rattle.kernel_contexts.specs.Context.{Grows, HasFreePlace, GoesOrAsks};
     ghost use Rattle.kernel_contexts.specs.Wanting.{TurnWants, InstructionWants};
     ghost use Rattle.kernel_contexts.specs.Owned.{TurnOwns, turn_writes, instruction_writes};
     ghost use Rattle.machine_step.specs.Step.{events_of};
@@ -136,20 +139,25 @@ impl GuestThread {
         })
     }
 
-    /// Makes one turn of a thread that has not stopped. Up to the watched count it is an instruction. It is
-    /// laid into the loop that makes turns, where its answer needs no place in memory.
+    /// Makes one turn of a thread that has not stopped. Up to the watched count it is an instruction. Where
+    /// `apart` says that the thread is kept off its vectors, a turn that reads or writes them is not made,
+    /// and the answer is `NeedsBank`. It is laid into the loop that makes turns, where its answer needs no
+    /// place in memory.
     #[inline(always)]
     pub fn make_turn<P: Port>(
         &mut self,
         bank: &mut Bank,
+        apart: bool,
         port: &mut P,
         ticket: &mut P::Ticket,
     ) -> Turn
         requires runs { self.old.stop ≡ None }
         requires fit { IsFit self.old.config self.old.machine bank.old }
         requires ticket { IsTicketOf self.old.number (P.name port.old) (P.tells ticket.old) }
-        ensures turn { GuestTurns (P.refuses port.old ticket.old) (guest_turn self.old bank.old) self.old
-            bank.old self.new bank.new result }
+        ensures turn { GuestTurnsUnless
+            (apart && needs_vectors self.old.config (held_state self.old bank.old))
+            (P.refuses port.old ticket.old) (guest_turn self.old bank.old) self.old bank.old self.new
+            bank.new result }
         ensures memory { result ≡ Turn.Memory → TurnWants (HasFreePlace self.old)
             (P.refuses port.old ticket.old).takes_memory self.old bank.old }
         ensures goes { result ≡ Turn.Memory → HasFreePlace self.old
@@ -161,10 +169,45 @@ impl GuestThread {
             ticket.old port.new ticket.new) self.old self.new }
     {
         if self.count < self.watch {
-            self.execute(bank, port, ticket)
-        } else {
-            self.make_watched_turn(bank, port, ticket)
+            return self.execute(bank, apart, port, ticket);
         }
+        if self.wants_vectors(apart) {
+            return Turn::NeedsBank;
+        }
+        self.make_watched_turn(bank, port, ticket)
+    }
+
+    /// Makes turns of a thread that has not stopped, `most` at most, and tells how many: instructions that
+    /// are executed at once, up to the watched count, at which alone something else may be due.
+    pub fn make_several_turns(&mut self, bank: &mut Bank, most: u32) -> u32
+        requires { IsFit self.old.config self.old.machine bank.old }
+        ensures turns { GoesBy self.old.config self.old.number (length self.old.journal.items) result
+            (held_state self.old bank.old) (held_state self.new bank.new) }
+        ensures few { result ≤ most }
+        ensures count { self.new.count ≡ self.old.count + result }
+        ensures made { self.new.turns ≡ self.old.turns + result }
+        ensures back { ComesBack self.new.config self.new.machine bank.old bank.new }
+        ensures stop { self.new.stop ≡ self.old.stop }
+        ensures same { IsQuietGuest self.old self.new }
+    {
+        let quiet = self.watch - self.count;
+        let decoder = &mut self.decoder;
+        let made = self.machine.step_several(decoder, bank, most.min(quiet));
+        self.count_turns(made);
+        made
+    }
+
+    /// Counts instructions and their turns, up to the watched count.
+    fn count_turns(&mut self, made: u32)
+        requires { self.old.count + made ≤ self.old.watch }
+        ensures state { bare_state self.new
+            ≡ counted_by made (bare_state self.old) (bare_state self.old).core }
+        ensures machine { self.new.machine ≡ self.old.machine }
+        ensures stop { self.new.stop ≡ self.old.stop }
+        ensures same { IsQuietGuest self.old self.new }
+    {
+        self.count += made;
+        self.turns += u64::from(made);
     }
 
     /// Makes a turn at the watched count: the budget's end, a poll, the delivery of a signal, or an
@@ -201,7 +244,7 @@ impl GuestThread {
         if self.is_delivery_due() {
             return self.deliver_signal(bank);
         }
-        self.execute(bank, port, ticket)
+        self.execute(bank, false, port, ticket)
     }
 
     /// Whether the pending signals are to be polled.
@@ -226,6 +269,7 @@ impl GuestThread {
         ensures state { bare_state self.new ≡ bare_state self.old }
         ensures machine { self.new.machine ≡ self.old.machine }
         ensures stop { self.new.stop ≡ self.old.stop }
+        ensures watch { self.new.watch ≡ self.old.watch }
         ensures free { HasFreePlace self.old → HasFreePlace self.new }
         ensures same { IsQuietGuest self.old self.new }
     {
@@ -235,21 +279,59 @@ impl GuestThread {
         if self.is_delivery_due() {
             return self.has_handler();
         }
+        self.instruction_needs()
+    }
+
+    /// Whether the instruction at PC cannot be executed without a bank, or returns from a handler.
+    fn instruction_needs(&mut self) -> bool
+        ensures needs { (v : VectorState) → result ≡ instruction_needs (guest_state self.old v).core }
+        ensures state { bare_state self.new ≡ bare_state self.old }
+        ensures machine { self.new.machine ≡ self.old.machine }
+        ensures stop { self.new.stop ≡ self.old.stop }
+        ensures watch { self.new.watch ≡ self.old.watch }
+        ensures free { HasFreePlace self.old → HasFreePlace self.new }
+        ensures same { IsQuietGuest self.old self.new }
+    {
         if self.machine.needs_bank(&mut self.decoder) {
             return true;
         }
         self.machine.scalars.x[8] == RETURN && self.machine.is_call(&mut self.decoder)
     }
 
-    /// Executes one instruction. Room for an event is taken before its access, so that no answer is lost.
+    /// Whether the next turn reads or writes vectors, of a thread that is kept off them where `apart` says
+    /// so.
+    #[inline(never)]
+    fn wants_vectors(&mut self, apart: bool) -> bool
+        ensures needs { (v : VectorState)
+            → result ≡ (apart && needs_vectors self.old.config (guest_state self.old v)) }
+        ensures state { bare_state self.new ≡ bare_state self.old }
+        ensures machine { self.new.machine ≡ self.old.machine }
+        ensures stop { self.new.stop ≡ self.old.stop }
+        ensures watch { self.new.watch ≡ self.old.watch }
+        ensures free { HasFreePlace self.old → HasFreePlace self.new }
+        ensures same { IsQuietGuest self.old self.new }
+    {
+        if apart { self.needs_vectors() } else { false }
+    }
+
+    /// Executes one instruction; of a thread that is kept off its vectors none that cannot be executed
+    /// without a bank, or returns from a handler. Room for an event is taken before its access, so that no
+    /// answer is lost.
     #[inline(always)]
-    fn execute<P: Port>(&mut self, bank: &mut Bank, port: &mut P, ticket: &mut P::Ticket) -> Turn
+    fn execute<P: Port>(
+        &mut self,
+        bank: &mut Bank,
+        apart: bool,
+        port: &mut P,
+        ticket: &mut P::Ticket,
+    ) -> Turn
         requires runs { self.old.stop ≡ None }
         requires fit { IsFit self.old.config self.old.machine bank.old }
         requires count { self.old.count < self.old.config.budget }
         requires ticket { IsTicketOf self.old.number (P.name port.old) (P.tells ticket.old) }
-        ensures turn { GuestTurns (P.refuses port.old ticket.old) (guest_instruction self.old bank.old)
-            self.old bank.old self.new bank.new result }
+        ensures turn { GuestTurnsUnless (apart && instruction_needs (held_state self.old bank.old).core)
+            (P.refuses port.old ticket.old) (guest_instruction self.old bank.old) self.old bank.old self.new
+            bank.new result }
         ensures memory { result ≡ Turn.Memory → HasFreePlace self.old
             → InstructionWants (P.refuses port.old ticket.old).takes_memory self.old bank.old }
         ensures goes { result ≡ Turn.Memory → HasFreePlace self.old
@@ -261,25 +343,75 @@ impl GuestThread {
             ticket.old port.new ticket.new) self.old self.new }
     {
         if self.journal.reserve(1).is_err() {
-            return Turn::Memory;
+            return self.lack(apart);
         }
         let room = self.journal.len() < JOURNAL_LIMIT;
         let decoder = &mut self.decoder;
         match self
             .machine
-            .step_with(decoder, Some(&mut *bank), port, ticket, self.number, room)
+            .step_apart(decoder, bank, apart, port, ticket, self.number, room)
         {
             StepEnd::Next(event) => self.go_on(event),
-            StepEnd::Call(_) => self.call(bank, port, ticket),
+            StepEnd::Call(_) => {
+                if self.is_kept_from(apart) {
+                    return Turn::NeedsBank;
+                }
+                self.call(bank, port, ticket)
+            }
             StepEnd::Raise(exception) => {
                 let pc = self.machine.scalars.pc;
                 self.stop_with(Stop::Raised { exception, pc })
             }
-            StepEnd::NeedsBank => unreachable!(),
+            StepEnd::NeedsBank => Turn::NeedsBank,
             StepEnd::NoRoom => self.stop_with(Stop::TraceFull),
             StepEnd::TraceEnds => Turn::TraceEnds,
             StepEnd::TraceDiffers => Turn::TraceDiffers,
             StepEnd::Memory => Turn::Memory,
+        }
+    }
+
+    /// Whether the call at PC is a return, of a thread that is kept off its vectors where `apart` says so.
+    #[inline(always)]
+    fn is_kept_from(&self, apart: bool) -> bool
+        ensures { result ≡ (apart && (slice_index self.now.machine.scalars.x 8 == 139)) }
+    {
+        if apart {
+            self.machine.scalars.x[8] == RETURN
+        } else {
+            false
+        }
+    }
+
+    /// What a turn comes to for whose event there may be no memory: `NeedsBank` comes before `Memory`.
+    #[inline(never)]
+    fn lack(&mut self, apart: bool) -> Turn
+        ensures turn { (v : VectorState) → LacksUnless
+            (apart && instruction_needs (guest_state self.old v).core) result }
+        ensures state { bare_state self.new ≡ bare_state self.old }
+        ensures machine { self.new.machine ≡ self.old.machine }
+        ensures stop { self.new.stop ≡ self.old.stop }
+        ensures same { IsQuietGuest self.old self.new }
+    {
+        if self.wants_bank(apart) {
+            return Turn::NeedsBank;
+        }
+        Turn::Memory
+    }
+
+    /// Whether the instruction at PC needs a bank or returns from a handler, of a thread that is kept off its
+    /// vectors where `apart` says so.
+    fn wants_bank(&mut self, apart: bool) -> bool
+        ensures needs { (v : VectorState)
+            → result ≡ (apart && instruction_needs (guest_state self.old v).core) }
+        ensures state { bare_state self.new ≡ bare_state self.old }
+        ensures machine { self.new.machine ≡ self.old.machine }
+        ensures stop { self.new.stop ≡ self.old.stop }
+        ensures same { IsQuietGuest self.old self.new }
+    {
+        if apart {
+            self.instruction_needs()
+        } else {
+            false
         }
     }
 

@@ -53,6 +53,22 @@ impl Machine {
         }
     }
 
+    /// The same as a call of its own, for the step that looks at what else may be due.
+    #[inline(never)]
+    pub(crate) fn attempt(&mut self, word: u32, insn: &Insn, bank: &mut Bank) -> Attempt
+        requires means { instruction_of word ≡ Some insn.now }
+        requires mode { IsInMode bank.old self.old }
+        ensures effect { AttemptsOn (effect_of_insn word insn.now) self.old bank.old self.new bank.new
+            result }
+        ensures same { IsSameBank bank.old bank.new }
+        ensures mode { IsInMode bank.new self.new }
+        ensures room { HasRoomOn self.old bank.old insn.now → result ≢ Attempt.Memory }
+        ensures owned { AttemptOwns (writes_on self.old bank.old insn.now) self.old.pages self.new.pages
+            result }
+    {
+        self.execute_at_once(word, insn, bank)
+    }
+
     /// The same of an instruction of the vectors or of ZA.
     #[inline(always)]
     #[tactic(auto, unfolding(sve_table::specs::Groups::is_vector_group))]

@@ -11,7 +11,7 @@ ghost use Rattle.machine_step.specs.Needs.{needs_bank};
 ghost use Rattle.machine_step.specs.Machine.{core_of, HasRoomToStep, IsInMode, IsSameBank, KeepsMode, Steps};
 ghost use Rattle.machine_step.specs.Machine.{HasRoomOn, IsAsk, IsAsked, AsksWell};
 ghost use Rattle.machine_step.specs.Owned.{ExecutionOwns, StepOwns, step_writes, writes_on};
-ghost use Rattle.machine_step.specs.Step.{AsksFor, Tells, TellsOn, TellsAlone, events_in};
+ghost use Rattle.machine_step.specs.Step.{AsksFor, Tells, TellsOn, TellsApart, TellsAlone, events_in};
 ghost use Rattle.machine_step.specs.Lent.{lent_before, lent_after, IsLentInMode, Answers, AsksOf, ComesBack};
 
 use crate::at_once::Attempt;
@@ -72,53 +72,29 @@ impl Machine {
             port.new ticket.new }
     {
         match bank {
-            Some(bank) => self.step_on(&mut Decoded::nop(), bank, port, ticket, thread, room),
+            Some(bank) => self.step_on(
+                &mut Decoded::nop(),
+                bank,
+                false,
+                port,
+                ticket,
+                thread,
+                room,
+            ),
             None => self.step_alone(&mut Decoded::nop(), port, ticket, thread, room),
         }
     }
 
-    /// The same, by a decoder that keeps the instruction for the next time. It is laid into the loop that
-    /// makes turns, where its answer needs no place in memory.
+    /// Executes the instruction at PC on a bank, by a decoder that keeps the instruction for the next time.
+    /// Where `apart` says that the machine is kept off the bank, `NeedsBank` comes exactly where the
+    /// instruction cannot be executed without one; else it does not come. It is laid into the loop that makes
+    /// turns, where its answer needs no place in memory.
     #[inline(always)]
-    pub fn step_with<P: Port>(
+    pub fn step_apart<P: Port>(
         &mut self,
         decoder: &mut Decoder,
-        bank: Option<&mut Bank>,
-        port: &mut P,
-        ticket: &mut P::Ticket,
-        thread: u32,
-        room: bool,
-    ) -> StepEnd
-        requires mode { IsLentInMode (lent_before bank) self.old }
-        requires ticket { IsTicketOf thread (P.name port.old) (P.tells ticket.old) }
-        ensures effect { Answers (lent_before bank.entry) (lent_after bank.exit)
-            (P.refuses port.old ticket.old) room self.old self.new result }
-        ensures bank { ComesBack (lent_before bank.entry) (lent_after bank.exit) self.new }
-        ensures memory { HasRoomToStep self.old (lent_before bank.entry) → result ≡ StepEnd.Memory
-            → AsksOf (P.refuses port.old ticket.old).takes_memory (lent_before bank.entry) self.old }
-        ensures owned { StepOwns (step_writes self.old (lent_before bank.entry)) self.old.pages self.new.pages
-            result }
-        ensures gives { GivesEvents P.gives P.name P.tells thread (events_in result) port.old ticket.old
-            port.new ticket.new }
-    {
-        match bank {
-            Some(bank) => {
-                let known = decoder.place(self.scalars.pc);
-                self.step_on(known, bank, port, ticket, thread, room)
-            }
-            None => {
-                let known = decoder.place(self.scalars.pc);
-                self.step_alone(known, port, ticket, thread, room)
-            }
-        }
-    }
-
-    /// Executes the instruction at PC, which may be known, on a bank.
-    #[inline(always)]
-    fn step_on<P: Port>(
-        &mut self,
-        known: &mut Decoded,
         bank: &mut Bank,
+        apart: bool,
         port: &mut P,
         ticket: &mut P::Ticket,
         thread: u32,
@@ -126,7 +102,35 @@ impl Machine {
     ) -> StepEnd
         requires mode { IsInMode bank.old self.old }
         requires ticket { IsTicketOf thread (P.name port.old) (P.tells ticket.old) }
-        ensures effect { TellsOn effect_of
+        ensures effect { TellsApart apart needs_bank effect_of
+            (P.refuses port.old ticket.old) room self.old bank.old self.new bank.new result }
+        ensures same { IsSameBank bank.old bank.new }
+        ensures mode { IsInMode bank.new self.new }
+        ensures memory { HasRoomToStep self.old (Some bank.old) → result ≡ StepEnd.Memory
+            → AsksOf (P.refuses port.old ticket.old).takes_memory (Some bank.old) self.old }
+        ensures owned { StepOwns (step_writes self.old (Some bank.old)) self.old.pages self.new.pages result }
+        ensures gives { GivesEvents P.gives P.name P.tells thread (events_in result) port.old ticket.old
+            port.new ticket.new }
+    {
+        let known = decoder.place(self.scalars.pc);
+        self.step_on(known, bank, apart, port, ticket, thread, room)
+    }
+
+    /// Executes the instruction at PC, which may be known, on a bank that the machine may be kept off.
+    #[inline(always)]
+    fn step_on<P: Port>(
+        &mut self,
+        known: &mut Decoded,
+        bank: &mut Bank,
+        apart: bool,
+        port: &mut P,
+        ticket: &mut P::Ticket,
+        thread: u32,
+        room: bool,
+    ) -> StepEnd
+        requires mode { IsInMode bank.old self.old }
+        requires ticket { IsTicketOf thread (P.name port.old) (P.tells ticket.old) }
+        ensures effect { TellsApart apart needs_bank effect_of
             (P.refuses port.old ticket.old) room self.old bank.old self.new bank.new result }
         ensures same { IsSameBank bank.old bank.new }
         ensures mode { IsInMode bank.new self.new }
@@ -143,7 +147,10 @@ impl Machine {
         let Some(insn) = known.instruction(word) else {
             return StepEnd::Raise(Exception::Undefined(word));
         };
-        match self.execute_at_once(word, insn, bank) {
+        if self.wants(insn, apart) {
+            return StepEnd::NeedsBank;
+        }
+        match self.attempt(word, insn, bank) {
             Attempt::Done => StepEnd::Next(None),
             Attempt::Memory => StepEnd::Memory,
             Attempt::Waits => self.execute_with_port(word, insn, bank, port, ticket, thread, room),

@@ -58,14 +58,6 @@ unfolding pair_stored
 load_pair_writes x s m load =
     ap (λ op. written_addresses (run_of (pair_access x s).address (pair_access x s).size) (pair_stored op x s)) load
 
--- an instruction that makes no access writes none
-pub no_writes : (it : Insn) (s : Scalars) (m : AddressSpace) → is_access it ≡ false → writes_of it s m ≡ []
-no_writes (insn.LoadStore x) s m none = cc
-no_writes (insn.LoadLiteral x) s m none = cc
-no_writes (insn.LoadStorePair x) s m none = cc
-no_writes (insn.Atomic x) s m none = cc
-no_writes it s m none = refl
-
 -- an ordered or atomic access writes by its kind
 pub atomic_writes : (x y : Atomic) (access : MemoryAccess) (s : Scalars) (m : AddressSpace) (written : ℕ → List ℕ) → x ≡ y
     → access ≡ atomic_access x s → writes_of (insn.Atomic y) s m ≡ written (atomic_access y s).address

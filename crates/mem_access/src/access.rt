@@ -52,7 +52,7 @@ fn scale_of(scaled: bool, size: AccessSize) -> u64
 }
 
 /// The address of an access, from its base.
-#[inline]
+#[inline(always)]
 #[tactic(auto, unfolding(crate::specs::Access::address_of))]
 fn address_of(address: &Address, size: AccessSize, base: u64, s: &Scalars) -> u64
     requires { IsAddress address.now }
@@ -74,7 +74,7 @@ fn address_of(address: &Address, size: AccessSize, base: u64, s: &Scalars) -> u6
 }
 
 /// Writes the base where the access does.
-#[inline]
+#[inline(always)]
 #[tactic(auto, unfolding(crate::specs::Access::with_base))]
 pub fn write_base(s: &mut Scalars, address: &Address, rn: u8)
     requires { rn < 32 }
@@ -97,7 +97,7 @@ pub fn write_base(s: &mut Scalars, address: &Address, rn: u8)
 }
 
 /// The access of a load or store of one register.
-#[inline]
+#[inline(always)]
 #[tactic(auto, unfolding(crate::specs::Access::load_store_access))]
 pub fn load_store_access(x: &LoadStore, s: &Scalars) -> MemoryAccess
     requires { IsLoadStore x.now }

@@ -165,6 +165,7 @@ fn update_by_register(
 }
 
 /// An ordered or atomic access.
+#[inline(never)]
 pub fn transfer_atomic(x: &Atomic, s: &mut Scalars, pages: &mut Pages) -> Result<(), AccessStop>
     requires { IsAtomic x.now }
     ensures made { Transfers (run_fault (atomic_access x.now s.old) s.old pages.old.memory)

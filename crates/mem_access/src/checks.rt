@@ -31,7 +31,7 @@ pub fn first_shared(address: u64, size: u64) -> Option<u64>
 }
 
 /// The first of the checks that look at no page.
-#[inline]
+#[inline(always)]
 pub fn place_fault(access: &MemoryAccess, s: &Scalars) -> Option<Exception>
     requires some { 1 ≤ access.now.size }
     requires short { access.now.size ≤ 4096 }

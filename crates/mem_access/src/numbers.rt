@@ -14,7 +14,7 @@ use paged_memory::{Pages, WriteStop};
 use sm_types::{Access, AccessSize, Exception};
 
 /// The number of some bytes.
-#[inline]
+#[inline(always)]
 pub fn number_of(bytes: &[u8], size: AccessSize) -> u64
     requires { length bytes.now ≡ bytes_in size }
     ensures value { result ≡ little_number bytes.now }
@@ -33,7 +33,7 @@ pub fn number_of(bytes: &[u8], size: AccessSize) -> u64
 }
 
 /// The number at an address, or the exception of its first byte that cannot be read.
-#[inline]
+#[inline(always)]
 pub fn read_number(pages: &Pages, address: u64, size: AccessSize) -> Result<u64, Exception>
     ensures value { IfOk result (λ n. n ≡ number_in pages.now.memory address (bytes_in size)) }
     ensures small { IfOk result (λ n. n < 2 ^ (8 * bytes_in size)) }
@@ -55,6 +55,7 @@ pub fn read_number(pages: &Pages, address: u64, size: AccessSize) -> Result<u64,
 }
 
 /// The same, where the bytes may lie in two pages.
+#[inline(never)]
 fn read_across(pages: &Pages, address: u64, size: AccessSize) -> Result<u64, Exception>
     ensures value { IfOk result (λ n. n ≡ number_in pages.now.memory address (bytes_in size)) }
     ensures small { IfOk result (λ n. n < 2 ^ (8 * bytes_in size)) }
@@ -73,7 +74,7 @@ fn read_across(pages: &Pages, address: u64, size: AccessSize) -> Result<u64, Exc
 }
 
 /// Writes bytes, or says why it does not.
-#[inline]
+#[inline(always)]
 pub fn write_bytes(pages: &mut Pages, address: u64, bytes: &[u8]) -> Result<(), AccessStop>
     ensures ok { OnOk result (pages.new.memory ≡ record pages.old.memory {
       mem = set_bytes pages.old.memory.mem
@@ -97,7 +98,7 @@ pub fn write_bytes(pages: &mut Pages, address: u64, bytes: &[u8]) -> Result<(), 
 }
 
 /// Writes the low bytes of a value, or says why it does not.
-#[inline]
+#[inline(always)]
 pub fn write_number(
     pages: &mut Pages,
     address: u64,

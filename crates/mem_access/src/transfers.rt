@@ -25,7 +25,7 @@ use scalar_exec::{read_x, write_x};
 use sm_types::{Insn, LoadLiteral, LoadStore, LoadStoreOp, LoadStorePair, PairOp, Scalars};
 
 /// Stores a register.
-#[inline]
+#[inline(always)]
 #[tactic(auto, unfolding(crate::specs::Runs::after_load_store))]
 fn store(x: &LoadStore, address: u64, s: &mut Scalars, pages: &mut Pages) -> Result<(), AccessStop>
     requires { IsLoadStore x.now }
@@ -45,7 +45,7 @@ fn store(x: &LoadStore, address: u64, s: &mut Scalars, pages: &mut Pages) -> Res
 }
 
 /// Loads a register.
-#[inline]
+#[inline(always)]
 #[tactic(auto, unfolding(crate::specs::Runs::after_load_store))]
 fn load(x: &LoadStore, address: u64, s: &mut Scalars, pages: &Pages) -> Result<(), AccessStop>
     requires fields { IsLoadStore x.now }
@@ -66,7 +66,7 @@ fn load(x: &LoadStore, address: u64, s: &mut Scalars, pages: &Pages) -> Result<(
 }
 
 /// A load or store of one register.
-#[inline]
+#[inline(always)]
 fn transfer_load_store(x: &LoadStore, s: &mut Scalars, pages: &mut Pages) -> Result<(), AccessStop>
     requires { IsLoadStore x.now }
     ensures made { Transfers (run_fault (load_store_access x.now s.old) s.old pages.old.memory)
@@ -111,7 +111,7 @@ fn load_literal(
 }
 
 /// A load from beside the program counter.
-#[inline]
+#[inline(never)]
 fn transfer_load_literal(x: &LoadLiteral, s: &mut Scalars, pages: &Pages) -> Result<(), AccessStop>
     requires { IsLoadLiteral x.now }
     ensures made { Transfers (run_fault (load_literal_access x.now s.old) s.old pages.now.memory)
@@ -180,7 +180,7 @@ fn load_pair(
 }
 
 /// A load or store of two registers.
-#[inline]
+#[inline(never)]
 fn transfer_pair(x: &LoadStorePair, s: &mut Scalars, pages: &mut Pages) -> Result<(), AccessStop>
     requires { IsLoadStorePair x.now }
     ensures made { Transfers (run_fault (pair_access x.now s.old) s.old pages.old.memory)
@@ -201,7 +201,7 @@ fn transfer_pair(x: &LoadStorePair, s: &mut Scalars, pages: &mut Pages) -> Resul
 }
 
 /// The instructions of this crate, as accesses to consecutive bytes.
-#[inline]
+#[inline(always)]
 fn transfer_run(insn: &Insn, scalars: &mut Scalars, pages: &mut Pages) -> Result<(), AccessStop>
     requires access { IsTrue (is_access insn.now) }
     requires fields { IsInRow insn.now }
@@ -225,7 +225,7 @@ fn transfer_run(insn: &Insn, scalars: &mut Scalars, pages: &mut Pages) -> Result
 /// that it writes owned, and no others. Any answer but Ok leaves registers and pages as they were, but that
 /// more pages may be owned after `Memory`, which comes only where the access writes a page that is not owned.
 /// PC stays as it is.
-#[inline]
+#[inline(always)]
 pub fn transfer(insn: &Insn, scalars: &mut Scalars, pages: &mut Pages) -> Result<(), AccessStop>
     requires access { IsTrue (is_access insn.now) }
     requires fields { IsInRow insn.now }

@@ -25,7 +25,7 @@ fn bits_in(size: AccessSize) -> u32
 }
 
 /// The register that a load gives.
-#[inline]
+#[inline(always)]
 #[tactic(auto, unfolding(crate::specs::Values::loaded))]
 pub fn loaded(op: LoadStoreOp, size: AccessSize, value: u64) -> u64
     requires { IsTrue (has_size op size) }

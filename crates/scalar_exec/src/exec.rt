@@ -25,6 +25,7 @@ pub enum Flow {
 
 /// Executes an instruction that reads and writes scalar registers alone, with its fields in their ranges: all
 /// registers are as it leaves them, but PC, which the caller moves as the answer says.
+#[inline(always)]
 #[tactic(auto, unfolding(crate::specs::Step::scalar_step, crate::specs::Step::flowed))]
 pub fn exec_scalar(s: &mut Scalars, insn: &Insn) -> Flow
     requires scalar { IsTrue (is_scalar insn.now) }

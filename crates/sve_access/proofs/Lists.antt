@@ -45,12 +45,6 @@ of_active f element pg k on =
     of_more f element pg k ∙ ap (λ b. of_first f element pg k ++ flat_map f (place_where b k)) on
     ∙ ap (λ t. of_first f element pg k ++ t) (append-nil (f k))
 
-pub of_inactive : (f : ℕ → List ℕ) (element : Size) (pg : List ℕ) (k : ℕ) → is_active (bytes_in element) pg k ≡ false
-    → of_first f element pg (k + 1) ≡ of_first f element pg k
-of_inactive f element pg k off =
-    of_more f element pg k ∙ ap (λ b. of_first f element pg k ++ flat_map f (place_where b k)) off
-    ∙ append-nil (of_first f element pg k)
-
 -- the first of them that fails a check
 pub find_more : (test : ℕ → Bool) (f : ℕ → List ℕ) (element : Size) (pg : List ℕ) (k : ℕ)
     → option_or (find test (of_first f element pg k)) (find test (flat_map f (place_where (is_active (bytes_in element) pg k) k)))

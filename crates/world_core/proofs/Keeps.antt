@@ -19,7 +19,7 @@ use Rattle.kernel_contexts.specs.Call.{TurnEnd, Goes, Yields, Asks, Ends}
 use Rattle.kernel_contexts.specs.Turn.{turn_of}
 use Rattle.kernel_contexts.specs.declared.context.Turn.TheVariants as turns
 use Rattle.kernel_contexts.proofs.Kept.{run_goes_on}
-use Rattle.world_core.specs.Serve.{Progress, Service, Going, GaveWay, HasStopped, after_turn, served, serve, begins}
+use Rattle.world_core.specs.Serve.{Progress, Service, Going, GaveWay, HasStopped, service_after, served, serve, begins}
 
 module _ (program : Program) (config : Config) (thread : ℕ) (before : List Entry) where
   -- the history is legal, the thread's part of it is its journal, over which its state is reached, and the parts of the others are those
@@ -46,7 +46,7 @@ module _ (program : Program) (config : Config) (thread : ℕ) (before : List Ent
   quiet p s stop h run = record { legal = h.legal; part = h.part; run = run; others = h.others; alone = h.alone }
 
   turn : (p : Progress) (end : TurnEnd) → turn_of config thread (length p.journal) p.state ≡ end → Keeps program config thread before p None
-      → KeepsService program config thread before (after_turn thread p end)
+      → KeepsService program config thread before (service_after thread p end)
   turn p (Goes s) is h =
       quiet p s None h (run_goes_on program config thread none p.state s p.journal p.journal [] None None turns.Ran h.run refl
       (sym (append-nil p.journal)) (is, refl))

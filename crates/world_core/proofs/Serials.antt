@@ -21,7 +21,7 @@ use Rattle.world_core.specs.Happens.{after_service, refused, with_scene, scene_o
 use Rattle.world_core.specs.Kept.{Stands, IsKept}
 use Rattle.world_core.specs.Kept.{Goes as HasGone}
 use Rattle.world_core.specs.Serial.{residents_at, filling, event_in, serial_event, phase_after, LeadSerially}
-use Rattle.world_core.specs.Serve.{Progress, Service, Going, GaveWay, HasStopped, after_turn, served, serve, begins}
+use Rattle.world_core.specs.Serve.{Progress, Service, Going, GaveWay, HasStopped, service_after, served, serve, begins}
 use Rattle.world_core.specs.World.{World, threads_of, residents_of, total}
 use Rattle.sm_types.specs.declared.world_event.WorldEvent.{WorldEvent}
 use Rattle.sm_types.specs.declared.world_event.WorldEvent.TheVariants.{Run, Next, Fetch, Offer}
@@ -206,7 +206,7 @@ HasRisen turns (GaveWay p) = turns ≤ p.state.turns
 HasRisen turns (HasStopped p stop) = Unit {0}
 
 turn_rises : (thread : ℕ) (config : Config) (p : Progress) (end : TurnEnd) → turn_of config thread (length p.journal) p.state ≡ end
-    → HasRisen (p.state.turns + 1) (after_turn thread p end)
+    → HasRisen (p.state.turns + 1) (service_after thread p end)
 turn_rises thread config p (Goes s) is = let e = goes_turned config thread (length p.journal) p.state s is in omega (arith, e)
 turn_rises thread config p (Yields s) is = let e = yields_turned config thread (length p.journal) p.state s is in omega (arith, e)
 turn_rises thread config p (Asks op next) is =
@@ -221,7 +221,7 @@ weaker n m (HasStopped p stop) l h = tt
 
 one_rises : (config : Config) (thread n : ℕ) (service : Service) → HasRisen n service → HasRisen n (served config thread service)
 one_rises config thread n (Going p) h =
-    weaker n (p.state.turns + 1) (after_turn thread p (turn_of config thread (length p.journal) p.state)) (omega (arith, h))
+    weaker n (p.state.turns + 1) (service_after thread p (turn_of config thread (length p.journal) p.state)) (omega (arith, h))
     (turn_rises thread config p (turn_of config thread (length p.journal) p.state) refl)
 one_rises config thread n (GaveWay p) h = h
 one_rises config thread n (HasStopped p stop) h = tt

@@ -18,8 +18,8 @@ use Rattle.kernel_contexts.specs.Turn.{turn_of}
 use Rattle.core_unit.specs.Course.{Course, one_more}
 use Rattle.core_unit.specs.Course.{course as course_of}
 use Rattle.core_unit.specs.Course as course
-use Rattle.core_unit.specs.Run.{place_of}
-use Rattle.world_core.specs.Serve.{Progress, Service, Going, GaveWay, HasStopped, answered, after_turn, served, serve, begins}
+use Rattle.core_unit.specs.Run.{course_at}
+use Rattle.world_core.specs.Serve.{Progress, Service, Going, GaveWay, HasStopped, progress_after, service_after, served, serve, begins}
 use Rattle.lone_runner.proofs.SameOps.{same_op}
 
 get_mid : (before after : List Entry) (e : Entry) → slice_get (before ++ e ∷ after) (length before) ≡ Some e
@@ -64,7 +64,7 @@ module _ (config : Config) (thread : ℕ) (s : State) (stop : Option Stop) (jour
   asked_true : (t : State) (done : ℕ) (left used : List Event) (e : Event) (op : SharedOp) (next : ℕ → State) → made ≡ used ++ e ∷ left
       → done ≡ length (journal ++ used) → op ≡ e.op
       → Agrees (course.Going (next e.answer) (done + 1) left)
-      (Going (answered thread (progress t used) op next (answer_to (ends_in (history ++ entries_of thread used)) op)))
+      (Going (progress_after thread (progress t used) op next (answer_to (ends_in (history ++ entries_of thread used)) op)))
   asked_true t done left used e op next is count same =
       let h = legal_at zero_words (history ++ entries_of thread used) (entries_of thread left) (record { thread = thread; event = e })
       (subst IsLegal (entries_mid used left e is) legal) in
@@ -90,12 +90,12 @@ module _ (config : Config) (thread : ℕ) (s : State) (stop : Option Stop) (jour
   asked : (b : Bool) (t : State) (done : ℕ) (left used : List Event) (e : Event) (op : SharedOp) (next : ℕ → State)
       → is_same_op op e.op ≡ b → made ≡ used ++ e ∷ left → done ≡ length (journal ++ used)
       → Agrees (cond b (course.Going (next e.answer) (done + 1) left) (course.Unanswered t done (e ∷ left)))
-      (Going (answered thread (progress t used) op next (answer_to (ends_in (history ++ entries_of thread used)) op)))
+      (Going (progress_after thread (progress t used) op next (answer_to (ends_in (history ++ entries_of thread used)) op)))
   asked true t done left used e op next test is count = asked_true t done left used e op next is count (same_op op e.op test)
   asked false t done left used e op next test is count = tt
 
   turned : (t : State) (done : ℕ) (left used : List Event) (end : TurnEnd) → made ≡ used ++ left → done ≡ length (journal ++ used)
-      → Agrees (course.after_turn t done left end) (after_turn thread (progress t used) end)
+      → Agrees (course.course_after t done left end) (service_after thread (progress t used) end)
   turned t done left used (Goes u) is count = (used, is, count, refl)
   turned t done left used (Yields u) is count = (used, is, count, refl)
   turned t done [] used (Asks op next) is count = tt
@@ -106,9 +106,9 @@ module _ (config : Config) (thread : ℕ) (s : State) (stop : Option Stop) (jour
   one (course.Going t done left) service h =
       let end : turn_of config thread (length (journal ++ h.0)) t ≡ turn_of config thread done t =
       ap (λ (n : ℕ). turn_of config thread n t) (sym h.2) in
-      let is : served config thread service ≡ after_turn thread (progress t h.0) (turn_of config thread done t) =
-      ap (served config thread) h.3 ∙ ap (after_turn thread (progress t h.0)) end in
-      subst (Agrees (course.after_turn t done left (turn_of config thread done t))) (sym is)
+      let is : served config thread service ≡ service_after thread (progress t h.0) (turn_of config thread done t) =
+      ap (served config thread) h.3 ∙ ap (service_after thread (progress t h.0)) end in
+      subst (Agrees (course.course_after t done left (turn_of config thread done t))) (sym is)
       (turned t done left h.0 (turn_of config thread done t) h.1 h.2)
   one (course.GaveWay t done left) service h = (h.0, h.1, h.2, ap (served config thread) h.3)
   one (course.HasStopped t at done left) service h = (h.0, h.1, h.2, ap (served config thread) h.3)
@@ -120,7 +120,7 @@ module _ (config : Config) (thread : ℕ) (s : State) (stop : Option Stop) (jour
       let l = sym (append-nil history) in
       λ i. record { state = s; journal = j i; history = l i }
 
-  first : (at : Option Stop) → Agrees (place_of s at (length journal) made) (begins s at journal history)
+  first : (at : Option Stop) → Agrees (course_at s at (length journal) made) (begins s at journal history)
   first None = (
     [],
     refl,
@@ -129,12 +129,12 @@ module _ (config : Config) (thread : ℕ) (s : State) (stop : Option Stop) (jour
   )
   first (Some at) = ([], refl, ap (λ l. length l) (sym (append-nil journal)), ap (λ p. HasStopped p at) whole)
 
-  pub agrees : (n : ℕ) → Agrees (course_of config thread (place_of s stop (length journal) made) n)
+  pub agrees : (n : ℕ) → Agrees (course_of config thread (course_at s stop (length journal) made) n)
       (serve config thread (begins s stop journal history) n)
   unfolding course_of serve
   agrees zero = first stop
   agrees (suc n) =
-      one (course_of config thread (place_of s stop (length journal) made) n) (serve config thread (begins s stop journal history) n)
+      one (course_of config thread (course_at s stop (length journal) made) n) (serve config thread (begins s stop journal history) n)
       (agrees n)
 
 module _ (config : Config) (thread : ℕ) (s t : State) (stop : Option Stop) (journal : List Event) (history : List Entry)
@@ -147,19 +147,19 @@ module _ (config : Config) (thread : ℕ) (s t : State) (stop : Option Stop) (jo
       let all : used ≡ made = sym (append-nil used) ∙ sym is in
       ap (λ (l : List Event). record { state = t; journal = journal ++ l; history = history ++ entries_of thread l }) all
 
-  agrees_at : (c : Course) → course_of config thread (place_of s stop (length journal) made) n ≡ c
+  agrees_at : (c : Course) → course_of config thread (course_at s stop (length journal) made) n ≡ c
       → Agrees config thread s stop journal history made legal c (serve config thread (begins s stop journal history) n)
   agrees_at c at = subst (λ d. Agrees config thread s stop journal history made legal d
       (serve config thread (begins s stop journal history) n)) at (agrees config thread s stop journal history made legal n)
 
-  pub serves_going : course_of config thread (place_of s stop (length journal) made) n ≡ course.Going t done []
+  pub serves_going : course_of config thread (course_at s stop (length journal) made) n ≡ course.Going t done []
       → serve config thread (begins s stop journal history) n ≡ Going after
   serves_going at = let h = agrees_at (course.Going t done []) at in h.3 ∙ ap Going (all_used h.0 h.1)
 
-  pub serves_way : course_of config thread (place_of s stop (length journal) made) n ≡ course.GaveWay t done []
+  pub serves_way : course_of config thread (course_at s stop (length journal) made) n ≡ course.GaveWay t done []
       → serve config thread (begins s stop journal history) n ≡ GaveWay after
   serves_way at = let h = agrees_at (course.GaveWay t done []) at in h.3 ∙ ap GaveWay (all_used h.0 h.1)
 
-  pub serves_stop : (why : Stop) → course_of config thread (place_of s stop (length journal) made) n ≡ course.HasStopped t why done []
+  pub serves_stop : (why : Stop) → course_of config thread (course_at s stop (length journal) made) n ≡ course.HasStopped t why done []
       → serve config thread (begins s stop journal history) n ≡ HasStopped after why
   serves_stop why at = let h = agrees_at (course.HasStopped t why done []) at in h.3 ∙ ap (λ p. HasStopped p why) (all_used h.0 h.1)

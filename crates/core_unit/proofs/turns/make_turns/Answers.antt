@@ -1,8 +1,8 @@
-use Rattle.std.proofs.Common.{refl, sym, ◌∙◌, arith}
+use Rattle.std.proofs.Common.{◌+◌, refl, sym, ◌∙◌, arith}
 use Rattle.kernel_contexts.specs.Context.{thread_of, journal_of, stop_of, made_by}
 use Rattle.core_unit.specs.Guest.{guest_on}
-use Rattle.core_unit.proofs.Ports.{gives_none, gives_more, ticket_stays, refuses_there}
-use Rattle.core_unit.proofs.Runs.{IsLater, run_begins, goes_on, rises, made_none, runs_so, runs_spent, is_answers}
+use Rattle.core_unit.proofs.Ports.{gives_none, gives_more, ticket_stays, ticket_kept, gives_kept, refuses_there}
+use Rattle.core_unit.proofs.Runs.{IsLater, run_begins, goes_on, gone_by, rises, made_none, runs_so, runs_spent, is_answers}
 use Rattle.core_unit.proofs.Runs.{runs_not_some, turned_on, never_needs, owned_still, none_of}
 use Rattle.core_unit.proofs.turns.make_turns.Goals as goal
 
@@ -38,15 +38,41 @@ end_of_turn-requires g c =
     never_needs _ _ c.turns.resident.context c.turns.bank c.advance_on-turn.new.self c.advance_on-turn.new.bank c.advance_on-turn.result
     h.owned c.advance_on-turn.ensures.turn
 
-pub turns-preserved : goal.turns-preserved
-turns-preserved g c =
+pub advance_several_on-turns-requires-clause-owned : goal.advance_several_on-turns-requires-clause-owned
+advance_several_on-turns-requires-clause-owned g c =
     let h = c.turns.invariant in
     let e = c.advance_on-turn.ensures in
-    let first = c.args.resident.now.context in
+    owned_still c.turns.bank c.advance_on-turn.new.bank (thread_of c.turns.resident.context) (thread_of c.advance_on-turn.new.self)
+    e.bank.owner e.same.thread h.owned
+
+pub advance_several_on-turns-requires-clause-runs : goal.advance_several_on-turns-requires-clause-runs
+advance_several_on-turns-requires-clause-runs g c =
+    let h = c.turns.invariant in
+    let e = c.advance_on-turn.ensures in
     let old = c.turns.resident.context in
     let new = c.advance_on-turn.new.self in
     let bank = c.turns.bank in
     let after = c.advance_on-turn.new.bank in
+    let was = guest_on c.args.bank.now c.args.resident.now.context in
+    let later : IsLater (guest_on bank old) (guest_on after new) (made_by old new) =
+    record { program = e.same.image; config = e.same.config; number = e.same.thread; journal = e.grows } in
+    (goes_on was (guest_on bank old) (guest_on after new) c.turns.turns (made_by old new) h.run h.runs later _
+    c.advance_on-turn.result (sym c.in-None.ensures)
+    (never_needs _ _ old bank new after c.advance_on-turn.result h.owned e.turn)
+    (turned_on _ _ old bank new after c.advance_on-turn.result h.runs h.owned e.turn)).1
+
+pub turns-preserved : goal.turns-preserved
+turns-preserved g c =
+    let h = c.turns.invariant in
+    let e = c.advance_on-turn.ensures in
+    let f = c.advance_several_on-turns.ensures in
+    let first = c.args.resident.now.context in
+    let old = c.turns.resident.context in
+    let new = c.advance_on-turn.new.self in
+    let last = c.advance_several_on-turns.new.self in
+    let bank = c.turns.bank in
+    let after = c.advance_on-turn.new.bank in
+    let end = c.advance_several_on-turns.new.bank in
     let was = guest_on c.args.bank.now first in
     let later : IsLater (guest_on bank old) (guest_on after new) (made_by old new) =
     record { program = e.same.image; config = e.same.config; number = e.same.thread; journal = e.grows } in
@@ -54,23 +80,32 @@ turns-preserved g c =
     c.advance_on-turn.result (sym c.in-None.ensures)
     (never_needs _ _ old bank new after c.advance_on-turn.result h.owned e.turn)
     (turned_on _ _ old bank new after c.advance_on-turn.result h.runs h.owned e.turn) in
+    let owned = owned_still bank after (thread_of old) (thread_of new) e.bank.owner e.same.thread h.owned in
+    let told = ticket_stays g.P.Port.gives g.P.Port.name g.P.Port.tells _ _ _ _ (thread_of old) (thread_of new) (made_by old new)
+    e.same.thread h.ticket e.gives in
+    let given = gives_more g.P.Port.gives g.P.Port.name g.P.Port.tells _ _ _ _ _ _ (thread_of first) (thread_of old) _ (made_by old new) _
+    (is_answers was (guest_on bank old) (guest_on after new) c.turns.turns (made_by old new) h.run h.runs later)
+    h.same.thread h.gives e.gives in
     record {
-      on = e.on;
-      owned = owned_still bank after (thread_of old) (thread_of new) e.bank.owner e.same.thread h.owned;
-      bank = record { vl = e.bank.vl ∙ h.bank.vl; svl = e.bank.svl ∙ h.bank.svl; owner = e.bank.owner ∙ h.bank.owner };
-      same = record {
-        config = e.same.config ∙ h.same.config;
-        thread = e.same.thread ∙ h.same.thread;
-        image = e.same.image ∙ h.same.image;
+      on = f.on;
+      owned = owned_still after end (thread_of new) (thread_of last) f.bank.owner f.same.thread owned;
+      bank = record {
+        vl = f.bank.vl ∙ e.bank.vl ∙ h.bank.vl;
+        svl = f.bank.svl ∙ e.bank.svl ∙ h.bank.svl;
+        owner = f.bank.owner ∙ e.bank.owner ∙ h.bank.owner;
       };
-      few = omega (arith, c.turns-test.true);
-      runs = on.1;
-      run = on.0;
-      ticket = ticket_stays g.P.Port.gives g.P.Port.name g.P.Port.tells _ _ _ _ (thread_of old) (thread_of new) (made_by old new)
-          e.same.thread h.ticket e.gives;
-      gives = gives_more g.P.Port.gives g.P.Port.name g.P.Port.tells _ _ _ _ _ _ (thread_of first) (thread_of old) _ (made_by old new) _
-          (is_answers was (guest_on bank old) (guest_on after new) c.turns.turns (made_by old new) h.run h.runs later)
-          h.same.thread h.gives e.gives;
+      same = record {
+        config = f.same.config ∙ e.same.config ∙ h.same.config;
+        thread = f.same.thread ∙ e.same.thread ∙ h.same.thread;
+        image = f.same.image ∙ e.same.image ∙ h.same.image;
+      };
+      few = omega (arith, c.turns-test.true, f.few);
+      runs = f.stop;
+      run = gone_by was (guest_on after new) (guest_on end last) (c.turns.turns + 1) c.advance_several_on-turns.result on.0 on.1
+          f.same.image f.same.config f.same.thread f.journal f.stop f.turns;
+      ticket = ticket_kept g.P.Port.gives g.P.Port.name g.P.Port.tells _ _ (thread_of new) (thread_of last) f.same.thread told;
+      gives = gives_kept g.P.Port.gives g.P.Port.name g.P.Port.tells _ _ _ _ (thread_of first) (journal_of first) (journal_of new)
+          (journal_of last) f.journal given;
     }
 
 pub returns-in-Some-clause-run : goal.returns-in-Some-clause-run

@@ -1,10 +1,11 @@
-use Rattle.std.proofs.Common.{rules, ◌≡◌, ◌≢◌, ◌∙◌, sym, ap, refl, List, ◌++◌}
+use Rattle.std.proofs.Common.{rules, ◌≡◌, ◌≢◌, ◌∙◌, sym, ap, refl, List, ◌++◌, None}
 use Rattle.sm_types.specs.declared.shared_op.Event.{Event}
-use Rattle.std.specs.Prelude.{Err}
-use Rattle.kernel_contexts.specs.Context.{config_of, image_of, thread_of}
+use Rattle.std.specs.Prelude.{Ok, Err}
+use Rattle.kernel_contexts.specs.Context.{state_of, config_of, image_of, thread_of}
 use Rattle.lone_runner.specs.Parting.{IsParting, parting_at}
 use Rattle.lone_runner.specs.Replayed.{place_of, WantsOnTheWay}
 use Rattle.lone_runner.specs.declared.fault.AloneFault.TheVariants.{Memory}
+use Rattle.lone_runner.proofs.Several.{way_goes_on, held_still, not_passed, turns_fall, up_to_count}
 use Rattle.lone_runner.proofs.Ways.{way_starts, way_parts, way_strays, way_on, ended, none_of, some_of}
 use Rattle.lone_runner.proofs.alone.follow.Goals as goal
 
@@ -58,18 +59,26 @@ pub turns-preserved : goal.turns-preserved
 turns-preserved c =
     let h = c.turns.invariant in
     let e = c.in_ok-stop.ensures in
+    let f = c.advance_several.ensures in
+    let mid = c.make_turn.new.context in
+    let last = c.advance_several.new.self in
     let none = none_of _ (sym c.is_some.ensures ∙ c.if-is_some.false) in
+    let config = e.same.config ∙ h.same.config in
+    let thread = e.same.thread ∙ h.same.thread in
+    let none_parts : parting_at c.args.count (place_of mid c.make_turn.new.ticket None) ≡ None =
+    ap (λ o. parting_at c.args.count (place_of mid c.make_turn.new.ticket o)) (sym none) ∙ sym c.parting.ensures ∙ c.in-None.is in
     record {
-      way = way_on _ _ _ _ _ c.turns.context c.turns.ticket h.same.config h.same.thread h.way c.make_turn.new.context c.make_turn.new.ticket
-          (e.turn ∙ ap (place_of c.make_turn.new.context c.make_turn.new.ticket) none) e.journal
-          (ap (λ o. parting_at c.args.count (place_of c.make_turn.new.context c.make_turn.new.ticket o)) (sym none)
-          ∙ sym c.parting.ensures ∙ c.in-None.is);
-      held = e.ticket;
-      runs = e.stop ∙ none;
+      way = way_goes_on _ _ _ _ c.args.count mid last c.make_turn.new.ticket config thread c.advance_several.result f.turns f.journal
+          (up_to_count (state_of mid).count (state_of last).count c.args.count c.advance_several.result _
+          (not_passed c.args.count (state_of mid) _ _ none_parts) c.count-now.ensures f.count f.few)
+          (way_on _ _ _ _ _ c.turns.context c.turns.ticket h.same.config h.same.thread h.way mid c.make_turn.new.ticket
+          (e.turn ∙ ap (place_of mid c.make_turn.new.ticket) none) e.journal none_parts);
+      held = held_still mid last c.make_turn.new.ticket e.ticket f.home f.same.thread f.journal;
+      runs = f.stop;
       same = record {
-        config = e.same.config ∙ h.same.config;
-        thread = e.same.thread ∙ h.same.thread;
-        image = e.same.image ∙ h.same.image;
+        config = f.same.config ∙ config;
+        thread = f.same.thread ∙ thread;
+        image = f.same.image ∙ e.same.image ∙ h.same.image;
       };
     }
 
@@ -87,3 +96,11 @@ returns-in_err-stop-clause-memory c =
       wants = c.in_err-stop.ensures.memory (ap Err is);
     } in
     search rules
+
+pub turns-smaller : goal.turns-smaller
+turns-smaller c =
+    let e = c.in_ok-stop.ensures in
+    let f = c.advance_several.ensures in
+    let none = none_of _ (sym c.is_some.ensures ∙ c.if-is_some.false) in
+    turns_fall (config_of c.turns.context) (config_of c.make_turn.new.context) (config_of c.advance_several.new.self) _ _ _
+    c.advance_several.result e.same.config f.same.config (e.made (ap Ok none)) e.few f.made

@@ -1,9 +1,11 @@
-use Rattle.std.proofs.Common.{rules, ◌≡◌, ◌≢◌, ◌≤◌, ◌<◌, ◌∙◌, ◌++◌, sym, ap, refl, subst}
-use Rattle.std.specs.Prelude.{Err}
+use Rattle.std.proofs.Common.{rules, ◌≡◌, ◌≢◌, ◌≤◌, ◌<◌, ◌∙◌, ◌++◌, List, sym, ap, refl, subst}
+use Rattle.sm_types.specs.declared.shared_op.Event.{Event}
+use Rattle.std.specs.Prelude.{Ok, Err}
 use Rattle.kernel_contexts.specs.Context.{state_of, config_of, image_of, thread_of, journal_of}
 use Rattle.lone_runner.specs.Parting.{IsPartingBefore}
 use Rattle.lone_runner.specs.Replayed.{place_of, WantsOnTheWay}
 use Rattle.lone_runner.specs.declared.fault.AloneFault.TheVariants.{Memory, EndsEarly}
+use Rattle.lone_runner.proofs.Several.{before_goes_on, held_still, turns_fall, up_to_count}
 use Rattle.lone_runner.proofs.Shown.{before_on, before_strays, before_ends, shown_here, shown_ended}
 use Rattle.lone_runner.proofs.alone.run_on.Goals as goal
 
@@ -33,17 +35,27 @@ pub turns-preserved : goal.turns-preserved
 turns-preserved c =
     let h = c.turns.invariant in
     let e = c.in_ok-stop.ensures in
+    let f = c.advance_several.ensures in
+    let mid = c.make_turn.new.context in
+    let last = c.advance_several.new.self in
+    let ticket = c.make_turn.new.ticket in
     let less : (state_of c.turns.context).count < c.args.count = subst (λ n. n < c.args.count) c.count.ensures c.turns-test.true in
+    let config = e.same.config ∙ h.same.config in
+    let thread = e.same.thread ∙ h.same.thread in
+    let before = before_on _ _ _ _ _ c.turns.context c.turns.ticket h.same.config h.same.thread h.before less mid ticket
+    (e.turn ∙ ap (place_of mid ticket) c.in_default.is) e.journal in
     record {
-      before = before_on _ _ _ _ _ c.turns.context c.turns.ticket h.same.config h.same.thread h.before less c.make_turn.new.context
-          c.make_turn.new.ticket (e.turn ∙ ap (place_of c.make_turn.new.context c.make_turn.new.ticket) c.in_default.is) e.journal;
-      held = e.ticket;
-      runs = e.stop ∙ c.in_default.is;
-      journal = e.journal ∙ h.journal;
+      before = before_goes_on _ _ _ _ c.args.count mid last ticket config thread c.advance_several.result f.turns f.journal
+          (up_to_count (state_of mid).count (state_of last).count c.args.count c.advance_several.result _ before.most c.count-now.ensures
+          f.count f.few)
+          f.count before;
+      held = held_still mid last ticket e.ticket f.home f.same.thread f.journal;
+      runs = f.stop;
+      journal = ap (λ (l : List Event). l ++ ticket.ahead) f.journal ∙ e.journal ∙ h.journal;
       same = record {
-        config = e.same.config ∙ h.same.config;
-        thread = e.same.thread ∙ h.same.thread;
-        image = e.same.image ∙ h.same.image;
+        config = f.same.config ∙ config;
+        thread = f.same.thread ∙ thread;
+        image = f.same.image ∙ e.same.image ∙ h.same.image;
       };
     }
 
@@ -94,3 +106,10 @@ returns-in_err-stop-clause-memory c =
       wants = c.in_err-stop.ensures.memory (ap Err is);
     } in
     search rules
+
+pub turns-smaller : goal.turns-smaller
+turns-smaller c =
+    let e = c.in_ok-stop.ensures in
+    let f = c.advance_several.ensures in
+    turns_fall (config_of c.turns.context) (config_of c.make_turn.new.context) (config_of c.advance_several.new.self) _ _ _
+    c.advance_several.result e.same.config f.same.config (e.made (ap Ok c.in_default.is)) e.few f.made

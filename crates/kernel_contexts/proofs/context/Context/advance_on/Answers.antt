@@ -1,13 +1,10 @@
 use Rattle.std.proofs.Common.{◌≡◌, ℕ, ◌+◌, true, false, length, ap, sym, ◌∙◌}
 use Rattle.std.specs.Prelude.{Option, not}
-use Rattle.mem_access.specs.Bank.{bank_state}
 use Rattle.kernel_contexts.specs.Owner.{owns, is_owner}
-use Rattle.kernel_contexts.specs.State.{State}
 use Rattle.kernel_contexts.specs.Context.{held_state}
 use Rattle.kernel_contexts.proofs.Answered.{ran_turned, yielded_turned}
-use Rattle.kernel_contexts.proofs.Bare.{with_vectors}
-use Rattle.kernel_contexts.proofs.Kept.{run_goes_on, run_kept, run_same}
-use Rattle.kernel_contexts.proofs.Wanting.{wants_as}
+use Rattle.kernel_contexts.proofs.Apart.{over_made}
+use Rattle.kernel_contexts.proofs.Kept.{run_goes_on, run_kept, run_unless}
 use Rattle.kernel_contexts.proofs.context.Context.advance_on.Goals as goal
 
 pub returns-then-is_owned-clause-made : goal.returns-then-is_owned-clause-made
@@ -22,21 +19,21 @@ returns-then-is_owned-clause-yielded g c = λ yielded.
     yielded_turned guest.config guest.number (length guest.journal.items) (held_state guest c.args.bank.now)
     (held_state c.make_turn.new.self c.make_turn.new.bank) _ _ _ c.make_turn.result c.make_turn.ensures.turn yielded
 
-pub returns-else-needs_vectors-clause-made : goal.returns-else-needs_vectors-clause-made
-returns-else-needs_vectors-clause-made g c = λ ran.
-    let guest = c.needs_vectors.new.self in
-    let made = c.make_turn-else-needs_vectors in
+pub returns-else-is_owned-clause-made : goal.returns-else-is_owned-clause-made
+returns-else-is_owned-clause-made g c = λ ran.
+    let guest = c.args.self.now.guest in
+    let made = c.make_turn-else-is_owned in
     ran_turned guest.config guest.number (length guest.journal.items) (held_state guest c.args.self.now.save_area)
-    (held_state made.new.self made.new.bank) _ _ _ made.result made.ensures.turn ran
-    ∙ ap (λ (s : State). s.turns + 1) c.needs_vectors.ensures.state
+    (held_state made.new.self made.new.bank) _ _ _ made.result
+    (over_made _ _ _ _ _ _ _ made.result (λ e. let clash = sym ran ∙ e in cc) made.ensures.turn) ran
 
-pub returns-else-needs_vectors-clause-yielded : goal.returns-else-needs_vectors-clause-yielded
-returns-else-needs_vectors-clause-yielded g c = λ yielded.
-    let guest = c.needs_vectors.new.self in
-    let made = c.make_turn-else-needs_vectors in
+pub returns-else-is_owned-clause-yielded : goal.returns-else-is_owned-clause-yielded
+returns-else-is_owned-clause-yielded g c = λ yielded.
+    let guest = c.args.self.now.guest in
+    let made = c.make_turn-else-is_owned in
     yielded_turned guest.config guest.number (length guest.journal.items) (held_state guest c.args.self.now.save_area)
-    (held_state made.new.self made.new.bank) _ _ _ made.result made.ensures.turn yielded
-    ∙ ap (λ (s : State). s.turns + 1) c.needs_vectors.ensures.state
+    (held_state made.new.self made.new.bank) _ _ _ made.result
+    (over_made _ _ _ _ _ _ _ made.result (λ e. let clash = sym yielded ∙ e in cc) made.ensures.turn) yielded
 
 pub returns-then-is_owned-clause-on : goal.returns-then-is_owned-clause-on
 returns-then-is_owned-clause-on g c =
@@ -59,16 +56,13 @@ returns-then-is_owned-clause-on g c =
           new.journal.items _ old.stop new.stop c.make_turn.result (c.requires.on.run owned) c.in-None.is turn.grows.journal turn.turn);
     }
 
-pub invariant_of-self-else-needs_vectors : goal.invariant_of-self-else-needs_vectors
-invariant_of-self-else-needs_vectors g c =
+pub invariant_of-self-else-is_owned : goal.invariant_of-self-else-is_owned
+invariant_of-self-else-is_owned g c =
     let before = c.args.self.now in
-    let first = before.guest in
-    let seen = c.needs_vectors.ensures in
-    let old = c.needs_vectors.new.self in
-    let made = c.make_turn-else-needs_vectors in
+    let old = before.guest in
+    let made = c.make_turn-else-is_owned in
     let new = made.new.self in
     let turn = made.ensures in
-    let here = bank_state before.save_area in
     record {
       fits = record {
         lengths = turn.back.fit.lengths;
@@ -77,12 +71,9 @@ invariant_of-self-else-needs_vectors g c =
       };
       is_run = λ home. run_kept before.image old.config new.config old.number new.number new.journal.items (held_state new made.new.bank)
           new.stop turn.grows.same.config turn.grows.same.number
-          (run_goes_on before.image old.config old.number _ (held_state old before.save_area) (held_state new made.new.bank)
-          old.journal.items new.journal.items _ old.stop new.stop made.result
-          (run_same before.image first.config old.config first.number old.number first.journal.items old.journal.items
-          (held_state first before.save_area) (held_state old before.save_area) first.stop old.stop seen.same.config seen.same.number
-          seen.same.journal (ap (with_vectors here) seen.state) seen.stop (before.is_run home)) (seen.stop ∙ c.in-None.is)
-          turn.grows.journal turn.turn);
+          (run_unless _ before.image old.config old.number _ (held_state old before.save_area) (held_state new made.new.bank)
+          old.journal.items new.journal.items _ old.stop new.stop made.result (before.is_run home) c.in-None.is turn.grows.journal
+          turn.turn);
     }
 
 pub returns-then-is_owned-clause-memory : goal.returns-then-is_owned-clause-memory
@@ -90,9 +81,7 @@ returns-then-is_owned-clause-memory g c = λ wants.
     let owned : owns c.args.bank.now c.args.self.now.guest.number ≡ true = sym c.is_owned.ensures ∙ c.if-is_owned.true in
     rw owned (c.make_turn.ensures.memory wants)
 
-pub returns-else-needs_vectors-clause-memory : goal.returns-else-needs_vectors-clause-memory
-returns-else-needs_vectors-clause-memory g c = λ wants.
+pub returns-else-is_owned-clause-memory : goal.returns-else-is_owned-clause-memory
+returns-else-is_owned-clause-memory g c = λ wants.
     let owned : owns c.args.bank.now c.args.self.now.guest.number ≡ false = sym c.is_owned.ensures ∙ c.if-is_owned.false in
-    let seen = c.needs_vectors.ensures in
-    rw owned (wants_as _ c.args.self.now.save_area _ _ c.args.self.now.guest c.needs_vectors.new.self seen.free seen.state
-    seen.same.config seen.machine (c.make_turn-else-needs_vectors.ensures.memory wants))
+    rw owned (c.make_turn-else-is_owned.ensures.memory wants)

@@ -7,10 +7,15 @@ use Rattle.machine_step.specs.Step.{events_of}
 use Rattle.kernel_contexts.specs.declared.guest.GuestThread.{GuestThread}
 use Rattle.mem_access.specs.declared.bank.Bank.{Bank}
 use Rattle.mem_access.specs.Bank.{bank_state}
-use Rattle.kernel_contexts.specs.Call.{Ends}
-use Rattle.kernel_contexts.specs.Context.{held_state}
+use Rattle.kernel_contexts.specs.Call.{Ends, call_of}
+use Rattle.kernel_contexts.specs.Turn.{outside_streaming}
+use Rattle.shared_region.specs.Tickets.{Refusals}
+use Rattle.kernel_contexts.specs.Context.{held_state, guest_instruction, guest_made, made_since, TurnsOver}
 use Rattle.kernel_contexts.proofs.Bare.{with_vectors}
-use Rattle.kernel_contexts.proofs.Turns.{executes_raises}
+use Rattle.kernel_contexts.proofs.Turns.{executes_raises, executes_calls}
+use Rattle.kernel_contexts.proofs.Apart.{not_kept, call_kept, is_kept, unless_so, needed_so, lacked, lacked_owns, over_as}
+use Rattle.machine_step.specs.declared.step.StepEnd.TheVariants as end
+use Rattle.std.specs.Prelude.{◌&&◌, ◌==◌, slice_index}
 use Rattle.kernel_contexts.proofs.Answered.{stops_so, asked_nothing, made_nothing, made_events}
 use Rattle.kernel_contexts.proofs.Over.{event_fits, room_left, room_full, goes_over, full_over, refused_over}
 use Rattle.machine_step.specs.Machine.{HasRoomToStep, core_of}
@@ -30,61 +35,79 @@ its_effect g bank same = ap (λ (l : VecLen). effect_of (vector_bytes l) (held_s
 pub go_on-requires-clause-within : goal.go_on-requires-clause-within
 go_on-requires-clause-within g c =
     let t = c.args.self.now in
+    let k =
+    not_kept c.args.apart (vector_bytes c.args.bank.now.vectors.vl) (held_state t c.args.bank.now).core
+    _ _ _ (end.Next c.in-Next.event) (λ e. cc) refl c.in-Next.ensures.effect in
     let n = vec_len c.reserve.new.self in
     let count : c.len-room.result ≡ n = omega arith in
     event_fits _ _ (effect_of (vector_bytes c.args.bank.now.vectors.vl) (held_state t c.args.bank.now).core)
     (held_state t c.args.bank.now).core _ c.in-Next.event n n refl
-    (omega (arith, t.journal_within, c.reserve.ensures.len)) (room_left c.len-room.result n count) c.in-Next.ensures.effect
+    (omega (arith, t.journal_within, c.reserve.ensures.len)) (room_left c.len-room.result n count) k.1
 
 pub returns-in-Next-clause-turn : goal.returns-in-Next-clause-turn
 returns-in-Next-clause-turn g c =
     let t = c.args.self.now in
+    let k =
+    not_kept c.args.apart (vector_bytes c.args.bank.now.vectors.vl) (held_state t c.args.bank.now).core
+    _ _ _ (end.Next c.in-Next.event) (λ e. cc) refl c.in-Next.ensures.effect in
     let count : c.len-room.result ≡ length t.journal.items = omega (arith, ap length c.reserve.ensures.items) in
-    rw c.go_on.ensures.answer (
+    unless_so _ _ _ _ _ _ _ _ k.0 (rw c.go_on.ensures.answer (
       goes_over t.config t.number (length t.journal.items) (held_state t c.args.bank.now) _ _ _
           (its_effect t c.args.bank.now c.requires.fit.lengths.vl) _
-          (held_state c.go_on.new.self c.step_with.new.bank.0) c.in-Next.event _
+          (held_state c.go_on.new.self c.step_apart.new.bank) c.in-Next.event _
           (room_left c.len-room.result (length t.journal.items) count)
-          c.in-Next.ensures.effect (ap (with_vectors (bank_state c.step_with.new.bank.0)) c.go_on.ensures.state)
+          k.1 (ap (with_vectors (bank_state c.step_apart.new.bank)) c.go_on.ensures.state)
           (made_events t.journal.items _ _ (c.go_on.ensures.journal ∙ ap (λ l. l ++ events_of c.in-Next.event) c.reserve.ensures.items)),
       c.go_on.ensures.stop ∙ c.requires.runs,
-    )
+    ))
 
 pub returns-in-Raise-clause-turn : goal.returns-in-Raise-clause-turn
 returns-in-Raise-clause-turn g c =
     let t = c.args.self.now in
-    let h = c.in-Raise.ensures.effect in
+    let k =
+    not_kept c.args.apart (vector_bytes c.args.bank.now.vectors.vl) (held_state t c.args.bank.now).core
+    _ _ _ (end.Raise c.in-Raise.exception) (λ e. cc) refl c.in-Raise.ensures.effect in
+    let h = k.1 in
     let stop = c.stop_with in
-    asked_nothing _ _ _ (held_state t c.args.bank.now) (held_state stop.new.self c.step_with.new.bank.0) _ _ stop.result
+    unless_so _ _ _ _ _ _ _ _ k.0
+    (asked_nothing _ _ _ (held_state t c.args.bank.now) (held_state stop.new.self c.step_apart.new.bank) _ _ stop.result
     (made_nothing t.journal.items _ (stop.ensures.same.journal ∙ c.reserve.ensures.items))
-    (stops_so ⊥ _ (held_state t c.args.bank.now) (held_state stop.new.self c.step_with.new.bank.0) _ stop.result _ stop.ensures.answer
+    (stops_so ⊥ _ (held_state t c.args.bank.now) (held_state stop.new.self c.step_apart.new.bank) _ stop.result _ stop.ensures.answer
     (executes_raises t.config t.number (length t.journal.items) (held_state t c.args.bank.now) _ _
     (its_effect t c.args.bank.now c.requires.fit.lengths.vl ∙ h.0) h.1
-    ∙ ap (λ s. Ends s (Raised c.in-Raise.exception c.step_with.new.self.scalars.pc))
-    (sym (ap (with_vectors (bank_state c.step_with.new.bank.0)) stop.ensures.state)))
-    stop.ensures.stop)
+    ∙ ap (λ s. Ends s (Raised c.in-Raise.exception c.step_apart.new.self.scalars.pc))
+    (sym (ap (with_vectors (bank_state c.step_apart.new.bank)) stop.ensures.state)))
+    stop.ensures.stop))
 
 pub returns-in-NoRoom-clause-turn : goal.returns-in-NoRoom-clause-turn
 returns-in-NoRoom-clause-turn g c =
     let t = c.args.self.now in
-    let h = c.in-NoRoom.ensures.effect in
+    let k =
+    not_kept c.args.apart (vector_bytes c.args.bank.now.vectors.vl) (held_state t c.args.bank.now).core
+    _ _ _ end.NoRoom (λ e. cc) refl c.in-NoRoom.ensures.effect in
+    let h = k.1 in
     let stop = c.stop_with-in-NoRoom in
     let count : c.len-room.result ≡ length t.journal.items = omega (arith, ap length c.reserve.ensures.items) in
-    asked_nothing _ _ _ (held_state t c.args.bank.now) (held_state stop.new.self c.step_with.new.bank.0) _ _ stop.result
+    unless_so _ _ _ _ _ _ _ _ k.0
+    (asked_nothing _ _ _ (held_state t c.args.bank.now) (held_state stop.new.self c.step_apart.new.bank) _ _ stop.result
     (made_nothing t.journal.items _ (stop.ensures.same.journal ∙ c.reserve.ensures.items))
-    (stops_so ⊥ _ (held_state t c.args.bank.now) (held_state stop.new.self c.step_with.new.bank.0) _ stop.result TraceFull
+    (stops_so ⊥ _ (held_state t c.args.bank.now) (held_state stop.new.self c.step_apart.new.bank) _ stop.result TraceFull
     stop.ensures.answer
     (full_over t.config t.number (length t.journal.items) (held_state t c.args.bank.now) _
     (its_effect t c.args.bank.now c.requires.fit.lengths.vl)
     (room_full c.len-room.result (length t.journal.items) count h.1) h.2
     ∙ ap (λ (k : ProcessorState). Ends (record (held_state t c.args.bank.now) { core = k }) TraceFull) (sym h.0)
-    ∙ ap (λ s. Ends s TraceFull) (sym (ap (with_vectors (bank_state c.step_with.new.bank.0)) stop.ensures.state))) stop.ensures.stop)
+    ∙ ap (λ s. Ends s TraceFull) (sym (ap (with_vectors (bank_state c.step_apart.new.bank)) stop.ensures.state))) stop.ensures.stop))
 
 pub returns-in-TraceEnds-clause-turn : goal.returns-in-TraceEnds-clause-turn
 returns-in-TraceEnds-clause-turn g c =
     let t = c.args.self.now in
-    let h = c.in-TraceEnds.ensures.effect in
-    let count : c.len-room.result ≡ length t.journal.items = omega (arith, ap length c.reserve.ensures.items) in (
+    let k =
+    not_kept c.args.apart (vector_bytes c.args.bank.now.vectors.vl) (held_state t c.args.bank.now).core
+    _ _ _ end.TraceEnds (λ e. cc) refl c.in-TraceEnds.ensures.effect in
+    let h = k.1 in
+    let count : c.len-room.result ≡ length t.journal.items = omega (arith, ap length c.reserve.ensures.items) in
+    unless_so _ _ _ _ _ _ _ _ k.0 (
       refused_over t.config t.number (length t.journal.items) (held_state t c.args.bank.now) _ _
           (its_effect t c.args.bank.now c.requires.fit.lengths.vl)
           (room_left c.len-room.result (length t.journal.items) count h.1) h.2,
@@ -96,8 +119,12 @@ returns-in-TraceEnds-clause-turn g c =
 pub returns-in-TraceDiffers-clause-turn : goal.returns-in-TraceDiffers-clause-turn
 returns-in-TraceDiffers-clause-turn g c =
     let t = c.args.self.now in
-    let h = c.in-TraceDiffers.ensures.effect in
-    let count : c.len-room.result ≡ length t.journal.items = omega (arith, ap length c.reserve.ensures.items) in (
+    let k =
+    not_kept c.args.apart (vector_bytes c.args.bank.now.vectors.vl) (held_state t c.args.bank.now).core
+    _ _ _ end.TraceDiffers (λ e. cc) refl c.in-TraceDiffers.ensures.effect in
+    let h = k.1 in
+    let count : c.len-room.result ≡ length t.journal.items = omega (arith, ap length c.reserve.ensures.items) in
+    unless_so _ _ _ _ _ _ _ _ k.0 (
       refused_over t.config t.number (length t.journal.items) (held_state t c.args.bank.now) _ _
           (its_effect t c.args.bank.now c.requires.fit.lengths.vl)
           (room_left c.len-room.result (length t.journal.items) count h.1) h.2,
@@ -106,20 +133,26 @@ returns-in-TraceDiffers-clause-turn g c =
       c.requires.runs,
     )
 
-pub returns-in-Call-clause-memory : goal.returns-in-Call-clause-memory
-returns-in-Call-clause-memory g c = λ wants free.
+pub returns-else-is_kept_from-clause-memory : goal.returns-else-is_kept_from-clause-memory
+returns-else-is_kept_from-clause-memory g c = λ wants free.
     let t = c.args.self.now in
-    let h = c.in-Call.ensures.effect in
+    let k =
+    call_kept c.args.apart (vector_bytes c.args.bank.now.vectors.vl) (held_state t c.args.bank.now).core
+    _ _ _ _ c.in-Call.ensures.effect in
+    let h = k.1 in
     let chain = c.in-Call.ensures.gives.chain in
     rw (its_effect t c.args.bank.now c.requires.fit.lengths.vl ∙ h.0, chain.0, chain.1)
-    (subst (λ (k : ProcessorState). CallWants (g.P.Port.refuses c.step_with.new.port c.step_with.new.ticket).takes_memory
+    (subst (λ (k : ProcessorState). CallWants (g.P.Port.refuses c.step_apart.new.port c.step_apart.new.ticket).takes_memory
     (record (held_state t c.args.bank.now) { core = k })) h.1
     (c.call.ensures.memory wants (omega (arith, free, c.reserve.ensures.capacity, c.reserve.ensures.len))))
 
 pub returns-in-Memory-clause-memory : goal.returns-in-Memory-clause-memory
 returns-in-Memory-clause-memory g c = λ wants free.
     let t = c.args.self.now in
-    let h = c.in-Memory.ensures.effect in
+    let k =
+    not_kept c.args.apart (vector_bytes c.args.bank.now.vectors.vl) (held_state t c.args.bank.now).core
+    _ _ _ end.Memory (λ e. cc) refl c.in-Memory.ensures.effect in
+    let h = k.1 in
     rw (its_effect t c.args.bank.now c.requires.fit.lengths.vl)
     (effect_wants (g.P.Port.refuses c.args.port.now c.args.ticket.now) (HasRoomToStep t.machine (Some c.args.bank.now)) _ _ _ h.1
     (λ room. c.in-Memory.ensures.memory room refl))
@@ -127,19 +160,25 @@ returns-in-Memory-clause-memory g c = λ wants free.
 pub returns-in-Next-clause-owned : goal.returns-in-Next-clause-owned
 returns-in-Next-clause-owned g c =
     let t = c.args.self.now in
-    ran_owned _ t.machine.pages c.step_with.new.self.pages c.go_on.new.self.machine.pages c.go_on.result c.go_on.ensures.answer
+    let k =
+    not_kept c.args.apart (vector_bytes c.args.bank.now.vectors.vl) (held_state t c.args.bank.now).core
+    _ _ _ (end.Next c.in-Next.event) (λ e. cc) refl c.in-Next.ensures.effect in
+    ran_owned _ t.machine.pages c.step_apart.new.self.pages c.go_on.new.self.machine.pages c.go_on.result c.go_on.ensures.answer
     (ap (λ (m : Machine). m.pages) c.go_on.ensures.machine)
     (rw (writes_at_length t c.args.bank.now c.requires.fit.lengths.vl)
     (next_owns (g.P.Port.refuses c.args.port.now c.args.ticket.now) _ _ (held_state t c.args.bank.now).core
-    (core_of c.step_with.new.self (bank_state c.step_with.new.bank.0)) _ _ _ c.in-Next.event c.in-Next.ensures.effect
+    (core_of c.step_apart.new.self (bank_state c.step_apart.new.bank)) _ _ _ c.in-Next.event k.1
     c.in-Next.ensures.owned))
 
-pub returns-in-Call-clause-owned : goal.returns-in-Call-clause-owned
-returns-in-Call-clause-owned g c =
+pub returns-else-is_kept_from-clause-owned : goal.returns-else-is_kept_from-clause-owned
+returns-else-is_kept_from-clause-owned g c =
     let t = c.args.self.now in
+    let k =
+    call_kept c.args.apart (vector_bytes c.args.bank.now.vectors.vl) (held_state t c.args.bank.now).core
+    _ _ _ _ c.in-Call.ensures.effect in
     same_owns _ t.machine.pages c.call.new.self.machine.pages c.call.result (c.call.ensures.pages ∙ c.in-Call.ensures.owned)
     (ap (effect_writes (step_writes t.machine (Some c.args.bank.now)))
-    (its_effect t c.args.bank.now c.requires.fit.lengths.vl ∙ c.in-Call.ensures.effect.0))
+    (its_effect t c.args.bank.now c.requires.fit.lengths.vl ∙ k.1.0))
 
 pub returns-in-Raise-clause-owned : goal.returns-in-Raise-clause-owned
 returns-in-Raise-clause-owned g c =
@@ -152,3 +191,72 @@ returns-in-NoRoom-clause-owned g c =
     let stop = c.stop_with-in-NoRoom in
     stops_owned _ c.args.self.now.machine.pages stop.new.self.machine.pages stop.result _ stop.ensures.answer
     (ap (λ (m : Machine). m.pages) stop.ensures.machine ∙ c.in-NoRoom.ensures.owned)
+
+pub returns-then-is_err-clause-turn : goal.returns-then-is_err-clause-turn
+returns-then-is_err-clause-turn g c =
+    let t = c.args.self.now in
+    lacked _ _ _ (held_state t c.args.bank.now) (held_state c.lack.new.self c.args.bank.now) _ _ c.lack.result
+    (c.lack.ensures.turn (bank_state c.args.bank.now)) (ap (with_vectors (bank_state c.args.bank.now)) c.lack.ensures.state)
+    (made_nothing t.journal.items _ (c.lack.ensures.same.journal ∙ c.reserve.ensures.items)) (c.lack.ensures.stop ∙ c.requires.runs)
+
+pub returns-then-is_err-clause-owned : goal.returns-then-is_err-clause-owned
+returns-then-is_err-clause-owned g c =
+    lacked_owns _ _ c.args.self.now.machine.pages c.lack.new.self.machine.pages c.lack.result
+    (c.lack.ensures.turn (bank_state c.args.bank.now)) (ap (λ (m : Machine). m.pages) c.lack.ensures.machine)
+
+pub returns-in-NeedsBank-clause-turn : goal.returns-in-NeedsBank-clause-turn
+returns-in-NeedsBank-clause-turn g c =
+    let t = c.args.self.now in
+    let k =
+    is_kept c.args.apart (vector_bytes c.args.bank.now.vectors.vl) (held_state t c.args.bank.now).core
+    _ _ _ c.in-NeedsBank.ensures.effect in
+    needed_so _ _ _ _ _ _ _ k.0 (ap (λ (p : ProcessorState). record (held_state t c.args.bank.now) { core = p }) k.1)
+    (made_nothing t.journal.items _ c.reserve.ensures.items) c.requires.runs
+
+pub returns-then-is_kept_from-clause-turn : goal.returns-then-is_kept_from-clause-turn
+returns-then-is_kept_from-clause-turn g c =
+    let t = c.args.self.now in
+    let k =
+    call_kept c.args.apart (vector_bytes c.args.bank.now.vectors.vl) (held_state t c.args.bank.now).core
+    _ _ _ _ c.in-Call.ensures.effect in
+    let same = k.1.1 in
+    needed_so _ _ _ _ _ _ _
+    (k.0 ∙ ap (λ (p : ProcessorState). c.args.apart && (slice_index p.scalars.x 8 == 139)) (sym same)
+    ∙ sym c.is_kept_from.ensures ∙ c.if-is_kept_from.true)
+    (ap (λ (p : ProcessorState). record (held_state t c.args.bank.now) { core = p }) same)
+    (made_nothing t.journal.items _ c.reserve.ensures.items) c.requires.runs
+
+pub returns-else-is_kept_from-clause-turn : goal.returns-else-is_kept_from-clause-turn
+returns-else-is_kept_from-clause-turn g c =
+    let t = c.args.self.now in
+    let k =
+    call_kept c.args.apart (vector_bytes c.args.bank.now.vectors.vl) (held_state t c.args.bank.now).core
+    _ _ _ _ c.in-Call.ensures.effect in
+    let h = k.1 in
+    let after = record (held_state t c.args.bank.now) { core = core_of c.step_apart.new.self (bank_state c.step_apart.new.bank) } in
+    let chain = c.in-Call.ensures.gives.chain in
+    unless_so _ _ _ _ _ _ _ _
+    (k.0 ∙ ap (λ (p : ProcessorState). c.args.apart && (slice_index p.scalars.x 8 == 139)) (sym h.1)
+    ∙ sym c.is_kept_from.ensures ∙ c.if-is_kept_from.false)
+    (subst (λ (r : Refusals). TurnsOver r (guest_instruction t c.args.bank.now) (held_state t c.args.bank.now)
+    (held_state c.call.new.self c.call.new.bank) (guest_made t c.call.new.self) c.call.new.self.stop c.call.result)
+    (λ i. g.P.Port.refuses (sym chain.0 i) (sym chain.1 i))
+    (over_as _ _ _ _ _ _ _ _ _ c.call.result
+    (executes_calls t.config t.number (length t.journal.items) (held_state t c.args.bank.now)
+    (core_of c.step_apart.new.self (bank_state c.step_apart.new.bank)) _
+    (its_effect t c.args.bank.now c.requires.fit.lengths.vl ∙ h.0) h.1
+    ∙ ap (λ n. call_of t.config t.number n after (outside_streaming t.config after)) (sym (ap length c.reserve.ensures.items)))
+    (ap (λ (p : ProcessorState). record (held_state t c.args.bank.now) { core = p }) (sym h.1))
+    (ap (λ l. made_since l c.call.new.self.journal.items) (sym c.reserve.ensures.items)) c.call.ensures.turn))
+
+pub returns-in-Memory-clause-turn : goal.returns-in-Memory-clause-turn
+returns-in-Memory-clause-turn g c =
+    let t = c.args.self.now in
+    let k =
+    not_kept c.args.apart (vector_bytes c.args.bank.now.vectors.vl) (held_state t c.args.bank.now).core
+    _ _ _ end.Memory (λ e. cc) refl c.in-Memory.ensures.effect in
+    unless_so _ _ _ _ _ _ _ _ k.0 (
+      ap (λ (p : ProcessorState). record (held_state t c.args.bank.now) { core = p }) k.1.0,
+      made_nothing t.journal.items _ c.reserve.ensures.items,
+      c.requires.runs,
+    )

@@ -1,0 +1,24 @@
+use Rattle.std.proofs.Common.{◌∙◌, refl}
+use Rattle.kernel_contexts.specs.Context.{held_state}
+use Rattle.kernel_contexts.proofs.Kept.{run_same}
+use Rattle.kernel_contexts.proofs.Several.{run_goes_by}
+use Rattle.kernel_contexts.proofs.context.Context.advance_several.Goals as goal
+
+pub invariant_of-self : goal.invariant_of-self
+invariant_of-self c =
+    let before = c.args.self.now in
+    let old = before.guest in
+    let new = c.make_several_turns.new.self in
+    let bank = c.make_several_turns.new.bank in
+    let e = c.make_several_turns.ensures in
+    record {
+      fits = record {
+        lengths = e.back.fit.lengths;
+        mode = λ home. e.back.fit.mode;
+        owner = e.back.same.owner ∙ before.fits.owner;
+      };
+      is_run = λ home. run_same before.image old.config new.config old.number new.number old.journal.items new.journal.items
+          (held_state new bank) (held_state new bank) old.stop new.stop e.same.config e.same.number e.same.journal refl e.stop
+          (run_goes_by before.image old.config old.number (held_state old before.save_area) (held_state new bank) old.journal.items
+          old.stop c.make_several_turns.result c.requires.runs (before.is_run home) e.turns);
+    }

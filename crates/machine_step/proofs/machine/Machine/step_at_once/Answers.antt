@@ -1,0 +1,18 @@
+use Rattle.std.proofs.Common.{refl, Some, None}
+use Rattle.mem_access.specs.Bank.{bank_state}
+use Rattle.machine_step.specs.ProcessorState.{vector_bytes}
+use Rattle.machine_step.specs.Effect.{effect_of}
+use Rattle.machine_step.specs.Execution.{effect_of_insn}
+use Rattle.machine_step.specs.Machine.{core_of}
+use Rattle.machine_step.proofs.Answers.{effect_of_word}
+use Rattle.machine_step.proofs.Steps.{attempted_at}
+use Rattle.machine_step.proofs.machine.Machine.step_at_once.Goals as goal
+
+pub returns-clause-effect : goal.returns-clause-effect
+returns-clause-effect c =
+    let h = c.in-Ok.ensures in
+    attempted_at effect_of (effect_of_insn c.in-Ok.word c.in-Some.insn.now) c.args.self.now c.args.bank.now c.execute_at_once.new.self
+    c.execute_at_once.new.bank c.execute_at_once.result
+    (effect_of_word (vector_bytes c.args.bank.now.vectors.vl) (core_of c.args.self.now (bank_state c.args.bank.now)) c.in-Ok.word
+    (Some c.in-Some.insn.now) h.0 h.1 c.in-Some.ensures)
+    c.execute_at_once.ensures.effect

@@ -1,0 +1,17 @@
+use Rattle.std.proofs.Common.{add-one, ◌∙◌, arith}
+use Rattle.mem_access.specs.Bank.{bank_state}
+use Rattle.machine_step.specs.Machine.{core_of}
+use Rattle.machine_step.proofs.Steps.{executed_more}
+use Rattle.machine_step.proofs.machine.Machine.step_several.Goals as goal
+
+pub steps-preserved : goal.steps-preserved
+steps-preserved c =
+    let h = c.steps.invariant in
+    let e = c.in-Done.ensures in
+    record {
+      executed = rw add-one (executed_more c.args.bank.now.vectors.vl c.steps.done (core_of c.args.self.now (bank_state c.args.bank.now))
+          c.steps.self c.steps.bank c.step_at_once.new.self c.step_at_once.new.bank h.same.vl h.executed e.effect);
+      few = omega (arith, c.steps-test.true);
+      same = record { vl = e.same.vl ∙ h.same.vl; svl = e.same.svl ∙ h.same.svl; owner = e.same.owner ∙ h.same.owner };
+      mode = e.mode;
+    }

@@ -1,0 +1,18 @@
+use Rattle.std.proofs.Common.{◌-◌, ◌≤◌}
+use Rattle.mem_access.specs.Bank.{bank_state}
+use Rattle.machine_step.specs.ProcessorState.{vector_bytes}
+use Rattle.machine_step.specs.Machine.{core_of, IsInMode, IsSameBank}
+use Rattle.machine_step.specs.Several.{AreExecuted}
+use Rattle.machine_step.proofs.machine.Machine.step_several.Given as goal
+
+abbrev pub invariant-steps : goal.invariant-steps
+invariant-steps l = record {
+  executed : AreExecuted (vector_bytes l.initial.bank.vectors.vl) l.done (core_of l.initial.self (bank_state l.initial.bank))
+      (core_of l.self (bank_state l.bank));
+  few : l.done ≤ l.most;
+  same : IsSameBank l.initial.bank l.bank;
+  mode : IsInMode l.bank l.self;
+}
+
+abbrev pub decreases-steps : goal.decreases-steps
+decreases-steps l = l.most - l.done

@@ -1,0 +1,55 @@
+//! Several instructions that are executed at once, one after the other, with no look at what else may be due.
+ghost use Rattle.std.specs.Prelude.{◌≡◌, ◌≤◌};
+ghost use Rattle.mem_access.specs.Bank.{bank_state};
+ghost use Rattle.machine_step.specs.ProcessorState.{vector_bytes};
+ghost use Rattle.machine_step.specs.Effect.{effect_of};
+ghost use Rattle.machine_step.specs.Machine.{core_of, AttemptsOn, IsInMode, IsSameBank};
+ghost use Rattle.machine_step.specs.Several.{AreExecuted};
+
+use crate::at_once::Attempt;
+use crate::decoder::Decoder;
+use crate::machine::Machine;
+use mem_access::Bank;
+
+impl Machine {
+    /// Executes instructions one after the other, `most` at most, and tells how many. It ends before one that
+    /// is not executed at once, that may raise or ask, or for which memory is wanting; there may be more
+    /// owned pages then.
+    pub fn step_several(&mut self, decoder: &mut Decoder, bank: &mut Bank, most: u32) -> u32
+        requires { IsInMode bank.old self.old }
+        ensures executed { AreExecuted (vector_bytes bank.old.vectors.vl) result
+            (core_of self.old (bank_state bank.old)) (core_of self.new (bank_state bank.new)) }
+        ensures few { result ≤ most }
+        ensures same { IsSameBank bank.old bank.new }
+        ensures mode { IsInMode bank.new self.new }
+    {
+        let mut done = 0;
+        'steps: while done < most {
+            match self.step_at_once(decoder, bank) {
+                Attempt::Done => done += 1,
+                Attempt::Waits => return done,
+                Attempt::Memory => return done,
+            }
+        }
+        done
+    }
+
+    /// Executes the instruction at PC at once, where it is one of these.
+    #[inline(always)]
+    fn step_at_once(&mut self, decoder: &mut Decoder, bank: &mut Bank) -> Attempt
+        requires { IsInMode bank.old self.old }
+        ensures effect { AttemptsOn effect_of self.old bank.old self.new bank.new result }
+        ensures same { IsSameBank bank.old bank.new }
+        ensures mode { IsInMode bank.new self.new }
+    {
+        let word = match self.fetch_word() {
+            Ok(word) => word,
+            Err(_) => return Attempt::Waits,
+        };
+        let known = decoder.place(self.scalars.pc);
+        let Some(insn) = known.instruction(word) else {
+            return Attempt::Waits;
+        };
+        self.execute_at_once(word, insn, bank)
+    }
+}
