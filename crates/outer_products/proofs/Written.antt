@@ -3,7 +3,6 @@ use Rattle.std.proofs.Common.{◌≡◌, ℕ, zero, suc, ◌+◌, ◌*◌, ◌/�
 use Rattle.std.proofs.Common.{◌∙◌, sym, append_assoc, arith, ℤ, pos, ◌+ℤ◌, subst}
 use Rattle.std.proofs.Math.Nat.{pow-suc}
 use Rattle.std.proofs.lemmas.Grind.{common_steps}
-use Rattle.std.proofs.lemmas.List.{append-nil}
 use Rattle.std.specs.Simd.Lanes.{number_l, digits_l, Each1, put_chunk}
 use Rattle.std.proofs.lemmas.Simd.{put_chunk_is, Each1-from_get_or}
 use Rattle.vector_elements.specs.declared.size.Size.{Size}
@@ -15,14 +14,7 @@ use Rattle.za_array.proofs.Places.{listed-at}
 use Rattle.outer_products.specs.Sources.{summed, sixteen_with}
 use Rattle.outer_products.proofs.Numbers.{wrapped_fits}
 use Rattle.outer_products.proofs.Active.{values_of}
-
-listed-more : (f : ℕ → ℕ) (i k : ℕ) → listed f (i + k) ≡ listed f i ++ listed (λ j. f (i + j)) k
-unfolding listed
-listed-more f i zero = let same : i + 0 ≡ i = omega arith in ap (listed f) same ∙ sym (append-nil (listed f i))
-listed-more f i (suc k) =
-    let next : i + suc k ≡ suc (i + k) = omega arith in
-    ap (listed f) next ∙ ap (λ t. t ++ f (i + k) ∷ []) (listed-more f i k)
-    ∙ append_assoc (listed f i) (listed (λ j. f (i + j)) k) (f (i + k) ∷ [])
+use Rattle.outer_products.proofs.Widened.{listed-more}
 
 drop_twice : {A : Type 0} → (xs : List A) (n m k : ℕ) → k ≡ n + m → drop m (drop n xs) ≡ drop k xs
 drop_twice xs n m k e = grind (arith, common_steps)
@@ -59,6 +51,13 @@ summed_more size sums old row new c k is next =
     let back = kept e f old c k row is in
     next ∙ rw (front, same, back, all) (sym (append_assoc (bytes_of e (listed f c)) (bytes_of e (listed (λ j. f (c + j)) k))
     (drop (e * (c + k)) old)))
+
+-- the same, with places that are named in two ways
+pub summed_next : (size : Size) (sums : ℕ → ℤ) (old row new : List ℕ) (c at k end : ℕ)
+    → IsSummedTo size sums old c row → new ≡ sixteen_with size sums at k row → c ≡ at → at + k ≡ end → IsSummedTo size sums old end new
+summed_next size sums old row new c at k end is next same last =
+    subst (λ e. IsSummedTo size sums old e new) last
+    (summed_more size sums old row new at k (subst (λ e. IsSummedTo size sums old e row) same is) next)
 
 -- a number's digits, of which the low ones are those of a part
 low_digits : (n m x y : ℕ) → x < 256 ^ n → digits_l 256 (n + m) (x + 256 ^ n * y) ≡ digits_l 256 n x ++ digits_l 256 m y

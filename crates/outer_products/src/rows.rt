@@ -79,7 +79,14 @@ fn change_words(s: &ByteSources, r: usize, row: &mut [u8])
     ensures { row.new ≡ row_of_sums S s.now.n.now s.now.m.now r row.old }
 {
     let n = [s.n[4 * r], s.n[4 * r + 1], s.n[4 * r + 2], s.n[4 * r + 3]];
-    for i in 0..row.len() / 16 {
+    let turns = s.m.len() / 64;
+    for turn in 0..turns {
+        add_words(row, 4 * turn, word_sums(n, s.m, 4 * turn));
+        add_words(row, 4 * turn + 1, word_sums(n, s.m, 4 * turn + 1));
+        add_words(row, 4 * turn + 2, word_sums(n, s.m, 4 * turn + 2));
+        add_words(row, 4 * turn + 3, word_sums(n, s.m, 4 * turn + 3));
+    }
+    for i in 4 * turns..s.m.len() / 16 {
         add_words(row, i, word_sums(n, s.m, i));
     }
 }
@@ -114,7 +121,14 @@ fn change_doublewords(s: &HalfwordSources, r: usize, row: &mut [u8])
     ensures { row.new ≡ row_of_sums D s.now.n.now s.now.m.now r row.old }
 {
     let n = [s.n[4 * r], s.n[4 * r + 1], s.n[4 * r + 2], s.n[4 * r + 3]];
-    for i in 0..row.len() / 16 {
+    let turns = s.m.len() / 32;
+    for turn in 0..turns {
+        add_doublewords(row, 4 * turn, doubleword_sums(n, s.m, 4 * turn));
+        add_doublewords(row, 4 * turn + 1, doubleword_sums(n, s.m, 4 * turn + 1));
+        add_doublewords(row, 4 * turn + 2, doubleword_sums(n, s.m, 4 * turn + 2));
+        add_doublewords(row, 4 * turn + 3, doubleword_sums(n, s.m, 4 * turn + 3));
+    }
+    for i in 4 * turns..s.m.len() / 8 {
         add_doublewords(row, i, doubleword_sums(n, s.m, i));
     }
 }
