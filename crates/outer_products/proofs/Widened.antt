@@ -11,7 +11,7 @@ use Rattle.std.proofs.lemmas.List.{take_more_set, get_or_past}
 use Rattle.vector_elements.specs.declared.size.Size.{Size}
 use Rattle.vector_elements.specs.Elements.{listed, element_of, each_element}
 use Rattle.vector_elements.specs.Numbers.{bytes_in, range_of}
-use Rattle.vector_elements.proofs.Lists.{length-listed, length-written, listed-next, take_front, some_bytes}
+use Rattle.vector_elements.proofs.Lists.{length-listed, length-written, listed-next, some_bytes}
 use Rattle.za_array.proofs.Places.{listed-at}
 use Rattle.outer_products.specs.OuterProducts.{Source}
 use Rattle.outer_products.specs.Sources.{negated, number_at, numbers_of, unpaired, pair_number, pairs_of, number, AllFit}
@@ -40,13 +40,11 @@ listed-more f i (suc k) =
     ∙ append_assoc (listed f i) (listed (λ j. f (i + j)) k) (f (i + k) ∷ [])
 
 -- some numbers more
-pub written_run : {A : Type 0} → (f : ℕ → A) (out new xs rest : List A) (n k end : ℕ) → take n out ≡ listed f n
-    → xs ≡ listed (λ j. f (n + j)) k → new ≡ take n out ++ (xs ++ rest) → end ≡ n + k → take end new ≡ listed f end
-written_run f out new xs rest n k end so_far is next long =
-    let all : new ≡ listed f end ++ rest =
-    next ∙ ap₂ (λ a b. a ++ (b ++ rest)) so_far is ∙ sym (append_assoc (listed f n) (listed (λ j. f (n + j)) k) rest)
-    ∙ ap (λ t. t ++ rest) (sym (ap (listed f) long ∙ listed-more f n k)) in
-    ap (take end) all ∙ take_front (listed f end) rest end (sym (length-listed f end))
+pub written_run : {A : Type 0} → (f : ℕ → A) (out new : List A) (n k end : ℕ) → take n out ≡ listed f n
+    → take (n + k) new ≡ take n out ++ listed (λ j. f (n + j)) k → n + k ≡ end → take end new ≡ listed f end
+written_run f out new n k end so_far is long =
+    ap (λ e. take e new) (sym long) ∙ is ∙ ap (λ t. t ++ listed (λ j. f (n + j)) k) so_far
+    ∙ sym (listed-more f n k) ∙ ap (listed f) long
 
 -- each number fits
 number_fits : (size : Size) (w : Width) → ((z : ℤ) → IsWithin (range_of size) z → FitsSigned w z)

@@ -1,5 +1,5 @@
 //! The elements of a source as numbers, of which those that are not active are zero.
-ghost use Rattle.std.specs.Prelude.{◌≡◌, ◌+◌, ◌*◌, ◌%◌, ◌^◌, ◌<◌, ◌≤◌, length};
+ghost use Rattle.std.specs.Prelude.{◌≡◌, ◌+◌, ◌*◌, ◌%◌, ◌^◌, ◌<◌, ◌≤◌, ◌++◌, length, take};
 ghost use Rattle.vector_elements.specs.declared.size.Size.TheVariants.{B, H};
 ghost use Rattle.vector_elements.specs.Elements.{listed, each_or_zero};
 ghost use Rattle.vector_elements.specs.Numbers.{bytes_in};
@@ -93,11 +93,13 @@ pub(crate) fn write_halfwords(signed: bool, negative: bool, bytes: &[u8], out: &
     }
 }
 
-/// The numbers of 16 bytes, which four columns have: the first two of each, and then the last two of each.
+/// Writes the numbers of 16 bytes, which four columns have: the first two of each, and then the last two of each.
 #[inline(always)]
-fn byte_pairs(signed: bool, bytes: &[u8], i: usize) -> [i16; 16]
-    requires { 16 * i + 16 ≤ length bytes.now }
-    ensures { result ≡ listed (λ j. pair_number 4 B signed bytes.now (16 * i + j)) 16 }
+fn byte_pairs(signed: bool, bytes: &[u8], i: usize, out: &mut [i16])
+    requires bytes { 16 * i + 16 ≤ length bytes.now }
+    requires out { 16 * i + 16 ≤ length out.old }
+    ensures { take (16 * i + 16) out.new ≡ take (16 * i) out.old
+        ++ listed (λ j. pair_number 4 B signed bytes.now (16 * i + j)) 16 }
 {
     let numbers = i16x16::from_array([
         byte_number(signed, false, element(bytes, Size::B, 16 * i)),
@@ -118,7 +120,7 @@ fn byte_pairs(signed: bool, bytes: &[u8], i: usize) -> [i16; 16]
         byte_number(signed, false, element(bytes, Size::B, 16 * i + 15)),
     ]);
     let pairs: i16x16 = numbers.swizzle([0, 1, 4, 5, 8, 9, 12, 13, 2, 3, 6, 7, 10, 11, 14, 15]);
-    pairs.to_array()
+    pairs.copy_to_slice(&mut out[16 * i..]);
 }
 
 /// Writes the numbers of bytes in pairs, of four columns each.
@@ -130,7 +132,7 @@ fn put_byte_pairs(signed: bool, bytes: &[u8], out: &mut [i16])
     ensures fit { AllFit w16 out.new }
 {
     for i in 0..out.len() / 16 {
-        out[16 * i..16 * i + 16].copy_from_slice(&byte_pairs(signed, bytes, i));
+        byte_pairs(signed, bytes, i, out);
     }
 }
 
@@ -148,11 +150,14 @@ pub(crate) fn write_byte_pairs(signed: bool, bytes: &[u8], out: &mut [i16])
     }
 }
 
-/// The numbers of 8 halfwords, which two columns have: the first two of each, and then the last two of each.
+/// Writes the numbers of 8 halfwords, which two columns have: the first two of each, and then the last two of
+/// each.
 #[inline(always)]
-fn halfword_pairs(signed: bool, bytes: &[u8], i: usize) -> [i32; 8]
-    requires { 16 * i + 16 ≤ length bytes.now }
-    ensures { result ≡ listed (λ j. pair_number 2 H signed bytes.now (8 * i + j)) 8 }
+fn halfword_pairs(signed: bool, bytes: &[u8], i: usize, out: &mut [i32])
+    requires bytes { 16 * i + 16 ≤ length bytes.now }
+    requires out { 8 * i + 8 ≤ length out.old }
+    ensures { take (8 * i + 8) out.new ≡ take (8 * i) out.old
+        ++ listed (λ j. pair_number 2 H signed bytes.now (8 * i + j)) 8 }
 {
     let numbers = i32x8::from_array([
         halfword_number(signed, false, element(bytes, Size::H, 8 * i)),
@@ -165,7 +170,7 @@ fn halfword_pairs(signed: bool, bytes: &[u8], i: usize) -> [i32; 8]
         halfword_number(signed, false, element(bytes, Size::H, 8 * i + 7)),
     ]);
     let pairs: i32x8 = numbers.swizzle([0, 1, 4, 5, 2, 3, 6, 7]);
-    pairs.to_array()
+    pairs.copy_to_slice(&mut out[8 * i..]);
 }
 
 /// Writes the numbers of halfwords in pairs, of two columns each.
@@ -177,7 +182,7 @@ fn put_halfword_pairs(signed: bool, bytes: &[u8], out: &mut [i32])
     ensures fit { AllFit w32 out.new }
 {
     for i in 0..out.len() / 8 {
-        out[8 * i..8 * i + 8].copy_from_slice(&halfword_pairs(signed, bytes, i));
+        halfword_pairs(signed, bytes, i, out);
     }
 }
 

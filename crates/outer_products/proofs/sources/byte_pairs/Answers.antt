@@ -1,5 +1,6 @@
-use Rattle.std.proofs.Common.{arith, ◌++◌, ap₂}
+use Rattle.std.proofs.Common.{arith, ap, ap₂, take, ◌∙◌, ◌+◌, ◌*◌, ◌++◌}
 use Rattle.std.specs.Int.{w16}
+use Rattle.std.proofs.lemmas.Simd.{take_more_put_chunk}
 use Rattle.vector_elements.specs.declared.size.Size.TheVariants.{B}
 use Rattle.vector_elements.specs.Elements.{listed}
 use Rattle.outer_products.proofs.Lanes.{eight_lanes, pair_lane}
@@ -9,7 +10,9 @@ pub returns : goal.returns
 unfolding listed
 returns c =
     let lane = pair_lane w16 B c.args.signed c.args.bytes.now 4 in
-    ap₂ (λ a b. a ++ b)
+    take_more_put_chunk (16 * c.args.i) c.args.out.now _ (16 * c.args.i + 16) (omega arith) c.requires.out
+    ∙ ap (λ xs. take (16 * c.args.i) c.args.out.now ++ xs)
+    (ap₂ (λ a b. a ++ b)
     (eight_lanes
     (lane _ _ _ _ (record { sfits = c.byte_number.type_inv }) c.byte_number.ensures c.element.ensures.value (omega arith))
     (lane _ _ _ _ (record { sfits = c.byte_number-2.type_inv }) c.byte_number-2.ensures c.element-2.ensures.value (omega arith))
@@ -27,4 +30,4 @@ returns c =
     (lane _ _ _ _ (record { sfits = c.byte_number-11.type_inv }) c.byte_number-11.ensures c.element-11.ensures.value (omega arith))
     (lane _ _ _ _ (record { sfits = c.byte_number-12.type_inv }) c.byte_number-12.ensures c.element-12.ensures.value (omega arith))
     (lane _ _ _ _ (record { sfits = c.byte_number-15.type_inv }) c.byte_number-15.ensures c.element-15.ensures.value (omega arith))
-    (lane _ _ _ _ (record { sfits = c.byte_number-16.type_inv }) c.byte_number-16.ensures c.element-16.ensures.value (omega arith)))
+    (lane _ _ _ _ (record { sfits = c.byte_number-16.type_inv }) c.byte_number-16.ensures c.element-16.ensures.value (omega arith))))

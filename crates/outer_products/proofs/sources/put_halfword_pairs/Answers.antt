@@ -1,4 +1,4 @@
-use Rattle.std.proofs.Common.{arith, refl, subst, sym, ◌∙◌, ◌*◌, ◌+◌}
+use Rattle.std.proofs.Common.{arith, refl, subst, sym, ◌*◌, ◌+◌}
 use Rattle.std.specs.Int.{w32}
 use Rattle.vector_elements.specs.declared.size.Size.TheVariants.{H}
 use Rattle.vector_elements.specs.Elements.{listed}
@@ -13,8 +13,8 @@ loop-i-init c = refl
 
 pub loop-i-preserved : goal.loop-i-preserved
 loop-i-preserved c =
-    written_run (pair_number 2 H c.args.signed c.args.bytes.now) c.loop-i.out _ c.copy_from_slice.new.self _ (8 * c.loop-i.i) 8
-    (8 * (c.loop-i.i + 1)) c.loop-i.invariant (c.copy_from_slice.ensures.after ∙ c.halfword_pairs.ensures) refl (omega arith)
+    written_run (pair_number 2 H c.args.signed c.args.bytes.now) c.loop-i.out _ (8 * c.loop-i.i) 8 (8 * (c.loop-i.i + 1))
+    c.loop-i.invariant c.halfword_pairs.ensures (omega arith)
 
 pub returns-clause-value : goal.returns-clause-value
 returns-clause-value c =
