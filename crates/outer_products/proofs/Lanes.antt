@@ -1,8 +1,12 @@
 -- Lanes of vectors, on the bits of their numbers.
-use Rattle.std.proofs.Common.{◌≡◌, ℕ, ◌+◌, ◌*◌, ◌%◌, ◌^◌, ◌<◌, ap, ap₂, ◌∙◌, arith, ℤ, pos, ◌+ℤ◌, ◌*ℤ◌, List, [], ◌∷◌, zero, suc}
+use Rattle.std.proofs.Common.{◌≡◌, ℕ, ◌+◌, ◌*◌, ◌%◌, ◌^◌, ◌<◌, ap, ap₂, ◌∙◌, arith, ℤ, pos, ◌+ℤ◌, ◌*ℤ◌, List, [], ◌∷◌, zero, suc, Bool}
 use Rattle.std.specs.Prelude.{FitsSigned}
 use Rattle.std.specs.Int.{w16, w32, w64, int_wrap}
-use Rattle.outer_products.specs.Sources.{number, AllFit, four_of, dot_at}
+use Rattle.vector_elements.specs.declared.size.Size.{Size}
+use Rattle.vector_elements.specs.Elements.{element_of}
+use Rattle.vector_elements.specs.Numbers.{bytes_in}
+use Rattle.outer_products.specs.OuterProducts.{number_of}
+use Rattle.outer_products.specs.Sources.{number, AllFit, four_of, pair_place, unpaired, pair_number, dot_in_pairs}
 use Rattle.std.proofs.lemmas.Int.{to_z-of_z, wrapping_add-bits, wrapping_mul_is, int_wrap-add_left, int_wrap-add_right, SFits-int_wrap}
 use mir.Syntax.{Width}
 use mir.Val.{bits, to_z, of_z}
@@ -57,34 +61,52 @@ doubleword_lane n0 m0 n1 m1 n2 m2 n3 m3 a0 b0 a1 b1 a2 b2 a3 b3 =
     (added w64 _ _ _ _ (omega arith) (omega arith) (product_is w64 w32 n2 m2 a2 b2 (longer n2 a2) (longer m2 b2))
     (product_is w64 w32 n3 m3 a3 b3 (longer n3 a3) (longer m3 b3)))
 
--- the same of a list
+-- the sum of products by places that are named in two ways
+same_dots : {A : Type 0} → (f : ℤ → A) (n m : List ℤ) (j0 j1 j2 j3 k0 k1 k2 k3 : ℕ) → j0 ≡ k0 → j1 ≡ k1 → j2 ≡ k2 → j3 ≡ k3
+    → f ((number n 0 *ℤ number m j0 +ℤ number n 1 *ℤ number m j1) +ℤ (number n 2 *ℤ number m j2 +ℤ number n 3 *ℤ number m j3))
+    ≡ f ((number n 0 *ℤ number m k0 +ℤ number n 1 *ℤ number m k1) +ℤ (number n 2 *ℤ number m k2 +ℤ number n 3 *ℤ number m k3))
+same_dots f n m j0 j1 j2 j3 k0 k1 k2 k3 e0 e1 e2 e3 = λ i.
+    f ((number n 0 *ℤ number m (e0 i) +ℤ number n 1 *ℤ number m (e1 i)) +ℤ (number n 2 *ℤ number m (e2 i) +ℤ number n 3 *ℤ number m (e3 i)))
+
+-- the same of lists, the second in pairs
 pub word_dot : (n m : List ℤ) → AllFit w16 n → AllFit w16 m → (c j0 j1 j2 j3 : ℕ)
-    → j0 ≡ 4 * c → j1 ≡ 4 * c + 1 → j2 ≡ 4 * c + 2 → j3 ≡ 4 * c + 3
+    → j0 ≡ pair_place 4 c 0 → j1 ≡ pair_place 4 c 1 → j2 ≡ pair_place 4 c 2 → j3 ≡ pair_place 4 c 3
     → to_z w32 (sum w32 (sum w32 (product w32 w16 (number n 0) (number m j0)) (product w32 w16 (number n 1) (number m j1)))
     (sum w32 (product w32 w16 (number n 2) (number m j2)) (product w32 w16 (number n 3) (number m j3))))
-    ≡ int_wrap w32 (dot_at n m c)
-unfolding dot_at
+    ≡ int_wrap w32 (dot_in_pairs 4 n m c)
+unfolding dot_in_pairs
 word_dot n m a b c j0 j1 j2 j3 e0 e1 e2 e3 =
-    rw (e0, e1, e2, e3) (word_lane (number n 0) (number m (4 * c)) (number n 1) (number m (4 * c + 1)) (number n 2) (number m (4 * c + 2))
-    (number n 3) (number m (4 * c + 3))
-    (a 0) (b (4 * c)) (a 1) (b (4 * c + 1)) (a 2) (b (4 * c + 2)) (a 3) (b (4 * c + 3)))
+    word_lane (number n 0) (number m j0) (number n 1) (number m j1) (number n 2) (number m j2) (number n 3) (number m j3)
+    (a 0) (b j0) (a 1) (b j1) (a 2) (b j2) (a 3) (b j3)
+    ∙ same_dots (λ z. int_wrap w32 z) n m _ _ _ _ _ _ _ _ e0 e1 e2 e3
 
 pub doubleword_dot : (n m : List ℤ) → AllFit w32 n → AllFit w32 m → (c j0 j1 j2 j3 : ℕ)
-    → j0 ≡ 4 * c → j1 ≡ 4 * c + 1 → j2 ≡ 4 * c + 2 → j3 ≡ 4 * c + 3
+    → j0 ≡ pair_place 2 c 0 → j1 ≡ pair_place 2 c 1 → j2 ≡ pair_place 2 c 2 → j3 ≡ pair_place 2 c 3
     → to_z w64 (sum w64 (sum w64 (product w64 w32 (number n 0) (number m j0)) (product w64 w32 (number n 1) (number m j1)))
     (sum w64 (product w64 w32 (number n 2) (number m j2)) (product w64 w32 (number n 3) (number m j3))))
-    ≡ int_wrap w64 (dot_at n m c)
-unfolding dot_at
+    ≡ int_wrap w64 (dot_in_pairs 2 n m c)
+unfolding dot_in_pairs
 doubleword_dot n m a b c j0 j1 j2 j3 e0 e1 e2 e3 =
-    rw (e0, e1, e2, e3) (doubleword_lane (number n 0) (number m (4 * c)) (number n 1) (number m (4 * c + 1))
-    (number n 2) (number m (4 * c + 2)) (number n 3) (number m (4 * c + 3))
-    (a 0) (b (4 * c)) (a 1) (b (4 * c + 1)) (a 2) (b (4 * c + 2)) (a 3) (b (4 * c + 3)))
+    doubleword_lane (number n 0) (number m j0) (number n 1) (number m j1) (number n 2) (number m j2) (number n 3) (number m j3)
+    (a 0) (b j0) (a 1) (b j1) (a 2) (b j2) (a 3) (b j3)
+    ∙ same_dots (λ z. int_wrap w64 z) n m _ _ _ _ _ _ _ _ e0 e1 e2 e3
 
 pub two_lanes : {A : Type 0} → {a b c d : A} → a ≡ c → b ≡ d → a ∷ b ∷ [] ≡ c ∷ d ∷ []
 two_lanes first second = λ i. first i ∷ second i ∷ []
 
 pub four_lanes : {A : Type 0} → {a b c d e f g h : A} → a ≡ e → b ≡ f → c ≡ g → d ≡ h → a ∷ b ∷ c ∷ d ∷ [] ≡ e ∷ f ∷ g ∷ h ∷ []
 four_lanes first second third fourth = λ i. first i ∷ second i ∷ third i ∷ fourth i ∷ []
+
+pub eight_lanes : {A : Type 0} → {a b c d e f g h p q r s t u v w : A} → a ≡ p → b ≡ q → c ≡ r → d ≡ s → e ≡ t → f ≡ u → g ≡ v → h ≡ w
+    → a ∷ b ∷ c ∷ d ∷ e ∷ f ∷ g ∷ h ∷ [] ≡ p ∷ q ∷ r ∷ s ∷ t ∷ u ∷ v ∷ w ∷ []
+eight_lanes a b c d e f g h = λ i. a i ∷ b i ∷ c i ∷ d i ∷ e i ∷ f i ∷ g i ∷ h i ∷ []
+
+-- a number among others in pairs
+pub pair_lane : (w : Width) (size : Size) (signed : Bool) (bytes : List ℕ) (count j k : ℕ) (x : ℤ) (y : ℕ) → FitsSigned w x
+    → x ≡ number_of signed size y → y ≡ element_of (bytes_in size) bytes j → j ≡ unpaired count k
+    → to_z w (of_z w x) ≡ pair_number count size signed bytes k
+pair_lane w size signed bytes count j k x y fits is from place =
+    to_z-of_z w x fits ∙ is ∙ ap (number_of signed size) from ∙ ap (λ i. number_of signed size (element_of (bytes_in size) bytes i)) place
 
 pub four_fit : (w : Width) (xs : List ℤ) (r : ℕ) → AllFit w xs → FitsSigned w (pos 0) → AllFit w (four_of xs r)
 four_fit w xs r fit none zero = fit (4 * r)

@@ -9,10 +9,11 @@ use Rattle.za_array.specs.Array.{IsSquare, ArrayState}
 use Rattle.za_array.specs.Tiles.{changed_tile}
 use Rattle.outer_products.specs.declared.kind.MopaKind.{MopaKind}
 use Rattle.outer_products.specs.OuterProducts.{source_size, sum_size, Source, source, sum_of, changed, outer_row}
-use Rattle.outer_products.specs.Sources.{negated, numbers_of, number, four_of, dot_at, summed, row_of_sums}
+use Rattle.outer_products.specs.Sources.{negated, numbers_of, columns, pair_place, unpaired, pairs_of, number, four_of, dot_in_pairs}
+use Rattle.outer_products.specs.Sources.{summed, row_of_sums}
 use Rattle.outer_products.proofs.Numbers.{four_products}
 use Rattle.outer_products.proofs.Active.{AreBytes, active_number, product_is, active_bytes}
-use Rattle.outer_products.proofs.Widened.{read_number}
+use Rattle.outer_products.proofs.Widened.{read_number, read_pair}
 
 listed_same : {A : Type 0} → (f g : ℕ → A) (n : ℕ) → ((i : ℕ) → i < n → f i ≡ g i) → listed f n ≡ listed g n
 unfolding listed
@@ -35,6 +36,17 @@ four_places : (halves : Bool) (size r k : ℕ) → k < 4 → r < size / bytes_in
 four_places true size r k four lt = omega (arith, four, lt)
 four_places false size r k four lt = omega (arith, four, lt)
 
+-- the places of numbers in pairs
+paired_place : (halves : Bool) (size c k : ℕ) → size % 16 ≡ 0 → k < 4 → c < size / bytes_in (sum_size halves)
+    → pair_place (columns (sum_size halves)) c k < size / bytes_in (source_size halves)
+paired_place true size c k whole four lt = omega (arith, whole, four, lt)
+paired_place false size c k whole four lt = omega (arith, whole, four, lt)
+
+unpaired_place : (halves : Bool) (c k : ℕ) → k < 4
+    → unpaired (columns (sum_size halves)) (pair_place (columns (sum_size halves)) c k) ≡ 4 * c + k
+unpaired_place true c k four = omega (arith, four)
+unpaired_place false c k four = omega (arith, four)
+
 row_place : (halves : Bool) (size v : ℕ) → size % 16 ≡ 0 → v < size → v / bytes_in (sum_size halves) < size / bytes_in (sum_size halves)
 row_place true size v whole lt = omega (arith, whole, lt)
 row_place false size v whole lt = omega (arith, whole, lt)
@@ -43,12 +55,14 @@ same_count : (a b d i : ℕ) → a ≡ b → i < a / d → i < b / d
 same_count a b d i e lt = subst (λ m. i < m / d) e lt
 
 module _ (halves negative : Bool) (n m : Source) (nb : AreBytes n.vector) (mb : AreBytes m.vector) (ns ms : List ℤ) (size : ℕ) where
-  -- both sources have so many bytes, and these are their numbers; those of the first are negative where asked for
+  -- both sources have so many bytes, and these are their numbers: those of the first are negative where asked for, and those of the
+  -- second stand in pairs
   pub record AreReady : Type 0 where
     pub n_long : length n.vector ≡ size
     pub m_long : length m.vector ≡ size
     pub n_is : ns ≡ numbers_of (source_size halves) n.signed negative (active_bytes (source_size halves) n nb)
-    pub m_is : ms ≡ numbers_of (source_size halves) m.signed false (active_bytes (source_size halves) m mb)
+    pub m_is : ms ≡ pairs_of (columns (sum_size halves)) (source_size halves) m.signed (active_bytes (source_size halves) m mb)
+    pub whole : size % 16 ≡ 0
 
   n_number : AreReady → (r k : ℕ) → k < 4 → r < size / bytes_in (sum_size halves)
       → number ns (4 * r + k) ≡ negated negative (active_number (source_size halves) n (4 * r + k))
@@ -58,25 +72,31 @@ module _ (halves negative : Bool) (n m : Source) (nb : AreBytes n.vector) (mb : 
       (same_count _ _ (bytes_in (source_size halves)) _ (sym is.n_long) (four_places halves size r k four lt))
 
   m_number : AreReady → (c k : ℕ) → k < 4 → c < size / bytes_in (sum_size halves)
-      → number ms (4 * c + k) ≡ active_number (source_size halves) m (4 * c + k)
+      → number ms (pair_place (columns (sum_size halves)) c k) ≡ active_number (source_size halves) m (4 * c + k)
   m_number is c k four lt =
-      ap (λ xs. number xs (4 * c + k)) is.m_is
-      ∙ read_number (source_size halves) false m mb (4 * c + k)
-      (same_count _ _ (bytes_in (source_size halves)) _ (sym is.m_long) (four_places halves size c k four lt))
+      let count = columns (sum_size halves) in
+      let e = source_size halves in
+      let same : unpaired count (pair_place count c k) ≡ 4 * c + k = unpaired_place halves c k four in
+      let inside : 4 * c + k < length m.vector / bytes_in e =
+      same_count _ _ (bytes_in e) _ (sym is.m_long) (four_places halves size c k four lt) in
+      ap (λ xs. number xs (pair_place count c k)) is.m_is
+      ∙ read_pair e false m mb count (pair_place count c k)
+      (same_count _ _ (bytes_in e) _ (sym is.m_long) (paired_place halves size c k is.whole four lt))
+      (subst (λ j. j < length m.vector / bytes_in e) (sym same) inside)
+      ∙ ap (active_number e m) same
 
   element_same : AreReady → (r c old : ℕ) → r < size / bytes_in (sum_size halves) → c < size / bytes_in (sum_size halves)
-      → summed (sum_size halves) (dot_at (four_of ns r) ms) c old
+      → summed (sum_size halves) (dot_in_pairs (columns (sum_size halves)) (four_of ns r) ms) c old
       ≡ changed (sum_size halves) negative old (sum_of (source_size halves) n m r c)
-  unfolding dot_at changed sum_of
+  unfolding dot_in_pairs changed sum_of
   element_same is r c old row column =
       let e = source_size halves in
       let first : 4 * r ≡ 4 * r + 0 = omega arith in
-      let begin : 4 * c ≡ 4 * c + 0 = omega arith in
       let n0 = ap (number ns) first ∙ n_number is r 0 (omega arith) row in
       let n1 = n_number is r 1 (omega arith) row in
       let n2 = n_number is r 2 (omega arith) row in
       let n3 = n_number is r 3 (omega arith) row in
-      let m0 = ap (number ms) begin ∙ m_number is c 0 (omega arith) column in
+      let m0 = m_number is c 0 (omega arith) column in
       let m1 = m_number is c 1 (omega arith) column in
       let m2 = m_number is c 2 (omega arith) column in
       let m3 = m_number is c 3 (omega arith) column in
@@ -104,6 +124,14 @@ pub ready : (e : Size) (halves : Bool) (s : Source) (bytes : AreBytes s.vector) 
     → xs ≡ numbers_of (source_size halves) s.signed negative (active_bytes (source_size halves) s bytes)
 ready e halves s bytes negative active xs same is from =
     is ∙ ap (numbers_of e s.signed negative) from ∙ ap (λ size. numbers_of size s.signed negative (active_bytes size s bytes)) same
+
+-- the same in pairs
+pub ready_pairs : (known halves : Bool) (s : Source) (bytes : AreBytes s.vector) (active : List ℕ) (xs : List ℤ) → known ≡ halves
+    → xs ≡ pairs_of (columns (sum_size known)) (source_size known) s.signed active → active ≡ active_bytes (source_size known) s bytes
+    → xs ≡ pairs_of (columns (sum_size halves)) (source_size halves) s.signed (active_bytes (source_size halves) s bytes)
+ready_pairs known halves s bytes active xs same is from =
+    is ∙ ap (pairs_of (columns (sum_size known)) (source_size known) s.signed) from
+    ∙ ap (λ h. pairs_of (columns (sum_size h)) (source_size h) s.signed (active_bytes (source_size h) s bytes)) same
 
 -- the array that the numbers give
 pub array_is : (kind : MopaKind) (tile : ℕ) (pn pm zn zm : List ℕ) (nb : AreBytes zn) (mb : AreBytes zm) (size : ℕ)

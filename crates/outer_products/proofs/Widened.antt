@@ -1,6 +1,7 @@
 -- The numbers of a source's elements.
 use Rattle.std.proofs.Common.{◌≡◌, ℕ, ◌+◌, ◌/◌, ◌<◌, ◌≤◌, List, [], ◌∷◌, ◌++◌, length, take, ap, ap₂, ◌∙◌, sym, arith, inl, inr, subst}
-use Rattle.std.proofs.Common.{Bool, ℤ, pos}
+use Rattle.std.proofs.Common.{Bool, false, zero, suc, ℤ, pos, append_assoc}
+use Rattle.std.proofs.lemmas.List.{append-nil}
 use Rattle.std.specs.Prelude.{FitsSigned}
 use Rattle.std.proofs.Math.ListN.{set}
 use Rattle.std.proofs.Math.Nat.{mul-div_cancel_left}
@@ -13,7 +14,7 @@ use Rattle.vector_elements.specs.Numbers.{bytes_in, range_of}
 use Rattle.vector_elements.proofs.Lists.{length-listed, length-written, listed-next, some_bytes}
 use Rattle.za_array.proofs.Places.{listed-at}
 use Rattle.outer_products.specs.OuterProducts.{Source}
-use Rattle.outer_products.specs.Sources.{negated, number_at, numbers_of, number, AllFit}
+use Rattle.outer_products.specs.Sources.{negated, number_at, numbers_of, unpaired, pair_number, pairs_of, number, AllFit}
 use Rattle.outer_products.proofs.Numbers.{IsWithin, number_within, negated_within}
 use Rattle.outer_products.proofs.Active.{AreBytes, element_fits, values_of, active_number, active_bytes, active_is}
 use mir.Syntax.{Width}
@@ -30,20 +31,44 @@ all_written f out n i end count so_far =
     let all : take i out ≡ out = grind (arith, common_steps) in
     sym all ∙ so_far ∙ ap (listed f) count
 
+pub listed-more : {A : Type 0} → (f : ℕ → A) (i k : ℕ) → listed f (i + k) ≡ listed f i ++ listed (λ j. f (i + j)) k
+unfolding listed
+listed-more f i zero = let same : i + 0 ≡ i = omega arith in ap (listed f) same ∙ sym (append-nil (listed f i))
+listed-more f i (suc k) =
+    let next : i + suc k ≡ suc (i + k) = omega arith in
+    ap (listed f) next ∙ ap (λ t. t ++ f (i + k) ∷ []) (listed-more f i k)
+    ∙ append_assoc (listed f i) (listed (λ j. f (i + j)) k) (f (i + k) ∷ [])
+
+-- some numbers more
+pub written_run : {A : Type 0} → (f : ℕ → A) (out new : List A) (n k end : ℕ) → take n out ≡ listed f n
+    → take (n + k) new ≡ take n out ++ listed (λ j. f (n + j)) k → n + k ≡ end → take end new ≡ listed f end
+written_run f out new n k end so_far is long =
+    ap (λ e. take e new) (sym long) ∙ is ∙ ap (λ t. t ++ listed (λ j. f (n + j)) k) so_far
+    ∙ sym (listed-more f n k) ∙ ap (listed f) long
+
 -- each number fits
+number_fits : (size : Size) (w : Width) → ((z : ℤ) → IsWithin (range_of size) z → FitsSigned w z)
+    → (signed negative : Bool) (bytes : List ℕ) → AreBytes bytes → (i : ℕ) → FitsSigned w (number_at size signed negative bytes i)
+number_fits size w fits signed negative bytes are i =
+    let x = element_of (bytes_in size) bytes i in
+    let small = subst (λ m. x < m) (values_of size) (element_fits (bytes_in size) bytes i are) in
+    fits _ (negated_within negative _ _ (number_within signed size x small))
+
+listed_fit : (w : Width) (f : ℕ → ℤ) (n : ℕ) → ((i : ℕ) → FitsSigned w (f i)) → FitsSigned w (pos 0) → AllFit w (listed f n)
+listed_fit w f n fits none k = elim (cases_lt k n) [
+  | inl below ↦ subst (FitsSigned w) (sym (listed-at f n k (pos 0) below)) (fits k)
+  | inr past ↦ subst (FitsSigned w) (sym (get_or_past (listed f n) k (pos 0) (subst (λ m. m ≤ k) (sym (length-listed f n)) past))) none
+]
+
 pub numbers_fit : (size : Size) (w : Width) → ((z : ℤ) → IsWithin (range_of size) z → FitsSigned w z) → FitsSigned w (pos 0)
     → (signed negative : Bool) (bytes : List ℕ) → AreBytes bytes → AllFit w (numbers_of size signed negative bytes)
-numbers_fit size w fits none signed negative bytes are k =
-    let f = number_at size signed negative bytes in
-    let n = length bytes / bytes_in size in
-    let x = element_of (bytes_in size) bytes k in
-    elim (cases_lt k n) [
-      | inl below ↦
-          let small = subst (λ m. x < m) (values_of size) (element_fits (bytes_in size) bytes k are) in
-          subst (FitsSigned w) (sym (listed-at f n k (pos 0) below))
-          (fits (f k) (negated_within negative _ _ (number_within signed size x small)))
-      | inr past ↦ subst (FitsSigned w) (sym (get_or_past (listed f n) k (pos 0) (subst (λ m. m ≤ k) (sym (length-listed f n)) past))) none
-    ]
+numbers_fit size w fits none signed negative bytes are =
+    listed_fit w _ _ (number_fits size w fits signed negative bytes are) none
+
+pub pairs_fit : (size : Size) (w : Width) → ((z : ℤ) → IsWithin (range_of size) z → FitsSigned w z) → FitsSigned w (pos 0)
+    → (count : ℕ) (signed : Bool) (bytes : List ℕ) → AreBytes bytes → AllFit w (pairs_of count size signed bytes)
+pairs_fit size w fits none count signed bytes are =
+    listed_fit w _ _ (λ i. number_fits size w fits signed false bytes are (unpaired count i)) none
 
 module _ (size : Size) (negative : Bool) (s : Source) (bytes : AreBytes s.vector) where
   active_count : length (active_bytes size s bytes) / bytes_in size ≡ length s.vector / bytes_in size
@@ -60,3 +85,11 @@ module _ (size : Size) (negative : Bool) (s : Source) (bytes : AreBytes s.vector
       (pos 0)
       (subst (λ n. i < n) (sym active_count) below)
       ∙ ap (negated negative) (active_is size s bytes i below)
+
+  -- the same in pairs
+  pub read_pair : (count i : ℕ) → i < length s.vector / bytes_in size → unpaired count i < length s.vector / bytes_in size
+      → number (pairs_of count size s.signed (active_bytes size s bytes)) i ≡ active_number size s (unpaired count i)
+  read_pair count i below inside =
+      listed-at (pair_number count size s.signed (active_bytes size s bytes))
+      (length (active_bytes size s bytes) / bytes_in size) i (pos 0) (subst (λ n. i < n) (sym active_count) below)
+      ∙ active_is size s bytes (unpaired count i) inside

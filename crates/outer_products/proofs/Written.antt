@@ -1,28 +1,24 @@
 -- Rows whose elements are written some at a time.
-use Rattle.std.proofs.Common.{◌≡◌, ℕ, zero, suc, ◌+◌, ◌*◌, ◌/◌, ◌%◌, ◌^◌, ◌<◌, ◌≤◌, List, [], ◌∷◌, ◌++◌, length, take, drop, ap, ap₂}
-use Rattle.std.proofs.Common.{◌∙◌, sym, append_assoc, arith, ℤ, pos, ◌+ℤ◌, subst}
+use Rattle.std.proofs.Common.{◌≡◌, ℕ, zero, suc, ◌+◌, ◌-◌, ◌*◌, ◌/◌, ◌%◌, ◌^◌, ◌<◌, ◌≤◌, List, [], ◌∷◌, ◌++◌, length, take, drop, ap, ap₂}
+use Rattle.std.proofs.Common.{◌∙◌, sym, append_assoc, arith, ℤ, pos, ◌+ℤ◌, subst, get_or, Fits}
 use Rattle.std.proofs.Math.Nat.{pow-suc}
 use Rattle.std.proofs.lemmas.Grind.{common_steps}
-use Rattle.std.proofs.lemmas.List.{append-nil}
-use Rattle.std.specs.Simd.Lanes.{number_l, digits_l, Each1, put_chunk}
-use Rattle.std.proofs.lemmas.Simd.{put_chunk_is, Each1-from_get_or}
+use Rattle.std.proofs.lemmas.List.{drop-take, take-take, drop-drop}
+use Rattle.std.specs.Int.{w8, w32, w64, int_wrap, cast_unsigned}
+use Rattle.std.specs.Simd.Lanes.{number_l, digits_l, Each1, chunk, put_chunk}
+use Rattle.std.proofs.lemmas.Simd.{put_chunk_is, Each1-from_get_or, get_or_wider, below_from_Fits, chunk-fits}
 use Rattle.vector_elements.specs.declared.size.Size.{Size}
 use Rattle.vector_elements.specs.Elements.{listed, element_of, bytes_of}
-use Rattle.vector_elements.specs.Numbers.{bytes_in, wrapped}
+use Rattle.vector_elements.specs.declared.size.Size.TheVariants.{S, D}
+use Rattle.vector_elements.specs.Numbers.{bytes_in, range_of, wrapped}
 use Rattle.vector_elements.proofs.Lists.{length-written, length-bytes, length-listed, bytes-append, take_front, drop_front}
 use Rattle.vector_elements.proofs.Masks.{listed_same}
 use Rattle.za_array.proofs.Places.{listed-at}
 use Rattle.outer_products.specs.Sources.{summed, sixteen_with}
 use Rattle.outer_products.proofs.Numbers.{wrapped_fits}
+use Rattle.outer_products.proofs.Sums.{word_with-is, doubleword_with-is}
 use Rattle.outer_products.proofs.Active.{values_of}
-
-listed-more : (f : ℕ → ℕ) (i k : ℕ) → listed f (i + k) ≡ listed f i ++ listed (λ j. f (i + j)) k
-unfolding listed
-listed-more f i zero = let same : i + 0 ≡ i = omega arith in ap (listed f) same ∙ sym (append-nil (listed f i))
-listed-more f i (suc k) =
-    let next : i + suc k ≡ suc (i + k) = omega arith in
-    ap (listed f) next ∙ ap (λ t. t ++ f (i + k) ∷ []) (listed-more f i k)
-    ∙ append_assoc (listed f i) (listed (λ j. f (i + j)) k) (f (i + k) ∷ [])
+use Rattle.outer_products.proofs.Widened.{listed-more}
 
 drop_twice : {A : Type 0} → (xs : List A) (n m k : ℕ) → k ≡ n + m → drop m (drop n xs) ≡ drop k xs
 drop_twice xs n m k e = grind (arith, common_steps)
@@ -60,6 +56,13 @@ summed_more size sums old row new c k is next =
     next ∙ rw (front, same, back, all) (sym (append_assoc (bytes_of e (listed f c)) (bytes_of e (listed (λ j. f (c + j)) k))
     (drop (e * (c + k)) old)))
 
+-- the same, with places that are named in two ways
+pub summed_next : (size : Size) (sums : ℕ → ℤ) (old row new : List ℕ) (c at k end : ℕ)
+    → IsSummedTo size sums old c row → new ≡ sixteen_with size sums at k row → c ≡ at → at + k ≡ end → IsSummedTo size sums old end new
+summed_next size sums old row new c at k end is next same last =
+    subst (λ e. IsSummedTo size sums old e new) last
+    (summed_more size sums old row new at k (subst (λ e. IsSummedTo size sums old e row) same is) next)
+
 -- a number's digits, of which the low ones are those of a part
 low_digits : (n m x y : ℕ) → x < 256 ^ n → digits_l 256 (n + m) (x + 256 ^ n * y) ≡ digits_l 256 n x ++ digits_l 256 m y
 low_digits zero m x y small = let none : x + 256 ^ 0 * y ≡ y = omega (arith, small) in
@@ -84,11 +87,34 @@ lane_bytes e (x ∷ xs) fits =
     ∙ low_digits e (e * length xs) x (number_l (256 ^ e) xs) fits.0
     ∙ ap (λ t. digits_l 256 e x ++ t) (lane_bytes e xs fits.1)
 
+part_of_chunk : (row : List ℕ) (a n b e c : ℕ) → b + e ≤ n → c ≡ a + b → take e (drop b (take n (drop a row))) ≡ take e (drop c row)
+part_of_chunk row a n b e c room place =
+    let whole : n ≡ b + (n - b) = omega (arith, room) in
+    ap (λ k. take e (drop b (take k (drop a row)))) whole ∙ ap (take e) (drop-take b (n - b) (drop a row))
+    ∙ take-take e (n - b) (drop b (drop a row)) (omega (arith, room)) ∙ ap (take e) (drop-drop b a row) ∙ ap (λ k. take e (drop k row)) (sym place)
+
+-- an element of 16 bytes, as a lane
+pub row_lane : (size : Size) (row : List ℕ) (i n j k : ℕ) → ((k : ℕ) → Fits w8 (get_or row k 0)) → j < n
+    → bytes_in size * j + bytes_in size ≤ 16 → bytes_in size * k ≡ 16 * i + bytes_in size * j
+    → get_or (digits_l (range_of size) n (number_l 256 (chunk (16 * i) 16 row))) j 0 ≡ element_of (bytes_in size) row k
+unfolding element_of
+row_lane size row i n j k fits inside room place =
+    get_or_wider 256 (bytes_in size) (range_of size) n _ j (sym (values_of size))
+    (below_from_Fits w8 _ (chunk-fits w8 (16 * i) 16 row fits)) inside
+    ∙ ap (number_l 256) (part_of_chunk row (16 * i) 16 (bytes_in size * j) (bytes_in size) (bytes_in size * k) room place)
+
 -- an element and its sum, at a place that is named in two ways
-pub lane_is : (size : Size) (sums : ℕ → ℤ) (row : List ℕ) (k j : ℕ) (old x : ℕ) → k ≡ j → old ≡ element_of (bytes_in size) row k
-    → x ≡ wrapped size (pos old +ℤ sums k) → x ≡ summed size sums j (element_of (bytes_in size) row j)
-lane_is size sums row k j old x place same is =
-    is ∙ ap (λ o. wrapped size (pos o +ℤ sums k)) same ∙ ap (λ i. summed size sums i (element_of (bytes_in size) row i)) place
+pub word_lane_is : (sums : ℕ → ℤ) (row : List ℕ) (k j old : ℕ) (z : ℤ) → k ≡ j → old ≡ element_of 4 row k → z ≡ int_wrap w32 (sums k)
+    → (old + cast_unsigned w32 z) % 2 ^ 32 ≡ summed S sums j (element_of 4 row j)
+word_lane_is sums row k j old z place same is =
+    ap₂ (λ o x. (o + cast_unsigned w32 x) % 2 ^ 32) same is ∙ word_with-is (element_of 4 row k) (sums k)
+    ∙ ap (λ i. summed S sums i (element_of 4 row i)) place
+
+pub doubleword_lane_is : (sums : ℕ → ℤ) (row : List ℕ) (k j old : ℕ) (z : ℤ) → k ≡ j → old ≡ element_of 8 row k
+    → z ≡ int_wrap w64 (sums k) → (old + cast_unsigned w64 z) % 2 ^ 64 ≡ summed D sums j (element_of 8 row j)
+doubleword_lane_is sums row k j old z place same is =
+    ap₂ (λ o x. (o + cast_unsigned w64 x) % 2 ^ 64) same is ∙ doubleword_with-is (element_of 8 row k) (sums k)
+    ∙ ap (λ i. summed D sums i (element_of 8 row i)) place
 
 all_fit : (size : Size) (z : ℕ → ℤ) (k : ℕ) → Each1 (λ x. x < 256 ^ bytes_in size) (listed (λ j. wrapped size (z j)) k)
 all_fit size z k =

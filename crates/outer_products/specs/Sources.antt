@@ -1,6 +1,7 @@
 -- The sources as the loops read them: lists of the numbers of all elements. Those of Zn are negative where
--- the products are subtracted, so that they are added in each case.
-use Rattle.std.specs.Prelude.{ℕ, ◌+◌, ◌*◌, ◌/◌, Bool, true, false, List, [], ◌∷◌, ◌++◌, length}
+-- the products are subtracted, so that they are added in each case. Those of Zm stand in pairs: of the columns
+-- whose elements fill 16 bytes of a row, the first two numbers of each come before the last two of each.
+use Rattle.std.specs.Prelude.{ℕ, ◌+◌, ◌*◌, ◌/◌, ◌%◌, Bool, true, false, List, [], ◌∷◌, ◌++◌, length}
 use Rattle.std.specs.Prelude.{slice_index_or, take, drop, ℤ, pos, neg_ℤ, ◌+ℤ◌, ◌*ℤ◌, FitsSigned}
 use Rattle.std.specs.Int.{Width, w32, w64, int_wrap}
 use Rattle.vector_elements.specs.declared.size.Size.{Size}
@@ -23,6 +24,28 @@ abbrev pub numbers_of : Size → Bool → Bool → List ℕ → List ℤ
 numbers_of size signed negative bytes =
     listed (number_at size signed negative bytes) (length bytes / bytes_in size)
 
+-- the columns whose elements fill 16 bytes
+abbrev pub columns : Size → ℕ
+columns size = 16 / bytes_in size
+
+-- where number k of column c stands among pairs of so many columns
+abbrev pub pair_place : ℕ → ℕ → ℕ → ℕ
+pair_place count c k = 4 * count * (c / count) + 2 * count * (k / 2) + 2 * (c % count) + k % 2
+
+-- the number that stands at place j there, counted as 4c + k
+abbrev pub unpaired : ℕ → ℕ → ℕ
+unpaired count j =
+    4 * count * (j / (4 * count)) + 4 * (j % (2 * count) / 2) + 2 * (j % (4 * count) / (2 * count)) + j % 2
+
+-- the number at place j of the elements in pairs
+abbrev pub pair_number : ℕ → Size → Bool → List ℕ → ℕ → ℤ
+pair_number count size signed bytes j = number_at size signed false bytes (unpaired count j)
+
+-- the numbers of all elements, in pairs of so many columns
+abbrev pub pairs_of : ℕ → Size → Bool → List ℕ → List ℤ
+pairs_of count size signed bytes =
+    listed (pair_number count size signed bytes) (length bytes / bytes_in size)
+
 -- number k of a list
 abbrev pub number : List ℤ → ℕ → ℤ
 number xs k = slice_index_or xs k (pos 0)
@@ -35,11 +58,11 @@ AllFit w xs = (k : ℕ) → FitsSigned w (number xs k)
 abbrev pub four_of : List ℤ → ℕ → List ℤ
 four_of xs r = number xs (4 * r) ∷ number xs (4 * r + 1) ∷ number xs (4 * r + 2) ∷ number xs (4 * r + 3) ∷ []
 
--- the sum of the products of four numbers with numbers 4c to 4c + 3 of a list
-unfoldable pub dot_at : List ℤ → List ℤ → ℕ → ℤ
-dot_at n m c =
-    (number n 0 *ℤ number m (4 * c) +ℤ number n 1 *ℤ number m (4 * c + 1))
-    +ℤ (number n 2 *ℤ number m (4 * c + 2) +ℤ number n 3 *ℤ number m (4 * c + 3))
+-- the sum of the products of four numbers with those of column c, which stand in pairs of so many columns
+unfoldable pub dot_in_pairs : ℕ → List ℤ → List ℤ → ℕ → ℤ
+dot_in_pairs count n m c =
+    (number n 0 *ℤ number m (pair_place count c 0) +ℤ number n 1 *ℤ number m (pair_place count c 1))
+    +ℤ (number n 2 *ℤ number m (pair_place count c 2) +ℤ number n 3 *ℤ number m (pair_place count c 3))
 
 -- the sums for four columns from column c on, modulo 2 ^ 32
 abbrev pub word_sums : (ℕ → ℤ) → ℕ → List ℤ
@@ -63,6 +86,7 @@ sixteen_with size sums c count row =
     ++ (bytes_of e (listed (λ j. summed size sums (c + j) (element_of e row (c + j))) count)
     ++ drop (e * (c + count)) row)
 
--- row r, by the numbers of both sources
+-- row r, by the numbers of Zn and those of Zm in pairs
 unfoldable pub row_of_sums : Size → List ℤ → List ℤ → ℕ → List ℕ → List ℕ
-row_of_sums size n m r row = each_element (bytes_in size) row (summed size (dot_at (four_of n r) m))
+row_of_sums size n m r row =
+    each_element (bytes_in size) row (summed size (dot_in_pairs (columns size) (four_of n r) m))

@@ -7,7 +7,9 @@ ghost use Rattle.outer_products.specs.OuterProducts.{sum_size, outer_row};
 
 use crate::kind::MopaKind;
 use crate::rows::{ByteSources, HalfwordSources};
-use crate::sources::{write_active, write_bytes, write_halfwords};
+use crate::sources::{
+    write_active, write_byte_pairs, write_bytes, write_halfword_pairs, write_halfwords,
+};
 use vector_elements::Size;
 use za_array::{Za, change_tile};
 
@@ -34,7 +36,7 @@ fn mopa_bytes(za: &mut Za, kind: MopaKind, tile: u8, pn: &[u8], pm: &[u8], zn: &
     write_active(Size::B, pn, zn, active);
     write_bytes(kind.n_signed, kind.subtract, active, n);
     write_active(Size::B, pm, zm, active);
-    write_bytes(kind.m_signed, false, active, m);
+    write_byte_pairs(kind.m_signed, active, m);
     change_tile(za, 4, usize::from(tile), &ByteSources { n, m });
 }
 
@@ -62,7 +64,7 @@ fn mopa_halfwords(za: &mut Za, kind: MopaKind, tile: u8, pn: &[u8], pm: &[u8], z
     write_active(Size::H, pn, zn, active);
     write_halfwords(kind.n_signed, kind.subtract, active, n);
     write_active(Size::H, pm, zm, active);
-    write_halfwords(kind.m_signed, false, active, m);
+    write_halfword_pairs(kind.m_signed, active, m);
     change_tile(za, 8, usize::from(tile), &HalfwordSources { n, m });
 }
 

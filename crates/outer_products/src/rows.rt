@@ -1,31 +1,12 @@
 //! The rows of a tile, one after another.
-ghost use Rattle.std.specs.Prelude.{◌≡◌, ℕ, ℤ, pos, ◌+ℤ◌, ◌+◌, ◌*◌, ◌%◌, ◌^◌, ◌<◌, ◌≤◌, length};
-ghost use Rattle.std.specs.Int.{w16, w32, w64, int_wrap};
+ghost use Rattle.std.specs.Prelude.{◌≡◌, ℕ, ℤ, ◌+◌, ◌*◌, ◌%◌, ◌≤◌, length};
+ghost use Rattle.std.specs.Int.{w16, w32};
 ghost use Rattle.vector_elements.specs.declared.size.Size.TheVariants.{S, D};
-ghost use Rattle.vector_elements.specs.Numbers.{wrapped};
 ghost use Rattle.outer_products.specs.Sources.{AllFit, word_sums, doubleword_sums, sixteen_with, row_of_sums};
 
 use crate::dots::{doubleword_sums, word_sums};
 use std::simd::prelude::*;
-use vector_elements::{Size, element};
 use za_array::RowChange;
-
-/// A word and a sum modulo 2 ^ 32.
-#[inline(always)]
-fn word_with(old: u64, sum: i32) -> u32
-    requires { old < 2 ^ 32 }
-    ensures { (exact : ℤ) → sum ≡ int_wrap w32 exact → result ≡ wrapped S (pos old +ℤ exact) }
-{
-    (old as u32).wrapping_add(sum.cast_unsigned())
-}
-
-/// A doubleword and a sum modulo 2 ^ 64.
-#[inline(always)]
-fn doubleword_with(old: u64, sum: i64) -> u64
-    ensures { (exact : ℤ) → sum ≡ int_wrap w64 exact → result ≡ wrapped D (pos old +ℤ exact) }
-{
-    old.wrapping_add(sum.cast_unsigned())
-}
 
 /// Adds sums to words 4i to 4i + 3 of a row.
 #[inline(always)]
@@ -35,14 +16,9 @@ fn add_words(row: &mut [u8], i: usize, sums: [i32; 4])
         row.new ≡ sixteen_with S exact (4 * i) 4 row.old }
 {
     let [a, b, c, d] = sums;
-    u32x4::from_array([
-        word_with(element(row, Size::S, 4 * i), a),
-        word_with(element(row, Size::S, 4 * i + 1), b),
-        word_with(element(row, Size::S, 4 * i + 2), c),
-        word_with(element(row, Size::S, 4 * i + 3), d),
-    ])
-    .to_le_bytes()
-    .copy_to_slice(&mut row[16 * i..]);
+    let old = i32x4::from_le_bytes(u8x16::from_slice(&row[16 * i..]));
+    let new = old + i32x4::from_array([a, b, c, d]);
+    new.to_le_bytes().copy_to_slice(&mut row[16 * i..]);
 }
 
 /// Adds sums to doublewords 2i and 2i + 1 of a row.
@@ -53,12 +29,9 @@ fn add_doublewords(row: &mut [u8], i: usize, sums: [i64; 2])
         row.new ≡ sixteen_with D exact (2 * i) 2 row.old }
 {
     let [a, b] = sums;
-    u64x2::from_array([
-        doubleword_with(element(row, Size::D, 2 * i), a),
-        doubleword_with(element(row, Size::D, 2 * i + 1), b),
-    ])
-    .to_le_bytes()
-    .copy_to_slice(&mut row[16 * i..]);
+    let old = i64x2::from_le_bytes(u8x16::from_slice(&row[16 * i..]));
+    let new = old + i64x2::from_array([a, b]);
+    new.to_le_bytes().copy_to_slice(&mut row[16 * i..]);
 }
 
 /// The numbers of two sources of bytes, by which each row of words is changed.
@@ -79,7 +52,14 @@ fn change_words(s: &ByteSources, r: usize, row: &mut [u8])
     ensures { row.new ≡ row_of_sums S s.now.n.now s.now.m.now r row.old }
 {
     let n = [s.n[4 * r], s.n[4 * r + 1], s.n[4 * r + 2], s.n[4 * r + 3]];
-    for i in 0..row.len() / 16 {
+    let turns = s.m.len() / 64;
+    for turn in 0..turns {
+        add_words(row, 4 * turn, word_sums(n, s.m, 4 * turn));
+        add_words(row, 4 * turn + 1, word_sums(n, s.m, 4 * turn + 1));
+        add_words(row, 4 * turn + 2, word_sums(n, s.m, 4 * turn + 2));
+        add_words(row, 4 * turn + 3, word_sums(n, s.m, 4 * turn + 3));
+    }
+    for i in 4 * turns..s.m.len() / 16 {
         add_words(row, i, word_sums(n, s.m, i));
     }
 }
@@ -114,7 +94,14 @@ fn change_doublewords(s: &HalfwordSources, r: usize, row: &mut [u8])
     ensures { row.new ≡ row_of_sums D s.now.n.now s.now.m.now r row.old }
 {
     let n = [s.n[4 * r], s.n[4 * r + 1], s.n[4 * r + 2], s.n[4 * r + 3]];
-    for i in 0..row.len() / 16 {
+    let turns = s.m.len() / 32;
+    for turn in 0..turns {
+        add_doublewords(row, 4 * turn, doubleword_sums(n, s.m, 4 * turn));
+        add_doublewords(row, 4 * turn + 1, doubleword_sums(n, s.m, 4 * turn + 1));
+        add_doublewords(row, 4 * turn + 2, doubleword_sums(n, s.m, 4 * turn + 2));
+        add_doublewords(row, 4 * turn + 3, doubleword_sums(n, s.m, 4 * turn + 3));
+    }
+    for i in 4 * turns..s.m.len() / 8 {
         add_doublewords(row, i, doubleword_sums(n, s.m, i));
     }
 }

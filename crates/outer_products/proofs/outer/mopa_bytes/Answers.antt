@@ -4,7 +4,7 @@ use Rattle.vector_elements.specs.declared.size.Size.TheVariants.{B, S}
 use Rattle.za_array.specs.Tiles.{changed_tile}
 use Rattle.outer_products.specs.OuterProducts.{source_size, sum_size, source}
 use Rattle.outer_products.specs.Sources.{row_of_sums}
-use Rattle.outer_products.proofs.RowSums.{ready, array_is}
+use Rattle.outer_products.proofs.RowSums.{ready, ready_pairs, array_is}
 use Rattle.outer_products.proofs.Active.{AreBytes}
 use Rattle.outer_products.proofs.outer.mopa_bytes.Goals as goal
 
@@ -26,6 +26,6 @@ returns c =
       m_long = c.requires.zm;
       n_is = ready B kind.halves n nb kind.subtract _ _ (ap source_size (sym c.requires.bytes)) c.write_bytes.ensures.value
           c.write_active.ensures;
-      m_is = ready B kind.halves m mb false _ _ (ap source_size (sym c.requires.bytes)) c.write_bytes-2.ensures.value
-          c.write_active-2.ensures;
+      m_is = ready_pairs false kind.halves m mb _ _ (sym c.requires.bytes) c.write_byte_pairs.ensures.value c.write_active-2.ensures;
+      whole = c.size-size.ensures.whole;
     })

@@ -1,10 +1,10 @@
-use Rattle.std.proofs.Common.{◌≡◌, ap, ℕ, refl, sym, false}
+use Rattle.std.proofs.Common.{◌≡◌, ap, ℕ, refl, sym, true}
 use Rattle.sve_vectors.specs.Lengths.{vector_bytes}
 use Rattle.vector_elements.specs.declared.size.Size.TheVariants.{H, D}
 use Rattle.za_array.specs.Tiles.{changed_tile}
 use Rattle.outer_products.specs.OuterProducts.{source_size, sum_size, source}
 use Rattle.outer_products.specs.Sources.{row_of_sums}
-use Rattle.outer_products.proofs.RowSums.{ready, array_is}
+use Rattle.outer_products.proofs.RowSums.{ready, ready_pairs, array_is}
 use Rattle.outer_products.proofs.Active.{AreBytes}
 use Rattle.outer_products.proofs.outer.mopa_halfwords.Goals as goal
 
@@ -26,6 +26,6 @@ returns c =
       m_long = c.requires.zm;
       n_is = ready H kind.halves n nb kind.subtract _ _ (ap source_size (sym c.requires.halfwords)) c.write_halfwords.ensures.value
           c.write_active.ensures;
-      m_is = ready H kind.halves m mb false _ _ (ap source_size (sym c.requires.halfwords)) c.write_halfwords-2.ensures.value
-          c.write_active-2.ensures;
+      m_is = ready_pairs true kind.halves m mb _ _ (sym c.requires.halfwords) c.write_halfword_pairs.ensures.value c.write_active-2.ensures;
+      whole = c.size-size.ensures.whole;
     })

@@ -1,36 +1,46 @@
-use Rattle.std.proofs.Common.{arith, subst, sym, ap, ◌∙◌, ◌*◌, ◌+◌, ◌≡◌}
+use Rattle.std.proofs.Common.{arith, ap, ◌∙◌, ◌*◌, ◌+◌, ℕ}
 use Rattle.std.specs.Int.{w32}
 use Rattle.vector_elements.specs.declared.size.Size.TheVariants.{D}
 use Rattle.vector_elements.proofs.Lists.{begun, finished}
-use Rattle.outer_products.specs.Sources.{AllFit, four_of, dot_at, doubleword_sums, summed, row_of_sums}
-use Rattle.outer_products.proofs.Written.{IsSummedTo, summed_more}
-use Rattle.outer_products.proofs.Lanes.{four_fit, read_four}
+use Rattle.outer_products.specs.Sources.{four_of, dot_in_pairs, doubleword_sums, summed, row_of_sums}
+use Rattle.outer_products.proofs.Written.{summed_next}
+use Rattle.outer_products.proofs.Lanes.{read_four}
 use Rattle.outer_products.proofs.rows.change_doublewords.Goals as goal
 
-pub loop-i-init : goal.loop-i-init
-loop-i-init c = begun _ _ _
+pub loop-turn-init : goal.loop-turn-init
+loop-turn-init c = begun _ _ _
 
-pub doubleword_sums-requires-clause-n_fit : goal.doubleword_sums-requires-clause-n_fit
-doubleword_sums-requires-clause-n_fit c =
-    let fit = c.requires.n_fit in
-    subst (AllFit w32) (sym (read_four w32 c.args.s.now.n.now c.args.r fit))
-    (four_fit w32 c.args.s.now.n.now c.args.r fit (record { sfits = omega arith }))
+pub loop-turn-preserved : goal.loop-turn-preserved
+loop-turn-preserved c =
+    let n = c.args.s.now.n.now in
+    let m = c.args.s.now.m.now in
+    let row = c.args.row.now in
+    let t = c.loop-turn.turn in
+    let sums = dot_in_pairs 2 (four_of n c.args.r) m in
+    let made = λ (i : ℕ). ap (λ ns. doubleword_sums (dot_in_pairs 2 ns m) (2 * i)) (read_four w32 n c.args.r c.requires.n_fit) in
+    let step1 = summed_next D sums row c.loop-turn.row c.add_doublewords.new.row (8 * t) (2 * (4 * t)) 2 (2 * (4 * t) + 2) c.loop-turn.invariant
+    (c.add_doublewords.ensures sums (c.doubleword_sums.ensures ∙ made (4 * t))) (omega arith) (omega arith) in
+    let step2 = summed_next D sums row c.add_doublewords.new.row c.add_doublewords-in-loop-turn.new.row (2 * (4 * t) + 2) (2 * (4 * t + 1)) 2 (2 * (4 * t + 1) + 2) step1
+    (c.add_doublewords-in-loop-turn.ensures sums (c.doubleword_sums-in-loop-turn.ensures ∙ made (4 * t + 1))) (omega arith) (omega arith) in
+    let step3 = summed_next D sums row c.add_doublewords-in-loop-turn.new.row c.add_doublewords-in-loop-turn-2.new.row (2 * (4 * t + 1) + 2) (2 * (4 * t + 2)) 2 (2 * (4 * t + 2) + 2) step2
+    (c.add_doublewords-in-loop-turn-2.ensures sums (c.doubleword_sums-in-loop-turn-2.ensures ∙ made (4 * t + 2))) (omega arith) (omega arith) in
+    summed_next D sums row c.add_doublewords-in-loop-turn-2.new.row c.add_doublewords-in-loop-turn-3.new.row (2 * (4 * t + 2) + 2) (2 * (4 * t + 3)) 2 (8 * (t + 1)) step3
+    (c.add_doublewords-in-loop-turn-3.ensures sums (c.doubleword_sums-in-loop-turn-3.ensures ∙ made (4 * t + 3))) (omega arith) (omega arith)
 
 pub loop-i-preserved : goal.loop-i-preserved
 loop-i-preserved c =
     let n = c.args.s.now.n.now in
     let m = c.args.s.now.m.now in
-    let sums = dot_at (four_of n c.args.r) m in
-    let next : 2 * c.loop-i.i + 2 ≡ 2 * (c.loop-i.i + 1) = omega arith in
-    let made = c.doubleword_sums.ensures ∙ ap (λ ns. doubleword_sums (dot_at ns m) (2 * c.loop-i.i))
-    (read_four w32 n c.args.r c.requires.n_fit) in
-    subst (λ k. IsSummedTo D sums c.args.row.now k c.add_doublewords.new.row) next
-    (summed_more D sums c.args.row.now c.loop-i.row c.add_doublewords.new.row (2 * c.loop-i.i) 2 c.loop-i.invariant
-    (c.add_doublewords.ensures sums made))
+    let i = c.loop-i.i in
+    let sums = dot_in_pairs 2 (four_of n c.args.r) m in
+    let made = c.doubleword_sums-in-loop-i.ensures
+    ∙ ap (λ ns. doubleword_sums (dot_in_pairs 2 ns m) (2 * i)) (read_four w32 n c.args.r c.requires.n_fit) in
+    summed_next D sums c.args.row.now c.loop-i.row c.add_doublewords-in-loop-i.new.row (2 * i) (2 * i) 2 (2 * (i + 1))
+    c.loop-i.invariant (c.add_doublewords-in-loop-i.ensures sums made) (omega arith) (omega arith)
 
 pub returns : goal.returns
 unfolding row_of_sums
 returns c =
-    finished 8 (summed D (dot_at (four_of c.args.s.now.n.now c.args.r) c.args.s.now.m.now)) c.args.row.now c.loop-i.row (2 * c.loop-i.i)
-    (omega arith) (omega (arith, c.requires.whole)) (omega (arith, c.requires.whole, c.loop-i-test.false, c.loop-i.auto.i-end))
-    c.loop-i.invariant
+    finished 8 (summed D (dot_in_pairs 2 (four_of c.args.s.now.n.now c.args.r) c.args.s.now.m.now)) c.args.row.now c.loop-i.row
+    (2 * c.loop-i.i) (omega arith) (omega (arith, c.requires.whole))
+    (omega (arith, c.requires.m, c.requires.whole, c.loop-i-test.false, c.loop-i.auto.i, c.loop-i.auto.i-end)) c.loop-i.invariant

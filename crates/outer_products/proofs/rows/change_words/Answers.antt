@@ -1,35 +1,46 @@
-use Rattle.std.proofs.Common.{arith, subst, sym, ap, ◌∙◌, ◌*◌, ◌+◌, ◌≡◌}
+use Rattle.std.proofs.Common.{arith, ap, ◌∙◌, ◌*◌, ◌+◌, ℕ}
 use Rattle.std.specs.Int.{w16}
 use Rattle.vector_elements.specs.declared.size.Size.TheVariants.{S}
 use Rattle.vector_elements.proofs.Lists.{begun, finished}
-use Rattle.outer_products.specs.Sources.{AllFit, four_of, dot_at, word_sums, summed, row_of_sums}
-use Rattle.outer_products.proofs.Written.{IsSummedTo, summed_more}
-use Rattle.outer_products.proofs.Lanes.{four_fit, read_four}
+use Rattle.outer_products.specs.Sources.{four_of, dot_in_pairs, word_sums, summed, row_of_sums}
+use Rattle.outer_products.proofs.Written.{summed_next}
+use Rattle.outer_products.proofs.Lanes.{read_four}
 use Rattle.outer_products.proofs.rows.change_words.Goals as goal
 
-pub loop-i-init : goal.loop-i-init
-loop-i-init c = begun _ _ _
+pub loop-turn-init : goal.loop-turn-init
+loop-turn-init c = begun _ _ _
 
-pub word_sums-requires-clause-n_fit : goal.word_sums-requires-clause-n_fit
-word_sums-requires-clause-n_fit c =
-    let fit = c.requires.n_fit in
-    subst (AllFit w16) (sym (read_four w16 c.args.s.now.n.now c.args.r fit))
-    (four_fit w16 c.args.s.now.n.now c.args.r fit (record { sfits = omega arith }))
+pub loop-turn-preserved : goal.loop-turn-preserved
+loop-turn-preserved c =
+    let n = c.args.s.now.n.now in
+    let m = c.args.s.now.m.now in
+    let row = c.args.row.now in
+    let t = c.loop-turn.turn in
+    let sums = dot_in_pairs 4 (four_of n c.args.r) m in
+    let made = λ (i : ℕ). ap (λ ns. word_sums (dot_in_pairs 4 ns m) (4 * i)) (read_four w16 n c.args.r c.requires.n_fit) in
+    let step1 = summed_next S sums row c.loop-turn.row c.add_words.new.row (16 * t) (4 * (4 * t)) 4 (4 * (4 * t) + 4) c.loop-turn.invariant
+    (c.add_words.ensures sums (c.word_sums.ensures ∙ made (4 * t))) (omega arith) (omega arith) in
+    let step2 = summed_next S sums row c.add_words.new.row c.add_words-in-loop-turn.new.row (4 * (4 * t) + 4) (4 * (4 * t + 1)) 4 (4 * (4 * t + 1) + 4) step1
+    (c.add_words-in-loop-turn.ensures sums (c.word_sums-in-loop-turn.ensures ∙ made (4 * t + 1))) (omega arith) (omega arith) in
+    let step3 = summed_next S sums row c.add_words-in-loop-turn.new.row c.add_words-in-loop-turn-2.new.row (4 * (4 * t + 1) + 4) (4 * (4 * t + 2)) 4 (4 * (4 * t + 2) + 4) step2
+    (c.add_words-in-loop-turn-2.ensures sums (c.word_sums-in-loop-turn-2.ensures ∙ made (4 * t + 2))) (omega arith) (omega arith) in
+    summed_next S sums row c.add_words-in-loop-turn-2.new.row c.add_words-in-loop-turn-3.new.row (4 * (4 * t + 2) + 4) (4 * (4 * t + 3)) 4 (16 * (t + 1)) step3
+    (c.add_words-in-loop-turn-3.ensures sums (c.word_sums-in-loop-turn-3.ensures ∙ made (4 * t + 3))) (omega arith) (omega arith)
 
 pub loop-i-preserved : goal.loop-i-preserved
 loop-i-preserved c =
     let n = c.args.s.now.n.now in
     let m = c.args.s.now.m.now in
-    let sums = dot_at (four_of n c.args.r) m in
-    let next : 4 * c.loop-i.i + 4 ≡ 4 * (c.loop-i.i + 1) = omega arith in
-    let made = c.word_sums.ensures ∙ ap (λ ns. word_sums (dot_at ns m) (4 * c.loop-i.i)) (read_four w16 n c.args.r c.requires.n_fit) in
-    subst (λ k. IsSummedTo S sums c.args.row.now k c.add_words.new.row) next
-    (summed_more S sums c.args.row.now c.loop-i.row c.add_words.new.row (4 * c.loop-i.i) 4 c.loop-i.invariant
-    (c.add_words.ensures sums made))
+    let i = c.loop-i.i in
+    let sums = dot_in_pairs 4 (four_of n c.args.r) m in
+    let made = c.word_sums-in-loop-i.ensures
+    ∙ ap (λ ns. word_sums (dot_in_pairs 4 ns m) (4 * i)) (read_four w16 n c.args.r c.requires.n_fit) in
+    summed_next S sums c.args.row.now c.loop-i.row c.add_words-in-loop-i.new.row (4 * i) (4 * i) 4 (4 * (i + 1))
+    c.loop-i.invariant (c.add_words-in-loop-i.ensures sums made) (omega arith) (omega arith)
 
 pub returns : goal.returns
 unfolding row_of_sums
 returns c =
-    finished 4 (summed S (dot_at (four_of c.args.s.now.n.now c.args.r) c.args.s.now.m.now)) c.args.row.now c.loop-i.row (4 * c.loop-i.i)
-    (omega arith) (omega (arith, c.requires.whole)) (omega (arith, c.requires.whole, c.loop-i-test.false, c.loop-i.auto.i-end))
-    c.loop-i.invariant
+    finished 4 (summed S (dot_in_pairs 4 (four_of c.args.s.now.n.now c.args.r) c.args.s.now.m.now)) c.args.row.now c.loop-i.row
+    (4 * c.loop-i.i) (omega arith) (omega (arith, c.requires.whole))
+    (omega (arith, c.requires.m, c.requires.whole, c.loop-i-test.false, c.loop-i.auto.i, c.loop-i.auto.i-end)) c.loop-i.invariant
