@@ -2,11 +2,12 @@
 ghost use Rattle.std.specs.Prelude.{◌<◌, ◌^◌, length};
 
 use crate::memory::FILE;
-use elf_loader::load;
+use asm_core::assemble;
+use elf_loader::{load, write_elf};
 use kernel_contexts::Context;
 use line_reader::first_difference;
 use lone_runner::{AloneFault, run_alone, run_to};
-use sm_types::{Config, Event, Exception, OpKind, SharedOp, Stop};
+use sm_types::{Access, Config, Event, Exception, OpKind, SharedOp, Stop};
 use std::alloc::Global;
 use std::process::Abort as Stops;
 
@@ -99,4 +100,59 @@ fn texts_differ_in_a_line(rt: HostRuntime) {
     }
     assert!(rt; first_difference(b"a\nb\n", b"a\nb\n").is_none());
     assert!(rt; first_difference(b"", b"").is_none());
+}
+
+#[test]
+fn a_thread_that_writes_nothing_owns_no_page(rt: HostRuntime) {
+    let alloc = rt.alloc();
+    let mut file = FILE;
+    // movz x0, #42 and movz x8, #93
+    file[176..184].copy_from_slice(&[0x40, 0x05, 0x80, 0xd2, 0xa8, 0x0b, 0x80, 0xd2]);
+    let image = load(alloc, &file).ok().expect(&rt, "an accepted file");
+    let context = run_alone(alloc, &image, &Config::defaults(), 0, &[], 3)
+        .ok()
+        .expect(&rt, "a run");
+    assert_eq!(rt; context.stop(), Some(Stop::Exited(42)));
+    assert_eq!(rt; context.machine().pages.own_pages(), 0);
+}
+
+/// A byte is stored eight bytes before the end of a page, then 16 bytes from there on, and then 16 bytes
+/// across the end of the last page.
+const STORES: &[u8] = b"
+.global _start
+_start: adrp x2, values
+ add x2, x2, #4088
+ strb w0, [x2]
+ stp x0, x1, [x2]
+ add x2, x2, #1, lsl #12
+ stp x0, x1, [x2]
+.data
+values: .zero 8192
+";
+
+#[test]
+fn a_store_owns_the_pages_that_it_touches(rt: HostRuntime) {
+    let alloc = rt.alloc();
+    let object = assemble(alloc, STORES).ok().expect(&rt, "a good source");
+    let file = write_elf(alloc, &object).ok().expect(&rt, "memory");
+    let image = load(alloc, file.as_slice())
+        .ok()
+        .expect(&rt, "an accepted file");
+    let config = Config::defaults();
+    for (count, owned) in [(2, 0), (3, 1), (4, 2)] {
+        let context = run_to(alloc, &image, &config, 0, &[], count)
+            .ok()
+            .expect(&rt, "a run");
+        assert_eq!(rt; context.machine().pages.own_pages(), owned, "at {count}");
+    }
+    let context = run_alone(alloc, &image, &config, 0, &[], 5)
+        .ok()
+        .expect(&rt, "a run");
+    let exception = Exception::Data {
+        address: 0x403000,
+        access: Access::Write,
+    };
+    let pc = 0x400014;
+    assert_eq!(rt; context.stop(), Some(Stop::Raised { exception, pc }));
+    assert_eq!(rt; context.machine().pages.own_pages(), 2);
 }

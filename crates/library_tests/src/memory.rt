@@ -1,10 +1,11 @@
 //! The private memory of a thread.
 
 use elf_loader::load;
-use paged_memory::{Abort, Pages, WriteStop};
+use paged_memory::{Abort, PageImage, Pages, WriteStop};
 use sm_types::Access;
 use std::alloc::Global;
 use std::process::Abort as Stops;
+use std::test::Fail;
 
 /// A program file with `movz x0, #3`, `movz x8, #0` and `svc #0` at 0x400000, and a page of data at 0x410000
 /// that may be accessed in every way, which begins with the bytes 1 to 4.
@@ -143,4 +144,47 @@ fn a_write_that_may_not_be_made_changes_nothing(rt: HostRuntime) {
     assert!(rt; pages.write(0x410ff8, &[9; 16]) == Err(stop));
     assert!(rt; four_at(&rt, &pages, 0x410ff8) == [0; 4]);
     assert!(rt; four_at(&rt, &pages, 0x410ffc) == [0; 4]);
+}
+
+#[test]
+fn a_write_owns_the_shared_pages_that_it_touches(rt: HostRuntime) {
+    let mut pages = pages(&rt, rt.alloc());
+    assert_eq!(rt; pages.own_pages(), 0);
+    assert!(rt; pages.write(0x7dfffffc0010, &[1]).is_ok());
+    assert_eq!(rt; pages.own_pages(), 1);
+    assert!(rt; pages.write(0x7dfffffc0ff8, &[9; 16]).is_ok());
+    assert_eq!(rt; pages.own_pages(), 2);
+    assert!(rt; pages.write(0x410ff8, &[9; 16]).is_err());
+    assert_eq!(rt; pages.own_pages(), 2);
+    assert!(rt; pages.own(0x3fffff, 3).is_ok());
+    assert_eq!(rt; pages.own_pages(), 3);
+    assert!(rt; four_at(&rt, &pages, 0x7dfffffc1006) == [9, 9, 0, 0]);
+    assert!(rt; four_at(&rt, &pages, 0x7dfffffc2006) == [0; 4]);
+}
+
+#[test]
+fn pages_of_a_list_stand_at_both_ends(rt: HostRuntime) -> Result<(), Fail> {
+    let alloc = rt.alloc();
+    let mut list = Vec::new(alloc);
+    list.push(PageImage {
+        address: 0,
+        flags: 6,
+        bytes: vec![in alloc; 3u8; 4096]?,
+    })?;
+    list.push(PageImage {
+        address: 0xfffffffffffff000,
+        flags: 7,
+        bytes: vec![in alloc; 5u8; 4096]?,
+    })?;
+    let mut pages = Pages::from_pages(alloc, &list).ok().ok_or("memory")?;
+    assert_eq!(rt; pages.page_count(), 2);
+    let mut four = [0; 4];
+    assert!(rt; pages.read(0xfffffffffffffffe, &mut four).is_ok());
+    assert!(rt; four == [5, 5, 3, 3]);
+    assert!(rt; pages.write(0xfffffffffffffffe, &[9; 4]).is_ok());
+    assert!(rt; pages.read(0xfffffffffffffffd, &mut four).is_ok());
+    assert!(rt; four == [5, 9, 9, 9]);
+    assert_eq!(rt; pages.fetch(0xfffffffffffffff0), Some(0x05050505));
+    assert_eq!(rt; pages.fetch(0xfffffffffffffffe), None);
+    Ok(())
 }
