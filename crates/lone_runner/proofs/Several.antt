@@ -61,7 +61,7 @@ module _ (program : Program) (config : Config) (thread : ℕ) (journal : List Ev
   counted_at n = (state_at (reached n)).count
 
   -- so many turns further on
-  gone_at : (turns n used : ℕ) (left : List Event) (s t : State) → reached turns ≡ At s used left → GoesBy config thread used n s t
+  pub gone_at : (turns n used : ℕ) (left : List Event) (s t : State) → reached turns ≡ At s used left → GoesBy config thread used n s t
       → reached (turns + n) ≡ At t used left
   gone_at turns zero used left s t at goes =
       let none : turns + 0 ≡ turns = omega arith in
@@ -72,10 +72,10 @@ module _ (program : Program) (config : Config) (thread : ℕ) (journal : List Ev
       (gone_at turns n used left s goes.0 at goes.1) (ap (after_turn goes.0 used left) goes.2))
 
   -- none of which parted, where the last did not pass the count
-  gone_on : (turns n used : ℕ) (left : List Event) (s t : State) → reached turns ≡ At s used left
+  pub gone_on : (turns n used : ℕ) (left : List Event) (s t : State) → reached turns ≡ At s used left
       → ((m : ℕ) → m ≤ turns → parting_at count (reached m) ≡ None) → GoesBy config thread used n s t → t.count ≤ count
       → (m : ℕ) → m ≤ turns + n → parting_at count (reached m) ≡ None
-  gone_on turns zero used left s t at none goes most m l = none m (omega (arith, l))
+  gone_on turns zero used left s t at none goes most = λ m l. none m (omega (arith, l))
   gone_on turns (suc n) used left s t at none goes most =
       let more : turns + suc n ≡ suc (turns + n) = omega arith in
       let here = ap (λ (r : Reached). (state_at r).count) (gone_at turns n used left s goes.0 at goes.1) in
@@ -98,7 +98,7 @@ module _ (program : Program) (config : Config) (thread : ℕ) (journal : List Ev
     (ticket : ReplayEvents) (same : config_of old ≡ config) (is : thread_of old ≡ thread) (n : ℕ)
     (goes : GoesBy (config_of old) (thread_of old) (length (journal_of old)) n (state_of old) (state_of new))
     (quiet : journal_of new ≡ journal_of old) (most : (state_of new).count ≤ count) where
-  by_own : GoesBy config thread (length (journal_of old)) n (state_of old) (state_of new)
+  pub by_own : GoesBy config thread (length (journal_of old)) n (state_of old) (state_of new)
   by_own =
       subst (λ (k : ℕ). GoesBy config k (length (journal_of old)) n (state_of old) (state_of new)) is
       (subst (λ (k : Config). GoesBy k (thread_of old) (length (journal_of old)) n (state_of old) (state_of new)) same goes)

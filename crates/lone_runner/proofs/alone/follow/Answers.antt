@@ -1,7 +1,7 @@
-use Rattle.std.proofs.Common.{rules, ◌≡◌, ◌≢◌, ◌∙◌, sym, ap, refl, List, ◌++◌, None}
+use Rattle.std.proofs.Common.{rules, ◌≡◌, ◌≢◌, ◌∙◌, sym, ap, refl, List, ◌++◌, None, length}
 use Rattle.sm_types.specs.declared.shared_op.Event.{Event}
 use Rattle.std.specs.Prelude.{Ok, Err}
-use Rattle.kernel_contexts.specs.Context.{state_of, config_of, image_of, thread_of}
+use Rattle.kernel_contexts.specs.Context.{state_of, config_of, image_of, thread_of, journal_of}
 use Rattle.lone_runner.specs.Parting.{IsParting, parting_at}
 use Rattle.lone_runner.specs.Replayed.{place_of, WantsOnTheWay}
 use Rattle.lone_runner.specs.declared.fault.AloneFault.TheVariants.{Memory}
@@ -70,7 +70,8 @@ turns-preserved c =
     record {
       way = way_goes_on _ _ _ _ c.args.count mid last c.make_turn.new.ticket config thread c.advance_several.result f.turns f.journal
           (up_to_count (state_of mid).count (state_of last).count c.args.count c.advance_several.result _
-          (not_passed c.args.count (state_of mid) _ _ none_parts) c.count-now.ensures f.count f.few)
+          (not_passed c.args.count (state_of mid) (length (journal_of mid)) c.make_turn.new.ticket.ahead none_parts)
+          c.count-now.ensures f.count f.few)
           (way_on _ _ _ _ _ c.turns.context c.turns.ticket h.same.config h.same.thread h.way mid c.make_turn.new.ticket
           (e.turn ∙ ap (place_of mid c.make_turn.new.ticket) none) e.journal none_parts);
       held = held_still mid last c.make_turn.new.ticket e.ticket f.home f.same.thread f.journal;

@@ -1,4 +1,4 @@
-use Rattle.std.proofs.Common.{rules, ◌≡◌, ◌≢◌, ◌≤◌, ◌<◌, ◌∙◌, ◌++◌, List, sym, ap, refl, subst}
+use Rattle.std.proofs.Common.{rules, ◌≡◌, ◌≢◌, ◌≤◌, ◌<◌, ◌∙◌, ◌++◌, List, sym, ap, refl, subst, arith}
 use Rattle.sm_types.specs.declared.shared_op.Event.{Event}
 use Rattle.std.specs.Prelude.{Ok, Err}
 use Rattle.kernel_contexts.specs.Context.{state_of, config_of, image_of, thread_of, journal_of}
@@ -113,3 +113,14 @@ turns-smaller c =
     let f = c.advance_several.ensures in
     turns_fall (config_of c.turns.context) (config_of c.make_turn.new.context) (config_of c.advance_several.new.self) _ _ _
     c.advance_several.result e.same.config f.same.config (e.made (ap Ok c.in_default.is)) e.few f.made
+
+pub overflow_sub-count : goal.overflow_sub-count
+overflow_sub-count c =
+    let h = c.turns.invariant in
+    let e = c.in_ok-stop.ensures in
+    let mid = c.make_turn.new.context in
+    let ticket = c.make_turn.new.ticket in
+    let less : (state_of c.turns.context).count < c.args.count = subst (λ n. n < c.args.count) c.count.ensures c.turns-test.true in
+    let before = before_on _ _ _ _ _ c.turns.context c.turns.ticket h.same.config h.same.thread h.before less mid ticket
+    (e.turn ∙ ap (place_of mid ticket) c.in_default.is) e.journal in
+    omega (arith, before.most, c.count-now.ensures)
