@@ -10,13 +10,15 @@ use Rattle.std.specs.Str.{bytes_eq}
 use Rattle.std.proofs.lemmas.Slice.Eq.{bytes_eq-Decides}
 use Rattle.cmd_words.specs.Forms.{Form, form_of, options_from, run_options}
 use Rattle.line_reader.specs.Numbers.{is_decimal, decimal_value}
-use Rattle.cmd_words.specs.Options.{Options, default_options, word_of, setting_in, takes, default_of, with_number, with_numbers}
+use Rattle.sm_types.specs.Options.{are_taken}
+use Rattle.sm_types.specs.declared.numbers.Numbers.{Numbers}
+use Rattle.cmd_words.specs.Options.{default_options, word_of, setting_in, takes, default_of, with_number, with_numbers}
 use Rattle.cmd_words.specs.Command.{asking}
 use Rattle.cmd_words.specs.Words.{Argument, NameSaid, ThreadSaid, WorkloadSaid, arguments_of}
 use Rattle.cmd_words.specs.Words.{verb_of, form_asked, command_fault, operand_fault, no_option, request_for, stands_at}
 use Rattle.cmd_words.specs.Words.{option_place, option_fault, value_fault, fault_at, usage_fault, value_below, number_given, options_given}
 use Rattle.cmd_words.specs.Words.{command_of}
-use Rattle.cmd_words.specs.Given.{given_of, IsSoundTo, IsReadTo}
+use Rattle.cmd_words.specs.Given.{given_of, numbers_given, IsSoundTo, IsReadTo}
 use Rattle.cmd_words.specs.declared.command.UsageKind.{UsageKind}
 use Rattle.cmd_words.specs.declared.command.UsageKind.TheVariants.{Unknown, Repeated}
 use Rattle.cmd_words.specs.declared.form.Operand.{Operand}
@@ -108,6 +110,20 @@ number_in_range Slice None h = refl
 number_in_range Budget None h = refl
 number_in_range Threads None h = refl
 number_in_range Cores None h = refl
+
+-- so the numbers of all options are
+pub numbers_taken : (given : Given) → ((s : Setting) → ForSome (given_of given s) (λ n. takes s n ≡ true))
+    → are_taken (numbers_given given) ≡ true
+unfolding are_taken
+numbers_taken given h =
+    rw (
+      number_in_range Vl (given_of given Vl) (h Vl),
+      number_in_range Svl (given_of given Svl) (h Svl),
+      number_in_range Slice (given_of given Slice) (h Slice),
+      number_in_range Budget (given_of given Budget) (h Budget),
+      number_in_range Threads (given_of given Threads) (h Threads),
+      number_in_range Cores (given_of given Cores) (h Cores),
+    ) refl
 
 -- ---- the places of options
 
@@ -423,22 +439,10 @@ module _ (words : List (List ℕ)) (form : Form) (given : Given) (h : IsReadTo w
   unfolding number_given
   given_number s = ap (λ o. unwrap_or o (default_of s)) (sym (h.valued s))
 
--- the numbers of the options that are given, and of the others
-abbrev pub options_read : Given → Options
-options_read given =
-    record {
-      vl = unwrap_or given.vl (default_of Vl);
-      svl = unwrap_or given.svl (default_of Svl);
-      slice = unwrap_or given.slice (default_of Slice);
-      budget = unwrap_or given.budget (default_of Budget);
-      threads = unwrap_or given.threads (default_of Threads);
-      cores = unwrap_or given.cores (default_of Cores);
-    }
-
 -- the options of a command that runs threads
 pub given_options : (words : List (List ℕ)) (operands : List Operand) (given : Given)
     → IsReadTo words (record { operands = operands; options = run_options }) (length words) given
-    → options_given (record { operands = operands; options = run_options }) words ≡ options_read given
+    → options_given (record { operands = operands; options = run_options }) words ≡ numbers_given given
 unfolding options_given
 given_options words operands given h =
     let form : Form = record { operands = operands; options = run_options } in
@@ -456,14 +460,14 @@ pub to_end : (words : List (List ℕ)) (form : Form) (given : Given) (n : ℕ) �
 to_end words form given n e h = subst (λ (m : ℕ). IsReadTo words form m given) e h
 
 -- what a command asks for
-pub asked_for : (words : List (List ℕ)) (given : Given) (verb : Verb) (operands : List Argument) (options : Options) (n : ℕ)
+pub asked_for : (words : List (List ℕ)) (given : Given) (verb : Verb) (operands : List Argument) (options : Numbers) (n : ℕ)
     → n ≡ length words → IsReadTo words (form_of verb) n given → option_and_then verb_of (slice_get words 0) ≡ Some verb
     → arguments_of (form_of verb).operands (drop 1 words) ≡ operands → options_given (form_of verb) words ≡ options
     → command_of words ≡ Some (asking verb operands options)
 asked_for words given verb operands options n e h is said numbers =
     read_end words (form_of verb) given (to_end words (form_of verb) given n e h) verb is
     ∙ ap (λ (o : List Argument). Some (asking verb o (options_given (form_of verb) words))) said
-    ∙ ap (λ (o : Options). Some (asking verb operands o)) numbers
+    ∙ ap (λ (o : Numbers). Some (asking verb operands o)) numbers
 
 -- a command without options has those of a run that is given none
 pub no_options : (verb : Verb) (words : List (List ℕ)) → (form_of verb).options ≡ [] → options_given (form_of verb) words ≡ default_options

@@ -1,7 +1,9 @@
 -- What a command and a fault of the code stand for.
 use Rattle.std.specs.Prelude.{◌≡◌, ℕ, ◌<◌, ◌≤◌, List, [], ◌∷◌, Some}
 use Rattle.std.specs.String.{string_bytes}
-use Rattle.cmd_words.specs.Options.{Options, default_options, with_number, options_of}
+use Rattle.sm_types.specs.Options.{numbers_of}
+use Rattle.sm_types.specs.declared.numbers.Numbers.{Numbers}
+use Rattle.cmd_words.specs.Options.{default_options, with_number}
 use Rattle.cmd_words.specs.Words.{Argument, NameSaid, ThreadSaid, WorkloadSaid, Request, usage_fault}
 use Rattle.cmd_words.specs.declared.command.Command.{Command}
 use Rattle.cmd_words.specs.declared.command.Command.TheVariants as command
@@ -12,15 +14,15 @@ use Rattle.cmd_words.specs.declared.verb.Verb.TheVariants.{Run, Sim, Dis, Asm, R
 use Rattle.cmd_words.specs.declared.verb.Verb.TheVariants.{Help, Version}
 use Rattle.cmd_words.specs.declared.setting.Setting.TheVariants.{Cores}
 
-abbrev pub asking : Verb → List Argument → Options → Request
+abbrev pub asking : Verb → List Argument → Numbers → Request
 asking verb operands options = record { verb = verb; operands = operands; options = options }
 
 -- what a command asks for
 abbrev pub request_of : Command → Request
 request_of (command.Run program config) =
-    asking Run (NameSaid (string_bytes program) ∷ []) (options_of config)
+    asking Run (NameSaid (string_bytes program) ∷ []) (numbers_of config)
 request_of (command.Sim program plan config) =
-    asking Sim (NameSaid (string_bytes program) ∷ NameSaid (string_bytes plan) ∷ []) (options_of config)
+    asking Sim (NameSaid (string_bytes program) ∷ NameSaid (string_bytes plan) ∷ []) (numbers_of config)
 request_of (command.Dis program) = asking Dis (NameSaid (string_bytes program) ∷ []) default_options
 request_of (command.Asm source) = asking Asm (NameSaid (string_bytes source) ∷ []) default_options
 request_of (command.Replay program report thread) =

@@ -1,8 +1,10 @@
 -- What the options that have been read give, and how far the words have been read.
 use Rattle.std.specs.Prelude.{◌≡◌, ℕ, ◌-◌, ◌<◌, ◌≤◌, ◌%◌, true, List, length, Option, Some, None, is_some}
+use Rattle.std.specs.Prelude.{unwrap_or}
 use Rattle.std.specs.Option.{ForSome}
+use Rattle.sm_types.specs.declared.numbers.Numbers.{Numbers}
 use Rattle.cmd_words.specs.Forms as forms
-use Rattle.cmd_words.specs.Options.{word_of, setting_in, takes}
+use Rattle.cmd_words.specs.Options.{default_of, word_of, setting_in, takes}
 use Rattle.cmd_words.specs.Words.{form_asked, option_place, value_below, fault_at}
 use Rattle.cmd_words.specs.declared.form.Form.{Form}
 use Rattle.cmd_words.specs.declared.given.Given.{Given}
@@ -17,6 +19,23 @@ given_of given Slice = given.slice
 given_of given Budget = given.budget
 given_of given Threads = given.threads
 given_of given Cores = given.cores
+
+-- the number of an option, given or not
+abbrev pub number_for : Given → Setting → ℕ
+number_for given setting = unwrap_or (given_of given setting) (default_of setting)
+
+-- the numbers of the options, given or not; no word gives the kernel
+abbrev pub numbers_given : Given → Numbers
+numbers_given given =
+    record {
+      vl = number_for given Vl;
+      svl = number_for given Svl;
+      slice = number_for given Slice;
+      budget = number_for given Budget;
+      threads = number_for given Threads;
+      cores = number_for given Cores;
+      kernel = 1;
+    }
 
 -- what a form of the code says
 abbrev pub form_said : Form → forms.Form

@@ -8,7 +8,8 @@ use Rattle.std.specs.Option.{option_map_or}
 use Rattle.std.specs.Str.{bytes_eq}
 use Rattle.line_reader.specs.Numbers.{is_decimal, decimal_value}
 use Rattle.cmd_words.specs.Forms.{Form, form_of, options_from}
-use Rattle.cmd_words.specs.Options.{Options, default_options, word_of, setting_in, takes, default_of}
+use Rattle.sm_types.specs.declared.numbers.Numbers.{Numbers}
+use Rattle.cmd_words.specs.Options.{default_options, word_of, setting_in, takes, default_of}
 use Rattle.cmd_words.specs.Options.{with_numbers}
 use Rattle.cmd_words.specs.declared.command.UsageKind.{UsageKind}
 use Rattle.cmd_words.specs.declared.command.UsageKind.TheVariants.{Unknown, Missing, Repeated, BadNumber}
@@ -151,7 +152,7 @@ number_given form words setting =
     unwrap_or (value_below form words setting (length words)) (default_of setting)
 
 -- the numbers of the options: of those that the command takes, those that are given
-unfoldable pub options_given : Form → List (List ℕ) → Options
+unfoldable pub options_given : Form → List (List ℕ) → Numbers
 options_given form words = with_numbers default_options form.options (number_given form words)
 
 -- what an operand says: the name of a file, or the number of a guest thread or of a workload
@@ -175,7 +176,7 @@ arguments_of (operand ∷ operands) (word ∷ words) = argument_of operand word 
 pub record Request : Type 0 where
   pub verb : Verb
   pub operands : List Argument
-  pub options : Options
+  pub options : Numbers
 
 -- what the words of a command ask for
 abbrev pub request_for : List (List ℕ) → Verb → Request

@@ -1,13 +1,13 @@
 //! What the options that have been read give.
-ghost use Rattle.std.specs.Prelude.{◌≡◌, ◌≢◌, true, Option, None, Some, is_some, unwrap_or};
+ghost use Rattle.std.specs.Prelude.{◌≡◌, ◌≢◌, true, Option, None, Some, is_some};
 ghost use Rattle.std.specs.Option.{ForSome};
-ghost use Rattle.sm_types.specs.Length.{bits_of};
-ghost use Rattle.cmd_words.specs.Options as spec;
-ghost use Rattle.cmd_words.specs.Given.{given_of};
+ghost use Rattle.sm_types.specs.Options.{numbers_of};
+ghost use Rattle.cmd_words.specs.Options.{takes};
+ghost use Rattle.cmd_words.specs.Given.{given_of, number_for, numbers_given};
 ghost use Rattle.cmd_words.specs.declared.setting.Setting.{Setting};
 
 use crate::setting::{Setting, default_of};
-use sm_types::{Config, VecLen};
+use sm_types::{Config, Numbers};
 
 /// The numbers of the options that have been read.
 #[derive(Clone, Copy)]
@@ -18,17 +18,6 @@ pub struct Given {
     pub budget: Option<u32>,
     pub threads: Option<u32>,
     pub cores: Option<u32>,
-}
-
-/// The vector length of so many bits.
-fn length_of(bits: u32) -> VecLen
-    requires { spec.is_length bits ≡ true }
-    ensures { bits_of result ≡ bits }
-{
-    match VecLen::from_bits(bits) {
-        Some(length) => length,
-        None => unreachable!(),
-    }
 }
 
 impl Given {
@@ -80,32 +69,35 @@ impl Given {
 
     /// The number of an option, given or not.
     pub fn number(&self, setting: Setting) -> u32
-        ensures { result ≡ unwrap_or (given_of self.now setting) (spec.default_of setting) }
+        ensures { result ≡ number_for self.now setting }
     {
         self.get(setting).unwrap_or(default_of(setting))
+    }
+
+    /// The numbers of all options, given or not; no word gives the kernel, which is the first.
+    fn numbers(&self) -> Numbers
+        ensures { result ≡ numbers_given self.now }
+    {
+        Numbers {
+            vl: u64::from(self.number(Setting::Vl)),
+            svl: u64::from(self.number(Setting::Svl)),
+            slice: u64::from(self.number(Setting::Slice)),
+            budget: u64::from(self.number(Setting::Budget)),
+            threads: u64::from(self.number(Setting::Threads)),
+            cores: u64::from(self.number(Setting::Cores)),
+            kernel: 1,
+        }
     }
 
     /// The options of the run.
     pub fn config(&self) -> Config
         requires { (setting : Setting) → ForSome (given_of self.now setting)
-            (λ number. spec.takes setting number ≡ true) }
-        ensures { spec.options_of result ≡ record {
-          vl = unwrap_or self.now.vl (spec.default_of Setting.Vl);
-          svl = unwrap_or self.now.svl (spec.default_of Setting.Svl);
-          slice = unwrap_or self.now.slice (spec.default_of Setting.Slice);
-          budget = unwrap_or self.now.budget (spec.default_of Setting.Budget);
-          threads = unwrap_or self.now.threads (spec.default_of Setting.Threads);
-          cores = unwrap_or self.now.cores (spec.default_of Setting.Cores);
-        } }
+            (λ number. takes setting number ≡ true) }
+        ensures { numbers_of result ≡ numbers_given self.now }
     {
-        Config {
-            vl: length_of(self.number(Setting::Vl)),
-            svl: length_of(self.number(Setting::Svl)),
-            slice: self.number(Setting::Slice),
-            budget: self.number(Setting::Budget),
-            threads: self.number(Setting::Threads),
-            cores: self.number(Setting::Cores),
-            kernel: 1,
+        match Config::of(&self.numbers()) {
+            Some(config) => config,
+            None => unreachable!(),
         }
     }
 }

@@ -2,7 +2,7 @@
 ghost use Rattle.std.specs.Prelude.{◌≡◌};
 ghost use Rattle.cmd_words.specs.Options as spec;
 
-use sm_types::{Config, VecLen};
+use sm_types::{Config, are_cores, are_threads, is_budget, is_length, is_slice};
 
 /// An option of a run.
 #[derive(Clone, Copy)]
@@ -52,12 +52,12 @@ pub fn takes(setting: Setting, number: u64) -> bool
     ensures { result ≡ spec.takes setting number }
 {
     match setting {
-        Setting::Vl => matches!(number, 128 | 256 | 512 | 1024 | 2048),
-        Setting::Svl => matches!(number, 128 | 256 | 512 | 1024 | 2048),
-        Setting::Slice => matches!(number, 1..=1_000_000),
-        Setting::Budget => matches!(number, 1..=0xFFFF_FFFF),
-        Setting::Threads => matches!(number, 1..=32),
-        Setting::Cores => matches!(number, 1..=64),
+        Setting::Vl => is_length(number),
+        Setting::Svl => is_length(number),
+        Setting::Slice => is_slice(number),
+        Setting::Budget => is_budget(number),
+        Setting::Threads => are_threads(number),
+        Setting::Cores => are_cores(number),
     }
 }
 

@@ -1,49 +1,31 @@
 -- The lines of a report before its blocks. Source: docs/REPORT.md.
-use Rattle.std.specs.Prelude.{ℕ, ◌==◌, ◌&&◌, ◌||◌, nat_le, Bool, List, length, take, drop, codes}
-use Rattle.std.specs.Prelude.{Option, Some, None, option_and_then, if◌then◌else◌}
+use Rattle.std.specs.Prelude.{ℕ, List, length, take, drop, codes, Option, None, option_and_then}
+use Rattle.std.specs.Prelude.{if◌then◌else◌}
 use Rattle.std.specs.Result.{result_ok}
 use Rattle.std.specs.Str.{bytes_eq}
 use Rattle.hex.specs.Hex.{decode_sized}
-use Rattle.sm_types.specs.Length.{bits_of}
-use Rattle.sm_types.specs.declared.config.Config.{Config}
+use Rattle.sm_types.specs.Options.{if_taken}
+use Rattle.sm_types.specs.declared.numbers.Numbers.{Numbers}
 use Rattle.line_reader.specs.Numbers.{decimal_number, is_hex}
 use Rattle.line_reader.specs.Fields.{◌>>=◌, field, named, ended, said_by}
 
--- the numbers of the options that a report names, the lengths in bits
-pub record Options : Type 0 where
-  pub vl : ℕ
-  pub svl : ℕ
-  pub slice : ℕ
-  pub budget : ℕ
-  pub threads : ℕ
+-- the numbers that a report says of options: it has no word for the cores, and stands for one, and its format
+-- is that of the first kernel
+abbrev pub reported : Numbers → Numbers
+reported numbers = record numbers { cores = 1; kernel = 1 }
 
--- those of a config; of cores a report says nothing
-abbrev pub options_of : Config → Options
-options_of config =
+-- the numbers of the words of a report's options
+abbrev pub five_numbers : ℕ → ℕ → ℕ → ℕ → ℕ → Numbers
+five_numbers vl svl slice budget threads =
     record {
-      vl = bits_of config.vl;
-      svl = bits_of config.svl;
-      slice = config.slice;
-      budget = config.budget;
-      threads = config.threads;
+      vl = vl;
+      svl = svl;
+      slice = slice;
+      budget = budget;
+      threads = threads;
+      cores = 1;
+      kernel = 1;
     }
-
--- one of the five vector lengths in bits
-abbrev pub is_length : ℕ → Bool
-is_length bits = (bits == 128) || (bits == 256) || (bits == 512) || (bits == 1024) || (bits == 2048)
-
-abbrev pub is_between : ℕ → ℕ → ℕ → Bool
-is_between least most n = nat_le least n && nat_le n most
-
--- each number is one that the option takes
-unfoldable pub are_options : Options → Bool
-are_options options =
-    is_length options.vl && is_length options.svl && is_between 1 1000000 options.slice
-    && is_between 1 4294967295 options.budget && is_between 1 32 options.threads
-
--- the options, if each number is one that the option takes
-abbrev pub if_options : Options → Option Options
-if_options options = if are_options options then Some options else None
 
 -- the number after a key
 unfoldable pub number_after : List ℕ → List ℕ → Option ℕ
@@ -51,15 +33,15 @@ number_after key word =
     if bytes_eq (take (length key) word) key then decimal_number (drop (length key) word) else None
 
 -- `options` and the numbers after their keys
-unfoldable pub options_line : List ℕ → Option Options
-options_line line = option_and_then if_options (said_by (do
+unfoldable pub options_line : List ℕ → Option Numbers
+options_line line = option_and_then if_taken (said_by (do
   _ ← named (codes "options")
   vl ← field (number_after (codes "vl="))
   svl ← field (number_after (codes "svl="))
   slice ← field (number_after (codes "slice="))
   budget ← field (number_after (codes "budget="))
   threads ← field (number_after (codes "threads="))
-  ended (record { vl = vl; svl = svl; slice = slice; budget = budget; threads = threads })) line)
+  ended (five_numbers vl svl slice budget threads)) line)
 
 -- the 32 bytes that 64 hexadecimal digits in lower case write
 unfoldable pub digest_of : List ℕ → Option (List ℕ)

@@ -3,7 +3,8 @@ use Rattle.std.specs.Prelude.{ℕ, ◌||◌, nat_lt, List, [], ◌∷◌, length
 use Rattle.std.specs.Prelude.{is_some, slice_set, if◌then◌else◌}
 use Rattle.std.specs.Str.{bytes_eq}
 use Rattle.line_reader.specs.Lines.{lines_of, begins_with}
-use Rattle.report_reader.specs.Header.{Options, options_line, image_line}
+use Rattle.sm_types.specs.declared.numbers.Numbers.{Numbers}
+use Rattle.report_reader.specs.Header.{options_line, image_line}
 use Rattle.report_reader.specs.Events.{setting_line}
 use Rattle.line_reader.specs.Reading as reading
 use Rattle.line_reader.specs.Reading.{Left, ◌>>=◌, give, said_if, first_said, past_all, each}
@@ -46,7 +47,7 @@ shared_words = do
 
 -- a report
 pub record Report : Type 0 where
-  pub options : Options
+  pub options : Numbers
   pub image : List ℕ
   pub blocks : List Block
   pub words : SharedWords

@@ -3,11 +3,11 @@ use Rattle.std.specs.Prelude.{◌≡◌, ◌≤◌, List, ℕ, length, map, Resu
 use Rattle.report_reader.specs.Reading.{Fault}
 use Rattle.report_reader.specs.Block.{Block}
 use Rattle.report_reader.specs.declared.parts.ReportBlock.{ReportBlock}
-use Rattle.report_reader.specs.Header.{options_of}
 use Rattle.report_reader.specs.Report.{Report, SharedWords}
 use Rattle.report_reader.specs.declared.fault.ReportFault.{ReportFault}
 use Rattle.report_reader.specs.declared.fault.ReportFault.TheVariants as fault
 use Rattle.report_reader.specs.declared.parts.Report as report
+use Rattle.sm_types.specs.Options.{numbers_of}
 use Rattle.sm_types.specs.declared.shared_words.Words.{Words}
 
 -- what a block of the code says
@@ -35,7 +35,7 @@ words_said words = record { shared = words.shared; pending = words.pending }
 abbrev pub report_said : report.Report → Report
 report_said it =
     record {
-      options = options_of it.config;
+      options = numbers_of it.config;
       image = it.image;
       blocks = map block_said it.blocks.items;
       words = words_said it.words;

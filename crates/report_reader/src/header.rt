@@ -1,56 +1,29 @@
 //! The lines of a report before its blocks.
-ghost use Rattle.std.specs.Prelude.{◌≡◌, true, false, MatchOption, IfSome, option_map};
-ghost use Rattle.sm_types.specs.Length.{bits_of};
+ghost use Rattle.std.specs.Prelude.{◌≡◌, IfSome, option_map};
+ghost use Rattle.sm_types.specs.Options.{if_taken, numbers_of};
 ghost use Rattle.report_reader.specs.Header as spec;
 ghost use Rattle.line_reader.specs.Fields.{field, Says};
 ghost use Rattle.line_reader.specs.Told.{words_ahead};
 
 use line_reader::{Fields, decimal_number, is_hex};
-use sm_types::{Config, VecLen};
+use sm_types::{Config, Numbers};
 
-/// The vector length of so many bits.
-fn length_of(bits: u64) -> Option<VecLen>
-    ensures { MatchOption result (spec.is_length bits ≡ false)
-        (λ length. (spec.is_length bits ≡ true) × (bits_of length ≡ bits)) }
-{
-    match bits {
-        128 => Some(VecLen::Bits128),
-        256 => Some(VecLen::Bits256),
-        512 => Some(VecLen::Bits512),
-        1024 => Some(VecLen::Bits1024),
-        2048 => Some(VecLen::Bits2048),
-        _ => None,
-    }
-}
-
-/// The options of those numbers, where each is one that its option takes.
-#[tactic(auto, unfolding(crate::specs::Header::are_options))]
+/// The options of those numbers, on one core and of the first kernel; `None` exactly where one of them is none
+/// that its option takes.
+#[tactic(auto, using(crate::proofs::Options::one_core))]
 fn config_of(vl: u64, svl: u64, slice: u64, budget: u64, threads: u64) -> Option<Config>
-    ensures options { option_map spec.options_of result ≡ spec.if_options
-        (record { vl = vl; svl = svl; slice = slice; budget = budget; threads = threads }) }
+    ensures options { option_map numbers_of result ≡ if_taken (spec.five_numbers vl svl slice budget threads) }
     ensures cores { IfSome result (λ config. config.cores ≡ 1) }
 {
-    let vl = length_of(vl)?;
-    let svl = length_of(svl)?;
-    if 1 <= slice
-        && slice <= 1_000_000
-        && 1 <= budget
-        && budget <= 0xFFFF_FFFF
-        && 1 <= threads
-        && threads <= 32
-    {
-        Some(Config {
-            vl,
-            svl,
-            slice: slice as u32,
-            budget: budget as u32,
-            threads: threads as u32,
-            cores: 1,
-            kernel: 1,
-        })
-    } else {
-        None
-    }
+    Config::of(&Numbers {
+        vl,
+        svl,
+        slice,
+        budget,
+        threads,
+        cores: 1,
+        kernel: 1,
+    })
 }
 
 /// The number after a key.
@@ -71,10 +44,10 @@ fn read_option(key: &[u8], words: &mut Fields) -> Option<u64>
     number_after(key, word)
 }
 
-/// The options that a line says; of cores it says nothing.
+/// The options that a line says, which has no word for cores.
 #[tactic(auto, unfolding(crate::specs::Header::options_line, line_reader::specs::Fields::said_by))]
 pub fn options_line(line: &[u8]) -> Option<Config>
-    ensures options { option_map spec.options_of result ≡ spec.options_line line.now }
+    ensures options { option_map numbers_of result ≡ spec.options_line line.now }
     ensures cores { IfSome result (λ config. config.cores ≡ 1) }
 {
     let mut words = Fields::of(line);

@@ -1,6 +1,7 @@
 //! A report, read line by line.
 ghost use Rattle.std.specs.Prelude.{◌≡◌, ◌≤◌, ◌<◌, ◌^◌, IfOk, map, length, vec_len, All, Ok};
-ghost use Rattle.report_reader.specs.Header.{options_of, options_line};
+ghost use Rattle.sm_types.specs.Options.{numbers_of};
+ghost use Rattle.report_reader.specs.Header.{options_line};
 ghost use Rattle.report_reader.specs.Report as spec;
 ghost use Rattle.report_reader.specs.Block.{block};
 ghost use Rattle.line_reader.specs.Reading.{each};
@@ -82,7 +83,7 @@ fn read_shared_words(lines: &mut Lines) -> Result<Words, ReportFault>
 
 /// Reads the line of the options.
 fn read_options(lines: &mut Lines) -> Result<Config, ReportFault>
-    ensures options { ReadsAs options_of (line part.Options options_line (left_of lines.old)) result
+    ensures options { ReadsAs numbers_of (line part.Options options_line (left_of lines.old)) result
         (left_of lines.new) }
     ensures cores { IfOk result (λ config. config.cores ≡ 1) }
 {

@@ -3,14 +3,14 @@ use Rattle.std.specs.String.{string_bytes}
 use Rattle.std.specs.Prelude.{unwrap_or}
 use Rattle.std.proofs.lemmas.List.{length-map}
 use Rattle.cmd_words.specs.Forms.{form_of}
-use Rattle.cmd_words.specs.Given.{given_of}
+use Rattle.cmd_words.specs.Given.{given_of, numbers_given}
 use Rattle.cmd_words.specs.Options.{default_options, default_of, with_number}
 use Rattle.cmd_words.specs.Words.{NameSaid, ThreadSaid, WorkloadSaid}
 use Rattle.cmd_words.specs.declared.setting.Setting.TheVariants.{Cores}
 use Rattle.cmd_words.specs.declared.form.Operand.TheVariants.{Name, Thread, Workload}
 use Rattle.cmd_words.specs.declared.verb.Verb.TheVariants.{Run, Sim, Dis, Asm, Replay, Debug, Gen, Bench, Help, Version}
 use Rattle.cmd_words.proofs.Numbers.{both_ends}
-use Rattle.cmd_words.proofs.Reading.{asked_for, both_named, debugged, given_options, named, no_options, options_read, replayed}
+use Rattle.cmd_words.proofs.Reading.{asked_for, both_named, debugged, given_options, named, no_options, replayed}
 use Rattle.cmd_words.proofs.Reading.{bench_options, number_in_range, numbered, operand_stands, to_end}
 use Rattle.cmd_words.proofs.words.make_command.Goals as goal
 
@@ -21,7 +21,7 @@ returns-in_ok-name_at-in-Run-clause-command c =
     let size = sym (length-map c.args.words.now string_bytes) in
     let read = rw c.in-Run.is at c.requires.read in
     rw c.config.ensures
-    (asked_for words c.args.given.now Run (NameSaid program ∷ []) (options_read c.args.given.now) (length c.args.words.now) size read
+    (asked_for words c.args.given.now Run (NameSaid program ∷ []) (numbers_given c.args.given.now) (length c.args.words.now) size read
     (rw c.in-Run.is at c.requires.verb) (named words program c.in_ok-name_at-in-Run.ensures.ok)
     (given_options words (Name ∷ []) c.args.given.now (to_end words _ c.args.given.now (length c.args.words.now) size read)))
 
@@ -33,7 +33,7 @@ returns-in_ok-name_at-in-Sim-2-clause-command c =
     let size = sym (length-map c.args.words.now string_bytes) in
     let read = rw c.in-Sim.is at c.requires.read in
     rw c.config-in-Sim.ensures
-    (asked_for words c.args.given.now Sim (NameSaid program ∷ NameSaid plan ∷ []) (options_read c.args.given.now) (length c.args.words.now)
+    (asked_for words c.args.given.now Sim (NameSaid program ∷ NameSaid plan ∷ []) (numbers_given c.args.given.now) (length c.args.words.now)
     size read (rw c.in-Sim.is at c.requires.verb)
     (both_named words program plan c.in_ok-name_at-in-Sim.ensures.ok c.in_ok-name_at-in-Sim-2.ensures.ok)
     (given_options words (Name ∷ Name ∷ []) c.args.given.now (to_end words _ c.args.given.now (length c.args.words.now) size read)))
