@@ -6,6 +6,9 @@
 The reports come from examples/expected.py and the interpreters beside it, and those of several threads from world.py, which share nothing
 with the emulator; the refusals, and the listings but one, are written out here. The files real-*.elf come from real/make.sh, which runs an assembler and two linkers, and
 those of real/compiled from real/make_compiled.sh, which runs two compilers.
+
+Where the gate runs smemu_rows it has data/ alone, and takes no links there. So a source of examples/ or real/ that is a row stands there too,
+as this script copied it.
 """
 import pathlib
 import re

@@ -61,10 +61,8 @@ fn write_object(alloc: Global, source: &[u8], object: &Object) -> Result<Vec<u8>
     requires sound { IsWritable object.now }
     ensures { IfOk result (λ file. IsProgramOf source.now file.items) }
 {
-    match write_elf(alloc, object) {
-        Ok(file) => Ok(file),
-        Err(Memory) => Err(Memory),
-    }
+    let file = write_elf(alloc, object)?;
+    Ok(file)
 }
 
 /// `run PROGRAM` with its options: the report of the run of that file, of all its threads.
