@@ -22,11 +22,11 @@ import reports
 
 FEATURES = "PacketSize=40000;qXfer:features:read+;qXfer:threads:read-;ReverseStep+;ReverseContinue+;swbreak+;QStartNoAckMode+"
 BREAKPOINT, INTERRUPTED = 5, 2
-WATCHED = ("za", "slice", "mem", "regs")
+WATCHED = ("za", "slice", "mem")
 MOVES = ("goto", "step", "back", "break")
 HELP = """monitor LINE           a line of a script of debug, at this count: where, regs, za, slice s 0 v 3, mem 0x404000 64
 monitor goto N         goes to count N (so do step N, back N and break ADDRESS); then: maintenance flush register-cache
-monitor watch za       continue and reverse-continue stop where ZA changes; so with slice .., mem .., regs
+monitor watch za       continue and reverse-continue stop where ZA changes; so with slice .., mem .., x 3
 monitor unwatch        they stop there no longer
 """
 # what a gdb that this starts is told besides: to say which thread it moves, not to ask, and a command that goes to a count
@@ -324,9 +324,10 @@ class Session:
 
     def watch(self, place, line):
         if line:
-            if line.split()[0] not in WATCHED:
-                return f"only what {', '.join(WATCHED)} answer can be watched"
-            place.thread.ask_at(place.count, [line])
+            if not recorded.REGISTER.fullmatch(line):
+                if line.split()[0] not in WATCHED:
+                    return f"only registers and what {', '.join(WATCHED)} answer can be watched"
+                place.thread.ask_at(place.count, [line])
             self.watches.append(line)
         return "\n".join(f"watched: {line}" for line in self.watches) or "nothing is watched"
 

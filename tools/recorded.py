@@ -20,6 +20,8 @@ MOST_BYTES = 32_000_000
 WINDOW = 64
 HITS = 2048
 FIRST_SPAN, MOST_SPAN = 512, 1 << 20
+# a register by its name in a report, whose value may be asked for as an answer
+REGISTER = re.compile(r"(?:x|z|p) (?:0|[1-9]\d?)|pc|sp|nzcv|tpidr2?|svcr|ffr")
 # an address is hot that has so many hits or more
 HOT = 4096
 # the words of a listing after which ZA may be another: those that write it, or turn it on or off, and a call, which may be a handler's return
@@ -306,17 +308,34 @@ class Recorded:
         """How many counts are looked at in one call after none of so many was one."""
         if question == "za" and self.za_places():
             return 8 * span
-        length = 2 * int(question.split()[-1]) if question.startswith("mem") else 2 * self.rows * (self.rows if question == "za" else 1)
+        lengths = {"mem": 2 * int(question.split()[-1]) if question.startswith("mem ") else 0, "slice": 2 * self.rows, "za": 2 * self.rows ** 2}
+        length = lengths.get(question.split()[0], 100 * self.longest)
         return min(8 * span, MOST_SPAN, max(FIRST_SPAN, 4 * MOST_BYTES // max(64, length)))
 
     def changes(self, low, high, question):
         """The counts from one to below another whose turns change what a command answers."""
         if question == "za" and self.za_places():
             return [it for part in self.parts(self.candidates(low, high)) for it in self.changed(part, question)]
-        if question in ("za", "regs"):
+        if question == "za":
             return [it for part in self.parts(range(low, high)) for it in self.changed(part, question)]
+        if REGISTER.fullmatch(question):
+            return self.changes_of(low, high, question)
         answers = self.written(f"goto {low}\n{question}\n" + f"step 1\n{question}\n" * (high - low)).split(b"\n")
         return [low + at for at in range(high - low) if answers[at] != answers[at + 1]]
+
+    def changes_of(self, low, high, register):
+        """The counts from one to below another whose turns change a register."""
+        each = f"regs\n{EMPTY}\n"
+        blocks = self.written(f"goto {low}\n{each}" + f"step 1\n{each}" * (high - low)).split(b"\n\n")
+        line = re.compile(rb"^%s (.*)" % register.encode(), re.MULTILINE)
+        values = [line.findall(block) for block in blocks]
+        return [low + at for at in range(high - low) if values[at] != values[at + 1]]
+
+    def answer(self, count, question):
+        """The lines that a command answers at a count, or the value of a register."""
+        if REGISTER.fullmatch(question):
+            return [self.state(count).registers.get(question, "0")]
+        return self.ask_at(count, [question])[0]
 
     def parts(self, counts):
         """Counts in lists of as many as one call is to ask ZA for."""
