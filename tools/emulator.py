@@ -4,11 +4,13 @@ SMEMU in the environment names it; else it is the program that ./smemu runs here
 """
 import os
 import pathlib
+import signal
 import subprocess
 import sys
 
+import reports
+
 TOP = pathlib.Path(__file__).resolve().parent.parent
-DIFFERS = 10
 
 
 class Refused(Exception):
@@ -28,20 +30,10 @@ def find():
     if os.environ.get("SMEMU"):
         return os.environ["SMEMU"]
     # the wrapper unpacks or builds it where that is still to be done, and says so
-    wrapper = (TOP / "smemu").resolve()
-    started = subprocess.run([wrapper, "--version"], stdin=subprocess.DEVNULL, stdout=subprocess.DEVNULL)
-    if started.returncode:
-        sys.exit(started.returncode)
-    built, released = wrapper.parent / "crates/smemu_cli/out/smemu_cli", wrapper.parent / "release/out/smemu_cli"
-    return str(built if is_newest(built) else released)
-
-
-def is_newest(built):
-    """Tells whether a program was built here, and no source is newer."""
-    if not built.exists():
-        return False
-    at = built.stat().st_mtime_ns
-    return all(source.stat().st_mtime_ns <= at for source in built.parents[2].glob("*/src/**/*.rt"))
+    asked = subprocess.run([TOP / "smemu", "--which"], stdin=subprocess.DEVNULL, stdout=subprocess.PIPE, text=True)
+    if asked.returncode:
+        sys.exit(asked.returncode)
+    return asked.stdout.rstrip("\n")
 
 
 def call(words, given=b"", is_over=None):
@@ -65,3 +57,24 @@ def call(words, given=b"", is_over=None):
         text = written.decode(errors="replace").strip() if process.returncode != 8 else "there is no memory left"
         raise Refused(text or f"the emulator ended with status {process.returncode}", process.returncode)
     return written
+
+
+def end_with(main):
+    """Ends the script with the status of its main function; a refusal is told by its own line, with its status, and a closed pipe is no fault."""
+    try:
+        status = main()
+        sys.stdout.flush()
+    except Refused as fault:
+        print(fault, file=sys.stderr)
+        status = fault.status
+    except reports.NoReport as fault:
+        print(fault, file=sys.stderr)
+        status = 1
+    except BrokenPipeError:
+        # nobody reads on; the status is that of a program that this ends by its signal
+        os.dup2(os.open(os.devnull, os.O_WRONLY), sys.stdout.fileno())
+        status = 128 + signal.SIGPIPE
+    except KeyboardInterrupt:
+        # what other threads of the script still wait for is of no use
+        os._exit(130)
+    sys.exit(status)

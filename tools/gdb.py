@@ -11,17 +11,18 @@ import argparse
 import os
 import re
 import select
+import shlex
 import shutil
 import signal
 import sys
+import tempfile
 
 import emulator
 import gdb_registers
 import recorded
-import reports
 
 FEATURES = "PacketSize=40000;qXfer:features:read+;qXfer:threads:read-;ReverseStep+;ReverseContinue+;swbreak+;QStartNoAckMode+"
-BREAKPOINT, INTERRUPTED = 5, 2
+BREAKPOINT, INTERRUPTED, WATCHED_STOP = 5, 2, 0
 WATCHED = ("za", "slice", "mem")
 MOVES = ("goto", "step", "back", "break")
 HELP = """monitor LINE           a line of a script of debug, at this count: where, regs, za, slice s 0 v 3, mem 0x404000 64
@@ -29,9 +30,17 @@ monitor goto N         goes to count N (so do step N, back N and break ADDRESS);
 monitor watch za       continue and reverse-continue stop where ZA changes; so with slice .., mem .., x 3
 monitor unwatch        they stop there no longer
 """
-# what a gdb that this starts is told besides: to say which thread it moves, not to ask, and a command that goes to a count
-SETTINGS = ("set scheduler-locking on", "set confirm off", "set remotetimeout 600",
-            "define goto\nmonitor goto $arg0\nmaintenance flush register-cache\nframe\nend")
+# what a gdb that this starts is told: not to ask, to wait, to say which thread it moves, and a command that goes to a count
+COMMANDS = """set confirm off
+set remotetimeout 600
+target remote | {}
+set scheduler-locking on
+define goto
+monitor goto $arg0
+maintenance flush register-cache
+frame
+end
+"""
 
 
 class Closed(Exception):
@@ -295,7 +304,7 @@ class Session:
         if address is not None:
             return self.stopped(f"watch:{address:x};")
         self.say(f"{question}: changed {place.thread.state(count).where}")
-        return self.stopped("")
+        return self.stopped("", WATCHED_STOP)
 
     # the monitor
 
@@ -367,9 +376,13 @@ def start_gdb(words):
     gdb = shutil.which(os.environ.get("GDB", "gdb-multiarch"))
     if not gdb:
         sys.exit("gdb.py: gdb-multiarch is not there: apt-get install gdb-multiarch, or GDB=.. names a gdb that knows AArch64")
-    quoted = " ".join("'" + it.replace("'", "'\\''") + "'" for it in [sys.executable, __file__, words.program, words.report, str(words.thread)])
-    settings = [it for setting in (*SETTINGS, f"target remote | {quoted}") for it in ("-ex", setting)]
-    os.execv(gdb, [gdb, "-q", words.program, *settings])
+    server = [sys.executable, os.path.abspath(__file__), words.program, words.report, str(words.thread)]
+    # it has no name, so it goes with gdb
+    commands = tempfile.TemporaryFile()
+    commands.write(COMMANDS.format(" ".join(map(shlex.quote, server))).encode())
+    commands.flush()
+    os.set_inheritable(commands.fileno(), True)
+    os.execv(gdb, [gdb, "-q", words.program, "-x", f"/dev/fd/{commands.fileno()}"])
 
 
 def main():
@@ -378,26 +391,19 @@ def main():
     parser.add_argument("report", metavar="REPORT")
     parser.add_argument("thread", metavar="THREAD", type=int, nargs="?", default=0)
     words = parser.parse_args()
-    try:
-        if sys.stdin.isatty():
-            recorded.Recorded(words.program, words.report, words.thread)
-            return start_gdb(words)
-        # Ctrl-C at a terminal is gdb's, which says so by a packet
-        signal.signal(signal.SIGINT, signal.SIG_IGN)
-        wire = Wire(sys.stdin.fileno(), sys.stdout.fileno())
-        session = Session(words.program, words.report, words.thread, wire)
-    except emulator.Refused as fault:
-        print(fault, file=sys.stderr)
-        return fault.status
-    except reports.NoReport as fault:
-        print(fault, file=sys.stderr)
-        return 1
+    if sys.stdin.isatty():
+        recorded.Recorded(words.program, words.report, words.thread)
+        return start_gdb(words)
+    # Ctrl-C at a terminal is gdb's, which says so by a packet
+    signal.signal(signal.SIGINT, signal.SIG_IGN)
+    wire = Wire(sys.stdin.fileno(), sys.stdout.fileno())
+    session = Session(words.program, words.report, words.thread, wire)
     try:
         serve(session, wire)
-    except (Closed, BrokenPipeError):
+    except Closed:
         pass
     return 0
 
 
 if __name__ == "__main__":
-    sys.exit(main())
+    emulator.end_with(main)

@@ -100,7 +100,8 @@ class Search:
         """The state to which a thread's step leads, or None, and its next step, if it makes one: where it makes no more events it is at its end."""
         node = self.nodes[key]
         after = node.ahead.pop(thread, None) or self.step(node.state, thread)
-        if after is None or after.stops[thread] != "none":
+        # a state that is known was looked at so before
+        if after is None or after.stops[thread] != "none" or after.key in self.nodes:
             return after, None, after is not None and after.has_yield
         ahead = self.step(after, thread)
         if ahead is None or ahead.has_event:
@@ -146,14 +147,20 @@ class Search:
         """Looks at all states that at most so many changes of thread lead to, or at all where that is None."""
         with concurrent.futures.ThreadPoolExecutor(self.jobs) as pool:
             self.start = self.begin()
-            level, met = [(self.start, None)], {(self.start, None)}
-            while level and (switches is None or self.level <= switches):
-                level = self.explore_level(level, met, pool)
+            met = {(self.start, None)}
+            later = self.explore_level([(self.start, None)], met, pool)
+            self.level = 1
+            while later and (switches is None or self.level <= switches):
+                self.find([(key, thread) for key, thread in later], pool)
+                level = []
+                for key, thread in later:
+                    self.come((self.nodes[key].edges[thread], thread), met, level)
+                later = self.explore_level(level, met, pool)
                 self.level += 1
-            self.is_all = not level
+            self.is_all = not later
 
     def explore_level(self, queue, met, pool):
-        """Looks at the states of one number of changes; the answer is those that one change more leads to."""
+        """Looks at the states of one number of changes; the answer is the steps that one change more leads to."""
         later = []
         while queue:
             # states of a batch are looked at together
@@ -165,14 +172,10 @@ class Search:
             for key, last, is_free in free:
                 for thread in self.nodes[key].going():
                     if thread != last and not is_free:
-                        later.append((key, last, thread))
+                        later.append((key, thread))
                     else:
                         self.come((self.nodes[key].edges[thread], thread), met, queue)
-        self.find([(key, thread) for key, _, thread in later], pool)
-        following = []
-        for key, _, thread in later:
-            self.come((self.nodes[key].edges[thread], thread), met, following)
-        return following
+        return later
 
     @staticmethod
     def come(state, met, queue):
@@ -224,7 +227,7 @@ class Search:
         return found
 
     def endless(self):
-        """The first state from which no order leads to an end, or None."""
+        """A state from which no order leads to an end, with as few threads that go on as there are, the last one that was found, or None."""
         before = collections.defaultdict(set)
         for key, node in self.nodes.items():
             for to in node.edges.values():
@@ -235,7 +238,8 @@ class Search:
             new = before[open_keys.pop()] - ends
             ends |= new
             open_keys += new
-        return next((node for key, node in self.nodes.items() if key not in ends), None)
+        without = [node for key, node in self.nodes.items() if key not in ends]
+        return min(reversed(without), key=lambda node: len(node.going()), default=None)
 
 
 def outcome_of(seen, show):
@@ -308,7 +312,7 @@ def write_outcome(search, node, prefix):
 
 
 def show_outcomes(search, is_cut, words):
-    """Writes each outcome with its orders and its plan; the answer is how many there are."""
+    """Writes each outcome with its orders and its plan; the answer is whether there is one, in which all threads have stopped."""
     limit = None if search.is_all and not is_cut else search.level - 1
     counts = search.orders(limit)
     print(head(search, is_cut, sum(counts.values()), words))
@@ -320,7 +324,7 @@ def show_outcomes(search, is_cut, words):
     for at, (number, text, node) in enumerate(lines, 1):
         name = write_outcome(search, node, f"{words.plans}.{at}") if words.plans else ""
         print(f"  {number.rjust(width)} {text}" + (f"    {name}" if name else ""))
-    return len(lines)
+    return len(lines) == 1 and not endless
 
 
 def arguments():
@@ -350,17 +354,14 @@ def arguments():
 
 def main():
     words = arguments()
-    try:
-        if words.signal is not None:
-            return disturbances.try_signal(words, options_of(words), lambda seen: outcome_of(seen, words.show))
-        search, is_cut = look(words)
-        number = show_outcomes(search, is_cut, words)
-        changed = disturbances.try_moves(search.world, [node.state.pieces for node in search.outcomes.values()], words) if words.move else False
-    except emulator.Refused as fault:
-        print(fault, file=sys.stderr)
-        return fault.status
-    return 1 if changed or number != 1 else 0
+    if words.signal is not None:
+        return disturbances.try_signal(words, options_of(words), lambda seen: outcome_of(seen, words.show))
+    search, is_cut = look(words)
+    is_one = show_outcomes(search, is_cut, words)
+    plans = [node.state.pieces for node in search.outcomes.values()]
+    changed = disturbances.try_moves(search.world, plans, words) if words.move else False
+    return 0 if is_one and not changed else 1
 
 
 if __name__ == "__main__":
-    sys.exit(main())
+    emulator.end_with(main)

@@ -334,7 +334,8 @@ class Recorded:
     def answer(self, count, question):
         """The lines that a command answers at a count, or the value of a register."""
         if REGISTER.fullmatch(question):
-            return [self.state(count).registers.get(question, "0")]
+            # those that are zero have no line
+            return [self.state(count).registers.get(question, "0" * 16 if question.startswith("x") else "0")]
         return self.ask_at(count, [question])[0]
 
     def parts(self, counts):

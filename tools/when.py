@@ -14,11 +14,10 @@ import sys
 import emulator
 import places
 import recorded
-import reports
 
 # the lines of an answer that are shown at most, before a change and after it
 SHOWN = 8
-# the status of a script that is none, and the files were looked at before it
+# the status of a script that is none
 NO_SCRIPT = 11
 
 
@@ -66,25 +65,21 @@ def arguments():
 def main():
     words = arguments()
     question = " ".join(words.question)
+    thread = recorded.Recorded(words.program, words.report, words.thread)
     try:
-        thread = recorded.Recorded(words.program, words.report, words.thread)
         thread.answer(0, question)
-        known, found = places.Places(words.program), False
-        for count in changes(thread, question, words):
-            state = thread.state(count)
-            text = state.where.split(" ", 3)[3]
-            print(f"at {count} {known.text(state.pc)}: {text}", *shown(thread.answer(count, question), thread.answer(count + 1, question)), sep="\n")
-            found = True
     except emulator.Refused as fault:
-        print(f"when.py: no question: {question}" if fault.status == NO_SCRIPT else fault, file=sys.stderr)
-        return fault.status
-    except reports.NoReport as fault:
-        print(fault, file=sys.stderr)
-        return 1
+        sys.exit(f"when.py: no question: {question}" if fault.status == NO_SCRIPT else str(fault))
+    known, found = places.Places(words.program), False
+    for count in changes(thread, question, words):
+        state = thread.state(count)
+        text = state.where.split(" ", 3)[3]
+        print(f"at {count} {known.text(state.pc)}: {text}", *shown(thread.answer(count, question), thread.answer(count + 1, question)), sep="\n")
+        found = True
     if not found:
         print(f"{question}: no change")
     return 0 if found else 1
 
 
 if __name__ == "__main__":
-    sys.exit(main())
+    emulator.end_with(main)

@@ -18,12 +18,10 @@ the first N calls with ZA on. Where the emulator has the command abi-check its a
 import argparse
 import collections
 import re
-import sys
 
 import emulator
 import places
 import recorded
-import reports
 
 CALL = re.compile(r"^([0-9a-f]{16}) [0-9a-f]{8} (blr? .*)", re.MULTILINE)
 KINDS = ("kept", "saved", "restored", "shared", "changed", "lost")
@@ -196,18 +194,11 @@ def main():
     parser.add_argument("--shares", action="append", default=[], metavar="FUNCTION", help="a function that is to change its caller's ZA")
     parser.add_argument("--most", type=int, default=10000, metavar="N", help="look at the first N calls with ZA on (10000)")
     words = parser.parse_args()
-    try:
-        thread = recorded.Recorded(words.program, words.report, words.thread)
-        listing = emulator.call([emulator.find(), "dis", words.program]).decode()
-        calls, number, is_cut = calls_with_za(thread, listing, words.most)
-        find_returns(thread, calls)
-        read_returns(thread, calls)
-    except emulator.Refused as fault:
-        print(fault, file=sys.stderr)
-        return fault.status
-    except reports.NoReport as fault:
-        print(fault, file=sys.stderr)
-        return 1
+    thread = recorded.Recorded(words.program, words.report, words.thread)
+    listing = emulator.call([emulator.find(), "dis", words.program]).decode()
+    calls, number, is_cut = calls_with_za(thread, listing, words.most)
+    find_returns(thread, calls)
+    read_returns(thread, calls)
     known = places.Places(words.program)
     judge(calls, thread.rows, lambda address: known.function(address) in words.shares)
     for line in lines_of(calls, known, words.all):
@@ -224,4 +215,4 @@ def main():
 
 
 if __name__ == "__main__":
-    sys.exit(main())
+    emulator.end_with(main)
