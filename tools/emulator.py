@@ -7,6 +7,7 @@ import pathlib
 import signal
 import subprocess
 import sys
+import tempfile
 
 import reports
 
@@ -38,18 +39,20 @@ def find():
 
 def call(words, given=b"", is_over=None):
     """What the emulator writes for these words, with `given` as its input, or Refused. Where `is_over` comes to say so, Interrupted."""
-    process = subprocess.Popen([str(word) for word in words], stdin=subprocess.PIPE, stdout=subprocess.PIPE)
+    with tempfile.TemporaryFile() as source:
+        # a file, since what is left of a long text is not written to a pipe after a time-out
+        source.write(given)
+        source.seek(0)
+        process = subprocess.Popen([str(word) for word in words], stdin=source, stdout=subprocess.PIPE)
     while True:
         try:
-            written, _ = process.communicate(given, timeout=0.1 if is_over else None)
+            written, _ = process.communicate(timeout=0.1 if is_over else None)
             break
         except subprocess.TimeoutExpired:
             if is_over():
                 process.kill()
                 process.communicate()
                 raise Interrupted() from None
-            # it goes on with what it was given
-            given = None
         except BaseException:
             process.kill()
             raise

@@ -20,10 +20,10 @@ import collections
 import concurrent.futures
 import os
 import pathlib
-import sys
 
 import disturbances
 import emulator
+import progress
 import worlds
 
 ENDLESS = "no end"
@@ -63,7 +63,7 @@ class Search:
         self.world, self.most, self.jobs = world, words.states, words.jobs
         self.nodes, self.outcomes, self.free = {}, {}, {}
         self.level, self.is_all = 0, False
-        self.progress = sys.stderr.isatty()
+        self.progress = progress.Progress()
 
     # states
 
@@ -117,11 +117,7 @@ class Search:
                 if has_yield:
                     self.nodes[key].yields.add(thread)
                 self.nodes[key].edges[thread] = key if state is None else self.keep(state, {thread: ahead} if ahead else {})
-            self.tell()
-
-    def tell(self):
-        if self.progress:
-            print(f"states {len(self.nodes)}, outcomes {len(self.outcomes)}, changes of thread {self.level}\033[K", end="\r", file=sys.stderr)
+            self.progress.show(f"states {len(self.nodes)}, outcomes {len(self.outcomes)}, changes of thread {self.level}")
 
     # orders
 
@@ -282,6 +278,8 @@ def look(words):
             world.has_signals = True
         except Bound:
             return search, True
+        finally:
+            search.progress.clear()
 
 
 def options_of(words):
@@ -296,10 +294,14 @@ def head(search, is_cut, orders, words):
     if is_cut:
         if not search.level:
             return f"{number}: the bound on states was met before all orders without a change of thread were tried"
-        return f"{number}: the bound on states was met; all with at most {search.level - 1} changes of thread were tried"
+        return f"{number}: the bound on states was met; all with at most {changes(search.level - 1)} were tried"
     if search.is_all:
         return f"all {number}"
-    return f"{number}: all with at most {words.switches} changes of thread"
+    return f"{number}: all with at most {changes(words.switches)}"
+
+
+def changes(number):
+    return f"{number} change{'s' * (number != 1)} of thread"
 
 
 def write_outcome(search, node, prefix):

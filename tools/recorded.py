@@ -20,6 +20,8 @@ MOST_BYTES = 32_000_000
 WINDOW = 64
 HITS = 2048
 FIRST_SPAN, MOST_SPAN = 512, 1 << 20
+# the pages of code and constants that are kept from the start on
+MOST_CONSTANT = 256
 # a register by its name in a report, whose value may be asked for as an answer
 REGISTER = re.compile(r"(?:x|z|p) (?:0|[1-9]\d?)|pc|sp|nzcv|tpidr2?|svcr|ffr")
 # an address is hot that has so many hits or more
@@ -83,7 +85,9 @@ class Recorded:
         self.longest, self.rows = max(self.report.vl, self.report.svl) // 8, self.report.svl // 8
         self.has_signals = bool(SIGNALS.search(pathlib.Path(report_file).read_bytes()))
         self.program = program
-        self.constant = {page: None for page in constant_pages(program)}
+        constant = sorted(constant_pages(program))[:MOST_CONSTANT]
+        answers = self.ask([f"mem {page * PAGE:#x} {PAGE}" for page in constant])
+        self.constant = {page: self.read_page(answer) for page, answer in zip(constant, answers)}
         self.states = collections.OrderedDict()
         self.wanted = {}
         self.stops = 0
@@ -164,9 +168,7 @@ class Recorded:
     def page(self, count, page):
         """The bytes of a page at a count, or None where the thread cannot read it."""
         if page in self.constant:
-            if self.constant[page] is None:
-                self.constant[page] = self.read_page(self.ask([f"mem {page * PAGE:#x} {PAGE}"])[0]) or b""
-            return self.constant[page] or None
+            return self.constant[page]
         state = self.state(count)
         self.wanted[page] = self.stops
         if page not in state.pages:

@@ -13,6 +13,7 @@ import sys
 
 import emulator
 import places
+import progress
 import recorded
 
 # the lines of an answer that are shown at most, before a change and after it
@@ -23,20 +24,17 @@ NO_SCRIPT = 11
 
 def changes(thread, question, words):
     """The counts of the changes that are asked for, one after the other."""
-    show = progress(thread) if sys.stderr.isatty() else None
+    told = progress.Progress()
+    show = lambda count: told.show(f"count {count} of {thread.end}")
     back = words.last or words.before is not None
     count = min(thread.end, words.before if words.before is not None else thread.end) if back else min(words.after, thread.end)
     for _ in range(words.most):
         found = thread.last_change(count, question, show=show) if back else thread.next_change(count, question, show=show)
+        told.clear()
         if found is None:
             return
         yield found
         count = found if back else found + 1
-
-
-def progress(thread):
-    """Shows how far the search has come, on a terminal."""
-    return lambda count: print(f"count {count} of {thread.end}\033[K", end="\r", file=sys.stderr)
 
 
 def shown(before, after):
