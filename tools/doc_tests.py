@@ -1,5 +1,5 @@
 #!/usr/bin/env python3
-"""Runs the commands of README.md, docs/TUTORIAL.md, FROM_C.md, WORLDS.md, DEBUGGER.md and REPORT.md, and compares what they print with what stands below them.
+"""Runs the commands of README.md and of pages of docs/, which PAGES names, and compares what they print with what stands below them.
 
     tools/doc_tests.py [PROGRAM]
 
@@ -21,9 +21,10 @@ import tempfile
 import threading
 
 TOP = pathlib.Path(__file__).resolve().parent.parent
-PAGES = ("README.md", "docs/TUTORIAL.md", "docs/FROM_C.md", "docs/WORLDS.md", "docs/DEBUGGER.md", "docs/REPORT.md")
+PAGES = ("README.md", *(f"docs/{name}.md" for name in ("TUTORIAL", "FROM_C", "WORLDS", "DEBUGGER", "REPORT", "GDB", "OUTCOMES", "LOST_ZA")))
 # tools that a command may need, and of some the least version
-TOOLS = {"clang-19": 0, "ld.lld-19": 0, "aarch64-linux-gnu-gcc": 0, "aarch64-linux-gnu-ld": 0, "qemu-aarch64": 10, "llvm-symbolizer-19": 0}
+TOOLS = {"clang-19": 0, "ld.lld-19": 0, "aarch64-linux-gnu-gcc": 0, "aarch64-linux-gnu-ld": 0, "qemu-aarch64": 10, "llvm-symbolizer-19": 0,
+         "gdb-multiarch": 0}
 SECONDS = 60
 
 
@@ -54,7 +55,7 @@ def commands(page):
 
 
 def shown(command, folder):
-    """What a terminal shows of a command: its lines, without the time that is rewritten in place."""
+    """What a terminal shows of a command: its lines, without those that are rewritten in place."""
     main, side = pty.openpty()
     shell = subprocess.Popen(["bash", "-c", command], cwd=folder, stdin=subprocess.DEVNULL, stdout=side, stderr=side, start_new_session=True)
     os.close(side)
@@ -70,7 +71,7 @@ def shown(command, folder):
     os.close(main)
     shell.wait()
     alarm.cancel()
-    return re.sub(r"\d+ s\r(?!\n)|\033\[K", "", said.decode(errors="replace").replace("\r\n", "\n")).splitlines()
+    return re.sub(r"[^\n]*\r|\033\[K", "", said.decode(errors="replace").replace("\r\n", "\n")).splitlines()
 
 
 def has_terminal():
