@@ -1,7 +1,5 @@
 -- The turns of a thread know nothing of the number of cores.
 use Rattle.std.proofs.Common.{◌≡◌, ℕ, zero, suc, ◌≤◌, ◌==◌, cond, List, Option, Some, None, refl, ap, ◌∙◌, subst}
-use mathlib.Core.HLevel.{Σ_prop_path}
-use native.Mathlib.Bridge.{le_prop}
 use Rattle.sm_types.specs.declared.config.Config.{Config}
 use Rattle.sm_types.specs.declared.shared_op.Event.{Event}
 use Rattle.sm_types.specs.declared.stop.Stop.{Stop}
@@ -19,42 +17,15 @@ use Rattle.kernel_contexts.specs.Turn.{is_poll_due, is_delivery_due}
 use Rattle.kernel_contexts.specs.Run.{Reached, At, Ended, Strays, turned, after_turn, reach_from, reach}
 use Rattle.lone_runner.specs.LoneRun.{IsLoneRun}
 use Rattle.run_laws.specs.Options.{AreSameButCores}
+use Rattle.run_laws.proofs.Options.{same_numbers}
 
 -- the options with the number of cores of others
 abbrev with_cores_of : Config → Config → Config
 with_cores_of c d = record c { cores = d.cores; cores_in_range = d.cores_in_range }
 
--- ---- the options with another number of cores are the others
-
-abbrev Numbers : Type 0
-Numbers = ℕ × ℕ × ℕ
-
-abbrev InRange : Numbers → Type 0
-InRange n = ((1 ≤ n.0) × (n.0 ≤ 1000000)) × ((1 ≤ n.1) × ((1 ≤ n.2) × (n.2 ≤ 32)))
-
-in_range_prop : (n : Numbers) → IsProp (InRange n)
-in_range_prop n = hlevel le_prop
-
+-- which are the others
 are_others : (c d : Config) → AreSameButCores c d → with_cores_of c d ≡ d
-are_others c d same =
-    let numbers : ◌≡◌ {A = Numbers} (c.slice, c.budget, c.threads) (d.slice, d.budget, d.threads) =
-    λ i. (same.slice i, same.budget i, same.threads i) in
-    let pairs : ◌≡◌ {A = (n : Numbers) × InRange n}
-    ((c.slice, c.budget, c.threads), (c.slice_in_range, (c.budget_in_range, c.threads_in_range)))
-    ((d.slice, d.budget, d.threads), (d.slice_in_range, (d.budget_in_range, d.threads_in_range))) =
-    Σ_prop_path in_range_prop numbers in
-    λ i. record {
-      vl = same.vl i;
-      svl = same.svl i;
-      slice = (pairs i).0.0;
-      budget = (pairs i).0.1;
-      threads = (pairs i).0.2;
-      cores = d.cores;
-      slice_in_range = (pairs i).1.0;
-      budget_in_range = (pairs i).1.1.0;
-      threads_in_range = (pairs i).1.1.1;
-      cores_in_range = d.cores_in_range;
-    }
+are_others c d same = same_numbers (with_cores_of c d) d same
 
 -- ---- a turn
 

@@ -17,7 +17,6 @@ use Rattle.elf_loader.specs.Loading.{Loads}
 use Rattle.lone_runner.specs.Parting.{EndsAt}
 use Rattle.paged_memory.specs.Image.{Program}
 use Rattle.report_reader.specs.Block.{Block}
-use Rattle.report_reader.specs.Header.{options_of}
 use Rattle.report_reader.specs.Report.{Report, report_in}
 use Rattle.report_reader.specs.Told.{block_said, report_said}
 use Rattle.report_reader.specs.declared.parts.Report as parts

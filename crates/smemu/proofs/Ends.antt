@@ -2,7 +2,7 @@
 use Rattle.std.proofs.Common.{◌≡◌, ◌⊎◌, inl, inr, ℕ, List, [], false, true, refl, sym, ◌∙◌, ap, subst, arith, Option, Some, None}
 use Rattle.std.proofs.Common.{Result, Ok, Err}
 use Rattle.std.specs.Prelude.{IfSome, IsSome}
-use Rattle.cmd_words.specs.Options.{Options}
+use Rattle.sm_types.specs.declared.numbers.Numbers.{Numbers}
 use Rattle.cmd_words.specs.Words as usage
 use Rattle.cmd_words.specs.Words.{Argument, Request, usage_fault, command_of}
 use Rattle.cmd_words.specs.declared.command.UsageKind.{UsageKind}
@@ -151,7 +151,7 @@ written words files (Err r) s text h w =
 -- ---- the status that is due
 
 -- what is told has a status with which the command may end
-told_so : (telling : Telling) (operands : List Argument) (options : Options) (files : List (List ℕ)) (text : List ℕ)
+told_so : (telling : Telling) (operands : List Argument) (options : Numbers) (files : List (List ℕ)) (text : List ℕ)
     → IsToldBy telling operands options files text → IsTold telling
 told_so (Tells says) operands options files text h = tt
 told_so Never operands options files text h = absurd h

@@ -9,6 +9,7 @@ use Rattle.cmd_words.specs.Words.{NameSaid, ThreadSaid}
 use Rattle.cmd_words.specs.declared.verb.Verb.TheVariants.{Replay}
 use Rattle.std.proofs.lemmas.Bool.Decides.{nat_tests}
 use Rattle.sha2.specs.Sha256.{sha256}
+use Rattle.sm_types.specs.Options.{numbers_of}
 use Rattle.sm_types.specs.declared.config.Config.{Config}
 use Rattle.sm_types.specs.declared.shared_op.Event.{Event}
 use Rattle.elf_loader.specs.Loading.{Loads}
@@ -18,7 +19,6 @@ use Rattle.lone_runner.specs.LoneRun.{IsLoneRun, HasRunAlone}
 use Rattle.paged_memory.specs.Image.{Program}
 use Rattle.report_reader.specs.Block.{Block}
 use Rattle.line_reader.specs.Difference.{first_difference}
-use Rattle.report_reader.specs.Header.{options_of}
 use Rattle.line_reader.specs.Lines.{lines_of}
 use Rattle.report_reader.specs.Reading.{Fault}
 use Rattle.report_reader.specs.Report.{Report, report_in}
@@ -77,7 +77,7 @@ unmatched_ends file bytes thread program said r loads reads h = absurd h
 
 module _ (file bytes : List ℕ) (thread : ℕ) (program : Program) (config : Config) (said : Report) (block : Block)
     (loads : Loads file program)
-    (reads : report_in bytes ≡ Ok said) (matches : mismatch (sha256 file) thread said ≡ None) (given : options_of config ≡ said.options)
+    (reads : report_in bytes ≡ Ok said) (matches : mismatch (sha256 file) thread said ≡ None) (given : numbers_of config ≡ said.options)
     (one_core : config.cores ≡ 1) (stands : slice_get said.blocks thread ≡ Some block) where
   abbrev at : IsBlockIn file bytes thread
   at = record {

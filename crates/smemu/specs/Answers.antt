@@ -7,7 +7,8 @@ use Rattle.sm_types.specs.declared.config.Config.{Config}
 use Rattle.sm_types.specs.declared.object.Object.{Object}
 use Rattle.sm_types.specs.declared.shared_words.Words.{Words}
 use Rattle.edge_io.specs.Files.{Told}
-use Rattle.cmd_words.specs.Options.{Options, options_of}
+use Rattle.sm_types.specs.Options.{numbers_of}
+use Rattle.sm_types.specs.declared.numbers.Numbers.{Numbers}
 use Rattle.cmd_words.specs.Words.{Argument, ThreadSaid, WorkloadSaid, Request}
 use Rattle.cmd_words.specs.declared.verb.Verb.{Verb}
 use Rattle.cmd_words.specs.declared.verb.Verb.TheVariants.{Run, Sim, Dis, Asm, Replay, Debug, Gen, Bench}
@@ -45,9 +46,9 @@ pub record IsReportOf (file : List ℕ) (config : Config) (text : List ℕ) : Ty
   pub is_text : text ≡ report_text config (sha256 file) ends words
 
 -- the text is the report of the run of a file with these options
-pub record IsReport (file : List ℕ) (options : Options) (text : List ℕ) : Type 0 where
+pub record IsReport (file : List ℕ) (options : Numbers) (text : List ℕ) : Type 0 where
   pub config : Config
-  pub given : options_of config ≡ options
+  pub given : numbers_of config ≡ options
   pub report : IsReportOf file config text
 
 -- the text is the listing of the code words of the program that a file is loaded as
@@ -67,15 +68,15 @@ pub record IsProgramOf (source text : List ℕ) : Type 0 where
 
 -- how operands, options and the files tell a text
 abbrev pub Outcome : Type 1
-Outcome = List Argument → Options → List (List ℕ) → List ℕ → Type 0
+Outcome = List Argument → Numbers → List (List ℕ) → List ℕ → Type 0
 
 -- of one file
-abbrev pub of_file : (List ℕ → Options → List ℕ → Type 0) → Outcome
+abbrev pub of_file : (List ℕ → Numbers → List ℕ → Type 0) → Outcome
 of_file tells operands options (file ∷ []) text = tells file options text
 of_file tells operands options files text = ⊥
 
 -- of a program and a plan
-abbrev pub of_plan : (List ℕ → List ℕ → Options → List ℕ → Type 0) → Outcome
+abbrev pub of_plan : (List ℕ → List ℕ → Numbers → List ℕ → Type 0) → Outcome
 of_plan tells operands options (file ∷ plan ∷ []) text = tells file plan options text
 of_plan tells operands options files text = ⊥
 
@@ -92,7 +93,7 @@ of_script tells (program ∷ report ∷ ThreadSaid thread ∷ script ∷ []) opt
 of_script tells operands options files text = ⊥
 
 -- of the number of a workload
-abbrev pub of_workload : (ℕ → Options → List ℕ → Type 0) → Outcome
+abbrev pub of_workload : (ℕ → Numbers → List ℕ → Type 0) → Outcome
 of_workload tells (WorkloadSaid number ∷ []) options [] text = tells number options text
 of_workload tells operands options files text = ⊥
 

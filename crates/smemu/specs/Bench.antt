@@ -3,7 +3,8 @@ use Rattle.std.specs.Prelude.{◌≡◌, ℕ, ◌+◌, ◌∷◌, [], List, code
 use Rattle.std.specs.List.{concat}
 use Rattle.sm_types.specs.declared.config.Config.{Config}
 use Rattle.sm_types.specs.declared.shared_words.Words.{Words}
-use Rattle.cmd_words.specs.Options.{Options, options_of}
+use Rattle.sm_types.specs.Options.{numbers_of}
+use Rattle.sm_types.specs.declared.numbers.Numbers.{Numbers}
 use Rattle.paged_memory.specs.Image.{Program}
 use Rattle.report_text.specs.Report.{ThreadEnd}
 use Rattle.workload.specs.Source.{source_of}
@@ -37,7 +38,7 @@ pub record IsBenchOf (number : ℕ) (config : Config) (text : List ℕ) : Type 0
   pub is_text : text ≡ bench_line number (all_counted ends) (slice_index words.shared 0)
 
 -- with four threads and else these options
-pub record IsBench (number : ℕ) (options : Options) (text : List ℕ) : Type 0 where
+pub record IsBench (number : ℕ) (options : Numbers) (text : List ℕ) : Type 0 where
   pub config : Config
-  pub given : options_of config ≡ record options { threads = 4 }
+  pub given : numbers_of config ≡ record options { threads = 4 }
   pub bench : IsBenchOf number config text

@@ -5,6 +5,7 @@ use Rattle.std.specs.Str.{bytes_eq}
 use Rattle.sha2.specs.Sha256.{sha256}
 use Rattle.sm_types.specs.declared.config.Config.{Config}
 use Rattle.sm_types.specs.declared.stop.Stop.{Stop}
+use Rattle.sm_types.specs.Options.{numbers_of}
 use Rattle.paged_memory.specs.Image.{Program}
 use Rattle.elf_loader.specs.Loading.{Loads}
 use Rattle.kernel_contexts.specs.State.{State}
@@ -13,7 +14,6 @@ use Rattle.lone_runner.specs.Parting.{IsParting}
 use Rattle.lone_runner.specs.declared.fault.AloneFault.{AloneFault}
 use Rattle.report_reader.specs.Block.{Block}
 use Rattle.line_reader.specs.Difference.{Difference, first_difference}
-use Rattle.report_reader.specs.Header.{options_of}
 use Rattle.line_reader.specs.Lines.{lines_of}
 use Rattle.report_reader.specs.Reading.{Fault}
 use Rattle.report_reader.specs.Report.{Report, report_in}
@@ -37,7 +37,7 @@ pub record IsBlockIn (file report : List ℕ) (thread : ℕ) : Type 0 where
   pub reads : report_in report ≡ Ok said
   pub matches : mismatch (sha256 file) thread said ≡ None
   pub config : Config
-  pub given : options_of config ≡ said.options
+  pub given : numbers_of config ≡ said.options
   pub one_core : config.cores ≡ 1
   pub block : Block
   pub stands : slice_get said.blocks thread ≡ Some block

@@ -6,7 +6,8 @@ use Rattle.sm_types.specs.declared.config.Config.{Config}
 use Rattle.sm_types.specs.declared.shared_op.Event.{Event}
 use Rattle.sm_types.specs.declared.shared_words.Words.{Words}
 use Rattle.shared_region.specs.History.{AreOneHistory, ends_in}
-use Rattle.cmd_words.specs.Options.{Options, options_of}
+use Rattle.sm_types.specs.Options.{numbers_of}
+use Rattle.sm_types.specs.declared.numbers.Numbers.{Numbers}
 use Rattle.paged_memory.specs.Image.{Program}
 use Rattle.elf_loader.specs.Loading.{Loads}
 use Rattle.kernel_contexts.specs.Standing.{IsRunOf}
@@ -78,7 +79,7 @@ pub record IsSimulationOf (file plan : List ℕ) (config : Config) (text : List 
       (report_text config (sha256 file) ends words) last.history
 
 -- with options
-pub record IsSimulation (file plan : List ℕ) (options : Options) (text : List ℕ) : Type 0 where
+pub record IsSimulation (file plan : List ℕ) (options : Numbers) (text : List ℕ) : Type 0 where
   pub config : Config
-  pub given : options_of config ≡ options
+  pub given : numbers_of config ≡ options
   pub simulation : IsSimulationOf file plan config text

@@ -4,11 +4,12 @@ ghost use Rattle.std.specs.String.{string_bytes};
 ghost use Rattle.a64_encode.specs.Writable.{IsWritable};
 ghost use Rattle.asm_core.specs.Assembly.{Assembles};
 ghost use Rattle.cmd_words.specs.Command.{request_of, IsInRange};
-ghost use Rattle.cmd_words.specs.Options.{default_options, options_of, with_number};
+ghost use Rattle.cmd_words.specs.Options.{default_options, with_number};
 ghost use Rattle.cmd_words.specs.declared.command.Command.TheVariants as command;
 ghost use Rattle.cmd_words.specs.declared.setting.Setting.TheVariants.{Cores};
 ghost use Rattle.edge_io.specs.Files.{IsKept};
 ghost use Rattle.elf_loader.specs.Loading.{Loads};
+ghost use Rattle.sm_types.specs.Options.{numbers_of};
 ghost use Rattle.smemu.specs.Answers.{IsReportOf, IsProgramOf};
 ghost use Rattle.smemu.specs.Ends.{change, call, IsDone, IsRefused, IsComplete, Fetches};
 ghost use Rattle.smemu.specs.Views.{run_text, end_status, CarriesOut, EndsWords, WritesEnd};
@@ -178,7 +179,7 @@ fn debug_thread<F: Files>(
 /// The options of a workload on so many cores: four threads, and else those of a command that gives none.
 fn bench_options(cores: u32) -> Config
     requires { (1 ≤ cores) × (cores ≤ 64) }
-    ensures given { options_of result ≡ record (with_number default_options Cores cores) { threads = 4 } }
+    ensures given { numbers_of result ≡ record (with_number default_options Cores cores) { threads = 4 } }
     ensures threads { result.threads ≡ 4 }
 {
     let mut config = Config::defaults();

@@ -5,28 +5,17 @@ ghost use Rattle.plan_reader.specs.Plan.{plan_in};
 ghost use Rattle.sm_types.specs.declared.world_event.WorldEvent.{WorldEvent};
 ghost use Rattle.smemu.specs.Views.{simulation_text};
 ghost use Rattle.smemu.specs.Worlds.{IsSimulationOf};
-ghost use Rattle.world_core.specs.Applies.{ApplyAll, HaveHappened, wants_memory};
+ghost use Rattle.world_core.specs.Applies.{ApplyAll, HaveHappened};
 ghost use Rattle.world_core.specs.World as plain;
 
 use crate::answer::{RunReport, Simulation};
-use core_unit::RunWhy;
 use paged_memory::Image;
 use plan_reader::event_lines;
 use report_text::Head;
 use sha2::{Digest, Sha256};
 use sm_types::{Config, Memory, WorldEvent};
 use std::alloc::Global;
-use world_core::{Applied, World};
-
-/// Whether a run was wanting memory.
-fn was_wanting(answer: Applied) -> bool
-    ensures { result ≡ wants_memory answer }
-{
-    match answer {
-        Applied::Ran(run) => matches!(run.why, RunWhy::Memory),
-        _ => false,
-    }
-}
+use world_core::{Applied, World, wants_memory};
 
 /// Whether events, of which these are the answers, ended early, with a run that was wanting memory.
 fn have_ended_early(answers: &[Applied]) -> bool
@@ -34,7 +23,7 @@ fn have_ended_early(answers: &[Applied]) -> bool
         → ApplyAll events old new answers.now → HaveHappened events old new answers.now }
 {
     match answers.last() {
-        Some(answer) => was_wanting(*answer),
+        Some(answer) => wants_memory(*answer),
         None => false,
     }
 }

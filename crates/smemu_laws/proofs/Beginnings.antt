@@ -1,7 +1,7 @@
 -- How the text that is written with a status begins.
 use Rattle.std.proofs.Common.{◌≡◌, ◌≢◌, inl, inr, ℕ, ◌+◌, List, [], ◌∷◌, decimal, codes, refl, sym, subst}
 use Rattle.std.specs.List.{concat}
-use Rattle.cmd_words.specs.Options.{Options}
+use Rattle.sm_types.specs.declared.numbers.Numbers.{Numbers}
 use Rattle.cmd_words.specs.Words.{Argument, ThreadSaid, Request}
 use Rattle.cmd_words.specs.declared.verb.Verb.{Verb}
 use Rattle.cmd_words.specs.declared.verb.Verb.TheVariants.{Replay, Debug}
@@ -50,7 +50,7 @@ so_begun file report thread text (inr h) = (
   h.is_text,
 )
 
-outcome_begun : (verb : Verb) (s : Status) (operands : List Argument) (options : Options) (files : List (List ℕ)) (text : List ℕ) → s ≢ Done
+outcome_begun : (verb : Verb) (s : Status) (operands : List Argument) (options : Numbers) (files : List (List ℕ)) (text : List ℕ) → s ≢ Done
     → s ≢ OutOfMemory → IsToldBy (outcomes_of verb s) operands options files text → HasFront text (status_words s)
 outcome_begun Replay BadReport (program ∷ report ∷ ThreadSaid thread ∷ []) options (file ∷ bytes ∷ []) text other some h =
     report_begun h.fault text h.is_text

@@ -2,18 +2,13 @@
 use Rattle.std.proofs.Common.{◌≡◌, ℕ, ◌≤◌, List, [], ◌∷◌, length, cond, Option, Some, Result, Ok, refl, sym, ◌∙◌, ap}
 use Rattle.std.proofs.Common.{subst}
 use Rattle.std.specs.Prelude.{◌==◌, slice_get, slice_index, if◌then◌else◌}
-use mathlib.Core.HLevel.{Σ_prop_path}
-use native.Mathlib.Bridge.{le_prop}
 use Rattle.sha2.specs.Sha256.{sha256}
 use Rattle.sm_types.specs.declared.config.Config.{Config}
-use Rattle.sm_types.specs.declared.length.VecLen.{VecLen}
-use Rattle.sm_types.specs.declared.length.VecLen.TheVariants.{Bits128, Bits256, Bits512, Bits1024, Bits2048}
-use Rattle.sm_types.specs.Length.{bits_of}
 use Rattle.sm_types.specs.declared.object.Object.{Object}
 use Rattle.sm_types.specs.Objects.{text_address, data_address}
 use Rattle.asm_core.specs.Assembly.{IsSameObject}
 use Rattle.asm_core.proofs.OneObject.{one_object, same_code}
-use Rattle.cmd_words.specs.Options.{Options, options_of}
+use Rattle.sm_types.specs.declared.numbers.Numbers.{Numbers}
 use Rattle.code_listing.specs.Listing.{listing_text}
 use Rattle.elf_loader.specs.Loading.{Loads}
 use Rattle.elf_loader.specs.Objects.{IsObjectImage, object_extents, text_extent, data_extent}
@@ -24,7 +19,6 @@ use Rattle.sm_types.specs.declared.world_event.WorldEvent.{WorldEvent}
 use Rattle.paged_memory.specs.Image.{Extent, IsMemoryOf, Program}
 use Rattle.report_text.specs.Report.{ThreadEnd, report_text}
 use Rattle.report_reader.specs.Block.{Block}
-use Rattle.report_reader.specs.Header as header
 use Rattle.report_reader.specs.Reading.{Fault}
 use Rattle.report_reader.specs.Report.{Report, report_in}
 use Rattle.smemu.specs.Replay.{IsBlockIn, IsReplayOf, text_in}
@@ -35,64 +29,9 @@ use Rattle.smemu.specs.Bench.{all_counted, bench_line, IsBench, IsBenchOf}
 use Rattle.smemu.specs.Worlds.{AreEndsIn, AreSerialEnds, IsSimulationOf, IsSimulation}
 use Rattle.world_core.specs.Happens.{world_after, answers_after}
 use Rattle.world_core.specs.World.{World, start_world}
+use Rattle.run_laws.proofs.Options.{same_numbers}
 use Rattle.smemu_laws.specs.OneAnswer.{AreLoadedAsOne}
 use Rattle.smemu_laws.proofs.SerialEnds.{one_end_list, one_serial_run}
-
--- ---- options
-
-length_of : ℕ → VecLen
-length_of n =
-    if n == 128 then Bits128
-    else (if n == 256 then Bits256
-    else (if n == 512 then Bits512
-    else (if n == 1024 then Bits1024
-    else Bits2048)))
-
-length-bits : (v : VecLen) → length_of (bits_of v) ≡ v
-unfolding length_of
-length-bits Bits128 = refl
-length-bits Bits256 = refl
-length-bits Bits512 = refl
-length-bits Bits1024 = refl
-length-bits Bits2048 = refl
-
-abbrev Numbers : Type 0
-Numbers = VecLen × VecLen × ℕ × ℕ × ℕ × ℕ
-
-abbrev InRange : Numbers → Type 0
-InRange n = ((1 ≤ n.2) × (n.2 ≤ 1000000)) × ((1 ≤ n.3) × (((1 ≤ n.4) × (n.4 ≤ 32)) × ((1 ≤ n.5) × (n.5 ≤ 64))))
-
-in_range_prop : (n : Numbers) → IsProp (InRange n)
-in_range_prop n = hlevel le_prop
-
-abbrev numbers_of : Config → Numbers
-numbers_of c = (c.vl, c.svl, c.slice, c.budget, c.threads, c.cores)
-
-same_numbers : (a b : Config) → numbers_of a ≡ numbers_of b → a ≡ b
-same_numbers a b e =
-    let pairs : ◌≡◌ {A = (n : Numbers) × InRange n}
-    (numbers_of a, (a.slice_in_range, (a.budget_in_range, (a.threads_in_range, a.cores_in_range))))
-    (numbers_of b, (b.slice_in_range, (b.budget_in_range, (b.threads_in_range, b.cores_in_range)))) =
-    Σ_prop_path in_range_prop e in
-    λ i. record {
-      vl = (pairs i).0.0;
-      svl = (pairs i).0.1;
-      slice = (pairs i).0.2;
-      budget = (pairs i).0.3;
-      threads = (pairs i).0.4;
-      cores = (pairs i).0.5;
-      slice_in_range = (pairs i).1.0;
-      budget_in_range = (pairs i).1.1.0;
-      threads_in_range = (pairs i).1.1.1.0;
-      cores_in_range = (pairs i).1.1.1.1;
-    }
-
-same_config : (a b : Config) → options_of a ≡ options_of b → a ≡ b
-same_config a b e =
-    let vl : a.vl ≡ b.vl = sym (length-bits a.vl) ∙ ap (λ (o : Options). length_of o.vl) e ∙ length-bits b.vl in
-    let svl : a.svl ≡ b.svl = sym (length-bits a.svl) ∙ ap (λ (o : Options). length_of o.svl) e ∙ length-bits b.svl in
-    let numbers : numbers_of a ≡ numbers_of b = λ i. (vl i, svl i, (e i).slice, (e i).budget, (e i).threads, (e i).cores) in
-    same_numbers a b numbers
 
 -- ---- the texts
 
@@ -157,21 +96,14 @@ one_bench_of number config text other one h g =
     let same = one_serial_run g.program config h.ends g.ends h.words g.words serial (g.run.serial one) in
     h.is_text ∙ (λ i. bench_line number (all_counted (same.same_ends i)) (slice_index (same.same_words i).shared 0)) ∙ sym g.is_text
 
-pub one_bench : (number : ℕ) (options : Options) (text other : List ℕ) → options.cores ≡ 1 → IsBench number options text
+pub one_bench : (number : ℕ) (options : Numbers) (text other : List ℕ) → options.cores ≡ 1 → IsBench number options text
     → IsBench number options other → text ≡ other
 one_bench number options text other one h g =
-    let config = same_config h.config g.config (h.given ∙ sym g.given) in
+    let config = same_numbers h.config g.config (h.given ∙ sym g.given) in
     let of_config = subst (λ (c : Config). IsBenchOf number c text) config h.bench in
-    one_bench_of number g.config text other (ap (λ (o : Options). o.cores) g.given ∙ one) of_config g.bench
+    one_bench_of number g.config text other (ap (λ (o : Numbers). o.cores) g.given ∙ one) of_config g.bench
 
 -- ---- the replays of a thread
-
-said_options : (a b : Config) → header.options_of a ≡ header.options_of b → a.cores ≡ b.cores → a ≡ b
-said_options a b e cores =
-    let vl : a.vl ≡ b.vl = sym (length-bits a.vl) ∙ ap (λ (o : header.Options). length_of o.vl) e ∙ length-bits b.vl in
-    let svl : a.svl ≡ b.svl = sym (length-bits a.svl) ∙ ap (λ (o : header.Options). length_of o.svl) e ∙ length-bits b.svl in
-    let numbers : numbers_of a ≡ numbers_of b = λ i. (vl i, svl i, (e i).slice, (e i).budget, (e i).threads, cores i) in
-    same_numbers a b numbers
 
 pub same_said : (read : Result Report Fault) (a b : Report) → read ≡ Ok a → read ≡ Ok b → a ≡ b
 same_said read a b e h = cc
@@ -191,7 +123,7 @@ one_block file report thread a b =
     let options = a.given ∙ ap (λ (r : Report). r.options) said ∙ sym b.given in
     record {
       program = one_program file a.program b.program a.loads b.loads;
-      config = said_options a.config b.config options (a.one_core ∙ sym b.one_core);
+      config = same_numbers a.config b.config options;
       block =
           same_block (slice_get a.said.blocks thread) a.block b.block a.stands (ap (λ (r : Report). slice_get r.blocks thread) said
           ∙ b.stands);
@@ -204,17 +136,17 @@ one_replay file report thread text other h g =
 
 -- ---- runs and listings
 
-pub one_run_report : (file : List ℕ) (options : Options) (text other : List ℕ) → options.cores ≡ 1 → IsReport file options text
+pub one_run_report : (file : List ℕ) (options : Numbers) (text other : List ℕ) → options.cores ≡ 1 → IsReport file options text
     → IsReport file options other → text ≡ other
 one_run_report file options text other one h g =
-    let config = same_config h.config g.config (h.given ∙ sym g.given) in
+    let config = same_numbers h.config g.config (h.given ∙ sym g.given) in
     let of_config = subst (λ (c : Config). IsReportOf file c text) config h.report in
-    one_report file g.config text other (ap (λ (o : Options). o.cores) g.given ∙ one) of_config g.report
+    one_report file g.config text other (ap (λ (o : Numbers). o.cores) g.given ∙ one) of_config g.report
 
-pub one_simulation : (file plan : List ℕ) (options : Options) (text other : List ℕ) → IsSimulation file plan options text
+pub one_simulation : (file plan : List ℕ) (options : Numbers) (text other : List ℕ) → IsSimulation file plan options text
     → IsSimulation file plan options other → text ≡ other
 one_simulation file plan options text other h g =
-    let config = same_config h.config g.config (h.given ∙ sym g.given) in
+    let config = same_numbers h.config g.config (h.given ∙ sym g.given) in
     let of_config = subst (λ (c : Config). IsSimulationOf file plan c text) config h.simulation in
     one_simulation_of file plan g.config text other of_config g.simulation
 

@@ -4,7 +4,7 @@ use Rattle.std.specs.Str.{bytes_eq}
 use Rattle.std.proofs.lemmas.Slice.Eq.{bytes_eq-Decides}
 use Rattle.sha2.specs.Sha256.{sha256}
 use Rattle.sm_types.specs.declared.config.Config.{Config}
-use Rattle.cmd_words.specs.Options.{Options}
+use Rattle.sm_types.specs.declared.numbers.Numbers.{Numbers}
 use Rattle.cmd_words.specs.Words.{Argument, ThreadSaid, WorkloadSaid, Request, command_of}
 use Rattle.cmd_words.specs.declared.verb.Verb.{Verb}
 use Rattle.cmd_words.specs.declared.verb.Verb.TheVariants.{Run, Sim, Dis, Asm, Replay, Debug, Gen, Bench, Help, Version}
@@ -166,7 +166,7 @@ one_difference file report thread text other (inr h) (inr g) =
 -- ---- what becomes of accepted files
 
 -- two endings of accepted files, where memory is not wanting, have one status and one text
-pub one_outcome : (verb : Verb) (s t : Status) (operands : List Argument) (options : Options) (files : List (List ℕ))
+pub one_outcome : (verb : Verb) (s t : Status) (operands : List Argument) (options : Numbers) (files : List (List ℕ))
     (text other : List ℕ) → s ≢ OutOfMemory → t ≢ OutOfMemory → IsToldBy (outcomes_of verb s) operands options files text
     → IsToldBy (outcomes_of verb t) operands options files other
     → (s ≡ t) × AreOneText verb options.cores s text other
@@ -273,7 +273,7 @@ rejected_text Bench cores rejected text other e = e
 rejected_text verb cores rejected text other e = e
 
 -- with want of memory comes no text but of `debug`
-memory_not : (verb : Verb) (operands : List Argument) (options : Options) (files : List (List ℕ)) (text : List ℕ)
+memory_not : (verb : Verb) (operands : List Argument) (options : Numbers) (files : List (List ℕ)) (text : List ℕ)
     → IsToldBy (outcomes_of verb OutOfMemory) operands options files text → verb ≡ Debug
 memory_not Debug operands options files text h = refl
 memory_not verb operands options files text h = absurd h
@@ -296,7 +296,7 @@ one_answer files words request text other asked h g =
     (subst (λ (fs : List (List ℕ)). outcome request fs Done text) same h.ends) g.ends).1
 
 -- what is written where memory is wanting begins what is written where it is not
-whole_of : (verb : Verb) (operands : List Argument) (options : Options) (files : List (List ℕ)) (text : List ℕ)
+whole_of : (verb : Verb) (operands : List Argument) (options : Numbers) (files : List (List ℕ)) (text : List ℕ)
     → IsToldBy (outcomes_of verb OutOfMemory) operands options files text
     → (other : List ℕ) × IsToldBy (outcomes_of verb Done) operands options files other × HasFront other text
 whole_of Debug (program ∷ report ∷ ThreadSaid thread ∷ script ∷ []) options (file ∷ bytes ∷ lines ∷ []) text h =

@@ -15,4 +15,4 @@ mod world;
 pub use event::{Applied, Why};
 pub use laws::{serial_events_are_rounds, worlds_are_kept};
 pub use serial_run::run_one;
-pub use world::World;
+pub use world::{World, wants_memory};

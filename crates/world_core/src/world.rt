@@ -44,7 +44,7 @@ fn is_wanting(why: RunWhy) -> bool
 }
 
 /// Whether an event was a run that was wanting memory.
-pub(crate) fn wants_memory(answer: Applied) -> bool
+pub fn wants_memory(answer: Applied) -> bool
     ensures { result ≡ wants_memory answer }
 {
     match answer {
