@@ -170,6 +170,7 @@ pub(crate) fn work<P: Port, R: Wait, G: Gate>(
                 return Err(Memory);
             }
             RunWhy::TraceEnds | RunWhy::TraceDiffers => unreachable!(),
+            RunWhy::Yielded => thread::yield_now(),
             _ => {}
         }
         collect(queue, pass, core, done);
@@ -187,8 +188,10 @@ pub(crate) fn work<P: Port, R: Wait, G: Gate>(
 ///
 /// A turn of the worker is one fetch, where the core has fewer than two residents, and, where it then has a
 /// resident, the gate's `pass` with the first one's thread, a run of `slice` turns, the moving of stopped
-/// contexts to `done`, and, where two residents are left, an offer of the first one. The gate is told the
-/// number of turns that had a resident; at the last `u64` it stays.
+/// contexts to `done`, and, where two residents are left, an offer of the first one. Where the run ended as
+/// the thread yields, the worker gives the host's processor away, since that thread waits for others; and so
+/// it does where it has no resident. The gate is told the number of turns that had a resident; at the last
+/// `u64` it stays.
 ///
 /// After `Ok` the core is empty, and `done` has exactly the threads that the pass holds, each stopped, from
 /// the image and the options that the pass knows, and with a seat of the port's table; the last fetch found
