@@ -1,5 +1,5 @@
 use Rattle.std.proofs.Common.{refl, arith}
-use Rattle.paged_memory.proofs.Listed.{two_listed}
+use Rattle.library_tests.proofs.TwoPages.{two_listed}
 use Rattle.library_tests.proofs.memory.pages_of_a_list_stand_at_both_ends.Goals as goal
 
 pub from_pages-requires : goal.from_pages-requires
