@@ -1,7 +1,7 @@
 #!/usr/bin/env python3
 """Tells which options of compilers make programs that smemu runs: the table of docs/FROM_C.md.
 
-    bench/compilers.py [--qemu QEMU] [--smemu SMEMU] [--words]
+    bench/compilers.py [--qemu QEMU] [--smemu SMEMU] [--kind scalar|vector|stream] [--words] [--jobs N]
 
 Compiles each routine of bench/c by each compiler that is installed and each set of options, and links it alone. A program counts as loaded
 where `smemu dis` takes it; one that is loaded runs at 128, 512 and 2048 bits, and its output and its exit status are compared with
@@ -39,9 +39,10 @@ SETS = [
     ("vector", (CLANG,), "-O2 -march=armv8.1-a+sve2 -mno-implicit-float -DINSTEAD"),
     ("vector", (GCC,), "-O2 -march=armv8.1-a+sve2 -fno-tree-vectorize -DINSTEAD"),
     ("stream", (CLANG,), "-O2 -march=armv9-a+sme -DCALLED=0"),
-    ("stream", (CLANG,), "-O2 -march=armv9-a+sme -DCALLED=1"),
     ("stream", (CLANG,), "-O2 -march=armv9-a+sme -DCALLED=0 -mno-implicit-float"),
     ("stream", (CLANG,), "-O2 -march=armv9-a+sme -DCALLED=1 -mno-implicit-float"),
+    ("stream", (CLANG,), "-O2 -march=armv8.1-a+sme+sme-i16i64 -DCALLED=1"),
+    *(("stream", (CLANG,), f"-{level} -march=armv8.1-a+sme+sme-i16i64 -DCALLED=1 -mno-implicit-float") for level in ("O0", "O1", "O2", "O3", "Os")),
 ]
 
 
@@ -81,17 +82,19 @@ def main():
     parser = argparse.ArgumentParser(description=__doc__.split("\n")[0])
     parser.add_argument("--qemu", default="qemu-aarch64")
     parser.add_argument("--smemu", default=str(TOP / "smemu"))
+    parser.add_argument("--kind", choices=("scalar", "vector", "stream"))
     parser.add_argument("--words", action="store_true")
+    parser.add_argument("--jobs", type=int, default=os.cpu_count())
     asked = parser.parse_args()
     compilers = [it for it in BOTH if shutil.which(it[0])]
     for words in [(it[0], "--version") for it in compilers] + [(asked.qemu, "--version"), (asked.smemu, "--version")]:
         print(said(*words).stdout.splitlines()[0])
     counts = {kind: len(re.findall(r"ROUTINE == ", (SOURCES / f"{kind}.c").read_text())) for kind in ("scalar", "vector", "stream")}
     refused = collections.defaultdict(set)
-    with tempfile.TemporaryDirectory() as folder, concurrent.futures.ThreadPoolExecutor(os.cpu_count()) as pool:
+    with tempfile.TemporaryDirectory() as folder, concurrent.futures.ThreadPoolExecutor(asked.jobs) as pool:
         said(*compilers[0], "-c", str(TOP / "examples/c/start.s"), "-o", f"{folder}/start.o")
         said(*compilers[0], "-c", str(TOP / "examples/c/za.s"), "-o", f"{folder}/za.o")
-        for kind, having, options in SETS:
+        for kind, having, options in (it for it in SETS if asked.kind in (None, it[0])):
             for compiler in (it for it in having if it in compilers):
                 numbers = range(1, counts[kind] + 1)
                 found = list(pool.map(lambda number: trial(asked, folder, kind, compiler, options, number), numbers))

@@ -1,10 +1,10 @@
 #!/usr/bin/env python3
-"""Runs the commands of README.md and of pages of docs/, which PAGES names, and compares what they print with what stands below them.
+"""Runs the commands of README.md and of the pages below, and compares what they print with what stands below them.
 
-    tools/doc_tests.py [PROGRAM]
+    tools/doc_tests.py [PROGRAM] [--page PAGE]
 
 PROGRAM is the emulator, as in crates/smemu_cli/out; where it is not given it is what ./smemu runs here. A command is a line `    $ ..`; up to the next one
-or the end of the block stands what a terminal shows. Those of a page run in its order in a folder of its own, with the wrapper, tools/ and examples/.
+or the end of the block stands what a terminal shows. Those of a page run in its order in a folder of its own, with the wrapper, tools/, examples/, docs/ and release/.
 A command that needs a tool which is not installed is passed over, and so is one that reads a file which that one would have made.
 """
 import argparse
@@ -21,10 +21,10 @@ import tempfile
 import threading
 
 TOP = pathlib.Path(__file__).resolve().parent.parent
-PAGES = ("README.md", *(f"docs/{name}.md" for name in ("TUTORIAL", "FROM_C", "WORLDS", "DEBUGGER", "REPORT", "GDB", "OUTCOMES", "LOST_ZA")))
+PAGES = ("README.md", *(f"docs/{name}.md" for name in ("TUTORIAL", "FROM_C", "WORLDS", "DEBUGGER", "REPORT", "GDB", "OUTCOMES", "LOST_ZA", "CI", "FIND_IT")))
 # tools that a command may need, and of some the least version
 TOOLS = {"clang-19": 0, "ld.lld-19": 0, "aarch64-linux-gnu-gcc": 0, "aarch64-linux-gnu-ld": 0, "qemu-aarch64": 10, "llvm-symbolizer-19": 0,
-         "gdb-multiarch": 0}
+         "parallel": 0, "xz": 0, "gdb-multiarch": 0}
 SECONDS = 60
 
 
@@ -55,7 +55,7 @@ def commands(page):
 
 
 def shown(command, folder):
-    """What a terminal shows of a command: its lines, without those that are rewritten in place."""
+    """What a terminal shows of a command: its lines, without what is rewritten in place, as a time or how far it is."""
     main, side = pty.openpty()
     shell = subprocess.Popen(["bash", "-c", command], cwd=folder, stdin=subprocess.DEVNULL, stdout=side, stderr=side, start_new_session=True)
     os.close(side)
@@ -88,6 +88,8 @@ def make_folder(folder, program):
     """The wrapper over the program, or with none the one here, the tools and the examples."""
     for name in ("tools", "examples"):
         shutil.copytree(TOP / name, folder / name)
+    for name in ("docs", "release"):
+        os.symlink(TOP / name, folder / name)
     if not program:
         os.symlink(TOP / "smemu", folder / "smemu")
         return
@@ -119,7 +121,9 @@ def try_page(page, program, there):
 def main():
     words = argparse.ArgumentParser(description=__doc__.splitlines()[0])
     words.add_argument("program", nargs="?", type=pathlib.Path, metavar="PROGRAM")
-    program = words.parse_args().program
+    words.add_argument("--page", choices=PAGES, action="append", help="this page alone, and others that are named so")
+    asked = words.parse_args()
+    program = asked.program
     if not program:
         subprocess.run([TOP / "smemu", "--version"], check=True, stdout=subprocess.DEVNULL)
     elif not program.is_file():
@@ -131,7 +135,7 @@ def main():
     there = {tool: is_there(tool) for tool in TOOLS}
     print("not there: " + (", ".join(tool for tool in TOOLS if not there[tool]) or "none"))
     with concurrent.futures.ThreadPoolExecutor() as pool:
-        tried = list(pool.map(lambda page: try_page(page, program, there), PAGES))
+        tried = list(pool.map(lambda page: try_page(page, program, there), asked.page or PAGES))
     print(*(line for lines, _ in tried for line in lines), sep="\n")
     return 0 if all(agree for _, agree in tried) else 1
 

@@ -12,26 +12,13 @@ import subprocess
 import sys
 import tempfile
 
+sys.dont_write_bytecode = True
 TOP = pathlib.Path(__file__).resolve().parent.parent
+sys.path.insert(0, str(TOP / "examples"))
+from expected import OPERATIONS
+
 CORES = (1, 2, 3, 4, 64)
 ROUNDS = 40
-WRAP = (1 << 64) - 1
-
-# the word that an operation leaves, of the old word and its two values
-RULES = {
-    "ld": lambda old, a, b: old,
-    "st": lambda old, a, b: a,
-    "swp": lambda old, a, b: a,
-    "add": lambda old, a, b: (old + a) & WRAP,
-    "clr": lambda old, a, b: old & ~a,
-    "eor": lambda old, a, b: old ^ a,
-    "set": lambda old, a, b: old | a,
-    "umax": lambda old, a, b: max(old, a),
-    "umin": lambda old, a, b: min(old, a),
-    "cas": lambda old, a, b: b if old == a else old,
-    "post": lambda old, a, b: old | a,
-    "poll": lambda old, a, b: 0,
-}
 
 
 class Event:
@@ -46,7 +33,7 @@ class Event:
         """The word after it, or None where it does not answer so on that word."""
         if self.answer != (0 if self.kind == "st" else old):
             return None
-        return RULES[self.kind](old, self.a, self.b)
+        return OPERATIONS[self.kind](old, self.a, self.b)
 
 
 def parse(report):
@@ -77,7 +64,7 @@ class Search:
     @staticmethod
     def ranks(journal):
         """Of each event, what the next addition of its thread answers."""
-        found, rank = [], WRAP + 1
+        found, rank = [], 1 << 64
         for event in reversed(journal):
             rank = event.answer if event.kind == "add" else rank
             found.append(rank)

@@ -43,14 +43,14 @@ class Edit:
         file = old = None
         for line in path.read_text().splitlines():
             if line.startswith("file: "):
-                file = line.removeprefix("file: ").strip()
+                file = line[len("file: "):].strip()
             elif line.startswith("old: "):
-                old = line.removeprefix("old: ")
+                old = line[len("old: "):]
             elif line.startswith("new:"):
                 if not file or not old:
                     self.fault = "a 'new:' line has no 'file:' and 'old:' line before it"
                     return
-                self.pairs.append((file, old, line.removeprefix("new:").removeprefix(" ")))
+                self.pairs.append((file, old, line[len("new: "):] if line.startswith("new: ") else line[len("new:"):]))
                 old = None
         if not self.pairs:
             self.fault = "it has no 'old:' and 'new:' pair"

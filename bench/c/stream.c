@@ -3,7 +3,7 @@
 #include <arm_sme.h>
 #include <stdint.h>
 
-static uint8_t bytes[512];
+static uint8_t bytes[512] __attribute__((aligned(8)));
 static int32_t sums[64 * 64];
 
 #define ZA __arm_streaming __arm_inout("za")
@@ -99,5 +99,20 @@ void work(void) ZA {
     svld1_hor_za32(0, 0, svptrue_pat_b32(SV_VL4), (uint32_t *)bytes + 8);
     other();
     put(0);
+}
+#elif ROUTINE == 9 // outer products of halfwords
+void work(void) ZA {
+    svzero_za();
+    svint16_t a = svld1(svptrue_pat_b16(SV_VL8), (int16_t *)bytes), b = svld1(svptrue_pat_b16(SV_VL8), (int16_t *)bytes + 99);
+    svmopa_za64_m(0, svptrue_b16(), svptrue_b16(), a, b);
+    for (uint32_t row = 0; row < 2; row++) svst1_hor_za64(0, row, svptrue_pat_b64(SV_VL2), sums + 4 * row);
+}
+#elif ROUTINE == 10 // an atomic load before the product
+void work(void) ZA {
+    svzero_za();
+    uint64_t from = __c11_atomic_load((_Atomic uint64_t *)bytes, __ATOMIC_ACQUIRE) & 127;
+    svint8_t a = svld1(svptrue_pat_b8(SV_VL16), (int8_t *)bytes), b = svld1(svptrue_pat_b8(SV_VL16), (int8_t *)bytes + from);
+    svmopa_za32_m(0, svptrue_b8(), svptrue_b8(), a, b);
+    for (uint32_t row = 0; row < 4; row++) put(row);
 }
 #endif

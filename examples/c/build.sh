@@ -16,7 +16,7 @@ case $compiler in
 *clang*)
     compiler="$compiler --target=aarch64-linux-gnu"
     scalar="-DMATRIX" vectors="-mno-implicit-float"
-    $compiler $options -march=armv9-a+sme -mno-implicit-float -c "$from/matrix.c" -o "$work/matrix.o"
+    $compiler $options -march=armv8.1-a+sme+sme-i16i64 -mno-implicit-float -c "$from/matrix.c" -o "$work/matrix.o"
     $compiler -c "$from/za.s" -o "$work/za.o"
     ;;
 *)
