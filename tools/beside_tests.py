@@ -431,6 +431,10 @@ def try_races(tests):
         word = int(re.search(r"(?m)^w 1 (\w+)$", said)[1], 16)
         tests.check(plan, [f"exit 0 0, word 1 = {word}", tests.path(plan + ".report").read_text() in said, "skip" in said], [text, True, False])
         tests.check(f"replay of {plan}", tests.run(tests.smemu, "replay", race, tests.path(plan + ".report"), 1)[0], 0)
+    said = tests.run(TOOLS / "outcomes.py", race, "--threads", 2, "--plans", "", "--order")[1].splitlines()
+    order = said[next(at for at, line in enumerate(said) if "word 1 = 1" in line) + 1:][:10]
+    loads = [line.strip() for line in order if "ldr x5" in line]
+    tests.check("an order that loses an addition", sorted(loads), [f"{at}: 0000000000400014: ldr x5, [x2, #8]: ld 1 -> 0" for at in (0, 1)])
     tests.check("one change", tests.run(TOOLS / "outcomes.py", race, "--threads", 2, "--switches", 1, "--plans", "")[0], 0)
     status, said = tests.run(TOOLS / "outcomes.py", race, "--threads", 2, "--states", 20, "--plans", "")
     tests.check("a bound", "the bound on states was met" in said, True)

@@ -2,7 +2,7 @@
 """Finds all outcomes of a program's threads over the orders of their single steps; what weakly ordered memory allows besides is not among them.
 
     tools/outcomes.py PROGRAM --threads N [--switches N] [--states N] [--show WHAT].. [--jobs N] [--plans PREFIX]
-                      [--move] [--signal S [--to THREAD]] [--most N] [--vl BITS] [--svl BITS] [--slice N] [--budget N] [--cores N]
+                      [--order] [--move] [--signal S [--to THREAD]] [--most N] [--vl BITS] [--svl BITS] [--slice N] [--budget N] [--cores N]
 
 An order says which thread makes the next operation on what they share (docs/WORLDS.md). Orders are tried with no change of thread first, then with
 one, and so on, until there are no more: a change counts where the thread that is left could go on; it does not yield there, nor wait in a loop.
@@ -11,6 +11,7 @@ for `debug`, `tools/gdb.py` and others, PREFIX.1.plan, PREFIX.1.report and so on
 
 WHAT is exit (how each thread stops), words (the shared words that are not zero), `word N`, output, or a line of a report by its name, as `x 3`, za;
 exit and words where nothing is said. --switches N tries orders with at most N changes; --states N looks at so many states at most (20000).
+--order shows of each outcome the operations of an order that makes it: thread, place, instruction, and what it found or left.
 --move tries each plan again with a thread moved to another core, one place at a time: nothing may change.
 --signal S lets signal S, which the program posts, come at each place in turn, and says whether all is after the handler as it was before.
 Both try at most --most N places (1000). The status is 1 where there is more than one outcome, a move changes something or a signal does.
@@ -20,10 +21,13 @@ import collections
 import concurrent.futures
 import os
 import pathlib
+import tempfile
 
 import disturbances
 import emulator
+import places
 import progress
+import recorded
 import worlds
 
 ENDLESS = "no end"
@@ -305,12 +309,33 @@ def changes(number):
 
 
 def write_outcome(search, node, prefix):
-    """Writes a plan that makes an outcome and, where all threads stop, the report; the answer is the plan's name."""
+    """Writes a plan that makes an outcome and, where all threads stop, the report; the answer is what `sim` writes for it."""
     plan = search.world.plan(node.state.pieces)
     pathlib.Path(f"{prefix}.plan").write_text(plan)
+    seen = search.world.try_plan(plan)
     if node.outcome is not None:
-        pathlib.Path(f"{prefix}.report").write_text(search.world.try_plan(plan).report)
-    return f"{prefix}.plan"
+        pathlib.Path(f"{prefix}.report").write_text(seen.report)
+    return seen
+
+
+def order_of(search, node, seen, program, report):
+    """The operations of an order, a line each: thread, place, instruction, and what the operation found or left."""
+    known, texts = places.Places(program), {}
+    # of threads that have not stopped there is no report, and so no instructions
+    for thread in {thread for thread, _ in node.state.trail} if node.outcome is not None else ():
+        counts = [count for it, count in node.state.trail if it == thread]
+        answers = recorded.Recorded(program, report, thread).ask([it for count in counts for it in (f"goto {count - 1}", "where")])[1::2]
+        texts.update(((thread, count), answer[0].split(" ", 3)[2:]) for count, answer in zip(counts, answers))
+    known.learn(int(pc, 16) for pc, _ in texts.values())
+    for step, event in zip(node.state.trail, search.world.counting(seen.history)):
+        _, thread, kind, place, *values = event.split(" ")
+        a, b, answer = (int(it, 16) for it in values)
+        given = {"ld": "", "poll": "", "cas": f" {a}, {b}"}.get(kind, f" {a}")
+        where = ""
+        if step in texts and kind != "poll":
+            pc, text = texts[step]
+            where = f"{known.text(int(pc, 16))}: {text}: "
+        yield f"{thread}: {where}{kind} {place}{given}" + ("" if kind == "st" else f" -> {answer}")
 
 
 def show_outcomes(search, is_cut, words):
@@ -323,9 +348,14 @@ def show_outcomes(search, is_cut, words):
     if endless:
         lines.append(("", endless_text(endless.state), endless))
     width = max([len(number) for number, _, _ in lines], default=0)
-    for at, (number, text, node) in enumerate(lines, 1):
-        name = write_outcome(search, node, f"{words.plans}.{at}") if words.plans else ""
-        print(f"  {number.rjust(width)} {text}" + (f"    {name}" if name else ""))
+    with tempfile.TemporaryDirectory() as folder:
+        for at, (number, text, node) in enumerate(lines, 1):
+            prefix = f"{words.plans}.{at}" if words.plans else f"{folder}/{at}"
+            seen = write_outcome(search, node, prefix)
+            print(f"  {number.rjust(width)} {text}" + (f"    {prefix}.plan" if words.plans else ""))
+            if words.order:
+                for line in order_of(search, node, seen, words.program, f"{prefix}.report"):
+                    print(f"  {' ' * width}   {line}")
     return len(lines) == 1 and not endless
 
 
@@ -339,6 +369,7 @@ def arguments():
     parser.add_argument("--show", action="append", metavar="WHAT")
     parser.add_argument("--jobs", type=int, default=min(4, os.cpu_count() or 1), metavar="N")
     parser.add_argument("--plans", metavar="PREFIX", help="of the plans and reports that are written; an empty text: none")
+    parser.add_argument("--order", action="store_true")
     parser.add_argument("--move", action="store_true")
     parser.add_argument("--signal", type=int, metavar="S")
     parser.add_argument("--to", type=int, metavar="THREAD", help="the thread to which the signal comes, where it is posted to several")

@@ -130,8 +130,9 @@ class Endless(Exception):
 class State:
     """A state of a world: the pieces that lead to it, and what a search needs to know of it. The texts are long, so they are not kept."""
 
-    def __init__(self, world, pieces, seen, has_event=True, has_yield=False):
-        self.pieces = pieces
+    def __init__(self, world, pieces, seen, trail, has_event=True, has_yield=False):
+        # of each event that counts the thread, and its count of instructions after it
+        self.pieces, self.trail = pieces, trail
         self.turns = [block.turns for block in seen.blocks]
         self.stops = [block.stop for block in seen.blocks]
         self.places = [block.pc for block in seen.blocks]
@@ -178,7 +179,7 @@ class World:
 
     def start(self):
         """The state before all events."""
-        return State(self, [], self.seen([]))
+        return State(self, [], self.seen([]), [])
 
     def local(self, block):
         """All that decides how a thread goes on, but its number and what the others share."""
@@ -188,7 +189,11 @@ class World:
 
     def made(self, start, seen):
         """The events of the history after a state, those that count."""
-        return [it for it in seen.history[start.events:] if self.has_signals or it.split(" ", 3)[2] != "poll"]
+        return self.counting(seen.history[start.events:])
+
+    def counting(self, history):
+        """Those of the events of a history that count."""
+        return [it for it in history if self.has_signals or it.split(" ", 3)[2] != "poll"]
 
     def step(self, start, thread):
         """The state to which a thread's step leads, or Endless."""
@@ -199,7 +204,9 @@ class World:
         if not seen or not self.is_step(start, seen, thread, pieces):
             pieces, seen = self.search(start, thread)
             self.gaps[local] = pieces
-        return State(self, joined(start.pieces + pieces), seen, bool(self.made(start, seen)), len(pieces) > 1)
+        has_event = bool(self.made(start, seen))
+        trail = [*start.trail, (thread, seen.blocks[thread].count)] if has_event else start.trail
+        return State(self, joined(start.pieces + pieces), seen, trail, has_event, len(pieces) > 1)
 
     def is_step(self, start, seen, thread, pieces):
         """Tells whether these pieces of a thread were exactly a step."""
