@@ -11,6 +11,7 @@ import itertools
 import math
 import os
 import pathlib
+import pty
 import re
 import shutil
 import subprocess
@@ -86,9 +87,16 @@ class Client:
         self.registers = {name: (int(number), int(bits)) for name, bits, number in re.findall(r'<reg name="(\w+)" bitsize="(\d+)" regnum="(\d+)"', description)}
 
     def ask(self, packet):
-        """The answer to a packet. What is said besides is kept."""
+        """The answer to a packet."""
+        self.send(packet)
+        return self.answer()
+
+    def send(self, packet):
         data = packet.encode()
         self.server.stdin.write(b"$%s#%02x" % (data, sum(data) & 255))
+
+    def answer(self):
+        """The next packet that is an answer. What is said besides is kept."""
         while True:
             found = re.search(rb"\$([^#]*)#..", self.waiting)
             if not found:
@@ -163,7 +171,8 @@ def try_moves(tests, gdb, threads, end):
     hit = next(n for n in range(1, end) if threads[n].pc == after_call)
     tests.check("Z0", gdb.ask(f"Z0,{after_call:x},4"), "OK")
     tests.check("to a breakpoint", [gdb.ask("c"), gdb.value("count")], ["T05thread:1;swbreak:;", hit])
-    tests.check("to the end", [gdb.ask("c"), gdb.value("count"), gdb.said], ["T05thread:1;replaylog:end;", end, [f"thread 0 ends at count {end}: stop exited 14"]])
+    said = [f"thread 0 ends at count {end}: stop exited 14"]
+    tests.check("to the end", [gdb.ask("c"), gdb.value("count"), gdb.said], ["T05thread:1;replaylog:end;", end, said])
     tests.check("back to a breakpoint", [gdb.ask("bc"), gdb.value("count")], ["T05thread:1;swbreak:;", hit])
     tests.check("back to the start", [gdb.ask("bc"), gdb.value("count")], ["T05thread:1;replaylog:begin;", 0])
     gdb.ask(f"z0,{after_call:x},4")
@@ -225,11 +234,40 @@ def try_calls(tests):
     pcs = [thread.state(400000 + n).pc for n in range(101)] + [thread.state(400000 - n, backwards=True).pc for n in range(101)]
     tests.check("a hundred steps", [pcs, len(calls) <= 8], [[0x400008 + 4 * ((400000 + n - 2) % 3) for n in (*range(101), *range(0, -101, -1))], True])
     calls.clear()
-    tests.check("hits", [thread.next_hit(400000, [0x400008]), thread.last_hit(400000, [0x400008]), thread.last_hit(400000, [0x400004]), thread.last_hit(1, [0x400004]),
-                         thread.last_hit(786433, [0x40000c]), thread.all_hits(0x400010)[-1]], [400001, 399998, 1, None, 786432, 786433])
+    backwards = [thread.last_hit(count, [address]) for count, address in ((400000, 0x400008), (400000, 0x400004), (1, 0x400004), (786433, 0x40000c))]
+    tests.check("hits", [thread.next_hit(400000, [0x400008]), *backwards, thread.all_hits(0x400010)[-1]], [400001, 399998, 1, None, 786432, 786433])
     changes = [thread.next_change(400000, "x 0"), thread.last_change(400000, "x 0"), thread.last_change(thread.end, "x 8"), thread.next_change(0, "za")]
     tests.check("changes", [*changes, len(calls) <= 40], [400001, 399998, 786434, None, True])
     emulator.call = call
+
+
+def try_interrupt(tests):
+    """Ctrl-C ends a search, and gdb stands where it stood."""
+    gdb = Client(tests, tests.path("loop.elf"), tests.path("loop.report"))
+    gdb.ask("Z2,400000,8")
+    gdb.send("c")
+    gdb.server.stdin.write(b"\x03")
+    tests.check("Ctrl-C", [gdb.answer(), gdb.value("count")], ["T02thread:1;", 0])
+    gdb.close()
+
+
+def try_terminal(tests):
+    """At a terminal gdb is started, connected, with a command that goes to a count."""
+    main, side = pty.openpty()
+    started = subprocess.Popen([sys.executable, TOOLS / "gdb.py", "lost.elf", "lost.report"], stdin=side, stdout=side, stderr=side, cwd=tests.folder,
+                               env={**tests.environment, "TERM": "dumb"}, start_new_session=True)
+    os.close(side)
+    os.write(main, b"goto 9\nprint $za0s[0]\nquit\n")
+    said = b""
+    try:
+        while part := os.read(main, 65536):
+            said += part
+    except OSError:
+        # the other side is closed
+        pass
+    started.wait()
+    os.close(main)
+    tests.check("gdb at a terminal", [started.returncode, b"$1 = {4, 4, 4, 4}" in said], [0, True])
 
 
 def try_gdb(tests):
@@ -264,6 +302,7 @@ print $x0 = 1
               "=> 0x400024:\tstr\tza[w12, 0], [x1]", "za: changed at 9 0000000000400018 smopa za0.s, p0/m, p0/m, z0.b, z1.b", "$4 = 9"]
     found = [line for line in said.splitlines() if re.match(r"\$|Old|New|=>|za:|Could", line)]
     tests.check("gdb-multiarch", [it.split("  ")[0].rstrip() for it in found], [*wanted, 'Could not write register "x0"; remote failure reply \'E01\''])
+    try_terminal(tests)
 
 
 # when.py and za_calls.py
@@ -352,6 +391,18 @@ def try_za(tests):
     for order, options in ((changes, ()), (changes[::-1], ("--last",))):
         status, said = tests.run(TOOLS / "when.py", program, whole, 0, "za", "--most", 99, *options)
         tests.check(f"when.py za {options}", [status, [int(it) for it in re.findall(r"(?m)^at (\d+) ", said)]], [0, order])
+    # without a section table there is no listing, and each count is looked at
+    stripped = tests.path("stripped.elf")
+    image = bytearray(program.read_bytes())
+    image[40:48], image[60:62] = bytes(8), bytes(2)
+    stripped.write_bytes(image)
+    status, said = tests.run(TOOLS / "when.py", stripped, tests.report(stripped, "stripped", "--svl", SVL), 0, "za", "--most", 99)
+    tests.check("when.py za without a listing", [status, [int(it) for it in re.findall(r"(?m)^at (\d+) ", said)]], [0, changes])
+    later = tests.path("later")
+    later.write_text(f"#!/bin/sh\n[ \"$1\" = abi-check ] && echo abi yes calls 1 open 0 && exit\nexec {tests.smemu} \"$@\"\n")
+    later.chmod(0o755)
+    tests.check("za_calls.py where there is abi-check",
+                tests.run("env", f"SMEMU={later}", TOOLS / "za_calls.py", program, whole)[1].splitlines()[-1], "abi-check: abi yes calls 1 open 0")
     tests.check("when.py sp", tests.run(TOOLS / "when.py", program, whole, 0, "sp"), (1, "sp: no change\n"))
     tests.check("when.py w0", tests.run(TOOLS / "when.py", program, whole, 0, "x", 0, "--last"),
                 (0, "at 14 000000000040002c: ldr w0, [x1]\n  - 0000000000000000\n  + 000000000000000e\n"))
@@ -416,7 +467,8 @@ def try_litmus(tests):
         orders = math.factorial(sum(sizes))
         for size in sizes:
             orders //= math.factorial(size)
-        tests.check(name, [sorted(found), said[0].split()[:2], sum(int(line.split()[0]) for line in said[1:])], [sorted(possible), ["all", str(orders)], orders])
+        told = sum(int(line.split()[0]) for line in said[1:])
+        tests.check(name, [sorted(found), said[0].split()[:2], told], [sorted(possible), ["all", str(orders)], orders])
 
 
 def try_races(tests):
@@ -469,7 +521,7 @@ def main():
     os.environ["SMEMU"] = smemu = str(pathlib.Path(smemu).resolve())
     with tempfile.TemporaryDirectory() as folder:
         tests = Tests(smemu, folder)
-        for test in (try_protocol, try_threads, try_refusals, try_calls, try_gdb, try_za, try_litmus, try_races, try_disturbances):
+        for test in (try_protocol, try_threads, try_refusals, try_calls, try_interrupt, try_gdb, try_za, try_litmus, try_races, try_disturbances):
             test(tests)
     print(f"{tests.number} checks, {tests.faults} failed")
     return 1 if tests.faults else 0

@@ -5,6 +5,7 @@ import tempfile
 
 import emulator
 import places
+import progress
 import recorded
 import worlds
 
@@ -20,6 +21,17 @@ def show_faults(lines):
         print(line)
     if len(lines) > SHOWN:
         print(f"    and {len(lines) - SHOWN} more")
+
+
+def in_parallel(function, items, jobs):
+    """What a function gives of each item, several at once, in their order."""
+    told, found = progress.Progress(), []
+    with concurrent.futures.ThreadPoolExecutor(jobs) as pool:
+        for it in pool.map(function, items):
+            found.append(it)
+            told.show(f"places {len(found)} of {len(items)}")
+    told.clear()
+    return found
 
 
 # moves
@@ -58,8 +70,7 @@ def try_moves(world, plans, words):
         same = world.try_plan(moved_plan(world, pieces, at, turn)).text == whole[plan]
         return there.has_za, None if same else f"    plan {plan + 1}: thread {pieces[at].thread} at count {there.count}, {there.pc:016x}"
 
-    with concurrent.futures.ThreadPoolExecutor(words.jobs) as pool:
-        found = list(pool.map(try_one, tried))
+    found = in_parallel(try_one, tried, words.jobs)
     faults = [fault for _, fault in found if fault]
     where = f"each of {number} places" if len(tried) == number else f"{len(tried)} of {number} places"
     with_za = sum(has_za for has_za, _ in found)
@@ -206,8 +217,7 @@ def try_signal(words, options, describe):
         thread = posted.record(base, "base")
         last = min(thread.end - 1, first + words.most - 1)
         counts, alike = different(thread, first, last)
-        with concurrent.futures.ThreadPoolExecutor(words.jobs) as pool:
-            tried = [it for it in pool.map(lambda it: try_place(posted, *it, describe), counts) if it]
+        tried = [it for it in in_parallel(lambda it: try_place(posted, *it, describe), counts, words.jobs) if it]
         is_cut = thread.end - 1 > last
         return show_signal(words, posted, tried, alike, is_cut)
 
