@@ -53,10 +53,10 @@ pub fn lawful_callees_come_back()
         → i < length s.bank.za → slice_index_or t.bank.za i [] ≡ slice_index_or s.bank.za i [] }
 {}
 
-/// What `disable_saves` says holds too where between the instructions come handler runs over an area that has
-/// the block, the buffer and the words, or any other change of memory outside it: each instruction is
-/// executed, and after as many of them ZA is saved and off.
-pub fn disable_saves_over_handlers()
+/// What `disable_saves` says holds too where memory outside an area that has the block, the buffer and the
+/// words changes between the instructions: each instruction is executed, and after as many of them ZA is saved
+/// and off.
+pub fn disable_saves_over_changes()
     ensures { (vl : ℕ) (area : ℕ → Bool) (p : Places) (s : ProcessorState) (b : ℕ) (d : IsDormantAt p s b)
         → IsWhole s → s.scalars.pc ≡ p.disable → Covers area p (length s.bank.za) b d.bytes
         → ((n : ℕ) (z : ProcessorState) → n < disable_length d.bytes → IsOver vl area n s z
@@ -66,7 +66,7 @@ pub fn disable_saves_over_handlers()
 {}
 
 /// What `tail_restores` says holds too with such changes of memory between the instructions.
-pub fn tail_restores_over_handlers()
+pub fn tail_restores_over_changes()
     ensures kept { (vl : ℕ) (area : ℕ → Bool) (p : Places) (r : ProcessorState) (bytes : List ℕ)
         → IsBack p r bytes → IsWhole r → Covers area p (length r.bank.za) (x_of r.scalars 19) bytes
         → r.za_on ≡ true → r.tpidr2 ≡ x_of r.scalars 19

@@ -1,5 +1,5 @@
 use Rattle.lazy_saving.proofs.Returned.{kept_over, kept_goes, saved_over, saved_goes}
-use Rattle.lazy_saving.proofs.laws.tail_restores_over_handlers.Goals as goal
+use Rattle.lazy_saving.proofs.laws.tail_restores_over_changes.Goals as goal
 
 pub returns-clause-kept : goal.returns-clause-kept
 returns-clause-kept c = λ vl area p r bytes h w covers on pointer.
