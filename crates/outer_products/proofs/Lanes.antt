@@ -1,5 +1,5 @@
 -- Lanes of vectors, on the bits of their numbers.
-use Rattle.std.proofs.Common.{◌≡◌, ℕ, ◌+◌, ◌*◌, ◌%◌, ◌^◌, ◌<◌, ap, ap₂, ◌∙◌, arith, ℤ, pos, ◌+ℤ◌, ◌*ℤ◌, List, [], ◌∷◌, zero, suc, Bool}
+use Rattle.std.proofs.Common.{◌≡◌, ℕ, ◌+◌, ◌*◌, ◌%◌, ◌^◌, ◌<◌, ap, ap₂, ◌∙◌, arith, ℤ, ◌+ℤ◌, ◌*ℤ◌, List, [], ◌∷◌, Bool}
 use Rattle.std.specs.Prelude.{FitsSigned}
 use Rattle.std.specs.Int.{w16, w32, w64, int_wrap}
 use Rattle.vector_elements.specs.declared.size.Size.{Size}
@@ -7,7 +7,7 @@ use Rattle.vector_elements.specs.Elements.{element_of}
 use Rattle.vector_elements.specs.Numbers.{bytes_in}
 use Rattle.outer_products.specs.OuterProducts.{number_of}
 use Rattle.outer_products.specs.Sources.{number, AllFit, four_of, pair_place, unpaired, pair_number, dot_in_pairs}
-use Rattle.std.proofs.lemmas.Int.{to_z-of_z, wrapping_add-bits, wrapping_mul_is, int_wrap-add_left, int_wrap-add_right, SFits-int_wrap}
+use Rattle.std.proofs.lemmas.Int.{to_z-of_z, wrapping_add-bits, wrapping_mul_is, int_wrap-add_left, int_wrap-add_right}
 use mir.Syntax.{Width}
 use mir.Val.{bits, to_z, of_z}
 
@@ -107,17 +107,6 @@ pub pair_lane : (w : Width) (size : Size) (signed : Bool) (bytes : List ℕ) (co
     → to_z w (of_z w x) ≡ pair_number count size signed bytes k
 pair_lane w size signed bytes count j k x y fits is from place =
     to_z-of_z w x fits ∙ is ∙ ap (number_of signed size) from ∙ ap (λ i. number_of signed size (element_of (bytes_in size) bytes i)) place
-
-pub four_fit : (w : Width) (xs : List ℤ) (r : ℕ) → AllFit w xs → FitsSigned w (pos 0) → AllFit w (four_of xs r)
-four_fit w xs r fit none zero = fit (4 * r)
-four_fit w xs r fit none (suc zero) = fit (4 * r + 1)
-four_fit w xs r fit none (suc (suc zero)) = fit (4 * r + 2)
-four_fit w xs r fit none (suc (suc (suc zero))) = fit (4 * r + 3)
-four_fit w xs r fit none (suc (suc (suc (suc k)))) = none
-
--- a lane that is read as a number
-pub read_lane : (w : Width) (x z : ℤ) → x ≡ int_wrap w z → to_z w (of_z w x) ≡ int_wrap w z
-read_lane w x z is = ap (λ k. to_z w (of_z w k)) is ∙ to_z-of_z w (int_wrap w z) (SFits-int_wrap w z)
 
 -- four numbers of a list, as they are read
 pub read_four : (w : Width) (n : List ℤ) (r : ℕ) → AllFit w n

@@ -2,7 +2,8 @@ use Rattle.std.proofs.Common.{arith, ap, ◌*◌, ◌+◌, ℕ, List, ℤ, pos, 
 use Rattle.std.specs.Int.{w8}
 use Rattle.vector_elements.specs.declared.size.Size.TheVariants.{D}
 use Rattle.vector_elements.specs.Elements.{listed}
-use Rattle.outer_products.proofs.Written.{stored, row_lane, doubleword_lane_is}
+use Rattle.vector_elements.proofs.Sixteen.{row_lane}
+use Rattle.outer_products.proofs.Written.{stored, doubleword_lane_is}
 use Rattle.outer_products.proofs.Lanes.{two_lanes}
 use Rattle.outer_products.proofs.rows.add_doublewords.Goals as goal
 

@@ -2,7 +2,8 @@ use Rattle.std.proofs.Common.{arith, ap, ◌*◌, ◌+◌, ℕ, List, ℤ, pos, 
 use Rattle.std.specs.Int.{w8}
 use Rattle.vector_elements.specs.declared.size.Size.TheVariants.{S}
 use Rattle.vector_elements.specs.Elements.{listed}
-use Rattle.outer_products.proofs.Written.{stored, row_lane, word_lane_is}
+use Rattle.vector_elements.proofs.Sixteen.{row_lane}
+use Rattle.outer_products.proofs.Written.{stored, word_lane_is}
 use Rattle.outer_products.proofs.Lanes.{four_lanes}
 use Rattle.outer_products.proofs.rows.add_words.Goals as goal
 
