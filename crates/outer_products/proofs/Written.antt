@@ -36,6 +36,17 @@ summed_next size sums old row new c at k end is next same last =
     subst (λ e. IsSummedTo size sums old e new) last
     (summed_more size sums old row new at k (subst (λ e. IsSummedTo size sums old e row) same is) next)
 
+-- with four times as many elements more, where each time is told by its number
+pub summed_turn : (size : Size) (sums : ℕ → ℤ) (old r0 r1 r2 r3 r4 : List ℕ) (k t : ℕ) → IsSummedTo size sums old (4 * k * t) r0
+    → r1 ≡ sixteen_with size sums (k * (4 * t)) k r0 → r2 ≡ sixteen_with size sums (k * (4 * t + 1)) k r1
+    → r3 ≡ sixteen_with size sums (k * (4 * t + 2)) k r2 → r4 ≡ sixteen_with size sums (k * (4 * t + 3)) k r3
+    → IsSummedTo size sums old (4 * k * (t + 1)) r4
+summed_turn size sums old r0 r1 r2 r3 r4 k t is e1 e2 e3 e4 =
+    let s1 = summed_next size sums old r0 r1 (4 * k * t) (k * (4 * t)) k (k * (4 * t + 1)) is e1 (omega arith) (omega arith) in
+    let s2 = summed_more size sums old r1 r2 (k * (4 * t + 1)) k s1 e2 in
+    let s3 = summed_next size sums old r2 r3 (k * (4 * t + 1) + k) (k * (4 * t + 2)) k (k * (4 * t + 3)) s2 e3 (omega arith) (omega arith) in
+    summed_next size sums old r3 r4 (k * (4 * t + 3)) (k * (4 * t + 3)) k (4 * k * (t + 1)) s3 e4 (omega arith) (omega arith)
+
 -- an element and its sum, at a place that is named in two ways
 pub word_lane_is : (sums : ℕ → ℤ) (row : List ℕ) (k j old : ℕ) (z : ℤ) → k ≡ j → old ≡ element_of 4 row k → z ≡ int_wrap w32 (sums k)
     → (old + cast_unsigned w32 z) % 2 ^ 32 ≡ summed S sums j (element_of 4 row j)

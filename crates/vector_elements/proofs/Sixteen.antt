@@ -35,7 +35,8 @@ part_of_chunk : (row : List ℕ) (a n b e c : ℕ) → b + e ≤ n → c ≡ a +
 part_of_chunk row a n b e c room place =
     let whole : n ≡ b + (n - b) = omega (arith, room) in
     ap (λ k. take e (drop b (take k (drop a row)))) whole ∙ ap (take e) (drop-take b (n - b) (drop a row))
-    ∙ take-take e (n - b) (drop b (drop a row)) (omega (arith, room)) ∙ ap (take e) (drop-drop b a row) ∙ ap (λ k. take e (drop k row)) (sym place)
+    ∙ take-take e (n - b) (drop b (drop a row)) (omega (arith, room)) ∙ ap (take e) (drop-drop b a row)
+    ∙ ap (λ k. take e (drop k row)) (sym place)
 
 -- an element of 16 bytes, as a lane
 pub row_lane : (size : Size) (row : List ℕ) (i n j k : ℕ) → ((k : ℕ) → Fits w8 (get_or row k 0)) → j < n
@@ -115,8 +116,8 @@ lane_bytes e (x ∷ xs) fits =
     ∙ low_digits e (e * length xs) x (number_l (256 ^ e) xs) fits.0
     ∙ ap (λ t. digits_l 256 e x ++ t) (lane_bytes e xs fits.1)
 
-stored : (size : Size) (row lanes xs : List ℕ) (i : ℕ) → AreLanes size lanes → 16 * i + 16 ≤ length row → xs ≡ bytes_of (bytes_in size) lanes
-    → put_chunk (16 * i) row xs ≡ with_lanes size row i lanes
+stored : (size : Size) (row lanes xs : List ℕ) (i : ℕ) → AreLanes size lanes → 16 * i + 16 ≤ length row
+    → xs ≡ bytes_of (bytes_in size) lanes → put_chunk (16 * i) row xs ≡ with_lanes size row i lanes
 unfolding with_lanes
 stored size row lanes xs i are room is =
     let long : length (bytes_of (bytes_in size) lanes) ≡ 16 =
