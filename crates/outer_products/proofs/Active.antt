@@ -10,6 +10,7 @@ use Rattle.vector_elements.specs.declared.size.Size.TheVariants.{B, H, S, D}
 use Rattle.vector_elements.specs.Elements.{element_of, is_active, each_element, each_or_zero}
 use Rattle.vector_elements.specs.Numbers.{bytes_in, range_of, signed_of}
 use Rattle.vector_elements.proofs.ReadBack.{read_back}
+use Rattle.vector_elements.proofs.Sixteen.{values_of}
 use Rattle.outer_products.specs.OuterProducts.{number_of, Source, source_number, is_source_active, product_of}
 
 -- bytes as numbers
@@ -35,12 +36,6 @@ pub element_fits : (e : ℕ) (xs : List ℕ) (i : ℕ) → AreBytes xs → eleme
 unfolding element_of
 element_fits e xs i bytes =
     number_fits e (drop (e * i) xs) (λ k. subst (λ x. x < 256) (sym (get_or-drop (e * i) xs k 0)) (bytes (e * i + k)))
-
-pub values_of : (size : Size) → 256 ^ bytes_in size ≡ range_of size
-values_of B = refl
-values_of H = refl
-values_of S = refl
-values_of D = refl
 
 -- what is read back of elements that were written
 pub element_written : (size : Size) (bytes : List ℕ) (f : ℕ → ℕ → ℕ) (i : ℕ) → i < length bytes / bytes_in size
@@ -106,13 +101,6 @@ module _ (size : Size) (s : Source) (bytes : AreBytes s.vector) where
       fits : (i : ℕ) → kept i < range_of size
       fits i = kept_fits (is_source_active size s i) _ _
           (subst (λ m. element_of (bytes_in size) s.vector i < m) (values_of size) (element_fits (bytes_in size) s.vector i bytes))
-
-  pub active_fits : (i : ℕ) → i < length s.vector / bytes_in size → element_of (bytes_in size) active_bytes i < range_of size
-  unfolding kept
-  active_fits i below =
-      subst (λ x. x < range_of size) (sym (kept_is i below))
-      (kept_fits (is_source_active size s i) _ _
-      (subst (λ m. element_of (bytes_in size) s.vector i < m) (values_of size) (element_fits (bytes_in size) s.vector i bytes)))
 
   pub active_is : (i : ℕ) → i < length s.vector / bytes_in size
       → number_of s.signed size (element_of (bytes_in size) active_bytes i) ≡ active_number size s i

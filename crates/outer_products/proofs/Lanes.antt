@@ -1,13 +1,17 @@
 -- Lanes of vectors, on the bits of their numbers.
-use Rattle.std.proofs.Common.{◌≡◌, ℕ, ◌+◌, ◌*◌, ◌%◌, ◌^◌, ◌<◌, ap, ap₂, ◌∙◌, arith, ℤ, pos, ◌+ℤ◌, ◌*ℤ◌, List, [], ◌∷◌, zero, suc, Bool}
+use Rattle.std.proofs.Common.{◌≡◌, ℕ, ◌+◌, ◌*◌, ◌%◌, ◌^◌, ◌<◌, ap, ap₂, ◌∙◌, arith, ℤ, ◌+ℤ◌, ◌*ℤ◌, List, [], ◌∷◌, Bool}
+use Rattle.std.proofs.Common.{◌++◌, ◌≤◌, length, get_or, map, sym, subst, pos}
+use Rattle.std.proofs.lemmas.List.{get_or_append_left, get_or-map, length-map}
+use Rattle.std.proofs.lemmas.Simd.{get_or-chunk, length-chunk}
 use Rattle.std.specs.Prelude.{FitsSigned}
+use Rattle.std.specs.Simd.Lanes.{chunk}
 use Rattle.std.specs.Int.{w16, w32, w64, int_wrap}
 use Rattle.vector_elements.specs.declared.size.Size.{Size}
 use Rattle.vector_elements.specs.Elements.{element_of}
 use Rattle.vector_elements.specs.Numbers.{bytes_in}
 use Rattle.outer_products.specs.OuterProducts.{number_of}
 use Rattle.outer_products.specs.Sources.{number, AllFit, four_of, pair_place, unpaired, pair_number, dot_in_pairs}
-use Rattle.std.proofs.lemmas.Int.{to_z-of_z, wrapping_add-bits, wrapping_mul_is, int_wrap-add_left, int_wrap-add_right, SFits-int_wrap}
+use Rattle.std.proofs.lemmas.Int.{to_z-of_z, wrapping_add-bits, wrapping_mul_is, int_wrap-add_left, int_wrap-add_right}
 use mir.Syntax.{Width}
 use mir.Val.{bits, to_z, of_z}
 
@@ -80,14 +84,31 @@ word_dot n m a b c j0 j1 j2 j3 e0 e1 e2 e3 =
     (a 0) (b j0) (a 1) (b j1) (a 2) (b j2) (a 3) (b j3)
     ∙ same_dots (λ z. int_wrap w32 z) n m _ _ _ _ _ _ _ _ e0 e1 e2 e3
 
-pub doubleword_dot : (n m : List ℤ) → AllFit w32 n → AllFit w32 m → (c j0 j1 j2 j3 : ℕ)
+-- a lane of numbers that are read at once
+pub lane_at : (w : Width) (m : List ℤ) (ys : List ℕ) (a n k : ℕ) → a + n ≤ length m → k < n
+    → get_or (map (of_z w) (chunk a n m) ++ ys) k 0 ≡ of_z w (number m (a + k))
+lane_at w m ys a n k room below =
+    let long = length-chunk a n m room in
+    let mapped : length (map (of_z w) (chunk a n m)) ≡ n = length-map (chunk a n m) (of_z w) ∙ long in
+    get_or_append_left (map (of_z w) (chunk a n m)) ys 0 k (subst (λ l. k < l) (sym mapped) below)
+    ∙ get_or-map (of_z w) (chunk a n m) k (pos 0) 0 (subst (λ l. k < l) (sym long) below)
+    ∙ ap (of_z w) (get_or-chunk a n m k (pos 0) below)
+
+-- the bits of a product with a lane
+abbrev lane_product : ℤ → ℕ → ℕ
+lane_product a x = (of_z w64 (to_z w32 (of_z w32 a)) * of_z w64 (to_z w32 x)) % 2 ^ 64
+
+pub doubleword_dot : (n m : List ℤ) → AllFit w32 n → AllFit w32 m → (c j0 j1 j2 j3 x0 x1 x2 x3 : ℕ)
+    → x0 ≡ of_z w32 (number m j0) → x1 ≡ of_z w32 (number m j1) → x2 ≡ of_z w32 (number m j2) → x3 ≡ of_z w32 (number m j3)
     → j0 ≡ pair_place 2 c 0 → j1 ≡ pair_place 2 c 1 → j2 ≡ pair_place 2 c 2 → j3 ≡ pair_place 2 c 3
-    → to_z w64 (sum w64 (sum w64 (product w64 w32 (number n 0) (number m j0)) (product w64 w32 (number n 1) (number m j1)))
-    (sum w64 (product w64 w32 (number n 2) (number m j2)) (product w64 w32 (number n 3) (number m j3))))
+    → to_z w64 (sum w64 (sum w64 (lane_product (number n 0) x0) (lane_product (number n 1) x1))
+    (sum w64 (lane_product (number n 2) x2) (lane_product (number n 3) x3)))
     ≡ int_wrap w64 (dot_in_pairs 2 n m c)
 unfolding dot_in_pairs
-doubleword_dot n m a b c j0 j1 j2 j3 e0 e1 e2 e3 =
-    doubleword_lane (number n 0) (number m j0) (number n 1) (number m j1) (number n 2) (number m j2) (number n 3) (number m j3)
+doubleword_dot n m a b c j0 j1 j2 j3 x0 x1 x2 x3 l0 l1 l2 l3 e0 e1 e2 e3 =
+    (λ i. to_z w64 (sum w64 (sum w64 (lane_product (number n 0) (l0 i)) (lane_product (number n 1) (l1 i)))
+    (sum w64 (lane_product (number n 2) (l2 i)) (lane_product (number n 3) (l3 i)))))
+    ∙ doubleword_lane (number n 0) (number m j0) (number n 1) (number m j1) (number n 2) (number m j2) (number n 3) (number m j3)
     (a 0) (b j0) (a 1) (b j1) (a 2) (b j2) (a 3) (b j3)
     ∙ same_dots (λ z. int_wrap w64 z) n m _ _ _ _ _ _ _ _ e0 e1 e2 e3
 
@@ -107,17 +128,6 @@ pub pair_lane : (w : Width) (size : Size) (signed : Bool) (bytes : List ℕ) (co
     → to_z w (of_z w x) ≡ pair_number count size signed bytes k
 pair_lane w size signed bytes count j k x y fits is from place =
     to_z-of_z w x fits ∙ is ∙ ap (number_of signed size) from ∙ ap (λ i. number_of signed size (element_of (bytes_in size) bytes i)) place
-
-pub four_fit : (w : Width) (xs : List ℤ) (r : ℕ) → AllFit w xs → FitsSigned w (pos 0) → AllFit w (four_of xs r)
-four_fit w xs r fit none zero = fit (4 * r)
-four_fit w xs r fit none (suc zero) = fit (4 * r + 1)
-four_fit w xs r fit none (suc (suc zero)) = fit (4 * r + 2)
-four_fit w xs r fit none (suc (suc (suc zero))) = fit (4 * r + 3)
-four_fit w xs r fit none (suc (suc (suc (suc k)))) = none
-
--- a lane that is read as a number
-pub read_lane : (w : Width) (x z : ℤ) → x ≡ int_wrap w z → to_z w (of_z w x) ≡ int_wrap w z
-read_lane w x z is = ap (λ k. to_z w (of_z w k)) is ∙ to_z-of_z w (int_wrap w z) (SFits-int_wrap w z)
 
 -- four numbers of a list, as they are read
 pub read_four : (w : Width) (n : List ℤ) (r : ℕ) → AllFit w n

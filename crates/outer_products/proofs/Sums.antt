@@ -3,16 +3,9 @@ use Rattle.std.proofs.Common.{◌≡◌, ℕ, ◌+◌, ◌-◌, ◌%◌, ◌^◌
 use Rattle.std.specs.Prelude.{negsuc}
 use Rattle.std.specs.Int.{w32, w64, int_wrap, cast_unsigned}
 use Rattle.std.proofs.lemmas.Bool.{cases_lt}
-use Rattle.std.proofs.lemmas.Int.{ints, of_z-to_z, int_wrap-add_left, int_wrap-add_right}
+use Rattle.std.proofs.lemmas.Int.{ints, of_z-to_z}
 use Rattle.vector_elements.specs.declared.size.Size.TheVariants.{S, D}
 use Rattle.vector_elements.specs.Numbers.{wrapped}
-
--- two sums that wrapped, added
-pub short_sums : (a b : ℤ) → int_wrap w32 (int_wrap w32 a +ℤ int_wrap w32 b) ≡ int_wrap w32 (a +ℤ b)
-short_sums a b = int_wrap-add_left w32 a (int_wrap w32 b) ∙ int_wrap-add_right w32 a b
-
-pub long_sums : (a b : ℤ) → int_wrap w64 (int_wrap w64 a +ℤ int_wrap w64 b) ≡ int_wrap w64 (a +ℤ b)
-long_sums a b = int_wrap-add_left w64 a (int_wrap w64 b) ∙ int_wrap-add_right w64 a b
 
 above : (a b : ℕ) → b < a → pos a +ℤ negsuc b ≡ pos (a - b - 1)
 above a b lt = grind (arith, ints)

@@ -1,7 +1,6 @@
 -- The numbers of a source's elements.
 use Rattle.std.proofs.Common.{◌≡◌, ℕ, ◌+◌, ◌/◌, ◌<◌, ◌≤◌, List, [], ◌∷◌, ◌++◌, length, take, ap, ap₂, ◌∙◌, sym, arith, inl, inr, subst}
-use Rattle.std.proofs.Common.{Bool, false, zero, suc, ℤ, pos, append_assoc}
-use Rattle.std.proofs.lemmas.List.{append-nil}
+use Rattle.std.proofs.Common.{Bool, false, ℤ, pos}
 use Rattle.std.specs.Prelude.{FitsSigned}
 use Rattle.std.proofs.Math.ListN.{set}
 use Rattle.std.proofs.Math.Nat.{mul-div_cancel_left}
@@ -11,12 +10,12 @@ use Rattle.std.proofs.lemmas.List.{take_more_set, get_or_past}
 use Rattle.vector_elements.specs.declared.size.Size.{Size}
 use Rattle.vector_elements.specs.Elements.{listed, element_of, each_element}
 use Rattle.vector_elements.specs.Numbers.{bytes_in, range_of}
-use Rattle.vector_elements.proofs.Lists.{length-listed, length-written, listed-next, some_bytes}
-use Rattle.za_array.proofs.Places.{listed-at}
+use Rattle.vector_elements.proofs.Lists.{length-listed, listed-at, length-written, listed-next, some_bytes}
+use Rattle.vector_elements.proofs.Sixteen.{values_of, listed-more}
 use Rattle.outer_products.specs.OuterProducts.{Source}
 use Rattle.outer_products.specs.Sources.{negated, number_at, numbers_of, unpaired, pair_number, pairs_of, number, AllFit}
 use Rattle.outer_products.proofs.Numbers.{IsWithin, number_within, negated_within}
-use Rattle.outer_products.proofs.Active.{AreBytes, element_fits, values_of, active_number, active_bytes, active_is}
+use Rattle.outer_products.proofs.Active.{AreBytes, element_fits, active_number, active_bytes, active_is}
 use mir.Syntax.{Width}
 
 -- one number further
@@ -30,14 +29,6 @@ pub all_written : (f : ℕ → ℤ) (out : List ℤ) (n i : ℕ) → length out 
 all_written f out n i end count so_far =
     let all : take i out ≡ out = grind (arith, common_steps) in
     sym all ∙ so_far ∙ ap (listed f) count
-
-pub listed-more : {A : Type 0} → (f : ℕ → A) (i k : ℕ) → listed f (i + k) ≡ listed f i ++ listed (λ j. f (i + j)) k
-unfolding listed
-listed-more f i zero = let same : i + 0 ≡ i = omega arith in ap (listed f) same ∙ sym (append-nil (listed f i))
-listed-more f i (suc k) =
-    let next : i + suc k ≡ suc (i + k) = omega arith in
-    ap (listed f) next ∙ ap (λ t. t ++ f (i + k) ∷ []) (listed-more f i k)
-    ∙ append_assoc (listed f i) (listed (λ j. f (i + j)) k) (f (i + k) ∷ [])
 
 -- some numbers more
 pub written_run : {A : Type 0} → (f : ℕ → A) (out new : List A) (n k end : ℕ) → take n out ≡ listed f n

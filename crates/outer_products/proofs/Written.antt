@@ -1,36 +1,22 @@
 -- Rows whose elements are written some at a time.
-use Rattle.std.proofs.Common.{◌≡◌, ℕ, zero, suc, ◌+◌, ◌-◌, ◌*◌, ◌/◌, ◌%◌, ◌^◌, ◌<◌, ◌≤◌, List, [], ◌∷◌, ◌++◌, length, take, drop, ap, ap₂}
-use Rattle.std.proofs.Common.{◌∙◌, sym, append_assoc, arith, ℤ, pos, ◌+ℤ◌, subst, get_or, Fits}
-use Rattle.std.proofs.Math.Nat.{pow-suc}
+use Rattle.std.proofs.Common.{◌≡◌, ℕ, ◌+◌, ◌*◌, ◌%◌, ◌^◌, ◌<◌, ◌≤◌, List, ◌++◌, length, take, drop, ap, ap₂}
+use Rattle.std.proofs.Common.{◌∙◌, sym, arith, ℤ, pos, ◌+ℤ◌, subst}
 use Rattle.std.proofs.lemmas.Grind.{common_steps}
-use Rattle.std.proofs.lemmas.List.{drop-take, take-take, drop-drop}
-use Rattle.std.specs.Int.{w8, w32, w64, int_wrap, cast_unsigned}
-use Rattle.std.specs.Simd.Lanes.{number_l, digits_l, Each1, chunk, put_chunk}
-use Rattle.std.proofs.lemmas.Simd.{put_chunk_is, Each1-from_get_or, get_or_wider, below_from_Fits, chunk-fits}
+use Rattle.std.specs.Int.{w32, w64, int_wrap, cast_unsigned}
+use Rattle.std.specs.Simd.Lanes.{number_l, digits_l, Each1, put_chunk}
+use Rattle.std.proofs.lemmas.Simd.{put_chunk_is, Each1-from_get_or}
 use Rattle.vector_elements.specs.declared.size.Size.{Size}
 use Rattle.vector_elements.specs.Elements.{listed, element_of, bytes_of}
 use Rattle.vector_elements.specs.declared.size.Size.TheVariants.{S, D}
-use Rattle.vector_elements.specs.Numbers.{bytes_in, range_of, wrapped}
-use Rattle.vector_elements.proofs.Lists.{length-written, length-bytes, length-listed, bytes-append, take_front, drop_front}
-use Rattle.vector_elements.proofs.Masks.{listed_same}
-use Rattle.za_array.proofs.Places.{listed-at}
+use Rattle.vector_elements.specs.Numbers.{bytes_in, wrapped}
+use Rattle.vector_elements.proofs.Lists.{length-bytes, length-listed, listed-at}
+use Rattle.vector_elements.proofs.Sixteen.{values_of, lane_bytes, changed_more}
 use Rattle.outer_products.specs.Sources.{summed, sixteen_with}
 use Rattle.outer_products.proofs.Numbers.{wrapped_fits}
 use Rattle.outer_products.proofs.Sums.{word_with-is, doubleword_with-is}
-use Rattle.outer_products.proofs.Active.{values_of}
-use Rattle.outer_products.proofs.Widened.{listed-more}
 
 drop_twice : {A : Type 0} → (xs : List A) (n m k : ℕ) → k ≡ n + m → drop m (drop n xs) ≡ drop k xs
 drop_twice xs n m k e = grind (arith, common_steps)
-
--- elements from c on are as they were
-kept : (e : ℕ) (f : ℕ → ℕ) (old : List ℕ) (c k : ℕ) (d : List ℕ)
-    → d ≡ bytes_of e (listed f c) ++ drop (e * c) old → drop (e * (c + k)) d ≡ drop (e * (c + k)) old
-kept e f old c k d is =
-    let p = length-written e f c in
-    let far : e * (c + k) ≡ e * c + e * k = omega arith in
-    ap (drop (e * (c + k))) is ∙ drop_front _ (drop (e * c) old) (e * (c + k)) (e * k) (omega (arith, p, far))
-    ∙ drop_twice old (e * c) (e * k) (e * (c + k)) far
 
 -- the first c elements of a row have their sums added
 abbrev pub IsSummedTo : Size → (ℕ → ℤ) → List ℕ → ℕ → List ℕ → Type 0
@@ -39,22 +25,9 @@ IsSummedTo size sums old c row =
     row ≡ bytes_of e (listed (λ k. summed size sums k (element_of e old k)) c) ++ drop (e * c) old
 
 -- with some elements more
-pub summed_more : (size : Size) (sums : ℕ → ℤ) (old row new : List ℕ) (c k : ℕ)
+summed_more : (size : Size) (sums : ℕ → ℤ) (old row new : List ℕ) (c k : ℕ)
     → IsSummedTo size sums old c row → new ≡ sixteen_with size sums c k row → IsSummedTo size sums old (c + k) new
-unfolding element_of
-summed_more size sums old row new c k is next =
-    let e = bytes_in size in
-    let f : ℕ → ℕ = λ i. summed size sums i (element_of e old i) in
-    let g : ℕ → ℕ = λ j. summed size sums (c + j) (element_of e row (c + j)) in
-    let p = length-written e f c in
-    let front : take (e * c) row ≡ bytes_of e (listed f c) = ap (take (e * c)) is ∙ take_front _ (drop (e * c) old) (e * c) (sym p) in
-    let same : listed g k ≡ listed (λ j. f (c + j)) k =
-    listed_same g (λ j. f (c + j)) k (λ j below. ap (λ t. summed size sums (c + j) (number_l 256 (take e t))) (kept e f old c j row is)) in
-    let all : bytes_of e (listed f (c + k)) ≡ bytes_of e (listed f c) ++ bytes_of e (listed (λ j. f (c + j)) k) =
-    ap (bytes_of e) (listed-more f c k) ∙ bytes-append e (listed f c) (listed (λ j. f (c + j)) k) in
-    let back = kept e f old c k row is in
-    next ∙ rw (front, same, back, all) (sym (append_assoc (bytes_of e (listed f c)) (bytes_of e (listed (λ j. f (c + j)) k))
-    (drop (e * (c + k)) old)))
+summed_more size sums old row new c k is next = changed_more (bytes_in size) (summed size sums) old row new c k is next
 
 -- the same, with places that are named in two ways
 pub summed_next : (size : Size) (sums : ℕ → ℤ) (old row new : List ℕ) (c at k end : ℕ)
@@ -63,45 +36,16 @@ summed_next size sums old row new c at k end is next same last =
     subst (λ e. IsSummedTo size sums old e new) last
     (summed_more size sums old row new at k (subst (λ e. IsSummedTo size sums old e row) same is) next)
 
--- a number's digits, of which the low ones are those of a part
-low_digits : (n m x y : ℕ) → x < 256 ^ n → digits_l 256 (n + m) (x + 256 ^ n * y) ≡ digits_l 256 n x ++ digits_l 256 m y
-low_digits zero m x y small = let none : x + 256 ^ 0 * y ≡ y = omega (arith, small) in
-    ap₂ (digits_l 256) (let same : 0 + m ≡ m = omega arith in same) none
-low_digits (suc n) m x y small =
-    let power = pow-suc 256 n in
-    let upper = 256 ^ n * y in
-    let whole : x + 256 ^ suc n * y ≡ x + 256 * upper = rw power omega arith in
-    let low : (x + 256 * upper) % 256 ≡ x % 256 = omega arith in
-    let high : (x + 256 * upper) / 256 ≡ x / 256 + upper = omega arith in
-    ap₂ (digits_l 256) (let same : suc n + m ≡ suc (n + m) = omega arith in same) whole
-    ∙ ap₂ (λ a b. a ∷ digits_l 256 (n + m) b) low high
-    ∙ ap (λ t. x % 256 ∷ t) (low_digits n m (x / 256) y (omega (arith, small, power)))
-
--- the bytes of lanes
-pub lane_bytes : (e : ℕ) (xs : List ℕ) → Each1 (λ x. x < 256 ^ e) xs → digits_l 256 (e * length xs) (number_l (256 ^ e) xs) ≡ bytes_of e xs
-unfolding bytes_of
-lane_bytes e [] fits = let none : e * 0 ≡ 0 = omega arith in ap (λ n. digits_l 256 n 0) none
-lane_bytes e (x ∷ xs) fits =
-    let more : e * suc (length xs) ≡ e + e * length xs = omega arith in
-    ap (λ n. digits_l 256 n (x + 256 ^ e * number_l (256 ^ e) xs)) more
-    ∙ low_digits e (e * length xs) x (number_l (256 ^ e) xs) fits.0
-    ∙ ap (λ t. digits_l 256 e x ++ t) (lane_bytes e xs fits.1)
-
-part_of_chunk : (row : List ℕ) (a n b e c : ℕ) → b + e ≤ n → c ≡ a + b → take e (drop b (take n (drop a row))) ≡ take e (drop c row)
-part_of_chunk row a n b e c room place =
-    let whole : n ≡ b + (n - b) = omega (arith, room) in
-    ap (λ k. take e (drop b (take k (drop a row)))) whole ∙ ap (take e) (drop-take b (n - b) (drop a row))
-    ∙ take-take e (n - b) (drop b (drop a row)) (omega (arith, room)) ∙ ap (take e) (drop-drop b a row) ∙ ap (λ k. take e (drop k row)) (sym place)
-
--- an element of 16 bytes, as a lane
-pub row_lane : (size : Size) (row : List ℕ) (i n j k : ℕ) → ((k : ℕ) → Fits w8 (get_or row k 0)) → j < n
-    → bytes_in size * j + bytes_in size ≤ 16 → bytes_in size * k ≡ 16 * i + bytes_in size * j
-    → get_or (digits_l (range_of size) n (number_l 256 (chunk (16 * i) 16 row))) j 0 ≡ element_of (bytes_in size) row k
-unfolding element_of
-row_lane size row i n j k fits inside room place =
-    get_or_wider 256 (bytes_in size) (range_of size) n _ j (sym (values_of size))
-    (below_from_Fits w8 _ (chunk-fits w8 (16 * i) 16 row fits)) inside
-    ∙ ap (number_l 256) (part_of_chunk row (16 * i) 16 (bytes_in size * j) (bytes_in size) (bytes_in size * k) room place)
+-- with four times as many elements more, where each time is told by its number
+pub summed_turn : (size : Size) (sums : ℕ → ℤ) (old r0 r1 r2 r3 r4 : List ℕ) (k t : ℕ) → IsSummedTo size sums old (4 * k * t) r0
+    → r1 ≡ sixteen_with size sums (k * (4 * t)) k r0 → r2 ≡ sixteen_with size sums (k * (4 * t + 1)) k r1
+    → r3 ≡ sixteen_with size sums (k * (4 * t + 2)) k r2 → r4 ≡ sixteen_with size sums (k * (4 * t + 3)) k r3
+    → IsSummedTo size sums old (4 * k * (t + 1)) r4
+summed_turn size sums old r0 r1 r2 r3 r4 k t is e1 e2 e3 e4 =
+    let s1 = summed_next size sums old r0 r1 (4 * k * t) (k * (4 * t)) k (k * (4 * t + 1)) is e1 (omega arith) (omega arith) in
+    let s2 = summed_more size sums old r1 r2 (k * (4 * t + 1)) k s1 e2 in
+    let s3 = summed_next size sums old r2 r3 (k * (4 * t + 1) + k) (k * (4 * t + 2)) k (k * (4 * t + 3)) s2 e3 (omega arith) (omega arith) in
+    summed_next size sums old r3 r4 (k * (4 * t + 3)) (k * (4 * t + 3)) k (4 * k * (t + 1)) s3 e4 (omega arith) (omega arith)
 
 -- an element and its sum, at a place that is named in two ways
 pub word_lane_is : (sums : ℕ → ℤ) (row : List ℕ) (k j old : ℕ) (z : ℤ) → k ≡ j → old ≡ element_of 4 row k → z ≡ int_wrap w32 (sums k)

@@ -1,6 +1,7 @@
 -- The sources as the loops read them: lists of the numbers of all elements. Those of Zn are negative where
--- the products are subtracted, so that they are added in each case. Those of Zm stand in pairs: of the columns
--- whose elements fill 16 bytes of a row, the first two numbers of each come before the last two of each.
+-- the products are subtracted, so that they are added in each case. Those of Zm stand in pairs: of the
+-- columns whose elements fill 16 bytes of a row, the first two numbers of each come before the last two of
+-- each.
 use Rattle.std.specs.Prelude.{ℕ, ◌+◌, ◌*◌, ◌/◌, ◌%◌, Bool, true, false, List, [], ◌∷◌, ◌++◌, length}
 use Rattle.std.specs.Prelude.{slice_index_or, take, drop, ℤ, pos, neg_ℤ, ◌+ℤ◌, ◌*ℤ◌, FitsSigned}
 use Rattle.std.specs.Int.{Width, w32, w64, int_wrap}

@@ -1,6 +1,6 @@
 //! The sums of four products for the elements of 16 bytes of a row, all at once. The numbers of Zm stand in
-//! pairs, so that LLVM makes of the two products of a pair and their sum one instruction of the processor, and
-//! adds the sums of both pairs lane by lane.
+//! pairs, so that LLVM makes of the two products of a pair of bytes and their sum one instruction of the
+//! processor, and adds the sums of both pairs lane by lane.
 ghost use Rattle.std.specs.Prelude.{◌≡◌, ◌+◌, ◌*◌, ◌≤◌, length};
 ghost use Rattle.std.specs.Int.{w16, w32};
 ghost use Rattle.outer_products.specs.Sources.{AllFit, dot_in_pairs, word_sums, doubleword_sums};
@@ -54,8 +54,8 @@ pub(crate) fn doubleword_sums(n: [i32; 4], m: &[i32], i: usize) -> [i64; 2]
 {
     let [a, b, c, d] = n;
     let n = i32x4::from_array([a, b, c, d]);
-    let first = i32x4::from_array([m[8 * i], m[8 * i + 1], m[8 * i + 2], m[8 * i + 3]]);
-    let last = i32x4::from_array([m[8 * i + 4], m[8 * i + 5], m[8 * i + 6], m[8 * i + 7]]);
+    let first = i32x4::from_slice(&m[8 * i..]);
+    let last = i32x4::from_slice(&m[8 * i + 4..]);
     let even: i64x2 = n.swizzle([0, 0]).cast() * first.swizzle([0, 2]).cast();
     let odd: i64x2 = n.swizzle([1, 1]).cast() * first.swizzle([1, 3]).cast();
     let first = even + odd;

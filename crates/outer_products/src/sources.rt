@@ -93,7 +93,8 @@ pub(crate) fn write_halfwords(signed: bool, negative: bool, bytes: &[u8], out: &
     }
 }
 
-/// Writes the numbers of 16 bytes, which four columns have: the first two of each, and then the last two of each.
+/// Writes the numbers of 16 bytes, which four columns have: the first two of each, and then the last two of
+/// each.
 #[inline(always)]
 fn byte_pairs(signed: bool, bytes: &[u8], i: usize, out: &mut [i16])
     requires bytes { 16 * i + 16 ≤ length bytes.now }

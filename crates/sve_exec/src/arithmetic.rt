@@ -11,6 +11,7 @@ use crate::binary_ops::{
     Difference, SaturatingDifference, SaturatingSum, SignedSaturatingDifference,
     SignedSaturatingSum, Sum,
 };
+use crate::lanes::each_by_lanes;
 use crate::operation::each_with;
 use sm_types::VectorArithmeticOp;
 use vector_elements::Size;
@@ -23,11 +24,11 @@ pub fn vector_arithmetic(op: VectorArithmeticOp, size: Size, d: &mut [u8], m: &[
     ensures { d.new ≡ vector_arithmetic op size d.old m.now }
 {
     match op {
-        VectorArithmeticOp::Add => each_with(Sum, size, d, m),
-        VectorArithmeticOp::Sub => each_with(Difference, size, d, m),
+        VectorArithmeticOp::Add => each_by_lanes(Sum, size, d, m),
+        VectorArithmeticOp::Sub => each_by_lanes(Difference, size, d, m),
         VectorArithmeticOp::Sqadd => each_with(SignedSaturatingSum, size, d, m),
-        VectorArithmeticOp::Uqadd => each_with(SaturatingSum, size, d, m),
+        VectorArithmeticOp::Uqadd => each_by_lanes(SaturatingSum, size, d, m),
         VectorArithmeticOp::Sqsub => each_with(SignedSaturatingDifference, size, d, m),
-        VectorArithmeticOp::Uqsub => each_with(SaturatingDifference, size, d, m),
+        VectorArithmeticOp::Uqsub => each_by_lanes(SaturatingDifference, size, d, m),
     }
 }

@@ -15,6 +15,8 @@ mod copies;
 mod count;
 mod immediate;
 mod immediate_shift;
+mod lane_ops;
+mod lanes;
 mod laws;
 mod logical;
 mod multiply;

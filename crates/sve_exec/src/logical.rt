@@ -7,7 +7,7 @@ ghost use Rattle.std.specs.Prelude.{◌≡◌, ◌%◌, length};
 ghost use Rattle.sve_exec.specs.Logical.{vector_logical};
 
 use crate::binary_ops::{And, AndNot, ExclusiveOr, Or};
-use crate::operation::each_with;
+use crate::lanes::each_by_lanes;
 use sm_types::VectorLogicalOp;
 use vector_elements::Size;
 
@@ -19,9 +19,9 @@ pub fn vector_logical(op: VectorLogicalOp, d: &mut [u8], m: &[u8])
     ensures { d.new ≡ vector_logical op d.old m.now }
 {
     match op {
-        VectorLogicalOp::And => each_with(And, Size::D, d, m),
-        VectorLogicalOp::Orr => each_with(Or, Size::D, d, m),
-        VectorLogicalOp::Eor => each_with(ExclusiveOr, Size::D, d, m),
-        VectorLogicalOp::Bic => each_with(AndNot, Size::D, d, m),
+        VectorLogicalOp::And => each_by_lanes(And, Size::D, d, m),
+        VectorLogicalOp::Orr => each_by_lanes(Or, Size::D, d, m),
+        VectorLogicalOp::Eor => each_by_lanes(ExclusiveOr, Size::D, d, m),
+        VectorLogicalOp::Bic => each_by_lanes(AndNot, Size::D, d, m),
     }
 }

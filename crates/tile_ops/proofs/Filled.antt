@@ -31,13 +31,6 @@ filled_none e f old =
 pub length-element : (e : ℕ) (bytes : List ℕ) (i : ℕ) → i * e + e ≤ length bytes → length (element_bytes e bytes i) ≡ e
 length-element e bytes i room = length-take-le e (drop (i * e) bytes) (omega (arith, length-drop (i * e) bytes))
 
-pub length-with_element : (e : ℕ) (bytes : List ℕ) (i : ℕ) (x : List ℕ) → i * e + e ≤ length bytes → length x ≡ e
-    → length (with_element e bytes i x) ≡ length bytes
-length-with_element e bytes i x room long =
-    let front = length-take-le (i * e) bytes (omega arith) in
-    let back = length-drop (i * e + e) bytes in
-    simp length-append (omega (arith, front, back, long))
-
 -- one element further
 pub filled_next : (e : ℕ) (f : ℕ → List ℕ) (old new : List ℕ) (i : ℕ) (x : List ℕ) → IsFilledTo e f old new i
     → i * e + e ≤ length new → length x ≡ e → x ≡ f i → IsFilledTo e f old (with_element e new i x) (i + 1)

@@ -1,6 +1,8 @@
 -- Vectors that are written element by element.
 use Rattle.std.proofs.Common.{◌≡◌, ℕ, zero, suc, ◌+◌, ◌*◌, ◌/◌, ◌%◌, ◌<◌, List, [], ◌∷◌, ◌++◌, length, take, drop, refl, ap}
-use Rattle.std.proofs.Common.{◌∙◌, sym, append_assoc, add-one, arith, length-append}
+use Rattle.std.proofs.Common.{◌∙◌, sym, append_assoc, add-one, arith, length-append, ◌-◌, get_or, inl, inr}
+use Rattle.std.proofs.lemmas.Bool.{cases_lt}
+use Rattle.std.proofs.lemmas.List.{get_or_append_left, get_or-append_right}
 use Rattle.std.proofs.Math.Seq.{drop-length}
 use Rattle.std.proofs.lemmas.Grind.{common_steps}
 use Rattle.std.specs.Simd.Lanes.{number_l, digits_l}
@@ -13,6 +15,21 @@ pub length-listed : {A : Type 0} → (f : ℕ → A) (n : ℕ) → length (liste
 unfolding listed
 length-listed f zero = refl
 length-listed f (suc n) = let h = length-listed f n in simp length-append (omega (arith, h))
+
+pub listed-at : {A : Type 0} → (f : ℕ → A) (n i : ℕ) (d : A) → i < n → get_or (listed f n) i d ≡ f i
+unfolding listed
+listed-at f zero i d lt = absurd (omega (arith, lt))
+listed-at f (suc n) i d lt =
+    elim (cases_lt i n) [
+      | inl l ↦ get_or_append_left (listed f n) (f n ∷ []) d i (omega (arith, l, length-listed f n)) ∙ listed-at f n i d l
+      | inr g ↦ get_or-append_right (listed f n) (f n ∷ []) n i d (length-listed f n) g
+          ∙ last f n i d (omega (arith, lt, g))
+    ]
+  where
+    last : {A : Type 0} → (f : ℕ → A) (n i : ℕ) (d : A) → i ≡ n → get_or (f n ∷ []) (i - n) d ≡ f i
+    last f n i d e =
+        let none : i - n ≡ 0 = omega (arith, e) in
+        ap (λ k. get_or (f n ∷ []) k d) none ∙ ap f (sym e)
 
 pub listed-next : {A : Type 0} → (f : ℕ → A) (n : ℕ) → listed f (n + 1) ≡ listed f n ++ f n ∷ []
 unfolding listed

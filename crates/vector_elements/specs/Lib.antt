@@ -3,3 +3,4 @@ pub mod Numbers
 pub mod Laws
 pub mod Spread
 pub mod Active
+pub mod Lanes

@@ -5,6 +5,7 @@
 
 mod access;
 mod governed;
+mod lanes;
 mod laws;
 mod loops;
 mod mask;
@@ -12,6 +13,10 @@ mod number;
 mod size;
 
 pub use access::{bit, element, set_element};
+pub use lanes::{
+    byte_lanes, doubleword_lanes, halfword_lanes, set_byte_lanes, set_doubleword_lanes,
+    set_halfword_lanes, set_word_lanes, word_lanes,
+};
 pub use laws::{change_gives_elements, change_keeps_inactive};
 pub use loops::{Change, change_active, change_each, change_marked_or_zero, change_or_zero};
 pub use mask::{are_active, element_bits};

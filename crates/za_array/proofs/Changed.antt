@@ -8,7 +8,7 @@ use Rattle.std.proofs.lemmas.List.{get_or_past}
 use Rattle.std.specs.Simd.Lanes.{number_l}
 use Rattle.vector_elements.specs.Elements.{element_of}
 use Rattle.vector_elements.proofs.Lists.{length-listed}
-use Rattle.za_array.proofs.Places.{listed-at}
+use Rattle.vector_elements.proofs.Lists.{listed-at}
 use Rattle.za_array.specs.Tiles.{tile_vector, changed_vector, changed_tile}
 
 -- row r of a tile is a vector of the array, and its number tells the row and the tile

@@ -1,29 +1,14 @@
 -- The rows of a tile, changed one after another.
-use Rattle.std.proofs.Common.{◌≡◌, ◌≢◌, ℕ, zero, suc, ◌+◌, ◌*◌, ◌<◌, ◌≤◌, ◌/◌, ◌%◌, ◌==◌, nat_lt, Bool, true, false, if◌then◌else◌}
-use Rattle.std.proofs.Common.{List, [], ◌∷◌, length, set, get_or, refl, ap, ◌∙◌, sym, inl, inr, arith, length-set, lt-ltb, le-ltb}
-use Rattle.std.proofs.Common.{◌-◌, eq-eqb}
+use Rattle.std.proofs.Common.{◌≡◌, ◌≢◌, ℕ, ◌+◌, ◌*◌, ◌<◌, ◌≤◌, ◌/◌, ◌%◌, ◌==◌, nat_lt, Bool, true, false, if◌then◌else◌}
+use Rattle.std.proofs.Common.{List, [], length, set, get_or, refl, ap, ◌∙◌, sym, inl, inr, arith, length-set, lt-ltb, le-ltb}
+use Rattle.std.proofs.Common.{eq-eqb}
 use Rattle.std.proofs.lemmas.Bool.{cases_eq, cases_lt, cond-true, cond-false}
 use Rattle.std.proofs.lemmas.Bool.Decides.{eqb_tells}
-use Rattle.std.proofs.lemmas.List.{same_lists, get_or_default, get_or-set_same, get_or-set_other, get_or_append_left, get_or-append_right}
+use Rattle.std.proofs.lemmas.List.{same_lists, get_or_default, get_or-set_same, get_or-set_other}
 use Rattle.std.proofs.lemmas.Nat.{div-mul-add, mod-mul-add, div-add-mod', div_below}
 use Rattle.vector_elements.specs.Elements.{listed}
-use Rattle.vector_elements.proofs.Lists.{length-listed}
+use Rattle.vector_elements.proofs.Lists.{length-listed, listed-at}
 use Rattle.za_array.specs.Tiles.{changed_vector, changed_tile}
-
-pub listed-at : {A : Type 0} → (f : ℕ → A) (n i : ℕ) (d : A) → i < n → get_or (listed f n) i d ≡ f i
-unfolding listed
-listed-at f zero i d lt = absurd (omega (arith, lt))
-listed-at f (suc n) i d lt =
-    elim (cases_lt i n) [
-      | inl l ↦ get_or_append_left (listed f n) (f n ∷ []) d i (omega (arith, l, length-listed f n)) ∙ listed-at f n i d l
-      | inr g ↦ get_or-append_right (listed f n) (f n ∷ []) n i d (length-listed f n) g
-          ∙ last f n i d (omega (arith, lt, g))
-    ]
-  where
-    last : {A : Type 0} → (f : ℕ → A) (n i : ℕ) (d : A) → i ≡ n → get_or (f n ∷ []) (i - n) d ≡ f i
-    last f n i d e =
-        let none : i - n ≡ 0 = omega (arith, e) in
-        ap (λ k. get_or (f n ∷ []) k d) none ∙ ap f (sym e)
 
 -- one more row is counted, unless it is another's
 more_rows : {A : Type 0} → (q k : ℕ) (x y : A) → q ≢ k → (if nat_lt q k then x else y) ≡ (if nat_lt q (k + 1) then x else y)

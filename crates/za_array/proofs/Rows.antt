@@ -14,13 +14,6 @@ use Rattle.za_array.specs.Array.{IsSquare}
 use Rattle.za_array.specs.Layout.{state_of_array}
 use Rattle.za_array.specs.Lending.{with_array_bytes}
 
-pub zero_square : (size : ℕ) (rows : List (List ℕ)) → rows ≡ replicate size (replicate size 0) → IsSquare size rows
-zero_square size rows e = record {
-  count = ap length e ∙ length-replicate size (replicate size 0);
-  long = λ k lt. ap (λ (t : List (List ℕ)). length (get_or t k [])) e ∙ ap length (get_or-replicate size k (replicate size 0) [] lt)
-      ∙ length-replicate {A = ℕ} size 0;
-}
-
 -- rows that were cleared are those of zeros
 pub cleared_square : (size : ℕ) (old new : List (List ℕ)) → IsSquare size old → ClearedRows size old new
     → new ≡ replicate size (replicate size 0)

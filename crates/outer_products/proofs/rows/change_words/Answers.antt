@@ -3,7 +3,7 @@ use Rattle.std.specs.Int.{w16}
 use Rattle.vector_elements.specs.declared.size.Size.TheVariants.{S}
 use Rattle.vector_elements.proofs.Lists.{begun, finished}
 use Rattle.outer_products.specs.Sources.{four_of, dot_in_pairs, word_sums, summed, row_of_sums}
-use Rattle.outer_products.proofs.Written.{summed_next}
+use Rattle.outer_products.proofs.Written.{summed_next, summed_turn}
 use Rattle.outer_products.proofs.Lanes.{read_four}
 use Rattle.outer_products.proofs.rows.change_words.Goals as goal
 
@@ -14,18 +14,14 @@ pub loop-turn-preserved : goal.loop-turn-preserved
 loop-turn-preserved c =
     let n = c.args.s.now.n.now in
     let m = c.args.s.now.m.now in
-    let row = c.args.row.now in
     let t = c.loop-turn.turn in
     let sums = dot_in_pairs 4 (four_of n c.args.r) m in
     let made = λ (i : ℕ). ap (λ ns. word_sums (dot_in_pairs 4 ns m) (4 * i)) (read_four w16 n c.args.r c.requires.n_fit) in
-    let step1 = summed_next S sums row c.loop-turn.row c.add_words.new.row (16 * t) (4 * (4 * t)) 4 (4 * (4 * t) + 4) c.loop-turn.invariant
-    (c.add_words.ensures sums (c.word_sums.ensures ∙ made (4 * t))) (omega arith) (omega arith) in
-    let step2 = summed_next S sums row c.add_words.new.row c.add_words-in-loop-turn.new.row (4 * (4 * t) + 4) (4 * (4 * t + 1)) 4 (4 * (4 * t + 1) + 4) step1
-    (c.add_words-in-loop-turn.ensures sums (c.word_sums-in-loop-turn.ensures ∙ made (4 * t + 1))) (omega arith) (omega arith) in
-    let step3 = summed_next S sums row c.add_words-in-loop-turn.new.row c.add_words-in-loop-turn-2.new.row (4 * (4 * t + 1) + 4) (4 * (4 * t + 2)) 4 (4 * (4 * t + 2) + 4) step2
-    (c.add_words-in-loop-turn-2.ensures sums (c.word_sums-in-loop-turn-2.ensures ∙ made (4 * t + 2))) (omega arith) (omega arith) in
-    summed_next S sums row c.add_words-in-loop-turn-2.new.row c.add_words-in-loop-turn-3.new.row (4 * (4 * t + 2) + 4) (4 * (4 * t + 3)) 4 (16 * (t + 1)) step3
-    (c.add_words-in-loop-turn-3.ensures sums (c.word_sums-in-loop-turn-3.ensures ∙ made (4 * t + 3))) (omega arith) (omega arith)
+    summed_turn S sums c.args.row.now _ _ _ _ _ 4 t c.loop-turn.invariant
+    (c.add_words.ensures sums (c.word_sums.ensures ∙ made (4 * t)))
+    (c.add_words-in-loop-turn.ensures sums (c.word_sums-in-loop-turn.ensures ∙ made (4 * t + 1)))
+    (c.add_words-in-loop-turn-2.ensures sums (c.word_sums-in-loop-turn-2.ensures ∙ made (4 * t + 2)))
+    (c.add_words-in-loop-turn-3.ensures sums (c.word_sums-in-loop-turn-3.ensures ∙ made (4 * t + 3)))
 
 pub loop-i-preserved : goal.loop-i-preserved
 loop-i-preserved c =

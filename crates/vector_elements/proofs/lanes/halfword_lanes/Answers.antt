@@ -1,0 +1,6 @@
+use Rattle.vector_elements.specs.declared.size.Size.TheVariants.{H}
+use Rattle.vector_elements.proofs.Sixteen.{lanes_read}
+use Rattle.vector_elements.proofs.lanes.halfword_lanes.Goals as goal
+
+pub returns : goal.returns
+returns c = lanes_read H c.args.bytes.now c.args.i c.type_inv.bytes
