@@ -1,15 +1,14 @@
 -- What a recorded run shows at a count is one state, and the next count with a PC is sought among these.
-use Rattle.std.proofs.Common.{◌≡◌, ◌≢◌, ℕ, ◌+◌, List, inl, inr, length, ap, sym, ◌∙◌, arith, subst}
+use Rattle.std.proofs.Common.{◌≡◌, ◌≢◌, ℕ, ◌+◌, List, inl, inr, ap, sym, ◌∙◌, arith, subst}
 use Rattle.kernel_contexts.specs.State.{State}
-use Rattle.kernel_contexts.specs.Context.{state_of, stop_of, journal_of}
+use Rattle.kernel_contexts.specs.Context.{state_of, journal_of}
 use Rattle.kernel_contexts.specs.declared.context.Context.{Context}
 use Rattle.sm_types.specs.declared.config.Config.{Config}
 use Rattle.sm_types.specs.declared.shared_op.Event.{Event}
 use Rattle.paged_memory.specs.Image.{Program}
 use Rattle.lone_runner.specs.LoneRun.{IsLoneRun, HasRunAlone}
-use Rattle.lone_runner.specs.Parting.{IsShown, EndsAt, state_at}
+use Rattle.lone_runner.specs.Parting.{EndsAt, state_at}
 use Rattle.lone_runner.proofs.Partings.{compared}
-use Rattle.lone_runner.proofs.Shown.{state_standing}
 use Rattle.sme_debugger.specs.Recording.{Recording, Shows, reached_by, counted_by}
 use Rattle.sme_debugger.specs.Answers.{NoneBetween}
 
@@ -22,16 +21,6 @@ one_state r count s t h k = elim (compared h.turns k.turns) [
   | inr (inl same) ↦ sym h.reached ∙ ap (λ m. state_at (reached_by r m)) same ∙ k.reached
   | inr (inr more) ↦ absurd (h.first k.turns more (counts_there r count t k))
 ]
-
--- a context that is shown has the state that is shown
-pub shown_state : (r : Recording) (count : ℕ) (context : Context)
-    → IsShown r.program r.config r.thread r.journal count context → Shows r count (state_of context)
-shown_state r count context h = record {
-  turns = h.turns;
-  reached = ap state_at h.reached ∙ state_standing (state_of context) (stop_of context) (length (journal_of context)) h.left;
-  counts = h.counts;
-  first = h.first;
-}
 
 pub none_at_first : (r : Recording) (above address : ℕ) → NoneBetween r above (above + 1) address
 none_at_first r above address = λ count s over under. absurd (omega (arith, over, under))

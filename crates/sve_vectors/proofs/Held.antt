@@ -24,10 +24,6 @@ pub current_fits : (vl svl : VecLen) (on : Bool) → current_bytes vl svl on ≤
 current_fits vl svl true = omega arith
 current_fits vl svl false = omega arith
 
-pub room_is : (rows : List (Vec ℕ Global)) (m size n : ℕ) → AreRows m size (items_of rows) → n < m
-    → (n < length rows) × (length (get_or (items_of rows) n []) ≡ size)
-room_is rows m size n h lt = (omega (arith, h.count, length-map rows (λ (v : Vec ℕ Global). v.items)), h.long n lt)
-
 pub vector_at : (bytes size n : ℕ) (z p : List (List ℕ)) (ffr : List ℕ) → AreRows 32 size z → n < 32
     → get_or (registers_of_rows bytes z p ffr).vectors n [] ≡ take bytes (get_or z n [])
 unfolding registers_of_rows
