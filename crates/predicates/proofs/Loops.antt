@@ -92,6 +92,10 @@ count_further e mask results n count on x is is_on is_x =
     ∙ sym (count-one (governed_to e mask results n) (is_active e mask n) (is_active e results n))
     ∙ ap true_count (sym (governed_to-next e mask results n))
 
+pub at_most_one : (b : Bool) → (if b then 1 else 0) ≤ 1
+at_most_one true = omega arith
+at_most_one false = omega arith
+
 pub count_none : (e : ℕ) (mask results : List ℕ) → 0 ≡ true_count (governed_to e mask results 0)
 unfolding listed governed
 count_none e mask results = refl
