@@ -138,6 +138,10 @@ governed_all [] (suc n) is = absurd (omega arith)
 governed_all (x ∷ xs) zero is = absurd (omega arith)
 governed_all (x ∷ xs) (suc n) is = ap (λ t. x ∷ t) (governed_all xs n (omega arith))
 
+first_append : (xs ys : List Bool) (none : Bool) → 0 < length xs → first_or none (xs ++ ys) ≡ first_or none xs
+first_append [] ys none some = absurd (omega arith)
+first_append (x ∷ xs) ys none some = refl
+
 first_listed : (f : ℕ → Bool) (n : ℕ) → first_or false (listed f (suc n)) ≡ f 0
 unfolding listed
 first_listed f zero = refl
