@@ -5,7 +5,7 @@ use Rattle.std.specs.Fmt.{digits}
 use Rattle.cmd_words.specs.Options.{takes}
 use Rattle.cmd_words.specs.declared.setting.Setting.{Setting}
 use Rattle.cmd_words.specs.declared.setting.Setting.TheVariants.{Vl, Svl, Slice, Budget, Threads, Cores}
-use Rattle.command_lines.specs.Texts.{has_number, help_text, numbers_of, option_line, HasFront, HasPart, status_line}
+use Rattle.command_lines.specs.Texts.{has_number, help_text, numbers_taken, option_line, HasFront, HasPart, status_line}
 use Rattle.command_lines.specs.declared.status.Status.{Status}
 use Rattle.command_lines.specs.declared.status.Status.TheVariants.{Done}
 
@@ -63,7 +63,7 @@ any_of_five false false false true e = refl
 any_of_five false false false false true = refl
 any_of_five false false false false false = refl
 
-pub has_numbers : (setting : Setting) (n : ℕ) → has_number (numbers_of setting) n ≡ takes setting n
+pub has_numbers : (setting : Setting) (n : ℕ) → has_number (numbers_taken setting) n ≡ takes setting n
 has_numbers Vl n = any_of_five (n == 128) (n == 256) (n == 512) (n == 1024) (n == 2048)
 has_numbers Svl n = any_of_five (n == 128) (n == 256) (n == 512) (n == 1024) (n == 2048)
 has_numbers Slice n = refl

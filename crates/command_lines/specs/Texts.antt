@@ -36,13 +36,13 @@ pub data Numbers : Type 0 where
   OneOf : List ℕ → Numbers
   FromTo : ℕ → ℕ → Numbers
 
-abbrev pub numbers_of : Setting → Numbers
-numbers_of Vl = OneOf (128 ∷ 256 ∷ 512 ∷ 1024 ∷ 2048 ∷ [])
-numbers_of Svl = OneOf (128 ∷ 256 ∷ 512 ∷ 1024 ∷ 2048 ∷ [])
-numbers_of Slice = FromTo 1 1000000
-numbers_of Budget = FromTo 1 4294967295
-numbers_of Threads = FromTo 1 32
-numbers_of Cores = FromTo 1 64
+abbrev pub numbers_taken : Setting → Numbers
+numbers_taken Vl = OneOf (128 ∷ 256 ∷ 512 ∷ 1024 ∷ 2048 ∷ [])
+numbers_taken Svl = OneOf (128 ∷ 256 ∷ 512 ∷ 1024 ∷ 2048 ∷ [])
+numbers_taken Slice = FromTo 1 1000000
+numbers_taken Budget = FromTo 1 4294967295
+numbers_taken Threads = FromTo 1 32
+numbers_taken Cores = FromTo 1 64
 
 abbrev pub is_among : ℕ → List ℕ → Bool
 is_among n [] = false
@@ -77,7 +77,7 @@ option_word Cores = codes "  --cores N     cores: "
 abbrev pub option_line : Setting → List ℕ
 option_line setting =
     option_word setting
-    ++ (numbers_text (numbers_of setting) ++ (codes "; else " ++ (decimal (default_of setting)
+    ++ (numbers_text (numbers_taken setting) ++ (codes "; else " ++ (decimal (default_of setting)
     ++ codes "\n")))
 
 -- how the text that is written with a status begins, or what became of it

@@ -8,8 +8,8 @@ use Rattle.core_unit.specs.Guest.{Held, guest_of, held_of, held_on}
 use Rattle.core_unit.specs.declared.unit.Core.{Core}
 
 -- a whole context
-abbrev pub held_in : {P T : Type 0} {b : _} → Whole P T b → Held T
-held_in w = record { guest = guest_of w.context; ticket = w.ticket }
+abbrev pub held_by : {P T : Type 0} {b : _} → Whole P T b → Held T
+held_by w = record { guest = guest_of w.context; ticket = w.ticket }
 
 -- a core
 abbrev pub core_state : {P T : Type 0} {b : _} → Core P T b → CoreState T

@@ -96,7 +96,7 @@ impl<P: Port> Core<P> {
     ghost use Rattle.core_unit.specs.CoreState.{with_done, with_next, first_number, turned_over};
     ghost use Rattle.core_unit.specs.CoreState.{IsAbsent, BelongTo};
     ghost use Rattle.core_unit.specs.Run.{RunsCore};
-    ghost use Rattle.core_unit.specs.View.{core_state, held_in, bank_in, owner_of, contexts_in};
+    ghost use Rattle.core_unit.specs.View.{core_state, held_by, bank_in, owner_of, contexts_in};
 
     /// A core without threads, for those of a port. `Memory` is want of memory.
     pub fn new(alloc: Global, number: u32, config: &Config, _port: &P) -> Result<Core<P>, Memory>
@@ -124,7 +124,7 @@ impl<P: Port> Core<P> {
         requires config { config_of whole.context ≡ (core_state self.old).config }
         requires absent { IsAbsent (thread_of whole.context) (core_state self.old) }
         ensures admitted { OnOk result (core_state self.new
-            ≡ with_last (held_in whole) (core_state self.old)) }
+            ≡ with_last (held_by whole) (core_state self.old)) }
         ensures room { OnOk result (thread_count (core_state self.old) < places) }
         ensures back { IfErr result (λ back. back ≡ whole) }
         ensures full { OnErr result (thread_count (core_state self.old) ≡ places) }
@@ -188,7 +188,7 @@ impl<P: Port> Core<P> {
     /// Takes the first resident out, with its vectors and ZA at home; `None` exactly where there is none.
     pub fn evict(&mut self) -> Option<Whole<P>>
         ensures taken { IfSome result (λ w. core_state self.old
-            ≡ with_first (held_in w) (core_state self.new)) }
+            ≡ with_first (held_by w) (core_state self.new)) }
         ensures config { IfSome result (λ w. config_of w.context ≡ (core_state self.old).config) }
         ensures none { result ≡ None → (core_state self.old).residents ≡ [] }
         ensures unchanged { result ≡ None → core_state self.new ≡ core_state self.old }
@@ -204,7 +204,7 @@ impl<P: Port> Core<P> {
     /// Takes a thread out that has stopped; `None` exactly where there is none.
     pub fn take_done(&mut self) -> Option<Whole<P>>
         ensures taken { IfSome result (λ w. core_state self.old
-            ≡ with_done (held_in w) (core_state self.new)) }
+            ≡ with_done (held_by w) (core_state self.new)) }
         ensures none { result ≡ None → (core_state self.old).done ≡ [] }
         ensures unchanged { result ≡ None → core_state self.new ≡ core_state self.old }
         ensures owner { owner_of self.new ≡ owner_of self.old }

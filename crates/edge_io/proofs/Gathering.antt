@@ -124,12 +124,6 @@ pub flushed : {a b : Gathered} {s : SinkView} {r : Result Unit PutFault} {text :
 flushed {a = a} {b = b} {text = text} none_held h k =
     writes_as (written_held h.ok.0 b.held text a.held none_held h.ok.2) (writes_then _ _ _ _ _ _ h.ok.1 k)
 
--- from a piece that has gathered the same
-pub gathers_from : {s : SinkView} {h k : List ℕ} {b : Gathered} {r : Result Unit PutFault} {text : List ℕ} → h ≡ k
-    → Gathers (record { sink = s; held = h }) b r text → Gathers (record { sink = s; held = k }) b r text
-gathers_from {s = s} {b = b} {r = r} {text = text} e g =
-    let P : List ℕ → Type 0 = λ l. Gathers (record { sink = s; held = l }) b r text in subst P e g
-
 -- ---- a text of which a part is left
 
 pub sofar_start : (a : Gathered) (all : List ℕ) → SoFar a a all all

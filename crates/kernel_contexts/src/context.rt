@@ -76,7 +76,8 @@ impl Context {
     ghost use Rattle.kernel_contexts.specs.Context.{state_of, config_of, thread_of, stop_of, machine_of};
     ghost use Rattle.kernel_contexts.specs.Context.{save_area_of, image_of, journal_of, made_by};
     ghost use Rattle.kernel_contexts.specs.Context.{TurnsOrStays, IsSameThread, MayWantMemory};
-    ghost use Rattle.kernel_contexts.specs.Context.{IsPlaceFree, is_home, IsOn, bank_with, GoesOrAsks, turn_at, turn_with};
+    ghost use Rattle.kernel_contexts.specs.Context.{IsPlaceFree, is_home, IsOn, bank_with, GoesOrAsks};
+    ghost use Rattle.kernel_contexts.specs.Context.{turn_at, turn_with};
     ghost use Rattle.kernel_contexts.specs.Context.{TurnsOn, vectors_on, state_on, bank_of};
     ghost use Rattle.kernel_contexts.specs.Context.{writes_of_turn, pages_of};
     ghost use Rattle.kernel_contexts.specs.Owned.{TurnOwns};

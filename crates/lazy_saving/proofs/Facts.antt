@@ -6,7 +6,7 @@ use Rattle.std.specs.FinMap.{get}
 use Rattle.std.proofs.lemmas.Nat.{row_fits}
 use Rattle.paged_memory.specs.Memory.{AddressSpace, byte_with, bytes_with, first_without}
 use Rattle.mem_access.specs.Runs.{with_bytes, first_shared}
-use Rattle.signal_frames.proofs.ReadBack.{read_back}
+use Rattle.mem_access.proofs.ReadBack.{read_back}
 use Rattle.sm_types.specs.Routines.{disable_words}
 use Rattle.lazy_saving.specs.Code.{HasWords}
 use Rattle.lazy_saving.specs.Block.{AreApart, IsBlock}

@@ -8,7 +8,7 @@ use Rattle.std.proofs.lemmas.Bool.Decides.{nat_tests}
 use Rattle.sm_types.specs.Bytes.{little_number}
 use Rattle.paged_memory.specs.Memory.{AddressSpace, IsWhole, byte_with, bytes_with, and_byte, permits, permitted, word_at, first_without}
 use Rattle.paged_memory.specs.Memory.{unless_there, run_of}
-use Rattle.signal_frames.proofs.Putting.{neither}
+use Rattle.paged_memory.proofs.Ready.{neither}
 use Rattle.sve_access.specs.After.{read_bytes}
 use Rattle.machine_step.specs.ProcessorState.{ProcessorState}
 use Rattle.sm_types.specs.Routines.{disable_words, restore_words, tail_words}

@@ -1,7 +1,8 @@
 -- The TPIDR2 block and the buffer that it names.
 -- Source: AAPCS64, the ZA lazy saving scheme: the address of the buffer, the number of the slices to save,
 -- and bytes that are zero. That a block stands at a multiple of 16 is this project's own.
-use Rattle.std.specs.Prelude.{◌≡◌, ℕ, ◌+◌, ◌%◌, ◌^◌, ◌<◌, ◌≤◌, ◌==◌, cond, List, Some, None, take, drop, replicate}
+use Rattle.std.specs.Prelude.{◌≡◌, ℕ, ◌+◌, ◌%◌, ◌^◌, ◌<◌, ◌≤◌, ◌==◌, cond, List, Some, None, take, drop}
+use Rattle.std.specs.Prelude.{replicate}
 use Rattle.sm_types.specs.Bytes.{little_number}
 use Rattle.paged_memory.specs.Memory.{AddressSpace, bytes_with, first_without}
 use Rattle.mem_access.specs.Runs.{first_shared}

@@ -1,7 +1,8 @@
 -- A dormant ZA and a lawful callee.
 -- Source: AAPCS64, the ZA lazy saving scheme: ZA is dormant where PSTATE.ZA is 1 and TPIDR2_EL0 is not null;
 -- a callee either leaves it so or saves it and turns it off.
-use Rattle.std.specs.Prelude.{◌≡◌, ◌⊎◌, ℕ, ◌+◌, ◌*◌, ◌/◌, ◌%◌, ◌^◌, ◌<◌, true, false, List, [], length, slice_index_or}
+use Rattle.std.specs.Prelude.{◌≡◌, ◌⊎◌, ℕ, ◌+◌, ◌*◌, ◌/◌, ◌%◌, ◌^◌, ◌<◌, true, false, List, [], length}
+use Rattle.std.specs.Prelude.{slice_index_or}
 use Rattle.std.specs.FinMap.{get}
 use Rattle.scalar_exec.specs.Registers.{x_of}
 use Rattle.paged_memory.specs.Memory.{AddressSpace, run_of}

@@ -1,6 +1,7 @@
 -- What the routines come to.
 -- Source: AAPCS64, the ZA lazy saving scheme. How many instructions they take is this project's own.
-use Rattle.std.specs.Prelude.{◌≡◌, ℕ, ◌+◌, ◌*◌, ◌%◌, ◌^◌, ◌<◌, ◌≤◌, ◌==◌, ◌&&◌, ◌||◌, nat_le, Bool, true, false, cond}
+use Rattle.std.specs.Prelude.{◌≡◌, ℕ, ◌+◌, ◌*◌, ◌%◌, ◌^◌, ◌<◌, ◌≤◌, ◌==◌, ◌&&◌, ◌||◌, nat_le, Bool, true}
+use Rattle.std.specs.Prelude.{false, cond}
 use Rattle.std.specs.Prelude.{List, [], length, slice_index, slice_index_or, replicate}
 use Rattle.std.specs.FinMap.{get}
 use Rattle.sm_types.specs.declared.scalars.Scalars.{Scalars}

@@ -15,14 +15,16 @@ use Rattle.scalar_exec.specs.Step.{is_scalar}
 use Rattle.vector_step.specs.Step.{is_vector_computed}
 use Rattle.matrix_step.specs.Step.{is_matrix_computed}
 use Rattle.paged_memory.specs.Memory.{AddressSpace, word_at}
-use Rattle.paged_memory.proofs.Owned.{owns_same}
-use Rattle.paged_memory.specs.PageTable.{PageTable, OwnsAlso, IsRefused}
+use Rattle.paged_memory.proofs.Owned.{owns_same, owns_keeps}
+use Rattle.paged_memory.specs.PageTable.{PageTable, OwnsAlso, KeepsOwned, IsRefused}
 use Rattle.mem_access.specs.Transfer.{writes_of, raised_by}
 use Rattle.mem_access.specs.declared.bank.Bank.{Bank}
 use Rattle.mem_access.specs.declared.stop.AccessStop.{AccessStop}
 use Rattle.mem_access.specs.declared.stop.AccessStop.TheVariants.{Raise as RaiseStop}
 use Rattle.machine_step.specs.Owned.{ExecutionOwns, AttemptOwns, StepOwns, writes_on, writes_in, step_writes}
 use Rattle.machine_step.specs.declared.at_once.Attempt.{Attempt}
+use Rattle.machine_step.specs.declared.at_once.Attempt.TheVariants.{Done, Waits}
+use Rattle.machine_step.specs.declared.at_once.Attempt.TheVariants as attempt
 use Rattle.machine_step.specs.declared.machine.Machine.{Machine}
 use Rattle.machine_step.specs.declared.executed.Executed.{Executed}
 use Rattle.machine_step.specs.declared.executed.Executed.TheVariants.{Next, Call, Raise, Ask, NeedsBank, Memory}
@@ -55,6 +57,11 @@ step_as xs ys old new end same owns = subst (λ (bytes : List ℕ). StepOwns byt
 
 pub attempt_as : (xs ys : List ℕ) (old new : PageTable) (end : Attempt) → xs ≡ ys → AttemptOwns ys old new end → AttemptOwns xs old new end
 attempt_as xs ys old new end same owns = subst (λ (bytes : List ℕ). AttemptOwns bytes old new end) (sym same) owns
+
+pub attempt_keeps : (written : List ℕ) (old new : PageTable) (end : Attempt) → AttemptOwns written old new end → KeepsOwned old new
+attempt_keeps written old new Done owns = owns_keeps old new written owns
+attempt_keeps written old new Waits same = λ n owned. rw same owned
+attempt_keeps written old new attempt.Memory kept = kept
 
 -- an access that is made
 pub owns_next : (written : List ℕ) (old mid new : PageTable) (end : Executed) → OwnsAlso old mid written → new ≡ mid → end ≡ Next

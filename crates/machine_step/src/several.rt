@@ -1,5 +1,6 @@
 //! Several instructions that are executed at once, one after the other, with no look at what else may be due.
 ghost use Rattle.std.specs.Prelude.{◌≡◌, ◌≤◌};
+ghost use Rattle.paged_memory.specs.PageTable.{KeepsOwned};
 ghost use Rattle.mem_access.specs.Bank.{bank_state};
 ghost use Rattle.machine_step.specs.ProcessorState.{vector_bytes};
 ghost use Rattle.machine_step.specs.Effect.{effect_of};
@@ -13,13 +14,14 @@ use mem_access::Bank;
 
 impl Machine {
     /// Executes instructions one after the other, `most` at most, and tells how many. It ends before one that
-    /// is not executed at once, that may raise or ask, or for which memory is wanting; there may be more
-    /// owned pages then.
+    /// is not executed at once, that may raise or ask, or for which memory is wanting. Owned pages stay owned;
+    /// which come to them, the single step says.
     pub fn step_several(&mut self, decoder: &mut Decoder, bank: &mut Bank, most: u32) -> u32
         requires { IsInMode bank.old self.old }
         ensures executed { AreExecuted (vector_bytes bank.old.vectors.vl) result
             (core_of self.old (bank_state bank.old)) (core_of self.new (bank_state bank.new)) }
         ensures few { result ≤ most }
+        ensures owned { KeepsOwned self.old.pages self.new.pages }
         ensures same { IsSameBank bank.old bank.new }
         ensures mode { IsInMode bank.new self.new }
     {
@@ -39,6 +41,7 @@ impl Machine {
     fn step_at_once(&mut self, decoder: &mut Decoder, bank: &mut Bank) -> Attempt
         requires { IsInMode bank.old self.old }
         ensures effect { AttemptsOn effect_of self.old bank.old self.new bank.new result }
+        ensures owned { KeepsOwned self.old.pages self.new.pages }
         ensures same { IsSameBank bank.old bank.new }
         ensures mode { IsInMode bank.new self.new }
     {

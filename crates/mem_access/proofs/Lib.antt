@@ -8,3 +8,4 @@ pub mod Room
 pub mod Lists
 pub mod Touched
 pub mod Owned
+pub mod ReadBack

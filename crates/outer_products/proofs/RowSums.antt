@@ -9,7 +9,7 @@ use Rattle.za_array.specs.Array.{IsSquare, ArrayState}
 use Rattle.za_array.specs.Tiles.{changed_tile}
 use Rattle.outer_products.specs.declared.kind.MopaKind.{MopaKind}
 use Rattle.outer_products.specs.OuterProducts.{source_size, sum_size, Source, source, sum_of, changed, outer_row}
-use Rattle.outer_products.specs.Sources.{negated, numbers_of, columns, pair_place, unpaired, pairs_of, number, four_of, dot_in_pairs}
+use Rattle.outer_products.specs.Sources.{negated, elements_of, columns, pair_place, unpaired, pairs_of, number, four_of, dot_in_pairs}
 use Rattle.outer_products.specs.Sources.{summed, row_of_sums}
 use Rattle.outer_products.proofs.Numbers.{four_products}
 use Rattle.outer_products.proofs.Active.{AreBytes, active_number, product_is, active_bytes}
@@ -60,7 +60,7 @@ module _ (halves negative : Bool) (n m : Source) (nb : AreBytes n.vector) (mb : 
   pub record AreReady : Type 0 where
     pub n_long : length n.vector ≡ size
     pub m_long : length m.vector ≡ size
-    pub n_is : ns ≡ numbers_of (source_size halves) n.signed negative (active_bytes (source_size halves) n nb)
+    pub n_is : ns ≡ elements_of (source_size halves) n.signed negative (active_bytes (source_size halves) n nb)
     pub m_is : ms ≡ pairs_of (columns (sum_size halves)) (source_size halves) m.signed (active_bytes (source_size halves) m mb)
     pub whole : size % 16 ≡ 0
 
@@ -120,10 +120,10 @@ module _ (halves negative : Bool) (n m : Source) (nb : AreBytes n.vector) (mb : 
 -- numbers of a source whose elements' size is known
 pub ready : (e : Size) (halves : Bool) (s : Source) (bytes : AreBytes s.vector) (negative : Bool) (active : List ℕ) (xs : List ℤ)
     → e ≡ source_size halves
-    → xs ≡ numbers_of e s.signed negative active → active ≡ active_bytes e s bytes
-    → xs ≡ numbers_of (source_size halves) s.signed negative (active_bytes (source_size halves) s bytes)
+    → xs ≡ elements_of e s.signed negative active → active ≡ active_bytes e s bytes
+    → xs ≡ elements_of (source_size halves) s.signed negative (active_bytes (source_size halves) s bytes)
 ready e halves s bytes negative active xs same is from =
-    is ∙ ap (numbers_of e s.signed negative) from ∙ ap (λ size. numbers_of size s.signed negative (active_bytes size s bytes)) same
+    is ∙ ap (elements_of e s.signed negative) from ∙ ap (λ size. elements_of size s.signed negative (active_bytes size s bytes)) same
 
 -- the same in pairs
 pub ready_pairs : (known halves : Bool) (s : Source) (bytes : AreBytes s.vector) (active : List ℕ) (xs : List ℤ) → known ≡ halves

@@ -13,7 +13,7 @@ use Rattle.vector_elements.specs.Numbers.{bytes_in, range_of}
 use Rattle.vector_elements.proofs.Lists.{length-listed, listed-at, length-written, listed-next, some_bytes}
 use Rattle.vector_elements.proofs.Sixteen.{values_of, listed-more}
 use Rattle.outer_products.specs.OuterProducts.{Source}
-use Rattle.outer_products.specs.Sources.{negated, number_at, numbers_of, unpaired, pair_number, pairs_of, number, AllFit}
+use Rattle.outer_products.specs.Sources.{negated, number_at, elements_of, unpaired, pair_number, pairs_of, number, AllFit}
 use Rattle.outer_products.proofs.Numbers.{IsWithin, number_within, negated_within}
 use Rattle.outer_products.proofs.Active.{AreBytes, element_fits, active_number, active_bytes, active_is}
 use mir.Syntax.{Width}
@@ -52,7 +52,7 @@ listed_fit w f n fits none k = elim (cases_lt k n) [
 ]
 
 pub numbers_fit : (size : Size) (w : Width) → ((z : ℤ) → IsWithin (range_of size) z → FitsSigned w z) → FitsSigned w (pos 0)
-    → (signed negative : Bool) (bytes : List ℕ) → AreBytes bytes → AllFit w (numbers_of size signed negative bytes)
+    → (signed negative : Bool) (bytes : List ℕ) → AreBytes bytes → AllFit w (elements_of size signed negative bytes)
 numbers_fit size w fits none signed negative bytes are =
     listed_fit w _ _ (number_fits size w fits signed negative bytes are) none
 
@@ -70,7 +70,7 @@ module _ (size : Size) (negative : Bool) (s : Source) (bytes : AreBytes s.vector
 
   -- number i is that of the element, or zero where it is not active
   pub read_number : (i : ℕ) → i < length s.vector / bytes_in size
-      → number (numbers_of size s.signed negative (active_bytes size s bytes)) i ≡ negated negative (active_number size s i)
+      → number (elements_of size s.signed negative (active_bytes size s bytes)) i ≡ negated negative (active_number size s i)
   read_number i below =
       listed-at (number_at size s.signed negative (active_bytes size s bytes)) (length (active_bytes size s bytes) / bytes_in size) i
       (pos 0)

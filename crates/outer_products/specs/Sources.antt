@@ -21,8 +21,8 @@ number_at size signed negative bytes i =
     negated negative (number_of signed size (element_of (bytes_in size) bytes i))
 
 -- those of all elements
-abbrev pub numbers_of : Size → Bool → Bool → List ℕ → List ℤ
-numbers_of size signed negative bytes =
+abbrev pub elements_of : Size → Bool → Bool → List ℕ → List ℤ
+elements_of size signed negative bytes =
     listed (number_at size signed negative bytes) (length bytes / bytes_in size)
 
 -- the columns whose elements fill 16 bytes

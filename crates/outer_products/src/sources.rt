@@ -5,7 +5,7 @@ ghost use Rattle.vector_elements.specs.Elements.{listed, each_or_zero};
 ghost use Rattle.vector_elements.specs.Numbers.{bytes_in};
 ghost use Rattle.outer_products.specs.OuterProducts.{number_of};
 ghost use Rattle.std.specs.Int.{w16, w32};
-ghost use Rattle.outer_products.specs.Sources.{negated, numbers_of, pair_number, pairs_of, AllFit};
+ghost use Rattle.outer_products.specs.Sources.{negated, elements_of, pair_number, pairs_of, AllFit};
 
 use std::simd::prelude::*;
 use vector_elements::{Change, Size, change_or_zero, element};
@@ -73,7 +73,7 @@ fn halfword_number(signed: bool, negative: bool, x: u64) -> i32
 #[inline(always)]
 pub(crate) fn write_bytes(signed: bool, negative: bool, bytes: &[u8], out: &mut [i16])
     requires { length out.old ≡ length bytes.now }
-    ensures value { out.new ≡ numbers_of B signed negative bytes.now }
+    ensures value { out.new ≡ elements_of B signed negative bytes.now }
     ensures fit { AllFit w16 out.new }
 {
     for i in 0..out.len() {
@@ -85,7 +85,7 @@ pub(crate) fn write_bytes(signed: bool, negative: bool, bytes: &[u8], out: &mut 
 #[inline(always)]
 pub(crate) fn write_halfwords(signed: bool, negative: bool, bytes: &[u8], out: &mut [i32])
     requires { length bytes.now ≡ 2 * length out.old }
-    ensures value { out.new ≡ numbers_of H signed negative bytes.now }
+    ensures value { out.new ≡ elements_of H signed negative bytes.now }
     ensures fit { AllFit w32 out.new }
 {
     for i in 0..out.len() {

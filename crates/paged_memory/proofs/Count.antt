@@ -10,7 +10,7 @@ use Rattle.std.specs.Ordering.{nat_cmp}
 use Rattle.std.specs.Option.{option_or}
 use Rattle.paged_memory.specs.Memory.{IsWhole}
 use Rattle.paged_memory.specs.Image.{Extent, Program, union, part_flags, image_flags, part_byte, parts_byte, or_zero, IsMemoryOf, IsImage}
-use Rattle.paged_memory.specs.Image.{IsImagePage}
+use Rattle.paged_memory.specs.Image.{IsLoadablePage}
 use Rattle.paged_memory.specs.Parts.{IsPlaced, ArePlaced, touched_below}
 use Rattle.paged_memory.proofs.Over.{eq_by_cmp-nat}
 
@@ -122,7 +122,7 @@ touches_at p n size from to =
           grind (arith, nat_tests) in record { from = omega arith; to = omega arith; page = omega arith }
     ] refl
 
-page_of_part : (p : Extent) (n : ℕ) → IsPlaced p → IsSome (part_flags p n) → IsImagePage n
+page_of_part : (p : Extent) (n : ℕ) → IsPlaced p → IsSome (part_flags p n) → IsLoadablePage n
 page_of_part p n placed h =
     let test : (nat_lt 0 p.size && nat_le (p.address / 4096) n && nat_le n ((p.address + p.size - 1) / 4096)) ≡ true = touch_test p n h in
     let size : 0 < p.size = grind (arith, nat_tests) in
@@ -135,7 +135,7 @@ either : (o p : Option ℕ) → IsSome (union o p) → IsSome o ⊎ IsSome p
 either None p h = inr h
 either (Some f) p h = inl refl
 
-pub page_of_parts : (parts : List Extent) (n : ℕ) → All IsPlaced parts → IsSome (image_flags parts n) → IsImagePage n
+pub page_of_parts : (parts : List Extent) (n : ℕ) → All IsPlaced parts → IsSome (image_flags parts n) → IsLoadablePage n
 unfolding image_flags
 page_of_parts [] n all h = cc
 page_of_parts (p ∷ parts) n all h =
@@ -151,7 +151,7 @@ not_there (Some x) h = absurd (h refl)
 pub image_made : (parts : List Extent) (p : Program) → ArePlaced parts → IsMemoryOf parts p.memory → IsWhole p.memory → IsImage p
 image_made parts p placed is whole =
     let flags : (n : ℕ) → get p.memory.perm n ≡ image_flags parts n = is.flags in
-    let places : (n : ℕ) → IsSome (get p.memory.perm n) → IsImagePage n = λ n s. page_of_parts parts n placed.placed (rw (flags n) at s) in
+    let places : (n : ℕ) → IsSome (get p.memory.perm n) → IsLoadablePage n = λ n s. page_of_parts parts n placed.placed (rw (flags n) at s) in
     let past : (q : ℕ) → 2 ^ 35 ≤ q → get p.memory.perm q ≡ None =
     λ q l. not_there (get p.memory.perm q) (λ s. let low : q < 2 ^ 35 = (places q s).0 in absurd (omega arith)) in
     let count : len p.memory.perm ≡ touched_below parts (2 ^ 35) =

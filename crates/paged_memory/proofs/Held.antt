@@ -16,7 +16,7 @@ use Rattle.std.specs.Ordering.{nat_cmp, is_lt, eq_by_cmp}
 use Rattle.paged_memory.specs.declared.page.Page.{Page}
 use Rattle.paged_memory.specs.Memory.{set_bytes}
 use Rattle.paged_memory.specs.PageTable.{IsOwned}
-use Rattle.paged_memory.specs.Pages.{page_entry, page_at, mem_of, perm_of, numbers_of, memory_of, table_of, IsFine, AreHeld}
+use Rattle.paged_memory.specs.Pages.{page_entry, page_at, mem_of, perm_of, own_numbers, memory_of, table_of, IsFine, AreHeld}
 use Rattle.paged_memory.proofs.Over.{eq_by_cmp-nat}
 use Rattle.paged_memory.proofs.Bytes.{get-perm_of}
 use Rattle.paged_memory.proofs.Order.{and_first, and_second, found_at}
@@ -55,12 +55,12 @@ owned_step false s p rest n is e none =
       | false ↦ λ t. refl
     ] refl
 
-pub contains-numbers_of : (ps : List Page) (n : ℕ) → is_sorted nat_cmp (map page_entry ps) ≡ true
-    → contains (numbers_of ps) n ≡ owned_in (page_at ps n)
-unfolding numbers_of
-contains-numbers_of [] n h = contains-empty nat_cmp n
-contains-numbers_of (p ∷ ps) n h =
-    owned_step p.bytes.own (numbers_of ps) p (page_at ps n) n refl (contains-numbers_of ps n (and_second _ _ h))
+pub contains-own_numbers : (ps : List Page) (n : ℕ) → is_sorted nat_cmp (map page_entry ps) ≡ true
+    → contains (own_numbers ps) n ≡ owned_in (page_at ps n)
+unfolding own_numbers
+contains-own_numbers [] n h = contains-empty nat_cmp n
+contains-own_numbers (p ∷ ps) n h =
+    owned_step p.bytes.own (own_numbers ps) p (page_at ps n) n refl (contains-own_numbers ps n (and_second _ _ h))
     (λ t. subst (λ k. page_at ps k ≡ None) (same_number p.number n t) (none_later ps p.number (and_first _ _ h)))
 
 -- ---- one page that is changed
@@ -91,8 +91,8 @@ memory_of-kept ps i new d l e f g =
     λ j. record { mem = mem j; perm = perm j }
 
 pub numbers_of-kept : (ps : List Page) (i : ℕ) (new d : Page) → i < length ps → new.number ≡ (get_or ps i d).number
-    → new.bytes.own ≡ (get_or ps i d).bytes.own → numbers_of (set ps i new) ≡ numbers_of ps
-unfolding numbers_of
+    → new.bytes.own ≡ (get_or ps i d).bytes.own → own_numbers (set ps i new) ≡ own_numbers ps
+unfolding own_numbers
 numbers_of-kept [] i new d l e f = absurd (omega arith)
 numbers_of-kept (p ∷ ps) zero new d l e f = rw (e, f) refl
 numbers_of-kept (p ∷ ps) (suc i) new d l e f =
@@ -101,15 +101,15 @@ numbers_of-kept (p ∷ ps) (suc i) new d l e f =
 -- the page of a number is owned besides
 pub numbers_of-own : (ps : List Page) (i n : ℕ) (new d : Page) → IsFine ps → IsFine (set ps i new) → i < length ps
     → page_at ps n ≡ slice_get ps i → new.number ≡ (get_or ps i d).number → new.bytes.own ≡ true
-    → numbers_of (set ps i new) ≡ fin.insert (numbers_of ps) n
+    → own_numbers (set ps i new) ≡ fin.insert (own_numbers ps) n
 numbers_of-own ps i n new d fine fine' l found e own =
     let number : new.number ≡ n = e ∙ found_number ps n i d l found in
     same_set nat_cmp_total nat_cmp-IsAntisymmetric _ _ (λ q.
-    contains-numbers_of (set ps i new) q fine'.sorted ∙ ap owned_in (page_at-set ps i new d q fine.sorted l e)
+    contains-own_numbers (set ps i new) q fine'.sorted ∙ ap owned_in (page_at-set ps i new d q fine.sorted l e)
     ∙ sym (or_owned (new.number == q) new (page_at ps q) own)
-    ∙ sym (contains-insert nat_cmp_total (numbers_of ps) n q ∙ ap (λ b. b || contains (numbers_of ps) q) (eq_by_cmp-nat q n)
-    ∙ ap (λ k. (k == q) || contains (numbers_of ps) q) (sym number)
-    ∙ ap (λ b. (new.number == q) || b) (contains-numbers_of ps q fine.sorted)))
+    ∙ sym (contains-insert nat_cmp_total (own_numbers ps) n q ∙ ap (λ b. b || contains (own_numbers ps) q) (eq_by_cmp-nat q n)
+    ∙ ap (λ k. (k == q) || contains (own_numbers ps) q) (sym number)
+    ∙ ap (λ b. (new.number == q) || b) (contains-own_numbers ps q fine.sorted)))
 
 -- the page stands where it stood
 pub page_at-kept : (ps : List Page) (i n : ℕ) (new d : Page) → IsFine (set ps i new) → i < length ps → page_at ps n ≡ slice_get ps i
@@ -121,17 +121,17 @@ page_at-kept ps i n new d fine' l found e =
 
 -- the page that is found is owned where its bytes are its own
 pub owned_at : (ps : List Page) (i n : ℕ) (d : Page) → IsFine ps → i < length ps → page_at ps n ≡ slice_get ps i
-    → contains (numbers_of ps) n ≡ (get_or ps i d).bytes.own
-owned_at ps i n d fine l found = contains-numbers_of ps n fine.sorted ∙ ap owned_in (found_page ps n i d l found)
+    → contains (own_numbers ps) n ≡ (get_or ps i d).bytes.own
+owned_at ps i n d fine l found = contains-own_numbers ps n fine.sorted ∙ ap owned_in (found_page ps n i d l found)
 
 -- ---- all pages, or none
 
-none_of_all : (ps : List Page) → AllByRecursion (λ p. p.bytes.own ≡ false) ps → numbers_of ps ≡ fin.empty
-unfolding numbers_of
+none_of_all : (ps : List Page) → AllByRecursion (λ p. p.bytes.own ≡ false) ps → own_numbers ps ≡ fin.empty
+unfolding own_numbers
 none_of_all [] h = refl
 none_of_all (p ∷ ps) h = rw h.0 (none_of_all ps h.1)
 
-pub none_owned : (ps : List Page) → AreHeld false ps → len (numbers_of ps) ≡ 0
+pub none_owned : (ps : List Page) → AreHeld false ps → len (own_numbers ps) ≡ 0
 none_owned ps h =
     ap len (none_of_all ps (recursion_from_All (λ p. p.bytes.own ≡ false) ps h)) ∙ len-empty nat_cmp
 
@@ -147,7 +147,7 @@ own_at_each (p ∷ ps) n h there =
 
 pub all_owned : (ps : List Page) (n : ℕ) → IsFine ps → AreHeld true ps → IsSome (get (perm_of ps) n) → IsOwned (table_of ps) n
 all_owned ps n fine held there =
-    contains-numbers_of ps n fine.sorted
+    contains-own_numbers ps n fine.sorted
     ∙ own_at_each ps n (recursion_from_All (λ p. p.bytes.own ≡ true) ps held) (ap is_some (sym (get-perm_of ps n)) ∙ there)
 
 -- ---- how many there are
@@ -161,13 +161,13 @@ counted : (own : Bool) (count : ℕ) → cond own (count + 1) count ≡ cond own
 counted true count = omega arith
 counted false count = omega arith
 
-pub len-numbers_of : (ps : List Page) → is_sorted nat_cmp (map page_entry ps) ≡ true
-    → len (numbers_of ps) ≡ count_by (λ p. p.bytes.own) ps
-unfolding numbers_of
-len-numbers_of [] h = len-empty nat_cmp
-len-numbers_of (p ∷ ps) h =
-    one_more_owned p.bytes.own (numbers_of ps) p.number (count_by (λ p. p.bytes.own) ps) (len-numbers_of ps (and_second _ _ h))
-    (contains-numbers_of ps p.number (and_second _ _ h) ∙ ap owned_in (none_later ps p.number (and_first _ _ h)))
+pub len-own_numbers : (ps : List Page) → is_sorted nat_cmp (map page_entry ps) ≡ true
+    → len (own_numbers ps) ≡ count_by (λ p. p.bytes.own) ps
+unfolding own_numbers
+len-own_numbers [] h = len-empty nat_cmp
+len-own_numbers (p ∷ ps) h =
+    one_more_owned p.bytes.own (own_numbers ps) p.number (count_by (λ p. p.bytes.own) ps) (len-own_numbers ps (and_second _ _ h))
+    (contains-own_numbers ps p.number (and_second _ _ h) ∙ ap owned_in (none_later ps p.number (and_first _ _ h)))
     ∙ counted p.bytes.own (count_by (λ p. p.bytes.own) ps)
     ∙ sym (sum_by-cons (λ p. cond p.bytes.own 1 0) p ps)
 

@@ -19,3 +19,4 @@ pub mod Counted
 pub mod Listed
 pub mod Written
 pub mod Permitted
+pub mod Ready

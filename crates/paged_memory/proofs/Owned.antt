@@ -34,6 +34,9 @@ or_right false b h = h
 pub owns_keeps : (old new : PageTable) (addresses : List ℕ) → OwnsAlso old new addresses → KeepsOwned old new
 owns_keeps old new addresses owns n owned = owns n ∙ or_right (is_touched old.memory addresses n) (contains old.owned n) owned
 
+pub kept_trans : (a b c : PageTable) → KeepsOwned a b → KeepsOwned b c → KeepsOwned a c
+kept_trans a b c ab bc n owned = bc n (ab n owned)
+
 refused_keeps : {Cause : Type 0} (old new : PageTable) (cause : Option Cause) → IsRefused old new cause → KeepsOwned old new
 refused_keeps old new (Some cause) same = λ n owned. rw same owned
 refused_keeps old new None kept = kept

@@ -116,13 +116,6 @@ touched_more first n q f old now new l before is =
       | false ↦ λ t h. h ∙ before ∙ sym (rw (no_other first n q t) refl)
     ] refl is
 
-pub touched_all : (address size q f : ℕ) (old : Option ℕ) → 0 < size
-    → union (cond (nat_le (address / 4096) q && nat_lt q ((address + size - 1) / 4096 + 1)) (Some f) None) old
-    ≡ union (cond (nat_lt 0 size && nat_le (address / 4096) q && nat_le q ((address + size - 1) / 4096)) (Some f) None) old
-touched_all address size q f old h =
-    let same : (nat_le (address / 4096) q && nat_lt q ((address + size - 1) / 4096 + 1))
-    ≡ (nat_lt 0 size && nat_le (address / 4096) q && nat_le q ((address + size - 1) / 4096)) = grind (arith, nat_tests) in rw same refl
-
 -- ---- no page
 
 pub no_pages_fine : (ps : List Page) → ps ≡ [] → IsFine ps

@@ -10,7 +10,7 @@ use Rattle.paged_memory.specs.Memory.{first_without, run_of, set_bytes}
 use Rattle.paged_memory.specs.PageTable.{PageTable, AreOwned, Owns, OwnsAlso, KeepsOwned, shared_pages, owned_count}
 use Rattle.paged_memory.specs.Accesses.{stopped_at, IsOfWrite}
 use Rattle.paged_memory.specs.Writes.{Writes}
-use Rattle.paged_memory.specs.Pages.{mem_of, perm_of, numbers_of, memory_of, table_of}
+use Rattle.paged_memory.specs.Pages.{mem_of, perm_of, own_numbers, memory_of, table_of}
 use Rattle.paged_memory.proofs.Over.{set_bytes-none}
 use Rattle.paged_memory.proofs.Counted.{owned_count-also}
 
@@ -27,7 +27,7 @@ writes_none a bytes t e =
 -- the pages are owned first, and then the bytes are set
 pub writes_made : (a : ℕ) (bytes : List ℕ) (ps qs rs : List Page) → memory_of qs ≡ memory_of ps
     → first_without 2 (memory_of ps) a (length bytes) ≡ None → OwnsAlso (table_of ps) (table_of qs) (run_of a (length bytes))
-    → mem_of rs ≡ set_bytes (mem_of qs) a bytes → perm_of rs ≡ perm_of qs → numbers_of rs ≡ numbers_of qs
+    → mem_of rs ≡ set_bytes (mem_of qs) a bytes → perm_of rs ≡ perm_of qs → own_numbers rs ≡ own_numbers qs
     → Writes {Value = Unit {0}} a bytes (table_of ps) (table_of rs) (Ok tt)
 writes_made a bytes ps qs rs same none owns mem perm numbers =
     let mem_is : mem_of rs ≡ set_bytes (mem_of ps) a bytes = mem ∙ ap (λ m. set_bytes m.mem a bytes) same in

@@ -82,12 +82,12 @@ program_code =
     (λ t. record { memory = t.0; entry = t.1.0; code = t.1.1 }) (λ _. refl)
 
 -- a page of that number may be an image's: it is below 2 ^ 47 and in neither the stack nor the shared region
-abbrev pub IsImagePage : ℕ → Type 0
-IsImagePage n = (n < 2 ^ 35) × ((n < 0x7DFFFFFC0) ⊎ (0x7F0000001 ≤ n))
+abbrev pub IsLoadablePage : ℕ → Type 0
+IsLoadablePage n = (n < 2 ^ 35) × ((n < 0x7DFFFFFC0) ⊎ (0x7F0000001 ≤ n))
 
 -- what every image keeps: its memory has exactly the addresses of its pages, and permissions below 8; at most
 -- 4,032 pages, each where an image may have one
 pub record IsImage (p : Program) : Type 0 where
   pub whole : IsWhole p.memory
   pub few : len p.memory.perm ≤ 4032
-  pub places : (n : ℕ) → IsSome (get p.memory.perm n) → IsImagePage n
+  pub places : (n : ℕ) → IsSome (get p.memory.perm n) → IsLoadablePage n

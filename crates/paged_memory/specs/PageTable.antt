@@ -1,7 +1,8 @@
 -- The pages of a guest thread as its callers see them: the memory that they make, and which of them are
 -- owned. An owned page is the thread's alone, and a write to it takes no memory. Source: copy on write, as
 -- System V's fork has it.
-use Rattle.std.specs.Prelude.{◌≡◌, ℕ, ◌+◌, ◌/◌, ◌%◌, ◌^◌, ◌<◌, ◌==◌, ◌||◌, ◌&&◌, Bool, cond, not, List, [], ◌∷◌, refl, IsSome, is_some}
+use Rattle.std.specs.Prelude.{◌≡◌, ℕ, ◌+◌, ◌/◌, ◌%◌, ◌^◌, ◌<◌, ◌==◌, ◌||◌, ◌&&◌, Bool, cond, not, List}
+use Rattle.std.specs.Prelude.{[], ◌∷◌, refl, IsSome, is_some}
 use Rattle.std.specs.Prelude.{IsTrue, Option, Some, None, Result, Ok, Err}
 use Rattle.std.specs.List.{list_any}
 use Rattle.std.specs.FinMap.{get}

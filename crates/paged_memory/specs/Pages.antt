@@ -1,6 +1,7 @@
 -- What a list of pages holds, by address and by number of page.
 -- Source: a page is 4096 bytes from its number times 4096 on.
-use Rattle.std.specs.Prelude.{◌≡◌, ℕ, ◌*◌, ◌<◌, ◌^◌, Bool, true, cond, List, [], ◌∷◌, Option, Some, None, ◌==◌}
+use Rattle.std.specs.Prelude.{◌≡◌, ℕ, ◌*◌, ◌<◌, ◌^◌, Bool, true, cond, List, [], ◌∷◌, Option, Some, None}
+use Rattle.std.specs.Prelude.{◌==◌}
 use Rattle.std.specs.Prelude.{length, All, map}
 use Rattle.std.specs.FinMap.{FinMap, insert, empty, is_sorted}
 use Rattle.std.specs.FinSet.{FinSet}
@@ -31,9 +32,9 @@ abbrev pub memory_of : List Page → AddressSpace
 memory_of ps = record { mem = mem_of ps; perm = perm_of ps }
 
 -- the numbers of the pages whose bytes are their own
-unfoldable pub numbers_of : List Page → FinSet nat_cmp
-numbers_of [] = set.empty
-numbers_of (p ∷ ps) = cond p.bytes.own (set.insert (numbers_of ps) p.number) (numbers_of ps)
+unfoldable pub own_numbers : List Page → FinSet nat_cmp
+own_numbers [] = set.empty
+own_numbers (p ∷ ps) = cond p.bytes.own (set.insert (own_numbers ps) p.number) (own_numbers ps)
 
 -- the bytes of each page are its own, or of none
 abbrev pub AreHeld : Bool → List Page → Type 0
@@ -41,7 +42,7 @@ AreHeld own ps = All (λ p. p.bytes.own ≡ own) ps
 
 -- the table of pages, of which each is owned whose bytes are its own
 abbrev pub table_of : List Page → PageTable
-table_of ps = record { memory = memory_of ps; owned = numbers_of ps }
+table_of ps = record { memory = memory_of ps; owned = own_numbers ps }
 
 -- the program of some pages, an entry and code words
 abbrev pub program_of : List Page → ℕ → List (ℕ × ℕ) → Program

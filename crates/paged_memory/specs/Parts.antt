@@ -1,8 +1,9 @@
 -- Which parts an image may have.
 -- Source: the address space of a guest thread, with its stack and the shared region.
-use Rattle.std.specs.Prelude.{◌≡◌, ℕ, zero, suc, ◌+◌, ◌/◌, ◌%◌, ◌<◌, ◌≤◌, ◌^◌, cond, List, [], ◌∷◌, None, length}
+use Rattle.std.specs.Prelude.{◌≡◌, ℕ, zero, suc, ◌+◌, ◌/◌, ◌%◌, ◌<◌, ◌≤◌, ◌^◌, cond, List, [], ◌∷◌, None}
+use Rattle.std.specs.Prelude.{length}
 use Rattle.std.specs.Prelude.{All, IsSome, is_some}
-use Rattle.paged_memory.specs.Image.{Extent, image_flags, part_byte, parts_byte, zero_in, IsImagePage}
+use Rattle.paged_memory.specs.Image.{Extent, image_flags, part_byte, parts_byte, zero_in, IsLoadablePage}
 use Rattle.paged_memory.specs.Memory.{AddressSpace}
 use Rattle.std.specs.FinMap.{get}
 
@@ -11,7 +12,7 @@ use Rattle.std.specs.FinMap.{get}
 pub record IsPlaced (part : Extent) : Type 0 where
   pub inside : length part.bytes ≤ part.size
   pub flags : part.flags < 8
-  pub places : (a : ℕ) → part.address ≤ a → a < part.address + part.size → IsImagePage (a / 4096)
+  pub places : (a : ℕ) → part.address ≤ a → a < part.address + part.size → IsLoadablePage (a / 4096)
 
 -- no two parts have an address in common
 abbrev pub AreApart : List Extent → Type 0

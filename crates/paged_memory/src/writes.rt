@@ -8,7 +8,8 @@ ghost use Rattle.paged_memory.specs.Memory.{run_of, set_bytes};
 ghost use Rattle.paged_memory.specs.PageTable.{AreOwned, IsOwned, OwnsAlso, KeepsOwned};
 ghost use Rattle.paged_memory.specs.Parts.{AreMapped};
 ghost use Rattle.paged_memory.specs.Writes.{Writes};
-ghost use Rattle.paged_memory.specs.Pages.{page_at, mem_of, perm_of, numbers_of, memory_of, table_of, IsFine};
+ghost use Rattle.paged_memory.specs.Pages.{page_at, mem_of, perm_of, own_numbers, memory_of, table_of};
+ghost use Rattle.paged_memory.specs.Pages.{IsFine};
 
 use crate::page::{Page, find, first_lacking, search};
 use crate::pages::{Abort, WriteStop};
@@ -26,9 +27,9 @@ fn own_at(pages: &mut Vec<Page>, i: usize, number: u64) -> Result<(), AllocError
     ensures memory { memory_of pages.new.items ≡ memory_of pages.old.items }
     ensures count { length pages.new.items ≡ length pages.old.items }
     ensures page { page_at pages.new.items number ≡ slice_get pages.new.items i }
-    ensures ok { OnOk result (numbers_of pages.new.items ≡ set.insert (numbers_of pages.old.items) number) }
-    ensures err { OnErr result (numbers_of pages.new.items ≡ numbers_of pages.old.items) }
-    ensures room { OnErr result (contains (numbers_of pages.old.items) number ≡ false) }
+    ensures ok { OnOk result (own_numbers pages.new.items ≡ set.insert (own_numbers pages.old.items) number) }
+    ensures err { OnErr result (own_numbers pages.new.items ≡ own_numbers pages.old.items) }
+    ensures room { OnErr result (contains (own_numbers pages.old.items) number ≡ false) }
 {
     let alloc = *pages.allocator();
     let page = &mut pages[i];
@@ -46,7 +47,7 @@ fn set_at(pages: &mut Vec<Page>, i: usize, address: u64, bytes: &[u8])
     ensures fine { IsFine pages.new.items }
     ensures bytes { mem_of pages.new.items ≡ set_bytes (mem_of pages.old.items) address bytes.now }
     ensures flags { perm_of pages.new.items ≡ perm_of pages.old.items }
-    ensures owned { numbers_of pages.new.items ≡ numbers_of pages.old.items }
+    ensures owned { own_numbers pages.new.items ≡ own_numbers pages.old.items }
 {
     let page = &mut pages[i];
     page.bytes.set((address % 4096) as usize, bytes);
@@ -61,7 +62,7 @@ fn put_run(pages: &mut Vec<Page>, address: u64, bytes: &[u8])
     ensures fine { IsFine pages.new.items }
     ensures bytes { mem_of pages.new.items ≡ set_bytes (mem_of pages.old.items) address bytes.now }
     ensures flags { perm_of pages.new.items ≡ perm_of pages.old.items }
-    ensures owned { numbers_of pages.new.items ≡ numbers_of pages.old.items }
+    ensures owned { own_numbers pages.new.items ≡ own_numbers pages.old.items }
 {
     match search(pages.as_slice(), address / 4096) {
         Some(i) => set_at(pages, i, address, bytes),
@@ -77,7 +78,7 @@ pub fn put_bytes(pages: &mut Vec<Page>, address: u64, bytes: &[u8])
     ensures fine { IsFine pages.new.items }
     ensures bytes { mem_of pages.new.items ≡ set_bytes (mem_of pages.old.items) address bytes.now }
     ensures flags { perm_of pages.new.items ≡ perm_of pages.old.items }
-    ensures owned { numbers_of pages.new.items ≡ numbers_of pages.old.items }
+    ensures owned { own_numbers pages.new.items ≡ own_numbers pages.old.items }
 {
     let mut done = 0;
     while done < bytes.len() {

@@ -17,7 +17,7 @@ use Rattle.kernel_contexts.specs.Turn.{is_poll_due, is_delivery_due}
 use Rattle.kernel_contexts.specs.Run.{Reached, At, Ended, Strays, turned, after_turn, reach_from, reach}
 use Rattle.lone_runner.specs.LoneRun.{IsLoneRun}
 use Rattle.run_laws.specs.Options.{AreSameButCores}
-use Rattle.run_laws.proofs.Options.{same_numbers}
+use Rattle.sm_types.proofs.Options.{same_numbers}
 
 -- the options with the number of cores of others
 abbrev with_cores_of : Config → Config → Config

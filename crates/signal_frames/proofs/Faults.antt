@@ -8,7 +8,7 @@ use Rattle.machine_step.specs.ProcessorState.{ProcessorState}
 use Rattle.signal_frames.specs.Saved.{saved_length, saved_size, is_head, is_zero_past}
 use Rattle.signal_frames.specs.Return.{count_read, read_at, stop_of, fault_at, restored, returned}
 use Rattle.signal_frames.specs.Reading.{IsSaved}
-use Rattle.signal_frames.proofs.Putting.{neither}
+use Rattle.paged_memory.proofs.Ready.{neither}
 use Rattle.signal_frames.proofs.Fetching.{length-bytes_with, front_read}
 use Rattle.signal_frames.proofs.Fields.{number_in_head, head_in_head, HeadSays, head_says}
 

@@ -5,6 +5,5 @@ pub mod Faults
 pub mod Restored
 pub mod Parts
 pub mod Round
-pub mod ReadBack
 pub mod Putting
 pub mod Fetching

@@ -10,8 +10,7 @@ use Rattle.std.specs.Prelude.{IsSome, Result, Ok, Err, OnOk, IfErr}
 use Rattle.std.specs.FinMap.{FinMap, get, insert, get-insert}
 use Rattle.std.specs.Ordering.{nat_cmp, eq_by_cmp}
 use Rattle.std.specs.Cmp.{nat_cmp_total}
-use Rattle.std.specs.Option.{option_or}
-use Rattle.paged_memory.specs.Memory.{AddressSpace, byte_with, permits, permitted, unless_there, first_without, run_of, set_bytes}
+use Rattle.paged_memory.specs.Memory.{AddressSpace, byte_with, permits, permitted, first_without, run_of, set_bytes}
 use Rattle.paged_memory.specs.PageTable.{PageTable, AreOwned, OwnsAlso, Owns}
 use Rattle.paged_memory.specs.Accesses.{stopped_at}
 use Rattle.paged_memory.specs.declared.pages.WriteStop.{WriteStop}
@@ -19,6 +18,7 @@ use Rattle.paged_memory.specs.declared.pages.WriteStop.TheVariants as stop
 use Rattle.paged_memory.proofs.Accesses.{first_without-join}
 use Rattle.paged_memory.proofs.Owned.{also_owned, owns_keeps, owns_no_more, owns_then}
 use Rattle.paged_memory.proofs.Over.{set_bytes-append}
+use Rattle.paged_memory.proofs.Ready.{neither, still_none}
 use Rattle.signal_frames.specs.Writing.{IsReady, Puts, PutsPart}
 
 -- ---- what bytes leave of memory that is ready for others
@@ -49,29 +49,6 @@ still_permitted : (need : ℕ) (m : AddressSpace) (a : ℕ) (bs : List ℕ) (k :
 unfolding byte_with
 still_permitted need m a bs k h =
     permitted_then need (get m.perm (k / 4096)) (get m.mem k) (get (set_bytes m.mem a bs) k) (still_there m.mem a bs k) h
-
-pub neither : (o p : Option ℕ) → option_or o p ≡ None → (o ≡ None) × (p ≡ None)
-neither None p h = (refl, h)
-neither (Some x) p h = cc
-
-there_then : (x : ℕ) (old new : Option ℕ) → (IsSome old → IsSome new) → unless_there x old ≡ None → unless_there x new ≡ None
-there_then x None new f h = cc
-there_then x (Some b) None f h = let there : IsSome {T = ℕ} None = f refl in cc
-there_then x (Some b) (Some c) f h = refl
-
--- each of some bytes may still be written
-pub still_none : (need : ℕ) (m new : AddressSpace) (a n : ℕ) → ((k : ℕ) → IsSome (byte_with need m k) → IsSome (byte_with need new k))
-    → first_without need m a n ≡ None → first_without need new a n ≡ None
-unfolding first_without
-still_none need m new a zero f h = refl
-still_none need m new a (suc n) f h =
-    let parts : (first_without need m a n ≡ None) × (unless_there ((a + n) % 2 ^ 64) (byte_with need m ((a + n) % 2 ^ 64)) ≡ None) =
-    neither (first_without need m a n) (unless_there ((a + n) % 2 ^ 64) (byte_with need m ((a + n) % 2 ^ 64))) h in
-    rw (
-      still_none need m new a n f parts.0,
-      there_then ((a + n) % 2 ^ 64) (byte_with need m ((a + n) % 2 ^ 64)) (byte_with need new ((a + n) % 2 ^ 64))
-          (f ((a + n) % 2 ^ 64)) parts.1,
-    ) refl
 
 pub ready_still : (old new : PageTable) (a : ℕ) (bs : List ℕ) (b n : ℕ) → Puts old new a bs → IsReady old b n → IsReady new b n
 ready_still old new a bs b n puts ready = record {

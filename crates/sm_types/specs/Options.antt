@@ -45,4 +45,4 @@ pub record AreDefaults (options : Config) : Type 0 where
   pub budget : options.budget ≡ 10000000
   pub threads : options.threads ≡ 1
   pub cores : options.cores ≡ 1
-  pub kernel : options.kernel ≡ 1
+  pub kernel : options.kernel ≡ 2

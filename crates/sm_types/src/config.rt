@@ -44,7 +44,7 @@ impl Config {
             budget: 10_000_000,
             threads: 1,
             cores: 1,
-            kernel: 1,
+            kernel: 2,
         }
     }
 

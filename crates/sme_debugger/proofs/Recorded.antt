@@ -9,10 +9,10 @@ use Rattle.paged_memory.specs.Image.{Program}
 use Rattle.lone_runner.specs.LoneRun.{IsLoneRun, HasRunAlone}
 use Rattle.lone_runner.specs.Parting.{EndsAt, state_at}
 use Rattle.lone_runner.proofs.Partings.{compared}
-use Rattle.sme_debugger.specs.Recording.{Recording, Shows, reached_by, counted_by}
+use Rattle.sme_debugger.specs.Recording.{Recording, Shows, reached_by, counts_by}
 use Rattle.sme_debugger.specs.Answers.{NoneBetween}
 
-counts_there : (r : Recording) (count : ℕ) (s : State) (h : Shows r count s) → counted_by r h.turns ≡ count
+counts_there : (r : Recording) (count : ℕ) (s : State) (h : Shows r count s) → counts_by r h.turns ≡ count
 counts_there r count s h = ap (λ (t : State). t.count) h.reached ∙ h.counts
 
 pub one_state : (r : Recording) (count : ℕ) (s t : State) → Shows r count s → Shows r count t → s ≡ t

@@ -22,8 +22,8 @@ abbrev pub reached_by : Recording → ℕ → Reached
 reached_by r turns = reach r.program r.config r.thread r.journal turns
 
 -- and how many instructions are counted there
-abbrev pub counted_by : Recording → ℕ → ℕ
-counted_by r turns = (state_at (reached_by r turns)).count
+abbrev pub counts_by : Recording → ℕ → ℕ
+counts_by r turns = (state_at (reached_by r turns)).count
 
 -- The run shows the state at a count: it is the state after the fewest turns by which so many instructions
 -- are counted.
@@ -31,4 +31,4 @@ pub record Shows (r : Recording) (count : ℕ) (state : State) : Type 0 where
   pub turns : ℕ
   pub reached : state_at (reached_by r turns) ≡ state
   pub counts : state.count ≡ count
-  pub first : (earlier : ℕ) → earlier < turns → counted_by r earlier ≢ count
+  pub first : (earlier : ℕ) → earlier < turns → counts_by r earlier ≢ count

@@ -18,7 +18,7 @@ use Rattle.smemu.specs.Answers.{IsOutcome, IsTold, IsToldBy, MayEnd, Telling, Te
 use Rattle.smemu.specs.Ends.{Change, Call, Defined, IsUsage, IsRejection, IsDone, IsDue, IsDueOf, IsRefused, MayCome, FetchesReached}
 use Rattle.smemu.specs.Ends.{Stands}
 use Rattle.smemu.specs.Rejections.{Kind, rejection_of, rejection_status}
-use Rattle.smemu.specs.Requests.{Named, files_named, files_asked, reached_of, IsReached, due_of_rejection, due_of_file, due_of_files}
+use Rattle.smemu.specs.Requests.{Named, files_named, files_asked, reached_of, IsAskedFor, due_of_rejection, due_of_file, due_of_files}
 use Rattle.smemu.specs.Requests.{due_of_request}
 use Rattle.smemu.specs.Views.{answer_text, refusal_status, refusal_text, end_status, EndsRequest, EndsWith, EndsWords, OfAnswer}
 use Rattle.smemu.specs.Views.{PrintsAll, PrintsFront}
@@ -170,8 +170,8 @@ pub there : (told : Told) (files : List ℕ → Option (List ℕ)) (name file : 
 there told files name file e h = subst (λ (t : Told). IfSome t (λ known. known name ≡ Some file)) e h
 
 pub told_reached : (told : Told) (files : List ℕ → Option (List ℕ)) (names : List Named) (named : Named) → told ≡ Some files
-    → IsReached told names named → IsReached (Some files) names named
-told_reached told files names named e h = subst (λ (t : Told). IsReached t names named) e h
+    → IsAskedFor told names named → IsAskedFor (Some files) names named
+told_reached told files names named e h = subst (λ (t : Told). IsAskedFor t names named) e h
 
 missing_due : (kind : Kind) (file : Option (List ℕ)) → file ≡ None → (rest : Status) → due_of_file kind file rest ≡ Absent
 missing_due kind file e rest = rw e refl
@@ -217,7 +217,7 @@ module _ (words : List (List ℕ)) (files : Change FilesView) (told : List ℕ �
   stands_due ReadFault text h =
       let here = subst (λ (t : Told). IfSome t (λ known. IsSome (known h.named.name))) tells h.there in
       let at = told_reached files.before.told told (files_named request) h.named tells h.reached in
-      inr (h.named, subst (λ (ns : List Named). IsReached (Some told) ns h.named) (sym (ap files_asked asked)) at, here)
+      inr (h.named, subst (λ (ns : List Named). IsAskedFor (Some told) ns h.named) (sym (ap files_asked asked)) at, here)
   stands_due Done text h = inl (outcome_due Done text (λ is. cc) h)
   stands_due s text (inl h) = inl (rejection_is_due s text h)
   stands_due s text (inr h) = inl (outcome_due s text (λ is. cc) h)

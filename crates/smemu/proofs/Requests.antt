@@ -7,7 +7,7 @@ use Rattle.command_lines.specs.declared.status.Status.{Status}
 use Rattle.command_lines.specs.declared.status.Status.TheVariants.{Done}
 use Rattle.smemu.specs.Answers.{AreAccepted, IsFile}
 use Rattle.smemu.specs.Rejections.{Kind, rejection_of}
-use Rattle.smemu.specs.Requests.{Named, after_file, reached_in, reached_of, IsReached, due_of_rejection, due_of_file, due_of_files}
+use Rattle.smemu.specs.Requests.{Named, after_file, reached_in, reached_of, IsAskedFor, due_of_rejection, due_of_file, due_of_files}
 use Rattle.smemu.specs.declared.rejection.Rejection.{Rejection}
 
 -- ---- files that are accepted
@@ -86,7 +86,7 @@ get_there (first ∷ names) rest named = get_there names rest named
 
 -- it is reached
 pub is_reached : (told : Told) (names rest : List Named) (files : List (List ℕ)) (named : Named) → AreAccepted told names files
-    → IsReached told (names ++ named ∷ rest) named
+    → IsAskedFor told (names ++ named ∷ rest) named
 is_reached told names rest files named h = (
   length names,
   ap (λ ns. slice_get ns (length names)) (reached_after told names (named ∷ rest) files h

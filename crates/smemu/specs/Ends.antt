@@ -16,7 +16,7 @@ use Rattle.command_lines.specs.declared.status.Status.TheVariants.{Done, Usage, 
 use Rattle.command_lines.specs.declared.status.Status.TheVariants.{OutOfMemory}
 use Rattle.smemu.specs.Answers.{IsFile, IsOutcome, MayEnd}
 use Rattle.smemu.specs.Rejections.{limit_of, rejection_of, rejection_status, rejection_line}
-use Rattle.smemu.specs.Requests.{Named, due_status, files_named, files_asked, reached_of, IsReached}
+use Rattle.smemu.specs.Requests.{Named, due_status, files_named, files_asked, reached_of, IsAskedFor}
 use Rattle.smemu.specs.declared.rejection.Rejection.{Rejection}
 
 -- something before a call and after it
@@ -54,7 +54,7 @@ read_fault_line name = concat (codes "read fault: " ∷ name ∷ codes "\n" ∷ 
 -- a file that is reached is not there, and the count of absences rose
 pub record IsAbsence (files : Change FilesView) (names : List Named) (text : List ℕ) : Type 0 where
   pub named : Named
-  pub reached : IsReached files.before.told names named
+  pub reached : IsAskedFor files.before.told names named
   pub missing : IfSome files.before.told (λ told. told named.name ≡ None)
   pub rose : Rose files.before.absences files.after.absences
   pub is_text : text ≡ absent_line named.name
@@ -62,7 +62,7 @@ pub record IsAbsence (files : Change FilesView) (names : List Named) (text : Lis
 -- a file that is reached is there, it could not be read, and the count of faults rose
 pub record IsReadFault (files : Change FilesView) (names : List Named) (text : List ℕ) : Type 0 where
   pub named : Named
-  pub reached : IsReached files.before.told names named
+  pub reached : IsAskedFor files.before.told names named
   pub there : IfSome files.before.told (λ told. IsSome (told named.name))
   pub rose : Rose files.before.faults files.after.faults
   pub unreliable : IsTrue files.before.reliable → ⊥
@@ -71,7 +71,7 @@ pub record IsReadFault (files : Change FilesView) (names : List Named) (text : L
 -- a file that is reached is not accepted, and the status and the text are those of the rejection
 pub record IsRejection (told : Told) (names : List Named) (status : Status) (text : List ℕ) : Type 0 where
   pub named : Named
-  pub reached : IsReached told names named
+  pub reached : IsAskedFor told names named
   pub file : List ℕ
   pub rejection : Rejection
   pub is_file : IsFile told named.name file
@@ -146,7 +146,7 @@ abbrev pub MayCome : (List ℕ → Option (List ℕ)) → List (List ℕ) → St
 MayCome files words OutOfMemory = Unit {0}
 MayCome files words WriteFault = Unit {0}
 MayCome files words ReadFault =
-    (named : Named) × IsReached (Some files) (files_asked (command_of words)) named
+    (named : Named) × IsAskedFor (Some files) (files_asked (command_of words)) named
     × IsSome (files named.name)
 MayCome files words other = ⊥
 

@@ -65,8 +65,8 @@ abbrev pub reached_of : Told → List Named → List Named
 reached_of None names = names
 reached_of (Some files) names = reached_in files names
 
-abbrev pub IsReached : Told → List Named → Named → Type 0
-IsReached told names named = (place : ℕ) × (slice_get (reached_of told names) place ≡ Some named)
+abbrev pub IsAskedFor : Told → List Named → Named → Type 0
+IsAskedFor told names named = (place : ℕ) × (slice_get (reached_of told names) place ≡ Some named)
 
 -- ---- the status that is due
 

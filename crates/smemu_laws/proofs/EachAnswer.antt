@@ -7,7 +7,7 @@ use Rattle.lone_runner.proofs.Shown.{below_all}
 use Rattle.script_reader.specs.declared.command.DebugCommand.{DebugCommand}
 use Rattle.script_reader.specs.declared.command.DebugCommand.TheVariants.{Step, Back, Goto, Break}
 use Rattle.sme_debugger.specs.Answers.{Answers, IsNext, NoneBetween, shown_text}
-use Rattle.sme_debugger.specs.Recording.{Recording, Shows, counted_by, reached_by}
+use Rattle.sme_debugger.specs.Recording.{Recording, Shows, counts_by, reached_by}
 use Rattle.sme_debugger.proofs.Recorded.{none_at_first, none_more}
 use Rattle.smemu.specs.Debug.{AllAnswers, Leads}
 
@@ -44,17 +44,17 @@ first_below f aim (suc n) = elim (first_below f aim n) [
 -- ---- a run that ends shows a state at each count
 
 module _ (r : Recording) (ends : EndsAt r.program r.config r.thread r.journal r.last) where
-  last_there : counted_by r ends.run.turns ≡ r.last
+  last_there : counts_by r ends.run.turns ≡ r.last
   last_there = ap (λ x. (state_at x).count) ends.run.ends ∙ ends.counts
 
   shown_at : (count : ℕ) → count ≤ r.last → (state : State) × Shows r count state
-  shown_at count most = elim (first_below (counted_by r) count (suc ends.run.turns)) [
+  shown_at count most = elim (first_below (counts_by r) count (suc ends.run.turns)) [
     | inl found ↦ (
       state_at (reached_by r found.0),
       record { turns = found.0; reached = refl; counts = found.1.there; first = found.1.before },
     )
     | inr none ↦ absurd (
-        let below : counted_by r ends.run.turns < count =
+        let below : counts_by r ends.run.turns < count =
         below_all r.program r.config r.thread r.journal count ends.run.turns (λ m l. none m (omega (arith, l))) in
         let last = last_there in
         omega (arith, below, last, most))

@@ -29,7 +29,7 @@ use Rattle.smemu.specs.Bench.{all_counted, bench_line, IsBench, IsBenchOf}
 use Rattle.smemu.specs.Worlds.{AreEndsIn, AreSerialEnds, IsSimulationOf, IsSimulation}
 use Rattle.world_core.specs.Happens.{world_after, answers_after}
 use Rattle.world_core.specs.World.{World, start_world}
-use Rattle.run_laws.proofs.Options.{same_numbers}
+use Rattle.sm_types.proofs.Options.{same_numbers}
 use Rattle.smemu_laws.specs.OneAnswer.{AreLoadedAsOne}
 use Rattle.smemu_laws.proofs.SerialEnds.{one_end_list, one_serial_run}
 

@@ -84,9 +84,6 @@ pub owned_kept : (old new : PageTable) (a n : ℕ) → KeepsOwned old new → ne
     → AreOwned old a n → AreOwned new a n
 owned_kept old new a n kept same owned k l there = kept ((a + k) % 2 ^ 64 / 4096) (owned k l (rw (sym same) there))
 
-pub kept_trans : (a b c : PageTable) → KeepsOwned a b → KeepsOwned b c → KeepsOwned a c
-kept_trans a b c ab bc n owned = bc n (ab n owned)
-
 -- the pages of the first elements are owned besides, and those of one more
 pub owns_first : (f : ℕ → List ℕ) (element : Size) (pg : List ℕ) (t : PageTable) → OwnsAlso t t (of_first f element pg 0)
 owns_first f element pg t = subst (OwnsAlso t t) (sym (none_first f element pg)) (λ number. refl)

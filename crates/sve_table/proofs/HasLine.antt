@@ -37,7 +37,7 @@ use matrix.ArrayAccess.TheVariants as array
 use matrix.StreamingLength.TheVariants as streaming
 use Rattle.sve_table.specs.declared.operation.VectorOperation.{VectorOperation}
 use Rattle.sve_table.specs.Values.{elem_number, tile_field, offset_field, source_tile_field, source_offset_field, sum_field}
-use Rattle.sve_table.specs.Sizes.{is_between, least_binary, least_unary, least_shifted, widest_reduced}
+use Rattle.sve_table.specs.Sizes.{is_size_between, least_binary, least_unary, least_shifted, widest_reduced}
 use Rattle.sve_table.specs.Conditions.{fits_of, is_from, is_up_to, is_offset}
 use Rattle.sve_table.specs.Parts.{number_from, shift_number, copy_parts, permute_parts, reduction_parts, compare_parts, predicate_parts}
 use Rattle.sve_table.specs.Parts.{count_parts, element_parts, access_parts, sve2_parts, array_parts, streaming_parts, shift_parts}
@@ -53,28 +53,28 @@ is_flag : (b : Bool) → (flag_bit b == 1) ≡ b
 is_flag true = refl
 is_flag false = refl
 
-least : (l size : Elem) → is_between l D size ≡ true → is_from l (elem_number size) ≡ true
+least : (l size : Elem) → is_size_between l D size ≡ true → is_from l (elem_number size) ≡ true
 unfolding is_from
 least l size e = (and_parts _ _ e).0
 
-widest : (w size : Elem) → is_between B w size ≡ true → is_up_to w (elem_number size) ≡ true
+widest : (w size : Elem) → is_size_between B w size ≡ true → is_up_to w (elem_number size) ≡ true
 unfolding is_up_to
 widest w size e = (and_parts _ _ e).1
 
 three : (n : ℕ) → nat_le n 3 ≡ true → nat_lt n 4 ≡ true
 three n e = let le = leb-true n 3 e in low (omega arith)
 
-elem_low : (l size : Elem) → is_between l D size ≡ true → nat_lt (elem_number size) 4 ≡ true
+elem_low : (l size : Elem) → is_size_between l D size ≡ true → nat_lt (elem_number size) 4 ≡ true
 elem_low l size e = three _ (and_parts _ _ e).1
 
-memory_low : (memory element : Elem) → is_between memory D element ≡ true → nat_lt (elem_number memory) 4 ≡ true
+memory_low : (memory element : Elem) → is_size_between memory D element ≡ true → nat_lt (elem_number memory) 4 ≡ true
 memory_low memory element e =
     let p = and_parts (nat_le (elem_number memory) (elem_number element)) (nat_le (elem_number element) 3) e in
     let m = leb-true (elem_number memory) (elem_number element) p.0 in
     let n = leb-true (elem_number element) 3 p.1 in
     low (omega arith)
 
-reduced_low : (op : ReductionOp) (size : Elem) → is_between B (widest_reduced op) size ≡ true → nat_lt (elem_number size) 4 ≡ true
+reduced_low : (op : ReductionOp) (size : Elem) → is_size_between B (widest_reduced op) size ≡ true → nat_lt (elem_number size) 4 ≡ true
 unfolding widest_reduced
 reduced_low Saddv size e =
     let le = leb-true (elem_number size) 2 (and_parts (nat_le 0 (elem_number size)) (nat_le (elem_number size) 2) e).1 in
@@ -163,7 +163,7 @@ shift_line x S e h =
 shift_line x D e h =
     let amount = subst (λ z. IsAmount x.op (bits_of_elem z) x.amount) e h.amount in
     made _ _ (ap (shift_parts x) e) (low h.zd & low h.zn & amount_low x.op 64 x.amount amount & refl) (λ u s a. refl)
-shift_line x Q e h = let none : is_between B D Q ≡ true = subst (λ z. is_between B D z ≡ true) e h.size in cc
+shift_line x Q e h = let none : is_size_between B D Q ≡ true = subst (λ z. is_size_between B D z ≡ true) e h.size in cc
 
 -- a move of a slice, by its direction
 move_line : (x : TileMove) (to_tile : Bool) → x.to_tile ≡ to_tile → IsTileMove x → IsInLine vector parts_of (insn.TileMove x)

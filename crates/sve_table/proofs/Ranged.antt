@@ -41,7 +41,7 @@ use operations.ArrayForm.TheVariants as array_form
 use operations.StreamingForm.TheVariants as streaming_form
 use Rattle.sve_table.specs.Values.{elem_of, elem_number, shift_elem, shift_width, shift_amount, amount_field, tile_field, offset_field}
 use Rattle.sve_table.specs.Values.{source_tile_field, source_offset_field, sum_field}
-use Rattle.sve_table.specs.Sizes.{is_between, least_binary, least_unary, least_shifted, widest_reduced}
+use Rattle.sve_table.specs.Sizes.{is_size_between, least_binary, least_unary, least_shifted, widest_reduced}
 use Rattle.sve_table.specs.Conditions.{fits_of, is_from, is_up_to, is_offset}
 use Rattle.sve_table.specs.Named.{named_copy, named_permute, named_reduction, named_compare, named_predicate, named_count, named_element}
 use Rattle.sve_table.specs.Named.{named_access, named_sve2, named_array, named_streaming, named_slice, moved_slice, moved_vector, named}
@@ -54,18 +54,18 @@ use Rattle.sve_table.proofs.Numbers.{elem_back}
 
 -- ---- sizes and amounts
 between : (l m : Elem) (n : ℕ) → n < 4 → nat_le (elem_number l) n ≡ true → nat_le n (elem_number m) ≡ true
-    → is_between l m (elem_of n) ≡ true
+    → is_size_between l m (elem_of n) ≡ true
 between l m n lt f g = ap (λ k. nat_le (elem_number l) k && nat_le k (elem_number m)) (elem_back n lt) ∙ (f & g)
 
-from : (l : Elem) (n : ℕ) → n < 4 → is_from l n ≡ true → is_between l D (elem_of n) ≡ true
+from : (l : Elem) (n : ℕ) → n < 4 → is_from l n ≡ true → is_size_between l D (elem_of n) ≡ true
 unfolding is_from
 from l n lt f = between l D n lt f (le-leb n 3 (omega arith))
 
-up_to : (m : Elem) (n : ℕ) → n < 4 → is_up_to m n ≡ true → is_between B m (elem_of n) ≡ true
+up_to : (m : Elem) (n : ℕ) → n < 4 → is_up_to m n ≡ true → is_size_between B m (elem_of n) ≡ true
 unfolding is_up_to
 up_to m n lt f = between B m n lt (le-leb 0 n (omega arith)) f
 
-no_wider : (m n : ℕ) → m < 4 → n < 4 → nat_le m n ≡ true → is_between (elem_of m) D (elem_of n) ≡ true
+no_wider : (m n : ℕ) → m < 4 → n < 4 → nat_le m n ≡ true → is_size_between (elem_of m) D (elem_of n) ≡ true
 no_wider m n lt mt f = between (elem_of m) D n mt (ap (λ k. nat_le k n) (elem_back m lt) ∙ f) (le-leb n 3 (omega arith))
 
 multiplied : (n : ℕ) → n < 16 → IsMultiplier (1 + n)
@@ -82,26 +82,26 @@ amount_in Lsr width n lt = (omega arith, omega arith)
 
 -- the fields of a word
 module _ (w : ℕ) where
-  size : is_between B D (elem_of (field_in SIZE w)) ≡ true
+  size : is_size_between B D (elem_of (field_in SIZE w)) ≡ true
   unfolding is_from
   size = from B _ (field_in-lt SIZE w) (le-leb 0 (field_in SIZE w) (omega arith))
 
-  size_from : (l : Elem) → is_from l (field_in SIZE w) ≡ true → is_between l D (elem_of (field_in SIZE w)) ≡ true
+  size_from : (l : Elem) → is_from l (field_in SIZE w) ≡ true → is_size_between l D (elem_of (field_in SIZE w)) ≡ true
   size_from l f = from l _ (field_in-lt SIZE w) f
 
   reduced : (op : ReductionOp) → is_up_to (widest_reduced op) (field_in SIZE w) ≡ true
-      → is_between B (widest_reduced op) (elem_of (field_in SIZE w)) ≡ true
+      → is_size_between B (widest_reduced op) (elem_of (field_in SIZE w)) ≡ true
   reduced op f = up_to _ _ (field_in-lt SIZE w) f
 
-  element_from : (l : Elem) → is_from l (field_in ELEMENT_SIZE w) ≡ true → is_between l D (elem_of (field_in ELEMENT_SIZE w)) ≡ true
+  element_from : (l : Elem) → is_from l (field_in ELEMENT_SIZE w) ≡ true → is_size_between l D (elem_of (field_in ELEMENT_SIZE w)) ≡ true
   element_from l f = from l _ (field_in-lt ELEMENT_SIZE w) f
 
-  element : is_between B D (elem_of (field_in ELEMENT_SIZE w)) ≡ true
+  element : is_size_between B D (elem_of (field_in ELEMENT_SIZE w)) ≡ true
   unfolding is_from
   element = element_from B (le-leb 0 (field_in ELEMENT_SIZE w) (omega arith))
 
   stored : nat_le (field_in MEMORY_SIZE w) (field_in ELEMENT_SIZE w) ≡ true
-      → is_between (elem_of (field_in MEMORY_SIZE w)) D (elem_of (field_in ELEMENT_SIZE w)) ≡ true
+      → is_size_between (elem_of (field_in MEMORY_SIZE w)) D (elem_of (field_in ELEMENT_SIZE w)) ≡ true
   stored f = no_wider _ _ (field_in-lt MEMORY_SIZE w) (field_in-lt ELEMENT_SIZE w) f
 
   offset : is_offset (field_in RM w) ≡ true → field_in RM w % 2 ^ 8 < 31
@@ -111,7 +111,7 @@ module _ (w : ℕ) where
   slice_register : IsSliceRegister (12 + field_in RV w)
   slice_register = registered _ (field_in-lt RV w)
 
-  shift_size : (s : ShiftSize) → is_between B D (shift_elem s) ≡ true
+  shift_size : (s : ShiftSize) → is_size_between B D (shift_elem s) ≡ true
   unfolding shift_elem
   shift_size shift.B = refl
   shift_size _ = refl

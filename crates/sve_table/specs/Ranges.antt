@@ -30,11 +30,11 @@ use types.Sve2.TheVariants as sve2
 use matrix.ArrayAccess.TheVariants as array
 use matrix.StreamingLength.TheVariants as streaming
 use Rattle.insn_forms.specs.Values.{IsSigned}
-use Rattle.sve_table.specs.Sizes.{is_between, least_binary, least_unary, least_shifted, widest_reduced}
+use Rattle.sve_table.specs.Sizes.{is_size_between, least_binary, least_unary, least_shifted, widest_reduced}
 
 -- elements of 8 to 64 bits, and three vectors
 pub record IsVectorArithmetic (it : VectorArithmetic) : Type 0 where
-  pub size : IsTrue (is_between B D it.size)
+  pub size : IsTrue (is_size_between B D it.size)
   pub zm : it.zm < 32
   pub zn : it.zn < 32
   pub zd : it.zd < 32
@@ -47,14 +47,14 @@ pub record IsVectorLogical (it : VectorLogical) : Type 0 where
 
 -- the elements that the operation has, and a predicate of 0 to 7
 pub record IsPredicatedBinary (it : PredicatedBinary) : Type 0 where
-  pub size : IsTrue (is_between (least_binary it.op) D it.size)
+  pub size : IsTrue (is_size_between (least_binary it.op) D it.size)
   pub pg : it.pg < 8
   pub zm : it.zm < 32
   pub zdn : it.zdn < 32
 
 -- elements of 8 to 64 bits, and a predicate of 0 to 7
 pub record IsMultiplyAdd (it : MultiplyAdd) : Type 0 where
-  pub size : IsTrue (is_between B D it.size)
+  pub size : IsTrue (is_size_between B D it.size)
   pub pg : it.pg < 8
   pub zm : it.zm < 32
   pub zn : it.zn < 32
@@ -62,7 +62,7 @@ pub record IsMultiplyAdd (it : MultiplyAdd) : Type 0 where
 
 -- the elements that the operation has, and a predicate of 0 to 7
 pub record IsPredicatedUnary (it : PredicatedUnary) : Type 0 where
-  pub size : IsTrue (is_between (least_unary it.op) D it.size)
+  pub size : IsTrue (is_size_between (least_unary it.op) D it.size)
   pub pg : it.pg < 8
   pub zn : it.zn < 32
   pub zd : it.zd < 32
@@ -82,7 +82,7 @@ IsAmount _ width amount = (0 < amount) × (amount ≤ width)
 
 -- elements of 8 to 64 bits, shifted so
 pub record IsVectorShift (it : VectorShift) : Type 0 where
-  pub size : IsTrue (is_between B D it.size)
+  pub size : IsTrue (is_size_between B D it.size)
   pub amount : IsAmount it.op (bits_of_elem it.size) it.amount
   pub zn : it.zn < 32
   pub zd : it.zd < 32
@@ -107,50 +107,51 @@ IsSliceRegister rv = (12 ≤ rv) × (rv < 16)
 
 -- immediates of 8 bits, which are not shifted where the elements are bytes
 abbrev pub IsVectorCopy : VectorCopy → Type 0
-IsVectorCopy (copy.Register size rn zd) = IsTrue (is_between B D size) × (rn < 32) × (zd < 32)
+IsVectorCopy (copy.Register size rn zd) = IsTrue (is_size_between B D size) × (rn < 32) × (zd < 32)
 IsVectorCopy (copy.PredicatedRegister size pg rn zd) =
-    IsTrue (is_between B D size) × (pg < 8) × (rn < 32) × (zd < 32)
+    IsTrue (is_size_between B D size) × (pg < 8) × (rn < 32) × (zd < 32)
 IsVectorCopy (copy.Immediate size shifted imm zd) =
-    IsTrue (is_between (least_shifted shifted) D size) × IsSigned 8 imm × (zd < 32)
+    IsTrue (is_size_between (least_shifted shifted) D size) × IsSigned 8 imm × (zd < 32)
 IsVectorCopy (copy.PredicatedImmediate size pg merging shifted imm zd) =
-    IsTrue (is_between (least_shifted shifted) D size) × (pg < 16) × IsSigned 8 imm × (zd < 32)
+    IsTrue (is_size_between (least_shifted shifted) D size) × (pg < 16) × IsSigned 8 imm × (zd < 32)
 IsVectorCopy (copy.Index size start step zd) =
-    IsTrue (is_between B D size) × IsIndexPart start × IsIndexPart step × (zd < 32)
+    IsTrue (is_size_between B D size) × IsIndexPart start × IsIndexPart step × (zd < 32)
 IsVectorCopy (copy.AddImmediate op size shifted imm zdn) =
-    IsTrue (is_between (least_shifted shifted) D size) × (imm < 2 ^ 8) × (zdn < 32)
+    IsTrue (is_size_between (least_shifted shifted) D size) × (imm < 2 ^ 8) × (zdn < 32)
 IsVectorCopy (copy.MultiplyImmediate size imm zdn) =
-    IsTrue (is_between B D size) × IsSigned 8 imm × (zdn < 32)
+    IsTrue (is_size_between B D size) × IsSigned 8 imm × (zdn < 32)
 IsVectorCopy (copy.Select size zm pg zn zd) =
-    IsTrue (is_between B D size) × (zm < 32) × (pg < 16) × (zn < 32) × (zd < 32)
+    IsTrue (is_size_between B D size) × (zm < 32) × (pg < 16) × (zn < 32) × (zd < 32)
 IsVectorCopy (copy.Prefix zn zd) = (zn < 32) × (zd < 32)
 
 -- an amount of 8 bits; an unpacked element is wider than a byte
 abbrev pub IsVectorPermute : VectorPermute → Type 0
 IsVectorPermute (permute.Interleave op size zm zn zd) =
-    IsTrue (is_between B D size) × (zm < 32) × (zn < 32) × (zd < 32)
-IsVectorPermute (permute.Reverse size zn zd) = IsTrue (is_between B D size) × (zn < 32) × (zd < 32)
+    IsTrue (is_size_between B D size) × (zm < 32) × (zn < 32) × (zd < 32)
+IsVectorPermute (permute.Reverse size zn zd) = IsTrue (is_size_between B D size) × (zn < 32) × (zd < 32)
 IsVectorPermute (permute.Table size zm zn zd) =
-    IsTrue (is_between B D size) × (zm < 32) × (zn < 32) × (zd < 32)
+    IsTrue (is_size_between B D size) × (zm < 32) × (zn < 32) × (zd < 32)
 IsVectorPermute (permute.Extract amount zm zdn) = (amount < 2 ^ 8) × (zm < 32) × (zdn < 32)
-IsVectorPermute (permute.Unpack signed high size zn zd) = IsTrue (is_between H D size) × (zn < 32) × (zd < 32)
+IsVectorPermute (permute.Unpack signed high size zn zd) =
+    IsTrue (is_size_between H D size) × (zn < 32) × (zd < 32)
 
 -- the elements that the operation has, and a predicate of 0 to 7
 abbrev pub IsVectorReduction : VectorReduction → Type 0
 IsVectorReduction (reduction.Last active size pg zn rd) =
-    IsTrue (is_between B D size) × (pg < 8) × (zn < 32) × (rd < 32)
+    IsTrue (is_size_between B D size) × (pg < 8) × (zn < 32) × (rd < 32)
 IsVectorReduction (reduction.Reduce op size pg zn vd) =
-    IsTrue (is_between B (widest_reduced op) size) × (pg < 8) × (zn < 32) × (vd < 32)
+    IsTrue (is_size_between B (widest_reduced op) size) × (pg < 8) × (zn < 32) × (vd < 32)
 
 -- a predicate of 0 to 7, and an immediate of 5 signed bits
 abbrev pub IsVectorCompare : VectorCompare → Type 0
 IsVectorCompare (compare.Vectors op size zm pg zn pd) =
-    IsTrue (is_between B D size) × (zm < 32) × (pg < 8) × (zn < 32) × (pd < 16)
+    IsTrue (is_size_between B D size) × (zm < 32) × (pg < 8) × (zn < 32) × (pd < 16)
 IsVectorCompare (compare.Immediate op size imm pg zn pd) =
-    IsTrue (is_between B D size) × IsSigned 5 imm × (pg < 8) × (zn < 32) × (pd < 16)
+    IsTrue (is_size_between B D size) × IsSigned 5 imm × (pg < 8) × (zn < 32) × (pd < 16)
 
 -- predicates of 0 to 15, and a pattern of 5 bits; a selection sets no flags
 abbrev pub IsPredicate : Predicate → Type 0
-IsPredicate (predicate.True size pattern pd) = IsTrue (is_between B D size) × (pattern < 32) × (pd < 16)
+IsPredicate (predicate.True size pattern pd) = IsTrue (is_size_between B D size) × (pattern < 32) × (pd < 16)
 IsPredicate (predicate.False pd) = pd < 16
 IsPredicate (predicate.Test pg pn) = (pg < 16) × (pn < 16)
 IsPredicate (predicate.Logical op flags pm pg pn pd) =
@@ -159,9 +160,9 @@ IsPredicate (predicate.Logical op flags pm pg pn pd) =
 -- predicates of 0 to 15
 abbrev pub IsPredicateCount : PredicateCount → Type 0
 IsPredicateCount (count.While signed wide size rm rn pd) =
-    IsTrue (is_between B D size) × (rm < 32) × (rn < 32) × (pd < 16)
+    IsTrue (is_size_between B D size) × (rm < 32) × (rn < 32) × (pd < 16)
 IsPredicateCount (count.Active size pg pn rd) =
-    IsTrue (is_between B D size) × (pg < 16) × (pn < 16) × (rd < 32)
+    IsTrue (is_size_between B D size) × (pg < 16) × (pn < 16) × (rd < 32)
 IsPredicateCount count.SetFfr = Unit {0}
 IsPredicateCount (count.ReadFfr pd) = pd < 16
 IsPredicateCount (count.WriteFfr pn) = pn < 16
@@ -169,9 +170,9 @@ IsPredicateCount (count.WriteFfr pn) = pn < 16
 -- a pattern of 5 bits, a multiplier and 6 signed bits
 abbrev pub IsElementCount : ElementCount → Type 0
 IsElementCount (element.Count size pattern multiplier rd) =
-    IsTrue (is_between B D size) × (pattern < 32) × IsMultiplier multiplier × (rd < 32)
+    IsTrue (is_size_between B D size) × (pattern < 32) × IsMultiplier multiplier × (rd < 32)
 IsElementCount (element.Change decrement size pattern multiplier rd) =
-    IsTrue (is_between B D size) × (pattern < 32) × IsMultiplier multiplier × (rd < 32)
+    IsTrue (is_size_between B D size) × (pattern < 32) × IsMultiplier multiplier × (rd < 32)
 IsElementCount (element.Length imm rd) = IsSigned 6 imm × (rd < 32)
 IsElementCount (element.AddLength predicate imm rn rd) = IsSigned 6 imm × (rn < 32) × (rd < 32)
 
@@ -179,15 +180,17 @@ IsElementCount (element.AddLength predicate imm rn rd) = IsSigned 6 imm × (rn <
 abbrev pub IsVectorAccess : VectorAccess → Type 0
 IsVectorAccess (access.Load kind offset pg rn zt) = IsVectorOffset offset × (pg < 8) × (rn < 32) × (zt < 32)
 IsVectorAccess (access.Store memory element offset pg rn zt) =
-    IsTrue (is_between memory D element) × IsVectorOffset offset × (pg < 8) × (rn < 32) × (zt < 32)
+    IsTrue (is_size_between memory D element) × IsVectorOffset offset × (pg < 8) × (rn < 32) × (zt < 32)
 IsVectorAccess (access.Vector store vectors rn zt) = IsSigned 9 vectors × (rn < 32) × (zt < 32)
 IsVectorAccess (access.Predicate store vectors rn pt) = IsSigned 9 vectors × (rn < 32) × (pt < 16)
 
 -- a widened element is wider than a byte
 abbrev pub IsSve2 : Sve2 → Type 0
-IsSve2 (sve2.Multiply op size zm zn zd) = IsTrue (is_between B D size) × (zm < 32) × (zn < 32) × (zd < 32)
+IsSve2 (sve2.Multiply op size zm zn zd) =
+    IsTrue (is_size_between B D size) × (zm < 32) × (zn < 32) × (zd < 32)
 IsSve2 (sve2.Ternary op zm zk zdn) = (zm < 32) × (zk < 32) × (zdn < 32)
-IsSve2 (sve2.Widening op top size zm zn zd) = IsTrue (is_between H D size) × (zm < 32) × (zn < 32) × (zd < 32)
+IsSve2 (sve2.Widening op top size zm zn zd) =
+    IsTrue (is_size_between H D size) × (zm < 32) × (zn < 32) × (zd < 32)
 
 -- a mask of 8 bits; the register of a vector, and which vector above it
 abbrev pub IsArrayAccess : ArrayAccess → Type 0

@@ -10,8 +10,8 @@ use types.PredicatedUnaryOp.TheVariants.{Sxtb, Uxtb, Sxth, Uxth, Sxtw, Uxtw}
 use Rattle.sve_table.specs.Values.{elem_number}
 
 -- the elements are no narrower than the first and no wider than the second
-abbrev pub is_between : Elem → Elem → Elem → Bool
-is_between least widest size =
+abbrev pub is_size_between : Elem → Elem → Elem → Bool
+is_size_between least widest size =
     nat_le (elem_number least) (elem_number size) && nat_le (elem_number size) (elem_number widest)
 
 -- the narrowest elements: words are divided, and an extension is of less bits than it gives

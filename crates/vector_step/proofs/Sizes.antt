@@ -7,7 +7,7 @@ use Rattle.sm_types.specs.declared.vector.Elem.TheVariants as elem
 use Rattle.vector_elements.specs.declared.size.Size.{Size}
 use Rattle.vector_elements.specs.declared.size.Size.TheVariants.{B, H, S, D}
 use Rattle.vector_elements.specs.Numbers.{bytes_in}
-use Rattle.sve_table.specs.Sizes.{is_between}
+use Rattle.sve_table.specs.Sizes.{is_size_between}
 use Rattle.sve_vectors.specs.Lengths.{vector_bytes, current_bytes}
 use Rattle.sve_vectors.specs.State.{SveState, length_of}
 use Rattle.vector_step.specs.Sizes.{element_size, IsVectorLength}
@@ -49,7 +49,7 @@ pub is_length : (s : SveState) → IsVectorLength (length_of s)
 is_length s = current_length s.vl s.svl s.streaming
 
 -- elements wider than a byte are not bytes
-pub wider_than_byte : (e : Elem) → IsTrue (is_between elem.H elem.D e) → element_size e ≢ B
+pub wider_than_byte : (e : Elem) → IsTrue (is_size_between elem.H elem.D e) → element_size e ≢ B
 wider_than_byte elem.B h = λ same. cc h
 wider_than_byte elem.H h = λ same. cc
 wider_than_byte elem.S h = λ same. cc

@@ -1,5 +1,5 @@
 use Rattle.std.proofs.Common.{rules, ap, arith, ◌∙◌}
-use Rattle.core_unit.specs.View.{core_state, held_in}
+use Rattle.core_unit.specs.View.{core_state, held_by}
 use Rattle.library_tests.proofs.Places.{absent_more, where_ok}
 use Rattle.library_tests.proofs.cores.a_ninth_context_is_handed_back.Goals as goal
 
@@ -12,7 +12,7 @@ threads-preserved g c =
     let is = where_ok c.admit.result _ (search rules) c.admit.ensures.admitted in
     record {
       options = ap (λ s. s.config) is ∙ c.threads.invariant.options;
-      absent = λ t above. absent_more (held_in c.unstarted-whole.result) (core_state c.threads.core) (core_state c.admit.new.self) t is
+      absent = λ t above. absent_more (held_by c.unstarted-whole.result) (core_state c.threads.core) (core_state c.admit.new.self) t is
           (λ same. let its = c.unstarted-whole.ensures.thread in omega (arith, above, same, its))
           (c.threads.invariant.absent t (omega (arith, above)));
     }

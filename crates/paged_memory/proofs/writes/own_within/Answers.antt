@@ -2,7 +2,7 @@ use Rattle.std.proofs.Common.{◌/◌, arith}
 use Rattle.std.specs.Prelude.{IsSome}
 use Rattle.std.specs.FinMap.{get}
 use Rattle.std.specs.FinSet.{contains}
-use Rattle.paged_memory.specs.Pages.{perm_of, numbers_of, table_of}
+use Rattle.paged_memory.specs.Pages.{perm_of, own_numbers, table_of}
 use Rattle.paged_memory.proofs.Set.{none_found}
 use Rattle.paged_memory.proofs.Owned.{owns_page, owns_no_page, owned_first}
 use Rattle.paged_memory.proofs.Held.{ok_gives, answer_is_ok, still_members, found_some}
@@ -21,12 +21,12 @@ returns-in-Some-clause-room c owned =
     let there : IsSome (get (perm_of c.args.pages.now.items) (c.args.address / 4096)) =
     found_some c.args.pages.now.items (c.args.address / 4096) c.in-Some.i (rw c.as_slice.ensures.value at c.in-Some.ensures.0)
     (rw c.as_slice.ensures.value at c.in-Some.ensures.1) in
-    answer_is_ok c.own_at.result (contains (numbers_of c.args.pages.now.items) (c.args.address / 4096)) c.own_at.ensures.room
+    answer_is_ok c.own_at.result (contains (own_numbers c.args.pages.now.items) (c.args.address / 4096)) c.own_at.ensures.room
     (owned_first (table_of c.args.pages.now.items) c.args.address c.args.count owned (omega arith) c.requires.some there)
 
 pub returns-in-Some-clause-kept : goal.returns-in-Some-clause-kept
 returns-in-Some-clause-kept c n =
-    still_members c.own_at.result (numbers_of c.args.pages.now.items) (numbers_of c.own_at.new.pages.items) (c.args.address / 4096) n
+    still_members c.own_at.result (own_numbers c.args.pages.now.items) (own_numbers c.own_at.new.pages.items) (c.args.address / 4096) n
     c.own_at.ensures.ok c.own_at.ensures.err
 
 pub returns-in-None-clause-ok : goal.returns-in-None-clause-ok

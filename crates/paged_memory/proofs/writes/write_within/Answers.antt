@@ -4,7 +4,7 @@ use Rattle.std.specs.FinMap.{get}
 use Rattle.std.specs.FinSet.{contains}
 use Rattle.std.proofs.lemmas.Bool.Decides.{nat_tests}
 use Rattle.paged_memory.specs.Memory.{first_without}
-use Rattle.paged_memory.specs.Pages.{perm_of, numbers_of, memory_of, table_of}
+use Rattle.paged_memory.specs.Pages.{perm_of, own_numbers, memory_of, table_of}
 use Rattle.paged_memory.proofs.Over.{no_bytes}
 use Rattle.paged_memory.proofs.Runs.{run_permitted, run_denied, run_gone}
 use Rattle.paged_memory.proofs.Owned.{owns_page, owned_first}
@@ -46,7 +46,7 @@ returns-in_err-own_at-in-Some-clause-writes c =
 pub set_at-requires-clause-owned : goal.set_at-requires-clause-owned
 set_at-requires-clause-owned c =
     ap (λ s. contains s (c.args.address / 4096)) c.in_ok-own_at-in-Some.ensures.ok
-    ∙ itself_member (numbers_of c.args.pages.now.items) (c.args.address / 4096)
+    ∙ itself_member (own_numbers c.args.pages.now.items) (c.args.address / 4096)
 
 pub returns-in_ok-own_at-in-Some-clause-writes : goal.returns-in_ok-own_at-in-Some-clause-writes
 returns-in_ok-own_at-in-Some-clause-writes c =

@@ -6,7 +6,7 @@ use Rattle.za_array.specs.Array.{zero_vectors}
 use Rattle.paged_memory.specs.Memory.{bytes_with, first_without}
 use Rattle.mem_access.specs.Runs.{with_bytes}
 use Rattle.signal_frames.specs.Frame.{size_of, frame_address, frame_bytes, entered, with_frame}
-use Rattle.signal_frames.proofs.ReadBack.{read_back}
+use Rattle.mem_access.proofs.ReadBack.{read_back}
 use Rattle.signal_frames.proofs.Round.{frame_numbers, long_frame, size_low}
 use Rattle.signal_frames.proofs.laws.delivery_leaves_its_frame.Goals as goal
 

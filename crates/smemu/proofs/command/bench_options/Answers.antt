@@ -11,5 +11,5 @@ returns-clause-given c =
       budget = d.budget i;
       threads = 4;
       cores = c.args.cores;
-      kernel = d.kernel i;
+      kernel = 1;
     }

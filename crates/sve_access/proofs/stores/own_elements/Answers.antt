@@ -4,7 +4,8 @@ use Rattle.paged_memory.specs.PageTable.{OwnsAlso}
 use Rattle.paged_memory.proofs.Owned.{also_all}
 use Rattle.sve_access.specs.Elements.{element_run, element_addresses}
 use Rattle.sve_access.proofs.Lists.{of_first}
-use Rattle.sve_access.proofs.Kept.{owns_first, owns_more, kept_trans, each_owned}
+use Rattle.sve_access.proofs.Kept.{owns_first, owns_more, each_owned}
+use Rattle.paged_memory.proofs.Owned.{kept_trans}
 use Rattle.sve_access.proofs.stores.own_elements.Goals as goal
 
 pub loop-i-init : goal.loop-i-init

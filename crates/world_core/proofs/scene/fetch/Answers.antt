@@ -5,7 +5,7 @@ use Rattle.shared_region.specs.Ports.{PlainEvents}
 use Rattle.kernel_contexts.specs.Context.{config_of}
 use Rattle.core_unit.specs.CoreState.{CoreState}
 use Rattle.core_unit.specs.Guest.{guest_of}
-use Rattle.core_unit.specs.View.{core_state, held_in}
+use Rattle.core_unit.specs.View.{core_state, held_by}
 use Rattle.core_unit.proofs.Cores.{cons_of, first_of, each_rest}
 use Rattle.world_core.specs.Parts.{guests_of}
 use Rattle.world_core.proofs.Scenes.{fetch_full, fetch_none, fetch_so, none_in}
@@ -44,7 +44,7 @@ returns-clause-applies c = λ n done history.
     let split = cons_of c.args.queue.now.items front some c.remove-front.ensures.value in
     let rest = c.remove-front.ensures.items ∙ ap (λ l. remove l 0) split.1 in
     fetch_so (core_state c.args.core.now) (core_state c.admit.new.self) (guests_of c.args.queue.now.items) done history n
-    (guests_of c.remove-front.new.self.items) (held_in front)
+    (guests_of c.remove-front.new.self.items) (held_by front)
     (omega (arith, c.residents-residents.ensures, c.if-residents-ge-PLACES.false))
     (ap (λ l. map (λ w. guest_of w.context) l) split.1
     ∙ ap (λ l. guest_of front.context ∷ map (λ w. guest_of w.context) l) (sym rest))

@@ -5,7 +5,7 @@ use Rattle.shared_region.specs.Ports.{PlainEvents}
 use Rattle.kernel_contexts.specs.Context.{config_of}
 use Rattle.core_unit.specs.CoreState.{CoreState}
 use Rattle.core_unit.specs.Guest.{guest_of}
-use Rattle.core_unit.specs.View.{core_state, held_in}
+use Rattle.core_unit.specs.View.{core_state, held_by}
 use Rattle.core_unit.proofs.Cores.{each_snoc}
 use Rattle.world_core.specs.Applies.{AppliesHere}
 use Rattle.world_core.specs.Parts.{guests_of, scene_with}
@@ -23,7 +23,7 @@ push_reserved-requires c =
 pub returns-in-Some-clause-applies : goal.returns-in-Some-clause-applies
 returns-in-Some-clause-applies c = λ n done history.
     offer_so (core_state c.args.core.now) (core_state c.evict.new.self) (guests_of c.args.queue.now.items) done history n
-    (guests_of c.push_reserved.new.self.items) (held_in c.in-Some.whole) c.in-Some.ensures.taken
+    (guests_of c.push_reserved.new.self.items) (held_by c.in-Some.whole) c.in-Some.ensures.taken
     (ap (λ l. map (λ w. guest_of w.context) l) c.push_reserved.ensures.items
     ∙ map-append (λ w. guest_of w.context) c.args.queue.now.items (c.in-Some.whole ∷ []))
 

@@ -2,7 +2,7 @@ use Rattle.std.proofs.Common.{◌<◌, ◌∷◌, [], length, map, refl, ap, sym
 use Rattle.std.proofs.lemmas.List.{map-append}
 use Rattle.shared_region.specs.History.{entries_of}
 use Rattle.core_unit.specs.Guest.{guest_of}
-use Rattle.core_unit.specs.View.{core_state, held_in}
+use Rattle.core_unit.specs.View.{core_state, held_by}
 use Rattle.world_core.specs.Parts.{guests_of, scene_with}
 use Rattle.sm_types.specs.declared.world_event.WorldEvent.TheVariants as event
 use Rattle.world_core.specs.declared.event.Applied.TheVariants as applied
@@ -46,7 +46,7 @@ returns-in-Some-clause-applies c = λ n queue.
     (none_in old.done c.requires.none)
     (λ thread events t u given. c.plain_history_grows.ensures.history _ _ t u (entries_of thread events) given.chain)
     c.history-history.ensures.plain.legal n some c.run-run.ensures.run)
-    (held_in c.in-Some.stopped)
+    (held_by c.in-Some.stopped)
     (done_few queue base c.args.port.now.history c.run-run.new.port.history _ c.args.k old mid c.run-run.result
     (none_in old.done c.requires.none)
     (λ thread events t u given. c.plain_history_grows.ensures.history _ _ t u (entries_of thread events) given.chain)
@@ -65,7 +65,7 @@ returns-in-Some-clause-none c =
     (none_in old.done c.requires.none)
     (λ thread events t u given. c.plain_history_grows.ensures.history _ _ t u (entries_of thread events) given.chain)
     c.history-history.ensures.plain.legal some c.run-run.ensures.run in
-    ap (λ l. length l) (only_one mid.done (core_state c.take_done.new.self).done (held_in c.in-Some.stopped) few
+    ap (λ l. length l) (only_one mid.done (core_state c.take_done.new.self).done (held_by c.in-Some.stopped) few
     (ap (λ (s : CoreState PlainEvents). s.done) c.in-Some.ensures.taken))
 
 pub returns-in-Some-clause-number : goal.returns-in-Some-clause-number

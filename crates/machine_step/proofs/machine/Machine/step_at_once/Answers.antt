@@ -6,6 +6,8 @@ use Rattle.machine_step.specs.Execution.{effect_of_insn}
 use Rattle.machine_step.specs.Machine.{core_of}
 use Rattle.machine_step.proofs.Answers.{effect_of_word}
 use Rattle.machine_step.proofs.Steps.{attempted_at}
+use Rattle.machine_step.proofs.Owned.{attempt_keeps}
+use Rattle.machine_step.specs.Owned.{writes_on}
 use Rattle.machine_step.proofs.machine.Machine.step_at_once.Goals as goal
 
 pub returns-clause-effect : goal.returns-clause-effect
@@ -16,3 +18,8 @@ returns-clause-effect c =
     (effect_of_word (vector_bytes c.args.bank.now.vectors.vl) (core_of c.args.self.now (bank_state c.args.bank.now)) c.in-Ok.word
     (Some c.in-Some.insn.now) h.0 h.1 c.in-Some.ensures)
     c.execute_at_once.ensures.effect
+
+pub returns-clause-owned : goal.returns-clause-owned
+returns-clause-owned c =
+    attempt_keeps (writes_on c.args.self.now c.args.bank.now c.in-Some.insn.now) c.args.self.now.pages c.execute_at_once.new.self.pages
+    c.execute_at_once.result c.execute_at_once.ensures.owned

@@ -1,4 +1,5 @@
 use Rattle.std.proofs.Common.{add-one, ◌∙◌, arith}
+use Rattle.paged_memory.proofs.Owned.{kept_trans}
 use Rattle.mem_access.specs.Bank.{bank_state}
 use Rattle.machine_step.specs.Machine.{core_of}
 use Rattle.machine_step.proofs.Steps.{executed_more}
@@ -12,6 +13,7 @@ steps-preserved c =
       executed = rw add-one (executed_more c.args.bank.now.vectors.vl c.steps.done (core_of c.args.self.now (bank_state c.args.bank.now))
           c.steps.self c.steps.bank c.step_at_once.new.self c.step_at_once.new.bank h.same.vl h.executed e.effect);
       few = omega (arith, c.steps-test.true);
+      owned = kept_trans c.args.self.now.pages c.steps.self.pages c.step_at_once.new.self.pages h.owned e.owned;
       same = record { vl = e.same.vl ∙ h.same.vl; svl = e.same.svl ∙ h.same.svl; owner = e.same.owner ∙ h.same.owner };
       mode = e.mode;
     }

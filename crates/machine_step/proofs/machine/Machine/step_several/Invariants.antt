@@ -1,4 +1,5 @@
 use Rattle.std.proofs.Common.{◌-◌, ◌≤◌}
+use Rattle.paged_memory.specs.PageTable.{KeepsOwned}
 use Rattle.mem_access.specs.Bank.{bank_state}
 use Rattle.machine_step.specs.ProcessorState.{vector_bytes}
 use Rattle.machine_step.specs.Machine.{core_of, IsInMode, IsSameBank}
@@ -10,6 +11,7 @@ invariant-steps l = record {
   executed : AreExecuted (vector_bytes l.initial.bank.vectors.vl) l.done (core_of l.initial.self (bank_state l.initial.bank))
       (core_of l.self (bank_state l.bank));
   few : l.done ≤ l.most;
+  owned : KeepsOwned l.initial.self.pages l.self.pages;
   same : IsSameBank l.initial.bank l.bank;
   mode : IsInMode l.bank l.self;
 }

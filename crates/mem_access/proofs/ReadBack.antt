@@ -11,7 +11,7 @@ use Rattle.paged_memory.specs.Memory.{AddressSpace, byte_with, bytes_with, and_b
 use Rattle.paged_memory.specs.Memory.{set_bytes}
 use Rattle.paged_memory.proofs.Over.{eq_by_cmp-nat}
 use Rattle.mem_access.specs.Runs.{with_bytes}
-use Rattle.signal_frames.proofs.Putting.{neither}
+use Rattle.paged_memory.proofs.Ready.{neither}
 
 -- ---- bytes that are set
 
