@@ -4,13 +4,13 @@ use Rattle.std.specs.FinMap.{len}
 use Rattle.std.proofs.lemmas.List.Sums.{count_by-le-length}
 use Rattle.paged_memory.specs.PageTable.{owned_count}
 use Rattle.paged_memory.proofs.Order.{len-perm_of}
-use Rattle.paged_memory.proofs.Held.{len-numbers_of}
+use Rattle.paged_memory.proofs.Held.{len-own_numbers}
 use Rattle.paged_memory.proofs.pages.Pages.own_pages.Goals as goal
 
 pub returns-clause-value : goal.returns-clause-value
 returns-clause-value c =
     c.own_count.ensures ∙ ap (count_by (λ p. p.bytes.own)) c.as_slice.ensures.value
-    ∙ sym (len-numbers_of c.self.inside.pages.items c.self.invariant.0.sorted) ∙ ap owned_count c.self.view_is
+    ∙ sym (len-own_numbers c.self.inside.pages.items c.self.invariant.0.sorted) ∙ ap owned_count c.self.view_is
 
 pub returns-clause-few : goal.returns-clause-few
 returns-clause-few c =
