@@ -7,7 +7,7 @@ ghost use Rattle.paged_memory.specs.declared.page.Page.{Page};
 ghost use Rattle.paged_memory.specs.Memory.{with_page, byte_with, bytes_with, first_without};
 ghost use Rattle.paged_memory.specs.Pages.{page_at, perm_of, memory_of, IsFine, AreHeld};
 
-use crate::hints::hinted_place;
+use crate::hints::Hints;
 use crate::page_bytes::PageBytes;
 use std::alloc::{AllocError, Global};
 
@@ -43,12 +43,12 @@ pub fn count_below(pages: &[Page], number: u64) -> usize
 
 /// The place of the page of that number: the one that is hinted at, or the one that a search finds.
 #[inline(always)]
-pub fn find(pages: &[Page], hints: &[u16], number: u64) -> Option<usize>
+pub fn find(pages: &[Page], hints: &Hints, number: u64) -> Option<usize>
     requires { IsFine pages.now }
     ensures { MatchOption result (page_at pages.now number ≡ None)
         (λ i. (i < length pages.now) × (page_at pages.now number ≡ slice_get pages.now i)) }
 {
-    let i = hinted_place(hints, number);
+    let i = hints.place(number);
     if i < pages.len() && pages[i].number == number {
         Some(i)
     } else {
@@ -75,7 +75,7 @@ pub fn search(pages: &[Page], number: u64) -> Option<usize>
 #[inline(always)]
 pub fn run<'a>(
     pages: &'a [Page],
-    hints: &[u16],
+    hints: &Hints,
     address: u64,
     count: usize,
     need: u8,
@@ -143,7 +143,7 @@ pub fn share_pages(alloc: Global, pages: &[Page]) -> Result<Vec<Page>, AllocErro
 /// The first of the addresses from one on that lacks the permission, page by page.
 pub fn first_lacking(
     pages: &[Page],
-    hints: &[u16],
+    hints: &Hints,
     address: u64,
     length: u64,
     need: u8,

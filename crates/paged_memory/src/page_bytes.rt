@@ -32,14 +32,18 @@ impl Model for PageBytes {
     ghost view = { λ b. held_in b.kept };
 }
 
-/// Sets a run of bytes.
+/// Sets a run of bytes; where it is as long as a word or a doubleword, by one move.
 #[inline(always)]
 fn set_run(into: &mut [u8], at: usize, bytes: &[u8])
     requires { at + length bytes.now ≤ length into.old }
     ensures count { length into.new ≡ length into.old }
     ensures value { into.new ≡ take at into.old ++ (bytes.now ++ drop (at + length bytes.now) into.old) }
 {
-    into[at..at + bytes.len()].copy_from_slice(bytes);
+    match bytes.len() {
+        8 => into[at..at + 8].copy_from_slice(&bytes[..8]),
+        4 => into[at..at + 4].copy_from_slice(&bytes[..4]),
+        _ => into[at..at + bytes.len()].copy_from_slice(bytes),
+    }
 }
 
 impl PageBytes {

@@ -12,7 +12,7 @@ ghost use Rattle.paged_memory.specs.PageList.{IsPageList, HasPage, image_entry};
 ghost use Rattle.paged_memory.specs.Accesses.{need_of, stopped_at, IsOfWrite};
 ghost use Rattle.paged_memory.specs.Pages.{perm_of, memory_of, IsFine, AreHeld};
 
-use crate::hints::hints_of;
+use crate::hints::Hints;
 use crate::image::Image;
 use crate::page::{Page, add_page, first_lacking, run};
 use crate::page_bytes::PageBytes;
@@ -26,7 +26,7 @@ use std::marker::Model;
 #[derive(Drop)]
 pub struct Pages {
     pages: Vec<Page>,
-    hints: Vec<u16>,
+    hints: Hints,
 }
 
 impl Model for Pages {
@@ -118,13 +118,7 @@ impl Pages {
         ensures access { IfErr result (λ e. e.access ≡ Access.Read) }
         ensures refused { OnErr result (bytes_with 4 self.now.memory address (length into.old) ≡ None) }
     {
-        match copy_out(
-            self.pages.as_slice(),
-            self.hints.as_slice(),
-            address,
-            4,
-            into,
-        ) {
+        match copy_out(self.pages.as_slice(), &self.hints, address, 4, into) {
             None => Ok(()),
             Some(address) => Err(Abort {
                 address,
@@ -142,13 +136,7 @@ impl Pages {
         ensures count { IfSome result (λ bytes. length bytes.now ≡ count) }
         ensures gone { IfNone result (first_without 4 self.now.memory address count ≡ Some address) }
     {
-        run(
-            self.pages.as_slice(),
-            self.hints.as_slice(),
-            address,
-            count,
-            4,
-        )
+        run(self.pages.as_slice(), &self.hints, address, count, 4)
     }
 
     /// The word of the four bytes from an address on; `None` exactly where one of them is in no executable
@@ -158,7 +146,7 @@ impl Pages {
         ensures { result ≡ word_at self.now.memory pc }
     {
         if pc % 4096 <= 4092 {
-            match run(self.pages.as_slice(), self.hints.as_slice(), pc, 4, 1) {
+            match run(self.pages.as_slice(), &self.hints, pc, 4, 1) {
                 Some(bytes) => Some(u32::from_le_bytes([bytes[0], bytes[1], bytes[2], bytes[3]])),
                 None => None,
             }
@@ -173,13 +161,7 @@ impl Pages {
         ensures { result ≡ word_at self.now.memory pc }
     {
         let mut word = [0; 4];
-        match copy_out(
-            self.pages.as_slice(),
-            self.hints.as_slice(),
-            pc,
-            1,
-            &mut word,
-        ) {
+        match copy_out(self.pages.as_slice(), &self.hints, pc, 1, &mut word) {
             None => Some(u32::from_le_bytes(word)),
             Some(_) => None,
         }
@@ -195,7 +177,7 @@ impl Pages {
     {
         match first_lacking(
             self.pages.as_slice(),
-            self.hints.as_slice(),
+            &self.hints,
             address,
             length,
             need_of(access),
@@ -223,7 +205,7 @@ impl Pages {
         ensures count { OnOk result (owned_count self.new
             ≡ owned_count self.old + set.len (shared_pages self.old (run_of address length))) }
     {
-        own_run(&mut self.pages, self.hints.as_slice(), address, length).map_err(|_| Memory)
+        own_run(&mut self.pages, &self.hints, address, length).map_err(|_| Memory)
     }
 
     /// Writes bytes from an address on, and makes their pages owned, and no others; addresses go round at
@@ -244,7 +226,7 @@ impl Pages {
         ensures count { OnOk result (owned_count self.new
             ≡ owned_count self.old + set.len (shared_pages self.old (run_of address (length bytes.now)))) }
     {
-        write_bytes(&mut self.pages, self.hints.as_slice(), address, bytes)
+        write_bytes(&mut self.pages, &self.hints, address, bytes)
     }
 
     /// How many pages there are.
@@ -279,7 +261,7 @@ impl Pages {
 }
 
 /// Copies bytes out, run by run, or names the first that lacks the permission.
-fn copy_out(pages: &[Page], hints: &[u16], address: u64, need: u8, into: &mut [u8]) -> Option<u64>
+fn copy_out(pages: &[Page], hints: &Hints, address: u64, need: u8, into: &mut [u8]) -> Option<u64>
     requires { IsFine pages.now }
     ensures ok { IfNone result (bytes_with need (memory_of pages.now) address (length into.old)
         ≡ Some into.new) }
@@ -311,7 +293,7 @@ fn started_from(alloc: Global, image: &Image) -> Result<Pages, AllocError>
 {
     let mut pages = image.share_pages(alloc)?;
     add_stack(alloc, &mut pages)?;
-    let hints = hints_of(alloc, pages.as_slice())?;
+    let hints = Hints::of(alloc, pages.as_slice())?;
     Ok(Pages { pages, hints })
 }
 
@@ -352,6 +334,6 @@ fn listed(alloc: Global, list: &PageList) -> Result<Pages, AllocError>
     ensures whole { IfOk result (λ p. IsWhole p.memory) }
 {
     let pages = pages_of_list(alloc, list)?;
-    let hints = hints_of(alloc, pages.as_slice())?;
+    let hints = Hints::of(alloc, pages.as_slice())?;
     Ok(Pages { pages, hints })
 }

@@ -11,6 +11,7 @@ ghost use Rattle.paged_memory.specs.Writes.{Writes};
 ghost use Rattle.paged_memory.specs.Pages.{page_at, mem_of, perm_of, own_numbers, memory_of, table_of};
 ghost use Rattle.paged_memory.specs.Pages.{IsFine};
 
+use crate::hints::Hints;
 use crate::page::{Page, find, first_lacking, search};
 use crate::pages::{Abort, WriteStop};
 use sm_types::Access;
@@ -93,7 +94,7 @@ pub fn put_bytes(pages: &mut Vec<Page>, address: u64, bytes: &[u8])
 /// Makes the page of some bytes owned, where they lie within one; `Err` is want of memory.
 fn own_within(
     pages: &mut Vec<Page>,
-    hints: &[u16],
+    hints: &Hints,
     address: u64,
     count: u64,
 ) -> Result<(), AllocError>
@@ -117,7 +118,7 @@ fn own_within(
 /// memory, some of them may be.
 pub fn own_run(
     pages: &mut Vec<Page>,
-    hints: &[u16],
+    hints: &Hints,
     address: u64,
     length: u64,
 ) -> Result<(), AllocError>
@@ -143,7 +144,7 @@ pub fn own_run(
 #[inline(always)]
 fn write_within(
     pages: &mut Vec<Page>,
-    hints: &[u16],
+    hints: &Hints,
     address: u64,
     bytes: &[u8],
 ) -> Result<(), WriteStop>
@@ -176,7 +177,7 @@ fn write_within(
 #[inline(never)]
 fn write_across(
     pages: &mut Vec<Page>,
-    hints: &[u16],
+    hints: &Hints,
     address: u64,
     bytes: &[u8],
 ) -> Result<(), WriteStop>
@@ -200,7 +201,7 @@ fn write_across(
 #[inline(always)]
 pub fn write_bytes(
     pages: &mut Vec<Page>,
-    hints: &[u16],
+    hints: &Hints,
     address: u64,
     bytes: &[u8],
 ) -> Result<(), WriteStop>

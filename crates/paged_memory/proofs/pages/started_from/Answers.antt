@@ -6,8 +6,8 @@ use Rattle.paged_memory.proofs.Whole.{whole_pages}
 use Rattle.paged_memory.proofs.Held.{none_owned}
 use Rattle.paged_memory.proofs.pages.started_from.Goals as goal
 
-pub hints_of-requires : goal.hints_of-requires
-hints_of-requires c =
+pub of-requires : goal.of-requires
+of-requires c =
     let count : len c.args.image.now.memory.perm ≡ length c.in_ok-pages.pages.items =
     len-perm_of c.in_ok-pages.pages.items c.args.image.now.memory c.in_ok-pages.ensures.fine c.in_ok-pages.ensures.memory in
     let same : length c.as_slice.result.now ≡ length c.add_stack.new.pages.items = ap length c.as_slice.ensures.value in
