@@ -11,8 +11,7 @@ use crate::binary_ops::{
     Difference, SaturatingDifference, SaturatingSum, SignedSaturatingDifference,
     SignedSaturatingSum, Sum,
 };
-use crate::lanes::each_by_lanes;
-use crate::operation::each_with;
+use crate::lanes::{each_by_lanes, each_of_short_by_lanes};
 use sm_types::VectorArithmeticOp;
 use vector_elements::Size;
 
@@ -26,9 +25,9 @@ pub fn vector_arithmetic(op: VectorArithmeticOp, size: Size, d: &mut [u8], m: &[
     match op {
         VectorArithmeticOp::Add => each_by_lanes(Sum, size, d, m),
         VectorArithmeticOp::Sub => each_by_lanes(Difference, size, d, m),
-        VectorArithmeticOp::Sqadd => each_with(SignedSaturatingSum, size, d, m),
+        VectorArithmeticOp::Sqadd => each_of_short_by_lanes(SignedSaturatingSum, size, d, m),
         VectorArithmeticOp::Uqadd => each_by_lanes(SaturatingSum, size, d, m),
-        VectorArithmeticOp::Sqsub => each_with(SignedSaturatingDifference, size, d, m),
+        VectorArithmeticOp::Sqsub => each_of_short_by_lanes(SignedSaturatingDifference, size, d, m),
         VectorArithmeticOp::Uqsub => each_by_lanes(SaturatingDifference, size, d, m),
     }
 }

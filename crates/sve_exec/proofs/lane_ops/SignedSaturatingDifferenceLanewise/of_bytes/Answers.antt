@@ -1,0 +1,20 @@
+use Rattle.std.proofs.Common.{◌≡◌, length, Fits, nat_lt, nat_le, ◌-◌, replicate}
+use Rattle.std.proofs.lemmas.Simd.{below_from_Fits, tops_compared}
+use Rattle.std.specs.Int.{w8}
+use Rattle.std.specs.Simd.Lanes.{Each1, zip2}
+use Rattle.vector_elements.specs.declared.size.Size.TheVariants.{B}
+use Rattle.vector_elements.specs.Numbers.{half_of}
+use Rattle.sve_exec.specs.Arithmetic.{difference_of}
+use Rattle.sve_exec.proofs.Saturated.{signed_differences}
+use Rattle.sve_exec.proofs.lane_ops.SignedSaturatingDifferenceLanewise.of_bytes.Goals as goal
+
+pub returns : goal.returns
+returns c =
+    let a : (length c.args.a ≡ 16) × Each1 (Fits w8) c.args.a = assumption c in
+    let b : (length c.args.b ≡ 16) × Each1 (Fits w8) c.args.b = assumption c in
+    let half = replicate 16 (half_of B) in
+    let most = replicate 16 (half_of B - 1) in
+    let value = zip2 (difference_of B) c.args.a c.args.b in
+    signed_differences B 16 c.args.a c.args.b a.0 (below_from_Fits w8 _ a.1) (below_from_Fits w8 _ b.1)
+    (tops_compared w8 nat_le half c.args.a) (tops_compared w8 nat_le half c.args.b)
+    (tops_compared w8 nat_lt value half) (tops_compared w8 nat_lt value most)
