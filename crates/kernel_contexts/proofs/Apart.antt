@@ -1,5 +1,5 @@
 -- Turns of a thread that is kept off its vectors.
-use Rattle.std.proofs.Common.{◌≡◌, ℕ, ◌==◌, ◌<◌, Bool, true, false, cond, List, [], length, Option, None, refl, ap, sym, ◌∙◌, subst, arith}
+use Rattle.std.proofs.Common.{◌≡◌, ℕ, ◌==◌, Bool, true, false, List, [], Option, None, refl, sym, ◌∙◌, subst, arith}
 use Rattle.std.specs.Prelude.{◌&&◌, ◌||◌, slice_index}
 use Rattle.std.proofs.lemmas.Bool.Decides.{nat_tests}
 use Rattle.sm_types.specs.declared.config.Config.{Config}
@@ -8,8 +8,8 @@ use Rattle.sm_types.specs.declared.stop.Stop.{Stop}
 use Rattle.shared_region.specs.Tickets.{Refusals}
 use Rattle.paged_memory.specs.PageTable.{PageTable, KeepsOwned}
 use Rattle.machine_step.specs.ProcessorState.{ProcessorState}
-use Rattle.machine_step.specs.Effect.{Effect, Calls, effect_of}
-use Rattle.machine_step.specs.Needs.{needs_bank, is_call_at, is_calls}
+use Rattle.machine_step.specs.Effect.{effect_of}
+use Rattle.machine_step.specs.Needs.{needs_bank, is_call_at}
 use Rattle.machine_step.specs.Step.{Tells, TellsUnless}
 use Rattle.machine_step.specs.declared.step.StepEnd.{StepEnd}
 use Rattle.machine_step.specs.declared.step.StepEnd.TheVariants as answer
@@ -17,7 +17,8 @@ use Rattle.machine_step.proofs.Calls.{call_told, tells_call, is_call_end}
 use Rattle.kernel_contexts.specs.State.{State}
 use Rattle.kernel_contexts.specs.Call.{TurnEnd}
 use Rattle.kernel_contexts.specs.Turn.{is_poll_due, is_delivery_due}
-use Rattle.kernel_contexts.specs.Needs.{needs_vectors, instruction_needs, is_return}
+use Rattle.kernel_contexts.specs.KernelCall.{return_number}
+use Rattle.kernel_contexts.specs.Needs.{needs_vectors, instruction_needs}
 use Rattle.kernel_contexts.specs.Context.{TurnsOver, TurnsUnless, LacksUnless}
 use Rattle.kernel_contexts.specs.Owned.{TurnOwns}
 use Rattle.kernel_contexts.specs.declared.context.Turn.{Turn}
@@ -45,7 +46,7 @@ kept_yes true false call ret h = cc
 
 module _ (apart : Bool) (vl : ℕ) (s : ProcessorState) (refusals : Refusals) (room : Bool) (new : ProcessorState) where
   abbrev ret : Bool
-  ret = slice_index s.scalars.x 8 == 139
+  ret = slice_index s.scalars.x 8 == return_number
 
   stepped : (wants : Bool) (end : StepEnd) → (end ≡ answer.NeedsBank → ⊥) → TellsUnless wants refusals room (effect_of vl s) s new end
       → (wants ≡ false) × Tells refusals room (effect_of vl s) s new end
@@ -132,7 +133,7 @@ over_as refusals end end' old before new made events stopped turn is same more h
 
 -- an instruction is due
 pub needs_executes : (config : Config) (s : State) → (s.count ≡ config.budget → ⊥) → is_poll_due config s ≡ false
-    → is_delivery_due s ≡ false → needs_vectors config s ≡ instruction_needs s.core
+    → is_delivery_due config s ≡ false → needs_vectors config s ≡ instruction_needs s.core
 unfolding needs_vectors
 needs_executes config s not none other =
     let test : (s.count == config.budget) ≡ false = grind (arith, nat_tests) in rw (test, none, other) refl

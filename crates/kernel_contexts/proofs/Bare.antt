@@ -6,8 +6,6 @@ use Rattle.machine_step.specs.declared.machine.Machine.{Machine}
 use Rattle.kernel_contexts.specs.SaveArea.{ComesBack}
 use Rattle.machine_step.specs.ProcessorState.{VectorState}
 use Rattle.kernel_contexts.specs.State.{State}
-use Rattle.kernel_contexts.specs.Call.{counted}
-use Rattle.kernel_contexts.specs.Turn.{released}
 use Rattle.kernel_contexts.specs.Guest.{guest_state, bare_state}
 use Rattle.kernel_contexts.specs.declared.guest.GuestThread.{GuestThread}
 

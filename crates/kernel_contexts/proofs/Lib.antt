@@ -2,6 +2,7 @@ pub mod Banks
 pub mod Bare
 pub mod Reading
 pub mod HandlerTable
+pub mod Signals
 pub mod Turns
 pub mod Answered
 pub mod Over

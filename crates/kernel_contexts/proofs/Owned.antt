@@ -1,31 +1,28 @@
 -- Which pages are owned after a turn.
 use Rattle.std.proofs.Common.{◌≡◌, ℕ, Bool, true, false, cond, List, [], Option, Some, None, ap, sym, ◌∙◌, subst}
-use Rattle.sm_types.specs.declared.config.Config.{Config}
 use Rattle.sm_types.specs.declared.length.VecLen.{VecLen}
 use Rattle.sm_types.specs.declared.shared_op.Event.{Event}
 use Rattle.sm_types.specs.declared.stop.Stop.{Stop}
 use Rattle.shared_region.specs.Tickets.{Refusals}
 use Rattle.paged_memory.specs.PageTable.{PageTable, OwnsAlso, KeepsOwned, IsRefused}
 use Rattle.mem_access.specs.declared.bank.Bank.{Bank}
-use Rattle.mem_access.specs.Bank.{bank_state}
 use Rattle.machine_step.specs.ProcessorState.{ProcessorState, vector_bytes}
 use Rattle.machine_step.specs.Effect.{Effect, effect_of}
 use Rattle.machine_step.specs.Owned.{StepOwns, step_writes}
 use Rattle.machine_step.specs.Step.{Tells}
 use Rattle.machine_step.proofs.Owned.{also_same}
-use Rattle.machine_step.specs.declared.machine.Machine.{Machine}
 use Rattle.machine_step.specs.declared.step.StepEnd.TheVariants.{Next}
 use Rattle.signal_frames.specs.Frame.{frame_addresses, byte_of}
 use Rattle.signal_frames.specs.declared.delivery.FrameStop.{FrameStop}
 use Rattle.signal_frames.specs.declared.delivery.FrameStop.TheVariants.{BadFrame, Memory}
-use Rattle.kernel_contexts.specs.State.{State}
-use Rattle.kernel_contexts.specs.Guest.{held_state, bare_state}
+use Rattle.sm_types.specs.declared.version.Version.{Version}
+use Rattle.sm_types.specs.Options.{version_of}
+use Rattle.kernel_contexts.specs.Guest.{held_state}
 use Rattle.kernel_contexts.specs.Turn.{is_poll_due, is_delivery_due}
 use Rattle.kernel_contexts.specs.Owned.{TurnOwns, effect_writes, instruction_writes, frame_writes, turn_writes}
 use Rattle.kernel_contexts.specs.declared.guest.GuestThread.{GuestThread}
 use Rattle.kernel_contexts.specs.declared.context.Turn.{Turn}
 use Rattle.kernel_contexts.specs.declared.context.Turn.TheVariants as turn
-use Rattle.kernel_contexts.proofs.Bare.{with_vectors}
 
 -- what writes no byte
 pub same_owns : (written : List ℕ) (old new : PageTable) (end : Turn) → new ≡ old → written ≡ [] → TurnOwns written old new end
@@ -55,20 +52,20 @@ turn_as xs ys old new end same owns = subst (λ (bytes : List ℕ). TurnOwns byt
 -- what is due
 pub polls_write : (g : GuestThread) (bank : Bank) → is_poll_due g.config (held_state g bank) ≡ true → turn_writes g bank ≡ []
 polls_write g bank due =
-    ap (λ b. cond b [] (cond (is_delivery_due (held_state g bank)) (frame_writes g bank) (instruction_writes g bank))) due
+    ap (λ b. cond b [] (cond (is_delivery_due g.config (held_state g bank)) (frame_writes g bank) (instruction_writes g bank))) due
 
 after_poll : (g : GuestThread) (bank : Bank) → is_poll_due g.config (held_state g bank) ≡ false
-    → turn_writes g bank ≡ cond (is_delivery_due (held_state g bank)) (frame_writes g bank) (instruction_writes g bank)
+    → turn_writes g bank ≡ cond (is_delivery_due g.config (held_state g bank)) (frame_writes g bank) (instruction_writes g bank)
 after_poll g bank none =
-    ap (λ b. cond b [] (cond (is_delivery_due (held_state g bank)) (frame_writes g bank) (instruction_writes g bank))) none
+    ap (λ b. cond b [] (cond (is_delivery_due g.config (held_state g bank)) (frame_writes g bank) (instruction_writes g bank))) none
 
 pub deliveries_write : (g : GuestThread) (bank : Bank) → is_poll_due g.config (held_state g bank) ≡ false
-    → is_delivery_due (held_state g bank) ≡ true → turn_writes g bank ≡ frame_writes g bank
+    → is_delivery_due g.config (held_state g bank) ≡ true → turn_writes g bank ≡ frame_writes g bank
 deliveries_write g bank none due =
     after_poll g bank none ∙ ap (λ b. cond b (frame_writes g bank) (instruction_writes g bank)) due
 
 pub instructions_write : (g : GuestThread) (bank : Bank) → is_poll_due g.config (held_state g bank) ≡ false
-    → is_delivery_due (held_state g bank) ≡ false → turn_writes g bank ≡ instruction_writes g bank
+    → is_delivery_due g.config (held_state g bank) ≡ false → turn_writes g bank ≡ instruction_writes g bank
 instructions_write g bank none other =
     after_poll g bank none ∙ ap (λ b. cond b (frame_writes g bank) (instruction_writes g bank)) other
 
@@ -89,9 +86,12 @@ next_owns refusals room effect before after written old new (Some event) h owns 
     also_same (effect_writes written effect) old new owns (ap (effect_writes written) h.asks)
 
 -- the frame of a signal
-pub frames_at_length : (g : GuestThread) (bank : Bank) → bank.vectors.vl ≡ g.config.vl
-    → frame_writes g bank ≡ frame_addresses (vector_bytes bank.vectors.vl) (held_state g bank).core
-frames_at_length g bank same = ap (λ (l : VecLen). frame_addresses (vector_bytes l) (held_state g bank).core) (sym same)
+pub frames_at_length : (g : GuestThread) (bank : Bank) (version : Version) → version ≡ version_of g.config
+    → bank.vectors.vl ≡ g.config.vl
+    → frame_writes g bank ≡ frame_addresses version (vector_bytes bank.vectors.vl) (held_state g bank).core
+frames_at_length g bank version is same =
+    ap (λ (l : VecLen). frame_addresses (version_of g.config) (vector_bytes l) (held_state g bank).core) (sym same)
+    ∙ ap (λ (v : Version). frame_addresses v (vector_bytes bank.vectors.vl) (held_state g bank).core) (sym is)
 
 pub bad_stays : (old new : PageTable) (stop : FrameStop) (address : ℕ) → stop ≡ BadFrame address → IsRefused old new (byte_of stop)
     → new ≡ old

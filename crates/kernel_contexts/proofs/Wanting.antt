@@ -86,14 +86,14 @@ module _ (takes : Type 0) (bank : Bank) where
       (sym (λ i. is_poll_due (config i) (with_vectors (bank_state bank) (state i))) ∙ due) (λ free. wants (so free))
   wants_as free free' g g' so state config machine (Delivers spent due wants) =
       Delivers (λ e. spent (ap (λ (s : State). s.count) state ∙ e ∙ ap (λ (k : Config). k.budget) (sym config)))
-      (sym (λ i. is_delivery_due (with_vectors (bank_state bank) (state i))) ∙ due)
+      (sym (λ i. is_delivery_due (config i) (with_vectors (bank_state bank) (state i))) ∙ due)
       (subst (λ (m : Machine). FrameWants g.config (held_state g bank) m.pages) machine
       (subst (λ (s : State). FrameWants g.config (with_vectors (bank_state bank) s) g'.machine.pages) state
       (subst (λ (k : Config). FrameWants k (held_state g' bank) g'.machine.pages) config wants)))
   wants_as free free' g g' so state config machine (Executes spent poll delivery wants) =
       Executes (λ e. spent (ap (λ (s : State). s.count) state ∙ e ∙ ap (λ (k : Config). k.budget) (sym config)))
       (sym (λ i. is_poll_due (config i) (with_vectors (bank_state bank) (state i))) ∙ poll)
-      (sym (λ i. is_delivery_due (with_vectors (bank_state bank) (state i))) ∙ delivery)
+      (sym (λ i. is_delivery_due (config i) (with_vectors (bank_state bank) (state i))) ∙ delivery)
       (λ free. subst (λ (m : Machine). instruction_at g.config (held_state g bank) m) machine
       (subst (λ (s : State). instruction_at g.config (with_vectors (bank_state bank) s) g'.machine) state
       (subst (λ (k : Config). instruction_at k (held_state g' bank) g'.machine) config (wants (so free)))))

@@ -1,3 +1,5 @@
+pub mod Kernel
+pub mod KernelCall
 pub mod State
 pub mod Handlers
 pub mod HandlerTable
@@ -8,6 +10,7 @@ pub mod Wanting
 pub mod Owned
 pub mod Several
 pub mod Run
+pub mod HandlerRun
 pub mod Standing
 pub mod Needs
 pub mod Owner

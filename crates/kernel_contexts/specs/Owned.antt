@@ -7,6 +7,7 @@ use Rattle.machine_step.specs.ProcessorState.{vector_bytes}
 use Rattle.machine_step.specs.Effect.{Effect, Becomes, effect_of}
 use Rattle.machine_step.specs.Owned.{step_writes}
 use Rattle.signal_frames.specs.Frame.{frame_addresses}
+use Rattle.sm_types.specs.Options.{version_of}
 use Rattle.kernel_contexts.specs.Guest.{held_state}
 use Rattle.kernel_contexts.specs.Turn.{is_poll_due, is_delivery_due}
 use Rattle.kernel_contexts.specs.declared.guest.GuestThread.{GuestThread}
@@ -27,14 +28,15 @@ instruction_writes g bank =
 
 -- those of the frame of a signal
 abbrev pub frame_writes : GuestThread → Bank → List ℕ
-frame_writes g bank = frame_addresses (vector_bytes g.config.vl) (held_state g bank).core
+frame_writes g bank =
+    frame_addresses (version_of g.config) (vector_bytes g.config.vl) (held_state g bank).core
 
 -- those that the turn of a guest thread with a bank writes where the thread goes on: a poll writes none, the
 -- delivery of a signal its frame
 abbrev pub turn_writes : GuestThread → Bank → List ℕ
 turn_writes g bank =
     cond (is_poll_due g.config (held_state g bank)) []
-    (cond (is_delivery_due (held_state g bank)) (frame_writes g bank) (instruction_writes g bank))
+    (cond (is_delivery_due g.config (held_state g bank)) (frame_writes g bank) (instruction_writes g bank))
 
 -- the page table after a turn that writes these bytes where the thread goes on: then exactly their pages are
 -- owned besides; where memory is wanting, more pages may be owned; else it is as it was

@@ -8,26 +8,29 @@ use Rattle.machine_step.specs.ProcessorState.{vector_bytes}
 use Rattle.machine_step.specs.Effect.{Effect, Raises, Calls, Becomes, Asks, effect_of}
 use Rattle.machine_step.specs.Machine.{HasRoomToStep}
 use Rattle.signal_frames.specs.Frame.{HasFrameRoom}
+use Rattle.sm_types.specs.Options.{version_of}
+use Rattle.kernel_contexts.specs.KernelCall.{write_number, post_number}
 use Rattle.kernel_contexts.specs.State.{State}
 use Rattle.kernel_contexts.specs.Guest.{held_state}
 use Rattle.kernel_contexts.specs.Turn.{is_poll_due, is_delivery_due}
 use Rattle.kernel_contexts.specs.declared.guest.GuestThread.{GuestThread}
 
--- a call 64 of the kernel, which adds X2 bytes from X1 on to the output: there are some, and they can be read
+-- the call write of the kernel, which adds X2 bytes from X1 on to the output: there are some, and they can be
+-- read
 pub record WriteWants (s : State) : Type 0 where
-  pub number : slice_index s.core.scalars.x 8 ≡ 64
+  pub number : slice_index s.core.scalars.x 8 ≡ write_number
   pub some : slice_index s.core.scalars.x 2 ≢ 0
   pub readable : bytes_with 4 s.core.memory (slice_index s.core.scalars.x 1)
       (slice_index s.core.scalars.x 2)
       ≢ None
 
--- that call, or a call 131, which posts a signal through a port that takes memory where this holds
+-- that call, or the call post, which makes a signal pending through a port that takes memory where this holds
 abbrev pub CallWants : Type 0 → State → Type 0
-CallWants takes s = WriteWants s ⊎ ((slice_index s.core.scalars.x 8 ≡ 131) × takes)
+CallWants takes s = WriteWants s ⊎ ((slice_index s.core.scalars.x 8 ≡ post_number) × takes)
 
 -- a frame for whose bytes a page is not owned
 abbrev pub FrameWants : Config → State → PageTable → Type 0
-FrameWants config s pages = ¬ HasFrameRoom (vector_bytes config.vl) s.core pages
+FrameWants config s pages = ¬ HasFrameRoom (version_of config) (vector_bytes config.vl) s.core pages
 
 -- an instruction of this effect: it writes a page that is not owned, asks an operation, or is such a call
 abbrev pub EffectWants : Type 0 → Type 0 → Type 0 → Effect → Type 0
@@ -48,8 +51,8 @@ InstructionWants takes g bank =
 pub data TurnWants (free takes : Type 0) (g : GuestThread) (bank : Bank) : Type 0 where
   Polls : g.count ≢ g.config.budget → is_poll_due g.config (held_state g bank) ≡ true → (free → takes)
       → TurnWants free takes g bank
-  Delivers : g.count ≢ g.config.budget → is_delivery_due (held_state g bank) ≡ true
+  Delivers : g.count ≢ g.config.budget → is_delivery_due g.config (held_state g bank) ≡ true
       → FrameWants g.config (held_state g bank) g.machine.pages → TurnWants free takes g bank
   Executes : g.count ≢ g.config.budget → is_poll_due g.config (held_state g bank) ≡ false
-      → is_delivery_due (held_state g bank) ≡ false → (free → InstructionWants takes g bank)
+      → is_delivery_due g.config (held_state g bank) ≡ false → (free → InstructionWants takes g bank)
       → TurnWants free takes g bank

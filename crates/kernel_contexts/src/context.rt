@@ -80,6 +80,7 @@ impl Context {
     ghost use Rattle.kernel_contexts.specs.Context.{turn_at, turn_with};
     ghost use Rattle.kernel_contexts.specs.Context.{TurnsOn, vectors_on, state_on, bank_of};
     ghost use Rattle.kernel_contexts.specs.Context.{writes_of_turn, pages_of};
+    ghost use Rattle.paged_memory.specs.PageTable.{KeepsOwned};
     ghost use Rattle.kernel_contexts.specs.Owned.{TurnOwns};
     ghost use Rattle.kernel_contexts.specs.Several.{GoesBy};
     ghost use Rattle.kernel_contexts.specs.SaveArea.{HasLengths};
@@ -143,7 +144,7 @@ impl Context {
         ensures made { result ≡ Turn.Ran → (state_of self.new).turns ≡ (state_of self.old).turns + 1 }
         ensures yielded { result ≡ Turn.Yielded → (state_of self.new).turns ≡ (state_of self.old).turns + 1 }
         ensures budget { (state_of self.new).count ≤ (config_of self.new).budget }
-        ensures few { (state_of self.new).turns ≤ 3 * (config_of self.new).budget }
+        ensures few { (state_of self.new).turns ≤ 64 * (config_of self.new).budget }
         ensures home { is_home self.new ≡ true }
     {
         match self.guest.stop {
@@ -156,13 +157,15 @@ impl Context {
 
     /// Makes turns of a thread that has not stopped, on the context's own save area, `most` at most, and
     /// tells how many. Each is an instruction that is counted and asks nothing. There are fewer where the
-    /// next turn may be none of these, or where memory may be wanting for it.
+    /// next turn may be none of these, or where memory may be wanting for it. Owned pages stay owned; which
+    /// come to them, `advance` says.
     pub fn advance_several(&mut self, most: u32) -> u32
         requires home { is_home self.old ≡ true }
         requires runs { stop_of self.old ≡ None }
         ensures turns { GoesBy (config_of self.old) (thread_of self.old) (length (journal_of self.old)) result
             (state_of self.old) (state_of self.new) }
         ensures few { result ≤ most }
+        ensures owned { KeepsOwned (pages_of self.old) (pages_of self.new) }
         ensures count { (state_of self.new).count ≡ (state_of self.old).count + result }
         ensures made { (state_of self.new).turns ≡ (state_of self.old).turns + result }
         ensures stop { stop_of self.new ≡ None }
@@ -207,7 +210,7 @@ impl Context {
         ensures yielded { result ≡ Turn.Yielded
             → (state_on self.new bank.new).turns ≡ (state_on self.old bank.old).turns + 1 }
         ensures budget { (state_on self.new bank.new).count ≤ (config_of self.new).budget }
-        ensures few { (state_on self.new bank.new).turns ≤ 3 * (config_of self.new).budget }
+        ensures few { (state_on self.new bank.new).turns ≤ 64 * (config_of self.new).budget }
     {
         match self.guest.stop {
             Some(stop) => Turn::Stopped(stop),
@@ -231,6 +234,7 @@ impl Context {
         ensures turns { GoesBy (config_of self.old) (thread_of self.old) (length (journal_of self.old)) result
             (state_on self.old bank.old) (state_on self.new bank.new) }
         ensures few { result ≤ most }
+        ensures owned { KeepsOwned (pages_of self.old) (pages_of self.new) }
         ensures stop { stop_of self.new ≡ None }
         ensures on { IsOn self.new bank.new }
         ensures bank { IsSameBank bank.old bank.new }
@@ -342,11 +346,18 @@ impl Context {
         self.guest.held
     }
 
-    /// Whether the thread is in a handler.
-    pub fn inside(&self) -> bool
-        ensures { result ≡ (state_of self.now).inside }
+    /// The signals that are not delivered, a bit for each.
+    pub fn mask(&self) -> u64
+        ensures { result ≡ (state_of self.now).mask }
     {
-        self.guest.inside
+        self.guest.mask
+    }
+
+    /// How many handlers the thread is in.
+    pub fn depth(&self) -> u32
+        ensures { result ≡ (state_of self.now).depth }
+    {
+        self.guest.depth
     }
 
     /// Whether the pending signals were polled since the last counted instruction.

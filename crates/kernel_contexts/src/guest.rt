@@ -2,7 +2,11 @@
 ghost use Rattle.std.specs.Prelude.{◌≡◌, ◌+◌, ◌*◌, ◌<◌, ◌≤◌, ◌^◌, ◌++◌, vec_len, vec_capacity, length, None};
 ghost use Rattle.std.specs.Prelude.{Some, IfOk, [], false};
 ghost use Rattle.kernel_contexts.specs.State.{start_scalars};
-ghost use Rattle.kernel_contexts.specs.Watch.{IsWatched, waiting};
+ghost use Rattle.kernel_contexts.specs.HandlerTable.{handlers_of};
+ghost use Rattle.sm_types.specs.Options.{version_of};
+ghost use Rattle.sm_types.specs.declared.version.Version.TheVariants.{One};
+ghost use Rattle.kernel_contexts.specs.Kernel.{depth_limit};
+ghost use Rattle.kernel_contexts.specs.Watch.{IsWatched, AreOfSignals, waiting};
 
 mod asking;
 mod call;
@@ -10,9 +14,10 @@ mod signals;
 mod watch;
 
 use crate::context::Turn;
-use crate::guest::call::RETURN;
 use crate::guest::watch::{watch_after, watch_past};
 use crate::handlers::{Addresses, no_handlers};
+use crate::kernel::depth_limit;
+use crate::kernel_call::RETURN;
 use machine_step::{Decoder, Machine, StepEnd, write_streaming};
 use mem_access::Bank;
 use paged_memory::{Image, Pages};
@@ -31,8 +36,10 @@ pub struct GuestThread {
     pub handlers: Addresses,
     /// The signals that are held, a bit for each.
     pub held: u64,
-    /// The thread is in a handler.
-    pub inside: bool,
+    /// The signals that are not delivered, a bit for each.
+    pub mask: u64,
+    /// The handlers that the thread is in.
+    pub depth: u32,
     /// The pending signals were polled since the last counted instruction.
     pub polled: bool,
     /// Up to this count nothing but instructions can be due.
@@ -44,8 +51,11 @@ pub struct GuestThread {
     pub stop: Option<Stop>,
     ghost number_within: { number < config.threads },
     ghost watched: { IsWatched config count watch polled },
-    ghost turns_are_few: { turns ≤ 3 * count + waiting polled inside },
-    ghost turns_within: { turns ≤ 3 * config.budget },
+    ghost turns_are_few: { turns ≤ 64 * count + waiting polled held },
+    ghost turns_within: { turns ≤ 64 * config.budget },
+    ghost handlers_of_signals: { AreOfSignals (handlers_of handlers) },
+    ghost unmasked_at_first: { version_of config ≡ One → mask ≡ 0 },
+    ghost depth_within: { depth ≤ depth_limit (version_of config) },
     ghost within_budget: { count ≤ config.budget },
     ghost output_within: { vec_len output ≤ 1048576 },
     ghost journal_within: { vec_len journal ≤ 262144 },
@@ -83,6 +93,7 @@ impl GuestThread {
     ghost use Rattle.mem_access.specs.VectorState.{zero_bank};
     ghost use Rattle.kernel_contexts.specs.Guest.{guest_state};
     ghost use Rattle.std.specs.Prelude.{◌&&◌, ◌==◌, slice_index};
+    ghost use Rattle.kernel_contexts.specs.KernelCall.{return_number};
     ghost use Rattle.kernel_contexts.specs.Needs.{needs_vectors, instruction_needs};
     ghost use Rattle.machine_step.specs.ProcessorState.{VectorState};
     ghost use Rattle.kernel_contexts.specs.Context.{IsSameGuest, IsQuietGuest};
@@ -90,6 +101,7 @@ impl GuestThread {
     ghost use Rattle.kernel_contexts.specs.Context.{GuestTurns, GuestTurnsUnless, LacksUnless};
     ghost use Rattle.kernel_contexts.specs.Context.{Grows, HasFreePlace, GoesOrAsks};
     ghost use Rattle.kernel_contexts.specs.Wanting.{TurnWants, InstructionWants};
+    ghost use Rattle.paged_memory.specs.PageTable.{KeepsOwned};
     ghost use Rattle.kernel_contexts.specs.Owned.{TurnOwns, turn_writes, instruction_writes};
     ghost use Rattle.machine_step.specs.Step.{events_of};
     ghost use Rattle.shared_region.specs.Tickets.{IsTicketOf, GivesEvents};
@@ -128,7 +140,8 @@ impl GuestThread {
             number,
             handlers: no_handlers(),
             held: 0,
-            inside: false,
+            mask: 0,
+            depth: 0,
             polled: false,
             watch: watch_after(config, 0),
             journal: Vec::new(alloc),
@@ -178,7 +191,8 @@ impl GuestThread {
     }
 
     /// Makes turns of a thread that has not stopped, `most` at most, and tells how many: instructions that
-    /// are executed at once, up to the watched count, at which alone something else may be due.
+    /// are executed at once, up to the watched count, at which alone something else may be due. Owned pages
+    /// stay owned.
     pub fn make_several_turns(&mut self, bank: &mut Bank, most: u32) -> u32
         requires { IsFit self.old.config self.old.machine bank.old }
         ensures turns { GoesBy self.old.config self.old.number (length self.old.journal.items) result
@@ -186,6 +200,7 @@ impl GuestThread {
         ensures few { result ≤ most }
         ensures count { self.new.count ≡ self.old.count + result }
         ensures made { self.new.turns ≡ self.old.turns + result }
+        ensures owned { KeepsOwned self.old.machine.pages self.new.machine.pages }
         ensures back { ComesBack self.new.config self.new.machine bank.old bank.new }
         ensures stop { self.new.stop ≡ self.old.stop }
         ensures same { IsQuietGuest self.old self.new }
@@ -256,9 +271,9 @@ impl GuestThread {
 
     /// Whether a signal is to be delivered.
     fn is_delivery_due(&self) -> bool
-        ensures { result ≡ turn.is_delivery_due (bare_state self.now) }
+        ensures { result ≡ turn.is_delivery_due self.now.config (bare_state self.now) }
     {
-        self.polled && self.held != 0 && !self.inside
+        self.polled && self.open_signals() != 0 && self.depth < depth_limit(self.config.version())
     }
 
     /// Whether the next turn reads or writes vectors: the delivery of a signal that has a handler, a return
@@ -373,7 +388,7 @@ impl GuestThread {
     /// Whether the call at PC is a return, of a thread that is kept off its vectors where `apart` says so.
     #[inline(always)]
     fn is_kept_from(&self, apart: bool) -> bool
-        ensures { result ≡ (apart && (slice_index self.now.machine.scalars.x 8 == 139)) }
+        ensures { result ≡ (apart && (slice_index self.now.machine.scalars.x 8 == return_number)) }
     {
         if apart {
             self.machine.scalars.x[8] == RETURN

@@ -42,7 +42,7 @@ pub fn make_turn(
         ≡ journal_of context.old ++ ticket.old.ahead }
     ensures same { IsSameThread context.old context.new }
     ensures made { result ≡ Ok None → (state_of context.new).turns ≡ (state_of context.old).turns + 1 }
-    ensures few { (state_of context.new).turns ≤ 3 * (config_of context.new).budget }
+    ensures few { (state_of context.new).turns ≤ 64 * (config_of context.new).budget }
 {
     replay_journal_stays();
     let mut port = ReplayPort::new();

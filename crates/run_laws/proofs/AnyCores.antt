@@ -10,6 +10,7 @@ use Rattle.machine_step.specs.Effect.{Effect, Raises, Calls, Becomes, effect_of}
 use Rattle.machine_step.specs.Effect as instruction
 use Rattle.machine_step.specs.ProcessorState.{vector_bytes}
 use Rattle.signal_frames.specs.Frame.{frame_fault}
+use Rattle.sm_types.specs.Options.{version_of}
 use Rattle.kernel_contexts.specs.State.{State, start_state}
 use Rattle.kernel_contexts.specs.Call.{Ends, call_of, post_of, return_of}
 use Rattle.kernel_contexts.specs.Turn.{turn_of, after_effect, handled, delivered_to, released, poll_of, lowest_signal}
@@ -34,7 +35,7 @@ module _ (c d : Config) where
   other = with_cores_of c d
 
   same_effect : (thread events : ℕ) (s : State) (e : Effect) → after_effect other thread events s e ≡ after_effect c thread events s e
-  unfolding call_of post_of return_of
+  unfolding call_of post_of return_of version_of
   same_effect thread events s (Raises exception) = refl
   same_effect thread events s (Calls number) = refl
   same_effect thread events s (Becomes core) = refl
@@ -42,20 +43,22 @@ module _ (c d : Config) where
 
   same_handled : (signal handler : ℕ) (s : State) (fault : Option ℕ)
       → handled other signal handler s fault ≡ handled c signal handler s fault
+  unfolding version_of
   same_handled signal handler s (Some address) = refl
   same_handled signal handler s None = refl
 
   same_delivered : (signal : ℕ) (s : State) (h : Option ℕ) → delivered_to other signal s h ≡ delivered_to c signal s h
+  unfolding version_of
   same_delivered signal s None = refl
   same_delivered signal s (Some handler) =
-      same_handled signal handler (released s) (frame_fault (vector_bytes c.vl) s.core)
+      same_handled signal handler (released s) (frame_fault (version_of c) (vector_bytes c.vl) s.core)
 
   same_turn : (thread events : ℕ) (s : State) → turn_of other thread events s ≡ turn_of c thread events s
-  unfolding turn_of
+  unfolding turn_of version_of
   same_turn thread events s = λ i.
       cond (s.count == c.budget) (Ends s Budget)
       (cond (is_poll_due c s) (poll_of thread events s)
-      (cond (is_delivery_due s) (same_delivered (lowest_signal s) s (get s.handlers (lowest_signal s)) i)
+      (cond (is_delivery_due c s) (same_delivered (lowest_signal s) s (get s.handlers (lowest_signal s)) i)
       (same_effect thread events s (effect_of (vector_bytes c.vl) s.core) i)))
 
   same_turned : (thread : ℕ) (r : Reached) → turned other thread r ≡ turned c thread r

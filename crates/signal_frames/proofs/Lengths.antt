@@ -11,8 +11,11 @@ use Rattle.byteorder.specs.Numbers.{length-bytes_low_first}
 use Rattle.sve_vectors.specs.Predicates.{predicate_bytes}
 use Rattle.sve_vectors.specs.Registers.{VectorRegisters, AreOfLength}
 use Rattle.za_array.specs.Array.{IsSquare}
-use Rattle.signal_frames.specs.Layout.{frame_size, frame_tag, words_bytes, doublewords_bytes, head_bytes, vectors_bytes}
-use Rattle.signal_frames.specs.Layout.{predicates_bytes, ffr_bytes, array_bytes, vector_state_bytes}
+use Rattle.signal_frames.specs.Layout.{body_size, head_size, frame_tag, words_bytes, doublewords_bytes, head_bytes, vectors_bytes}
+use Rattle.signal_frames.specs.Layout.{predicates_bytes, ffr_bytes, array_bytes, masking_bytes, vector_state_bytes}
+use Rattle.signal_frames.specs.declared.masking.Masking.{Masking}
+use Rattle.sm_types.specs.declared.version.Version.{Version}
+use Rattle.sm_types.specs.declared.version.Version.TheVariants.{One, Two}
 
 pub length-numbers : (k : ℕ) (xs : List ℕ) → length (flat_map (little_bytes k) xs) ≡ length xs * k
 length-numbers k [] = omega arith
@@ -52,17 +55,17 @@ length-predicates l (row ∷ rows) h =
     let split : (length rows + 1) * (l / 8) ≡ length rows * (l / 8) + 1 * (l / 8) = add-mul (length rows) 1 (l / 8) in
     omega arith
 
-pub length-head : (first x system lengths : List ℕ) → length first ≡ 2 → length x ≡ 31 → length system ≡ 6 → length lengths ≡ 2
-    → length (head_bytes first x system lengths) ≡ 320
-length-head first x system lengths a b c d =
-    let tag : length (doublewords_bytes (frame_tag ∷ [])) ≡ 1 * 8 = length-numbers 8 (frame_tag ∷ []) in
+pub length-head : (version : Version) (first x system lengths : List ℕ) → length first ≡ 2 → length x ≡ 31 → length system ≡ 6 → length lengths ≡ 2
+    → length (head_bytes version first x system lengths) ≡ 320
+length-head version first x system lengths a b c d =
+    let tag : length (doublewords_bytes (frame_tag version ∷ [])) ≡ 1 * 8 = length-numbers 8 (frame_tag version ∷ []) in
     let one : length (words_bytes first) ≡ length first * 4 = length-numbers 4 first in
     let two : length (doublewords_bytes x) ≡ length x * 8 = length-numbers 8 x in
     let three : length (doublewords_bytes system) ≡ length system * 8 = length-numbers 8 system in
     let four : length (words_bytes lengths) ≡ length lengths * 4 = length-numbers 4 lengths in
     omega (
       arith,
-      length-append (doublewords_bytes (frame_tag ∷ []))
+      length-append (doublewords_bytes (frame_tag version ∷ []))
           (words_bytes first ++ (doublewords_bytes x ++ (doublewords_bytes system ++ words_bytes lengths))),
       length-append (words_bytes first) (doublewords_bytes x ++ (doublewords_bytes system ++ words_bytes lengths)),
       length-append (doublewords_bytes x) (doublewords_bytes system ++ words_bytes lengths),
@@ -83,7 +86,7 @@ length-ffr l r long small =
     omega (arith, length-append (predicate_bytes r.ffr) (replicate (32 - l / 8) 0), zeros, bytes, long)
 
 pub length-vector_state : (l s : ℕ) (za_on : Bool) (r : VectorRegisters) (za : List (List ℕ)) → AreOfLength l r → IsSquare s za
-    → l ≤ 256 → l % 16 ≡ 0 → 320 + length (vector_state_bytes l za_on r za) ≡ frame_size l (length za) za_on
+    → l ≤ 256 → l % 16 ≡ 0 → length (vector_state_bytes l za_on r za) ≡ body_size l (length za) za_on
 length-vector_state l s za_on r za long square small whole =
     let vectors : length (vectors_bytes r) ≡ length r.vectors * l =
     length-concat l r.vectors (λ k low. long.vector_length k (omega (arith, long.vector_count))) in
@@ -99,3 +102,14 @@ length-vector_state l s za_on r za long square small whole =
       length-append (predicates_bytes r) (ffr_bytes l r ++ array_bytes za_on za),
       length-append (ffr_bytes l r) (array_bytes za_on za),
     )
+
+pub length-masking : (version : Version) (masking : Masking) → 320 + length (masking_bytes version masking) ≡ head_size version
+length-masking One masking = refl
+length-masking Two masking = refl
+
+pub least_head : (version : Version) → 320 ≤ head_size version
+least_head One = omega arith
+least_head Two = omega arith
+
+pub nested_head : (version : Version) → version ≡ Two → head_size version ≡ 336
+nested_head version e = ap head_size e

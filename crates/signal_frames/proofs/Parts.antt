@@ -7,10 +7,13 @@ use Rattle.byteorder.specs.Endian.{little_number, little_bytes}
 use Rattle.byteorder.specs.Numbers.{little_number-reads_back, length-bytes_low_first}
 use Rattle.signal_frames.specs.Layout.{frame_tag, words_bytes, doublewords_bytes, head_bytes}
 use Rattle.signal_frames.specs.Saved.{number_at}
+use Rattle.sm_types.specs.declared.version.Version.{Version}
+use Rattle.sm_types.specs.declared.version.Version.TheVariants.{One, Two}
 use Rattle.signal_frames.proofs.Lengths.{length-numbers}
 
 -- the numbers of the first 320 bytes, and what follows these
 pub record Numbers : Type 0 where
+  pub version : Version
   pub size : ℕ
   pub signal : ℕ
   pub x : List ℕ
@@ -28,7 +31,7 @@ abbrev pub system_of : Numbers → List ℕ
 system_of q = q.sp ∷ q.pc ∷ q.nzcv ∷ q.svcr ∷ q.tpidr2 ∷ q.tpidr ∷ []
 
 abbrev pub bytes_of : Numbers → List ℕ
-bytes_of q = head_bytes (q.size ∷ q.signal ∷ []) q.x (system_of q) (q.l ∷ q.s ∷ []) ++ q.rest
+bytes_of q = head_bytes q.version (q.size ∷ q.signal ∷ []) q.x (system_of q) (q.l ∷ q.s ∷ []) ++ q.rest
 
 -- what follows X30
 abbrev pub tail_of : Numbers → List ℕ
@@ -54,8 +57,12 @@ number_here : (frame rest : List ℕ) (offset n v : ℕ) → drop offset frame �
 unfolding number_at
 number_here frame rest offset n v is low = ap (little_number n) is ∙ little_number-reads_back n v rest low
 
-pub tag_at : (q : Numbers) → number_at (bytes_of q) 0 8 ≡ frame_tag
-tag_at q = number_here (bytes_of q) _ 0 8 frame_tag refl (omega arith)
+tag_low : (version : Version) → frame_tag version < 256 ^ 8
+tag_low One = omega arith
+tag_low Two = omega arith
+
+pub tag_at : (q : Numbers) → number_at (bytes_of q) 0 8 ≡ frame_tag q.version
+tag_at q = number_here (bytes_of q) _ 0 8 (frame_tag q.version) refl (tag_low q.version)
 
 pub size_at : (q : Numbers) → q.size < 2 ^ 32 → number_at (bytes_of q) 8 4 ≡ q.size
 size_at q low = number_here (bytes_of q) _ 8 4 q.size refl low
@@ -91,6 +98,11 @@ length_at_312 q count low = tail_at q _ 48 4 q.l count refl low
 
 pub array_size_at : (q : Numbers) → length q.x ≡ 31 → q.s < 2 ^ 32 → number_at (bytes_of q) 316 4 ≡ q.s
 array_size_at q count low = tail_at q _ 52 4 q.s count refl low
+
+-- a number of what follows the first 320 bytes
+pub rest_at : (q : Numbers) (rest : List ℕ) (k n v : ℕ) → length q.x ≡ 31 → drop k q.rest ≡ little_bytes n v ++ rest → v < 256 ^ n
+    → number_at (bytes_of q) (320 + k) n ≡ v
+rest_at q rest k n v count is low = number_here (bytes_of q) rest (320 + k) n v (after_head q k count ∙ is) low
 
 -- ---- the general registers
 

@@ -15,17 +15,21 @@ use Rattle.sve_vectors.proofs.Bits.{truths-predicate_bytes}
 use Rattle.machine_step.specs.ProcessorState.{ProcessorState}
 use Rattle.machine_step.specs.Mode.{length_at}
 use Rattle.machine_step.specs.System.{nzcv_of, svcr_of, bit_at}
-use Rattle.signal_frames.specs.Layout.{frame_size, frame_tag, vectors_bytes, predicates_bytes, ffr_bytes, array_bytes}
-use Rattle.signal_frames.specs.Layout.{head_bytes, vector_state_bytes}
+use Rattle.signal_frames.specs.Layout.{head_size, body_size, frame_size, frame_tag, vectors_bytes, predicates_bytes, ffr_bytes, array_bytes}
+use Rattle.signal_frames.specs.Layout.{head_bytes, masking_bytes, vector_state_bytes}
 use Rattle.signal_frames.specs.Frame.{size_of, frame_bytes}
 use Rattle.signal_frames.specs.Saved.{number_at, saved_x, saved_nzcv, saved_svcr, saved_size, saved_signal, saved_length}
 use Rattle.signal_frames.specs.Saved.{saved_array_size, saved_streaming, saved_za_on, saved_scalars, saved_vector, saved_predicate}
 use Rattle.signal_frames.specs.Saved.{saved_ffr, saved_array_vector, saved_registers, saved_array, has_modes, has_sizes}
-use Rattle.signal_frames.specs.Saved.{is_head, is_zero_past}
-use Rattle.signal_frames.specs.Law.{IsInRange}
-use Rattle.signal_frames.proofs.Lengths.{length-concat, length-predicate, length-predicates, length-ffr, length-head, length-vector_state}
+use Rattle.signal_frames.specs.Saved.{saved_masking, body_of, is_nested, has_masking, is_head, is_zero_past}
+use Rattle.signal_frames.specs.Law.{IsInRange, IsSaveable, MayReturnTo}
+use Rattle.signal_frames.specs.declared.masking.Masking.{Masking}
+use Rattle.sm_types.specs.declared.version.Version.{Version}
+use Rattle.sm_types.specs.declared.version.Version.TheVariants.{One, Two}
+use Rattle.signal_frames.proofs.Lengths.{length-concat, length-predicate, length-predicates, length-ffr, length-head, length-masking}
+use Rattle.signal_frames.proofs.Lengths.{length-vector_state}
 use Rattle.signal_frames.proofs.Parts.{Numbers, bytes_of, after_head, row_at, x_at, tag_at, size_at, signal_at, sp_at, pc_at, nzcv_at}
-use Rattle.signal_frames.proofs.Parts.{svcr_at, length_at_312, array_size_at}
+use Rattle.signal_frames.proofs.Parts.{svcr_at, length_at_312, array_size_at, rest_at}
 
 -- ---- the numbers of the modes and of the flags
 
@@ -79,9 +83,14 @@ flags_of s = flags s.n s.z s.c s.v
 
 -- ---- the numbers of the frame of a state
 
-abbrev pub numbers_of : ℕ → ℕ → ProcessorState → Numbers
-numbers_of vl signal s = record {
-  size = size_of vl s;
+-- what follows its head
+abbrev pub rest_of : ℕ → ProcessorState → List ℕ
+rest_of vl s = vector_state_bytes (length_at vl s) s.za_on s.bank.registers s.bank.za
+
+abbrev pub numbers_of : Version → Masking → ℕ → ℕ → ProcessorState → Numbers
+numbers_of version masking vl signal s = record {
+  version = version;
+  size = size_of version vl s;
   signal = signal;
   x = s.scalars.x;
   sp = s.scalars.sp;
@@ -92,29 +101,45 @@ numbers_of vl signal s = record {
   tpidr = s.tpidr;
   l = length_at vl s;
   s = length s.bank.za;
-  rest = vector_state_bytes (length_at vl s) s.za_on s.bank.registers s.bank.za;
+  rest = masking_bytes version masking ++ rest_of vl s;
 }
 
-pub frame_numbers : (vl signal : ℕ) (s : ProcessorState) → frame_bytes vl signal s ≡ bytes_of (numbers_of vl signal s)
+pub frame_numbers : (version : Version) (masking : Masking) (vl signal : ℕ) (s : ProcessorState)
+    → frame_bytes version masking vl signal s ≡ bytes_of (numbers_of version masking vl signal s)
 unfolding frame_bytes
-frame_numbers vl signal s = refl
+frame_numbers version masking vl signal s = refl
 
-pub size_low : (l n : ℕ) (za_on : Bool) → l ≤ 256 → n ≤ 256 → frame_size l n za_on < 2 ^ 32
-size_low l n true h k =
+pub body_back : (version : Version) (masking : Masking) (vl signal : ℕ) (s : ProcessorState) → IsInRange vl s
+    → body_of version (bytes_of (numbers_of version masking vl signal s)) ≡ rest_of vl s
+body_back One masking vl signal s h = after_head (numbers_of One masking vl signal s) 0 h.count
+body_back Two masking vl signal s h = after_head (numbers_of Two masking vl signal s) 16 h.count
+
+most_head : (version : Version) → head_size version ≤ 336
+most_head One = omega arith
+most_head Two = omega arith
+
+body_low : (l n : ℕ) (za_on : Bool) → l ≤ 256 → n ≤ 256 → body_size l n za_on < 2 ^ 31
+body_low l n true h k =
     let one : n * n ≤ 256 * n = mul-le-mul_right n k in
     omega arith
-size_low l n false h k = omega arith
+body_low l n false h k = omega arith
+
+pub size_low : (version : Version) (l n : ℕ) (za_on : Bool) → l ≤ 256 → n ≤ 256 → frame_size version l n za_on < 2 ^ 32
+size_low version l n za_on h k =
+    let head : head_size version ≤ 336 = most_head version in
+    let body : body_size l n za_on < 2 ^ 31 = body_low l n za_on h k in
+    omega arith
 
 scalars_are : (s : Scalars) (x : List ℕ) (sp pc : ℕ) (n z c v : Bool) → x ≡ s.x → sp ≡ s.sp → pc ≡ s.pc → n ≡ s.n → z ≡ s.z
     → c ≡ s.c → v ≡ s.v
     → (let made : Scalars = record { x = x; sp = sp; pc = pc; n = n; z = z; c = c; v = v } in made) ≡ s
 scalars_are s x sp pc n z c v e1 e2 e3 e4 e5 e6 e7 = rw (e1, e2, e3, e4, e5, e6, e7) refl
 
-pub scalars_back : (vl signal : ℕ) (s : ProcessorState) → IsInRange vl signal s
-    → saved_scalars (bytes_of (numbers_of vl signal s)) ≡ s.scalars
+pub scalars_back : (version : Version) (masking : Masking) (vl signal : ℕ) (s : ProcessorState) → IsInRange vl s
+    → saved_scalars (bytes_of (numbers_of version masking vl signal s)) ≡ s.scalars
 unfolding saved_scalars
-scalars_back vl signal s h =
-    let q : Numbers = numbers_of vl signal s in
+scalars_back version masking vl signal s h =
+    let q : Numbers = numbers_of version masking vl signal s in
     let f : List ℕ = bytes_of q in
     let flags : Flags (nzcv_of s.scalars) s.scalars.n s.scalars.z s.scalars.c s.scalars.v = flags_of s.scalars in
     let nzcv : saved_nzcv f ≡ nzcv_of s.scalars = nzcv_at q h.count (omega (arith, flags.low)) in
@@ -124,6 +149,10 @@ scalars_back vl signal s h =
     (sp_at q h.count h.sp) (pc_at q h.count h.pc)
     (ap (λ k. bit_at k 31) nzcv ∙ flags.negative) (ap (λ k. bit_at k 30) nzcv ∙ flags.zeroed)
     (ap (λ k. bit_at k 29) nzcv ∙ flags.carry) (ap (λ k. bit_at k 28) nzcv ∙ flags.overflow)
+
+masking_is : (masking : Masking) (mask depth : ℕ) → mask ≡ masking.mask → depth ≡ masking.depth
+    → (let made : Masking = record { mask = mask; depth = depth } in made) ≡ masking
+masking_is masking mask depth e1 e2 = rw (e1, e2) refl
 
 -- ---- the checks
 
@@ -137,18 +166,18 @@ le_true : (a b : ℕ) → a ≤ b → nat_le a b ≡ true
 le_true a b h = grind (arith, nat_tests)
 
 -- the fields of lengths and modes
-pub record Fields (vl signal : ℕ) (s : ProcessorState) (frame : List ℕ) : Type 0 where
+pub record Fields (version : Version) (vl : ℕ) (s : ProcessorState) (frame : List ℕ) : Type 0 where
   pub svcr : saved_svcr frame ≡ svcr_of s
   pub streaming : saved_streaming frame ≡ s.streaming
   pub za_on : saved_za_on frame ≡ s.za_on
   pub current : saved_length frame ≡ length_at vl s
   pub array : saved_array_size frame ≡ length s.bank.za
-  pub size : saved_size frame ≡ size_of vl s
+  pub size : saved_size frame ≡ size_of version vl s
 
-pub fields_back : (vl signal : ℕ) (s : ProcessorState) → IsInRange vl signal s
-    → Fields vl signal s (bytes_of (numbers_of vl signal s))
-fields_back vl signal s h =
-    let q : Numbers = numbers_of vl signal s in
+pub fields_back : (version : Version) (masking : Masking) (vl signal : ℕ) (s : ProcessorState) → IsInRange vl s
+    → Fields version vl s (bytes_of (numbers_of version masking vl signal s))
+fields_back version masking vl signal s h =
+    let q : Numbers = numbers_of version masking vl signal s in
     let svcr : saved_svcr (bytes_of q) ≡ svcr_of s = svcr_at q h.count (omega (arith, svcr_low s.streaming s.za_on)) in
     record {
       svcr = svcr;
@@ -156,49 +185,80 @@ fields_back vl signal s h =
       za_on = ap (λ k. bit_at k 1) svcr ∙ svcr_za s.streaming s.za_on;
       current = length_at_312 q h.count (omega (arith, h.small));
       array = array_size_at q h.count (omega (arith, h.narrow));
-      size = size_at q (size_low (length_at vl s) (length s.bank.za) s.za_on h.small h.narrow);
+      size = size_at q (size_low version (length_at vl s) (length s.bank.za) s.za_on h.small h.narrow);
     }
 
-pub head_back : (vl signal : ℕ) (s : ProcessorState) → IsInRange vl signal s
-    → is_head vl (length s.bank.za) (bytes_of (numbers_of vl signal s)) ≡ true
+pub saved_back : (version : Version) (masking : Masking) (vl signal : ℕ) (s : ProcessorState) → IsInRange vl s
+    → IsSaveable version masking → saved_masking version (bytes_of (numbers_of version masking vl signal s)) ≡ masking
+saved_back One masking vl signal s h ranges = masking_is masking 0 0 (sym ranges.0) (sym ranges.1)
+saved_back Two masking vl signal s h ranges =
+    let q : Numbers = numbers_of Two masking vl signal s in
+    masking_is masking (number_at (bytes_of q) 320 8) (number_at (bytes_of q) 328 4) (rest_at q _ 0 8 masking.mask h.count refl ranges.0)
+    (rest_at q _ 8 4 masking.depth h.count refl ranges.1)
+
+masked_back : (version : Version) (masking : Masking) (depth vl signal : ℕ) (s : ProcessorState) → IsInRange vl s
+    → IsSaveable version masking → MayReturnTo version masking depth
+    → has_masking version depth (bytes_of (numbers_of version masking vl signal s)) ≡ true
+unfolding is_nested
+masked_back One masking depth vl signal s h ranges may = refl
+masked_back Two masking depth vl signal s h ranges may =
+    let q : Numbers = numbers_of Two masking vl signal s in
+    let f : List ℕ = bytes_of q in
+    let mask : number_at f 320 8 ≡ masking.mask = rest_at q _ 0 8 masking.mask h.count refl ranges.0 in
+    let below : number_at f 328 4 ≡ masking.depth = rest_at q _ 8 4 masking.depth h.count refl ranges.1 in
+    let zeros : number_at f 332 4 ≡ 0 = rest_at q _ 12 4 0 h.count refl (omega arith) in
+    and_true _ _
+    (and_true _ _
+    (and_true _ _ (eq-eqb (number_at f 320 8 % 2) 0 (ap (λ k. k % 2) mask ∙ may.0))
+    (lt_true (number_at f 320 8) (2 ^ 63) (omega (arith, mask, may.1))))
+    (lt_true (number_at f 328 4) depth (omega (arith, below, may.2))))
+    (eq-eqb (number_at f 332 4) 0 zeros)
+
+pub head_back : (version : Version) (masking : Masking) (depth vl signal : ℕ) (s : ProcessorState) → IsInRange vl s
+    → 1 ≤ signal → signal ≤ 62 → IsSaveable version masking → MayReturnTo version masking depth
+    → is_head (record { version = version; depth = depth; vl = vl; svl = length s.bank.za })
+    (bytes_of (numbers_of version masking vl signal s)) ≡ true
 unfolding is_head has_modes has_sizes
-head_back vl signal s h =
-    let q : Numbers = numbers_of vl signal s in
+head_back version masking depth vl signal s h least most ranges may =
+    let q : Numbers = numbers_of version masking vl signal s in
     let f : List ℕ = bytes_of q in
     let n : ℕ = length s.bank.za in
     let flags : Flags (nzcv_of s.scalars) s.scalars.n s.scalars.z s.scalars.c s.scalars.v = flags_of s.scalars in
     let nzcv : saved_nzcv f ≡ nzcv_of s.scalars = nzcv_at q h.count (omega (arith, flags.low)) in
-    let fields : Fields vl signal s f = fields_back vl signal s h in
-    let mark : saved_signal f ≡ signal = signal_at q (omega (arith, h.greatest)) in
+    let fields : Fields version vl s f = fields_back version masking vl signal s h in
+    let mark : saved_signal f ≡ signal = signal_at q (omega arith) in
     let expected : saved_length f ≡ (if saved_streaming f then n else vl) =
     fields.current ∙ ap (λ k. if k then n else vl) (sym fields.streaming) in
-    let size : saved_size f ≡ frame_size (saved_length f) n (saved_za_on f) =
-    fields.size ∙ ap (λ k. frame_size k n s.za_on) (sym fields.current) ∙ ap (frame_size (saved_length f) n) (sym fields.za_on) in
+    let size : saved_size f ≡ frame_size version (saved_length f) n (saved_za_on f) =
+    fields.size ∙ ap (λ k. frame_size version k n s.za_on) (sym fields.current)
+    ∙ ap (frame_size version (saved_length f) n) (sym fields.za_on) in
     and_true _ _
     (and_true _ _
     (and_true _ _
-    (and_true _ _ (eq-eqb (number_at f 0 8) frame_tag (tag_at q))
+    (and_true _ _
+    (and_true _ _ (eq-eqb (number_at f 0 8) (frame_tag version) (tag_at q))
     (and_true _ _
     (and_true _ _ (lt_true (saved_svcr f) 4 (omega (arith, fields.svcr, svcr_low s.streaming s.za_on)))
     (eq-eqb (saved_nzcv f % 2 ^ 28) 0 (ap (λ k. k % 2 ^ 28) nzcv ∙ flags.others)))
     (lt_true (saved_nzcv f) (2 ^ 32) (omega (arith, nzcv, flags.low)))))
     (and_true _ _
     (and_true _ _ (eq-eqb (saved_length f) (if saved_streaming f then n else vl) expected) (eq-eqb (saved_array_size f) n fields.array))
-    (eq-eqb (saved_size f) (frame_size (saved_length f) n (saved_za_on f)) size)))
-    (le_true 1 (saved_signal f) (omega (arith, mark, h.least))))
-    (le_true (saved_signal f) 62 (omega (arith, mark, h.greatest)))
+    (eq-eqb (saved_size f) (frame_size version (saved_length f) n (saved_za_on f)) size)))
+    (le_true 1 (saved_signal f) (omega (arith, mark))))
+    (le_true (saved_signal f) 62 (omega (arith, mark))))
+    (masked_back version masking depth vl signal s h ranges may)
 
 -- ---- the vectors
 
--- the parts after the first 320 bytes of a frame
-pub record After (vl signal : ℕ) (s : ProcessorState) : Type 0 where
-  pub vectors : drop (32 * length_at vl s) (numbers_of vl signal s).rest
+-- the parts of what follows the head of a frame
+pub record After (vl : ℕ) (s : ProcessorState) : Type 0 where
+  pub vectors : drop (32 * length_at vl s) (rest_of vl s)
       ≡ predicates_bytes s.bank.registers ++ (ffr_bytes (length_at vl s) s.bank.registers ++ array_bytes s.za_on s.bank.za)
-  pub predicates : drop (34 * length_at vl s) (numbers_of vl signal s).rest
+  pub predicates : drop (34 * length_at vl s) (rest_of vl s)
       ≡ ffr_bytes (length_at vl s) s.bank.registers ++ array_bytes s.za_on s.bank.za
 
-pub after_back : (vl signal : ℕ) (s : ProcessorState) → IsInRange vl signal s → After vl signal s
-after_back vl signal s h =
+pub after_back : (vl : ℕ) (s : ProcessorState) → IsInRange vl s → After vl s
+after_back vl s h =
     let l : ℕ = length_at vl s in
     let r : VectorRegisters = s.bank.registers in
     let others : List ℕ = ffr_bytes l r ++ array_bytes s.za_on s.bank.za in
@@ -231,29 +291,25 @@ row_of_map (row ∷ rows) (suc n) l = row_of_map rows n (omega arith)
 long_map : (rows : List (List Bool)) → length (map predicate_bytes rows) ≡ length rows
 long_map rows = length-map rows predicate_bytes
 
-vector_back : (vl signal : ℕ) (s : ProcessorState) → IsInRange vl signal s → (n : ℕ) → n < 32
-    → saved_vector (length_at vl s) (bytes_of (numbers_of vl signal s)) n ≡ get_or s.bank.registers.vectors n []
-vector_back vl signal s h n low =
+vector_back : (vl : ℕ) (s : ProcessorState) → IsInRange vl s → (n : ℕ) → n < 32
+    → saved_vector (length_at vl s) (rest_of vl s) n ≡ get_or s.bank.registers.vectors n []
+vector_back vl s h n low =
     let l : ℕ = length_at vl s in
     let r : VectorRegisters = s.bank.registers in
-    ap (take l) (after_head (numbers_of vl signal s) (n * l) h.count)
-    ∙ row_at l r.vectors (predicates_bytes r ++ (ffr_bytes l r ++ array_bytes s.za_on s.bank.za)) n
+    row_at l r.vectors (predicates_bytes r ++ (ffr_bytes l r ++ array_bytes s.za_on s.bank.za)) n
     (λ k lower. h.registers.vector_length k (omega (arith, h.registers.vector_count))) (omega (arith, h.registers.vector_count))
 
-predicate_back : (vl signal : ℕ) (s : ProcessorState) → IsInRange vl signal s → (n : ℕ) → n < 16
-    → saved_predicate (length_at vl s) (bytes_of (numbers_of vl signal s)) n ≡ get_or s.bank.registers.predicates n []
-predicate_back vl signal s h n low =
-    let q : Numbers = numbers_of vl signal s in
+predicate_back : (vl : ℕ) (s : ProcessorState) → IsInRange vl s → (n : ℕ) → n < 16
+    → saved_predicate (length_at vl s) (rest_of vl s) n ≡ get_or s.bank.registers.predicates n []
+predicate_back vl s h n low =
     let l : ℕ = length_at vl s in
     let r : VectorRegisters = s.bank.registers in
     let others : List ℕ = ffr_bytes l r ++ array_bytes s.za_on s.bank.za in
-    let place : 320 + 32 * l + n * (l / 8) ≡ 320 + (32 * l + n * (l / 8)) = omega arith in
     let there : n < length r.predicates = omega (arith, h.registers.predicate_count) in
-    let start : drop (320 + 32 * l + n * (l / 8)) (bytes_of q) ≡ drop (n * (l / 8)) (concat (map predicate_bytes r.predicates) ++ others) =
-    ap (λ k. drop k (bytes_of q)) place ∙ after_head q (32 * l + n * (l / 8)) h.count
-    ∙ sym (drop-drop (n * (l / 8)) (32 * l) q.rest) ∙ ap (drop (n * (l / 8))) ((after_back vl signal s h).vectors
+    let start : drop (32 * l + n * (l / 8)) (rest_of vl s) ≡ drop (n * (l / 8)) (concat (map predicate_bytes r.predicates) ++ others) =
+    sym (drop-drop (n * (l / 8)) (32 * l) (rest_of vl s)) ∙ ap (drop (n * (l / 8))) ((after_back vl s h).vectors
     ∙ ap (λ k. k ++ others) (rows_of_map r.predicates)) in
-    let row : take (l / 8) (drop (320 + 32 * l + n * (l / 8)) (bytes_of q)) ≡ predicate_bytes (get_or r.predicates n []) =
+    let row : take (l / 8) (drop (32 * l + n * (l / 8)) (rest_of vl s)) ≡ predicate_bytes (get_or r.predicates n []) =
     ap (take (l / 8)) start
     ∙ row_at (l / 8) (map predicate_bytes r.predicates) others n
     (λ k lower.
@@ -266,24 +322,21 @@ predicate_back vl signal s h n low =
     ∙ truths-predicate_bytes (get_or r.predicates n []) (omega (arith, h.registers.predicate_length n low, h.whole))
 
 -- FFR's field and ZA, from FFR on
-ffr_start : (vl signal : ℕ) (s : ProcessorState) → IsInRange vl signal s → (k : ℕ)
-    → drop (320 + (34 * length_at vl s + k)) (bytes_of (numbers_of vl signal s))
+ffr_start : (vl : ℕ) (s : ProcessorState) → IsInRange vl s → (k : ℕ)
+    → drop (34 * length_at vl s + k) (rest_of vl s)
     ≡ drop k (ffr_bytes (length_at vl s) s.bank.registers ++ array_bytes s.za_on s.bank.za)
-ffr_start vl signal s h k =
-    let q : Numbers = numbers_of vl signal s in
-    after_head q (34 * length_at vl s + k) h.count ∙ sym (drop-drop k (34 * length_at vl s) q.rest)
-    ∙ ap (drop k) (after_back vl signal s h).predicates
+ffr_start vl s h k =
+    sym (drop-drop k (34 * length_at vl s) (rest_of vl s)) ∙ ap (drop k) (after_back vl s h).predicates
 
-ffr_back : (vl signal : ℕ) (s : ProcessorState) → IsInRange vl signal s
-    → saved_ffr (length_at vl s) (bytes_of (numbers_of vl signal s)) ≡ s.bank.registers.ffr
-ffr_back vl signal s h =
+ffr_back : (vl : ℕ) (s : ProcessorState) → IsInRange vl s
+    → saved_ffr (length_at vl s) (rest_of vl s) ≡ s.bank.registers.ffr
+ffr_back vl s h =
     let l : ℕ = length_at vl s in
     let r : VectorRegisters = s.bank.registers in
     let zeros : List ℕ = replicate (32 - l / 8) 0 in
     let long : length (predicate_bytes r.ffr) ≡ l / 8 = length-predicate r.ffr ∙ ap (λ k. k / 8) h.registers.ffr_length in
-    let place : 320 + 34 * l ≡ 320 + (34 * l + 0) = omega arith in
     ap truths_of
-    (ap (take (l / 8)) (ap (λ k. drop k (bytes_of (numbers_of vl signal s))) place ∙ ffr_start vl signal s h 0
+    (ap (take (l / 8)) ((after_back vl s h).predicates
     ∙ append_assoc (predicate_bytes r.ffr) zeros (array_bytes s.za_on s.bank.za))
     ∙ take_at (predicate_bytes r.ffr) (zeros ++ array_bytes s.za_on s.bank.za) (l / 8) long)
     ∙ truths-predicate_bytes r.ffr (omega (arith, h.registers.ffr_length, h.whole))
@@ -292,71 +345,77 @@ zeros_pass : (n : ℕ) → list_all (λ b. b == 0) (replicate n 0) ≡ true
 zeros_pass zero = refl
 zeros_pass (suc n) = zeros_pass n
 
-pub past_back : (vl signal : ℕ) (s : ProcessorState) → IsInRange vl signal s
-    → is_zero_past (length_at vl s) (bytes_of (numbers_of vl signal s)) ≡ true
+pub past_back : (vl : ℕ) (s : ProcessorState) → IsInRange vl s
+    → is_zero_past (length_at vl s) (rest_of vl s) ≡ true
 unfolding is_zero_past
-past_back vl signal s h =
+past_back vl s h =
     let l : ℕ = length_at vl s in
     let r : VectorRegisters = s.bank.registers in
     let zeros : List ℕ = replicate (32 - l / 8) 0 in
     let array : List ℕ = array_bytes s.za_on s.bank.za in
     let long : length (predicate_bytes r.ffr) ≡ l / 8 = length-predicate r.ffr ∙ ap (λ k. k / 8) h.registers.ffr_length in
-    let place : 320 + 34 * l + l / 8 ≡ 320 + (34 * l + l / 8) = omega arith in
     let count : length zeros ≡ 32 - l / 8 = length-replicate (32 - l / 8) 0 in
     ap (list_all (λ b. b == 0))
-    (ap (take (32 - l / 8)) (ap (λ k. drop k (bytes_of (numbers_of vl signal s))) place ∙ ffr_start vl signal s h (l / 8)
+    (ap (take (32 - l / 8)) (ffr_start vl s h (l / 8)
     ∙ ap (drop (l / 8)) (append_assoc (predicate_bytes r.ffr) zeros array)
     ∙ drop_at (predicate_bytes r.ffr) (zeros ++ array) (l / 8) long)
     ∙ take_at zeros array (32 - l / 8) count)
     ∙ zeros_pass (32 - l / 8)
 
-array_vector_back : (vl signal : ℕ) (s : ProcessorState) → IsInRange vl signal s → s.za_on ≡ true → (n : ℕ) → n < length s.bank.za
-    → saved_array_vector (length_at vl s) (length s.bank.za) (bytes_of (numbers_of vl signal s)) n ≡ get_or s.bank.za n []
-array_vector_back vl signal s h on n low =
+array_vector_back : (vl : ℕ) (s : ProcessorState) → IsInRange vl s → s.za_on ≡ true → (n : ℕ) → n < length s.bank.za
+    → saved_array_vector (length_at vl s) (length s.bank.za) (rest_of vl s) n ≡ get_or s.bank.za n []
+array_vector_back vl s h on n low =
     let l : ℕ = length_at vl s in
     let m : ℕ = length s.bank.za in
     let r : VectorRegisters = s.bank.registers in
     let array : List ℕ = array_bytes s.za_on s.bank.za in
-    let place : 352 + 34 * l + n * m ≡ 320 + (34 * l + (32 + n * m)) = omega arith in
+    let place : 34 * l + 32 + n * m ≡ 34 * l + (32 + n * m) = omega arith in
     let whole : array ≡ concat s.bank.za ++ [] = ap (λ k. array_bytes k s.bank.za) on ∙ sym (append-nil (concat s.bank.za)) in
-    ap (take m) (ap (λ k. drop k (bytes_of (numbers_of vl signal s))) place ∙ ffr_start vl signal s h (32 + n * m)
+    ap (take m) (ap (λ k. drop k (rest_of vl s)) place ∙ ffr_start vl s h (32 + n * m)
     ∙ sym (drop-drop (n * m) 32 (ffr_bytes l r ++ array))
     ∙ ap (drop (n * m)) (drop_at (ffr_bytes l r) array 32 (length-ffr l r h.registers.ffr_length h.small) ∙ whole))
     ∙ row_at m s.bank.za [] n (λ k lower. h.square.long k lower) low
 
-pub registers_back : (vl signal : ℕ) (s : ProcessorState) → IsInRange vl signal s
-    → saved_registers (length_at vl s) (bytes_of (numbers_of vl signal s)) ≡ s.bank.registers
+pub registers_back : (vl : ℕ) (s : ProcessorState) → IsInRange vl s
+    → saved_registers (length_at vl s) (rest_of vl s) ≡ s.bank.registers
 unfolding saved_registers
-registers_back vl signal s h =
+registers_back vl s h =
     let l : ℕ = length_at vl s in
-    let f : List ℕ = bytes_of (numbers_of vl signal s) in
+    let f : List ℕ = rest_of vl s in
     let r : VectorRegisters = s.bank.registers in
     let z : map (saved_vector l f) (range_with_len 0 32) ≡ r.vectors =
-    sym (fill_by_all (saved_vector l f) r.vectors 32 [] h.registers.vector_count (λ k low. sym (vector_back vl signal s h k low))) in
+    sym (fill_by_all (saved_vector l f) r.vectors 32 [] h.registers.vector_count (λ k low. sym (vector_back vl s h k low))) in
     let p : map (saved_predicate l f) (range_with_len 0 16) ≡ r.predicates =
     sym (fill_by_all (saved_predicate l f) r.predicates 16 [] h.registers.predicate_count
-    (λ k low. sym (predicate_back vl signal s h k low))) in
-    rw (z, p, ffr_back vl signal s h) refl
+    (λ k low. sym (predicate_back vl s h k low))) in
+    rw (z, p, ffr_back vl s h) refl
 
-pub array_back : (vl signal : ℕ) (s : ProcessorState) (on : Bool) → IsInRange vl signal s → s.za_on ≡ on
-    → saved_array (length_at vl s) (length s.bank.za) on (bytes_of (numbers_of vl signal s)) ≡ s.bank.za
+pub array_back : (vl : ℕ) (s : ProcessorState) (on : Bool) → IsInRange vl s → s.za_on ≡ on
+    → saved_array (length_at vl s) (length s.bank.za) on (rest_of vl s) ≡ s.bank.za
 unfolding saved_array
-array_back vl signal s true h e =
-    let f : List ℕ = bytes_of (numbers_of vl signal s) in
+array_back vl s true h e =
+    let f : List ℕ = rest_of vl s in
     sym (fill_by_all (saved_array_vector (length_at vl s) (length s.bank.za) f) s.bank.za (length s.bank.za) [] refl
-    (λ k low. sym (array_vector_back vl signal s h e k low)))
-array_back vl signal s false h e = sym (h.off e)
+    (λ k low. sym (array_vector_back vl s h e k low)))
+array_back vl s false h e = sym (h.off e)
 
 -- ---- how long it is
 
-pub long_frame : (vl signal : ℕ) (s : ProcessorState) → IsInRange vl signal s
-    → length (bytes_of (numbers_of vl signal s)) ≡ size_of vl s
-long_frame vl signal s h =
+pub long_frame : (version : Version) (masking : Masking) (vl signal : ℕ) (s : ProcessorState) → IsInRange vl s
+    → length (bytes_of (numbers_of version masking vl signal s)) ≡ size_of version vl s
+long_frame version masking vl signal s h =
     let l : ℕ = length_at vl s in
     let r : VectorRegisters = s.bank.registers in
-    let rest : List ℕ = vector_state_bytes l s.za_on r s.bank.za in
     let system : List ℕ = s.scalars.sp ∷ s.scalars.pc ∷ nzcv_of s.scalars ∷ svcr_of s ∷ s.tpidr2 ∷ s.tpidr ∷ [] in
-    length-append (head_bytes (size_of vl s ∷ signal ∷ []) s.scalars.x system (l ∷ length s.bank.za ∷ [])) rest
-    ∙ ap (λ k. k + length rest)
-    (length-head (size_of vl s ∷ signal ∷ []) s.scalars.x system (l ∷ length s.bank.za ∷ []) refl h.count refl refl)
-    ∙ length-vector_state l (length s.bank.za) s.za_on r s.bank.za h.registers h.square h.small h.whole
+    let head : List ℕ = head_bytes version (size_of version vl s ∷ signal ∷ []) s.scalars.x system (l ∷ length s.bank.za ∷ []) in
+    let mask : List ℕ = masking_bytes version masking in
+    let first : length head ≡ 320 =
+    length-head version (size_of version vl s ∷ signal ∷ []) s.scalars.x system (l ∷ length s.bank.za ∷ []) refl h.count refl refl in
+    let body : length (rest_of vl s) ≡ body_size l (length s.bank.za) s.za_on =
+    length-vector_state l (length s.bank.za) s.za_on r s.bank.za h.registers h.square h.small h.whole in
+    omega (
+      arith,
+      length-append head (mask ++ rest_of vl s),
+      length-append mask (rest_of vl s),
+      length-masking version masking,
+    )

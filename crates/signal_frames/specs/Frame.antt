@@ -9,33 +9,36 @@ use Rattle.mem_access.specs.Runs.{with_bytes}
 use Rattle.machine_step.specs.ProcessorState.{ProcessorState}
 use Rattle.machine_step.specs.Mode.{length_at, with_sm, with_za}
 use Rattle.machine_step.specs.System.{nzcv_of, svcr_of}
-use Rattle.signal_frames.specs.Layout.{frame_size, head_bytes, vector_state_bytes}
+use Rattle.signal_frames.specs.Layout.{frame_size, head_bytes, masking_bytes, vector_state_bytes}
+use Rattle.signal_frames.specs.declared.masking.Masking.{Masking}
+use Rattle.sm_types.specs.declared.version.Version.{Version}
 use Rattle.signal_frames.specs.declared.delivery.FrameStop.{FrameStop}
 use Rattle.signal_frames.specs.declared.delivery.FrameStop.TheVariants.{BadFrame, Memory}
 
 -- how many bytes the frame of a state has
-abbrev pub size_of : ℕ → ProcessorState → ℕ
-size_of vl s = frame_size (length_at vl s) (length s.bank.za) s.za_on
+abbrev pub size_of : Version → ℕ → ProcessorState → ℕ
+size_of version vl s = frame_size version (length_at vl s) (length s.bank.za) s.za_on
 
 -- where it starts: at SP minus its size, rounded down to a multiple of 16, modulo 2 ^ 64
-unfoldable pub frame_address : ℕ → ProcessorState → ℕ
-frame_address vl s = (s.scalars.sp + (2 ^ 64 - size_of vl s)) % 2 ^ 64 / 16 * 16
+unfoldable pub frame_address : Version → ℕ → ProcessorState → ℕ
+frame_address version vl s = (s.scalars.sp + (2 ^ 64 - size_of version vl s)) % 2 ^ 64 / 16 * 16
 
 -- the addresses of its bytes
-unfoldable pub frame_addresses : ℕ → ProcessorState → List ℕ
-frame_addresses vl s = run_of (frame_address vl s) (size_of vl s)
+unfoldable pub frame_addresses : Version → ℕ → ProcessorState → List ℕ
+frame_addresses version vl s = run_of (frame_address version vl s) (size_of version vl s)
 
--- its bytes, for a signal
-unfoldable pub frame_bytes : ℕ → ℕ → ProcessorState → List ℕ
-frame_bytes vl signal s =
-    head_bytes (size_of vl s ∷ signal ∷ []) s.scalars.x
+-- its bytes, for a signal, where the signals of the thread are masked so
+unfoldable pub frame_bytes : Version → Masking → ℕ → ℕ → ProcessorState → List ℕ
+frame_bytes version masking vl signal s =
+    head_bytes version (size_of version vl s ∷ signal ∷ []) s.scalars.x
     (s.scalars.sp ∷ s.scalars.pc ∷ nzcv_of s.scalars ∷ svcr_of s ∷ s.tpidr2 ∷ s.tpidr ∷ [])
     (length_at vl s ∷ length s.bank.za ∷ [])
-    ++ vector_state_bytes (length_at vl s) s.za_on s.bank.registers s.bank.za
+    ++ (masking_bytes version masking
+    ++ vector_state_bytes (length_at vl s) s.za_on s.bank.registers s.bank.za)
 
 -- the first of its bytes, in their order, that may not be written
-unfoldable pub frame_fault : ℕ → ProcessorState → Option ℕ
-frame_fault vl s = first_without 2 s.memory (frame_address vl s) (size_of vl s)
+unfoldable pub frame_fault : Version → ℕ → ProcessorState → Option ℕ
+frame_fault version vl s = first_without 2 s.memory (frame_address version vl s) (size_of version vl s)
 
 -- the registers with which a handler begins: X0 is the signal, X1 and SP are the frame's address, X30 is 0;
 -- the others and the flags stay
@@ -55,13 +58,16 @@ entered vl signal handler address s =
     }
 
 -- with the frame of a state in its memory
-unfoldable pub with_frame : ℕ → ℕ → ProcessorState → ProcessorState
-with_frame vl signal s =
-    record s { memory = with_bytes s.memory (frame_address vl s) (frame_bytes vl signal s) }
+unfoldable pub with_frame : Version → Masking → ℕ → ℕ → ProcessorState → ProcessorState
+with_frame version masking vl signal s =
+    record s {
+      memory = with_bytes s.memory (frame_address version vl s) (frame_bytes version masking vl signal s);
+    }
 
 -- the state after a delivery: the frame is that of the state before it
-abbrev pub delivered : ℕ → ℕ → ℕ → ProcessorState → ProcessorState
-delivered vl signal handler s = entered vl signal handler (frame_address vl s) (with_frame vl signal s)
+abbrev pub delivered : Version → Masking → ℕ → ℕ → ℕ → ProcessorState → ProcessorState
+delivered version masking vl signal handler s =
+    entered vl signal handler (frame_address version vl s) (with_frame version masking vl signal s)
 
 -- the byte for which a frame is not written; want of memory names none
 abbrev pub byte_of : FrameStop → Option ℕ
@@ -69,11 +75,13 @@ byte_of (BadFrame address) = Some address
 byte_of Memory = None
 
 -- the answer of a delivery: where a byte of the frame may not be written, or memory is wanting, all stays
-abbrev pub Delivers : ℕ → ℕ → ℕ → ProcessorState → ProcessorState → Result (Unit {0}) FrameStop → Type 0
-Delivers vl signal handler old new (Ok done) =
-    (frame_fault vl old ≡ None) × (new ≡ delivered vl signal handler old)
-Delivers vl signal handler old new (Err stop) = (frame_fault vl old ≡ byte_of stop) × (new ≡ old)
+abbrev pub Delivers :
+    Version → Masking → ℕ → ℕ → ℕ → ProcessorState → ProcessorState → Result (Unit {0}) FrameStop → Type 0
+Delivers version masking vl signal handler old new (Ok done) =
+    (frame_fault version vl old ≡ None) × (new ≡ delivered version masking vl signal handler old)
+Delivers version masking vl signal handler old new (Err stop) =
+    (frame_fault version vl old ≡ byte_of stop) × (new ≡ old)
 
 -- the pages of the frame of a state are owned
-unfoldable pub HasFrameRoom : ℕ → ProcessorState → PageTable → Type 0
-HasFrameRoom vl s pages = AreOwned pages (frame_address vl s) (size_of vl s)
+unfoldable pub HasFrameRoom : Version → ℕ → ProcessorState → PageTable → Type 0
+HasFrameRoom version vl s pages = AreOwned pages (frame_address version vl s) (size_of version vl s)

@@ -3,8 +3,10 @@ use Rattle.std.specs.Prelude.{◌≡◌, ℕ, Bool, true, List, ◌++◌, length
 use Rattle.std.specs.List.{range_with_len}
 use Rattle.paged_memory.specs.Memory.{AddressSpace, bytes_with}
 use Rattle.sve_vectors.specs.State.{SveState}
+use Rattle.signal_frames.specs.Layout.{head_size}
 use Rattle.signal_frames.specs.Saved.{is_head, saved_size}
 use Rattle.signal_frames.specs.Return.{read_at}
+use Rattle.signal_frames.specs.declared.head.Expected.{Expected}
 
 -- the bytes can be read from an address on
 pub record StandsAt (m : AddressSpace) (start : ℕ) (frame : List ℕ) : Type 0 where
@@ -28,15 +30,15 @@ pub record KeepsLengths (old new : SveState) : Type 0 where
   pub svl : new.svl ≡ old.svl
   pub streaming : new.streaming ≡ old.streaming
 
--- the bytes of a frame stand from an address on, of which some are the first 320
-pub record IsSaved (vl svl : ℕ) (m : AddressSpace) (start : ℕ) (head frame : List ℕ) : Type 0 where
+-- the bytes of a frame stand from an address on, of which some are the head
+pub record IsSaved (e : Expected) (m : AddressSpace) (start : ℕ) (head frame : List ℕ) : Type 0 where
   pub stands : StandsAt m start frame
-  pub first : take 320 frame ≡ head
-  pub fields : is_head vl svl frame ≡ true
+  pub first : take (head_size e.version) frame ≡ head
+  pub fields : is_head e frame ≡ true
   pub size : length frame ≡ saved_size frame
-  pub read : bytes_with 4 m start (read_at vl svl m start) ≡ Some frame
+  pub read : bytes_with 4 m start (read_at e m start) ≡ Some frame
 
--- where no stop is found, the bytes are those of a frame, and these are its first 320
-abbrev pub IsFoundUnless : ℕ → ℕ → AddressSpace → ℕ → List ℕ → Option ℕ → Type 0
-IsFoundUnless vl svl m start head (Some stop) = Unit {0}
-IsFoundUnless vl svl m start head None = (frame : List ℕ) × IsSaved vl svl m start head frame
+-- where no stop is found, the bytes are those of a frame, and these are its head
+abbrev pub IsFoundUnless : Expected → AddressSpace → ℕ → List ℕ → Option ℕ → Type 0
+IsFoundUnless e m start head (Some stop) = Unit {0}
+IsFoundUnless e m start head None = (frame : List ℕ) × IsSaved e m start head frame

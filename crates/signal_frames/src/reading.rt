@@ -1,10 +1,10 @@
-//! The parts of a frame, read back by their offsets.
+//! What follows the head of a frame, read back by the offsets from its start.
 ghost use Rattle.std.specs.Prelude.{◌≡◌, ℕ, ◌+◌, ◌*◌, ◌/◌, ◌-◌, ◌≤◌, List, length, map, Some, ◌==◌, false};
 ghost use Rattle.std.specs.List.{range_with_len, list_all};
 ghost use Rattle.paged_memory.specs.Memory.{bytes_with};
 ghost use Rattle.sve_vectors.specs.Lengths.{vector_bytes, current_bytes};
 ghost use Rattle.za_array.specs.Array.{zero_array};
-ghost use Rattle.signal_frames.specs.Layout.{frame_size};
+ghost use Rattle.signal_frames.specs.Layout.{body_size};
 ghost use Rattle.sve_vectors.specs.State.{length_of, with_ffr};
 ghost use Rattle.signal_frames.specs.Saved.{saved_vector, saved_predicate, saved_ffr, saved_array_vector};
 ghost use Rattle.signal_frames.specs.Saved.{saved_registers, saved_array, is_zero_past};
@@ -26,13 +26,13 @@ fn fetch(pages: &Pages, address: u64, into: &mut [u8])
 /// Reads Z0 to Z31.
 fn read_vectors(pages: &Pages, start: u64, vectors: &mut Vectors)
     ensures same { KeepsLengths vectors.old vectors.new }
-    ensures value { (frame : List ℕ) → StandsAt pages.now.memory start frame
-        → 320 + 32 * length_of vectors.old ≤ length frame → vectors.new ≡ with_vectors vectors.old
-        (map (saved_vector (length_of vectors.old) frame) (range_with_len 0 32)) }
+    ensures value { (body : List ℕ) → StandsAt pages.now.memory start body
+        → 32 * length_of vectors.old ≤ length body → vectors.new ≡ with_vectors vectors.old
+        (map (saved_vector (length_of vectors.old) body) (range_with_len 0 32)) }
 {
     let length = vectors.length() as u64;
     for n in 0..32 {
-        let offset = 320 + u64::from(n) * length;
+        let offset = u64::from(n) * length;
         fetch(pages, start.wrapping_add(offset), vectors.z_mut(n));
     }
 }
@@ -40,13 +40,13 @@ fn read_vectors(pages: &Pages, start: u64, vectors: &mut Vectors)
 /// Reads P0 to P15.
 fn read_predicates(pages: &Pages, start: u64, vectors: &mut Vectors)
     ensures same { KeepsLengths vectors.old vectors.new }
-    ensures value { (frame : List ℕ) → StandsAt pages.now.memory start frame
-        → 320 + 34 * length_of vectors.old ≤ length frame → vectors.new ≡ with_predicates vectors.old
-        (map (saved_predicate (length_of vectors.old) frame) (range_with_len 0 16)) }
+    ensures value { (body : List ℕ) → StandsAt pages.now.memory start body
+        → 34 * length_of vectors.old ≤ length body → vectors.new ≡ with_predicates vectors.old
+        (map (saved_predicate (length_of vectors.old) body) (range_with_len 0 16)) }
 {
     let length = vectors.length() as u64;
     for n in 0..16 {
-        let offset = 320 + 32 * length + u64::from(n) * (length / 8);
+        let offset = 32 * length + u64::from(n) * (length / 8);
         fetch(pages, start.wrapping_add(offset), vectors.p_mut(n));
     }
 }
@@ -54,11 +54,11 @@ fn read_predicates(pages: &Pages, start: u64, vectors: &mut Vectors)
 /// Reads FFR.
 fn read_ffr(pages: &Pages, start: u64, vectors: &mut Vectors)
     ensures same { KeepsLengths vectors.old vectors.new }
-    ensures value { (frame : List ℕ) → StandsAt pages.now.memory start frame
-        → 352 + 34 * length_of vectors.old ≤ length frame
-        → vectors.new ≡ with_ffr vectors.old (saved_ffr (length_of vectors.old) frame) }
+    ensures value { (body : List ℕ) → StandsAt pages.now.memory start body
+        → 34 * length_of vectors.old + 32 ≤ length body
+        → vectors.new ≡ with_ffr vectors.old (saved_ffr (length_of vectors.old) body) }
 {
-    let offset = 320 + 34 * vectors.length() as u64;
+    let offset = 34 * vectors.length() as u64;
     fetch(pages, start.wrapping_add(offset), vectors.ffr_mut());
 }
 
@@ -66,16 +66,16 @@ fn read_ffr(pages: &Pages, start: u64, vectors: &mut Vectors)
 fn read_array(pages: &Pages, start: u64, vector_size: u64, za: &mut Za)
     requires { vector_size ≤ 256 }
     ensures same { za.new.svl ≡ za.old.svl }
-    ensures value { (frame : List ℕ) → StandsAt pages.now.memory start frame
-        → 352 + 34 * vector_size + vector_bytes za.old.svl * vector_bytes za.old.svl ≤ length frame
+    ensures value { (body : List ℕ) → StandsAt pages.now.memory start body
+        → 34 * vector_size + 32 + vector_bytes za.old.svl * vector_bytes za.old.svl ≤ length body
         → za.new ≡ record za.old {
-          vectors = map (saved_array_vector vector_size (vector_bytes za.old.svl) frame)
+          vectors = map (saved_array_vector vector_size (vector_bytes za.old.svl) body)
               (range_with_len 0 (vector_bytes za.old.svl));
         } }
 {
     let size = za.size();
     for n in 0..size {
-        let offset = 352 + 34 * vector_size + (n * size) as u64;
+        let offset = 34 * vector_size + 32 + (n * size) as u64;
         fetch(pages, start.wrapping_add(offset), za.vector_mut(n));
     }
 }
@@ -85,10 +85,10 @@ pub(crate) fn read_registers(pages: &Pages, start: u64, streaming: bool, vectors
     ensures mode { vectors.new.streaming ≡ streaming }
     ensures vl { vectors.new.vl ≡ vectors.old.vl }
     ensures svl { vectors.new.svl ≡ vectors.old.svl }
-    ensures value { (frame : List ℕ) → StandsAt pages.now.memory start frame
-        → 352 + 34 * current_bytes vectors.old.vl vectors.old.svl streaming ≤ length frame
+    ensures value { (body : List ℕ) → StandsAt pages.now.memory start body
+        → 34 * current_bytes vectors.old.vl vectors.old.svl streaming + 32 ≤ length body
         → vectors.new.registers
-        ≡ saved_registers (current_bytes vectors.old.vl vectors.old.svl streaming) frame }
+        ≡ saved_registers (current_bytes vectors.old.vl vectors.old.svl streaming) body }
 {
     vectors.set_streaming(streaming);
     read_vectors(pages, start, vectors);
@@ -101,9 +101,9 @@ pub(crate) fn restore_array(pages: &Pages, start: u64, vector_size: u64, za_on: 
     requires { vector_size ≤ 256 }
     ensures same { za.new.svl ≡ za.old.svl }
     ensures off { za_on ≡ false → za.new ≡ zero_array za.old.svl }
-    ensures value { (frame : List ℕ) → StandsAt pages.now.memory start frame
-        → frame_size vector_size (vector_bytes za.old.svl) za_on ≤ length frame
-        → za.new.vectors ≡ saved_array vector_size (vector_bytes za.old.svl) za_on frame }
+    ensures value { (body : List ℕ) → StandsAt pages.now.memory start body
+        → body_size vector_size (vector_bytes za.old.svl) za_on ≤ length body
+        → za.new.vectors ≡ saved_array vector_size (vector_bytes za.old.svl) za_on body }
 {
     if za_on {
         read_array(pages, start, vector_size, za);
@@ -124,16 +124,12 @@ fn are_zero(bytes: &[u8]) -> bool
 #[tactic(auto, unfolding(crate::specs::Saved::is_zero_past))]
 pub(crate) fn is_zero_past(pages: &Pages, start: u64, vector_size: u64) -> bool
     requires { vector_size ≤ 256 }
-    ensures { (frame : List ℕ) → StandsAt pages.now.memory start frame → 352 + 34 * vector_size ≤ length frame
-        → result ≡ is_zero_past vector_size frame }
+    ensures { (body : List ℕ) → StandsAt pages.now.memory start body → 34 * vector_size + 32 ≤ length body
+        → result ≡ is_zero_past vector_size body }
 {
     let ffr = vector_size / 8;
     let mut room = [0; 32];
     let rest = &mut room[ffr as usize..];
-    fetch(
-        pages,
-        start.wrapping_add(320 + 34 * vector_size + ffr),
-        rest,
-    );
+    fetch(pages, start.wrapping_add(34 * vector_size + ffr), rest);
     are_zero(rest)
 }

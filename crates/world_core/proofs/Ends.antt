@@ -22,15 +22,15 @@ use Rattle.world_core.specs.World.{World, threads_of}
 
 -- a thread that goes on has made few turns
 running_few : (program : Program) (config : Config) (thread : ℕ) (journal : List Event) (s : State) (stop : Option Stop)
-    → stop ≡ None → IsRunOf program config thread journal s stop → s.turns ≤ 3 * config.budget
+    → stop ≡ None → IsRunOf program config thread journal s stop → s.turns ≤ 64 * config.budget
 running_few program config thread journal s None goes run = few_under_way program config thread journal s.turns s (length journal) [] run
 running_few program config thread journal s (Some stop) goes run = cc
 
 pub few_turns : (program : Program) (w : World) (g : Guest) → Stands program w.config w.history g → g.stop ≡ None
-    → g.state.turns ≤ 3 * g.config.budget
+    → g.state.turns ≤ 64 * g.config.budget
 few_turns program w g h goes =
     let few = running_few program w.config g.number g.journal g.state g.stop goes h.run in
-    subst (λ (c : Config). g.state.turns ≤ 3 * c.budget) (sym h.options) few
+    subst (λ (c : Config). g.state.turns ≤ 64 * c.budget) (sym h.options) few
 
 lone_end : (program : Program) (config : Config) (thread : ℕ) (journal : List Event) (s : State) (stop : Option Stop)
     → is_some stop ≡ true → IsRunOf program config thread journal s stop

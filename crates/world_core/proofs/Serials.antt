@@ -187,7 +187,7 @@ all_done w phase h is =
 
 -- of a thread that goes on: the turns that it may make, and one that stops it
 abbrev work_of : Guest → ℕ
-work_of g = cond (is_some g.stop) 0 (3 * g.config.budget + 1 - g.state.turns)
+work_of g = cond (is_some g.stop) 0 (64 * g.config.budget + 1 - g.state.turns)
 
 abbrev work : World → ℕ
 work w = total work_of (threads_of w)
@@ -232,14 +232,14 @@ serve_rises config thread p zero = turn_rises thread config p (turn_of config th
 serve_rises config thread p (suc n) =
     one_rises config thread (p.state.turns + 1) (serve config thread (Going p) (suc n)) (serve_rises config thread p n)
 
-works_less : (g : Guest) (service : Service) → g.stop ≡ None → g.state.turns ≤ 3 * g.config.budget
+works_less : (g : Guest) (service : Service) → g.stop ≡ None → g.state.turns ≤ 64 * g.config.budget
     → HasRisen (g.state.turns + 1) service → work_of (served_guest g service) < work_of g
 works_less g (Going p) goes few h =
-    let e = ap (λ (s : Option Stop). cond (is_some s) 0 (3 * g.config.budget + 1 - g.state.turns)) goes in omega (arith, e, few, h)
+    let e = ap (λ (s : Option Stop). cond (is_some s) 0 (64 * g.config.budget + 1 - g.state.turns)) goes in omega (arith, e, few, h)
 works_less g (GaveWay p) goes few h =
-    let e = ap (λ (s : Option Stop). cond (is_some s) 0 (3 * g.config.budget + 1 - g.state.turns)) goes in omega (arith, e, few, h)
+    let e = ap (λ (s : Option Stop). cond (is_some s) 0 (64 * g.config.budget + 1 - g.state.turns)) goes in omega (arith, e, few, h)
 works_less g (HasStopped p stop) goes few h =
-    let e = ap (λ (s : Option Stop). cond (is_some s) 0 (3 * g.config.budget + 1 - g.state.turns)) goes in omega (arith, e, few)
+    let e = ap (λ (s : Option Stop). cond (is_some s) 0 (64 * g.config.budget + 1 - g.state.turns)) goes in omega (arith, e, few)
 
 -- the work falls, or it stays and the rank falls
 falls_by_work : (a b k r s : ℕ) → a < b → r < k → a * k + r < b * k + s
@@ -339,7 +339,7 @@ module _ (w : World) (phase : Phase) where
         moves_fall (Next 0) (next_of before rs) refl refl (next-bag work_of before rs refl) (omega (arith, e, r))
 
   run_falls : (g : Guest) (others : List Guest) (m : ℕ) → slice_get w.cores 0 ≡ Some (g ∷ others) → g.stop ≡ None
-      → g.state.turns ≤ 3 * g.config.budget → Falls (happens w (Run 0 (suc m)))
+      → g.state.turns ≤ 64 * g.config.budget → Falls (happens w (Run 0 (suc m)))
   run_falls g others m get goes few =
       let before = scene_of w (g ∷ others) in
       let service = serve g.config g.number (begins g.state g.stop g.journal w.history) (suc m) in
@@ -355,7 +355,7 @@ module _ (w : World) (phase : Phase) where
       (sym (ap (λ (x : Happened). length (threads_of x.world)) at) ∙ as_many w (Run 0 (suc m))) (omega (arith, less, here, there)))
 
   module _ (program : Program) (h : IsKept program w) (c : HasCore w)
-      (few : (g : Guest) → Stands program w.config w.history g → g.stop ≡ None → g.state.turns ≤ 3 * g.config.budget) where
+      (few : (g : Guest) → Stands program w.config w.history g → g.stop ≡ None → g.state.turns ≤ 64 * g.config.budget) where
     run_case : (rs : List Guest) (slice : ℕ) → slice_get w.cores 0 ≡ Some rs → 0 < length rs → 1 ≤ slice → Falls (happens w (Run 0 slice))
     run_case [] slice get some one = absurd (omega (arith, some))
     run_case (g ∷ others) zero get some one = absurd (omega (arith, one))

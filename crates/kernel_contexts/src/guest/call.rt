@@ -4,31 +4,20 @@ ghost use Rattle.std.specs.Prelude.{take, drop};
 ghost use Rattle.std.specs.Prelude.{slice_index};
 ghost use Rattle.std.specs.Prelude.{true, false};
 ghost use Rattle.paged_memory.specs.Memory.{bytes_with, first_without};
-ghost use Rattle.kernel_contexts.specs.Call.{post_op};
+ghost use Rattle.kernel_contexts.specs.Call.{post_op, masked};
 ghost use Rattle.kernel_contexts.specs.Output.{Appends};
 
 use crate::context::Turn;
 use crate::guest::GuestThread;
 use crate::handlers::set_handler;
+use crate::kernel_call::{KernelCall, call_numbered};
 use mem_access::Bank;
 use paged_memory::Pages;
 use shared_region::Port;
-use sm_types::{Access, OpKind, SharedOp, Stop};
+use sm_types::{Access, OpKind, SharedOp, Stop, Version};
 
-/// The call that writes bytes to the thread's output.
-const WRITE: u64 = 64;
-/// The call that ends the thread.
-const EXIT: u64 = 93;
-/// The call that gives way to other threads.
-const YIELD: u64 = 124;
-/// The call that makes a signal pending for a thread.
-const POST: u64 = 131;
-/// The call that sets the handler of a signal, or removes it.
-const SET_HANDLER: u64 = 134;
-/// The call that returns from a handler.
-pub const RETURN: u64 = 139;
-/// The call that tells the thread's number.
-const NUMBER: u64 = 178;
+/// The bits of the signals 1 to 62.
+const SIGNALS: u64 = 0x7fff_ffff_ffff_fffe;
 /// The bytes that a thread may write in all.
 const OUTPUT_LIMIT: u64 = 1_048_576;
 /// The answer for a descriptor that is not open: EBADF is 9.
@@ -91,6 +80,17 @@ fn append(pages: &Pages, address: u64, count: usize, output: &mut Vec<u8>) -> Ap
     }
 }
 
+/// The mask with these signals added, without them, or these alone.
+fn masked(how: u64, mask: u64, signals: u64) -> u64
+    ensures { result ≡ masked how mask signals }
+{
+    match how {
+        0 => mask | signals,
+        1 => mask & !signals,
+        _ => signals,
+    }
+}
+
 /// The operation that makes a signal pending for a thread.
 fn post_op(thread: u64, signal: u64) -> SharedOp
     requires thread { thread < 32 }
@@ -107,7 +107,9 @@ fn post_op(thread: u64, signal: u64) -> SharedOp
 
 impl GuestThread {
     ghost use Rattle.kernel_contexts.specs.Call.{write_of, exit_of, set_handler_of, post_of, may_post};
-    ghost use Rattle.kernel_contexts.specs.Call.{returned, Yields};
+    ghost use Rattle.kernel_contexts.specs.Call.{returned, Yields, set_mask_of};
+    ghost use Rattle.kernel_contexts.specs.KernelCall.{call_numbered, write_number};
+    ghost use Rattle.sm_types.specs.Options.{version_of};
     ghost use Rattle.kernel_contexts.specs.Turn.{outside_streaming};
     ghost use Rattle.kernel_contexts.specs.Context.{held_state, guest_call, Takes, IsQuietGuest};
     ghost use Rattle.kernel_contexts.specs.SaveArea.{IsFit, ComesBack};
@@ -137,33 +139,39 @@ impl GuestThread {
         ensures grows { Grows (λ thread events. GivesEvents P.gives P.name P.tells thread events port.old
             ticket.old port.new ticket.new) self.old self.new }
     {
-        match self.machine.scalars.x[8] {
-            POST => self.post(bank, port, ticket),
-            _ => self.call_quietly(bank),
+        let number = self.machine.scalars.x[8];
+        let call = call_numbered(self.config.version(), number);
+        match call {
+            KernelCall::Post => self.post(bank, port, ticket),
+            _ => self.call_quietly(bank, call),
         }
     }
 
     /// The calls that ask no operation.
     #[tactic(auto, unfolding(crate::specs::Call::call_of))]
-    fn call_quietly(&mut self, bank: &mut Bank) -> Turn
+    fn call_quietly(&mut self, bank: &mut Bank, call: KernelCall) -> Turn
         requires room { self.old.count < self.old.config.budget }
         requires runs { self.old.stop ≡ None }
         requires fit { IsFit self.old.config self.old.machine bank.old }
-        requires number { slice_index self.old.machine.scalars.x 8 ≢ 131 }
+        requires call { call ≡ call_numbered (version_of self.old.config)
+            (slice_index self.old.machine.scalars.x 8) }
+        requires quiet { call ≢ KernelCall.Post }
         ensures turn { Takes (WriteWants (held_state self.old bank.old)) (guest_call self.old bank.old)
             self.old bank.old self.new bank.new result }
         ensures pages { self.new.machine.pages ≡ self.old.machine.pages }
         ensures back { ComesBack self.new.config self.new.machine bank.old bank.new }
         ensures same { IsQuietGuest self.old self.new }
     {
-        match self.machine.scalars.x[8] {
-            WRITE => self.write(bank),
-            EXIT => self.exit(bank),
-            YIELD => self.give_way(bank),
-            SET_HANDLER => self.set_handler(bank),
-            RETURN => self.return_from_handler(bank),
-            NUMBER => self.return_with(bank, u64::from(self.number)),
-            _ => self.return_with(bank, NO_CALL),
+        match call {
+            KernelCall::Write => self.write(bank),
+            KernelCall::Exit => self.exit(bank),
+            KernelCall::Yield => self.give_way(bank),
+            KernelCall::Post => unreachable!(),
+            KernelCall::SetHandler => self.set_handler(bank),
+            KernelCall::SetMask => self.set_mask(bank),
+            KernelCall::Return => self.return_from_handler(bank),
+            KernelCall::Number => self.return_with(bank, u64::from(self.number)),
+            KernelCall::Other => self.return_with(bank, NO_CALL),
         }
     }
 
@@ -284,10 +292,34 @@ impl GuestThread {
         self.return_with(bank, 0)
     }
 
+    /// Adds the signals in X1 to the mask, takes them from it, or masks these alone, as X0 says.
+    #[tactic(auto, unfolding(crate::specs::Call::set_mask_of))]
+    fn set_mask(&mut self, bank: &mut Bank) -> Turn
+        requires version { version_of self.old.config ≡ Version.Two }
+        requires room { self.old.count < self.old.config.budget }
+        requires runs { self.old.stop ≡ None }
+        requires fit { IsFit self.old.config self.old.machine bank.old }
+        ensures turn { let left = outside_streaming self.old.config (held_state self.old bank.old) in
+            Takes ⊥ (set_mask_of left) self.old bank.old self.new bank.new result }
+        ensures pages { self.new.machine.pages ≡ self.old.machine.pages }
+        ensures back { ComesBack self.new.config self.new.machine bank.old bank.new }
+        ensures same { IsQuietGuest self.old self.new }
+    {
+        let how = self.machine.scalars.x[0];
+        if how > 2 {
+            return self.return_with(bank, BAD_ARGUMENT);
+        }
+        let mask = self.mask;
+        let signals = self.machine.scalars.x[1] & SIGNALS;
+        self.return_with(bank, mask);
+        self.mask = masked(how, mask, signals);
+        Turn::Ran
+    }
+
     /// Writes the X2 bytes from X1 on to the thread's output.
     #[tactic(auto, unfolding(crate::specs::Call::write_of))]
     fn write(&mut self, bank: &mut Bank) -> Turn
-        requires number { slice_index self.old.machine.scalars.x 8 ≡ 64 }
+        requires number { slice_index self.old.machine.scalars.x 8 ≡ write_number }
         requires room { self.old.count < self.old.config.budget }
         requires runs { self.old.stop ≡ None }
         requires fit { IsFit self.old.config self.old.machine bank.old }

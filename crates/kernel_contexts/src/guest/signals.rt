@@ -1,11 +1,15 @@
 //! The delivery of a signal, and the return from its handler.
-ghost use Rattle.std.specs.Prelude.{◌≡◌, ◌≢◌, ◌-◌, ◌^◌, ◌<◌, ◌≤◌, None, true, false};
+ghost use Rattle.std.specs.Prelude.{◌≡◌, ◌-◌, ◌^◌, ◌<◌, ◌≤◌, None, true};
+ghost use Rattle.std.specs.Int.{bit_at};
+ghost use Rattle.kernel_contexts.specs.Handlers.{is_signal};
+ghost use Rattle.sm_types.specs.Options.{version_of};
 
 use crate::context::Turn;
 use crate::guest::GuestThread;
 use crate::handlers::handler_of;
+use crate::kernel::masked_inside;
 use mem_access::Bank;
-use signal_frames::{FrameStop, deliver, return_from, return_sees_no_mode};
+use signal_frames::{FrameStop, Masking, deliver, return_from, return_sees_no_mode};
 use sm_types::Stop;
 
 impl GuestThread {
@@ -13,35 +17,43 @@ impl GuestThread {
     ghost use Rattle.std.specs.FinMap.{get};
     ghost use Rattle.kernel_contexts.specs.Call.{return_of};
     ghost use Rattle.kernel_contexts.specs.Turn.{delivery_of, lowest_signal, released, outside_streaming};
-    ghost use Rattle.kernel_contexts.specs.Turn.{handled_by};
+    ghost use Rattle.kernel_contexts.specs.Turn.{handled_by, open_signals, is_delivery_due};
     ghost use Rattle.kernel_contexts.specs.Context.{held_state, bare_state, Takes, IsQuietGuest};
     ghost use Rattle.kernel_contexts.specs.SaveArea.{IsFit, ComesBack};
     ghost use Rattle.kernel_contexts.specs.Wanting.{FrameWants};
     ghost use Rattle.kernel_contexts.specs.Owned.{TurnOwns, frame_writes};
 
-    /// The lowest signal that is held.
-    #[tactic(auto, using(crate::proofs::Watched::lowest_is_held))]
-    fn lowest_signal(&self) -> u32
-        requires { self.now.held ≢ 0 }
-        ensures signal { result ≡ lowest_signal (bare_state self.now) }
-        ensures within { result < 64 }
-        ensures is_held { 2 ^ result ≤ self.now.held }
+    /// The signals that are held and not masked.
+    pub(super) fn open_signals(&self) -> u64
+        ensures { result ≡ open_signals (bare_state self.now) }
     {
-        self.held.trailing_zeros()
+        self.held & !self.mask
     }
 
-    /// Whether the lowest signal that is held has a handler.
+    /// The lowest signal that is open.
+    fn lowest_signal(&self) -> u32
+        requires { is_delivery_due self.now.config (bare_state self.now) ≡ true }
+        ensures signal { result ≡ lowest_signal (bare_state self.now) }
+        ensures within { result < 64 }
+        ensures held { bit_at self.now.held result ≡ 1 }
+        ensures is_held { 2 ^ result ≤ self.now.held }
+    {
+        self.open_signals().trailing_zeros()
+    }
+
+    /// Whether the lowest signal that is open has a handler.
     pub(super) fn has_handler(&self) -> bool
-        requires { self.now.held ≢ 0 }
+        requires { is_delivery_due self.now.config (bare_state self.now) ≡ true }
         ensures { result
             ≡ is_some (get (bare_state self.now).handlers (lowest_signal (bare_state self.now))) }
     {
         handler_of(&self.handlers, self.lowest_signal()).is_some()
     }
 
-    /// Holds the lowest signal no longer.
+    /// Holds the lowest signal that is open no longer.
     fn release(&mut self, signal: u32)
         requires within { signal < 64 }
+        requires held { bit_at self.old.held signal ≡ 1 }
         requires is_held { 2 ^ signal ≤ self.old.held }
         requires lowest { signal ≡ lowest_signal (bare_state self.old) }
         ensures state { bare_state self.new ≡ released (bare_state self.old) }
@@ -53,13 +65,11 @@ impl GuestThread {
         self.held -= 1 << signal;
     }
 
-    /// Delivers the lowest signal that is held to its handler; a thread that has none for it is killed.
+    /// Delivers the lowest signal that is open to its handler; a thread that has none for it is killed.
     pub(super) fn deliver_signal(&mut self, bank: &mut Bank) -> Turn
         requires runs { self.old.stop ≡ None }
         requires fit { IsFit self.old.config self.old.machine bank.old }
-        requires held { self.old.held ≢ 0 }
-        requires polled { self.old.polled ≡ true }
-        requires outside { self.old.inside ≡ false }
+        requires due { is_delivery_due self.old.config (bare_state self.old) ≡ true }
         requires count { self.old.count < self.old.config.budget }
         ensures turn { Takes
             (FrameWants self.old.config (held_state self.old bank.old) self.old.machine.pages)
@@ -86,9 +96,10 @@ impl GuestThread {
         requires fit { IsFit self.old.config self.old.machine bank.old }
         requires lowest { signal ≡ lowest_signal (bare_state self.old) }
         requires within { signal < 64 }
+        requires held { bit_at self.old.held signal ≡ 1 }
         requires is_held { 2 ^ signal ≤ self.old.held }
-        requires polled { self.old.polled ≡ true }
-        requires outside { self.old.inside ≡ false }
+        requires known { is_signal signal ≡ true }
+        requires due { is_delivery_due self.old.config (bare_state self.old) ≡ true }
         requires count { self.old.count < self.old.config.budget }
         ensures turn { Takes
             (FrameWants self.old.config (held_state self.old bank.old) self.old.machine.pages)
@@ -99,10 +110,16 @@ impl GuestThread {
         ensures back { ComesBack self.new.config self.new.machine bank.old bank.new }
         ensures same { IsQuietGuest self.old self.new }
     {
-        match deliver(&mut self.machine, bank, signal, handler) {
+        let version = self.config.version();
+        let masking = Masking {
+            mask: self.mask,
+            depth: self.depth,
+        };
+        match deliver(version, masking, &mut self.machine, bank, signal, handler) {
             Ok(()) => {
                 self.release(signal);
-                self.inside = true;
+                self.mask = masked_inside(version, signal, self.mask);
+                self.depth += 1;
                 self.turns += 1;
                 Turn::Ran
             }
@@ -128,10 +145,12 @@ impl GuestThread {
         ensures same { IsQuietGuest self.old self.new }
     {
         return_sees_no_mode();
-        match return_from(&mut self.machine, bank, self.inside) {
-            Ok(()) => {
+        let version = self.config.version();
+        match return_from(version, self.depth, &mut self.machine, bank) {
+            Ok(masking) => {
                 self.count_turn();
-                self.inside = false;
+                self.mask = masking.mask;
+                self.depth = masking.depth;
                 Turn::Ran
             }
             Err(fault) => self.stop_with(Stop::BadFrame(fault.0)),

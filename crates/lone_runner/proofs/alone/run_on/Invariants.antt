@@ -15,4 +15,4 @@ invariant-turns l = record {
 }
 
 abbrev pub decreases-turns : goal.decreases-turns
-decreases-turns l = 3 * (config_of l.context).budget - (state_of l.context).turns
+decreases-turns l = 64 * (config_of l.context).budget - (state_of l.context).turns

@@ -17,8 +17,11 @@ returns-clause-frame c =
     let current : length_of bank.vectors ≡ length_at vl s =
     length_is bank.vectors bank.za.vectors m.streaming long c.requires.mode.streaming in
     λ ready.
-    frame_put vl c.args.signal c.args.size c.length.result (length_of bank.vectors) c.size.result c.read_nzcv.result c.read_svcr.result s
-    m.pages c.put_head-next.new.pages c.put_vector_state.new.pages c.args.address c.put_head-next.result c.put_vector_state.result
-    c.put_head-next.ensures.part c.put_vector_state.ensures.part c.put_head-next.ensures.long c.put_vector_state.ensures.long
+    frame_put c.args.delivery.version c.args.delivery.masking vl c.args.delivery.signal c.args.size c.length.result
+    (length_of bank.vectors) c.size.result c.read_nzcv.result c.read_svcr.result s
+    m.pages c.put_head-masked.new.pages c.put_masking-next.new.pages c.put_vector_state.new.pages
+    c.args.address c.put_head-masked.result c.put_masking-next.result c.put_vector_state.result
+    c.put_head-masked.ensures.part c.put_masking-next.ensures.part c.put_vector_state.ensures.part
+    c.put_head-masked.ensures.long c.put_masking-next.ensures.long c.put_vector_state.ensures.long
     c.requires.size (c.length.ensures.value ∙ current) current (c.size.ensures.value ∙ sym c.size.ensures.square.count)
     c.read_nzcv.ensures (c.read_svcr.ensures (bank_state bank)) ready

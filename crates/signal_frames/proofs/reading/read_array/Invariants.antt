@@ -9,8 +9,8 @@ invariant-loop-n l =
     let s = vector_bytes l.initial.za.svl in
     record {
       same : l.za.svl ≡ l.initial.za.svl;
-      read : (frame : List ℕ) → StandsAt l.pages.memory l.start frame → 352 + 34 * l.vector_size + s * s ≤ length frame
+      read : (body : List ℕ) → StandsAt l.pages.memory l.start body → 34 * l.vector_size + 32 + s * s ≤ length body
           → l.za ≡ record l.initial.za {
-            vectors = rows_from (saved_array_vector l.vector_size s frame) l.n l.initial.za.vectors;
+            vectors = rows_from (saved_array_vector l.vector_size s body) l.n l.initial.za.vectors;
           };
     }

@@ -17,19 +17,19 @@ loop-n-preserved c =
         svl = c.loop-n.invariant.same.svl;
         streaming = c.loop-n.invariant.same.streaming;
       };
-      read = λ frame stands fits.
+      read = λ body stands fits.
           let row = row_fits n 16 (l / 8) c.loop-n-test.true in
-          predicates_step c.loop-n.vectors old n c.p_mut.result.now c.fetch.new.into (saved_predicate l frame)
-          (omega (arith, c.length-length.ensures.registers.predicate_count)) (c.loop-n.invariant.read frame stands fits)
+          predicates_step c.loop-n.vectors old n c.p_mut.result.now c.fetch.new.into (saved_predicate l body)
+          (omega (arith, c.length-length.ensures.registers.predicate_count)) (c.loop-n.invariant.read body stands fits)
           c.p_mut.ensures.value c.fetch.auto.into
-          (ap truths_of (c.fetch.ensures (part_of frame (320 + 32 * l + n * (l / 8)) (l / 8))
-          (part_read c.args.pages.now.memory c.args.start (320 + 32 * l + n * (l / 8)) (l / 8) _ _ frame stands (omega arith)
+          (ap truths_of (c.fetch.ensures (part_of body (32 * l + n * (l / 8)) (l / 8))
+          (part_read c.args.pages.now.memory c.args.start (32 * l + n * (l / 8)) (l / 8) _ _ body stands (omega arith)
           (rw (c.from.ensures, c.length-length.ensures.value) refl)
           (c.p_mut.ensures.long ∙ ap (λ k. k / 8) (same_length old c.loop-n.vectors c.loop-n.invariant.same)))));
     }
 
 pub returns-clause-value : goal.returns-clause-value
-returns-clause-value c = λ frame stands fits.
-    c.loop-n.invariant.read frame stands fits
-    ∙ ap (with_predicates c.args.vectors.now) (rows_all (saved_predicate (length_of c.args.vectors.now) frame)
+returns-clause-value c = λ body stands fits.
+    c.loop-n.invariant.read body stands fits
+    ∙ ap (with_predicates c.args.vectors.now) (rows_all (saved_predicate (length_of c.args.vectors.now) body)
     c.args.vectors.now.registers.predicates c.loop-n.n 16 c.length-length.ensures.registers.predicate_count (omega arith))

@@ -5,7 +5,7 @@ use Rattle.signal_frames.proofs.Fetching.{same_length, registers_are, length_wri
 use Rattle.signal_frames.proofs.reading.read_registers.Goals as goal
 
 pub returns-clause-value : goal.returns-clause-value
-returns-clause-value c = λ frame stands fits.
+returns-clause-value c = λ body stands fits.
     let old = c.args.vectors.now in
     let l = current_bytes old.vl old.svl c.args.streaming in
     let v0 = c.set_streaming.new.self in
@@ -14,6 +14,6 @@ returns-clause-value c = λ frame stands fits.
     let long : length_of v0 ≡ l = length_written old v0 c.args.streaming c.set_streaming.ensures in
     let one : length_of v1 ≡ l = same_length v0 v1 c.read_vectors.ensures.same ∙ long in
     let two : length_of v2 ≡ l = same_length v1 v2 c.read_predicates.ensures.same ∙ one in
-    registers_are v0 v1 v2 c.read_ffr.new.vectors l frame long c.read_vectors.ensures.same c.read_predicates.ensures.same
-    (c.read_vectors.ensures.value frame stands (omega arith)) (c.read_predicates.ensures.value frame stands (omega arith))
-    (c.read_ffr.ensures.value frame stands (omega arith))
+    registers_are v0 v1 v2 c.read_ffr.new.vectors l body long c.read_vectors.ensures.same c.read_predicates.ensures.same
+    (c.read_vectors.ensures.value body stands (omega arith)) (c.read_predicates.ensures.value body stands (omega arith))
+    (c.read_ffr.ensures.value body stands (omega arith))

@@ -1,4 +1,4 @@
-use Rattle.std.proofs.Common.{◌≡◌, ℕ, ◌+◌, true, false, length, ap, sym, ◌∙◌}
+use Rattle.std.proofs.Common.{◌≡◌, ℕ, true, false, length, ap, sym, ◌∙◌}
 use Rattle.std.specs.Prelude.{Option, not}
 use Rattle.kernel_contexts.specs.Owner.{owns, is_owner}
 use Rattle.kernel_contexts.specs.Context.{held_state}

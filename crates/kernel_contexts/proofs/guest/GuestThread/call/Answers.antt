@@ -1,23 +1,45 @@
-use Rattle.std.proofs.Common.{length, inl, inr}
+use Rattle.std.proofs.Common.{◌≡◌, length, slice_index, inl, inr, ap, ◌∙◌}
+use Rattle.sm_types.specs.Options.{version_of}
+use Rattle.sm_types.specs.declared.version.Version.{Version}
+use Rattle.mem_access.specs.declared.bank.Bank.{Bank}
+use Rattle.kernel_contexts.specs.KernelCall.{call_numbered}
+use Rattle.kernel_contexts.specs.declared.guest.GuestThread.{GuestThread}
+use Rattle.kernel_contexts.specs.declared.kernel_call.KernelCall.{KernelCall}
+use Rattle.kernel_contexts.specs.declared.kernel_call.KernelCall.TheVariants.{Post}
 use Rattle.kernel_contexts.specs.Turn.{outside_streaming}
 use Rattle.kernel_contexts.specs.Call.{post_of}
 use Rattle.kernel_contexts.specs.Context.{guest_call, held_state}
 use Rattle.kernel_contexts.proofs.Answered.{asked_nothing, made_nothing}
 use Rattle.kernel_contexts.proofs.Over.{turned_so}
 use Rattle.kernel_contexts.proofs.Wanting.{goes_so, quiet_wants, quiet_goes}
-use Rattle.kernel_contexts.proofs.Calls.{call_posts}
+use Rattle.kernel_contexts.proofs.Calls.{call_is, says_so}
 use Rattle.kernel_contexts.proofs.guest.GuestThread.call.Goals as goal
 
-pub returns-in-131-clause-turn : goal.returns-in-131-clause-turn
-returns-in-131-clause-turn g c =
+-- the call is a post
+posts : (t : GuestThread) (bank : Bank) (version : Version) (given : KernelCall) → version ≡ version_of t.config
+    → given ≡ call_numbered version (slice_index t.machine.scalars.x 8) → given ≡ Post
+    → guest_call t bank
+    ≡ post_of t.config (length t.journal.items) (held_state t bank) (outside_streaming t.config (held_state t bank))
+posts t bank version given same numbered is =
+    call_is t.config t.number (length t.journal.items) (held_state t bank) (outside_streaming t.config (held_state t bank)) given Post
+    (numbered ∙ ap (λ (v : Version). call_numbered v (slice_index t.machine.scalars.x 8)) same) is
+
+pub returns-in-Post-clause-turn : goal.returns-in-Post-clause-turn
+returns-in-Post-clause-turn g c =
     let t = c.args.self.now in
     let before = held_state t c.args.bank.now in
     turned_so _ (post_of t.config (length t.journal.items) before (outside_streaming t.config before)) (guest_call t c.args.bank.now) _
     _ _ _ _
-    (call_posts t.config t.number (length t.journal.items) before (outside_streaming t.config before) c.in-131.is) c.post.ensures.turn
+    (posts t c.args.bank.now c.version.result c.call_numbered-call.result c.version.ensures c.call_numbered-call.ensures c.in-Post.is)
+    c.post.ensures.turn
 
-pub returns-in-131-clause-memory : goal.returns-in-131-clause-memory
-returns-in-131-clause-memory g c = λ wants free. inr (c.in-131.is, c.post.ensures.memory wants free)
+pub returns-in-Post-clause-memory : goal.returns-in-Post-clause-memory
+returns-in-Post-clause-memory g c = λ wants free.
+    inr (
+      says_so c.version.result (slice_index c.args.self.now.machine.scalars.x 8) c.call_numbered-call.result Post
+          c.call_numbered-call.ensures c.in-Post.is,
+      c.post.ensures.memory wants free,
+    )
 
 pub returns-in_default-clause-memory : goal.returns-in_default-clause-memory
 returns-in_default-clause-memory g c = λ wants free.
@@ -31,13 +53,13 @@ returns-in_default-clause-turn g c =
     c.call_quietly.result
     (made_nothing t.journal.items _ c.call_quietly.ensures.same.journal) c.call_quietly.ensures.turn
 
-pub returns-in-131-clause-goes : goal.returns-in-131-clause-goes
-returns-in-131-clause-goes g c = λ wants free.
+pub returns-in-Post-clause-goes : goal.returns-in-Post-clause-goes
+returns-in-Post-clause-goes g c = λ wants free.
     let t = c.args.self.now in
     let before = held_state t c.args.bank.now in
     goes_so (g.P.Port.refuses c.args.port.now c.args.ticket.now).takes_memory
     (post_of t.config (length t.journal.items) before (outside_streaming t.config before)) (guest_call t c.args.bank.now)
-    (call_posts t.config t.number (length t.journal.items) before (outside_streaming t.config before) c.in-131.is)
+    (posts t c.args.bank.now c.version.result c.call_numbered-call.result c.version.ensures c.call_numbered-call.ensures c.in-Post.is)
     (c.post.ensures.goes wants free)
 
 pub returns-in_default-clause-goes : goal.returns-in_default-clause-goes

@@ -10,6 +10,7 @@ use Rattle.mem_access.specs.Bank.{bank_state}
 use Rattle.kernel_contexts.specs.Call.{Ends, call_of}
 use Rattle.kernel_contexts.specs.Turn.{outside_streaming}
 use Rattle.shared_region.specs.Tickets.{Refusals}
+use Rattle.kernel_contexts.specs.KernelCall.{return_number}
 use Rattle.kernel_contexts.specs.Context.{held_state, guest_instruction, guest_made, made_since, TurnsOver}
 use Rattle.kernel_contexts.proofs.Bare.{with_vectors}
 use Rattle.kernel_contexts.proofs.Turns.{executes_raises, executes_calls}
@@ -221,7 +222,7 @@ returns-then-is_kept_from-clause-turn g c =
     _ _ _ _ c.in-Call.ensures.effect in
     let same = k.1.1 in
     needed_so _ _ _ _ _ _ _
-    (k.0 ∙ ap (λ (p : ProcessorState). c.args.apart && (slice_index p.scalars.x 8 == 139)) (sym same)
+    (k.0 ∙ ap (λ (p : ProcessorState). c.args.apart && (slice_index p.scalars.x 8 == return_number)) (sym same)
     ∙ sym c.is_kept_from.ensures ∙ c.if-is_kept_from.true)
     (ap (λ (p : ProcessorState). record (held_state t c.args.bank.now) { core = p }) same)
     (made_nothing t.journal.items _ c.reserve.ensures.items) c.requires.runs
@@ -236,7 +237,7 @@ returns-else-is_kept_from-clause-turn g c =
     let after = record (held_state t c.args.bank.now) { core = core_of c.step_apart.new.self (bank_state c.step_apart.new.bank) } in
     let chain = c.in-Call.ensures.gives.chain in
     unless_so _ _ _ _ _ _ _ _
-    (k.0 ∙ ap (λ (p : ProcessorState). c.args.apart && (slice_index p.scalars.x 8 == 139)) (sym h.1)
+    (k.0 ∙ ap (λ (p : ProcessorState). c.args.apart && (slice_index p.scalars.x 8 == return_number)) (sym h.1)
     ∙ sym c.is_kept_from.ensures ∙ c.if-is_kept_from.false)
     (subst (λ (r : Refusals). TurnsOver r (guest_instruction t c.args.bank.now) (held_state t c.args.bank.now)
     (held_state c.call.new.self c.call.new.bank) (guest_made t c.call.new.self) c.call.new.self.stop c.call.result)

@@ -1,4 +1,3 @@
-use Rattle.std.proofs.Common.{sym, ◌∙◌}
 use Rattle.kernel_contexts.proofs.Apart.{lacks_so, lacks_memory}
 use Rattle.kernel_contexts.proofs.guest.GuestThread.lack.Goals as goal
 

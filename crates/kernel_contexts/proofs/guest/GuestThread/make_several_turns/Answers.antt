@@ -1,4 +1,5 @@
 use Rattle.std.proofs.Common.{length, sym, ap, ◌∙◌, subst}
+use Rattle.paged_memory.specs.PageTable.{KeepsOwned}
 use Rattle.mem_access.specs.Bank.{bank_state}
 use Rattle.machine_step.specs.Machine.{core_of}
 use Rattle.machine_step.specs.declared.machine.Machine.{Machine}
@@ -39,6 +40,11 @@ returns-clause-back c =
       };
     }) c.count_turns.ensures.same.config (ap (λ (m : Machine). m.streaming) c.count_turns.ensures.machine)
     (ap (λ (m : Machine). m.za_on) c.count_turns.ensures.machine)
+
+pub returns-clause-owned : goal.returns-clause-owned
+returns-clause-owned c =
+    subst (λ (m : Machine). KeepsOwned c.args.self.now.machine.pages m.pages) (sym c.count_turns.ensures.machine)
+    c.step_several-made.ensures.owned
 
 pub returns-clause-count : goal.returns-clause-count
 returns-clause-count c = ap (λ (s : State). s.count) c.count_turns.ensures.state

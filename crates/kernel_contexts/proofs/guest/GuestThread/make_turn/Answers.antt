@@ -1,4 +1,4 @@
-use Rattle.std.proofs.Common.{◌≡◌, ◌∙◌, ap, sym, length, arith}
+use Rattle.std.proofs.Common.{◌∙◌, ap, sym, length, arith}
 use Rattle.std.specs.Prelude.{◌&&◌}
 use Rattle.mem_access.specs.Bank.{bank_state}
 use Rattle.kernel_contexts.specs.State.{State}

@@ -36,7 +36,7 @@ pub returns-then-is_delivery_due-clause-turn : goal.returns-then-is_delivery_due
 returns-then-is_delivery_due-clause-turn g c =
     let t = c.args.self.now in
     let none : is_poll_due t.config (held_state t c.args.bank.now) ≡ false = sym c.is_poll_due.ensures ∙ c.if-is_poll_due.false in
-    let due : is_delivery_due (held_state t c.args.bank.now) ≡ true = sym c.is_delivery_due.ensures ∙ c.if-is_delivery_due.true in
+    let due : is_delivery_due t.config (held_state t c.args.bank.now) ≡ true = sym c.is_delivery_due.ensures ∙ c.if-is_delivery_due.true in
     turned_so _ (delivery_of t.config (held_state t c.args.bank.now)) (guest_turn t c.args.bank.now) _ _ _ _ _
     (turn_delivers t.config t.number (length t.journal.items) (held_state t c.args.bank.now) c.if-self.false none due)
     (asked_nothing _ _ _ (held_state t c.args.bank.now) (held_state c.deliver_signal.new.self c.deliver_signal.new.bank) _ _
@@ -47,7 +47,7 @@ pub returns-clause-turn : goal.returns-clause-turn
 returns-clause-turn g c =
     let t = c.args.self.now in
     let none : is_poll_due t.config (held_state t c.args.bank.now) ≡ false = sym c.is_poll_due.ensures ∙ c.if-is_poll_due.false in
-    let other : is_delivery_due (held_state t c.args.bank.now) ≡ false = sym c.is_delivery_due.ensures ∙ c.if-is_delivery_due.false in
+    let other : is_delivery_due t.config (held_state t c.args.bank.now) ≡ false = sym c.is_delivery_due.ensures ∙ c.if-is_delivery_due.false in
     turned_so _ (guest_instruction t c.args.bank.now) (guest_turn t c.args.bank.now) _ _ _ _ _
     (turn_executes t.config t.number (length t.journal.items) (held_state t c.args.bank.now) c.if-self.false none other)
     c.execute.ensures.turn
@@ -82,7 +82,7 @@ pub returns-then-is_delivery_due-clause-goes : goal.returns-then-is_delivery_due
 returns-then-is_delivery_due-clause-goes g c = λ wants free.
     let t = c.args.self.now in
     let none : is_poll_due t.config (held_state t c.args.bank.now) ≡ false = sym c.is_poll_due.ensures ∙ c.if-is_poll_due.false in
-    let due : is_delivery_due (held_state t c.args.bank.now) ≡ true = sym c.is_delivery_due.ensures ∙ c.if-is_delivery_due.true in
+    let due : is_delivery_due t.config (held_state t c.args.bank.now) ≡ true = sym c.is_delivery_due.ensures ∙ c.if-is_delivery_due.true in
     let new = c.deliver_signal.new.self in
     goes_so (g.P.Port.refuses c.args.port.now c.args.ticket.now).takes_memory (delivery_of t.config (held_state t c.args.bank.now))
     (guest_turn t c.args.bank.now)
@@ -94,7 +94,7 @@ pub returns-clause-goes : goal.returns-clause-goes
 returns-clause-goes g c = λ wants free.
     let t = c.args.self.now in
     let none : is_poll_due t.config (held_state t c.args.bank.now) ≡ false = sym c.is_poll_due.ensures ∙ c.if-is_poll_due.false in
-    let other : is_delivery_due (held_state t c.args.bank.now) ≡ false = sym c.is_delivery_due.ensures ∙ c.if-is_delivery_due.false in
+    let other : is_delivery_due t.config (held_state t c.args.bank.now) ≡ false = sym c.is_delivery_due.ensures ∙ c.if-is_delivery_due.false in
     goes_so (g.P.Port.refuses c.args.port.now c.args.ticket.now).takes_memory (guest_instruction t c.args.bank.now)
     (guest_turn t c.args.bank.now)
     (turn_executes t.config t.number (length t.journal.items) (held_state t c.args.bank.now) c.if-self.false none other)

@@ -1,4 +1,7 @@
-use Rattle.std.proofs.Common.{◌≡◌, length, ap, ◌∙◌, subst}
+use Rattle.std.proofs.Common.{◌≡◌, ◌+◌, ◌*◌, ◌≤◌, false, length, ap, ◌∙◌, subst, arith}
+use Rattle.std.specs.Prelude.{bit_or}
+use Rattle.kernel_contexts.specs.Watch.{waiting}
+use Rattle.kernel_contexts.proofs.Signals.{waiting_some}
 use Rattle.kernel_contexts.specs.State.{State}
 use Rattle.kernel_contexts.specs.Turn.{poll_op, polled_with}
 use Rattle.kernel_contexts.specs.Guest.{guest_state, bare_state, no_vectors}
@@ -51,3 +54,11 @@ returns-in-Err-clause-goes g c = λ v wants free.
     (made_since t.journal.items c.ask.new.self.journal.items) (Err r)) is c.in-Err.ensures.made in
     asking_goes refusals.takes_memory (length t.journal.items) (guest_state t v) (poll_op t.number) (polled_with (guest_state t v)) asked.0
     (asked.1 free)
+
+pub invariant_of-self-clause-turns_are_few : goal.invariant_of-self-clause-turns_are_few
+invariant_of-self-clause-turns_are_few g c =
+    let n = c.ask.new.self in
+    let same : n.polled ≡ false = ap (λ (s : State). s.polled) c.in-Ok.ensures.state ∙ c.requires.polled in
+    let before : n.turns ≤ 64 * n.count + waiting false n.held =
+    subst (λ b. n.turns ≤ 64 * n.count + waiting b n.held) same n.turns_are_few in
+    omega (arith, before, waiting_some (bit_or n.held c.in-Ok.answer))
