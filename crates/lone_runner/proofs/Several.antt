@@ -37,7 +37,7 @@ up_to_count before after count made told most is counted few = omega (arith, mos
 
 -- there are fewer turns left
 pub turns_fall : (old mid new : Config) (before there after made : ℕ) → mid ≡ old → new ≡ mid → there ≡ before + 1
-    → there ≤ 3 * mid.budget → after ≡ there + made → 3 * new.budget - after < 3 * old.budget - before
+    → there ≤ 64 * mid.budget → after ≡ there + made → 64 * new.budget - after < 64 * old.budget - before
 turns_fall old mid new before there after made same still one few more =
     let first = ap (λ (k : Config). k.budget) same in
     let second = ap (λ (k : Config). k.budget) still in
