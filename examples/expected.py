@@ -3,7 +3,7 @@
 
     examples/expected.py FILE [VL [SVL]]
 
-It knows the instructions that the programs of this repository use, and the calls of the kernel; each other word is undefined to it. One thread makes all operations on the shared words.
+It knows the instructions that the programs of this repository use, and the calls of both kernels; each other word is undefined to it. One thread makes all operations on the shared words.
 """
 import hashlib
 import struct
@@ -11,9 +11,11 @@ import sys
 
 import expected_compiled
 from expected_matrix import Matrix
-from expected_signals import BadFrame, come_back, deliver
+from expected_signals import BadFrame, DEPTHS, come_back, deliver, set_mask
 from expected_vectors import Vectors
 
+# the kernel of `run`, `sim` and `bench`; that of `replay` and `debug` is the version of the report
+KERNEL = 2
 OUTPUT_LIMIT = 1_048_576
 JOURNAL_LIMIT = 262_144
 MASK = (1 << 64) - 1
@@ -54,11 +56,11 @@ def signed(value, bits):
 
 
 class Thread:
-    def __init__(self, file, budget, vl, svl, interval, number=0, threads=1):
-        self.number, self.threads = number, threads
+    def __init__(self, file, budget, vl, svl, interval, number=0, threads=1, kernel=KERNEL):
+        self.number, self.threads, self.kernel = number, threads, kernel
         self.pages, self.budget, self.interval = {}, budget, interval
-        self.tpidr = self.tpidr2 = self.held = self.pending = self.turns = 0
-        self.inside = self.polled = False
+        self.tpidr = self.tpidr2 = self.held = self.mask = self.depth = self.pending = self.turns = 0
+        self.polled = False
         self.vectors, self.matrix, self.handlers = Vectors(vl // 8), Matrix(vl // 8, svl // 8), {}
         at, count = struct.unpack_from("<Q", file, 32)[0], struct.unpack_from("<H", file, 56)[0]
         for i in range(count):
@@ -83,6 +85,9 @@ class Thread:
         return self.pages.setdefault(number, [flags, bytearray(4096)])
 
     def bytes_with(self, need, address, count):
+        page, start = self.pages.get((address & MASK) // 4096), address % 4096
+        if page is not None and start + count <= 4096:
+            return bytes(page[1][start:start + count]) if page[0] & need or not count else None
         out = bytearray()
         for at in range(address, address + count):
             page = self.pages.get((at & MASK) // 4096)
@@ -187,6 +192,8 @@ class Thread:
             if target < self.threads and 1 <= signal <= 62:
                 self.ask_signals("post", target, 1 << signal)
                 answer = 0
+        if number == 135 and self.kernel == 2:
+            answer = set_mask(self)
         if number == 139:
             come_back(self)
             return self.counted()
@@ -221,8 +228,9 @@ class Thread:
             self.held |= self.ask_signals("poll", self.number)
             self.polled, self.turns = True, self.turns + 1
             return None
-        if self.polled and self.held and not self.inside:
-            signal = (self.held & -self.held).bit_length() - 1
+        open_signals = self.held & ~self.mask
+        if self.polled and open_signals and self.depth < DEPTHS[self.kernel]:
+            signal = (open_signals & -open_signals).bit_length() - 1
             self.held -= 1 << signal
             if not self.handlers.get(signal):
                 return f"killed {signal}"
@@ -450,6 +458,11 @@ class Thread:
         return after
 
 
+def masking(thread):
+    """The lines that say which signals have to wait."""
+    return [f"inside {thread.depth}"] if thread.kernel == 1 else [f"mask {thread.mask:016x}", f"depth {thread.depth}"]
+
+
 def block(thread, stop, number=0):
     """The lines of the block of a thread that stopped so."""
     digest = hashlib.sha256()
@@ -460,18 +473,18 @@ def block(thread, stop, number=0):
     lines += [f"sp {thread.sp:016x}", "nzcv " + "".join(map(str, thread.flags)), f"tpidr {thread.tpidr:016x}", f"tpidr2 {thread.tpidr2:016x}",
               f"svcr {thread.matrix.svcr()}", *thread.vectors.lines(), *thread.matrix.lines(),
               f"memory {len(thread.pages)} {digest.hexdigest()}", f"held {thread.held:016x}",
-              f"inside {int(thread.inside)}", f"polled {int(thread.polled)}"]
+              *masking(thread), f"polled {int(thread.polled)}"]
     lines += [f"handler {signal} {address:016x}" for signal, address in sorted(thread.handlers.items()) if address]
     lines += [f"output {len(thread.output)}"]
     lines += [f"out {thread.output[i:i + 32].hex()}" for i in range(0, len(thread.output), 32)]
     return lines + [f"journal {len(thread.journal)}", *thread.journal, "end-thread"]
 
 
-def report(file, vl=128, svl=256, budget=10_000_000, slice=1000):
-    thread, stop = Thread(file, budget, vl, svl, slice), None
+def report(file, vl=128, svl=256, budget=10_000_000, slice=1000, kernel=KERNEL):
+    thread, stop = Thread(file, budget, vl, svl, slice, kernel=kernel), None
     while stop is None:
         stop = thread.turn()
-    lines = ["smemu-report 1", f"options vl={vl} svl={svl} slice={slice} budget={budget} threads=1",
+    lines = [f"smemu-report {kernel}", f"options vl={vl} svl={svl} slice={slice} budget={budget} threads=1",
              f"image {hashlib.sha256(file).hexdigest()}", *block(thread, stop), "shared"]
     lines += [f"w {place} {word:016x}" for place, word in enumerate(thread.words) if word]
     lines += [f"pending 0 {thread.pending:016x}"] * bool(thread.pending)

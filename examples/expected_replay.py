@@ -1,6 +1,7 @@
 #!/usr/bin/env python3
 """Prints what `replay` is to write of a program file, a report that is in the format, and a thread; the status is that of the
-process. The thread runs on the interpreter of expected.py, and each operation on a shared word is answered by the report's journal.
+process. The thread runs on the interpreter of expected.py, under the kernel of the report's version, and each operation on a shared word is answered
+by the report's journal.
 
     examples/expected_replay.py FILE REPORT THREAD
 """
@@ -18,7 +19,8 @@ class Parts(Exception):
 
 class Replayed(Thread):
     def __init__(self, file, options, events, number):
-        super().__init__(file, options["budget"], options["vl"], options["svl"], options["slice"], number, options["threads"])
+        super().__init__(file, options["budget"], options["vl"], options["svl"], options["slice"], number, options["threads"],
+                         options["kernel"])
         self.events = events
 
     def answer(self, kind, place, a, b=0):
@@ -45,8 +47,9 @@ class Ends(Exception):
 
 
 def block_in(file, lines, number):
-    """The options of a report, and where in it the block of a thread begins, with the block's lines."""
+    """The options of a report, its version among them as the kernel, and where in it the block of a thread begins, with the block's lines."""
     options = {name: int(value) for name, value in re.findall(r"(\w+)=(\d+)", lines[1])}
+    options["kernel"] = int(lines[0].removeprefix("smemu-report "))
     if lines[2] != f"image {hashlib.sha256(file).hexdigest()}":
         raise Ends(9, "bad report: line 3: image\n")
     if number >= options["threads"]:

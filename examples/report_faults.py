@@ -18,7 +18,7 @@ STOPS = [f"exited ({D})", f"killed ({D})", f"badframe {H}", "budget", "tracefull
          *(f"raised {name} {H}{values}" for name, values in RAISED.items())]
 # a kind of line: its form, and the least number that is too large for each number in it
 LINES = {
-    "header": ("smemu-report 1", ()),
+    "header": ("smemu-report ([12])", ()),
     "options": (f"options vl=({D}) svl=({D}) slice=({D}) budget=({D}) threads=({D})", (2049, 2049, 1000001, 2**32, 33)),
     "image": (f"image {DIGEST}", ()),
     "thread": (f"thread ({D})", (2**32,)),
@@ -38,6 +38,8 @@ LINES = {
     "memory": (f"memory ({D}) {DIGEST}", (2**32,)),
     "held": (f"held {H}", ()),
     "inside": ("inside [01]", ()),
+    "mask": (f"mask {H}", ()),
+    "depth": (f"depth ({D})", (2**32,)),
     "polled": ("polled [01]", ()),
     "handler": (f"handler ({D}) {H}", (2**32,)),
     "output": (f"output ({D})", (2**32,)),
@@ -50,8 +52,9 @@ LINES = {
     "pending": (f"pending ({D}) {H}", (32,)),
     "end": ("end", ()),
 }
-# the kinds of a block up to its output: one of each, or `*` any number, or `?` at most one
-BLOCK = "stop count turns pc x* sp nzcv tpidr tpidr2 svcr z* p* ffr? za* memory held inside polled handler* output".split()
+# the kinds of a block up to its output, in each version: one of each, or `*` any number, or `?` at most one
+BLOCKS = {version: f"stop count turns pc x* sp nzcv tpidr tpidr2 svcr z* p* ffr? za* memory held {masking} polled handler* output".split()
+          for version, masking in ((1, "inside"), (2, "mask depth"))}
 
 
 class Faulty(Exception):
@@ -111,12 +114,12 @@ def read(report):
     def begins(*names):
         return re.split(rb"[ \n]", next_line(), maxsplit=1)[0] in names
 
-    one("header", "header")
+    version, = one("header", "header")
     threads = one("options", "options")[4]
     one("image", "image")
     for thread in range(threads):
         one("thread", "block", lambda values: values == [thread])
-        for kind in BLOCK:
+        for kind in BLOCKS[version]:
             name = kind.rstrip("*?")
             if kind == name:
                 values = one(name, "block")
@@ -160,10 +163,14 @@ def h(n):
 ZERO = h(0)
 
 
-def of_two_threads(digest, second):
+# what a report of two threads has of the first thread's mask, in each version
+MASKING = {1: ["inside 0"], 2: [f"mask {h(0x28)}", "depth 2"]}
+
+
+def of_two_threads(digest, second, version):
     """A report of two threads, the first with each kind of line; the block of the second is given, as the digest of the program."""
     return "\n".join([
-        "smemu-report 1",
+        f"smemu-report {version}",
         "options vl=128 svl=256 slice=1000 budget=10000000 threads=2",
         f"image {digest}",
         "thread 0",
@@ -171,7 +178,7 @@ def of_two_threads(digest, second):
         "count 70", "turns 72", f"pc {h(0x400010)}", f"x 0 {h(0x2A)}", f"x 30 {h(2**64 - 1)}", f"sp {h(0x7E0000000000)}", "nzcv 0110",
         f"tpidr {ZERO}", f"tpidr2 {h(0x4000)}", "svcr 3",
         "z 0 " + bytes(range(1, 17)).hex(), "z 31 " + "ff" * 16, "p 15 0100", "ffr ffff", "za 2 " + "a0" * 32,
-        "memory 65 " + bytes(range(32)).hex(), f"held {h(0x20)}", "inside 0", "polled 1", f"handler 3 {h(0x400100)}", f"handler 62 {h(8)}",
+        "memory 65 " + bytes(range(32)).hex(), f"held {h(0x20)}", *MASKING[version], "polled 1", f"handler 3 {h(0x400100)}", f"handler 62 {h(8)}",
         "output 33", "out " + b"Hello, world. Hello, world. 1234".hex(), "out 0a",
         "journal 2", f"e cas 511 {h(1)} {h(2)} {h(3)}", f"e poll 0 {ZERO} {ZERO} {h(0x28)}", "end-thread",
         *second, "shared", f"w 0 {h(2000)}", f"w 511 {h(5)}", f"pending 1 {h(8)}", "end", "",
@@ -188,6 +195,18 @@ STOP_WORDS = [
         "illegalstreaming": [""], "notstreaming": [""], "zainactive": [""], "breakpoint": ["", " 65535", " 65536"],
         "shared": ["", f" {ZERO}"], "unaligned": [""]}.items() for value in values),
 ]
+
+def version_changes(report, version):
+    """Lines of the other version, and of both, in the place of those of the first block that say which signals wait."""
+    own = "".join(line + "\n" for line in MASKING[version]).encode()
+    start = report.index(own)
+    inside, mask, depth = (line + b"\n" for line in (b"inside 1", b"mask " + ZERO.encode(), b"depth 1"))
+    for lines in (inside, mask + depth, mask, depth, depth + mask, inside + mask + depth, mask + depth + inside, mask + inside, inside + depth,
+                  mask + depth + depth, b""):
+        yield start, start + len(own), lines
+    for number in (b"0", b"1", b"2", b"3", b"02", b"12", b" 2", b"", b"two"):
+        yield len(b"smemu-report "), len(b"smemu-report 1"), number
+
 
 def line_moves(report, spans, k):
     """The line removed, doubled and swapped with the next."""
@@ -235,10 +254,11 @@ def changes(report, kept=range(0)):
             yield from byte_changes(report[start:end], start)
 
 
-def changes_of_two_threads(report):
-    """The changes of such a report, of whose second block no byte is changed, and fields that are just inside or outside of what they may
-    be."""
+def changes_of_two_threads(report, version):
+    """The changes of such a report, of whose second block no byte is changed, lines of the other version, and fields that are just inside or outside
+    of what they may be."""
     yield from changes(report, range(report.index(b"thread 1"), report.index(b"shared")))
+    yield from version_changes(report, version)
     fields = [
         (b"vl=128", b"vl=384"), (b"svl=256", b"svl=2048"), (b"slice=1000", b"slice=1000000"), (b"slice=1000", b"slice=1000001"),
         (b"budget=10000000", b"budget=4294967295"), (b"budget=10000000", b"budget=4294967296"), (b"budget=10000000", b"budget=0"),
@@ -255,6 +275,8 @@ def changes_of_two_threads(report):
         (b"end-thread", b"end"), (b"end-thread", b"event"), (b"w 0", b"wx 0"), (b"pending 1", b"pendings 1"),
         (b"count 70\nturns 72", b"count 070\nturns \xff"), (b"count 70\nturns 72", b"count \xff\nturns 072"),
         *((b"exited 42", stop) for stop in STOP_WORDS),
+        *((b"depth 2", b"depth " + depth) for depth in (b"64", b"65", b"4294967295", b"4294967296", b"02", b"-1", b"2 ", b"") if version == 2),
+        *((b"mask 0000", b"mask " + digits) for digits in (b"000", b"00000", b"000A", b"ffff", b"0x00", b"") if version == 2),
     ]
     for old, new in fields:
         at = report.index(old)

@@ -305,6 +305,95 @@ print $x0 = 1
     try_terminal(tests)
 
 
+# reports of both versions
+
+
+# of examples/signals.s, which examples/expected.py wrote: the version, and SP in the handler and ZA's place in its frame
+VERSIONS = ((1, 0x7dfffffffb80, 896), (2, 0x7dfffffffb70, 912))
+# the counts of the handler's second instruction and its last one, and the first row of the interrupted ZA
+SECOND, LAST, ROW = 1001, 1008, "0a0000000a0000000a0000000a000000"
+
+
+def try_versions(tests):
+    """The scripts go over reports of both versions, each by its own kernel."""
+    program = tests.assemble("signals", (TOP / "examples/signals.s").read_text())
+    for version, frame, place_of_za in VERSIONS:
+        whole, handled = (TOOLS / "samples" / f"{name}.{version}.report" for name in ("signals", "handled"))
+        tests.check(f"replay of version {version}", [tests.run(tests.smemu, "replay", program, path, 0)[0] for path in (whole, handled)], [0, 0])
+        gdb = Client(tests, program, whole)
+        gdb.monitor(f"goto {SECOND}")
+        found = [gdb.value("sp"), gdb.value("x1"), gdb.ask(f"m{frame + place_of_za:x},10"), gdb.ask(f"m{frame + 7:x},1")]
+        tests.check(f"gdb.py in the handler of version {version}", found, [frame, frame, ROW, f"{ord(str(version)):x}"])
+        gdb.close()
+        gdb = Client(tests, program, handled)
+        tests.check(f"info threads of version {version}", bytes.fromhex(gdb.ask("qThreadExtraInfo,1")).decode(), "thread 0, count 0 of 1003, then budget, within 1 handler")
+        gdb.close()
+        status, said = tests.run(TOOLS / "when.py", program, whole, 0, "sp", "--most", 9)
+        counts, values = re.findall(r"(?m)^at (\d+) ", said), re.findall(r"(?m)^  ([-+] \w+)$", said)
+        top = f"{0x7e0000000000:016x}"
+        tests.check(f"when.py of version {version}", [status, [int(it) for it in counts], values],
+                    [0, [SECOND - 1, LAST], [f"- {top}", f"+ {frame:016x}", f"- {frame:016x}", f"+ {top}"]])
+        # the report says where ZA is saved; the program makes no call with it on
+        status, said = tests.run(TOOLS / "za_calls.py", program, whole)
+        tests.check(f"za_calls.py of version {version}", [status, said.split(":")[0]], [0, "calls 0, with ZA on 0"])
+    tests.check("show.py of both versions", tests.run(TOOLS / "show.py", *(TOOLS / "samples" / f"signals.{version}.report" for version in (1, 2)))[1].splitlines()[::2],
+                ["smemu-report: 1, 2", "inside: 0, no line", "depth: no line, 0"])
+
+
+# of examples/nested.s without its mask: the counts at which its handlers stand at their second instruction, and SP there
+NESTED = ((1001, 0x7dfffffffc70), (2001, 0x7dfffffff7e0))
+# the signal is posted at count 12, is in the mask up to count 17, and can come at counts up to 22
+WINDOW = """
+    .global _start
+_start:
+    mov x0, #5
+    adr x1, handler
+    mov x8, #134
+    svc #0
+    mov x0, #0
+    mov x1, #32
+    mov x8, #135
+    svc #0
+    mov x0, #0
+    mov x1, #5
+    mov x8, #131
+    svc #0
+    nop
+    nop
+    mov x0, #1
+    mov x1, #32
+    mov x8, #135
+    svc #0
+    nop
+    nop
+    mov x0, #0
+    mov x8, #93
+    svc #0
+handler:
+    mov x8, #139
+    svc #0
+"""
+
+
+def try_nested(tests):
+    """A handler within a handler, a mask that keeps it out, and what the scripts say of both."""
+    source = (TOP / "examples/nested.s").read_text()
+    masked, plain = tests.assemble("nested", source), tests.assemble("unmasked", source.replace("    bl mask_second\n", ""))
+    both = [tests.report(program, program.stem, "--svl", SVL) for program in (masked, plain)]
+    tests.check("with a mask, and without", [reports.read(path).threads[0].stop.status for path in both], [28, 20])
+    gdb = Client(tests, plain, both[1])
+    for count, sp in NESTED:
+        gdb.monitor(f"goto {count}")
+        tests.check(f"the handler at {count}", gdb.value("sp"), sp)
+    gdb.close()
+    inside = reports.read(tests.report(plain, "inside", "--svl", SVL, "--budget", NESTED[1][0])).threads[0]
+    tests.check("within both", [inside.depth, inside.mask, inside.held], [2, 1 << 5 | 1 << 6, 0])
+    status, said = tests.run(TOOLS / "outcomes.py", tests.assemble("window", WINDOW), "--signal", 5)
+    tests.check("outcomes.py of a signal in the mask", [status, *said.splitlines()], [
+        0, "signal 5 comes to thread 0 at 11 places, by --slice", "  after the handler all is as before at 5 places, not at 0",
+        "  at 6 places it is in the mask, and comes later (the first at count 12)", "  11 end so: exit 0"])
+
+
 # when.py and za_calls.py
 
 
@@ -508,7 +597,7 @@ def try_disturbances(tests):
     right = tests.assemble("signals", source)
     status, said = tests.run(TOOLS / "outcomes.py", right, "--signal", 5, "--svl", SVL, "--most", 40)
     tests.check("signals.s", [status, said.splitlines()[2]], [0, "  after the handler all is as before at 8 places, not at 0"])
-    without = "    mov x10, sp\n    ldr x9, [x10, #288]\n    and x9, x9, #1\n    str x9, [x10, #288]\n    mov w9, #896\n    str w9, [x10, #8]\n"
+    without = "    mov x10, sp\n    ldr x9, [x10, #288]\n    and x9, x9, #1\n    str x9, [x10, #288]\n    mov w9, #912\n    str w9, [x10, #8]\n"
     broken = tests.assemble("broken", source.replace("    mov x8, #139", without + "    mov x8, #139"))
     status, said = tests.run(TOOLS / "outcomes.py", broken, "--signal", 5, "--svl", SVL, "--most", 40)
     # ZA is on from the instruction after the smstart on; the program posts at count 8, and waits from count 14 on
@@ -521,7 +610,7 @@ def main():
     os.environ["SMEMU"] = smemu = str(pathlib.Path(smemu).resolve())
     with tempfile.TemporaryDirectory() as folder:
         tests = Tests(smemu, folder)
-        for test in (try_protocol, try_threads, try_refusals, try_calls, try_interrupt, try_gdb, try_za, try_litmus, try_races, try_disturbances):
+        for test in (try_protocol, try_threads, try_refusals, try_calls, try_interrupt, try_gdb, try_versions, try_nested, try_za, try_litmus, try_races, try_disturbances):
             test(tests)
     print(f"{tests.number} checks, {tests.faults} failed")
     return 1 if tests.faults else 0

@@ -143,10 +143,11 @@ class Posted:
 
 
 class Place:
-    """A count at which the signal came: the place that is interrupted, what the handler did not leave as it was, and the run's end."""
+    """A count at which the signal came: the place that is interrupted, what the handler did not leave as it was, and the run's end; or the thread
+    goes on there, since the signal is in its mask."""
 
     def __init__(self, count, pc, text):
-        self.count, self.pc, self.text, self.changed, self.end = count, pc, text, None, None
+        self.count, self.pc, self.text, self.changed, self.end, self.waits = count, pc, text, None, None, False
 
 
 def state_at(thread, count):
@@ -185,7 +186,12 @@ def try_place(posted, count, before, where, describe):
     if not seen.is_done or posted.comes_at(seen, count if posted.is_own else 1) != count:
         return None
     place.end = describe(seen)
-    after = after_handler(posted.record(seen, str(count)), count, before, place.pc)
+    thread = posted.record(seen, str(count))
+    # a handler begins with SP at its frame
+    place.waits = thread.end > count and thread.state(count + 1).registers["sp"] == before["sp"]
+    if place.waits:
+        return place
+    after = after_handler(thread, count, before, place.pc)
     place.changed = ["does not return there"] if after is None else changes_of(before, after)
     return place
 
@@ -231,8 +237,10 @@ def show_signal(words, posted, tried, alike, is_cut):
           + (f"; {alike} more have the registers and ZA of one of these" if alike else ""))
     if is_cut:
         print(f"  the bound was met: only the first {words.most} counts were looked at")
-    faults = [place for place in tried if place.changed]
-    print(f"  after the handler all is as before at {len(tried) - len(faults)} places, not at {len(faults)}")
+    faults, waits = [place for place in tried if place.changed], [place for place in tried if place.waits]
+    print(f"  after the handler all is as before at {len(tried) - len(faults) - len(waits)} places, not at {len(faults)}")
+    if waits:
+        print(f"  at {len(waits)} places it is in the mask, and comes later (the first at count {waits[0].count})")
     show_faults([f"    count {place.count} {known.text(place.pc)}: {place.text}: {', '.join(place.changed)}" for place in faults])
     ends = {}
     for place in tried:

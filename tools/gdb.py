@@ -98,6 +98,11 @@ class Place:
         return self.thread.state(self.count).where
 
 
+def end_text(block):
+    """How a thread has stopped, and within how many handlers."""
+    return str(block.stop) + (f", within {block.depth} handler{'s' * (block.depth > 1)}" if block.depth else "")
+
+
 class Session:
     """What gdb sees: a place in each thread, breakpoints and watches. Threads have the numbers of the report and one more, since gdb counts from 1.
 
@@ -171,7 +176,7 @@ class Session:
         """What `info threads` says of a thread."""
         number = int(rest, 16) - 1
         place = self.place(number)
-        return f"thread {number}, count {place.count} of {place.thread.end}, then {place.thread.block.stop}".encode().hex()
+        return f"thread {number}, count {place.count} of {place.thread.end}, then {end_text(place.thread.block)}".encode().hex()
 
     def is_thread(self, rest):
         number = int(rest, 16) - 1
@@ -251,7 +256,7 @@ class Session:
         return self.stopped("")
 
     def at_the_end(self, place):
-        self.say(f"thread {self.chosen} ends at count {place.thread.end}: stop {place.thread.block.stop}")
+        self.say(f"thread {self.chosen} ends at count {place.thread.end}: stop {end_text(place.thread.block)}")
         return self.stopped("replaylog:end;")
 
     def go_on(self, _):

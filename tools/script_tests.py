@@ -1,10 +1,10 @@
 #!/usr/bin/env python3
-"""Tries the scripts for users, and the wrapper, where no page runs them: at their edges, and on reports of version 2.
+"""Tries the scripts for users, and the wrapper, where no page runs them: at their edges, and on reports of both versions.
 
     tools/script_tests.py
 
-The reports of samples/ were written by hand from docs/REPORT.md, and so was what is to be shown of them. No emulator is started: a program
-that says or does one thing stands in its place. The page is tried in Chromium too, where that is on the PATH. The last line says how many
+The reports of samples/ were written by hand from docs/REPORT.md, and so was what is to be shown of them; those of examples/signals.s, whole and from
+within its handler, were written by examples/expected.py. No emulator is started: a program that says or does one thing stands in its place. The page is tried in Chromium too, where that is on the PATH. The last line says how many
 checks there were; the status is 1 where one failed.
 """
 import concurrent.futures
@@ -27,6 +27,8 @@ import show as show_script
 TOOLS = pathlib.Path(__file__).resolve().parent
 TOP, SAMPLES = TOOLS.parent, TOOLS / "samples"
 TWO, SIM = SAMPLES / "two.report", SAMPLES / "two.sim"
+# of version 1 and of version 2
+WHOLE, HANDLED = ([SAMPLES / f"{name}.{version}.report" for version in (1, 2)] for name in ("signals", "handled"))
 EVENT = "e ld 0 0000000000000000 0000000000000000 0000000000000000\n"
 # lines that a report has where a value is not zero
 OPTIONAL = {"skip", "x", "z", "p", "ffr", "za", "handler", "w", "pending"}
@@ -88,7 +90,7 @@ OUT_OF_RANGE = (
 
 def reading():
     """Nothing of a report is lost or taken for something else; one that is not in the format is refused at its first such line."""
-    for sample in (TWO, SIM):
+    for sample in (TWO, SIM, *WHOLE, *HANDLED):
         status, text, said = show(sample, "--json")
         yield f"{sample.name} --json", (status, text_of(json.loads(text)), said), (0, sample.read_text(), "")
         lines = sample.read_text().splitlines()
@@ -101,6 +103,16 @@ def reading():
     for line, old, new in OUT_OF_RANGE:
         yield new, is_refused(text.replace(old, new).splitlines()), f"line {line}"
     yield "the other version's lines", is_refused(TWO.read_text().replace("report 2", "report 1").splitlines()), "line 25"
+    yield "a third version", is_refused(TWO.read_text().replace("report 2", "report 3").splitlines()), "line 1"
+    first, second = (path.read_text() for path in HANDLED)
+    yield "a line of version 2 in version 1", is_refused(first.replace("inside 1", "mask 0000000000000020\ndepth 1").splitlines()), "line 21"
+    yield "a line of version 1 in version 2", is_refused(second.replace("mask 0000000000000020\ndepth 1", "inside 1").splitlines()), "line 21"
+    yield "the depth alone", is_refused(second.replace("mask 0000000000000020\n", "").splitlines()), "line 21"
+    yield "the mask alone", is_refused(second.replace("depth 1\n", "").splitlines()), "line 22"
+    for text, wanted in ((first, {"version": 1, "inside": 1}), (second, {"version": 2, "mask": f"{0x20:016x}", "depth": 1})):
+        held = json.loads(json.dumps(show_script.report_object(reports.parse(text))))
+        found = {"version": held["version"], **{name: value for name, value in held["threads"][0].items() if name in ("inside", "mask", "depth")}}
+        yield f"--json of version {wanted['version']}", found, wanted
 
 
 def is_cut(lines):
@@ -181,6 +193,11 @@ def comparing(folder):
     for old, new, wanted in CHANGES:
         assert text.count(old) == 1, old
         yield f"for {old!r} {new!r}", differences(text, text.replace(old, new)), [wanted]
+    both = [path.read_text() for path in HANDLED]
+    digests = ", ".join(re.search("memory (.*)", it)[1] for it in both)
+    yield "of both versions", differences(*both), [
+        "smemu-report: 1, 2", "x 1: 00007dfffffffb80, 00007dfffffffb70", "sp: 00007dfffffffb80, 00007dfffffffb70", f"memory: {digests}", "inside: 1, no line",
+        "mask: no line, 0000000000000020", "depth: no line, 1"]
     other.write_text(text.replace(*CHANGES[THREAD_1][:2]))
     yield "of the last thread alone", show(TWO, other), (1, CHANGES[THREAD_1][2] + "\n", "")
     yield "of the first thread", show(TWO, other, "--thread", 0), (0, "", "")
@@ -292,6 +309,9 @@ def paging(folder):
         {number: lines[f"{name} {number}"] for number in numbers} if numbers else lines[name]
         for name, numbers in (("z", ("0", "31")), ("p", ("0", "15")), ("ffr", ()), ("za", ("1", "4")))]
     yield "registers in it", [first["x"][30], first["sp"], first["mask"], second["x"][1], second["za"]], ["f" * 16, lines["sp"], lines["mask"], f"{2:016}", None]
+    for path, wanted in zip(HANDLED, ([None, 1], [f"{0x20:016x}", 1])):
+        held = data_of(show(path, "--page")[1])["threads"][0]
+        yield f"the mask and the depth in it, of {path.name}", [held["mask"], held["depth"]], wanted
     long = folder / "long.report"
     long.write_text(TWO.read_text().replace("journal 0\n", "journal 20001\n" + 20001 * EVENT))
     second = data_of(show(long, "--page")[1])["threads"][1]

@@ -13,25 +13,34 @@ from expected_replay import replay
 from report_faults import STOP_WORDS, changes, changes_of_two_threads, found, line_moves, of_two_threads, spans_of
 
 DONE, BAD_REPORT = 0, 9
-# the report of two threads, which is a row too
-TWO_THREADS = "replay-of-two-threads.report"
+# the report of two threads in each version, which is a row too
+TWO_THREADS = {1: "replay-of-two-threads.report", 2: "replay-version-2-of-two-threads.report"}
 KINDS = b"ld st swp add clr eor set umax umin cas post poll".split()
-# what takes the place of a part of the report of the program with shared words and signals: fields just inside or outside of what they may
-# be, and others that stay in the format
+# what takes the place of a part of the report of a program with shared words and signals: fields just inside or outside of what they may be, and
+# others that stay in the format. These are of both programs below, and then those of each
 PARTS = {
     b"vl=128": [b"vl=256", b"vl=2048", b"vl=384"], b"svl=128": [b"svl=256", b"svl=1024", b"svl=64"],
     b"slice=40": [b"slice=1", b"slice=39", b"slice=41", b"slice=1000000", b"slice=1000001"],
     b"budget=90": [b"budget=89", b"budget=91", b"budget=4294967295", b"budget=4294967296"],
     b"threads=1": [b"threads=2", b"threads=32", b"threads=33"],
     b"count 90": [b"count 89", b"count 91", b"count 0", b"count 1", b"count 4294967295", b"count 4294967296"],
-    b"turns 94": [b"turns 18446744073709551615", b"turns 18446744073709551616"],
     b"x 11": [b"x 12", b"x 4294967295", b"x 4294967296"], b"svcr 2": [b"svcr 3", b"svcr 4294967295", b"svcr 4294967296"],
     b"z 2 09": [b"z 2 ", b"z 2 0", b"z 2 0909"], b"ffr ffff": [b"ffr ffffff", b"ffr ff"],
     b"output 40": [b"output 41", b"output 32", b"output 64", b"output 65"], b"out c8": [b"out ", b"out c8c8"],
-    b"journal 12": [b"journal 11", b"journal 13", b"journal 0", b"journal 4294967295", b"journal 4294967296"],
     b"e ld": [b"e " + kind for kind in KINDS], b"e st 511": [b"e st 512", b"e st 4294967295", b"e st 4294967296"],
     b"w 511": [b"w 510", b"w 512"], b"pending 0": [b"pending 31", b"pending 32"],
     b"stop budget": [b"stop " + stop for stop in STOP_WORDS],
+}
+OWN_PARTS = {
+    1: {b"turns 94": [b"turns 18446744073709551615", b"turns 18446744073709551616"],
+        b"journal 12": [b"journal 11", b"journal 13", b"journal 0", b"journal 4294967295", b"journal 4294967296"],
+        b"inside 0": [b"inside 1", b"inside 2", b"inside 00", b"depth 0", b"mask 0000000000000000\ndepth 0"], b"report 1": [b"report 2"]},
+    2: {b"turns 93": [b"turns 18446744073709551615", b"turns 18446744073709551616"],
+        b"journal 17": [b"journal 16", b"journal 18", b"journal 0", b"journal 4294967295", b"journal 4294967296"],
+        b"mask 4000000000000020": [b"mask 4000000000000000", b"mask 0000000000000020", b"mask 4000000000000021", b"mask c000000000000020", b"mask ",
+                                   b"inside 0\nmask 4000000000000020", b"mask 40000000000000020", b"mask 400000000000002"],
+        b"depth 1": [b"depth 0", b"depth 2", b"depth 64", b"depth 65", b"depth 4294967295", b"depth 4294967296", b"depth 01", b"inside 1",
+                     b"depth 1\ninside 1"], b"report 2": [b"report 1"]},
 }
 
 
@@ -58,9 +67,9 @@ def last_bytes(report):
             yield start, start + 1, b"8"
 
 
-def part_changes(report):
-    """Of each part in the table its first place changed to others."""
-    for old, others in PARTS.items():
+def part_changes(report, version):
+    """Of each part in the tables its first place changed to others."""
+    for old, others in {**PARTS, **OWN_PARTS[version]}.items():
         start = report.index(old)
         for new in others:
             yield start, start + len(old), new
@@ -82,34 +91,37 @@ def with_a_count_more(report):
 def of_each_stop(reports):
     """For each stop, whatever its addresses and its word, the report with the fewest instructions."""
     def count(name):
-        return int(re.search(rb"^count ([0-9]+)$", reports[name][1], re.MULTILINE).group(1))
+        return int(re.search(rb"^count ([0-9]+)$", reports[name], re.MULTILINE).group(1))
 
     names = {}
     for name in sorted(reports, key=count):
-        stop = re.search(rb"^stop (.*)$", reports[name][1], re.MULTILINE).group(1)
+        stop = re.search(rb"^stop (.*)$", reports[name], re.MULTILINE).group(1)
         names.setdefault(re.sub(rb" ([0-9a-f]{8}|[0-9a-f]{16})\b", b"", stop), name)
     return names.values()
 
 
-def two_threads(file):
+def two_threads(file, version):
     """A report of two threads of a program; the second is as it runs alone."""
-    thread, stop = Thread(file, 10_000_000, 128, 256, 1000, 1, 2), None
+    thread, stop = Thread(file, 10_000_000, 128, 256, 1000, 1, 2, version), None
     while stop is None:
         stop = thread.turn()
-    return of_two_threads(hashlib.sha256(file).hexdigest(), block(thread, stop, 1))
+    return of_two_threads(hashlib.sha256(file).hexdigest(), block(thread, stop, 1), version)
 
 
-def groups(reports):
-    """The names of programs and of reports, the thread, and the changes."""
-    for name, more in ("shared-signals", part_changes), ("signal-in-streaming-mode-128", lambda report: ()):
-        report = reports[name][1]
-        yield name, name, 0, [*changes(report), *last_bytes(report), *more(report)]
+def groups(written, others):
+    """The file of a program, that of a report and the report, the thread, and the changes."""
+    of_run = lambda name: (f"{name}.elf.txt", written[name])
+    for program, (name, report), version in (("nested-signals", of_run("nested-signals"), 2), ("signal-in-streaming-mode-128", of_run("signal-in-streaming-mode-128"), None),
+                                             ("shared-signals", ("debug-signals.report", others["debug-signals.report"]), 1)):
+        more = part_changes(report, version) if version else ()
+        yield program, name, report, 0, [*changes(report), *last_bytes(report), *more]
     # the format is looked at first, then the program, then the thread
-    yield "answer", "answer", 1, moves(reports["answer"][1])
-    yield "answer", "shared-cas", 31, moves(reports["shared-cas"][1])
-    for name in of_each_stop(reports):
-        yield name, name, 0, with_a_count_more(reports[name][1])
-    yield "answer", TWO_THREADS, 1, changes_of_two_threads(reports[TWO_THREADS][1])
+    yield "answer", *of_run("answer"), 1, moves(written["answer"])
+    yield "answer", *of_run("shared-cas"), 31, moves(written["shared-cas"])
+    for name in of_each_stop(written):
+        yield name, *of_run(name), 0, with_a_count_more(written[name])
+    for version, name in TWO_THREADS.items():
+        yield "answer", name, others[name], 1, changes_of_two_threads(others[name], version)
 
 
 def case(file, report, number, start, end, new):
@@ -125,11 +137,10 @@ def case(file, report, number, start, end, new):
     return f"{start} {end} {new.hex() or '-'} {status}\t{text}\n"
 
 
-def altered_list(reports):
-    """The list; `reports` has the program's file and the report of each row by its name, and that of two threads by its file's."""
+def altered_list(programs, written, others):
+    """The list; there are the programs and the reports that their runs write by their names, and other reports by those of their files."""
     lines = []
-    for program, name, number, altered in groups(reports):
-        file, report = reports[program][0], reports[name][1]
-        lines.append(f"{program}.elf {name if name == TWO_THREADS else name + '.elf.txt'} {number}\n")
-        lines += dict.fromkeys(case(file, report, number, *change) for change in altered)
+    for program, name, report, number, altered in groups(written, others):
+        lines.append(f"{program}.elf {name} {number}\n")
+        lines += dict.fromkeys(case(programs[program], report, number, *change) for change in altered)
     return "".join(lines)

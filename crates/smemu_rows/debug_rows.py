@@ -5,7 +5,9 @@ from elf import Segment, build, elf, text_of
 from expected import report
 from expected_debug import debug, listed
 from instructions import EXIT, SVC, add, address, call, laid_out, movz, subs, to
-from world_rows import of_report
+from nested import EACH_SIGNAL, deep
+from world_programs import NESTS
+from world_rows import of_report, rewritten
 
 NE = 1
 TEXT, DATA = 0x400000, 0x410000
@@ -25,14 +27,20 @@ TILES = build([
 HANDLER = elf(laid_out(movz(0, 5), address(1, "handler"), movz(8, 134), SVC, *call(131, (0, 0), (5, 0)), "wait", to("wait"),
                        "handler", UDF_9))
 
-# of each report its program and the options of its run
+# of each report of version 1 its program and the options of its run
 RUNS = {"debug-tiles": (TILES, {}), "debug-handler": (HANDLER, {"slice": 12}), "debug-nothing": (elf([UDF_9]), {})}
-# of each report the row that writes it
+# and of each of version 2
+NEW_RUNS = {"debug-nested": (NESTS, {"slice": 12, "svl": 128}), "debug-64-deep": (deep(5, []), {"slice": 16}),
+            "debug-62-signals": (EACH_SIGNAL, {"slice": 700, "budget": 900})}
+# of each report of version 1 the row that writes it in version 2
 WRITTEN = {
     "debug-signals": "shared-signals.elf", "debug-waits": "signal-returns.elf", "debug-undefined": "undefined.elf",
     "debug-no-row": "no-section-table.elf", "debug-no-multiple-of-4": "branches-to-no-multiple-of-4.elf", "debug-at-0": "branches-to-0.elf",
     "debug-breakpoint": "breaks.elf", "debug-four-cores": "plan-posts-over-four-cores.plan",
 }
+# and of each of version 2
+NEW_WRITTEN = {"debug-masked": "nested-signals.elf", "debug-nested-on-two-cores": "plan-nested-is-moved-and-goes-on-to-the-end-at-128.plan",
+               "debug-two-signals": "two-signals-of-one-poll-to-the-end.elf"}
 ANSWER, STREAMING = "replay-answer-as-it-is", "replay-signal-in-streaming-mode-2048-as-it-is"
 SHOWN = "where; regs; za; slice b 0 h 0; mem 0x7dfffffffff0 16"
 
@@ -157,6 +165,24 @@ def sessions():
     yield "many-lines", "debug-signals", 0, "; ".join(many_lines(10_000))
 
 
+def nested_sessions():
+    """Sessions over reports of version 2, with handlers within handlers; what is shown at a count is after the fewest turns."""
+    inner = "where; regs; za; slice s 1 h 0; mem 0x7dfffffff390 16"
+    yield "nested-goes-back-over-each-delivery", "debug-nested", 0, f"goto 49; {inner}; back 1; {inner}; back 11; where; regs; za; back 12; where; regs; za; goto 24; where; za"
+    yield "nested-goes-over-each-return", "debug-nested", 0, f"goto 56; {inner}; step 1; {inner}; step 8; where; step 1; where; regs; za; step 9; where; regs; za"
+    frames = "mem 0x7dfffffffb70 16; mem 0x7dfffffffcb0 16; mem 0x7dfffffff6e0 336"
+    yield "nested-shows-its-frames", "debug-nested", 0, f"{frames}; goto 49; {frames}; goto 80; {frames}; back 80; {frames}"
+    yield "nested-breaks-in-handlers", "debug-nested", 0, "; ".join(
+        [f"break {address:#x}; where" for address in range(0x400078, 0x400130, 16)] + ["goto 0"] + [f"break {address:#x}; where" for address in range(0x4000a0, 0x4000f0, 8)])
+    yield "nested-on-two-cores", "debug-nested-on-two-cores", 0, "goto 70; where; regs; za; back 20; where; regs; za; goto 999; where; regs"
+    yield "nested-on-two-cores-thread-1", "debug-nested-on-two-cores", 1, "goto 70; where; regs; za; back 20; where; regs; za; goto 999; where; regs"
+    yield "64-deep", "debug-64-deep", 0, "goto 1041; where; regs; mem 0x7dffffff1c00 16; mem 0x7dffffff1d40 16; back 1; where; goto 1073; regs; mem 0x7dffffff1d40 16; goto 9999; where"
+    yield "64-deep-goes-back", "debug-64-deep", 0, "break 0x400044; where; goto 1041; back 1000; where; goto 2600; where; mem 0x410000 16; back 1500; where; mem 0x410000 16"
+    yield "62-signals", "debug-62-signals", 0, "goto 700; where; regs; step 1; where; regs; mem 0x7dffffff2460 16; step 3; where; regs; back 4; where; goto 900; where; regs"
+    yield "masked", "debug-masked", 0, "goto 40; where; regs; step 1; where; regs; goto 41; mem 0x7dfffffffdb0 16; goto 90; where; regs; za; back 50; where; za"
+    yield "two-signals", "debug-two-signals", 0, "goto 40; where; step 1; where; regs; mem 0x7dfffffffdb0 16; mem 0x7dfffffffa20 16; step 1; where; regs; step 1; where; step 4; where; regs"
+
+
 def many_lines(count):
     """Lines of all commands, mostly moves, by a generator of numbers; the session stands at counts from 0 to 90."""
     seed, shows = 5, ("regs", "za", "where", "slice s 0 v 2", "mem 0x7dfffffffb80 8")
@@ -248,21 +274,23 @@ def refusals():
 
 def debug_rows(rows):
     """Rows as make.py has them, from those that it has: the reports, which have no command, and the scripts."""
-    known = {name: (file, text, list(words)) for name, _, file, text, words in rows if not isinstance(words, str)}
+    known = {row[0]: (row, list(row[4])) for row in rows if not isinstance(row[4], str)}
+    files = {name: row[2] for name, (row, _) in known.items()}
     made, programs, reports = [], {}, {}
-    for name, (file, text, words) in known.items():
+    for name, (row, words) in known.items():
         if words[0] == "replay":
-            programs[name.removesuffix(".report")], reports[name.removesuffix(".report")] = words[1], file
-    for name, (file, options) in RUNS.items():
-        made.append((f"{name}.elf", None, file, "", ""))
-        programs[name], reports[name] = f"{name}.elf", report(file, **options).encode()
-    for name, row in WRITTEN.items():
-        _, text, words = known[row]
-        programs[name], reports[name] = (words[1], of_report(text).encode()) if words[0] == "sim" else (row, text.encode())
-    made += [(f"{name}.report", None, reports[name], "", "") for name in (*RUNS, *WRITTEN)]
-    files = {**{name: file for name, (file, _, _) in known.items()}, **{name: file for name, _, file, _, _ in made}}
+            programs[name.removesuffix(".report")], reports[name.removesuffix(".report")] = words[1], row[2]
+    for version, runs, of_rows in ((1, RUNS, WRITTEN), (2, NEW_RUNS, NEW_WRITTEN)):
+        for name, (file, options) in runs.items():
+            made.append((f"{name}.elf", None, file, "", ""))
+            programs[name], reports[name] = f"{name}.elf", report(file, kernel=version, **options).encode()
+        for name, row in of_rows.items():
+            whole, words = known[row]
+            programs[name], reports[name] = words[1] if words[0] == "sim" else row, of_report(rewritten(whole, version, files)).encode()
+        made += [(f"{name}.report", None, reports[name], "", "") for name in (*runs, *of_rows)]
+    files.update((name, file) for name, _, file, _, _ in made)
     texts = listed()
-    for name, of, thread, lines in sessions():
+    for name, of, thread, lines in [*sessions(), *nested_sessions()]:
         status, text = debug(files[programs[of]], reports[of], thread, script(lines), texts)
         made.append((f"debug-{name}.script", status, script(lines), text, f"debug {programs[of]} {of}.report {thread} @"))
     for name, status, file, text, words in refusals():

@@ -1,7 +1,7 @@
 """Words of the instructions that the programs of the rows are made of, put together by hand."""
 MOVZ, ADD, SUBS, B, SVC = 0xD2800000, 0x91000000, 0xF1000000, 0x54000000, 0xD4000001
 WIDE = 1 << 31
-ADR, ALWAYS = 0x10000000, 14
+ADR, BL, ALWAYS = 0x10000000, 0x94000000, 14
 
 
 def movz(rd, imm, hw=0, wide=True):
@@ -42,6 +42,11 @@ def address(rd, place):
     return ADR | rd, place
 
 
+def calls(place):
+    """BL of a named place."""
+    return BL, place
+
+
 def laid_out(*parts):
     """The words of parts in a row: a name is that of the place where it stands, and a pair is a word that has the distance to a named place."""
     places, count = {}, 0
@@ -54,7 +59,7 @@ def laid_out(*parts):
     for part in parts:
         if isinstance(part, tuple):
             word, distance = part[0], places[part[1]] - len(words)
-            words.append(word | (distance & 0x7FFFF) << 5)
+            words.append(word | (distance & 0x3FFFFFF if word == BL else (distance & 0x7FFFF) << 5))
         elif not isinstance(part, str):
             words.append(part)
     return words

@@ -5,7 +5,8 @@
 
 The reports come from examples/expected.py and the interpreters beside it, and those of several threads from world.py, which share nothing
 with the emulator; the refusals, and the listings but one, are written out here. The files real-*.elf come from real/make.sh, which runs an assembler and two linkers, and
-those of real/compiled from real/make_compiled.sh, which runs two compilers.
+those of real/compiled from real/make_compiled.sh, which runs two compilers. What `run` and `sim` are to write is of version 2; for `replay` and `debug`
+there are reports of both versions.
 
 Where the gate runs smemu_rows it has data/ alone, and takes no links there. So a source of examples/ or real/ that is a row stands there too,
 as this script copied it.
@@ -25,6 +26,9 @@ from workload import bench_line, text as workload_text
 from altered import TWO_THREADS, altered_list, two_threads
 from debug_rows import debug_rows
 from instructions import EXIT, SVC, add, branch, call, movz, subs
+from lazy import lazy_rows
+from nested import ADDS, masked_and_nested, masks
+from nested_replays import changed_programs, replays_of_nested, version_1_replays
 from sources import WITH_DATA, assemblies, source_refusals
 from world_rows import world_rows
 
@@ -336,6 +340,8 @@ def shared_operations():
         yield f"shared-region-by-{name}", program(at_x3(STR, 4), *more, word)
 
 
+# the bytes of a frame before its vectors, in each version
+HEADS, SUB_SP = {1: 320, 2: 336}, 0xD10003FF
 # a loop of one branch, and the call that returns from a handler
 FOREVER, RETURN = branch(14, 0), [movz(8, 139), SVC]
 SMSTART_BOTH, SMSTART_ZA, SMSTOP_BOTH = 0xD503477F, 0xD503457F, 0xD503467F
@@ -355,8 +361,8 @@ def changed(offset, amount=1, value=None):
     return [*load, 0x39000029 | offset << 10, *RETURN]
 
 
-def signals():
-    """Signals that are posted, polled, delivered and returned from, and frames that are none; the frame is of 16 bytes a vector."""
+def signals(version):
+    """Signals that are posted, polled, delivered and returned from, and frames that are none; the frame is of 16 bytes a vector, and of a version."""
     soon = {"slice": 40, "budget": 120}
     counts = [0xF9401429, add(9, 9, 1), 0xF9001429, *RETURN]  # one more in the X3 that the frame keeps
     yield "signal-returns", handled(counts), soon
@@ -379,18 +385,25 @@ def signals():
     yield "signal-while-za-is-dormant-stops-inside", handled(sees, *dormant), {"slice": 40, "budget": 42}
     low = [SMSTART_ZA, movz(9, 0x7DFF, 2), movz(10, 0xFFFC, 1), 0x8B0A0129, add(31, 9, 1, True)]  # sp is 4096 bytes above the stack's start
     yield "frame-below-the-stack", handled(RETURN, *low), {**soon, "svl": 2048}
+    head = HEADS[version]
+    of_version = {"z0": changed(head), "z31": changed(head + 511, 3), "p15": changed(head + 543, 3), "ffr": changed(head + 545, 3),
+                  "past-ffr": changed(head + 546), "ffr-s-end": changed(head + 575)}
+    if version == 2:
+        of_version.update({"tag-of-version-1": changed(7, value=0x31), "mask-bit-0": changed(320), "mask-bits-1-to-7": changed(320, value=0xFE),
+                           "mask-bit-62": changed(327, value=0x40), "mask-bit-63": changed(327, value=0x80), "depth": changed(328), "depth-s-end": changed(331),
+                           "zeros": changed(332), "zeros-end": changed(335)})
     for name, handler in {"tag": changed(0), "tag-s-end": changed(7), "size": changed(8), "size-s-end": changed(11),
                           "other-signal": changed(12), "signal-0": changed(12, value=0), "signal-63": changed(12, value=63),
                           "signal-s-end": changed(15), "x0": changed(16), "x30": changed(256, 7), "sp": changed(264, 32), "flags": changed(283, 0x50),
                           "bit-0-of-nzcv": changed(280), "bit-24-of-nzcv": changed(283), "bit-32-of-nzcv": changed(284),
                           "mode": changed(288), "za-on": changed(288, 2), "bit-2-of-svcr": changed(288, 4), "svcr-s-end": changed(295),
                           "tpidr2": changed(296), "tpidr": changed(304, 9), "length": changed(312), "streaming-length": changed(316),
-                          "z0": changed(320), "z31": changed(831, 3), "p15": changed(863, 3), "ffr": changed(865, 3),
-                          "past-ffr": changed(866), "ffr-s-end": changed(895)}.items():
+                          **of_version}.items():
         yield f"frame-changed-at-{name}", handled(handler), soon
     yield "return-of-no-handler", elf(RETURN), {}
     yield "return-of-no-handler-to-zeros", elf([0xD14007FF, *RETURN]), {}  # sub sp, sp, #1, lsl #12
-    yield "return-to-the-last-bytes", elf([0xD104FFFF, *RETURN]), {}  # sub sp, sp, #319
+    for name, lacking in (("the-last-bytes", 1), ("the-last-whole-head", 0)):
+        yield f"return-to-{name}", elf([SUB_SP | head - lacking << 10, *RETURN]), {}
     again = [0xF9002421, *RETURN]  # the X7 that the frame keeps is its address
     # after the return the frame is still there, and the thread is inside no handler
     yield "return-twice", handled(again, 0xB4000007, add(31, 7, 0), *RETURN), soon  # cbz x7, .
@@ -398,8 +411,12 @@ def signals():
               at_x3(LDADD, 9, 4), at_x3(SWP, 10, 5), at_x3(STR, 4) | 511 << 10, *call(64, (1, 0), AT_TEXT, (40, 0))]
     keeps = [0xD503427F, 0x2538C122, 0x2518E3E1, 0x252C9000]  # smstop sm, dup z2.b, #9, ptrue p1.b, setffr
     # it stops after the return of the lower signal: the other one is held, and another is pending
-    yield "shared-signals", handled([*call(131, (0, 0), (5, 0)), *RETURN], *shares, *modes, *keeps, posts=(5, 62), handlers=(5, 62),
-                                    end=(add(11, 11, 1), branch(14, -1))), {"slice": 40, "budget": 90, "svl": 128}
+    ends = {"posts": (5, 62), "handlers": (5, 62), "end": (add(11, 11, 1), branch(14, -1))}
+    yield "shared-signals", handled([*call(131, (0, 0), (5, 0)), *RETURN], *shares, *modes, *keeps, **ends), {"slice": 40, "budget": 90, "svl": 128}
+    if version == 2:
+        # it stops in the handler of the lower signal, with ZA of its own; the other one is masked and held, and the lower one is pending again
+        yield "nested-signals", handled([*modes, 0xA0800000, *keeps, add(11, 11, 1), *call(131, (0, 0), (5, 0)), branch(14, -5)], *masks(ADDS, 1 << 62), *shares,
+                                        *keeps, **ends), {"slice": 40, "budget": 90, "svl": 128}
 
 
 # the words of vectors; the base of an access is X2, X3 or SP, its index X0 or X3, which are zero, and Z3 is not zero before it
@@ -523,7 +540,7 @@ def table_listings():
 
 VECTOR_EXAMPLES = ("saturate", "strlen")
 # VL and SVL of the other runs of programs with ZA
-MATRIX_RUNS = {"matmul": [(128, 128), (2048, 512), (128, 2048)], "transpose": [(256, 128), (128, 512), (512, 2048)], "outer": [(128, 128)], "signals": [(128, 128), (2048, 2048)], "za-modes": [(2048, 128)],
+MATRIX_RUNS = {"matmul": [(128, 128), (2048, 512), (128, 2048)], "transpose": [(256, 128), (128, 512), (512, 2048)], "outer": [(128, 128)], "signals": [(128, 128), (2048, 2048)], "nested": [(128, 128), (512, 2048)], "za-modes": [(2048, 128)],
                "za-slices": [(256, 128), (128, 2048)], "za-loads": [(2048, 128), (512, 512), (128, 2048)],
                "za-products": [(128, 128), (128, 2048)], "za-sums": [(256, 128)], "za-zero": [(128, 512)], "za-stack": [(128, 1024)],
                "za-calls": [(1024, 128)], "za-vectors": [(128, 2048)], "za-load-fault": [(128, 2048)]}
@@ -584,8 +601,14 @@ def with_other_place(text):
     return text.replace(first, first.replace(f"{kind} {place}", f"{kind} 31"), 1)
 
 
-def replays(programs):
-    """Reports of programs, as they are and altered: the name of the report, the program, the report and the thread."""
+def replays(programs, version):
+    """Reports of programs in a version, as they are and altered: the name of the report, the program, the report and the thread."""
+    prefix = {1: "", 2: "version-2-"}[version]
+    for name, *row in altered_replays(programs, version):
+        yield prefix + name, *row
+
+
+def altered_replays(programs, version):
     same = lambda text: text
     everywhere = {"as-it-is": same, "with-another-sp": replaced("\nsp 0", "\nsp 1"), "with-a-turn-more": replaced("\nturns ", "\nturns 1"),
                   "with-a-count-more": replaced("\ncount ", "\ncount 1"), "with-count-2": lambda text: re.sub("\ncount .*", "\ncount 2", text)}
@@ -593,19 +616,24 @@ def replays(programs):
               "with-another-place": with_other_place}
     named = dict(programs)
     for name, file, options in named["answer"], named["signal-in-streaming-mode-2048"], named["shared-cas"], named["signals-one-after-the-other"]:
-        text = report(file, **options)
+        text = report(file, kernel=version, **options)
         for how, alter in {**everywhere, **(shared if events_of(text) else {})}.items():
             yield f"{name}-{how}", name, alter(text), 0, *replay(file, alter(text))
     name, file, options = named["answer"]
-    text = report(file, **options)
+    text = report(file, kernel=version, **options)
     for how, program, altered, number in ("of-thread-1", name, text, 1), ("of-thread-31", name, text, 31), ("of-another-program", "shared-cas", text, 0):
         yield f"{name}-{how}", program, altered, number, *replay(named[program][1], altered, number)
-    for how, altered, line in (("first-line-alone", "smemu-report 1\n", "2: options"), ("empty", "", "1: header"), ("end-missing", text[:-4], f"{text.count(chr(10))}: end"),
+    lines = text.splitlines(keepends=True)
+    block_end = lines.index("end-thread\n") + 1
+    for how, altered, line in (("cut-after-line-3", "".join(lines[:3]), "4: block"), ("cut-after-its-block", "".join(lines[:block_end]), f"{block_end + 1}: shared"),
+                               ("first-line-alone", f"smemu-report {version}\n", "2: options"), ("empty", "", "1: header"), ("end-missing", text[:-4], f"{text.count(chr(10))}: end"),
                                ("no-text", text.replace("svcr", "\udcff"), f"{text[:text.index('svcr')].count(chr(10)) + 1}: nottext")):
         yield f"{name}-{how}", name, altered, 0, 9, f"bad report: line {line}\n"
-    yield "of-two-threads", name, two_threads(file).decode(), 1, *replay(file, two_threads(file).decode(), 1)
-    # the program is read, and refused, before the report
-    yield "of-no-program", "refused-empty", "", 0, 6, "bad file: truncated 0\n"
+    both = two_threads(file, version).decode()
+    yield "of-two-threads", name, both, 1, *replay(file, both, 1)
+    if version == 1:
+        # the program is read, and refused, before the report
+        yield "of-no-program", "refused-empty", "", 0, 6, "bad file: truncated 0\n"
 
 
 def workload_rows():
@@ -646,21 +674,26 @@ def main():
     data = HERE / "data"
     rows = [(name, elf(words), {"slice": 1_000_000} if name == "loops" else {}) for name, words in REPORTS.items()] + list(loaded()) + [(name, file, {}) for name, file in [*accesses(), *shared_operations()]]
     programs = list(assemblies())
-    rows += [*signals(), *runs(programs), *compiled(), *vector_accesses(), *((name, file, {}) for name, file in matrix_stops())]
+    rows += [*signals(2), *masked_and_nested(), *runs(programs), *compiled(), *vector_accesses(), *((name, file, {}) for name, file in matrix_stops())]
     rows = [(f"{name}.elf", 0, file, report(file, **options), {"run": "", **options}) for name, file, options in rows]
-    reports = {name.removesuffix(".elf"): (file, text.encode()) for name, _, file, text, _ in rows}
-    altered = altered_list({**reports, TWO_THREADS: (reports["answer"][0], two_threads(reports["answer"][0]))})
+    files = {name.removesuffix(".elf"): file for name, _, file, _, _ in rows}
+    written = {name.removesuffix(".elf"): text.encode() for name, _, _, text, _ in rows}
     rows += [(f"{name}.elf", 6, file, text, {"run": ""}) for name, file, text in refusals()]
     rows += [(f"listing-{name}.elf", status, file, text, {"dis": ""}) for name, file, status, text in listings()]
     rows += [(f"source-{name}.s", 7, source, text, {"asm": ""}) for name, source, text in source_refusals()]
     rows += [(f"{name}.s", 0, source, file, {"asm": ""}) for name, source, file in programs]
     runnable = [(name.removesuffix(".elf"), (name.removesuffix(".elf"), file, {k: v for k, v in options.items() if v})) for name, status, file, _, options in rows
                 if status == 0 and "run" in options]
+    again = [*replays(runnable, 1), *replays(runnable, 2), *version_1_replays(files, signals(1)), *replays_of_nested(runnable)]
     rows += [(f"replay-{name}.report", status, text.encode(errors="surrogateescape"), out, {"replay": "", f"{program}.elf": "", str(number): ""})
-             for name, program, text, number, status, out in replays(runnable)]
+             for name, program, text, number, status, out in again]
+    rows += [(f"{name}.elf", None, file, "", "") for name, file in changed_programs(files, signals(1))]
     rows += world_rows()
+    rows += lazy_rows()
     rows += workload_rows()
     rows += debug_rows(rows)
+    others = {name: file for name, _, file, _, _ in rows if name in ("debug-signals.report", *TWO_THREADS.values())}
+    altered = altered_list(files, written, others)
     for old in [*data.glob("*.txt"), *data.glob("*.s"), *data.glob("*.report"), *data.glob("*.plan"), *data.glob("*.script")]:
         old.unlink()
     for old in data.glob("*.elf"):

@@ -13,12 +13,12 @@ import re
 import sys
 
 sys.path.insert(0, str(pathlib.Path(__file__).resolve().parent.parent.parent / "examples"))
-from expected import OPERATIONS, SHARED, Raised, Thread, block
+from expected import KERNEL, OPERATIONS, SHARED, Raised, Thread, block
 
 PLACES = 8  # for residents on a core
 YIELD = 124
 SPENT, YIELDED, STOPPED = "spent", "yielded", "stopped"
-OPTIONS = {"vl": 128, "svl": 256, "slice": 1000, "budget": 10_000_000, "threads": 1, "cores": 1}
+OPTIONS = {"vl": 128, "svl": 256, "slice": 1000, "budget": 10_000_000, "threads": 1, "cores": 1, "kernel": KERNEL}
 
 
 class Guest(Thread):
@@ -26,7 +26,8 @@ class Guest(Thread):
 
     def __init__(self, world, file, number):
         options = world.options
-        super().__init__(file, options["budget"], options["vl"], options["svl"], options["slice"], number, options["threads"])
+        super().__init__(file, options["budget"], options["vl"], options["svl"], options["slice"], number, options["threads"],
+                         options["kernel"])
         self.world, self.stop, self.gave_way = world, None, False
 
     def ask(self, kind, address, base, a=0, b=0):
@@ -122,7 +123,7 @@ class World:
     def report(self):
         """The lines of the report; a thread that goes on has a stop of its own."""
         named = " ".join(f"{name}={self.options[name]}" for name in ("vl", "svl", "slice", "budget", "threads"))
-        lines = ["smemu-report 1", f"options {named}", f"image {self.image}"]
+        lines = [f"smemu-report {self.options['kernel']}", f"options {named}", f"image {self.image}"]
         for thread in self.threads:
             lines += block(thread, thread.stop or "none", thread.number)
         lines.append("shared")

@@ -1,13 +1,14 @@
-"""Rows of several threads: `run` with --threads, `sim` with plans, and `replay` of reports of several threads. What is to be written comes
-from world.py, and of a replay from examples/expected_replay.py.
+"""Rows of several threads: `run` with --threads, `sim` with plans, and `replay` of reports of several threads, of both versions. What is to be
+written comes from world.py, and of a replay from examples/expected_replay.py.
 """
 import pathlib
 
 from elf import assembled
+from expected import report as report_of_one
 from expected_replay import replay
 from sources import linked
-from world import run, sim
-from world_programs import ENDS, FOREVER, HANDLES, LOCK, NUMBERS, POSTS, PRODUCTS, YIELDS, adds
+from world import World, run, sim
+from world_programs import BANKS, ENDS, FOREVER, HANDLES, LOCK, NESTS, NUMBERS, POSTS, PRODUCTS, TURNS, YIELDS, adds
 
 HERE = pathlib.Path(__file__).resolve().parent
 ANSWER, EXAMPLE = (assembled(*linked(HERE / "real" / "linked" / f"{name}.elf")) for name in ("answer", "threads"))
@@ -22,7 +23,10 @@ PROGRAMS = {
     "threads-end-otherwise": (ENDS, {"threads": 10, "slice": 10, "budget": 60}),
     "threads-add-products": (PRODUCTS, {"threads": 2, "slice": 7}),
     "threads-handle-signals": (HANDLES, {"threads": 3, "slice": 12}),
+    "threads-nest": (NESTS, {"threads": 3, "slice": 12}),
     "threads-add-a-little": (adds(5), {"threads": 3, "slice": 1}),
+    "threads-use-banks": (BANKS, {"threads": 8, "slice": 9}),
+    "threads-use-za-in-turn": (TURNS, {"threads": 8, "svl": 2048}),
     "thread-loads-for-ever": (FOREVER, {"threads": 2, "slice": 9, "budget": 50}),
 }
 # other options, with which a program runs besides
@@ -32,12 +36,16 @@ OTHER_RUNS = {
     "threads-get-a-signal": [{"threads": 3}, {"threads": 9, "slice": 5}, {"threads": 32, "slice": 50}],
     "threads-add-products": [{"threads": 2, "svl": 2048, "slice": 9}, {"threads": 9, "svl": 128, "vl": 512, "slice": 6}],
     "threads-handle-signals": [{"threads": 2, "svl": 128, "vl": 2048, "slice": 5}],
+    "threads-nest": [{"threads": 2, "svl": 2048, "slice": 16}, {"threads": 9, "svl": 128, "vl": 512, "slice": 7}],
 }
 
 # threads that ask nothing whose answer another one can change, with options: their report is the same on any number of cores
 APART = {
     "threads-handle-signals": [{"threads": 3, "slice": 12, "cores": 3}, {"threads": 9, "slice": 5, "svl": 2048, "cores": 4},
                                {"threads": 32, "slice": 50, "svl": 128, "vl": 512, "cores": 2}],
+    "threads-use-banks": [{"threads": 8, "slice": 9, "svl": 2048, "cores": 4}],
+    "threads-use-za-in-turn": [{"threads": 8, "svl": 2048, "cores": 4}, {"threads": 32, "slice": 7, "cores": 3}],
+    "threads-nest": [{"threads": 8, "slice": 16, "svl": 512, "cores": 4}, {"threads": 32, "slice": 9, "svl": 128, "cores": 3}],
     "answer": [{"cores": 64}, {"threads": 32, "cores": 5}, {"threads": 2, "budget": 2, "cores": 2}],
 }
 
@@ -113,6 +121,18 @@ APART_AGAIN = BESIDE_LIVE + "next 1\noffer 1\nfetch 0\nrun 1 6\nrun 0 2\nrun 1 1
 TO_THE_END = "run 0 100\nrun 1 100\n"
 IN_STREAMING_MODE = "fetch 0\nrun 0 9\noffer 0\nfetch 1\nrun 1 3\noffer 1\nfetch 0\nrun 0 1\n"
 
+# four threads on one core, of which thread 0 has ZA
+OWNED = "fetch 0\n" * 4 + "run 0 15\n"
+SCALAR_BESIDE = OWNED + "next 0\nrun 0 25\n"
+# thread 2, which has no vectors in use, gets its signal while thread 0 has ZA
+DELIVERED_BESIDE = OWNED + "next 0\n" * 2 + "run 0 20\n"
+# thread 0 goes on before thread 2 returns
+RETURNED_BESIDE = DELIVERED_BESIDE + "next 0\n" * 2 + "run 0 1\n" + "next 0\n" * 2 + "run 0 3\n"
+STREAMING_BESIDE = OWNED + "next 0\n" * 3 + "run 0 30\n"
+# thread 0 comes to the queue after others had turns, and goes on when they have ended
+OFFERED_AFTER = SCALAR_BESIDE + "next 0\n" * 3 + "offer 0\nrun 0 100\nfetch 0\n" + "run 0 100\n" * 2
+STOPPED_AFTER = SCALAR_BESIDE + "next 0\n" * 3 + "run 0 100\nrun 0 100\n"
+
 
 def some_events(seed, count, cores):
     """Events of many kinds on those cores and one more, by a generator of numbers."""
@@ -128,6 +148,38 @@ def in_turns(cores, turns, rounds):
     """Each core fetches a thread; then all make that many turns, one core after the other."""
     fetches = "".join(f"fetch {core}\n" for core in range(cores))
     return fetches + "".join(f"run {core} {turns}\n" for core in range(cores)) * rounds
+
+
+NESTED = {"threads": 2, "slice": 16}
+
+
+def turns_until(wanted, **options):
+    """The turns that thread 0 of NESTS makes until a state is as it is wanted."""
+    thread = World(NESTS, **options).threads[0]
+    while not wanted(thread):
+        thread.make_turn()
+    return thread.turns
+
+
+def exchanged(turns, rounds):
+    """Two threads on two cores, which change places each time that both have made so many turns."""
+    again = "offer 0\noffer 1\nfetch 1\nfetch 0\n"
+    return "fetch 0\nfetch 1\n" + again.join([f"run 0 {turns}\nrun 1 {turns}\n"] * rounds)
+
+
+def nested_plans(**options):
+    """Plans in which a thread is moved within its third handler, with ZA on in it and in all those around it, to a core whose thread has ZA on too."""
+    third = turns_until(lambda it: it.depth == 3 and any(map(any, it.matrix.za)), **options)
+    second = turns_until(lambda it: it.depth == 2 and any(map(any, it.matrix.za)), **options)
+    begins = f"fetch 0\nfetch 1\nrun 0 {third}\nrun 1 {second}\n"
+    moved = begins + "offer 0\nfetch 1\nnext 1\nrun 1 2\n"
+    back = moved + "next 1\nrun 1 3\nnext 1\noffer 1\nfetch 0\nrun 0 9\nrun 1 8\n"
+    yield "is-moved-in-its-third-handler", moved
+    yield "is-moved-back-in-its-second-handler", back
+    yield "is-moved-and-goes-on-to-the-end", back + "run 0 200\nrun 1 200\n"
+    yield "is-offered-before-its-third-delivery", f"fetch 0\nrun 0 {third - 6}\noffer 0\nfetch 1\nfetch 1\nnext 1\nrun 1 20\n"
+    for turns in (1, 2, 5, 7):
+        yield f"changes-cores-each-{turns}-turns", exchanged(turns, 104 // turns + 4)
 
 
 def plans():
@@ -148,6 +200,10 @@ def plans():
     yield "fetches-nine-of-32", "threads-tell-their-numbers", {"threads": 32, "slice": 6}, "fetch 0\n" * 9 + "next 0\nrun 0 7\noffer 0\nfetch 0\n"
     for name, plan in (("into", INTO_HANDLER), ("on-in", ON_IN_HANDLER), ("out-of", OUT_OF_HANDLER)):
         yield f"moves-{name}-a-handler", "threads-handle-signals", {"threads": 2, "cores": 2, "slice": 16}, plan
+    for svl in (128, 512):
+        for name, plan in nested_plans(**NESTED, svl=svl):
+            yield f"nested-{name}-at-{svl}", "threads-nest", {**NESTED, "cores": 2, "svl": svl}, plan
+    yield "of-many-events-with-nested-handlers", "threads-nest", {"threads": 6, "cores": 3, "slice": 13, "svl": 128}, some_events(77, 260, 3)
     yield "moves-out-of-a-handler-at-2048", "threads-handle-signals", {"threads": 2, "cores": 2, "slice": 16, "svl": 2048}, OUT_OF_HANDLER
     yield "moves-in-streaming-mode", "threads-add-products", {"cores": 2, "svl": 2048}, IN_STREAMING_MODE
     yield "moves-in-streaming-mode-to-the-end", "threads-add-products", {"cores": 2, "svl": 2048}, IN_STREAMING_MODE + "run 0 100\n"
@@ -155,6 +211,15 @@ def plans():
     yield "moves-beside-live-za-to-the-end", "threads-add-products", {"threads": 2, "cores": 2}, BESIDE_LIVE + "run 1 100\n" * 2
     yield "parts-after-live-za", "threads-add-products", {"threads": 2, "cores": 2}, APART_AGAIN
     yield "parts-after-live-za-to-the-end", "threads-add-products", {"threads": 2, "cores": 2, "svl": 128}, APART_AGAIN + TO_THE_END
+    for name, plan in (("scalar-turns", SCALAR_BESIDE), ("a-delivery", DELIVERED_BESIDE), ("a-return", RETURNED_BESIDE),
+                       ("streaming-mode", STREAMING_BESIDE)):
+        yield f"has-{name}-beside-za", "threads-use-banks", {"threads": 4, "slice": 16}, plan
+    yield "has-a-return-beside-za-at-2048", "threads-use-banks", {"threads": 4, "slice": 16, "svl": 2048}, RETURNED_BESIDE + "run 0 100\n" * 4
+    yield "offers-za-that-others-stood-before", "threads-use-banks", {"threads": 4, "slice": 16, "svl": 2048}, OFFERED_AFTER
+    yield "ends-za-that-others-stood-before", "threads-use-banks", {"threads": 4, "slice": 16}, STOPPED_AFTER
+    yield "uses-za-in-turn", "threads-use-za-in-turn", {"threads": 8, "svl": 2048}, "fetch 0\n" * 8 + "run 0 7\nnext 0\n" * 20
+    yield "of-many-events-on-one-core", "threads-use-banks", {"threads": 8, "slice": 7}, some_events(5, 200, 1)
+    yield "of-many-events-on-three-cores", "threads-use-banks", {"threads": 11, "cores": 3, "slice": 5}, some_events(11, 250, 3)
     yield "ends-runs-at-a-yield", "threads-yield", {"threads": 2}, "fetch 0\nfetch 0\nrun 0 100\nrun 0 100\nnext 0\nrun 0 100\n"
     yield "ends-a-run-with-its-yield", "threads-yield", {"threads": 2}, "fetch 0\nrun 0 12\nrun 0 1\nnext 0\n"
     yield "ends-runs-at-yields-and-a-stop", "threads-yield", {"threads": 2}, "fetch 0\nfetch 0\n" + "run 0 100\n" * 5 + "next 0\nrun 0 6\n"
@@ -251,14 +316,39 @@ def faults():
 
 def of_report(text):
     """The lines of a simulation from those of a report's first to its last one."""
-    return text[text.index("smemu-report 1\n"):text.index("\nend\n") + 5]
+    return text[text.index("smemu-report "):text.index("\nend\n") + 5]
+
+
+def rewritten(row, version, files):
+    """What a row of `run` or `sim` writes in a version; `files` has the programs by their names."""
+    _, _, file, _, words = row
+    command, *others = words
+    options = {name: value for name, value in words.items() if value}
+    if command == "sim":
+        return sim(files[others[0]], file, kernel=version, **options)[1]
+    return (run if "threads" in options or "cores" in options else report_of_one)(file, kernel=version, **options)
+
+
+def nested_replays(written):
+    """The threads of programs with handlers within handlers, on one core, on four, and moved between cores."""
+    for name, count in (("threads-nest.elf", 3), ("threads-nest-threads-8-slice-16-svl-512-cores-4.elf", 8), ("plan-nested-is-moved-and-goes-on-to-the-end-at-128.plan", 2),
+                        ("plan-nested-changes-cores-each-1-turns-at-512.plan", 2)):
+        report = of_report(written[name])
+        for number in range(count):
+            yield f"{name.split('.')[0].removeprefix('plan-')}-{number}", "threads-nest", report, number, *replay(NESTS, report, number)
+
+
+# the rows whose reports are replayed in version 1 too
+OLD = ("threads-get-a-signal.elf", "threads-add.elf", "plan-moves-between-cores.plan", "plan-moves-out-of-a-handler.plan", "plan-runs-the-answer.plan",
+       "plan-runs-part-of-the-answer.plan", "plan-ends-runs-at-yields-and-a-stop.plan", "threads-use-za-in-turn-threads-8-svl-2048-cores-4.elf")
 
 
 def replays(written):
     """Reports of several threads: the name of the report, the program, the report, the thread, the status and what is written. `written` has
     of each row what it writes."""
     for program, name, count in (("threads-get-a-signal", "threads-get-a-signal.elf", 4), ("threads-add", "plan-moves-between-cores.plan", 2),
-                                 ("threads-handle-signals", "plan-moves-out-of-a-handler.plan", 2)):
+                                 ("threads-handle-signals", "plan-moves-out-of-a-handler.plan", 2),
+                                 ("threads-use-za-in-turn", "threads-use-za-in-turn-threads-8-svl-2048-cores-4.elf", 8)):
         report = of_report(written[name])
         for number in range(count):
             yield f"{program}-{number}-of-{count}", program, report, number, *replay(PROGRAMS[program][0], report, number)
@@ -293,9 +383,12 @@ def world_rows():
         status, text = sim(files[program], plan.encode(), **options)
         rows.append((f"plan-{name}.plan", status, plan.encode(), text, {"sim": "", f"{program}.elf": "", **options}))
     written = {name: text for name, _, _, text, _ in rows}
+    files = {f"{program}.elf": file for program, file in files.items()}
+    before = {row[0]: rewritten(row, 1, files) for row in rows if row[0] in OLD}
+    again = [*replays(before), *((f"version-2-{name}", *row) for name, *row in replays(written)), *nested_replays(written)]
     rows += [(f"plan-at-fault-{name}.plan", 11, plan, text, {"sim": "", "answer.elf": ""}) for name, plan, text in faults()]
     # the program is read, and refused, before the plan
     rows.append(("plan-of-no-program.plan", 6, b"start\n", "bad file: truncated 0\n", {"sim": "", "refused-empty.elf": ""}))
     rows += [(f"replay-{name}.report", status, report.encode(), text, {"replay": "", f"{program}.elf": "", str(number): ""})
-             for name, program, report, number, status, text in replays(written)]
+             for name, program, report, number, status, text in again]
     return rows

@@ -31,7 +31,7 @@ for path in "$examples"/*.s "$sources"/{marked,za-*}.s; do
     name=$(basename "$path" .s)
     case $name in
     saturate | strlen) llvm-mc -triple=aarch64 -mattr=+sve2 -filetype=obj -o "$name.o" "$path" ;;
-    matmul | outer | signals | threads | transpose | za-*)
+    matmul | nested | outer | signals | threads | transpose | za-*)
         # the tiles that are zeroed are names there, and a mask here
         sed -E 's/^( *)zero #([0-9]+)/\1.inst 0xc0080000 + \2/' "$path" |
             aarch64-linux-gnu-as -march=armv9-a+sme+sme-i64 -o "$name.o" -

@@ -238,7 +238,7 @@ mod tests {
             let (status, out) = written(&rt, texts)?;
             assert_eq!(rt; status, Status::Done);
             let report = std::str::from_utf8(out.bytes()).map_err(|_| "not text")?;
-            assert!(rt; report.starts_with("smemu-report 1\n"), "{report}");
+            assert!(rt; report.starts_with("smemu-report 2\n"), "{report}");
             assert!(rt; report.contains(options), "{report}");
             assert!(rt; report.contains(stop), "{report}");
         }
@@ -438,7 +438,7 @@ mod tests {
                 5
             );
             let report =
-                "smemu-report 1\noptions vl=128 svl=256 slice=1000 budget=10000000 threads=1\nimage ";
+                "smemu-report 2\noptions vl=128 svl=256 slice=1000 budget=10000000 threads=1\nimage ";
             assert!(rt; report.as_bytes().starts_with(out.bytes()));
         }
         Ok(())
