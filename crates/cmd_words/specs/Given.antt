@@ -24,7 +24,7 @@ given_of given Cores = given.cores
 abbrev pub number_for : Given → Setting → ℕ
 number_for given setting = unwrap_or (given_of given setting) (default_of setting)
 
--- the numbers of the options, given or not; no word gives the kernel
+-- the numbers of the options, given or not; no word gives the kernel, which is the second
 abbrev pub numbers_given : Given → Numbers
 numbers_given given =
     record {
@@ -34,7 +34,7 @@ numbers_given given =
       budget = number_for given Budget;
       threads = number_for given Threads;
       cores = number_for given Cores;
-      kernel = 1;
+      kernel = 2;
     }
 
 -- what a form of the code says

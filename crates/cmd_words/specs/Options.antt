@@ -10,7 +10,7 @@ use Rattle.cmd_words.specs.declared.setting.Setting.TheVariants.{Vl, Svl, Slice,
 -- the options of a run that is given none
 abbrev pub default_options : Numbers
 default_options =
-    record { vl = 128; svl = 256; slice = 1000; budget = 10000000; threads = 1; cores = 1; kernel = 1 }
+    record { vl = 128; svl = 256; slice = 1000; budget = 10000000; threads = 1; cores = 1; kernel = 2 }
 
 -- ---- each option
 

@@ -74,7 +74,8 @@ impl Given {
         self.get(setting).unwrap_or(default_of(setting))
     }
 
-    /// The numbers of all options, given or not; no word gives the kernel, which is the first.
+    /// The numbers of all options, given or not; no word gives the kernel, which is the
+    /// second.
     fn numbers(&self) -> Numbers
         ensures { result ≡ numbers_given self.now }
     {
@@ -85,7 +86,7 @@ impl Given {
             budget: u64::from(self.number(Setting::Budget)),
             threads: u64::from(self.number(Setting::Threads)),
             cores: u64::from(self.number(Setting::Cores)),
-            kernel: 1,
+            kernel: 2,
         }
     }
 

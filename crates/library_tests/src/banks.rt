@@ -4,16 +4,32 @@ use crate::memory::pages;
 use edge_io::{MemSink, Piece};
 use machine_step::{Machine, StepEnd};
 use mem_access::Bank;
-use report_text::put_bank;
+use report_text::{StateView, put_lines};
 use shared_region::{ReplayPort, ReplayTicket};
 use sm_types::{Exception, Scalars, VecLen};
 use std::alloc::Global;
 use std::process::Abort as Stops;
+use text_lines::LineKind;
 
 fn text_of(rt: &impl Stops, alloc: Global, bank: &Bank, za_on: bool) -> Vec<u8> {
     let mut sink = MemSink::new(alloc, 100_000).ok().expect(rt, "memory");
     let mut piece = Piece::new();
-    assert_eq!(rt; put_bank(&mut piece, &mut sink, bank, za_on), Ok(()));
+    let mut machine = machine(rt, alloc, 0, false);
+    machine.za_on = za_on;
+    let view = StateView {
+        machine: &machine,
+        bank,
+        count: 0,
+        turns: 0,
+        held: 0,
+        mask: 0,
+        depth: 0,
+        polled: false,
+        handlers: &[],
+        output: &[],
+    };
+    let kinds = [LineKind::Z, LineKind::P, LineKind::Ffr, LineKind::Za];
+    assert_eq!(rt; put_lines(&mut piece, &mut sink, &view, &kinds), Ok(()));
     assert_eq!(rt; piece.flush(&mut sink), Ok(()));
     let mut text = Vec::new(alloc);
     text.extend_from_slice(sink.bytes())

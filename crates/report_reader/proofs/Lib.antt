@@ -2,5 +2,5 @@ pub mod Options
 pub mod Rows
 pub mod SomeLines
 pub mod Readings
-pub mod Weights
-pub mod Standing
+pub mod Passing
+pub mod Sound

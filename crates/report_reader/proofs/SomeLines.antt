@@ -5,7 +5,7 @@ use Rattle.std.proofs.lemmas.Bool.{false≢true}
 use Rattle.line_reader.specs.Lines.{words_of, is_ended}
 use Rattle.line_reader.specs.Fields.{said_by, named}
 use Rattle.report_reader.specs.Forms.{is_line, has_form}
-use Rattle.report_reader.specs.declared.forms.LineKind.{LineKind}
+use Rattle.text_lines.specs.declared.forms.LineKind.{LineKind}
 use Rattle.report_reader.specs.Events.{setting_line}
 use Rattle.report_reader.specs.declared.events.Setting.{Setting}
 

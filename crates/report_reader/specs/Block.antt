@@ -1,8 +1,9 @@
 -- The block of a guest thread in a report, line by line. Source: docs/REPORT.md.
-use Rattle.std.specs.Prelude.{ℕ, zero, suc, ◌+◌, ◌-◌, ◌/◌, min, List, codes, if◌then◌else◌}
+use Rattle.std.specs.Prelude.{ℕ, zero, suc, ◌+◌, ◌-◌, ◌/◌, min, List, [], ◌∷◌, codes, if◌then◌else◌}
 use Rattle.std.specs.Str.{bytes_eq}
 use Rattle.sm_types.specs.declared.shared_op.Event.{Event}
 use Rattle.sm_types.specs.declared.stop.Stop.{Stop}
+use Rattle.sm_types.specs.declared.version.Version.{Version}
 use Rattle.line_reader.specs.Lines.{begins_with}
 use Rattle.report_reader.specs.Forms.{is_line}
 use Rattle.report_reader.specs.Stops.{stop_line}
@@ -12,8 +13,10 @@ use Rattle.report_reader.specs.Reading.{Reading, line, line_by}
 use Rattle.line_reader.specs.Reading.{maybe_line, each}
 use Rattle.report_reader.specs.declared.fault.ReportKind.{ReportKind}
 use Rattle.report_reader.specs.declared.fault.ReportKind.TheVariants as part
-use Rattle.report_reader.specs.declared.forms.LineKind.{LineKind}
-use Rattle.report_reader.specs.declared.forms.LineKind.TheVariants as kind
+use Rattle.text_lines.specs.Forms.{often_of, state_lines}
+use Rattle.text_lines.specs.declared.forms.LineKind.{LineKind}
+use Rattle.text_lines.specs.declared.forms.Often.{Often}
+use Rattle.text_lines.specs.declared.forms.Often.TheVariants.{Once, AtMostOnce, AnyTimes}
 use Rattle.report_reader.specs.declared.block.Head.{Head}
 
 -- one line of a block, of that kind
@@ -24,42 +27,26 @@ one kind = line part.Block (λ text. said_if (is_line kind text))
 abbrev pub any : LineKind → Reading (Unit {0})
 any kind = any_lines (is_line kind)
 
--- the thread, its stop, and how far it came
+-- lines of that kind, so often
+abbrev pub together : Often → LineKind → Reading (Unit {0})
+together Once kind = one kind
+together AtMostOnce kind = maybe_line (is_line kind)
+together AnyTimes kind = any kind
+
+-- lines of those kinds, each as often as it stands
+unfoldable pub lines_of_kinds : List LineKind → Reading (Unit {0})
+lines_of_kinds [] = give tt
+lines_of_kinds (kind ∷ kinds) = do
+  _ ← together (often_of kind) kind
+  lines_of_kinds kinds
+
+-- the thread, its stop, and the instructions that it executed
 unfoldable pub head : ℕ → Reading Head
 head thread = do
   _ ← line part.Block (λ text. said_if (is_thread thread text))
   stop ← line part.Block stop_line
   count ← line part.Block (number_line (codes "count"))
-  _ ← one kind.Turns
-  _ ← one kind.Pc
   give (record { stop = stop; count = count })
-
--- X0 to X30, SP, the flags and the system registers
-unfoldable pub registers : Reading (Unit {0})
-registers = do
-  _ ← any kind.X
-  _ ← one kind.Sp
-  _ ← one kind.Nzcv
-  _ ← one kind.Tpidr
-  _ ← one kind.Tpidr2
-  one kind.Svcr
-
--- vectors, predicates, FFR and ZA
-unfoldable pub vectors : Reading (Unit {0})
-vectors = do
-  _ ← any kind.Z
-  _ ← any kind.P
-  _ ← maybe_line (is_line kind.Ffr)
-  any kind.Za
-
--- memory and signals
-unfoldable pub signals : Reading (Unit {0})
-signals = do
-  _ ← one kind.Memory
-  _ ← one kind.Held
-  _ ← one kind.Inside
-  _ ← one kind.Polled
-  any kind.Handler
 
 -- so many lines of output, with so many bytes: 32 in each, and in the last the rest
 unfoldable pub out_lines : ℕ → ℕ → Reading (Unit {0})
@@ -100,14 +87,12 @@ pub record Block : Type 0 where
   pub stop : Stop
   pub journal : List Event
 
--- the block of that thread
-unfoldable pub block : ℕ → Reading Block
-block thread = do
+-- the block of that thread, in a version of the report
+unfoldable pub block : Version → ℕ → Reading Block
+block version thread = do
   from ← here
   head ← head thread
-  _ ← registers
-  _ ← vectors
-  _ ← signals
+  _ ← lines_of_kinds (state_lines version)
   _ ← output
   events ← journal
   to ← here

@@ -1,14 +1,14 @@
 -- The lines of a block that say nothing more than their fields. Source: docs/REPORT.md.
 use Rattle.std.specs.Prelude.{ℕ, ◌^◌, ◌%◌, ◌==◌, ◌&&◌, ◌||◌, nat_lt, Bool, true, false, List, [], ◌∷◌, length}
-use Rattle.std.specs.Prelude.{is_some, codes}
+use Rattle.std.specs.Prelude.{is_some}
 use Rattle.std.specs.List.{list_all}
 use Rattle.std.specs.Str.{bytes_eq}
 use Rattle.line_reader.specs.Lines.{words_of}
 use Rattle.line_reader.specs.Numbers.{decimal_number, number_below, hex_number, is_hex}
-use Rattle.report_reader.specs.declared.forms.Field.{Field}
-use Rattle.report_reader.specs.declared.forms.Field.TheVariants as field
-use Rattle.report_reader.specs.declared.forms.LineKind.{LineKind}
-use Rattle.report_reader.specs.declared.forms.LineKind.TheVariants as kind
+use Rattle.text_lines.specs.Forms.{name_of, fields_of}
+use Rattle.text_lines.specs.declared.forms.FieldKind.{FieldKind}
+use Rattle.text_lines.specs.declared.forms.FieldKind.TheVariants as field
+use Rattle.text_lines.specs.declared.forms.LineKind.{LineKind}
 
 -- 0 (48) or 1
 unfoldable pub is_bit : ℕ → Bool
@@ -20,7 +20,7 @@ is_bytes word = nat_lt 0 (length word) && (length word % 2 == 0) && is_hex word
 
 -- what may stand as a field: a number below 2 ^ 32 or below 2 ^ 64, a value of 16 hexadecimal digits, a
 -- truth value, the four flags, a string of bytes, or a digest of 32 bytes
-unfoldable pub is_field : Field → List ℕ → Bool
+unfoldable pub is_field : FieldKind → List ℕ → Bool
 is_field field.Number word = is_some (number_below (2 ^ 32) word)
 is_field field.Long word = is_some (decimal_number word)
 is_field field.Value word = is_some (hex_number 16 word)
@@ -30,54 +30,14 @@ is_field field.Bytes word = is_bytes word
 is_field field.Digest word = (length word == 64) && is_hex word
 
 -- the words are those fields
-unfoldable pub are_fields : List Field → List (List ℕ) → Bool
+unfoldable pub are_fields : List FieldKind → List (List ℕ) → Bool
 are_fields [] [] = true
 are_fields [] (word ∷ words) = false
 are_fields (f ∷ fields) [] = false
 are_fields (f ∷ fields) (word ∷ words) = is_field f word && are_fields fields words
 
--- the name of a kind of line
-abbrev pub name_of : LineKind → List ℕ
-name_of kind.Turns = codes "turns"
-name_of kind.Pc = codes "pc"
-name_of kind.X = codes "x"
-name_of kind.Sp = codes "sp"
-name_of kind.Nzcv = codes "nzcv"
-name_of kind.Tpidr = codes "tpidr"
-name_of kind.Tpidr2 = codes "tpidr2"
-name_of kind.Svcr = codes "svcr"
-name_of kind.Z = codes "z"
-name_of kind.P = codes "p"
-name_of kind.Ffr = codes "ffr"
-name_of kind.Za = codes "za"
-name_of kind.Memory = codes "memory"
-name_of kind.Held = codes "held"
-name_of kind.Inside = codes "inside"
-name_of kind.Polled = codes "polled"
-name_of kind.Handler = codes "handler"
-
--- the fields after it
-abbrev pub fields_of : LineKind → List Field
-fields_of kind.Turns = field.Long ∷ []
-fields_of kind.Pc = field.Value ∷ []
-fields_of kind.X = field.Number ∷ field.Value ∷ []
-fields_of kind.Sp = field.Value ∷ []
-fields_of kind.Nzcv = field.Flags ∷ []
-fields_of kind.Tpidr = field.Value ∷ []
-fields_of kind.Tpidr2 = field.Value ∷ []
-fields_of kind.Svcr = field.Number ∷ []
-fields_of kind.Z = field.Number ∷ field.Bytes ∷ []
-fields_of kind.P = field.Number ∷ field.Bytes ∷ []
-fields_of kind.Ffr = field.Bytes ∷ []
-fields_of kind.Za = field.Number ∷ field.Bytes ∷ []
-fields_of kind.Memory = field.Number ∷ field.Digest ∷ []
-fields_of kind.Held = field.Value ∷ []
-fields_of kind.Inside = field.Truth ∷ []
-fields_of kind.Polled = field.Truth ∷ []
-fields_of kind.Handler = field.Number ∷ field.Value ∷ []
-
 -- the words are a name and those fields
-unfoldable pub has_form : List ℕ → List Field → List (List ℕ) → Bool
+unfoldable pub has_form : List ℕ → List FieldKind → List (List ℕ) → Bool
 has_form name fields [] = false
 has_form name fields (word ∷ words) = bytes_eq word name && are_fields fields words
 

@@ -5,4 +5,5 @@ pub mod Header
 pub mod Reading
 pub mod Block
 pub mod Report
+pub mod Grammar
 pub mod Told

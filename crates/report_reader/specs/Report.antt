@@ -4,7 +4,7 @@ use Rattle.std.specs.Prelude.{is_some, slice_set, if◌then◌else◌}
 use Rattle.std.specs.Str.{bytes_eq}
 use Rattle.line_reader.specs.Lines.{lines_of, begins_with}
 use Rattle.sm_types.specs.declared.numbers.Numbers.{Numbers}
-use Rattle.report_reader.specs.Header.{options_line, image_line}
+use Rattle.report_reader.specs.Header.{version_line, options_line, image_line}
 use Rattle.report_reader.specs.Events.{setting_line}
 use Rattle.line_reader.specs.Reading as reading
 use Rattle.line_reader.specs.Reading.{Left, ◌>>=◌, give, said_if, first_said, past_all, each}
@@ -56,13 +56,13 @@ pub record Report : Type 0 where
 abbrev pub nothing : Reading (Unit {0})
 nothing left = reading.nothing part.NotText part.End left
 
--- the format, the options, the program's digest, a block for each thread by its number, and the words
+-- the version, the options, the program's digest, a block for each thread by its number, and the words
 unfoldable pub report_lines : Reading Report
 report_lines = do
-  _ ← line part.Header (λ text. said_if (bytes_eq text (codes "smemu-report 1\n")))
-  options ← line part.Options options_line
+  version ← line part.Header version_line
+  options ← line part.Options (options_line version)
   image ← line part.Image image_line
-  blocks ← each block options.threads 0
+  blocks ← each (block version) options.threads 0
   words ← shared_words
   _ ← nothing
   give (record { options = options; image = image; blocks = blocks; words = words })

@@ -7,13 +7,13 @@ ghost use Rattle.report_reader.specs.Told.{block_said};
 
 use crate::events::{event_line, is_thread, number_line, out_line};
 use crate::fault::{ReportFault, ReportKind};
-use crate::forms::LineKind;
-use crate::lines::{expect, pass_all, pass_maybe, pass_one, take};
+use crate::lines::{expect, pass_kind, take};
 use crate::parts::ReportBlock;
 use crate::stops::stop_line;
 use line_reader::{Lines, begins_with, is_word};
-use sm_types::{Event, Stop};
+use sm_types::{Event, Stop, Version};
 use std::alloc::Global;
+use text_lines::{LineKind, state_lines};
 
 /// A thread's stop, and how far it came.
 #[derive(Clone, Copy)]
@@ -33,45 +33,16 @@ fn read_head(lines: &mut Lines, thread: u32) -> Result<Head, ReportFault>
     let stop = take(lines, ReportKind::Block, stop)?;
     let count = number_line(b"count", lines.line());
     let count = take(lines, ReportKind::Block, count)?;
-    pass_one(lines, LineKind::Turns)?;
-    pass_one(lines, LineKind::Pc)?;
     Ok(Head { stop, count })
 }
 
-/// Passes the lines of the registers.
-#[tactic(auto, unfolding(crate::specs::Block::registers))]
-fn pass_registers(lines: &mut Lines) -> Result<(), ReportFault>
-    ensures { Reads (spec.registers (left_of lines.old)) result (left_of lines.new) }
+/// Passes the lines of a state.
+fn pass_kinds(lines: &mut Lines, kinds: &[LineKind]) -> Result<(), ReportFault>
+    ensures { Reads (spec.lines_of_kinds kinds.now (left_of lines.old)) result (left_of lines.new) }
 {
-    pass_all(lines, LineKind::X);
-    pass_one(lines, LineKind::Sp)?;
-    pass_one(lines, LineKind::Nzcv)?;
-    pass_one(lines, LineKind::Tpidr)?;
-    pass_one(lines, LineKind::Tpidr2)?;
-    pass_one(lines, LineKind::Svcr)
-}
-
-/// Passes the lines of vectors, predicates, FFR and ZA.
-#[tactic(auto, unfolding(crate::specs::Block::vectors))]
-fn pass_vectors(lines: &mut Lines)
-    ensures { spec.vectors (left_of lines.old) ≡ Ok (tt, left_of lines.new) }
-{
-    pass_all(lines, LineKind::Z);
-    pass_all(lines, LineKind::P);
-    pass_maybe(lines, LineKind::Ffr);
-    pass_all(lines, LineKind::Za);
-}
-
-/// Passes the lines of memory and signals.
-#[tactic(auto, unfolding(crate::specs::Block::signals))]
-fn pass_signals(lines: &mut Lines) -> Result<(), ReportFault>
-    ensures { Reads (spec.signals (left_of lines.old)) result (left_of lines.new) }
-{
-    pass_one(lines, LineKind::Memory)?;
-    pass_one(lines, LineKind::Held)?;
-    pass_one(lines, LineKind::Inside)?;
-    pass_one(lines, LineKind::Polled)?;
-    pass_all(lines, LineKind::Handler);
+    for kind in kinds {
+        pass_kind(lines, *kind)?;
+    }
     Ok(())
 }
 
@@ -142,17 +113,21 @@ fn read_journal(alloc: Global, lines: &mut Lines) -> Result<Vec<Event>, ReportFa
     Ok(events)
 }
 
-/// Reads the block of that thread.
+/// Reads the block of that thread, in a version of the report.
 #[tactic(auto, unfolding(crate::specs::Block::block))]
-pub fn read_block(alloc: Global, lines: &mut Lines, thread: u32) -> Result<ReportBlock, ReportFault>
-    ensures { ReadsAs block_said (spec.block thread (left_of lines.old)) result (left_of lines.new) }
+pub fn read_block(
+    alloc: Global,
+    lines: &mut Lines,
+    version: Version,
+    thread: u32,
+) -> Result<ReportBlock, ReportFault>
+    ensures { ReadsAs block_said (spec.block version thread (left_of lines.old)) result
+        (left_of lines.new) }
 {
     let start = lines.place();
     let first_line = lines.number() + 1;
     let head = read_head(lines, thread)?;
-    pass_registers(lines)?;
-    pass_vectors(lines);
-    pass_signals(lines)?;
+    pass_kinds(lines, state_lines(version))?;
     pass_output(lines)?;
     let journal = read_journal(alloc, lines)?;
     Ok(ReportBlock {

@@ -5,14 +5,46 @@ ghost use Rattle.report_reader.specs.Header as spec;
 ghost use Rattle.line_reader.specs.Fields.{field, Says};
 ghost use Rattle.line_reader.specs.Told.{words_ahead};
 
-use line_reader::{Fields, decimal_number, is_hex};
-use sm_types::{Config, Numbers};
+use line_reader::{Fields, decimal_number, is_hex, is_word};
+use sm_types::{Config, Numbers, Version};
 
-/// The options of those numbers, on one core and of the first kernel; `None` exactly where one of them is none
-/// that its option takes.
+/// The version of the format that the first line says.
+#[tactic(auto, unfolding(crate::specs::Header::version_line))]
+pub fn version_line(line: &[u8]) -> Option<Version>
+    ensures { result ≡ spec.version_line line.now }
+{
+    if is_word(line, b"smemu-report 1\n") {
+        Some(Version::One)
+    } else if is_word(line, b"smemu-report 2\n") {
+        Some(Version::Two)
+    } else {
+        None
+    }
+}
+
+/// The number of a version's kernel.
+fn kernel_of(version: Version) -> u64
+    ensures { result ≡ spec.kernel_of version }
+{
+    match version {
+        Version::One => 1,
+        Version::Two => 2,
+    }
+}
+
+/// The options of those numbers, on one core and with the kernel of a version; `None` exactly where one of
+/// them is none that its option takes.
 #[tactic(auto, using(crate::proofs::Options::one_core))]
-fn config_of(vl: u64, svl: u64, slice: u64, budget: u64, threads: u64) -> Option<Config>
-    ensures options { option_map numbers_of result ≡ if_taken (spec.five_numbers vl svl slice budget threads) }
+fn config_of(
+    version: Version,
+    vl: u64,
+    svl: u64,
+    slice: u64,
+    budget: u64,
+    threads: u64,
+) -> Option<Config>
+    ensures options { option_map numbers_of result
+        ≡ if_taken (spec.five_numbers version vl svl slice budget threads) }
     ensures cores { IfSome result (λ config. config.cores ≡ 1) }
 {
     Config::of(&Numbers {
@@ -22,7 +54,7 @@ fn config_of(vl: u64, svl: u64, slice: u64, budget: u64, threads: u64) -> Option
         budget,
         threads,
         cores: 1,
-        kernel: 1,
+        kernel: kernel_of(version),
     })
 }
 
@@ -44,10 +76,10 @@ fn read_option(key: &[u8], words: &mut Fields) -> Option<u64>
     number_after(key, word)
 }
 
-/// The options that a line says, which has no word for cores.
+/// The options that a line says in a version; it has no word for cores.
 #[tactic(auto, unfolding(crate::specs::Header::options_line, line_reader::specs::Fields::said_by))]
-pub fn options_line(line: &[u8]) -> Option<Config>
-    ensures options { option_map numbers_of result ≡ spec.options_line line.now }
+pub fn options_line(version: Version, line: &[u8]) -> Option<Config>
+    ensures options { option_map numbers_of result ≡ spec.options_line version line.now }
     ensures cores { IfSome result (λ config. config.cores ≡ 1) }
 {
     let mut words = Fields::of(line);
@@ -58,7 +90,7 @@ pub fn options_line(line: &[u8]) -> Option<Config>
     let budget = read_option(b"budget=", &mut words)?;
     let threads = read_option(b"threads=", &mut words)?;
     words.end(())?;
-    config_of(vl, svl, slice, budget, threads)
+    config_of(version, vl, svl, slice, budget, threads)
 }
 
 /// The 32 bytes that a word writes.

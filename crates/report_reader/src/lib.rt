@@ -7,11 +7,13 @@ mod events;
 mod fault;
 mod forms;
 mod header;
+mod laws;
 mod lines;
 mod parts;
 mod report;
 mod stops;
 
 pub use fault::{ReportFault, ReportKind};
+pub use laws::reports_are_in_the_format;
 pub use parts::{Report, ReportBlock};
 pub use report::read_report;

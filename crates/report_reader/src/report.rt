@@ -13,11 +13,11 @@ ghost use Rattle.report_reader.specs.declared.fault.ReportKind.TheVariants as pa
 use crate::block::read_block;
 use crate::events::setting_line;
 use crate::fault::{ReportFault, ReportKind};
-use crate::header::{image_line, options_line};
+use crate::header::{image_line, options_line, version_line};
 use crate::lines::{end, expect, take};
 use crate::parts::{Report, ReportBlock};
 use line_reader::{Lines, begins_with, is_word};
-use sm_types::{Config, Words};
+use sm_types::{Config, Version, Words};
 use std::alloc::Global;
 
 /// The most bytes that a report may have.
@@ -27,15 +27,16 @@ const LARGEST_FILE: usize = 1_073_741_824;
 fn read_blocks(
     alloc: Global,
     lines: &mut Lines,
+    version: Version,
     threads: u32,
 ) -> Result<Vec<ReportBlock>, ReportFault>
-    ensures read { ReadsAs (λ blocks. map block_said blocks.items) (each block threads 0 (left_of lines.old))
-        result (left_of lines.new) }
+    ensures read { ReadsAs (λ blocks. map block_said blocks.items)
+        (each (block version) threads 0 (left_of lines.old)) result (left_of lines.new) }
     ensures count { IfOk result (λ blocks. vec_len blocks ≡ threads) }
 {
     let mut blocks = Vec::new(alloc);
     for thread in 0..threads {
-        let block = read_block(alloc, lines, thread)?;
+        let block = read_block(alloc, lines, version, thread)?;
         blocks.push(block)?;
     }
     Ok(blocks)
@@ -82,12 +83,12 @@ fn read_shared_words(lines: &mut Lines) -> Result<Words, ReportFault>
 }
 
 /// Reads the line of the options.
-fn read_options(lines: &mut Lines) -> Result<Config, ReportFault>
-    ensures options { ReadsAs numbers_of (line part.Options options_line (left_of lines.old)) result
+fn read_options(lines: &mut Lines, version: Version) -> Result<Config, ReportFault>
+    ensures options { ReadsAs numbers_of (line part.Options (options_line version) (left_of lines.old)) result
         (left_of lines.new) }
     ensures cores { IfOk result (λ config. config.cores ≡ 1) }
 {
-    let config = options_line(lines.line());
+    let config = options_line(version, lines.line());
     take(lines, ReportKind::Options, config)
 }
 
@@ -97,12 +98,12 @@ fn read_lines(alloc: Global, lines: &mut Lines) -> Result<Report, ReportFault>
     ensures read { ReadsAs report_said (spec.report_lines (left_of lines.old)) result (left_of lines.new) }
     ensures cores { IfOk result (λ report. report.config.cores ≡ 1) }
 {
-    let is_header = is_word(lines.line(), b"smemu-report 1\n");
-    expect(lines, ReportKind::Header, is_header)?;
-    let config = read_options(lines)?;
+    let version = version_line(lines.line());
+    let version = take(lines, ReportKind::Header, version)?;
+    let config = read_options(lines, version)?;
     let image = image_line(lines.line());
     let image = take(lines, ReportKind::Image, image)?;
-    let blocks = read_blocks(alloc, lines, config.threads)?;
+    let blocks = read_blocks(alloc, lines, version, config.threads)?;
     let words = read_shared_words(lines)?;
     end(lines)?;
     Ok(Report {

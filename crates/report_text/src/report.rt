@@ -11,7 +11,7 @@ use crate::block::put_block;
 use crate::header::put_header;
 use edge_io::{Piece, PutFault, Sink};
 use kernel_contexts::{Context, Finished};
-use sm_types::{Config, Words};
+use sm_types::{Config, Version, Words};
 use text_lines::put_value_lines;
 
 /// What stands before the blocks of a report.
@@ -34,15 +34,20 @@ fn put_words<K: Sink>(piece: &mut Piece, out: &mut K, words: &Words) -> Result<(
     piece.put(out, b"end\n")
 }
 
-/// The blocks of the threads, in order.
-fn put_blocks<K: Sink>(piece: &mut Piece, out: &mut K, contexts: &[Context]) -> Result<(), PutFault>
+/// The blocks of the threads in a version, in order.
+fn put_blocks<K: Sink>(
+    piece: &mut Piece,
+    out: &mut K,
+    version: Version,
+    contexts: &[Context],
+) -> Result<(), PutFault>
     requires home { (k : ℕ) (c : Context) → slice_get contexts.now k ≡ Some c → is_home c ≡ true }
     ensures { Gathers (gathered (K.view out.old) piece.old) (gathered (K.view out.new) piece.new) result
-        (blocks_text (ends_of contexts.now)) }
+        (blocks_text version (ends_of contexts.now)) }
 {
     for k in 0..contexts.len() {
         let context = &contexts[k];
-        put_block(piece, out, context)?;
+        put_block(piece, out, version, context)?;
     }
     Ok(())
 }
@@ -58,7 +63,7 @@ fn put_report<K: Sink>(
         (report_text head.now.config head.now.image (ends_of run.now.contexts.items) run.now.words) }
 {
     put_header(piece, out, &head.config, &head.image)?;
-    put_blocks(piece, out, run.contexts.as_slice())?;
+    put_blocks(piece, out, head.config.version(), run.contexts.as_slice())?;
     put_words(piece, out, &run.words)
 }
 

@@ -56,8 +56,8 @@ pub record Prints (r : Recording) (from : ℕ) (text_of : State → List ℕ) (p
 
 -- the text of a command that shows a state
 abbrev pub shown_text : DebugCommand → State → List ℕ
-shown_text Registers s = registers_text s.core
-shown_text Za s = za_text s.core
+shown_text Registers s = registers_text s
+shown_text Za s = za_text s
 shown_text (Slice elem tile direction number) s =
     slice_text (slice_named elem tile direction number) s.core.bank.za s.core.za_on
 shown_text (Memory address size) s = memory_text address size s.core.memory

@@ -12,11 +12,11 @@ use Rattle.paged_memory.specs.Memory.{AddressSpace, bytes_with, first_without, w
 use Rattle.tile_ops.specs.declared.slices.SliceAt.{SliceAt}
 use Rattle.tile_ops.specs.Named.{element_size}
 use Rattle.tile_ops.specs.Slices.{slice_bytes}
-use Rattle.machine_step.specs.ProcessorState.{ProcessorState}
 use Rattle.kernel_contexts.specs.State.{State}
-use Rattle.text_lines.specs.Lines.{hex64, hex_line}
-use Rattle.report_text.specs.Bank.{vectors_text, array_text}
-use Rattle.report_text.specs.Block.{register_text}
+use Rattle.text_lines.specs.Lines.{hex64}
+use Rattle.text_lines.specs.declared.forms.LineKind.{LineKind}
+use Rattle.text_lines.specs.declared.forms.LineKind.TheVariants as kind
+use Rattle.report_text.specs.State.{lines_text}
 use Rattle.script_reader.specs.declared.command.Direction.{Direction}
 use Rattle.script_reader.specs.declared.command.Direction.TheVariants.{Horizontal, Vertical}
 
@@ -27,16 +27,17 @@ bytes_text bytes = concat (encode_lower bytes ∷ codes "\n" ∷ [])
 -- ---- registers and ZA
 
 -- the lines of a thread's block in a report from PC to FFR
-unfoldable pub registers_text : ProcessorState → List ℕ
-registers_text core = concat (
-    hex_line (codes "pc") core.scalars.pc
-    ∷ register_text core
-    ∷ vectors_text core.bank
-    ∷ [])
+abbrev pub register_lines : List LineKind
+register_lines =
+    kind.Pc ∷ kind.X ∷ kind.Sp ∷ kind.Nzcv ∷ kind.Tpidr ∷ kind.Tpidr2 ∷ kind.Svcr ∷ kind.Z ∷ kind.P ∷ kind.Ffr
+    ∷ []
+
+abbrev pub registers_text : State → List ℕ
+registers_text s = lines_text s register_lines
 
 -- those of its vectors of ZA, where ZA is on
-abbrev pub za_text : ProcessorState → List ℕ
-za_text core = array_text core.bank.za core.za_on
+abbrev pub za_text : State → List ℕ
+za_text s = lines_text s (kind.Za ∷ [])
 
 -- ---- slices
 

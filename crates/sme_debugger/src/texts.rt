@@ -7,7 +7,8 @@ ghost use Rattle.paged_memory.specs.Memory.{bytes_with};
 ghost use Rattle.tile_ops.specs.Slices.{slice_bytes};
 ghost use Rattle.kernel_contexts.specs.Context.{state_of, is_home};
 ghost use Rattle.sme_debugger.specs.Answers.{end_text, shown_text};
-ghost use Rattle.sme_debugger.specs.Texts.{bytes_text, registers_text, is_there, is_vertical, slice_named};
+ghost use Rattle.report_text.specs.State.{lines_text};
+ghost use Rattle.sme_debugger.specs.Texts.{bytes_text, is_there, is_vertical, slice_named};
 ghost use Rattle.sme_debugger.specs.Texts.{slice_text, memory_text, listed_word, insn_words, place_text};
 
 use arrayvec::ArrayString;
@@ -16,10 +17,10 @@ use insn_decode::decode;
 use insn_text::print_word;
 use kernel_contexts::Context;
 use paged_memory::Pages;
-use report_text::{put_array_lines, put_registers, put_vector_lines};
+use report_text::{StateView, put_lines};
 use script_reader::{DebugCommand, Direction};
 use sm_types::{Access, Elem};
-use text_lines::{hex64_digits, put_hex_line};
+use text_lines::{LineKind, hex64_digits};
 use tile_ops::{SliceAt, element_size, read_slice};
 use za_array::Za;
 
@@ -44,20 +45,32 @@ fn put_digits<K: Sink>(piece: &mut Piece, out: &mut K, bytes: &[u8]) -> Result<(
     piece.put(out, digits)
 }
 
-/// The lines of the thread's registers, from PC to FFR.
-fn put_register_lines<K: Sink>(
+/// The lines of a report for a thread's registers, from PC to FFR.
+const REGISTER_LINES: [LineKind; 10] = [
+    LineKind::Pc,
+    LineKind::X,
+    LineKind::Sp,
+    LineKind::Nzcv,
+    LineKind::Tpidr,
+    LineKind::Tpidr2,
+    LineKind::Svcr,
+    LineKind::Z,
+    LineKind::P,
+    LineKind::Ffr,
+];
+
+/// The lines of a thread's state of some kinds.
+fn put_state_lines<K: Sink>(
     piece: &mut Piece,
     out: &mut K,
     context: &Context,
+    kinds: &[LineKind],
 ) -> Result<(), PutFault>
     requires { is_home context.now ≡ true }
     ensures { Gathers (gathered (K.view out.old) piece.old) (gathered (K.view out.new) piece.new) result
-        (registers_text (state_of context.now).core) }
+        (lines_text (state_of context.now) kinds.now) }
 {
-    let machine = context.machine();
-    put_hex_line(piece, out, b"pc", machine.scalars.pc)?;
-    put_registers(piece, out, machine)?;
-    put_vector_lines(piece, out, context.bank())
+    put_lines(piece, out, &StateView::of(context), kinds)
 }
 
 /// Whether ZA has a slice.
@@ -238,8 +251,8 @@ fn put_state<K: Sink>(
     let machine = context.machine();
     let za = &context.bank().za;
     match command {
-        DebugCommand::Registers => put_register_lines(piece, out, context),
-        DebugCommand::Za => put_array_lines(piece, out, za, machine.za_on),
+        DebugCommand::Registers => put_state_lines(piece, out, context, &REGISTER_LINES),
+        DebugCommand::Za => put_state_lines(piece, out, context, &[LineKind::Za]),
         DebugCommand::Slice {
             elem,
             tile,

@@ -9,11 +9,11 @@ use Rattle.cmd_words.specs.Words.{NameSaid, ThreadSaid}
 use Rattle.cmd_words.specs.declared.verb.Verb.TheVariants.{Replay}
 use Rattle.std.proofs.lemmas.Bool.Decides.{nat_tests}
 use Rattle.sha2.specs.Sha256.{sha256}
-use Rattle.sm_types.specs.Options.{numbers_of}
+use Rattle.sm_types.specs.Options.{numbers_of, version_of}
 use Rattle.sm_types.specs.declared.config.Config.{Config}
 use Rattle.sm_types.specs.declared.shared_op.Event.{Event}
 use Rattle.elf_loader.specs.Loading.{Loads}
-use Rattle.kernel_contexts.specs.Context.{state_of, stop_of, thread_of, journal_of}
+use Rattle.kernel_contexts.specs.Context.{state_of, journal_of}
 use Rattle.kernel_contexts.specs.declared.context.Context.{Context}
 use Rattle.lone_runner.specs.LoneRun.{IsLoneRun, HasRunAlone}
 use Rattle.paged_memory.specs.Image.{Program}
@@ -27,6 +27,7 @@ use Rattle.report_reader.specs.declared.fault.ReportKind.TheVariants.{Image, NoT
 use Rattle.std.specs.Str.{bytes_eq}
 use Rattle.report_reader.specs.declared.parts.ReportBlock.{ReportBlock}
 use Rattle.report_text.specs.Block.{block_text}
+use Rattle.report_text.specs.Ends.{block_of}
 use Rattle.command_lines.specs.ReportLines.{difference_lines}
 use Rattle.smemu.specs.Replay.{mismatch, text_in, text_of, EndsAsSaid, IsBlockIn, IsReplayOf}
 use Rattle.smemu.specs.Views.{ComparesSo, EndsAccepted, EndsReplay, IsPartedRefusal, IsUnmatched}
@@ -111,19 +112,19 @@ module _ (file bytes : List ℕ) (thread : ℕ) (program : Program) (config : Co
       count = count;
     }
 
-    its_text : block_text (thread_of context) (state_of context) (stop_of context) (journal_of context) ≡ text_of ended
-    its_text = λ i. block_text (alone.number i) (state_of context) (alone.stopped i) (journal i)
+    its_text : block_of (version_of config) context ≡ text_of ended
+    its_text = λ i. block_text (version_of config) (alone.number i) (state_of context) (alone.stopped i) (journal i)
 
     -- and its block is the report's
     pub compared_same : text_in bytes block
-        ≡ block_text (thread_of context) (state_of context) (stop_of context) (journal_of context)
+        ≡ block_of (version_of config) context
         → IsReplayOf file bytes thread (text_in bytes block)
     compared_same same = record { at = at; end = ended; is_text = same ∙ its_text; same = refl }
 
     -- or another
     pub compared_ends : (r : Refusal)
         → ComparesSo (text_in bytes block) block.first_line
-        (block_text (thread_of context) (state_of context) (stop_of context) (journal_of context)) (Err r)
+        (block_of (version_of config) context) (Err r)
         → EndsReplay file bytes thread (Err r)
     compared_ends (refusal.Ended (ending.Differs (difference.Lines line report replay))) h = inr (record {
       at = at;

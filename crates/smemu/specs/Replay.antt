@@ -5,7 +5,7 @@ use Rattle.std.specs.Str.{bytes_eq}
 use Rattle.sha2.specs.Sha256.{sha256}
 use Rattle.sm_types.specs.declared.config.Config.{Config}
 use Rattle.sm_types.specs.declared.stop.Stop.{Stop}
-use Rattle.sm_types.specs.Options.{numbers_of}
+use Rattle.sm_types.specs.Options.{numbers_of, version_of}
 use Rattle.paged_memory.specs.Image.{Program}
 use Rattle.elf_loader.specs.Loading.{Loads}
 use Rattle.kernel_contexts.specs.State.{State}
@@ -56,7 +56,8 @@ pub record EndsAsSaid (program : Program) (config : Config) (thread : ℕ) (bloc
 -- the text of the block of a thread that ends so
 abbrev pub text_of : {program : Program} {config : Config} {thread : ℕ} {block : Block}
     → EndsAsSaid program config thread block → List ℕ
-text_of {thread = thread} {block = block} end = block_text thread end.state (Some end.stop) block.journal
+text_of {config = config} {thread = thread} {block = block} end =
+    block_text (version_of config) thread end.state (Some end.stop) block.journal
 
 -- the text is the block of a thread whose run alone ends so, and stands in the report
 pub record IsReplayOf (file report : List ℕ) (thread : ℕ) (text : List ℕ) : Type 0 where

@@ -185,7 +185,6 @@ fn bench_options(cores: u32) -> Config
     let mut config = Config::defaults();
     config.threads = 4;
     config.cores = cores;
-    config.kernel = 1;
     config
 }
 

@@ -3,11 +3,11 @@
 ghost use Rattle.std.specs.Prelude.{◌≡◌, ◌≤◌, ◌<◌, IfOk, IfErr, OnOk, All, Ok, None, IsTrue, true, length};
 ghost use Rattle.sha2.specs.Sha256.{sha256};
 ghost use Rattle.elf_loader.specs.Loading.{Loads};
-ghost use Rattle.kernel_contexts.specs.Context.{journal_of, state_of, stop_of, thread_of, is_home};
+ghost use Rattle.kernel_contexts.specs.Context.{journal_of, state_of, is_home};
 ghost use Rattle.lone_runner.specs.LoneRun.{HasRunAlone};
 ghost use Rattle.report_reader.specs.Report.{report_in};
 ghost use Rattle.report_reader.specs.Told.{block_said, report_said, StandsIn};
-ghost use Rattle.report_text.specs.Block.{block_text};
+ghost use Rattle.report_text.specs.Ends.{block_of};
 ghost use Rattle.smemu.specs.Replay as spec;
 ghost use Rattle.smemu.specs.Views.{IsUnmatched};
 ghost use Rattle.smemu.specs.declared.refusal.Refusal.TheVariants as refusals;
@@ -24,9 +24,9 @@ use line_reader::{first_difference, is_word};
 use lone_runner::{AloneFault, run_alone};
 use paged_memory::Image;
 use report_reader::{Report, ReportBlock, ReportKind};
-use report_text::write_block;
+use report_text::write_block_as;
 use sha2::{Digest, Sha256};
-use sm_types::Config;
+use sm_types::{Config, Version};
 use std::alloc::Global;
 
 /// Checks that a report is of this program, and has that thread.
@@ -89,36 +89,35 @@ fn other_line(alloc: Global, line: u64, report: &[u8], replay: &[u8]) -> Result<
     })
 }
 
-/// Whether the block of a thread that was run alone is that text.
-fn is_block(text: &[u8], context: &Context) -> bool
+/// Whether the block of a thread that was run alone is that text, in a version of the report.
+fn is_block(text: &[u8], version: Version, context: &Context) -> bool
     requires home { is_home context.now ≡ true }
-    ensures { IsTrue result → text.now ≡ block_text (thread_of context.now) (state_of context.now)
-        (stop_of context.now) (journal_of context.now) }
+    ensures { IsTrue result → text.now ≡ block_of version context.now }
 {
     let mut comparison = Comparison::with(text);
-    write_block(context, &mut comparison).is_ok() && is_word(comparison.came(), text)
+    write_block_as(version, context, &mut comparison).is_ok() && is_word(comparison.came(), text)
 }
 
-/// Compares a block of the report with that of the thread that was run alone.
+/// Compares a block of the report with that of the thread that was run alone, in a version of the report.
 fn compare(
     alloc: Global,
     report: &[u8],
     block: &ReportBlock,
+    version: Version,
     context: &Context,
 ) -> Result<(), Refusal>
     requires places { StandsIn report.now block.now }
     requires size { length report.now ≤ 1073741824 }
     requires home { is_home context.now ≡ true }
     ensures { ComparesSo (spec.text_in report.now (block_said block.now)) block.now.first_line
-        (block_text (thread_of context.now) (state_of context.now) (stop_of context.now)
-        (journal_of context.now)) result }
+        (block_of version context.now) result }
 {
     let text = &report[block.start..block.end];
-    if is_block(text, context) {
+    if is_block(text, version, context) {
         return Ok(());
     }
     let mut replay = Kept::new(alloc);
-    if write_block(context, &mut replay).is_err() {
+    if write_block_as(version, context, &mut replay).is_err() {
         return Err(Refusal::Memory);
     }
     let Some(it) = first_difference(text, replay.bytes()) else {
@@ -150,7 +149,7 @@ fn replayed_block<'a>(
     check_match(file, thread, report)?;
     let block = &report.blocks[thread as usize];
     let context = run_block(alloc, image, &report.config, thread, block)?;
-    compare(alloc, bytes, block, &context)?;
+    compare(alloc, bytes, block, report.config.version(), &context)?;
     Ok(block)
 }
 

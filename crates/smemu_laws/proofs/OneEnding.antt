@@ -3,6 +3,7 @@ use Rattle.std.proofs.Common.{◌≡◌, ◌≢◌, inl, inr, ℕ, ◌+◌, true
 use Rattle.std.specs.Str.{bytes_eq}
 use Rattle.std.proofs.lemmas.Slice.Eq.{bytes_eq-Decides}
 use Rattle.sha2.specs.Sha256.{sha256}
+use Rattle.sm_types.specs.Options.{version_of}
 use Rattle.sm_types.specs.declared.config.Config.{Config}
 use Rattle.sm_types.specs.declared.numbers.Numbers.{Numbers}
 use Rattle.cmd_words.specs.Words.{Argument, ThreadSaid, WorkloadSaid, Request, command_of}
@@ -59,7 +60,7 @@ one_end_text : (program : Program) (config : Config) (thread : ℕ) (block : Blo
 one_end_text program config thread block a b =
     let state = one_state program config thread block.journal a.state b.state a.stop b.stop a.run b.run in
     let stop = one_stop program config thread block.journal a.state b.state a.stop b.stop a.run b.run in
-    λ i. block_text thread (state i) (Some (stop i)) block.journal
+    λ i. block_text (version_of config) thread (state i) (Some (stop i)) block.journal
 
 module _ (program p : Program) (config k : Config) (thread : ℕ) (block b : Block) (is : program ≡ p) (same : config ≡ k) (one : block ≡ b)
     (a : EndsAsSaid program config thread block) where

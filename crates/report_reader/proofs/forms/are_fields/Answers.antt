@@ -2,7 +2,7 @@ use Rattle.std.proofs.Common.{◌&&◌, ◌+◌, drop, sym, ◌∙◌, ap}
 use Rattle.std.specs.Prelude.{is_some}
 use Rattle.report_reader.specs.Forms.{are_fields}
 use Rattle.line_reader.specs.Told.{words_ahead}
-use Rattle.report_reader.specs.declared.forms.Field.TheVariants.{Number}
+use Rattle.text_lines.specs.declared.forms.FieldKind.TheVariants.{Number}
 use Rattle.report_reader.proofs.Rows.{row-more, row-short, row-end}
 use Rattle.report_reader.proofs.forms.are_fields.Goals as goal
 

@@ -8,7 +8,7 @@ use Rattle.report_reader.proofs.report.read_blocks.Given as goal
 
 abbrev pub invariant-loop-thread : goal.invariant-loop-thread
 invariant-loop-thread l = record {
-  read : onto (map block_said l.blocks.items) (each block (l.threads - l.thread) l.thread (left_of l.lines))
-      ≡ each block l.threads 0 (left_of l.initial.lines);
+  read : onto (map block_said l.blocks.items) (each (block l.version) (l.threads - l.thread) l.thread (left_of l.lines))
+      ≡ each (block l.version) l.threads 0 (left_of l.initial.lines);
   count : vec_len l.blocks ≡ l.thread;
 }

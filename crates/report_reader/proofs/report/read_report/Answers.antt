@@ -1,7 +1,7 @@
 use Rattle.std.proofs.Common.{rules}
 use Rattle.report_reader.specs.Told.{Answers}
 use Rattle.report_reader.specs.Report.{report_in}
-use Rattle.report_reader.proofs.Standing.{report_stands}
+use Rattle.report_reader.proofs.Sound.{report_stands}
 use Rattle.report_reader.proofs.report.read_report.Goals as goal
 
 pub returns-clause-places : goal.returns-clause-places

@@ -11,5 +11,5 @@ returns-clause-given c =
       budget = d.budget i;
       threads = 4;
       cores = c.args.cores;
-      kernel = 1;
+      kernel = d.kernel i;
     }
