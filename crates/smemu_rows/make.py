@@ -29,7 +29,7 @@ from instructions import EXIT, SVC, add, branch, call, movz, subs
 from lazy import lazy_rows
 from nested import ADDS, masked_and_nested, masks
 from nested_replays import changed_programs, replays_of_nested, version_1_replays
-from sources import WITH_DATA, assemblies, source_refusals
+from sources import WITH_DATA, assemblies, lazy_savings, routine_lines, source_refusals
 from world_rows import world_rows
 
 AT_TEXT = (0x40, 1)
@@ -478,6 +478,9 @@ def listings():
     parts = [Segment(later, text_of([0xD503201F])), Segment(TEXT, text_of(ANSWER))]
     yield "sections-out-of-order", with_code(parts, code_section(4, later), code_section(12))[0], 0, listing(*answer, (later, 0xD503201F, "hint #0"))
     yield "no-section-table", build([Segment(TEXT, text_of(ANSWER))])[0], 0, ""
+    routines = routine_lines()
+    yield "routines", assembled(text_of([word for word, _ in routines]), b"", TEXT, [(TEXT, True)]), 0, listing(
+        *((TEXT + 4 * k, *line) for k, line in enumerate(routines)))
     yield "source-with-data-in-its-text", assembled(*WITH_DATA), 0, listing(
         (TEXT, 0xD2800020, "movz x0, #1"), (TEXT + 8, 0xD2800BA8, "movz x8, #93"), (TEXT + 12, 0xD4000001, "svc #0"))
     yield "refused", elf(ANSWER + [UNLISTED]), 6, f"bad file: unlisted 0x000000000040000c 0x{UNLISTED:08x}\n"
@@ -681,7 +684,7 @@ def main():
     rows += [(f"{name}.elf", 6, file, text, {"run": ""}) for name, file, text in refusals()]
     rows += [(f"listing-{name}.elf", status, file, text, {"dis": ""}) for name, file, status, text in listings()]
     rows += [(f"source-{name}.s", 7, source, text, {"asm": ""}) for name, source, text in source_refusals()]
-    rows += [(f"{name}.s", 0, source, file, {"asm": ""}) for name, source, file in programs]
+    rows += [(f"{name}.s", 0, source, file, {"asm": ""}) for name, source, file in [*programs, *lazy_savings()]]
     runnable = [(name.removesuffix(".elf"), (name.removesuffix(".elf"), file, {k: v for k, v in options.items() if v})) for name, status, file, _, options in rows
                 if status == 0 and "run" in options]
     again = [*replays(runnable, 1), *replays(runnable, 2), *version_1_replays(files, signals(1)), *replays_of_nested(runnable)]

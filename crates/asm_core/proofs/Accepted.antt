@@ -1,12 +1,13 @@
 -- Lines of which none has a fault by itself: what holds of the first, of the location counters and of the labels.
-use Rattle.std.proofs.Common.{◌≡◌, ℕ, ◌+◌, ◌≤◌, Bool, true, false, cond, List, [], ◌∷◌, ◌++◌, Option, Some, None, Result, Ok, Err, ◌||◌}
+use Rattle.std.proofs.Common.{◌≡◌, ℕ, ◌+◌, ◌≤◌, Bool, true, false, cond, List, [], ◌∷◌, ◌++◌, map, Option, Some, None, Result, Ok, Err, ◌||◌}
 use Rattle.std.proofs.Common.{nat_lt, refl, sym, ap, ◌∙◌, subst, arith, ltb-false}
 use Rattle.std.specs.Prelude.{option_map}
 use Rattle.std.specs.List.{find}
 use Rattle.std.specs.Str.{bytes_eq}
 use Rattle.asm_parser.specs.declared.line.LineFault.{LineFault}
 use Rattle.asm_parser.specs.declared.line.LineFault.TheVariants.{BadOperand}
-use Rattle.asm_parser.specs.Statements.{Says, SourceLine}
+use Rattle.asm_parser.specs.Statements.{Instruction, SupportRoutines, CallTail, Says, Nothing, IntoText, IntoData, Quads, Words, Bytes, Zeros}
+use Rattle.asm_parser.specs.Statements.{Aligns, Globals, Codes, SourceLine}
 use Rattle.asm_parser.specs.Lines.{line_of}
 use Rattle.asm_core.specs.declared.fault.AsmFault.{AsmFault}
 use Rattle.asm_core.specs.declared.fault.AsmFault.TheVariants.{Line, Doubled, TooLarge}
@@ -17,7 +18,8 @@ use Rattle.asm_core.specs.declared.labels.Labels.{Labels}
 use Rattle.asm_core.specs.Source.{said_lines}
 use Rattle.sm_types.specs.declared.object.Section.{Section}
 use Rattle.sm_types.specs.declared.object.Section.TheVariants.{Text, Data}
-use Rattle.asm_core.specs.Layout.{here, here_in, size_of, grown_in, Label, label_at, if_some, counter_after, counter_past, labels_from}
+use Rattle.asm_core.specs.Code.{NamedByte, code_words, names_said}
+use Rattle.asm_core.specs.Layout.{here, here_in, size_of, grown_in, Label, label_at, label_past, labels_at, if_some, counter_after, counter_past, labels_from}
 use Rattle.asm_core.specs.Layout.{label_named, label_position, labels_of, names_of, first_counter}
 use Rattle.std.specs.Option.{option_or as or_else}
 use Rattle.asm_core.specs.Faults.{fault_if, misaligned, is_doubled, is_too_large, line_fault, labels_after, after_line, lines_fault}
@@ -56,7 +58,7 @@ accepted_by n p labels text texts (Err fault) is e = cc
 accepted_by n p labels text texts (Ok line) is e =
     let parts = both_none (line_fault n p labels (Ok line)) _ e in
     let first = both_none (option_map (λ column. Line n (BadOperand column)) (misaligned line.says (here p))) _ parts.0 in
-    let second = both_none (fault_if (is_doubled labels line.label) (Doubled n)) _ first.1 in
+    let second = both_none (fault_if (is_doubled labels (labels_at p line)) (Doubled n)) _ first.1 in
     record {
       line = line;
       says = is;
@@ -135,18 +137,62 @@ near_found test l found ls near rest e = elim (test l) as (λ b. cond b (Some l)
   | false ↦ λ h. rest found h
 ] e
 
-near_labelled : (test : Label → Bool) (p : LocationCounter) (label : Option (List ℕ)) (found : Label) (ls : List Label) → here p ≤ 4194304
-    → ((f : Label) → find test ls ≡ Some f → f.offset ≤ 4194304) → find test (if_some (option_map (label_at p) label) ++ ls) ≡ Some found
-    → found.offset ≤ 4194304
-near_labelled test p None found ls h rest e = rest found e
-near_labelled test p (Some name) found ls h rest e = near_found test (label_at p name) found ls h rest e
-
 here_part : (part : Section) (p : LocationCounter) → IsInLimits p → here_in part p ≤ 4194304
 here_part Text p h = h.text
 here_part Data p h = h.data_part
 
 pub here_near : (p : LocationCounter) → IsInLimits p → here p ≤ 4194304
 here_near p h = here_part p.part p h
+
+-- each item of a list has a property
+abbrev Each : {A : Type 0} → (A → Type 0) → List A → Type 0
+Each P [] = Unit {0}
+Each P (a ∷ items) = P a × Each P items
+
+-- a label is near
+abbrev IsNear : Label → Type 0
+IsNear l = l.offset ≤ 4194304
+
+near_labelled : (test : Label → Bool) (more : List Label) (found : Label) (ls : List Label) → Each IsNear more
+    → ((f : Label) → find test ls ≡ Some f → f.offset ≤ 4194304) → find test (more ++ ls) ≡ Some found → found.offset ≤ 4194304
+near_labelled test [] found ls h rest e = rest found e
+near_labelled test (l ∷ more) found ls h rest e =
+    near_found test l found (more ++ ls) h.0 (λ f g. near_labelled test more f ls h.1 rest g) e
+
+-- the names of a line are of its bytes
+within_line : (says : Says) (offset : ℕ) → Each (λ (n : NamedByte). n.offset ≤ size_of says offset) (names_said says)
+unfolding size_of code_words
+within_line (Codes SupportRoutines column) offset = (omega arith, (omega arith, (omega arith, tt)))
+within_line (Codes (Instruction word target) column) offset = tt
+within_line (Codes CallTail column) offset = tt
+within_line Nothing offset = tt
+within_line IntoText offset = tt
+within_line IntoData offset = tt
+within_line (Quads values) offset = tt
+within_line (Words numbers) offset = tt
+within_line (Bytes numbers) offset = tt
+within_line (Zeros count) offset = tt
+within_line (Aligns power) offset = tt
+within_line (Globals name) offset = tt
+
+names_near : (p : LocationCounter) (size : ℕ) (names : List NamedByte) → here p + size ≤ 4194304 → Each (λ (n : NamedByte). n.offset ≤ size) names
+    → Each IsNear (map (label_past p) names)
+names_near p size [] h w = tt
+names_near p size (n ∷ names) h w =
+    let first : n.offset ≤ size = w.0 in let near : here p + n.offset ≤ 4194304 = omega arith in (near, names_near p size names h w.1)
+
+near_all : (xs ys : List Label) → Each IsNear xs → Each IsNear ys → Each IsNear (xs ++ ys)
+near_all [] ys h g = g
+near_all (x ∷ xs) ys h g = (h.0, near_all xs ys h.1 g)
+
+own_near : (p : LocationCounter) (label : Option (List ℕ)) → here p ≤ 4194304 → Each IsNear (if_some (option_map (label_at p) label))
+own_near p None h = tt
+own_near p (Some name) h = (h, tt)
+
+line_near : (p : LocationCounter) (line : SourceLine) → IsInLimits p → is_too_large p line.says ≡ false → Each IsNear (labels_at p line)
+line_near p line h e =
+    near_all _ _ (own_near p line.label (here_near p h))
+    (names_near p (size_of line.says (here p)) (names_said line.says) (fits_here p line.says e) (within_line line.says (here p)))
 
 labels_near : (test : Label → Bool) (n : ℕ) (p : LocationCounter) (labels : List Label) (texts : List (List ℕ)) → IsInLimits p
     → lines_fault n p labels texts ≡ None → (found : Label) → find test (labels_from p (said_lines texts)) ≡ Some found
@@ -157,7 +203,7 @@ labels_near test n p labels (text ∷ texts) h e found g =
     let a = accepted_first n p labels text texts e in
     let after = counter_after p a.line.says in
     let rest = labels_near test (n + 1) after (labels_after p labels a.line) texts (limits_after p a.line.says a.fits) a.rest in
-    near_labelled test p a.line.label found (labels_from after (said_lines texts)) (here_near p h) rest
+    near_labelled test (labels_at p a.line) found (labels_from after (said_lines texts)) (line_near p a.line h a.fits) rest
     (sym (ap (λ ls. find test (labels_from p ls)) (said_first text texts a.line a.says)) ∙ g)
 
 near_counter : (o : Option Label) (counter : LabelPosition) → ((found : Label) → o ≡ Some found → found.offset ≤ 4194304)

@@ -14,10 +14,10 @@ use Rattle.asm_core.specs.declared.emit_lines.Emission.{Emission}
 use Rattle.sm_types.specs.declared.object.Content.{Content}
 use Rattle.asm_core.specs.Source.{said_lines}
 use Rattle.asm_core.specs.Layout.{Label, first_counter, here, here_in, grown_in, size_of, counter_after, counter_past, counter_of}
-use Rattle.asm_core.specs.Layout.{Names, names_in}
+use Rattle.asm_core.specs.Layout.{Names, names_in, labels_at}
 use Rattle.asm_core.specs.Faults.{target_fault, targets_fault, labels_after, lines_fault, text_length_of}
 use Rattle.asm_core.specs.Limits.{IsInLimits}
-use Rattle.asm_core.specs.Assembly.{Puts, SymbolSaid, symbol_said, text_is, label_symbol, mapping_symbol, symbols_from}
+use Rattle.asm_core.specs.Assembly.{Puts, SymbolSaid, symbol_said, text_is, label_symbols, mapping_symbol, symbols_from}
 use Rattle.asm_core.specs.Parts.{bytes_in, ArePartsOf}
 use Rattle.asm_core.specs.Emitted.{other, line_symbols, HaveGrown}
 use Rattle.asm_core.proofs.Pieces.{piece_puts, puts_kept}
@@ -125,7 +125,7 @@ module _ (T : ℕ) (L : Names) where
       ≡ map symbol_said old.symbols.items ++ symbols_from T p content (line ∷ rest)
   unfolding symbols_from line_symbols
   symbols_next p content line rest old new g =
-      let label = label_symbol T p line.label in
+      let label = label_symbols T (labels_at p line) in
       let mapping = mapping_symbol T p line.says content in
       let after = symbols_from T (counter_after p line.says) (text_is p line.says content) rest in
       let before = map symbol_said old.symbols.items in

@@ -7,6 +7,10 @@ pub mod PartSizes
 pub mod SmallAligns
 pub mod Writable
 pub mod Scanning
+pub mod LineLabels
+pub mod LabelSymbols
+pub mod RoutineWords
+pub mod CallSaid
 pub mod Pieces
 pub mod Accepted
 pub mod HasWords

@@ -1,7 +1,10 @@
 -- Each code word of a source's object means an instruction, since an instruction put it.
 use Rattle.std.proofs.Common.{◌≡◌, ℕ, zero, suc, ◌+◌, ◌*◌, ◌/◌, ◌%◌, ◌^◌, ◌<◌, ◌≤◌, Bool, true, false, cond, ◌==◌, ◌&&◌, List, [], ◌∷◌}
-use Rattle.std.proofs.Common.{length, take, Option, Some, None, Ok, Err, refl, sym, ap, ◌∙◌, subst, arith}
+use Rattle.std.proofs.Common.{◌++◌, inl, inr, length, take, drop, Option, Some, None, Ok, Err, refl, sym, ap, ◌∙◌, subst, arith, drop-drop, length-append}
 use Rattle.std.specs.Prelude.{slice_get, is_some, option_map}
+use Rattle.std.proofs.lemmas.Bool.{cases_lt}
+use Rattle.std.proofs.lemmas.List.{drop_at, drop-take, take-take}
+use Rattle.byteorder.specs.Numbers.{length-bytes_low_first}
 use Rattle.std.specs.List.{filter_map, cons_option, range_with_len, list_all}
 use Rattle.std.proofs.lemmas.Bool.Decides.{nat_tests}
 use Rattle.byteorder.specs.Endian.{little_bytes}
@@ -13,19 +16,21 @@ use Rattle.sm_types.specs.Objects.{text_address, mappings_of, governing_mapping,
 use Rattle.sm_types.specs.Objects.{object_code}
 use Rattle.a64_encode.specs.Either.{instruction_of}
 use Rattle.asm_parser.specs.declared.line.LineFault.{LineFault}
-use Rattle.asm_parser.specs.Statements.{Says, Nothing, IntoText, IntoData, Quads, Words, Bytes, Zeros, Aligns, Globals, Instructs}
+use Rattle.asm_parser.specs.Statements.{Says, Nothing, IntoText, IntoData, Quads, Words, Bytes, Zeros, Aligns, Globals, Codes}
 use Rattle.asm_parser.specs.Statements.{SourceLine}
 use Rattle.asm_parser.specs.Lines.{line_of}
 use Rattle.asm_core.specs.declared.fault.AsmFault.{AsmFault}
 use Rattle.asm_core.specs.declared.location_counter.LocationCounter.{LocationCounter}
 use Rattle.asm_core.specs.Source.{said_lines}
-use Rattle.asm_core.specs.Layout.{first_counter, here_in, here, size_of, Label, Names, names_in, counter_after, counter_past}
+use Rattle.asm_core.specs.Layout.{first_counter, here_in, here, size_of, Label, Names, names_in, address_here, counter_after, counter_past}
 use Rattle.std.specs.Option.{option_or as or_else}
 use Rattle.asm_core.specs.Faults.{misaligned, line_fault, lines_fault, labels_after, text_length_of}
-use Rattle.asm_core.specs.Assembly.{IsAssembled, Puts, part_bytes, is_instruction, IsObjectOf}
+use Rattle.asm_core.specs.Code.{code_words}
+use Rattle.asm_core.specs.Assembly.{HasBytes, numbers_bytes, resolved_words, MeansOne, MeanEach, Puts, part_bytes, puts_code, IsObjectOf}
 use Rattle.a64_encode.specs.Writable.{is_listed}
 use Rattle.asm_core.proofs.MappingSymbols.{mappings_said, line_mappings_said, told}
 use Rattle.asm_core.proofs.Scanning.{lines_cons, said_cons, line_passes}
+use Rattle.asm_core.proofs.Pieces.{length-resolved}
 
 -- ---- instructions stand at multiples of 4
 
@@ -111,27 +116,61 @@ bytes_word word l = omega arith
 here_text : (p : LocationCounter) → p.part ≡ Text → here p ≡ p.text_size
 here_text p e = ap (λ part. here_in part p) e
 
-word_there : (word : ℕ) (text : List ℕ) (at : ℕ) → IsAssembled word text at → is_some (instruction_of (text_word text at)) ≡ true
+word_there : (word : ℕ) (text : List ℕ) (at : ℕ) → MeansOne word → HasBytes text at (little_bytes 4 word)
+    → is_some (instruction_of (text_word text at)) ≡ true
 unfolding text_word
-word_there word text at h =
-    ap (λ bytes. is_some (instruction_of (little bytes))) h.stands ∙ ap (λ w. is_some (instruction_of w)) (bytes_word word h.is_word)
+word_there word text at h stands =
+    ap (λ bytes. is_some (instruction_of (little bytes))) stands ∙ ap (λ w. is_some (instruction_of w)) (bytes_word word h.is_word)
     ∙ h.means
 
 same_offset : (n at : ℕ) → at % 4 ≡ 0 → at ≤ 4 * n → 4 * n < at + 4 → at ≡ 4 * n
 same_offset n at e l m = omega arith
 
--- an instruction at a location counter of the text that has byte 4 * n put word n
-put_word : (tl : ℕ) (names : Names) (text : List ℕ) (says : Says) (p : LocationCounter) (n : ℕ) → is_instruction says ≡ true
+-- bytes that stand somewhere are two pieces, one after the other
+two_pieces : (bytes a b : List ℕ) (at : ℕ) → HasBytes bytes at (a ++ b) → HasBytes bytes at a × HasBytes bytes (at + length a) b
+two_pieces bytes a b at h =
+    let rest = drop at bytes in
+    let whole : take (length a + length b) rest ≡ a ++ b = ap (λ n. take n rest) (sym (length-append a b)) ∙ h in (
+      sym (take-take (length a) (length a + length b) rest (omega arith)) ∙ ap (take (length a)) whole ∙ take_at a b,
+      ap (take (length b)) (sym (drop-drop (length a) at bytes)) ∙ sym (drop-take (length a) (length b) rest)
+          ∙ ap (drop (length a)) whole ∙ drop_at a b (length a) refl,
+    )
+  where
+    take_at : (xs ys : List ℕ) → take (length xs) (xs ++ ys) ≡ xs
+    take_at [] ys = refl
+    take_at (x ∷ xs) ys = ap (λ zs. x ∷ zs) (take_at xs ys)
+
+-- of words that stand somewhere, that which has byte 4 * n
+word_among : (words text : List ℕ) (at n : ℕ) → MeanEach words → HasBytes text at (numbers_bytes 4 words) → at % 4 ≡ 0 → at ≤ 4 * n
+    → 4 * n < at + 4 * length words → is_some (instruction_of (text_word text (4 * n))) ≡ true
+word_among [] text at n m h e from to = absurd (omega arith)
+word_among (w ∷ ws) text at n m h e from to =
+    let p = two_pieces text (little_bytes 4 w) (numbers_bytes 4 ws) at h in
+    elim (cases_lt (4 * n) (at + 4)) [
+      | inl lt ↦
+          let same : at ≡ 4 * n = same_offset n at e from lt in
+          ap (λ k. is_some (instruction_of (text_word text k))) (sym same) ∙ word_there w text at m.0 p.0
+      | inr past ↦
+          let rest : HasBytes text (at + 4) (numbers_bytes 4 ws) =
+          subst (λ k. HasBytes text (at + k) (numbers_bytes 4 ws)) (length-bytes_low_first 0 4 w) p.1 in
+          let next : (at + 4) % 4 ≡ 0 = omega arith in
+          let to_end : 4 * n < at + 4 + 4 * length ws = omega arith in
+          word_among ws text (at + 4) n m.1 rest next past to_end
+    ]
+
+-- code at a location counter of the text that has byte 4 * n put word n
+put_word : (tl : ℕ) (names : Names) (text : List ℕ) (says : Says) (p : LocationCounter) (n : ℕ) → puts_code says ≡ true
     → p.part ≡ Text
     → p.text_size ≤ 4 * n → 4 * n < p.text_size + size_of says (here p)
     → misaligned says (here p) ≡ None → Puts tl names text p says → is_some (instruction_of (text_word text (4 * n))) ≡ true
-unfolding is_instruction size_of misaligned Puts
-put_word tl names text (Instructs word target column) p n isn in_text from to aligned puts =
+unfolding puts_code size_of misaligned Puts
+put_word tl names text (Codes code column) p n isn in_text from to aligned puts =
     let at : here p ≡ p.text_size = here_text p in_text in
     let whole : here p % 4 ≡ 0 = multiple (here p) column (here p % 4 == 0) refl aligned in
-    let same : here p ≡ 4 * n =
-    same_offset n (here p) whole (subst (λ m. m ≤ 4 * n) (sym at) from) (subst (λ m. 4 * n < m + 4) (sym at) to) in
-    ap (λ m. is_some (instruction_of (text_word text m))) (sym same) ∙ word_there _ text (here p) puts
+    let count = length-resolved tl names (address_here tl p) (code_words code) in
+    word_among (resolved_words tl names (address_here tl p) (code_words code)) text (here p) n puts.mean puts.stand whole
+    (subst (λ m. m ≤ 4 * n) (sym at) from)
+    (subst (λ k. 4 * n < here p + 4 * k) (sym count) (subst (λ m. 4 * n < m + 4 * length (code_words code)) (sym at) to))
 put_word tl names text Nothing p n isn in_text from to aligned puts = cc
 put_word tl names text IntoText p n isn in_text from to aligned puts = cc
 put_word tl names text IntoData p n isn in_text from to aligned puts = cc
@@ -179,7 +218,7 @@ module _ (texts : List (List ℕ)) (accepted : lines_fault 1 first_counter [] te
       let mappings =
       mappings_said object.symbols.items ∙ ap (filter_map _) is.symbols
       ∙ line_mappings_said (text_length_of lines) first_counter None lines in
-      let instruction : is_instruction t.put.line.says ≡ true =
+      let instruction : puts_code t.put.line.says ≡ true =
       sym t.kind ∙ sym (ap (λ ms. is_code (mapping_says (governing_mapping (text_address + 4 * n) None ms))) mappings) ∙ code in
       let puts : Puts (text_length_of lines) (names_in lines) object.text_bytes.items p t.put.line.says =
       subst (λ (part : Section). Puts (text_length_of lines) (names_in lines) (part_bytes object part) p t.put.line.says) t.put.in_text

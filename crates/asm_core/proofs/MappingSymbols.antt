@@ -1,6 +1,6 @@
 -- What the mapping symbols of a source's lines say of each byte of its text: whether an instruction put it.
 use Rattle.std.proofs.Common.{◌≡◌, ℕ, suc, ◌+◌, ◌<◌, ◌≤◌, ◌⊎◌, inl, inr, Bool, true, false, not, cond, ◌&&◌, List, [], ◌∷◌, ◌++◌, take, map}
-use Rattle.std.proofs.Common.{Option, Some, None, nat_lt, nat_le, refl, sym, ap, ◌∙◌, subst, arith}
+use Rattle.std.proofs.Common.{Option, Some, None, nat_lt, nat_le, refl, sym, ap, ap₂, ◌∙◌, subst, arith}
 use Rattle.std.specs.Prelude.{slice_get, is_none}
 use Rattle.std.specs.List.{filter_map, cons_option}
 use Rattle.std.proofs.lemmas.Bool.Decides.{nat_tests}
@@ -13,8 +13,8 @@ use Rattle.asm_parser.specs.Statements.{Says, SourceLine}
 use Rattle.asm_core.specs.declared.location_counter.LocationCounter.{LocationCounter}
 use Rattle.sm_types.specs.declared.object.Content.{Content}
 use Rattle.sm_types.specs.declared.object.Content.TheVariants as content
-use Rattle.asm_core.specs.Layout.{here_in, here, grown_in, size_of, counter_after, counter_past, address_in, address_here}
-use Rattle.asm_core.specs.Assembly.{SymbolSaid, symbol_said, label_symbol, is_instruction, content_of, fills_in, fills_text, text_is}
+use Rattle.asm_core.specs.Layout.{here_in, here, grown_in, size_of, counter_after, counter_past, Label, labels_at, address_in}
+use Rattle.asm_core.specs.Assembly.{SymbolSaid, symbol_said, label_symbol, label_symbols, puts_code, content_of, fills_in, fills_text, text_is}
 use Rattle.asm_core.specs.Assembly.{mapping_name, mapping_symbol, symbols_from}
 
 -- ---- from symbols to mapping symbols
@@ -44,10 +44,10 @@ mapped_join (x ∷ xs) ys =
     ap (cons_option (mapping_said x)) (mapped_join xs ys)
     ∙ sym (cons_join (mapping_said x) (filter_map mapping_said xs) (filter_map mapping_said ys))
 
-code_content : (says : Says) → is_code (content_of says) ≡ is_instruction says
+code_content : (says : Says) → is_code (content_of says) ≡ puts_code says
 unfolding content_of
 code_content says =
-    elim (is_instruction says) as (λ b. is_code (cond b content.Code content.Data) ≡ b) [
+    elim (puts_code says) as (λ b. is_code (cond b content.Code content.Data) ≡ b) [
       | true ↦ refl
       | false ↦ refl
     ]
@@ -76,15 +76,21 @@ no_mapping Text address None e = refl
 no_mapping Data address None e = refl
 no_mapping section address (Some b) e = cc
 
-no_label_mapping : (tl : ℕ) (p : LocationCounter) (label : Option (List ℕ)) → filter_map mapping_said (label_symbol tl p label) ≡ []
+no_label_mapping : (tl : ℕ) (l : Label) → filter_map mapping_said (label_symbol tl l) ≡ []
 unfolding label_symbol
-no_label_mapping tl p None = refl
-no_label_mapping tl p (Some name) =
-    elim (is_none (name_says name)) as (λ b. is_none (name_says name) ≡ b
-    → filter_map mapping_said (cond b (record { name = name; address = address_here tl p; section = p.part } ∷ []) []) ≡ []) [
-      | true ↦ λ e. ap (λ o. cons_option o []) (no_mapping p.part (address_here tl p) (name_says name) e)
+no_label_mapping tl l =
+    let address = address_in tl l.part l.offset in
+    elim (is_none (name_says l.name)) as (λ b. is_none (name_says l.name) ≡ b
+    → filter_map mapping_said (cond b (record { name = l.name; address = address; section = l.part } ∷ []) []) ≡ []) [
+      | true ↦ λ e. ap (λ o. cons_option o []) (no_mapping l.part address (name_says l.name) e)
       | false ↦ λ e. refl
     ] refl
+
+no_labels_mapping : (tl : ℕ) (ls : List Label) → filter_map mapping_said (label_symbols tl ls) ≡ []
+unfolding label_symbols
+no_labels_mapping tl [] = refl
+no_labels_mapping tl (l ∷ ls) =
+    mapped_join (label_symbol tl l) (label_symbols tl ls) ∙ ap₂ (λ ms ns. ms ++ ns) (no_label_mapping tl l) (no_labels_mapping tl ls)
 
 named_mapping : (address : ℕ) (c : Content) → mapping_at address (name_says (mapping_name c)) ≡ Some (mapping_to address c)
 named_mapping address content.Code = refl
@@ -115,10 +121,10 @@ pub line_mappings_said : (tl : ℕ) (p : LocationCounter) (before : Option Conte
 unfolding symbols_from mappings_from
 line_mappings_said tl p before [] = refl
 line_mappings_said tl p before (line ∷ lines) =
-    mapped_join (label_symbol tl p line.label) _
+    mapped_join (label_symbols tl (labels_at p line)) _
     ∙ ap (λ ms. ms ++ filter_map mapping_said
     (mapping_symbol tl p line.says before ++ symbols_from tl (counter_after p line.says) (text_is p line.says before) lines))
-    (no_label_mapping tl p line.label)
+    (no_labels_mapping tl (labels_at p line))
     ∙ mapped_join (mapping_symbol tl p line.says before) _
     ∙ (λ i. symbol_mapping tl p line.says before i ++ line_mappings_said tl (counter_after p line.says) (text_is p line.says before) lines
     i)
@@ -284,7 +290,7 @@ pub record Told (p : LocationCounter) (before : Option Content) (best : Option M
     (offset : ℕ) : Type 0 where
   pub put : Put p lines offset
   pub kind : is_code (mapping_says (governing_mapping (text_address + offset) best (mappings_from p before lines)))
-      ≡ is_instruction put.line.says
+      ≡ puts_code put.line.says
 
 low_or : (a b : ℕ) → (a < b) ⊎ (b ≤ a)
 low_or a b = grind arith

@@ -4,8 +4,6 @@ use Rattle.std.proofs.Common.{Option, Some, None, refl, sym, ap, ap₂, ◌∙�
 use Rattle.std.specs.List.{filter_map, range_with_len}
 use Rattle.std.proofs.lemmas.List.{length-map, length-replicate, take_all}
 use Rattle.std.proofs.Math.Seq.{take-add}
-use Rattle.byteorder.specs.Endian.{little_bytes}
-use Rattle.byteorder.specs.Numbers.{length-bytes_low_first}
 use Rattle.sm_types.specs.declared.object.Section.{Section}
 use Rattle.sm_types.specs.declared.object.Section.TheVariants.{Text, Data}
 use Rattle.sm_types.specs.declared.object.Symbol.{Symbol}
@@ -13,15 +11,16 @@ use Rattle.sm_types.specs.declared.object.Object.{Object}
 use Rattle.sm_types.specs.Objects.{text_address, Mapping, mapping_at, mapping_of, mappings_of, says_in, symbol_says, name_says}
 use Rattle.sm_types.specs.Objects.{is_text_code, text_word, object_word, object_code}
 use Rattle.asm_parser.specs.Statements.{Says, Nothing, IntoText, IntoData, Quads, Words, Bytes, Zeros, Aligns}
-use Rattle.asm_parser.specs.Statements.{Globals, Instructs, SourceLine}
+use Rattle.asm_parser.specs.Statements.{Globals, Codes, SourceLine}
+use Rattle.asm_core.specs.Code.{code_words}
 use Rattle.asm_core.specs.declared.location_counter.LocationCounter.{LocationCounter}
 use Rattle.asm_core.specs.Source.{lines_of, said_lines}
 use Rattle.asm_core.specs.Layout.{first_counter, here_in, here, size_of, grown_in, part_after, counter_after, counter_past}
 use Rattle.asm_core.specs.Layout.{Names, names_in, address_here}
 use Rattle.asm_core.specs.Faults.{text_length_of, start_of}
-use Rattle.asm_core.specs.Assembly.{HasBytes, numbers_bytes, quad_number, resolved, Puts, part_bytes, SymbolSaid, symbol_said}
+use Rattle.asm_core.specs.Assembly.{HasBytes, numbers_bytes, quad_number, resolved_words, Puts, part_bytes, SymbolSaid, symbol_said}
 use Rattle.asm_core.specs.Assembly.{IsObjectOf, Assembles, IsSameObject}
-use Rattle.asm_core.proofs.Pieces.{length-numbers}
+use Rattle.asm_core.proofs.Pieces.{length-numbers, length-resolved}
 
 -- ---- what a line puts is the same wherever it stands
 
@@ -34,11 +33,11 @@ module _ (text_length : ℕ) (names : Names) where
       → Puts text_length names others p says
       → take (size_of says (here p)) (drop (here p) bytes) ≡ take (size_of says (here p)) (drop (here p) others)
   unfolding Puts size_of
-  puts_alike p (Instructs word target column) bytes others h g =
-      let piece = little_bytes 4 (resolved text_length names (address_here text_length p) word target) in
-      alike (here p) 4 piece bytes others (length-bytes_low_first 0 4
-      (resolved text_length names (address_here text_length p) word target))
-      h.stands g.stands
+  puts_alike p (Codes code column) bytes others h g =
+      let from = address_here text_length p in
+      let words = resolved_words text_length names from (code_words code) in
+      alike (here p) (4 * length (code_words code)) (numbers_bytes 4 words) bytes others
+      (length-numbers 4 words ∙ ap (λ n. 4 * n) (length-resolved text_length names from (code_words code))) h.stand g.stand
   puts_alike p (Quads values) bytes others h g =
       let numbers = map (quad_number text_length names) values in
       alike (here p) (8 * length values) (numbers_bytes 8 numbers) bytes others

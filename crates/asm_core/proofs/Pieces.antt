@@ -1,17 +1,19 @@
 -- Bytes that are put after others: they stand there, and those before stay.
-use Rattle.std.proofs.Common.{◌≡◌, ℕ, zero, suc, ◌*◌, ◌<◌, Bool, true, false, ◌||◌, get_or, List, [], ◌∷◌, ◌++◌, length, take, drop, map}
+use Rattle.std.proofs.Common.{◌≡◌, ℕ, zero, suc, ◌+◌, ◌*◌, ◌<◌, Bool, true, false, ◌||◌, get_or, List, [], ◌∷◌, ◌++◌, length, take, drop, map}
 use Rattle.std.proofs.Common.{replicate, refl, sym, ap, ◌∙◌, subst, arith, length-append, append_assoc, min, Option}
 use Rattle.std.proofs.lemmas.List.{length-take, length-replicate, length-map, take_all, drop_at, take-append-le, append-nil, map-append}
 use Rattle.std.proofs.lemmas.List.Folds.{list_any-append}
 use Rattle.std.specs.List.{list_any}
 use Rattle.byteorder.specs.Endian.{little_bytes}
 use Rattle.byteorder.specs.Numbers.{length-bytes_low_first}
-use Rattle.asm_parser.specs.Statements.{QuadValue, TargetSaid, Says, Nothing, IntoText, IntoData, Quads, Words, Bytes, Zeros, Aligns}
-use Rattle.asm_parser.specs.Statements.{Globals, Instructs}
+use Rattle.asm_parser.specs.Statements.{QuadValue, Code, Instruction, SupportRoutines, CallTail, TargetSaid, Says, Nothing, IntoText, IntoData, Quads, Words, Bytes, Zeros, Aligns}
+use Rattle.asm_parser.specs.Statements.{Globals, Codes}
+use Rattle.asm_core.specs.Code.{CodeWord, routine_words, tail_code, code_words}
 use Rattle.asm_core.specs.declared.location_counter.LocationCounter.{LocationCounter}
 use Rattle.asm_core.specs.Layout.{Names, here, size_of, address_here}
-use Rattle.asm_core.specs.Assembly.{HasBytes, numbers_bytes, quad_number, resolved, Puts}
-use Rattle.asm_core.specs.Emitted.{IsWordAfter, IsPiece, Adds}
+use Rattle.asm_core.specs.Assembly.{HasBytes, numbers_bytes, quad_number, resolved, resolved_words, MeansOne, MeanEach, Puts}
+use Rattle.asm_core.specs.Emitted.{AreWordsAfter, IsPiece, Adds}
+use Rattle.asm_core.proofs.RoutineWords.{resolved_plain, words_mean}
 
 pub length-numbers : (width : ℕ) (ns : List ℕ) → length (numbers_bytes width ns) ≡ width * length ns
 length-numbers width [] = omega arith
@@ -19,6 +21,19 @@ length-numbers width (n ∷ ns) =
     let head : length (little_bytes width n) ≡ width = length-bytes_low_first 0 width n in
     let tail : length (numbers_bytes width ns) ≡ width * length ns = length-numbers width ns in
     length-append (little_bytes width n) (numbers_bytes width ns) ∙ omega arith
+
+pub length-resolved : (text_length : ℕ) (names : Names) (from : ℕ) (words : List CodeWord)
+    → length (resolved_words text_length names from words) ≡ length words
+unfolding resolved_words
+length-resolved text_length names from [] = refl
+length-resolved text_length names from (w ∷ ws) = ap suc (length-resolved text_length names (from + 4) ws)
+
+-- the bytes of numbers after those of others
+pub numbers_append : (width : ℕ) (ns ms : List ℕ) → numbers_bytes width (ns ++ ms) ≡ numbers_bytes width ns ++ numbers_bytes width ms
+numbers_append width [] ms = refl
+numbers_append width (n ∷ ns) ms =
+    ap (λ x. little_bytes width n ++ x) (numbers_append width ns ms)
+    ∙ sym (append_assoc (little_bytes width n) (numbers_bytes width ns) (numbers_bytes width ms))
 
 -- ---- standing at a location counter
 
@@ -47,10 +62,9 @@ module _ (text_length : ℕ) (names : Names) (p : LocationCounter) where
   pub piece_puts : (says : Says) (old piece : List ℕ) → length old ≡ here p → IsPiece text_length names p says piece
       → Puts text_length names (old ++ piece) p says
   unfolding IsPiece Puts
-  piece_puts (Instructs word target column) old piece e h = record {
-    is_word = h.is_word;
-    means = h.means;
-    stands = subst (λ (x : List ℕ). HasBytes (old ++ piece) (here p) x) h.bytes (bytes_put old piece (here p) e);
+  piece_puts (Codes code column) old piece e h = record {
+    mean = h.mean;
+    stand = subst (λ (x : List ℕ). HasBytes (old ++ piece) (here p) x) h.bytes (bytes_put old piece (here p) e);
   }
   piece_puts (Quads values) old piece e h = subst (λ (x : List ℕ). HasBytes (old ++ piece) (here p) x) h (bytes_put old piece (here p) e)
   piece_puts (Words numbers) old piece e h = subst (λ (x : List ℕ). HasBytes (old ++ piece) (here p) x) h (bytes_put old piece (here p) e)
@@ -65,13 +79,9 @@ module _ (text_length : ℕ) (names : Names) (p : LocationCounter) where
   pub puts_kept : (says : Says) (bytes more : List ℕ) → Puts text_length names bytes p says
       → Puts text_length names (bytes ++ more) p says
   unfolding Puts
-  puts_kept (Instructs word target column) bytes more h =
-      record {
-        is_word = h.is_word;
-        means = h.means;
-        stands =
-            bytes_kept bytes more (here p) (little_bytes 4 (resolved text_length names (address_here text_length p) word target)) h.stands;
-      }
+  puts_kept (Codes code column) bytes more h =
+      let words = resolved_words text_length names (address_here text_length p) (code_words code) in
+      record { mean = h.mean; stand = bytes_kept bytes more (here p) (numbers_bytes 4 words) h.stand }
   puts_kept (Quads values) bytes more h = bytes_kept bytes more (here p) (numbers_bytes 8 (map (quad_number text_length names) values)) h
   puts_kept (Words numbers) bytes more h = bytes_kept bytes more (here p) (numbers_bytes 4 numbers) h
   puts_kept (Bytes numbers) bytes more h = bytes_kept bytes more (here p) numbers h
@@ -119,18 +129,46 @@ module _ (text_length : ℕ) (names : Names) (p : LocationCounter) where
       → Adds text_length names p says old old
   adds_nothing old says s h = record { piece = []; added = sym (append-nil old); size = sym s; piece_is = h }
 
-  pub adds_word : (word : ℕ) (target : Option TargetSaid) (column : ℕ) (old new : List ℕ)
-      → IsWordAfter (resolved text_length names (address_here text_length p) word target) old new
-      → Adds text_length names p (Instructs word target column) old new
+  pub adds_code : (code : Code) (column : ℕ) (old new : List ℕ)
+      → AreWordsAfter (resolved_words text_length names (address_here text_length p) (code_words code)) old new
+      → Adds text_length names p (Codes code column) old new
   unfolding IsPiece size_of
-  adds_word word target column old new h =
+  adds_code code column old new h =
+      let from = address_here text_length p in
+      let words = resolved_words text_length names from (code_words code) in
       record {
-        piece = h.piece;
+        piece = numbers_bytes 4 words;
         added = h.added;
-        size = ap length h.piece_is.bytes
-            ∙ length-bytes_low_first 0 4 (resolved text_length names (address_here text_length p) word target);
-        piece_is = h.piece_is;
+        size = length-numbers 4 words
+            ∙ ap (λ n. 4 * n) (length-resolved text_length names from (code_words code));
+        piece_is = record { mean = h.mean; bytes = refl };
       }
+
+  pub adds_word : (word : ℕ) (target : Option TargetSaid) (column : ℕ) (old new : List ℕ)
+      → MeansOne (resolved text_length names (address_here text_length p) word target)
+      → new ≡ old ++ little_bytes 4 (resolved text_length names (address_here text_length p) word target)
+      → Adds text_length names p (Codes (Instruction word target) column) old new
+  unfolding code_words resolved_words
+  adds_word word target column old new m e =
+      let v = resolved text_length names (address_here text_length p) word target in
+      adds_code (Instruction word target) column old new
+      (record { mean = (m, tt); added = e ∙ ap (λ x. old ++ x) (sym (append-nil (little_bytes 4 v))) })
+
+  pub adds_routines : (column : ℕ) (old new : List ℕ) → new ≡ old ++ numbers_bytes 4 routine_words
+      → Adds text_length names p (Codes SupportRoutines column) old new
+  unfolding code_words
+  adds_routines column old new e =
+      let same = resolved_plain text_length names (address_here text_length p) routine_words in
+      adds_code SupportRoutines column old new (record {
+        mean = subst MeanEach (sym same) words_mean.0;
+        added = e ∙ ap (λ ws. old ++ numbers_bytes 4 ws) (sym same);
+      })
+
+  pub adds_tail : (column : ℕ) (old new : List ℕ)
+      → AreWordsAfter (resolved_words text_length names (address_here text_length p) tail_code) old new
+      → Adds text_length names p (Codes CallTail column) old new
+  unfolding code_words
+  adds_tail column old new h = adds_code CallTail column old new h
 
 -- ---- numbers, one after the other
 

@@ -13,7 +13,7 @@ use Rattle.asm_core.specs.declared.fault.AsmFault.TheVariants.{Line}
 use Rattle.asm_core.specs.declared.labels.Labels.{Labels}
 use Rattle.asm_core.specs.declared.location_counter.LocationCounter.{LocationCounter}
 use Rattle.asm_core.specs.Source.{lines_of, said_lines}
-use Rattle.asm_core.specs.Layout.{first_counter, Label, label_at, if_some, label_named, label_position, labels_of, labels_from, counter_after, counter_past}
+use Rattle.asm_core.specs.Layout.{first_counter, Label, labels_at, label_named, label_position, labels_of, labels_from, counter_after, counter_past}
 use Rattle.std.specs.Option.{option_or as or_else}
 use Rattle.asm_core.specs.Faults.{after_line, line_fault, lines_fault, labels_after}
 use Rattle.asm_core.specs.Known.{known, Knows}
@@ -102,7 +102,7 @@ unfolding said_lines
 said_cons text texts line e = rw e refl
 
 labels_cons : (p : LocationCounter) (line : SourceLine) (lines : List SourceLine)
-    → labels_from p (line ∷ lines) ≡ if_some (option_map (label_at p) line.label) ++ labels_from (counter_after p line.says) lines
+    → labels_from p (line ∷ lines) ≡ labels_at p line ++ labels_from (counter_after p line.says) lines
 unfolding labels_from
 labels_cons p line lines = refl
 
@@ -130,7 +130,7 @@ scanned_more source n p table rest text after next more h split shorter passes =
       labels =
           h.labels ∙ ap (λ (ls : List SourceLine). h.list ++ labels_from p ls) said
           ∙ ap (λ (ls : List Label). h.list ++ ls) (labels_cons p line (said_lines (lines_of after)))
-          ∙ sym (append_assoc h.list (if_some (option_map (label_at p) line.label))
+          ∙ sym (append_assoc h.list (labels_at p line)
           (labels_from (counter_after p line.says) (said_lines (lines_of after))))
           ∙ ap (λ (q : LocationCounter). labels_after p h.list line ++ labels_from q (said_lines (lines_of after))) (sym passes.after_is);
       counter =

@@ -11,10 +11,10 @@ use Rattle.asm_operands.specs.declared.fault.FaultKind.TheVariants.{Extra}
 use Rattle.asm_operands.specs.Operands.{OperandsSaid, operands_said}
 use Rattle.asm_operands.specs.Operands as operands
 use Rattle.asm_parser.specs.declared.line.LineFault.{LineFault}
-use Rattle.asm_parser.specs.Statements.{Says, IntoText, IntoData, Quads, Words, Bytes, Zeros, Aligns, Globals, SourceLine}
+use Rattle.asm_parser.specs.Statements.{Says, IntoText, IntoData, Quads, Words, Bytes, Zeros, Aligns, Globals, Codes, SupportRoutines, CallTail, SourceLine}
 use Rattle.asm_parser.specs.Lines.{Answer, Tells, Stops, and_then, further, ends, no_number, number_up_to, number_then_end, one_number}
 use Rattle.asm_parser.specs.Lines.{one_name, values_from, quad_value, number_value, Directive, TextDirective, DataDirective, QuadDirective}
-use Rattle.asm_parser.specs.Lines.{WordDirective, ByteDirective, ZeroDirective, AlignDirective, GlobalDirective, directive_of}
+use Rattle.asm_parser.specs.Lines.{WordDirective, ByteDirective, ZeroDirective, AlignDirective, GlobalDirective, AbiDirective, TailDirective, directive_of}
 use Rattle.asm_parser.specs.Lines.{directive_says, instruction_or_fault, instruction_says, named_says, tokens_say, text_of_lexeme}
 use Rattle.asm_parser.specs.Lines.{line_answer, line_lexemes, label_of, line_of}
 use Rattle.asm_core.specs.Limits.{HasSmallAlign}
@@ -64,16 +64,18 @@ aligns_told : (a : Answer ℕ) → Told (λ m. m ≤ 12) a → Told HasSmallAlig
 aligns_told (Tells n) h = h
 aligns_told (Stops index kind) h = tt
 
-directive_told : (line : List ℕ) (d : Directive) (ls : List Lexeme) → Told HasSmallAlign (directive_says line d ls)
+directive_told : (line : List ℕ) (column : ℕ) (d : Directive) (ls : List Lexeme) → Told HasSmallAlign (directive_says line column d ls)
 unfolding directive_says
-directive_told line TextDirective ls = ends_told HasSmallAlign IntoText ls tt
-directive_told line DataDirective ls = ends_told HasSmallAlign IntoData ls tt
-directive_told line QuadDirective ls = made_told Quads (λ a. tt) (values_from (quad_value line) true ls)
-directive_told line WordDirective ls = made_told Words (λ a. tt) (values_from (number_value (2 ^ 32 - 1)) true ls)
-directive_told line ByteDirective ls = made_told Bytes (λ a. tt) (values_from (number_value 255) true ls)
-directive_told line ZeroDirective ls = made_told Zeros (λ a. tt) (one_number (2 ^ 64 - 1) ls)
-directive_told line AlignDirective ls = aligns_told (one_number 12 ls) (one_told 12 ls)
-directive_told line GlobalDirective ls = made_told Globals (λ a. tt) (one_name line ls)
+directive_told line column TextDirective ls = ends_told HasSmallAlign IntoText ls tt
+directive_told line column DataDirective ls = ends_told HasSmallAlign IntoData ls tt
+directive_told line column QuadDirective ls = made_told Quads (λ a. tt) (values_from (quad_value line) true ls)
+directive_told line column WordDirective ls = made_told Words (λ a. tt) (values_from (number_value (2 ^ 32 - 1)) true ls)
+directive_told line column ByteDirective ls = made_told Bytes (λ a. tt) (values_from (number_value 255) true ls)
+directive_told line column ZeroDirective ls = made_told Zeros (λ a. tt) (one_number (2 ^ 64 - 1) ls)
+directive_told line column AlignDirective ls = aligns_told (one_number 12 ls) (one_told 12 ls)
+directive_told line column GlobalDirective ls = made_told Globals (λ a. tt) (one_name line ls)
+directive_told line column AbiDirective ls = ends_told HasSmallAlign (Codes SupportRoutines column) ls tt
+directive_told line column TailDirective ls = ends_told HasSmallAlign (Codes CallTail column) ls tt
 
 operands_told : (line : List ℕ) (column : ℕ) (ls : List Lexeme) (said : OperandsSaid)
     → Told HasSmallAlign (instruction_or_fault line column ls said)
@@ -86,7 +88,7 @@ instruction_told line name column ls = operands_told line column ls _
 
 named_told : (line : List ℕ) (l : Lexeme) (ls : List Lexeme) (d : Option Directive) (name : Option ℕ)
     → Told HasSmallAlign (named_says line l ls d name)
-named_told line l ls (Some d) name = further_told HasSmallAlign 1 (directive_says line d ls) (directive_told line d ls)
+named_told line l ls (Some d) name = further_told HasSmallAlign 1 (directive_says line (column_at line l.start) d ls) (directive_told line (column_at line l.start) d ls)
 named_told line l ls None (Some name) =
     further_told HasSmallAlign 1 (instruction_says line name (column_at line l.start) ls)
     (instruction_told line name (column_at line l.start) ls)

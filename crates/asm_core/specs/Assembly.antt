@@ -1,7 +1,8 @@
 -- The object of a source: the bytes that its lines put, its symbols and its start.
 -- Source: the GNU assembler for directives; ELF for the Arm 64-bit Architecture (AArch64), mapping symbols
 -- `$x` and `$d`.
-use Rattle.std.specs.Prelude.{◌≡◌, ℕ, ◌^◌, ◌<◌, Bool, true, false, not, ◌&&◌, nat_lt, List, [], ◌∷◌, ◌++◌}
+use Rattle.std.specs.Prelude.{◌≡◌, ℕ, ◌+◌, ◌^◌, ◌<◌, Bool, true, false, not, ◌&&◌, nat_lt, List, [], ◌∷◌}
+use Rattle.std.specs.Prelude.{◌++◌}
 use Rattle.std.specs.Prelude.{length, take, drop, map, replicate, slice_get, Option, Some, None, is_some}
 use Rattle.std.specs.Prelude.{is_none, codes, if◌then◌else◌}
 use Rattle.std.specs.List.{concat}
@@ -15,12 +16,13 @@ use Rattle.sm_types.specs.declared.object.Content.TheVariants as content
 use Rattle.sm_types.specs.Objects.{name_says, is_same}
 use Rattle.a64_encode.specs.Either.{instruction_of}
 use Rattle.asm_parser.specs.Statements.{QuadValue, IsNumber, IsAddressOf, TargetSaid, Says, Nothing, IntoText}
-use Rattle.asm_parser.specs.Statements.{IntoData, Quads, Words, Bytes, Zeros, Aligns, Globals, Instructs}
+use Rattle.asm_parser.specs.Statements.{IntoData, Quads, Words, Bytes, Zeros, Aligns, Globals, Codes}
 use Rattle.asm_parser.specs.Statements.{SourceLine}
 use Rattle.asm_core.specs.Source.{lines_of, said_lines}
 use Rattle.asm_core.specs.declared.location_counter.LocationCounter.{LocationCounter}
 use Rattle.asm_core.specs.Layout.{first_counter, here, size_of, counter_after, counter_past, counter_of}
-use Rattle.asm_core.specs.Layout.{Names, names_in, label_address, address_here}
+use Rattle.asm_core.specs.Layout.{Names, names_in, Label, label_address, address_in, address_here, labels_at}
+use Rattle.asm_core.specs.Code.{CodeWord, code_words}
 use Rattle.asm_core.specs.declared.labels.LabelPosition.{LabelPosition}
 use Rattle.insn_text.specs.declared.item.Item.{Item}
 use Rattle.asm_core.specs.Targets.{word_to}
@@ -60,16 +62,32 @@ resolved text_length names from word None = word
 resolved text_length names from word (Some target) =
     resolved_at text_length target.operand word from (names target.name)
 
--- the word means an instruction, and its bytes stand there
-pub record IsAssembled (word : ℕ) (bytes : List ℕ) (offset : ℕ) : Type 0 where
+-- words with the distances to their targets, of which the first is at an address
+unfoldable pub resolved_words : ℕ → Names → ℕ → List CodeWord → List ℕ
+resolved_words text_length names from [] = []
+resolved_words text_length names from (w ∷ ws) =
+    resolved text_length names from w.word w.target ∷ resolved_words text_length names (from + 4) ws
+
+-- the word of 32 bits means an instruction
+pub record MeansOne (word : ℕ) : Type 0 where
   pub is_word : word < 2 ^ 32
   pub means : is_some (instruction_of word) ≡ true
-  pub stands : HasBytes bytes offset (little_bytes 4 word)
+
+-- each of some words does
+abbrev pub MeanEach : List ℕ → Type 0
+MeanEach [] = Unit {0}
+MeanEach (word ∷ words) = MeansOne word × MeanEach words
+
+-- each word means an instruction, and their bytes stand there
+pub record AreAssembled (words bytes : List ℕ) (offset : ℕ) : Type 0 where
+  pub mean : MeanEach words
+  pub stand : HasBytes bytes offset (numbers_bytes 4 words)
 
 -- what a line at a location counter puts stands in its part
 unfoldable pub Puts : ℕ → Names → List ℕ → LocationCounter → Says → Type 0
-Puts text_length names bytes p (Instructs word target column) =
-    IsAssembled (resolved text_length names (address_here text_length p) word target) bytes (here p)
+Puts text_length names bytes p (Codes code column) =
+    AreAssembled (resolved_words text_length names (address_here text_length p) (code_words code)) bytes
+    (here p)
 Puts text_length names bytes p (Quads values) =
     HasBytes bytes (here p) (numbers_bytes 8 (map (quad_number text_length names) values))
 Puts text_length names bytes p (Words numbers) = HasBytes bytes (here p) (numbers_bytes 4 numbers)
@@ -97,27 +115,31 @@ abbrev pub symbol_said : Symbol → SymbolSaid
 symbol_said symbol = record { name = symbol.name.items; address = symbol.address; section = symbol.section }
 
 -- the symbol of a label; one that is called like a mapping symbol has none
-unfoldable pub label_symbol : ℕ → LocationCounter → Option (List ℕ) → List SymbolSaid
-label_symbol text_length p None = []
-label_symbol text_length p (Some name) =
-    if is_none (name_says name) then record {
-      name = name;
-      address = address_here text_length p;
-      section = p.part;
+unfoldable pub label_symbol : ℕ → Label → List SymbolSaid
+label_symbol text_length label =
+    if is_none (name_says label.name) then record {
+      name = label.name;
+      address = address_in text_length label.part label.offset;
+      section = label.part;
     } ∷ [] else []
 
--- a line is an instruction
-unfoldable pub is_instruction : Says → Bool
-is_instruction (Instructs word target column) = true
-is_instruction Nothing = false
-is_instruction IntoText = false
-is_instruction IntoData = false
-is_instruction (Quads values) = false
-is_instruction (Words numbers) = false
-is_instruction (Bytes numbers) = false
-is_instruction (Zeros count) = false
-is_instruction (Aligns power) = false
-is_instruction (Globals name) = false
+-- the symbols of labels
+unfoldable pub label_symbols : ℕ → List Label → List SymbolSaid
+label_symbols text_length [] = []
+label_symbols text_length (l ∷ ls) = label_symbol text_length l ++ label_symbols text_length ls
+
+-- a line puts code
+unfoldable pub puts_code : Says → Bool
+puts_code (Codes code column) = true
+puts_code Nothing = false
+puts_code IntoText = false
+puts_code IntoData = false
+puts_code (Quads values) = false
+puts_code (Words numbers) = false
+puts_code (Bytes numbers) = false
+puts_code (Zeros count) = false
+puts_code (Aligns power) = false
+puts_code (Globals name) = false
 
 abbrev pub fills_in : Section → ℕ → Bool
 fills_in Text size = nat_lt 0 size
@@ -127,9 +149,9 @@ fills_in Data size = false
 unfoldable pub fills_text : LocationCounter → Says → Bool
 fills_text p says = fills_in p.part (size_of says (here p))
 
--- what the bytes of a line are: those of an instruction are code, all others data
+-- what the bytes of a line are: those of instructions are code, all others data
 unfoldable pub content_of : Says → Content
-content_of says = if is_instruction says then content.Code else content.Data
+content_of says = if puts_code says then content.Code else content.Data
 
 -- what the text is after a line: code, data, or nothing yet
 unfoldable pub text_is : LocationCounter → Says → Option Content → Option Content
@@ -150,11 +172,11 @@ mapping_symbol text_length p says before =
     } ∷ []
     else []
 
--- the symbols of lines in their order: of each line that of its label and then its mapping symbol
+-- the symbols of lines in their order: of each line those of its labels and then its mapping symbol
 unfoldable pub symbols_from : ℕ → LocationCounter → Option Content → List SourceLine → List SymbolSaid
 symbols_from text_length p before [] = []
 symbols_from text_length p before (line ∷ lines) =
-    label_symbol text_length p line.label ++ (mapping_symbol text_length p line.says before
+    label_symbols text_length (labels_at p line) ++ (mapping_symbol text_length p line.says before
     ++ symbols_from text_length (counter_after p line.says) (text_is p line.says before) lines)
 
 -- ---- the object

@@ -1,7 +1,6 @@
 -- What the second pass has put of a source, line by line.
-use Rattle.std.specs.Prelude.{◌≡◌, ℕ, ◌<◌, ◌≤◌, ◌^◌, Bool, List, [], ◌∷◌, ◌++◌, length, map, replicate}
+use Rattle.std.specs.Prelude.{◌≡◌, ℕ, ◌≤◌, Bool, List, [], ◌∷◌, ◌++◌, length, map, replicate}
 use Rattle.std.specs.Prelude.{Option, Some, None, Ok, true, false, is_some}
-use Rattle.byteorder.specs.Endian.{little_bytes}
 use Rattle.insn_text.specs.declared.item.Item.{Item}
 use Rattle.asm_operands.specs.Distances.{with_distance}
 use Rattle.asm_operands.specs.Sound.{is_sound}
@@ -9,16 +8,17 @@ use Rattle.sm_types.specs.declared.object.Section.{Section}
 use Rattle.sm_types.specs.declared.object.Section.TheVariants.{Text, Data}
 use Rattle.a64_encode.specs.Either.{instruction_of}
 use Rattle.asm_parser.specs.Statements.{TargetSaid, Says, Nothing, IntoText, IntoData, Quads, Words, Bytes}
-use Rattle.asm_parser.specs.Statements.{Zeros, Aligns, Globals, Instructs, SourceLine}
+use Rattle.asm_parser.specs.Statements.{Zeros, Aligns, Globals, Codes, SourceLine}
 use Rattle.asm_parser.specs.Lines.{line_of}
 use Rattle.asm_core.specs.declared.location_counter.LocationCounter.{LocationCounter}
 use Rattle.asm_core.specs.declared.target_addresses.Addresses.{Addresses}
 use Rattle.asm_core.specs.declared.labels.LabelPosition.{LabelPosition}
 use Rattle.asm_core.specs.declared.object_parts.Parts.{Parts}
 use Rattle.sm_types.specs.declared.object.Content.{Content}
-use Rattle.asm_core.specs.Layout.{Names, here, size_of, address_here}
-use Rattle.asm_core.specs.Assembly.{numbers_bytes, quad_number, resolved, SymbolSaid, symbol_said}
-use Rattle.asm_core.specs.Assembly.{label_symbol}
+use Rattle.asm_core.specs.Code.{CodeWord, code_words}
+use Rattle.asm_core.specs.Layout.{Names, here, size_of, address_here, labels_at}
+use Rattle.asm_core.specs.Assembly.{numbers_bytes, quad_number, resolved_words, MeanEach, SymbolSaid}
+use Rattle.asm_core.specs.Assembly.{symbol_said, label_symbols}
 use Rattle.asm_core.specs.Assembly.{mapping_symbol}
 use Rattle.asm_core.specs.Faults.{is_too_large}
 use Rattle.asm_core.specs.Known.{known}
@@ -47,9 +47,14 @@ pub record IsMeant (word : ℕ) (target : Option TargetSaid) : Type 0 where
   pub means : is_some (instruction_of word) ≡ true
   pub resolves : CanBeResolved word target
 
--- the word of a line means an instruction, where it is one
+-- each word means an instruction, and it does with each distance to its target
+abbrev pub AreMeant : List CodeWord → Type 0
+AreMeant [] = Unit {0}
+AreMeant (w ∷ words) = IsMeant w.word w.target × AreMeant words
+
+-- the words of a line mean instructions, where it puts code
 abbrev pub HasWord : Says → Type 0
-HasWord (Instructs word target column) = IsMeant word target
+HasWord (Codes code column) = AreMeant (code_words code)
 HasWord Nothing = Unit {0}
 HasWord IntoText = Unit {0}
 HasWord IntoData = Unit {0}
@@ -77,22 +82,20 @@ pub record AreNear (addresses : Addresses) : Type 0 where
       (name : List ℕ) (position : LabelPosition) → known addresses.labels.now name ≡ Some position
       → position.offset ≤ 4194304
 
--- the word of 32 bits means an instruction, and these are its bytes
-pub record IsWordOf (word : ℕ) (piece : List ℕ) : Type 0 where
-  pub is_word : word < 2 ^ 32
-  pub means : is_some (instruction_of word) ≡ true
-  pub bytes : piece ≡ little_bytes 4 word
+-- the words mean instructions, and these are their bytes
+pub record AreWordsOf (words piece : List ℕ) : Type 0 where
+  pub mean : MeanEach words
+  pub bytes : piece ≡ numbers_bytes 4 words
 
--- the bytes of a word that means an instruction follow others
-pub record IsWordAfter (word : ℕ) (old new : List ℕ) : Type 0 where
-  pub piece : List ℕ
-  pub added : new ≡ old ++ piece
-  pub piece_is : IsWordOf word piece
+-- the bytes of words that mean instructions follow others
+pub record AreWordsAfter (words old new : List ℕ) : Type 0 where
+  pub mean : MeanEach words
+  pub added : new ≡ old ++ numbers_bytes 4 words
 
 -- the bytes that a line at a location counter puts
 unfoldable pub IsPiece : ℕ → Names → LocationCounter → Says → List ℕ → Type 0
-IsPiece text_length names p (Instructs word target column) piece =
-    IsWordOf (resolved text_length names (address_here text_length p) word target) piece
+IsPiece text_length names p (Codes code column) piece =
+    AreWordsOf (resolved_words text_length names (address_here text_length p) (code_words code)) piece
 IsPiece text_length names p (Quads values) piece =
     piece ≡ numbers_bytes 8 (map (quad_number text_length names) values)
 IsPiece text_length names p (Words numbers) piece = piece ≡ numbers_bytes 4 numbers
@@ -123,7 +126,7 @@ one_symbol name address section = record { name = name; address = address; secti
 -- the symbols of a line
 unfoldable pub line_symbols : ℕ → LocationCounter → Option Content → SourceLine → List SymbolSaid
 line_symbols text_length p before line =
-    label_symbol text_length p line.label ++ mapping_symbol text_length p line.says before
+    label_symbols text_length (labels_at p line) ++ mapping_symbol text_length p line.says before
 
 -- the parts have grown by a line at a location counter: by its bytes, and by its symbols
 pub record HaveGrown (text_length : ℕ) (names : Names) (p : LocationCounter) (before : Option Content)

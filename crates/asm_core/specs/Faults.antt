@@ -12,7 +12,7 @@ use Rattle.sm_types.specs.declared.object.Section.TheVariants.{Text, Data}
 use Rattle.asm_parser.specs.declared.line.LineFault.{LineFault}
 use Rattle.asm_parser.specs.declared.line.LineFault.TheVariants.{BadOperand}
 use Rattle.asm_parser.specs.Statements.{QuadValue, IsNumber, IsAddressOf, TargetSaid, Says, Nothing, IntoText}
-use Rattle.asm_parser.specs.Statements.{IntoData, Quads, Words, Bytes, Zeros, Aligns, Globals, Instructs}
+use Rattle.asm_parser.specs.Statements.{IntoData, Quads, Words, Bytes, Zeros, Aligns, Globals, Codes}
 use Rattle.asm_parser.specs.Statements.{SourceLine}
 use Rattle.asm_parser.specs.Lines.{line_of}
 use Rattle.asm_core.specs.declared.fault.AsmFault.{AsmFault}
@@ -21,7 +21,8 @@ use Rattle.asm_core.specs.declared.fault.AsmFault.TheVariants.{TooFar, TooLarge,
 use Rattle.asm_core.specs.Source.{lines_of, said_lines}
 use Rattle.asm_core.specs.declared.location_counter.LocationCounter.{LocationCounter}
 use Rattle.asm_core.specs.declared.labels.LabelPosition.{LabelPosition}
-use Rattle.asm_core.specs.Layout.{first_counter, here, counter_after, counter_past, Label, label_at, if_some}
+use Rattle.asm_core.specs.Layout.{first_counter, here, counter_after, counter_past, Label, labels_at}
+use Rattle.asm_core.specs.Code.{CodeWord, code_words}
 use Rattle.asm_core.specs.Layout.{Names, names_in, label_named, label_address, address_in, address_here}
 use Rattle.insn_text.specs.declared.item.Item.{Item}
 use Rattle.asm_core.specs.Targets.{distance, word_to}
@@ -32,9 +33,9 @@ fault_if false fault = None
 
 -- ---- each line by itself, after those before it
 
--- the column of an instruction that stands at no multiple of 4
+-- the column of code that stands at no multiple of 4
 unfoldable pub misaligned : Says → ℕ → Option ℕ
-misaligned (Instructs word target column) offset = if offset % 4 == 0 then None else Some column
+misaligned (Codes code column) offset = if offset % 4 == 0 then None else Some column
 misaligned Nothing offset = None
 misaligned IntoText offset = None
 misaligned IntoData offset = None
@@ -45,10 +46,10 @@ misaligned (Zeros count) offset = None
 misaligned (Aligns power) offset = None
 misaligned (Globals name) offset = None
 
--- a label has the name of the line's
-abbrev pub is_doubled : List Label → Option (List ℕ) → Bool
-is_doubled labels None = false
-is_doubled labels (Some name) = is_some (label_named labels name)
+-- a label has the name of one before it
+unfoldable pub is_doubled : List Label → List Label → Bool
+is_doubled labels [] = false
+is_doubled labels (l ∷ ls) = is_some (label_named labels l.name) || is_doubled (labels ++ l ∷ []) ls
 
 -- the part that a line goes to has more than 4 MiB with it
 unfoldable pub is_too_large : LocationCounter → Says → Bool
@@ -60,12 +61,12 @@ unfoldable pub line_fault : ℕ → LocationCounter → List Label → Result So
 line_fault n p labels (Err fault) = Some (Line n fault)
 line_fault n p labels (Ok line) =
     or_else (option_map (λ column. Line n (BadOperand column)) (misaligned line.says (here p)))
-    (or_else (fault_if (is_doubled labels line.label) (Doubled n))
+    (or_else (fault_if (is_doubled labels (labels_at p line)) (Doubled n))
     (fault_if (is_too_large p line.says) (TooLarge n)))
 
 -- the labels after a line
 abbrev pub labels_after : LocationCounter → List Label → SourceLine → List Label
-labels_after p labels line = labels ++ if_some (option_map (label_at p) line.label)
+labels_after p labels line = labels ++ labels_at p line
 
 -- what follows a line that is in the grammar, at the location counter and with the labels after it
 abbrev pub after_line :
@@ -108,10 +109,17 @@ instruction_fault n text_length names from word None = None
 instruction_fault n text_length names from word (Some target) =
     label_fault n text_length target.operand word from (names target.name)
 
+-- the fault of the first of some words that has one, of which the first is at an address
+unfoldable pub words_fault : ℕ → ℕ → Names → ℕ → List CodeWord → Option AsmFault
+words_fault n text_length names from [] = None
+words_fault n text_length names from (w ∷ ws) =
+    or_else (instruction_fault n text_length names from w.word w.target) (words_fault n text_length names
+    (from + 4) ws)
+
 -- the fault of the names and distances of line number n at a location counter
 unfoldable pub target_fault : ℕ → ℕ → Names → LocationCounter → Says → Option AsmFault
-target_fault n text_length names p (Instructs word target column) =
-    instruction_fault n text_length names (address_here text_length p) word target
+target_fault n text_length names p (Codes code column) =
+    words_fault n text_length names (address_here text_length p) (code_words code)
 target_fault n text_length names p (Quads values) =
     fault_if (list_any (is_undefined names) values) (Undefined n)
 target_fault n text_length names p Nothing = None

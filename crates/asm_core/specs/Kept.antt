@@ -1,19 +1,19 @@
 -- What the first pass keeps of the lines of a source.
 use Rattle.std.specs.Prelude.{◌≡◌, ℕ, List, [], ◌∷◌, Option, Some, None, Ok, IfSome}
-use Rattle.asm_parser.specs.Statements.{TargetSaid, Says, Instructs, SourceLine}
+use Rattle.asm_parser.specs.Statements.{TargetSaid, Says, Codes, Instruction, SourceLine}
 use Rattle.asm_parser.specs.Lines.{line_of}
 use Rattle.asm_core.specs.declared.kept_words.KeptWord.{KeptWord}
 
 -- what a line says of which a word was kept: the instruction alone
 abbrev pub said_by : KeptWord → SourceLine
-said_by kept = record { label = None; says = Instructs kept.word None kept.column }
+said_by kept = record { label = None; says = Codes (Instruction kept.word None) kept.column }
 
 abbrev pub kept_word : ℕ → Option TargetSaid → ℕ → Option KeptWord
 kept_word word None column = Some (record { word = word; column = column })
 kept_word word (Some target) column = None
 
 abbrev pub kept_in : Says → Option KeptWord
-kept_in (Instructs word target column) = kept_word word target column
+kept_in (Codes (Instruction word target) column) = kept_word word target column
 kept_in other = None
 
 abbrev pub kept_from : Option (List ℕ) → Says → Option KeptWord

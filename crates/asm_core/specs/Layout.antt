@@ -1,7 +1,7 @@
 -- Where the lines of a source put their bytes, and what their labels stand for.
 -- Source: the GNU assembler for sections, labels and alignment; the addresses are this project's own.
-use Rattle.std.specs.Prelude.{ℕ, ◌+◌, ◌-◌, ◌*◌, ◌%◌, ◌^◌, List, [], ◌∷◌, ◌++◌, length, take, Option, Some}
-use Rattle.std.specs.Prelude.{None, option_map}
+use Rattle.std.specs.Prelude.{ℕ, ◌+◌, ◌-◌, ◌*◌, ◌%◌, ◌^◌, List, [], ◌∷◌, ◌++◌, length, take, map, Option}
+use Rattle.std.specs.Prelude.{Some, None, option_map}
 use Rattle.std.specs.List.{find}
 use Rattle.std.specs.Str.{bytes_eq}
 use Rattle.sm_types.specs.declared.object.Section.{Section}
@@ -10,7 +10,8 @@ use Rattle.sm_types.specs.Objects.{text_address, data_address}
 use Rattle.asm_core.specs.declared.location_counter.LocationCounter.{LocationCounter}
 use Rattle.asm_core.specs.declared.labels.LabelPosition.{LabelPosition}
 use Rattle.asm_parser.specs.Statements.{Says, Nothing, IntoText, IntoData, Quads, Words, Bytes, Zeros, Aligns}
-use Rattle.asm_parser.specs.Statements.{Globals, Instructs, SourceLine}
+use Rattle.asm_parser.specs.Statements.{Globals, Codes, SourceLine}
+use Rattle.asm_core.specs.Code.{NamedByte, code_words, names_said}
 
 -- a source begins in the text
 abbrev pub first_counter : LocationCounter
@@ -39,7 +40,7 @@ size_of (Bytes numbers) offset = length numbers
 size_of (Zeros count) offset = count
 size_of (Aligns power) offset = padding (2 ^ power) offset
 size_of (Globals name) offset = 0
-size_of (Instructs word target column) offset = 4
+size_of (Codes code column) offset = 4 * length (code_words code)
 
 -- so many bytes more in the part
 abbrev pub grown_in : Section → LocationCounter → ℕ → LocationCounter
@@ -57,7 +58,7 @@ part_after (Bytes numbers) part = part
 part_after (Zeros count) part = part
 part_after (Aligns power) part = part
 part_after (Globals name) part = part
-part_after (Instructs word target column) part = part
+part_after (Codes code column) part = part
 
 -- the location counter after a line
 unfoldable pub counter_after : LocationCounter → Says → LocationCounter
@@ -80,7 +81,15 @@ pub record Label : Type 0 where
   pub part : Section
   pub offset : ℕ
 
--- the label of a line at a location counter
+-- the label of a name at a position
+abbrev pub label_of : List ℕ → LabelPosition → Label
+label_of name position = record { name = name; part = position.part; offset = position.offset }
+
+-- the label of a name so many bytes after a location counter
+abbrev pub label_past : LocationCounter → NamedByte → Label
+label_past p named = record { name = named.name; part = p.part; offset = here p + named.offset }
+
+-- the label that stands on a line at a location counter
 abbrev pub label_at : LocationCounter → List ℕ → Label
 label_at p name = record { name = name; part = p.part; offset = here p }
 
@@ -89,11 +98,14 @@ abbrev pub if_some : {A : Type 0} → Option A → List A
 if_some None = []
 if_some (Some a) = a ∷ []
 
+-- the labels of a line at a location counter: that which stands on it, and those that its directive brings
+abbrev pub labels_at : LocationCounter → SourceLine → List Label
+labels_at p line = if_some (option_map (label_at p) line.label) ++ map (label_past p) (names_said line.says)
+
 -- the labels of lines, the first of which stands at a location counter
 unfoldable pub labels_from : LocationCounter → List SourceLine → List Label
 labels_from p [] = []
-labels_from p (line ∷ lines) =
-    if_some (option_map (label_at p) line.label) ++ labels_from (counter_after p line.says) lines
+labels_from p (line ∷ lines) = labels_at p line ++ labels_from (counter_after p line.says) lines
 
 -- the labels of a source
 abbrev pub labels_of : List SourceLine → List Label

@@ -1,4 +1,5 @@
 pub mod Source
+pub mod Code
 pub mod Layout
 pub mod Limits
 pub mod Targets

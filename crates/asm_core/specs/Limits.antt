@@ -1,7 +1,7 @@
 -- What holds of a line that is in the grammar, and of a location counter before which no fault was found.
 use Rattle.std.specs.Prelude.{◌≤◌}
 use Rattle.asm_parser.specs.Statements.{Says, Nothing, IntoText, IntoData, Quads, Words, Bytes, Zeros, Aligns}
-use Rattle.asm_parser.specs.Statements.{Globals, Instructs}
+use Rattle.asm_parser.specs.Statements.{Globals, Codes}
 use Rattle.asm_core.specs.declared.location_counter.LocationCounter.{LocationCounter}
 
 -- each part has at most 4 MiB
@@ -20,4 +20,4 @@ HasSmallAlign (Words numbers) = Unit {0}
 HasSmallAlign (Bytes numbers) = Unit {0}
 HasSmallAlign (Zeros count) = Unit {0}
 HasSmallAlign (Globals name) = Unit {0}
-HasSmallAlign (Instructs word target column) = Unit {0}
+HasSmallAlign (Codes code column) = Unit {0}

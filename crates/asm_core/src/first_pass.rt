@@ -1,11 +1,11 @@
 //! The first pass over a source: its labels, and how large its parts become.
-ghost use Rattle.std.specs.Prelude.{◌≡◌, ◌≢◌, ◌≤◌, ◌++◌, ℕ, List, [], false, None, Some, Ok, length};
-ghost use Rattle.std.specs.Prelude.{option_map, IfOk, IfErr, OnOk};
+ghost use Rattle.std.specs.Prelude.{◌≡◌, ◌≢◌, ◌≤◌, List, [], None, Some, length};
+ghost use Rattle.std.specs.Prelude.{IfOk, IfErr};
 ghost use Rattle.asm_parser.specs.Statements.{line_said, says_of};
 ghost use Rattle.asm_parser.specs.Lines.{line_of};
 ghost use Rattle.asm_core.specs.Source.{lines_of, said_lines};
 ghost use Rattle.asm_core.specs.Layout as layout;
-ghost use Rattle.asm_core.specs.Faults.{is_doubled, line_fault, lines_fault};
+ghost use Rattle.asm_core.specs.Faults.{line_fault, lines_fault};
 ghost use Rattle.asm_core.specs.Limits.{IsInLimits, HasSmallAlign};
 ghost use Rattle.asm_core.specs.Known.{Knows};
 ghost use Rattle.asm_core.specs.Scanned.{fault_at, HasKept, Passes};
@@ -13,10 +13,10 @@ ghost use Rattle.asm_core.specs.Kept.{AreKept};
 
 use crate::fault::AsmFault;
 use crate::kept_words::{KeptWord, keep};
-use crate::labels::{LabelPosition, Labels};
+use crate::labels::Labels;
 use crate::line_checks::check_line;
 use crate::lines::next_line;
-use crate::location_counter::{LocationCounter, first_counter, here};
+use crate::location_counter::{LocationCounter, first_counter};
 use asm_parser::{Line, LineFault, parse_bytes};
 use std::alloc::Global;
 
@@ -60,32 +60,8 @@ fn read_line(alloc: Global, number: u32, text: &[u8]) -> Result<Line<'_>, AsmFau
     }
 }
 
-/// Adds the label of a line at a location counter.
-fn add_label<'a>(
-    labels: &mut Labels<'a>,
-    label: Option<&'a [u8]>,
-    counter: &LocationCounter,
-) -> Result<(), AsmFault>
-    ensures ok { (list : List layout.Label) → Knows labels.old list
-        → is_doubled list (option_map (λ name. name.now) label.entry) ≡ false
-        → OnOk result (Knows labels.new (list
-        ++ layout.if_some (option_map (layout.label_at counter.now)
-        (option_map (λ name. name.now) label.entry)))) }
-    ensures err { IfErr result (λ fault. fault ≡ AsmFault.Memory) }
-{
-    let Some(name) = label else {
-        return Ok(());
-    };
-    let position = LabelPosition {
-        part: counter.part,
-        offset: here(counter),
-    };
-    labels.add(name, position)?;
-    Ok(())
-}
-
-/// The location counter after line number `number`, whose label is added and of which a word is kept, or its
-/// fault.
+/// The location counter after line number `number`, whose labels are added and of which a word is kept, or
+/// its fault.
 fn scan_line<'a>(
     alloc: Global,
     number: u32,
@@ -105,7 +81,6 @@ fn scan_line<'a>(
 {
     let line = read_line(alloc, number, text)?;
     let after = check_line(number, counter, labels, &line)?;
-    add_label(labels, line.label, counter)?;
     keep(kept, &line)?;
     Ok(after)
 }

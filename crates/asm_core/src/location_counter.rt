@@ -52,7 +52,7 @@ fn padding(power: u8, offset: u64) -> u64
 }
 
 /// How many bytes a statement puts after so many.
-#[tactic(auto, unfolding(crate::specs::Layout::size_of))]
+#[tactic(auto, unfolding(crate::specs::Layout::size_of, crate::specs::Code::code_words))]
 pub fn size_of(statement: &Statement<'_>, offset: u64) -> u128
     requires { HasSmallAlign (says_of statement.now) }
     ensures value { result ≡ layout.size_of (says_of statement.now) offset }
@@ -66,6 +66,8 @@ pub fn size_of(statement: &Statement<'_>, offset: u64) -> u128
         Statement::Zero(count) => *count as u128,
         Statement::Align(power) => padding(*power, offset) as u128,
         Statement::Instruction { .. } => 4,
+        Statement::SupportRoutines { .. } => 224,
+        Statement::CallTail { .. } => 24,
     }
 }
 

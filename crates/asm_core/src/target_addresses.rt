@@ -27,7 +27,7 @@ pub struct Addresses<'l, 'a> {
 fn base_of(part: Section, text_size: u64) -> u64
     requires { text_size ≤ 4194304 }
     ensures value { result ≡ layout.base_of text_size part }
-    ensures small { result < 2 ^ 31 }
+    ensures small { result < 2 ^ 30 }
 {
     match part {
         Section::Text => TEXT_ADDRESS,
@@ -41,6 +41,7 @@ pub fn address_in(part: Section, offset: u64, text_size: u64) -> u64
     requires offset { offset ≤ 4194304 }
     ensures value { result ≡ layout.address_in text_size part offset }
     ensures small { result < 2 ^ 32 }
+    ensures low { result < 2 ^ 31 }
 {
     base_of(part, text_size) + offset
 }
@@ -115,6 +116,7 @@ pub fn resolve_target(
     ensures value { IfOk result (λ resolved. resolved
         ≡ assembly.resolved addresses.now.text_size (names_by addresses.now) from word
         (option_map target_said target.now)) }
+    ensures small { IfOk result (λ resolved. resolved < 2 ^ 32) }
     ensures means { IfOk result (λ resolved. is_some (instruction_of resolved) ≡ true) }
     ensures err { IfErr result (λ fault. instruction_fault number addresses.now.text_size
         (names_by addresses.now) from word

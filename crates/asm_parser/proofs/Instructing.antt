@@ -21,7 +21,7 @@ use Rattle.asm_operands.specs.Operands as operands
 use Rattle.asm_operands.proofs.Completions.{goes-on, number-goes-on}
 use Rattle.asm_operands.proofs.FaultStops.{stops}
 use Rattle.asm_operands.proofs.AnyDistance.{IsSaid, is_said}
-use Rattle.asm_parser.specs.Statements.{TargetSaid, Says, Nothing, Instructs}
+use Rattle.asm_parser.specs.Statements.{TargetSaid, Says, Nothing, Codes, Instruction, SupportRoutines, CallTail}
 use Rattle.asm_parser.specs.Lines.{Tells, further, target_named, target_at, instruction_or_fault, instruction_says}
 use Rattle.asm_parser.specs.Grammar.{Written, written, target_written, IsInstruction, IsWritten, IsMeaning, GoesOn, IsWhole, WantsNumber}
 use Rattle.asm_parser.specs.Grammar.{IsWhy, StopsAt, IsFirstFault}
@@ -61,7 +61,7 @@ module _ (t : Written) (name : ℕ) (named : is_name t.token ≡ true) (listed :
   After says xs = IsWritten says (t ∷ xs)
 
   abbrev said : ℕ → List Written → Says
-  said word xs = Instructs word (target_written xs (target_of (shapes_of name) (toks xs))) t.column
+  said word xs = Codes (Instruction word (target_written xs (target_of (shapes_of name) (toks xs)))) t.column
 
   up : (xs : List Written) (word : ℕ) → first_word (shapes_of name) (toks xs) ≡ Some word → After (said word xs) xs
   unfolding After IsWritten
@@ -69,7 +69,7 @@ module _ (t : Written) (name : ℕ) (named : is_name t.token ≡ true) (listed :
       record { first = t; operands = xs; all = refl; named = named; name = name; listed = listed; takes = e; aims = refl; column_is = refl }
 
   down_instruction : (word column : ℕ) (target : Option TargetSaid) (xs : List Written) → IsInstruction word target column (t ∷ xs)
-      → (v : ℕ) × (first_word (shapes_of name) (toks xs) ≡ Some v) × (said v xs ≡ Instructs word target column)
+      → (v : ℕ) × (first_word (shapes_of name) (toks xs) ≡ Some v) × (said v xs ≡ Codes (Instruction word target) column)
   down_instruction word column target xs j =
       let same : t ≡ j.first = (let e = j.all in cc) in
       let rest : xs ≡ j.operands = (let e = j.all in cc) in
@@ -77,12 +77,15 @@ module _ (t : Written) (name : ℕ) (named : is_name t.token ≡ true) (listed :
       let aims : target_written xs (target_of (shapes_of name) (toks xs)) ≡ target =
       ap₂ (λ n ys. target_written ys (target_of (shapes_of n) (toks ys))) name_is rest ∙ sym j.aims in
       let column_is : t.column ≡ column = ap (λ (u : Written). u.column) same ∙ sym j.column_is in
-      (word, ap₂ (λ n ys. first_word (shapes_of n) (toks ys)) name_is rest ∙ j.takes, ap₂ (λ a c. Instructs word a c) aims column_is)
+      (word, ap₂ (λ n ys. first_word (shapes_of n) (toks ys)) name_is rest ∙ j.takes, ap₂ (λ a c. Codes (Instruction word a) c) aims column_is)
 
   down : (says : Says) (xs : List Written) → After says xs → (v : ℕ) × (first_word (shapes_of name) (toks xs) ≡ Some v) × (said v xs ≡ says)
   unfolding After IsWritten said_directive
   down Nothing xs h = cc
-  down (Instructs word target column) xs h = down_instruction word column target xs h
+  down (Codes (Instruction word target) column) xs h = down_instruction word column target xs h
+  down (Codes SupportRoutines column) xs h =
+      let f = directive_is (Codes SupportRoutines column) t xs h in let g = (listed_name t.text name listed).1 in cc
+  down (Codes CallTail column) xs h = let f = directive_is (Codes CallTail column) t xs h in let g = (listed_name t.text name listed).1 in cc
   down says xs h = let f = directive_is says t xs h in let g = (listed_name t.text name listed).1 in cc
 
   module _ (xs : List Written) where
@@ -214,11 +217,11 @@ module _ (line : List ℕ) (l : Lexeme) (ls : List Lexeme) (name : ℕ) (named :
   column = column_at line l.start
 
   only : (w : ℕ) (target : Option Target) → first_word (shapes_of name) (toks xs) ≡ Some w → target_of (shapes_of name) (toks xs) ≡ target
-      → Instructs w (target_at line ls target) column ≡ said (written line l) name named listed w xs
-  only w target e f = ap (λ o. Instructs w o column) (target_is line ls target ∙ ap (target_written xs) (sym f))
+      → Codes (Instruction w (target_at line ls target)) column ≡ said (written line l) name named listed w xs
+  only w target e f = ap (λ o. Codes (Instruction w o) column) (target_is line ls target ∙ ap (target_written xs) (sym f))
 
   said_tied : (w : ℕ) (target : Option Target) → IsSaid name (toks xs) w target
-      → Tied Here IsMeaning (Tells (Instructs w (target_at line ls target) column)) xs
+      → Tied Here IsMeaning (Tells (Codes (Instruction w (target_at line ls target)) column)) xs
   said_tied w target s =
       let same = only w target s.word s.named in (
         subst (λ says. Here says xs) (sym same) (up (written line l) name named listed xs w s.word),

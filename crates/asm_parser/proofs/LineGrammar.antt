@@ -15,7 +15,7 @@ use Rattle.asm_operands.specs.declared.fault.FaultKind.TheVariants.{UnknownName,
 use Rattle.asm_parser.specs.declared.line.Line.{Line}
 use Rattle.asm_parser.specs.declared.line.LineFault.{LineFault}
 use Rattle.asm_parser.specs.declared.line.LineFault.TheVariants.{Memory}
-use Rattle.asm_parser.specs.Statements.{Says, Nothing, Instructs}
+use Rattle.asm_parser.specs.Statements.{Says, Nothing, Codes, Instruction, SupportRoutines, CallTail}
 use Rattle.asm_parser.specs.Statements.{SourceLine, line_said}
 use Rattle.asm_parser.specs.Lines.{Answer, Tells, Stops, text_of_lexeme, Directive, directive_of}
 use Rattle.asm_parser.specs.Lines.{named_says, tokens_say, column_of, fault_of_kind, line_answer, line_lexemes, label_of, line_of}
@@ -31,7 +31,9 @@ use Rattle.asm_parser.proofs.Instructing.{instruction_told}
 nothing_only : (says : Says) → IsWritten says [] → Nothing ≡ says
 unfolding IsWritten
 nothing_only Nothing h = refl
-nothing_only (Instructs word target column) h = let e = h.all in cc
+nothing_only (Codes (Instruction word target) column) h = let e = h.all in cc
+nothing_only (Codes SupportRoutines column) h = let e = h.all in cc
+nothing_only (Codes CallTail column) h = let e = h.all in cc
 nothing_only says h = let e = h.all in cc
 
 no_number : (t : Written) (xs : List Written) (says : Says) → is_number_token t.token ≡ true → IsWritten says (t ∷ xs) → ⊥
@@ -58,10 +60,12 @@ no_statement : (says : Says) (t : Written) (xs : List Written) → directive_of 
     → IsWritten says (t ∷ xs) → ⊥
 unfolding said_directive IsWritten
 no_statement Nothing t xs d p h = cc
-no_statement (Instructs word target column) t xs d p h =
+no_statement (Codes (Instruction word target) column) t xs d p h =
     let same : h.first ≡ t = (let e = h.all in cc) in
     let clash : None ≡ Some h.name = sym p ∙ ap (λ (u : Written). index_in MNEMONICS u.text) (sym same) ∙ h.listed in
     cc
+no_statement (Codes SupportRoutines column) t xs d p h = let e = directive_is (Codes SupportRoutines column) t xs h in cc
+no_statement (Codes CallTail column) t xs d p h = let e = directive_is (Codes CallTail column) t xs h in cc
 no_statement says t xs d p h = let e = directive_is says t xs h in cc
 
 unknown_told : (t : Written) (xs : List Written) → is_name t.token ≡ true → directive_of t.text ≡ None → index_in MNEMONICS t.text ≡ None

@@ -175,9 +175,10 @@ module _ (line text : List ℕ) (start : ℕ) (part : text ≡ before_comment li
       ∙ ap₂ (λ x y. named_says line l (lexemes_from text l.end) x y) (sym e) (sym f)
 
   pub named-directive : (d : Directive) → Some d ≡ directive_of word
-      → said_from (tokens_say line) text start ≡ said_from (directive_says line d) text (start + length word)
+      → said_from (tokens_say line) text start
+      ≡ said_from (directive_says line (column_at line start) d) text (start + length word)
   named-directive d e =
-      said-goes (tokens_say line) (directive_says line d) text start l first (says-named (Some d) (index_in MNEMONICS word) e refl)
+      said-goes (tokens_say line) (directive_says line (column_at line start) d) text start l first (says-named (Some d) (index_in MNEMONICS word) e refl)
 
   pub named-instruction : (index : ℕ) → None ≡ directive_of word → Some index ≡ index_in MNEMONICS word
       → said_from (tokens_say line) text start ≡ said_from (instruction_says line index (column_at line start)) text (start + length word)

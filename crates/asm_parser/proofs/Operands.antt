@@ -9,7 +9,7 @@ use Rattle.asm_operands.specs.Operands as operands
 use Rattle.asm_operands.specs.Operands.{operands_said}
 use Rattle.asm_operands.proofs.OperandCounts.{few_operands}
 use Rattle.asm_parser.specs.declared.parse_fault.ParseFault.TheVariants.{Syntax}
-use Rattle.asm_parser.specs.Statements.{Instructs}
+use Rattle.asm_parser.specs.Statements.{Codes, Instruction}
 use Rattle.asm_parser.specs.Lines.{target_at, instruction_or_fault, instruction_says}
 use Rattle.asm_parser.specs.Told.{located, lexemes_from, said_from}
 use Rattle.asm_parser.proofs.Saying.{First}
@@ -47,13 +47,13 @@ module _ (line text : List ℕ) (at name column : ℕ) where
   first-say ts said first is = is ∙ ap (operands_said name) first ∙ few_operands name (tokens_of ls)
 
   pub all-ok : (word : ℕ) (target : Option Target) → operands.Says word target ≡ operands_said name (tokens_of ls)
-      → said_from (instruction_says line name column) text at ≡ Ok (Instructs word (target_at line ls target) column)
+      → said_from (instruction_says line name column) text at ≡ Ok (Codes (Instruction word (target_at line ls target)) column)
   unfolding located
   all-ok word target is = all-say (operands.Says word target) is
 
   pub instruction-ok : (ts : List Token) (word : ℕ) (target : Option Target) → ts ≡ take 24 (tokens_of ls)
       → operands.Says word target ≡ operands_said name ts
-      → said_from (instruction_says line name column) text at ≡ Ok (Instructs word (target_at line ls target) column)
+      → said_from (instruction_says line name column) text at ≡ Ok (Codes (Instruction word (target_at line ls target)) column)
   instruction-ok ts word target first is = all-ok word target (first-say ts (operands.Says word target) first is)
 
   pub instruction-err : (ts : List Token) (f : operands.Fault) → ts ≡ take 24 (tokens_of ls) → operands.Fails f ≡ operands_said name ts

@@ -24,7 +24,7 @@ use Rattle.asm_operands.specs.Operands.{operands_said}
 use Rattle.asm_operands.specs.Shown.{tokens_shown}
 use Rattle.asm_operands.proofs.OwnWord.{own-mnemonic, own-said}
 use Rattle.asm_operands.proofs.MaskFields.{all_below-at}
-use Rattle.asm_parser.specs.Statements.{Instructs}
+use Rattle.asm_parser.specs.Statements.{Codes, Instruction}
 use Rattle.asm_parser.specs.Lines.{label_of, label_end, directive_of, instruction_says, tokens_say, line_of}
 use Rattle.asm_parser.specs.Told.{lexemes_from, said_from}
 use Rattle.asm_parser.proofs.Labels.{label-none, line-ok}
@@ -164,7 +164,7 @@ module _ (word : ℕ) (it : Insn) (lt : word < 2 ^ 32) (p : IsPrinted word) (mea
   first-word : run (drop 0 line) ≡ name
   first-word = run-name name rest good.0 opens-rest
 
-  said : said_from (tokens_say line) line 0 ≡ Ok (Instructs word None 1)
+  said : said_from (tokens_say line) line 0 ≡ Ok (Codes (Instruction word None) 1)
   unfolding column_at characters
   said =
       let size : 0 + length (run (drop 0 line)) ≡ length name = omega (arith, ap length first-word) in
@@ -174,14 +174,14 @@ module _ (word : ℕ) (it : Insn) (lt : word < 2 ^ 32) (p : IsPrinted word) (mea
       ∙ all-ok line line (length name) index (column_at line 0) word None
       (sym (own-said word it lt p means) ∙ ap (operands_said index) (sym tokens-shown))
 
-  line-said : line_of line ≡ Ok (record { label = None; says = Instructs word None 1 })
+  line-said : line_of line ≡ Ok (record { label = None; says = Codes (Instruction word None) 1 })
   line-said =
       let labels = no-label name rest good.0 opens-rest (rest-colon word is) in
-      line-ok line line None 0 whole labels.0 labels.1 (Instructs word None 1) said
+      line-ok line line None 0 whole labels.0 labels.1 (Codes (Instruction word None) 1) said
 
 -- the word of an instruction is read from the text in which it is printed
 pub round : (word : ℕ) (it : Insn) → MeansEither word it
-    → line_of (text_of word) ≡ Ok (record { label = None; says = Instructs word None 1 })
+    → line_of (text_of word) ≡ Ok (record { label = None; says = Codes (Instruction word None) 1 })
 unfolding text_of text_of_shape shape_text
 round word it m =
     let w = instruction_is word it m in

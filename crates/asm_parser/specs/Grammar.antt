@@ -19,8 +19,8 @@ use Rattle.asm_operands.specs.declared.operands.Target.{Target}
 use Rattle.asm_operands.specs.Operands.{first_word, target_of, shapes_of}
 use Rattle.asm_parser.specs.declared.line.LineFault.{LineFault}
 use Rattle.asm_parser.specs.Statements.{QuadValue, IsNumber, IsAddressOf, TargetSaid, Says, Nothing, IntoText}
-use Rattle.asm_parser.specs.Statements.{IntoData, Quads, Words, Bytes, Zeros, Aligns, Globals, Instructs}
-use Rattle.asm_parser.specs.Statements.{SourceLine}
+use Rattle.asm_parser.specs.Statements.{IntoData, Quads, Words, Bytes, Zeros, Aligns, Globals, Codes}
+use Rattle.asm_parser.specs.Statements.{Instruction, SupportRoutines, CallTail, SourceLine}
 use Rattle.asm_parser.specs.Lines.{text_of_lexeme, line_lexemes, label_of, fault_of_kind}
 
 -- a token as it is written: its text, and its column
@@ -93,6 +93,13 @@ pub record Begins (name : List ℕ) (Follows : List Written → Type 0) (ts : Li
   pub named : IsName name first
   pub follows : Follows rest
 
+-- a name at that column, and nothing else
+pub record IsAlone (name : List ℕ) (column : ℕ) (ts : List Written) : Type 0 where
+  pub first : Written
+  pub all : ts ≡ first ∷ []
+  pub named : IsName name first
+  pub column_is : column ≡ first.column
+
 -- the target of an instruction: the text of its token, and the operand that is to have the distance
 abbrev pub target_written : List Written → Option Target → Option TargetSaid
 target_written ts None = None
@@ -125,11 +132,13 @@ IsWritten (Bytes numbers) ts = Begins (codes ".byte") (AreListed (IsNumberTo 255
 IsWritten (Zeros count) ts = Begins (codes ".zero") (IsOne (IsNumberTo (2 ^ 64 - 1)) count) ts
 IsWritten (Aligns power) ts = Begins (codes ".align") (IsOne (IsNumberTo 12) power) ts
 IsWritten (Globals name) ts = Begins (codes ".global") (IsOne IsName name) ts
-IsWritten (Instructs word target column) ts = IsInstruction word target column ts
+IsWritten (Codes (Instruction word target) column) ts = IsInstruction word target column ts
+IsWritten (Codes SupportRoutines column) ts = IsAlone (codes ".sme_abi") column ts
+IsWritten (Codes CallTail column) ts = IsAlone (codes ".sme_tail") column ts
 
 -- the word of an instruction is one that means an instruction
 abbrev pub IsMeaning : Says → Type 0
-IsMeaning (Instructs word target column) = is_some (instruction_of word) ≡ true
+IsMeaning (Codes (Instruction word target) column) = is_some (instruction_of word) ≡ true
 IsMeaning other = Unit {0}
 
 -- a line says that: its label, and what its tokens are

@@ -20,8 +20,8 @@ use Rattle.asm_operands.specs.Operands as operands
 use Rattle.asm_parser.specs.declared.line.LineFault.{LineFault}
 use Rattle.asm_parser.specs.declared.line.LineFault.TheVariants as fault
 use Rattle.asm_parser.specs.Statements.{QuadValue, IsNumber, IsAddressOf, TargetSaid, Says, Nothing, IntoText}
-use Rattle.asm_parser.specs.Statements.{IntoData, Quads, Words, Bytes, Zeros, Aligns, Globals, Instructs}
-use Rattle.asm_parser.specs.Statements.{SourceLine}
+use Rattle.asm_parser.specs.Statements.{IntoData, Quads, Words, Bytes, Zeros, Aligns, Globals, Codes}
+use Rattle.asm_parser.specs.Statements.{Instruction, SupportRoutines, CallTail, SourceLine}
 
 -- the bytes of a token of the line
 unfoldable pub text_of_lexeme : List ℕ → Lexeme → List ℕ
@@ -108,7 +108,7 @@ quad_value line l =
 
 pub data Directive : Type 0 where
   TextDirective DataDirective QuadDirective WordDirective ByteDirective ZeroDirective AlignDirective
-      GlobalDirective : Directive
+      GlobalDirective AbiDirective TailDirective : Directive
 
 unfoldable pub directive_of : List ℕ → Option Directive
 directive_of name =
@@ -120,18 +120,22 @@ directive_of name =
     else if bytes_eq name (codes ".zero") then Some ZeroDirective
     else if bytes_eq name (codes ".align") then Some AlignDirective
     else if bytes_eq name (codes ".global") then Some GlobalDirective
+    else if bytes_eq name (codes ".sme_abi") then Some AbiDirective
+    else if bytes_eq name (codes ".sme_tail") then Some TailDirective
     else None
 
--- what a directive says with the tokens after its name
-unfoldable pub directive_says : List ℕ → Directive → List Lexeme → Answer Says
-directive_says line TextDirective ls = ends IntoText ls
-directive_says line DataDirective ls = ends IntoData ls
-directive_says line QuadDirective ls = and_then Quads (values_from (quad_value line) true ls)
-directive_says line WordDirective ls = and_then Words (values_from (number_value (2 ^ 32 - 1)) true ls)
-directive_says line ByteDirective ls = and_then Bytes (values_from (number_value 255) true ls)
-directive_says line ZeroDirective ls = and_then Zeros (one_number (2 ^ 64 - 1) ls)
-directive_says line AlignDirective ls = and_then Aligns (one_number 12 ls)
-directive_says line GlobalDirective ls = and_then Globals (one_name line ls)
+-- what a directive says with the tokens after its name, which stands at that column
+unfoldable pub directive_says : List ℕ → ℕ → Directive → List Lexeme → Answer Says
+directive_says line column TextDirective ls = ends IntoText ls
+directive_says line column DataDirective ls = ends IntoData ls
+directive_says line column QuadDirective ls = and_then Quads (values_from (quad_value line) true ls)
+directive_says line column WordDirective ls = and_then Words (values_from (number_value (2 ^ 32 - 1)) true ls)
+directive_says line column ByteDirective ls = and_then Bytes (values_from (number_value 255) true ls)
+directive_says line column ZeroDirective ls = and_then Zeros (one_number (2 ^ 64 - 1) ls)
+directive_says line column AlignDirective ls = and_then Aligns (one_number 12 ls)
+directive_says line column GlobalDirective ls = and_then Globals (one_name line ls)
+directive_says line column AbiDirective ls = ends (Codes SupportRoutines column) ls
+directive_says line column TailDirective ls = ends (Codes CallTail column) ls
 
 -- a list of values follows the directive
 unfoldable pub is_of_list : Directive → Bool
@@ -162,7 +166,7 @@ target_at line ls (Some target) = target_named line target.operand (slice_get ls
 
 abbrev pub instruction_or_fault : List ℕ → ℕ → List Lexeme → OperandsSaid → Answer Says
 instruction_or_fault line column ls (operands.Says word target) =
-    Tells (Instructs word (target_at line ls target) column)
+    Tells (Codes (Instruction word (target_at line ls target)) column)
 instruction_or_fault line column ls (operands.Fails f) = Stops f.index f.kind
 
 -- what an instruction says, whose mnemonic has that index in its table and stands at that column
@@ -173,7 +177,8 @@ instruction_says line mnemonic column ls =
 -- ---- a line
 
 abbrev pub named_says : List ℕ → Lexeme → List Lexeme → Option Directive → Option ℕ → Answer Says
-named_says line l ls (Some directive) index = further 1 (directive_says line directive ls)
+named_says line l ls (Some directive) index =
+    further 1 (directive_says line (column_at line l.start) directive ls)
 named_says line l ls None (Some mnemonic) =
     further 1 (instruction_says line mnemonic (column_at line l.start) ls)
 named_says line l ls None None = Stops 0 UnknownName

@@ -19,6 +19,15 @@ pub record TargetSaid : Type 0 where
   pub name : List ℕ
   pub operand : Item
 
+-- the code that a line puts
+pub data Code : Type 0 where
+  -- an instruction's word, and its target where that is a name, the distance in the word being 0 then
+  Instruction : ℕ → Option TargetSaid → Code
+  -- the support routines of the lazy saving of ZA
+  SupportRoutines : Code
+  -- the tail of a call, which restores ZA where the call left it dormant
+  CallTail : Code
+
 pub data Says : Type 0 where
   -- nothing
   Nothing : Says
@@ -35,9 +44,8 @@ pub data Says : Type 0 where
   Aligns : ℕ → Says
   -- a name that is to be seen from outside, which has no effect
   Globals : List ℕ → Says
-  -- an instruction's word, its target where that is a name, the distance in the word being 0 then, and the
-  -- column of the instruction's name
-  Instructs : ℕ → Option TargetSaid → ℕ → Says
+  -- code, and the column of the name of its instruction or directive
+  Codes : Code → ℕ → Says
 
 pub record SourceLine : Type 0 where
   pub label : Option (List ℕ)
@@ -61,7 +69,10 @@ says_of (statement.Byte values) = Bytes values.items
 says_of (statement.Zero count) = Zeros count
 says_of (statement.Align power) = Aligns power
 says_of (statement.Global name) = Globals name.now
-says_of (statement.Instruction word target column) = Instructs word (option_map target_said target) column
+says_of (statement.Instruction word target column) =
+    Codes (Instruction word (option_map target_said target)) column
+says_of (statement.SupportRoutines column) = Codes SupportRoutines column
+says_of (statement.CallTail column) = Codes CallTail column
 
 abbrev pub line_said : Line → SourceLine
 line_said line = record { label = option_map (λ name. name.now) line.label; says = says_of line.statement }

@@ -63,6 +63,8 @@ directive_said directive.Byte = lines.ByteDirective
 directive_said directive.Zero = lines.ZeroDirective
 directive_said directive.Align = lines.AlignDirective
 directive_said directive.Global = lines.GlobalDirective
+directive_said directive.SmeAbi = lines.AbiDirective
+directive_said directive.SmeTail = lines.TailDirective
 
 -- a name with no digit first is a label where a colon stands after it
 abbrev pub is_label : List ℕ → List ℕ → ℕ → Bool

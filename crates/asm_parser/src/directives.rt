@@ -1,5 +1,7 @@
 //! Directives.
-ghost use Rattle.std.specs.Prelude.{◌≡◌, ◌≤◌, ◌==◌, length, option_map, slice_index, true, IfErr};
+ghost use Rattle.std.specs.Prelude.{◌≡◌, ◌<◌, ◌≤◌, ◌-◌, ◌^◌, ◌==◌, length, option_map, slice_index, true};
+ghost use Rattle.std.specs.Prelude.{IfErr};
+ghost use Rattle.asm_tokens.specs.Characters.{column_at};
 ghost use Rattle.asm_parser.specs.Lines.{directive_of, directive_says, is_of_list};
 ghost use Rattle.asm_parser.specs.Statements.{says_of};
 ghost use Rattle.asm_parser.specs.Told.{said_from, Shows, directive_said};
@@ -7,6 +9,7 @@ ghost use Rattle.asm_parser.specs.Told.{said_from, Shows, directive_said};
 use crate::directive_operands::{expect_end, one_name, one_number, values};
 use crate::line::Statement;
 use crate::parse_fault::ParseFault;
+use asm_tokens::column_at;
 use std::alloc::Global;
 
 /// The name of a directive.
@@ -20,6 +23,8 @@ pub enum Directive {
     Zero,
     Align,
     Global,
+    SmeAbi,
+    SmeTail,
 }
 
 fn begins_dotted(name: &[u8]) -> bool
@@ -48,6 +53,10 @@ fn dotted_directive(name: &[u8]) -> Option<Directive>
         Some(Directive::Align)
     } else if name == b".global".as_slice() {
         Some(Directive::Global)
+    } else if name == b".sme_abi".as_slice() {
+        Some(Directive::SmeAbi)
+    } else if name == b".sme_tail".as_slice() {
+        Some(Directive::SmeTail)
     } else {
         None
     }
@@ -65,19 +74,22 @@ pub fn directive_of(name: &[u8]) -> Option<Directive>
     }
 }
 
-/// What a directive says with the tokens from an offset on.
+/// What a directive says, whose name begins at `start` of the line, with the tokens from an offset on.
 #[tactic(auto, unfolding(crate::specs::Lines::directive_says, crate::specs::Lines::is_of_list))]
 pub fn directive_says<'a>(
     alloc: Global,
     line: &'a [u8],
     text: &[u8],
+    start: usize,
     offset: usize,
     directive: Directive,
 ) -> Result<Statement<'a>, ParseFault>
+    requires short { length line.now < 2 ^ 32 - 1 }
     requires within { offset ≤ length text.now }
     requires part { length text.now ≤ length line.now }
     ensures said { Shows says_of result
-        (said_from (directive_says line.now (directive_said directive)) text.now offset) }
+        (said_from (directive_says line.now (column_at line.now start) (directive_said directive))
+        text.now offset) }
     ensures memory { IfErr result
         (λ fault. fault ≡ ParseFault.Memory → is_of_list (directive_said directive) ≡ true) }
 {
@@ -96,5 +108,17 @@ pub fn directive_says<'a>(
         Directive::Zero => Ok(Statement::Zero(one_number(text, offset, u64::MAX)?)),
         Directive::Align => Ok(Statement::Align(one_number(text, offset, 12)? as u8)),
         Directive::Global => Ok(Statement::Global(one_name(line, text, offset)?)),
+        Directive::SmeAbi => {
+            expect_end(text, offset)?;
+            Ok(Statement::SupportRoutines {
+                column: column_at(line, start),
+            })
+        }
+        Directive::SmeTail => {
+            expect_end(text, offset)?;
+            Ok(Statement::CallTail {
+                column: column_at(line, start),
+            })
+        }
     }
 }

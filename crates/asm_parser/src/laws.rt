@@ -6,12 +6,12 @@ ghost use Rattle.insn_text.specs.Texts.{text_of};
 ghost use Rattle.asm_parser.specs.declared.line.LineFault.{LineFault};
 ghost use Rattle.asm_parser.specs.Grammar.{IsFaultOf, IsLabelled, IsLine};
 ghost use Rattle.asm_parser.specs.Lines.{label_end, label_of, line_of};
-ghost use Rattle.asm_parser.specs.Statements.{Instructs, SourceLine};
+ghost use Rattle.asm_parser.specs.Statements.{Codes, Instruction, SourceLine};
 
 /// The word of an instruction is read from the text in which it is printed.
 pub fn printed_is_read()
     ensures { (word : ℕ) (it : Insn) → MeansEither word it
-        → line_of (text_of word) ≡ Ok (record { label = None; says = Instructs word None 1 }) }
+        → line_of (text_of word) ≡ Ok (record { label = None; says = Codes (Instruction word None) 1 }) }
 {}
 
 /// A line says what the grammar has for it, and nothing else; its fault stands at the first token with

@@ -45,6 +45,16 @@ pub enum Statement<'a> {
         target: Option<Target<'a>>,
         column: u32,
     },
+    /// `.sme_abi`: the support routines of the lazy saving of ZA, with their names; the column of the
+    /// directive.
+    SupportRoutines {
+        column: u32,
+    },
+    /// `.sme_tail`: the tail of a call, which restores ZA where the call left it dormant; the column of the
+    /// directive.
+    CallTail {
+        column: u32,
+    },
 }
 
 /// A line: its label, if it has one, and what stands after it.

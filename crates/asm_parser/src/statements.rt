@@ -32,7 +32,7 @@ fn named_says<'a>(
     let name = run_at(text, start);
     let offset = start + name.len();
     match directive_of(name) {
-        Some(directive) => directive_says(alloc, line, text, offset, directive),
+        Some(directive) => directive_says(alloc, line, text, start, offset, directive),
         None => match mnemonic_index(name) {
             Some(mnemonic) => instruction_says(line, text, start, offset, mnemonic),
             None => Err(ParseFault::Syntax {

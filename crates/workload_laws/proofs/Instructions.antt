@@ -7,7 +7,8 @@ use Rattle.asm_parser.specs.Statements.{SourceLine}
 use Rattle.asm_core.specs.declared.location_counter.LocationCounter.{LocationCounter}
 use Rattle.asm_core.specs.Source.{said_lines}
 use Rattle.asm_core.specs.Layout.{Label, Names, size_of, counter_after, counter_past, labels_from}
-use Rattle.asm_core.specs.Faults.{misaligned, is_too_large, line_fault, lines_fault, target_fault, targets_fault}
+use Rattle.asm_core.specs.Code.{code_words}
+use Rattle.asm_core.specs.Faults.{misaligned, is_doubled, is_too_large, line_fault, lines_fault, words_fault, target_fault, targets_fault}
 use Rattle.asm_core.proofs.LineFaults.{no_fault}
 use Rattle.asm_core.proofs.Scanning.{line_passes, said_cons}
 use Rattle.workload_laws.specs.Words.{word_line}
@@ -22,7 +23,7 @@ one_more : (count : ℕ) → 4 * count + 4 ≡ 4 * (count + 1)
 one_more count = omega arith
 
 pub word_counter : (count word : ℕ) → counter_after (after_words count) (word_line word).says ≡ after_words (count + 1)
-unfolding counter_after size_of
+unfolding counter_after size_of code_words
 word_counter count word = ap (λ (n : ℕ). record { part = Text; text_size = n; data_size = 0 }) (one_more count)
 
 aligned : (count : ℕ) → (4 * count % 4 == 0) ≡ true
@@ -36,11 +37,12 @@ fits : (count : ℕ) → 4 * count + 4 ≤ 4194304 → (nat_lt 4194304 (4 * coun
 fits count l = grind (arith, nat_tests)
 
 not_large : (count word : ℕ) → 4 * count + 4 ≤ 4194304 → is_too_large (after_words count) (word_line word).says ≡ false
-unfolding is_too_large counter_after size_of
+unfolding is_too_large counter_after size_of code_words
 not_large count word l = fits count l
 
 word_sound : (n count : ℕ) (labels : List Label) (word : ℕ) → 4 * count + 4 ≤ 4194304
     → line_fault n (after_words count) labels (Ok (word_line word)) ≡ None
+unfolding is_doubled
 word_sound n count labels word l =
     no_fault n (after_words count) labels (word_line word) (no_column count word) refl (not_large count word l)
 
@@ -92,7 +94,7 @@ words_unlabelled p (word ∷ words) = words_unlabelled (counter_after p (word_li
 -- and no targets
 pub words_untargeted : (n text_length : ℕ) (names : Names) (p : LocationCounter) (words : List ℕ)
     → targets_fault n text_length names p (map word_line words) ≡ None
-unfolding targets_fault target_fault
+unfolding targets_fault target_fault words_fault code_words
 words_untargeted n text_length names p [] = refl
 words_untargeted n text_length names p (word ∷ words) =
     words_untargeted (n + 1) text_length names (counter_after p (word_line word).says) words

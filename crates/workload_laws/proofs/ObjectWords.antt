@@ -1,7 +1,7 @@
 -- The object of a source of the workload: its text is the words, one after another.
 use Rattle.std.proofs.Common.{◌≡◌, ℕ, suc, ◌+◌, ◌*◌, List, [], ◌∷◌, ◌++◌, map, length, take, drop, slice_get, Option, Some}
 use Rattle.std.proofs.Common.{refl, sym, ap, ap₂, ◌∙◌, subst, arith, drop-drop}
-use Rattle.std.proofs.lemmas.List.{take-append-drop}
+use Rattle.std.proofs.lemmas.List.{append-nil, take-append-drop}
 use Rattle.std.proofs.Math.ListN.{drop_of_length-le}
 use Rattle.byteorder.specs.Endian.{little_bytes}
 use Rattle.byteorder.specs.Numbers.{length-bytes_low_first}
@@ -12,7 +12,8 @@ use Rattle.asm_parser.specs.Statements.{SourceLine}
 use Rattle.asm_core.specs.declared.location_counter.LocationCounter.{LocationCounter}
 use Rattle.asm_core.specs.Layout.{Names, names_in, size_of, counter_after, counter_past}
 use Rattle.asm_core.specs.Faults.{text_length_of}
-use Rattle.asm_core.specs.Assembly.{numbers_bytes, resolved, Puts, part_bytes, IsObjectOf, Assembles}
+use Rattle.asm_core.specs.Code.{code_words}
+use Rattle.asm_core.specs.Assembly.{HasBytes, numbers_bytes, resolved, resolved_words, Puts, part_bytes, IsObjectOf, Assembles}
 use Rattle.workload.specs.Source.{source_of}
 use Rattle.workload_laws.specs.Words.{source_words, word_line, said_of, HasWords}
 use Rattle.workload_laws.proofs.Instructions.{after_words, word_counter}
@@ -37,9 +38,10 @@ module _ (text_length : ℕ) (names : Names) (a : Section → List ℕ) where
 
   word_bytes : (count word : ℕ) → Puts text_length names (a Text) (after_words count) (word_line word).says
       → take 4 (drop (4 * count) (a Text)) ≡ little_bytes 4 word
-  unfolding Puts resolved
+  unfolding Puts resolved resolved_words code_words
   word_bytes count word h =
-      ap (λ n. take n (drop (4 * count) (a Text))) (sym (length-bytes_low_first 0 4 word)) ∙ h.stands
+      ap (λ n. take n (drop (4 * count) (a Text))) (sym (length-bytes_low_first 0 4 word))
+      ∙ subst (λ bytes. HasBytes (a Text) (4 * count) bytes) (append-nil (little_bytes 4 word)) h.stand
 
   next_words : (count : ℕ) (words : List ℕ) (p : LocationCounter) → p ≡ after_words (count + 1) → ArePut p (map word_line words)
       → ArePut (after_words (count + 1)) (map word_line words)

@@ -14,7 +14,7 @@ use Rattle.asm_parser.specs.Statements.{SourceLine, IntoText, Globals, Nothing}
 use Rattle.asm_core.specs.declared.location_counter.LocationCounter.{LocationCounter}
 use Rattle.asm_core.specs.Source.{lines_of, said_lines}
 use Rattle.asm_core.specs.Layout.{first_counter, Label, size_of, counter_after, counter_past, labels_from, labels_of, label_named, Names, names_of, names_in}
-use Rattle.asm_core.specs.Faults.{misaligned, is_too_large, line_fault, lines_fault, target_fault, targets_fault, start_of, text_length_of}
+use Rattle.asm_core.specs.Faults.{misaligned, is_doubled, is_too_large, line_fault, lines_fault, target_fault, targets_fault, start_of, text_length_of}
 use Rattle.asm_core.specs.Faults.{asm_fault}
 use Rattle.asm_core.proofs.Scanning.{line_passes, said_cons}
 use Rattle.asm_core.proofs.Chain.{no_fault_is}
@@ -126,15 +126,15 @@ abbrev start_said : SourceLine
 start_said = record { label = Some (codes "_start"); says = Nothing }
 
 text_sound : line_fault 1 first_counter [] (Ok text_said) ≡ None
-unfolding line_fault misaligned is_too_large counter_after size_of
+unfolding line_fault misaligned is_doubled is_too_large counter_after size_of
 text_sound = refl
 
 global_sound : line_fault 2 (after_words 0) [] (Ok global_said) ≡ None
-unfolding line_fault misaligned is_too_large counter_after size_of
+unfolding line_fault misaligned is_doubled is_too_large counter_after size_of
 global_sound = refl
 
 start_sound : line_fault 3 (after_words 0) [] (Ok start_said) ≡ None
-unfolding line_fault misaligned is_too_large counter_after size_of label_named
+unfolding line_fault misaligned is_doubled is_too_large counter_after size_of label_named
 start_sound = refl
 
 lines_sound : (number : ℕ) → number ≤ 20000 → lines_fault 1 first_counter [] (source_lines number) ≡ None

@@ -6,7 +6,7 @@ use Rattle.std.specs.List.{range_with_len}
 use Rattle.sm_types.specs.declared.object.Object.{Object}
 use Rattle.sm_types.specs.Objects.{text_address}
 use Rattle.asm_core.specs.Assembly.{numbers_bytes}
-use Rattle.asm_parser.specs.Statements.{SourceLine, Instructs, Globals, IntoText, Nothing}
+use Rattle.asm_parser.specs.Statements.{SourceLine, Codes, Instruction, Globals, IntoText, Nothing}
 use Rattle.workload.specs.Source.{kind_of, number_at}
 
 -- SMSTART; PTRUE P0.B, ALL; INDEX Z0.B, #0, #1; INDEX Z1.B, #1, #2; MOVZ X9, #32512, LSL #32; MOVZ X10, #1
@@ -36,7 +36,7 @@ source_words number =
 
 -- a line that is an instruction alone
 abbrev pub word_line : ℕ → SourceLine
-word_line word = record { label = None; says = Instructs word None 1 }
+word_line word = record { label = None; says = Codes (Instruction word None) 1 }
 
 -- the lines before the first instruction: the text, `_start` to be seen from outside, and the label
 abbrev pub opening : List SourceLine

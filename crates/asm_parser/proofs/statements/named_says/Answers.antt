@@ -19,7 +19,7 @@ instruction_says-requires-clause-part c = omega (arith, comment_le c.args.line.n
 pub returns-in-Some-clause-said : goal.returns-in-Some-clause-said
 returns-in-Some-clause-said c =
     let P : Result Says ParseFault → Type 0 = λ said. Shows says_of c.directive_says.result said in
-    let says = directive_says c.args.line.now (directive_said c.in-Some.directive) in
+    let says = directive_says c.args.line.now (column_at c.args.line.now c.args.start) (directive_said c.in-Some.directive) in
     let text = c.args.text.now in
     subst P
     (ap (λ (name : List ℕ). said_from says text (c.args.start + length name)) c.run_at-name.ensures.value

@@ -1,0 +1,4 @@
+_start: .sme_tail
+ svc #0
+.data
+.sme_abi

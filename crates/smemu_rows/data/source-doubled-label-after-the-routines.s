@@ -1,0 +1,3 @@
+_start: .sme_abi
+ svc #0
+__arm_za_disable:

@@ -1,0 +1,2 @@
+__arm_tpidr2_save: svc #0
+_start: .sme_abi

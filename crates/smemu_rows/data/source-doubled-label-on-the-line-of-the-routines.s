@@ -1,0 +1,2 @@
+_start: svc #0
+__arm_za_disable: .sme_abi

@@ -1,0 +1,4 @@
+_start: svc #0
+.sme_abi
+.data
+.sme_abi

@@ -1,0 +1,3 @@
+_start: .sme_abi
+.zero 4194076
+.sme_abi

@@ -1,0 +1,2 @@
+_start: .sme_abi
+.sme_abi

@@ -1,0 +1,1 @@
+_start: .sme_abi 1

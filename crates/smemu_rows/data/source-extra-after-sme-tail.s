@@ -1,0 +1,1 @@
+.sme_tail x19 // the block

@@ -1,0 +1,2 @@
+.byte 1
+_start: .sme_abi

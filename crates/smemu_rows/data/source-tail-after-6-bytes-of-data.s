@@ -1,0 +1,4 @@
+_start: svc #0
+.data
+.zero 6
+  .sme_tail // of no call

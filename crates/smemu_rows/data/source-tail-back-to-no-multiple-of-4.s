@@ -1,0 +1,3 @@
+.byte 1
+__arm_tpidr2_restore: .byte 1, 1, 1
+_start: .sme_tail

@@ -1,0 +1,3 @@
+_start: .sme_tail
+.byte 1
+__arm_tpidr2_restore:

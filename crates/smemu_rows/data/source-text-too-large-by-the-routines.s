@@ -1,0 +1,2 @@
+.zero 4194084
+_start: .sme_abi

@@ -1,0 +1,2 @@
+_start: svc #0
+ .sme_tail

@@ -1,0 +1,3 @@
+__arm_tpidr2_restore: ret
+_start: .sme_tail
+.sme_tail
