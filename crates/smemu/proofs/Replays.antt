@@ -12,6 +12,7 @@ use Rattle.sha2.specs.Sha256.{sha256}
 use Rattle.sm_types.specs.Options.{numbers_of, version_of}
 use Rattle.sm_types.specs.declared.config.Config.{Config}
 use Rattle.sm_types.specs.declared.shared_op.Event.{Event}
+use Rattle.sm_types.specs.declared.version.Version.{Version}
 use Rattle.elf_loader.specs.Loading.{Loads}
 use Rattle.kernel_contexts.specs.Context.{state_of, journal_of}
 use Rattle.kernel_contexts.specs.declared.context.Context.{Context}
@@ -103,7 +104,7 @@ module _ (file bytes : List ℕ) (thread : ℕ) (program : Program) (config : Co
 
   -- the thread ends as the block says
   module _ (context : Context) (alone : HasRunAlone program config thread context) (journal : journal_of context ≡ block.journal)
-      (count : (state_of context).count ≡ block.count) where
+      (count : (state_of context).count ≡ block.count) (version : Version) (is : version ≡ version_of config) where
     abbrev ended : EndsAsSaid program config thread block
     ended = record {
       state = state_of context;
@@ -112,19 +113,19 @@ module _ (file bytes : List ℕ) (thread : ℕ) (program : Program) (config : Co
       count = count;
     }
 
-    its_text : block_of (version_of config) context ≡ text_of ended
-    its_text = λ i. block_text (version_of config) (alone.number i) (state_of context) (alone.stopped i) (journal i)
+    its_text : block_of version context ≡ text_of ended
+    its_text = λ i. block_text (is i) (alone.number i) (state_of context) (alone.stopped i) (journal i)
 
     -- and its block is the report's
     pub compared_same : text_in bytes block
-        ≡ block_of (version_of config) context
+        ≡ block_of version context
         → IsReplayOf file bytes thread (text_in bytes block)
     compared_same same = record { at = at; end = ended; is_text = same ∙ its_text; same = refl }
 
     -- or another
     pub compared_ends : (r : Refusal)
         → ComparesSo (text_in bytes block) block.first_line
-        (block_of (version_of config) context) (Err r)
+        (block_of version context) (Err r)
         → EndsReplay file bytes thread (Err r)
     compared_ends (refusal.Ended (ending.Differs (difference.Lines line report replay))) h = inr (record {
       at = at;
