@@ -1,6 +1,7 @@
 -- __arm_za_disable saves ZA and turns it off, whatever becomes of memory outside an area between its instructions.
 use Rattle.std.proofs.Common.{◌≡◌, inl, inr, ℕ, suc, ◌+◌, ◌*◌, ◌^◌, ◌<◌, ◌≤◌, ◌==◌, Bool, true, false, cond}
 use Rattle.std.proofs.Common.{List, [], length, None, refl, ap, ap₂, sym, ◌∙◌, arith, subst, eqb-true}
+use Rattle.std.specs.Bool.{beq}
 use Rattle.std.specs.Prelude.{slice_index, slice_index_or}
 use Rattle.std.proofs.lemmas.Bool.{cases_Bool}
 use Rattle.std.proofs.lemmas.Nat.{row_fits}
@@ -20,7 +21,7 @@ use Rattle.lazy_saving.proofs.Registers.{used_of, at, at_start}
 use Rattle.lazy_saving.proofs.Steps.{Fetches}
 use Rattle.lazy_saving.proofs.Pieces.{piece_of, read_at}
 use Rattle.lazy_saving.proofs.Values.{values}
-use Rattle.lazy_saving.proofs.Cases.{place_zero, not_null, saved_none, saved_some, pred_of}
+use Rattle.lazy_saving.proofs.Cases.{place_zero, not_null, saved_none, saved_some, pred_of, array_count}
 use Rattle.lazy_saving.proofs.Kept.{temporaries_kept}
 use Rattle.lazy_saving.proofs.Interleaved.{Leads, In, IsKept, over, both_lead, so_many_lead, weaken}
 use Rattle.lazy_saving.proofs.Disabling as disable
@@ -199,6 +200,7 @@ module _ (vl : ℕ) (area : ℕ → Bool) (p : Places) (s : ProcessorState) (b :
           let end = h.ready.buffer.end in
           read_at m wide (a + i * wide) (slice_index_or s.bank.za i []) (omega (arith, room, end)) (f.1.pieces i lt);
     };
+    count = array_count (beq s.za_on false) s.bank.za;
     bytes_kept = f.1.outside;
     perm = f.1.perm;
     rest = record {

@@ -5,7 +5,7 @@ use Rattle.std.specs.Prelude.{◌≡◌, ℕ, ◌+◌, ◌%◌, ◌^◌, ◌<◌
 use Rattle.std.specs.Prelude.{replicate}
 use Rattle.sm_types.specs.Bytes.{little_number}
 use Rattle.paged_memory.specs.Memory.{AddressSpace, bytes_with, first_without}
-use Rattle.mem_access.specs.Runs.{first_shared}
+use Rattle.mem_access.specs.Runs.{first_shared, number_in}
 
 -- the address of the buffer: bytes 0 to 7
 abbrev pub buffer_of : List ℕ → ℕ
@@ -37,6 +37,13 @@ pub record IsBlock (m : AddressSpace) (size b : ℕ) (bytes : List ℕ) : Type 0
   pub read : bytes_with 4 m b 16 ≡ Some bytes
   pub zeros : drop 10 bytes ≡ replicate 6 0
   pub few : slices_of bytes ≤ size
+
+-- what loads read of a block at b: the buffer's address, the number of slices, and zeros
+pub record IsLoaded (m : AddressSpace) (b buffer slices : ℕ) : Type 0 where
+  pub address : number_in m b 8 ≡ buffer
+  pub count : number_in m ((b + 8) % 2 ^ 64) 2 ≡ slices
+  pub low_zeros : number_in m ((b + 10) % 2 ^ 64) 2 ≡ 0
+  pub high_zeros : number_in m ((b + 12) % 2 ^ 64) 4 ≡ 0
 
 -- the buffer of so many bytes can be read and written, and does not pass 2 ^ 64
 pub record IsBuffer (m : AddressSpace) (a count : ℕ) : Type 0 where

@@ -62,10 +62,16 @@ disable_length bytes = instructions_of 11 13 14 bytes
 abbrev pub tail_length : List ℕ → ℕ
 tail_length bytes = instructions_of 15 17 18 bytes
 
+-- the tail takes four where PSTATE.ZA is 1 before it
+abbrev pub instructions_past : Bool → List ℕ → ℕ
+instructions_past true bytes = 4
+instructions_past false bytes = tail_length bytes
+
 -- __arm_za_disable has come back
 pub record IsDisabled (s t : ProcessorState) (bytes : List ℕ) : Type 0 where
   pub pc : t.scalars.pc ≡ x_of s.scalars 30
   pub saved : IsSaved s t bytes
+  pub count : length t.bank.za ≡ length s.bank.za
   pub memory : KeepsMemoryBut (buffer_of bytes) (buffer_size (length s.bank.za) bytes) s.memory t.memory
   pub rest : KeepsRest is_temporary s t
 
@@ -93,3 +99,16 @@ pub record IsRestored (r t : ProcessorState) (bytes : List ℕ) : Type 0 where
   pub count : length t.bank.za ≡ length r.bank.za
   pub slices : (i : ℕ) → i < length r.bank.za →
       slice_index_or t.bank.za i [] ≡ slice_back r.memory (length r.bank.za) bytes i
+
+-- the slices to be saved are those of ZA before the call, and the others are zero
+pub record HasSavedSlices (s t : ProcessorState) (bytes : List ℕ) : Type 0 where
+  pub count : length t.bank.za ≡ length s.bank.za
+  pub saved : (i : ℕ) → i < saved_of bytes → i < length s.bank.za →
+      slice_index_or t.bank.za i [] ≡ slice_index_or s.bank.za i []
+  pub others : (i : ℕ) → saved_of bytes ≤ i → i < length s.bank.za →
+      slice_index_or t.bank.za i [] ≡ replicate (length s.bank.za) 0
+
+-- what the caller has of its ZA after the call: all, where the callee left it on; else the saved slices
+abbrev pub IsCallersArray : Bool → ProcessorState → ProcessorState → List ℕ → Type 0
+IsCallersArray true s t bytes = t.bank.za ≡ s.bank.za
+IsCallersArray false s t bytes = HasSavedSlices s t bytes

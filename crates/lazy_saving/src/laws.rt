@@ -7,7 +7,8 @@ ghost use Rattle.sm_types.specs.Routines.{call_word};
 ghost use Rattle.std.specs.Prelude.{◌≡◌, ◌<◌, ◌^◌, ℕ, Bool, List, [], Some, true, false, length};
 ghost use Rattle.std.specs.Prelude.{slice_index_or};
 ghost use Rattle.paged_memory.specs.Memory.{IsWhole as IsWholeMemory};
-ghost use Rattle.lazy_saving.specs.Block.{saved_of};
+ghost use Rattle.paged_memory.specs.Memory.{AddressSpace};
+ghost use Rattle.lazy_saving.specs.Block.{IsBlock, IsLoaded, buffer_of, slices_of, saved_of};
 ghost use Rattle.machine_step.specs.Effect.{Becomes, effect_of};
 ghost use Rattle.lazy_saving.specs.Interleaved.{Covers, IsOver, IsDisabledOver, IsPastOver};
 ghost use Rattle.machine_step.specs.ProcessorState.{ProcessorState};
@@ -15,7 +16,14 @@ ghost use Rattle.scalar_exec.specs.Registers.{x_of};
 ghost use Rattle.lazy_saving.specs.Dormant.{Places, IsDormantAt, IsLawful, IsSaved};
 ghost use Rattle.lazy_saving.specs.Instructions.{after_instructions};
 ghost use Rattle.lazy_saving.specs.Outcome.{IsWhole, IsDisabled, IsBack, IsPast, IsRestored, disable_length};
-ghost use Rattle.lazy_saving.specs.Outcome.{tail_length};
+ghost use Rattle.lazy_saving.specs.Outcome.{tail_length, instructions_past, IsCallersArray};
+
+/// What is said of the bytes of a block is what loads of its parts read (AAPCS64, the TPIDR2 block: eight bytes
+/// are the buffer's address, the next two the number of slices, and the other six are zero).
+pub fn blocks_are_loaded()
+    ensures { (m : AddressSpace) (size b : ℕ) (bytes : List ℕ) → IsBlock m size b bytes
+        → IsLoaded m b (buffer_of bytes) (slices_of bytes) }
+{}
 
 /// From every state whose ZA is dormant and whose PC is at the first word of `__arm_za_disable`, it takes 11
 /// instructions with a null buffer, 13 without slices, or 14 and five for each slice, none of which raises,
@@ -81,6 +89,28 @@ pub fn tail_restores_over_changes()
         → (u : ProcessorState) × (effect_of vl z ≡ Becomes u))
         × ((t : ProcessorState) → IsOver vl area (tail_length bytes) r t
         → IsPastOver area p r t × IsRestored r t bytes) }
+{}
+
+/// After every lawful callee the caller's ZA is back past the tail, each instruction of which is executed:
+/// four, and all of ZA, where the callee left it dormant; else as many as `tail_restores` says, and the slices
+/// that the block says, the others being zero. So it is too where memory outside an area that has the block,
+/// the buffer and the words changes between the instructions. A block that says all slices brings all back.
+pub fn arrays_come_back()
+    ensures back { (vl : ℕ) (p : Places) (s r : ProcessorState) (b : ℕ) (h : IsLawful p s r b)
+        → IsWholeMemory s.memory → IsWholeMemory r.memory → IsWhole r → length r.bank.za ≡ length s.bank.za
+        → r.scalars.pc ≡ p.tail → (t : ProcessorState)
+        × (after_instructions vl (instructions_past r.za_on h.dormant.bytes) r ≡ Some t) × IsPast p r t
+        × IsCallersArray r.za_on s t h.dormant.bytes }
+    ensures over { (vl : ℕ) (area : ℕ → Bool) (p : Places) (s r : ProcessorState) (b : ℕ)
+        (h : IsLawful p s r b) → IsWholeMemory s.memory → IsWholeMemory r.memory → IsWhole r
+        → length r.bank.za ≡ length s.bank.za → r.scalars.pc ≡ p.tail
+        → Covers area p (length s.bank.za) b h.dormant.bytes
+        → ((n : ℕ) (z : ProcessorState) → n < instructions_past r.za_on h.dormant.bytes
+        → IsOver vl area n r z → (u : ProcessorState) × (effect_of vl z ≡ Becomes u))
+        × ((t : ProcessorState) → IsOver vl area (instructions_past r.za_on h.dormant.bytes) r t
+        → IsPastOver area p r t × IsCallersArray r.za_on s t h.dormant.bytes) }
+    ensures whole { (on : Bool) (s t : ProcessorState) (bytes : List ℕ) → IsCallersArray on s t bytes
+        → saved_of bytes ≡ length s.bank.za → t.bank.za ≡ s.bank.za }
 {}
 
 /// The word of a BL, by which a tail calls, means it.

@@ -1,6 +1,6 @@
 //! Tests of the libraries by their public calls, of what no line of data reaches: banks, memory, vectors, the
 //! runs of one thread, the lines of stops, the shared words, host threads that reach them at once, guest
-//! threads on several cores, and the object of a source.
+//! threads on several cores, the object of a source, and lazy saving of ZA.
 #![tactic(auto)]
 
 #[cfg(test)]
@@ -9,6 +9,8 @@ mod banks;
 mod cores;
 #[cfg(test)]
 mod host_threads;
+#[cfg(test)]
+mod lazy_saving;
 #[cfg(test)]
 mod lone_runs;
 #[cfg(test)]

@@ -1,0 +1,16 @@
+//! Lazy saving of ZA in a thread: `__arm_za_disable` and the tail of a call, run word by word, and whether a
+//! thread stands where they can be run so.
+#![tactic(auto)]
+
+mod block;
+mod checks;
+mod laws;
+mod places;
+mod quiet;
+mod routines;
+mod runs;
+
+pub use laws::routines_run_with_handlers;
+pub use places::RoutinePlaces;
+pub use routines::{can_disable, can_return};
+pub use runs::{run_disable, run_tail};
