@@ -10,11 +10,11 @@ mod cores;
 #[cfg(test)]
 mod host_threads;
 #[cfg(test)]
-mod lazy_saving;
-#[cfg(test)]
 mod lone_runs;
 #[cfg(test)]
 mod memory;
+#[cfg(test)]
+mod routine_runs;
 #[cfg(test)]
 mod shared_words;
 #[cfg(test)]

@@ -2,7 +2,7 @@
 use Rattle.std.proofs.Common.{◌≡◌, ℕ, zero, suc, ◌+◌, ◌-◌, ◌/◌, ◌<◌, ◌≤◌, min, nat_lt, inl, inr, Bool, true, false, cond, List, [], ◌∷◌, length, take, replicate, Result, Ok, Err, refl, sym, ap, ◌∙◌, arith, subst}
 use Rattle.std.specs.Prelude.{codes}
 use Rattle.std.specs.Str.{bytes_eq}
-use Rattle.std.proofs.lemmas.Bool.{ltb-false, ltb-true, le-ltb}
+use Rattle.std.proofs.lemmas.Bool.{ltb-false, ltb-true}
 use Rattle.sm_types.specs.declared.version.Version.{Version}
 use Rattle.line_reader.specs.Lines.{lines_of}
 use Rattle.line_reader.specs.Reading.{Left, and_then, said_if, each, past_all}
@@ -18,8 +18,10 @@ use Rattle.report_reader.specs.Header.{version_line, options_line, image_line}
 use Rattle.report_reader.specs.Block as spec
 use Rattle.report_reader.specs.Block.{Block, block, together, lines_of_kinds}
 use Rattle.report_reader.specs.Report.{Report, report_lines, report_in, all_lines, outcome, shared_words, nothing, word_lines, part_at_end, with_settings}
+use Rattle.report_reader.specs.Grammar.{IsReportOf}
 use Rattle.report_reader.specs.declared.fault.ReportKind.TheVariants as part
 use Rattle.report_laws.specs.FirstFault.{BeginsAlike, IsTooLong, IsFaultOf}
+use Rattle.report_laws.proofs.FormatReports.{short_is, format_read}
 use Rattle.report_laws.proofs.FirstLines.{AreAlike, GoesByLines, IsLater, IsSame, by_then, by_give, by_place, by_each, by_line, by_line_by, by_maybe, by_any, by_all, by_nothing}
 
 -- ---- a block
@@ -65,8 +67,8 @@ by_journal =
     (λ u. by_give events)))
 
 -- the block of a thread, where so many lines and bytes are before it
-block_behind : Version → ℕ → ℕ → ℕ → Reading Block
-block_behind version thread before place left =
+block_from : Version → ℕ → ℕ → ℕ → Reading Block
+block_from version thread before place left =
     and_then (spec.head thread left) (λ head left. and_then (lines_of_kinds (state_lines version) left) (λ u left.
     and_then (spec.output left) (λ v left. and_then (spec.journal left) (λ events left. Ok (
       record {
@@ -80,8 +82,8 @@ block_behind version thread before place left =
       left,
     )))))
 
-by_behind : (version : Version) (thread before place : ℕ) → GoesByLines (block_behind version thread before place)
-unfolding block_behind
+by_behind : (version : Version) (thread before place : ℕ) → GoesByLines (block_from version thread before place)
+unfolding block_from
 by_behind version thread before place =
     by_then (spec.head thread) _ (by_head thread)
     (λ head. by_then (lines_of_kinds (state_lines version)) _ (by_kinds (state_lines version))
@@ -97,7 +99,7 @@ by_behind version thread before place =
     })))))
 
 by_block : (version : Version) (thread : ℕ) → GoesByLines (block version thread)
-unfolding block block_behind
+unfolding block block_from
 by_block version thread = record {
   later = λ left. (by_behind version thread left.line left.place).later left;
   same = λ n ahead left others reach alike. (by_behind version thread left.line left.place).same n ahead left others reach alike;
@@ -160,13 +162,6 @@ outcome_fault (Err its) fault e = ap (λ r. again r) e
     again (Ok r) = Err its
     again (Err f) = Err f
 
--- what a file of not too many bytes is
-short_is : (text : List ℕ) → length text ≤ 1073741824 → report_in text ≡ outcome (report_lines (all_lines text))
-unfolding report_in
-short_is text size =
-    ap (λ b. cond b (Err (record { line = 0; kind = part.TooLong })) (outcome (report_lines (all_lines text))))
-    (le-ltb 1073741824 (length text) size)
-
 short_fault : (text : List ℕ) (fault : Fault) → length text ≤ 1073741824 → report_in text ≡ Err fault
     → report_lines (all_lines text) ≡ Err fault
 short_fault text fault size is = outcome_fault (report_lines (all_lines text)) fault (sym (short_is text size) ∙ is)
@@ -188,6 +183,11 @@ whole_fault text other fault size is alike =
     let it = same_fault fault.line (report_lines (all_lines text)) (report_lines (all_lines other)) fault same (short_fault text fault size is)
     (omega arith) in
     short_is other alike.size ∙ ap outcome it
+
+no_report : (text other : List ℕ) (fault : Fault) (report : Report) → length text ≤ 1073741824 → report_in text ≡ Err fault
+    → BeginsAlike fault.line text other → IsReportOf other report → ⊥
+no_report text other fault report size is alike written =
+    let both : Err fault ≡ Ok report = sym (whole_fault text other fault size is alike) ∙ format_read other report written in cc
 
 same_line : (text : List ℕ) (fault its : Fault) → report_in text ≡ Err fault → report_in text ≡ Err its → fault.line ≡ its.line
 same_line text fault its one two = ap line_of (sym one ∙ two)
@@ -240,6 +240,7 @@ fault_first text fault is =
             number = fault_later (report_lines (all_lines text)) fault (all_lines text) (by_report.later (all_lines text))
                 (short_fault text fault size is);
             whole = λ other alike. whole_fault text other fault size is alike;
+            none = λ other report alike written. no_report text other fault report size is alike written;
             first = λ other its alike has. first_fault text other fault its size is alike has;
           })
     ] refl

@@ -214,7 +214,7 @@ later_all is line place (text ∷ lines) =
       | false ↦ omega arith
     ]
 
-abbrev any_read : (List ℕ → Bool) → ℕ → ℕ → List (List ℕ) → Result (Unit {0} × Left) Fault
+abbrev pub any_read : (List ℕ → Bool) → ℕ → ℕ → List (List ℕ) → Result (Unit {0} × Left) Fault
 any_read is line place lines = Ok (tt, past_first_all is line place lines)
 
 any_same : (is : List ℕ → Bool) (n m line place : ℕ) (lines others : List (List ℕ)) → n ≤ line + m → AreAlike m lines others
@@ -243,7 +243,7 @@ by_any is = record {
 }
 
 -- as many as come next, with what they say
-abbrev all_read : {A B : Type 0} → (List A → B) → (List ℕ → Option A) → ℕ → ℕ → List (List ℕ) → Result (B × Left) Fault
+abbrev pub all_read : {A B : Type 0} → (List A → B) → (List ℕ → Option A) → ℕ → ℕ → List (List ℕ) → Result (B × Left) Fault
 all_read of says line place lines = Ok (of (first_said says lines), past_first_all (λ text. is_some (says text)) line place lines)
 
 all_same : {A B : Type 0} (of : List A → B) (says : List ℕ → Option A) (n m line place : ℕ) (lines others : List (List ℕ)) → n ≤ line + m

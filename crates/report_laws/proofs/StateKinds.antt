@@ -32,7 +32,7 @@ RowsFit kind [] = Unit {0}
 RowsFit kind (row ∷ rows) = RowFits kind row × RowsFit kind rows
 
 -- a kind has a name that can be read
-record IsNamed (kind : LineKind) : Type 0 where
+pub record IsNamed (kind : LineKind) : Type 0 where
   plain : is_plain (name_of kind) ≡ true
   same : bytes_eq (name_of kind) (name_of kind) ≡ true
 
@@ -70,12 +70,12 @@ rows_give often kind rows named fit many =
 
 -- ---- kinds of other names
 
-is_false : (b : Bool) → not b ≡ true → b ≡ false
+pub is_false : (b : Bool) → not b ≡ true → b ≡ false
 is_false true e = absurd (false≢true e)
 is_false false e = refl
 
 -- the kinds have other names than this one
-abbrev differ_from : List ℕ → List LineKind → Bool
+abbrev pub differ_from : List ℕ → List LineKind → Bool
 differ_from name [] = true
 differ_from name (kind ∷ kinds) = not (bytes_eq (name_of kind) name) && differ_from name kinds
 
@@ -91,12 +91,12 @@ are_apart (kind ∷ kinds) =
     (is_plain (name_of kind) && bytes_eq (name_of kind) (name_of kind)) && (differ_from (name_of kind) kinds && are_apart kinds)
 
 -- what that says of the first of them
-record Parted (kind : LineKind) (kinds : List LineKind) : Type 0 where
-  named : IsNamed kind
-  differ : differ_from (name_of kind) kinds ≡ true
-  others : are_apart kinds ≡ true
+pub record Parted (kind : LineKind) (kinds : List LineKind) : Type 0 where
+  pub named : IsNamed kind
+  pub differ : differ_from (name_of kind) kinds ≡ true
+  pub others : are_apart kinds ≡ true
 
-parted : (kind : LineKind) (kinds : List LineKind) → are_apart (kind ∷ kinds) ≡ true → Parted kind kinds
+pub parted : (kind : LineKind) (kinds : List LineKind) → are_apart (kind ∷ kinds) ≡ true → Parted kind kinds
 parted kind kinds e =
     let both = and_parts (is_plain (name_of kind) && bytes_eq (name_of kind) (name_of kind))
     (differ_from (name_of kind) kinds && are_apart kinds) e in

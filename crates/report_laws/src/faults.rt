@@ -4,9 +4,9 @@ ghost use Rattle.report_reader.specs.Reading.{Fault};
 ghost use Rattle.report_reader.specs.Report.{report_in};
 ghost use Rattle.report_laws.specs.FirstFault.{IsFaultOf};
 
-/// A file that is no report is too long, or its fault goes by the lines up to it alone: every file that
-/// begins with these has the same fault, whatever follows, so no report is read that begins with them; and
-/// no file that begins with the lines before it has a fault at one of these.
+/// A file that is no report is too long, or its fault goes by the lines up to it alone: no report in the
+/// format begins with these, and every file that does has the same fault, whatever follows; and no file that
+/// begins with the lines before it has a fault at one of these.
 pub fn faults_are_of_their_lines()
     ensures { (bytes : List ℕ) (fault : Fault) → report_in bytes ≡ Err fault → IsFaultOf bytes fault }
 {}
