@@ -112,6 +112,35 @@ def stops():
     yield "lazy-disable-to-a-buffer-that-cannot-be-written", program(ends(SET_BLOCK, calls("disable")), block(32, 0x600000), more=read_only), {}
 
 
+# ---- functions that are called while ZA is dormant
+
+# mov x21, x30; mov x30, x21; ret; strh w9, [x19, #8]; str x9, [x2]
+KEEPS_LINK, LINK, RET, SET_SLICES, SET_BYTES = 0xAA1E03F5, 0xAA1503FE, 0xD65F03C0, 0x79001269, 0xF9000049
+# vector 1 of ZA becomes other bytes of the pattern
+CHANGES_ZA = [*place(2, PATTERN), add(2, 2, 0x80), movz(12, 1), LOAD]
+
+
+def callees():
+    """A program for each way in which a function that is called gives ZA back or loses it: the tail brings back what there is, and ZA is stored. Two functions
+    are lawful; each of the others breaks one rule of those."""
+    saves = lambda *then: [KEEPS_LINK, calls("disable"), *then, LINK, RET]
+    for name, body in {
+        "saves-and-has-its-own": saves(SMSTART_ZA, *CHANGES_ZA, SMSTOP_ZA),
+        "keeps": [add(5, 5, 1), RET],
+        "changes-what-it-kept": [*CHANGES_ZA, RET],
+        "turns-za-off-unsaved": [SMSTOP_ZA, RET],
+        "clears-the-pointer-unsaved": [CLEAR_BLOCK, RET],
+        "saves-and-sets-the-pointer": saves(SET_BLOCK),
+        "saves-and-leaves-za-on": [KEEPS_LINK, calls("save"), CLEAR_BLOCK, *CHANGES_ZA, LINK, RET],
+        "saves-and-turns-za-on": saves(SMSTART_ZA, *CHANGES_ZA),
+        "saves-and-changes-the-block": saves(movz(9, 1), SET_SLICES),
+        "saves-and-changes-the-buffer": saves(*place(2, BUFFER), movz(9, 0x1234), SET_BYTES),
+        "saves-and-changes-x19": saves(add(19, 19, 16)),
+    }.items():
+        for slices in (16, 1):
+            yield f"lazy-callee-{name}-{slices}-of-16", program([*FILLS, SET_BLOCK, calls("callee"), *TAIL, *STORES, *EXIT, "callee", *body], block(slices)), {"svl": 128}
+
+
 # ---- signals and moves
 
 # the handler has ZA of its own, which it lets DISABLE save and the tail bring back, and posts the signal again, until it was there so many times. Its block is
@@ -172,7 +201,7 @@ def programs():
     """All of these: the name of each, the file and the options of its run; of those whose instructions are known the report has the number."""
     for name, file, count, options in counts():
         yield name, file, options, count
-    for name, file, options in [*stops(), *interrupted()]:
+    for name, file, options in [*stops(), *callees(), *interrupted()]:
         yield name, file, options, None
 
 
