@@ -9,7 +9,8 @@ LDR, STR, STUR, LDUR = 0xF9400000, 0xF9000000, 0xF8000000, 0xF8400000
 LDADD, SWP, CAS, STLR = 0xF8200000, 0xF8208000, 0xC8A07C00, 0xC89FFC00
 STR_AT_INDEX, ADD_REGISTERS, COMPARE = 0xF8207800, 0x8B000000, 0xEB00001F
 SMSTART, SMSTOP, SETFFR = 0xD503477F, 0xD503467F, 0x252C9000
-PTRUE_P0_B, PTRUE_P1_B, ADD_Z1_Z1_Z0, SMOPA_ZA0_Z0_Z1, SMOPA_ZA1_Z0_Z0 = 0x2518E3E0, 0x2518E3E1, 0x04200021, 0xA0810000, 0xA0802401
+SMSTART_SM, SMSTOP_SM = 0xD503437F, 0xD503427F
+PTRUE_P0_B, PTRUE_P0_B_VL4, PTRUE_P1_B, ADD_Z1_Z1_Z0, SMOPA_ZA0_Z0_Z1, SMOPA_ZA1_Z0_Z0 = 0x2518E3E0, 0x2518E080, 0x2518E3E1, 0x04200021, 0xA0810000, 0xA0802401
 BRK, CBNZ, BR_XZR, SUB_SP_4096, DUP_REGISTER = 0xD4200000, 0xB5000000, 0xD61F03E0, 0xD14007FF, 0x05203800
 SIGNAL = 7
 
@@ -113,3 +114,22 @@ HANDLES = elf(laid_out(
 # thread 0 loads a shared word for ever, and the others add to it
 FOREVER = elf(laid_out(
     shared_words(3), movz(4, 1), unless(0, "load"), number(LDADD, 2, 3, 4), number(LDADD, 2, 3, 4), *EXIT, "load", at(LDR, 1, 3), to("load")))
+
+# threads that use vectors in ways of their own: thread 1 not at all; thread 2 has a handler of scalar instructions, posts the signal to itself and
+# waits for it; thread 3 enters streaming mode after scalar turns, and leaves it; thread 0 and those from 4 on add outer products of one element
+BANKS = elf(laid_out(
+    copy(20, 0), subs(31, 0, 1), to("scalar", EQ), subs(31, 0, 2), to("handles", EQ), subs(31, 0, 3), to("enters", EQ),
+    SMSTART, PTRUE_P0_B_VL4, index(0, 1, 1), number(DUP_REGISTER, 1, 20), ADD_Z1_Z1_Z0, movz(9, 6),
+    "sums", SMOPA_ZA0_Z0_Z1, subs(9, 9, 1), to("sums", NE), copy(0, 20), movz(8, 93), SVC,
+    "scalar", movz(9, 20), "count", subs(9, 9, 1), to("count", NE), movz(0, 21), movz(8, 93), SVC,
+    "handles", movz(0, SIGNAL), address(1, "handler"), *ask(134), copy(0, 20), movz(1, SIGNAL), *ask(131),
+    "wait", add(11, 11, 1), unless(9, "wait"), copy(0, 9), movz(8, 93), SVC,
+    "enters", movz(9, 10), "before", subs(9, 9, 1), to("before", NE), SMSTART_SM, PTRUE_P0_B_VL4, index(2, 3, 5), add(11, 11, 1), SMSTOP_SM,
+    movz(9, 5), "after", subs(9, 9, 1), to("after", NE), movz(0, 23), movz(8, 93), SVC,
+    "handler", add(12, 12, 1), at(STR, 0, 1, 16 + 8 * 9), *ask(139)))
+
+# each thread adds outer products of one element, and yields after each, which leaves streaming mode; it asks nothing of the others
+TURNS = elf(laid_out(
+    copy(20, 0), movz(9, 4),
+    "loop", SMSTART, PTRUE_P0_B_VL4, index(0, 1, 1), number(DUP_REGISTER, 1, 20), ADD_Z1_Z1_Z0, SMOPA_ZA0_Z0_Z1, *ask(124),
+    subs(9, 9, 1), to("loop", NE), copy(0, 20), movz(8, 93), SVC))

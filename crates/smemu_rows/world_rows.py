@@ -7,7 +7,7 @@ from elf import assembled
 from expected_replay import replay
 from sources import linked
 from world import run, sim
-from world_programs import ENDS, FOREVER, HANDLES, LOCK, NUMBERS, POSTS, PRODUCTS, YIELDS, adds
+from world_programs import BANKS, ENDS, FOREVER, HANDLES, LOCK, NUMBERS, POSTS, PRODUCTS, TURNS, YIELDS, adds
 
 HERE = pathlib.Path(__file__).resolve().parent
 ANSWER, EXAMPLE = (assembled(*linked(HERE / "real" / "linked" / f"{name}.elf")) for name in ("answer", "threads"))
@@ -23,6 +23,8 @@ PROGRAMS = {
     "threads-add-products": (PRODUCTS, {"threads": 2, "slice": 7}),
     "threads-handle-signals": (HANDLES, {"threads": 3, "slice": 12}),
     "threads-add-a-little": (adds(5), {"threads": 3, "slice": 1}),
+    "threads-use-banks": (BANKS, {"threads": 8, "slice": 9}),
+    "threads-use-za-in-turn": (TURNS, {"threads": 8, "svl": 2048}),
     "thread-loads-for-ever": (FOREVER, {"threads": 2, "slice": 9, "budget": 50}),
 }
 # other options, with which a program runs besides
@@ -38,6 +40,8 @@ OTHER_RUNS = {
 APART = {
     "threads-handle-signals": [{"threads": 3, "slice": 12, "cores": 3}, {"threads": 9, "slice": 5, "svl": 2048, "cores": 4},
                                {"threads": 32, "slice": 50, "svl": 128, "vl": 512, "cores": 2}],
+    "threads-use-banks": [{"threads": 8, "slice": 9, "svl": 2048, "cores": 4}],
+    "threads-use-za-in-turn": [{"threads": 8, "svl": 2048, "cores": 4}, {"threads": 32, "slice": 7, "cores": 3}],
     "answer": [{"cores": 64}, {"threads": 32, "cores": 5}, {"threads": 2, "budget": 2, "cores": 2}],
 }
 
@@ -113,6 +117,18 @@ APART_AGAIN = BESIDE_LIVE + "next 1\noffer 1\nfetch 0\nrun 1 6\nrun 0 2\nrun 1 1
 TO_THE_END = "run 0 100\nrun 1 100\n"
 IN_STREAMING_MODE = "fetch 0\nrun 0 9\noffer 0\nfetch 1\nrun 1 3\noffer 1\nfetch 0\nrun 0 1\n"
 
+# four threads on one core, of which thread 0 has ZA
+OWNED = "fetch 0\n" * 4 + "run 0 15\n"
+SCALAR_BESIDE = OWNED + "next 0\nrun 0 25\n"
+# thread 2, which has no vectors in use, gets its signal while thread 0 has ZA
+DELIVERED_BESIDE = OWNED + "next 0\n" * 2 + "run 0 20\n"
+# thread 0 goes on before thread 2 returns
+RETURNED_BESIDE = DELIVERED_BESIDE + "next 0\n" * 2 + "run 0 1\n" + "next 0\n" * 2 + "run 0 3\n"
+STREAMING_BESIDE = OWNED + "next 0\n" * 3 + "run 0 30\n"
+# thread 0 comes to the queue after others had turns, and goes on when they have ended
+OFFERED_AFTER = SCALAR_BESIDE + "next 0\n" * 3 + "offer 0\nrun 0 100\nfetch 0\n" + "run 0 100\n" * 2
+STOPPED_AFTER = SCALAR_BESIDE + "next 0\n" * 3 + "run 0 100\nrun 0 100\n"
+
 
 def some_events(seed, count, cores):
     """Events of many kinds on those cores and one more, by a generator of numbers."""
@@ -155,6 +171,15 @@ def plans():
     yield "moves-beside-live-za-to-the-end", "threads-add-products", {"threads": 2, "cores": 2}, BESIDE_LIVE + "run 1 100\n" * 2
     yield "parts-after-live-za", "threads-add-products", {"threads": 2, "cores": 2}, APART_AGAIN
     yield "parts-after-live-za-to-the-end", "threads-add-products", {"threads": 2, "cores": 2, "svl": 128}, APART_AGAIN + TO_THE_END
+    for name, plan in (("scalar-turns", SCALAR_BESIDE), ("a-delivery", DELIVERED_BESIDE), ("a-return", RETURNED_BESIDE),
+                       ("streaming-mode", STREAMING_BESIDE)):
+        yield f"has-{name}-beside-za", "threads-use-banks", {"threads": 4, "slice": 16}, plan
+    yield "has-a-return-beside-za-at-2048", "threads-use-banks", {"threads": 4, "slice": 16, "svl": 2048}, RETURNED_BESIDE + "run 0 100\n" * 4
+    yield "offers-za-that-others-stood-before", "threads-use-banks", {"threads": 4, "slice": 16, "svl": 2048}, OFFERED_AFTER
+    yield "ends-za-that-others-stood-before", "threads-use-banks", {"threads": 4, "slice": 16}, STOPPED_AFTER
+    yield "uses-za-in-turn", "threads-use-za-in-turn", {"threads": 8, "svl": 2048}, "fetch 0\n" * 8 + "run 0 7\nnext 0\n" * 20
+    yield "of-many-events-on-one-core", "threads-use-banks", {"threads": 8, "slice": 7}, some_events(5, 200, 1)
+    yield "of-many-events-on-three-cores", "threads-use-banks", {"threads": 11, "cores": 3, "slice": 5}, some_events(11, 250, 3)
     yield "ends-runs-at-a-yield", "threads-yield", {"threads": 2}, "fetch 0\nfetch 0\nrun 0 100\nrun 0 100\nnext 0\nrun 0 100\n"
     yield "ends-a-run-with-its-yield", "threads-yield", {"threads": 2}, "fetch 0\nrun 0 12\nrun 0 1\nnext 0\n"
     yield "ends-runs-at-yields-and-a-stop", "threads-yield", {"threads": 2}, "fetch 0\nfetch 0\n" + "run 0 100\n" * 5 + "next 0\nrun 0 6\n"
@@ -258,7 +283,8 @@ def replays(written):
     """Reports of several threads: the name of the report, the program, the report, the thread, the status and what is written. `written` has
     of each row what it writes."""
     for program, name, count in (("threads-get-a-signal", "threads-get-a-signal.elf", 4), ("threads-add", "plan-moves-between-cores.plan", 2),
-                                 ("threads-handle-signals", "plan-moves-out-of-a-handler.plan", 2)):
+                                 ("threads-handle-signals", "plan-moves-out-of-a-handler.plan", 2),
+                                 ("threads-use-za-in-turn", "threads-use-za-in-turn-threads-8-svl-2048-cores-4.elf", 8)):
         report = of_report(written[name])
         for number in range(count):
             yield f"{program}-{number}-of-{count}", program, report, number, *replay(PROGRAMS[program][0], report, number)
