@@ -1,4 +1,4 @@
-//! Whether it is worth while to look into an empty queue again.
+//! Whether it is worth while to look into an empty queue again, and whether to take a second thread.
 
 use crate::queue::ContextQueue;
 use shared_region::Port;
@@ -22,6 +22,18 @@ impl<P: Port> ContextQueue<P> {
     /// Tells that memory was wanting to one who has contexts, so that nobody waits for them.
     pub fn tell_want(&self) {
         self.going.store(0, Ordering::SeqCst);
+    }
+
+    /// Tells that one more worker begins to fetch.
+    pub fn tell_worker(&self) {
+        self.workers.fetch_add(1, Ordering::SeqCst);
+    }
+
+    /// Whether there are more threads than workers, as far as was told: threads of which a start was told and
+    /// no stop, and workers that have begun. Where there are not, a second thread of one worker is one that
+    /// another worker could run. It is a hint too: no clause speaks of it.
+    pub fn has_more_than_workers(&self) -> bool {
+        self.going.load(Ordering::SeqCst) > self.workers.load(Ordering::SeqCst)
     }
 
     /// Whether a context may still be offered, as far as was told: that of a thread of which a start was told

@@ -55,8 +55,13 @@ impl<P: Port> ContextQueue<P> {
         };
         open::<P, Brand>(&queue, &mut pass, image, config, port);
         let going = AtomicU64::new(0);
+        let workers = AtomicU64::new(0);
         Ok((
-            ContextQueue { queue, going },
+            ContextQueue {
+                queue,
+                going,
+                workers,
+            },
             QueuePass { pass, empty: false },
         ))
     }

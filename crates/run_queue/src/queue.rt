@@ -16,6 +16,8 @@ pub struct ContextQueue<P: Port> {
     pub(crate) queue: RuledArrayQueue<Whole<P>, PassView, EachOnce>,
     /// How many threads have started and not stopped, as far as was told: a hint, of which no clause speaks.
     pub(crate) going: AtomicU64,
+    /// How many workers have begun to fetch, as far as was told: another hint.
+    pub(crate) workers: AtomicU64,
 }
 
 /// The right to offer contexts to a queue and to fetch them: what a core has of the queue. Its view says
