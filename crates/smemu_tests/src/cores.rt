@@ -101,7 +101,10 @@ fn written_at_gate<R: AllocGlobal + Threads + Wait + Sync>(
 // of them at once, has a first pass that misses the others; one that leaves turns to the caller tells too few.
 #[test]
 fn a_run_uses_all_its_cores(rt: HostRuntime) -> Result<(), Fail> {
-    for (number, cores, ones) in [("2", 2, [1, 1, 0, 0]), ("4", 4, [1, 1, 1, 1])] {
+    for (number, cores, ones, fives) in [
+        ("2", 2, [1, 1, 0, 0], [5, 5, 0, 0]),
+        ("4", 4, [1, 1, 1, 1], [5, 5, 5, 5]),
+    ] {
         let words = [
             "run",
             "answer",
@@ -116,7 +119,7 @@ fn a_run_uses_all_its_cores(rt: HostRuntime) -> Result<(), Fail> {
         let (gate, out) = written_at_gate(&rt, &words, &mut files, cores)?;
         assert_eq!(rt; gate.missed.load(Ordering::SeqCst), 0);
         assert_eq!(rt; counts(&gate.firsts), ones);
-        assert_eq!(rt; counts(&gate.passes), ones.map(|one| one * 5));
+        assert_eq!(rt; counts(&gate.passes), fives);
         let report = std::str::from_utf8(out.bytes()).map_err(|_| "not text")?;
         let turns = report.lines().filter(|line| *line == "turns 5").count();
         assert_eq!(rt; turns as u64, cores);
