@@ -27,6 +27,12 @@ enum Ended {
     Otherwise,
 }
 
+/// More reads than a row makes.
+const MOST_READS: usize = 100;
+
+/// More writes than a row makes.
+const MOST_WRITES: u64 = 100_000;
+
 /// The status and the text of a row.
 #[derive(Clone, Copy)]
 struct Wanted<'a> {
@@ -34,16 +40,18 @@ struct Wanted<'a> {
     text: &'a [u8],
 }
 
-/// How the words end where that read fails; each word that is a file's name is read in its turn.
+/// How the words end where the read after so many others fails; each word that is a file's name is read in its
+/// turn.
 fn with_failing_read<R: Files + AllocGlobal + Threads + Wait + Sync>(
     rt: &R,
     name: &str,
     words: &str,
     wanted: Wanted<'_>,
-    call: usize,
+    others: usize,
 ) -> Result<Ended> {
     let (asked, mut files) = asked(rt, name, words)?;
-    files.fail(call as u64).map_err(|_| anyhow!("memory"))?;
+    let call = (others as u64).saturating_add(1);
+    files.fail(call).map_err(|_| anyhow!("memory"))?;
     let mut out = MemSink::new(rt.alloc(), wanted.text.len() + 64).map_err(|_| anyhow!("memory"))?;
     let status = smemu_main(
         rt,
@@ -55,7 +63,7 @@ fn with_failing_read<R: Files + AllocGlobal + Threads + Wait + Sync>(
     )
     .code();
     let is_name = |word: &&str| *word == "@" || word.contains('.');
-    if let Some(file) = words.split_whitespace().filter(is_name).nth(call - 1) {
+    if let Some(file) = words.split_whitespace().filter(is_name).nth(others) {
         let line = format!(in rt.alloc(); "read fault: {file}\n")?;
         let told = status == READ_FAULT && out.bytes() == line.as_bytes();
         return Ok(if told {
@@ -108,28 +116,54 @@ fn whole(out: &MemSink, status: u8, wanted: Wanted<'_>) -> Ended {
     }
 }
 
-/// Tells whether the row ends as it is to with each read and each write failing, up to the first that it does
-/// not make. Each file is read once, and there is a write.
+/// Tells whether the row ends as it is to with each read failing, up to the first that it does not make. Each
+/// file is read once.
+fn reads_agree<R: Files + AllocGlobal + Threads + Wait + Sync>(
+    rt: &R,
+    name: &str,
+    wanted: Wanted<'_>,
+    words: &str,
+) -> Result<bool> {
+    for others in 0..MOST_READS {
+        match with_failing_read(rt, name, words, wanted, others)? {
+            Ended::Faulty => {}
+            Ended::Whole => return Ok(true),
+            Ended::Otherwise => return Ok(false),
+        }
+    }
+    Ok(false)
+}
+
+/// Tells whether the row ends as it is to with each write failing after so many bytes, up to the first that it
+/// does not make. There is a write.
+fn writes_agree<R: Files + AllocGlobal + Threads + Wait + Sync>(
+    rt: &R,
+    name: &str,
+    wanted: Wanted<'_>,
+    words: &str,
+    after: usize,
+) -> Result<bool> {
+    for call in 1..MOST_WRITES {
+        match with_failing_write(rt, name, words, wanted, call, after)? {
+            Ended::Faulty => {}
+            Ended::Whole => return Ok(call > 1),
+            Ended::Otherwise => return Ok(false),
+        }
+    }
+    Ok(false)
+}
+
+/// Tells whether the row ends as it is to with each read failing, and with each write, after 0 bytes and 1.
 fn agrees<R: Files + AllocGlobal + Threads + Wait + Sync>(
     rt: &R,
     name: &str,
     wanted: Wanted<'_>,
     words: &str,
 ) -> Result<bool> {
-    let mut call = 1;
-    while with_failing_read(rt, name, words, wanted, call)? == Ended::Faulty {
-        call += 1;
-    }
-    let mut agree = with_failing_read(rt, name, words, wanted, call)? == Ended::Whole;
-    for after in 0..2 {
-        let mut put = 1;
-        while with_failing_write(rt, name, words, wanted, put, after)? == Ended::Faulty {
-            put += 1;
-        }
-        let last = with_failing_write(rt, name, words, wanted, put, after)?;
-        agree = agree && put > 1 && last == Ended::Whole;
-    }
-    Ok(agree)
+    let reads = reads_agree(rt, name, wanted, words)?;
+    let at_once = writes_agree(rt, name, wanted, words, 0)?;
+    let after_one = writes_agree(rt, name, wanted, words, 1)?;
+    Ok(reads && at_once && after_one)
 }
 
 /// Tells of each row of the list whether it agrees.
