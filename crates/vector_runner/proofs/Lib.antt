@@ -1,0 +1,7 @@
+pub mod Said
+pub mod TwoPages
+pub mod Fitting
+pub mod Shares
+pub mod Mapped
+pub mod Numbered
+pub mod Outcomes
