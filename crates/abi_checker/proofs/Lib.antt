@@ -1,0 +1,10 @@
+pub mod Marked
+pub mod Words
+pub mod Same
+pub mod Listed
+pub mod Once
+pub mod OneMark
+pub mod Walk
+pub mod Next
+pub mod Followed
+pub mod Went
