@@ -15,6 +15,8 @@ pub enum Operand {
     Thread,
     /// The number of a workload.
     Workload,
+    /// A count of instructions.
+    Count,
 }
 
 /// What stands after a command: its operands, and then options, each with its value as the next word.
@@ -36,6 +38,9 @@ const RUN_OPTIONS: &[Setting] = &[
     Setting::Cores,
 ];
 
+/// The options of a command that runs single instructions.
+const VECTOR_OPTIONS: &[Setting] = &[Setting::Vl, Setting::Svl, Setting::Cores];
+
 /// The form of a command.
 pub fn form_of(verb: Verb) -> Form
     ensures { form_said result ≡ spec.form_of verb }
@@ -53,13 +58,30 @@ pub fn form_of(verb: Verb) -> Form
             operands: &[Operand::Name],
             options: &[],
         },
-        Verb::Replay => Form {
+        Verb::Replay | Verb::AbiCheck => Form {
             operands: &[Operand::Name, Operand::Name, Operand::Thread],
             options: &[],
         },
         Verb::Debug => Form {
             operands: &[Operand::Name, Operand::Name, Operand::Thread, Operand::Name],
             options: &[],
+        },
+        Verb::Ckpt => Form {
+            operands: &[
+                Operand::Name,
+                Operand::Name,
+                Operand::Thread,
+                Operand::Count,
+            ],
+            options: &[],
+        },
+        Verb::Resume => Form {
+            operands: &[Operand::Name, Operand::Name, Operand::Name],
+            options: &[],
+        },
+        Verb::Vectors => Form {
+            operands: &[Operand::Name],
+            options: VECTOR_OPTIONS,
         },
         Verb::Gen => Form {
             operands: &[Operand::Workload],

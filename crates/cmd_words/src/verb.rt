@@ -11,6 +11,10 @@ pub enum Verb {
     Asm,
     Replay,
     Debug,
+    Ckpt,
+    Resume,
+    AbiCheck,
+    Vectors,
     Gen,
     Bench,
     Help,
@@ -34,6 +38,14 @@ pub fn verb_of(word: &str) -> Option<Verb>
         Some(Verb::Replay)
     } else if word == "debug" {
         Some(Verb::Debug)
+    } else if word == "ckpt" {
+        Some(Verb::Ckpt)
+    } else if word == "resume" {
+        Some(Verb::Resume)
+    } else if word == "abi-check" {
+        Some(Verb::AbiCheck)
+    } else if word == "vectors" {
+        Some(Verb::Vectors)
     } else if word == "gen" {
         Some(Verb::Gen)
     } else if word == "bench" {

@@ -4,4 +4,7 @@ pub mod FaultLines
 pub mod SourceLines
 pub mod ReportLines
 pub mod PlanLines
+pub mod CheckpointLines
+pub mod VectorsLines
+pub mod LawLines
 pub mod Foreign

@@ -86,7 +86,7 @@ fn start_registers(entry: u64, thread: u32, threads: u32) -> Scalars
 impl GuestThread {
     ghost use Rattle.kernel_contexts.specs.State.{start_state};
     ghost use Rattle.kernel_contexts.specs.Call.{counted};
-    ghost use Rattle.kernel_contexts.specs.Several.{GoesBy, counted_by};
+    ghost use Rattle.kernel_contexts.specs.Several.{GoesApart, counted_by};
     ghost use Rattle.kernel_contexts.specs.Turn.{outside_streaming};
     ghost use Rattle.kernel_contexts.specs.Context.{held_state, bare_state, guest_turn, guest_instruction};
     ghost use Rattle.kernel_contexts.specs.SaveArea.{IsFit, ComesBack};
@@ -191,11 +191,11 @@ impl GuestThread {
     }
 
     /// Makes turns of a thread that has not stopped, `most` at most, and tells how many: instructions that
-    /// are executed at once, up to the watched count, at which alone something else may be due. Owned pages
-    /// stay owned.
-    pub fn make_several_turns(&mut self, bank: &mut Bank, most: u32) -> u32
+    /// are executed at once, up to the watched count, at which alone something else may be due; where `apart`
+    /// says that the thread is kept off its vectors, none that reads or writes them. Owned pages stay owned.
+    pub fn make_several_turns(&mut self, bank: &mut Bank, apart: bool, most: u32) -> u32
         requires { IsFit self.old.config self.old.machine bank.old }
-        ensures turns { GoesBy self.old.config self.old.number (length self.old.journal.items) result
+        ensures turns { GoesApart apart self.old.config self.old.number (length self.old.journal.items) result
             (held_state self.old bank.old) (held_state self.new bank.new) }
         ensures few { result ≤ most }
         ensures count { self.new.count ≡ self.old.count + result }
@@ -207,7 +207,8 @@ impl GuestThread {
     {
         let quiet = self.watch - self.count;
         let decoder = &mut self.decoder;
-        let made = self.machine.step_several(decoder, bank, most.min(quiet));
+        let most = most.min(quiet);
+        let made = self.machine.step_several(decoder, bank, apart, most);
         self.count_turns(made);
         made
     }

@@ -1,8 +1,11 @@
 //! Tests of the libraries by their public calls, of what no line of data reaches: banks, memory, vectors, the
 //! runs of one thread, the lines of stops, the shared words, host threads that reach them at once, guest
-//! threads on several cores, the object of a source, and lazy saving of ZA.
+//! threads on several cores, instruction vectors by two workers at once, the object of a source, and lazy saving of ZA.
+//! threads on several cores, the object of a source, lazy saving of ZA, and the checker of its rules.
 #![tactic(auto)]
 
+#[cfg(test)]
+mod abi_runs;
 #[cfg(test)]
 mod banks;
 #[cfg(test)]
@@ -10,7 +13,11 @@ mod cores;
 #[cfg(test)]
 mod host_threads;
 #[cfg(test)]
+mod instruction_vectors;
+#[cfg(test)]
 mod lone_runs;
+#[cfg(test)]
+mod meeting;
 #[cfg(test)]
 mod memory;
 #[cfg(test)]

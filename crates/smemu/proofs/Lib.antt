@@ -1,4 +1,6 @@
 pub mod Whole
+pub mod Checks
+pub mod Lines
 pub mod Requests
 pub mod Opened
 pub mod Ends
@@ -9,3 +11,4 @@ pub mod Words
 pub mod InMemory
 pub mod Threads
 pub mod Worlds
+pub mod Vectors

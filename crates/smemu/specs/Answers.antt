@@ -1,7 +1,7 @@
 -- What the command writes for a request: the report of a run, the text of a plan, a listing, a program's
--- file, the block of a thread that is replayed, what a script's commands show of a thread, or a text of its
--- own; and what else may become of it.
-use Rattle.std.specs.Prelude.{◌≡◌, ℕ, [], ◌∷◌, List, Some, None, IfSome}
+-- file, the block of a thread that is replayed, what a script's commands show of a thread, what is told of
+-- its marked calls, the answers to vectors, or a text of its own; and what else may become of it.
+use Rattle.std.specs.Prelude.{◌≡◌, ℕ, [], ◌∷◌, ◌++◌, List, Some, None, IfSome}
 use Rattle.sha2.specs.Sha256.{sha256}
 use Rattle.sm_types.specs.declared.config.Config.{Config}
 use Rattle.sm_types.specs.declared.object.Object.{Object}
@@ -9,10 +9,10 @@ use Rattle.sm_types.specs.declared.shared_words.Words.{Words}
 use Rattle.edge_io.specs.Files.{Told}
 use Rattle.sm_types.specs.Options.{numbers_of}
 use Rattle.sm_types.specs.declared.numbers.Numbers.{Numbers}
-use Rattle.cmd_words.specs.Words.{Argument, ThreadSaid, WorkloadSaid, Request}
+use Rattle.cmd_words.specs.Words.{Argument, ThreadSaid, WorkloadSaid, CountSaid, Request}
 use Rattle.cmd_words.specs.declared.verb.Verb.{Verb}
-use Rattle.cmd_words.specs.declared.verb.Verb.TheVariants.{Run, Sim, Dis, Asm, Replay, Debug, Gen, Bench}
-use Rattle.cmd_words.specs.declared.verb.Verb.TheVariants.{Help, Version}
+use Rattle.cmd_words.specs.declared.verb.Verb.TheVariants.{Run, Sim, Dis, Asm, Replay, Debug, Ckpt, Resume}
+use Rattle.cmd_words.specs.declared.verb.Verb.TheVariants.{AbiCheck, Vectors, Gen, Bench, Help, Version}
 use Rattle.asm_core.specs.Assembly.{Assembles}
 use Rattle.code_listing.specs.Listing.{listing_text}
 use Rattle.paged_memory.specs.Image.{Program}
@@ -21,14 +21,18 @@ use Rattle.elf_loader.specs.Objects.{IsFileOf}
 use Rattle.report_text.specs.Report.{ThreadEnd, report_text}
 use Rattle.command_lines.specs.Texts.{help_text, version_text}
 use Rattle.command_lines.specs.declared.status.Status.{Status}
-use Rattle.command_lines.specs.declared.status.Status.TheVariants.{Done, OutOfMemory, BadReport, Differs}
-use Rattle.smemu.specs.Rejections.{rejection_of}
+use Rattle.command_lines.specs.declared.status.Status.TheVariants.{Done, OutOfMemory, BadReport, Differs, Unlawful}
+use Rattle.command_lines.specs.declared.status.Status.TheVariants.{BadCheckpoint}
+use Rattle.smemu.specs.Rejections.{judge_of}
 use Rattle.workload.specs.Source.{source_of}
 use Rattle.smemu.specs.Bench.{IsBench}
+use Rattle.smemu.specs.Checkpoints.{IsCheckpointOf, IsLate, IsShort, IsResumeOf, RestDiffers, IsOtherProgram}
+use Rattle.smemu.specs.Checks.{IsLawfulOf, IsUnlawfulOf}
 use Rattle.smemu.specs.Debug.{IsDebugOf, IsDebugFrontOf}
 use Rattle.smemu.specs.Replay.{IsReplayOf, IsParted, MismatchesSo, DiffersSo}
 use Rattle.smemu.specs.Requests.{Named, files_named}
 use Rattle.smemu.specs.Runs.{IsWholeRun}
+use Rattle.smemu.specs.Vectors.{IsAnswersOf}
 use Rattle.smemu.specs.Worlds.{IsSimulation}
 
 -- the file of that name, as far as the files are told
@@ -86,6 +90,17 @@ of_thread tells (program ∷ report ∷ ThreadSaid thread ∷ []) options (file 
     tells file bytes thread text
 of_thread tells operands options files text = ⊥
 
+-- of a program, a report of it, a thread of that, and a count
+abbrev pub of_count : (List ℕ → List ℕ → ℕ → ℕ → List ℕ → Type 0) → Outcome
+of_count tells (program ∷ report ∷ ThreadSaid thread ∷ CountSaid count ∷ []) options (file ∷ bytes ∷ []) text =
+    tells file bytes thread count text
+of_count tells operands options files text = ⊥
+
+-- of a program, a report of it, and a checkpoint of a thread of that
+abbrev pub of_checkpoint : (List ℕ → List ℕ → List ℕ → List ℕ → Type 0) → Outcome
+of_checkpoint tells operands options (file ∷ bytes ∷ checkpoint ∷ []) text = tells file bytes checkpoint text
+of_checkpoint tells operands options files text = ⊥
+
 -- of a program, a report of it, a thread of that, and a script
 abbrev pub of_script : (List ℕ → List ℕ → ℕ → List ℕ → List ℕ → Type 0) → Outcome
 of_script tells (program ∷ report ∷ ThreadSaid thread ∷ script ∷ []) options (file ∷ bytes ∷ lines ∷ [])
@@ -120,6 +135,18 @@ outcomes_of Debug OutOfMemory = Tells (of_script IsDebugFrontOf)
 outcomes_of Debug BadReport =
     Tells (of_script (λ file report thread script. MismatchesSo file report thread))
 outcomes_of Debug Differs = Tells (of_script (λ file report thread script. IsParted file report thread))
+outcomes_of Ckpt Done = Tells (of_count IsCheckpointOf)
+outcomes_of Ckpt BadReport = Tells (of_count (λ file report thread count. MismatchesSo file report thread))
+outcomes_of Ckpt BadCheckpoint = Tells (of_count IsLate)
+outcomes_of Ckpt Differs = Tells (of_count IsShort)
+outcomes_of Resume Done = Tells (of_checkpoint IsResumeOf)
+outcomes_of Resume BadReport = Tells (of_checkpoint IsOtherProgram)
+outcomes_of Resume Differs = Tells (of_checkpoint RestDiffers)
+outcomes_of AbiCheck Done = Tells (of_thread IsLawfulOf)
+outcomes_of AbiCheck BadReport = Tells (of_thread MismatchesSo)
+outcomes_of AbiCheck Differs = Tells (of_thread IsParted)
+outcomes_of AbiCheck Unlawful = Tells (of_thread IsUnlawfulOf)
+outcomes_of Vectors Done = Tells (of_file IsAnswersOf)
 outcomes_of Gen Done = Tells (of_workload (λ number options text. text ≡ source_of number))
 outcomes_of Bench Done = Tells (of_workload IsBench)
 outcomes_of Help Done = Tells (own_text help_text)
@@ -146,15 +173,16 @@ abbrev pub outcome : Request → List (List ℕ) → Status → List ℕ → Typ
 outcome request files status text =
     IsToldBy (outcomes_of request.verb status) request.operands request.options files text
 
--- the files that are named are these, as far as they are told, and each is accepted
-abbrev pub AreAccepted : Told → List Named → List (List ℕ) → Type 0
-AreAccepted told [] [] = Unit {0}
-AreAccepted told (named ∷ names) (file ∷ files) =
-    IsFile told named.name file × (rejection_of named.kind file ≡ None) × AreAccepted told names files
-AreAccepted told names files = ⊥
+-- the files that are named are these, as far as they are told, and each is accepted, after those before it
+abbrev pub AreAccepted : Told → Request → List (List ℕ) → List Named → List (List ℕ) → Type 0
+AreAccepted told request before [] [] = Unit {0}
+AreAccepted told request before (named ∷ names) (file ∷ files) =
+    IsFile told named.name file × (judge_of request before named.kind file ≡ None)
+    × AreAccepted told request (before ++ file ∷ []) names files
+AreAccepted told request before names files = ⊥
 
 -- what became of a request whose files are accepted
 pub record IsOutcome (told : Told) (request : Request) (status : Status) (text : List ℕ) : Type 0 where
   pub files : List (List ℕ)
-  pub accepted : AreAccepted told (files_named request) files
+  pub accepted : AreAccepted told request [] (files_named request) files
   pub ends : outcome request files status text

@@ -1,7 +1,12 @@
+pub mod Vectors
 pub mod Rejections
 pub mod Requests
+pub mod Threads
 pub mod DifferLines
 pub mod Replay
+pub mod Checks
+pub mod Checkpoints
+pub mod Resume
 pub mod Debug
 pub mod Compare
 pub mod Excerpt

@@ -1,11 +1,12 @@
 -- What the answers and refusals of the code stand for, on the way from the words to the writing.
-use Rattle.std.specs.Prelude.{◌≡◌, ℕ, ◌+◌, [], List, Some, None, IfSome, IsSome, IsTrue, Result, Ok, Err}
+use Rattle.std.specs.Prelude.{◌≡◌, ◌⊎◌, ℕ, ◌+◌, [], List, Some, None, IfSome, IsSome, IsTrue, Result, Ok, Err}
 use Rattle.std.specs.Prelude.{option_map, take}
 use Rattle.std.specs.String.{string_bytes}
 use Rattle.edge_io.specs.Cause.{Rose}
 use Rattle.edge_io.specs.Files.{Told, FilesView, IsKept}
 use Rattle.edge_io.specs.Sink.{SinkView, Writes}
 use Rattle.edge_io.specs.declared.sink.PutFault.{PutFault}
+use Rattle.edge_io.specs.declared.sink.PutFault.TheVariants.{Failed}
 use Rattle.cmd_words.specs.Words.{Request}
 use Rattle.code_listing.specs.Listing.{listing_text}
 use Rattle.lone_runner.specs.Parting.{EndsAt, IsParting}
@@ -22,20 +23,28 @@ use Rattle.sm_types.specs.declared.config.Config.{Config}
 use Rattle.report_text.specs.Ends.{ends_of}
 use Rattle.report_text.specs.Report.{report_text}
 use Rattle.sim_text.specs.Sim.{sim_text}
+use Rattle.command_lines.specs.CheckpointLines.{checkpoint_line}
+use Rattle.command_lines.specs.declared.checkpoint_line.CheckpointFault.TheVariants.{Count}
+use Rattle.command_lines.specs.LawLines.{lawful_line, unlawful_line}
 use Rattle.command_lines.specs.ReportLines.{report_line, difference_lines}
 use Rattle.command_lines.specs.Texts.{usage_line, help_text, version_text}
 use Rattle.command_lines.specs.declared.status.Status.{Status}
 use Rattle.command_lines.specs.declared.status.Status.TheVariants as status
 use Rattle.workload.specs.Source.{source_of}
+use Rattle.vector_runner.specs.Run.{lines_text}
 use Rattle.smemu.specs.Answers.{IsFile, outcome}
 use Rattle.smemu.specs.Bench.{bench_line}
+use Rattle.smemu.specs.Checks.{IsLawfulOf, IsUnlawfulOf, kind_word}
+use Rattle.smemu.specs.Checkpoints.{FallsShort, IsCheckpointOf, IsLate, IsShort, IsResumeOf, RestDiffers}
+use Rattle.smemu.specs.Checkpoints.{IsOtherProgram}
 use Rattle.smemu.specs.DifferLines.{parting_line}
 use Rattle.smemu.specs.Excerpt.{excerpt_text}
 use Rattle.smemu.specs.Ends.{Change, change, Stands, Defined, FetchesReached, absent_line, read_fault_line}
-use Rattle.smemu.specs.Rejections.{Kind, rejection_of, rejection_status, rejection_line}
+use Rattle.smemu.specs.Rejections.{Judge, rejection_status, rejection_line}
 use Rattle.smemu.specs.Debug.{AllAnswers, FrontAnswers, recorded}
 use Rattle.smemu.specs.Replay.{mismatch, IsBlockIn, IsReplayOf, IsMismatched, IsParted, DiffersSo}
-use Rattle.smemu.specs.Requests.{files_named}
+use Rattle.smemu.specs.Requests.{reached_of}
+use Rattle.smemu.specs.Vectors.{line_items}
 use Rattle.smemu.specs.declared.answer.Answer.{Answer}
 use Rattle.smemu.specs.declared.answer.Answer.TheVariants as answer
 use Rattle.smemu.specs.declared.answer.Text.{Text}
@@ -73,6 +82,9 @@ answer_text (texts.Simulation simulation) = simulation_text simulation
 answer_text (texts.Listing image) = listing_text image.code
 answer_text (texts.Program bytes) = bytes.items
 answer_text (texts.Block block) = excerpt_text block
+answer_text (texts.Checkpoint bytes) = bytes.items
+answer_text (texts.Lawful calls unreturned) = lawful_line calls unreturned
+answer_text (texts.Lines lines) = lines_text (line_items lines.items)
 answer_text (texts.Source number) = source_of number
 answer_text (texts.Summary summary) = summary_text summary
 answer_text texts.Help = help_text
@@ -87,10 +99,14 @@ difference_text (difference.Lines line report replay) = difference_lines line re
 abbrev pub ending_text : Ending → List ℕ
 ending_text (ending.Mismatch line kind) = report_line (record { line = line; kind = kind })
 ending_text (ending.Differs it) = difference_text it
+ending_text (ending.Late most) = checkpoint_line (Count most)
+ending_text (ending.Unlawful count pc kind) = unlawful_line count pc (kind_word kind)
 
 abbrev pub ending_status : Ending → Status
 ending_status (ending.Mismatch line kind) = status.BadReport
 ending_status (ending.Differs it) = status.Differs
+ending_status (ending.Late most) = status.BadCheckpoint
+ending_status (ending.Unlawful count pc kind) = status.Unlawful
 
 -- the line and the status of a file that was not fetched
 abbrev pub unread_line : Unread → List ℕ → List ℕ
@@ -147,6 +163,11 @@ WritesEnd end before after (Ok s) =
 WritesEnd end before after (Err fault) =
     (s : Status) × (text : List ℕ) × EndsWith end s text × Writes before after (Err fault) text
 
+-- an end was written to a sink, and this is the status with which the command then ends
+abbrev pub WritesStatus : Result Answer Refusal → SinkView → SinkView → Status → Type 0
+WritesStatus end before after s =
+    WritesEnd end before after (Ok s) ⊎ ((s ≡ status.WriteFault) × WritesEnd end before after (Err Failed))
+
 -- ---- files
 
 -- these are the bytes of the file of that name, or those of its front, as far as the limit
@@ -168,27 +189,27 @@ IsUnread files name refusal.Memory = Unit {0}
 IsUnread files name other = ⊥
 
 -- the file is not accepted
-abbrev pub IsRejected : Kind → List ℕ → Refusal → Type 0
-IsRejected kind file (refusal.Rejected rejection) = rejection_of kind file ≡ Some rejection
-IsRejected kind file refusal.Memory = Unit {0}
-IsRejected kind file other = ⊥
+abbrev pub IsRejected : Judge → List ℕ → Refusal → Type 0
+IsRejected judge file (refusal.Rejected rejection) = judge file ≡ Some rejection
+IsRejected judge file refusal.Memory = Unit {0}
+IsRejected judge file other = ⊥
 
 -- the file of that name is accepted
-pub record IsOpened (told : Told) (name : List ℕ) (kind : Kind) (file : List ℕ) : Type 0 where
+pub record IsOpened (told : Told) (name : List ℕ) (judge : Judge) (file : List ℕ) : Type 0 where
   pub is_file : IsFile told name file
-  pub accepted : rejection_of kind file ≡ None
+  pub accepted : judge file ≡ None
 
 -- the file of that name is not accepted
-pub record IsRefusedFile (told : Told) (name : List ℕ) (kind : Kind) (rejection : Rejection) : Type 0 where
+pub record IsRefusedFile (told : Told) (name : List ℕ) (judge : Judge) (rejection : Rejection) : Type 0 where
   pub file : List ℕ
   pub is_file : IsFile told name file
-  pub rejects : rejection_of kind file ≡ Some rejection
+  pub rejects : judge file ≡ Some rejection
 
 -- the file of that name was not fetched, or is not accepted
-abbrev pub IsUnopened : Change FilesView → List ℕ → Kind → Refusal → Type 0
-IsUnopened files name kind (refusal.Rejected rejection) =
-    IsRefusedFile files.before.told name kind rejection
-IsUnopened files name kind other = IsUnread files name other
+abbrev pub IsUnopened : Change FilesView → List ℕ → Judge → Refusal → Type 0
+IsUnopened files name judge (refusal.Rejected rejection) =
+    IsRefusedFile files.before.told name judge rejection
+IsUnopened files name judge other = IsUnread files name other
 
 -- ---- replays
 
@@ -231,6 +252,57 @@ EndsReplay file report thread (Err (refusal.Ended (ending.Differs it))) =
     DiffersSo file report thread (difference_text it)
 EndsReplay file report thread (Err refusal.Memory) = Unit {0}
 EndsReplay file report thread (Err other) = ⊥
+
+-- ---- checkpoints
+
+-- the thread of a block does not go on at a count
+abbrev pub IsShortRefusal : Program → Config → ℕ → Block → ℕ → Refusal → Type 0
+IsShortRefusal program config thread block count (refusal.Ended (ending.Differs (difference.Parts fault))) =
+    FallsShort program config thread block.journal count fault
+IsShortRefusal program config thread block count refusal.Memory = Unit {0}
+IsShortRefusal program config thread block count other = ⊥
+
+-- the end of `ckpt`, by the program's file and the report, which are accepted
+abbrev pub EndsCheckpoint : List ℕ → List ℕ → ℕ → ℕ → Result Answer Refusal → Type 0
+EndsCheckpoint file report thread count (Ok (answer.Text answered)) =
+    IsCheckpointOf file report thread count (answer_text answered)
+EndsCheckpoint file report thread count (Ok (answer.Session d)) = ⊥
+EndsCheckpoint file report thread count (Err (refusal.Ended (ending.Mismatch line kind))) =
+    IsMismatched file report thread (record { line = line; kind = kind })
+EndsCheckpoint file report thread count (Err (refusal.Ended (ending.Late most))) =
+    IsLate file report thread count (checkpoint_line (Count most))
+EndsCheckpoint file report thread count (Err (refusal.Ended (ending.Differs it))) =
+    IsShort file report thread count (difference_text it)
+EndsCheckpoint file report thread count (Err refusal.Memory) = Unit {0}
+EndsCheckpoint file report thread count (Err other) = ⊥
+
+-- the end of `resume`, by the program's file, the report and the checkpoint, which are accepted
+abbrev pub EndsResume : List ℕ → List ℕ → List ℕ → Result Answer Refusal → Type 0
+EndsResume file report checkpoint (Ok (answer.Text answered)) =
+    IsResumeOf file report checkpoint (answer_text answered)
+EndsResume file report checkpoint (Ok (answer.Session d)) = ⊥
+EndsResume file report checkpoint (Err (refusal.Ended (ending.Mismatch line kind))) =
+    IsOtherProgram file report checkpoint (report_line (record { line = line; kind = kind }))
+EndsResume file report checkpoint (Err (refusal.Ended (ending.Differs it))) =
+    RestDiffers file report checkpoint (difference_text it)
+EndsResume file report checkpoint (Err refusal.Memory) = Unit {0}
+EndsResume file report checkpoint (Err other) = ⊥
+
+-- ---- checks of marked calls
+
+-- the end of a check of a thread, by the program's file and the report, which are accepted
+abbrev pub EndsCheck : List ℕ → List ℕ → ℕ → Result Answer Refusal → Type 0
+EndsCheck file report thread (Ok (answer.Text answered)) =
+    IsLawfulOf file report thread (answer_text answered)
+EndsCheck file report thread (Ok (answer.Session d)) = ⊥
+EndsCheck file report thread (Err (refusal.Ended (ending.Mismatch line kind))) =
+    IsMismatched file report thread (record { line = line; kind = kind })
+EndsCheck file report thread (Err (refusal.Ended (ending.Differs it))) =
+    IsParted file report thread (difference_text it)
+EndsCheck file report thread (Err (refusal.Ended (ending.Unlawful count pc kind))) =
+    IsUnlawfulOf file report thread (unlawful_line count pc (kind_word kind))
+EndsCheck file report thread (Err refusal.Memory) = Unit {0}
+EndsCheck file report thread (Err other) = ⊥
 
 -- ---- sessions of the debugger
 
@@ -290,4 +362,4 @@ pub record CarriesOut {F : Type 0} (fetched : F → List ℕ → ℕ → F → T
   pub ends : EndsRequest request (change view old new) end
   pub kept : IsKept (view old) (view new)
   pub fetches : FetchesReached fetched (view old).told (Rose (view old).faults (view new).faults)
-      (files_named request) old new (end_status end)
+      (reached_of (view old).told request) old new (end_status end)

@@ -1,10 +1,11 @@
 //! The command of the words.
-ghost use Rattle.std.specs.Prelude.{◌≡◌, ◌≤◌, IfOk, map};
+ghost use Rattle.std.specs.Prelude.{◌≡◌, ◌≤◌, false, IfOk, IfErr, IsOk, Some, map};
 ghost use Rattle.std.specs.String.{string_bytes};
 ghost use Rattle.a64_encode.specs.Writable.{IsWritable};
 ghost use Rattle.asm_core.specs.Assembly.{Assembles};
 ghost use Rattle.cmd_words.specs.Command.{request_of, IsInRange};
 ghost use Rattle.cmd_words.specs.Options.{default_options, with_number};
+ghost use Rattle.cmd_words.specs.Words.{Request, command_of};
 ghost use Rattle.cmd_words.specs.declared.command.Command.TheVariants as command;
 ghost use Rattle.cmd_words.specs.declared.setting.Setting.TheVariants.{Cores};
 ghost use Rattle.edge_io.specs.Files.{IsKept};
@@ -12,16 +13,23 @@ ghost use Rattle.elf_loader.specs.Loading.{Loads};
 ghost use Rattle.sm_types.specs.Options.{numbers_of};
 ghost use Rattle.smemu.specs.Answers.{IsReportOf, IsProgramOf};
 ghost use Rattle.smemu.specs.Ends.{change, call, IsDone, IsRefused, IsComplete, Fetches};
-ghost use Rattle.smemu.specs.Views.{run_text, end_status, CarriesOut, EndsWords, WritesEnd};
+ghost use Rattle.smemu.specs.Threads.{takes_threads, IsThreaded};
+ghost use Rattle.smemu.specs.Views.{run_text, end_status, CarriesOut, EndsWords, WritesEnd, WritesStatus};
 
 use crate::answer::{Answer, RunReport, Text, write_text};
 use crate::bench::run_workload;
+use crate::check::check_report;
+use crate::checkpoint::checkpoint_report;
 use crate::debug::{debug_report, write_session};
-use crate::files::{open_plan, open_program, open_report, open_script, open_source};
+use crate::files::{
+    open_checkpoint, open_plan, open_program, open_report, open_script, open_source,
+};
 use crate::refusal::{Refusal, status_of, write_refusal};
 use crate::replay::replay_report;
-use crate::run::run_threads;
+use crate::resume::resume_report;
+use crate::run::run_on_one;
 use crate::simulate::simulate;
+use crate::threaded::{Threaded, carry_out_threaded, takes_threads};
 use cmd_words::{Command, WordsFault, read_words};
 use command_lines::Status;
 use edge_io::{Files, Gate, PutFault, Sink};
@@ -34,19 +42,17 @@ use std::alloc::Global;
 use std::sync::Wait;
 use std::thread::Threads;
 
-/// The run of the image of a file.
-fn run_image<R: Threads + Wait + Sync, G: Gate + Sync>(
-    rt: &R,
+/// The run of the image of a file, on one core.
+fn run_image(
     alloc: Global,
     file: &[u8],
     config: &Config,
     image: &Image,
-    gate: &G,
 ) -> Result<RunReport, Memory>
     requires { Loads file.now image.now }
     ensures { IfOk result (λ report. IsReportOf file.now config.now (run_text report)) }
 {
-    let run = run_threads(rt, alloc, image, config, gate)?;
+    let run = run_on_one(alloc, image, config)?;
     Ok(RunReport {
         run,
         head: Head {
@@ -66,27 +72,19 @@ fn write_object(alloc: Global, source: &[u8], object: &Object) -> Result<Vec<u8>
     Ok(file)
 }
 
-/// `run PROGRAM` with its options: the report of the run of that file, of all its threads.
-fn run_program<R: Threads + Wait + Sync, F: Files, G: Gate + Sync>(
-    rt: &R,
+/// `run PROGRAM` with its options: the report of the run of that file, of all its threads, on
+/// one core.
+fn run_program<F: Files>(
     alloc: Global,
     program: String,
     config: &Config,
     files: &mut F,
-    gate: &G,
 ) -> Result<Answer, Refusal>
     ensures { CarriesOut F.fetched F.view (request_of (command.Run program config.now)) files.old files.new
         result }
 {
     let file = open_program(alloc, program, files)?;
-    match run_image(
-        rt,
-        alloc,
-        file.bytes.as_slice(),
-        config,
-        &file.content,
-        gate,
-    ) {
+    match run_image(alloc, file.bytes.as_slice(), config, &file.content) {
         Ok(report) => Ok(Answer::Text(Text::Report(report))),
         Err(Memory) => Err(Refusal::Memory),
     }
@@ -176,11 +174,63 @@ fn debug_thread<F: Files>(
     debug_report(alloc, file, &read, thread, commands)
 }
 
+/// `ckpt PROGRAM REPORT THREAD COUNT`: the checkpoint of that thread of the report at that count.
+fn checkpoint_thread<F: Files>(
+    alloc: Global,
+    program: String,
+    report: String,
+    thread: u32,
+    count: u32,
+    files: &mut F,
+) -> Result<Answer, Refusal>
+    ensures { CarriesOut F.fetched F.view (request_of (command.Ckpt program report thread count)) files.old
+        files.new result }
+{
+    let file = open_program(alloc, program, files)?;
+    let read = open_report(alloc, report, files)?;
+    let bytes = file.bytes.as_slice();
+    checkpoint_report(alloc, bytes, &file.content, &read, thread, count)
+}
+
+/// `resume PROGRAM REPORT CKPT`: the rest of the run of the thread of that checkpoint.
+fn resume_thread<F: Files>(
+    alloc: Global,
+    program: String,
+    report: String,
+    checkpoint: String,
+    files: &mut F,
+) -> Result<Answer, Refusal>
+    ensures { CarriesOut F.fetched F.view (request_of (command.Resume program report checkpoint)) files.old
+        files.new result }
+{
+    let file = open_program(alloc, program, files)?;
+    let read = open_report(alloc, report, files)?;
+    let state = open_checkpoint(alloc, checkpoint, &read.content, files)?;
+    resume_report(alloc, file.bytes.as_slice(), &file.content, read, state)
+}
+
+/// `abi-check PROGRAM REPORT THREAD`: the check of the marked calls of that thread of the report.
+fn check_thread<F: Files>(
+    alloc: Global,
+    program: String,
+    report: String,
+    thread: u32,
+    files: &mut F,
+) -> Result<Answer, Refusal>
+    ensures { CarriesOut F.fetched F.view (request_of (command.AbiCheck program report thread)) files.old
+        files.new result }
+{
+    let file = open_program(alloc, program, files)?;
+    let read = open_report(alloc, report, files)?;
+    check_report(alloc, file.bytes.as_slice(), &file.content, &read, thread)
+}
+
 /// The options of a workload on so many cores: four threads, and else those of a command that gives none.
-fn bench_options(cores: u32) -> Config
+pub fn bench_options(cores: u32) -> Config
     requires { (1 ≤ cores) × (cores ≤ 64) }
     ensures given { numbers_of result ≡ record (with_number default_options Cores cores) { threads = 4 } }
     ensures threads { result.threads ≡ 4 }
+    ensures cores { result.cores ≡ cores }
 {
     let mut config = Config::defaults();
     config.threads = 4;
@@ -188,14 +238,12 @@ fn bench_options(cores: u32) -> Config
     config
 }
 
-/// `bench N` with its option: the line of that workload.
-fn bench<R: Threads + Wait + Sync, F: Files, G: Gate + Sync>(
-    rt: &R,
+/// `bench N` with its option: the line of that workload, on one core.
+fn bench<F: Files>(
     alloc: Global,
     number: u32,
     cores: u32,
     files: &mut F,
-    gate: &G,
 ) -> Result<Answer, Refusal>
     requires number { number ≤ 20000 }
     requires cores { (1 ≤ cores) × (cores ≤ 64) }
@@ -203,25 +251,20 @@ fn bench<R: Threads + Wait + Sync, F: Files, G: Gate + Sync>(
         result }
 {
     let config = bench_options(cores);
-    match run_workload(rt, alloc, number, &config, gate) {
+    match run_workload(alloc, number, &config) {
         Ok(summary) => Ok(Answer::Text(Text::Summary(summary))),
         Err(Memory) => Err(Refusal::Memory),
     }
 }
 
-/// Carries out a command.
-fn carry_out<R: Threads + Wait + Sync, F: Files, G: Gate + Sync>(
-    rt: &R,
-    alloc: Global,
-    asked: Command,
-    files: &mut F,
-    gate: &G,
-) -> Result<Answer, Refusal>
-    requires { IsInRange asked }
+/// Carries out a command that takes no threads.
+fn carry_out<F: Files>(alloc: Global, asked: Command, files: &mut F) -> Result<Answer, Refusal>
+    requires in_range { IsInRange asked }
+    requires alone { takes_threads (request_of asked) ≡ false }
     ensures { CarriesOut F.fetched F.view (request_of asked) files.old files.new result }
 {
     match asked {
-        Command::Run { program, config } => run_program(rt, alloc, program, &config, files, gate),
+        Command::Run { program, config } => run_program(alloc, program, &config, files),
         Command::Sim {
             program,
             plan,
@@ -240,29 +283,54 @@ fn carry_out<R: Threads + Wait + Sync, F: Files, G: Gate + Sync>(
             thread,
             script,
         } => debug_thread(alloc, program, report, thread, script, files),
+        Command::Ckpt {
+            program,
+            report,
+            thread,
+            count,
+        } => checkpoint_thread(alloc, program, report, thread, count, files),
+        Command::Resume {
+            program,
+            report,
+            checkpoint,
+        } => resume_thread(alloc, program, report, checkpoint, files),
+        Command::AbiCheck {
+            program,
+            report,
+            thread,
+        } => check_thread(alloc, program, report, thread, files),
+        Command::Vectors { .. } => unreachable!(),
         Command::Gen { number } => Ok(Answer::Text(Text::Source(number))),
-        Command::Bench { number, cores } => bench(rt, alloc, number, cores, files, gate),
+        Command::Bench { number, cores } => bench(alloc, number, cores, files),
         Command::Help => Ok(Answer::Text(Text::Help)),
         Command::Version => Ok(Answer::Text(Text::Version)),
     }
 }
 
-/// All that comes before the writing.
-fn answer_words<R: Threads + Wait + Sync, F: Files, G: Gate + Sync>(
-    rt: &R,
+/// All that comes before the writing, where the words ask for no threads.
+fn answer_words<F: Files>(
     alloc: Global,
     words: &[String],
     files: &mut F,
-    gate: &G,
-) -> Result<Answer, Refusal>
-    ensures ends { EndsWords (map string_bytes words.now) (change F.view files.old files.new) result }
+) -> Result<Result<Answer, Refusal>, Threaded>
+    ensures ends { IfOk result (EndsWords (map string_bytes words.now) (change F.view files.old files.new)) }
     ensures kept { IsKept (F.view files.old) (F.view files.new) }
-    ensures fetched { Fetches F.fetched F.view words.now files.old files.new (end_status result) }
+    ensures fetched { IfOk result (λ end.
+        Fetches F.fetched F.view words.now files.old files.new (end_status end)) }
+    ensures threaded { IfErr result (λ it. (command_of (map string_bytes words.now)
+        ≡ Some (request_of it.asked)) × IsThreaded it.asked × (files.new ≡ files.old)) }
+    ensures alone { (request : Request) → command_of (map string_bytes words.now) ≡ Some request
+        → takes_threads request ≡ false → IsOk result }
 {
     match read_words(alloc, words) {
-        Ok(asked) => carry_out(rt, alloc, asked, files, gate),
-        Err(WordsFault::Usage { place, kind }) => Err(Refusal::Usage { place, kind }),
-        Err(WordsFault::Memory) => Err(Refusal::Memory),
+        Ok(asked) => {
+            if takes_threads(&asked) {
+                return Err(Threaded { asked });
+            }
+            Ok(carry_out(alloc, asked, files))
+        }
+        Err(WordsFault::Usage { place, kind }) => Ok(Err(Refusal::Usage { place, kind })),
+        Err(WordsFault::Memory) => Ok(Err(Refusal::Memory)),
     }
 }
 
@@ -283,6 +351,44 @@ fn write_end<K: Sink>(out: &mut K, end: Result<Answer, Refusal>) -> Result<Statu
     }
 }
 
+/// Writes the text of a command's end, as far as the output takes it: the status with which it ends.
+fn finish<K: Sink>(out: &mut K, end: Result<Answer, Refusal>) -> Status
+    ensures { WritesStatus end (K.view out.old) (K.view out.new) result }
+{
+    match write_end(out, end) {
+        Ok(written) => written,
+        Err(_) => Status::WriteFault,
+    }
+}
+
+/// Carries out the command of the words as `smemu_main` does, where it takes no threads of the system: each
+/// but `run` and `bench` on several cores, and `vectors`. It does not wait, so that it ends. `Err` is what the words ask for
+/// that does take threads; no file is fetched then, and nothing is written.
+pub fn smemu_alone<F: Files, K: Sink>(
+    alloc: Global,
+    words: &[String],
+    files: &mut F,
+    out: &mut K,
+) -> Result<Status, Threaded>
+    ensures done { IfOk result
+        (IsDone (call F.view K.view words.now files.old files.new out.old out.new)) }
+    ensures refused { IfOk result
+        (IsRefused (call F.view K.view words.now files.old files.new out.old out.new)) }
+    ensures complete { IfOk result
+        (IsComplete (call F.view K.view words.now files.old files.new out.old out.new)) }
+    ensures kept { IsKept (F.view files.old) (F.view files.new) }
+    ensures fetched { IfOk result (Fetches F.fetched F.view words.now files.old files.new) }
+    ensures threaded { IfErr result (λ it. command_of (map string_bytes words.now)
+        ≡ Some (request_of it.asked)) }
+    ensures sound { IfErr result (λ it. IsThreaded it.asked) }
+    ensures untouched { IfErr result (λ it. (files.new ≡ files.old) × (out.new ≡ out.old)) }
+    ensures alone { (request : Request) → command_of (map string_bytes words.now) ≡ Some request
+        → takes_threads request ≡ false → IsOk result }
+{
+    let ended = answer_words(alloc, words, files)?;
+    Ok(finish(out, ended))
+}
+
 /// Carries out the command of the words, which are the command line without the program's name, and writes
 /// its text:
 ///
@@ -293,6 +399,8 @@ fn write_end<K: Sink>(out: &mut K, end: Result<Answer, Refusal>) -> Result<Statu
 /// - `debug PROGRAM REPORT THREAD SCRIPT` carries out the commands of the script of that name over such a
 ///   run: what they print, each answer when it comes, so that with `OutOfMemory` those of earlier commands
 ///   may be written;
+/// - `abi-check PROGRAM REPORT THREAD` runs such a thread alone: whether each of its marked calls is lawful;
+/// - `vectors FILE` with its options runs the single instructions of the file of vectors of that name;
 /// - `dis PROGRAM` lists the program;
 /// - `asm SOURCE` assembles the source of that name: the program file;
 /// - `gen N` writes the source of a workload, and `bench N` runs it: one line;
@@ -315,9 +423,11 @@ pub fn smemu_main<R: Threads + Wait + Sync, F: Files, K: Sink, G: Gate + Sync>(
     ensures kept { IsKept (F.view files.old) (F.view files.new) }
     ensures fetched { Fetches F.fetched F.view words.now files.old files.new result }
 {
-    let end = answer_words(rt, alloc, words, files, gate);
-    match write_end(out, end) {
+    match smemu_alone(alloc, words, files, out) {
         Ok(status) => status,
-        Err(_) => Status::WriteFault,
+        Err(threaded) => {
+            let end = carry_out_threaded(rt, alloc, threaded, files, gate);
+            finish(out, end)
+        }
     }
 }

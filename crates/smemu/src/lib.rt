@@ -18,6 +18,8 @@
 
 mod answer;
 mod bench;
+mod check;
+mod checkpoint;
 mod command;
 mod compare;
 mod debug;
@@ -26,12 +28,16 @@ mod ending;
 mod excerpt;
 mod files;
 mod in_memory;
+mod lines;
 mod refusal;
 mod rejection;
 mod replay;
+mod resume;
 mod run;
 mod simulate;
+mod threaded;
 
-pub use command::smemu_main;
+pub use command::{smemu_alone, smemu_main};
 pub use command_lines::{Status, refuse_foreign_word};
 pub use in_memory::smemu_in_memory;
+pub use threaded::Threaded;

@@ -4,9 +4,13 @@ use Rattle.std.specs.List.{concat}
 use Rattle.sm_types.specs.declared.numbers.Numbers.{Numbers}
 use Rattle.cmd_words.specs.Words.{Argument, ThreadSaid, Request}
 use Rattle.cmd_words.specs.declared.verb.Verb.{Verb}
-use Rattle.cmd_words.specs.declared.verb.Verb.TheVariants.{Replay, Debug}
+use Rattle.cmd_words.specs.declared.verb.Verb.TheVariants.{Replay, Debug, AbiCheck}
 use Rattle.edge_io.specs.Files.{FilesView}
 use Rattle.report_reader.specs.Reading.{Fault}
+use Rattle.command_lines.specs.LawLines.{unlawful_line}
+use Rattle.command_lines.specs.VectorsLines.{vectors_line}
+use Rattle.command_lines.specs.declared.vectors_line.VectorsFault.{VectorsFault}
+use Rattle.command_lines.specs.declared.vectors_line.VectorsFault.TheVariants as vectors
 use Rattle.command_lines.specs.FaultLines.{fault_line, fault_words}
 use Rattle.plan_reader.specs.Plan as plan
 use Rattle.command_lines.specs.PlanLines.{plan_line, fault_word}
@@ -15,8 +19,10 @@ use Rattle.command_lines.specs.SourceLines.{source_line, source_words, line_numb
 use Rattle.command_lines.specs.Texts.{HasFront, kind_word, status_words, usage_line}
 use Rattle.command_lines.specs.declared.status.Status.{Status}
 use Rattle.command_lines.specs.declared.status.Status.TheVariants.{Done, Usage, Absent, ReadFault, WriteFault, OutOfMemory, BadReport, Differs}
-use Rattle.command_lines.specs.declared.status.Status.TheVariants.{BadPlan}
+use Rattle.command_lines.specs.declared.status.Status.TheVariants.{BadPlan, BadVectors, Unlawful}
 use Rattle.smemu.specs.Answers.{IsToldBy, outcomes_of}
+use Rattle.smemu.specs.Checks.{IsUnlawfulOf, kind_word}
+use Rattle.text_lines.specs.Lines.{hex64}
 use Rattle.smemu.specs.DifferLines.{parting_line, parting_words}
 use Rattle.smemu.specs.Ends.{Change, Defined, Stands}
 use Rattle.smemu.specs.Rejections.{rejection_line, rejection_status}
@@ -32,6 +38,17 @@ plan_begun : (fault : plan.Fault) (text : List ℕ) → text ≡ plan_line fault
 unfolding plan_line
 plan_begun fault text e = (concat (decimal fault.line ∷ codes ": " ∷ fault_word fault.kind ∷ codes "\n" ∷ []), e)
 
+vectors_begun : (fault : VectorsFault) (text : List ℕ) → text ≡ vectors_line fault → HasFront text (status_words BadVectors)
+unfolding vectors_line
+vectors_begun vectors.TooLong text e = (codes "toolong\n", e)
+vectors_begun (vectors.Line line) text e = (concat (codes "line " ∷ decimal line ∷ codes "\n" ∷ []), e)
+
+unlawful_begun : (file report : List ℕ) (thread : ℕ) (text : List ℕ) → IsUnlawfulOf file report thread text
+    → HasFront text (status_words Unlawful)
+unfolding unlawful_line
+unlawful_begun file report thread text h =
+    (concat (decimal h.count ∷ codes " pc " ∷ hex64 h.pc ∷ codes " " ∷ kind_word h.kind ∷ codes "\n" ∷ []), h.is_text)
+
 rejection_begun : (rejection : Rejection) (text : List ℕ) → text ≡ rejection_line rejection
     → HasFront text (status_words (rejection_status rejection))
 unfolding fault_line source_line
@@ -40,6 +57,7 @@ rejection_begun (rejection.Source fault) text e =
     (concat (decimal (line_number fault) ∷ codes ": " ∷ source_words fault ∷ codes "\n" ∷ []), e)
 rejection_begun (rejection.Report line kind) text e = report_begun (record { line = line; kind = kind }) text e
 rejection_begun (rejection.Plan line kind) text e = plan_begun (record { line = line; kind = kind }) text e
+rejection_begun (rejection.Vectors fault) text e = vectors_begun fault text e
 
 so_begun : (file report : List ℕ) (thread : ℕ) (text : List ℕ) → DiffersSo file report thread text → HasFront text (status_words Differs)
 unfolding parting_line difference_lines
@@ -62,6 +80,12 @@ outcome_begun Debug BadReport (program ∷ report ∷ ThreadSaid thread ∷ scri
 outcome_begun Debug Differs (program ∷ report ∷ ThreadSaid thread ∷ script ∷ []) options (file ∷ bytes ∷ lines ∷ [])
     text other some h =
     so_begun file bytes thread text (inl h)
+outcome_begun AbiCheck BadReport (program ∷ report ∷ ThreadSaid thread ∷ []) options (file ∷ bytes ∷ []) text other some h =
+    report_begun h.fault text h.is_text
+outcome_begun AbiCheck Differs (program ∷ report ∷ ThreadSaid thread ∷ []) options (file ∷ bytes ∷ []) text other some h =
+    so_begun file bytes thread text (inl h)
+outcome_begun AbiCheck Unlawful (program ∷ report ∷ ThreadSaid thread ∷ []) options (file ∷ bytes ∷ []) text other some h =
+    unlawful_begun file bytes thread text h
 outcome_begun verb Done operands options files text other some h = absurd (other refl)
 outcome_begun verb OutOfMemory operands options files text other some h = absurd (some refl)
 outcome_begun verb s operands options files text other some h = absurd h

@@ -1,6 +1,7 @@
 pub mod SerialEnds
 pub mod OneAnswer
 pub mod EachAnswer
+pub mod OneCheck
 pub mod OneDebug
 pub mod OneEnding
 pub mod Beginnings

@@ -7,26 +7,24 @@
 //! - `texts`: words with texts from which they are read, and that are printed exactly where the line says so;
 //! - `no-row`: words that mean none;
 //! - `faults`: lines of sources that are refused, each with its fault;
-//! - `steps`: what a step of an instruction gives, with all registers and all of the data;
-//! - `differing`: steps that were altered by hand, each of which must differ.
+//! - `vectors`: instructions with the states before them, and beside the file what each gives, with all
+//!   registers and all of the data, or the line of the file's fault: on 1, 2 and 64 workers;
+//! - `differing`: the same, with answers that were altered by hand, each of which must differ;
+//! - `bad-vectors`: files of vectors with the first line of each that is at fault.
 //!
 //! A line that cannot be read is shown as one that differs.
 #![tactic(auto)]
 
 mod altered;
 mod faults;
-mod fields;
-mod outcome;
-mod pages;
 mod rows;
-mod state;
-mod steps;
+mod vectors;
 mod words;
 
 use crate::altered::compare_altered;
 use crate::faults::check_faults;
 use crate::rows::compare_rows;
-use crate::steps::{check_differing, check_steps};
+use crate::vectors::{check_bad_vectors, check_differing, check_vectors};
 use crate::words::{check_no_row, check_texts, check_words};
 use anyhow::{Context, Result, anyhow};
 use std::rt::Files;
@@ -40,6 +38,11 @@ fn compare<R: Files + Print + AllocGlobal + Threads + Wait + Sync>(
     sort: &str,
     name: &str,
 ) -> Result<()> {
+    match sort {
+        "vectors" => return check_vectors(rt, name),
+        "differing" => return check_differing(rt, name),
+        _ => {}
+    }
     let file = fs::read_to_string(rt, name).context("a file of lines")?;
     let text = file.as_str();
     match sort {
@@ -49,8 +52,7 @@ fn compare<R: Files + Print + AllocGlobal + Threads + Wait + Sync>(
         "texts" => check_texts(rt, text),
         "no-row" => check_no_row(rt, text),
         "faults" => check_faults(rt, text),
-        "steps" => check_steps(rt, rt.alloc(), name, text),
-        "differing" => check_differing(rt, rt.alloc(), text),
+        "bad-vectors" => check_bad_vectors(rt, rt.alloc(), text),
         _ => Err(anyhow!("no sort of lines: {sort}")),
     }
 }

@@ -1,4 +1,4 @@
-use Rattle.std.proofs.Common.{◌∙◌, refl}
+use Rattle.std.proofs.Common.{◌∙◌, refl, false}
 use Rattle.kernel_contexts.specs.Context.{held_state}
 use Rattle.kernel_contexts.proofs.Kept.{run_same}
 use Rattle.kernel_contexts.proofs.Several.{run_goes_by}
@@ -19,6 +19,6 @@ invariant_of-self c =
       };
       is_run = λ home. run_same before.image old.config new.config old.number new.number old.journal.items new.journal.items
           (held_state new bank) (held_state new bank) old.stop new.stop e.same.config e.same.number e.same.journal refl e.stop
-          (run_goes_by before.image old.config old.number (held_state old before.save_area) (held_state new bank) old.journal.items
+          (run_goes_by false before.image old.config old.number (held_state old before.save_area) (held_state new bank) old.journal.items
           old.stop c.make_several_turns.result c.requires.runs (before.is_run home) e.turns);
     }

@@ -1,0 +1,9 @@
+use Rattle.std.proofs.Common.{ℕ, take, Ok, Vec, Global, ◌++◌, ◌∷◌, []}
+use Rattle.std.specs.List.{flat_map}
+use Rattle.edge_io.specs.Pieces.{gathered, Gathers}
+use Rattle.smemu.proofs.lines.put_lines.Given as goal
+
+abbrev pub invariant-loop-line : goal.invariant-loop-line
+invariant-loop-line g l =
+    Gathers (gathered (g.K.Sink.view l.initial.out) l.initial.piece) (gathered (g.K.Sink.view l.out) l.piece) (Ok tt)
+    (flat_map (λ (line : Vec ℕ Global). line.items ++ 10 ∷ []) (take l.line-index l.lines))

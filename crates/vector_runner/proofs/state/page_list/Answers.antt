@@ -1,0 +1,10 @@
+use Rattle.std.proofs.Common.{ap}
+use Rattle.paged_memory.specs.Memory.{zero_page}
+use Rattle.vector_runner.proofs.TwoPages.{two_pushed}
+use Rattle.vector_runner.proofs.state.page_list.Goals as goal
+
+pub returns : goal.returns
+unfolding zero_page
+returns c =
+    two_pushed c.args.word c.new-list.ensures.items c.in_ok-push.ensures.items c.in_ok-push-2.ensures.items
+    (ap (λ bytes. (65536, 6, bytes)) c.in_ok-data.ensures) (ap (λ bytes. (131072, 5, bytes)) c.in_ok-code.ensures)
